@@ -1,12 +1,12 @@
 -- The laws of a cell's word.
-use Rattle.std.proofs.Common.{◌≡◌, ◌≢◌, ℕ, ◌/◌, ◌%◌, ◌^◌, ◌<◌, Option, Some, None, true, nat_lt, sym, ap, ◌∙◌, refl, lt-ltb, arith, rules}
+use Rattle.std.proofs.Common.{◌≡◌, ℕ, ◌/◌, ◌%◌, ◌^◌, ◌<◌, Some, true, nat_lt, sym, ap, ◌∙◌, refl, lt-ltb, arith, rules}
 use Rattle.std.proofs.lemmas.Option.{same_Some}
 use Rattle.cqs_words.specs.declared.cell.CellState.{CellState}
 use Rattle.cqs_words.specs.declared.cell.CellState.TheVariants.{Empty, Waiter, Value, Taken, Broken, Resumed, Cancelling, Delegated, Cancelled, Refused}
 use Rattle.cqs_words.specs.declared.cell.CellWord.{CellWord}
 use Rattle.cqs_words.specs.Cell.{state_code, state_of, cell_word, CellFits, packed_cell, unpacked_cell}
 use Rattle.cqs_words.specs.Packing.{IsPacking}
-use Rattle.cqs_words.proofs.PackingLaws.{word_of-packing, number_of-injective}
+use Rattle.cqs_words.proofs.PackingLaws.{number_of-injective}
 
 -- a state stands at its code's place
 pub state_of-state_code : (s : CellState) → state_of (state_code s) ≡ Some s
@@ -36,7 +36,8 @@ state_code-below Refused = omega arith
 
 -- states with one code are one state
 pub state_code-injective : (s t : CellState) → state_code s ≡ state_code t → s ≡ t
-state_code-injective s t same = same_Some s t (sym (state_of-state_code s) ∙ ap state_of same ∙ state_of-state_code t)
+state_code-injective s t same =
+    same_Some s t (sym (state_of-state_code s) ∙ ap state_of same ∙ state_of-state_code t)
 
 -- Where the code and the payload fit their bits, each part is found in its place.
 module _ (index code payload : ℕ) (code_fits : code < 2 ^ 4) (payload_fits : payload < 2 ^ 20) where
@@ -49,10 +50,6 @@ module _ (index code payload : ℕ) (code_fits : code < 2 ^ 4) (payload_fits : p
   pub payload_of-cell_word : cell_word index code payload % 2 ^ 20 ≡ payload
   payload_of-cell_word = omega arith
 
-  -- the code lies in the low 32 bits
-  pub code_of-low_half : cell_word index code payload % 2 ^ 32 / 2 ^ 20 % 2 ^ 4 ≡ code
-  code_of-low_half = omega arith
-
 -- cell words are equal exactly where their parts are
 pub cell_word-injective : (i j c d p q : ℕ) → c < 2 ^ 4 → d < 2 ^ 4 → p < 2 ^ 20 → q < 2 ^ 20
     → cell_word i c p ≡ cell_word j d q → (i ≡ j) × (c ≡ d) × (p ≡ q)
@@ -61,8 +58,7 @@ cell_word-injective i j c d p q c_fits d_fits p_fits q_fits same = (omega arith,
 -- cell words with one low half have one code, whatever their indexes and payloads
 pub cell_word-low_half : (i j c d p q : ℕ) → c < 2 ^ 4 → d < 2 ^ 4 → p < 2 ^ 20 → q < 2 ^ 20
     → cell_word i c p % 2 ^ 32 ≡ cell_word j d q % 2 ^ 32 → c ≡ d
-cell_word-low_half i j c d p q c_fits d_fits p_fits q_fits same =
-    sym (code_of-low_half i c p c_fits p_fits) ∙ ap (λ half. half / 2 ^ 20 % 2 ^ 4) same ∙ code_of-low_half j d q d_fits q_fits
+cell_word-low_half i j c d p q c_fits d_fits p_fits q_fits same = omega arith
 
 pub packed_cell-below : (w : CellWord) → CellFits w → packed_cell w < 2 ^ 64
 packed_cell-below w fits = omega (arith, state_code-below w.state)
@@ -76,17 +72,12 @@ unpacked_cell-packed_cell w fits =
     let payload = payload_of-cell_word w.index (state_code w.state) w.payload code_fits fits.payload in
     rw (within, code, state_of-state_code, index, payload)
 
--- the same of the parts
-pub unpacked_cell-cell_word : (index : ℕ) (s : CellState) (payload : ℕ) → index < 2 ^ 40 → payload < 2 ^ 20
-    → unpacked_cell (cell_word index (state_code s) payload) ≡ Some (record { index = index; state = s; payload = payload })
-unpacked_cell-cell_word index s payload index_fits payload_fits =
-    unpacked_cell-packed_cell (record { index = index; state = s; payload = payload })
-    (record { index = index_fits; payload = payload_fits })
-
-pub IsPacking-unpacked_cell : (n : ℕ) (w : CellWord) → unpacked_cell n ≡ Some w → IsPacking CellFits packed_cell n w
+pub IsPacking-unpacked_cell : (n : ℕ) (w : CellWord)
+    → unpacked_cell n ≡ Some w → IsPacking CellFits packed_cell n w
 IsPacking-unpacked_cell n w is = search (rules, state_of-state_code, state_code-below)
 
-pub packed_cell-injective : (v w : CellWord) → CellFits v → CellFits w → packed_cell v ≡ packed_cell w → v ≡ w
+pub packed_cell-injective : (v w : CellWord) → CellFits v → CellFits w
+    → packed_cell v ≡ packed_cell w → v ≡ w
 packed_cell-injective = number_of-injective CellFits packed_cell unpacked_cell unpacked_cell-packed_cell
 
 pub packed_cell-low_half : (v w : CellWord) → CellFits v → CellFits w

@@ -20,7 +20,8 @@ tag_code-below Claimed = omega arith
 tag_code-below Live = omega arith
 
 -- heads are equal exactly where their parts are
-pub head_word-injective : (i j c d : ℕ) → c < 2 ^ 2 → d < 2 ^ 2 → head_word i c ≡ head_word j d → (i ≡ j) × (c ≡ d)
+pub head_word-injective : (i j c d : ℕ) → c < 2 ^ 2 → d < 2 ^ 2
+    → head_word i c ≡ head_word j d → (i ≡ j) × (c ≡ d)
 head_word-injective i j c d c_fits d_fits same = (omega arith, omega arith)
 
 pub packed_head-below : (w : HeadWord) → HeadFits w → packed_head w < 2 ^ 38
@@ -29,8 +30,10 @@ packed_head-below w fits = omega (arith, tag_code-below w.tag)
 pub unpacked_head-packed_head : (w : HeadWord) → HeadFits w → unpacked_head (packed_head w) ≡ Some w
 unpacked_head-packed_head w fits = search rules
 
-pub IsPacking-unpacked_head : (n : ℕ) (w : HeadWord) → unpacked_head n ≡ Some w → IsPacking HeadFits packed_head n w
+pub IsPacking-unpacked_head : (n : ℕ) (w : HeadWord)
+    → unpacked_head n ≡ Some w → IsPacking HeadFits packed_head n w
 IsPacking-unpacked_head n w is = search rules
 
-pub packed_head-injective : (v w : HeadWord) → HeadFits v → HeadFits w → packed_head v ≡ packed_head w → v ≡ w
+pub packed_head-injective : (v w : HeadWord) → HeadFits v → HeadFits w
+    → packed_head v ≡ packed_head w → v ≡ w
 packed_head-injective = number_of-injective HeadFits packed_head unpacked_head unpacked_head-packed_head

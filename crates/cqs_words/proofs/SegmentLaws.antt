@@ -17,10 +17,12 @@ packed_tail-below w fits = omega arith
 pub unpacked_tail-packed_tail : (w : TailWord) → TailFits w → unpacked_tail (packed_tail w) ≡ Some w
 unpacked_tail-packed_tail w fits = search rules
 
-pub IsPacking-unpacked_tail : (n : ℕ) (w : TailWord) → unpacked_tail n ≡ Some w → IsPacking TailFits packed_tail n w
+pub IsPacking-unpacked_tail : (n : ℕ) (w : TailWord)
+    → unpacked_tail n ≡ Some w → IsPacking TailFits packed_tail n w
 IsPacking-unpacked_tail n w is = search rules
 
-pub packed_tail-injective : (v w : TailWord) → TailFits v → TailFits w → packed_tail v ≡ packed_tail w → v ≡ w
+pub packed_tail-injective : (v w : TailWord) → TailFits v → TailFits w
+    → packed_tail v ≡ packed_tail w → v ≡ w
 packed_tail-injective = number_of-injective TailFits packed_tail unpacked_tail unpacked_tail-packed_tail
 
 pub packed_link-below : (w : LinkWord) → LinkFits w → packed_link w < 2 ^ 52
@@ -29,8 +31,10 @@ packed_link-below w fits = omega arith
 pub unpacked_link-packed_link : (w : LinkWord) → LinkFits w → unpacked_link (packed_link w) ≡ Some w
 unpacked_link-packed_link w fits = search rules
 
-pub IsPacking-unpacked_link : (n : ℕ) (w : LinkWord) → unpacked_link n ≡ Some w → IsPacking LinkFits packed_link n w
+pub IsPacking-unpacked_link : (n : ℕ) (w : LinkWord)
+    → unpacked_link n ≡ Some w → IsPacking LinkFits packed_link n w
 IsPacking-unpacked_link n w is = search rules
 
-pub packed_link-injective : (v w : LinkWord) → LinkFits v → LinkFits w → packed_link v ≡ packed_link w → v ≡ w
+pub packed_link-injective : (v w : LinkWord) → LinkFits v → LinkFits w
+    → packed_link v ≡ packed_link w → v ≡ w
 packed_link-injective = number_of-injective LinkFits packed_link unpacked_link unpacked_link-packed_link

@@ -1,5 +1,5 @@
 -- How a cell is written in one number.
-use Rattle.std.specs.Prelude.{◌≡◌, ℕ, ◌+◌, ◌*◌, ◌/◌, ◌%◌, ◌^◌, ◌<◌, List, [], ◌∷◌, Option, Some, None, slice_get, nat_lt, if◌then◌else◌}
+use Rattle.std.specs.Prelude.{ℕ, ◌+◌, ◌*◌, ◌/◌, ◌%◌, ◌^◌, ◌<◌, List, [], ◌∷◌, Option, None, slice_get, nat_lt, if◌then◌else◌}
 use Rattle.std.specs.Option.{option_map}
 use Rattle.cqs_words.specs.declared.cell.CellState.{CellState}
 use Rattle.cqs_words.specs.declared.cell.CellState.TheVariants.{Empty, Waiter, Value, Taken, Broken, Resumed, Cancelling, Delegated, Cancelled, Refused}
@@ -35,13 +35,14 @@ pub record CellFits (w : CellWord) : Type 0 where
   pub index : w.index < 2 ^ 40
   pub payload : w.payload < 2 ^ 20
 
--- the number of a cell's word
+-- the number that stands for a cell
 abbrev pub packed_cell : CellWord → ℕ
 packed_cell w = cell_word w.index (state_code w.state) w.payload
 
--- the word that a number is the packing of, if there is one
+-- the cell in this state whose other parts the number holds
+abbrev pub cell_in : ℕ → CellState → CellWord
+cell_in n state = record { index = n / 2 ^ 24; state = state; payload = n % 2 ^ 20 }
+
+-- the cell that a number is the packing of, if there is one
 abbrev pub unpacked_cell : ℕ → Option CellWord
-unpacked_cell n =
-    if nat_lt n (2 ^ 64)
-    then option_map (λ state. record { index = n / 2 ^ 24; state = state; payload = n % 2 ^ 20 }) (state_of (n / 2 ^ 20 % 2 ^ 4))
-    else None
+unpacked_cell n = if nat_lt n (2 ^ 64) then option_map (cell_in n) (state_of (n / 2 ^ 20 % 2 ^ 4)) else None

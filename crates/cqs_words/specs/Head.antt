@@ -1,5 +1,5 @@
 -- How the head of a slot is written in one number.
-use Rattle.std.specs.Prelude.{◌≡◌, ℕ, ◌+◌, ◌*◌, ◌/◌, ◌%◌, ◌^◌, ◌<◌, List, [], ◌∷◌, Option, None, slice_get, nat_lt, if◌then◌else◌}
+use Rattle.std.specs.Prelude.{ℕ, ◌+◌, ◌*◌, ◌/◌, ◌%◌, ◌^◌, ◌<◌, List, [], ◌∷◌, Option, None, slice_get, nat_lt, if◌then◌else◌}
 use Rattle.std.specs.Option.{option_map}
 use Rattle.cqs_words.specs.declared.head.HeadTag.{HeadTag}
 use Rattle.cqs_words.specs.declared.head.HeadTag.TheVariants.{Free, Claimed, Live}
@@ -27,11 +27,14 @@ head_word id code = id * 2 ^ 2 + code
 pub record HeadFits (w : HeadWord) : Type 0 where
   pub id : w.id < 2 ^ 36
 
--- the number of a head's word
+-- the number that stands for a head
 abbrev pub packed_head : HeadWord → ℕ
 packed_head w = head_word w.id (tag_code w.tag)
 
--- the word that a number is the packing of, if there is one
+-- the head with this tag whose id the number holds
+abbrev pub head_in : ℕ → HeadTag → HeadWord
+head_in n tag = record { id = n / 2 ^ 2; tag = tag }
+
+-- the head that a number is the packing of, if there is one
 abbrev pub unpacked_head : ℕ → Option HeadWord
-unpacked_head n =
-    if nat_lt n (2 ^ 38) then option_map (λ tag. record { id = n / 2 ^ 2; tag = tag }) (tag_of (n % 2 ^ 2)) else None
+unpacked_head n = if nat_lt n (2 ^ 38) then option_map (head_in n) (tag_of (n % 2 ^ 2)) else None

@@ -5,3 +5,7 @@ use Rattle.std.specs.Prelude.{◌≡◌, ℕ}
 pub record IsPacking {W : Type 0} (Fits : W → Type 0) (number_of : W → ℕ) (n : ℕ) (w : W) : Type 0 where
   pub fits : Fits w
   pub number : number_of w ≡ n
+
+-- the number is the packing of no word
+abbrev pub IsNoPacking : {W : Type 0} → (W → Type 0) → (W → ℕ) → ℕ → Type 0
+IsNoPacking {W} Fits number_of n = (w : W) → ¬ IsPacking Fits number_of n w

@@ -1,5 +1,5 @@
 -- How a segment and its slot are written in one number, in the tail and in a link.
-use Rattle.std.specs.Prelude.{◌≡◌, ℕ, ◌+◌, ◌*◌, ◌/◌, ◌%◌, ◌^◌, ◌<◌, Option, Some, None, nat_lt, if◌then◌else◌}
+use Rattle.std.specs.Prelude.{ℕ, ◌+◌, ◌*◌, ◌/◌, ◌%◌, ◌^◌, ◌<◌, Option, Some, None, nat_lt, if◌then◌else◌}
 use Rattle.cqs_words.specs.declared.segment.TailWord.{TailWord}
 use Rattle.cqs_words.specs.declared.segment.LinkWord.{LinkWord}
 
@@ -12,7 +12,7 @@ pub record TailFits (w : TailWord) : Type 0 where
   pub id : w.id < 2 ^ 36
   pub slot : w.slot < 2 ^ 16
 
--- the number of a tail's word
+-- the number that stands for a tail
 abbrev pub packed_tail : TailWord → ℕ
 packed_tail w = segment_word w.id w.slot
 
@@ -25,7 +25,7 @@ pub record LinkFits (w : LinkWord) : Type 0 where
   pub id : w.id < 2 ^ 36
   pub slot : w.slot < 2 ^ 16
 
--- the number of a link's word
+-- the number that stands for a link
 abbrev pub packed_link : LinkWord → ℕ
 packed_link w = segment_word w.id w.slot
 

@@ -1,5 +1,5 @@
 -- How a signed count is written in one number.
-use Rattle.std.specs.Prelude.{◌≡◌, ℕ, suc, ◌+◌, ◌-◌, ◌^◌, ◌<◌, ℤ, pos, negsuc, ◌-ℤ◌, Option, Some, None, unsigned_abs, nat_lt, ◌&&◌, if◌then◌else◌}
+use Rattle.std.specs.Prelude.{ℕ, suc, ◌+◌, ◌-◌, ◌^◌, ◌<◌, ℤ, pos, negsuc, ◌-ℤ◌, Option, Some, None, unsigned_abs, nat_lt, ◌&&◌, if◌then◌else◌}
 use Rattle.cqs_words.specs.declared.state.StateWord.{StateWord}
 
 -- the number of a signed count: it is raised by 2 ^ 32
@@ -11,10 +11,11 @@ state_word (negsuc count) = 2 ^ 32 - suc count
 pub record StateFits (w : StateWord) : Type 0 where
   pub value : unsigned_abs w.value < 2 ^ 32
 
--- the number of a word
+-- the number that stands for a count
 abbrev pub packed_state : StateWord → ℕ
 packed_state w = state_word w.value
 
--- the word that a number is the packing of, if there is one
+-- the count that a number is the packing of, if there is one
 abbrev pub unpacked_state : ℕ → Option StateWord
-unpacked_state n = if nat_lt 0 n && nat_lt n (2 ^ 33) then Some (record { value = pos n -ℤ pos (2 ^ 32) }) else None
+unpacked_state n =
+    if nat_lt 0 n && nat_lt n (2 ^ 33) then Some (record { value = pos n -ℤ pos (2 ^ 32) }) else None

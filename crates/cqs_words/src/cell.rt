@@ -1,5 +1,5 @@
 ghost use Rattle.std.specs.Prelude.{◌≡◌, ◌≢◌, ◌%◌, ◌^◌, Option, Some, IfSome, IfNone};
-ghost use Rattle.cqs_words.specs.Packing.{IsPacking};
+ghost use Rattle.cqs_words.specs.Packing.{IsPacking, IsNoPacking};
 ghost use Rattle.cqs_words.specs.Cell.{state_code, state_of, CellFits, packed_cell, unpacked_cell};
 
 use crate::layout::{CODE_BITS, PAYLOAD_BITS, join, split};
@@ -60,8 +60,8 @@ impl CellState {
 /// A cell of the queue.
 #[derive(Clone, Copy, Debug, PartialEq, Eq)]
 pub struct CellWord {
-    /// The cell's number in the queue, below 2^40. By it an exchange tells the cell from an earlier one that lay in
-    /// the same place.
+    /// The cell's number in the queue, below 2^40. By it an exchange tells the cell from an earlier one that lay
+    /// in the same place.
     pub index: u64,
     pub state: CellState,
     /// What the caller who made the state left in the cell, below 2^20.
@@ -97,7 +97,7 @@ impl CellWord {
     pub fn unpack(word: u64) -> Option<Self>
         ensures value { result ≡ unpacked_cell word }
         ensures packing { IfSome result (IsPacking CellFits packed_cell word) }
-        ensures no_packing { IfNone result ((cell : CellWord) → ¬ IsPacking CellFits packed_cell word cell) }
+        ensures no_packing { IfNone result (IsNoPacking CellFits packed_cell word) }
     {
         let (above, payload) = split(word, PAYLOAD_BITS);
         let (index, code) = split(above, CODE_BITS);
@@ -109,13 +109,14 @@ impl CellWord {
         })
     }
 
-    /// What a waiter that sleeps on this cell's word gives as the word that it expects: the low 32 bits. Whoever
-    /// changes the state changes them, so the waiter doesn't sleep past it.
+    /// The low 32 bits of the packing. A waiter that sleeps on this cell's word gives them as what it expects
+    /// there, and whoever changes the state changes them, so the waiter doesn't sleep past it.
     #[inline]
     pub fn low_half(self) -> u32
         requires { CellFits self }
         ensures value { result ≡ packed_cell self % 2 ^ 32 }
-        ensures awake { (cell : CellWord) → CellFits cell → cell.state ≢ self.state → packed_cell cell % 2 ^ 32 ≢ result }
+        ensures awake { (cell : CellWord) → CellFits cell → cell.state ≢ self.state
+            → packed_cell cell % 2 ^ 32 ≢ result }
     {
         split(self.pack(), u32::BITS).1 as u32
     }

@@ -1,5 +1,5 @@
 ghost use Rattle.std.specs.Prelude.{◌≡◌, Option, Some, IfSome, IfNone};
-ghost use Rattle.cqs_words.specs.Packing.{IsPacking};
+ghost use Rattle.cqs_words.specs.Packing.{IsPacking, IsNoPacking};
 ghost use Rattle.cqs_words.specs.Head.{tag_code, tag_of, HeadFits, packed_head, unpacked_head};
 
 use crate::layout::{IDS, TAG_BITS, join, split};
@@ -60,7 +60,7 @@ impl HeadWord {
     pub fn unpack(word: u64) -> Option<Self>
         ensures value { result ≡ unpacked_head word }
         ensures packing { IfSome result (IsPacking HeadFits packed_head word) }
-        ensures no_packing { IfNone result ((head : HeadWord) → ¬ IsPacking HeadFits packed_head word head) }
+        ensures no_packing { IfNone result (IsNoPacking HeadFits packed_head word) }
     {
         let (id, code) = split(word, TAG_BITS);
         if id >= IDS {

@@ -1,5 +1,5 @@
 ghost use Rattle.std.specs.Prelude.{◌≡◌, Option, Some, IfSome, IfNone};
-ghost use Rattle.cqs_words.specs.Packing.{IsPacking};
+ghost use Rattle.cqs_words.specs.Packing.{IsPacking, IsNoPacking};
 ghost use Rattle.cqs_words.specs.Segment.{TailFits, packed_tail, unpacked_tail, LinkFits, packed_link, unpacked_link};
 
 use crate::layout::{IDS, SLOT_BITS, join, split};
@@ -29,7 +29,7 @@ impl TailWord {
     pub fn unpack(word: u64) -> Option<Self>
         ensures value { result ≡ unpacked_tail word }
         ensures packing { IfSome result (IsPacking TailFits packed_tail word) }
-        ensures no_packing { IfNone result ((tail : TailWord) → ¬ IsPacking TailFits packed_tail word tail) }
+        ensures no_packing { IfNone result (IsNoPacking TailFits packed_tail word) }
     {
         let (id, slot) = split(word, SLOT_BITS);
         if id >= IDS {
@@ -67,7 +67,7 @@ impl LinkWord {
     pub fn unpack(word: u64) -> Option<Self>
         ensures value { result ≡ unpacked_link word }
         ensures packing { IfSome result (IsPacking LinkFits packed_link word) }
-        ensures no_packing { IfNone result ((link : LinkWord) → ¬ IsPacking LinkFits packed_link word link) }
+        ensures no_packing { IfNone result (IsNoPacking LinkFits packed_link word) }
     {
         let (id, slot) = split(word, SLOT_BITS);
         if id >= IDS {

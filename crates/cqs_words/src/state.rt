@@ -1,5 +1,5 @@
 ghost use Rattle.std.specs.Prelude.{◌≡◌, Option, Some, IfSome, IfNone};
-ghost use Rattle.cqs_words.specs.Packing.{IsPacking};
+ghost use Rattle.cqs_words.specs.Packing.{IsPacking, IsNoPacking};
 ghost use Rattle.cqs_words.specs.State.{StateFits, packed_state, unpacked_state};
 
 use crate::layout::BIAS;
@@ -27,7 +27,7 @@ impl StateWord {
     pub fn unpack(word: u64) -> Option<Self>
         ensures value { result ≡ unpacked_state word }
         ensures packing { IfSome result (IsPacking StateFits packed_state word) }
-        ensures no_packing { IfNone result ((count : StateWord) → ¬ IsPacking StateFits packed_state word count) }
+        ensures no_packing { IfNone result (IsNoPacking StateFits packed_state word) }
     {
         if word == 0 || word >= 2 * BIAS as u64 {
             return None;

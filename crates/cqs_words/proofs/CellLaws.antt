@@ -83,8 +83,7 @@ packed_cell-injective = number_of-injective CellFits packed_cell unpacked_cell u
 pub packed_cell-low_half : (v w : CellWord) → CellFits v → CellFits w
     → packed_cell v % 2 ^ 32 ≡ packed_cell w % 2 ^ 32 → v.state ≡ w.state
 packed_cell-low_half v w v_fits w_fits same =
-    let v_code : state_code v.state < 2 ^ 4 = omega (arith, state_code-below v.state) in
-    let w_code : state_code w.state < 2 ^ 4 = omega (arith, state_code-below w.state) in
-    state_code-injective v.state w.state
-    (cell_word-low_half v.index w.index (state_code v.state) (state_code w.state) v.payload w.payload
-    v_code w_code v_fits.payload w_fits.payload same)
+    let v_code = state_code-below v.state in
+    let w_code = state_code-below w.state in
+    let one_code : state_code v.state ≡ state_code w.state = omega arith in
+    state_code-injective v.state w.state one_code

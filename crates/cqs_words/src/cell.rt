@@ -109,8 +109,8 @@ impl CellWord {
         })
     }
 
-    /// The low 32 bits of the packing. A waiter that sleeps on this cell's word gives them as what it expects
-    /// there, and whoever changes the state changes them, so the waiter doesn't sleep past it.
+    /// The low 32 bits of the packing, which are all that the kernel compares where a waiter sleeps on the cell's
+    /// word. Whoever changes the state changes them.
     #[inline]
     pub fn low_half(self) -> u32
         requires { CellFits self }

@@ -9,10 +9,12 @@ mod shortage;
 mod streams;
 
 pub use shortage::Memory;
+pub use streams::bytes_sink::BytesSink;
 pub use streams::bytes_source::BytesSource;
 pub use streams::failed::Failed;
 pub use streams::reading::{LONGEST_INPUT, ReadError, read_input};
 pub use streams::sink::Sink;
 pub use streams::source::Source;
+pub use streams::sure_sink::SureSink;
 pub use streams::sure_source::SureSource;
 pub use streams::writing::write_all;

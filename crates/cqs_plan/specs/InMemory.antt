@@ -1,5 +1,5 @@
 -- Sources and sinks in memory: what they are, and exactly what one call does.
-use Rattle.std.specs.Prelude.{◌≡◌, ℕ, ◌+◌, ◌-◌, ◌<◌, ◌≤◌, ◌⊎◌, min, Bool, true, false, ◌||◌, nat_lt, List, ◌++◌, length, take, drop, Option, Some, None, Result, Ok, Err, if◌then◌else◌}
+use Rattle.std.specs.Prelude.{◌≡◌, ℕ, ◌+◌, ◌-◌, ◌<◌, ◌⊎◌, min, Bool, true, false, ◌||◌, nat_lt, List, ◌++◌, length, take, drop, Option, Some, None, Result, Ok, Err, if◌then◌else◌}
 use Rattle.cqs_plan.specs.Script.{Script, IsFailing, after_call, after_fault}
 use Rattle.cqs_plan.specs.declared.streams.failed.Failed.{Failed}
 

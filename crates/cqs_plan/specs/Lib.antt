@@ -1,3 +1,4 @@
+pub mod FirstPlan
 pub mod InMemory
 pub mod Script
 pub mod Stream

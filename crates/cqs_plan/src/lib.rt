@@ -5,9 +5,11 @@
 //! only loops over them.
 #![tactic(auto)]
 
+mod first_plan;
 mod shortage;
 mod streams;
 
+pub use first_plan::{FirstPlan, FirstPlanError, read_first_plan};
 pub use shortage::Memory;
 pub use streams::bytes_sink::BytesSink;
 pub use streams::bytes_source::BytesSource;

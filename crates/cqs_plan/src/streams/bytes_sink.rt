@@ -1,8 +1,7 @@
-use std::alloc::Global;
-use std::marker::Model;
-
 use crate::streams::script::Script;
 use crate::{Failed, Memory, Sink};
+use std::alloc::Global;
+use std::marker::Model;
 
 /// A sink in memory that fails when it is told to, for tests of faults.
 ///

@@ -1,7 +1,6 @@
+use crate::{Failed, Memory, Sink};
 use std::alloc::Global;
 use std::marker::Model;
-
-use crate::{Failed, Memory, Sink};
 
 /// A sink in memory that never fails.
 ///

@@ -1,0 +1,6 @@
+pub mod Endings
+pub mod Input
+pub mod Plans
+pub mod Tellings
+pub mod Verdicts
+pub mod Words

@@ -1,4 +1,5 @@
-pub mod Endings
+pub mod Ending
+pub mod Meanings
 pub mod Input
 pub mod Plans
 pub mod Tellings

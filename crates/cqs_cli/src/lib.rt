@@ -5,15 +5,16 @@
 //! stands on `top`. The real streams are in `standard`, the trusted edge.
 #![tactic(auto)]
 
+mod ending;
 mod judging;
 mod plans;
 mod standard;
-mod status;
+
 mod telling;
 mod top_call;
 mod verdict;
 mod words;
 
 pub use standard::{StdinSource, StdoutSink, words_after_name};
-pub use status::{DONE, NO_COMMAND, NO_MEMORY, NO_PLAN, SINK_FAILED, SOURCE_FAILED, TOO_LONG};
+pub use ending::{DONE, NO_COMMAND, NO_MEMORY, NO_PLAN, SINK_FAILED, SOURCE_FAILED, TOO_LONG};
 pub use top_call::top;

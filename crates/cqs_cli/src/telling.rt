@@ -1,30 +1,30 @@
 ghost use Rattle.cqs_cli.specs.Tellings.{Says, Tells};
 
-use crate::status::{DONE, NO_COMMAND, NO_MEMORY, NO_PLAN, SINK_FAILED, SOURCE_FAILED, TOO_LONG};
+use crate::ending::Ending;
 use crate::verdict::Verdict;
 use crate::words::USAGE;
 use cqs_plan::{Sink, write_all};
 
-/// Writes what a verdict has to say, and gives the status that it ends with.
-pub fn tell<K: Sink>(sink: &mut K, verdict: &Verdict) -> u8
+/// Writes what a verdict has to say, and gives the ending.
+pub fn tell<K: Sink>(sink: &mut K, verdict: &Verdict) -> Ending
     ensures { Tells K.held K.is_flushed K.faults verdict.now result sink.old sink.new }
 {
     match verdict {
-        Verdict::NoCommand => say(sink, USAGE.as_bytes(), NO_COMMAND),
-        Verdict::Report(text) => say(sink, text.as_slice(), DONE),
-        Verdict::BadPlan(line) => say(sink, line.as_slice(), NO_PLAN),
-        Verdict::SourceFailed => SOURCE_FAILED,
-        Verdict::NoMemory => NO_MEMORY,
-        Verdict::TooLong => TOO_LONG,
+        Verdict::NoCommand => say(sink, USAGE.as_bytes(), Ending::NoCommand),
+        Verdict::Report(text) => say(sink, text.as_slice(), Ending::Done),
+        Verdict::BadPlan(line) => say(sink, line.as_slice(), Ending::NoPlan),
+        Verdict::SourceFailed => Ending::SourceFailed,
+        Verdict::NoMemory => Ending::NoMemory,
+        Verdict::TooLong => Ending::TooLong,
     }
 }
 
-/// Writes a text and gives its status, or that of a sink that failed.
-fn say<K: Sink>(sink: &mut K, text: &[u8], status: u8) -> u8
-    ensures { Says K.held K.is_flushed K.faults text.now status result sink.old sink.new }
+/// Writes a text that ends a call so, unless the sink fails.
+fn say<K: Sink>(sink: &mut K, text: &[u8], ending: Ending) -> Ending
+    ensures { Says K.held K.is_flushed K.faults text.now ending result sink.old sink.new }
 {
     match write_all(sink, text) {
-        Ok(()) => status,
-        Err(_) => SINK_FAILED,
+        Ok(()) => ending,
+        Err(_) => Ending::SinkFailed,
     }
 }

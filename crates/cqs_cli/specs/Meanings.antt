@@ -4,7 +4,7 @@ use Rattle.cqs_plan.specs.Stream.{Gains, GainsFront}
 use Rattle.cqs_cli.specs.Input.{IsInput}
 use Rattle.cqs_cli.specs.Plans.{IsFaultLine, IsReport}
 use Rattle.cqs_cli.specs.Words.{IsCommand, IsRun, usage}
-use Rattle.cqs_cli.specs.declared.status.TheConstants.{DONE, NO_COMMAND, NO_MEMORY, NO_PLAN, SINK_FAILED, SOURCE_FAILED, TOO_LONG}
+use Rattle.cqs_cli.specs.declared.ending.TheConstants.{DONE, NO_COMMAND, NO_MEMORY, NO_PLAN, SINK_FAILED, SOURCE_FAILED, TOO_LONG}
 
 -- the input was a plan, and the sink took its whole report
 pub record Reported (left after held now : Option (List ℕ)) : Type 0 where
@@ -41,3 +41,7 @@ pub record BrokeOff (words : List (List ℕ)) (left after held now : Option (Lis
 -- the statuses that there are
 abbrev pub IsStatus : ℕ → Type 0
 IsStatus = Contains (DONE ∷ NO_COMMAND ∷ NO_PLAN ∷ SOURCE_FAILED ∷ SINK_FAILED ∷ NO_MEMORY ∷ TOO_LONG ∷ [])
+
+-- the status that must come, unless there was no memory
+abbrev pub MustEnd : ℕ → ℕ → Type 0
+MustEnd status result = (result ≡ status) ⊎ (result ≡ NO_MEMORY)

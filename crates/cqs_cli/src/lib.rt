@@ -9,12 +9,11 @@ mod ending;
 mod judging;
 mod plans;
 mod standard;
-
 mod telling;
 mod top_call;
 mod verdict;
 mod words;
 
-pub use standard::{StdinSource, StdoutSink, words_after_name};
 pub use ending::{DONE, NO_COMMAND, NO_MEMORY, NO_PLAN, SINK_FAILED, SOURCE_FAILED, TOO_LONG};
+pub use standard::{StdinSource, StdoutSink, words_after_name};
 pub use top_call::top;

@@ -20,8 +20,14 @@ fn answer(alloc: Global, bytes: &[u8]) -> Result<Verdict, AllocError>
 {
     match read_first_plan(alloc, bytes) {
         Ok(_) => Ok(Verdict::Report(text(alloc, "total done 0 gaveup 0 late 0 unfinished 0\n")?)),
-        Err(FirstPlanError::NotToml) => Ok(Verdict::BadPlan(text(alloc, "bad plan: not a TOML document\n")?)),
-        Err(FirstPlanError::Unread) => Ok(Verdict::BadPlan(text(alloc, "bad plan: not a first plan\n")?)),
+        Err(FirstPlanError::NotToml) => Ok(Verdict::BadPlan(text(
+            alloc,
+            "bad plan: not a TOML document\n",
+        )?)),
+        Err(FirstPlanError::Unread) => Ok(Verdict::BadPlan(text(
+            alloc,
+            "bad plan: not a first plan\n",
+        )?)),
         Err(FirstPlanError::Memory) => Ok(Verdict::NoMemory),
     }
 }

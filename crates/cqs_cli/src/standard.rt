@@ -2,10 +2,9 @@ ghost use Rattle.std.specs.Prelude.{None};
 ghost use Rattle.cqs_plan.specs.Stream.{Rises};
 
 use cqs_plan::{Failed, Sink, Source};
-use std::env;
-use std::io;
 use std::io::{Read, Stdin, Stdout, Write};
 use std::rt::Env;
+use std::{env, io};
 
 /// Standard input. What it gives is outside all contracts; its failures are counted.
 #[derive(Drop)]

@@ -19,15 +19,18 @@ fn answer(alloc: Global, bytes: &[u8]) -> Result<Verdict, AllocError>
     ensures { IfOk result (IsVerdictOn bytes.now) }
 {
     match read_first_plan(alloc, bytes) {
-        Ok(_) => Ok(Verdict::Report(text(alloc, "total done 0 gaveup 0 late 0 unfinished 0\n")?)),
-        Err(FirstPlanError::NotToml) => Ok(Verdict::BadPlan(text(
-            alloc,
-            "bad plan: not a TOML document\n",
-        )?)),
-        Err(FirstPlanError::Unread) => Ok(Verdict::BadPlan(text(
-            alloc,
-            "bad plan: not a first plan\n",
-        )?)),
+        Ok(_) => {
+            let report = text(alloc, "total done 0 gaveup 0 late 0 unfinished 0\n")?;
+            Ok(Verdict::Report(report))
+        }
+        Err(FirstPlanError::NotToml) => {
+            let line = text(alloc, "bad plan: not a TOML document\n")?;
+            Ok(Verdict::BadPlan(line))
+        }
+        Err(FirstPlanError::Unread) => {
+            let line = text(alloc, "bad plan: not a first plan\n")?;
+            Ok(Verdict::BadPlan(line))
+        }
         Err(FirstPlanError::Memory) => Ok(Verdict::NoMemory),
     }
 }

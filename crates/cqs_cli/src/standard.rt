@@ -1,10 +1,12 @@
-ghost use Rattle.std.specs.Prelude.{None};
+ghost use Rattle.std.specs.Prelude.{◌≡◌, None, true};
 ghost use Rattle.cqs_plan.specs.Stream.{Rises};
 
 use cqs_plan::{Failed, Sink, Source};
-use std::io::{Read, Stdin, Stdout, Write};
+use std::alloc::AllocError;
+use std::env;
+use std::io::{ErrorKind, Read, Stdin, Stdout, Write};
+use std::marker::Model;
 use std::rt::Env;
-use std::{env, io};
 
 /// Standard input. What it gives is outside all contracts; its failures are counted.
 #[derive(Drop)]
@@ -13,8 +15,19 @@ pub struct StdinSource {
     faults: u64,
 }
 
+impl Model for StdinSource {
+    ghost use Rattle.std.specs.Prelude.{ℕ};
+
+    ghost Value = { ℕ };
+
+    ghost view = { λ source. source.faults };
+}
+
 impl StdinSource {
-    pub fn new(stdin: Stdin) -> StdinSource {
+    /// Standard input before its first read.
+    pub fn new(stdin: Stdin) -> StdinSource
+        ensures { result ≡ 0 }
+    {
         StdinSource { stdin, faults: 0 }
     }
 }
@@ -22,7 +35,7 @@ impl StdinSource {
 impl Source for StdinSource {
     ghost left = { λ _. None };
 
-    ghost faults = { λ source. source.faults };
+    ghost faults = { λ faults. faults };
 
     fn read(&mut self, buffer: &mut [u8]) -> Result<usize, Failed> {
         match self.stdin.read(buffer) {
@@ -43,8 +56,19 @@ pub struct StdoutSink {
     faults: u64,
 }
 
+impl Model for StdoutSink {
+    ghost use Rattle.cqs_cli.specs.Standard.{StandardOutput};
+
+    ghost Value = { StandardOutput };
+
+    ghost view = { λ sink. record { is_flushed = sink.is_flushed; faults = sink.faults } };
+}
+
 impl StdoutSink {
-    pub fn new(stdout: Stdout) -> StdoutSink {
+    /// Standard output before its first write.
+    pub fn new(stdout: Stdout) -> StdoutSink
+        ensures { result ≡ record { is_flushed = true; faults = 0 } }
+    {
         StdoutSink {
             stdout,
             is_flushed: true,
@@ -87,10 +111,17 @@ impl Sink for StdoutSink {
     }
 }
 
-/// The words of the command line after the program's name. One that is no UTF-8 is an error.
-pub fn words_after_name(rt: &(impl Env + AllocGlobal)) -> io::Result<Vec<String>> {
+/// The words of the command line after the program's name.
+///
+/// Where one of them is no UTF-8 there are none, which is no command either.
+pub fn words_after_name(rt: &(impl Env + AllocGlobal)) -> Result<Vec<String>, AllocError> {
     let mut words = Vec::new(rt.alloc());
-    for word in env::args(rt)?.skip(1) {
+    let arguments = match env::args(rt) {
+        Ok(arguments) => arguments,
+        Err(error) if error.kind() == ErrorKind::OutOfMemory => return Err(AllocError),
+        Err(_) => return Ok(words),
+    };
+    for word in arguments.skip(1) {
         words.push(word)?;
     }
     Ok(words)

@@ -1,13 +1,9 @@
-// A library with one function.
+//! Tests that run the program over streams in memory. Their expected values were worked out by hand.
 #![tactic(auto)]
 
-ghost use Rattle.std.specs.Prelude.{◌≡◌};
-ghost use Rattle.cqs_rows.specs.Echo.{echo_of};
-
-// The `ensures` clause is the contract: what `echo` returns is `echo_of` of its argument, a definition
-// in `specs/Echo.antt`, which a caller's clause can cite too.
-pub fn echo(x: usize) -> usize
-    ensures { result ≡ echo_of x }
-{
-    x
-}
+#[cfg(test)]
+mod calls;
+#[cfg(test)]
+mod empty_plan;
+#[cfg(test)]
+mod faulty_input_and_output;

@@ -19,17 +19,28 @@ pub fn words(alloc: Global, line: &[&str]) -> Result<Vec<String>, Fail> {
 }
 
 /// Runs an input through streams without faults, and expects this status and text.
-pub fn expect_surely(rt: &(impl Abort + AllocGlobal), line: &[&str], input: &[u8], status: u8, text: &str) -> Result<(), Fail> {
+pub fn expect_surely(
+    rt: &(impl Abort + AllocGlobal),
+    line: &[&str],
+    input: &[u8],
+    status: u8,
+    text: &str,
+) -> Result<(), Fail> {
     let alloc = rt.alloc();
     let words = words(alloc, line)?;
     let mut source = SureSource::new(alloc, input, 4096)?;
     let mut sink = SureSink::new(alloc, 4096)?;
-    assert_eq!(rt; top(alloc, &words, &mut source, &mut sink), status, "{text}");
+    assert_eq!(rt;
+        top(alloc, &words, &mut source, &mut sink),
+        status,
+        "{text}"
+    );
     assert_eq!(rt; sink.bytes(), Some(text.as_bytes()));
     Ok(())
 }
 
 /// The faults and the sizes of a source and a sink.
+#[derive(Clone, Copy)]
 pub struct Faults<'a> {
     pub chunk: u32,
     pub reads: &'a [u32],
@@ -38,13 +49,22 @@ pub struct Faults<'a> {
 }
 
 /// Runs the empty plan through streams with faults, and expects this status and text.
-pub fn expect_by_faults(rt: &(impl Abort + AllocGlobal), faults: &Faults<'_>, status: u8, text: &str) -> Result<(), Fail> {
+pub fn expect_by_faults(
+    rt: &(impl Abort + AllocGlobal),
+    faults: &Faults<'_>,
+    status: u8,
+    text: &str,
+) -> Result<(), Fail> {
     let alloc = rt.alloc();
     let words = words(alloc, &["run"])?;
     assert!(rt; 1 <= faults.chunk);
     let mut source = BytesSource::new(alloc, EMPTY_PLAN.as_bytes(), faults.chunk, faults.reads)?;
     let mut sink = BytesSink::new(alloc, faults.room, faults.chunk, faults.writes)?;
-    assert_eq!(rt; top(alloc, &words, &mut source, &mut sink), status, "{text}");
+    assert_eq!(rt;
+        top(alloc, &words, &mut source, &mut sink),
+        status,
+        "{text}"
+    );
     assert_eq!(rt; sink.bytes(), text.as_bytes());
     Ok(())
 }

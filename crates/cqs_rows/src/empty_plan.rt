@@ -6,7 +6,13 @@ use std::test::Fail;
 #[test]
 fn empty_plan(rt: HostRuntime) -> Result<(), Fail> {
     let plan = read_first_plan(rt.alloc(), EMPTY_PLAN.as_bytes())?;
-    assert_eq!(rt; plan, FirstPlan { version: 1, turns: 1 });
+    assert_eq!(rt;
+        plan,
+        FirstPlan {
+            version: 1,
+            turns: 1
+        }
+    );
     expect_surely(&rt, &["run"], EMPTY_PLAN.as_bytes(), DONE, EMPTY_REPORT)
 }
 

@@ -2,7 +2,8 @@ use crate::calls::{EMPTY_PLAN, EMPTY_REPORT, Faults, expect_by_faults, expect_su
 use cqs_cli::{DONE, NO_COMMAND, NO_PLAN, SINK_FAILED, SOURCE_FAILED, TOO_LONG};
 use std::test::Fail;
 
-const USAGE: &str = "usage: cqs run\n       cqs work [--workers N]\n       cqs gen --number N --jobs M\n";
+const USAGE: &str =
+    "usage: cqs run\n       cqs work [--workers N]\n       cqs gen --number N --jobs M\n";
 
 #[test]
 fn words_that_are_no_command(rt: HostRuntime) -> Result<(), Fail> {
@@ -85,7 +86,12 @@ fn writes_that_fail(rt: HostRuntime) -> Result<(), Fail> {
         (100, [7], DONE, EMPTY_REPORT),
         (0, [9], SINK_FAILED, ""),
         (13, [9], SINK_FAILED, "total done 0 "),
-        (41, [9], SINK_FAILED, "total done 0 gaveup 0 late 0 unfinished 0"),
+        (
+            41,
+            [9],
+            SINK_FAILED,
+            "total done 0 gaveup 0 late 0 unfinished 0",
+        ),
         (42, [9], DONE, EMPTY_REPORT),
     ] {
         let faults = Faults {

@@ -1,3 +1,11 @@
 pub mod Places
 pub mod EachAtLemmas
 pub mod Promised
+pub mod History
+pub mod RowsKeep
+pub mod CoreFrame
+pub mod RowsTake
+pub mod RowsSuspend
+pub mod RowsResume
+pub mod RowsCancel
+pub mod StepKeeps

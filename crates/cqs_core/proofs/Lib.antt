@@ -1,3 +1,4 @@
 pub mod Places
 pub mod EachAtLemmas
+pub mod Tickets
 pub mod Promised

@@ -101,14 +101,22 @@ abbrev pub moved : Queue → Move → Queue
 moved q stay = q
 moved q (turn p from to) = now_doing q p to
 moved q (draw p k found) =
-    record { suspends = q.suspends + 1; resumes = q.resumes;
-             cells = cells_drawn q.cells k p found; doing = slice_set q.doing p (doing.Drawn k) }
+    record {
+      suspends = q.suspends + 1;
+      resumes = q.resumes;
+      cells = cells_drawn q.cells k p found;
+      doing = slice_set q.doing p (doing.Drawn k);
+    }
 moved q (install p k found) = now_doing (with_cell q k (at_state found state.Waiter)) p doing.Idle
 moved q (take_value p k found) =
     now_doing (with_cell q k (record { state = state.Taken; owner = found.owner; collected = true })) p doing.Idle
 moved q (reach p k found) =
-    record { suspends = q.suspends; resumes = q.resumes + 1;
-             cells = cells_reached q.cells found; doing = slice_set q.doing p (doing.Ticket k) }
+    record {
+      suspends = q.suspends;
+      resumes = q.resumes + 1;
+      cells = cells_reached q.cells found;
+      doing = slice_set q.doing p (doing.Ticket k);
+    }
 moved q (serve p k found) = now_doing (with_cell q k (at_state found state.Resumed)) p doing.Idle
 moved q (leave_value p k found) = now_doing (with_cell q k (at_state found state.Value)) p doing.Idle
 moved q (delegate p k found) = now_doing (with_cell q k (at_state found state.Delegated)) p doing.Idle

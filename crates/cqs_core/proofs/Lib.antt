@@ -1,4 +1,5 @@
 pub mod Places
 pub mod EachAtLemmas
 pub mod Counts
+pub mod Tickets
 pub mod Promised

@@ -1,5 +1,6 @@
 pub mod Places
 pub mod EachAtLemmas
+pub mod Counts
 pub mod Tickets
 pub mod Promised
 pub mod History

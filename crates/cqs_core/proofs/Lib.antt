@@ -3,6 +3,8 @@ pub mod EachAtLemmas
 pub mod Counts
 pub mod Tickets
 pub mod Promised
+pub mod Keys
+pub mod Picked
 pub mod History
 pub mod RowsKeep
 pub mod CoreFrame

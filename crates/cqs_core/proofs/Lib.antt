@@ -5,6 +5,9 @@ pub mod Tickets
 pub mod Promised
 pub mod Keys
 pub mod Picked
+pub mod LineReads
+pub mod StateWord
+pub mod WaysChange
 pub mod History
 pub mod RowsKeep
 pub mod CoreFrame

@@ -8,6 +8,7 @@ pub mod Picked
 pub mod LineReads
 pub mod StateWord
 pub mod WaysChange
+pub mod HiddenMoves
 pub mod History
 pub mod RowsKeep
 pub mod CoreFrame

@@ -9,6 +9,7 @@ pub mod LineReads
 pub mod StateWord
 pub mod WaysChange
 pub mod HiddenMoves
+pub mod DrawMoves
 pub mod History
 pub mod RowsKeep
 pub mod CoreFrame

@@ -27,7 +27,7 @@ set-same (z ∷ xs) zero x there = let same : z ≡ x = cc in ap (λ y. y ∷ xs
 set-same (z ∷ xs) (suc i) x there = ap (λ ys. z ∷ ys) (set-same xs i x there)
 
 -- a cell is an unmet refusal as before, where its ticket is as open as before
-unmet-frame : (resumes : ℕ) (passes after : List Doing) (k : ℕ) (s : CoreState) → has_ticket k after ≡ has_ticket k passes
+pub unmet-frame : (resumes : ℕ) (passes after : List Doing) (k : ℕ) (s : CoreState) → has_ticket k after ≡ has_ticket k passes
   → is_unmet_refusal resumes passes k s ≡ is_unmet_refusal resumes after k s
 unmet-frame resumes passes after k state.Refused same = ap (λ b. nat_le resumes k || b) (sym same)
 unmet-frame resumes passes after k _ same = refl

@@ -84,7 +84,7 @@ same-turn q p from to does doors leaves tickets resuming told =
       way = omega (arith, ways.goes, ways.ends, resumes, tells) }
 
 -- the ticket of k is no ticket of another number
-no-other-ticket : (k m : ℕ) → m ≢ k → false ≡ is_ticket m (doing.Ticket k)
+pub no-other-ticket : (k m : ℕ) → m ≢ k → false ≡ is_ticket m (doing.Ticket k)
 no-other-ticket k m other = sym (is_ticket-other m k (λ e. other (sym e)))
 
 pub same-install : (q : Queue) (p k : ℕ) (found : CoreCell) → Works q p (doing.Drawn k) k found state.Empty
@@ -166,7 +166,7 @@ record Told (q : Queue) (p k : ℕ) (on : Bool) (found : CoreCell) : Type 0 wher
   at : IsCancelling found.state
   gone : in_line q.doing k found ≡ None
 
-stays-not : (k : ℕ) (s : CoreState) (o : Option Doing) → IsCancelling s → is_leaving k o ≡ false → stays_in_line k s o ≡ false
+pub stays-not : (k : ℕ) (s : CoreState) (o : Option Doing) → IsCancelling s → is_leaving k o ≡ false → stays_in_line k s o ≡ false
 stays-not k state.Cancelling o at none = none
 stays-not k state.Delegated o at none = none
 stays-not k _ o at none = absurd at

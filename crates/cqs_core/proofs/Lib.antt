@@ -10,6 +10,8 @@ pub mod StateWord
 pub mod WaysChange
 pub mod HiddenMoves
 pub mod DrawMoves
+pub mod DeliveryMoves
+pub mod LineMoves
 pub mod History
 pub mod RowsKeep
 pub mod CoreFrame

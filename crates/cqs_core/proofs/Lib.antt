@@ -15,6 +15,7 @@ pub mod LineMoves
 pub mod History
 pub mod RowsKeep
 pub mod CoreFrame
+pub mod CoreSteps
 pub mod RowsTake
 pub mod RowsSuspend
 pub mod RowsResume

@@ -45,6 +45,12 @@ add-free z above = grind (arith, ints)
 pub add-free_short : (z : ℤ) → pos 0 ≤ℤ z → short_of (z +ℤ pos 1) ≡ 0
 add-free_short z above = grind (arith, ints)
 
+pub above-within : (z : ℤ) → pos 0 <ℤ z → pos 0 ≤ℤ z
+above-within z above = omega (arith, ints)
+
+pub lowest-below : (z : ℤ) → pos 0 <ℤ z → lowest <ℤ z
+lowest-below z above = omega (arith, ints)
+
 -- the state stays in its range
 pub take-range : (z : ℤ) → lowest <ℤ z → lowest ≤ℤ (z -ℤ pos 1)
 take-range z above = omega (arith, ints)

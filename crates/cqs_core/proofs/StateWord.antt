@@ -48,6 +48,9 @@ add-free_short z above = grind (arith, ints)
 pub above-within : (z : ℤ) → pos 0 <ℤ z → pos 0 ≤ℤ z
 above-within z above = omega (arith, ints)
 
+pub below-within : (z : ℤ) → z <ℤ pos 0 → z ≤ℤ pos 0
+below-within z below = omega (arith, ints)
+
 pub lowest-below : (z : ℤ) → pos 0 <ℤ z → lowest <ℤ z
 lowest-below z above = omega (arith, ints)
 

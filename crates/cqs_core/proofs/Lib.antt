@@ -21,3 +21,5 @@ pub mod RowsSuspend
 pub mod RowsResume
 pub mod RowsCancel
 pub mod StepKeeps
+pub mod CoreFacts
+pub mod OpenedCore

@@ -139,15 +139,37 @@ module _ {X : Type 0} where
       let more = total-push (λ n x. bit (p n x)) 0 xs y (length xs) (omega arith) in
       omega (arith, more, count_at-total p 0 xs, count_at-total p 0 (xs ++ y ∷ []))
 
+  pub count_at-none : (p : ℕ → X → Bool) (xs : List X)
+    → ((k : ℕ) (x : X) → slice_get xs k ≡ Some x → p k x ≡ false) → count_at p 0 xs ≡ 0
+  count_at-none p xs none =
+      let same = count_at-same p (λ n x. false) xs xs refl (λ k x y f g. none k x f) in
+      omega (arith, same, count_at-total (λ n x. false) 0 xs, total-zero 0 xs)
+
+  pub count_at-one : (p : ℕ → X → Bool) (xs : List X) (k : ℕ) (x : X) → slice_get xs k ≡ Some x → p k x ≡ true
+    → ((j : ℕ) (y : X) → j ≢ k → slice_get xs j ≡ Some y → p j y ≡ false) → count_at p 0 xs ≡ 1
+  count_at-one p xs k x there here none =
+      let change : count_at p 0 xs + 0 ≡ count_at (λ n y. false) 0 xs + bit (p k x) =
+        count_at-change (λ n y. false) p xs xs k x x refl there there (λ j y z ne f g. sym (none j z ne g)) in
+      let one : bit (p k x) ≡ 1 = rw here refl in
+      omega (arith, change, one, count_at-none (λ n y. false) xs (λ n y f. refl))
+
+  pub count_by-at : (p : X → Bool) (xs : List X) → count_by p xs ≡ count_at (λ n. p) 0 xs
+  count_by-at p xs = count_by-total p 0 xs ∙ sym (count_at-total (λ n. p) 0 xs)
+
+  pub count_by-none : (p : X → Bool) (xs : List X)
+    → ((k : ℕ) (x : X) → slice_get xs k ≡ Some x → p x ≡ false) → count_by p xs ≡ 0
+  count_by-none p xs none = count_by-at p xs ∙ count_at-none (λ n. p) xs none
+
+  pub count_by-one : (p : X → Bool) (xs : List X) (k : ℕ) (x : X) → slice_get xs k ≡ Some x → p x ≡ true
+    → ((j : ℕ) (y : X) → j ≢ k → slice_get xs j ≡ Some y → p y ≡ false) → count_by p xs ≡ 1
+  count_by-one p xs k x there here none = count_by-at p xs ∙ count_at-one (λ n. p) xs k x there here none
+
   -- a write changes a count by what the written element and the one before it count
   pub count_by-write : (p : X → Bool) (xs : List X) (k : ℕ) (old new : X) → slice_get xs k ≡ Some old
       → count_by p (set xs k new) + bit (p old) ≡ count_by p xs + bit (p new)
   count_by-write p xs k old new there =
       let write = count_at-write (λ n. p) xs k old new there in
-      omega (arith, write, plain xs, plain (set xs k new))
-    where
-      plain : (ys : List X) → count_by p ys ≡ count_at (λ n. p) 0 ys
-      plain ys = count_by-total p 0 ys ∙ sym (count_at-total (λ n. p) 0 ys)
+      omega (arith, write, count_by-at p xs, count_by-at p (set xs k new))
 
   pub count_by-push : (p : X → Bool) (xs : List X) (y : X) → count_by p (xs ++ y ∷ []) ≡ count_by p xs + bit (p y)
   count_by-push p xs y = sum_by_push (λ x. cond (p x) 1 0) xs y

@@ -2,4 +2,5 @@ pub mod Places
 pub mod EachAtLemmas
 pub mod Counts
 pub mod Tickets
+pub mod Exchange
 pub mod Promised

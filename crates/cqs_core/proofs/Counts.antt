@@ -102,6 +102,33 @@ module _ {X : Type 0} where
       let first : count_by p (x ∷ xs) ≡ bit (p x) + count_by p xs = sum_by-cons (λ y. cond (p y) 1 0) x xs in
       omega arith
 
+  -- how many of these tests an element passes, and how often the elements pass them
+  abbrev pub points : List (ℕ → X → Bool) → ℕ → X → ℕ
+  points [] k x = 0
+  points (p ∷ ps) k x = bit (p k x) + points ps k x
+
+  abbrev pub counts : List (ℕ → X → Bool) → ℕ → List X → ℕ
+  counts [] k xs = 0
+  counts (p ∷ ps) k xs = count_at p k xs + counts ps k xs
+
+  counts-total : (ps : List (ℕ → X → Bool)) (k : ℕ) (xs : List X) → counts ps k xs ≡ total_at (points ps) k xs
+  counts-total [] k xs = sym (total-zero k xs)
+  counts-total (p ∷ ps) k xs =
+      let both = total-add (λ n x. bit (p n x)) (points ps) k xs in
+      omega (arith, both, count_at-total p k xs, counts-total ps k xs)
+
+  -- where each element passes as many of these tests as of those, all together do
+  pub counts-balance : (ps qs : List (ℕ → X → Bool)) (xs : List X)
+    → ((k : ℕ) (x : X) → slice_get xs k ≡ Some x → points ps k x ≡ points qs k x) → counts ps 0 xs ≡ counts qs 0 xs
+  counts-balance ps qs xs each =
+      counts-total ps 0 xs
+      ∙ total-same (points ps) (points qs) 0 xs xs refl
+        (λ i n x y at f g.
+          let number : n ≡ i = omega arith in
+          let same : x ≡ y = cc in
+          rw (number, ← same) (each i x f))
+      ∙ sym (counts-total qs 0 xs)
+
   -- two counts over lists of one length that pass the same elements but for those of one number
   pub count_at-change : (p q : ℕ → X → Bool) (xs ys : List X) (k : ℕ) (old new : X) → length xs ≡ length ys
       → slice_get xs k ≡ Some old → slice_get ys k ≡ Some new

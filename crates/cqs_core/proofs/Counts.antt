@@ -151,6 +151,15 @@ module _ {X : Type 0} where
       (λ i n x y at f g. let number : n ≡ i = omega arith in rw number (ap bit (same i x y f g))) in
       omega (arith, equal, count_at-total p 0 xs, count_at-total q 0 ys)
 
+  -- a count over lists of one length of which the second passes wherever the first does
+  pub count_at-le : (p q : ℕ → X → Bool) (xs ys : List X) → length xs ≡ length ys
+    → ((j : ℕ) (x y : X) → slice_get xs j ≡ Some x → slice_get ys j ≡ Some y → p j x ≡ true → q j y ≡ true)
+    → count_at p 0 xs ≤ count_at q 0 ys
+  count_at-le p q xs ys long follows =
+      let less = total-le (λ n x. bit (p n x)) (λ n x. bit (q n x)) 0 xs ys long
+        (λ i n x y at f g. let number : n ≡ i = omega arith in rw number (bit-le (p i x) (q i y) (follows i x y f g))) in
+      omega (arith, less, count_at-total p 0 xs, count_at-total q 0 ys)
+
   pub count_at-write : (p : ℕ → X → Bool) (xs : List X) (k : ℕ) (old new : X) → slice_get xs k ≡ Some old
       → count_at p 0 (set xs k new) + bit (p k old) ≡ count_at p 0 xs + bit (p k new)
   count_at-write p xs k old new there =

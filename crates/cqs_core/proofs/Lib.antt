@@ -4,4 +4,8 @@ pub mod Counts
 pub mod Tickets
 pub mod Exchange
 pub mod Letters
+pub mod PickedPlaces
+pub mod Equations
+pub mod CoverLemmas
+pub mod FirstOfWay
 pub mod Promised

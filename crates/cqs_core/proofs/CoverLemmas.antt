@@ -8,7 +8,7 @@ use Rattle.cqs_core.specs.QueueState.{Queue}
 use Rattle.cqs_core.specs.QueueLine.{going, ending}
 use Rattle.cqs_core.specs.QueueCover.{IsCovered, roaming, takes_one, is_declined}
 use Rattle.cqs_core.specs.QueueSound.{IsSound}
-use Rattle.cqs_core.proofs.Places.{get-below, get-take_back}
+use Rattle.cqs_core.proofs.Places.{get-below, get-there, get-take_back}
 use Rattle.cqs_core.proofs.Counts.{bit, total_at, total-same, total-zero, total-split, count_at-total, count_at-le}
 use Rattle.cqs_core.proofs.Letters.{will_take, will_decline, is_expected, balanced-at}
 use Rattle.cqs_core.proofs.Equations.{decliners}
@@ -89,6 +89,33 @@ covers-to q covers = record { at = λ j cell found declined past.
     let bound = covers.at j cell found declines in
     let counted = count-from (takes_one q.doing) q.resumes (take (j + 1) q.cells) in
     omega (arith, bound, counted) }
+
+-- Two queues of as many cells, of which the second has no taker that wasn't one in the first.
+abbrev pub NoNewTakers : Queue → Queue → Type 0
+NoNewTakers q r = (j : ℕ) (x y : CoreCell) → slice_get q.cells j ≡ Some x → slice_get r.cells j ≡ Some y
+  → will_take r j y ≡ true → will_take q j x ≡ true
+
+-- .. and no decliner
+abbrev pub NoNewDecliners : Queue → Queue → Type 0
+NoNewDecliners q r = (j : ℕ) (x y : CoreCell) → slice_get q.cells j ≡ Some x → slice_get r.cells j ≡ Some y
+  → will_decline r j y ≡ true → will_decline q j x ≡ true
+
+-- up to each number there are no more takers
+pub takers-le : (q r : Queue) → length r.cells ≡ length q.cells → NoNewTakers q r → (m : ℕ)
+  → count_at (will_take r) 0 (take m r.cells) ≤ count_at (will_take q) 0 (take m q.cells)
+takers-le q r long takes m =
+    let as_long : length (take m r.cells) ≡ length (take m q.cells) =
+      omega (arith, length-take m q.cells, length-take m r.cells) in
+    count_at-le (will_take r) (will_take q) (take m r.cells) (take m q.cells) as_long
+      (λ j y x g f. takes j x y (get-take_back m q.cells j x f) (get-take_back m r.cells j y g))
+
+-- cover stays where no taker and no decliner is new, and where no fewer resumptions roam
+pub covers-weaker : (q r : Queue) → length r.cells ≡ length q.cells → NoNewTakers q r → NoNewDecliners q r
+  → roaming q ≤ roaming r → Covers q → Covers r
+covers-weaker q r long takes declines roams covers = record { at = λ j y g declined.
+    let there = get-there q.cells j (omega (arith, get-below r.cells j y g, long)) in
+    let bound = covers.at j there.0 there.1 (declines j there.0 y there.1 g declined) in
+    omega (arith, bound, takers-le q r long takes (j + 1), roams) }
 
 -- a declined cell ahead will take a resumption
 declines-takes : (q : Queue) → IsSound q → (j : ℕ) (cell : CoreCell) → slice_get q.cells j ≡ Some cell

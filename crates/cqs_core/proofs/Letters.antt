@@ -59,7 +59,7 @@ module _ (q : Queue) where
       × (points (will_take ∷ is_expected ∷ []) k cell ≡ points (is_standing ∷ will_decline ∷ []) k cell)
 
 module _ (q : Queue) (sound : IsSound q) (k : ℕ) (cell : CoreCell) (found : slice_get q.cells k ≡ Some cell) where
-  no-ticket_unreached : q.resumes ≤ k → has_ticket k q.doing ≡ false
+  pub no-ticket_unreached : q.resumes ≤ k → has_ticket k q.doing ≡ false
   no-ticket_unreached past = false_from_ne_true (has_ticket k q.doing) (λ e.
     let holder : Holds q.doing k = has_ticket-holds q.doing k e in
     let ticket : IsTicket q k = sound.passes.at holder.pass (doing.Ticket k) holder.has in
@@ -82,10 +82,10 @@ module _ (q : Queue) (sound : IsSound q) (k : ℕ) (cell : CoreCell) (found : sl
     ticket : has_ticket k q.doing ≡ opened
 
   -- what the owner is in the middle of, at this number
-  record Owner (leaves passes refuses : Bool) : Type 0 where
-    leaving : is_leaving k (owner_doing q.doing cell) ≡ leaves
-    passing : is_passing_on k (owner_doing q.doing cell) ≡ passes
-    refusing : is_refusing k (owner_doing q.doing cell) ≡ refuses
+  pub record Owner (leaves passes refuses : Bool) : Type 0 where
+    pub leaving : is_leaving k (owner_doing q.doing cell) ≡ leaves
+    pub passing : is_passing_on k (owner_doing q.doing cell) ≡ passes
+    pub refusing : is_refusing k (owner_doing q.doing cell) ≡ refuses
 
   -- a cell in which no resumption has ended is met by the one that has its ticket
   awaited-cases : IsAwaited q k → Meets true false ⊎ Meets false true
@@ -110,7 +110,7 @@ module _ (q : Queue) (sound : IsSound q) (k : ℕ) (cell : CoreCell) (found : sl
   ended-meets ended reached = record { unreached = lt-leb q.resumes k reached; ticket = no-ticket_ended ended }
 
   -- the owner of a cell that isn't being cancelled is in the middle of no cancellation of it
-  not-cancelling : (IsCancelling cell.state → ⊥) → Owner false false false
+  pub not-cancelling : (IsCancelling cell.state → ⊥) → Owner false false false
   not-cancelling plain = go cell.owner refl
     where
       reads : (o : Option Doing) → owner_doing q.doing cell ≡ o → is_leaving k o ≡ false → is_passing_on k o ≡ false

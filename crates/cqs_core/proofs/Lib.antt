@@ -8,4 +8,8 @@ pub mod PickedPlaces
 pub mod Equations
 pub mod CoverLemmas
 pub mod FirstOfWay
+pub mod CoverSteps
+pub mod CoveredPlain
+pub mod CoveredCancel
+pub mod CoveredCounters
 pub mod Promised

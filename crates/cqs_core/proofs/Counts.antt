@@ -102,6 +102,33 @@ module _ {X : Type 0} where
       let first : count_by p (x ∷ xs) ≡ bit (p x) + count_by p xs = sum_by-cons (λ y. cond (p y) 1 0) x xs in
       omega arith
 
+  -- how many of these tests an element passes, and how often the elements pass them
+  abbrev pub points : List (ℕ → X → Bool) → ℕ → X → ℕ
+  points [] k x = 0
+  points (p ∷ ps) k x = bit (p k x) + points ps k x
+
+  abbrev pub counts : List (ℕ → X → Bool) → ℕ → List X → ℕ
+  counts [] k xs = 0
+  counts (p ∷ ps) k xs = count_at p k xs + counts ps k xs
+
+  counts-total : (ps : List (ℕ → X → Bool)) (k : ℕ) (xs : List X) → counts ps k xs ≡ total_at (points ps) k xs
+  counts-total [] k xs = sym (total-zero k xs)
+  counts-total (p ∷ ps) k xs =
+      let both = total-add (λ n x. bit (p n x)) (points ps) k xs in
+      omega (arith, both, count_at-total p k xs, counts-total ps k xs)
+
+  -- where each element passes as many of these tests as of those, all together do
+  pub counts-balance : (ps qs : List (ℕ → X → Bool)) (xs : List X)
+    → ((k : ℕ) (x : X) → slice_get xs k ≡ Some x → points ps k x ≡ points qs k x) → counts ps 0 xs ≡ counts qs 0 xs
+  counts-balance ps qs xs each =
+      counts-total ps 0 xs
+      ∙ total-same (points ps) (points qs) 0 xs xs refl
+        (λ i n x y at f g.
+          let number : n ≡ i = omega arith in
+          let same : x ≡ y = cc in
+          rw (number, ← same) (each i x f))
+      ∙ sym (counts-total qs 0 xs)
+
   -- two counts over lists of one length that pass the same elements but for those of one number
   pub count_at-change : (p q : ℕ → X → Bool) (xs ys : List X) (k : ℕ) (old new : X) → length xs ≡ length ys
       → slice_get xs k ≡ Some old → slice_get ys k ≡ Some new
@@ -124,6 +151,15 @@ module _ {X : Type 0} where
       (λ i n x y at f g. let number : n ≡ i = omega arith in rw number (ap bit (same i x y f g))) in
       omega (arith, equal, count_at-total p 0 xs, count_at-total q 0 ys)
 
+  -- a count over lists of one length of which the second passes wherever the first does
+  pub count_at-le : (p q : ℕ → X → Bool) (xs ys : List X) → length xs ≡ length ys
+    → ((j : ℕ) (x y : X) → slice_get xs j ≡ Some x → slice_get ys j ≡ Some y → p j x ≡ true → q j y ≡ true)
+    → count_at p 0 xs ≤ count_at q 0 ys
+  count_at-le p q xs ys long follows =
+      let less = total-le (λ n x. bit (p n x)) (λ n x. bit (q n x)) 0 xs ys long
+        (λ i n x y at f g. let number : n ≡ i = omega arith in rw number (bit-le (p i x) (q i y) (follows i x y f g))) in
+      omega (arith, less, count_at-total p 0 xs, count_at-total q 0 ys)
+
   pub count_at-write : (p : ℕ → X → Bool) (xs : List X) (k : ℕ) (old new : X) → slice_get xs k ≡ Some old
       → count_at p 0 (set xs k new) + bit (p k old) ≡ count_at p 0 xs + bit (p k new)
   count_at-write p xs k old new there =
@@ -139,15 +175,37 @@ module _ {X : Type 0} where
       let more = total-push (λ n x. bit (p n x)) 0 xs y (length xs) (omega arith) in
       omega (arith, more, count_at-total p 0 xs, count_at-total p 0 (xs ++ y ∷ []))
 
+  pub count_at-none : (p : ℕ → X → Bool) (xs : List X)
+    → ((k : ℕ) (x : X) → slice_get xs k ≡ Some x → p k x ≡ false) → count_at p 0 xs ≡ 0
+  count_at-none p xs none =
+      let same = count_at-same p (λ n x. false) xs xs refl (λ k x y f g. none k x f) in
+      omega (arith, same, count_at-total (λ n x. false) 0 xs, total-zero 0 xs)
+
+  pub count_at-one : (p : ℕ → X → Bool) (xs : List X) (k : ℕ) (x : X) → slice_get xs k ≡ Some x → p k x ≡ true
+    → ((j : ℕ) (y : X) → j ≢ k → slice_get xs j ≡ Some y → p j y ≡ false) → count_at p 0 xs ≡ 1
+  count_at-one p xs k x there here none =
+      let change : count_at p 0 xs + 0 ≡ count_at (λ n y. false) 0 xs + bit (p k x) =
+        count_at-change (λ n y. false) p xs xs k x x refl there there (λ j y z ne f g. sym (none j z ne g)) in
+      let one : bit (p k x) ≡ 1 = rw here refl in
+      omega (arith, change, one, count_at-none (λ n y. false) xs (λ n y f. refl))
+
+  pub count_by-at : (p : X → Bool) (xs : List X) → count_by p xs ≡ count_at (λ n. p) 0 xs
+  count_by-at p xs = count_by-total p 0 xs ∙ sym (count_at-total (λ n. p) 0 xs)
+
+  pub count_by-none : (p : X → Bool) (xs : List X)
+    → ((k : ℕ) (x : X) → slice_get xs k ≡ Some x → p x ≡ false) → count_by p xs ≡ 0
+  count_by-none p xs none = count_by-at p xs ∙ count_at-none (λ n. p) xs none
+
+  pub count_by-one : (p : X → Bool) (xs : List X) (k : ℕ) (x : X) → slice_get xs k ≡ Some x → p x ≡ true
+    → ((j : ℕ) (y : X) → j ≢ k → slice_get xs j ≡ Some y → p y ≡ false) → count_by p xs ≡ 1
+  count_by-one p xs k x there here none = count_by-at p xs ∙ count_at-one (λ n. p) xs k x there here none
+
   -- a write changes a count by what the written element and the one before it count
   pub count_by-write : (p : X → Bool) (xs : List X) (k : ℕ) (old new : X) → slice_get xs k ≡ Some old
       → count_by p (set xs k new) + bit (p old) ≡ count_by p xs + bit (p new)
   count_by-write p xs k old new there =
       let write = count_at-write (λ n. p) xs k old new there in
-      omega (arith, write, plain xs, plain (set xs k new))
-    where
-      plain : (ys : List X) → count_by p ys ≡ count_at (λ n. p) 0 ys
-      plain ys = count_by-total p 0 ys ∙ sym (count_at-total (λ n. p) 0 ys)
+      omega (arith, write, count_by-at p xs, count_by-at p (set xs k new))
 
   pub count_by-push : (p : X → Bool) (xs : List X) (y : X) → count_by p (xs ++ y ∷ []) ≡ count_by p xs + bit (p y)
   count_by-push p xs y = sum_by_push (λ x. cond (p x) 1 0) xs y

@@ -2,6 +2,16 @@ pub mod Places
 pub mod EachAtLemmas
 pub mod Counts
 pub mod Tickets
+pub mod Exchange
+pub mod Letters
+pub mod PickedPlaces
+pub mod Equations
+pub mod CoverLemmas
+pub mod FirstOfWay
+pub mod CoverSteps
+pub mod CoveredPlain
+pub mod CoveredCancel
+pub mod CoveredCounters
 pub mod Promised
 pub mod Keys
 pub mod Picked

@@ -7,6 +7,7 @@ mod doings;
 mod entries;
 mod errors;
 mod events;
+mod law;
 mod outcomes;
 
 pub use calls::{Call, Reply};
@@ -15,4 +16,5 @@ pub use doings::Doing;
 pub use entries::Entry;
 pub use errors::CoreError;
 pub use events::Event;
+pub use law::every_run_is_legal;
 pub use outcomes::Outcome;

@@ -39,7 +39,8 @@ shows-shown s core =
       line = refl;
       way = apart (going s.queue) (ending s.queue) within;
       served = refl;
-      held = refl }
+      held = refl;
+    }
   where
     apart : (g e : ℕ) → e ≤ g → g - e + e ≡ g
     apart g e within = omega arith
@@ -58,19 +59,23 @@ balanced-shown s core =
     record {
       conserved = sums (going s.queue) (ending s.queue) _ _ (free_of s.state) s.permits within core.conserved;
       wanted = wanted (going s.queue) (ending s.queue) (queue.due s.queue) (short_of s.state) core.short;
-      eager = eager (free-or-short s.state) }
+      eager = eager (free-or-short s.state);
+    }
   where
     sums : (g e a b f n : ℕ) → e ≤ g → a + b + f + g ≡ n + e → a + b + f + (g - e) ≡ n
     sums g e a b f n within was = omega arith
+
     wanted : (g e d a : ℕ) → g + a ≡ d + e → g - e < d + 1
     wanted g e d a was = omega arith
+
     equal : (g e d a : ℕ) → e ≤ g → a ≡ 0 → g + a ≡ d + e → g - e ≡ d
     equal g e d a within none was = omega arith
+
     eager : (free_of s.state ≡ 0) ⊎ (short_of s.state ≡ 0) → (free_of s.state ≡ 0) ⊎ ((shown s).way ≡ due (shown s))
     eager (inl none) = inl none
     eager (inr enough) =
         inr (equal (going s.queue) (ending s.queue) (queue.due s.queue) (short_of s.state)
-          (ending-within s.queue core.sound core.covered) enough core.short)
+        (ending-within s.queue core.sound core.covered) enough core.short)
 
 -- the laws of the semaphore hold of the object after the history
 pub balanced-object : (s : Shape) → IsCore s → IsBalanced s.permits (object_after s.permits s.history)

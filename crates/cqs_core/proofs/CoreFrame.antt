@@ -21,9 +21,16 @@ use Rattle.cqs_core.proofs.History.{object-push, legal-push}
 use Rattle.cqs_core.proofs.Promised.{sound-moved, covered-moved}
 
 pub same-semaphore : (a b : Semaphore) → a.free ≡ b.free → a.way ≡ b.way → a.door ≡ b.door → a.line ≡ b.line
-  → a.next ≡ b.next → a.served ≡ b.served → a.held ≡ b.held → a ≡ b
+    → a.next ≡ b.next → a.served ≡ b.served → a.held ≡ b.held → a ≡ b
 same-semaphore a b free way door line next served held = λ i. record {
-  free = free i; way = way i; door = door i; line = line i; next = next i; served = served i; held = held i }
+  free = free i;
+  way = way i;
+  door = door i;
+  line = line i;
+  next = next i;
+  served = served i;
+  held = held i;
+}
 
 -- the words of the core and the queue beside them: all of a core but its soundness, its cover and its history
 pub record Fits (permits : ℕ) (z : ℤ) (held : List ℕ) (q : Queue) : Type 0 where
@@ -60,22 +67,27 @@ passes-moved q (move.refuse p k found) = length-set q.doing p doing.Idle
 
 -- a pass of the list now does this
 pub loaded-turn : (passes : List Doing) (p : ℕ) (from to : Doing) → slice_get passes p ≡ Some from → HasLoaded p to
-  → EachAt HasLoaded passes → EachAt HasLoaded (set passes p to)
+    → EachAt HasLoaded passes → EachAt HasLoaded (set passes p to)
 loaded-turn passes p from to does now each =
     EachAt-write HasLoaded HasLoaded passes p from to does now (λ k d at other before. before) each
 
 -- a step with an entry
 pub core-push : (s : Shape) (m : Move) (z : ℤ) (held : List ℕ) (e : Entry)
-  → IsCore s → IsOpen s.queue m → IsFair s.queue m → Fits s.permits z held (moved s.queue m)
-  → IsAllowed (shown s) e → after_entry (shown s) e ≡ shown (altered s z held (s.history ++ e ∷ []) (moved s.queue m))
-  → IsCore (altered s z held (s.history ++ e ∷ []) (moved s.queue m))
+    → IsCore s → IsOpen s.queue m → IsFair s.queue m → Fits s.permits z held (moved s.queue m)
+    → IsAllowed (shown s) e → after_entry (shown s) e ≡ shown (altered s z held (s.history ++ e ∷ []) (moved s.queue m))
+    → IsCore (altered s z held (s.history ++ e ∷ []) (moved s.queue m))
 core-push s m z held e core opens fair fits allowed shows =
     let passes : length (moved s.queue m).doing ≡ length s.queue.doing = passes-moved s.queue m in
     let object : object_after s.permits s.history ≡ shown s = core.object in
     record {
       range = record {
-        some_permits = core.range.some_permits; permits = core.range.permits; passes = rw passes core.range.passes;
-        state = fits.state; suspends = fits.suspends; resumes = fits.resumes };
+        some_permits = core.range.some_permits;
+        permits = core.range.permits;
+        passes = rw passes core.range.passes;
+        state = fits.state;
+        suspends = fits.suspends;
+        resumes = fits.resumes;
+      };
       sound = sound-moved s.queue m core.sound opens;
       covered = covered-moved s.queue m core.sound core.covered opens fair;
       loaded = fits.loaded;
@@ -83,19 +95,25 @@ core-push s m z held e core opens fair fits allowed shows =
       legal = legal-push s.permits s.history e (subst (λ (o : Semaphore). IsAllowed o e) (sym object) allowed) core.legal;
       object = object-push s.permits s.history e ∙ ap (λ o. after_entry o e) object ∙ shows;
       short = fits.short;
-      conserved = fits.conserved }
+      conserved = fits.conserved;
+    }
 
 -- a step without one
 pub core-quiet : (s : Shape) (m : Move) (z : ℤ) (held : List ℕ)
-  → IsCore s → IsOpen s.queue m → IsFair s.queue m → Fits s.permits z held (moved s.queue m)
-  → shown s ≡ shown (altered s z held s.history (moved s.queue m))
-  → IsCore (altered s z held s.history (moved s.queue m))
+    → IsCore s → IsOpen s.queue m → IsFair s.queue m → Fits s.permits z held (moved s.queue m)
+    → shown s ≡ shown (altered s z held s.history (moved s.queue m))
+    → IsCore (altered s z held s.history (moved s.queue m))
 core-quiet s m z held core opens fair fits shows =
     let passes : length (moved s.queue m).doing ≡ length s.queue.doing = passes-moved s.queue m in
     record {
       range = record {
-        some_permits = core.range.some_permits; permits = core.range.permits; passes = rw passes core.range.passes;
-        state = fits.state; suspends = fits.suspends; resumes = fits.resumes };
+        some_permits = core.range.some_permits;
+        permits = core.range.permits;
+        passes = rw passes core.range.passes;
+        state = fits.state;
+        suspends = fits.suspends;
+        resumes = fits.resumes;
+      };
       sound = sound-moved s.queue m core.sound opens;
       covered = covered-moved s.queue m core.sound core.covered opens fair;
       loaded = fits.loaded;
@@ -103,4 +121,5 @@ core-quiet s m z held core opens fair fits shows =
       legal = core.legal;
       object = core.object ∙ shows;
       short = fits.short;
-      conserved = fits.conserved }
+      conserved = fits.conserved;
+    }

@@ -9,16 +9,16 @@ use Rattle.cqs_core.specs.SemaphoreEntries.{IsAllowed, after_entry, object_after
 use Rattle.cqs_core.proofs.Places.{get-below, get-append_below, get-push_at}
 
 pub object-push : (permits : ℕ) (history : List Entry) (e : Entry)
-  → object_after permits (history ++ e ∷ []) ≡ after_entry (object_after permits history) e
+    → object_after permits (history ++ e ∷ []) ≡ after_entry (object_after permits history) e
 object-push permits history e = fold_push after_entry (opening permits) history e
 
 -- an entry that may come after a legal history makes a legal one
 pub legal-push : (permits : ℕ) (history : List Entry) (e : Entry)
-  → IsAllowed (object_after permits history) e → IsLegal permits history → IsLegal permits (history ++ e ∷ [])
+    → IsAllowed (object_after permits history) e → IsLegal permits history → IsLegal permits (history ++ e ∷ [])
 legal-push permits history e allowed legal = record { at = λ n d got. go n d got (cases_lt n (length history)) }
   where
     go : (n : ℕ) (d : Entry) → slice_get (history ++ e ∷ []) n ≡ Some d → (n < length history) ⊎ (length history ≤ n)
-      → IsAllowed (object_after permits (take n (history ++ e ∷ []))) d
+        → IsAllowed (object_after permits (take n (history ++ e ∷ []))) d
     go n d got (inl below) =
         let same : take n (history ++ e ∷ []) ≡ take n history = take-append-le n history (e ∷ []) (omega arith) in
         let before : slice_get history n ≡ Some d = sym (get-append_below history (e ∷ []) n below) ∙ got in

@@ -16,27 +16,27 @@ module _ {Y : Type 0} (key : Y → ℕ) where
   AllAbove n (y ∷ ys) = (n < key y) × AllAbove n ys
 
   pub without-around : (n : ℕ) (front : List Y) (y : Y) (back : List Y) → AllBelow n front → key y ≡ n
-    → without key n (front ++ y ∷ back) ≡ front ++ back
+      → without key n (front ++ y ∷ back) ≡ front ++ back
   without-around n [] y back low here = rw (eq-eqb n (key y) (sym here)) refl
   without-around n (z ∷ front) y back low here =
       let other : n ≢ key z = λ e. omega (arith, low.0) in
       rw (ne_eqb n (key z) other) (ap (λ ys. z ∷ ys) (without-around n front y back low.1 here))
 
   pub changed-around : (n : ℕ) (f : Y → Y) (front : List Y) (y : Y) (back : List Y) → AllBelow n front → key y ≡ n
-    → changed key n f (front ++ y ∷ back) ≡ front ++ f y ∷ back
+      → changed key n f (front ++ y ∷ back) ≡ front ++ f y ∷ back
   changed-around n f [] y back low here = rw (eq-eqb n (key y) (sym here)) refl
   changed-around n f (z ∷ front) y back low here =
       let other : n ≢ key z = λ e. omega (arith, low.0) in
       rw (ne_eqb n (key z) other) (ap (λ ys. z ∷ ys) (changed-around n f front y back low.1 here))
 
   pub placed-around : (n : ℕ) (front : List Y) (y : Y) (back : List Y) → AllBelow n front → AllAbove n back → key y ≡ n
-    → placed key y (front ++ back) ≡ front ++ y ∷ back
+      → placed key y (front ++ back) ≡ front ++ y ∷ back
   placed-around n [] y [] low high here = refl
   placed-around n [] y (z ∷ back) low high here =
       rw (lt-ltb (key y) (key z) (omega (arith, high.0))) refl
   placed-around n (z ∷ front) y back low high here =
       rw (le-ltb (key y) (key z) (omega (arith, low.0)))
-         (ap (λ ys. z ∷ ys) (placed-around n front y back low.1 high here))
+      (ap (λ ys. z ∷ ys) (placed-around n front y back low.1 high here))
 
   -- what is placed goes last where all the others have smaller keys
   pub placed-last : (y : Y) (ys : List Y) → AllBelow (key y) ys → placed key y ys ≡ ys ++ y ∷ []
@@ -49,7 +49,7 @@ module _ {Y : Type 0} (key : Y → ℕ) where
   length-placed y (z ∷ ys) = go (nat_lt (key y) (key z)) (length-placed y ys)
     where
       go : (b : Bool) → length (placed key y ys) ≡ length ys + 1
-        → length (if b then y ∷ z ∷ ys else z ∷ placed key y ys) ≡ suc (length ys) + 1
+          → length (if b then y ∷ z ∷ ys else z ∷ placed key y ys) ≡ suc (length ys) + 1
       go true rest = omega arith
       go false rest = omega arith
 

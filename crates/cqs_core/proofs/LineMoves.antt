@@ -30,17 +30,18 @@ pub record ComesToDoor (q r : Queue) (p : ℕ) : Type 0 where
   pub ending : ending r ≡ ending q
 
 pub turn-door : (q : Queue) (p : ℕ) → slice_get q.doing p ≡ Some doing.Idle
-  → ComesToDoor q (moved q (move.turn p doing.Idle doing.Door)) p
+    → ComesToDoor q (moved q (move.turn p doing.Idle doing.Door)) p
 turn-door q p does =
     let ways = ways-turn q p doing.Idle doing.Door does (λ m. refl) in
     let came : door (moved q (move.turn p doing.Idle doing.Door)) ≡ placed caller p (door q) =
-      around-came caller p _ _ _ _ (door-around q.doing p doing.Idle doing.Door does) p refl refl refl in
+    around-came caller p _ _ _ _ (door-around q.doing p doing.Idle doing.Door does) p refl refl refl in
     record {
       longer = ap (λ xs. length xs) came ∙ length-placed caller p (door q);
       door = came;
       line = line-turn q.doing q.cells p doing.Idle doing.Door does (λ k. refl);
       going = omega (arith, ways.goes);
-      ending = omega (arith, ways.ends) }
+      ending = omega (arith, ways.ends);
+    }
 
 -- A pass owes a resumption: one more is on its way.
 pub record BeginsResume (q r : Queue) : Type 0 where
@@ -50,14 +51,15 @@ pub record BeginsResume (q r : Queue) : Type 0 where
   pub ending : ending r ≡ ending q
 
 pub turn-owes : (q : Queue) (p : ℕ) → slice_get q.doing p ≡ Some doing.Idle
-  → BeginsResume q (moved q (move.turn p doing.Idle doing.Owes))
+    → BeginsResume q (moved q (move.turn p doing.Idle doing.Owes))
 turn-owes q p does =
     let ways = ways-turn q p doing.Idle doing.Owes does (λ m. refl) in
     record {
       door = around-kept caller p _ _ _ _ (door-around q.doing p doing.Idle doing.Owes does) refl;
       line = line-turn q.doing q.cells p doing.Idle doing.Owes does (λ k. refl);
       going = omega (arith, ways.goes);
-      ending = omega (arith, ways.ends) }
+      ending = omega (arith, ways.ends);
+    }
 
 -- The wait k of pass p leaves the line; as many more resumptions as `more` will end at a refused cell.
 pub record LeavesLine (q r : Queue) (k p more : ℕ) : Type 0 where
@@ -74,7 +76,7 @@ stays-leaving k state.Delegated o at leaves = leaves
 stays-leaving k _ o at leaves = absurd at
 
 pub decide-leaves : (q : Queue) (p k : ℕ) (on : Bool) → IsSound q → slice_get q.doing p ≡ Some (doing.Leaving k)
-  → LeavesLine q (moved q (move.decide p k on)) k p (bit (is_told_refused (doing.Decided k on)))
+    → LeavesLine q (moved q (move.decide p k on)) k p (bit (is_told_refused (doing.Decided k on)))
 decide-leaves q p k on sound does =
     let to : Doing = doing.Decided k on in
     let after : List Doing = set q.doing p to in
@@ -83,33 +85,37 @@ decide-leaves q p k on sound does =
     let ways = ways-turn q p (doing.Leaving k) to does (λ m. refl) in
     let resuming : bit (is_resuming to) ≡ 0 = decided-rests k on in
     let was_leaving : is_leaving k (owner_doing q.doing cell) ≡ true =
-      let says : owner_doing q.doing cell ≡ Some (doing.Leaving k) = rw own.owner does in rw says (eq-eqb k k refl) in
+    let says : owner_doing q.doing cell ≡ Some (doing.Leaving k) = rw own.owner does in rw says (eq-eqb k k refl) in
     let is_decided : is_leaving k (owner_doing after cell) ≡ false =
-      let says : owner_doing after cell ≡ Some to = owner_doing-here q.doing p (doing.Leaving k) to cell does own.owner in
-      rw says (decided-left k on) in
+    let says : owner_doing after cell ≡ Some to = owner_doing-here q.doing p (doing.Leaving k) to cell does own.owner in
+    rw says (decided-left k on) in
     let waits : in_line q.doing k cell ≡ Some (waiting k p) =
-      ap₂ (waiting_of k) own.owner (stays-leaving k cell.state (owner_doing q.doing cell) own.at was_leaving) in
+    ap₂ (waiting_of k) own.owner (stays-leaving k cell.state (owner_doing q.doing cell) own.at was_leaving) in
     let gone : in_line after k cell ≡ None =
-      ap₂ (waiting_of k) own.owner (stays-not k cell.state (owner_doing after cell) own.at is_decided) in
+    ap₂ (waiting_of k) own.owner (stays-not k cell.state (owner_doing after cell) own.at is_decided) in
     let went : Around wait_of k (line q) (picked (in_line after) 0 q.cells) (in_line q.doing k cell) (in_line after k cell) =
-      subst (λ (cells : List CoreCell).
-          Around wait_of k (line q) (picked (in_line after) 0 cells) (in_line q.doing k cell) (in_line after k cell))
-        (set-same q.cells k cell own.found)
-        (line-around q.doing q.cells p (doing.Leaving k) to k cell cell does own.found (λ m other. decided-other k m on other)) in
+    subst (λ (cells : List CoreCell).
+    Around wait_of k (line q) (picked (in_line after) 0 cells) (in_line q.doing k cell) (in_line after k cell))
+    (set-same q.cells k cell own.found)
+    (line-around q.doing q.cells p (doing.Leaving k) to k cell cell does own.found (λ m other. decided-other k m on other)) in
     record {
       waits = picked-in (in_line q.doing) 0 q.cells k k cell (waiting k p) (omega arith) own.found waits;
       shorter = around-shorter wait_of k _ _ _ _ went (waiting k p) waits gone;
       door = around-kept caller p _ _ _ _ (door-around q.doing p (doing.Leaving k) to does) (decided-door p k on);
       line = around-went wait_of k _ _ _ _ went (waiting k p) waits gone refl;
       going = omega (arith, ways.goes, resuming);
-      ending = omega (arith, ways.ends) }
+      ending = omega (arith, ways.ends);
+    }
   where
     decided-rests : (k : ℕ) (on : Bool) → bit (is_resuming (doing.Decided k on)) ≡ 0
     decided-rests k on = refl
+
     decided-left : (k : ℕ) (on : Bool) → is_leaving k (Some (doing.Decided k on)) ≡ false
     decided-left k on = refl
+
     decided-door : (p k : ℕ) (on : Bool) → at_door p (doing.Leaving k) ≡ at_door p (doing.Decided k on)
     decided-door p k on = refl
+
     decided-other : (k m : ℕ) (on : Bool) → m ≢ k
-      → is_leaving m (Some (doing.Decided k on)) ≡ is_leaving m (Some (doing.Leaving k))
+        → is_leaving m (Some (doing.Decided k on)) ≡ is_leaving m (Some (doing.Leaving k))
     decided-other k m on other = sym (ne_eqb k m (λ e. other (sym e)))

@@ -47,38 +47,47 @@ opened-sound passes =
       made = refl;
       cells = record { at = λ k cell got. absurd (cc) };
       passes = record { at = λ p d got. let is : d ≡ doing.Idle = get-replicate passes p doing.Idle d got in rw is tt };
-      apart = record { same = λ p r k has too.
-        let is : doing.Ticket k ≡ doing.Idle = get-replicate passes p doing.Idle (doing.Ticket k) has in absurd (cc) } }
+      apart = record {
+        same = λ p r k has too.
+            let is : doing.Ticket k ≡ doing.Idle = get-replicate passes p doing.Idle (doing.Ticket k) has in absurd (cc);
+      };
+    }
 
 pub opened-core : (permits passes : ℕ) → IsSize permits passes → IsCore (opened permits passes)
 opened-core permits passes size =
     let q : Queue = (opened permits passes).queue in
     let nobody : door q ≡ [] = nobody-at_door passes 0 in
     let none_resume : count_by is_resuming q.doing ≡ 0 =
-      count_by-none is_resuming q.doing (λ p d got. ap is_resuming (get-replicate passes p doing.Idle d got)) in
+    count_by-none is_resuming q.doing (λ p d got. ap is_resuming (get-replicate passes p doing.Idle d got)) in
     let none_told : count_by is_told_refused q.doing ≡ 0 =
-      count_by-none is_told_refused q.doing (λ p d got. ap is_told_refused (get-replicate passes p doing.Idle d got)) in
+    count_by-none is_told_refused q.doing (λ p d got. ap is_told_refused (get-replicate passes p doing.Idle d got)) in
     let none_held : sum (replicate passes 0) ≡ 0 = sum-replicate passes in
     let going_none : going q ≡ 0 = omega arith in
     let ending_none : ending q ≡ 0 = omega arith in
     let few : length (replicate passes doing.Idle) ≤ 32 = rw (length-replicate passes doing.Idle) size.few_passes in
     record {
       range = record {
-        some_permits = size.some_permits; permits = size.few_permits; passes = few; state = omega (arith, ints);
-        suspends = omega arith; resumes = omega arith };
+        some_permits = size.some_permits;
+        permits = size.few_permits;
+        passes = few;
+        state = omega (arith, ints);
+        suspends = omega arith;
+        resumes = omega arith;
+      };
       sound = opened-sound passes;
       covered = record { at = λ j cell got declined past. absurd (cc) };
       loaded = record { at = λ p d got. let is : d ≡ doing.Idle = get-replicate passes p doing.Idle d got in rw is tt };
       holders = length-replicate passes 0 ∙ sym (length-replicate passes doing.Idle);
       legal = record { at = λ n e got. absurd (cc) };
       object = same-semaphore (opening permits) (shown (opened permits passes))
-        refl (sym (ap₂ (λ g e. g - e) going_none ending_none)) (sym nobody) refl refl refl (omega arith);
+          refl (sym (ap₂ (λ g e. g - e) going_none ending_none)) (sym nobody) refl refl refl (omega arith);
       short = rw (going_none, ending_none, nobody) refl;
-      conserved = omega arith }
+      conserved = omega arith;
+    }
 
 -- What one pass gives, another has: the sum stays.
 handed-sum : (held : List ℕ) (from to many : ℕ) → from < length held → to < length held → many ≤ get_or held from 0
-  → sum (handed held from to many) ≡ sum held
+    → sum (handed held from to many) ≡ sum held
 handed-sum held from to many there other enough =
     let rest : List ℕ = set held from (get_or held from 0 - many) in
     let less = sum_by-set (λ n. n) held from (get_or held from 0 - many) 0 there in
@@ -93,12 +102,17 @@ handed-length held from to many =
 
 -- permits that change hands change nothing else
 hands-core : (s : Shape) (held : List ℕ) → IsCore s → length held ≡ length s.held → sum held ≡ sum s.held
-  → IsCore (record s { held = held })
+    → IsCore (record s { held = held })
 hands-core s held core long same =
     record {
       range = record {
-        some_permits = core.range.some_permits; permits = core.range.permits; passes = core.range.passes;
-        state = core.range.state; suspends = core.range.suspends; resumes = core.range.resumes };
+        some_permits = core.range.some_permits;
+        permits = core.range.permits;
+        passes = core.range.passes;
+        state = core.range.state;
+        suspends = core.range.suspends;
+        resumes = core.range.resumes;
+      };
       sound = core.sound;
       covered = core.covered;
       loaded = core.loaded;
@@ -106,7 +120,8 @@ hands-core s held core long same =
       legal = core.legal;
       object = core.object ∙ ap (λ n. record (shown s) { held = n + ready s.queue }) (sym same);
       short = core.short;
-      conserved = rw same core.conserved }
+      conserved = rw same core.conserved;
+    }
 
 pub hand_over-core : (s next : Shape) (from to many : ℕ) → IsCore s → hand_over s from to many ≡ Some next → IsCore next
 hand_over-core s next from to many core given = go (may from to many) refl given
@@ -114,8 +129,10 @@ hand_over-core s next from to many core given = go (may from to many) refl given
     may : ℕ → ℕ → ℕ → Bool
     may from to many =
         nat_lt from (length s.held) && (nat_lt to (length s.held) && nat_le many (slice_index s.held from))
+
     after : Shape
     after = record s { held = handed s.held from to many }
+
     go : (b : Bool) → may from to many ≡ b → (if b then Some after else None) ≡ Some next → IsCore next
     go false test given = absurd (cc)
     go true test given =
@@ -126,12 +143,12 @@ hand_over-core s next from to many core given = go (may from to many) refl given
         let enough : many ≤ slice_index s.held from = leb-true many (slice_index s.held from) rest.1 in
         let is : after ≡ next = cc in
         subst (λ (x : Shape). IsCore x) is
-          (hands-core s (handed s.held from to many) core (handed-length s.held from to many)
-            (handed-sum s.held from to many there other enough))
+        (hands-core s (handed s.held from to many) core (handed-length s.held from to many)
+        (handed-sum s.held from to many there other enough))
 
 -- an event that is made
 event-core : (s next : Shape) (e : Event) → IsCore s → (row : Option Stepped) → step s e ≡ row → shape_of row ≡ Some next
-  → IsCore next
+    → IsCore next
 event-core s next e core None is made = absurd (cc)
 event-core s next e core (Some row) is made =
     let same : row.shape ≡ next = cc in
@@ -147,7 +164,7 @@ run-core [] s last core ran = let same : s ≡ last = cc in subst (λ (x : Shape
 run-core (t ∷ steps) s last core ran = go (run_step s t) refl ran (λ next. run-core steps next last)
   where
     go : (o : Option Shape) → run_step s t ≡ o → option_and_then (λ next. run next steps) o ≡ Some last
-      → ((next : Shape) → IsCore next → run next steps ≡ Some last → IsCore last) → IsCore last
+        → ((next : Shape) → IsCore next → run next steps ≡ Some last → IsCore last) → IsCore last
     go None is ran rest = absurd (cc)
     go (Some next) is ran rest = rest next (run_step-core s next t core is) ran
 

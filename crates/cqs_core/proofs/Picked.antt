@@ -18,12 +18,12 @@ module _ {Y : Type 0} where
   cons-append (Some y) ys zs = refl
 
   low-cons : (key : Y → ℕ) (n : ℕ) (o : Option Y) (ys : List Y) → ((y : Y) → o ≡ Some y → key y < n)
-    → AllBelow key n ys → AllBelow key n (cons_option o ys)
+      → AllBelow key n ys → AllBelow key n (cons_option o ys)
   low-cons key n None ys first rest = rest
   low-cons key n (Some y) ys first rest = (first y refl, rest)
 
   high-cons : (key : Y → ℕ) (n : ℕ) (o : Option Y) (ys : List Y) → ((y : Y) → o ≡ Some y → n < key y)
-    → AllAbove key n ys → AllAbove key n (cons_option o ys)
+      → AllAbove key n ys → AllAbove key n (cons_option o ys)
   high-cons key n None ys first rest = rest
   high-cons key n (Some y) ys first rest = (first y refl, rest)
 
@@ -37,32 +37,32 @@ module _ {Y : Type 0} where
 
 module _ {X Y : Type 0} where
   pub picked-same : (f g : ℕ → X → Option Y) → ((n : ℕ) (x : X) → f n x ≡ g n x)
-    → (k : ℕ) (xs : List X) → picked f k xs ≡ picked g k xs
+      → (k : ℕ) (xs : List X) → picked f k xs ≡ picked g k xs
   picked-same f g same k [] = refl
   picked-same f g same k (x ∷ xs) = ap₂ cons_option (same k x) (picked-same f g same (suc k) xs)
 
   -- behind number n the two read the same
   pub picked-behind : (f g : ℕ → X → Option Y) (n : ℕ) → AgreeBut f g n
-    → (k : ℕ) (xs : List X) → n < k → picked f k xs ≡ picked g k xs
+      → (k : ℕ) (xs : List X) → n < k → picked f k xs ≡ picked g k xs
   picked-behind f g n agree k [] past = refl
   picked-behind f g n agree k (x ∷ xs) past =
       let other : k ≢ n = λ e. omega arith in
       ap₂ cons_option (agree.at k x other) (picked-behind f g n agree (suc k) xs (omega arith))
 
   pub picked-high : (f : ℕ → X → Option Y) (key : Y → ℕ) → IsKeyed f key
-    → (n k : ℕ) (xs : List X) → n < k → AllAbove key n (picked f k xs)
+      → (n k : ℕ) (xs : List X) → n < k → AllAbove key n (picked f k xs)
   picked-high f key keyed n k [] past = tt
   picked-high f key keyed n k (x ∷ xs) past =
       high-cons key n (f k x) (picked f (suc k) xs) (λ y some. let here : key y ≡ k = keyed.at k x y some in omega arith)
-        (picked-high f key keyed n (suc k) xs (omega arith))
+      (picked-high f key keyed n (suc k) xs (omega arith))
 
   -- all keys are below n, where nothing is read from number n on
   pub picked-low : (f : ℕ → X → Option Y) (key : Y → ℕ) → IsKeyed f key → (n k : ℕ) (xs : List X)
-    → ((i m : ℕ) (x : X) → m ≡ k + i → slice_get xs i ≡ Some x → n ≤ m → f m x ≡ None) → AllBelow key n (picked f k xs)
+      → ((i m : ℕ) (x : X) → m ≡ k + i → slice_get xs i ≡ Some x → n ≤ m → f m x ≡ None) → AllBelow key n (picked f k xs)
   picked-low f key keyed n k [] none = tt
   picked-low f key keyed n k (x ∷ xs) none =
       low-cons key n (f k x) (picked f (suc k) xs) (λ y some. below y some (cases_lt k n))
-        (picked-low f key keyed n (suc k) xs (λ i m z at got past. none (suc i) m z (omega arith) got past))
+      (picked-low f key keyed n (suc k) xs (λ i m z at got past. none (suc i) m z (omega arith) got past))
     where
       below : (y : Y) → f k x ≡ Some y → (k < n) ⊎ (n ≤ k) → key y < n
       below y some (inl small) = let here : key y ≡ k = keyed.at k x y some in omega arith
@@ -70,8 +70,8 @@ module _ {X Y : Type 0} where
 
   -- a write at number n, and a reading that differs at n alone
   pub picked-around : (f g : ℕ → X → Option Y) (key : Y → ℕ) → IsKeyed f key → (n : ℕ) → AgreeBut f g n
-    → (k : ℕ) (xs : List X) (i : ℕ) (old new : X) → n ≡ k + i → slice_get xs i ≡ Some old
-    → Around key n (picked f k xs) (picked g k (set xs i new)) (f n old) (g n new)
+      → (k : ℕ) (xs : List X) (i : ℕ) (old new : X) → n ≡ k + i → slice_get xs i ≡ Some old
+      → Around key n (picked f k xs) (picked g k (set xs i new)) (f n old) (g n new)
   picked-around f g key keyed n agree k [] i old new at there = absurd (cc)
   picked-around f g key keyed n agree k (x ∷ xs) zero old new at there =
       let here : k ≡ n = omega arith in
@@ -83,7 +83,8 @@ module _ {X Y : Type 0} where
         was = ap₂ (λ m y. cons_option (f m y) (picked f (suc k) xs)) here first;
         is = ap₂ (λ m ys. cons_option (g m new) ys) here behind;
         low = tt;
-        high = picked-high f key keyed n (suc k) xs (omega arith) }
+        high = picked-high f key keyed n (suc k) xs (omega arith);
+      }
   picked-around f g key keyed n agree k (x ∷ xs) (suc i) old new at there =
       let rest = picked-around f g key keyed n agree (suc k) xs i old new (omega arith) there in
       let other : k ≢ n = λ e. omega arith in
@@ -92,14 +93,15 @@ module _ {X Y : Type 0} where
         back = rest.back;
         was = ap (cons_option (f k x)) rest.was ∙ cons-append (f k x) rest.front (cons_option (f n old) rest.back);
         is = ap₂ cons_option (sym (agree.at k x other)) rest.is
-          ∙ cons-append (f k x) rest.front (cons_option (g n new) rest.back);
+            ∙ cons-append (f k x) rest.front (cons_option (g n new) rest.back);
         low = low-cons key n (f k x) rest.front
-          (λ y some. let here : key y ≡ k = keyed.at k x y some in omega arith) rest.low;
-        high = rest.high }
+            (λ y some. let here : key y ≡ k = keyed.at k x y some in omega arith) rest.low;
+        high = rest.high;
+      }
 
   -- one more element
   pub picked-push : (f : ℕ → X → Option Y) (k : ℕ) (xs : List X) (x : X) (n : ℕ) → n ≡ k + length xs
-    → picked f k (xs ++ x ∷ []) ≡ picked f k xs ++ cons_option (f n x) []
+      → picked f k (xs ++ x ∷ []) ≡ picked f k xs ++ cons_option (f n x) []
   picked-push f k [] x n at = let here : k ≡ n = omega arith in ap (λ m. cons_option (f m x) []) here
   picked-push f k (z ∷ xs) x n at =
       ap (cons_option (f k z)) (picked-push f (suc k) xs x n (omega arith))
@@ -107,7 +109,7 @@ module _ {X Y : Type 0} where
 
   -- what is read off an element is in the list
   pub picked-in : (f : ℕ → X → Option Y) (k : ℕ) (xs : List X) (i n : ℕ) (x : X) (y : Y)
-    → n ≡ k + i → slice_get xs i ≡ Some x → f n x ≡ Some y → IsIn y (picked f k xs)
+      → n ≡ k + i → slice_get xs i ≡ Some x → f n x ≡ Some y → IsIn y (picked f k xs)
   picked-in f k [] i n x y at there some = absurd (cc)
   picked-in f k (z ∷ xs) zero n x y at there some =
       let first : z ≡ x = cc in

@@ -22,11 +22,11 @@ keeps-answers s o core = record { at = λ t is. made t is }
         subst (λ (x : Stepped). IsCore x.shape) same core
 
 pub keeps-if : (b : Bool) (x y : Option Stepped)
-  → (b ≡ true → KeepsCore x) → (b ≡ false → KeepsCore y) → KeepsCore (if b then x else y)
+    → (b ≡ true → KeepsCore x) → (b ≡ false → KeepsCore y) → KeepsCore (if b then x else y)
 keeps-if true x y then_x else_y = then_x refl
 keeps-if false x y then_x else_y = else_y refl
 
 pub keeps-found : (f : CoreCell → Option Stepped) (o : Option CoreCell)
-  → ((cell : CoreCell) → o ≡ Some cell → KeepsCore (f cell)) → KeepsCore (option_and_then f o)
+    → ((cell : CoreCell) → o ≡ Some cell → KeepsCore (f cell)) → KeepsCore (option_and_then f o)
 keeps-found f None each = keeps-none
 keeps-found f (Some cell) each = each cell refl

@@ -43,38 +43,38 @@ within-false a b e = grind (arith, ints)
 take-row : (s : Shape) (p : ℕ) → IsCore s → (d : Option Doing) → slice_get s.queue.doing p ≡ d → KeepsCore (take_row s p d)
 take-row s p core (Some doing.Idle) does =
     keeps-if _ _ _
-      (λ above. keeps-if _ _ _
-        (λ free. keeps-answers _ _ (take-now s p core does (below-true _ _ above) (below-true _ _ free)))
-        (λ none. keeps-answers _ _ (take-door s p core does (below-true _ _ above) (below-false _ _ none))))
-      (λ low. keeps-none)
+    (λ above. keeps-if _ _ _
+    (λ free. keeps-answers _ _ (take-now s p core does (below-true _ _ above) (below-true _ _ free)))
+    (λ none. keeps-answers _ _ (take-door s p core does (below-true _ _ above) (below-false _ _ none))))
+    (λ low. keeps-none)
 take-row s p core _ does = keeps-none
 
 try-load-row : (s : Shape) (p : ℕ) → IsCore s → (d : Option Doing) → slice_get s.queue.doing p ≡ d
-  → KeepsCore (try_load_row s p d)
+    → KeepsCore (try_load_row s p d)
 try-load-row s p core (Some doing.Idle) does =
     keeps-if _ _ _
-      (λ none. keeps-answers _ _ (try-busy s p core (within-true _ _ none)))
-      (λ free. keeps-answers _ _ (try-loaded s p core does (within-false _ _ free)))
+    (λ none. keeps-answers _ _ (try-busy s p core (within-true _ _ none)))
+    (λ free. keeps-answers _ _ (try-loaded s p core does (within-false _ _ free)))
 try-load-row s p core _ does = keeps-none
 
 try-swap-row : (s : Shape) (p : ℕ) → IsCore s → (d : Option Doing) → slice_get s.queue.doing p ≡ d
-  → KeepsCore (try_swap_row s p d)
+    → KeepsCore (try_swap_row s p d)
 try-swap-row s p core (Some (doing.TryAt v)) does =
     keeps-if _ _ _
-      (λ same. keeps-answers _ _ (try-got s p v core does ((Decides-int_eq s.state v).0 same)))
-      (λ other. keeps-answers _ _ (try-contended s p v core does))
+    (λ same. keeps-answers _ _ (try-got s p v core does ((Decides-int_eq s.state v).0 same)))
+    (λ other. keeps-answers _ _ (try-contended s p v core does))
 try-swap-row s p core _ does = keeps-none
 
 draw-row : (s : Shape) (p : ℕ) → IsCore s → (d : Option Doing) → slice_get s.queue.doing p ≡ d → KeepsCore (draw_row s p d)
 draw-row s p core (Some doing.Door) does =
     keeps-if _ _ _
-      (λ below. keeps-answers _ _ (draw-number s p core does (ltb-true _ _ below)))
-      (λ full. keeps-none)
+    (λ below. keeps-answers _ _ (draw-number s p core does (ltb-true _ _ below)))
+    (λ full. keeps-none)
 draw-row s p core _ does = keeps-none
 
 install-at : (s : Shape) (p k : ℕ) (cell : CoreCell) (now : CoreState) → IsCore s
-  → slice_get s.queue.doing p ≡ Some (doing.Drawn k) → slice_get s.queue.cells k ≡ Some cell → cell.state ≡ now
-  → KeepsCore (install_at s p k cell now)
+    → slice_get s.queue.doing p ≡ Some (doing.Drawn k) → slice_get s.queue.cells k ≡ Some cell → cell.state ≡ now
+    → KeepsCore (install_at s p k cell now)
 install-at s p k cell state.Empty core does finds at =
     keeps-answers _ _ (install-waiter s p k cell core (record { does = does; finds = finds; at = at }))
 install-at s p k cell state.Value core does finds at =
@@ -82,31 +82,31 @@ install-at s p k cell state.Value core does finds at =
 install-at s p k cell _ core does finds at = keeps-none
 
 install-row : (s : Shape) (p : ℕ) → IsCore s → (d : Option Doing) → slice_get s.queue.doing p ≡ d
-  → KeepsCore (install_row s p d)
+    → KeepsCore (install_row s p d)
 install-row s p core (Some (doing.Drawn k)) does =
     keeps-found (λ cell. install_at s p k cell cell.state) (slice_get s.queue.cells k)
-      (λ cell finds. install-at s p k cell cell.state core does finds refl)
+    (λ cell finds. install-at s p k cell cell.state core does finds refl)
 install-row s p core _ does = keeps-none
 
 give-row : (s : Shape) (p : ℕ) → IsCore s → (d : Option Doing) → slice_get s.queue.doing p ≡ d → KeepsCore (give_row s p d)
 give-row s p core (Some doing.Idle) does =
     keeps-if _ _ _
-      (λ holds. keeps-if _ _ _
-        (λ below. keeps-answers _ _ (give-sent s p core does (ltb-true _ _ holds) (below-true _ _ below)))
-        (λ above. keeps-answers _ _ (give-freed s p core does (ltb-true _ _ holds) (below-false _ _ above))))
-      (λ none. keeps-none)
+    (λ holds. keeps-if _ _ _
+    (λ below. keeps-answers _ _ (give-sent s p core does (ltb-true _ _ holds) (below-true _ _ below)))
+    (λ above. keeps-answers _ _ (give-freed s p core does (ltb-true _ _ holds) (below-false _ _ above))))
+    (λ none. keeps-none)
 give-row s p core _ does = keeps-none
 
 reach-row : (s : Shape) (p : ℕ) → IsCore s → (d : Option Doing) → slice_get s.queue.doing p ≡ d → KeepsCore (reach_row s p d)
 reach-row s p core (Some doing.Owes) does =
     keeps-if _ _ _
-      (λ below. keeps-answers _ _ (reach-number s p core does (ltb-true _ _ below)))
-      (λ full. keeps-none)
+    (λ below. keeps-answers _ _ (reach-number s p core does (ltb-true _ _ below)))
+    (λ full. keeps-none)
 reach-row s p core _ does = keeps-none
 
 meet-at : (s : Shape) (p k : ℕ) (cell : CoreCell) (now : CoreState) → IsCore s
-  → slice_get s.queue.doing p ≡ Some (doing.Ticket k) → slice_get s.queue.cells k ≡ Some cell → cell.state ≡ now
-  → KeepsCore (meet_at s p k cell now)
+    → slice_get s.queue.doing p ≡ Some (doing.Ticket k) → slice_get s.queue.cells k ≡ Some cell → cell.state ≡ now
+    → KeepsCore (meet_at s p k cell now)
 meet-at s p k cell state.Waiter core does finds at =
     keeps-answers _ _ (meet-waiter s p k cell core (record { does = does; finds = finds; at = at }))
 meet-at s p k cell state.Empty core does finds at =
@@ -122,7 +122,7 @@ meet-at s p k cell _ core does finds at = keeps-none
 meet-row : (s : Shape) (p : ℕ) → IsCore s → (d : Option Doing) → slice_get s.queue.doing p ≡ d → KeepsCore (meet_row s p d)
 meet-row s p core (Some (doing.Ticket k)) does =
     keeps-found (λ cell. meet_at s p k cell cell.state) (slice_get s.queue.cells k)
-      (λ cell finds. meet-at s p k cell cell.state core does finds refl)
+    (λ cell finds. meet-at s p k cell cell.state core does finds refl)
 meet-row s p core _ does = keeps-none
 
 -- a pass that may end a wait is its owner
@@ -140,8 +140,8 @@ owns-from p cell e =
     record { owner = owner-true p cell.owner both.0; uncollected = uncollected-true cell.collected both.1 }
 
 leave-at : (s : Shape) (p k : ℕ) (cell : CoreCell) (now : CoreState) → IsCore s
-  → slice_get s.queue.doing p ≡ Some doing.Idle → slice_get s.queue.cells k ≡ Some cell → cell.state ≡ now
-  → Owns p cell → KeepsCore (leave_at s p k cell now)
+    → slice_get s.queue.doing p ≡ Some doing.Idle → slice_get s.queue.cells k ≡ Some cell → cell.state ≡ now
+    → Owns p cell → KeepsCore (leave_at s p k cell now)
 leave-at s p k cell state.Waiter core does finds at owns =
     keeps-answers _ _ (leave-waiter s p k cell core (record { does = does; finds = finds; at = at }) owns)
 leave-at s p k cell state.Resumed core does finds at owns =
@@ -149,25 +149,25 @@ leave-at s p k cell state.Resumed core does finds at owns =
 leave-at s p k cell _ core does finds at owns = keeps-none
 
 leave-row : (s : Shape) (p k : ℕ) → IsCore s → (d : Option Doing) → slice_get s.queue.doing p ≡ d
-  → KeepsCore (leave_row s p k d)
+    → KeepsCore (leave_row s p k d)
 leave-row s p k core (Some doing.Idle) does =
     keeps-found (λ cell. leave_with s p k cell) (slice_get s.queue.cells k)
-      (λ cell finds. keeps-if _ _ _
-        (λ owned. leave-at s p k cell cell.state core does finds refl (owns-from p cell owned))
-        (λ other. keeps-none))
+    (λ cell finds. keeps-if _ _ _
+    (λ owned. leave-at s p k cell cell.state core does finds refl (owns-from p cell owned))
+    (λ other. keeps-none))
 leave-row s p k core _ does = keeps-none
 
 decide-row : (s : Shape) (p : ℕ) → IsCore s → (d : Option Doing) → slice_get s.queue.doing p ≡ d
-  → KeepsCore (decide_row s p d)
+    → KeepsCore (decide_row s p d)
 decide-row s p core (Some (doing.Leaving k)) does =
     keeps-if _ _ _
-      (λ below. keeps-answers _ _ (decide-passes s p k core does (below-true _ _ below)))
-      (λ above. keeps-answers _ _ (decide-refuses s p k core does (below-false _ _ above)))
+    (λ below. keeps-answers _ _ (decide-passes s p k core does (below-true _ _ below)))
+    (λ above. keeps-answers _ _ (decide-refuses s p k core does (below-false _ _ above)))
 decide-row s p core _ does = keeps-none
 
 settle-at : (s : Shape) (p k : ℕ) (on : Bool) (cell : CoreCell) (now : CoreState) → IsCore s
-  → slice_get s.queue.doing p ≡ Some (doing.Decided k on) → slice_get s.queue.cells k ≡ Some cell → cell.state ≡ now
-  → KeepsCore (settle_at s p k on cell now)
+    → slice_get s.queue.doing p ≡ Some (doing.Decided k on) → slice_get s.queue.cells k ≡ Some cell → cell.state ≡ now
+    → KeepsCore (settle_at s p k on cell now)
 settle-at s p k true cell state.Cancelling core does finds at =
     keeps-answers _ _ (settle-cancelled s p k cell core (record { does = does; finds = finds; at = at }))
 settle-at s p k true cell state.Delegated core does finds at =
@@ -180,15 +180,15 @@ settle-at s p k true cell _ core does finds at = keeps-none
 settle-at s p k false cell _ core does finds at = keeps-none
 
 settle-row : (s : Shape) (p : ℕ) → IsCore s → (d : Option Doing) → slice_get s.queue.doing p ≡ d
-  → KeepsCore (settle_row s p d)
+    → KeepsCore (settle_row s p d)
 settle-row s p core (Some (doing.Decided k on)) does =
     keeps-found (λ cell. settle_at s p k on cell cell.state) (slice_get s.queue.cells k)
-      (λ cell finds. settle-at s p k on cell cell.state core does finds refl)
+    (λ cell finds. settle-at s p k on cell cell.state core does finds refl)
 settle-row s p core _ does = keeps-none
 
 look-at : (s : Shape) (p k : ℕ) (cell : CoreCell) (now : CoreState) → IsCore s
-  → slice_get s.queue.doing p ≡ Some doing.Idle → slice_get s.queue.cells k ≡ Some cell → cell.state ≡ now
-  → Owns p cell → KeepsCore (look_at s p k cell now)
+    → slice_get s.queue.doing p ≡ Some doing.Idle → slice_get s.queue.cells k ≡ Some cell → cell.state ≡ now
+    → Owns p cell → KeepsCore (look_at s p k cell now)
 look-at s p k cell state.Waiter core does finds at owns =
     keeps-answers _ _ (look-pending s p k cell core (record { does = does; finds = finds; at = at }) owns)
 look-at s p k cell state.Resumed core does finds at owns =
@@ -196,12 +196,12 @@ look-at s p k cell state.Resumed core does finds at owns =
 look-at s p k cell _ core does finds at owns = keeps-none
 
 look-row : (s : Shape) (p k : ℕ) → IsCore s → (d : Option Doing) → slice_get s.queue.doing p ≡ d
-  → KeepsCore (look_row s p k d)
+    → KeepsCore (look_row s p k d)
 look-row s p k core (Some doing.Idle) does =
     keeps-found (λ cell. look_with s p k cell) (slice_get s.queue.cells k)
-      (λ cell finds. keeps-if _ _ _
-        (λ owned. look-at s p k cell cell.state core does finds refl (owns-from p cell owned))
-        (λ other. keeps-none))
+    (λ cell finds. keeps-if _ _ _
+    (λ owned. look-at s p k cell cell.state core does finds refl (owns-from p cell owned))
+    (λ other. keeps-none))
 look-row s p k core _ does = keeps-none
 
 pub rows-keep : (s : Shape) (e : Event) → IsCore s → KeepsCore (step s e)
@@ -223,7 +223,7 @@ pub row-core : (s : Shape) (e : Event) (row : Stepped) → IsCore s → step s e
 row-core s e row core is = (rows-keep s e core).at row is
 
 makes-core : (s new : Shape) (row : Option Stepped) (r : Result Outcome CoreError) → IsCore s → KeepsCore row
-  → Makes row r s new → IsCore new
+    → Makes row r s new → IsCore new
 makes-core s new (Some row) (Ok o) core keeps made = rw made.1 (keeps.at row refl)
 makes-core s new (Some row) (Err Memory) core keeps made = rw made core
 makes-core s new (Some row) (Err BadSize) core keeps made = absurd made
@@ -238,7 +238,7 @@ pub step-keeps : (s new : Shape) (e : Event) (r : Result Outcome CoreError) → 
 step-keeps s new e r core made = makes-core s new (step s e) r core (rows-keep s e core) made
 
 ready-core : (old new : Room) (row : Option Stepped) (o : Option Outcome) → IsCore old.shape → KeepsCore row
-  → MakesReady row o old new → IsCore new.shape
+    → MakesReady row o old new → IsCore new.shape
 ready-core old new (Some row) (Some o) core keeps made = rw made.1 (keeps.at row refl)
 ready-core old new None None core keeps made = rw made core
 ready-core old new (Some row) None core keeps made = absurd made
@@ -246,5 +246,5 @@ ready-core old new None (Some o) core keeps made = absurd made
 
 -- and so does one that has room for it
 pub ready-keeps : (old new : Room) (e : Event) (o : Option Outcome) → IsCore old.shape
-  → MakesReady (step old.shape e) o old new → IsCore new.shape
+    → MakesReady (step old.shape e) o old new → IsCore new.shape
 ready-keeps old new e o core made = ready-core old new (step old.shape e) o core (rows-keep old.shape e core) made

@@ -10,5 +10,4 @@ ghost use Rattle.cqs_core.specs.SemaphoreRuns.{EveryRunIsLegal};
 /// linearizable, without naming any schedule.
 pub fn every_run_is_legal()
     ensures { EveryRunIsLegal }
-{
-}
+{}

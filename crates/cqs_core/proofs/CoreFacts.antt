@@ -1,17 +1,16 @@
--- What every core gives: it shows the object after its history, the laws of the semaphore hold of it, and its numbers are
--- small.
-use Rattle.std.proofs.Common.{◌≡◌, ◌⊎◌, inl, inr, ℕ, zero, suc, ◌+◌, ◌-◌, ◌^◌, ◌<◌, ◌≤◌, max, ℤ, pos, negsuc, ◌+ℤ◌, ◌-ℤ◌, ◌≤ℤ◌, ◌<ℤ◌, List, length, sum, get_or, slice_index, Option, Some, slice_get, refl, sym, ap, ◌∙◌, subst, arith}
+-- What every core gives: it shows the object after its history, the laws of the semaphore hold of it, and its
+-- numbers are small.
+use Rattle.std.proofs.Common.{◌≡◌, ◌⊎◌, inl, inr, ℕ, ◌+◌, ◌-◌, ◌^◌, ◌<◌, ◌≤◌, ℤ, pos, negsuc, ◌+ℤ◌, ◌-ℤ◌, ◌≤ℤ◌, length, sum, get_or, slice_index, refl, sym, ap, ◌∙◌, subst, arith}
 use Rattle.std.proofs.lemmas.Bool.{cases_lt}
 use Rattle.std.proofs.lemmas.Int.{ints}
 use Rattle.std.proofs.lemmas.List.{get_or_past}
 use Rattle.std.proofs.lemmas.List.Sums.{get_or-le-sum_by}
-use Rattle.cqs_core.specs.QueueState.{Queue}
 use Rattle.cqs_core.specs.QueueLine as queue
-use Rattle.cqs_core.specs.QueueLine.{going, ending, ready}
+use Rattle.cqs_core.specs.QueueLine.{going, ending}
 use Rattle.cqs_core.specs.SemaphoreObject.{Semaphore, due}
 use Rattle.cqs_core.specs.SemaphoreEntries.{object_after, IsBalanced}
-use Rattle.cqs_core.specs.SemaphoreTable.{Shape, lowest, last_number}
-use Rattle.cqs_core.specs.SemaphoreShown.{IsCore, Shows, shown, state_of, free_of, short_of}
+use Rattle.cqs_core.specs.SemaphoreTable.{Shape, last_number}
+use Rattle.cqs_core.specs.SemaphoreShown.{IsCore, Shows, shown, free_of, short_of}
 use Rattle.cqs_core.proofs.Promised.{ending-within}
 
 -- the state word is the free permits less those who are short of one
@@ -71,7 +70,8 @@ balanced-shown s core =
     equal : (g e d a : ℕ) → e ≤ g → a ≡ 0 → g + a ≡ d + e → g - e ≡ d
     equal g e d a within none was = omega arith
 
-    eager : (free_of s.state ≡ 0) ⊎ (short_of s.state ≡ 0) → (free_of s.state ≡ 0) ⊎ ((shown s).way ≡ due (shown s))
+    eager : (free_of s.state ≡ 0) ⊎ (short_of s.state ≡ 0)
+        → (free_of s.state ≡ 0) ⊎ ((shown s).way ≡ due (shown s))
     eager (inl none) = inl none
     eager (inr enough) =
         inr (equal (going s.queue) (ending s.queue) (queue.due s.queue) (short_of s.state)
@@ -79,14 +79,16 @@ balanced-shown s core =
 
 -- the laws of the semaphore hold of the object after the history
 pub balanced-object : (s : Shape) → IsCore s → IsBalanced s.permits (object_after s.permits s.history)
-balanced-object s core = subst (λ (o : Semaphore). IsBalanced s.permits o) (sym core.object) (balanced-shown s core)
+balanced-object s core =
+    subst (λ (o : Semaphore). IsBalanced s.permits o) (sym core.object) (balanced-shown s core)
 
 -- The ranges that running code needs.
 
 -- the passes together hold no more than there are
 pub held-few : (s : Shape) → IsCore s → sum s.held ≤ s.permits
 held-few s core =
-    few (going s.queue) (ending s.queue) _ _ _ s.permits (ending-within s.queue core.sound core.covered) core.conserved
+    few (going s.queue) (ending s.queue) _ _ _ s.permits (ending-within s.queue core.sound core.covered)
+    core.conserved
   where
     few : (g e a b f n : ℕ) → e ≤ g → a + b + f + g ≡ n + e → a ≤ n
     few g e a b f n within was = omega arith
@@ -107,7 +109,8 @@ holds-fits s p core = let few = holds-few s p core in omega arith
 
 pub free-few : (s : Shape) → IsCore s → free_of s.state ≤ s.permits
 free-few s core =
-    few (going s.queue) (ending s.queue) _ _ _ s.permits (ending-within s.queue core.sound core.covered) core.conserved
+    few (going s.queue) (ending s.queue) _ _ _ s.permits (ending-within s.queue core.sound core.covered)
+    core.conserved
   where
     few : (g e a b f n : ℕ) → e ≤ g → a + b + f + g ≡ n + e → f ≤ n
     few g e a b f n within was = omega arith

@@ -1,14 +1,13 @@
--- What one step owes, so that a core stays one: its numbers fit and add up, its entry is allowed, and the object
--- after the entry is the one that is shown.
-use Rattle.std.proofs.Common.{◌≡◌, ℕ, ◌+◌, ◌≤◌, ℤ, pos, ◌≤ℤ◌, ◌<ℤ◌, List, [], ◌∷◌, ◌++◌, Option, Some, length, set, sum, slice_get, refl, sym, ap, ◌∙◌, subst, arith}
+-- What one step owes, so that a core stays one: its numbers fit and add up, its entry is allowed, and the
+-- object after the entry is the one that is shown.
+use Rattle.std.proofs.Common.{◌≡◌, ℕ, ◌+◌, ◌≤◌, ℤ, ◌≤ℤ◌, List, [], ◌∷◌, ◌++◌, Some, length, set, sum, slice_get, refl, sym, ap, ◌∙◌, subst}
 use Rattle.std.proofs.lemmas.List.{length-set}
-use Rattle.cqs_core.specs.declared.cells.CoreCell.{CoreCell}
 use Rattle.cqs_core.specs.declared.doings.Doing.{Doing}
 use Rattle.cqs_core.specs.declared.doings.Doing.TheVariants as doing
 use Rattle.cqs_core.specs.declared.entries.Entry.{Entry}
 use Rattle.cqs_core.specs.Numbered.{EachAt}
 use Rattle.cqs_core.specs.QueueState.{Queue}
-use Rattle.cqs_core.specs.QueueLine.{Waiting, Service, going, ending, due, ready}
+use Rattle.cqs_core.specs.QueueLine.{going, ending, due, ready}
 use Rattle.cqs_core.specs.QueueMoves as move
 use Rattle.cqs_core.specs.QueueMoves.{Move, IsOpen, moved}
 use Rattle.cqs_core.specs.QueueCover.{IsFair}
@@ -44,7 +43,8 @@ pub record Fits (permits : ℕ) (z : ℤ) (held : List ℕ) (q : Queue) : Type 0
 
 -- the shape after a step
 abbrev pub altered : Shape → ℤ → List ℕ → List Entry → Queue → Shape
-altered s z held history q = record { permits = s.permits; state = z; held = held; history = history; queue = q }
+altered s z held history q =
+    record { permits = s.permits; state = z; held = held; history = history; queue = q }
 
 pub passes-moved : (q : Queue) (m : Move) → length (moved q m).doing ≡ length q.doing
 passes-moved q move.stay = refl
@@ -66,7 +66,8 @@ passes-moved q (move.cancel_owing p k found) = length-set q.doing p doing.Owes
 passes-moved q (move.refuse p k found) = length-set q.doing p doing.Idle
 
 -- a pass of the list now does this
-pub loaded-turn : (passes : List Doing) (p : ℕ) (from to : Doing) → slice_get passes p ≡ Some from → HasLoaded p to
+pub loaded-turn : (passes : List Doing) (p : ℕ) (from to : Doing) → slice_get passes p ≡ Some from
+    → HasLoaded p to
     → EachAt HasLoaded passes → EachAt HasLoaded (set passes p to)
 loaded-turn passes p from to does now each =
     EachAt-write HasLoaded HasLoaded passes p from to does now (λ k d at other before. before) each
@@ -74,7 +75,8 @@ loaded-turn passes p from to does now each =
 -- a step with an entry
 pub core-push : (s : Shape) (m : Move) (z : ℤ) (held : List ℕ) (e : Entry)
     → IsCore s → IsOpen s.queue m → IsFair s.queue m → Fits s.permits z held (moved s.queue m)
-    → IsAllowed (shown s) e → after_entry (shown s) e ≡ shown (altered s z held (s.history ++ e ∷ []) (moved s.queue m))
+    → IsAllowed (shown s) e
+    → after_entry (shown s) e ≡ shown (altered s z held (s.history ++ e ∷ []) (moved s.queue m))
     → IsCore (altered s z held (s.history ++ e ∷ []) (moved s.queue m))
 core-push s m z held e core opens fair fits allowed shows =
     let passes : length (moved s.queue m).doing ≡ length s.queue.doing = passes-moved s.queue m in
@@ -92,7 +94,9 @@ core-push s m z held e core opens fair fits allowed shows =
       covered = covered-moved s.queue m core.sound core.covered opens fair;
       loaded = fits.loaded;
       holders = fits.holders;
-      legal = legal-push s.permits s.history e (subst (λ (o : Semaphore). IsAllowed o e) (sym object) allowed) core.legal;
+      legal =
+          legal-push s.permits s.history e (subst (λ (o : Semaphore). IsAllowed o e) (sym object) allowed)
+          core.legal;
       object = object-push s.permits s.history e ∙ ap (λ o. after_entry o e) object ∙ shows;
       short = fits.short;
       conserved = fits.conserved;

@@ -1,22 +1,23 @@
--- The moves that draw a number: one to resume at is hidden from the fair semaphore, one to suspend at enters the line.
-use Rattle.std.proofs.Common.{◌≡◌, ◌≢◌, ◌⊎◌, inl, inr, ℕ, zero, suc, ◌+◌, ◌<◌, ◌≤◌, max, Bool, true, false, ◌||◌, nat_le, List, [], ◌∷◌, ◌++◌, Option, Some, None, length, set, slice_get, count_by, refl, ap, ap₂, sym, ◌∙◌, subst, arith, append-nil, le-leb}
+-- The moves that draw a number: one to resume at is hidden from the fair semaphore, one to suspend at enters
+-- the line.
+use Rattle.std.proofs.Common.{◌≡◌, ◌≢◌, ◌⊎◌, inl, inr, ℕ, ◌+◌, ◌<◌, ◌≤◌, Bool, true, false, ◌||◌, nat_le, List, [], ◌∷◌, ◌++◌, Option, Some, None, length, set, slice_get, count_by, refl, ap, ap₂, sym, ◌∙◌, arith, append-nil, le-leb}
 use Rattle.std.proofs.lemmas.Bool.{cases_eq, cases_lt, lt-leb, or_left, or_right}
 use Rattle.cqs_core.specs.declared.cells.CoreCell.{CoreCell}
 use Rattle.cqs_core.specs.declared.cells.CoreState.{CoreState}
 use Rattle.cqs_core.specs.declared.cells.CoreState.TheVariants as state
 use Rattle.cqs_core.specs.declared.doings.Doing.{Doing}
 use Rattle.cqs_core.specs.declared.doings.Doing.TheVariants as doing
-use Rattle.cqs_core.specs.Numbered.{cons_option, picked, count_at, IsIn}
-use Rattle.cqs_core.specs.Keyed.{placed, without}
-use Rattle.cqs_core.specs.QueueState.{Queue, fresh_cell, owner_doing, is_leaving, has_ticket, is_ticket}
-use Rattle.cqs_core.specs.QueueLine.{Waiting, at_door, door, in_line, stays_in_line, waiting_of, line, service_of, is_served, served, is_resuming, is_told_refused, has_left, is_unmet, is_unmet_refusal, going, ending, has_ready, ready}
+use Rattle.cqs_core.specs.Numbered.{cons_option, picked, count_at}
+use Rattle.cqs_core.specs.Keyed.{without}
+use Rattle.cqs_core.specs.QueueState.{Queue, fresh_cell, owner_doing, has_ticket}
+use Rattle.cqs_core.specs.QueueLine.{Waiting, door, in_line, stays_in_line, waiting_of, line, service_of, is_served, served, is_resuming, is_told_refused, has_left, is_unmet, is_unmet_refusal, going, ending, has_ready, ready}
 use Rattle.cqs_core.specs.QueueMoves as move
 use Rattle.cqs_core.specs.QueueMoves.{moved, cells_drawn, cells_reached}
-use Rattle.cqs_core.specs.QueueSound.{IsSound, IsSoundAt, IsEntered, IsUninstalled, IsUntaken}
+use Rattle.cqs_core.specs.QueueSound.{IsSound, IsSoundAt, IsUninstalled, IsUntaken}
 use Rattle.cqs_core.proofs.Counts.{bit, count_at-same, count_at-push, count_at-write, count_by-write, count_by-push}
 use Rattle.cqs_core.proofs.HiddenMoves.{LooksSame}
 use Rattle.cqs_core.proofs.Keys.{AllBelow, around-kept, around-came, around-went, around-shorter, placed-last}
-use Rattle.cqs_core.proofs.LineReads.{caller, wait_of, service_wait, line-keyed, line-turn, line-around, served-around, door-around}
+use Rattle.cqs_core.proofs.LineReads.{caller, wait_of, service_wait, line-keyed, line-turn, served-around, door-around}
 use Rattle.cqs_core.proofs.Picked.{picked-push, picked-low, picked-around}
 use Rattle.cqs_core.proofs.Places.{get-there}
 use Rattle.cqs_core.proofs.Tickets.{is_ticket-other, has_ticket-frame, has_ticket-opens}
@@ -24,14 +25,16 @@ use Rattle.cqs_core.proofs.WaysChange.{unmet-frame}
 
 -- a cell that a draw makes adds nothing that it doesn't show
 picked-reached : {Y : Type 0} (f : ℕ → CoreCell → Option Y) → ((n : ℕ) → f n fresh_cell ≡ None)
-    → (cells : List CoreCell) (found : Option CoreCell) → picked f 0 (cells_reached cells found) ≡ picked f 0 cells
+    → (cells : List CoreCell) (found : Option CoreCell)
+    → picked f 0 (cells_reached cells found) ≡ picked f 0 cells
 picked-reached f none cells (Some found) = refl
 picked-reached f none cells None =
     picked-push f 0 cells fresh_cell (length cells) (omega arith)
     ∙ ap (λ o. picked f 0 cells ++ cons_option o []) (none (length cells))
     ∙ append-nil (picked f 0 cells)
 
-count_by-reached : (p : CoreCell → Bool) → p fresh_cell ≡ false → (cells : List CoreCell) (found : Option CoreCell)
+count_by-reached : (p : CoreCell → Bool) → p fresh_cell ≡ false
+    → (cells : List CoreCell) (found : Option CoreCell)
     → count_by p (cells_reached cells found) ≡ count_by p cells
 count_by-reached p none cells (Some found) = refl
 count_by-reached p none cells None =
@@ -39,7 +42,8 @@ count_by-reached p none cells None =
     let nothing : bit (p fresh_cell) ≡ 0 = ap bit none in
     omega arith
 
-count_at-reached : (p : ℕ → CoreCell → Bool) → ((n : ℕ) → p n fresh_cell ≡ false) → (cells : List CoreCell) (found : Option CoreCell)
+count_at-reached : (p : ℕ → CoreCell → Bool) → ((n : ℕ) → p n fresh_cell ≡ false)
+    → (cells : List CoreCell) (found : Option CoreCell)
     → count_at p 0 (cells_reached cells found) ≡ count_at p 0 cells
 count_at-reached p none cells (Some found) = refl
 count_at-reached p none cells None =
@@ -61,7 +65,8 @@ unmet-reached q p j state.Refused does = go (cases_eq j q.resumes)
         let opens : has_ticket j (set q.doing p (doing.Ticket q.resumes)) ≡ true =
         rw same (has_ticket-opens q.doing p q.resumes doing.Owes does) in
         or_left (nat_le q.resumes j) (has_ticket j q.doing) before
-        ∙ sym (or_right (nat_le (q.resumes + 1) j) (has_ticket j (set q.doing p (doing.Ticket q.resumes))) opens)
+        ∙ sym (or_right (nat_le (q.resumes + 1) j) (has_ticket j (set q.doing p (doing.Ticket q.resumes)))
+        opens)
     go (inr other) =
         let ticket : has_ticket j (set q.doing p (doing.Ticket q.resumes)) ≡ has_ticket j q.doing =
         has_ticket-frame q.doing p j doing.Owes (doing.Ticket q.resumes) does
@@ -82,7 +87,9 @@ same-reach q p found does =
     let told = count_by-write is_told_refused q.doing p doing.Owes ticket does in
     let left = count_by-reached has_left refl q.cells found in
     let unmet = count_at-reached (is_unmet (q.resumes + 1) after) (λ n. refl) q.cells found in
-    let kept = count_at-same (is_unmet q.resumes q.doing) (is_unmet (q.resumes + 1) after) q.cells q.cells refl others in
+    let kept =
+    count_at-same (is_unmet q.resumes q.doing) (is_unmet (q.resumes + 1) after) q.cells q.cells refl others
+    in
     record {
       suspends = refl;
       door = around-kept caller p _ _ _ _ (door-around q.doing p doing.Owes ticket does) refl;
@@ -104,7 +111,8 @@ pub record IsUndrawn (found : CoreCell) : Type 0 where
   pub untaken : IsUntaken found.state
   pub owner : found.owner ≡ None
 
-uninstalled-undrawn : (q : Queue) (k : ℕ) (found : CoreCell) → q.suspends ≤ k → IsUninstalled q k found → found.owner ≡ None
+uninstalled-undrawn : (q : Queue) (k : ℕ) (found : CoreCell) → q.suspends ≤ k → IsUninstalled q k found
+    → found.owner ≡ None
 uninstalled-undrawn q k found past (inl drawn) = let entered = drawn.0.drawn in absurd (omega arith)
 uninstalled-undrawn q k found past (inr beyond) = beyond.1
 
@@ -121,7 +129,8 @@ undrawn-at q k found state.Delegated past cell = let entered = cell.0.entered.dr
 undrawn-at q k found state.Cancelled past cell = let entered = cell.0.drawn in absurd (omega arith)
 undrawn-at q k found state.Refused past cell = let entered = cell.0.drawn in absurd (omega arith)
 
-pub undrawn : (q : Queue) (k : ℕ) (found : CoreCell) → IsSound q → slice_get q.cells k ≡ Some found → q.suspends ≤ k
+pub undrawn : (q : Queue) (k : ℕ) (found : CoreCell) → IsSound q → slice_get q.cells k ≡ Some found
+    → q.suspends ≤ k
     → IsUndrawn found
 undrawn q k found sound finds past =
     let both = undrawn-at q k found found.state past (sound.cells.at k found finds) in
@@ -144,7 +153,8 @@ record Drawn (passes : List Doing) (p k : ℕ) (cells after : List CoreCell) : T
   served : picked is_served 0 after ≡ picked is_served 0 cells
   ready : count_by has_ready after ≡ count_by has_ready cells
   left : count_by has_left after ≡ count_by has_left cells
-  unmet : (resumes : ℕ) → count_at (is_unmet resumes passes) 0 after ≡ count_at (is_unmet resumes passes) 0 cells
+  unmet : (resumes : ℕ)
+      → count_at (is_unmet resumes passes) 0 after ≡ count_at (is_unmet resumes passes) 0 cells
 
 -- the cell with its owner
 abbrev owned : CoreCell → ℕ → CoreCell
@@ -186,18 +196,22 @@ drawn-cell q passes p found sound finds =
     ap (λ o. waiting_of k o (stays_in_line k found.state (owner_doing passes found))) was.owner in
     let somebody : in_line passes k new ≡ Some w =
     ap (waiting_of k (Some p)) (untaken-stays k found.state (owner_doing passes new) untaken) in
-    let came = picked-around (in_line passes) (in_line passes) wait_of (line-keyed passes) k (record { at = λ m cell other. refl })
+    let came =
+    picked-around (in_line passes) (in_line passes) wait_of (line-keyed passes) k
+    (record { at = λ m cell other. refl })
     0 q.cells k found new (omega arith) finds in
     let looked = count_by-write has_ready q.cells k found new finds in
     let lefts = count_by-write has_left q.cells k found new finds in
     record {
-      line = around-came wait_of k _ _ _ _ came w nobody somebody refl ∙ placed-last wait_of w _ (line-below q passes sound);
+      line = around-came wait_of k _ _ _ _ came w nobody somebody refl ∙ placed-last wait_of w _
+          (line-below q passes sound);
       served = around-kept service_wait k _ _ _ _ (served-around q.cells k found new finds)
           (untaken-unserved k found.state found.owner found.collected untaken
           ∙ sym (untaken-unserved k found.state (Some p) found.collected untaken));
       ready = omega arith;
       left = omega arith;
-      unmet = λ resumes. let write = count_at-write (is_unmet resumes passes) q.cells k found new finds in omega arith;
+      unmet = λ resumes. let write =
+          count_at-write (is_unmet resumes passes) q.cells k found new finds in omega arith;
     }
 
 drawn-fresh : (q : Queue) (passes : List Doing) (p : ℕ) → IsSound q → slice_get q.cells q.suspends ≡ None
@@ -211,7 +225,9 @@ drawn-fresh q passes p sound finds =
     let lefts = count_by-push has_left q.cells new in
     record {
       line = picked-push (in_line passes) 0 q.cells new q.suspends (omega arith);
-      served = picked-push is_served 0 q.cells new q.suspends (omega arith) ∙ append-nil (picked is_served 0 q.cells);
+      served =
+          picked-push is_served 0 q.cells new q.suspends (omega arith) ∙ append-nil
+          (picked is_served 0 q.cells);
       ready = omega arith;
       left = omega arith;
       unmet = λ resumes. let push = count_at-push (is_unmet resumes passes) q.cells new in omega arith;
@@ -225,11 +241,13 @@ drawn-fresh q passes p sound finds =
         absurd (cc)
 
 drawn-either : (q : Queue) (passes : List Doing) (p : ℕ) (found : Option CoreCell) → IsSound q
-    → slice_get q.cells q.suspends ≡ found → Drawn passes p q.suspends q.cells (cells_drawn q.cells q.suspends p found)
+    → slice_get q.cells q.suspends ≡ found
+    → Drawn passes p q.suspends q.cells (cells_drawn q.cells q.suspends p found)
 drawn-either q passes p (Some found) sound finds = drawn-cell q passes p found sound finds
 drawn-either q passes p None sound finds = drawn-fresh q passes p sound finds
 
-pub enters-draw : (q : Queue) (p : ℕ) (found : Option CoreCell) → IsSound q → slice_get q.doing p ≡ Some doing.Door
+pub enters-draw : (q : Queue) (p : ℕ) (found : Option CoreCell) → IsSound q
+    → slice_get q.doing p ≡ Some doing.Door
     → slice_get q.cells q.suspends ≡ found → Enters q (moved q (move.draw p q.suspends found)) p q.suspends
 enters-draw q p found sound does finds =
     let to : Doing = doing.Drawn q.suspends in
@@ -240,7 +258,8 @@ enters-draw q p found sound does finds =
     let told = count_by-write is_told_refused q.doing p doing.Door to does in
     let lefts = drawn.left in
     let unmets = drawn.unmet q.resumes in
-    let kept = count_at-same (is_unmet q.resumes q.doing) (is_unmet q.resumes after) q.cells q.cells refl others in
+    let kept =
+    count_at-same (is_unmet q.resumes q.doing) (is_unmet q.resumes after) q.cells q.cells refl others in
     record {
       suspends = refl;
       door = around-went caller p _ _ _ _ went p refl refl refl;

@@ -1,7 +1,7 @@
--- Lists in order of a key: what placing, leaving out and changing an element do, where it is known what stands before it
--- and behind it.
-use Rattle.std.proofs.Common.{◌≡◌, ◌≢◌, ℕ, zero, suc, ◌+◌, ◌<◌, ◌≤◌, List, [], ◌∷◌, ◌++◌, Option, Some, None, length, slice_get, Bool, true, false, nat_lt, if◌then◌else◌, refl, ap, sym, ◌∙◌, subst, arith, eq-eqb, ne_eqb, lt-ltb, le-ltb, length-append}
-use Rattle.cqs_core.specs.Numbered.{cons_option, IsIn}
+-- Lists in order of a key: what placing, leaving out and changing an element do, where it is known what stands
+-- before it and behind it.
+use Rattle.std.proofs.Common.{◌≡◌, ◌≢◌, ℕ, suc, ◌+◌, ◌<◌, List, [], ◌∷◌, ◌++◌, Option, Some, None, length, Bool, true, false, nat_lt, if◌then◌else◌, refl, ap, sym, ◌∙◌, arith, eq-eqb, ne_eqb, lt-ltb, le-ltb, length-append}
+use Rattle.cqs_core.specs.Numbered.{cons_option}
 use Rattle.cqs_core.specs.Keyed.{placed, without, changed}
 
 module _ {Y : Type 0} (key : Y → ℕ) where
@@ -22,14 +22,16 @@ module _ {Y : Type 0} (key : Y → ℕ) where
       let other : n ≢ key z = λ e. omega (arith, low.0) in
       rw (ne_eqb n (key z) other) (ap (λ ys. z ∷ ys) (without-around n front y back low.1 here))
 
-  pub changed-around : (n : ℕ) (f : Y → Y) (front : List Y) (y : Y) (back : List Y) → AllBelow n front → key y ≡ n
+  pub changed-around : (n : ℕ) (f : Y → Y) (front : List Y) (y : Y) (back : List Y) → AllBelow n front
+      → key y ≡ n
       → changed key n f (front ++ y ∷ back) ≡ front ++ f y ∷ back
   changed-around n f [] y back low here = rw (eq-eqb n (key y) (sym here)) refl
   changed-around n f (z ∷ front) y back low here =
       let other : n ≢ key z = λ e. omega (arith, low.0) in
       rw (ne_eqb n (key z) other) (ap (λ ys. z ∷ ys) (changed-around n f front y back low.1 here))
 
-  pub placed-around : (n : ℕ) (front : List Y) (y : Y) (back : List Y) → AllBelow n front → AllAbove n back → key y ≡ n
+  pub placed-around : (n : ℕ) (front : List Y) (y : Y) (back : List Y) → AllBelow n front → AllAbove n back
+      → key y ≡ n
       → placed key y (front ++ back) ≡ front ++ y ∷ back
   placed-around n [] y [] low high here = refl
   placed-around n [] y (z ∷ back) low high here =
@@ -53,8 +55,8 @@ module _ {Y : Type 0} (key : Y → ℕ) where
       go true rest = omega arith
       go false rest = omega arith
 
--- What stands around the one element that a change touches: the lists before and after it have the same front and the
--- same back, and between them what is read off the element before and after.
+-- What stands around the one element that a change touches: the lists before and after it have the same front
+-- and the same back, and between them what is read off the element before and after.
 pub record Around {Y : Type 0} (key : Y → ℕ) (n : ℕ) (before after : List Y) (old new : Option Y) : Type 0 where
   pub front : List Y
   pub back : List Y
@@ -63,7 +65,8 @@ pub record Around {Y : Type 0} (key : Y → ℕ) (n : ℕ) (before after : List 
   pub low : AllBelow key n front
   pub high : AllAbove key n back
 
-module _ {Y : Type 0} (key : Y → ℕ) (n : ℕ) (before after : List Y) (old new : Option Y) (a : Around key n before after old new) where
+module _ {Y : Type 0} (key : Y → ℕ) (n : ℕ) (before after : List Y) (old new : Option Y)
+    (a : Around key n before after old new) where
   -- the same is read
   pub around-kept : old ≡ new → after ≡ before
   around-kept same = a.is ∙ ap (λ o. a.front ++ cons_option o a.back) (sym same) ∙ sym a.was
@@ -83,7 +86,8 @@ module _ {Y : Type 0} (key : Y → ℕ) (n : ℕ) (before after : List Y) (old n
       is ∙ sym (without-around key n a.front y a.back a.low here) ∙ ap (without key n) (sym was)
 
   -- y was read, and f y is now
-  pub around-changed : (y : Y) (f : Y → Y) → old ≡ Some y → new ≡ Some (f y) → key y ≡ n → after ≡ changed key n f before
+  pub around-changed : (y : Y) (f : Y → Y) → old ≡ Some y → new ≡ Some (f y) → key y ≡ n
+      → after ≡ changed key n f before
   around-changed y f some now here =
       let was : before ≡ a.front ++ y ∷ a.back = a.was ∙ ap (λ o. a.front ++ cons_option o a.back) some in
       let is : after ≡ a.front ++ f y ∷ a.back = a.is ∙ ap (λ o. a.front ++ cons_option o a.back) now in

@@ -1,5 +1,6 @@
--- What is read off the passes and the cells: the door, the line and the served waits after a write of a pass or of a cell.
-use Rattle.std.proofs.Common.{◌≡◌, ◌≢◌, ℕ, ◌+◌, Bool, true, false, not, List, Option, Some, None, set, slice_get, refl, ap, sym, ◌∙◌, arith}
+-- What is read off the passes and the cells: the door, the line and the served waits after a write of a pass or
+-- of a cell.
+use Rattle.std.proofs.Common.{◌≡◌, ◌≢◌, ℕ, Bool, true, not, List, Option, Some, set, slice_get, refl, ap, sym, arith}
 use Rattle.cqs_core.specs.declared.cells.CoreCell.{CoreCell}
 use Rattle.cqs_core.specs.declared.cells.CoreState.{CoreState}
 use Rattle.cqs_core.specs.declared.cells.CoreState.TheVariants as state
@@ -29,14 +30,18 @@ at_door-key p _ c some = absurd (cc)
 pub door-keyed : IsKeyed at_door caller
 door-keyed = record { at = λ p d c some. at_door-key p d c some }
 
-waiting_of-key : (k : ℕ) (owner : Option ℕ) (stays : Bool) (w : Waiting) → waiting_of k owner stays ≡ Some w → w.wait ≡ k
+waiting_of-key : (k : ℕ) (owner : Option ℕ) (stays : Bool) (w : Waiting) → waiting_of k owner stays ≡ Some w
+    → w.wait ≡ k
 waiting_of-key k (Some p) true w some =
     let is : record { wait = k; pass = p } ≡ w = cc in ap wait_of (sym is)
 waiting_of-key k _ _ w some = absurd (cc)
 
 pub line-keyed : (passes : List Doing) → IsKeyed (in_line passes) wait_of
 line-keyed passes =
-    record { at = λ k cell w some. waiting_of-key k cell.owner (stays_in_line k cell.state (owner_doing passes cell)) w some }
+    record {
+      at = λ k cell w some. waiting_of-key k cell.owner
+          (stays_in_line k cell.state (owner_doing passes cell)) w some;
+    }
 
 service_of-key : (k : ℕ) (s : CoreState) (owner : Option ℕ) (collected : Bool) (v : Service)
     → service_of k s owner collected ≡ Some v → v.wait ≡ k
@@ -74,7 +79,8 @@ in_line-frame passes p from to k cell does same =
     (stays-same k cell.state (owner_doing passes cell) (owner_doing (set passes p to) cell) (sym leaves))
 
 -- the line after a pass went on that leaves no other number
-pub line-turn : (passes : List Doing) (cells : List CoreCell) (p : ℕ) (from to : Doing) → slice_get passes p ≡ Some from
+pub line-turn : (passes : List Doing) (cells : List CoreCell) (p : ℕ) (from to : Doing)
+    → slice_get passes p ≡ Some from
     → ((k : ℕ) → is_leaving k (Some to) ≡ is_leaving k (Some from))
     → picked (in_line (set passes p to)) 0 cells ≡ picked (in_line passes) 0 cells
 line-turn passes cells p from to does same =
@@ -82,24 +88,31 @@ line-turn passes cells p from to does same =
     (λ k cell. in_line-frame passes p from to k cell does (same k)) 0 cells)
 
 -- the line before and after a write of a cell, by a pass that leaves no number but that of the cell
-pub line-around : (passes : List Doing) (cells : List CoreCell) (p : ℕ) (from to : Doing) (k : ℕ) (found new : CoreCell)
+pub line-around : (passes : List Doing) (cells : List CoreCell) (p : ℕ) (from to : Doing) (k : ℕ)
+    (found new : CoreCell)
     → slice_get passes p ≡ Some from → slice_get cells k ≡ Some found
     → ((m : ℕ) → m ≢ k → is_leaving m (Some to) ≡ is_leaving m (Some from))
-    → Around wait_of k (picked (in_line passes) 0 cells) (picked (in_line (set passes p to)) 0 (set cells k new))
+    → Around wait_of k (picked (in_line passes) 0 cells)
+    (picked (in_line (set passes p to)) 0 (set cells k new))
     (in_line passes k found) (in_line (set passes p to) k new)
 line-around passes cells p from to k found new does finds same =
     let agree : AgreeBut (in_line passes) (in_line (set passes p to)) k =
     record { at = λ m cell other. in_line-frame passes p from to m cell does (same m other) } in
-    picked-around (in_line passes) (in_line (set passes p to)) wait_of (line-keyed passes) k agree 0 cells k found new
+    picked-around (in_line passes) (in_line (set passes p to)) wait_of (line-keyed passes) k agree 0 cells k
+    found new
     (omega arith) finds
 
 pub served-around : (cells : List CoreCell) (k : ℕ) (found new : CoreCell) → slice_get cells k ≡ Some found
-    → Around service_wait k (picked is_served 0 cells) (picked is_served 0 (set cells k new)) (is_served k found) (is_served k new)
+    → Around service_wait k (picked is_served 0 cells) (picked is_served 0 (set cells k new))
+    (is_served k found) (is_served k new)
 served-around cells k found new finds =
-    picked-around is_served is_served service_wait served-keyed k (record { at = λ m cell other. refl }) 0 cells k found new
+    picked-around is_served is_served service_wait served-keyed k (record { at = λ m cell other. refl }) 0
+    cells k found new
     (omega arith) finds
 
 pub door-around : (passes : List Doing) (p : ℕ) (from to : Doing) → slice_get passes p ≡ Some from
-    → Around caller p (picked at_door 0 passes) (picked at_door 0 (set passes p to)) (at_door p from) (at_door p to)
+    → Around caller p (picked at_door 0 passes) (picked at_door 0 (set passes p to)) (at_door p from)
+    (at_door p to)
 door-around passes p from to does =
-    picked-around at_door at_door caller door-keyed p (record { at = λ m d other. refl }) 0 passes p from to (omega arith) does
+    picked-around at_door at_door caller door-keyed p (record { at = λ m d other. refl }) 0 passes p from to
+    (omega arith) does

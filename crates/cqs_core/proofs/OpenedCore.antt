@@ -1,23 +1,22 @@
 -- A core as it is made is one, and so is each that steps lead to.
-use Rattle.std.proofs.Common.{◌≡◌, ◌≢◌, ℕ, zero, suc, ◌+◌, ◌-◌, ◌<◌, ◌≤◌, Bool, true, false, ◌&&◌, nat_lt, nat_le, ℤ, pos, ◌≤ℤ◌, List, [], ◌∷◌, length, set, sum, get_or, replicate, Option, Some, None, slice_get, slice_index, option_and_then, if◌then◌else◌, count_by, refl, sym, ap, ap₂, ◌∙◌, subst, arith, ltb-true, leb-true, get_or-set_same, get_or-set_other}
-use Rattle.std.proofs.lemmas.Bool.{and_parts, cases_eq}
+use Rattle.std.proofs.Common.{◌≡◌, ℕ, zero, suc, ◌+◌, ◌-◌, ◌<◌, ◌≤◌, Bool, true, false, ◌&&◌, nat_lt, nat_le, List, [], ◌∷◌, length, set, sum, get_or, replicate, Option, Some, None, slice_get, slice_index, option_and_then, if◌then◌else◌, count_by, refl, sym, ap, ap₂, ◌∙◌, subst, arith, ltb-true, leb-true}
+use Rattle.std.proofs.lemmas.Bool.{and_parts}
 use Rattle.std.proofs.lemmas.Int.{ints}
 use Rattle.std.proofs.lemmas.List.{length-set, length-replicate}
 use Rattle.std.proofs.lemmas.List.Sums.{sum_by-set, sum_by-cons}
 use Rattle.cqs_core.specs.declared.doings.Doing.{Doing}
 use Rattle.cqs_core.specs.declared.doings.Doing.TheVariants as doing
 use Rattle.cqs_core.specs.declared.events.Event.{Event}
-use Rattle.cqs_core.specs.Numbered.{picked, EachAt}
+use Rattle.cqs_core.specs.Numbered.{picked}
 use Rattle.cqs_core.specs.QueueState.{Queue}
-use Rattle.cqs_core.specs.QueueLine.{at_door, door, is_resuming, is_told_refused, going, ending, due, ready}
-use Rattle.cqs_core.specs.QueueSound.{IsSound, IsPass, AreApart}
-use Rattle.cqs_core.specs.SemaphoreObject.{Semaphore, opening}
-use Rattle.cqs_core.specs.SemaphoreTable.{Shape, Stepped, step, lowest}
-use Rattle.cqs_core.specs.SemaphoreShown.{IsCore, IsSize, HasLoaded, opened, shown}
+use Rattle.cqs_core.specs.QueueLine.{at_door, door, is_resuming, is_told_refused, going, ending, ready}
+use Rattle.cqs_core.specs.QueueSound.{IsSound}
+use Rattle.cqs_core.specs.SemaphoreObject.{opening}
+use Rattle.cqs_core.specs.SemaphoreTable.{Shape, Stepped, step}
+use Rattle.cqs_core.specs.SemaphoreShown.{IsCore, IsSize, opened, shown}
 use Rattle.cqs_core.specs.SemaphoreRuns.{Step, makes, hands_over, handed, hand_over, shape_of, run_step, run, EveryRunIsLegal}
 use Rattle.cqs_core.proofs.CoreFrame.{same-semaphore}
 use Rattle.cqs_core.proofs.Counts.{count_by-none}
-use Rattle.cqs_core.proofs.RowsKeep.{KeepsCore}
 use Rattle.cqs_core.proofs.StepKeeps.{row-core}
 
 module _ {X : Type 0} where
@@ -46,10 +45,15 @@ opened-sound passes =
     record {
       made = refl;
       cells = record { at = λ k cell got. absurd (cc) };
-      passes = record { at = λ p d got. let is : d ≡ doing.Idle = get-replicate passes p doing.Idle d got in rw is tt };
+      passes =
+          record {
+            at = λ p d got. let is : d ≡ doing.Idle = get-replicate passes p doing.Idle d got in rw is
+                tt;
+          };
       apart = record {
         same = λ p r k has too.
-            let is : doing.Ticket k ≡ doing.Idle = get-replicate passes p doing.Idle (doing.Ticket k) has in absurd (cc);
+            let is : doing.Ticket k ≡ doing.Idle =
+            get-replicate passes p doing.Idle (doing.Ticket k) has in absurd (cc);
       };
     }
 
@@ -60,11 +64,13 @@ opened-core permits passes size =
     let none_resume : count_by is_resuming q.doing ≡ 0 =
     count_by-none is_resuming q.doing (λ p d got. ap is_resuming (get-replicate passes p doing.Idle d got)) in
     let none_told : count_by is_told_refused q.doing ≡ 0 =
-    count_by-none is_told_refused q.doing (λ p d got. ap is_told_refused (get-replicate passes p doing.Idle d got)) in
+    count_by-none is_told_refused q.doing
+    (λ p d got. ap is_told_refused (get-replicate passes p doing.Idle d got)) in
     let none_held : sum (replicate passes 0) ≡ 0 = sum-replicate passes in
     let going_none : going q ≡ 0 = omega arith in
     let ending_none : ending q ≡ 0 = omega arith in
-    let few : length (replicate passes doing.Idle) ≤ 32 = rw (length-replicate passes doing.Idle) size.few_passes in
+    let few : length (replicate passes doing.Idle) ≤ 32 =
+    rw (length-replicate passes doing.Idle) size.few_passes in
     record {
       range = record {
         some_permits = size.some_permits;
@@ -76,7 +82,11 @@ opened-core permits passes size =
       };
       sound = opened-sound passes;
       covered = record { at = λ j cell got declined past. absurd (cc) };
-      loaded = record { at = λ p d got. let is : d ≡ doing.Idle = get-replicate passes p doing.Idle d got in rw is tt };
+      loaded =
+          record {
+            at = λ p d got. let is : d ≡ doing.Idle = get-replicate passes p doing.Idle d got in rw is
+                tt;
+          };
       holders = length-replicate passes 0 ∙ sym (length-replicate passes doing.Idle);
       legal = record { at = λ n e got. absurd (cc) };
       object = same-semaphore (opening permits) (shown (opened permits passes))
@@ -86,7 +96,8 @@ opened-core permits passes size =
     }
 
 -- What one pass gives, another has: the sum stays.
-handed-sum : (held : List ℕ) (from to many : ℕ) → from < length held → to < length held → many ≤ get_or held from 0
+handed-sum : (held : List ℕ) (from to many : ℕ) → from < length held → to < length held
+    → many ≤ get_or held from 0
     → sum (handed held from to many) ≡ sum held
 handed-sum held from to many there other enough =
     let rest : List ℕ = set held from (get_or held from 0 - many) in
@@ -123,7 +134,8 @@ hands-core s held core long same =
       conserved = rw same core.conserved;
     }
 
-pub hand_over-core : (s next : Shape) (from to many : ℕ) → IsCore s → hand_over s from to many ≡ Some next → IsCore next
+pub hand_over-core : (s next : Shape) (from to many : ℕ) → IsCore s → hand_over s from to many ≡ Some next
+    → IsCore next
 hand_over-core s next from to many core given = go (may from to many) refl given
   where
     may : ℕ → ℕ → ℕ → Bool
@@ -136,7 +148,9 @@ hand_over-core s next from to many core given = go (may from to many) refl given
     go : (b : Bool) → may from to many ≡ b → (if b then Some after else None) ≡ Some next → IsCore next
     go false test given = absurd (cc)
     go true test given =
-        let both = and_parts (nat_lt from (length s.held)) (nat_lt to (length s.held) && nat_le many (slice_index s.held from)) test in
+        let both =
+        and_parts (nat_lt from (length s.held))
+        (nat_lt to (length s.held) && nat_le many (slice_index s.held from)) test in
         let rest = and_parts (nat_lt to (length s.held)) (nat_le many (slice_index s.held from)) both.1 in
         let there : from < length s.held = ltb-true from (length s.held) both.0 in
         let other : to < length s.held = ltb-true to (length s.held) rest.0 in
@@ -147,7 +161,8 @@ hand_over-core s next from to many core given = go (may from to many) refl given
         (handed-sum s.held from to many there other enough))
 
 -- an event that is made
-event-core : (s next : Shape) (e : Event) → IsCore s → (row : Option Stepped) → step s e ≡ row → shape_of row ≡ Some next
+event-core : (s next : Shape) (e : Event) → IsCore s → (row : Option Stepped) → step s e ≡ row
+    → shape_of row ≡ Some next
     → IsCore next
 event-core s next e core None is made = absurd (cc)
 event-core s next e core (Some row) is made =
@@ -169,4 +184,5 @@ run-core (t ∷ steps) s last core ran = go (run_step s t) refl ran (λ next. ru
     go (Some next) is ran rest = rest next (run_step-core s next t core is) ran
 
 pub every-run-is-legal : EveryRunIsLegal
-every-run-is-legal permits passes size steps s ran = run-core steps (opened permits passes) s (opened-core permits passes size) ran
+every-run-is-legal permits passes size steps s ran =
+    run-core steps (opened permits passes) s (opened-core permits passes size) ran

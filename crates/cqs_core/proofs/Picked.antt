@@ -1,5 +1,5 @@
 -- What `picked` reads off a list becomes, after a write, a push, or by another reading.
-use Rattle.std.proofs.Common.{◌≡◌, ◌≢◌, ◌⊎◌, inl, inr, ℕ, zero, suc, ◌+◌, ◌<◌, ◌≤◌, List, [], ◌∷◌, ◌++◌, Option, Some, None, length, set, slice_get, refl, ap, ap₂, sym, ◌∙◌, subst, arith, add-one}
+use Rattle.std.proofs.Common.{◌≡◌, ◌≢◌, ◌⊎◌, inl, inr, ℕ, zero, suc, ◌+◌, ◌<◌, ◌≤◌, List, [], ◌∷◌, ◌++◌, Option, Some, None, length, set, slice_get, refl, ap, ap₂, sym, ◌∙◌, arith}
 use Rattle.std.proofs.lemmas.Bool.{cases_lt}
 use Rattle.cqs_core.specs.Numbered.{cons_option, picked, IsIn}
 use Rattle.cqs_core.proofs.Keys.{AllBelow, AllAbove, Around}
@@ -53,12 +53,14 @@ module _ {X Y : Type 0} where
       → (n k : ℕ) (xs : List X) → n < k → AllAbove key n (picked f k xs)
   picked-high f key keyed n k [] past = tt
   picked-high f key keyed n k (x ∷ xs) past =
-      high-cons key n (f k x) (picked f (suc k) xs) (λ y some. let here : key y ≡ k = keyed.at k x y some in omega arith)
+      high-cons key n (f k x) (picked f (suc k) xs)
+      (λ y some. let here : key y ≡ k = keyed.at k x y some in omega arith)
       (picked-high f key keyed n (suc k) xs (omega arith))
 
   -- all keys are below n, where nothing is read from number n on
   pub picked-low : (f : ℕ → X → Option Y) (key : Y → ℕ) → IsKeyed f key → (n k : ℕ) (xs : List X)
-      → ((i m : ℕ) (x : X) → m ≡ k + i → slice_get xs i ≡ Some x → n ≤ m → f m x ≡ None) → AllBelow key n (picked f k xs)
+      → ((i m : ℕ) (x : X) → m ≡ k + i → slice_get xs i ≡ Some x → n ≤ m → f m x ≡ None)
+      → AllBelow key n (picked f k xs)
   picked-low f key keyed n k [] none = tt
   picked-low f key keyed n k (x ∷ xs) none =
       low-cons key n (f k x) (picked f (suc k) xs) (λ y some. below y some (cases_lt k n))
@@ -76,7 +78,8 @@ module _ {X Y : Type 0} where
   picked-around f g key keyed n agree k (x ∷ xs) zero old new at there =
       let here : k ≡ n = omega arith in
       let first : x ≡ old = cc in
-      let behind : picked g (suc k) xs ≡ picked f (suc k) xs = sym (picked-behind f g n agree (suc k) xs (omega arith)) in
+      let behind : picked g (suc k) xs ≡ picked f (suc k) xs =
+      sym (picked-behind f g n agree (suc k) xs (omega arith)) in
       record {
         front = [];
         back = picked f (suc k) xs;
@@ -91,7 +94,9 @@ module _ {X Y : Type 0} where
       record {
         front = cons_option (f k x) rest.front;
         back = rest.back;
-        was = ap (cons_option (f k x)) rest.was ∙ cons-append (f k x) rest.front (cons_option (f n old) rest.back);
+        was =
+            ap (cons_option (f k x)) rest.was ∙ cons-append (f k x) rest.front
+            (cons_option (f n old) rest.back);
         is = ap₂ cons_option (sym (agree.at k x other)) rest.is
             ∙ cons-append (f k x) rest.front (cons_option (g n new) rest.back);
         low = low-cons key n (f k x) rest.front

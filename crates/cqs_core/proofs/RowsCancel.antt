@@ -1,25 +1,21 @@
 -- The steps of a cancellation keep the core, and so does a look.
-use Rattle.std.proofs.Common.{◌≡◌, ℕ, ◌+◌, ◌-◌, ◌<◌, ◌≤◌, ℤ, pos, ◌≤ℤ◌, ◌<ℤ◌, ◌+ℤ◌, ◌-ℤ◌, true, false, List, [], ◌∷◌, ◌++◌, Option, Some, None, length, set, sum, slice_get, slice_set, slice_index, refl, nat_lt, if◌then◌else◌, le-ltb, lt-ltb, sym, ap, ap₂, ◌∙◌, subst, arith}
+use Rattle.std.proofs.Common.{◌≡◌, ℕ, ◌+◌, ◌-◌, ◌<◌, ◌≤◌, ℤ, pos, ◌≤ℤ◌, ◌<ℤ◌, ◌+ℤ◌, true, false, [], ◌∷◌, ◌++◌, Some, length, set, slice_get, slice_index, refl, nat_lt, if◌then◌else◌, le-ltb, lt-ltb, sym, ap, ◌∙◌, arith}
 use Rattle.std.proofs.lemmas.List.{length-set}
 use Rattle.cqs_core.specs.declared.cells.CoreCell.{CoreCell}
 use Rattle.cqs_core.specs.declared.cells.CoreState.TheVariants as state
-use Rattle.cqs_core.specs.declared.doings.Doing.{Doing}
 use Rattle.cqs_core.specs.declared.doings.Doing.TheVariants as doing
-use Rattle.cqs_core.specs.declared.entries.Entry.{Entry}
 use Rattle.cqs_core.specs.declared.entries.Entry.TheVariants as entry
-use Rattle.cqs_core.specs.Numbered.{EachAt}
 use Rattle.cqs_core.specs.Keyed.{without}
-use Rattle.cqs_core.specs.QueueState.{Queue}
 use Rattle.cqs_core.specs.QueueMoves as move
-use Rattle.cqs_core.specs.QueueMoves.{Move, IsOpen, moved, IsCancelling, Works, Owns}
+use Rattle.cqs_core.specs.QueueMoves.{Move, moved, IsCancelling, Works, Owns}
 use Rattle.cqs_core.specs.QueueLine as queue
-use Rattle.cqs_core.specs.QueueLine.{door, in_line, line, going, ending, way, ready}
+use Rattle.cqs_core.specs.QueueLine.{door, in_line, line, going, ending, way}
 use Rattle.cqs_core.specs.SemaphoreObject.{Semaphore, due}
-use Rattle.cqs_core.specs.SemaphoreEntries.{after_entry, turned_back}
-use Rattle.cqs_core.specs.SemaphoreTable.{Shape, gains, loses, adds, takes, records, moves, lowest, last_number}
-use Rattle.cqs_core.specs.SemaphoreShown.{IsCore, shown, free_of, short_of}
+use Rattle.cqs_core.specs.SemaphoreEntries.{turned_back}
+use Rattle.cqs_core.specs.SemaphoreTable.{Shape, gains, adds, records, moves}
+use Rattle.cqs_core.specs.SemaphoreShown.{IsCore, shown}
 use Rattle.cqs_core.proofs.CoreFrame.{altered, same-semaphore, core-push, loaded-turn}
-use Rattle.cqs_core.proofs.CoreSteps.{gains-sum, holds-there, Words, words-fit, hidden-push, hidden-quiet, closed-core}
+use Rattle.cqs_core.proofs.CoreSteps.{gains-sum, holds-there, words-fit, hidden-push, hidden-quiet, closed-core}
 use Rattle.cqs_core.proofs.DeliveryMoves.{waiting, closes-collect}
 use Rattle.cqs_core.proofs.HiddenMoves.{looks-same, same-begin_cancel, same-cancel, same-cancel_owing, same-refuse, same-refuse_left}
 use Rattle.cqs_core.proofs.LineMoves.{decide-leaves}
@@ -30,9 +26,11 @@ use Rattle.cqs_core.proofs.StateWord.{short-above, free-below, short-below, add-
 
 -- Leave, the wait stands
 pub leave-waiter : (s : Shape) (p k : ℕ) (found : CoreCell) → IsCore s
-    → Works s.queue p doing.Idle k found state.Waiter → Owns p found → IsCore (moves s (move.begin_cancel p k found))
+    → Works s.queue p doing.Idle k found state.Waiter → Owns p found
+    → IsCore (moves s (move.begin_cancel p k found))
 leave-waiter s p k found core works owns =
-    hidden-quiet s (move.begin_cancel p k found) core (works, owns) tt (same-begin_cancel s.queue p k found works owns)
+    hidden-quiet s (move.begin_cancel p k found) core (works, owns) tt
+    (same-begin_cancel s.queue p k found works owns)
     core.range.resumes (loaded-turn s.queue.doing p doing.Idle (doing.Leaving k) works.does tt core.loaded)
 
 -- Leave, the wait was served before
@@ -42,8 +40,10 @@ pub leave-late : (s : Shape) (p k : ℕ) (found : CoreCell) → IsCore s
 leave-late s p k found core works owns =
     let there : p < length s.held = holds-there s p doing.Idle core works.does in
     let closes = closes-collect s.queue p k found works owns in
-    closed-core s (move.collect p k found) (set s.held p (slice_index s.held p + 1)) (entry.Late p k) k p core (works, owns) tt
-    closes core.range.resumes core.loaded (length-set s.held p (slice_index s.held p + 1)) (gains-sum s.held p there)
+    closed-core s (move.collect p k found) (set s.held p (slice_index s.held p + 1)) (entry.Late p k) k p core
+    (works, owns) tt
+    closes core.range.resumes core.loaded (length-set s.held p (slice_index s.held p + 1))
+    (gains-sum s.held p there)
     closes.served_open refl
 
 -- the semaphore without this wait in its line
@@ -81,7 +81,8 @@ decide-passes s p k core does below =
       loaded = loaded-turn s.queue.doing p (doing.Leaving k) (doing.Decided k true) does tt core.loaded;
       holders = refl;
     })
-    (short _ _ _ _ _ _ _ _ _ _ doors leaves.shorter leaves.going leaves.ending (add-short s.state below) core.short)
+    (short _ _ _ _ _ _ _ _ _ _ doors leaves.shorter leaves.going leaves.ending (add-short s.state below)
+    core.short)
     (conserved _ _ _ _ _ _ _ s.permits (add-short_free s.state below)
     (free-below s.state (below-within s.state below)) leaves.going leaves.ending core.conserved))
     leaves.waits
@@ -99,7 +100,8 @@ decide-passes s p k core does below =
         → h + b ≡ k + l + f
     short g e h f a b c d k l doors shorter goes ends shorts was = omega arith
 
-    conserved : (g e h f a b c n : ℕ) → b ≡ 0 → a ≡ 0 → h ≡ g → f ≡ e + 0 → c + a + g ≡ n + e → c + b + h ≡ n + f
+    conserved : (g e h f a b c n : ℕ) → b ≡ 0 → a ≡ 0 → h ≡ g → f ≡ e + 0 → c + a + g ≡ n + e
+        → c + b + h ≡ n + f
     conserved g e h f a b c n free_after free goes ends was = omega arith
 
     ways : (g e h f : ℕ) → h ≡ g → f ≡ e + 0 → g - e ≡ h - f
@@ -127,7 +129,8 @@ decide-refuses s p k core does above =
       loaded = loaded-turn s.queue.doing p (doing.Leaving k) (doing.Decided k false) does tt core.loaded;
       holders = refl;
     })
-    (short _ _ _ _ _ _ _ _ _ doors leaves.shorter leaves.going leaves.ending (add-free_short s.state above) as_many)
+    (short _ _ _ _ _ _ _ _ _ doors leaves.shorter leaves.going leaves.ending (add-free_short s.state above)
+    as_many)
     (conserved _ _ _ _ _ _ _ s.permits (add-free s.state above) leaves.going leaves.ending core.conserved))
     leaves.waits
     (one-turned (without_wait (shown s) k) turns
@@ -143,7 +146,8 @@ decide-refuses s p k core does above =
     many : (g e c d l n : ℕ) → n ≡ l → l + 1 ≡ d → g ≡ c + d + e → c + n < g - e
     many g e c d l n lines shorter was = omega arith
 
-    short : (g e h f b c d k l : ℕ) → k ≡ c → l + 1 ≡ d → h ≡ g → f ≡ e + 1 → b ≡ 0 → g ≡ c + d + e → h + b ≡ k + l + f
+    short : (g e h f b c d k l : ℕ) → k ≡ c → l + 1 ≡ d → h ≡ g → f ≡ e + 1 → b ≡ 0 → g ≡ c + d + e
+        → h + b ≡ k + l + f
     short g e h f b c d k l doors shorter goes ends none was = omega arith
 
     conserved : (g e h f a b c n : ℕ) → b ≡ a + 1 → h ≡ g → f ≡ e + 1 → c + a + g ≡ n + e → c + b + h ≡ n + f
@@ -156,19 +160,23 @@ decide-refuses s p k core does above =
 pub settle-cancelled : (s : Shape) (p k : ℕ) (found : CoreCell) → IsCore s
     → Works s.queue p (doing.Decided k true) k found state.Cancelling → IsCore (moves s (move.cancel p k found))
 settle-cancelled s p k found core works =
-    hidden-quiet s (move.cancel p k found) core works tt (same-cancel s.queue p k found core.sound works) core.range.resumes
+    hidden-quiet s (move.cancel p k found) core works tt (same-cancel s.queue p k found core.sound works)
+    core.range.resumes
     (loaded-turn s.queue.doing p (doing.Decided k true) doing.Idle works.does tt core.loaded)
 
 -- Settle, a value was left to the canceller
 pub settle-owing : (s : Shape) (p k : ℕ) (found : CoreCell) → IsCore s
-    → Works s.queue p (doing.Decided k true) k found state.Delegated → IsCore (moves s (move.cancel_owing p k found))
+    → Works s.queue p (doing.Decided k true) k found state.Delegated
+    → IsCore (moves s (move.cancel_owing p k found))
 settle-owing s p k found core works =
-    hidden-quiet s (move.cancel_owing p k found) core works tt (same-cancel_owing s.queue p k found core.sound works) core.range.resumes
+    hidden-quiet s (move.cancel_owing p k found) core works tt
+    (same-cancel_owing s.queue p k found core.sound works) core.range.resumes
     (loaded-turn s.queue.doing p (doing.Decided k true) doing.Owes works.does tt core.loaded)
 
 -- Settle, the cell is refused and no resume has met it
 pub settle-refused : (s : Shape) (p k : ℕ) (found : CoreCell) → IsCore s
-    → Works s.queue p (doing.Decided k false) k found state.Cancelling → IsCore (moves s (move.refuse p k found))
+    → Works s.queue p (doing.Decided k false) k found state.Cancelling
+    → IsCore (moves s (move.refuse p k found))
 settle-refused s p k found core works =
     let cancelling : IsCancelling found.state = rw works.at tt in
     hidden-quiet s (move.refuse p k found) core (works.does, works.finds, cancelling) tt
@@ -186,7 +194,8 @@ settle-ended s p k found core works =
 
 -- Look, the wait stands
 pub look-pending : (s : Shape) (p k : ℕ) (found : CoreCell) → IsCore s
-    → Works s.queue p doing.Idle k found state.Waiter → Owns p found → IsCore (records s (entry.LookPending p k))
+    → Works s.queue p doing.Idle k found state.Waiter → Owns p found
+    → IsCore (records s (entry.LookPending p k))
 look-pending s p k found core works owns =
     let waits : in_line s.queue.doing k found ≡ Some (waiting k p) = rw (works.at, owns.owner) refl in
     hidden-push s move.stay s.state s.held (entry.LookPending p k) core tt tt (looks-same s.queue)
@@ -208,6 +217,8 @@ pub look-granted : (s : Shape) (p k : ℕ) (found : CoreCell) → IsCore s
 look-granted s p k found core works owns =
     let there : p < length s.held = holds-there s p doing.Idle core works.does in
     let closes = closes-collect s.queue p k found works owns in
-    closed-core s (move.collect p k found) (set s.held p (slice_index s.held p + 1)) (entry.LookGranted p k) k p core (works, owns) tt
-    closes core.range.resumes core.loaded (length-set s.held p (slice_index s.held p + 1)) (gains-sum s.held p there)
+    closed-core s (move.collect p k found) (set s.held p (slice_index s.held p + 1)) (entry.LookGranted p k) k
+    p core (works, owns) tt
+    closes core.range.resumes core.loaded (length-set s.held p (slice_index s.held p + 1))
+    (gains-sum s.held p there)
     closes.served_open refl

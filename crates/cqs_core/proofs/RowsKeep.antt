@@ -1,5 +1,5 @@
 -- A row of the table keeps the core, if it is one.
-use Rattle.std.proofs.Common.{◌≡◌, Bool, true, false, Option, Some, None, refl, sym, subst, if◌then◌else◌, option_and_then}
+use Rattle.std.proofs.Common.{◌≡◌, Bool, true, false, Option, Some, None, refl, subst, if◌then◌else◌, option_and_then}
 use Rattle.cqs_core.specs.declared.cells.CoreCell.{CoreCell}
 use Rattle.cqs_core.specs.declared.outcomes.Outcome.{Outcome}
 use Rattle.cqs_core.specs.SemaphoreTable.{Shape, Stepped, answers}

@@ -1,22 +1,18 @@
 -- The steps of a resume keep the core: a permit comes back, a number is drawn, and its cell is met.
-use Rattle.std.proofs.Common.{◌≡◌, ℕ, ◌+◌, ◌-◌, ◌<◌, ◌≤◌, ℤ, pos, ◌≤ℤ◌, ◌<ℤ◌, ◌+ℤ◌, ◌-ℤ◌, true, false, List, [], ◌∷◌, ◌++◌, Option, Some, None, length, set, sum, slice_get, slice_set, slice_index, refl, sym, ap, ap₂, ◌∙◌, subst, arith}
+use Rattle.std.proofs.Common.{◌≡◌, ℕ, ◌+◌, ◌-◌, ◌<◌, ◌≤◌, ℤ, pos, ◌≤ℤ◌, ◌<ℤ◌, ◌+ℤ◌, List, [], ◌∷◌, ◌++◌, Some, length, set, sum, slice_get, slice_index, refl, sym, ap, ap₂, ◌∙◌, arith}
 use Rattle.std.proofs.lemmas.List.{length-set}
 use Rattle.cqs_core.specs.declared.cells.CoreCell.{CoreCell}
 use Rattle.cqs_core.specs.declared.cells.CoreState.TheVariants as state
-use Rattle.cqs_core.specs.declared.doings.Doing.{Doing}
 use Rattle.cqs_core.specs.declared.doings.Doing.TheVariants as doing
-use Rattle.cqs_core.specs.declared.entries.Entry.{Entry}
 use Rattle.cqs_core.specs.declared.entries.Entry.TheVariants as entry
-use Rattle.cqs_core.specs.Numbered.{EachAt}
-use Rattle.cqs_core.specs.QueueState.{Queue}
 use Rattle.cqs_core.specs.QueueMoves as move
-use Rattle.cqs_core.specs.QueueMoves.{Move, IsOpen, moved, Works, Owns}
-use Rattle.cqs_core.specs.QueueLine.{door, line, going, ending, due, ready}
+use Rattle.cqs_core.specs.QueueMoves.{Move, moved, Works}
+use Rattle.cqs_core.specs.QueueLine.{door, line, going, ending, ready}
 use Rattle.cqs_core.specs.SemaphoreEntries.{after_entry}
-use Rattle.cqs_core.specs.SemaphoreTable.{Shape, gains, loses, adds, takes, records, moves, lowest, last_number}
-use Rattle.cqs_core.specs.SemaphoreShown.{IsCore, shown, free_of, short_of}
+use Rattle.cqs_core.specs.SemaphoreTable.{Shape, loses, adds, records, moves, last_number}
+use Rattle.cqs_core.specs.SemaphoreShown.{IsCore, shown}
 use Rattle.cqs_core.proofs.CoreFrame.{altered, same-semaphore, core-push, loaded-turn}
-use Rattle.cqs_core.proofs.CoreSteps.{loses-sum, held-within, holds-there, Words, words-fit, with_permits, hidden-push, hidden-quiet, delivered-core}
+use Rattle.cqs_core.proofs.CoreSteps.{loses-sum, held-within, holds-there, words-fit, with_permits, hidden-push, hidden-quiet, delivered-core}
 use Rattle.cqs_core.proofs.DeliveryMoves.{delivers-serve, serve-ready}
 use Rattle.cqs_core.proofs.DrawMoves.{same-reach}
 use Rattle.cqs_core.proofs.HiddenMoves.{looks-same, same-leave_value, same-delegate, same-pass_over, same-meet_refused}
@@ -65,7 +61,8 @@ give-sent s p core does holds below =
         → h + b ≡ k + l + f
     short g e h f a b c d k l doors lines goes ends shorts was = omega arith
 
-    conserved : (g e h f a b c d l n : ℕ) → l + 1 ≡ d → b ≡ 0 → a ≡ 0 → h ≡ g + 1 → f ≡ e → d + c + a + g ≡ n + e
+    conserved : (g e h f a b c d l n : ℕ) → l + 1 ≡ d → b ≡ 0 → a ≡ 0 → h ≡ g + 1 → f ≡ e
+        → d + c + a + g ≡ n + e
         → l + c + b + h ≡ n + f
     conserved g e h f a b c d l n fewer free_after free goes ends was = omega arith
 
@@ -128,26 +125,30 @@ meet-waiter s p k found core works =
 pub meet-empty : (s : Shape) (p k : ℕ) (found : CoreCell) → IsCore s
     → Works s.queue p (doing.Ticket k) k found state.Empty → IsCore (moves s (move.leave_value p k found))
 meet-empty s p k found core works =
-    hidden-quiet s (move.leave_value p k found) core works tt (same-leave_value s.queue p k found works) core.range.resumes
+    hidden-quiet s (move.leave_value p k found) core works tt (same-leave_value s.queue p k found works)
+    core.range.resumes
     (loaded-turn s.queue.doing p (doing.Ticket k) doing.Idle works.does tt core.loaded)
 
 -- Meet, a cell that is being cancelled
 pub meet-cancelling : (s : Shape) (p k : ℕ) (found : CoreCell) → IsCore s
     → Works s.queue p (doing.Ticket k) k found state.Cancelling → IsCore (moves s (move.delegate p k found))
 meet-cancelling s p k found core works =
-    hidden-quiet s (move.delegate p k found) core works tt (same-delegate s.queue p k found works) core.range.resumes
+    hidden-quiet s (move.delegate p k found) core works tt (same-delegate s.queue p k found works)
+    core.range.resumes
     (loaded-turn s.queue.doing p (doing.Ticket k) doing.Idle works.does tt core.loaded)
 
 -- Meet, a cell that was cancelled
 pub meet-cancelled : (s : Shape) (p k : ℕ) (found : CoreCell) → IsCore s
     → Works s.queue p (doing.Ticket k) k found state.Cancelled → IsCore (moves s (move.pass_over p k found))
 meet-cancelled s p k found core works =
-    hidden-quiet s (move.pass_over p k found) core works tt (same-pass_over s.queue p k found works) core.range.resumes
+    hidden-quiet s (move.pass_over p k found) core works tt (same-pass_over s.queue p k found works)
+    core.range.resumes
     (loaded-turn s.queue.doing p (doing.Ticket k) doing.Owes works.does tt core.loaded)
 
 -- Meet, a cell that was refused
 pub meet-refused : (s : Shape) (p k : ℕ) (found : CoreCell) → IsCore s
     → Works s.queue p (doing.Ticket k) k found state.Refused → IsCore (moves s (move.meet_refused p k found))
 meet-refused s p k found core works =
-    hidden-quiet s (move.meet_refused p k found) core works tt (same-meet_refused s.queue p k found core.sound works) core.range.resumes
+    hidden-quiet s (move.meet_refused p k found) core works tt
+    (same-meet_refused s.queue p k found core.sound works) core.range.resumes
     (loaded-turn s.queue.doing p (doing.Ticket k) doing.Idle works.does tt core.loaded)

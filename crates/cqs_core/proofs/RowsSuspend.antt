@@ -1,22 +1,18 @@
 -- The steps of a suspend keep the core: the caller draws a number, and installs its waiter or takes the value.
-use Rattle.std.proofs.Common.{◌≡◌, ℕ, ◌+◌, ◌-◌, ◌<◌, ◌≤◌, ℤ, pos, ◌≤ℤ◌, ◌<ℤ◌, ◌+ℤ◌, ◌-ℤ◌, true, false, List, [], ◌∷◌, ◌++◌, Option, Some, None, length, set, sum, slice_get, slice_set, slice_index, refl, sym, ap, ap₂, ◌∙◌, subst, arith}
+use Rattle.std.proofs.Common.{◌≡◌, ℕ, ◌+◌, ◌-◌, ◌<◌, [], ◌∷◌, ◌++◌, Some, length, set, sum, slice_get, slice_index, refl, sym, ap, ap₂, ◌∙◌, arith}
 use Rattle.std.proofs.lemmas.List.{length-set, length_push}
 use Rattle.cqs_core.specs.declared.cells.CoreCell.{CoreCell}
 use Rattle.cqs_core.specs.declared.cells.CoreState.TheVariants as state
-use Rattle.cqs_core.specs.declared.doings.Doing.{Doing}
 use Rattle.cqs_core.specs.declared.doings.Doing.TheVariants as doing
-use Rattle.cqs_core.specs.declared.entries.Entry.{Entry}
 use Rattle.cqs_core.specs.declared.entries.Entry.TheVariants as entry
-use Rattle.cqs_core.specs.Numbered.{EachAt}
-use Rattle.cqs_core.specs.QueueState.{Queue}
 use Rattle.cqs_core.specs.QueueMoves as move
-use Rattle.cqs_core.specs.QueueMoves.{Move, IsOpen, moved, Works, Owns}
-use Rattle.cqs_core.specs.QueueLine.{at_door, door, line, going, ending, due, ready}
+use Rattle.cqs_core.specs.QueueMoves.{Move, moved, Works}
+use Rattle.cqs_core.specs.QueueLine.{at_door, door, line, going, ending, ready}
 use Rattle.cqs_core.specs.SemaphoreEntries.{after_entry}
-use Rattle.cqs_core.specs.SemaphoreTable.{Shape, gains, loses, adds, takes, records, moves, lowest, last_number}
+use Rattle.cqs_core.specs.SemaphoreTable.{Shape, gains, records, moves, last_number}
 use Rattle.cqs_core.specs.SemaphoreShown.{IsCore, shown, free_of, short_of}
 use Rattle.cqs_core.proofs.CoreFrame.{altered, same-semaphore, core-push, loaded-turn}
-use Rattle.cqs_core.proofs.CoreSteps.{gains-sum, holds-there, Words, words-fit, hidden-quiet, delivered-core}
+use Rattle.cqs_core.proofs.CoreSteps.{gains-sum, holds-there, words-fit, hidden-quiet, delivered-core}
 use Rattle.cqs_core.proofs.DeliveryMoves.{waiting, delivers-take_value, take_value-ready}
 use Rattle.cqs_core.proofs.DrawMoves.{enters-draw}
 use Rattle.cqs_core.proofs.HiddenMoves.{same-install}
@@ -43,7 +39,8 @@ draw-number s p core does below =
       holders = refl;
     })
     (short _ _ _ _ (short_of s.state) _ _ _ _ enters.shorter longer enters.going enters.ending core.short)
-    (conserved _ _ _ _ (free_of s.state) _ _ _ s.permits enters.ready enters.going enters.ending core.conserved))
+    (conserved _ _ _ _ (free_of s.state) _ _ _ s.permits enters.ready enters.going enters.ending
+    core.conserved))
     (picked-in at_door 0 s.queue.doing p p doing.Door p (omega arith) does refl, refl)
     (same-semaphore (after_entry (shown s) (entry.Enter p k))
     (shown (altered s s.state s.held (s.history ++ entry.Enter p k ∷ []) (moved s.queue m)))
@@ -52,7 +49,8 @@ draw-number s p core does below =
     (sym enters.door) (sym enters.line) refl (sym enters.served)
     (ap (λ n. sum s.held + n) (sym enters.ready)))
   where
-    short : (g e h f a c d k l : ℕ) → k + 1 ≡ c → l ≡ d + 1 → h ≡ g → f ≡ e → g + a ≡ c + d + e → h + a ≡ k + l + f
+    short : (g e h f a c d k l : ℕ) → k + 1 ≡ c → l ≡ d + 1 → h ≡ g → f ≡ e → g + a ≡ c + d + e
+        → h + a ≡ k + l + f
     short g e h f a c d k l shorter longer goes ends was = omega arith
 
     conserved : (g e h f a c d k n : ℕ) → k ≡ c → h ≡ g → f ≡ e → d + c + a + g ≡ n + e → d + k + a + h ≡ n + f
@@ -62,7 +60,8 @@ draw-number s p core does below =
 pub install-waiter : (s : Shape) (p k : ℕ) (found : CoreCell) → IsCore s
     → Works s.queue p (doing.Drawn k) k found state.Empty → IsCore (moves s (move.install p k found))
 install-waiter s p k found core works =
-    hidden-quiet s (move.install p k found) core works tt (same-install s.queue p k found works) core.range.resumes
+    hidden-quiet s (move.install p k found) core works tt (same-install s.queue p k found works)
+    core.range.resumes
     (loaded-turn s.queue.doing p (doing.Drawn k) doing.Idle works.does tt core.loaded)
 
 -- Install, the cell has a value

@@ -1,23 +1,17 @@
 -- Take and try keep the core: a free permit goes to the caller, or the caller goes to the door.
-use Rattle.std.proofs.Common.{◌≡◌, ℕ, ◌+◌, ◌-◌, ◌<◌, ◌≤◌, ℤ, pos, ◌≤ℤ◌, ◌<ℤ◌, ◌+ℤ◌, ◌-ℤ◌, true, false, List, [], ◌∷◌, ◌++◌, Option, Some, None, length, set, sum, slice_get, slice_set, slice_index, refl, sym, ap, ap₂, ◌∙◌, subst, arith}
+use Rattle.std.proofs.Common.{◌≡◌, ℕ, ◌+◌, ◌-◌, ◌<◌, ◌≤◌, ℤ, pos, ◌≤ℤ◌, ◌<ℤ◌, ◌-ℤ◌, List, [], ◌∷◌, ◌++◌, Some, length, set, slice_get, slice_index, refl, sym, ap, ap₂, ◌∙◌, arith}
 use Rattle.std.proofs.lemmas.List.{length-set}
-use Rattle.cqs_core.specs.declared.cells.CoreCell.{CoreCell}
-use Rattle.cqs_core.specs.declared.cells.CoreState.TheVariants as state
-use Rattle.cqs_core.specs.declared.doings.Doing.{Doing}
 use Rattle.cqs_core.specs.declared.doings.Doing.TheVariants as doing
-use Rattle.cqs_core.specs.declared.entries.Entry.{Entry}
 use Rattle.cqs_core.specs.declared.entries.Entry.TheVariants as entry
-use Rattle.cqs_core.specs.Numbered.{EachAt}
-use Rattle.cqs_core.specs.QueueState.{Queue}
 use Rattle.cqs_core.specs.QueueMoves as move
-use Rattle.cqs_core.specs.QueueMoves.{Move, IsOpen, moved, Works, Owns}
-use Rattle.cqs_core.specs.QueueLine.{door, line, going, ending, due, ready}
+use Rattle.cqs_core.specs.QueueMoves.{Move, moved}
+use Rattle.cqs_core.specs.QueueLine.{door, line, going, ending}
 use Rattle.cqs_core.specs.SemaphoreEntries.{after_entry}
-use Rattle.cqs_core.specs.SemaphoreTable.{Shape, gains, loses, adds, takes, records, moves, lowest, last_number}
-use Rattle.cqs_core.specs.SemaphoreShown.{IsCore, shown, free_of, short_of}
-use Rattle.cqs_core.proofs.CoreFrame.{Fits, altered, same-semaphore, core-push, loaded-turn}
-use Rattle.cqs_core.proofs.CoreSteps.{gains-sum, holds-there, Words, words-fit, with_permits, hidden-push, hidden-quiet}
-use Rattle.cqs_core.proofs.HiddenMoves.{LooksSame, looks-same, same-turn}
+use Rattle.cqs_core.specs.SemaphoreTable.{Shape, gains, takes, records, moves, lowest}
+use Rattle.cqs_core.specs.SemaphoreShown.{IsCore, shown}
+use Rattle.cqs_core.proofs.CoreFrame.{altered, same-semaphore, core-push, loaded-turn}
+use Rattle.cqs_core.proofs.CoreSteps.{gains-sum, holds-there, words-fit, with_permits, hidden-push, hidden-quiet}
+use Rattle.cqs_core.proofs.HiddenMoves.{looks-same, same-turn}
 use Rattle.cqs_core.proofs.LineMoves.{turn-door}
 use Rattle.cqs_core.proofs.StateWord.{free-above, short-above, free-below, take-free, take-free_short, take-short, take-short_free, take-range, above-within, lowest-below}
 
@@ -61,7 +55,8 @@ take-door s p core does above none =
       holders = refl;
     })
     (short _ _ _ _ _ _ _ _ _ _ comes.longer lines comes.going comes.ending (take-short s.state none) core.short)
-    (conserved _ _ _ _ _ _ _ s.permits comes.going comes.ending not_free (take-short_free s.state none) core.conserved))
+    (conserved _ _ _ _ _ _ _ s.permits comes.going comes.ending not_free (take-short_free s.state none)
+    core.conserved))
     not_free
     (same-semaphore (after_entry (shown s) (entry.TakeDoor p))
     (shown (altered s (s.state -ℤ pos 1) s.held (s.history ++ entry.TakeDoor p ∷ []) (moved s.queue m)))
@@ -99,7 +94,8 @@ try-loaded s p core does free =
     (loaded-turn s.queue.doing p doing.Idle (doing.TryAt s.state) does free core.loaded)
 
 -- TrySwap, the state is the one that was loaded
-pub try-got : (s : Shape) (p : ℕ) (v : ℤ) → IsCore s → slice_get s.queue.doing p ≡ Some (doing.TryAt v) → s.state ≡ v
+pub try-got : (s : Shape) (p : ℕ) (v : ℤ) → IsCore s → slice_get s.queue.doing p ≡ Some (doing.TryAt v)
+    → s.state ≡ v
     → IsCore (records (gains (moves (takes s) (move.turn p (doing.TryAt v) doing.Idle)) p) (entry.TryGot p))
 try-got s p v core does same =
     let there : p < length s.held = holds-there s p (doing.TryAt v) core does in
@@ -108,7 +104,8 @@ try-got s p v core does same =
     let one_fewer = take-free s.state free in
     let one_more = gains-sum s.held p there in
     let held : List ℕ = set s.held p (slice_index s.held p + 1) in
-    hidden-push s (move.turn p (doing.TryAt v) doing.Idle) (s.state -ℤ pos 1) held (entry.TryGot p) core (does, tt, tt) tt
+    hidden-push s (move.turn p (doing.TryAt v) doing.Idle) (s.state -ℤ pos 1) held (entry.TryGot p) core
+    (does, tt, tt) tt
     (same-turn s.queue p (doing.TryAt v) doing.Idle does refl (λ m. refl) (λ m. refl) refl refl)
     (record {
       state = take-range s.state (lowest-below s.state free);

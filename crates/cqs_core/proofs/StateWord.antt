@@ -1,5 +1,6 @@
--- The state word: what adding one and taking one does to the free permits, and to the waiters with none on its way.
-use Rattle.std.proofs.Common.{◌≡◌, ℕ, zero, suc, ◌+◌, ◌<◌, ◌≤◌, ℤ, pos, negsuc, ◌+ℤ◌, ◌-ℤ◌, ◌<ℤ◌, ◌≤ℤ◌, refl, arith}
+-- The state word: what adding one and taking one does to the free permits, and to the waiters with none on its
+-- way.
+use Rattle.std.proofs.Common.{◌≡◌, ◌+◌, ◌<◌, ◌≤◌, ℤ, pos, ◌+ℤ◌, ◌-ℤ◌, ◌<ℤ◌, ◌≤ℤ◌, arith}
 use Rattle.std.proofs.lemmas.Int.{ints}
 use Rattle.cqs_core.specs.SemaphoreTable.{lowest}
 use Rattle.cqs_core.specs.SemaphoreShown.{free_of, short_of}

@@ -1,5 +1,5 @@
 -- Each row of the table keeps the core, and so does each call that answers by a row.
-use Rattle.std.proofs.Common.{◌≡◌, ℕ, ◌<◌, ℤ, pos, ◌≤ℤ◌, ◌<ℤ◌, Bool, true, false, Option, Some, None, Result, Ok, Err, slice_get, slice_index, refl, sym, ◌∙◌, subst, arith, ◌&&◌, if◌then◌else◌, int_lt, int_le, int_eq, ltb-true, eqb-true}
+use Rattle.std.proofs.Common.{◌≡◌, ℕ, ◌<◌, ℤ, ◌≤ℤ◌, ◌<ℤ◌, Bool, true, false, Option, Some, None, Result, Ok, Err, slice_get, refl, arith, if◌then◌else◌, int_lt, int_le, ltb-true, eqb-true}
 use Rattle.std.proofs.lemmas.Bool.{and_parts}
 use Rattle.std.proofs.lemmas.Int.{ints}
 use Rattle.std.proofs.lemmas.Bool.Decides.{Decides-int_eq}
@@ -8,17 +8,13 @@ use Rattle.cqs_core.specs.declared.cells.CoreState.{CoreState}
 use Rattle.cqs_core.specs.declared.cells.CoreState.TheVariants as state
 use Rattle.cqs_core.specs.declared.doings.Doing.{Doing}
 use Rattle.cqs_core.specs.declared.doings.Doing.TheVariants as doing
-use Rattle.cqs_core.specs.declared.entries.Entry.TheVariants as entry
 use Rattle.cqs_core.specs.declared.errors.CoreError.{CoreError}
 use Rattle.cqs_core.specs.declared.errors.CoreError.TheVariants.{Memory, BadSize, NotEnabled}
 use Rattle.cqs_core.specs.declared.events.Event.{Event}
 use Rattle.cqs_core.specs.declared.events.Event.TheVariants as event
 use Rattle.cqs_core.specs.declared.outcomes.Outcome.{Outcome}
-use Rattle.cqs_core.specs.declared.outcomes.Outcome.TheVariants as outcome
-use Rattle.cqs_core.specs.QueueState.{Queue}
-use Rattle.cqs_core.specs.QueueMoves as move
-use Rattle.cqs_core.specs.QueueMoves.{Works, Owns}
-use Rattle.cqs_core.specs.SemaphoreTable.{Shape, Stepped, step, take_row, try_load_row, try_swap_row, draw_row, install_row, install_at, give_row, reach_row, meet_row, meet_at, is_owner, is_with, leave_row, leave_with, leave_at, decide_row, settle_row, settle_at, look_row, look_with, look_at, gains, loses, adds, takes, records, moves, lowest, last_number}
+use Rattle.cqs_core.specs.QueueMoves.{Owns}
+use Rattle.cqs_core.specs.SemaphoreTable.{Shape, Stepped, step, take_row, try_load_row, try_swap_row, draw_row, install_row, install_at, give_row, reach_row, meet_row, meet_at, is_owner, is_with, leave_row, leave_with, leave_at, decide_row, settle_row, settle_at, look_row, look_with, look_at}
 use Rattle.cqs_core.specs.SemaphoreAnswers.{Makes, Room, MakesReady}
 use Rattle.cqs_core.specs.SemaphoreShown.{IsCore}
 use Rattle.cqs_core.proofs.RowsKeep.{KeepsCore, keeps-none, keeps-answers, keeps-if, keeps-found}
@@ -40,7 +36,8 @@ within-true a b e = grind (arith, ints)
 within-false : (a b : ℤ) → int_le a b ≡ false → b <ℤ a
 within-false a b e = grind (arith, ints)
 
-take-row : (s : Shape) (p : ℕ) → IsCore s → (d : Option Doing) → slice_get s.queue.doing p ≡ d → KeepsCore (take_row s p d)
+take-row : (s : Shape) (p : ℕ) → IsCore s → (d : Option Doing) → slice_get s.queue.doing p ≡ d
+    → KeepsCore (take_row s p d)
 take-row s p core (Some doing.Idle) does =
     keeps-if _ _ _
     (λ above. keeps-if _ _ _
@@ -65,7 +62,8 @@ try-swap-row s p core (Some (doing.TryAt v)) does =
     (λ other. keeps-answers _ _ (try-contended s p v core does))
 try-swap-row s p core _ does = keeps-none
 
-draw-row : (s : Shape) (p : ℕ) → IsCore s → (d : Option Doing) → slice_get s.queue.doing p ≡ d → KeepsCore (draw_row s p d)
+draw-row : (s : Shape) (p : ℕ) → IsCore s → (d : Option Doing) → slice_get s.queue.doing p ≡ d
+    → KeepsCore (draw_row s p d)
 draw-row s p core (Some doing.Door) does =
     keeps-if _ _ _
     (λ below. keeps-answers _ _ (draw-number s p core does (ltb-true _ _ below)))
@@ -73,7 +71,8 @@ draw-row s p core (Some doing.Door) does =
 draw-row s p core _ does = keeps-none
 
 install-at : (s : Shape) (p k : ℕ) (cell : CoreCell) (now : CoreState) → IsCore s
-    → slice_get s.queue.doing p ≡ Some (doing.Drawn k) → slice_get s.queue.cells k ≡ Some cell → cell.state ≡ now
+    → slice_get s.queue.doing p ≡ Some (doing.Drawn k) → slice_get s.queue.cells k ≡ Some cell
+    → cell.state ≡ now
     → KeepsCore (install_at s p k cell now)
 install-at s p k cell state.Empty core does finds at =
     keeps-answers _ _ (install-waiter s p k cell core (record { does = does; finds = finds; at = at }))
@@ -88,7 +87,8 @@ install-row s p core (Some (doing.Drawn k)) does =
     (λ cell finds. install-at s p k cell cell.state core does finds refl)
 install-row s p core _ does = keeps-none
 
-give-row : (s : Shape) (p : ℕ) → IsCore s → (d : Option Doing) → slice_get s.queue.doing p ≡ d → KeepsCore (give_row s p d)
+give-row : (s : Shape) (p : ℕ) → IsCore s → (d : Option Doing) → slice_get s.queue.doing p ≡ d
+    → KeepsCore (give_row s p d)
 give-row s p core (Some doing.Idle) does =
     keeps-if _ _ _
     (λ holds. keeps-if _ _ _
@@ -97,7 +97,8 @@ give-row s p core (Some doing.Idle) does =
     (λ none. keeps-none)
 give-row s p core _ does = keeps-none
 
-reach-row : (s : Shape) (p : ℕ) → IsCore s → (d : Option Doing) → slice_get s.queue.doing p ≡ d → KeepsCore (reach_row s p d)
+reach-row : (s : Shape) (p : ℕ) → IsCore s → (d : Option Doing) → slice_get s.queue.doing p ≡ d
+    → KeepsCore (reach_row s p d)
 reach-row s p core (Some doing.Owes) does =
     keeps-if _ _ _
     (λ below. keeps-answers _ _ (reach-number s p core does (ltb-true _ _ below)))
@@ -105,7 +106,8 @@ reach-row s p core (Some doing.Owes) does =
 reach-row s p core _ does = keeps-none
 
 meet-at : (s : Shape) (p k : ℕ) (cell : CoreCell) (now : CoreState) → IsCore s
-    → slice_get s.queue.doing p ≡ Some (doing.Ticket k) → slice_get s.queue.cells k ≡ Some cell → cell.state ≡ now
+    → slice_get s.queue.doing p ≡ Some (doing.Ticket k) → slice_get s.queue.cells k ≡ Some cell
+    → cell.state ≡ now
     → KeepsCore (meet_at s p k cell now)
 meet-at s p k cell state.Waiter core does finds at =
     keeps-answers _ _ (meet-waiter s p k cell core (record { does = does; finds = finds; at = at }))
@@ -119,7 +121,8 @@ meet-at s p k cell state.Refused core does finds at =
     keeps-answers _ _ (meet-refused s p k cell core (record { does = does; finds = finds; at = at }))
 meet-at s p k cell _ core does finds at = keeps-none
 
-meet-row : (s : Shape) (p : ℕ) → IsCore s → (d : Option Doing) → slice_get s.queue.doing p ≡ d → KeepsCore (meet_row s p d)
+meet-row : (s : Shape) (p : ℕ) → IsCore s → (d : Option Doing) → slice_get s.queue.doing p ≡ d
+    → KeepsCore (meet_row s p d)
 meet-row s p core (Some (doing.Ticket k)) does =
     keeps-found (λ cell. meet_at s p k cell cell.state) (slice_get s.queue.cells k)
     (λ cell finds. meet-at s p k cell cell.state core does finds refl)
@@ -166,7 +169,8 @@ decide-row s p core (Some (doing.Leaving k)) does =
 decide-row s p core _ does = keeps-none
 
 settle-at : (s : Shape) (p k : ℕ) (on : Bool) (cell : CoreCell) (now : CoreState) → IsCore s
-    → slice_get s.queue.doing p ≡ Some (doing.Decided k on) → slice_get s.queue.cells k ≡ Some cell → cell.state ≡ now
+    → slice_get s.queue.doing p ≡ Some (doing.Decided k on) → slice_get s.queue.cells k ≡ Some cell
+    → cell.state ≡ now
     → KeepsCore (settle_at s p k on cell now)
 settle-at s p k true cell state.Cancelling core does finds at =
     keeps-answers _ _ (settle-cancelled s p k cell core (record { does = does; finds = finds; at = at }))
@@ -234,7 +238,8 @@ makes-core s new None (Err BadSize) core keeps made = absurd made
 makes-core s new None (Err NotEnabled) core keeps made = rw made core
 
 -- a call that answers as the table says keeps the core
-pub step-keeps : (s new : Shape) (e : Event) (r : Result Outcome CoreError) → IsCore s → Makes (step s e) r s new → IsCore new
+pub step-keeps : (s new : Shape) (e : Event) (r : Result Outcome CoreError) → IsCore s
+    → Makes (step s e) r s new → IsCore new
 step-keeps s new e r core made = makes-core s new (step s e) r core (rows-keep s e core) made
 
 ready-core : (old new : Room) (row : Option Stepped) (o : Option Outcome) → IsCore old.shape → KeepsCore row
@@ -247,4 +252,5 @@ ready-core old new None (Some o) core keeps made = absurd made
 -- and so does one that has room for it
 pub ready-keeps : (old new : Room) (e : Event) (o : Option Outcome) → IsCore old.shape
     → MakesReady (step old.shape e) o old new → IsCore new.shape
-ready-keeps old new e o core made = ready-core old new (step old.shape e) o core (rows-keep old.shape e core) made
+ready-keeps old new e o core made =
+    ready-core old new (step old.shape e) o core (rows-keep old.shape e core) made

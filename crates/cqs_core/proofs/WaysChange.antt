@@ -1,13 +1,10 @@
 -- How a write of a pass and of a cell changes the number of resumptions that go on, and of those that will end.
-use Rattle.std.proofs.Common.{◌≡◌, ◌≢◌, ◌⊎◌, inl, inr, ℕ, zero, suc, ◌+◌, ◌<◌, ◌≤◌, Bool, true, false, ◌||◌, nat_le, List, [], ◌∷◌, ◌++◌, Option, Some, None, length, set, slice_get, count_by, refl, ap, ap₂, sym, ◌∙◌, subst, arith}
-use Rattle.std.proofs.lemmas.Bool.{cases_eq, cases_lt}
+use Rattle.std.proofs.Common.{◌≡◌, ◌≢◌, ℕ, zero, suc, ◌+◌, ◌||◌, nat_le, List, [], ◌∷◌, Some, set, slice_get, refl, ap, sym, ◌∙◌, subst, arith}
 use Rattle.std.proofs.lemmas.List.{length-set}
 use Rattle.cqs_core.specs.declared.cells.CoreCell.{CoreCell}
 use Rattle.cqs_core.specs.declared.cells.CoreState.{CoreState}
 use Rattle.cqs_core.specs.declared.cells.CoreState.TheVariants as state
 use Rattle.cqs_core.specs.declared.doings.Doing.{Doing}
-use Rattle.cqs_core.specs.declared.doings.Doing.TheVariants as doing
-use Rattle.cqs_core.specs.Numbered.{count_at}
 use Rattle.cqs_core.specs.QueueState.{Queue, has_ticket, is_ticket}
 use Rattle.cqs_core.specs.QueueLine.{is_resuming, is_told_refused, has_left, is_unmet, is_unmet_refusal, going, ending}
 use Rattle.cqs_core.specs.QueueMoves.{now_doing, with_cell}
@@ -27,7 +24,8 @@ set-same (z ∷ xs) zero x there = let same : z ≡ x = cc in ap (λ y. y ∷ xs
 set-same (z ∷ xs) (suc i) x there = ap (λ ys. z ∷ ys) (set-same xs i x there)
 
 -- a cell is an unmet refusal as before, where its ticket is as open as before
-pub unmet-frame : (resumes : ℕ) (passes after : List Doing) (k : ℕ) (s : CoreState) → has_ticket k after ≡ has_ticket k passes
+pub unmet-frame : (resumes : ℕ) (passes after : List Doing) (k : ℕ) (s : CoreState)
+    → has_ticket k after ≡ has_ticket k passes
     → is_unmet_refusal resumes passes k s ≡ is_unmet_refusal resumes after k s
 unmet-frame resumes passes after k state.Refused same = ap (λ b. nat_le resumes k || b) (sym same)
 unmet-frame resumes passes after k _ same = refl
@@ -44,14 +42,18 @@ ways-cell q p from to k found new does finds same =
     let resuming = count_by-write is_resuming q.doing p from to does in
     let left = count_by-write has_left q.cells k found new finds in
     let told = count_by-write is_told_refused q.doing p from to does in
-    let unmet = count_at-change (is_unmet q.resumes q.doing) (is_unmet q.resumes (set q.doing p to)) q.cells (set q.cells k new)
+    let unmet =
+    count_at-change (is_unmet q.resumes q.doing) (is_unmet q.resumes (set q.doing p to)) q.cells
+    (set q.cells k new)
     k found new (sym (length-set q.cells k new)) finds (get-set_here q.cells k found new finds) others in
     record { goes = omega arith; ends = omega arith }
   where
-    others : (j : ℕ) (x y : CoreCell) → j ≢ k → slice_get q.cells j ≡ Some x → slice_get (set q.cells k new) j ≡ Some y
+    others : (j : ℕ) (x y : CoreCell) → j ≢ k → slice_get q.cells j ≡ Some x
+        → slice_get (set q.cells k new) j ≡ Some y
         → is_unmet q.resumes q.doing j x ≡ is_unmet q.resumes (set q.doing p to) j y
     others j x y other was now =
-        let kept : slice_get q.cells j ≡ Some y = sym (get-set_else q.cells k j new (λ e. other (sym e))) ∙ now in
+        let kept : slice_get q.cells j ≡ Some y =
+        sym (get-set_else q.cells k j new (λ e. other (sym e))) ∙ now in
         let cell : x ≡ y = cc in
         let ticket : has_ticket j (set q.doing p to) ≡ has_ticket j q.doing =
         has_ticket-frame q.doing p j from to does (same j other) in
@@ -67,7 +69,8 @@ pub ways-there : (q : Queue) (p : ℕ) (from to : Doing) (k : ℕ) (found : Core
     (bit (is_told_refused from) + bit (is_unmet q.resumes q.doing k found))
     (bit (is_told_refused to) + bit (is_unmet q.resumes (set q.doing p to) k found))
 ways-there q p from to k found does finds same =
-    subst (λ (cells : List CoreCell). Ways q (record { suspends = q.suspends; resumes = q.resumes; cells = cells; doing = set q.doing p to })
+    subst (λ (cells : List CoreCell). Ways q
+    (record { suspends = q.suspends; resumes = q.resumes; cells = cells; doing = set q.doing p to })
     (bit (is_resuming from) + bit (has_left found)) (bit (is_resuming to) + bit (has_left found))
     (bit (is_told_refused from) + bit (is_unmet q.resumes q.doing k found))
     (bit (is_told_refused to) + bit (is_unmet q.resumes (set q.doing p to) k found)))
@@ -81,13 +84,16 @@ pub ways-turn : (q : Queue) (p : ℕ) (from to : Doing) → slice_get q.doing p 
 ways-turn q p from to does same =
     let resuming = count_by-write is_resuming q.doing p from to does in
     let told = count_by-write is_told_refused q.doing p from to does in
-    let unmet = count_at-same (is_unmet q.resumes q.doing) (is_unmet q.resumes (set q.doing p to)) q.cells q.cells refl others in
+    let unmet =
+    count_at-same (is_unmet q.resumes q.doing) (is_unmet q.resumes (set q.doing p to)) q.cells q.cells refl
+    others in
     record { goes = omega arith; ends = omega arith }
   where
     others : (j : ℕ) (x y : CoreCell) → slice_get q.cells j ≡ Some x → slice_get q.cells j ≡ Some y
         → is_unmet q.resumes q.doing j x ≡ is_unmet q.resumes (set q.doing p to) j y
     others j x y was now =
         let cell : x ≡ y = cc in
-        let ticket : has_ticket j (set q.doing p to) ≡ has_ticket j q.doing = has_ticket-frame q.doing p j from to does (same j) in
+        let ticket : has_ticket j (set q.doing p to) ≡ has_ticket j q.doing =
+        has_ticket-frame q.doing p j from to does (same j) in
         ap (λ z. is_unmet q.resumes q.doing j z) cell
         ∙ unmet-frame q.resumes q.doing (set q.doing p to) j y.state ticket

@@ -30,6 +30,8 @@ pub mod RowsTake
 pub mod RowsSuspend
 pub mod RowsResume
 pub mod RowsCancel
+pub mod RowsDecide
+pub mod RowsLook
 pub mod StepKeeps
 pub mod CoreFacts
 pub mod OpenedCore

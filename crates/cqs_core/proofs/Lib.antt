@@ -1,4 +1,6 @@
 pub mod Places
 pub mod EachAtLemmas
 pub mod Tickets
+pub mod SoundStep
+pub mod SoundWrite
 pub mod Promised

@@ -3,4 +3,5 @@ pub mod EachAtLemmas
 pub mod Tickets
 pub mod SoundStep
 pub mod SoundWrite
+pub mod SoundMeets
 pub mod Promised

@@ -4,4 +4,5 @@ pub mod Tickets
 pub mod SoundStep
 pub mod SoundWrite
 pub mod SoundMeets
+pub mod SoundDraws
 pub mod Promised

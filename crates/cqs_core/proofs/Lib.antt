@@ -5,4 +5,6 @@ pub mod SoundStep
 pub mod SoundWrite
 pub mod SoundMeets
 pub mod SoundDraws
+pub mod SoundReach
+pub mod Sound
 pub mod Promised

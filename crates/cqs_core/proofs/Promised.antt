@@ -7,9 +7,7 @@ use Rattle.cqs_core.specs.QueueLine.{Waiting, line, way, going, ending, due, in_
 use Rattle.cqs_core.specs.QueueMoves.{Move, IsOpen, moved}
 use Rattle.cqs_core.specs.QueueSound.{IsSound}
 use Rattle.cqs_core.specs.QueueCover.{IsCovered, IsFair}
-
-pub sound-moved : (q : Queue) (m : Move) → IsSound q → IsOpen q m → IsSound (moved q m)
-sound-moved q m sound opens = ?
+pub use Rattle.cqs_core.proofs.Sound.{sound-moved}
 
 pub covered-moved : (q : Queue) (m : Move) → IsSound q → IsCovered q → IsOpen q m → IsFair q m → IsCovered (moved q m)
 covered-moved q m sound covered opens fair = ?

@@ -41,7 +41,7 @@ pub record IsMove (q n : Queue) (p k : ℕ) (old d : Doing) : Type 0 where
 pub record IsCellKept (q : Queue) (p k : ℕ) (found cell : CoreCell) : Type 0 where
   pub owner : (r : ℕ) → found.owner ≡ Some r → cell.owner ≡ Some r
   pub unended : (r : ℕ) → r ≢ p → slice_get q.doing r ≡ Some (doing.Ticket k)
-    → IsUnended found.state → IsUnended cell.state
+      → IsUnended found.state → IsUnended cell.state
   pub untaken : (r : ℕ) → r ≢ p → found.owner ≡ Some r → IsUntaken found.state → IsUntaken cell.state
   pub cancelling : (r : ℕ) → r ≢ p → found.owner ≡ Some r → IsCancelling found.state → IsCancelling cell.state
 
@@ -75,7 +75,7 @@ module _ (q n : Queue) (p k : ℕ) (old d : Doing) (m : IsMove q n p k old d) wh
 
   -- an owner at work on another number still is
   owner-frame : (j : ℕ) (e : Doing) (x : CoreCell) → j ≢ k → named e ≡ Some j
-    → owner_doing q.doing x ≡ Some e → owner_doing n.doing x ≡ Some e
+      → owner_doing q.doing x ≡ Some e → owner_doing n.doing x ≡ Some e
   owner-frame j e x other names h =
       let differ : e ≢ old = λ same. other (m.before j (ap named (sym same) ∙ names)) in
       ap (λ passes. owner_doing passes x) m.does ∙ owner_doing-kept q.doing p old d e x m.did differ h
@@ -95,7 +95,7 @@ module _ (q n : Queue) (p k : ℕ) (old d : Doing) (m : IsMove q n p k old d) wh
   left-frame j x other left = record { entered = entered-frame j x left.entered; stage = go left.stage }
     where
       go : (owner_doing q.doing x ≡ Some (doing.Leaving j)) ⊎ ((on : Bool) × (owner_doing q.doing x ≡ Some (doing.Decided j on)))
-        → (owner_doing n.doing x ≡ Some (doing.Leaving j)) ⊎ ((on : Bool) × (owner_doing n.doing x ≡ Some (doing.Decided j on)))
+          → (owner_doing n.doing x ≡ Some (doing.Leaving j)) ⊎ ((on : Bool) × (owner_doing n.doing x ≡ Some (doing.Decided j on)))
       go (inl h) = inl (owner-frame j (doing.Leaving j) x other refl h)
       go (inr h) = inr (h.0, owner-frame j (doing.Decided j h.0) x other refl h.1)
 
@@ -121,18 +121,19 @@ module _ (q n : Queue) (p k : ℕ) (old d : Doing) (m : IsMove q n p k old d) wh
             let found : slice_get q.cells k ≡ Some t.cell = rw same at t.found in
             let now : slice_get q.doing r ≡ Some (doing.Ticket k) = rw same at does in
             let place : (cell : CoreCell) × (slice_get n.cells k ≡ Some cell) × IsCellKept q p k t.cell cell
-                = kept t.cell found in
+            = kept t.cell found in
             record {
               reached = reached-frame j t.reached;
               cell = place.0;
               found = rw same place.1;
-              unended = place.2.unended r another now t.unended }
+              unended = place.2.unended r another now t.unended;
+            }
         go (inr other) =
             record { reached = reached-frame j t.reached; cell = t.cell; found = m.others j other ∙ t.found; unended = t.unended }
 
     own-frame : (P : CoreState → Type 0) (r j : ℕ) → r ≢ p
-      → ((found cell : CoreCell) → IsCellKept q p k found cell → found.owner ≡ Some r → P found.state → P cell.state)
-      → IsOwn q r j P → IsOwn n r j P
+        → ((found cell : CoreCell) → IsCellKept q p k found cell → found.owner ≡ Some r → P found.state → P cell.state)
+        → IsOwn q r j P → IsOwn n r j P
     own-frame P r j another follows own = go (cases_eq j k)
       where
         drawn : j < n.suspends
@@ -140,17 +141,19 @@ module _ (q n : Queue) (p k : ℕ) (old d : Doing) (m : IsMove q n p k old d) wh
             let before : j < q.suspends = own.drawn in
             let more : q.suspends ≤ n.suspends = m.suspends in
             omega arith
+
         go : (j ≡ k) ⊎ (j ≢ k) → IsOwn n r j P
         go (inl same) =
             let found : slice_get q.cells k ≡ Some own.cell = rw same at own.found in
             let place : (cell : CoreCell) × (slice_get n.cells k ≡ Some cell) × IsCellKept q p k own.cell cell
-                = kept own.cell found in
+            = kept own.cell found in
             record {
               drawn = drawn;
               cell = place.0;
               found = rw same place.1;
               owner = place.2.owner r own.owner;
-              at = follows own.cell place.0 place.2 own.owner own.at }
+              at = follows own.cell place.0 place.2 own.owner own.at;
+            }
         go (inr other) =
             record { drawn = drawn; cell = own.cell; found = m.others j other ∙ own.found; owner = own.owner; at = own.at }
 
@@ -170,14 +173,15 @@ module _ (q n : Queue) (p k : ℕ) (old d : Doing) (m : IsMove q n p k old d) wh
 
 -- A move keeps soundness where its own pass and its own cell are sound after it, and the others' facts there are kept.
 pub sound-step : (q n : Queue) (p k : ℕ) (old d : Doing) → IsMove q n p k old d → IsPlaceKept q n p k
-  → length n.cells ≡ max n.suspends n.resumes
-  → ((x : CoreCell) → slice_get n.cells k ≡ Some x → IsCell n k x)
-  → IsPass n p d → AreApart n.doing → IsSound q → IsSound n
+    → length n.cells ≡ max n.suspends n.resumes
+    → ((x : CoreCell) → slice_get n.cells k ≡ Some x → IsCell n k x)
+    → IsPass n p d → AreApart n.doing → IsSound q → IsSound n
 sound-step q n p k old d m kept made here pass apart sound = record {
   made = made;
   cells = record { at = λ j x got. cell j x got (cases_eq j k) };
   passes = record { at = λ r e got. doer r e got (cases_eq r p) };
-  apart = apart }
+  apart = apart;
+}
   where
     cell : (j : ℕ) (x : CoreCell) → slice_get n.cells j ≡ Some x → (j ≡ k) ⊎ (j ≢ k) → IsCell n j x
     cell j x got (inl same) =
@@ -186,6 +190,7 @@ sound-step q n p k old d m kept made here pass apart sound = record {
     cell j x got (inr other) =
         let before : slice_get q.cells j ≡ Some x = sym (m.others j other) ∙ got in
         cell-frame q n p k old d m j x other x.state (sound.cells.at j x before)
+
     doer : (r : ℕ) (e : Doing) → slice_get n.doing r ≡ Some e → (r ≡ p) ⊎ (r ≢ p) → IsPass n r e
     doer r e got (inl same) =
         let now : slice_get n.doing p ≡ Some d = ap (λ ds. slice_get ds p) m.does ∙ get-set_here q.doing p old d m.did in
@@ -193,6 +198,6 @@ sound-step q n p k old d m kept made here pass apart sound = record {
         rw same (subst (λ f. IsPass n p f) is pass)
     doer r e got (inr another) =
         let else_ : slice_get n.doing r ≡ slice_get q.doing r =
-            ap (λ ds. slice_get ds r) m.does ∙ get-set_else q.doing p r d (λ same. another (sym same)) in
+        ap (λ ds. slice_get ds r) m.does ∙ get-set_else q.doing p r d (λ same. another (sym same)) in
         let before : slice_get q.doing r ≡ Some e = sym else_ ∙ got in
         pass-frame q n p k old d m kept r e another before (sound.passes.at r e before)

@@ -32,23 +32,25 @@ from-state q k x s is h = subst (λ t. IsSoundAt q k x t) (sym is) h
 
 -- the pass that owns the number changes its cell: nobody else relies on its owner's part
 pub kept-own : (q : Queue) (p k : ℕ) (found cell : CoreCell) → found.owner ≡ Some p → cell.owner ≡ found.owner
-  → (IsUnended found.state → IsUnended cell.state) → IsCellKept q p k found cell
+    → (IsUnended found.state → IsUnended cell.state) → IsCellKept q p k found cell
 kept-own q p k found cell owns same unended = record {
   owner = λ r is. same ∙ is;
   unended = λ r another does h. unended h;
   untaken = λ r another is h. absurd (another (cc (is, owns)));
-  cancelling = λ r another is h. absurd (another (cc (is, owns))) }
+  cancelling = λ r another is h. absurd (another (cc (is, owns)));
+}
 
 -- the pass that has the ticket of the number changes its cell: nobody else has that ticket
 pub kept-ticket : (q : Queue) (p k : ℕ) (found cell : CoreCell) → AreApart q.doing
-  → slice_get q.doing p ≡ Some (doing.Ticket k) → cell.owner ≡ found.owner
-  → (IsUntaken found.state → IsUntaken cell.state) → (IsCancelling found.state → IsCancelling cell.state)
-  → IsCellKept q p k found cell
+    → slice_get q.doing p ≡ Some (doing.Ticket k) → cell.owner ≡ found.owner
+    → (IsUntaken found.state → IsUntaken cell.state) → (IsCancelling found.state → IsCancelling cell.state)
+    → IsCellKept q p k found cell
 kept-ticket q p k found cell apart has same untaken cancelling = record {
   owner = λ r is. same ∙ is;
   unended = λ r another does h. absurd (another (apart.same r p k does has));
   untaken = λ r another is h. untaken h;
-  cancelling = λ r another is h. cancelling h }
+  cancelling = λ r another is h. cancelling h;
+}
 
 -- a number that a suspend drew was drawn
 pub uninstalled-entered : (q : Queue) (k : ℕ) (x : CoreCell) → k < q.suspends → IsUninstalled q k x → IsEntered q k x
@@ -57,12 +59,12 @@ uninstalled-entered q k x drawn (inr h) = let above : q.suspends ≤ k = h.0 in 
 
 -- the owner of the pass's own cell is the pass
 pub own-owner : (q : Queue) (p k : ℕ) (P : CoreState → Type 0) (found : CoreCell) → IsOwn q p k P
-  → slice_get q.cells k ≡ Some found → found.owner ≡ Some p
+    → slice_get q.cells k ≡ Some found → found.owner ≡ Some p
 own-owner q p k P found own finds =
     let same : own.cell ≡ found = cc (own.found, finds) in ap (λ x. x.owner) (sym same) ∙ own.owner
 
 pub cancelling-left : (q : Queue) (k : ℕ) (x : CoreCell) (s : CoreState) → IsCancelling s → IsSoundAt q k x s
-  → IsLeft q k x × (x.collected ≡ false)
+    → IsLeft q k x × (x.collected ≡ false)
 cancelling-left q k x state.Cancelling is h = (h.0, h.2)
 cancelling-left q k x state.Delegated is h = (h.0, h.2)
 cancelling-left q k x state.Empty is h = absurd is
@@ -88,59 +90,75 @@ module _ (q : Queue) (p k : ℕ) (old d : Doing) (found cell : CoreCell) (did : 
 
   -- an owner that isn't the pass does what it did
   pub owner-written : cell.owner ≡ found.owner → (e : Doing) → e ≢ old → owner_doing q.doing found ≡ Some e
-    → owner_doing (set q.doing p d) cell ≡ Some e
+      → owner_doing (set q.doing p d) cell ≡ Some e
   owner-written same e differ does =
       let before : owner_doing q.doing cell ≡ Some e = rw same does in
       owner_doing-kept q.doing p old d e cell did differ before
 
   pub uninstalled-written : cell.owner ≡ found.owner → doing.Drawn k ≢ old → IsUninstalled q k found
-    → IsUninstalled (written q p k d cell) k cell
+      → IsUninstalled (written q p k d cell) k cell
   uninstalled-written same differ (inl h) = inl (entered-written same h.0, owner-written same (doing.Drawn k) differ h.1)
   uninstalled-written same differ (inr h) = inr (h.0, same ∙ h.1)
 
   pub left-written : cell.owner ≡ found.owner → doing.Leaving k ≢ old → ((on : Bool) → doing.Decided k on ≢ old)
-    → IsLeft q k found → IsLeft (written q p k d cell) k cell
+      → IsLeft q k found → IsLeft (written q p k d cell) k cell
   left-written same leaving decided left = record { entered = entered-written same left.entered; stage = go left.stage }
     where
       go : (owner_doing q.doing found ≡ Some (doing.Leaving k))
-        ⊎ ((on : Bool) × (owner_doing q.doing found ≡ Some (doing.Decided k on)))
-        → (owner_doing (set q.doing p d) cell ≡ Some (doing.Leaving k))
+          ⊎ ((on : Bool) × (owner_doing q.doing found ≡ Some (doing.Decided k on)))
+          → (owner_doing (set q.doing p d) cell ≡ Some (doing.Leaving k))
           ⊎ ((on : Bool) × (owner_doing (set q.doing p d) cell ≡ Some (doing.Decided k on)))
       go (inl h) = inl (owner-written same (doing.Leaving k) leaving h)
       go (inr h) = inr (h.0, owner-written same (doing.Decided k h.0) (decided h.0) h.1)
 
   -- the pass's own cell stays its own
   pub own-written : (P : CoreState → Type 0) → slice_get q.cells k ≡ Some found → k < q.suspends → cell.owner ≡ Some p
-    → P cell.state → IsOwn (written q p k d cell) p k P
+      → P cell.state → IsOwn (written q p k d cell) p k P
   own-written P finds drawn owns at = record {
-    drawn = drawn; cell = cell; found = get-set_here q.cells k found cell finds; owner = owns; at = at }
+    drawn = drawn;
+    cell = cell;
+    found = get-set_here q.cells k found cell finds;
+    owner = owns;
+    at = at;
+  }
 
   -- The move keeps soundness, where the written cell is sound and the others' facts on it are kept.
   pub sound-written : slice_get q.cells k ≡ Some found → IsOnly k old → IsOnly k d → ((j : ℕ) → is_ticket j d ≡ false)
-    → IsCellKept q p k found cell → IsCell (written q p k d cell) k cell → IsPass (written q p k d cell) p d
-    → IsSound q → IsSound (written q p k d cell)
+      → IsCellKept q p k found cell → IsCell (written q p k d cell) k cell → IsPass (written q p k d cell) p d
+      → IsSound q → IsSound (written q p k d cell)
   sound-written finds before after no_ticket kept here pass sound =
       sound-step q (written q p k d cell) p k old d move place made at_k pass
-          (AreApart-write q.doing p old d did no_ticket sound.apart) sound
+      (AreApart-write q.doing p old d did no_ticket sound.apart) sound
     where
       move : IsMove q (written q p k d cell) p k old d
       move = record {
-        did = did; does = refl; before = before; after = after;
-        suspends = omega arith; undrawn = λ j other h. h; resumes = omega arith; unreached = λ j other h. h;
-        others = λ j other. get-set_else q.cells k j cell (λ e. other (sym e)) }
+        did = did;
+        does = refl;
+        before = before;
+        after = after;
+        suspends = omega arith;
+        undrawn = λ j other h. h;
+        resumes = omega arith;
+        unreached = λ j other h. h;
+        others = λ j other. get-set_else q.cells k j cell (λ e. other (sym e));
+      }
+
       now : slice_get (set q.cells k cell) k ≡ Some cell
       now = get-set_here q.cells k found cell finds
+
       place : (x : CoreCell) → slice_get q.cells k ≡ Some x
-        → (y : CoreCell) × (slice_get (set q.cells k cell) k ≡ Some y) × IsCellKept q p k x y
+          → (y : CoreCell) × (slice_get (set q.cells k cell) k ≡ Some y) × IsCellKept q p k x y
       place x got = let same : found ≡ x = cc (finds, got) in (cell, now, subst (λ y. IsCellKept q p k y cell) same kept)
+
       made : length (set q.cells k cell) ≡ max q.suspends q.resumes
       made = length-set q.cells k cell ∙ sound.made
+
       at_k : (x : CoreCell) → slice_get (set q.cells k cell) k ≡ Some x → IsCell (written q p k d cell) k x
       at_k x got = let same : cell ≡ x = cc (now, got) in subst (λ y. IsCell (written q p k d cell) k y) same here
 
 -- a cell that is written as it was: only the pass goes on
 pub sound-stays : (q : Queue) (p k : ℕ) (d : Doing) (found : CoreCell) → slice_get q.cells k ≡ Some found
-  → IsSound (written q p k d found) → IsSound (now_doing q p d)
+    → IsSound (written q p k d found) → IsSound (now_doing q p d)
 sound-stays q p k d found finds sound =
     subst (λ cells. IsSound (record { suspends = q.suspends; resumes = q.resumes; cells = cells; doing = set q.doing p d }))
-          (set-same q.cells k found finds) sound
+    (set-same q.cells k found finds) sound

@@ -1,5 +1,6 @@
 pub mod Places
 pub mod EachAtLemmas
+pub mod Counts
 pub mod Tickets
 pub mod SoundStep
 pub mod SoundWrite
@@ -7,4 +8,6 @@ pub mod SoundMeets
 pub mod SoundDraws
 pub mod SoundReach
 pub mod Sound
+pub mod Exchange
+pub mod Letters
 pub mod Promised

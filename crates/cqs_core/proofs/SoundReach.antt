@@ -9,7 +9,7 @@ use Rattle.cqs_core.specs.declared.doings.Doing.TheVariants as doing
 use Rattle.cqs_core.specs.Numbered.{EachAt}
 use Rattle.cqs_core.specs.QueueState.{Queue, owner_doing, is_ticket, has_ticket, fresh_cell}
 use Rattle.cqs_core.specs.QueueMoves as move
-use Rattle.cqs_core.specs.QueueMoves.{IsLight, IsCancelling, IsOpen, moved, now_doing}
+use Rattle.cqs_core.specs.QueueMoves.{IsLight, IsClear, IsCancelling, IsOpen, moved, now_doing}
 use Rattle.cqs_core.specs.QueueSound.{IsEntered, IsUninstalled, IsLeft, IsAwaited, IsSoundAt, IsCell, IsUnended, IsUntaken, IsTicket, IsPass, AreApart, IsSound}
 use Rattle.cqs_core.proofs.Places.{get-below, get-past, get-push_at}
 use Rattle.cqs_core.proofs.Tickets.{has_ticket-none, has_ticket-opens, owner_doing-kept, AreApart-write, AreApart-draw}
@@ -177,6 +177,16 @@ light-none (doing.Ticket k) is = absurd is
 light-none (doing.Leaving k) is = absurd is
 light-none (doing.Decided k on) is = absurd is
 
+clear-light : (d : Doing) → IsClear d → IsLight d
+clear-light doing.Idle is = tt
+clear-light (doing.TryAt v) is = tt
+clear-light doing.Door is = tt
+clear-light doing.Owes is = absurd is
+clear-light (doing.Drawn k) is = absurd is
+clear-light (doing.Ticket k) is = absurd is
+clear-light (doing.Leaving k) is = absurd is
+clear-light (doing.Decided k on) is = absurd is
+
 light-ticket : (d : Doing) → IsLight d → (j : ℕ) → is_ticket j d ≡ false
 light-ticket doing.Idle is j = refl
 light-ticket (doing.TryAt v) is j = refl
@@ -200,13 +210,13 @@ light-pass q p (doing.Decided k on) is = absurd is
 -- No cell has the number at which the cells end, so nothing changes at a cell.
 pub sound-turn : (q : Queue) (p : ℕ) (from to : Doing) → IsSound q → IsOpen q (move.turn p from to)
     → IsSound (moved q (move.turn p from to))
-sound-turn q p from to sound (does, light, lighter) =
+sound-turn q p from to sound (does, clear, lighter) =
     let past : slice_get q.cells (length q.cells) ≡ None = get-past q.cells (length q.cells) (omega arith) in
     sound-step q (now_doing q p to) p (length q.cells) from to
     (record {
       did = does;
       does = refl;
-      before = only-none (length q.cells) from (light-none from light);
+      before = only-none (length q.cells) from (light-none from (clear-light from clear));
       after = only-none (length q.cells) to (light-none to lighter);
       suspends = omega arith;
       undrawn = λ j other h. h;

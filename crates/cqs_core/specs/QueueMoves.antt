@@ -36,6 +36,13 @@ IsLight doing.Door = Unit {0}
 IsLight doing.Owes = Unit {0}
 IsLight _ = ⊥
 
+-- the pass names no cell and owes nothing: it is between two calls, tries, or stands at the door
+abbrev pub IsClear : Doing → Type 0
+IsClear doing.Idle = Unit {0}
+IsClear (doing.TryAt v) = Unit {0}
+IsClear doing.Door = Unit {0}
+IsClear _ = ⊥
+
 abbrev pub IsCancelling : CoreState → Type 0
 IsCancelling state.Cancelling = Unit {0}
 IsCancelling state.Delegated = Unit {0}
@@ -55,7 +62,7 @@ pub record Owns (p : ℕ) (found : CoreCell) : Type 0 where
 -- where a move may be made
 abbrev pub IsOpen : Queue → Move → Type 0
 IsOpen q stay = Unit {0}
-IsOpen q (turn p from to) = (slice_get q.doing p ≡ Some from) × IsLight from × IsLight to
+IsOpen q (turn p from to) = (slice_get q.doing p ≡ Some from) × IsClear from × IsLight to
 IsOpen q (draw p k found) = (slice_get q.doing p ≡ Some doing.Door) × (k ≡ q.suspends) × (slice_get q.cells k ≡ found)
 IsOpen q (install p k found) = Works q p (doing.Drawn k) k found state.Empty
 IsOpen q (take_value p k found) = Works q p (doing.Drawn k) k found state.Value

@@ -10,4 +10,6 @@ pub mod SoundReach
 pub mod Sound
 pub mod Exchange
 pub mod Letters
+pub mod Rising
+pub mod Balance
 pub mod Promised

@@ -1,7 +1,7 @@
 -- The laws of the fair semaphore, entry by entry and over every legal history.
 use Rattle.std.proofs.Common.{◌≡◌, ◌≢◌, ◌⊎◌, inl, inr, ℕ, zero, suc, ◌+◌, ◌-◌, ◌<◌, ◌≤◌, nat_lt, Bool, true, false, List, [], ◌∷◌, ◌++◌, Option, Some, None, length, take, slice_get, if◌then◌else◌, fold, refl, ap, sym, ◌∙◌, subst, arith, ltb-true}
 use Rattle.std.proofs.lemmas.Bool.{cases_Bool, ltb-false}
-use Rattle.std.proofs.lemmas.List.{length_push}
+use Rattle.std.proofs.lemmas.List.{length_push, take_all}
 use Rattle.std.proofs.lemmas.List.Sums.{fold_push}
 use Rattle.cqs_core.specs.declared.entries.Entry.{Entry}
 use Rattle.cqs_core.specs.declared.entries.Entry.TheVariants as entry
@@ -10,7 +10,8 @@ use Rattle.cqs_core.specs.Keyed.{placed, without}
 use Rattle.cqs_core.specs.QueueLine.{Waiting, Service}
 use Rattle.cqs_core.specs.SemaphoreObject.{Semaphore, opening, due}
 use Rattle.cqs_core.specs.SemaphoreEntries.{IsAllowed, Waits, after_entry, object_after, taken, turned_back, IsLegal, IsBalanced, IsFirst}
-use Rattle.cqs_core.specs.SemaphoreLaws.{EveryLegalHistoryIsBalanced, OnePermitGoesToTheFirst}
+use Rattle.cqs_core.specs.SemaphoreLaws.{object_before, EveryLegalHistoryIsBalanced, OnePermitGoesToTheFirst}
+use Rattle.cqs_core.proofs.Histories.{walk-all}
 use Rattle.cqs_core.proofs.Rising.{in-take, in-behind, in-none, length-without, length-placed}
 
 -- a wait of the line leaves it: one fewer is due
@@ -87,3 +88,30 @@ balanced-entry permits o (entry.Leave c k) waits b =
 balanced-entry permits o (entry.Late c k) served b = record { conserved = b.conserved; wanted = b.wanted; eager = b.eager }
 balanced-entry permits o (entry.LookGranted c k) served b = record { conserved = b.conserved; wanted = b.wanted; eager = b.eager }
 balanced-entry permits o (entry.LookPending c k) waits b = b
+
+balanced-opening : (permits : ℕ) → IsBalanced permits (opening permits)
+balanced-opening permits = record { conserved = omega arith; wanted = omega arith; eager = inr refl }
+
+pub every-history-balanced : EveryLegalHistoryIsBalanced
+every-history-balanced permits history legal =
+    let whole : IsBalanced permits (object_before permits history (length history)) =
+        walk-all permits history (λ o. IsBalanced permits o) legal (λ o e allowed b. balanced-entry permits o e allowed b)
+            (balanced-opening permits) (length history) (omega arith) in
+    subst (λ h. IsBalanced permits (object_after permits h)) (take_all (length history) history (omega arith)) whole
+
+-- the one wait among the first one is the first
+only-first : (k c : ℕ) (line : List Waiting) → Waits k c (take 1 line) → IsFirst k line
+only-first k c [] waits = in-none (record { wait = k; pass = c }) waits
+only-first k c (w ∷ line) waits = go (record { wait = k; pass = c }) refl (in-behind (record { wait = k; pass = c }) w [] waits)
+  where
+    go : (v : Waiting) → v.wait ≡ k → (v ≡ w) ⊎ IsIn v [] → w.wait ≡ k
+    go v is (inl same) = ap (λ u. u.wait) (sym same) ∙ is
+    go v is (inr later) = absurd (in-none v later)
+
+pub one-permit-to-first : OnePermitGoesToTheFirst
+one-permit-to-first permits history n k legal got one =
+    let allowed : IsAllowed (object_before permits history n) (entry.Deliver k) = legal.at n (entry.Deliver k) got in
+    go (object_before permits history n) one allowed
+  where
+    go : (o : Semaphore) → o.way ≡ 1 → IsAllowed o (entry.Deliver k) → IsFirst k o.line
+    go o one (c, waits) = only-first k c o.line (rw one at waits)

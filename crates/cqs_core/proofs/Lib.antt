@@ -11,5 +11,8 @@ pub mod Sound
 pub mod Exchange
 pub mod Letters
 pub mod Rising
+pub mod Distinct
+pub mod Histories
 pub mod Balance
+pub mod Waits
 pub mod Promised

@@ -141,3 +141,16 @@ module _ {Y : Type 0} (key : Y → ℕ) where
           let is : key y ≡ key z = ap key same in
           omega arith
       go (inr later) rest = rest later
+
+  -- what is there has no lower key than the first may have
+  pub rising-above : (low high : ℕ) (y : Y) (ys : List Y) → IsRising low high ys → IsIn y ys → low ≤ key y
+  rising-above low high y [] rising stands = absurd (in-none y stands)
+  rising-above low high y (z ∷ zs) rising stands =
+      go (in-behind y z zs stands) (rising-above (key z + 1) high y zs rising.1)
+    where
+      go : (y ≡ z) ⊎ IsIn y zs → (IsIn y zs → key z + 1 ≤ key y) → low ≤ key y
+      go (inl same) rest = let least : low ≤ key z = rising.0 in let is : key y ≡ key z = ap key same in omega arith
+      go (inr later) rest =
+          let least : low ≤ key z = rising.0 in
+          let more : key z + 1 ≤ key y = rest later in
+          omega arith

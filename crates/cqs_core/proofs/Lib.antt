@@ -15,4 +15,6 @@ pub mod Distinct
 pub mod Histories
 pub mod Balance
 pub mod Waits
+pub mod WaitsEnd
+pub mod Collected
 pub mod Promised

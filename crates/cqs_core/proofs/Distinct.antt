@@ -8,20 +8,23 @@ use Rattle.cqs_core.proofs.Rising.{in-behind, in-none, Lacks, lacks-in, lacks-pl
 module _ {Y : Type 0} (key : Y → ℕ) where
   pub lacks-from : (n : ℕ) (ys : List Y) → ((y : Y) → IsIn y ys → key y ≢ n) → Lacks key n ys
   lacks-from n [] none = tt
-  lacks-from n (y ∷ ys) none =
-      ( none y (record { place = zero; there = refl })
-      , lacks-from n ys (λ z stands. none z (record { place = suc stands.place; there = stands.there })) )
+  lacks-from n (y ∷ ys) none = (
+    none y (record { place = zero; there = refl }),
+    lacks-from n ys (λ z stands. none z (record { place = suc stands.place; there = stands.there })),
+  )
 
   -- no key is there twice
   abbrev pub AreDistinct : List Y → Type 0
   AreDistinct [] = Unit {0}
   AreDistinct (y ∷ ys) = Lacks key (key y) ys × AreDistinct ys
 
-  pub distinct-placed : (y : Y) (ys : List Y) → Lacks key (key y) ys → AreDistinct ys → AreDistinct (placed key y ys)
+  pub distinct-placed : (y : Y) (ys : List Y) → Lacks key (key y) ys → AreDistinct ys
+      → AreDistinct (placed key y ys)
   distinct-placed y [] lacks apart = (tt, tt)
   distinct-placed y (z ∷ zs) lacks apart = go (nat_lt (key y) (key z)) (distinct-placed y zs lacks.1 apart.1)
     where
-      go : (b : Bool) → AreDistinct (placed key y zs) → AreDistinct (if b then y ∷ z ∷ zs else z ∷ placed key y zs)
+      go : (b : Bool) → AreDistinct (placed key y zs)
+          → AreDistinct (if b then y ∷ z ∷ zs else z ∷ placed key y zs)
       go true rest = (lacks, apart)
       go false rest = (lacks-placed key (key z) y zs (λ e. lacks.0 (sym e)) apart.0, rest)
 
@@ -32,8 +35,9 @@ module _ {Y : Type 0} (key : Y → ℕ) where
     where
       behind : IsIn x zs → IsIn x (z ∷ zs)
       behind later = record { place = suc later.place; there = later.there }
+
       go : (b : Bool) → (IsIn x (placed key y zs) → (x ≡ y) ⊎ IsIn x zs)
-        → IsIn x (if b then y ∷ z ∷ zs else z ∷ placed key y zs) → (x ≡ y) ⊎ IsIn x (z ∷ zs)
+          → IsIn x (if b then y ∷ z ∷ zs else z ∷ placed key y zs) → (x ≡ y) ⊎ IsIn x (z ∷ zs)
       go true rest here = in-behind x y (z ∷ zs) here
       go false rest here = first (in-behind x z (placed key y zs) here)
         where
@@ -50,7 +54,8 @@ module _ {Y : Type 0} (key : Y → ℕ) where
     lacks-changed n m [] lacks = tt
     lacks-changed n m (z ∷ zs) lacks = go (m == key z) (lacks-changed n m zs lacks.1)
       where
-        go : (b : Bool) → Lacks key n (changed key m f zs) → Lacks key n (if b then f z ∷ zs else z ∷ changed key m f zs)
+        go : (b : Bool) → Lacks key n (changed key m f zs)
+            → Lacks key n (if b then f z ∷ zs else z ∷ changed key m f zs)
         go true rest = ((λ e. lacks.0 (sym (same_key z) ∙ e)), lacks.1)
         go false rest = (lacks.0, rest)
 
@@ -58,7 +63,8 @@ module _ {Y : Type 0} (key : Y → ℕ) where
     distinct-changed n [] apart = tt
     distinct-changed n (z ∷ zs) apart = go (n == key z) (distinct-changed n zs apart.1)
       where
-        go : (b : Bool) → AreDistinct (changed key n f zs) → AreDistinct (if b then f z ∷ zs else z ∷ changed key n f zs)
+        go : (b : Bool) → AreDistinct (changed key n f zs)
+            → AreDistinct (if b then f z ∷ zs else z ∷ changed key n f zs)
         go true rest = (rw (same_key z) apart.0, apart.1)
         go false rest = (lacks-changed (key z) n zs apart.0, rest)
 
@@ -70,7 +76,11 @@ module _ {Y : Type 0} (key : Y → ℕ) where
 
     pub from-later : (x z : Y) (zs : List Y) → IsFrom x zs → IsFrom x (z ∷ zs)
     from-later x z zs from =
-        record { old = from.old; there = record { place = suc from.there.place; there = from.there.there }; is = from.is }
+        record {
+          old = from.old;
+          there = record { place = suc from.there.place; there = from.there.there };
+          is = from.is;
+        }
 
     pub in-changed : (n : ℕ) (x : Y) (ys : List Y) → IsIn x (changed key n f ys) → IsFrom x ys
     in-changed n x [] stands = absurd (in-none x stands)
@@ -78,11 +88,13 @@ module _ {Y : Type 0} (key : Y → ℕ) where
       where
         first : (x ≡ z) ⊎ (x ≡ f z) → IsFrom x (z ∷ zs)
         first is = record { old = z; there = record { place = zero; there = refl }; is = is }
+
         kept : IsIn x zs → IsFrom x (z ∷ zs)
         kept later =
             record { old = x; there = record { place = suc later.place; there = later.there }; is = inl refl }
+
         go : (b : Bool) → (IsIn x (changed key n f zs) → IsFrom x zs)
-          → IsIn x (if b then f z ∷ zs else z ∷ changed key n f zs) → IsFrom x (z ∷ zs)
+            → IsIn x (if b then f z ∷ zs else z ∷ changed key n f zs) → IsFrom x (z ∷ zs)
         go true rest here = at (in-behind x (f z) zs here)
           where
             at : (x ≡ f z) ⊎ IsIn x zs → IsFrom x (z ∷ zs)
@@ -96,14 +108,14 @@ module _ {Y : Type 0} (key : Y → ℕ) where
 
     -- where no key is there twice, whatever has the key that was changed is what an element became
     pub changed-all : (n : ℕ) (x : Y) (ys : List Y) → AreDistinct ys → key x ≡ n → IsIn x (changed key n f ys)
-      → (y : Y) × (x ≡ f y)
+        → (y : Y) × (x ≡ f y)
     changed-all n x [] apart is stands = absurd (in-none x stands)
     changed-all n x (z ∷ zs) apart is stands =
         go (cases_Bool (n == key z)) (changed-all n x zs apart.1 is) stands
       where
         go : ((n == key z) ≡ true) ⊎ ((n == key z) ≡ false)
-          → (IsIn x (changed key n f zs) → (y : Y) × (x ≡ f y))
-          → IsIn x (if n == key z then f z ∷ zs else z ∷ changed key n f zs) → (y : Y) × (x ≡ f y)
+            → (IsIn x (changed key n f zs) → (y : Y) × (x ≡ f y))
+            → IsIn x (if n == key z then f z ∷ zs else z ∷ changed key n f zs) → (y : Y) × (x ≡ f y)
         go (inl here) rest stands = at (in-behind x (f z) zs (rw here at stands))
           where
             at : (x ≡ f z) ⊎ IsIn x zs → (y : Y) × (x ≡ f y)

@@ -17,6 +17,7 @@ pub use entries::Entry;
 pub use errors::CoreError;
 pub use events::Event;
 pub use laws::{
-    one_permit_goes_to_the_first, permits_are_collected_once, permits_are_conserved, service_is_in_order, waits_end_once,
+    one_permit_goes_to_the_first, permits_are_collected_once, permits_are_conserved,
+    service_is_in_order, waits_end_once,
 };
 pub use outcomes::Outcome;

@@ -1,15 +1,14 @@
 -- The laws of the fair semaphore, entry by entry and over every legal history.
-use Rattle.std.proofs.Common.{◌≡◌, ◌≢◌, ◌⊎◌, inl, inr, ℕ, zero, suc, ◌+◌, ◌-◌, ◌<◌, ◌≤◌, nat_lt, Bool, true, false, List, [], ◌∷◌, ◌++◌, Option, Some, None, length, take, slice_get, if◌then◌else◌, fold, refl, ap, sym, ◌∙◌, subst, arith, ltb-true}
+use Rattle.std.proofs.Common.{◌≡◌, ◌⊎◌, inl, inr, ℕ, ◌+◌, ◌-◌, ◌<◌, ◌≤◌, nat_lt, true, false, List, [], ◌∷◌, ◌++◌, length, take, refl, ap, sym, ◌∙◌, subst, arith, ltb-true}
 use Rattle.std.proofs.lemmas.Bool.{cases_Bool, ltb-false}
 use Rattle.std.proofs.lemmas.List.{length_push, take_all}
-use Rattle.std.proofs.lemmas.List.Sums.{fold_push}
 use Rattle.cqs_core.specs.declared.entries.Entry.{Entry}
 use Rattle.cqs_core.specs.declared.entries.Entry.TheVariants as entry
 use Rattle.cqs_core.specs.Numbered.{IsIn}
 use Rattle.cqs_core.specs.Keyed.{placed, without}
-use Rattle.cqs_core.specs.QueueLine.{Waiting, Service}
+use Rattle.cqs_core.specs.QueueLine.{Waiting}
 use Rattle.cqs_core.specs.SemaphoreObject.{Semaphore, opening, due}
-use Rattle.cqs_core.specs.SemaphoreEntries.{IsAllowed, Waits, after_entry, object_after, taken, turned_back, IsLegal, IsBalanced, IsFirst}
+use Rattle.cqs_core.specs.SemaphoreEntries.{IsAllowed, Waits, after_entry, object_after, taken, turned_back, IsBalanced, IsFirst}
 use Rattle.cqs_core.specs.SemaphoreLaws.{object_before, EveryLegalHistoryIsBalanced, OnePermitGoesToTheFirst}
 use Rattle.cqs_core.proofs.Histories.{walk-all}
 use Rattle.cqs_core.proofs.Rising.{in-take, in-behind, in-none, length-without, length-placed}

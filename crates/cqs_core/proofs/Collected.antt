@@ -1,16 +1,16 @@
 -- The permit of a wait is handed over once, and only after it was delivered.
-use Rattle.std.proofs.Common.{◌≡◌, ◌≢◌, ◌⊎◌, inl, inr, ℕ, zero, suc, ◌+◌, ◌-◌, ◌<◌, ◌≤◌, nat_lt, Bool, true, false, List, [], ◌∷◌, ◌++◌, Option, Some, None, length, take, slice_get, if◌then◌else◌, refl, ap, sym, ◌∙◌, subst, arith}
+use Rattle.std.proofs.Common.{◌≡◌, ◌⊎◌, inl, inr, ℕ, zero, suc, ◌+◌, ◌-◌, ◌<◌, ◌≤◌, nat_lt, Bool, true, false, List, [], ◌∷◌, ◌++◌, Some, length, take, slice_get, if◌then◌else◌, refl, ap, sym, ◌∙◌, subst, arith}
 use Rattle.std.proofs.lemmas.Bool.{cases_order}
 use Rattle.cqs_core.specs.declared.entries.Entry.{Entry}
 use Rattle.cqs_core.specs.declared.entries.Entry.TheVariants as entry
 use Rattle.cqs_core.specs.Numbered.{IsIn}
-use Rattle.cqs_core.specs.Keyed.{placed, without, changed}
-use Rattle.cqs_core.specs.QueueLine.{Waiting, Service}
-use Rattle.cqs_core.specs.SemaphoreObject.{Semaphore, opening, due}
-use Rattle.cqs_core.specs.SemaphoreEntries.{IsAllowed, Waits, IsServed, after_entry, find_wait, with_service, turned_back, closed, IsLegal}
+use Rattle.cqs_core.specs.Keyed.{placed, without}
+use Rattle.cqs_core.specs.QueueLine.{Service}
+use Rattle.cqs_core.specs.SemaphoreObject.{Semaphore, due}
+use Rattle.cqs_core.specs.SemaphoreEntries.{IsAllowed, after_entry, find_wait, with_service, turned_back, closed, IsLegal}
 use Rattle.cqs_core.specs.SemaphoreLaws.{object_before, EndsWait, Collects, EveryCollectionFollowsItsDelivery, EveryWaitIsCollectedOnce}
 use Rattle.cqs_core.proofs.Places.{get-below, get-append_left, get-push_at}
-use Rattle.cqs_core.proofs.Rising.{in-take, in-none, lacks-in}
+use Rattle.cqs_core.proofs.Rising.{in-take, in-none}
 use Rattle.cqs_core.proofs.Distinct.{in-placed, IsFrom, in-changed, changed-all}
 use Rattle.cqs_core.proofs.Histories.{take-next, object-next, walk}
 use Rattle.cqs_core.proofs.Waits.{waiting_key, service_key, looked_at, IsGone, AreWaitsApart, IsFound, found-waits, gone-entry, gone-ends_not}

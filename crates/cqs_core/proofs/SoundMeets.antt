@@ -1,17 +1,16 @@
 -- Soundness through the moves at a cell that is there: installs, meets, cancellation and looks.
-use Rattle.std.proofs.Common.{◌≡◌, ◌≢◌, ◌⊎◌, inl, inr, ℕ, ◌<◌, Bool, true, false, List, Option, Some, None, set, slice_get, refl, ap, sym, ◌∙◌, subst}
+use Rattle.std.proofs.Common.{◌≡◌, inl, inr, ℕ, Bool, true, false, Some, None, set, slice_get, refl, sym, subst}
 use Rattle.cqs_core.specs.declared.cells.CoreCell.{CoreCell}
 use Rattle.cqs_core.specs.declared.cells.CoreState.{CoreState}
 use Rattle.cqs_core.specs.declared.cells.CoreState.TheVariants as state
 use Rattle.cqs_core.specs.declared.doings.Doing.{Doing}
 use Rattle.cqs_core.specs.declared.doings.Doing.TheVariants as doing
-use Rattle.cqs_core.specs.Numbered.{EachAt}
 use Rattle.cqs_core.specs.QueueState.{Queue, owner_doing, is_ticket}
 use Rattle.cqs_core.specs.QueueMoves as move
 use Rattle.cqs_core.specs.QueueMoves.{Works, Owns, IsCancelling, IsOpen, moved, at_state, with_cell}
-use Rattle.cqs_core.specs.QueueSound.{IsEntered, IsUninstalled, IsLeft, IsAwaited, IsSoundAt, IsCell, IsUnended, IsUntaken, IsTicket, IsOwn, IsPass, IsSound}
+use Rattle.cqs_core.specs.QueueSound.{IsEntered, IsLeft, IsSoundAt, IsCell, IsUnended, IsUntaken, IsTicket, IsOwn, IsPass, IsSound}
 use Rattle.cqs_core.proofs.Tickets.{owner_doing-here}
-use Rattle.cqs_core.proofs.SoundStep.{IsOnly, named, IsCellKept}
+use Rattle.cqs_core.proofs.SoundStep.{IsOnly, named}
 use Rattle.cqs_core.proofs.SoundWrite.{set-same, written, at-state, from-state, kept-own, kept-ticket, uninstalled-entered, own-owner, cancelling-left, entered-written, awaited-written, uninstalled-written, left-written, own-written, sound-written, sound-stays}
 
 -- a pass that names no number, and one that names k

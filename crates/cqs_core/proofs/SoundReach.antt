@@ -1,19 +1,18 @@
 -- Soundness through the draw of a resume, and through moves that name no number.
-use Rattle.std.proofs.Common.{◌≡◌, ◌≢◌, ◌⊎◌, inl, inr, ℕ, ◌+◌, ◌<◌, ◌≤◌, max, Bool, true, false, List, [], ◌∷◌, ◌++◌, length, Option, Some, None, set, slice_get, refl, ap, sym, ◌∙◌, subst, arith, length-set}
+use Rattle.std.proofs.Common.{◌≡◌, ◌≢◌, ◌⊎◌, inl, inr, ℕ, ◌+◌, ◌<◌, ◌≤◌, max, Bool, false, List, [], ◌∷◌, ◌++◌, length, Option, Some, None, set, slice_get, refl, sym, ◌∙◌, subst, arith, length-set}
 use Rattle.std.proofs.lemmas.List.{length_push}
 use Rattle.cqs_core.specs.declared.cells.CoreCell.{CoreCell}
 use Rattle.cqs_core.specs.declared.cells.CoreState.{CoreState}
 use Rattle.cqs_core.specs.declared.cells.CoreState.TheVariants as state
 use Rattle.cqs_core.specs.declared.doings.Doing.{Doing}
 use Rattle.cqs_core.specs.declared.doings.Doing.TheVariants as doing
-use Rattle.cqs_core.specs.Numbered.{EachAt}
 use Rattle.cqs_core.specs.QueueState.{Queue, owner_doing, is_ticket, has_ticket, fresh_cell}
 use Rattle.cqs_core.specs.QueueMoves as move
 use Rattle.cqs_core.specs.QueueMoves.{IsLight, IsClear, IsCancelling, IsOpen, moved, now_doing}
-use Rattle.cqs_core.specs.QueueSound.{IsEntered, IsUninstalled, IsLeft, IsAwaited, IsSoundAt, IsCell, IsUnended, IsUntaken, IsTicket, IsPass, AreApart, IsSound}
+use Rattle.cqs_core.specs.QueueSound.{IsEntered, IsUninstalled, IsAwaited, IsSoundAt, IsCell, IsUnended, IsTicket, IsPass, AreApart, IsSound}
 use Rattle.cqs_core.proofs.Places.{get-below, get-past, get-push_at}
 use Rattle.cqs_core.proofs.Tickets.{has_ticket-none, has_ticket-opens, owner_doing-kept, AreApart-write, AreApart-draw}
-use Rattle.cqs_core.proofs.SoundStep.{IsOnly, named, IsMove, IsCellKept, IsPlaceKept, sound-step}
+use Rattle.cqs_core.proofs.SoundStep.{named, IsMove, IsPlaceKept, sound-step}
 use Rattle.cqs_core.proofs.SoundMeets.{only-none, only-named}
 use Rattle.cqs_core.proofs.SoundDraws.{none-past, get-push_else}
 

@@ -1,12 +1,11 @@
 -- What one move of a pass keeps: soundness at every number but its own, and of every other pass.
-use Rattle.std.proofs.Common.{◌≡◌, ◌≢◌, ◌⊎◌, inl, inr, ℕ, ◌+◌, ◌<◌, ◌≤◌, max, Bool, true, false, List, length, Option, Some, None, set, slice_get, refl, ap, sym, ◌∙◌, subst, arith, length-set}
+use Rattle.std.proofs.Common.{◌≡◌, ◌≢◌, ◌⊎◌, inl, inr, ℕ, ◌<◌, ◌≤◌, max, Bool, true, false, length, Option, Some, None, set, slice_get, refl, ap, sym, ◌∙◌, subst, arith, length-set}
 use Rattle.std.proofs.lemmas.Bool.{cases_eq, cases_Bool}
 use Rattle.cqs_core.specs.declared.cells.CoreCell.{CoreCell}
 use Rattle.cqs_core.specs.declared.cells.CoreState.{CoreState}
 use Rattle.cqs_core.specs.declared.cells.CoreState.TheVariants as state
 use Rattle.cqs_core.specs.declared.doings.Doing.{Doing}
 use Rattle.cqs_core.specs.declared.doings.Doing.TheVariants as doing
-use Rattle.cqs_core.specs.Numbered.{EachAt}
 use Rattle.cqs_core.specs.QueueState.{Queue, owner_doing, is_ticket, has_ticket}
 use Rattle.cqs_core.specs.QueueMoves.{IsCancelling}
 use Rattle.cqs_core.specs.QueueSound.{IsEntered, IsUninstalled, IsLeft, IsAwaited, IsSoundAt, IsCell, IsUnended, IsUntaken, IsTicket, IsOwn, IsPass, AreApart, IsSound}

@@ -1,18 +1,17 @@
 -- A pass that goes on, and writes the cell that it is at work on: what it must show of that cell, and the
 -- facts from
 -- which it shows it.
-use Rattle.std.proofs.Common.{◌≡◌, ◌≢◌, ◌⊎◌, inl, inr, ℕ, zero, suc, ◌<◌, ◌≤◌, max, Bool, true, false, List, [], ◌∷◌, length, Option, Some, None, set, slice_get, refl, ap, sym, ◌∙◌, subst, arith, length-set}
+use Rattle.std.proofs.Common.{◌≡◌, ◌≢◌, ◌⊎◌, inl, inr, ℕ, zero, suc, ◌<◌, ◌≤◌, max, Bool, false, List, [], ◌∷◌, length, Some, set, slice_get, refl, ap, sym, ◌∙◌, subst, arith, length-set}
 use Rattle.cqs_core.specs.declared.cells.CoreCell.{CoreCell}
 use Rattle.cqs_core.specs.declared.cells.CoreState.{CoreState}
 use Rattle.cqs_core.specs.declared.cells.CoreState.TheVariants as state
 use Rattle.cqs_core.specs.declared.doings.Doing.{Doing}
 use Rattle.cqs_core.specs.declared.doings.Doing.TheVariants as doing
-use Rattle.cqs_core.specs.Numbered.{EachAt}
-use Rattle.cqs_core.specs.QueueState.{Queue, owner_doing, is_ticket, has_ticket}
+use Rattle.cqs_core.specs.QueueState.{Queue, owner_doing, is_ticket}
 use Rattle.cqs_core.specs.QueueMoves.{IsCancelling, now_doing, with_cell}
-use Rattle.cqs_core.specs.QueueSound.{IsEntered, IsUninstalled, IsLeft, IsAwaited, IsSoundAt, IsCell, IsUnended, IsUntaken, IsTicket, IsOwn, IsPass, AreApart, IsSound}
+use Rattle.cqs_core.specs.QueueSound.{IsEntered, IsUninstalled, IsLeft, IsAwaited, IsSoundAt, IsCell, IsUnended, IsUntaken, IsOwn, IsPass, AreApart, IsSound}
 use Rattle.cqs_core.proofs.Places.{get-set_here, get-set_else}
-use Rattle.cqs_core.proofs.Tickets.{has_ticket-frame, owner_doing-kept, owner_doing-here, AreApart-write}
+use Rattle.cqs_core.proofs.Tickets.{has_ticket-frame, owner_doing-kept, AreApart-write}
 use Rattle.cqs_core.proofs.SoundStep.{IsOnly, IsMove, IsCellKept, sound-step}
 
 pub set-same : {X : Type 0} → (xs : List X) (i : ℕ) (x : X) → slice_get xs i ≡ Some x → set xs i x ≡ xs

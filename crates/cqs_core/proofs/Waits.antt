@@ -1,14 +1,14 @@
 -- The waits of a semaphore after a legal history: the line in order of number, and no number both there and
 -- served.
-use Rattle.std.proofs.Common.{◌≡◌, ◌≢◌, ◌⊎◌, inl, inr, ℕ, zero, suc, ◌+◌, ◌-◌, ◌<◌, ◌≤◌, ◌==◌, nat_lt, Bool, true, false, List, [], ◌∷◌, ◌++◌, Option, Some, None, take, slice_get, if◌then◌else◌, refl, ap, sym, ◌∙◌, subst, arith, eq-eqb, eqb-true}
+use Rattle.std.proofs.Common.{◌≡◌, ◌≢◌, ◌⊎◌, inl, inr, ℕ, ◌+◌, ◌-◌, ◌<◌, ◌==◌, nat_lt, Bool, true, false, List, [], ◌∷◌, Some, if◌then◌else◌, refl, ap, sym, ◌∙◌, subst, arith, eqb-true}
 use Rattle.std.proofs.lemmas.Bool.{cases_Bool, eqb-false}
 use Rattle.cqs_core.specs.declared.entries.Entry.{Entry}
 use Rattle.cqs_core.specs.declared.entries.Entry.TheVariants as entry
 use Rattle.cqs_core.specs.Numbered.{IsIn}
-use Rattle.cqs_core.specs.Keyed.{placed, without, changed}
+use Rattle.cqs_core.specs.Keyed.{placed, without}
 use Rattle.cqs_core.specs.QueueLine.{Waiting, Service}
 use Rattle.cqs_core.specs.SemaphoreObject.{Semaphore, opening, due}
-use Rattle.cqs_core.specs.SemaphoreEntries.{IsAllowed, Waits, IsServed, after_entry, find_wait, with_service, taken, at_door, delivered, turned_back, closed}
+use Rattle.cqs_core.specs.SemaphoreEntries.{IsAllowed, Waits, after_entry, find_wait, with_service, taken, at_door, delivered, turned_back, closed}
 use Rattle.cqs_core.specs.SemaphoreLaws.{EndsWait}
 use Rattle.cqs_core.proofs.Rising.{in-take, in-behind, in-none, Lacks, lacks-in, lacks-push, lacks-without, IsRising, rising-push, rising-without, rising-left_out, rising-below}
 use Rattle.cqs_core.proofs.Distinct.{lacks-from, AreDistinct, distinct-placed, in-placed, IsFrom, in-changed, distinct-changed}

@@ -1,20 +1,18 @@
 -- A wait of a legal history ends once; and where one permit at a time is on its way, service is in order.
-use Rattle.std.proofs.Common.{◌≡◌, ◌≢◌, ◌⊎◌, inl, inr, ℕ, zero, suc, ◌+◌, ◌-◌, ◌<◌, ◌≤◌, ◌==◌, nat_lt, Bool, true, false, List, [], ◌∷◌, ◌++◌, Option, Some, None, length, take, slice_get, if◌then◌else◌, refl, ap, sym, ◌∙◌, subst, arith, eq-eqb}
+use Rattle.std.proofs.Common.{◌≡◌, ◌⊎◌, inl, inr, ℕ, suc, ◌+◌, ◌-◌, ◌<◌, ◌≤◌, ◌==◌, nat_lt, Bool, true, false, List, [], ◌∷◌, Some, length, slice_get, if◌then◌else◌, sym, subst, arith, eq-eqb}
 use Rattle.std.proofs.lemmas.Bool.{cases_order}
 use Rattle.cqs_core.specs.declared.entries.Entry.{Entry}
 use Rattle.cqs_core.specs.declared.entries.Entry.TheVariants as entry
-use Rattle.cqs_core.specs.Numbered.{IsIn}
-use Rattle.cqs_core.specs.Keyed.{placed, without, changed}
-use Rattle.cqs_core.specs.QueueLine.{Waiting, Service}
-use Rattle.cqs_core.specs.SemaphoreObject.{Semaphore, opening, due}
-use Rattle.cqs_core.specs.SemaphoreEntries.{IsAllowed, Waits, IsServed, after_entry, object_after, find_wait, with_service, turned_back, closed, IsLegal, IsFirst}
-use Rattle.cqs_core.specs.SemaphoreLaws.{object_before, EndsWait, EveryWaitEndsOnce, Collects, EveryCollectionFollowsItsDelivery, EveryWaitIsCollectedOnce, DeliversOneByOne, ServiceIsInOrder}
-use Rattle.cqs_core.proofs.Places.{get-below, get-append_left, get-push_at}
-use Rattle.cqs_core.proofs.Rising.{in-take, in-none, IsRising, rising-push, rising-without, rising-above}
-use Rattle.cqs_core.proofs.Distinct.{in-placed, IsFrom, in-changed, changed-all}
-use Rattle.cqs_core.proofs.Histories.{take-next, object-next, walk, walk-all}
+use Rattle.cqs_core.specs.Keyed.{without}
+use Rattle.cqs_core.specs.QueueLine.{Waiting}
+use Rattle.cqs_core.specs.SemaphoreObject.{Semaphore, due}
+use Rattle.cqs_core.specs.SemaphoreEntries.{IsAllowed, Waits, after_entry, turned_back, IsLegal, IsFirst}
+use Rattle.cqs_core.specs.SemaphoreLaws.{object_before, EndsWait, EveryWaitEndsOnce, ServiceIsInOrder}
+use Rattle.cqs_core.proofs.Places.{get-below}
+use Rattle.cqs_core.proofs.Rising.{in-take, IsRising, rising-push, rising-without, rising-above}
+use Rattle.cqs_core.proofs.Histories.{object-next, walk, walk-all}
 use Rattle.cqs_core.proofs.Balance.{one-permit-to-first}
-use Rattle.cqs_core.proofs.Waits.{waiting_key, service_key, looked_at, IsGone, AreWaitsApart, IsFound, found-waits, gone-entry, gone-ended, gone-ends_not, apart-entry, apart-opening}
+use Rattle.cqs_core.proofs.Waits.{waiting_key, IsGone, AreWaitsApart, gone-entry, gone-ended, gone-ends_not, apart-entry, apart-opening}
 
 module _ (permits : ℕ) (history : List Entry) (legal : IsLegal permits history) where
   pub waits-apart : (n : ℕ) → n ≤ length history → AreWaitsApart (object_before permits history n)

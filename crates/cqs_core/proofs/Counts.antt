@@ -119,14 +119,14 @@ module _ {X : Type 0} where
 
   -- where each element passes as many of these tests as of those, all together do
   pub counts-balance : (ps qs : List (ℕ → X → Bool)) (xs : List X)
-    → ((k : ℕ) (x : X) → slice_get xs k ≡ Some x → points ps k x ≡ points qs k x) → counts ps 0 xs ≡ counts qs 0 xs
+      → ((k : ℕ) (x : X) → slice_get xs k ≡ Some x → points ps k x ≡ points qs k x) → counts ps 0 xs ≡ counts qs 0 xs
   counts-balance ps qs xs each =
       counts-total ps 0 xs
       ∙ total-same (points ps) (points qs) 0 xs xs refl
-        (λ i n x y at f g.
-          let number : n ≡ i = omega arith in
-          let same : x ≡ y = cc in
-          rw (number, ← same) (each i x f))
+      (λ i n x y at f g.
+      let number : n ≡ i = omega arith in
+      let same : x ≡ y = cc in
+      rw (number, ← same) (each i x f))
       ∙ sym (counts-total qs 0 xs)
 
   -- two counts over lists of one length that pass the same elements but for those of one number
@@ -153,11 +153,11 @@ module _ {X : Type 0} where
 
   -- a count over lists of one length of which the second passes wherever the first does
   pub count_at-le : (p q : ℕ → X → Bool) (xs ys : List X) → length xs ≡ length ys
-    → ((j : ℕ) (x y : X) → slice_get xs j ≡ Some x → slice_get ys j ≡ Some y → p j x ≡ true → q j y ≡ true)
-    → count_at p 0 xs ≤ count_at q 0 ys
+      → ((j : ℕ) (x y : X) → slice_get xs j ≡ Some x → slice_get ys j ≡ Some y → p j x ≡ true → q j y ≡ true)
+      → count_at p 0 xs ≤ count_at q 0 ys
   count_at-le p q xs ys long follows =
       let less = total-le (λ n x. bit (p n x)) (λ n x. bit (q n x)) 0 xs ys long
-        (λ i n x y at f g. let number : n ≡ i = omega arith in rw number (bit-le (p i x) (q i y) (follows i x y f g))) in
+      (λ i n x y at f g. let number : n ≡ i = omega arith in rw number (bit-le (p i x) (q i y) (follows i x y f g))) in
       omega (arith, less, count_at-total p 0 xs, count_at-total q 0 ys)
 
   pub count_at-write : (p : ℕ → X → Bool) (xs : List X) (k : ℕ) (old new : X) → slice_get xs k ≡ Some old
@@ -176,16 +176,16 @@ module _ {X : Type 0} where
       omega (arith, more, count_at-total p 0 xs, count_at-total p 0 (xs ++ y ∷ []))
 
   pub count_at-none : (p : ℕ → X → Bool) (xs : List X)
-    → ((k : ℕ) (x : X) → slice_get xs k ≡ Some x → p k x ≡ false) → count_at p 0 xs ≡ 0
+      → ((k : ℕ) (x : X) → slice_get xs k ≡ Some x → p k x ≡ false) → count_at p 0 xs ≡ 0
   count_at-none p xs none =
       let same = count_at-same p (λ n x. false) xs xs refl (λ k x y f g. none k x f) in
       omega (arith, same, count_at-total (λ n x. false) 0 xs, total-zero 0 xs)
 
   pub count_at-one : (p : ℕ → X → Bool) (xs : List X) (k : ℕ) (x : X) → slice_get xs k ≡ Some x → p k x ≡ true
-    → ((j : ℕ) (y : X) → j ≢ k → slice_get xs j ≡ Some y → p j y ≡ false) → count_at p 0 xs ≡ 1
+      → ((j : ℕ) (y : X) → j ≢ k → slice_get xs j ≡ Some y → p j y ≡ false) → count_at p 0 xs ≡ 1
   count_at-one p xs k x there here none =
       let change : count_at p 0 xs + 0 ≡ count_at (λ n y. false) 0 xs + bit (p k x) =
-        count_at-change (λ n y. false) p xs xs k x x refl there there (λ j y z ne f g. sym (none j z ne g)) in
+      count_at-change (λ n y. false) p xs xs k x x refl there there (λ j y z ne f g. sym (none j z ne g)) in
       let one : bit (p k x) ≡ 1 = rw here refl in
       omega (arith, change, one, count_at-none (λ n y. false) xs (λ n y f. refl))
 
@@ -193,11 +193,11 @@ module _ {X : Type 0} where
   count_by-at p xs = count_by-total p 0 xs ∙ sym (count_at-total (λ n. p) 0 xs)
 
   pub count_by-none : (p : X → Bool) (xs : List X)
-    → ((k : ℕ) (x : X) → slice_get xs k ≡ Some x → p x ≡ false) → count_by p xs ≡ 0
+      → ((k : ℕ) (x : X) → slice_get xs k ≡ Some x → p x ≡ false) → count_by p xs ≡ 0
   count_by-none p xs none = count_by-at p xs ∙ count_at-none (λ n. p) xs none
 
   pub count_by-one : (p : X → Bool) (xs : List X) (k : ℕ) (x : X) → slice_get xs k ≡ Some x → p x ≡ true
-    → ((j : ℕ) (y : X) → j ≢ k → slice_get xs j ≡ Some y → p y ≡ false) → count_by p xs ≡ 1
+      → ((j : ℕ) (y : X) → j ≢ k → slice_get xs j ≡ Some y → p y ≡ false) → count_by p xs ≡ 1
   count_by-one p xs k x there here none = count_by-at p xs ∙ count_at-one (λ n. p) xs k x there here none
 
   -- a write changes a count by what the written element and the one before it count

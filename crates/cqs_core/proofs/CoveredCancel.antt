@@ -43,7 +43,7 @@ module _ (q : Queue) (covers : Covers q) (p k : ℕ) (found : CoreCell) where
   pub covers-delegate : Works q p (doing.Ticket k) k found state.Cancelling → Covers (moved q (move.delegate p k found))
   covers-delegate works =
       covers-recast q p k (doing.Ticket k) doing.Idle found state.Delegated found.collected works.does alike like
-        works.finds (names-ticket k) (names-idle k) (omega (arith, still_there)) covers
+      works.finds (names-ticket k) (names-idle k) (omega (arith, still_there)) covers
     where
       alike : IsToldAlike k (doing.Ticket k) doing.Idle
       alike = record { passing = refl; refusing = refl }
@@ -56,55 +56,55 @@ module _ (q : Queue) (covers : Covers q) (p k : ℕ) (found : CoreCell) where
 
       still_there : bit (is_passing_by q.doing k found) ≤ bit (is_passing_by (set q.doing p doing.Idle) k now)
       still_there = bit-le (is_passing_by q.doing k found) (is_passing_by (set q.doing p doing.Idle) k now) (λ e.
-        let gone : is_gone q.doing k found ≡ true = (and_parts (is_gone q.doing k found) (has_ticket k q.doing || is_delegated found.state) e).0 in
-        let gone_now : is_gone (set q.doing p doing.Idle) k now ≡ true =
+          let gone : is_gone q.doing k found ≡ true = (and_parts (is_gone q.doing k found) (has_ticket k q.doing || is_delegated found.state) e).0 in
+          let gone_now : is_gone (set q.doing p doing.Idle) k now ≡ true =
           gone-recast q p k (doing.Ticket k) doing.Idle found state.Delegated found.collected works.does alike like ∙ gone in
-        and_from _ _ gone_now (or_right (has_ticket k (set q.doing p doing.Idle)) true refl))
+          and_from _ _ gone_now (or_right (has_ticket k (set q.doing p doing.Idle)) true refl))
 
   -- a resumption passes over the cell, and owes on
   pub covers-pass_over : Works q p (doing.Ticket k) k found state.Cancelled → Covers (moved q (move.pass_over p k found))
   covers-pass_over works =
       covers-unwritten q p doing.Owes k found works.finds
-        (covers-recast q p k (doing.Ticket k) doing.Owes found found.state found.collected works.does
-          (record { passing = refl; refusing = refl }) (record { gone = λ o. refl; declined = λ o. refl })
-          works.finds (names-ticket k) (names-owes k) (omega (arith, bit-most (is_passing_by q.doing k found))) covers)
+      (covers-recast q p k (doing.Ticket k) doing.Owes found found.state found.collected works.does
+      (record { passing = refl; refusing = refl }) (record { gone = λ o. refl; declined = λ o. refl })
+      works.finds (names-ticket k) (names-owes k) (omega (arith, bit-most (is_passing_by q.doing k found))) covers)
 
   -- what the cell's owner was told is as it was, where the pass goes on from an answer to pass on
   told_alike : (d : Doing) → slice_get q.doing p ≡ Some (doing.Decided k true) → is_refusing k (Some d) ≡ false
-    → is_refusing k (owner_doing (set q.doing p d) found) ≡ is_refusing k (owner_doing q.doing found)
+      → is_refusing k (owner_doing (set q.doing p d) found) ≡ is_refusing k (owner_doing q.doing found)
   told_alike d does none = owner_doing-frame (is_refusing k) q.doing p (doing.Decided k true) d found does none
 
   -- the cell was gone, and stays gone for good
   pub covers-cancel : Works q p (doing.Decided k true) k found state.Cancelling → Covers (moved q (move.cancel p k found))
   covers-cancel works =
       covers-step q p k (doing.Decided k true) doing.Idle found now works.does works.finds (names-decided k true) (names-idle k)
-        (λ e. rw works.at (sym (told_alike doing.Idle works.does refl) ∙ e)) (λ e. refl) (omega (arith, still_there)) covers
+      (λ e. rw works.at (sym (told_alike doing.Idle works.does refl) ∙ e)) (λ e. refl) (omega (arith, still_there)) covers
     where
       now : CoreCell
       now = recast found state.Cancelled found.collected
 
       still_there : bit (is_passing_by q.doing k found) ≤ bit (is_passing_by (set q.doing p doing.Idle) k now)
       still_there = bit-le (is_passing_by q.doing k found) (is_passing_by (set q.doing p doing.Idle) k now) (λ e.
-        let ticket : has_ticket k (set q.doing p doing.Idle) ≡ has_ticket k q.doing =
+          let ticket : has_ticket k (set q.doing p doing.Idle) ≡ has_ticket k q.doing =
           has_ticket-frame q.doing p k (doing.Decided k true) doing.Idle works.does refl in
-        let stands : (has_ticket k q.doing || is_delegated found.state) ≡ true = (and_parts (is_gone q.doing k found) (has_ticket k q.doing || is_delegated found.state) e).1 in
-        rw ticket (rw works.at at stands))
+          let stands : (has_ticket k q.doing || is_delegated found.state) ≡ true = (and_parts (is_gone q.doing k found) (has_ticket k q.doing || is_delegated found.state) e).1 in
+          rw ticket (rw works.at at stands))
 
   -- the resumption that was delegated to the cell owes on
   pub covers-cancel_owing : Works q p (doing.Decided k true) k found state.Delegated → Covers (moved q (move.cancel_owing p k found))
   covers-cancel_owing works =
       covers-step q p k (doing.Decided k true) doing.Owes found (recast found state.Cancelled found.collected)
-        works.does works.finds (names-decided k true) (names-owes k)
-        (λ e. rw works.at (sym (told_alike doing.Owes works.does refl) ∙ e)) (λ e. refl)
-        (omega (arith, bit-most (is_passing_by q.doing k found))) covers
+      works.does works.finds (names-decided k true) (names-owes k)
+      (λ e. rw works.at (sym (told_alike doing.Owes works.does refl) ∙ e)) (λ e. refl)
+      (omega (arith, bit-most (is_passing_by q.doing k found))) covers
 
   -- the cell was declined already
   pub covers-refuse : IsSound q → slice_get q.doing p ≡ Some (doing.Decided k false) → slice_get q.cells k ≡ Some found
-    → IsCancelling found.state → Covers (moved q (move.refuse p k found))
+      → IsCancelling found.state → Covers (moved q (move.refuse p k found))
   covers-refuse sound does finds cancelling =
       covers-step q p k (doing.Decided k false) doing.Idle found (recast found state.Refused found.collected) does finds
-        (names-decided k false) (names-idle k) (λ e. declined) (λ e. absurd (both_ways _ stays_not e))
-        (omega (arith, ap bit none)) covers
+      (names-decided k false) (names-idle k) (λ e. declined) (λ e. absurd (both_ways _ stays_not e))
+      (omega (arith, ap bit none)) covers
     where
       own : IsOwn q p k IsCancelling
       own = sound.passes.at p (doing.Decided k false) does
@@ -141,10 +141,10 @@ module _ (q : Queue) (sound : IsSound q) (p k : ℕ) (leaves : slice_get q.doing
   pub covers-decide_true : Covers q → Covers (moved q (move.decide p k true))
   covers-decide_true covers =
       covers-unwritten q p (doing.Decided k true) k own.cell own.found
-        (covers-step q p k (doing.Leaving k) (doing.Decided k true) own.cell own.cell leaves own.found
-          (names-leaving k) (names-decided k true)
-          (λ e. absurd (both_ways _ declined_not e)) (λ e. absurd (both_ways _ stays_not e))
-          (omega (arith, ap bit none)) covers)
+      (covers-step q p k (doing.Leaving k) (doing.Decided k true) own.cell own.cell leaves own.found
+      (names-leaving k) (names-decided k true)
+      (λ e. absurd (both_ways _ declined_not e)) (λ e. absurd (both_ways _ stays_not e))
+      (omega (arith, ap bit none)) covers)
     where
       told : owner_doing (set q.doing p (doing.Decided k true)) own.cell ≡ Some (doing.Decided k true)
       told = owner_doing-here q.doing p (doing.Leaving k) (doing.Decided k true) own.cell leaves own.owner
@@ -157,25 +157,27 @@ module _ (q : Queue) (sound : IsSound q) (p k : ℕ) (leaves : slice_get q.doing
   takers-covered fair ahead =
       let flows : HasFlow q = flow q sound in
       let none_early : early q ≡ 0 = count_at-none (is_undrawn q) q.cells (λ i cell f.
-        lt-leb q.suspends i (omega (arith, get-below q.cells i cell f, ahead, sound.made))) in
+      lt-leb q.suspends i (omega (arith, get-below q.cells i cell f, ahead, sound.made))) in
       omega (arith, flows.whole, fair, none_early)
 
   pub covers-decide_false : IsFair q (move.decide p k false) → Covers (moved q (move.decide p k false))
   covers-decide_false fair =
-      covers-unwritten q p (doing.Decided k false) k own.cell own.found (record { at = λ j y g declines.
-        let there : j < length q.cells = omega (arith, get-below (set q.cells k own.cell) j y g, length-set q.cells k own.cell) in
-        let past : q.resumes ≤ j = leb-true q.resumes j (and_parts _ _ declines).0 in
-        let all = takers-covered fair (omega arith) in
-        let few = takers-le q then (length-set q.cells k own.cell) takes (j + 1) in
-        omega (arith, all, few, count-take-le (will_take q) (j + 1) q.cells, roams) })
+      covers-unwritten q p (doing.Decided k false) k own.cell own.found (record {
+        at = λ j y g declines.
+            let there : j < length q.cells = omega (arith, get-below (set q.cells k own.cell) j y g, length-set q.cells k own.cell) in
+            let past : q.resumes ≤ j = leb-true q.resumes j (and_parts _ _ declines).0 in
+            let all = takers-covered fair (omega arith) in
+            let few = takers-le q then (length-set q.cells k own.cell) takes (j + 1) in
+            omega (arith, all, few, count-take-le (will_take q) (j + 1) q.cells, roams);
+      })
     where
       then : Queue
       then = stepped q p (doing.Decided k false) k own.cell
 
       takes : NoNewTakers q then
       takes = takes-step q p k (doing.Leaving k) (doing.Decided k false) own.cell own.cell leaves own.found
-        (names-leaving k) (names-decided k false) (λ e. absurd (both_ways _ stays_not e))
+          (names-leaving k) (names-decided k false) (λ e. absurd (both_ways _ stays_not e))
 
       roams : roaming q ≤ roaming then
       roams = roaming-step q p k (doing.Leaving k) (doing.Decided k false) own.cell own.cell leaves own.found
-        (names-leaving k) (names-decided k false) (omega (arith, ap bit none))
+          (names-leaving k) (names-decided k false) (omega (arith, ap bit none))

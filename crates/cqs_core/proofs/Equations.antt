@@ -39,7 +39,7 @@ pub record HasFlow (q : Queue) : Type 0 where
 resuming-parts : (passes : List Doing) → count_by is_resuming passes ≡ count_by is_owing passes + count_by is_holding passes
 resuming-parts passes =
     let parts = counts-balance ((λ n. is_resuming) ∷ []) ((λ n. is_owing) ∷ (λ n. is_holding) ∷ []) passes
-      (λ k d f. each d) in
+    (λ k d f. each d) in
     omega (arith, parts, count_by-at is_resuming passes, count_by-at is_owing passes, count_by-at is_holding passes)
   where
     each : (d : Doing) → bit (is_resuming d) + 0 ≡ bit (is_owing d) + (bit (is_holding d) + 0)
@@ -55,8 +55,8 @@ flow q sound =
     let values : count_by has_left q.cells ≡ count_at (is_valued q) 0 q.cells = count_by-at has_left q.cells in
     let standing : length (line q) ≡ count_at (is_standing q) 0 q.cells = length-picked (in_line q.doing) 0 q.cells in
     let resumptions = counts-balance (is_ticketed q ∷ is_valued q ∷ will_take q ∷ [])
-      (is_told q ∷ is_unmet q.resumes q.doing ∷ is_standing q ∷ is_passing_by q.doing ∷ is_undrawn q ∷ []) q.cells
-      (λ k cell found. (balanced-at q sound k cell found).0) in
+    (is_told q ∷ is_unmet q.resumes q.doing ∷ is_standing q ∷ is_passing_by q.doing ∷ is_undrawn q ∷ []) q.cells
+    (λ k cell found. (balanced-at q sound k cell found).0) in
     let ahead = counts-balance (will_take q ∷ is_expected q ∷ []) (is_standing q ∷ will_decline q ∷ []) q.cells
-      (λ k cell found. (balanced-at q sound k cell found).1) in
+    (λ k cell found. (balanced-at q sound k cell found).1) in
     record { whole = omega arith; drawn = omega arith }

@@ -26,7 +26,7 @@ expected-le q sound covered =
     omega (arith, flows.drawn, few)
 
 pub first-of-way : (q : Queue) (k : ℕ) (cell : CoreCell) (w : Waiting) → IsSound q → IsCovered q
-  → slice_get q.cells k ≡ Some cell → in_line q.doing k cell ≡ Some w → k < q.resumes
-  → IsIn w (take (way q) (line q))
+    → slice_get q.cells k ≡ Some cell → in_line q.doing k cell ≡ Some w → k < q.resumes
+    → IsIn w (take (way q) (line q))
 first-of-way q k cell w sound covered found stands reached =
     first-picked (in_line q.doing) q.resumes q.cells (way q) k cell w found stands reached (expected-le q sound covered)

@@ -55,22 +55,22 @@ module _ (q : Queue) where
   abbrev pub IsBalancedAt : ℕ → CoreCell → Type 0
   IsBalancedAt k cell =
       (points (is_ticketed ∷ is_valued ∷ will_take ∷ []) k cell
-        ≡ points (is_told ∷ is_unmet q.resumes q.doing ∷ is_standing ∷ is_passing_by q.doing ∷ is_undrawn ∷ []) k cell)
+      ≡ points (is_told ∷ is_unmet q.resumes q.doing ∷ is_standing ∷ is_passing_by q.doing ∷ is_undrawn ∷ []) k cell)
       × (points (will_take ∷ is_expected ∷ []) k cell ≡ points (is_standing ∷ will_decline ∷ []) k cell)
 
 module _ (q : Queue) (sound : IsSound q) (k : ℕ) (cell : CoreCell) (found : slice_get q.cells k ≡ Some cell) where
   pub no-ticket_unreached : q.resumes ≤ k → has_ticket k q.doing ≡ false
   no-ticket_unreached past = false_from_ne_true (has_ticket k q.doing) (λ e.
-    let holder : Holds q.doing k = has_ticket-holds q.doing k e in
-    let ticket : IsTicket q k = sound.passes.at holder.pass (doing.Ticket k) holder.has in
-    absurd (omega (arith, ticket.reached)))
+      let holder : Holds q.doing k = has_ticket-holds q.doing k e in
+      let ticket : IsTicket q k = sound.passes.at holder.pass (doing.Ticket k) holder.has in
+      absurd (omega (arith, ticket.reached)))
 
   no-ticket_ended : (IsUnended cell.state → ⊥) → has_ticket k q.doing ≡ false
   no-ticket_ended ended = false_from_ne_true (has_ticket k q.doing) (λ e.
-    let holder : Holds q.doing k = has_ticket-holds q.doing k e in
-    let ticket : IsTicket q k = sound.passes.at holder.pass (doing.Ticket k) holder.has in
-    let same : ticket.cell ≡ cell = cc in
-    ended (rw same at ticket.unended))
+      let holder : Holds q.doing k = has_ticket-holds q.doing k e in
+      let ticket : IsTicket q k = sound.passes.at holder.pass (doing.Ticket k) holder.has in
+      let same : ticket.cell ≡ cell = cc in
+      ended (rw same at ticket.unended))
 
   -- every made number was drawn by the one counter or the other
   reached_undrawn : q.suspends ≤ k → k < q.resumes
@@ -100,7 +100,7 @@ module _ (q : Queue) (sound : IsSound q) (k : ℕ) (cell : CoreCell) (found : sl
   left-cases = go (cases_lt k q.resumes) (cases_Bool (has_ticket k q.doing))
     where
       go : (k < q.resumes) ⊎ (q.resumes ≤ k) → (has_ticket k q.doing ≡ true) ⊎ (has_ticket k q.doing ≡ false)
-        → Meets true false ⊎ (Meets false true ⊎ Meets false false)
+          → Meets true false ⊎ (Meets false true ⊎ Meets false false)
       go (inl reached) (inl opened) = inr (inl (record { unreached = lt-leb q.resumes k reached; ticket = opened }))
       go (inl reached) (inr closed) = inr (inr (record { unreached = lt-leb q.resumes k reached; ticket = closed }))
       go (inr past) either = inl (record { unreached = le-leb q.resumes k past; ticket = no-ticket_unreached past })
@@ -114,15 +114,18 @@ module _ (q : Queue) (sound : IsSound q) (k : ℕ) (cell : CoreCell) (found : sl
   not-cancelling plain = go cell.owner refl
     where
       reads : (o : Option Doing) → owner_doing q.doing cell ≡ o → is_leaving k o ≡ false → is_passing_on k o ≡ false
-        → is_refusing k o ≡ false → Owner false false false
+          → is_refusing k o ≡ false → Owner false false false
       reads o does leaves passes refuses = record {
-        leaving = rw does leaves; passing = rw does passes; refusing = rw does refuses }
+        leaving = rw does leaves;
+        passing = rw does passes;
+        refusing = rw does refuses;
+      }
 
       -- a pass that cancels a wait cancels a cell that is being cancelled, so it isn't this one
       another : (p j : ℕ) → IsOwn q p j IsCancelling → (j == k) ≡ false
       another p j own = ne_eqb j k (λ e.
-        let same : own.cell ≡ cell = cc (ap (slice_get q.cells) e, own.found, found) in
-        plain (rw same at own.at))
+          let same : own.cell ≡ cell = cc (ap (slice_get q.cells) e, own.found, found) in
+          plain (rw same at own.at))
 
       at : (p : ℕ) (d : Doing) → slice_get q.doing p ≡ Some d → owner_doing q.doing cell ≡ Some d → Owner false false false
       at p (doing.Leaving j) h does =
@@ -146,13 +149,22 @@ module _ (q : Queue) (sound : IsSound q) (k : ℕ) (cell : CoreCell) (found : sl
   cancelling-cases left = go left.stage
     where
       go : (owner_doing q.doing cell ≡ Some (doing.Leaving k)) ⊎ ((on : Bool) × (owner_doing q.doing cell ≡ Some (doing.Decided k on)))
-        → Owner true false false ⊎ (Owner false true false ⊎ Owner false false true)
+          → Owner true false false ⊎ (Owner false true false ⊎ Owner false false true)
       go (inl leaving) = inl (record {
-        leaving = rw leaving (eq-eqb k k refl); passing = rw leaving refl; refusing = rw leaving refl })
+        leaving = rw leaving (eq-eqb k k refl);
+        passing = rw leaving refl;
+        refusing = rw leaving refl;
+      })
       go (inr (true, passing)) = inr (inl (record {
-        leaving = rw passing refl; passing = rw passing (eq-eqb k k refl); refusing = rw passing refl }))
+        leaving = rw passing refl;
+        passing = rw passing (eq-eqb k k refl);
+        refusing = rw passing refl;
+      }))
       go (inr (false, refusing)) = inr (inr (record {
-        leaving = rw refusing refl; passing = rw refusing refl; refusing = rw refusing (eq-eqb k k refl) }))
+        leaving = rw refusing refl;
+        passing = rw refusing refl;
+        refusing = rw refusing (eq-eqb k k refl);
+      }))
 
   entered-drawn : IsEntered q k cell → nat_le q.suspends k ≡ false
   entered-drawn entered = lt-leb q.suspends k entered.drawn
@@ -211,7 +223,7 @@ module _ (q : Queue) (sound : IsSound q) (k : ℕ) (cell : CoreCell) (found : sl
       drawn = entered-drawn left.entered
 
       go : Owner true false false ⊎ (Owner false true false ⊎ Owner false false true) → Meets true false ⊎ Meets false true
-        → IsBalancedAt q k cell
+          → IsBalancedAt q k cell
       go (inl owner) (inl meets) =
           rw (is, owner.leaving, owner.passing, owner.refusing, meets.unreached, meets.ticket, drawn, left.entered.owner) (refl, refl)
       go (inl owner) (inr meets) =

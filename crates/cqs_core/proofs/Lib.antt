@@ -12,4 +12,5 @@ pub mod CoverSteps
 pub mod CoveredPlain
 pub mod CoveredCancel
 pub mod CoveredCounters
+pub mod CoveredMoved
 pub mod Promised

@@ -2,6 +2,12 @@ pub mod Places
 pub mod EachAtLemmas
 pub mod Counts
 pub mod Tickets
+pub mod SoundStep
+pub mod SoundWrite
+pub mod SoundMeets
+pub mod SoundDraws
+pub mod SoundReach
+pub mod Sound
 pub mod Exchange
 pub mod Letters
 pub mod PickedPlaces
@@ -13,4 +19,11 @@ pub mod CoveredPlain
 pub mod CoveredCancel
 pub mod CoveredCounters
 pub mod CoveredMoved
+pub mod Rising
+pub mod Distinct
+pub mod Histories
+pub mod Balance
+pub mod Waits
+pub mod WaitsEnd
+pub mod Collected
 pub mod Promised

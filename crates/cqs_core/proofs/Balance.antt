@@ -16,12 +16,12 @@ use Rattle.cqs_core.proofs.Rising.{in-take, in-behind, in-none, length-without, 
 
 -- a wait of the line leaves it: one fewer is due
 line-shorter : (k c : ℕ) (line : List Waiting) → Waits k c line
-  → length (without (λ w. w.wait) k line) + 1 ≡ length line
+    → length (without (λ w. w.wait) k line) + 1 ≡ length line
 line-shorter k c line waits = length-without (λ w. w.wait) k (record { wait = k; pass = c }) line refl waits
 
 -- a permit that is too many turns back, and then none is
 balanced-turned : (permits : ℕ) (o : Semaphore) → o.held + o.free + o.way ≡ permits → o.way < due o + 2
-  → (o.free ≡ 0) ⊎ (o.way ≡ due o + 1) → IsBalanced permits (turned_back o)
+    → (o.free ≡ 0) ⊎ (o.way ≡ due o + 1) → IsBalanced permits (turned_back o)
 balanced-turned permits o conserved wanted eager = go (cases_Bool (nat_lt (due o) o.way))
   where
     go : (nat_lt (due o) o.way ≡ true) ⊎ (nat_lt (due o) o.way ≡ false) → IsBalanced permits (turned_back o)
@@ -41,18 +41,18 @@ balanced-taken permits o free b =
     record { conserved = omega arith; wanted = b.wanted; eager = inr all }
 
 balanced-served : (o : Semaphore) (k : ℕ) → 0 < o.way → length (without (λ w. w.wait) k o.line) + 1 ≡ length o.line
-  → (o.free ≡ 0) ⊎ (o.way ≡ due o) → (o.free ≡ 0) ⊎ (o.way - 1 ≡ length o.door + length (without (λ w. w.wait) k o.line))
+    → (o.free ≡ 0) ⊎ (o.way ≡ due o) → (o.free ≡ 0) ⊎ (o.way - 1 ≡ length o.door + length (without (λ w. w.wait) k o.line))
 balanced-served o k some shorter (inl none) = inl none
 balanced-served o k some shorter (inr all) = inr (omega arith)
 
 balanced-left : (o : Semaphore) (k : ℕ) → length (without (λ w. w.wait) k o.line) + 1 ≡ length o.line
-  → (o.free ≡ 0) ⊎ (o.way ≡ due o) → (o.free ≡ 0) ⊎ (o.way ≡ length o.door + length (without (λ w. w.wait) k o.line) + 1)
+    → (o.free ≡ 0) ⊎ (o.way ≡ due o) → (o.free ≡ 0) ⊎ (o.way ≡ length o.door + length (without (λ w. w.wait) k o.line) + 1)
 balanced-left o k shorter (inl none) = inl none
 balanced-left o k shorter (inr all) = inr (omega arith)
 
 -- each entry, where it may come, keeps the semaphore balanced
 pub balanced-entry : (permits : ℕ) (o : Semaphore) (e : Entry) → IsAllowed o e → IsBalanced permits o
-  → IsBalanced permits (after_entry o e)
+    → IsBalanced permits (after_entry o e)
 balanced-entry permits o (entry.TakeNow c) free b = balanced-taken permits o free b
 balanced-entry permits o (entry.TakeDoor c) none b =
     let longer : length (placed (λ d. d) c o.door) ≡ length o.door + 1 = length-placed (λ d. d) c o.door in
@@ -84,7 +84,7 @@ balanced-entry permits o (entry.Leave c k) waits b =
     let shorter : length (without (λ w. w.wait) k o.line) + 1 ≡ length o.line = line-shorter k c o.line waits in
     let wanted : o.way < due o + 1 = b.wanted in
     balanced-turned permits (record o { line = without (λ w. w.wait) k o.line }) b.conserved (omega arith)
-        (balanced-left o k shorter b.eager)
+    (balanced-left o k shorter b.eager)
 balanced-entry permits o (entry.Late c k) served b = record { conserved = b.conserved; wanted = b.wanted; eager = b.eager }
 balanced-entry permits o (entry.LookGranted c k) served b = record { conserved = b.conserved; wanted = b.wanted; eager = b.eager }
 balanced-entry permits o (entry.LookPending c k) waits b = b
@@ -95,8 +95,8 @@ balanced-opening permits = record { conserved = omega arith; wanted = omega arit
 pub every-history-balanced : EveryLegalHistoryIsBalanced
 every-history-balanced permits history legal =
     let whole : IsBalanced permits (object_before permits history (length history)) =
-        walk-all permits history (λ o. IsBalanced permits o) legal (λ o e allowed b. balanced-entry permits o e allowed b)
-            (balanced-opening permits) (length history) (omega arith) in
+    walk-all permits history (λ o. IsBalanced permits o) legal (λ o e allowed b. balanced-entry permits o e allowed b)
+    (balanced-opening permits) (length history) (omega arith) in
     subst (λ h. IsBalanced permits (object_after permits h)) (take_all (length history) history (omega arith)) whole
 
 -- the one wait among the first one is the first

@@ -31,7 +31,7 @@ was-there o s there = record { old = s; there = there; is = inl refl }
 was-closed : (o : Semaphore) (k : ℕ) (s : Service) → IsIn s (closed o k).served → WasServed o s
 was-closed o k s stands =
     let from : IsFrom service_key looked_at (λ t. refl) s o.served =
-        in-changed service_key looked_at (λ t. refl) k s o.served stands in
+    in-changed service_key looked_at (λ t. refl) k s o.served stands in
     record { old = from.old; there = from.there; is = from.is }
 
 was-turned : (o : Semaphore) (s : Service) → IsIn s (turned_back o).served → IsIn s o.served
@@ -54,10 +54,13 @@ served-from o (entry.Deliver k) s (c, waits) stands = go (in-placed service_key 
   where
     found : IsFound k c o.line
     found = found-waits k c o.line (in-take (record { wait = k; pass = c }) o.way o.line waits).1
+
     new : Service
     new = record { wait = found.wait.wait; pass = found.wait.pass; is_open = true }
+
     now : with_service (find_wait k o.line) o.served ≡ placed service_key new o.served
     now = ap (λ w. with_service w o.served) found.is
+
     go : (s ≡ new) ⊎ IsIn s o.served → IsNew o (entry.Deliver k) s
     go (inl is) = let number : s.wait ≡ k = ap service_key is ∙ found.number in inr (ap entry.Deliver (sym number))
     go (inr there) = inl (was-there o s there)
@@ -81,7 +84,7 @@ abbrev AreDelivered : List Entry → Semaphore → Type 0
 AreDelivered front o = (s : Service) → IsIn s o.served → IsIn (entry.Deliver s.wait) front
 
 delivered-next : (front : List Entry) (o : Semaphore) (e : Entry) → IsAllowed o e → AreDelivered front o
-  → AreDelivered (front ++ e ∷ []) (after_entry o e)
+    → AreDelivered (front ++ e ∷ []) (after_entry o e)
 delivered-next front o e allowed before s stands = go (served-from o e s allowed stands)
   where
     go : IsNew o e s → IsIn (entry.Deliver s.wait) (front ++ e ∷ [])
@@ -89,7 +92,8 @@ delivered-next front o e allowed before s stands = go (served-from o e s allowed
         let then_ : IsIn (entry.Deliver was.old.wait) front = before was.old was.there in
         rw (was-number o s was) (record {
           place = then_.place;
-          there = get-append_left front (e ∷ []) then_.place (entry.Deliver was.old.wait) then_.there })
+          there = get-append_left front (e ∷ []) then_.place (entry.Deliver was.old.wait) then_.there;
+        })
     go (inr is) = record { place = length front; there = get-push_at front e (length front) refl ∙ ap Some is }
 
 -- what is collected was served, and its permit not looked at
@@ -118,12 +122,12 @@ collects-open o (entry.LookPending c j) k allowed is = absurd is
 pub every-collection-follows : EveryCollectionFollowsItsDelivery
 every-collection-follows permits history k n e legal got collects =
     let all : AreDelivered (take n history) (object_before permits history n) =
-        walk permits history (λ i o. AreDelivered (take i history) o) legal
-            (λ i f gets allowed before. rw (take-next history i f gets)
-                (delivered-next (take i history) (object_before permits history i) f allowed before))
-            zero (λ s stands. absurd (in-none s stands)) n n (omega arith) within in
+    walk permits history (λ i o. AreDelivered (take i history) o) legal
+    (λ i f gets allowed before. rw (take-next history i f gets)
+    (delivered-next (take i history) (object_before permits history i) f allowed before))
+    zero (λ s stands. absurd (in-none s stands)) n n (omega arith) within in
     let look : IsAwaitingLook (object_before permits history n) k =
-        collects-open (object_before permits history n) e k (legal.at n e got) collects in
+    collects-open (object_before permits history n) e k (legal.at n e got) collects in
     subst (λ i. IsIn (entry.Deliver i) (take n history)) look.number (all look.service look.there)
   where
     within : n ≤ length history
@@ -139,7 +143,8 @@ pub record IsClosed (o : Semaphore) (k : ℕ) : Type 0 where
 closed-entry : (o : Semaphore) (e : Entry) (k : ℕ) → IsAllowed o e → IsClosed o k → IsClosed (after_entry o e) k
 closed-entry o e k allowed c = record {
   gone = gone-entry o e k allowed c.gone;
-  closed = λ s stands is. go s is (served-from o e s allowed stands) }
+  closed = λ s stands is. go s is (served-from o e s allowed stands);
+}
   where
     go : (s : Service) → s.wait ≡ k → IsNew o e s → s.is_open ≡ false
     go s is (inl was) = at was.is
@@ -154,15 +159,16 @@ closed-entry o e k allowed c = record {
 closed-by : (o : Semaphore) (k : ℕ) → AreWaitsApart o → IsAwaitingLook o k → IsClosed (closed o k) k
 closed-by o k a look = record {
   gone =
-    let gone : IsGone o k = subst (IsGone o) look.number (a.served look.service look.there) in
-    record { entered = gone.entered; absent = gone.absent };
+      let gone : IsGone o k = subst (IsGone o) look.number (a.served look.service look.there) in
+      record { entered = gone.entered; absent = gone.absent };
   closed = λ s stands is.
-    let from : (t : Service) × (s ≡ looked_at t) =
-        changed-all service_key looked_at (λ t. refl) k s o.served a.apart is stands in
-    ap (λ t. t.is_open) from.1 }
+      let from : (t : Service) × (s ≡ looked_at t) =
+      changed-all service_key looked_at (λ t. refl) k s o.served a.apart is stands in
+      ap (λ t. t.is_open) from.1;
+}
 
 closed-collected : (o : Semaphore) (e : Entry) (k : ℕ) → AreWaitsApart o → IsAllowed o e → Collects k e
-  → IsClosed (after_entry o e) k
+    → IsClosed (after_entry o e) k
 closed-collected o (entry.LookGranted c j) k a served is =
     let look : IsAwaitingLook o j = collects-open o (entry.LookGranted c j) j served refl in
     subst (λ i. IsClosed (closed o j) i) is (closed-by o j a look)
@@ -188,17 +194,17 @@ closed-collects_not o e k allowed collects c =
 
 module _ (permits : ℕ) (history : List Entry) (legal : IsLegal permits history) where
   collects-not_later : (k m n : ℕ) (d e : Entry) → slice_get history m ≡ Some d → slice_get history n ≡ Some e
-    → Collects k d → Collects k e → m < n → ⊥
+      → Collects k d → Collects k e → m < n → ⊥
   collects-not_later k m n d e gets_d gets_e collects_d collects_e later =
       let within : n < length history = get-below history n e gets_e in
       let apart : AreWaitsApart (object_before permits history m) = waits-apart permits history legal m (omega arith) in
       let start : IsClosed (object_before permits history (suc m)) k =
-          rw (object-next permits history m d gets_d)
-             (closed-collected (object_before permits history m) d k apart (legal.at m d gets_d) collects_d) in
+      rw (object-next permits history m d gets_d)
+      (closed-collected (object_before permits history m) d k apart (legal.at m d gets_d) collects_d) in
       let still : IsClosed (object_before permits history n) k =
-          walk permits history (λ i o. IsClosed o k) legal
-              (λ i f got allowed c. closed-entry (object_before permits history i) f k allowed c)
-              (suc m) start (n - suc m) n (omega arith) (omega arith) in
+      walk permits history (λ i o. IsClosed o k) legal
+      (λ i f got allowed c. closed-entry (object_before permits history i) f k allowed c)
+      (suc m) start (n - suc m) n (omega arith) (omega arith) in
       closed-collects_not (object_before permits history n) e k (legal.at n e gets_e) collects_e still
 
 pub every-wait-collected-once : EveryWaitIsCollectedOnce

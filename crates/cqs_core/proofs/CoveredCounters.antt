@@ -18,7 +18,8 @@ use Rattle.cqs_core.specs.QueueSound.{IsSound, IsSoundAt, IsEntered, IsUninstall
 use Rattle.cqs_core.proofs.Places.{get-below, get-none, get-take, get-take_back, get-append_below, get-push_at}
 use Rattle.cqs_core.proofs.Counts.{bit, count_by-write, count_at-same, count_at-change, count_at-push}
 use Rattle.cqs_core.proofs.Tickets.{has_ticket-opens, owner_doing-here}
-use Rattle.cqs_core.proofs.Letters.{no-ticket_unreached, will_take, will_decline}
+use Rattle.cqs_core.proofs.CellReads.{no-ticket_unreached}
+use Rattle.cqs_core.proofs.Letters.{will_take, will_decline}
 use Rattle.cqs_core.proofs.CoverLemmas.{Covers, NoNewTakers, NoNewDecliners, covers-weaker}
 use Rattle.cqs_core.proofs.CoverSteps.{NamesOnly, names-idle, names-owes, names-door, names-drawn, names-ticket, IsToldAlike, gone-alike, declined-alike, passing_by-alike, gone-else, declined-else, passing_by-else, stepped, covers-step}
 

@@ -14,7 +14,7 @@ use Rattle.cqs_core.specs.QueueCover.{is_owing, is_gone_at, is_declined_at, is_g
 use Rattle.cqs_core.specs.QueueSound.{IsSound}
 use Rattle.cqs_core.proofs.Places.{set-same}
 use Rattle.cqs_core.proofs.Counts.{bit, bit-le}
-use Rattle.cqs_core.proofs.Letters.{Owner, not-cancelling}
+use Rattle.cqs_core.proofs.CellReads.{Owner, not-cancelling}
 use Rattle.cqs_core.proofs.CoverLemmas.{Covers}
 use Rattle.cqs_core.proofs.CoverSteps.{NamesOnly, names-idle, names-owes, names-drawn, names-ticket, names-leaving, IsToldAlike, gone-alike, declined-alike, stepped, covers-step}
 

@@ -8,9 +8,10 @@ use Rattle.cqs_core.proofs.Rising.{in-behind, in-none, Lacks, lacks-in, lacks-pl
 module _ {Y : Type 0} (key : Y → ℕ) where
   pub lacks-from : (n : ℕ) (ys : List Y) → ((y : Y) → IsIn y ys → key y ≢ n) → Lacks key n ys
   lacks-from n [] none = tt
-  lacks-from n (y ∷ ys) none =
-      ( none y (record { place = zero; there = refl })
-      , lacks-from n ys (λ z stands. none z (record { place = suc stands.place; there = stands.there })) )
+  lacks-from n (y ∷ ys) none = (
+    none y (record { place = zero; there = refl }),
+    lacks-from n ys (λ z stands. none z (record { place = suc stands.place; there = stands.there })),
+  )
 
   -- no key is there twice
   abbrev pub AreDistinct : List Y → Type 0
@@ -32,8 +33,9 @@ module _ {Y : Type 0} (key : Y → ℕ) where
     where
       behind : IsIn x zs → IsIn x (z ∷ zs)
       behind later = record { place = suc later.place; there = later.there }
+
       go : (b : Bool) → (IsIn x (placed key y zs) → (x ≡ y) ⊎ IsIn x zs)
-        → IsIn x (if b then y ∷ z ∷ zs else z ∷ placed key y zs) → (x ≡ y) ⊎ IsIn x (z ∷ zs)
+          → IsIn x (if b then y ∷ z ∷ zs else z ∷ placed key y zs) → (x ≡ y) ⊎ IsIn x (z ∷ zs)
       go true rest here = in-behind x y (z ∷ zs) here
       go false rest here = first (in-behind x z (placed key y zs) here)
         where
@@ -78,11 +80,13 @@ module _ {Y : Type 0} (key : Y → ℕ) where
       where
         first : (x ≡ z) ⊎ (x ≡ f z) → IsFrom x (z ∷ zs)
         first is = record { old = z; there = record { place = zero; there = refl }; is = is }
+
         kept : IsIn x zs → IsFrom x (z ∷ zs)
         kept later =
             record { old = x; there = record { place = suc later.place; there = later.there }; is = inl refl }
+
         go : (b : Bool) → (IsIn x (changed key n f zs) → IsFrom x zs)
-          → IsIn x (if b then f z ∷ zs else z ∷ changed key n f zs) → IsFrom x (z ∷ zs)
+            → IsIn x (if b then f z ∷ zs else z ∷ changed key n f zs) → IsFrom x (z ∷ zs)
         go true rest here = at (in-behind x (f z) zs here)
           where
             at : (x ≡ f z) ⊎ IsIn x zs → IsFrom x (z ∷ zs)
@@ -96,14 +100,14 @@ module _ {Y : Type 0} (key : Y → ℕ) where
 
     -- where no key is there twice, whatever has the key that was changed is what an element became
     pub changed-all : (n : ℕ) (x : Y) (ys : List Y) → AreDistinct ys → key x ≡ n → IsIn x (changed key n f ys)
-      → (y : Y) × (x ≡ f y)
+        → (y : Y) × (x ≡ f y)
     changed-all n x [] apart is stands = absurd (in-none x stands)
     changed-all n x (z ∷ zs) apart is stands =
         go (cases_Bool (n == key z)) (changed-all n x zs apart.1 is) stands
       where
         go : ((n == key z) ≡ true) ⊎ ((n == key z) ≡ false)
-          → (IsIn x (changed key n f zs) → (y : Y) × (x ≡ f y))
-          → IsIn x (if n == key z then f z ∷ zs else z ∷ changed key n f zs) → (y : Y) × (x ≡ f y)
+            → (IsIn x (changed key n f zs) → (y : Y) × (x ≡ f y))
+            → IsIn x (if n == key z then f z ∷ zs else z ∷ changed key n f zs) → (y : Y) × (x ≡ f y)
         go (inl here) rest stands = at (in-behind x (f z) zs (rw here at stands))
           where
             at : (x ≡ f z) ⊎ IsIn x zs → (y : Y) × (x ≡ f y)

@@ -9,6 +9,7 @@ pub mod SoundDraws
 pub mod SoundReach
 pub mod Sound
 pub mod Exchange
+pub mod CellReads
 pub mod Letters
 pub mod PickedPlaces
 pub mod Equations

@@ -58,12 +58,12 @@ module _ {Y : Type 0} (key : Y → ℕ) where
 
   -- one element fewer, where one has the key
   pub length-without : (n : ℕ) (y : Y) (ys : List Y) → key y ≡ n → IsIn y ys
-    → length (without key n ys) + 1 ≡ length ys
+      → length (without key n ys) + 1 ≡ length ys
   length-without n y [] is stands = absurd (in-none y stands)
   length-without n y (z ∷ zs) is stands = go (cases_Bool (n == key z)) (in-behind y z zs stands) (length-without n y zs is)
     where
       go : ((n == key z) ≡ true) ⊎ ((n == key z) ≡ false) → (y ≡ z) ⊎ IsIn y zs
-        → (IsIn y zs → length (without key n zs) + 1 ≡ length zs) → length (without key n (z ∷ zs)) + 1 ≡ suc (length zs)
+          → (IsIn y zs → length (without key n zs) + 1 ≡ length zs) → length (without key n (z ∷ zs)) + 1 ≡ suc (length zs)
       go (inl here) where_ rest = rw here (omega arith)
       go (inr other) (inl same) rest =
           absurd (eqb-false n (key z) other (sym is ∙ ap key same))
@@ -76,7 +76,7 @@ module _ {Y : Type 0} (key : Y → ℕ) where
   length-placed y (z ∷ zs) = go (nat_lt (key y) (key z)) (length-placed y zs)
     where
       go : (b : Bool) → length (placed key y zs) ≡ length zs + 1
-        → length (if b then y ∷ z ∷ zs else z ∷ placed key y zs) ≡ suc (length zs) + 1
+          → length (if b then y ∷ z ∷ zs else z ∷ placed key y zs) ≡ suc (length zs) + 1
       go true rest = omega arith
       go false rest = omega arith
 
@@ -97,7 +97,7 @@ module _ {Y : Type 0} (key : Y → ℕ) where
       (λ e. absurd (omega (arith, e)), rising-lacks n (key y + 1) high ys (omega arith) rising.1)
 
   pub rising-push : (low high : ℕ) (y : Y) (ys : List Y) → key y ≡ high → IsRising low high ys
-    → IsRising low (high + 1) (ys ++ y ∷ [])
+      → IsRising low (high + 1) (ys ++ y ∷ [])
   rising-push low high y [] is rising = (omega arith, omega arith)
   rising-push low high y (z ∷ zs) is rising = (rising.0, rising-push (key z + 1) high y zs is rising.1)
 
@@ -106,7 +106,7 @@ module _ {Y : Type 0} (key : Y → ℕ) where
   rising-without n low high (z ∷ zs) rising = go (n == key z) (rising-without n (key z + 1) high zs rising.1)
     where
       go : (b : Bool) → IsRising (key z + 1) high (without key n zs)
-        → IsRising low high (if b then zs else z ∷ without key n zs)
+          → IsRising low high (if b then zs else z ∷ without key n zs)
       go true rest = let least : low ≤ key z = rising.0 in rising-lower (key z + 1) low high zs (omega arith) rising.1
       go false rest = (rising.0, rest)
 
@@ -116,7 +116,7 @@ module _ {Y : Type 0} (key : Y → ℕ) where
   rising-left_out n low high (z ∷ zs) rising = go (cases_Bool (n == key z)) (rising-left_out n (key z + 1) high zs rising.1)
     where
       go : ((n == key z) ≡ true) ⊎ ((n == key z) ≡ false) → Lacks n (without key n zs)
-        → Lacks n (if n == key z then zs else z ∷ without key n zs)
+          → Lacks n (if n == key z then zs else z ∷ without key n zs)
       go (inl here) rest =
           let is : n ≡ key z = eqb-true n (key z) here in
           rw here (rising-lacks n (key z + 1) high zs (omega arith) rising.1)

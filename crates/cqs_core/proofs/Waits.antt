@@ -45,7 +45,7 @@ found-waits k c (w ∷ line) waits =
     go (cases_Bool (k == w.wait)) (record { wait = k; pass = c }) refl waits (found-waits k c line)
   where
     go : ((k == w.wait) ≡ true) ⊎ ((k == w.wait) ≡ false) → (v : Waiting) → v ≡ record { wait = k; pass = c }
-      → IsIn v (w ∷ line) → (Waits k c line → IsFound k c line) → IsFound k c (w ∷ line)
+        → IsIn v (w ∷ line) → (Waits k c line → IsFound k c line) → IsFound k c (w ∷ line)
     go (inl here) v is stands rest =
         record { wait = w; is = rw here refl; number = sym (eqb-true k w.wait here) }
     go (inr other) v is stands rest = at (in-behind v w line stands)
@@ -74,8 +74,10 @@ gone-entry o (entry.TakeDoor c) k allowed gone = record { entered = gone.entered
 gone-entry o (entry.Enter c j) k (stands, next) gone =
     let low : k < o.next = gone.entered in
     let other : j ≢ k = λ e. absurd (omega (arith, e)) in
-    record { entered = omega arith;
-             absent = lacks-push waiting_key k (record { wait = j; pass = c }) o.line other gone.absent }
+    record {
+      entered = omega arith;
+      absent = lacks-push waiting_key k (record { wait = j; pass = c }) o.line other gone.absent;
+    }
 gone-entry o (entry.TryGot c) k allowed gone = record { entered = gone.entered; absent = gone.absent }
 gone-entry o (entry.TryBusy c) k allowed gone = gone
 gone-entry o (entry.GiveFreed c) k allowed gone = record { entered = gone.entered; absent = gone.absent }
@@ -83,7 +85,7 @@ gone-entry o (entry.GiveSent c) k allowed gone = record { entered = gone.entered
 gone-entry o (entry.Deliver j) k allowed gone = record { entered = gone.entered; absent = gone-left_out o j k gone }
 gone-entry o (entry.Leave c j) k allowed gone =
     gone-turned (record o { line = without waiting_key j o.line }) k
-        (record { entered = gone.entered; absent = gone-left_out o j k gone })
+    (record { entered = gone.entered; absent = gone-left_out o j k gone })
 gone-entry o (entry.Late c j) k allowed gone = record { entered = gone.entered; absent = gone.absent }
 gone-entry o (entry.LookGranted c j) k allowed gone = record { entered = gone.entered; absent = gone.absent }
 gone-entry o (entry.LookPending c j) k allowed gone = gone
@@ -91,20 +93,21 @@ gone-entry o (entry.LookPending c j) k allowed gone = gone
 -- A wait of the line that is taken out is gone.
 
 gone-out : (o : Semaphore) (c k : ℕ) → AreWaitsApart o → Waits k c o.line
-  → IsGone (record o { line = without waiting_key k o.line }) k
+    → IsGone (record o { line = without waiting_key k o.line }) k
 gone-out o c k a waits = record {
   entered = rising-below waiting_key 0 o.next (record { wait = k; pass = c }) o.line a.line waits;
-  absent = rising-left_out waiting_key k 0 o.next o.line a.line }
+  absent = rising-left_out waiting_key k 0 o.next o.line a.line;
+}
 
 pub gone-ended : (o : Semaphore) (e : Entry) (k : ℕ) → AreWaitsApart o → IsAllowed o e → EndsWait k e
-  → IsGone (after_entry o e) k
+    → IsGone (after_entry o e) k
 gone-ended o (entry.Deliver j) k a (c, waits) ends =
     let among : (0 < o.way) × Waits j c o.line = in-take (record { wait = j; pass = c }) o.way o.line waits in
     let out : IsGone (record o { line = without waiting_key j o.line }) j = gone-out o c j a among.1 in
     subst (λ i. IsGone (after_entry o (entry.Deliver j)) i) ends (record { entered = out.entered; absent = out.absent })
 gone-ended o (entry.Leave c j) k a waits ends =
     subst (λ i. IsGone (after_entry o (entry.Leave c j)) i) ends
-        (gone-turned (record o { line = without waiting_key j o.line }) j (gone-out o c j a waits))
+    (gone-turned (record o { line = without waiting_key j o.line }) j (gone-out o c j a waits))
 gone-ended o (entry.TakeNow c) k a allowed ends = absurd ends
 gone-ended o (entry.TakeDoor c) k a allowed ends = absurd ends
 gone-ended o (entry.Enter c j) k a allowed ends = absurd ends
@@ -143,7 +146,8 @@ apart-turned o a = go (nat_lt (due o) o.way)
     go true = record {
       line = a.line;
       served = λ s stands. record { entered = (a.served s stands).entered; absent = (a.served s stands).absent };
-      apart = a.apart }
+      apart = a.apart;
+    }
     go false = a
 
 -- an entry after which door, permits or counts differ, and no wait
@@ -151,16 +155,18 @@ apart-same : (o n : Semaphore) → n.next ≡ o.next → n.line ≡ o.line → n
 apart-same o n next line served a = record {
   line = rw (next, line) a.line;
   served = λ s stands.
-    let gone : IsGone o s.wait = a.served s (rw served at stands) in
-    record { entered = rw next gone.entered; absent = rw line gone.absent };
-  apart = rw served a.apart }
+      let gone : IsGone o s.wait = a.served s (rw served at stands) in
+      record { entered = rw next gone.entered; absent = rw line gone.absent };
+  apart = rw served a.apart;
+}
 
 -- the permit of a wait has been looked at
 apart-closed : (o : Semaphore) (k : ℕ) → AreWaitsApart o → AreWaitsApart (closed o k)
 apart-closed o k a = record {
   line = a.line;
   served = λ s stands. go s (in-changed service_key looked_at (λ t. refl) k s o.served stands);
-  apart = distinct-changed service_key looked_at (λ t. refl) k o.served a.apart }
+  apart = distinct-changed service_key looked_at (λ t. refl) k o.served a.apart;
+}
   where
     go : (s : Service) → IsFrom service_key looked_at (λ t. refl) s o.served → IsGone (closed o k) s.wait
     go s from = record { entered = rw same gone.entered; absent = rw same gone.absent }
@@ -168,8 +174,10 @@ apart-closed o k a = record {
         number : (s ≡ from.old) ⊎ (s ≡ looked_at from.old) → s.wait ≡ from.old.wait
         number (inl is) = ap service_key is
         number (inr is) = ap service_key is
+
         same : s.wait ≡ from.old.wait
         same = number from.is
+
         gone : IsGone o from.old.wait
         gone = a.served from.old from.there
 
@@ -178,20 +186,26 @@ apart-delivered : (o : Semaphore) (c k : ℕ) → AreWaitsApart o → Waits k c 
 apart-delivered o c k a waits = record {
   line = rising-without waiting_key k 0 o.next o.line a.line;
   served = λ s stands. gone s (in-placed service_key s new o.served (rw now at stands));
-  apart = rw now (distinct-placed service_key new o.served fresh a.apart) }
+  apart = rw now (distinct-placed service_key new o.served fresh a.apart);
+}
   where
     found : IsFound k c o.line
     found = found-waits k c o.line waits
+
     new : Service
     new = record { wait = found.wait.wait; pass = found.wait.pass; is_open = true }
+
     now : with_service (find_wait k o.line) o.served ≡ placed service_key new o.served
     now = ap (λ w. with_service w o.served) found.is
+
     out : IsGone (record o { line = without waiting_key k o.line }) k
     out = gone-out o c k a waits
+
     fresh : Lacks service_key found.wait.wait o.served
     fresh = lacks-from service_key found.wait.wait o.served (λ t there same.
         lacks-in waiting_key t.wait (record { wait = k; pass = c }) o.line
-            (sym (same ∙ found.number)) waits (a.served t there).absent)
+        (sym (same ∙ found.number)) waits (a.served t there).absent)
+
     gone : (s : Service) → (s ≡ new) ⊎ IsIn s o.served → IsGone (delivered o k) s.wait
     gone s (inl is) =
         let number : s.wait ≡ k = ap service_key is ∙ found.number in
@@ -206,7 +220,8 @@ apart-entry o (entry.TakeDoor c) allowed a = apart-same o (at_door o c) refl ref
 apart-entry o (entry.Enter c j) (stands, next) a = record {
   line = rising-push waiting_key 0 o.next (record { wait = j; pass = c }) o.line next a.line;
   served = λ s there. gone-entry o (entry.Enter c j) s.wait (stands, next) (a.served s there);
-  apart = a.apart }
+  apart = a.apart;
+}
 apart-entry o (entry.TryGot c) allowed a = apart-same o (taken o) refl refl refl a
 apart-entry o (entry.TryBusy c) allowed a = a
 apart-entry o (entry.GiveFreed c) allowed a = apart-same o (record o { held = o.held - 1; free = o.free + 1 }) refl refl refl a
@@ -218,9 +233,10 @@ apart-entry o (entry.Leave c j) waits a =
     apart-turned (record o { line = without waiting_key j o.line }) (record {
       line = rising-without waiting_key j 0 o.next o.line a.line;
       served = λ s there.
-        let gone : IsGone o s.wait = a.served s there in
-        record { entered = gone.entered; absent = gone-left_out o j s.wait gone };
-      apart = a.apart })
+          let gone : IsGone o s.wait = a.served s there in
+          record { entered = gone.entered; absent = gone-left_out o j s.wait gone };
+      apart = a.apart;
+    })
 apart-entry o (entry.Late c j) allowed a = apart-closed o j a
 apart-entry o (entry.LookGranted c j) allowed a = apart-closed o j a
 apart-entry o (entry.LookPending c j) allowed a = a

@@ -23,16 +23,16 @@ module _ (permits : ℕ) (history : List Entry) (legal : IsLegal permits history
 
   -- two entries that each would be the last of their kind for wait k: the second can't come
   ends-not_later : (k m n : ℕ) (d e : Entry) → slice_get history m ≡ Some d → slice_get history n ≡ Some e
-    → EndsWait k d → EndsWait k e → m < n → ⊥
+      → EndsWait k d → EndsWait k e → m < n → ⊥
   ends-not_later k m n d e gets_d gets_e ends_d ends_e later =
       let within : n < length history = get-below history n e gets_e in
       let gone : IsGone (object_before permits history (suc m)) k =
-          rw (object-next permits history m d gets_d)
-             (gone-ended (object_before permits history m) d k (waits-apart m (omega arith)) (legal.at m d gets_d) ends_d) in
+      rw (object-next permits history m d gets_d)
+      (gone-ended (object_before permits history m) d k (waits-apart m (omega arith)) (legal.at m d gets_d) ends_d) in
       let still : IsGone (object_before permits history n) k =
-          walk permits history (λ i o. IsGone o k) legal
-              (λ i f got allowed g. gone-entry (object_before permits history i) f k allowed g)
-              (suc m) gone (n - suc m) n (omega arith) (omega arith) in
+      walk permits history (λ i o. IsGone o k) legal
+      (λ i f got allowed g. gone-entry (object_before permits history i) f k allowed g)
+      (suc m) gone (n - suc m) n (omega arith) (omega arith) in
       gone-ends_not (object_before permits history n) e k (legal.at n e gets_e) ends_e still
 
 pub every-wait-ends-once : EveryWaitEndsOnce
@@ -69,14 +69,14 @@ from_on-entry low o (entry.GiveSent c) allowed from = from
 from_on-entry low o (entry.Deliver k) allowed from = rising-without waiting_key k low o.next o.line from
 from_on-entry low o (entry.Leave c k) allowed from =
     from_on-turned low (record o { line = without waiting_key k o.line })
-        (rising-without waiting_key k low o.next o.line from)
+    (rising-without waiting_key k low o.next o.line from)
 from_on-entry low o (entry.Late c k) allowed from = from
 from_on-entry low o (entry.LookGranted c k) allowed from = from
 from_on-entry low o (entry.LookPending c k) allowed from = from
 
 -- behind the first of the line the numbers are larger
 behind-first : (k high : ℕ) (line : List Waiting) → IsFirst k line → IsRising waiting_key 0 high line
-  → IsRising waiting_key (k + 1) high (without waiting_key k line)
+    → IsRising waiting_key (k + 1) high (without waiting_key k line)
 behind-first k high [] first rising = absurd first
 behind-first k high (w ∷ line) first rising =
     let here : (k == w.wait) ≡ true = eq-eqb k w.wait (sym first) in
@@ -86,21 +86,21 @@ pub service-in-order : ServiceIsInOrder
 service-in-order permits history m n j k legal single gets_j gets_k later =
     let within : n < length history = get-below history n (entry.Deliver k) gets_k in
     let first : IsFirst j (object_before permits history m).line =
-        one-permit-to-first permits history m j legal gets_j (single m j gets_j) in
+    one-permit-to-first permits history m j legal gets_j (single m j gets_j) in
     let apart : AreWaitsApart (object_before permits history m) =
-        waits-apart permits history legal m (omega arith) in
+    waits-apart permits history legal m (omega arith) in
     let start : IsFrom_on (j + 1) (object_before permits history (suc m)) =
-        rw (object-next permits history m (entry.Deliver j) gets_j)
-           (behind-first j (object_before permits history m).next (object_before permits history m).line first apart.line) in
+    rw (object-next permits history m (entry.Deliver j) gets_j)
+    (behind-first j (object_before permits history m).next (object_before permits history m).line first apart.line) in
     let still : IsFrom_on (j + 1) (object_before permits history n) =
-        walk permits history (λ i o. IsFrom_on (j + 1) o) legal
-            (λ i f got allowed from. from_on-entry (j + 1) (object_before permits history i) f allowed from)
-            (suc m) start (n - suc m) n (omega arith) (omega arith) in
+    walk permits history (λ i o. IsFrom_on (j + 1) o) legal
+    (λ i f got allowed from. from_on-entry (j + 1) (object_before permits history i) f allowed from)
+    (suc m) start (n - suc m) n (omega arith) (omega arith) in
     go (object_before permits history n) still (legal.at n (entry.Deliver k) gets_k)
   where
     go : (o : Semaphore) → IsFrom_on (j + 1) o → IsAllowed o (entry.Deliver k) → j < k
     go o from (c, waits) =
         let among : (0 < o.way) × Waits k c o.line = in-take (record { wait = k; pass = c }) o.way o.line waits in
         let least : j + 1 ≤ k =
-            rising-above waiting_key (j + 1) o.next (record { wait = k; pass = c }) o.line from among.1 in
+        rising-above waiting_key (j + 1) o.next (record { wait = k; pass = c }) o.line from among.1 in
         omega arith

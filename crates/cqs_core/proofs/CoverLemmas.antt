@@ -1,5 +1,5 @@
--- Cover, counted from the first cell on: for each declined cell that no resume has reached, the cells up to it that will take
--- a resumption are no more than the resumptions that roam.
+-- Cover, counted from the first cell on: for each declined cell that no resume has reached, the cells up to
+-- it that will take a resumption are no more than the resumptions that roam.
 use Rattle.std.proofs.Common.{◌≡◌, ◌⊎◌, inl, inr, ℕ, zero, suc, ◌+◌, ◌<◌, ◌≤◌, nat_le, ◌&&◌, not, Bool, true, false, List, [], ◌∷◌, Option, Some, None, length, take, drop, slice_get, refl, ap, sym, ◌∙◌, arith, length-take}
 use Rattle.std.proofs.lemmas.Bool.{cases_Bool, le-leb, lt-leb, leb-true, and_parts, and_from}
 use Rattle.cqs_core.specs.declared.cells.CoreCell.{CoreCell}
@@ -19,12 +19,15 @@ module _ {X : Type 0} where
       → count_at (λ k x. nat_le n k && p k x) 0 xs ≡ count_at p n (drop n xs)
   count-from p n xs =
       let split = total-split (λ k x. bit (nat_le n k && p k x)) 0 xs n n (omega arith) in
-      let below : total_at (λ k x. bit (nat_le n k && p k x)) 0 (take n xs) ≡ total_at (λ k x. 0) 0 (take n xs) =
+      let below : total_at (λ k x. bit (nat_le n k && p k x)) 0 (take n xs)
+      ≡ total_at (λ k x. 0) 0 (take n xs) =
       total-same _ _ 0 (take n xs) (take n xs) refl
       (λ i m x y at f g.
-      let low : nat_le n m ≡ false = lt-leb n m (omega (arith, get-below (take n xs) i x f, length-take n xs)) in
+      let low : nat_le n m ≡ false = lt-leb n m
+      (omega (arith, get-below (take n xs) i x f, length-take n xs)) in
       rw low refl) in
-      let past : total_at (λ k x. bit (nat_le n k && p k x)) n (drop n xs) ≡ total_at (λ k x. bit (p k x)) n (drop n xs) =
+      let past : total_at (λ k x. bit (nat_le n k && p k x)) n (drop n xs)
+      ≡ total_at (λ k x. bit (p k x)) n (drop n xs) =
       total-same _ _ n (drop n xs) (drop n xs) refl
       (λ i m x y at f g.
       let high : nat_le n m ≡ true = le-leb n m (omega arith) in
@@ -167,7 +170,8 @@ decliners-le q sound covers = go (last (will_decline q) 0 q.cells)
         let there : slice_get q.cells l.number ≡ Some l.element = rw number l.there in
         let bound = covers.at l.number l.element there l.passes in
         let all = l.all (l.number + 1) (omega arith) in
-        let each = count_at-le (will_decline q) (will_take q) (take (l.number + 1) q.cells) (take (l.number + 1) q.cells) refl
+        let each = count_at-le (will_decline q) (will_take q) (take (l.number + 1) q.cells)
+        (take (l.number + 1) q.cells) refl
         (λ j x y f g declines.
         let same : x ≡ y = cc in
         rw (← same) (declines-takes q sound j x (get-take_back (l.number + 1) q.cells j x f) declines)) in

@@ -1,6 +1,7 @@
--- Most moves change what one pass does and the cell of one number, and no resume draws a number by them. They keep cover
--- where no cell is newly declined, no cell that resumes pass over takes one now, and as many resumptions roam as before: at
--- every other cell all is as it was, since neither what the pass did nor what it does now names another number.
+-- Most moves change what one pass does and the cell of one number, and no resume draws a number by them.
+-- They keep cover where no cell is newly declined, no cell that resumes pass over takes one now, and as
+-- many resumptions roam as before: at every other cell all is as it was, since neither what the pass did
+-- nor what it does now names another number.
 use Rattle.std.proofs.Common.{◌≡◌, ◌≢◌, ◌⊎◌, inl, inr, ℕ, ◌+◌, ◌≤◌, ◌==◌, nat_le, ◌&&◌, ◌||◌, not, Bool, true, false, List, Option, Some, None, length, take, set, slice_get, refl, ap, sym, ◌∙◌, subst, arith, length-set}
 use Rattle.std.specs.List.{count_by}
 use Rattle.std.proofs.lemmas.Bool.{cases_Bool, cases_eq, ne_eqb, and_parts, and_from, not-true, not_from_false, both_ways, false_from_ne_true}
@@ -100,15 +101,17 @@ module _ (q : Queue) (p : ℕ) (old d : Doing) (does : slice_get q.doing p ≡ S
   pub passing_by-alike : is_ticket k d ≡ is_ticket k old
       → is_passing_by (set q.doing p d) k cell ≡ is_passing_by q.doing k cell
   passing_by-alike same =
-      let ticket : has_ticket k (set q.doing p d) ≡ has_ticket k q.doing = has_ticket-frame q.doing p k old d does same in
+      let ticket = has_ticket-frame q.doing p k old d does same in
       rw (gone-alike, ticket) refl
 
 module _ (q : Queue) (p k : ℕ) (old d : Doing) (does : slice_get q.doing p ≡ Some old)
     (names_old : NamesOnly k old) (names : NamesOnly k d) where
-  pub gone-else : (j : ℕ) (cell : CoreCell) → j ≢ k → is_gone (set q.doing p d) j cell ≡ is_gone q.doing j cell
+  pub gone-else : (j : ℕ) (cell : CoreCell) → j ≢ k
+      → is_gone (set q.doing p d) j cell ≡ is_gone q.doing j cell
   gone-else j cell ne = gone-alike q p old d does j cell (alike-else k j old d names_old names ne)
 
-  pub declined-else : (j : ℕ) (cell : CoreCell) → j ≢ k → is_declined (set q.doing p d) j cell ≡ is_declined q.doing j cell
+  pub declined-else : (j : ℕ) (cell : CoreCell) → j ≢ k
+      → is_declined (set q.doing p d) j cell ≡ is_declined q.doing j cell
   declined-else j cell ne = declined-alike q p old d does j cell (alike-else k j old d names_old names ne)
 
   pub passing_by-else : (j : ℕ) (cell : CoreCell) → j ≢ k
@@ -121,7 +124,8 @@ module _ (q : Queue) (p k : ℕ) (old d : Doing) (was now : CoreCell)
     (does : slice_get q.doing p ≡ Some old) (found : slice_get q.cells k ≡ Some was)
     (names_old : NamesOnly k old) (names : NamesOnly k d) where
   -- another cell is as it was
-  kept : (j : ℕ) (x y : CoreCell) → j ≢ k → slice_get q.cells j ≡ Some x → slice_get (set q.cells k now) j ≡ Some y → x ≡ y
+  kept : (j : ℕ) (x y : CoreCell) → j ≢ k → slice_get q.cells j ≡ Some x
+      → slice_get (set q.cells k now) j ≡ Some y → x ≡ y
   kept j x y ne f g = let before = get-set_else q.cells k j now (λ e. ne (sym e)) in cc
 
   here : (y : CoreCell) → slice_get (set q.cells k now) k ≡ Some y → now ≡ y
@@ -129,11 +133,13 @@ module _ (q : Queue) (p k : ℕ) (old d : Doing) (was now : CoreCell)
 
   -- as many resumptions roam as before
   pub roaming-step :
-      bit (is_owing old) + bit (is_passing_by q.doing k was) ≤ bit (is_owing d) + bit (is_passing_by (set q.doing p d) k now)
+      bit (is_owing old) + bit (is_passing_by q.doing k was)
+      ≤ bit (is_owing d) + bit (is_passing_by (set q.doing p d) k now)
       → roaming q ≤ roaming (stepped q p d k now)
   roaming-step roams =
       let owing = count_by-write is_owing q.doing p old d does in
-      let passing = count_at-change (is_passing_by q.doing) (is_passing_by (set q.doing p d)) q.cells (set q.cells k now)
+      let passing = count_at-change (is_passing_by q.doing) (is_passing_by (set q.doing p d)) q.cells
+      (set q.cells k now)
       k was now (sym (length-set q.cells k now)) found (get-set_here q.cells k was now found)
       (λ j x y ne f g.
       let same = passing_by-else q p k old d does names_old names j x ne in
@@ -162,7 +168,8 @@ module _ (q : Queue) (p k : ℕ) (old d : Doing) (was now : CoreCell)
           and_from _ _ parts.0 (rw (same, ← before) (not_from_false (is_gone q.doing k was) gone_then))
       go (inr ne) =
           let same : x ≡ y = kept j x y ne f g in
-          let gone_then : is_gone q.doing j x ≡ false = rw (← gone-else q p k old d does names_old names j x ne, same) takes_now in
+          let alike = gone-else q p k old d does names_old names j x ne in
+          let gone_then : is_gone q.doing j x ≡ false = rw (← alike, same) takes_now in
           and_from _ _ parts.0 (not_from_false (is_gone q.doing j x) gone_then)
 
   -- a cell that is declined now was declined before
@@ -187,8 +194,10 @@ module _ (q : Queue) (p k : ℕ) (old d : Doing) (was now : CoreCell)
   pub covers-step :
       (is_declined (set q.doing p d) k now ≡ true → is_declined q.doing k was ≡ true)
       → (is_gone q.doing k was ≡ true → is_gone (set q.doing p d) k now ≡ true)
-      → bit (is_owing old) + bit (is_passing_by q.doing k was) ≤ bit (is_owing d) + bit (is_passing_by (set q.doing p d) k now)
+      → bit (is_owing old) + bit (is_passing_by q.doing k was)
+      ≤ bit (is_owing d) + bit (is_passing_by (set q.doing p d) k now)
       → Covers q → Covers (stepped q p d k now)
   covers-step declined stays roams covers =
-      covers-weaker q (stepped q p d k now) (length-set q.cells k now) (takes-step stays) (declines-step declined)
+      covers-weaker q (stepped q p d k now) (length-set q.cells k now) (takes-step stays)
+      (declines-step declined)
       (roaming-step roams) covers

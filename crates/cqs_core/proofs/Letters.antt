@@ -1,7 +1,8 @@
--- What each cell adds to the two equations. A cell is one of these: nobody has drawn its number to suspend at; or its
--- wait stands in the line; or it is gone, and resumes pass over it; or it is declined, and takes the one resume that meets
--- it; or it was served. At most one resumption stands at it. In each case the cell adds as much to the one side of each
--- equation as to the other: the table of these cases is the end of this file.
+-- What each cell adds to the two equations. A cell is one of these: nobody has drawn its number to suspend
+-- at; or its wait stands in the line; or it is gone, and resumes pass over it; or it is declined, and takes
+-- the one resume that meets it; or it was served. At most one resumption stands at it. In each case the
+-- cell adds as much to the one side of each equation as to the other: the table of these cases is the end
+-- of this file.
 use Rattle.std.proofs.Common.{◌≡◌, ◌⊎◌, inl, inr, ℕ, ◌+◌, ◌<◌, ◌≤◌, nat_le, ◌&&◌, ◌||◌, not, Bool, true, false, List, [], ◌∷◌, Option, Some, None, is_some, slice_get, refl, sym}
 use Rattle.std.proofs.lemmas.Bool.{lt-leb, both_ways}
 use Rattle.cqs_core.specs.declared.cells.CoreCell.{CoreCell}
@@ -47,8 +48,8 @@ module _ (q : Queue) where
   abbrev pub is_expected : ℕ → CoreCell → Bool
   is_expected k cell = not (is_unreached k) && is_standing k cell
 
-  -- the resumptions at the cell, and the one that it will take, against what they are there for; and what will take one
-  -- against what stands in the line
+  -- the resumptions at the cell, and the one that it will take, against what they are there for; and what
+  -- will take one against what stands in the line
   abbrev pub IsBalancedAt : ℕ → CoreCell → Type 0
   IsBalancedAt k cell =
       (points (is_ticketed ∷ is_valued ∷ will_take ∷ []) k cell
@@ -56,8 +57,9 @@ module _ (q : Queue) where
       (is_told ∷ is_unmet q.resumes q.doing ∷ is_standing ∷ is_passing_by q.doing ∷ is_undrawn ∷ []) k cell)
       × (points (will_take ∷ is_expected ∷ []) k cell ≡ points (is_standing ∷ will_decline ∷ []) k cell)
 
--- The tests of a cell by plain signs: `late`, no resume has drawn the number; `ahead`, no suspend has; `opened`, its ticket
--- is open; `owned`, it has an owner; and whether that is leaving, was told to pass on, or to refuse.
+-- The tests of a cell by plain signs: `late`, no resume has drawn the number; `ahead`, no suspend has;
+-- `opened`, its ticket is open; `owned`, it has an owner; and whether that is leaving, was told to pass on,
+-- or to refuse.
 
 abbrev gone : CoreState → Bool → Bool
 gone state.Cancelled passes = true
@@ -83,7 +85,8 @@ gone-signs : (k : ℕ) (s : CoreState) (o : Option Doing) → is_gone_at k s o �
 gone-signs k state.Cancelled o = refl
 gone-signs k s o = refl
 
-declined-signs : (k : ℕ) (s : CoreState) (o : Option Doing) → is_declined_at k s o ≡ declined s (is_refusing k o)
+declined-signs : (k : ℕ) (s : CoreState) (o : Option Doing)
+    → is_declined_at k s o ≡ declined s (is_refusing k o)
 declined-signs k state.Refused o = refl
 declined-signs k s o = refl
 
@@ -162,7 +165,8 @@ module _ (q : Queue) (sound : IsSound q) (k : ℕ) (cell : CoreCell)
           (λ now. by-signs state.Empty is now owner draws (refl, refl))
       go (inr (ahead, nobody)) =
           let draws = undrawn q sound k cell found ahead nobody in
-          let reached : nat_le q.resumes k ≡ false = lt-leb q.resumes k (reached_undrawn q sound k cell found ahead) in
+          let reached : nat_le q.resumes k ≡ false = lt-leb q.resumes k
+          (reached_undrawn q sound k cell found ahead) in
           awaited-cases q sound k cell found awaited
           (λ later. absurd (both_ways (nat_le q.resumes k) reached later.unreached))
           (λ now. by-signs state.Empty is now owner draws (refl, refl))
@@ -184,7 +188,8 @@ module _ (q : Queue) (sound : IsSound q) (k : ℕ) (cell : CoreCell)
 
   -- a wait that is being cancelled: in the line until its owner is told, and then gone or declined
 
-  cancelling-balanced : cell.state ≡ state.Cancelling → IsLeft q k cell → IsAwaited q k → IsBalancedAt q k cell
+  cancelling-balanced : cell.state ≡ state.Cancelling → IsLeft q k cell → IsAwaited q k
+      → IsBalancedAt q k cell
   cancelling-balanced is left awaited =
       let draws = drawn q sound k cell found left.entered in
       awaited-cases q sound k cell found awaited
@@ -197,7 +202,8 @@ module _ (q : Queue) (sound : IsSound q) (k : ℕ) (cell : CoreCell)
       (λ passes. by-signs state.Cancelling is now passes draws (refl, refl))
       (λ refuses. by-signs state.Cancelling is now refuses draws (refl, refl)))
 
-  delegated-balanced : cell.state ≡ state.Delegated → IsLeft q k cell → k < q.resumes → IsBalancedAt q k cell
+  delegated-balanced : cell.state ≡ state.Delegated → IsLeft q k cell → k < q.resumes
+      → IsBalancedAt q k cell
   delegated-balanced is left reached =
       let draws = drawn q sound k cell found left.entered in
       let meets = ended-meets q sound k cell found (rw is (λ h. h)) reached in
@@ -206,7 +212,8 @@ module _ (q : Queue) (sound : IsSound q) (k : ℕ) (cell : CoreCell)
       (λ passes. by-signs state.Delegated is meets passes draws (refl, refl))
       (λ refuses. by-signs state.Delegated is meets refuses draws (refl, refl))
 
-  -- a cell that is gone, or refused: what it adds hangs on the resumption that comes, has come, or stands there
+  -- a cell that is gone, or refused: what it adds hangs on the resumption that comes, has come, or stands
+  -- there
 
   cancelled-balanced : cell.state ≡ state.Cancelled → IsEntered q k cell → IsBalancedAt q k cell
   cancelled-balanced is entered =

@@ -5,7 +5,8 @@ use Rattle.cqs_core.specs.Numbered.{cons_option, picked, count_at, IsIn}
 use Rattle.cqs_core.proofs.Places.{get-take}
 use Rattle.cqs_core.proofs.Counts.{bit}
 
-length-cons_option : {Y : Type 0} (o : Option Y) (ys : List Y) → length (cons_option o ys) ≡ bit (is_some o) + length ys
+length-cons_option : {Y : Type 0} (o : Option Y) (ys : List Y)
+    → length (cons_option o ys) ≡ bit (is_some o) + length ys
 length-cons_option None ys = omega arith
 length-cons_option (Some y) ys = omega arith
 
@@ -24,7 +25,8 @@ module _ {X Y : Type 0} where
   abbrev pub is_picked_below : (ℕ → X → Option Y) → ℕ → ℕ → X → Bool
   is_picked_below f n k x = not (nat_le n k) && is_picked f k x
 
-  pub length-picked : (f : ℕ → X → Option Y) (k : ℕ) (xs : List X) → length (picked f k xs) ≡ count_at (is_picked f) k xs
+  pub length-picked : (f : ℕ → X → Option Y) (k : ℕ) (xs : List X)
+      → length (picked f k xs) ≡ count_at (is_picked f) k xs
   length-picked f k [] = refl
   length-picked f k (x ∷ xs) =
       let rest = length-picked f (suc k) xs in
@@ -53,7 +55,8 @@ module _ {X Y : Type 0} where
             omega (arith, one);
       }
   stands-picked f k n (z ∷ zs) (suc i) m x y at found picks below =
-      let rest : Stands f (suc k) n zs y = stands-picked f (suc k) n zs i m x y (omega arith) found picks below in
+      let rest : Stands f (suc k) n zs y = stands-picked f (suc k) n zs i m x y (omega arith) found picks
+      below in
       let low : nat_le n k ≡ false = lt-leb n k (omega arith) in
       record {
         place = bit (is_some (f k z)) + rest.place;

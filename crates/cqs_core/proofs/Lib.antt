@@ -9,7 +9,17 @@ pub mod SoundDraws
 pub mod SoundReach
 pub mod Sound
 pub mod Exchange
+pub mod CellReads
 pub mod Letters
+pub mod PickedPlaces
+pub mod Equations
+pub mod CoverLemmas
+pub mod FirstOfWay
+pub mod CoverSteps
+pub mod CoveredPlain
+pub mod CoveredCancel
+pub mod CoveredCounters
+pub mod CoveredMoved
 pub mod Rising
 pub mod Distinct
 pub mod Histories

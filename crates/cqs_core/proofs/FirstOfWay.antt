@@ -1,6 +1,7 @@
--- No more resumptions end at refused cells than are going, and a wait of the line that a resume has drawn is among the first
--- of the line, as many as are on their way to it. Both are the second equation, with cover: the declined cells ahead are no
--- more than the resumptions that roam, so all that is left of the way is for the waits that were drawn.
+-- No more resumptions end at refused cells than are going, and a wait of the line that a resume has drawn
+-- is among the first of the line, as many as are on their way to it. Both are the second equation, with
+-- cover: the declined cells ahead are no more than the resumptions that roam, so all that is left of the
+-- way is for the waits that were drawn.
 use Rattle.std.proofs.Common.{◌≡◌, ℕ, ◌+◌, ◌-◌, ◌<◌, ◌≤◌, Option, Some, slice_get, take, arith}
 use Rattle.cqs_core.specs.declared.cells.CoreCell.{CoreCell}
 use Rattle.cqs_core.specs.Numbered.{IsIn}
@@ -26,7 +27,8 @@ expected-le q sound covered =
     omega (arith, flows.drawn, few)
 
 pub first-of-way : (q : Queue) (k : ℕ) (cell : CoreCell) (w : Waiting) → IsSound q → IsCovered q
-  → slice_get q.cells k ≡ Some cell → in_line q.doing k cell ≡ Some w → k < q.resumes
-  → IsIn w (take (way q) (line q))
+    → slice_get q.cells k ≡ Some cell → in_line q.doing k cell ≡ Some w → k < q.resumes
+    → IsIn w (take (way q) (line q))
 first-of-way q k cell w sound covered found stands reached =
-    first-picked (in_line q.doing) q.resumes q.cells (way q) k cell w found stands reached (expected-le q sound covered)
+    first-picked (in_line q.doing) q.resumes q.cells (way q) k cell w found stands reached
+    (expected-le q sound covered)

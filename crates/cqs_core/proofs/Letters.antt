@@ -1,22 +1,20 @@
--- What each cell adds to the two equations. A cell is one of these: nobody has drawn its number to suspend at; or its wait
--- stands in the line; or it is gone, and resumes pass over it; or it is declined, and takes the one resume that meets it; or
--- it was served. A resumption that is under way stands at one cell at most. Going through the cases, each cell adds as much
--- to one side of each equation as to the other.
-use Rattle.std.proofs.Common.{◌≡◌, ◌≢◌, ◌⊎◌, inl, inr, ℕ, suc, ◌+◌, ◌<◌, ◌≤◌, ◌==◌, nat_le, ◌&&◌, ◌||◌, not, max, Bool, true, false, List, [], ◌∷◌, Option, Some, None, is_some, length, slice_get, refl, ap, sym, ◌∙◌, subst, arith}
-use Rattle.std.proofs.lemmas.Bool.{cases_Bool, cases_eq, cases_lt, ne_eqb, eq-eqb, le-leb, lt-leb, both_ways, false_from_ne_true}
+-- What each cell adds to the two equations. A cell is one of these: nobody has drawn its number to suspend
+-- at; or its wait stands in the line; or it is gone, and resumes pass over it; or it is declined, and takes
+-- the one resume that meets it; or it was served. At most one resumption stands at it. In each case the
+-- cell adds as much to the one side of each equation as to the other: the table of these cases is the end
+-- of this file.
+use Rattle.std.proofs.Common.{◌≡◌, ◌⊎◌, inl, inr, ℕ, ◌+◌, ◌<◌, ◌≤◌, nat_le, ◌&&◌, ◌||◌, not, Bool, true, false, List, [], ◌∷◌, Option, Some, None, is_some, slice_get, refl, sym}
+use Rattle.std.proofs.lemmas.Bool.{lt-leb, both_ways}
 use Rattle.cqs_core.specs.declared.cells.CoreCell.{CoreCell}
 use Rattle.cqs_core.specs.declared.cells.CoreState.{CoreState}
 use Rattle.cqs_core.specs.declared.cells.CoreState.TheVariants as state
 use Rattle.cqs_core.specs.declared.doings.Doing.{Doing}
-use Rattle.cqs_core.specs.declared.doings.Doing.TheVariants as doing
 use Rattle.cqs_core.specs.QueueState.{Queue, owner_doing, is_leaving, is_passing_on, is_refusing, has_ticket}
-use Rattle.cqs_core.specs.QueueLine.{in_line, has_left, is_unmet}
-use Rattle.cqs_core.specs.QueueMoves.{IsCancelling}
-use Rattle.cqs_core.specs.QueueCover.{is_declined, is_passing_by, takes_one}
-use Rattle.cqs_core.specs.QueueSound.{IsSound, IsSoundAt, IsEntered, IsUninstalled, IsLeft, IsAwaited, IsUnended, IsTicket, IsOwn}
-use Rattle.cqs_core.proofs.Places.{get-below}
+use Rattle.cqs_core.specs.QueueLine.{in_line, waiting_of, stays_in_line, has_left, is_left, is_unmet, is_unmet_refusal}
+use Rattle.cqs_core.specs.QueueCover.{is_gone_at, is_declined_at, is_delegated, is_declined, is_passing_by, takes_one}
+use Rattle.cqs_core.specs.QueueSound.{IsSound, IsSoundAt, IsEntered, IsUninstalled, IsLeft, IsAwaited}
 use Rattle.cqs_core.proofs.Counts.{bit, points}
-use Rattle.cqs_core.proofs.Tickets.{Holds, has_ticket-holds}
+use Rattle.cqs_core.proofs.CellReads.{Meets, Owner, Draws, reached_undrawn, drawn, undrawn, ended-meets, awaited-cases, left-cases, not-cancelling, cancelling-cases}
 
 module _ (q : Queue) where
   -- no resume has drawn the number, and no suspend has
@@ -50,241 +48,204 @@ module _ (q : Queue) where
   abbrev pub is_expected : ℕ → CoreCell → Bool
   is_expected k cell = not (is_unreached k) && is_standing k cell
 
-  -- resumptions at the cell, and those that it will take, against what they are there for; and what stands in the line
-  -- against what will take a resumption
+  -- the resumptions at the cell, and the one that it will take, against what they are there for; and what
+  -- will take one against what stands in the line
   abbrev pub IsBalancedAt : ℕ → CoreCell → Type 0
   IsBalancedAt k cell =
       (points (is_ticketed ∷ is_valued ∷ will_take ∷ []) k cell
-        ≡ points (is_told ∷ is_unmet q.resumes q.doing ∷ is_standing ∷ is_passing_by q.doing ∷ is_undrawn ∷ []) k cell)
+      ≡ points
+      (is_told ∷ is_unmet q.resumes q.doing ∷ is_standing ∷ is_passing_by q.doing ∷ is_undrawn ∷ []) k cell)
       × (points (will_take ∷ is_expected ∷ []) k cell ≡ points (is_standing ∷ will_decline ∷ []) k cell)
 
-module _ (q : Queue) (sound : IsSound q) (k : ℕ) (cell : CoreCell) (found : slice_get q.cells k ≡ Some cell) where
-  pub no-ticket_unreached : q.resumes ≤ k → has_ticket k q.doing ≡ false
-  no-ticket_unreached past = false_from_ne_true (has_ticket k q.doing) (λ e.
-    let holder : Holds q.doing k = has_ticket-holds q.doing k e in
-    let ticket : IsTicket q k = sound.passes.at holder.pass (doing.Ticket k) holder.has in
-    absurd (omega (arith, ticket.reached)))
+-- The tests of a cell by plain signs: `late`, no resume has drawn the number; `ahead`, no suspend has;
+-- `opened`, its ticket is open; `owned`, it has an owner; and whether that is leaving, was told to pass on,
+-- or to refuse.
 
-  no-ticket_ended : (IsUnended cell.state → ⊥) → has_ticket k q.doing ≡ false
-  no-ticket_ended ended = false_from_ne_true (has_ticket k q.doing) (λ e.
-    let holder : Holds q.doing k = has_ticket-holds q.doing k e in
-    let ticket : IsTicket q k = sound.passes.at holder.pass (doing.Ticket k) holder.has in
-    let same : ticket.cell ≡ cell = cc in
-    ended (rw same at ticket.unended))
+abbrev gone : CoreState → Bool → Bool
+gone state.Cancelled passes = true
+gone s passes = passes
 
-  -- every made number was drawn by the one counter or the other
-  reached_undrawn : q.suspends ≤ k → k < q.resumes
-  reached_undrawn ahead = omega (arith, sound.made, get-below q.cells k cell found)
+abbrev declined : CoreState → Bool → Bool
+declined state.Refused refuses = true
+declined s refuses = refuses
 
-  -- whether a resume has drawn the number, and whether its ticket is open
-  record Meets (late opened : Bool) : Type 0 where
-    unreached : nat_le q.resumes k ≡ late
-    ticket : has_ticket k q.doing ≡ opened
+abbrev stays : CoreState → Bool → Bool
+stays state.Empty leaves = true
+stays state.Waiter leaves = true
+stays state.Value leaves = true
+stays state.Cancelling leaves = leaves
+stays state.Delegated leaves = leaves
+stays s leaves = false
 
-  -- what the owner is in the middle of, at this number
-  pub record Owner (leaves passes refuses : Bool) : Type 0 where
-    pub leaving : is_leaving k (owner_doing q.doing cell) ≡ leaves
-    pub passing : is_passing_on k (owner_doing q.doing cell) ≡ passes
-    pub refusing : is_refusing k (owner_doing q.doing cell) ≡ refuses
+abbrev unmet : CoreState → Bool → Bool → Bool
+unmet state.Refused late opened = late || opened
+unmet s late opened = false
 
-  -- a cell in which no resumption has ended is met by the one that has its ticket
-  awaited-cases : IsAwaited q k → Meets true false ⊎ Meets false true
-  awaited-cases awaited = go (cases_lt k q.resumes)
-    where
-      go : (k < q.resumes) ⊎ (q.resumes ≤ k) → Meets true false ⊎ Meets false true
-      go (inl reached) = inr (record { unreached = lt-leb q.resumes k reached; ticket = awaited reached })
-      go (inr past) = inl (record { unreached = le-leb q.resumes k past; ticket = no-ticket_unreached past })
+gone-signs : (k : ℕ) (s : CoreState) (o : Option Doing) → is_gone_at k s o ≡ gone s (is_passing_on k o)
+gone-signs k state.Cancelled o = refl
+gone-signs k s o = refl
 
-  -- a cell that was cancelled or refused was met already, will be, or has its ticket open
-  left-cases : Meets true false ⊎ (Meets false true ⊎ Meets false false)
-  left-cases = go (cases_lt k q.resumes) (cases_Bool (has_ticket k q.doing))
-    where
-      go : (k < q.resumes) ⊎ (q.resumes ≤ k) → (has_ticket k q.doing ≡ true) ⊎ (has_ticket k q.doing ≡ false)
-        → Meets true false ⊎ (Meets false true ⊎ Meets false false)
-      go (inl reached) (inl opened) = inr (inl (record { unreached = lt-leb q.resumes k reached; ticket = opened }))
-      go (inl reached) (inr closed) = inr (inr (record { unreached = lt-leb q.resumes k reached; ticket = closed }))
-      go (inr past) either = inl (record { unreached = le-leb q.resumes k past; ticket = no-ticket_unreached past })
+declined-signs : (k : ℕ) (s : CoreState) (o : Option Doing)
+    → is_declined_at k s o ≡ declined s (is_refusing k o)
+declined-signs k state.Refused o = refl
+declined-signs k s o = refl
 
-  -- a cell in which a resumption has ended, or left its value
-  ended-meets : (IsUnended cell.state → ⊥) → k < q.resumes → Meets false false
-  ended-meets ended reached = record { unreached = lt-leb q.resumes k reached; ticket = no-ticket_ended ended }
+stays-signs : (k : ℕ) (s : CoreState) (o : Option Doing) → stays_in_line k s o ≡ stays s (is_leaving k o)
+stays-signs k state.Empty o = refl
+stays-signs k state.Waiter o = refl
+stays-signs k state.Value o = refl
+stays-signs k state.Cancelling o = refl
+stays-signs k state.Delegated o = refl
+stays-signs k s o = refl
 
-  -- the owner of a cell that isn't being cancelled is in the middle of no cancellation of it
-  pub not-cancelling : (IsCancelling cell.state → ⊥) → Owner false false false
-  not-cancelling plain = go cell.owner refl
-    where
-      reads : (o : Option Doing) → owner_doing q.doing cell ≡ o → is_leaving k o ≡ false → is_passing_on k o ≡ false
-        → is_refusing k o ≡ false → Owner false false false
-      reads o does leaves passes refuses = record {
-        leaving = rw does leaves; passing = rw does passes; refusing = rw does refuses }
+unmet-signs : (resumes : ℕ) (passes : List Doing) (k : ℕ) (s : CoreState)
+    → is_unmet_refusal resumes passes k s ≡ unmet s (nat_le resumes k) (has_ticket k passes)
+unmet-signs resumes passes k state.Refused = refl
+unmet-signs resumes passes k s = refl
 
-      -- a pass that cancels a wait cancels a cell that is being cancelled, so it isn't this one
-      another : (p j : ℕ) → IsOwn q p j IsCancelling → (j == k) ≡ false
-      another p j own = ne_eqb j k (λ e.
-        let same : own.cell ≡ cell = cc (ap (slice_get q.cells) e, own.found, found) in
-        plain (rw same at own.at))
+waiting-signs : (k : ℕ) (o : Option ℕ) (b : Bool) → is_some (waiting_of k o b) ≡ (is_some o && b)
+waiting-signs k (Some p) true = refl
+waiting-signs k (Some p) false = refl
+waiting-signs k None b = refl
 
-      at : (p : ℕ) (d : Doing) → slice_get q.doing p ≡ Some d → owner_doing q.doing cell ≡ Some d → Owner false false false
-      at p (doing.Leaving j) h does =
-          reads (Some (doing.Leaving j)) does (another p j (sound.passes.at p (doing.Leaving j) h)) refl refl
-      at p (doing.Decided j true) h does =
-          reads (Some (doing.Decided j true)) does refl (another p j (sound.passes.at p (doing.Decided j true) h)) refl
-      at p (doing.Decided j false) h does =
-          reads (Some (doing.Decided j false)) does refl refl (another p j (sound.passes.at p (doing.Decided j false) h))
-      at p d h does = reads (Some d) does refl refl refl
+-- the two equations of a cell, by its signs
+abbrev Adds : CoreState → (late opened leaves passes refuses ahead owned : Bool) → Type 0
+Adds s late opened leaves passes refuses ahead owned =
+    (bit opened + (bit (is_left s) + (bit (late && not (gone s passes)) + 0))
+    ≡ bit refuses + (bit (unmet s late opened) + (bit (owned && stays s leaves)
+    + (bit (gone s passes && (opened || is_delegated s)) + (bit ahead + 0)))))
+    × (bit (late && not (gone s passes)) + (bit (not late && (owned && stays s leaves)) + 0)
+    ≡ bit (owned && stays s leaves) + (bit (late && declined s refuses) + 0))
 
-      there : (p : ℕ) (o : Option Doing) → slice_get q.doing p ≡ o → owner_doing q.doing cell ≡ o → Owner false false false
-      there p None h does = reads None does refl refl refl
-      there p (Some d) h does = at p d h does
+module _ (q : Queue) (sound : IsSound q) (k : ℕ) (cell : CoreCell)
+    (found : slice_get q.cells k ≡ Some cell) where
+  by-signs : {late opened leaves passes refuses ahead owned : Bool} (s : CoreState) → cell.state ≡ s
+      → Meets q sound k cell found late opened → Owner q sound k cell found leaves passes refuses
+      → Draws q sound k cell found ahead owned → Adds s late opened leaves passes refuses ahead owned
+      → IsBalancedAt q k cell
+  by-signs s is meets owner draws adds =
+      let does : Option Doing = owner_doing q.doing cell in
+      rw (
+        gone-signs k cell.state does,
+        declined-signs k cell.state does,
+        stays-signs k cell.state does,
+        unmet-signs q.resumes q.doing k cell.state,
+        waiting-signs k cell.owner (stays cell.state (is_leaving k does)),
+        is,
+        meets.unreached,
+        meets.ticket,
+        owner.leaving,
+        owner.passing,
+        owner.refusing,
+        draws.undrawn,
+        draws.owner,
+      ) adds
 
-      go : (o : Option ℕ) → cell.owner ≡ o → Owner false false false
-      go None is = reads None (rw is refl) refl refl refl
-      go (Some p) is = there p (slice_get q.doing p) refl (rw is refl)
-
-  -- the owner of a cell that is being cancelled has no answer yet, or was told to pass on or to refuse
-  cancelling-cases : IsLeft q k cell → Owner true false false ⊎ (Owner false true false ⊎ Owner false false true)
-  cancelling-cases left = go left.stage
-    where
-      go : (owner_doing q.doing cell ≡ Some (doing.Leaving k)) ⊎ ((on : Bool) × (owner_doing q.doing cell ≡ Some (doing.Decided k on)))
-        → Owner true false false ⊎ (Owner false true false ⊎ Owner false false true)
-      go (inl leaving) = inl (record {
-        leaving = rw leaving (eq-eqb k k refl); passing = rw leaving refl; refusing = rw leaving refl })
-      go (inr (true, passing)) = inr (inl (record {
-        leaving = rw passing refl; passing = rw passing (eq-eqb k k refl); refusing = rw passing refl }))
-      go (inr (false, refusing)) = inr (inr (record {
-        leaving = rw refusing refl; passing = rw refusing refl; refusing = rw refusing (eq-eqb k k refl) }))
-
-  entered-drawn : IsEntered q k cell → nat_le q.suspends k ≡ false
-  entered-drawn entered = lt-leb q.suspends k entered.drawn
-
-  -- the cells of the line
+  -- a wait in the line, and a cell that nobody has drawn to suspend at
 
   waiter-balanced : cell.state ≡ state.Waiter → IsEntered q k cell → IsAwaited q k → IsBalancedAt q k cell
-  waiter-balanced is entered awaited = go (awaited-cases awaited)
-    where
-      owner : Owner false false false
-      owner = not-cancelling (rw is (λ h. h))
-
-      go : Meets true false ⊎ Meets false true → IsBalancedAt q k cell
-      go (inl meets) =
-          rw (is, owner.passing, owner.refusing, meets.unreached, meets.ticket, entered-drawn entered, entered.owner) (refl, refl)
-      go (inr meets) =
-          rw (is, owner.passing, owner.refusing, meets.unreached, meets.ticket, entered-drawn entered, entered.owner) (refl, refl)
+  waiter-balanced is entered awaited =
+      let owner = not-cancelling q sound k cell found (rw is (λ h. h)) in
+      let draws = drawn q sound k cell found entered in
+      awaited-cases q sound k cell found awaited
+      (λ later. by-signs state.Waiter is later owner draws (refl, refl))
+      (λ now. by-signs state.Waiter is now owner draws (refl, refl))
 
   empty-balanced : cell.state ≡ state.Empty → IsUninstalled q k cell → IsAwaited q k → IsBalancedAt q k cell
-  empty-balanced is place awaited = go place (awaited-cases awaited)
+  empty-balanced is place awaited = go place
     where
-      owner : Owner false false false
-      owner = not-cancelling (rw is (λ h. h))
+      owner : Owner q sound k cell found false false false
+      owner = not-cancelling q sound k cell found (rw is (λ h. h))
 
-      go : IsUninstalled q k cell → Meets true false ⊎ Meets false true → IsBalancedAt q k cell
-      go (inl (entered, does)) (inl meets) =
-          rw (is, owner.passing, owner.refusing, meets.unreached, meets.ticket, entered-drawn entered, entered.owner) (refl, refl)
-      go (inl (entered, does)) (inr meets) =
-          rw (is, owner.passing, owner.refusing, meets.unreached, meets.ticket, entered-drawn entered, entered.owner) (refl, refl)
-      go (inr (ahead, nobody)) (inl meets) =
-          absurd (both_ways (nat_le q.resumes k) (lt-leb q.resumes k (reached_undrawn ahead)) meets.unreached)
-      go (inr (ahead, nobody)) (inr meets) =
-          rw (is, owner.passing, owner.refusing, meets.unreached, meets.ticket, le-leb q.suspends k ahead, nobody) (refl, refl)
+      go : IsUninstalled q k cell → IsBalancedAt q k cell
+      go (inl (entered, does)) =
+          let draws = drawn q sound k cell found entered in
+          awaited-cases q sound k cell found awaited
+          (λ later. by-signs state.Empty is later owner draws (refl, refl))
+          (λ now. by-signs state.Empty is now owner draws (refl, refl))
+      go (inr (ahead, nobody)) =
+          let draws = undrawn q sound k cell found ahead nobody in
+          let reached : nat_le q.resumes k ≡ false = lt-leb q.resumes k
+          (reached_undrawn q sound k cell found ahead) in
+          awaited-cases q sound k cell found awaited
+          (λ later. absurd (both_ways (nat_le q.resumes k) reached later.unreached))
+          (λ now. by-signs state.Empty is now owner draws (refl, refl))
 
   value-balanced : cell.state ≡ state.Value → IsUninstalled q k cell → k < q.resumes → IsBalancedAt q k cell
   value-balanced is place reached = go place
     where
-      owner : Owner false false false
-      owner = not-cancelling (rw is (λ h. h))
+      owner : Owner q sound k cell found false false false
+      owner = not-cancelling q sound k cell found (rw is (λ h. h))
 
-      meets : Meets false false
-      meets = ended-meets (rw is (λ h. h)) reached
+      meets : Meets q sound k cell found false false
+      meets = ended-meets q sound k cell found (rw is (λ h. h)) reached
 
       go : IsUninstalled q k cell → IsBalancedAt q k cell
       go (inl (entered, does)) =
-          rw (is, owner.passing, owner.refusing, meets.unreached, meets.ticket, entered-drawn entered, entered.owner) (refl, refl)
+          by-signs state.Value is meets owner (drawn q sound k cell found entered) (refl, refl)
       go (inr (ahead, nobody)) =
-          rw (is, owner.passing, owner.refusing, meets.unreached, meets.ticket, le-leb q.suspends k ahead, nobody) (refl, refl)
+          by-signs state.Value is meets owner (undrawn q sound k cell found ahead nobody) (refl, refl)
 
-  -- the cells that are being cancelled stand in the line until the primitive has answered
+  -- a wait that is being cancelled: in the line until its owner is told, and then gone or declined
 
-  cancelling-balanced : cell.state ≡ state.Cancelling → IsLeft q k cell → IsAwaited q k → IsBalancedAt q k cell
-  cancelling-balanced is left awaited = go (cancelling-cases left) (awaited-cases awaited)
-    where
-      drawn : nat_le q.suspends k ≡ false
-      drawn = entered-drawn left.entered
+  cancelling-balanced : cell.state ≡ state.Cancelling → IsLeft q k cell → IsAwaited q k
+      → IsBalancedAt q k cell
+  cancelling-balanced is left awaited =
+      let draws = drawn q sound k cell found left.entered in
+      awaited-cases q sound k cell found awaited
+      (λ later. cancelling-cases q sound k cell found left
+      (λ leaves. by-signs state.Cancelling is later leaves draws (refl, refl))
+      (λ passes. by-signs state.Cancelling is later passes draws (refl, refl))
+      (λ refuses. by-signs state.Cancelling is later refuses draws (refl, refl)))
+      (λ now. cancelling-cases q sound k cell found left
+      (λ leaves. by-signs state.Cancelling is now leaves draws (refl, refl))
+      (λ passes. by-signs state.Cancelling is now passes draws (refl, refl))
+      (λ refuses. by-signs state.Cancelling is now refuses draws (refl, refl)))
 
-      go : Owner true false false ⊎ (Owner false true false ⊎ Owner false false true) → Meets true false ⊎ Meets false true
-        → IsBalancedAt q k cell
-      go (inl owner) (inl meets) =
-          rw (is, owner.leaving, owner.passing, owner.refusing, meets.unreached, meets.ticket, drawn, left.entered.owner) (refl, refl)
-      go (inl owner) (inr meets) =
-          rw (is, owner.leaving, owner.passing, owner.refusing, meets.unreached, meets.ticket, drawn, left.entered.owner) (refl, refl)
-      go (inr (inl owner)) (inl meets) =
-          rw (is, owner.leaving, owner.passing, owner.refusing, meets.unreached, meets.ticket, drawn, left.entered.owner) (refl, refl)
-      go (inr (inl owner)) (inr meets) =
-          rw (is, owner.leaving, owner.passing, owner.refusing, meets.unreached, meets.ticket, drawn, left.entered.owner) (refl, refl)
-      go (inr (inr owner)) (inl meets) =
-          rw (is, owner.leaving, owner.passing, owner.refusing, meets.unreached, meets.ticket, drawn, left.entered.owner) (refl, refl)
-      go (inr (inr owner)) (inr meets) =
-          rw (is, owner.leaving, owner.passing, owner.refusing, meets.unreached, meets.ticket, drawn, left.entered.owner) (refl, refl)
+  delegated-balanced : cell.state ≡ state.Delegated → IsLeft q k cell → k < q.resumes
+      → IsBalancedAt q k cell
+  delegated-balanced is left reached =
+      let draws = drawn q sound k cell found left.entered in
+      let meets = ended-meets q sound k cell found (rw is (λ h. h)) reached in
+      cancelling-cases q sound k cell found left
+      (λ leaves. by-signs state.Delegated is meets leaves draws (refl, refl))
+      (λ passes. by-signs state.Delegated is meets passes draws (refl, refl))
+      (λ refuses. by-signs state.Delegated is meets refuses draws (refl, refl))
 
-  delegated-balanced : cell.state ≡ state.Delegated → IsLeft q k cell → k < q.resumes → IsBalancedAt q k cell
-  delegated-balanced is left reached = go (cancelling-cases left)
-    where
-      meets : Meets false false
-      meets = ended-meets (rw is (λ h. h)) reached
-
-      drawn : nat_le q.suspends k ≡ false
-      drawn = entered-drawn left.entered
-
-      go : Owner true false false ⊎ (Owner false true false ⊎ Owner false false true) → IsBalancedAt q k cell
-      go (inl owner) =
-          rw (is, owner.leaving, owner.passing, owner.refusing, meets.unreached, meets.ticket, drawn, left.entered.owner) (refl, refl)
-      go (inr (inl owner)) =
-          rw (is, owner.leaving, owner.passing, owner.refusing, meets.unreached, meets.ticket, drawn, left.entered.owner) (refl, refl)
-      go (inr (inr owner)) =
-          rw (is, owner.leaving, owner.passing, owner.refusing, meets.unreached, meets.ticket, drawn, left.entered.owner) (refl, refl)
-
-  -- the cells that have left the line
+  -- a cell that is gone, or refused: what it adds hangs on the resumption that comes, has come, or stands
+  -- there
 
   cancelled-balanced : cell.state ≡ state.Cancelled → IsEntered q k cell → IsBalancedAt q k cell
-  cancelled-balanced is entered = go left-cases
-    where
-      owner : Owner false false false
-      owner = not-cancelling (rw is (λ h. h))
-
-      drawn : nat_le q.suspends k ≡ false
-      drawn = entered-drawn entered
-
-      go : Meets true false ⊎ (Meets false true ⊎ Meets false false) → IsBalancedAt q k cell
-      go (inl meets) = rw (is, owner.refusing, meets.unreached, meets.ticket, drawn, entered.owner) (refl, refl)
-      go (inr (inl meets)) = rw (is, owner.refusing, meets.unreached, meets.ticket, drawn, entered.owner) (refl, refl)
-      go (inr (inr meets)) = rw (is, owner.refusing, meets.unreached, meets.ticket, drawn, entered.owner) (refl, refl)
+  cancelled-balanced is entered =
+      let owner = not-cancelling q sound k cell found (rw is (λ h. h)) in
+      let draws = drawn q sound k cell found entered in
+      left-cases q sound k cell found
+      (λ later. by-signs state.Cancelled is later owner draws (refl, refl))
+      (λ now. by-signs state.Cancelled is now owner draws (refl, refl))
+      (λ before. by-signs state.Cancelled is before owner draws (refl, refl))
 
   refused-balanced : cell.state ≡ state.Refused → IsEntered q k cell → IsBalancedAt q k cell
-  refused-balanced is entered = go left-cases
-    where
-      owner : Owner false false false
-      owner = not-cancelling (rw is (λ h. h))
+  refused-balanced is entered =
+      let owner = not-cancelling q sound k cell found (rw is (λ h. h)) in
+      let draws = drawn q sound k cell found entered in
+      left-cases q sound k cell found
+      (λ later. by-signs state.Refused is later owner draws (refl, refl))
+      (λ now. by-signs state.Refused is now owner draws (refl, refl))
+      (λ before. by-signs state.Refused is before owner draws (refl, refl))
 
-      drawn : nat_le q.suspends k ≡ false
-      drawn = entered-drawn entered
-
-      go : Meets true false ⊎ (Meets false true ⊎ Meets false false) → IsBalancedAt q k cell
-      go (inl meets) = rw (is, owner.passing, owner.refusing, meets.unreached, meets.ticket, drawn, entered.owner) (refl, refl)
-      go (inr (inl meets)) =
-          rw (is, owner.passing, owner.refusing, meets.unreached, meets.ticket, drawn, entered.owner) (refl, refl)
-      go (inr (inr meets)) =
-          rw (is, owner.passing, owner.refusing, meets.unreached, meets.ticket, drawn, entered.owner) (refl, refl)
+  -- a wait that was served adds nothing
 
   taken-balanced : cell.state ≡ state.Taken → IsEntered q k cell → k < q.resumes → IsBalancedAt q k cell
   taken-balanced is entered reached =
-      let owner : Owner false false false = not-cancelling (rw is (λ h. h)) in
-      let meets : Meets false false = ended-meets (rw is (λ h. h)) reached in
-      rw (is, owner.passing, owner.refusing, meets.unreached, meets.ticket, entered-drawn entered, entered.owner) (refl, refl)
+      let owner = not-cancelling q sound k cell found (rw is (λ h. h)) in
+      let meets = ended-meets q sound k cell found (rw is (λ h. h)) reached in
+      by-signs state.Taken is meets owner (drawn q sound k cell found entered) (refl, refl)
 
   resumed-balanced : cell.state ≡ state.Resumed → IsEntered q k cell → k < q.resumes → IsBalancedAt q k cell
   resumed-balanced is entered reached =
-      let owner : Owner false false false = not-cancelling (rw is (λ h. h)) in
-      let meets : Meets false false = ended-meets (rw is (λ h. h)) reached in
-      rw (is, owner.passing, owner.refusing, meets.unreached, meets.ticket, entered-drawn entered, entered.owner) (refl, refl)
+      let owner = not-cancelling q sound k cell found (rw is (λ h. h)) in
+      let meets = ended-meets q sound k cell found (rw is (λ h. h)) reached in
+      by-signs state.Resumed is meets owner (drawn q sound k cell found entered) (refl, refl)
 
   pub balanced-at : IsBalancedAt q k cell
   balanced-at = go cell.state refl (sound.cells.at k cell found)

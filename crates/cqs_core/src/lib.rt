@@ -8,6 +8,7 @@ mod entries;
 mod errors;
 mod events;
 mod law;
+mod laws;
 mod outcomes;
 
 pub use calls::{Call, Reply};
@@ -17,4 +18,8 @@ pub use entries::Entry;
 pub use errors::CoreError;
 pub use events::Event;
 pub use law::every_run_is_legal;
+pub use laws::{
+    one_permit_goes_to_the_first, permits_are_collected_once, permits_are_conserved,
+    service_is_in_order, waits_end_once,
+};
 pub use outcomes::Outcome;

@@ -18,30 +18,29 @@ module _ {X : Type 0} where
   pub count-from : (p : ℕ → X → Bool) (n : ℕ) (xs : List X)
       → count_at (λ k x. nat_le n k && p k x) 0 xs ≡ count_at p n (drop n xs)
   count-from p n xs =
-      let split = total-split (λ k x. bit (nat_le n k && p k x)) 0 xs n n (omega arith) in
-      let below : total_at (λ k x. bit (nat_le n k && p k x)) 0 (take n xs)
-      ≡ total_at (λ k x. 0) 0 (take n xs) =
-      total-same _ _ 0 (take n xs) (take n xs) refl
-      (λ i m x y at f g.
-      let low : nat_le n m ≡ false = lt-leb n m
-      (omega (arith, get-below (take n xs) i x f, length-take n xs)) in
-      rw low refl) in
-      let past : total_at (λ k x. bit (nat_le n k && p k x)) n (drop n xs)
-      ≡ total_at (λ k x. bit (p k x)) n (drop n xs) =
-      total-same _ _ n (drop n xs) (drop n xs) refl
-      (λ i m x y at f g.
-      let high : nat_le n m ≡ true = le-leb n m (omega arith) in
-      let same : x ≡ y = cc in
-      rw (high, same) refl) in
-      omega (
-        arith,
-        split,
-        below,
-        past,
-        total-zero 0 (take n xs),
-        count_at-total (λ k x. nat_le n k && p k x) 0 xs,
-        count_at-total p n (drop n xs),
-      )
+      let split = total-split weight 0 xs n n (omega arith) in
+      let low = total-same weight (λ k x. 0) 0 (take n xs) (take n xs) refl below in
+      let none = total-zero 0 (take n xs) in
+      let high = total-same weight (λ k x. bit (p k x)) n (drop n xs) (drop n xs) refl past in
+      let whole = count_at-total (λ k x. nat_le n k && p k x) 0 xs in
+      omega (arith, split, low, none, high, whole, count_at-total p n (drop n xs))
+    where
+      weight : ℕ → X → ℕ
+      weight k x = bit (nat_le n k && p k x)
+
+      below : (i m : ℕ) (x y : X) → m ≡ 0 + i → slice_get (take n xs) i ≡ Some x
+        → slice_get (take n xs) i ≡ Some y → weight m x ≡ 0
+      below i m x y at f g =
+          let few : i < n = omega (arith, get-below (take n xs) i x f, length-take n xs) in
+          let less : nat_le n m ≡ false = lt-leb n m (omega arith) in
+          rw less refl
+
+      past : (i m : ℕ) (x y : X) → m ≡ n + i → slice_get (drop n xs) i ≡ Some x
+        → slice_get (drop n xs) i ≡ Some y → weight m x ≡ bit (p m y)
+      past i m x y at f g =
+          let more : nat_le n m ≡ true = le-leb n m (omega arith) in
+          let same : x ≡ y = cc in
+          rw (more, same) refl
 
   pub count-take-le : (p : ℕ → X → Bool) (m : ℕ) (xs : List X) → count_at p 0 (take m xs) ≤ count_at p 0 xs
   count-take-le p m xs =
@@ -163,6 +162,17 @@ declines-takes q sound j cell found declines = go (cases_Bool (will_take q j cel
 pub decliners-le : (q : Queue) → IsSound q → Covers q → decliners q ≤ roaming q
 decliners-le q sound covers = go (last (will_decline q) 0 q.cells)
   where
+    takes-each : (m j : ℕ) (x y : CoreCell) → slice_get (take m q.cells) j ≡ Some x
+      → slice_get (take m q.cells) j ≡ Some y → will_decline q j x ≡ true → will_take q j y ≡ true
+    takes-each m j x y f g declines =
+        let same : x ≡ y = cc in
+        rw (← same) (declines-takes q sound j x (get-take_back m q.cells j x f) declines)
+
+    takes-all : (m : ℕ)
+      → count_at (will_decline q) 0 (take m q.cells) ≤ count_at (will_take q) 0 (take m q.cells)
+    takes-all m = count_at-le (will_decline q) (will_take q) (take m q.cells) (take m q.cells) refl (takes-each m)
+
+    -- the last declined cell ahead covers them all
     go : (decliners q ≡ 0) ⊎ Last (will_decline q) 0 q.cells → decliners q ≤ roaming q
     go (inl none) = omega arith
     go (inr l) =
@@ -170,9 +180,4 @@ decliners-le q sound covers = go (last (will_decline q) 0 q.cells)
         let there : slice_get q.cells l.number ≡ Some l.element = rw number l.there in
         let bound = covers.at l.number l.element there l.passes in
         let all = l.all (l.number + 1) (omega arith) in
-        let each = count_at-le (will_decline q) (will_take q) (take (l.number + 1) q.cells)
-        (take (l.number + 1) q.cells) refl
-        (λ j x y f g declines.
-        let same : x ≡ y = cc in
-        rw (← same) (declines-takes q sound j x (get-take_back (l.number + 1) q.cells j x f) declines)) in
-        omega (arith, bound, all, each)
+        omega (arith, bound, all, takes-all (l.number + 1))

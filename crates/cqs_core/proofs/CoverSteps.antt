@@ -138,13 +138,17 @@ module _ (q : Queue) (p k : ℕ) (old d : Doing) (was now : CoreCell)
       → roaming q ≤ roaming (stepped q p d k now)
   roaming-step roams =
       let owing = count_by-write is_owing q.doing p old d does in
-      let passing = count_at-change (is_passing_by q.doing) (is_passing_by (set q.doing p d)) q.cells
-      (set q.cells k now)
-      k was now (sym (length-set q.cells k now)) found (get-set_here q.cells k was now found)
-      (λ j x y ne f g.
-      let same = passing_by-else q p k old d does names_old names j x ne in
-      rw (← kept j x y ne f g) (sym same)) in
+      let long = sym (length-set q.cells k now) in
+      let written = get-set_here q.cells k was now found in
+      let passing = count_at-change (is_passing_by q.doing) (is_passing_by (set q.doing p d))
+        q.cells (set q.cells k now) k was now long found written elsewhere in
       omega (arith, owing, passing)
+    where
+      elsewhere : (j : ℕ) (x y : CoreCell) → j ≢ k → slice_get q.cells j ≡ Some x
+        → slice_get (set q.cells k now) j ≡ Some y → is_passing_by q.doing j x ≡ is_passing_by (set q.doing p d) j y
+      elsewhere j x y ne f g =
+          let same = passing_by-else q p k old d does names_old names j x ne in
+          rw (← kept j x y ne f g) (sym same)
 
   -- a cell that takes a resumption now took it before
   pub takes-step : (is_gone q.doing k was ≡ true → is_gone (set q.doing p d) k now ≡ true)

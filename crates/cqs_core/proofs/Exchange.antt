@@ -33,20 +33,29 @@ module _ {A X : Type 0} where
       → ((k : ℕ) (x : X) → slice_get xs k ≡ Some x → count_by (related k) ps ≡ bit (q k x))
       → count_by p ps ≡ count_at q 0 xs
   count-exchange related p q ps xs rows columns =
-      let by_rows : total_at (λ m a. total_at (λ n x. bit (related n a)) 0 xs) 0 ps ≡ total_at
-      (λ m a. bit (p a)) 0 ps =
-      total-same _ _ 0 ps ps refl
-      (λ i n a b at f g. let same : a ≡ b = cc in
-      sym (count_at-total (λ n x. related n a) 0 xs) ∙ rows i a f ∙ ap (λ c. bit (p c)) same) in
-      let by_columns : total_at (λ n x. total_at (λ m a. bit (related n a)) 0 ps) 0 xs ≡ total_at
-      (λ n x. bit (q n x)) 0 xs =
-      total-same _ _ 0 xs xs refl
-      (λ i n x y at f g.
-      let same : x ≡ y = cc in
-      let number : n ≡ i = omega arith in
-      sym (count_by-total (related n) 0 ps) ∙ rw (number, ← same) (columns i x f)) in
-      count_by-total p 0 ps ∙ sym by_rows ∙ rows-columns (λ a n x. bit (related n a)) 0 ps 0 xs ∙ by_columns
+      count_by-total p 0 ps
+      ∙ total-same (λ m a. bit (p a)) row_sum 0 ps ps refl each_row
+      ∙ rows-columns (λ a n x. bit (related n a)) 0 ps 0 xs
+      ∙ total-same column_sum (λ n x. bit (q n x)) 0 xs xs refl each_column
       ∙ sym (count_at-total q 0 xs)
+    where
+      row_sum : ℕ → A → ℕ
+      row_sum m a = total_at (λ n x. bit (related n a)) 0 xs
+
+      column_sum : ℕ → X → ℕ
+      column_sum n x = total_at (λ m a. bit (related n a)) 0 ps
+
+      each_row : (i n : ℕ) (a b : A) → n ≡ 0 + i → slice_get ps i ≡ Some a → slice_get ps i ≡ Some b
+        → bit (p a) ≡ row_sum n b
+      each_row i n a b at f g =
+          let same : a ≡ b = cc in
+          ap (λ c. bit (p c)) same ∙ sym (rows i b g) ∙ count_at-total (λ m x. related m b) 0 xs
+
+      each_column : (i n : ℕ) (x y : X) → n ≡ 0 + i → slice_get xs i ≡ Some x → slice_get xs i ≡ Some y
+        → column_sum n x ≡ bit (q n y)
+      each_column i n x y at f g =
+          let number : n ≡ i = omega arith in
+          sym (count_by-total (related n) 0 ps) ∙ rw number (columns i y g)
 
 -- the pass has a ticket
 abbrev pub is_holding : Doing → Bool

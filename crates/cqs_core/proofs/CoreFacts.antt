@@ -4,7 +4,6 @@ use Rattle.std.proofs.Common.{◌≡◌, ◌⊎◌, inl, inr, ℕ, ◌+◌, ◌-
 use Rattle.std.proofs.lemmas.Bool.{cases_lt}
 use Rattle.std.proofs.lemmas.Int.{ints}
 use Rattle.std.proofs.lemmas.List.{get_or_past}
-use Rattle.cqs_core.specs.QueueLine as queue
 use Rattle.cqs_core.specs.SemaphoreObject.{Semaphore, due}
 use Rattle.cqs_core.specs.SemaphoreEntries.{object_after, IsBalanced}
 use Rattle.cqs_core.specs.SemaphoreTable.{Shape, last_number}

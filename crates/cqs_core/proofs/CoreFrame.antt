@@ -16,7 +16,7 @@ use Rattle.cqs_core.specs.SemaphoreEntries.{IsAllowed, after_entry, object_after
 use Rattle.cqs_core.specs.SemaphoreTable.{Shape, lowest, last_number}
 use Rattle.cqs_core.specs.SemaphoreShown.{IsCore, HasLoaded, shown, free_of, short_of}
 use Rattle.cqs_core.proofs.EachAtLemmas.{EachAt-write}
-use Rattle.cqs_core.proofs.History.{object-push, legal-push}
+use Rattle.cqs_core.proofs.HistoryPush.{object-push, legal-push}
 use Rattle.cqs_core.proofs.Promised.{sound-moved, covered-moved}
 
 pub same-semaphore : {a b : Semaphore} → a.free ≡ b.free → a.way ≡ b.way → a.door ≡ b.door → a.line ≡ b.line

@@ -37,7 +37,7 @@ pub mod HiddenMoves
 pub mod DrawMoves
 pub mod DeliveryMoves
 pub mod LineMoves
-pub mod History
+pub mod HistoryPush
 pub mod RowsKeep
 pub mod CoreFrame
 pub mod CoreSteps

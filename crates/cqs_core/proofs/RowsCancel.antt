@@ -1,6 +1,6 @@
 -- The steps of a cancellation keep the core, but for the answer of its primitive: the waiter begins to leave,
 -- or finds itself served, and the cell gets its last state.
-use Rattle.std.proofs.Common.{ℕ, ◌+◌, ◌-◌, ◌<◌, true, false, length, set, slice_index, refl}
+use Rattle.std.proofs.Common.{ℕ, ◌+◌, ◌<◌, true, false, length, set, slice_index, refl}
 use Rattle.std.proofs.lemmas.List.{length-set}
 use Rattle.cqs_core.specs.declared.cells.CoreCell.{CoreCell}
 use Rattle.cqs_core.specs.declared.cells.CoreState.TheVariants as state
@@ -8,7 +8,6 @@ use Rattle.cqs_core.specs.declared.doings.Doing.TheVariants as doing
 use Rattle.cqs_core.specs.declared.entries.Entry.TheVariants as entry
 use Rattle.cqs_core.specs.QueueMoves as move
 use Rattle.cqs_core.specs.QueueMoves.{IsCancelling, Works, Owns}
-use Rattle.cqs_core.specs.QueueLine as queue
 use Rattle.cqs_core.specs.SemaphoreTable.{Shape, gains, records, moves}
 use Rattle.cqs_core.specs.SemaphoreShown.{IsCore}
 use Rattle.cqs_core.proofs.CoreFrame.{loaded-turn}

@@ -1,5 +1,5 @@
 -- Each row of the table keeps the core, and so does each call that answers by a row.
-use Rattle.std.proofs.Common.{◌≡◌, ℕ, ◌<◌, ℤ, ◌≤ℤ◌, ◌<ℤ◌, Bool, true, false, Option, Some, None, Result, Ok, Err, slice_get, refl, arith, if◌then◌else◌, int_lt, int_le, ltb-true, eqb-true}
+use Rattle.std.proofs.Common.{◌≡◌, ℕ, ℤ, ◌≤ℤ◌, ◌<ℤ◌, Bool, true, false, Option, Some, None, Result, Ok, Err, slice_get, refl, arith, if◌then◌else◌, int_lt, int_le, ltb-true, eqb-true}
 use Rattle.std.proofs.lemmas.Bool.{and_parts}
 use Rattle.std.proofs.lemmas.Int.{ints}
 use Rattle.std.proofs.lemmas.Bool.Decides.{Decides-int_eq}

@@ -29,14 +29,14 @@ module _ {X : Type 0} where
       weight k x = bit (nat_le n k && p k x)
 
       below : (i m : ℕ) (x y : X) → m ≡ 0 + i → slice_get (take n xs) i ≡ Some x
-        → slice_get (take n xs) i ≡ Some y → weight m x ≡ 0
+          → slice_get (take n xs) i ≡ Some y → weight m x ≡ 0
       below i m x y at f g =
           let few : i < n = omega (arith, get-below (take n xs) i x f, length-take n xs) in
           let less : nat_le n m ≡ false = lt-leb n m (omega arith) in
           rw less refl
 
       past : (i m : ℕ) (x y : X) → m ≡ n + i → slice_get (drop n xs) i ≡ Some x
-        → slice_get (drop n xs) i ≡ Some y → weight m x ≡ bit (p m y)
+          → slice_get (drop n xs) i ≡ Some y → weight m x ≡ bit (p m y)
       past i m x y at f g =
           let more : nat_le n m ≡ true = le-leb n m (omega arith) in
           let same : x ≡ y = cc in
@@ -163,13 +163,13 @@ pub decliners-le : (q : Queue) → IsSound q → Covers q → decliners q ≤ ro
 decliners-le q sound covers = go (last (will_decline q) 0 q.cells)
   where
     takes-each : (m j : ℕ) (x y : CoreCell) → slice_get (take m q.cells) j ≡ Some x
-      → slice_get (take m q.cells) j ≡ Some y → will_decline q j x ≡ true → will_take q j y ≡ true
+        → slice_get (take m q.cells) j ≡ Some y → will_decline q j x ≡ true → will_take q j y ≡ true
     takes-each m j x y f g declines =
         let same : x ≡ y = cc in
         rw (← same) (declines-takes q sound j x (get-take_back m q.cells j x f) declines)
 
     takes-all : (m : ℕ)
-      → count_at (will_decline q) 0 (take m q.cells) ≤ count_at (will_take q) 0 (take m q.cells)
+        → count_at (will_decline q) 0 (take m q.cells) ≤ count_at (will_take q) 0 (take m q.cells)
     takes-all m = count_at-le (will_decline q) (will_take q) (take m q.cells) (take m q.cells) refl (takes-each m)
 
     -- the last declined cell ahead covers them all

@@ -141,11 +141,11 @@ module _ (q : Queue) (p k : ℕ) (old d : Doing) (was now : CoreCell)
       let long = sym (length-set q.cells k now) in
       let written = get-set_here q.cells k was now found in
       let passing = count_at-change (is_passing_by q.doing) (is_passing_by (set q.doing p d))
-        q.cells (set q.cells k now) k was now long found written elsewhere in
+      q.cells (set q.cells k now) k was now long found written elsewhere in
       omega (arith, owing, passing)
     where
       elsewhere : (j : ℕ) (x y : CoreCell) → j ≢ k → slice_get q.cells j ≡ Some x
-        → slice_get (set q.cells k now) j ≡ Some y → is_passing_by q.doing j x ≡ is_passing_by (set q.doing p d) j y
+          → slice_get (set q.cells k now) j ≡ Some y → is_passing_by q.doing j x ≡ is_passing_by (set q.doing p d) j y
       elsewhere j x y ne f g =
           let same = passing_by-else q p k old d does names_old names j x ne in
           rw (← kept j x y ne f g) (sym same)

@@ -46,13 +46,13 @@ module _ {A X : Type 0} where
       column_sum n x = total_at (λ m a. bit (related n a)) 0 ps
 
       each_row : (i n : ℕ) (a b : A) → n ≡ 0 + i → slice_get ps i ≡ Some a → slice_get ps i ≡ Some b
-        → bit (p a) ≡ row_sum n b
+          → bit (p a) ≡ row_sum n b
       each_row i n a b at f g =
           let same : a ≡ b = cc in
           ap (λ c. bit (p c)) same ∙ sym (rows i b g) ∙ count_at-total (λ m x. related m b) 0 xs
 
       each_column : (i n : ℕ) (x y : X) → n ≡ 0 + i → slice_get xs i ≡ Some x → slice_get xs i ≡ Some y
-        → column_sum n x ≡ bit (q n y)
+          → column_sum n x ≡ bit (q n y)
       each_column i n x y at f g =
           let number : n ≡ i = omega arith in
           sym (count_by-total (related n) 0 ps) ∙ rw number (columns i y g)

@@ -1,12 +1,11 @@
 -- Sums over lists whose elements have numbers, for any weight of an element and its number; counts are sums
 -- of weights 0 and 1. Two lists of one length are compared element by element, so that a write, a push and
 -- a change of the test at one number are all read off the same few lemmas.
-use Rattle.std.proofs.Common.{◌≡◌, ◌≢◌, ◌⊎◌, inl, inr, ℕ, zero, suc, ◌+◌, ◌<◌, ◌≤◌, Bool, true, false, cond, List, [], ◌∷◌, ◌++◌, Option, Some, None, length, take, drop, set, slice_get, refl, ap, sym, ◌∙◌, arith, length-set}
+use Rattle.std.proofs.Common.{◌≡◌, ◌≢◌, ℕ, zero, suc, ◌+◌, ◌≤◌, Bool, true, false, cond, List, [], ◌∷◌, ◌++◌, Some, length, take, drop, set, slice_get, refl, ap, sym, ◌∙◌, arith, length-set}
 use Rattle.std.specs.List.{count_by}
-use Rattle.std.proofs.lemmas.Bool.{cases_eq}
 use Rattle.std.proofs.lemmas.List.Sums.{sum_by-cons, sum_by_push}
 use Rattle.cqs_core.specs.Numbered.{count_at}
-use Rattle.cqs_core.proofs.Places.{get-set_here, get-set_else, get-below}
+use Rattle.cqs_core.proofs.Places.{get-set_here, get-set_else}
 
 -- a test as a weight
 abbrev pub bit : Bool → ℕ

@@ -2,8 +2,8 @@
 -- a cell that is told to pass on takes none any more; and a cell may be refused where as many are under way
 -- as must be resumed, since then all that will take a resumption ahead are covered, wherever the declined
 -- ones stand.
-use Rattle.std.proofs.Common.{◌≡◌, ◌⊎◌, inl, inr, ℕ, ◌+◌, ◌≤◌, ◌<◌, max, nat_le, ◌&&◌, ◌||◌, Bool, true, false, Option, Some, None, List, [], ◌∷◌, length, take, set, slice_get, refl, ap, sym, ◌∙◌, subst, arith, eq-eqb, length-set}
-use Rattle.std.proofs.lemmas.Bool.{and_parts, and_from, or_right, both_ways, lt-leb, leb-true, false≢true}
+use Rattle.std.proofs.Common.{◌≡◌, ℕ, ◌+◌, ◌≤◌, ◌<◌, nat_le, ◌||◌, Bool, true, false, Option, Some, List, length, take, set, slice_get, refl, ap, sym, ◌∙◌, arith, eq-eqb, length-set}
+use Rattle.std.proofs.lemmas.Bool.{and_parts, and_from, or_right, both_ways, lt-leb, leb-true}
 use Rattle.cqs_core.specs.declared.cells.CoreCell.{CoreCell}
 use Rattle.cqs_core.specs.declared.cells.CoreState.{CoreState}
 use Rattle.cqs_core.specs.declared.cells.CoreState.TheVariants as state
@@ -11,7 +11,7 @@ use Rattle.cqs_core.specs.declared.doings.Doing.{Doing}
 use Rattle.cqs_core.specs.declared.doings.Doing.TheVariants as doing
 use Rattle.cqs_core.specs.Numbered.{count_at}
 use Rattle.cqs_core.specs.QueueState.{Queue, owner_doing, is_passing_on, is_refusing, has_ticket}
-use Rattle.cqs_core.specs.QueueLine.{going, ending, due, door, line}
+use Rattle.cqs_core.specs.QueueLine.{going, ending, due}
 use Rattle.cqs_core.specs.QueueMoves as move
 use Rattle.cqs_core.specs.QueueMoves.{Works, IsCancelling, moved, now_doing}
 use Rattle.cqs_core.specs.QueueCover.{IsFair, roaming, is_gone_at, is_declined_at, is_gone, is_declined, is_delegated, is_passing_by}
@@ -20,7 +20,7 @@ use Rattle.cqs_core.proofs.Places.{get-below}
 use Rattle.cqs_core.proofs.Counts.{bit, bit-le, count_at-none}
 use Rattle.cqs_core.proofs.Tickets.{has_ticket-frame, owner_doing-frame, owner_doing-here}
 use Rattle.cqs_core.proofs.Letters.{is_undrawn, will_take, will_decline}
-use Rattle.cqs_core.proofs.Equations.{HasFlow, flow, takers, early}
+use Rattle.cqs_core.proofs.Equations.{HasFlow, flow, takers}
 use Rattle.cqs_core.proofs.CoverLemmas.{Covers, NoNewTakers, count-take-le, takers-le}
 use Rattle.cqs_core.proofs.CoverSteps.{IsToldAlike, names-idle, names-owes, names-ticket, names-leaving, names-decided, stepped, covers-step, takes-step, roaming-step}
 use Rattle.cqs_core.proofs.CoveredPlain.{IsLike, recast, gone-recast, covers-recast, covers-unwritten}

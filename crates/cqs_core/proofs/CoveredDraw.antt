@@ -1,6 +1,6 @@
 -- A draw keeps cover: the line grows at its end, and no cell is declined there. The suspend finds a cell that a resume made
 -- before, Empty or with its value, or makes the last cell itself.
-use Rattle.std.proofs.Common.{◌≡◌, ◌≢◌, ◌⊎◌, inl, inr, ℕ, suc, ◌+◌, ◌≤◌, ◌<◌, max, nat_le, ◌&&◌, not, Bool, true, false, Option, Some, None, List, [], ◌∷◌, ◌++◌, length, take, set, slice_get, refl, ap, sym, ◌∙◌, subst, arith}
+use Rattle.std.proofs.Common.{◌≡◌, ◌≢◌, ◌⊎◌, inl, inr, ℕ, ◌+◌, ◌≤◌, ◌<◌, nat_le, true, false, Option, Some, None, List, [], ◌∷◌, length, take, set, slice_get, refl, ap, sym, ◌∙◌, subst, arith}
 use Rattle.std.proofs.lemmas.Bool.{cases_lt, and_parts, both_ways}
 use Rattle.std.proofs.lemmas.List.{length_push, take-append-le}
 use Rattle.cqs_core.specs.declared.cells.CoreCell.{CoreCell}

@@ -1,5 +1,5 @@
 -- Every move that may be made keeps cover.
-use Rattle.std.proofs.Common.{◌≡◌, ℕ, Bool, true, false, Option, Some}
+use Rattle.std.proofs.Common.{true, false}
 use Rattle.cqs_core.specs.QueueState.{Queue}
 use Rattle.cqs_core.specs.QueueMoves as move
 use Rattle.cqs_core.specs.QueueMoves.{Move, IsOpen, moved}

@@ -1,12 +1,11 @@
 -- Sums over lists whose elements have numbers, for any weight of an element and its number; counts are sums
 -- of weights 0 and 1. Two lists of one length are compared element by element, so that a write, a push and
 -- a change of the test at one number are all read off the same few lemmas.
-use Rattle.std.proofs.Common.{◌≡◌, ◌≢◌, ◌⊎◌, inl, inr, ℕ, zero, suc, ◌+◌, ◌<◌, ◌≤◌, Bool, true, false, cond, List, [], ◌∷◌, ◌++◌, Option, Some, None, length, take, drop, set, slice_get, refl, ap, sym, ◌∙◌, arith, length-set}
+use Rattle.std.proofs.Common.{◌≡◌, ◌≢◌, ℕ, zero, suc, ◌+◌, ◌≤◌, Bool, true, false, cond, List, [], ◌∷◌, ◌++◌, Some, length, take, drop, set, slice_get, refl, ap, sym, ◌∙◌, arith, length-set}
 use Rattle.std.specs.List.{count_by}
-use Rattle.std.proofs.lemmas.Bool.{cases_eq}
 use Rattle.std.proofs.lemmas.List.Sums.{sum_by-cons, sum_by_push}
 use Rattle.cqs_core.specs.Numbered.{count_at}
-use Rattle.cqs_core.proofs.Places.{get-set_here, get-set_else, get-below}
+use Rattle.cqs_core.proofs.Places.{get-set_here, get-set_else}
 
 -- a test as a weight
 abbrev pub bit : Bool → ℕ
@@ -129,7 +128,7 @@ module _ {X : Type 0} where
       counts-total ps 0 xs ∙ total-same (points ps) (points qs) 0 xs xs refl equal ∙ sym (counts-total qs 0 xs)
     where
       equal : (i n : ℕ) (x y : X) → n ≡ 0 + i → slice_get xs i ≡ Some x → slice_get xs i ≡ Some y
-        → points ps n x ≡ points qs n y
+          → points ps n x ≡ points qs n y
       equal i n x y at f g =
           let number : n ≡ i = omega arith in
           let same : x ≡ y = cc in
@@ -152,7 +151,7 @@ module _ {X : Type 0} where
       weigh_q n x = bit (q n x)
 
       elsewhere : (j m : ℕ) (x y : X) → m ≡ 0 + j → m ≢ k → slice_get xs j ≡ Some x → slice_get ys j ≡ Some y
-        → weigh_p m x ≡ weigh_q m y
+          → weigh_p m x ≡ weigh_q m y
       elsewhere j m x y at ne f g =
           let same : m ≡ j = omega arith in
           let other : j ≢ k = λ e. ne (same ∙ e) in
@@ -176,14 +175,14 @@ module _ {X : Type 0} where
       omega (arith, less, count_at-total p 0 xs, count_at-total q 0 ys)
     where
       each : (i n : ℕ) (x y : X) → n ≡ 0 + i → slice_get xs i ≡ Some x → slice_get ys i ≡ Some y
-        → bit (p n x) ≤ bit (q n y)
+          → bit (p n x) ≤ bit (q n y)
       each i n x y at f g =
           let number : n ≡ i = omega arith in
           rw number (bit-le (p i x) (q i y) (follows i x y f g))
 
   -- two counts of one list by tests that agree on its elements
   pub count_at-agree : (p q : ℕ → X → Bool) (xs : List X)
-    → ((j : ℕ) (x : X) → slice_get xs j ≡ Some x → p j x ≡ q j x) → count_at p 0 xs ≡ count_at q 0 xs
+      → ((j : ℕ) (x : X) → slice_get xs j ≡ Some x → p j x ≡ q j x) → count_at p 0 xs ≡ count_at q 0 xs
   count_at-agree p q xs agree = count_at-same p q xs xs refl each
     where
       each : (j : ℕ) (x y : X) → slice_get xs j ≡ Some x → slice_get xs j ≡ Some y → p j x ≡ q j y
@@ -191,8 +190,8 @@ module _ {X : Type 0} where
 
   -- two counts of one list by tests that agree on its elements but one
   pub count_at-agree_but : (p q : ℕ → X → Bool) (xs : List X) (k : ℕ) (one : X) → slice_get xs k ≡ Some one
-    → ((j : ℕ) (x : X) → j ≢ k → slice_get xs j ≡ Some x → p j x ≡ q j x)
-    → count_at q 0 xs + bit (p k one) ≡ count_at p 0 xs + bit (q k one)
+      → ((j : ℕ) (x : X) → j ≢ k → slice_get xs j ≡ Some x → p j x ≡ q j x)
+      → count_at q 0 xs + bit (p k one) ≡ count_at p 0 xs + bit (q k one)
   count_at-agree_but p q xs k one there agree = count_at-change p q xs xs k one one refl there there each
     where
       each : (j : ℕ) (x y : X) → j ≢ k → slice_get xs j ≡ Some x → slice_get xs j ≡ Some y → p j x ≡ q j y
@@ -205,7 +204,7 @@ module _ {X : Type 0} where
       count_at-change p p xs (set xs k new) k old new (sym (length-set xs k new)) there written elsewhere
     where
       elsewhere : (j : ℕ) (x y : X) → j ≢ k → slice_get xs j ≡ Some x → slice_get (set xs k new) j ≡ Some y
-        → p j x ≡ p j y
+          → p j x ≡ p j y
       elsewhere j x y ne f g =
           let kept : slice_get xs j ≡ Some y = sym (get-set_else xs k j new (λ e. ne (sym e))) ∙ g in
           let same : x ≡ y = cc in

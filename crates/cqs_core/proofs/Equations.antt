@@ -2,9 +2,8 @@
 -- or stand at a number that no suspend has drawn yet: that is the way, exactly. The first equation counts
 -- the whole line against what will still take a resumption; the second counts only the waits that a resume
 -- was drawn for, against the declined cells ahead.
-use Rattle.std.proofs.Common.{◌≡◌, ℕ, ◌+◌, ◌≤◌, ◌||◌, Bool, true, false, List, [], ◌∷◌, length, refl, sym, ◌∙◌, arith}
+use Rattle.std.proofs.Common.{◌≡◌, ℕ, ◌+◌, Bool, List, [], ◌∷◌, length, refl, arith}
 use Rattle.std.specs.List.{count_by}
-use Rattle.cqs_core.specs.declared.cells.CoreCell.{CoreCell}
 use Rattle.cqs_core.specs.declared.doings.Doing.{Doing}
 use Rattle.cqs_core.specs.declared.doings.Doing.TheVariants as doing
 use Rattle.cqs_core.specs.Numbered.{count_at}

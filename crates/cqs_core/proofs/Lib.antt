@@ -18,7 +18,9 @@ pub mod FirstOfWay
 pub mod CoverSteps
 pub mod CoveredPlain
 pub mod CoveredCancel
-pub mod CoveredCounters
+pub mod CoveredTurn
+pub mod CoveredDraw
+pub mod CoveredReach
 pub mod CoveredMoved
 pub mod Rising
 pub mod Distinct

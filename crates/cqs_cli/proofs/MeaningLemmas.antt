@@ -1,10 +1,11 @@
 -- From a verdict that is right and was told to what the status means.
-use Rattle.std.proofs.Common.{◌≡◌, ℕ, ◌+◌, ◌≤◌, ◌⊎◌, inl, inr, Bool, List, ◌++◌, length, Option, Some, None, ap, sym, ◌∙◌, subst, arith, refl, length-append, lit<}
+use Rattle.std.proofs.Common.{◌≡◌, ℕ, ◌≤◌, inl, inr, Bool, List, length, Option, Some, None, ap, sym, ◌∙◌, subst, arith, refl, length-append, lit<}
 use Rattle.cqs_plan.specs.Stream.{GivesCount, IsAll, Rises}
 use Rattle.cqs_cli.specs.Ending.{status_of}
 use Rattle.cqs_cli.specs.Input.{IsInput}
 use Rattle.cqs_cli.specs.Meanings.{BrokeOff, IsStatus, MustEnd}
-use Rattle.cqs_cli.specs.Plans.{IsFaultLine, IsPlan}
+use Rattle.cqs_cli.specs.Plans.{IsPlan}
+use Rattle.cqs_cli.proofs.PlanLemmas.{plan_has_no_fault}
 use Rattle.cqs_cli.specs.Tellings.{Tells}
 use Rattle.cqs_cli.specs.Verdicts.{IsVerdict}
 use Rattle.cqs_cli.specs.Words.{IsRun, usage}
@@ -32,11 +33,6 @@ sink_failed_alone ending.SourceFailed same = absurd (omega arith)
 sink_failed_alone ending.SinkFailed same = refl
 sink_failed_alone ending.NoMemory same = absurd (omega arith)
 sink_failed_alone ending.TooLong same = absurd (omega arith)
-
--- a plan is not answered by a line that says what is wrong
-plan_has_no_fault : (bytes line : List ℕ) → IsPlan bytes → IsFaultLine bytes line → ⊥
-plan_has_no_fault bytes line (plan, (members, toml, says)) (inl (no_toml, _)) = no_toml members toml
-plan_has_no_fault bytes line (plan, is_plan) (inr (other, _)) = other.other plan is_plan
 
 -- the input is what the source told before
 input_told : (bytes told : List ℕ) (left after : Option (List ℕ)) → IsInput bytes left after → left ≡ Some told → told ≡ bytes

@@ -16,10 +16,10 @@ IsVerdictOn bytes verdict.NoMemory = Unit {0}
 IsVerdictOn bytes _ = ⊥
 
 -- an input was read, and the verdict is right for it
-pub record IsJudged (verdict : Verdict) (left after : Option (List ℕ)) : Type 0 where
+pub record IsJudged (given : Verdict) (left after : Option (List ℕ)) : Type 0 where
   pub bytes : List ℕ
   pub input : IsInput bytes left after
-  pub right : IsVerdictOn bytes verdict
+  pub right : IsVerdictOn bytes given
 
 -- the verdict on the words and on what was left of the source, which was read from old to new
 abbrev pub IsVerdict : {S : Type 0} → (S → Option (List ℕ)) → (S → ℕ) → List (List ℕ) → Verdict → S → S → Type 0
@@ -28,5 +28,5 @@ IsVerdict left faults words verdict.SourceFailed old new = IsRun words × Rises 
 IsVerdict left faults words verdict.TooLong old new =
     IsRun words × (faults new ≡ faults old) × GivesCount (LONGEST_INPUT + 1) (left old) (left new)
 IsVerdict left faults words verdict.NoMemory old new = IsRun words × (faults new ≡ faults old)
-IsVerdict left faults words verdict old new =
-    IsRun words × (faults new ≡ faults old) × IsJudged verdict (left old) (left new)
+IsVerdict left faults words given old new =
+    IsRun words × (faults new ≡ faults old) × IsJudged given (left old) (left new)

@@ -13,7 +13,8 @@ use std::alloc::Global;
 /// One call of the program: does what the words say and gives the status that the process ends with.
 ///
 /// The first clauses say what each status means, each by itself. The last four say which status must
-/// come where no fault does. What they say of content holds where the source and the sink tell it.
+/// come where no fault does, want of memory aside; what was then written stands at that status. What a
+/// clause says of content holds where the source and the sink tell it.
 pub fn top<S: Source, K: Sink>(alloc: Global, words: &[String], source: &mut S, sink: &mut K) -> u8
     // The input was a plan, and its whole report was written and flushed.
     ensures done { result ≡ DONE → IsRun (map string_bytes words.now)
@@ -39,7 +40,8 @@ pub fn top<S: Source, K: Sink>(alloc: Global, words: &[String], source: &mut S, 
     // The sink failed, after a front of the text that was to be written.
     ensures sink_failed { result ≡ SINK_FAILED →
         Rises (K.faults sink.old) (K.faults sink.new)
-        × BrokeOff (map string_bytes words.now) (S.left source.old) (S.left source.new) (K.held sink.old) (K.held sink.new) }
+        × BrokeOff (map string_bytes words.now)
+        (S.left source.old) (S.left source.new) (K.held sink.old) (K.held sink.new) }
 
     // Memory was wanting, and nothing was written.
     ensures no_memory { result ≡ NO_MEMORY → IsRun (map string_bytes words.now) × (sink.new ≡ sink.old) }
@@ -70,7 +72,7 @@ pub fn top<S: Source, K: Sink>(alloc: Global, words: &[String], source: &mut S, 
         → ¬ Rises (S.faults source.old) (S.faults source.new)
         → MustEnd TOO_LONG result }
 
-    // An input that is a plan is always answered by its report.
+    // An input that is a plan is always answered by its whole report.
     ensures complete { IsRun (map string_bytes words.now) → (bytes : List ℕ) → S.left source.old ≡ Some bytes
         → length bytes ≤ LONGEST_INPUT → IsPlan bytes
         → ¬ Rises (S.faults source.old) (S.faults source.new) → ¬ Rises (K.faults sink.old) (K.faults sink.new)

@@ -11,3 +11,4 @@ pub mod SemaphoreTable
 pub mod SemaphoreAnswers
 pub mod SemaphoreShown
 pub mod SemaphoreRuns
+pub mod SemaphoreWords

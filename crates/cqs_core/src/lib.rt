@@ -8,6 +8,7 @@ mod entries;
 mod errors;
 mod events;
 mod outcomes;
+mod table;
 
 pub use calls::{Call, Reply};
 pub use cells::{CoreCell, CoreState};

@@ -10,14 +10,13 @@ ghost use Rattle.cqs_core.specs.SemaphoreTable.{take_row, try_load_row, try_swap
 ghost use Rattle.cqs_core.specs.SemaphoreShown.{opened};
 ghost use Rattle.cqs_core.specs.SemaphoreWords.{FitsWords};
 
-use std::alloc::{AllocError, Global};
-use std::marker::Model;
-
 use crate::cells::{CoreCell, CoreState};
 use crate::doings::Doing;
 use crate::entries::Entry;
 use crate::events::Event;
 use crate::outcomes::Outcome;
+use std::alloc::{AllocError, Global};
+use std::marker::Model;
 
 /// The state word stays above this, so that it fits the packed word.
 const LOWEST: i64 = -4_294_967_295;
@@ -45,11 +44,20 @@ impl Model for Table {
     ghost Value = { Room };
 
     ghost view = { λ t. record {
-        shape = record {
-            permits = t.permits; state = t.state; held = t.held.items; history = t.history.items;
-            queue = record {
-                suspends = t.suspends; resumes = t.resumes; cells = t.cells.items; doing = t.doing.items } };
-        spare = min (vec_capacity t.history - vec_len t.history) (vec_capacity t.cells - vec_len t.cells) } };
+      shape = record {
+        permits = t.permits;
+        state = t.state;
+        held = t.held.items;
+        history = t.history.items;
+        queue = record {
+          suspends = t.suspends;
+          resumes = t.resumes;
+          cells = t.cells.items;
+          doing = t.doing.items;
+        };
+      };
+      spare = min (vec_capacity t.history - vec_len t.history) (vec_capacity t.cells - vec_len t.cells);
+    } };
 }
 
 impl Table {
@@ -76,6 +84,13 @@ impl Table {
         self.doing.get(pass as usize).copied()
     }
 
+    /// The cell of a number; none where neither counter has passed it.
+    pub fn cell(&self, number: u64) -> Option<CoreCell>
+        ensures { result ≡ slice_get self.now.shape.queue.cells number }
+    {
+        self.cells.get(number as usize).copied()
+    }
+
     /// Makes room for so many further entries and cells.
     pub fn reserve(&mut self, more: u32) -> Result<(), AllocError>
         ensures ok { OnOk result (more ≤ self.new.spare) }
@@ -94,7 +109,7 @@ impl Table {
         ensures { MakesReady (take_row self.old.shape pass (slice_get self.old.shape.queue.doing pass)) result self.old self.new }
     {
         let at = pass as usize;
-        let Some(Doing::Idle) = self.doing.get(at).copied() else {
+        let Some(Doing::Idle) = self.doing(pass) else {
             return None;
         };
         if self.state <= LOWEST {
@@ -119,7 +134,7 @@ impl Table {
         ensures { MakesReady (try_load_row self.old.shape pass (slice_get self.old.shape.queue.doing pass)) result self.old self.new }
     {
         let at = pass as usize;
-        let Some(Doing::Idle) = self.doing.get(at).copied() else {
+        let Some(Doing::Idle) = self.doing(pass) else {
             return None;
         };
         if self.state <= 0 {
@@ -160,7 +175,7 @@ impl Table {
         ensures { MakesReady (draw_row self.old.shape pass (slice_get self.old.shape.queue.doing pass)) result self.old self.new }
     {
         let at = pass as usize;
-        let Some(Doing::Door) = self.doing.get(at).copied() else {
+        let Some(Doing::Door) = self.doing(pass) else {
             return None;
         };
         let number = self.suspends;
@@ -170,7 +185,8 @@ impl Table {
         draw_cell(&mut self.cells, number, pass);
         self.suspends = number + 1;
         self.doing[at] = Doing::Drawn(number);
-        self.history.push_reserved(Entry::Enter { pass, wait: number });
+        self.history
+            .push_reserved(Entry::Enter { pass, wait: number });
         Some(Outcome::Drew(number))
     }
 
@@ -181,10 +197,10 @@ impl Table {
         ensures { MakesReady (install_row self.old.shape pass (slice_get self.old.shape.queue.doing pass)) result self.old self.new }
     {
         let at = pass as usize;
-        let Some(Doing::Drawn(number)) = self.doing.get(at).copied() else {
+        let Some(Doing::Drawn(number)) = self.doing(pass) else {
             return None;
         };
-        let cell = self.cells.get(number as usize).copied()?;
+        let cell = self.cell(number)?;
         match cell.state {
             CoreState::Empty => {
                 self.cells[number as usize].state = CoreState::Waiter;
@@ -213,7 +229,7 @@ impl Table {
         ensures { MakesReady (give_row self.old.shape pass (slice_get self.old.shape.queue.doing pass)) result self.old self.new }
     {
         let at = pass as usize;
-        let Some(Doing::Idle) = self.doing.get(at).copied() else {
+        let Some(Doing::Idle) = self.doing(pass) else {
             return None;
         };
         if self.held[at] == 0 {
@@ -238,7 +254,7 @@ impl Table {
         ensures { MakesReady (reach_row self.old.shape pass (slice_get self.old.shape.queue.doing pass)) result self.old self.new }
     {
         let at = pass as usize;
-        let Some(Doing::Owes) = self.doing.get(at).copied() else {
+        let Some(Doing::Owes) = self.doing(pass) else {
             return None;
         };
         let number = self.resumes;
@@ -257,10 +273,10 @@ impl Table {
         ensures { MakesReady (meet_row self.old.shape pass (slice_get self.old.shape.queue.doing pass)) result self.old self.new }
     {
         let at = pass as usize;
-        let Some(Doing::Ticket(number)) = self.doing.get(at).copied() else {
+        let Some(Doing::Ticket(number)) = self.doing(pass) else {
             return None;
         };
-        let cell = self.cells.get(number as usize).copied()?;
+        let cell = self.cell(number)?;
         match cell.state {
             CoreState::Waiter => {
                 self.cells[number as usize].state = CoreState::Resumed;
@@ -297,10 +313,10 @@ impl Table {
         ensures { MakesReady (leave_row self.old.shape pass wait (slice_get self.old.shape.queue.doing pass)) result self.old self.new }
     {
         let at = pass as usize;
-        let Some(Doing::Idle) = self.doing.get(at).copied() else {
+        let Some(Doing::Idle) = self.doing(pass) else {
             return None;
         };
-        let cell = self.cells.get(wait as usize).copied()?;
+        let cell = self.cell(wait)?;
         if !is_with(pass, cell) {
             return None;
         }
@@ -327,7 +343,7 @@ impl Table {
         ensures { MakesReady (decide_row self.old.shape pass (slice_get self.old.shape.queue.doing pass)) result self.old self.new }
     {
         let at = pass as usize;
-        let Some(Doing::Leaving(wait)) = self.doing.get(at).copied() else {
+        let Some(Doing::Leaving(wait)) = self.doing(pass) else {
             return None;
         };
         let passes_on = self.state < 0;
@@ -343,10 +359,10 @@ impl Table {
         ensures { MakesReady (settle_row self.old.shape pass (slice_get self.old.shape.queue.doing pass)) result self.old self.new }
     {
         let at = pass as usize;
-        let Some(Doing::Decided { wait, passes_on }) = self.doing.get(at).copied() else {
+        let Some(Doing::Decided { wait, passes_on }) = self.doing(pass) else {
             return None;
         };
-        let cell = self.cells.get(wait as usize).copied()?;
+        let cell = self.cell(wait)?;
         match (passes_on, cell.state) {
             (true, CoreState::Cancelling) => {
                 self.cells[wait as usize].state = CoreState::Cancelled;
@@ -374,22 +390,24 @@ impl Table {
         ensures { MakesReady (look_row self.old.shape pass wait (slice_get self.old.shape.queue.doing pass)) result self.old self.new }
     {
         let at = pass as usize;
-        let Some(Doing::Idle) = self.doing.get(at).copied() else {
+        let Some(Doing::Idle) = self.doing(pass) else {
             return None;
         };
-        let cell = self.cells.get(wait as usize).copied()?;
+        let cell = self.cell(wait)?;
         if !is_with(pass, cell) {
             return None;
         }
         match cell.state {
             CoreState::Waiter => {
-                self.history.push_reserved(Entry::LookPending { pass, wait });
+                self.history
+                    .push_reserved(Entry::LookPending { pass, wait });
                 Some(Outcome::Pending)
             }
             CoreState::Resumed => {
                 self.cells[wait as usize].collected = true;
                 self.held[at] += 1;
-                self.history.push_reserved(Entry::LookGranted { pass, wait });
+                self.history
+                    .push_reserved(Entry::LookGranted { pass, wait });
                 Some(Outcome::Granted)
             }
             _ => None,

@@ -1,3 +1,4 @@
 pub mod Places
 pub mod EachAtLemmas
 pub mod Promised
+pub mod Resumptions

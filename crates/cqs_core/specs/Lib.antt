@@ -12,3 +12,4 @@ pub mod SemaphoreAnswers
 pub mod SemaphoreShown
 pub mod SemaphoreRuns
 pub mod SemaphoreWords
+pub mod SemaphoreCalls

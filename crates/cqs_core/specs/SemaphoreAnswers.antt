@@ -3,6 +3,7 @@ use Rattle.std.specs.Prelude.{◌≡◌, ℕ, ◌+◌, ◌≤◌, Option, Some, 
 use Rattle.cqs_core.specs.declared.errors.CoreError.{CoreError}
 use Rattle.cqs_core.specs.declared.errors.CoreError.TheVariants.{Memory, BadSize, NotEnabled}
 use Rattle.cqs_core.specs.declared.outcomes.Outcome.{Outcome}
+use Rattle.cqs_core.specs.declared.outcomes.Outcome.TheVariants as outcome
 use Rattle.cqs_core.specs.SemaphoreTable.{Shape, Stepped}
 
 -- An allowed event is made, and one that isn't is refused; want of memory alone may refuse an allowed one.
@@ -28,3 +29,8 @@ MakesReady (Some row) (Some o) old new = (o ≡ row.outcome) × (new.shape ≡ r
 MakesReady None None old new = new ≡ old
 MakesReady (Some row) None old new = ⊥
 MakesReady None (Some o) old new = ⊥
+
+-- a resume passed over the cell that it met
+abbrev pub HasPassed : Outcome → Type 0
+HasPassed (outcome.Passed k) = Unit {0}
+HasPassed _ = ⊥

@@ -9,6 +9,7 @@ mod errors;
 mod events;
 mod outcomes;
 mod table;
+mod whole_calls;
 
 pub use calls::{Call, Reply};
 pub use cells::{CoreCell, CoreState};

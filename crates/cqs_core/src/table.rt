@@ -3,9 +3,9 @@
 //! Each method makes its row of the table or answers `None` where the row isn't allowed. None of them takes memory:
 //! `reserve` makes room before. What makes a table a core of a fair semaphore is told in `runnable`.
 
-ghost use Rattle.std.specs.Prelude.{◌≡◌, ◌+◌, ◌-◌, ◌≤◌, ◌<◌, OnOk, OnErr, Err, slice_get, length, vec_len, vec_capacity, replicate, IfOk, pos};
+ghost use Rattle.std.specs.Prelude.{◌≡◌, ◌+◌, ◌-◌, ◌≤◌, ◌<◌, OnOk, OnErr, Err, slice_get, length, vec_len, vec_capacity, replicate, IfOk, IfSome, pos};
 ghost use Rattle.cqs_core.specs.QueueMoves.{cells_drawn, cells_reached};
-ghost use Rattle.cqs_core.specs.SemaphoreAnswers.{MakesReady};
+ghost use Rattle.cqs_core.specs.SemaphoreAnswers.{MakesReady, HasPassed};
 ghost use Rattle.cqs_core.specs.SemaphoreTable.{take_row, try_load_row, try_swap_row, draw_row, install_row, give_row, reach_row, meet_row, leave_row, decide_row, settle_row, look_row, step, is_with as wait_is_with};
 ghost use Rattle.cqs_core.specs.SemaphoreShown.{opened};
 ghost use Rattle.cqs_core.specs.SemaphoreWords.{FitsWords};
@@ -251,7 +251,8 @@ impl Table {
     /// Resume: the next number is drawn.
     pub fn reach(&mut self, pass: u32) -> Option<Outcome>
         requires room { 1 ≤ self.old.spare }
-        ensures { MakesReady (reach_row self.old.shape pass (slice_get self.old.shape.queue.doing pass)) result self.old self.new }
+        ensures made { MakesReady (reach_row self.old.shape pass (slice_get self.old.shape.queue.doing pass)) result self.old self.new }
+        ensures spare { self.old.shape.queue.resumes < length self.old.shape.queue.cells → self.old.spare ≤ self.new.spare }
     {
         let at = pass as usize;
         let Some(Doing::Owes) = self.doing(pass) else {
@@ -270,7 +271,8 @@ impl Table {
     /// Resume: the drawn cell is served, gets the value, is passed over, or ends the resumption.
     pub fn meet(&mut self, pass: u32) -> Option<Outcome>
         requires room { 1 ≤ self.old.spare }
-        ensures { MakesReady (meet_row self.old.shape pass (slice_get self.old.shape.queue.doing pass)) result self.old self.new }
+        ensures made { MakesReady (meet_row self.old.shape pass (slice_get self.old.shape.queue.doing pass)) result self.old self.new }
+        ensures spare { IfSome result HasPassed → self.old.spare ≤ self.new.spare }
     {
         let at = pass as usize;
         let Some(Doing::Ticket(number)) = self.doing(pass) else {
@@ -355,8 +357,8 @@ impl Table {
 
     /// Cancel: the cell gets its last state.
     pub fn settle(&mut self, pass: u32) -> Option<Outcome>
-        requires room { 1 ≤ self.old.spare }
-        ensures { MakesReady (settle_row self.old.shape pass (slice_get self.old.shape.queue.doing pass)) result self.old self.new }
+        ensures made { MakesReady (settle_row self.old.shape pass (slice_get self.old.shape.queue.doing pass)) result self.old self.new }
+        ensures spare { self.old.spare ≤ self.new.spare }
     {
         let at = pass as usize;
         let Some(Doing::Decided { wait, passes_on }) = self.doing(pass) else {
@@ -461,6 +463,7 @@ fn reach_cell(cells: &mut Vec<CoreCell>, number: u64)
     ensures reached { cells.new.items ≡ cells_reached cells.old.items (slice_get cells.old.items number) }
     ensures capacity { vec_capacity cells.new ≡ vec_capacity cells.old }
     ensures len { vec_len cells.new ≤ vec_len cells.old + 1 }
+    ensures there { number < vec_len cells.old → vec_len cells.new ≡ vec_len cells.old }
 {
     if number >= cells.len() as u64 {
         cells.push_reserved(CoreCell {

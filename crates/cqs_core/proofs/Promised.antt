@@ -20,6 +20,6 @@ ending-within q sound covered = ?
 
 -- a number in the line that a resume has drawn is among the first `way`
 pub first-of-way : (q : Queue) (k : ℕ) (cell : CoreCell) (w : Waiting) → IsSound q → IsCovered q
-  → slice_get q.cells k ≡ Some cell → in_line q.doing k cell ≡ Some w → k < q.resumes
-  → IsIn w (take (way q) (line q))
+    → slice_get q.cells k ≡ Some cell → in_line q.doing k cell ≡ Some w → k < q.resumes
+    → IsIn w (take (way q) (line q))
 first-of-way q k cell w sound covered found stands reached = ?

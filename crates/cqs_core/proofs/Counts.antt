@@ -1,6 +1,6 @@
--- Sums over lists whose elements have numbers, for any weight of an element and its number; counts are sums of weights 0
--- and 1. Two lists of one length are compared element by element, so that a write, a push and a change of the test at one
--- number are all read off the same few lemmas.
+-- Sums over lists whose elements have numbers, for any weight of an element and its number; counts are sums
+-- of weights 0 and 1. Two lists of one length are compared element by element, so that a write, a push and
+-- a change of the test at one number are all read off the same few lemmas.
 use Rattle.std.proofs.Common.{◌≡◌, ◌≢◌, ◌⊎◌, inl, inr, ℕ, zero, suc, ◌+◌, ◌<◌, ◌≤◌, Bool, true, false, cond, List, [], ◌∷◌, ◌++◌, Option, Some, None, length, take, drop, set, slice_get, refl, ap, sym, ◌∙◌, arith, length-set}
 use Rattle.std.specs.List.{count_by}
 use Rattle.std.proofs.lemmas.Bool.{cases_eq}
@@ -83,7 +83,8 @@ module _ {X : Type 0} where
       → total_at w k xs ≡ total_at w k (take i xs) + total_at w n (drop i xs)
   total-split w k xs zero n at = let here : n ≡ k = omega arith in rw here (omega arith)
   total-split w k [] (suc i) n at = refl
-  total-split w k (x ∷ xs) (suc i) n at = let rest = total-split w (suc k) xs i n (omega arith) in omega arith
+  total-split w k (x ∷ xs) (suc i) n at =
+      let rest = total-split w (suc k) xs i n (omega arith) in omega arith
 
   pub total-push : (w : ℕ → X → ℕ) (k : ℕ) (xs : List X) (y : X) (n : ℕ) → n ≡ k + length xs
       → total_at w k (xs ++ y ∷ []) ≡ total_at w k xs + w n y
@@ -91,11 +92,13 @@ module _ {X : Type 0} where
   total-push w k (x ∷ xs) y n at = let rest = total-push w (suc k) xs y n (omega arith) in omega arith
 
   -- counts are sums
-  pub count_at-total : (p : ℕ → X → Bool) (k : ℕ) (xs : List X) → count_at p k xs ≡ total_at (λ n x. bit (p n x)) k xs
+  pub count_at-total : (p : ℕ → X → Bool) (k : ℕ) (xs : List X)
+      → count_at p k xs ≡ total_at (λ n x. bit (p n x)) k xs
   count_at-total p k [] = refl
   count_at-total p k (x ∷ xs) = let rest = count_at-total p (suc k) xs in omega arith
 
-  pub count_by-total : (p : X → Bool) (k : ℕ) (xs : List X) → count_by p xs ≡ total_at (λ n x. bit (p x)) k xs
+  pub count_by-total : (p : X → Bool) (k : ℕ) (xs : List X)
+      → count_by p xs ≡ total_at (λ n x. bit (p x)) k xs
   count_by-total p k [] = refl
   count_by-total p k (x ∷ xs) =
       let rest = count_by-total p (suc k) xs in
@@ -111,7 +114,8 @@ module _ {X : Type 0} where
   counts [] k xs = 0
   counts (p ∷ ps) k xs = count_at p k xs + counts ps k xs
 
-  counts-total : (ps : List (ℕ → X → Bool)) (k : ℕ) (xs : List X) → counts ps k xs ≡ total_at (points ps) k xs
+  counts-total : (ps : List (ℕ → X → Bool)) (k : ℕ) (xs : List X)
+      → counts ps k xs ≡ total_at (points ps) k xs
   counts-total [] k xs = sym (total-zero k xs)
   counts-total (p ∷ ps) k xs =
       let both = total-add (λ n x. bit (p n x)) (points ps) k xs in
@@ -119,14 +123,15 @@ module _ {X : Type 0} where
 
   -- where each element passes as many of these tests as of those, all together do
   pub counts-balance : (ps qs : List (ℕ → X → Bool)) (xs : List X)
-    → ((k : ℕ) (x : X) → slice_get xs k ≡ Some x → points ps k x ≡ points qs k x) → counts ps 0 xs ≡ counts qs 0 xs
+      → ((k : ℕ) (x : X) → slice_get xs k ≡ Some x → points ps k x ≡ points qs k x)
+      → counts ps 0 xs ≡ counts qs 0 xs
   counts-balance ps qs xs each =
       counts-total ps 0 xs
       ∙ total-same (points ps) (points qs) 0 xs xs refl
-        (λ i n x y at f g.
-          let number : n ≡ i = omega arith in
-          let same : x ≡ y = cc in
-          rw (number, ← same) (each i x f))
+      (λ i n x y at f g.
+      let number : n ≡ i = omega arith in
+      let same : x ≡ y = cc in
+      rw (number, ← same) (each i x f))
       ∙ sym (counts-total qs 0 xs)
 
   -- two counts over lists of one length that pass the same elements but for those of one number
@@ -135,7 +140,8 @@ module _ {X : Type 0} where
       → ((j : ℕ) (x y : X) → j ≢ k → slice_get xs j ≡ Some x → slice_get ys j ≡ Some y → p j x ≡ q j y)
       → count_at q 0 ys + bit (p k old) ≡ count_at p 0 xs + bit (q k new)
   count_at-change p q xs ys k old new long was now others =
-      let change = total-change (λ n x. bit (p n x)) (λ n x. bit (q n x)) 0 xs ys k k old new long (omega arith) was now
+      let change = total-change (λ n x. bit (p n x)) (λ n x. bit (q n x)) 0 xs ys k k old new long
+      (omega arith) was now
       (λ j m x y at ne f g.
       let same : m ≡ j = omega arith in
       let other : j ≢ k = λ e. ne (same ∙ e) in
@@ -153,17 +159,19 @@ module _ {X : Type 0} where
 
   -- a count over lists of one length of which the second passes wherever the first does
   pub count_at-le : (p q : ℕ → X → Bool) (xs ys : List X) → length xs ≡ length ys
-    → ((j : ℕ) (x y : X) → slice_get xs j ≡ Some x → slice_get ys j ≡ Some y → p j x ≡ true → q j y ≡ true)
-    → count_at p 0 xs ≤ count_at q 0 ys
+      → ((j : ℕ) (x y : X) → slice_get xs j ≡ Some x → slice_get ys j ≡ Some y → p j x ≡ true → q j y ≡ true)
+      → count_at p 0 xs ≤ count_at q 0 ys
   count_at-le p q xs ys long follows =
       let less = total-le (λ n x. bit (p n x)) (λ n x. bit (q n x)) 0 xs ys long
-        (λ i n x y at f g. let number : n ≡ i = omega arith in rw number (bit-le (p i x) (q i y) (follows i x y f g))) in
+      (λ i n x y at f g. let number : n ≡ i = omega arith in rw number
+      (bit-le (p i x) (q i y) (follows i x y f g))) in
       omega (arith, less, count_at-total p 0 xs, count_at-total q 0 ys)
 
   pub count_at-write : (p : ℕ → X → Bool) (xs : List X) (k : ℕ) (old new : X) → slice_get xs k ≡ Some old
       → count_at p 0 (set xs k new) + bit (p k old) ≡ count_at p 0 xs + bit (p k new)
   count_at-write p xs k old new there =
-      count_at-change p p xs (set xs k new) k old new (sym (length-set xs k new)) there (get-set_here xs k old new there)
+      count_at-change p p xs (set xs k new) k old new (sym (length-set xs k new)) there
+      (get-set_here xs k old new there)
       (λ j x y ne f g.
       let kept : slice_get xs j ≡ Some y = sym (get-set_else xs k j new (λ e. ne (sym e))) ∙ g in
       let same : x ≡ y = cc in
@@ -176,16 +184,17 @@ module _ {X : Type 0} where
       omega (arith, more, count_at-total p 0 xs, count_at-total p 0 (xs ++ y ∷ []))
 
   pub count_at-none : (p : ℕ → X → Bool) (xs : List X)
-    → ((k : ℕ) (x : X) → slice_get xs k ≡ Some x → p k x ≡ false) → count_at p 0 xs ≡ 0
+      → ((k : ℕ) (x : X) → slice_get xs k ≡ Some x → p k x ≡ false) → count_at p 0 xs ≡ 0
   count_at-none p xs none =
       let same = count_at-same p (λ n x. false) xs xs refl (λ k x y f g. none k x f) in
       omega (arith, same, count_at-total (λ n x. false) 0 xs, total-zero 0 xs)
 
-  pub count_at-one : (p : ℕ → X → Bool) (xs : List X) (k : ℕ) (x : X) → slice_get xs k ≡ Some x → p k x ≡ true
-    → ((j : ℕ) (y : X) → j ≢ k → slice_get xs j ≡ Some y → p j y ≡ false) → count_at p 0 xs ≡ 1
+  pub count_at-one : (p : ℕ → X → Bool) (xs : List X) (k : ℕ) (x : X) → slice_get xs k ≡ Some x
+      → p k x ≡ true
+      → ((j : ℕ) (y : X) → j ≢ k → slice_get xs j ≡ Some y → p j y ≡ false) → count_at p 0 xs ≡ 1
   count_at-one p xs k x there here none =
       let change : count_at p 0 xs + 0 ≡ count_at (λ n y. false) 0 xs + bit (p k x) =
-        count_at-change (λ n y. false) p xs xs k x x refl there there (λ j y z ne f g. sym (none j z ne g)) in
+      count_at-change (λ n y. false) p xs xs k x x refl there there (λ j y z ne f g. sym (none j z ne g)) in
       let one : bit (p k x) ≡ 1 = rw here refl in
       omega (arith, change, one, count_at-none (λ n y. false) xs (λ n y f. refl))
 
@@ -193,11 +202,11 @@ module _ {X : Type 0} where
   count_by-at p xs = count_by-total p 0 xs ∙ sym (count_at-total (λ n. p) 0 xs)
 
   pub count_by-none : (p : X → Bool) (xs : List X)
-    → ((k : ℕ) (x : X) → slice_get xs k ≡ Some x → p x ≡ false) → count_by p xs ≡ 0
+      → ((k : ℕ) (x : X) → slice_get xs k ≡ Some x → p x ≡ false) → count_by p xs ≡ 0
   count_by-none p xs none = count_by-at p xs ∙ count_at-none (λ n. p) xs none
 
   pub count_by-one : (p : X → Bool) (xs : List X) (k : ℕ) (x : X) → slice_get xs k ≡ Some x → p x ≡ true
-    → ((j : ℕ) (y : X) → j ≢ k → slice_get xs j ≡ Some y → p y ≡ false) → count_by p xs ≡ 1
+      → ((j : ℕ) (y : X) → j ≢ k → slice_get xs j ≡ Some y → p y ≡ false) → count_by p xs ≡ 1
   count_by-one p xs k x there here none = count_by-at p xs ∙ count_at-one (λ n. p) xs k x there here none
 
   -- a write changes a count by what the written element and the one before it count
@@ -207,5 +216,6 @@ module _ {X : Type 0} where
       let write = count_at-write (λ n. p) xs k old new there in
       omega (arith, write, count_by-at p xs, count_by-at p (set xs k new))
 
-  pub count_by-push : (p : X → Bool) (xs : List X) (y : X) → count_by p (xs ++ y ∷ []) ≡ count_by p xs + bit (p y)
+  pub count_by-push : (p : X → Bool) (xs : List X) (y : X)
+      → count_by p (xs ++ y ∷ []) ≡ count_by p xs + bit (p y)
   count_by-push p xs y = sum_by_push (λ x. cond (p x) 1 0) xs y

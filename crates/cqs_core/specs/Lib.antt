@@ -13,3 +13,4 @@ pub mod SemaphoreShown
 pub mod SemaphoreRuns
 pub mod SemaphoreWords
 pub mod SemaphoreCalls
+pub mod SemaphoreLaws

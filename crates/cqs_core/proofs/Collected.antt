@@ -1,16 +1,16 @@
 -- The permit of a wait is handed over once, and only after it was delivered.
-use Rattle.std.proofs.Common.{◌≡◌, ◌≢◌, ◌⊎◌, inl, inr, ℕ, zero, suc, ◌+◌, ◌-◌, ◌<◌, ◌≤◌, nat_lt, Bool, true, false, List, [], ◌∷◌, ◌++◌, Option, Some, None, length, take, slice_get, if◌then◌else◌, refl, ap, sym, ◌∙◌, subst, arith}
+use Rattle.std.proofs.Common.{◌≡◌, ◌⊎◌, inl, inr, ℕ, zero, suc, ◌+◌, ◌-◌, ◌<◌, ◌≤◌, nat_lt, Bool, true, false, List, [], ◌∷◌, ◌++◌, Some, length, take, slice_get, if◌then◌else◌, refl, ap, sym, ◌∙◌, subst, arith}
 use Rattle.std.proofs.lemmas.Bool.{cases_order}
 use Rattle.cqs_core.specs.declared.entries.Entry.{Entry}
 use Rattle.cqs_core.specs.declared.entries.Entry.TheVariants as entry
 use Rattle.cqs_core.specs.Numbered.{IsIn}
-use Rattle.cqs_core.specs.Keyed.{placed, without, changed}
-use Rattle.cqs_core.specs.QueueLine.{Waiting, Service}
-use Rattle.cqs_core.specs.SemaphoreObject.{Semaphore, opening, due}
-use Rattle.cqs_core.specs.SemaphoreEntries.{IsAllowed, Waits, IsServed, after_entry, find_wait, with_service, turned_back, closed, IsLegal}
+use Rattle.cqs_core.specs.Keyed.{placed, without}
+use Rattle.cqs_core.specs.QueueLine.{Service}
+use Rattle.cqs_core.specs.SemaphoreObject.{Semaphore, due}
+use Rattle.cqs_core.specs.SemaphoreEntries.{IsAllowed, after_entry, find_wait, with_service, turned_back, closed, IsLegal}
 use Rattle.cqs_core.specs.SemaphoreLaws.{object_before, EndsWait, Collects, EveryCollectionFollowsItsDelivery, EveryWaitIsCollectedOnce}
 use Rattle.cqs_core.proofs.Places.{get-below, get-append_left, get-push_at}
-use Rattle.cqs_core.proofs.Rising.{in-take, in-none, lacks-in}
+use Rattle.cqs_core.proofs.Rising.{in-take, in-none}
 use Rattle.cqs_core.proofs.Distinct.{in-placed, IsFrom, in-changed, changed-all}
 use Rattle.cqs_core.proofs.Histories.{take-next, object-next, walk}
 use Rattle.cqs_core.proofs.Waits.{waiting_key, service_key, looked_at, IsGone, AreWaitsApart, IsFound, found-waits, gone-entry, gone-ends_not}
@@ -37,12 +37,14 @@ was-closed o k s stands =
 was-turned : (o : Semaphore) (s : Service) → IsIn s (turned_back o).served → IsIn s o.served
 was-turned o s stands = go (nat_lt (due o) o.way) stands
   where
-    go : (b : Bool) → IsIn s (if b then record o { way = o.way - 1; free = o.free + 1 } else o).served → IsIn s o.served
+    go : (b : Bool) → IsIn s (if b then record o { way = o.way - 1; free = o.free + 1 } else o).served
+        → IsIn s o.served
     go true there = there
     go false there = there
 
 -- whoever is served after an entry was served before, or is delivered to by it
-pub served-from : (o : Semaphore) (e : Entry) (s : Service) → IsAllowed o e → IsIn s (after_entry o e).served → IsNew o e s
+pub served-from : (o : Semaphore) (e : Entry) (s : Service) → IsAllowed o e → IsIn s (after_entry o e).served
+    → IsNew o e s
 served-from o (entry.TakeNow c) s allowed stands = inl (was-there o s stands)
 served-from o (entry.TakeDoor c) s allowed stands = inl (was-there o s stands)
 served-from o (entry.Enter c k) s allowed stands = inl (was-there o s stands)
@@ -50,7 +52,8 @@ served-from o (entry.TryGot c) s allowed stands = inl (was-there o s stands)
 served-from o (entry.TryBusy c) s allowed stands = inl (was-there o s stands)
 served-from o (entry.GiveFreed c) s allowed stands = inl (was-there o s stands)
 served-from o (entry.GiveSent c) s allowed stands = inl (was-there o s stands)
-served-from o (entry.Deliver k) s (c, waits) stands = go (in-placed service_key s new o.served (rw now at stands))
+served-from o (entry.Deliver k) s (c, waits) stands =
+    go (in-placed service_key s new o.served (rw now at stands))
   where
     found : IsFound k c o.line
     found = found-waits k c o.line (in-take (record { wait = k; pass = c }) o.way o.line waits).1
@@ -62,7 +65,8 @@ served-from o (entry.Deliver k) s (c, waits) stands = go (in-placed service_key 
     now = ap (λ w. with_service w o.served) found.is
 
     go : (s ≡ new) ⊎ IsIn s o.served → IsNew o (entry.Deliver k) s
-    go (inl is) = let number : s.wait ≡ k = ap service_key is ∙ found.number in inr (ap entry.Deliver (sym number))
+    go (inl is) =
+        let number : s.wait ≡ k = ap service_key is ∙ found.number in inr (ap entry.Deliver (sym number))
     go (inr there) = inl (was-there o s there)
 served-from o (entry.Leave c k) s allowed stands =
     inl (was-there o s (was-turned (record o { line = without waiting_key k o.line }) s stands))
@@ -89,10 +93,10 @@ delivered-next front o e allowed before s stands = go (served-from o e s allowed
   where
     go : IsNew o e s → IsIn (entry.Deliver s.wait) (front ++ e ∷ [])
     go (inl was) =
-        let then_ : IsIn (entry.Deliver was.old.wait) front = before was.old was.there in
+        let delivered : IsIn (entry.Deliver was.old.wait) front = before was.old was.there in
         rw (was-number o s was) (record {
-          place = then_.place;
-          there = get-append_left front (e ∷ []) then_.place (entry.Deliver was.old.wait) then_.there;
+          place = delivered.place;
+          there = get-append_left front (e ∷ []) delivered.place (entry.Deliver was.old.wait) delivered.there;
         })
     go (inr is) = record { place = length front; there = get-push_at front e (length front) refl ∙ ap Some is }
 
@@ -101,13 +105,23 @@ pub record IsAwaitingLook (o : Semaphore) (k : ℕ) : Type 0 where
   pub service : Service
   pub there : IsIn service o.served
   pub number : service.wait ≡ k
-  pub open_still : service.is_open ≡ true
+  pub still_open : service.is_open ≡ true
 
 collects-open : (o : Semaphore) (e : Entry) (k : ℕ) → IsAllowed o e → Collects k e → IsAwaitingLook o k
 collects-open o (entry.LookGranted c j) k served is =
-    record { service = record { wait = j; pass = c; is_open = true }; there = served; number = is; open_still = refl }
+    record {
+      service = record { wait = j; pass = c; is_open = true };
+      there = served;
+      number = is;
+      still_open = refl;
+    }
 collects-open o (entry.Late c j) k served is =
-    record { service = record { wait = j; pass = c; is_open = true }; there = served; number = is; open_still = refl }
+    record {
+      service = record { wait = j; pass = c; is_open = true };
+      there = served;
+      number = is;
+      still_open = refl;
+    }
 collects-open o (entry.TakeNow c) k allowed is = absurd is
 collects-open o (entry.TakeDoor c) k allowed is = absurd is
 collects-open o (entry.Enter c j) k allowed is = absurd is
@@ -190,14 +204,15 @@ closed-collects_not : (o : Semaphore) (e : Entry) (k : ℕ) → IsAllowed o e �
 closed-collects_not o e k allowed collects c =
     let look : IsAwaitingLook o k = collects-open o e k allowed collects in
     let shut : look.service.is_open ≡ false = c.closed look.service look.there look.number in
-    absurd (cc (look.open_still, shut))
+    absurd (cc (look.still_open, shut))
 
 module _ (permits : ℕ) (history : List Entry) (legal : IsLegal permits history) where
   collects-not_later : (k m n : ℕ) (d e : Entry) → slice_get history m ≡ Some d → slice_get history n ≡ Some e
       → Collects k d → Collects k e → m < n → ⊥
   collects-not_later k m n d e gets_d gets_e collects_d collects_e later =
       let within : n < length history = get-below history n e gets_e in
-      let apart : AreWaitsApart (object_before permits history m) = waits-apart permits history legal m (omega arith) in
+      let apart : AreWaitsApart (object_before permits history m) =
+      waits-apart permits history legal m (omega arith) in
       let start : IsClosed (object_before permits history (suc m)) k =
       rw (object-next permits history m d gets_d)
       (closed-collected (object_before permits history m) d k apart (legal.at m d gets_d) collects_d) in
@@ -208,7 +223,8 @@ module _ (permits : ℕ) (history : List Entry) (legal : IsLegal permits history
       closed-collects_not (object_before permits history n) e k (legal.at n e gets_e) collects_e still
 
 pub every-wait-collected-once : EveryWaitIsCollectedOnce
-every-wait-collected-once permits history k m n d e legal gets_d gets_e collects_d collects_e = go (cases_order m n)
+every-wait-collected-once permits history k m n d e legal gets_d gets_e collects_d collects_e =
+    go (cases_order m n)
   where
     go : (m ≡ n) ⊎ ((m < n) ⊎ (n < m)) → m ≡ n
     go (inl same) = same

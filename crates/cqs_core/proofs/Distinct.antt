@@ -1,5 +1,5 @@
 -- Lists in which no key is there twice, and what placing and changing an element make of them.
-use Rattle.std.proofs.Common.{◌≡◌, ◌≢◌, ◌⊎◌, inl, inr, ℕ, zero, suc, ◌==◌, nat_lt, Bool, true, false, List, [], ◌∷◌, Option, Some, None, slice_get, if◌then◌else◌, refl, ap, sym, ◌∙◌, eqb-true}
+use Rattle.std.proofs.Common.{◌≡◌, ◌≢◌, ◌⊎◌, inl, inr, ℕ, zero, suc, ◌==◌, nat_lt, Bool, true, false, List, [], ◌∷◌, Some, if◌then◌else◌, refl, ap, sym, ◌∙◌, eqb-true}
 use Rattle.std.proofs.lemmas.Bool.{cases_Bool, eqb-false}
 use Rattle.cqs_core.specs.Numbered.{IsIn}
 use Rattle.cqs_core.specs.Keyed.{placed, changed}
@@ -18,11 +18,13 @@ module _ {Y : Type 0} (key : Y → ℕ) where
   AreDistinct [] = Unit {0}
   AreDistinct (y ∷ ys) = Lacks key (key y) ys × AreDistinct ys
 
-  pub distinct-placed : (y : Y) (ys : List Y) → Lacks key (key y) ys → AreDistinct ys → AreDistinct (placed key y ys)
+  pub distinct-placed : (y : Y) (ys : List Y) → Lacks key (key y) ys → AreDistinct ys
+      → AreDistinct (placed key y ys)
   distinct-placed y [] lacks apart = (tt, tt)
   distinct-placed y (z ∷ zs) lacks apart = go (nat_lt (key y) (key z)) (distinct-placed y zs lacks.1 apart.1)
     where
-      go : (b : Bool) → AreDistinct (placed key y zs) → AreDistinct (if b then y ∷ z ∷ zs else z ∷ placed key y zs)
+      go : (b : Bool) → AreDistinct (placed key y zs)
+          → AreDistinct (if b then y ∷ z ∷ zs else z ∷ placed key y zs)
       go true rest = (lacks, apart)
       go false rest = (lacks-placed key (key z) y zs (λ e. lacks.0 (sym e)) apart.0, rest)
 
@@ -52,7 +54,8 @@ module _ {Y : Type 0} (key : Y → ℕ) where
     lacks-changed n m [] lacks = tt
     lacks-changed n m (z ∷ zs) lacks = go (m == key z) (lacks-changed n m zs lacks.1)
       where
-        go : (b : Bool) → Lacks key n (changed key m f zs) → Lacks key n (if b then f z ∷ zs else z ∷ changed key m f zs)
+        go : (b : Bool) → Lacks key n (changed key m f zs)
+            → Lacks key n (if b then f z ∷ zs else z ∷ changed key m f zs)
         go true rest = ((λ e. lacks.0 (sym (same_key z) ∙ e)), lacks.1)
         go false rest = (lacks.0, rest)
 
@@ -60,7 +63,8 @@ module _ {Y : Type 0} (key : Y → ℕ) where
     distinct-changed n [] apart = tt
     distinct-changed n (z ∷ zs) apart = go (n == key z) (distinct-changed n zs apart.1)
       where
-        go : (b : Bool) → AreDistinct (changed key n f zs) → AreDistinct (if b then f z ∷ zs else z ∷ changed key n f zs)
+        go : (b : Bool) → AreDistinct (changed key n f zs)
+            → AreDistinct (if b then f z ∷ zs else z ∷ changed key n f zs)
         go true rest = (rw (same_key z) apart.0, apart.1)
         go false rest = (lacks-changed (key z) n zs apart.0, rest)
 
@@ -72,7 +76,11 @@ module _ {Y : Type 0} (key : Y → ℕ) where
 
     pub from-later : (x z : Y) (zs : List Y) → IsFrom x zs → IsFrom x (z ∷ zs)
     from-later x z zs from =
-        record { old = from.old; there = record { place = suc from.there.place; there = from.there.there }; is = from.is }
+        record {
+          old = from.old;
+          there = record { place = suc from.there.place; there = from.there.there };
+          is = from.is;
+        }
 
     pub in-changed : (n : ℕ) (x : Y) (ys : List Y) → IsIn x (changed key n f ys) → IsFrom x ys
     in-changed n x [] stands = absurd (in-none x stands)

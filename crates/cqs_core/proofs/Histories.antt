@@ -1,5 +1,5 @@
 -- Going along a legal history, entry by entry.
-use Rattle.std.proofs.Common.{◌≡◌, ◌≢◌, ◌⊎◌, inl, inr, ℕ, zero, suc, ◌+◌, ◌<◌, ◌≤◌, List, [], ◌∷◌, ◌++◌, Option, Some, None, length, take, slice_get, fold, refl, ap, sym, ◌∙◌, subst, arith}
+use Rattle.std.proofs.Common.{◌≡◌, ℕ, zero, suc, ◌+◌, ◌≤◌, List, [], ◌∷◌, ◌++◌, Some, length, take, slice_get, ap, ◌∙◌, subst, arith}
 use Rattle.std.proofs.lemmas.List.Sums.{fold_push}
 use Rattle.cqs_core.specs.declared.entries.Entry.{Entry}
 use Rattle.cqs_core.specs.SemaphoreObject.{Semaphore, opening}
@@ -21,7 +21,8 @@ module _ (permits : ℕ) (history : List Entry) where
       ap (λ front. object_after permits front) (take-next history n e got)
       ∙ fold_push after_entry (opening permits) (take n history) e
 
-  -- What holds before the entry of number m, and is kept by each entry from there on, holds before each later one.
+  -- What holds before the entry of number m, and is kept by each entry from there on, holds before each later
+  -- one.
   pub walk : (P : ℕ → Semaphore → Type 0) → IsLegal permits history
       → ((n : ℕ) (e : Entry) → slice_get history n ≡ Some e → IsAllowed (object_before permits history n) e
       → P n (object_before permits history n) → P (suc n) (after_entry (object_before permits history n) e))
@@ -43,5 +44,6 @@ module _ (permits : ℕ) (history : List Entry) where
       → ((o : Semaphore) (e : Entry) → IsAllowed o e → P o → P (after_entry o e)) → P (opening permits)
       → (n : ℕ) → n ≤ length history → P (object_before permits history n)
   walk-all P legal keeps first n within =
-      walk (λ i o. P o) legal (λ i e got allowed h. keeps (object_before permits history i) e allowed h) zero first
+      walk (λ i o. P o) legal (λ i e got allowed h. keeps (object_before permits history i) e allowed h)
+      zero first
       n n (omega arith) within

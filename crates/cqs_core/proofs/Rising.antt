@@ -1,8 +1,8 @@
 -- Lists in order of a key: which keys are in them, and how placing, leaving out and changing an element go.
-use Rattle.std.proofs.Common.{◌≡◌, ◌≢◌, ◌⊎◌, inl, inr, ℕ, zero, suc, ◌+◌, ◌<◌, ◌≤◌, ◌==◌, nat_lt, Bool, true, false, List, [], ◌∷◌, ◌++◌, Option, Some, None, length, take, slice_get, if◌then◌else◌, refl, ap, sym, ◌∙◌, subst, arith, eq-eqb, eqb-true}
+use Rattle.std.proofs.Common.{◌≡◌, ◌≢◌, ◌⊎◌, inl, inr, ℕ, zero, suc, ◌+◌, ◌<◌, ◌≤◌, ◌==◌, nat_lt, Bool, true, false, List, [], ◌∷◌, ◌++◌, Some, length, take, slice_get, if◌then◌else◌, refl, ap, sym, ◌∙◌, arith, eqb-true}
 use Rattle.std.proofs.lemmas.Bool.{cases_Bool, eqb-false}
 use Rattle.cqs_core.specs.Numbered.{IsIn}
-use Rattle.cqs_core.specs.Keyed.{placed, without, changed}
+use Rattle.cqs_core.specs.Keyed.{placed, without}
 use Rattle.cqs_core.proofs.Places.{get-take_back}
 
 -- an element of a longer list is its first, or is behind it
@@ -30,7 +30,8 @@ module _ {Y : Type 0} (key : Y → ℕ) where
 
   pub lacks-in : (n : ℕ) (y : Y) (ys : List Y) → key y ≡ n → IsIn y ys → Lacks n ys → ⊥
   lacks-in n y [] is stands lacks = in-none y stands
-  lacks-in n y (z ∷ zs) is stands lacks = go (in-behind y z zs stands) (λ later. lacks-in n y zs is later lacks.1)
+  lacks-in n y (z ∷ zs) is stands lacks =
+      go (in-behind y z zs stands) (λ later. lacks-in n y zs is later lacks.1)
     where
       go : (y ≡ z) ⊎ IsIn y zs → (IsIn y zs → ⊥) → ⊥
       go (inl same) rest = lacks.0 (ap key (sym same) ∙ is)
@@ -60,11 +61,13 @@ module _ {Y : Type 0} (key : Y → ℕ) where
   pub length-without : (n : ℕ) (y : Y) (ys : List Y) → key y ≡ n → IsIn y ys
       → length (without key n ys) + 1 ≡ length ys
   length-without n y [] is stands = absurd (in-none y stands)
-  length-without n y (z ∷ zs) is stands = go (cases_Bool (n == key z)) (in-behind y z zs stands) (length-without n y zs is)
+  length-without n y (z ∷ zs) is stands =
+      go (cases_Bool (n == key z)) (in-behind y z zs stands) (length-without n y zs is)
     where
       go : ((n == key z) ≡ true) ⊎ ((n == key z) ≡ false) → (y ≡ z) ⊎ IsIn y zs
-          → (IsIn y zs → length (without key n zs) + 1 ≡ length zs) → length (without key n (z ∷ zs)) + 1 ≡ suc (length zs)
-      go (inl here) where_ rest = rw here (omega arith)
+          → (IsIn y zs → length (without key n zs) + 1 ≡ length zs)
+          → length (without key n (z ∷ zs)) + 1 ≡ suc (length zs)
+      go (inl here) place rest = rw here (omega arith)
       go (inr other) (inl same) rest =
           absurd (eqb-false n (key z) other (sym is ∙ ap key same))
       go (inr other) (inr later) rest =
@@ -85,7 +88,8 @@ module _ {Y : Type 0} (key : Y → ℕ) where
   IsRising low high [] = low ≤ high
   IsRising low high (y ∷ ys) = (low ≤ key y) × IsRising (key y + 1) high ys
 
-  pub rising-lower : (low less high : ℕ) (ys : List Y) → less ≤ low → IsRising low high ys → IsRising less high ys
+  pub rising-lower : (low less high : ℕ) (ys : List Y) → less ≤ low → IsRising low high ys
+      → IsRising less high ys
   rising-lower low less high [] h rising = omega arith
   rising-lower low less high (y ∷ ys) h rising = let least : low ≤ key y = rising.0 in (omega arith, rising.1)
 
@@ -101,19 +105,22 @@ module _ {Y : Type 0} (key : Y → ℕ) where
   rising-push low high y [] is rising = (omega arith, omega arith)
   rising-push low high y (z ∷ zs) is rising = (rising.0, rising-push (key z + 1) high y zs is rising.1)
 
-  pub rising-without : (n low high : ℕ) (ys : List Y) → IsRising low high ys → IsRising low high (without key n ys)
+  pub rising-without : (n low high : ℕ) (ys : List Y) → IsRising low high ys
+      → IsRising low high (without key n ys)
   rising-without n low high [] rising = rising
   rising-without n low high (z ∷ zs) rising = go (n == key z) (rising-without n (key z + 1) high zs rising.1)
     where
       go : (b : Bool) → IsRising (key z + 1) high (without key n zs)
           → IsRising low high (if b then zs else z ∷ without key n zs)
-      go true rest = let least : low ≤ key z = rising.0 in rising-lower (key z + 1) low high zs (omega arith) rising.1
+      go true rest =
+          let least : low ≤ key z = rising.0 in rising-lower (key z + 1) low high zs (omega arith) rising.1
       go false rest = (rising.0, rest)
 
   -- what was left out isn't there any more
   pub rising-left_out : (n low high : ℕ) (ys : List Y) → IsRising low high ys → Lacks n (without key n ys)
   rising-left_out n low high [] rising = tt
-  rising-left_out n low high (z ∷ zs) rising = go (cases_Bool (n == key z)) (rising-left_out n (key z + 1) high zs rising.1)
+  rising-left_out n low high (z ∷ zs) rising =
+      go (cases_Bool (n == key z)) (rising-left_out n (key z + 1) high zs rising.1)
     where
       go : ((n == key z) ≡ true) ⊎ ((n == key z) ≡ false) → Lacks n (without key n zs)
           → Lacks n (if n == key z then zs else z ∷ without key n zs)
@@ -149,7 +156,8 @@ module _ {Y : Type 0} (key : Y → ℕ) where
       go (in-behind y z zs stands) (rising-above (key z + 1) high y zs rising.1)
     where
       go : (y ≡ z) ⊎ IsIn y zs → (IsIn y zs → key z + 1 ≤ key y) → low ≤ key y
-      go (inl same) rest = let least : low ≤ key z = rising.0 in let is : key y ≡ key z = ap key same in omega arith
+      go (inl same) rest =
+          let least : low ≤ key z = rising.0 in let is : key y ≡ key z = ap key same in omega arith
       go (inr later) rest =
           let least : low ≤ key z = rising.0 in
           let more : key z + 1 ≤ key y = rest later in

@@ -1,5 +1,4 @@
 -- Every open move keeps the queue sound.
-use Rattle.std.proofs.Common.{Option}
 use Rattle.cqs_core.specs.QueueState.{Queue}
 use Rattle.cqs_core.specs.QueueMoves as move
 use Rattle.cqs_core.specs.QueueMoves.{Move, IsOpen, moved}

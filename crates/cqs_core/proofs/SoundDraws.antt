@@ -1,20 +1,18 @@
 -- Soundness through the two draws, by which a counter passes a number, and through moves that name no number.
-use Rattle.std.proofs.Common.{◌≡◌, ◌≢◌, ◌⊎◌, inl, inr, ℕ, zero, suc, ◌+◌, ◌<◌, ◌≤◌, max, Bool, true, false, List, [], ◌∷◌, ◌++◌, length, Option, Some, None, set, slice_get, refl, ap, sym, ◌∙◌, subst, arith, length-set}
+use Rattle.std.proofs.Common.{◌≡◌, ◌≢◌, ◌⊎◌, inl, inr, ℕ, ◌+◌, ◌<◌, ◌≤◌, max, false, List, [], ◌∷◌, ◌++◌, length, Option, Some, None, set, slice_get, refl, sym, ◌∙◌, subst, arith, length-set}
 use Rattle.std.proofs.lemmas.Bool.{cases_lt}
 use Rattle.std.proofs.lemmas.List.{length_push}
 use Rattle.cqs_core.specs.declared.cells.CoreCell.{CoreCell}
 use Rattle.cqs_core.specs.declared.cells.CoreState.{CoreState}
 use Rattle.cqs_core.specs.declared.cells.CoreState.TheVariants as state
-use Rattle.cqs_core.specs.declared.doings.Doing.{Doing}
 use Rattle.cqs_core.specs.declared.doings.Doing.TheVariants as doing
-use Rattle.cqs_core.specs.Numbered.{EachAt}
-use Rattle.cqs_core.specs.QueueState.{Queue, owner_doing, is_ticket, has_ticket, fresh_cell}
+use Rattle.cqs_core.specs.QueueState.{Queue}
 use Rattle.cqs_core.specs.QueueMoves as move
 use Rattle.cqs_core.specs.QueueMoves.{IsLight, IsCancelling, IsOpen, moved, now_doing}
-use Rattle.cqs_core.specs.QueueSound.{IsEntered, IsUninstalled, IsLeft, IsAwaited, IsSoundAt, IsCell, IsUnended, IsUntaken, IsTicket, IsOwn, IsPass, AreApart, IsSound}
+use Rattle.cqs_core.specs.QueueSound.{IsEntered, IsUninstalled, IsAwaited, IsSoundAt, IsCell, IsUntaken, IsPass, AreApart, IsSound}
 use Rattle.cqs_core.proofs.Places.{get-set_here, get-set_else, get-below, get-past, get-there, get-append_below, get-push_at}
-use Rattle.cqs_core.proofs.Tickets.{has_ticket-none, has_ticket-frame, has_ticket-opens, owner_doing-kept, owner_doing-here, AreApart-write, AreApart-draw}
-use Rattle.cqs_core.proofs.SoundStep.{IsOnly, named, IsMove, IsCellKept, IsPlaceKept, sound-step}
+use Rattle.cqs_core.proofs.Tickets.{has_ticket-frame, owner_doing-here, AreApart-write}
+use Rattle.cqs_core.proofs.SoundStep.{IsMove, IsCellKept, IsPlaceKept, sound-step}
 use Rattle.cqs_core.proofs.SoundMeets.{only-none, only-named}
 
 -- no element of that number: the list ends before it
@@ -23,7 +21,8 @@ none-past xs i none = go (cases_lt i (length xs))
   where
     go : (i < length xs) ⊎ (length xs ≤ i) → length xs ≤ i
     go (inr past) = past
-    go (inl below) = let there : (x : _) × (slice_get xs i ≡ Some x) = get-there xs i below in absurd (cc (none, there.1))
+    go (inl below) =
+        let there : (x : _) × (slice_get xs i ≡ Some x) = get-there xs i below in absurd (cc (none, there.1))
 
 -- a push changes no other number
 pub get-push_else : {X : Type 0} → (xs : List X) (x : X) (j : ℕ) → j ≢ length xs
@@ -40,9 +39,15 @@ get-push_else xs x j other = go (cases_lt j (length xs))
 
 abbrev after_draw : Queue → ℕ → ℕ → List CoreCell → Queue
 after_draw q p k cells =
-    record { suspends = q.suspends + 1; resumes = q.resumes; cells = cells; doing = set q.doing p (doing.Drawn k) }
+    record {
+      suspends = q.suspends + 1;
+      resumes = q.resumes;
+      cells = cells;
+      doing = set q.doing p (doing.Drawn k);
+    }
 
-module _ (q : Queue) (p k : ℕ) (does : slice_get q.doing p ≡ Some doing.Door) (next : k ≡ q.suspends) (cells : List CoreCell) where
+module _ (q : Queue) (p k : ℕ) (does : slice_get q.doing p ≡ Some doing.Door) (next : k ≡ q.suspends)
+    (cells : List CoreCell) where
   drawn-move : ((j : ℕ) → j ≢ k → slice_get cells j ≡ slice_get q.cells j)
       → IsMove q (after_draw q p k cells) p k doing.Door (doing.Drawn k)
   drawn-move others = record {
@@ -64,7 +69,8 @@ module _ (q : Queue) (p k : ℕ) (does : slice_get q.doing p ≡ Some doing.Door
   drawn-entered : (cell : CoreCell) → cell.owner ≡ Some p → IsEntered (after_draw q p k cells) k cell
   drawn-entered cell owns =
       let there : p < length q.doing = get-below q.doing p doing.Door does in
-      let long : length (set q.doing p (doing.Drawn k)) ≡ length q.doing = length-set q.doing p (doing.Drawn k) in
+      let long : length (set q.doing p (doing.Drawn k)) ≡ length q.doing =
+      length-set q.doing p (doing.Drawn k) in
       record { drawn = omega arith; pass = p; owner = owns; there = omega arith }
 
   drawn-uninstalled : (cell : CoreCell) → cell.owner ≡ Some p → IsUninstalled (after_draw q p k cells) k cell
@@ -72,7 +78,8 @@ module _ (q : Queue) (p k : ℕ) (does : slice_get q.doing p ≡ Some doing.Door
       inl (drawn-entered cell owns, owner_doing-here q.doing p doing.Door (doing.Drawn k) cell does owns)
 
   drawn-awaited : IsAwaited q k → IsAwaited (after_draw q p k cells) k
-  drawn-awaited waits reached = has_ticket-frame q.doing p k doing.Door (doing.Drawn k) does refl ∙ waits reached
+  drawn-awaited waits reached =
+      has_ticket-frame q.doing p k doing.Door (doing.Drawn k) does refl ∙ waits reached
 
   drawn-own : (cell : CoreCell) → slice_get cells k ≡ Some cell → cell.owner ≡ Some p → IsUntaken cell.state
       → IsPass (after_draw q p k cells) p (doing.Drawn k)
@@ -104,7 +111,8 @@ module _ (q : Queue) (p k : ℕ) (does : slice_get q.doing p ≡ Some doing.Door
   undrawn-untaken x state.Refused h = let low : k < q.suspends = h.0.drawn in absurd (omega arith)
 
   -- with its owner it is what it was
-  drawn-at : (x cell : CoreCell) → cell.owner ≡ Some p → cell.collected ≡ x.collected → (s : CoreState) → IsUntaken s
+  drawn-at : (x cell : CoreCell) → cell.owner ≡ Some p → cell.collected ≡ x.collected → (s : CoreState)
+      → IsUntaken s
       → IsSoundAt q k x s → IsSoundAt (after_draw q p k cells) k cell s
   drawn-at x cell owns same state.Empty is h = (drawn-uninstalled cell owns, drawn-awaited h.1, same ∙ h.2)
   drawn-at x cell owns same state.Value is h = (drawn-uninstalled cell owns, h.1, same ∙ h.2)
@@ -118,7 +126,8 @@ module _ (q : Queue) (p k : ℕ) (does : slice_get q.doing p ≡ Some doing.Door
   drawn-at x cell owns same state.Refused is h = absurd is
 
 -- the suspend counter passes the number first: a new cell, with its owner
-sound-draw_new : (q : Queue) (p k : ℕ) → IsSound q → IsOpen q (move.draw p k None) → IsSound (moved q (move.draw p k None))
+sound-draw_new : (q : Queue) (p k : ℕ) → IsSound q → IsOpen q (move.draw p k None)
+    → IsSound (moved q (move.draw p k None))
 sound-draw_new q p k sound (does, next, none) =
     sound-step q (after_draw q p k cells) p k doing.Door (doing.Drawn k)
     (drawn-move q p k does next cells (λ j other. get-push_else q.cells cell j (λ e. other (e ∙ long))))
@@ -142,7 +151,14 @@ sound-draw_new q p k sound (does, next, none) =
 
     made : length (q.cells ++ record { state = state.Empty; owner = Some p; collected = false } ∷ [])
         ≡ max (q.suspends + 1) q.resumes
-    made = omega (arith, size, past, next, length_push q.cells (record { state = state.Empty; owner = Some p; collected = false }))
+    made =
+        omega (
+          arith,
+          size,
+          past,
+          next,
+          length_push q.cells (record { state = state.Empty; owner = Some p; collected = false }),
+        )
 
     now : slice_get cells k ≡ Some cell
     now = get-push_at q.cells cell k (sym long)
@@ -195,7 +211,8 @@ sound-draw_found q p k found sound (does, next, finds) =
     }
 
     place : IsPlaceKept q (after_draw q p k cells) p k
-    place x got = let same : found ≡ x = cc (finds, got) in (cell, now, subst (λ y. IsCellKept q p k y cell) same kept)
+    place x got =
+        let same : found ≡ x = cc (finds, got) in (cell, now, subst (λ y. IsCellKept q p k y cell) same kept)
 
     here : (x : CoreCell) → slice_get cells k ≡ Some x → IsCell (after_draw q p k cells) k x
     here x got =

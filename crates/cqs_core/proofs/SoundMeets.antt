@@ -1,17 +1,16 @@
 -- Soundness through the moves at a cell that is there: installs, meets, cancellation and looks.
-use Rattle.std.proofs.Common.{◌≡◌, ◌≢◌, ◌⊎◌, inl, inr, ℕ, ◌<◌, Bool, true, false, List, Option, Some, None, set, slice_get, refl, ap, sym, ◌∙◌, subst}
+use Rattle.std.proofs.Common.{◌≡◌, inl, inr, ℕ, Bool, true, false, Some, None, set, slice_get, refl, sym, subst}
 use Rattle.cqs_core.specs.declared.cells.CoreCell.{CoreCell}
 use Rattle.cqs_core.specs.declared.cells.CoreState.{CoreState}
 use Rattle.cqs_core.specs.declared.cells.CoreState.TheVariants as state
 use Rattle.cqs_core.specs.declared.doings.Doing.{Doing}
 use Rattle.cqs_core.specs.declared.doings.Doing.TheVariants as doing
-use Rattle.cqs_core.specs.Numbered.{EachAt}
 use Rattle.cqs_core.specs.QueueState.{Queue, owner_doing, is_ticket}
 use Rattle.cqs_core.specs.QueueMoves as move
 use Rattle.cqs_core.specs.QueueMoves.{Works, Owns, IsCancelling, IsOpen, moved, at_state, with_cell}
-use Rattle.cqs_core.specs.QueueSound.{IsEntered, IsUninstalled, IsLeft, IsAwaited, IsSoundAt, IsCell, IsUnended, IsUntaken, IsTicket, IsOwn, IsPass, IsSound}
+use Rattle.cqs_core.specs.QueueSound.{IsEntered, IsLeft, IsSoundAt, IsCell, IsUnended, IsUntaken, IsTicket, IsOwn, IsPass, IsSound}
 use Rattle.cqs_core.proofs.Tickets.{owner_doing-here}
-use Rattle.cqs_core.proofs.SoundStep.{IsOnly, named, IsCellKept}
+use Rattle.cqs_core.proofs.SoundStep.{IsOnly, named}
 use Rattle.cqs_core.proofs.SoundWrite.{set-same, written, at-state, from-state, kept-own, kept-ticket, uninstalled-entered, own-owner, cancelling-left, entered-written, awaited-written, uninstalled-written, left-written, own-written, sound-written, sound-stays}
 
 -- a pass that names no number, and one that names k
@@ -29,7 +28,8 @@ sound-install q p k found sound w =
     let own : IsOwn q p k IsUntaken = sound.passes.at p (doing.Drawn k) w.does in
     let owns : found.owner ≡ Some p = own-owner q p k IsUntaken found own w.finds in
     let cell : CoreCell = at_state found state.Waiter in
-    let here : IsSoundAt q k found state.Empty = at-state q k found state.Empty w.at (sound.cells.at k found w.finds) in
+    let here : IsSoundAt q k found state.Empty =
+    at-state q k found state.Empty w.at (sound.cells.at k found w.finds) in
     let entered : IsEntered q k found = uninstalled-entered q k found own.drawn here.0 in
     sound-written q p k (doing.Drawn k) doing.Idle found cell w.does w.finds
     (only-named k (doing.Drawn k) refl) (only-none k doing.Idle refl) (λ j. refl)
@@ -40,13 +40,15 @@ sound-install q p k found sound w =
     )
     tt sound
 
-pub sound-take_value : (q : Queue) (p k : ℕ) (found : CoreCell) → IsSound q → IsOpen q (move.take_value p k found)
+pub sound-take_value : (q : Queue) (p k : ℕ) (found : CoreCell) → IsSound q
+    → IsOpen q (move.take_value p k found)
     → IsSound (moved q (move.take_value p k found))
 sound-take_value q p k found sound w =
     let own : IsOwn q p k IsUntaken = sound.passes.at p (doing.Drawn k) w.does in
     let owns : found.owner ≡ Some p = own-owner q p k IsUntaken found own w.finds in
     let cell : CoreCell = record { state = state.Taken; owner = found.owner; collected = true } in
-    let here : IsSoundAt q k found state.Value = at-state q k found state.Value w.at (sound.cells.at k found w.finds) in
+    let here : IsSoundAt q k found state.Value =
+    at-state q k found state.Value w.at (sound.cells.at k found w.finds) in
     let entered : IsEntered q k found = uninstalled-entered q k found own.drawn here.0 in
     sound-written q p k (doing.Drawn k) doing.Idle found cell w.does w.finds
     (only-named k (doing.Drawn k) refl) (only-none k doing.Idle refl) (λ j. refl)
@@ -61,7 +63,8 @@ pub sound-serve : (q : Queue) (p k : ℕ) (found : CoreCell) → IsSound q → I
 sound-serve q p k found sound w =
     let ticket : IsTicket q k = sound.passes.at p (doing.Ticket k) w.does in
     let cell : CoreCell = at_state found state.Resumed in
-    let here : IsSoundAt q k found state.Waiter = at-state q k found state.Waiter w.at (sound.cells.at k found w.finds) in
+    let here : IsSoundAt q k found state.Waiter =
+    at-state q k found state.Waiter w.at (sound.cells.at k found w.finds) in
     sound-written q p k (doing.Ticket k) doing.Idle found cell w.does w.finds
     (only-named k (doing.Ticket k) refl) (only-none k doing.Idle refl) (λ j. refl)
     (kept-ticket q p k found cell sound.apart w.does refl
@@ -69,12 +72,14 @@ sound-serve q p k found sound w =
     (entered-written q p k (doing.Ticket k) doing.Idle found cell w.does refl here.0, ticket.reached)
     tt sound
 
-pub sound-leave_value : (q : Queue) (p k : ℕ) (found : CoreCell) → IsSound q → IsOpen q (move.leave_value p k found)
+pub sound-leave_value : (q : Queue) (p k : ℕ) (found : CoreCell) → IsSound q
+    → IsOpen q (move.leave_value p k found)
     → IsSound (moved q (move.leave_value p k found))
 sound-leave_value q p k found sound w =
     let ticket : IsTicket q k = sound.passes.at p (doing.Ticket k) w.does in
     let cell : CoreCell = at_state found state.Value in
-    let here : IsSoundAt q k found state.Empty = at-state q k found state.Empty w.at (sound.cells.at k found w.finds) in
+    let here : IsSoundAt q k found state.Empty =
+    at-state q k found state.Empty w.at (sound.cells.at k found w.finds) in
     sound-written q p k (doing.Ticket k) doing.Idle found cell w.does w.finds
     (only-named k (doing.Ticket k) refl) (only-none k doing.Idle refl) (λ j. refl)
     (kept-ticket q p k found cell sound.apart w.does refl (λ h. tt) (λ h. subst IsCancelling w.at h)) (
@@ -115,10 +120,12 @@ sound-pass_over q p k found sound w =
     (only-named k (doing.Ticket k) refl) (only-none k doing.Owes refl) (λ j. refl)
     (kept-ticket q p k found found sound.apart w.does refl (λ h. h) (λ h. h)) after tt sound)
 
-pub sound-meet_refused : (q : Queue) (p k : ℕ) (found : CoreCell) → IsSound q → IsOpen q (move.meet_refused p k found)
+pub sound-meet_refused : (q : Queue) (p k : ℕ) (found : CoreCell) → IsSound q
+    → IsOpen q (move.meet_refused p k found)
     → IsSound (moved q (move.meet_refused p k found))
 sound-meet_refused q p k found sound w =
-    let here : IsSoundAt q k found state.Refused = at-state q k found state.Refused w.at (sound.cells.at k found w.finds) in
+    let here : IsSoundAt q k found state.Refused =
+    at-state q k found state.Refused w.at (sound.cells.at k found w.finds) in
     let entered : IsEntered (written q p k doing.Idle found) k found =
     entered-written q p k (doing.Ticket k) doing.Idle found found w.does refl here.0 in
     let after : IsCell (written q p k doing.Idle found) k found =
@@ -130,11 +137,13 @@ sound-meet_refused q p k found sound w =
 
 -- Cancellation: the pass owns the number.
 
-pub sound-begin_cancel : (q : Queue) (p k : ℕ) (found : CoreCell) → IsSound q → IsOpen q (move.begin_cancel p k found)
+pub sound-begin_cancel : (q : Queue) (p k : ℕ) (found : CoreCell) → IsSound q
+    → IsOpen q (move.begin_cancel p k found)
     → IsSound (moved q (move.begin_cancel p k found))
 sound-begin_cancel q p k found sound (w, mine) =
     let cell : CoreCell = at_state found state.Cancelling in
-    let here : IsSoundAt q k found state.Waiter = at-state q k found state.Waiter w.at (sound.cells.at k found w.finds) in
+    let here : IsSoundAt q k found state.Waiter =
+    at-state q k found state.Waiter w.at (sound.cells.at k found w.finds) in
     let does : owner_doing (set q.doing p (doing.Leaving k)) cell ≡ Some (doing.Leaving k) =
     owner_doing-here q.doing p doing.Idle (doing.Leaving k) cell w.does mine.owner in
     let left : IsLeft (written q p k (doing.Leaving k) cell) k cell =
@@ -146,7 +155,8 @@ sound-begin_cancel q p k found sound (w, mine) =
     (only-none k doing.Idle refl) (only-named k (doing.Leaving k) refl) (λ j. refl)
     (kept-own q p k found cell mine.owner refl (λ h. tt))
     (left, awaited-written q p k doing.Idle (doing.Leaving k) found cell w.does refl here.1, here.2)
-    (own-written q p k doing.Idle (doing.Leaving k) found cell w.does IsCancelling w.finds here.0.drawn mine.owner tt)
+    (own-written q p k doing.Idle (doing.Leaving k) found cell w.does IsCancelling w.finds here.0.drawn
+    mine.owner tt)
     sound
 
 -- what holds of a cell whose canceller gets the answer
@@ -193,10 +203,13 @@ sound-decide q p k on sound does =
     own.found own.drawn own.owner own.at)
     sound)
 
--- The canceller settles the cell, and does d now: the cell keeps its owner, and nobody else relies on its state.
+-- The canceller settles the cell, and does d now: the cell keeps its owner, and nobody else relies on its
+-- state.
 settled : (q : Queue) (p k : ℕ) (on : Bool) (d : Doing) (found : CoreCell) (s : CoreState) → IsSound q
-    → slice_get q.doing p ≡ Some (doing.Decided k on) → slice_get q.cells k ≡ Some found → IsCancelling found.state
-    → named d ≡ None → ((j : ℕ) → is_ticket j d ≡ false) → IsUnended s → IsPass (written q p k d (at_state found s)) p d
+    → slice_get q.doing p ≡ Some (doing.Decided k on) → slice_get q.cells k ≡ Some found
+    → IsCancelling found.state
+    → named d ≡ None → ((j : ℕ) → is_ticket j d ≡ false) → IsUnended s
+    → IsPass (written q p k d (at_state found s)) p d
     → (IsEntered (written q p k d (at_state found s)) k (at_state found s) × (found.collected ≡ false)
     → IsSoundAt (written q p k d (at_state found s)) k (at_state found s) s)
     → IsSound (written q p k d (at_state found s))
@@ -218,7 +231,8 @@ sound-cancel q p k found sound w =
     settled q p k true doing.Idle found state.Cancelled sound w.does w.finds
     (subst IsCancelling (sym w.at) tt) refl (λ j. refl) tt tt (λ h. h)
 
-pub sound-cancel_owing : (q : Queue) (p k : ℕ) (found : CoreCell) → IsSound q → IsOpen q (move.cancel_owing p k found)
+pub sound-cancel_owing : (q : Queue) (p k : ℕ) (found : CoreCell) → IsSound q
+    → IsOpen q (move.cancel_owing p k found)
     → IsSound (moved q (move.cancel_owing p k found))
 sound-cancel_owing q p k found sound w =
     settled q p k true doing.Owes found state.Cancelled sound w.does w.finds
@@ -234,7 +248,8 @@ pub sound-collect : (q : Queue) (p k : ℕ) (found : CoreCell) → IsSound q →
     → IsSound (moved q (move.collect p k found))
 sound-collect q p k found sound (w, mine) =
     let cell : CoreCell = record { state = found.state; owner = found.owner; collected = true } in
-    let here : IsSoundAt q k found state.Resumed = at-state q k found state.Resumed w.at (sound.cells.at k found w.finds) in
+    let here : IsSoundAt q k found state.Resumed =
+    at-state q k found state.Resumed w.at (sound.cells.at k found w.finds) in
     let entered : IsEntered (written q p k doing.Idle cell) k cell =
     entered-written q p k doing.Idle doing.Idle found cell w.does refl here.0 in
     let after : IsCell (written q p k doing.Idle cell) k cell =

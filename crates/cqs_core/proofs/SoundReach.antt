@@ -1,27 +1,32 @@
 -- Soundness through the draw of a resume, and through moves that name no number.
-use Rattle.std.proofs.Common.{◌≡◌, ◌≢◌, ◌⊎◌, inl, inr, ℕ, ◌+◌, ◌<◌, ◌≤◌, max, Bool, true, false, List, [], ◌∷◌, ◌++◌, length, Option, Some, None, set, slice_get, refl, ap, sym, ◌∙◌, subst, arith, length-set}
+use Rattle.std.proofs.Common.{◌≡◌, ◌≢◌, ◌⊎◌, inl, inr, ℕ, ◌+◌, ◌<◌, ◌≤◌, max, Bool, false, List, [], ◌∷◌, ◌++◌, length, Option, Some, None, set, slice_get, refl, sym, ◌∙◌, subst, arith, length-set}
 use Rattle.std.proofs.lemmas.List.{length_push}
 use Rattle.cqs_core.specs.declared.cells.CoreCell.{CoreCell}
 use Rattle.cqs_core.specs.declared.cells.CoreState.{CoreState}
 use Rattle.cqs_core.specs.declared.cells.CoreState.TheVariants as state
 use Rattle.cqs_core.specs.declared.doings.Doing.{Doing}
 use Rattle.cqs_core.specs.declared.doings.Doing.TheVariants as doing
-use Rattle.cqs_core.specs.Numbered.{EachAt}
 use Rattle.cqs_core.specs.QueueState.{Queue, owner_doing, is_ticket, has_ticket, fresh_cell}
 use Rattle.cqs_core.specs.QueueMoves as move
 use Rattle.cqs_core.specs.QueueMoves.{IsLight, IsClear, IsCancelling, IsOpen, moved, now_doing}
-use Rattle.cqs_core.specs.QueueSound.{IsEntered, IsUninstalled, IsLeft, IsAwaited, IsSoundAt, IsCell, IsUnended, IsUntaken, IsTicket, IsPass, AreApart, IsSound}
+use Rattle.cqs_core.specs.QueueSound.{IsEntered, IsUninstalled, IsAwaited, IsSoundAt, IsCell, IsUnended, IsTicket, IsPass, AreApart, IsSound}
 use Rattle.cqs_core.proofs.Places.{get-below, get-past, get-push_at}
 use Rattle.cqs_core.proofs.Tickets.{has_ticket-none, has_ticket-opens, owner_doing-kept, AreApart-write, AreApart-draw}
-use Rattle.cqs_core.proofs.SoundStep.{IsOnly, named, IsMove, IsCellKept, IsPlaceKept, sound-step}
+use Rattle.cqs_core.proofs.SoundStep.{named, IsMove, IsPlaceKept, sound-step}
 use Rattle.cqs_core.proofs.SoundMeets.{only-none, only-named}
 use Rattle.cqs_core.proofs.SoundDraws.{none-past, get-push_else}
 
 abbrev after_reach : Queue → ℕ → ℕ → List CoreCell → Queue
 after_reach q p k cells =
-    record { suspends = q.suspends; resumes = q.resumes + 1; cells = cells; doing = set q.doing p (doing.Ticket k) }
+    record {
+      suspends = q.suspends;
+      resumes = q.resumes + 1;
+      cells = cells;
+      doing = set q.doing p (doing.Ticket k);
+    }
 
-module _ (q : Queue) (p k : ℕ) (does : slice_get q.doing p ≡ Some doing.Owes) (next : k ≡ q.resumes) (cells : List CoreCell) where
+module _ (q : Queue) (p k : ℕ) (does : slice_get q.doing p ≡ Some doing.Owes) (next : k ≡ q.resumes)
+    (cells : List CoreCell) where
   reached-move : ((j : ℕ) → j ≢ k → slice_get cells j ≡ slice_get q.cells j)
       → IsMove q (after_reach q p k cells) p k doing.Owes (doing.Ticket k)
   reached-move others = record {
@@ -57,7 +62,8 @@ module _ (q : Queue) (p k : ℕ) (does : slice_get q.doing p ≡ Some doing.Owes
   reached-entered : (x : CoreCell) → IsEntered q k x → IsEntered (after_reach q p k cells) k x
   reached-entered x e =
       let there : e.pass < length q.doing = e.there in
-      let long : length (set q.doing p (doing.Ticket k)) ≡ length q.doing = length-set q.doing p (doing.Ticket k) in
+      let long : length (set q.doing p (doing.Ticket k)) ≡ length q.doing =
+      length-set q.doing p (doing.Ticket k) in
       record { drawn = e.drawn; pass = e.pass; owner = e.owner; there = omega arith }
 
   reached-owner : (e : Doing) (x : CoreCell) → e ≢ doing.Owes → owner_doing q.doing x ≡ Some e
@@ -70,16 +76,19 @@ module _ (q : Queue) (p k : ℕ) (does : slice_get q.doing p ≡ Some doing.Owes
   reached-at x state.Empty h = (tt, (uninstalled h.0, reached-awaited, h.2))
     where
       uninstalled : IsUninstalled q k x → IsUninstalled (after_reach q p k cells) k x
-      uninstalled (inl own) = inl (reached-entered x own.0, reached-owner (doing.Drawn k) x (λ e. absurd (cc)) own.1)
+      uninstalled (inl own) =
+          inl (reached-entered x own.0, reached-owner (doing.Drawn k) x (λ e. absurd (cc)) own.1)
       uninstalled (inr free) = inr free
   reached-at x state.Waiter h = (tt, (reached-entered x h.0, reached-awaited, h.2))
   reached-at x state.Value h = let low : k < q.resumes = h.1 in absurd (omega arith)
   reached-at x state.Taken h = let low : k < q.resumes = h.1 in absurd (omega arith)
   reached-at x state.Broken h = absurd h
   reached-at x state.Resumed h = let low : k < q.resumes = h.1 in absurd (omega arith)
-  reached-at x state.Cancelling h = (tt, (record { entered = reached-entered x h.0.entered; stage = go h.0.stage }, reached-awaited, h.2))
+  reached-at x state.Cancelling h =
+      (tt, (record { entered = reached-entered x h.0.entered; stage = go h.0.stage }, reached-awaited, h.2))
     where
-      go : (owner_doing q.doing x ≡ Some (doing.Leaving k)) ⊎ ((on : Bool) × (owner_doing q.doing x ≡ Some (doing.Decided k on)))
+      go : (owner_doing q.doing x ≡ Some (doing.Leaving k))
+          ⊎ ((on : Bool) × (owner_doing q.doing x ≡ Some (doing.Decided k on)))
           → (owner_doing (set q.doing p (doing.Ticket k)) x ≡ Some (doing.Leaving k))
           ⊎ ((on : Bool) × (owner_doing (set q.doing p (doing.Ticket k)) x ≡ Some (doing.Decided k on)))
       go (inl own) = inl (reached-owner (doing.Leaving k) x (λ e. absurd (cc)) own)
@@ -89,11 +98,13 @@ module _ (q : Queue) (p k : ℕ) (does : slice_get q.doing p ≡ Some doing.Owes
   reached-at x state.Refused h = (tt, (reached-entered x h.0, h.1))
 
 -- the resume counter passes the number first: a new cell, with its ticket
-sound-reach_new : (q : Queue) (p k : ℕ) → IsSound q → IsOpen q (move.reach p k None) → IsSound (moved q (move.reach p k None))
+sound-reach_new : (q : Queue) (p k : ℕ) → IsSound q → IsOpen q (move.reach p k None)
+    → IsSound (moved q (move.reach p k None))
 sound-reach_new q p k sound (does, next, none) =
     sound-step q (after_reach q p k cells) p k doing.Owes (doing.Ticket k)
     (reached-move q p k does next cells (λ j other. get-push_else q.cells fresh_cell j (λ e. other (e ∙ long))))
-    (λ found finds. absurd (cc (none, finds))) made here ticket (reached-apart q p k does next cells sound) sound
+    (λ found finds. absurd (cc (none, finds))) made here ticket
+    (reached-apart q p k does next cells sound) sound
   where
     cells : List CoreCell
     cells = q.cells ++ fresh_cell ∷ []
@@ -124,7 +135,8 @@ sound-reach_new q p k sound (does, next, none) =
         (inr (undrawn, refl), reached-awaited q p k does next cells, refl)
 
 -- a suspend drew the number first: its cell gets a ticket
-sound-reach_found : (q : Queue) (p k : ℕ) (found : CoreCell) → IsSound q → IsOpen q (move.reach p k (Some found))
+sound-reach_found : (q : Queue) (p k : ℕ) (found : CoreCell) → IsSound q
+    → IsOpen q (move.reach p k (Some found))
     → IsSound (moved q (move.reach p k (Some found)))
 sound-reach_found q p k found sound (does, next, finds) =
     sound-step q (after_reach q p k q.cells) p k doing.Owes (doing.Ticket k)

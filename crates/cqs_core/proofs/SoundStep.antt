@@ -1,12 +1,11 @@
 -- What one move of a pass keeps: soundness at every number but its own, and of every other pass.
-use Rattle.std.proofs.Common.{◌≡◌, ◌≢◌, ◌⊎◌, inl, inr, ℕ, ◌+◌, ◌<◌, ◌≤◌, max, Bool, true, false, List, length, Option, Some, None, set, slice_get, refl, ap, sym, ◌∙◌, subst, arith, length-set}
+use Rattle.std.proofs.Common.{◌≡◌, ◌≢◌, ◌⊎◌, inl, inr, ℕ, ◌<◌, ◌≤◌, max, Bool, true, false, length, Option, Some, None, set, slice_get, refl, ap, sym, ◌∙◌, subst, arith, length-set}
 use Rattle.std.proofs.lemmas.Bool.{cases_eq, cases_Bool}
 use Rattle.cqs_core.specs.declared.cells.CoreCell.{CoreCell}
 use Rattle.cqs_core.specs.declared.cells.CoreState.{CoreState}
 use Rattle.cqs_core.specs.declared.cells.CoreState.TheVariants as state
 use Rattle.cqs_core.specs.declared.doings.Doing.{Doing}
 use Rattle.cqs_core.specs.declared.doings.Doing.TheVariants as doing
-use Rattle.cqs_core.specs.Numbered.{EachAt}
 use Rattle.cqs_core.specs.QueueState.{Queue, owner_doing, is_ticket, has_ticket}
 use Rattle.cqs_core.specs.QueueMoves.{IsCancelling}
 use Rattle.cqs_core.specs.QueueSound.{IsEntered, IsUninstalled, IsLeft, IsAwaited, IsSoundAt, IsCell, IsUnended, IsUntaken, IsTicket, IsOwn, IsPass, AreApart, IsSound}
@@ -88,14 +87,17 @@ module _ (q n : Queue) (p k : ℕ) (old d : Doing) (m : IsMove q n p k old d) wh
       ap (has_ticket j) m.does ∙ has_ticket-frame q.doing p j old d m.did (none_after ∙ sym none_before) ∙ was
 
   uninstalled-frame : (j : ℕ) (x : CoreCell) → j ≢ k → IsUninstalled q j x → IsUninstalled n j x
-  uninstalled-frame j x other (inl h) = inl (entered-frame j x h.0, owner-frame j (doing.Drawn j) x other refl h.1)
+  uninstalled-frame j x other (inl h) =
+      inl (entered-frame j x h.0, owner-frame j (doing.Drawn j) x other refl h.1)
   uninstalled-frame j x other (inr h) = inr (m.undrawn j other h.0, h.1)
 
   left-frame : (j : ℕ) (x : CoreCell) → j ≢ k → IsLeft q j x → IsLeft n j x
   left-frame j x other left = record { entered = entered-frame j x left.entered; stage = go left.stage }
     where
-      go : (owner_doing q.doing x ≡ Some (doing.Leaving j)) ⊎ ((on : Bool) × (owner_doing q.doing x ≡ Some (doing.Decided j on)))
-          → (owner_doing n.doing x ≡ Some (doing.Leaving j)) ⊎ ((on : Bool) × (owner_doing n.doing x ≡ Some (doing.Decided j on)))
+      go : (owner_doing q.doing x ≡ Some (doing.Leaving j))
+          ⊎ ((on : Bool) × (owner_doing q.doing x ≡ Some (doing.Decided j on)))
+          → (owner_doing n.doing x ≡ Some (doing.Leaving j))
+          ⊎ ((on : Bool) × (owner_doing n.doing x ≡ Some (doing.Decided j on)))
       go (inl h) = inl (owner-frame j (doing.Leaving j) x other refl h)
       go (inr h) = inr (h.0, owner-frame j (doing.Decided j h.0) x other refl h.1)
 
@@ -129,10 +131,16 @@ module _ (q n : Queue) (p k : ℕ) (old d : Doing) (m : IsMove q n p k old d) wh
               unended = place.2.unended r another now t.unended;
             }
         go (inr other) =
-            record { reached = reached-frame j t.reached; cell = t.cell; found = m.others j other ∙ t.found; unended = t.unended }
+            record {
+              reached = reached-frame j t.reached;
+              cell = t.cell;
+              found = m.others j other ∙ t.found;
+              unended = t.unended;
+            }
 
     own-frame : (P : CoreState → Type 0) (r j : ℕ) → r ≢ p
-        → ((found cell : CoreCell) → IsCellKept q p k found cell → found.owner ≡ Some r → P found.state → P cell.state)
+        → ((found cell : CoreCell) → IsCellKept q p k found cell → found.owner ≡ Some r
+        → P found.state → P cell.state)
         → IsOwn q r j P → IsOwn n r j P
     own-frame P r j another follows own = go (cases_eq j k)
       where
@@ -155,7 +163,13 @@ module _ (q n : Queue) (p k : ℕ) (old d : Doing) (m : IsMove q n p k old d) wh
               at = follows own.cell place.0 place.2 own.owner own.at;
             }
         go (inr other) =
-            record { drawn = drawn; cell = own.cell; found = m.others j other ∙ own.found; owner = own.owner; at = own.at }
+            record {
+              drawn = drawn;
+              cell = own.cell;
+              found = m.others j other ∙ own.found;
+              owner = own.owner;
+              at = own.at;
+            }
 
     -- every other pass is as sound as before
     pass-frame : (r : ℕ) (e : Doing) → r ≢ p → slice_get q.doing r ≡ Some e → IsPass q r e → IsPass n r e
@@ -171,7 +185,8 @@ module _ (q n : Queue) (p k : ℕ) (old d : Doing) (m : IsMove q n p k old d) wh
     pass-frame r doing.Door another does h = tt
     pass-frame r doing.Owes another does h = tt
 
--- A move keeps soundness where its own pass and its own cell are sound after it, and the others' facts there are kept.
+-- A move keeps soundness where its own pass and its own cell are sound after it, and the others' facts there
+-- are kept.
 pub sound-step : (q n : Queue) (p k : ℕ) (old d : Doing) → IsMove q n p k old d → IsPlaceKept q n p k
     → length n.cells ≡ max n.suspends n.resumes
     → ((x : CoreCell) → slice_get n.cells k ≡ Some x → IsCell n k x)
@@ -193,11 +208,12 @@ sound-step q n p k old d m kept made here pass apart sound = record {
 
     doer : (r : ℕ) (e : Doing) → slice_get n.doing r ≡ Some e → (r ≡ p) ⊎ (r ≢ p) → IsPass n r e
     doer r e got (inl same) =
-        let now : slice_get n.doing p ≡ Some d = ap (λ ds. slice_get ds p) m.does ∙ get-set_here q.doing p old d m.did in
+        let now : slice_get n.doing p ≡ Some d =
+        ap (λ ds. slice_get ds p) m.does ∙ get-set_here q.doing p old d m.did in
         let is : d ≡ e = cc (now, rw same at got) in
         rw same (subst (λ f. IsPass n p f) is pass)
     doer r e got (inr another) =
-        let else_ : slice_get n.doing r ≡ slice_get q.doing r =
+        let unchanged : slice_get n.doing r ≡ slice_get q.doing r =
         ap (λ ds. slice_get ds r) m.does ∙ get-set_else q.doing p r d (λ same. another (sym same)) in
-        let before : slice_get q.doing r ≡ Some e = sym else_ ∙ got in
+        let before : slice_get q.doing r ≡ Some e = sym unchanged ∙ got in
         pass-frame q n p k old d m kept r e another before (sound.passes.at r e before)

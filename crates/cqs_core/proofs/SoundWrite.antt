@@ -1,17 +1,17 @@
--- A pass that goes on, and writes the cell that it is at work on: what it must show of that cell, and the facts from
+-- A pass that goes on, and writes the cell that it is at work on: what it must show of that cell, and the
+-- facts from
 -- which it shows it.
-use Rattle.std.proofs.Common.{◌≡◌, ◌≢◌, ◌⊎◌, inl, inr, ℕ, zero, suc, ◌<◌, ◌≤◌, max, Bool, true, false, List, [], ◌∷◌, length, Option, Some, None, set, slice_get, refl, ap, sym, ◌∙◌, subst, arith, length-set}
+use Rattle.std.proofs.Common.{◌≡◌, ◌≢◌, ◌⊎◌, inl, inr, ℕ, zero, suc, ◌<◌, ◌≤◌, max, Bool, false, List, [], ◌∷◌, length, Some, set, slice_get, refl, ap, sym, ◌∙◌, subst, arith, length-set}
 use Rattle.cqs_core.specs.declared.cells.CoreCell.{CoreCell}
 use Rattle.cqs_core.specs.declared.cells.CoreState.{CoreState}
 use Rattle.cqs_core.specs.declared.cells.CoreState.TheVariants as state
 use Rattle.cqs_core.specs.declared.doings.Doing.{Doing}
 use Rattle.cqs_core.specs.declared.doings.Doing.TheVariants as doing
-use Rattle.cqs_core.specs.Numbered.{EachAt}
-use Rattle.cqs_core.specs.QueueState.{Queue, owner_doing, is_ticket, has_ticket}
+use Rattle.cqs_core.specs.QueueState.{Queue, owner_doing, is_ticket}
 use Rattle.cqs_core.specs.QueueMoves.{IsCancelling, now_doing, with_cell}
-use Rattle.cqs_core.specs.QueueSound.{IsEntered, IsUninstalled, IsLeft, IsAwaited, IsSoundAt, IsCell, IsUnended, IsUntaken, IsTicket, IsOwn, IsPass, AreApart, IsSound}
+use Rattle.cqs_core.specs.QueueSound.{IsEntered, IsUninstalled, IsLeft, IsAwaited, IsSoundAt, IsCell, IsUnended, IsUntaken, IsOwn, IsPass, AreApart, IsSound}
 use Rattle.cqs_core.proofs.Places.{get-set_here, get-set_else}
-use Rattle.cqs_core.proofs.Tickets.{has_ticket-frame, owner_doing-kept, owner_doing-here, AreApart-write}
+use Rattle.cqs_core.proofs.Tickets.{has_ticket-frame, owner_doing-kept, AreApart-write}
 use Rattle.cqs_core.proofs.SoundStep.{IsOnly, IsMove, IsCellKept, sound-step}
 
 pub set-same : {X : Type 0} → (xs : List X) (i : ℕ) (x : X) → slice_get xs i ≡ Some x → set xs i x ≡ xs
@@ -24,10 +24,12 @@ abbrev pub written : Queue → ℕ → ℕ → Doing → CoreCell → Queue
 written q p k d cell = now_doing (with_cell q k cell) p d
 
 -- what holds of a cell, at the state that it is in
-pub at-state : (q : Queue) (k : ℕ) (x : CoreCell) (s : CoreState) → x.state ≡ s → IsCell q k x → IsSoundAt q k x s
+pub at-state : (q : Queue) (k : ℕ) (x : CoreCell) (s : CoreState) → x.state ≡ s → IsCell q k x
+    → IsSoundAt q k x s
 at-state q k x s is h = subst (λ t. IsSoundAt q k x t) is h
 
-pub from-state : (q : Queue) (k : ℕ) (x : CoreCell) (s : CoreState) → x.state ≡ s → IsSoundAt q k x s → IsCell q k x
+pub from-state : (q : Queue) (k : ℕ) (x : CoreCell) (s : CoreState) → x.state ≡ s → IsSoundAt q k x s
+    → IsCell q k x
 from-state q k x s is h = subst (λ t. IsSoundAt q k x t) (sym is) h
 
 -- the pass that owns the number changes its cell: nobody else relies on its owner's part
@@ -53,7 +55,8 @@ kept-ticket q p k found cell apart has same untaken cancelling = record {
 }
 
 -- a number that a suspend drew was drawn
-pub uninstalled-entered : (q : Queue) (k : ℕ) (x : CoreCell) → k < q.suspends → IsUninstalled q k x → IsEntered q k x
+pub uninstalled-entered : (q : Queue) (k : ℕ) (x : CoreCell) → k < q.suspends → IsUninstalled q k x
+    → IsEntered q k x
 uninstalled-entered q k x drawn (inl h) = h.0
 uninstalled-entered q k x drawn (inr h) = let above : q.suspends ≤ k = h.0 in absurd (omega arith)
 
@@ -76,7 +79,8 @@ cancelling-left q k x state.Resumed is h = absurd is
 cancelling-left q k x state.Cancelled is h = absurd is
 cancelling-left q k x state.Refused is h = absurd is
 
-module _ (q : Queue) (p k : ℕ) (old d : Doing) (found cell : CoreCell) (did : slice_get q.doing p ≡ Some old) where
+module _ (q : Queue) (p k : ℕ) (old d : Doing) (found cell : CoreCell)
+    (did : slice_get q.doing p ≡ Some old) where
   -- a number with an owner has it still
   pub entered-written : cell.owner ≡ found.owner → IsEntered q k found → IsEntered (written q p k d cell) k cell
   entered-written same e =
@@ -97,12 +101,14 @@ module _ (q : Queue) (p k : ℕ) (old d : Doing) (found cell : CoreCell) (did : 
 
   pub uninstalled-written : cell.owner ≡ found.owner → doing.Drawn k ≢ old → IsUninstalled q k found
       → IsUninstalled (written q p k d cell) k cell
-  uninstalled-written same differ (inl h) = inl (entered-written same h.0, owner-written same (doing.Drawn k) differ h.1)
+  uninstalled-written same differ (inl h) =
+      inl (entered-written same h.0, owner-written same (doing.Drawn k) differ h.1)
   uninstalled-written same differ (inr h) = inr (h.0, same ∙ h.1)
 
   pub left-written : cell.owner ≡ found.owner → doing.Leaving k ≢ old → ((on : Bool) → doing.Decided k on ≢ old)
       → IsLeft q k found → IsLeft (written q p k d cell) k cell
-  left-written same leaving decided left = record { entered = entered-written same left.entered; stage = go left.stage }
+  left-written same leaving decided left =
+      record { entered = entered-written same left.entered; stage = go left.stage }
     where
       go : (owner_doing q.doing found ≡ Some (doing.Leaving k))
           ⊎ ((on : Bool) × (owner_doing q.doing found ≡ Some (doing.Decided k on)))
@@ -112,7 +118,8 @@ module _ (q : Queue) (p k : ℕ) (old d : Doing) (found cell : CoreCell) (did : 
       go (inr h) = inr (h.0, owner-written same (doing.Decided k h.0) (decided h.0) h.1)
 
   -- the pass's own cell stays its own
-  pub own-written : (P : CoreState → Type 0) → slice_get q.cells k ≡ Some found → k < q.suspends → cell.owner ≡ Some p
+  pub own-written : (P : CoreState → Type 0) → slice_get q.cells k ≡ Some found → k < q.suspends
+      → cell.owner ≡ Some p
       → P cell.state → IsOwn (written q p k d cell) p k P
   own-written P finds drawn owns at = record {
     drawn = drawn;
@@ -123,7 +130,8 @@ module _ (q : Queue) (p k : ℕ) (old d : Doing) (found cell : CoreCell) (did : 
   }
 
   -- The move keeps soundness, where the written cell is sound and the others' facts on it are kept.
-  pub sound-written : slice_get q.cells k ≡ Some found → IsOnly k old → IsOnly k d → ((j : ℕ) → is_ticket j d ≡ false)
+  pub sound-written : slice_get q.cells k ≡ Some found → IsOnly k old → IsOnly k d
+      → ((j : ℕ) → is_ticket j d ≡ false)
       → IsCellKept q p k found cell → IsCell (written q p k d cell) k cell → IsPass (written q p k d cell) p d
       → IsSound q → IsSound (written q p k d cell)
   sound-written finds before after no_ticket kept here pass sound =
@@ -148,17 +156,24 @@ module _ (q : Queue) (p k : ℕ) (old d : Doing) (found cell : CoreCell) (did : 
 
       place : (x : CoreCell) → slice_get q.cells k ≡ Some x
           → (y : CoreCell) × (slice_get (set q.cells k cell) k ≡ Some y) × IsCellKept q p k x y
-      place x got = let same : found ≡ x = cc (finds, got) in (cell, now, subst (λ y. IsCellKept q p k y cell) same kept)
+      place x got =
+          let same : found ≡ x = cc (finds, got) in (cell, now, subst (λ y. IsCellKept q p k y cell) same kept)
 
       made : length (set q.cells k cell) ≡ max q.suspends q.resumes
       made = length-set q.cells k cell ∙ sound.made
 
       at_k : (x : CoreCell) → slice_get (set q.cells k cell) k ≡ Some x → IsCell (written q p k d cell) k x
-      at_k x got = let same : cell ≡ x = cc (now, got) in subst (λ y. IsCell (written q p k d cell) k y) same here
+      at_k x got =
+          let same : cell ≡ x = cc (now, got) in subst (λ y. IsCell (written q p k d cell) k y) same here
 
 -- a cell that is written as it was: only the pass goes on
 pub sound-stays : (q : Queue) (p k : ℕ) (d : Doing) (found : CoreCell) → slice_get q.cells k ≡ Some found
     → IsSound (written q p k d found) → IsSound (now_doing q p d)
 sound-stays q p k d found finds sound =
-    subst (λ cells. IsSound (record { suspends = q.suspends; resumes = q.resumes; cells = cells; doing = set q.doing p d }))
+    subst (λ cells. IsSound (record {
+      suspends = q.suspends;
+      resumes = q.resumes;
+      cells = cells;
+      doing = set q.doing p d;
+    }))
     (set-same q.cells k found finds) sound

@@ -1,6 +1,6 @@
 -- Which tickets are open, and what owners do, after a pass goes on to do something else.
-use Rattle.std.proofs.Common.{◌≡◌, ◌≢◌, ◌⊎◌, inl, inr, ℕ, zero, suc, ◌==◌, ◌||◌, Bool, true, false, List, [], ◌∷◌, Option, Some, None, set, slice_get, option_and_then, refl, ap, sym, ◌∙◌, subst, eq-eqb, eqb-true}
-use Rattle.std.proofs.lemmas.Bool.{cases_eq, cases_Bool, or_cases, ne_eqb, both_ways}
+use Rattle.std.proofs.Common.{◌≡◌, ◌≢◌, ◌⊎◌, inl, inr, ℕ, zero, suc, ◌||◌, Bool, true, false, List, [], ◌∷◌, Option, Some, None, set, slice_get, refl, ap, sym, ◌∙◌, eq-eqb, eqb-true}
+use Rattle.std.proofs.lemmas.Bool.{cases_eq, cases_Bool, ne_eqb, both_ways}
 use Rattle.cqs_core.specs.declared.cells.CoreCell.{CoreCell}
 use Rattle.cqs_core.specs.declared.doings.Doing.{Doing}
 use Rattle.cqs_core.specs.declared.doings.Doing.TheVariants as doing
@@ -51,7 +51,8 @@ pub has_ticket-holds : (passes : List Doing) (k : ℕ) → has_ticket k passes �
 has_ticket-holds [] k h = absurd (cc)
 has_ticket-holds (d ∷ ds) k h = go (cases_Bool (is_ticket k d)) (has_ticket-holds ds k)
   where
-    go : (is_ticket k d ≡ true) ⊎ (is_ticket k d ≡ false) → (has_ticket k ds ≡ true → Holds ds k) → Holds (d ∷ ds) k
+    go : (is_ticket k d ≡ true) ⊎ (is_ticket k d ≡ false) → (has_ticket k ds ≡ true → Holds ds k)
+        → Holds (d ∷ ds) k
     go (inl is) rest = record { pass = zero; has = ap Some (is_ticket-true k d is) }
     go (inr isnt) rest =
         let later : has_ticket k ds ≡ true = rw isnt at h in
@@ -63,10 +64,12 @@ pub has_ticket-none : (passes : List Doing) (k : ℕ) → ((p : ℕ) → slice_g
 has_ticket-none passes k none = go (cases_Bool (has_ticket k passes))
   where
     go : (has_ticket k passes ≡ true) ⊎ (has_ticket k passes ≡ false) → has_ticket k passes ≡ false
-    go (inl is) = let holder : Holds passes k = has_ticket-holds passes k is in absurd (none holder.pass holder.has)
+    go (inl is) =
+        let holder : Holds passes k = has_ticket-holds passes k is in absurd (none holder.pass holder.has)
     go (inr isnt) = isnt
 
-pub no_holder : (passes : List Doing) (p k : ℕ) → has_ticket k passes ≡ false → slice_get passes p ≢ Some (doing.Ticket k)
+pub no_holder : (passes : List Doing) (p k : ℕ) → has_ticket k passes ≡ false
+    → slice_get passes p ≢ Some (doing.Ticket k)
 no_holder passes p k closed has = both_ways (has_ticket k passes) closed (has_ticket-from passes p k has)
 
 -- A ticket is as open as before, where the pass had it no more before than after.
@@ -83,16 +86,19 @@ has_ticket-frame (e ∷ es) (suc p) k old d h same =
 -- a pass that draws a number to resume at opens its ticket
 pub has_ticket-opens : (passes : List Doing) (p k : ℕ) (old : Doing) → slice_get passes p ≡ Some old
     → has_ticket k (set passes p (doing.Ticket k)) ≡ true
-has_ticket-opens passes p k old h = has_ticket-from (set passes p (doing.Ticket k)) p k (get-set_here passes p old (doing.Ticket k) h)
+has_ticket-opens passes p k old h =
+    has_ticket-from (set passes p (doing.Ticket k)) p k (get-set_here passes p old (doing.Ticket k) h)
 
 -- the one pass that had the ticket does something else: it is closed
 pub has_ticket-closes : (passes : List Doing) (p k : ℕ) (d : Doing) → AreApart passes
     → slice_get passes p ≡ Some (doing.Ticket k) → is_ticket k d ≡ false → has_ticket k (set passes p d) ≡ false
-has_ticket-closes passes p k d apart has isnt = has_ticket-none (set passes p d) k (λ r h. go r h (cases_eq r p))
+has_ticket-closes passes p k d apart has isnt =
+    has_ticket-none (set passes p d) k (λ r h. go r h (cases_eq r p))
   where
     go : (r : ℕ) → slice_get (set passes p d) r ≡ Some (doing.Ticket k) → (r ≡ p) ⊎ (r ≢ p) → ⊥
     go r h (inl same) =
-        let now : slice_get (set passes p d) r ≡ Some d = rw same (get-set_here passes p (doing.Ticket k) d has) in
+        let now : slice_get (set passes p d) r ≡ Some d =
+        rw same (get-set_here passes p (doing.Ticket k) d has) in
         let is : d ≡ doing.Ticket k = cc (now, h) in
         both_ways (is_ticket k d) isnt (rw is (is_ticket-same k))
     go r h (inr other) =
@@ -103,7 +109,8 @@ has_ticket-closes passes p k d apart has isnt = has_ticket-none (set passes p d)
 -- a pass that has no ticket now leaves the others apart
 pub AreApart-write : (passes : List Doing) (p : ℕ) (old d : Doing) → slice_get passes p ≡ Some old
     → ((k : ℕ) → is_ticket k d ≡ false) → AreApart passes → AreApart (set passes p d)
-AreApart-write passes p old d h none apart = record { same = λ r s k hr hs. go r s k hr hs (cases_eq r p) (cases_eq s p) }
+AreApart-write passes p old d h none apart =
+    record { same = λ r s k hr hs. go r s k hr hs (cases_eq r p) (cases_eq s p) }
   where
     isnt : (r k : ℕ) → slice_get (set passes p d) r ≡ Some (doing.Ticket k) → r ≡ p → ⊥
     isnt r k hr same =
@@ -123,7 +130,8 @@ AreApart-write passes p old d h none apart = record { same = λ r s k hr hs. go 
 -- a pass that draws a number of which no ticket is open is apart from the others
 pub AreApart-draw : (passes : List Doing) (p k : ℕ) (old : Doing) → slice_get passes p ≡ Some old
     → has_ticket k passes ≡ false → AreApart passes → AreApart (set passes p (doing.Ticket k))
-AreApart-draw passes p k old h closed apart = record { same = λ r s j hr hs. go r s j hr hs (cases_eq r p) (cases_eq s p) }
+AreApart-draw passes p k old h closed apart =
+    record { same = λ r s j hr hs. go r s j hr hs (cases_eq r p) (cases_eq s p) }
   where
     before : (r j : ℕ) → slice_get (set passes p (doing.Ticket k)) r ≡ Some (doing.Ticket j) → r ≢ p
         → slice_get passes r ≡ Some (doing.Ticket j)
@@ -148,7 +156,8 @@ AreApart-draw passes p k old h closed apart = record { same = λ r s j hr hs. go
 -- What owners do.
 
 -- the owner of a cell, whatever it does now
-of-owner : (passes : List Doing) (cell : CoreCell) (r : ℕ) → cell.owner ≡ Some r → owner_doing passes cell ≡ slice_get passes r
+of-owner : (passes : List Doing) (cell : CoreCell) (r : ℕ) → cell.owner ≡ Some r
+    → owner_doing passes cell ≡ slice_get passes r
 of-owner passes cell r owns = rw owns refl
 
 -- a cell of another pass: its owner does what it did
@@ -161,7 +170,8 @@ owner_doing-else passes p d cell other = go cell.owner refl
     go (Some r) is = rw is (get-set_else passes p r d (λ e. other (is ∙ ap Some (sym e))))
 
 -- a cell of the pass itself: its owner does the new thing
-pub owner_doing-here : (passes : List Doing) (p : ℕ) (old d : Doing) (cell : CoreCell) → slice_get passes p ≡ Some old
+pub owner_doing-here : (passes : List Doing) (p : ℕ) (old d : Doing) (cell : CoreCell)
+    → slice_get passes p ≡ Some old
     → cell.owner ≡ Some p → owner_doing (set passes p d) cell ≡ Some d
 owner_doing-here passes p old d cell h owns = rw owns (get-set_here passes p old d h)
 
@@ -178,7 +188,8 @@ cases_owner cell p = go cell.owner refl
         at (inr other) = inr (λ e. other (cc (is, e)))
 
 -- What is read off the owner's doing is as before, where it reads the same off what the pass did and does.
-pub owner_doing-frame : {X : Type 0} (reads : Option Doing → X) (passes : List Doing) (p : ℕ) (old d : Doing) (cell : CoreCell)
+pub owner_doing-frame : {X : Type 0} (reads : Option Doing → X) (passes : List Doing) (p : ℕ) (old d : Doing)
+    (cell : CoreCell)
     → slice_get passes p ≡ Some old → reads (Some d) ≡ reads (Some old)
     → reads (owner_doing (set passes p d) cell) ≡ reads (owner_doing passes cell)
 owner_doing-frame reads passes p old d cell h same = go (cases_owner cell p)
@@ -191,7 +202,8 @@ owner_doing-frame reads passes p old d cell h same = go (cases_owner cell p)
     go (inr other) = ap reads (owner_doing-else passes p d cell other)
 
 -- an owner that does what the pass didn't do still does it
-pub owner_doing-kept : (passes : List Doing) (p : ℕ) (old d e : Doing) (cell : CoreCell) → slice_get passes p ≡ Some old
+pub owner_doing-kept : (passes : List Doing) (p : ℕ) (old d e : Doing) (cell : CoreCell)
+    → slice_get passes p ≡ Some old
     → e ≢ old → owner_doing passes cell ≡ Some e → owner_doing (set passes p d) cell ≡ Some e
 owner_doing-kept passes p old d e cell h differ does = owner_doing-else passes p d cell other ∙ does
   where

@@ -1,13 +1,14 @@
--- The waits of a semaphore after a legal history: the line in order of number, and no number both there and served.
-use Rattle.std.proofs.Common.{◌≡◌, ◌≢◌, ◌⊎◌, inl, inr, ℕ, zero, suc, ◌+◌, ◌-◌, ◌<◌, ◌≤◌, ◌==◌, nat_lt, Bool, true, false, List, [], ◌∷◌, ◌++◌, Option, Some, None, take, slice_get, if◌then◌else◌, refl, ap, sym, ◌∙◌, subst, arith, eq-eqb, eqb-true}
+-- The waits of a semaphore after a legal history: the line in order of number, and no number both there and
+-- served.
+use Rattle.std.proofs.Common.{◌≡◌, ◌≢◌, ◌⊎◌, inl, inr, ℕ, ◌+◌, ◌-◌, ◌<◌, ◌==◌, nat_lt, Bool, true, false, List, [], ◌∷◌, Some, if◌then◌else◌, refl, ap, sym, ◌∙◌, subst, arith, eqb-true}
 use Rattle.std.proofs.lemmas.Bool.{cases_Bool, eqb-false}
 use Rattle.cqs_core.specs.declared.entries.Entry.{Entry}
 use Rattle.cqs_core.specs.declared.entries.Entry.TheVariants as entry
 use Rattle.cqs_core.specs.Numbered.{IsIn}
-use Rattle.cqs_core.specs.Keyed.{placed, without, changed}
+use Rattle.cqs_core.specs.Keyed.{placed, without}
 use Rattle.cqs_core.specs.QueueLine.{Waiting, Service}
 use Rattle.cqs_core.specs.SemaphoreObject.{Semaphore, opening, due}
-use Rattle.cqs_core.specs.SemaphoreEntries.{IsAllowed, Waits, IsServed, after_entry, find_wait, with_service, taken, at_door, delivered, turned_back, closed}
+use Rattle.cqs_core.specs.SemaphoreEntries.{IsAllowed, Waits, after_entry, find_wait, with_service, taken, at_door, delivered, turned_back, closed}
 use Rattle.cqs_core.specs.SemaphoreLaws.{EndsWait}
 use Rattle.cqs_core.proofs.Rising.{in-take, in-behind, in-none, Lacks, lacks-in, lacks-push, lacks-without, IsRising, rising-push, rising-without, rising-left_out, rising-below}
 use Rattle.cqs_core.proofs.Distinct.{lacks-from, AreDistinct, distinct-placed, in-placed, IsFrom, in-changed, distinct-changed}
@@ -27,7 +28,8 @@ pub record IsGone (o : Semaphore) (k : ℕ) : Type 0 where
   pub entered : k < o.next
   pub absent : Lacks waiting_key k o.line
 
--- the line is in order of number, below the next one, and whoever was served is gone from it, and was served once
+-- the line is in order of number, below the next one, and whoever was served is gone from it, and was served
+-- once
 pub record AreWaitsApart (o : Semaphore) : Type 0 where
   pub line : IsRising waiting_key 0 o.next o.line
   pub served : (s : Service) → IsIn s o.served → IsGone o s.wait
@@ -82,7 +84,8 @@ gone-entry o (entry.TryGot c) k allowed gone = record { entered = gone.entered; 
 gone-entry o (entry.TryBusy c) k allowed gone = gone
 gone-entry o (entry.GiveFreed c) k allowed gone = record { entered = gone.entered; absent = gone.absent }
 gone-entry o (entry.GiveSent c) k allowed gone = record { entered = gone.entered; absent = gone.absent }
-gone-entry o (entry.Deliver j) k allowed gone = record { entered = gone.entered; absent = gone-left_out o j k gone }
+gone-entry o (entry.Deliver j) k allowed gone =
+    record { entered = gone.entered; absent = gone-left_out o j k gone }
 gone-entry o (entry.Leave c j) k allowed gone =
     gone-turned (record o { line = without waiting_key j o.line }) k
     (record { entered = gone.entered; absent = gone-left_out o j k gone })
@@ -104,7 +107,8 @@ pub gone-ended : (o : Semaphore) (e : Entry) (k : ℕ) → AreWaitsApart o → I
 gone-ended o (entry.Deliver j) k a (c, waits) ends =
     let among : (0 < o.way) × Waits j c o.line = in-take (record { wait = j; pass = c }) o.way o.line waits in
     let out : IsGone (record o { line = without waiting_key j o.line }) j = gone-out o c j a among.1 in
-    subst (λ i. IsGone (after_entry o (entry.Deliver j)) i) ends (record { entered = out.entered; absent = out.absent })
+    subst (λ i. IsGone (after_entry o (entry.Deliver j)) i) ends
+    (record { entered = out.entered; absent = out.absent })
 gone-ended o (entry.Leave c j) k a waits ends =
     subst (λ i. IsGone (after_entry o (entry.Leave c j)) i) ends
     (gone-turned (record o { line = without waiting_key j o.line }) j (gone-out o c j a waits))
@@ -145,13 +149,15 @@ apart-turned o a = go (nat_lt (due o) o.way)
     go : (b : Bool) → AreWaitsApart (if b then record o { way = o.way - 1; free = o.free + 1 } else o)
     go true = record {
       line = a.line;
-      served = λ s stands. record { entered = (a.served s stands).entered; absent = (a.served s stands).absent };
+      served = λ s stands.
+          record { entered = (a.served s stands).entered; absent = (a.served s stands).absent };
       apart = a.apart;
     }
     go false = a
 
 -- an entry after which door, permits or counts differ, and no wait
-apart-same : (o n : Semaphore) → n.next ≡ o.next → n.line ≡ o.line → n.served ≡ o.served → AreWaitsApart o → AreWaitsApart n
+apart-same : (o n : Semaphore) → n.next ≡ o.next → n.line ≡ o.line → n.served ≡ o.served → AreWaitsApart o
+    → AreWaitsApart n
 apart-same o n next line served a = record {
   line = rw (next, line) a.line;
   served = λ s stands.
@@ -214,7 +220,8 @@ apart-delivered o c k a waits = record {
         let before : IsGone o s.wait = a.served s there in
         record { entered = before.entered; absent = gone-left_out o k s.wait before }
 
-pub apart-entry : (o : Semaphore) (e : Entry) → IsAllowed o e → AreWaitsApart o → AreWaitsApart (after_entry o e)
+pub apart-entry : (o : Semaphore) (e : Entry) → IsAllowed o e → AreWaitsApart o
+    → AreWaitsApart (after_entry o e)
 apart-entry o (entry.TakeNow c) allowed a = apart-same o (taken o) refl refl refl a
 apart-entry o (entry.TakeDoor c) allowed a = apart-same o (at_door o c) refl refl refl a
 apart-entry o (entry.Enter c j) (stands, next) a = record {
@@ -224,8 +231,10 @@ apart-entry o (entry.Enter c j) (stands, next) a = record {
 }
 apart-entry o (entry.TryGot c) allowed a = apart-same o (taken o) refl refl refl a
 apart-entry o (entry.TryBusy c) allowed a = a
-apart-entry o (entry.GiveFreed c) allowed a = apart-same o (record o { held = o.held - 1; free = o.free + 1 }) refl refl refl a
-apart-entry o (entry.GiveSent c) allowed a = apart-same o (record o { held = o.held - 1; way = o.way + 1 }) refl refl refl a
+apart-entry o (entry.GiveFreed c) allowed a =
+    apart-same o (record o { held = o.held - 1; free = o.free + 1 }) refl refl refl a
+apart-entry o (entry.GiveSent c) allowed a =
+    apart-same o (record o { held = o.held - 1; way = o.way + 1 }) refl refl refl a
 apart-entry o (entry.Deliver j) (c, waits) a =
     let among : (0 < o.way) × Waits j c o.line = in-take (record { wait = j; pass = c }) o.way o.line waits in
     apart-delivered o c j a among.1
@@ -242,4 +251,5 @@ apart-entry o (entry.LookGranted c j) allowed a = apart-closed o j a
 apart-entry o (entry.LookPending c j) allowed a = a
 
 pub apart-opening : (permits : ℕ) → AreWaitsApart (opening permits)
-apart-opening permits = record { line = omega arith; served = λ s stands. absurd (in-none s stands); apart = tt }
+apart-opening permits =
+    record { line = omega arith; served = λ s stands. absurd (in-none s stands); apart = tt }

@@ -14,3 +14,4 @@ pub mod SemaphoreRuns
 pub mod SemaphoreWords
 pub mod SemaphoreCalls
 pub mod SemaphoreLaws
+pub mod Resting

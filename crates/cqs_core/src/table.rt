@@ -77,6 +77,37 @@ impl Table {
         })
     }
 
+    pub fn state(&self) -> i64
+        ensures { result ≡ self.now.shape.state }
+    {
+        self.state
+    }
+
+    pub fn suspends(&self) -> u64
+        ensures { result ≡ self.now.shape.queue.suspends }
+    {
+        self.suspends
+    }
+
+    pub fn resumes(&self) -> u64
+        ensures { result ≡ self.now.shape.queue.resumes }
+    {
+        self.resumes
+    }
+
+    pub fn history(&self) -> &[Entry]
+        ensures { result.now ≡ self.now.shape.history }
+    {
+        &self.history
+    }
+
+    /// How many permits a pass holds; none where there is no such pass.
+    pub fn held(&self, pass: u32) -> Option<u32>
+        ensures { result ≡ slice_get self.now.shape.held pass }
+    {
+        self.held.get(pass as usize).copied()
+    }
+
     /// What a pass is doing; none where there is no such pass.
     pub fn doing(&self, pass: u32) -> Option<Doing>
         ensures { result ≡ slice_get self.now.shape.queue.doing pass }

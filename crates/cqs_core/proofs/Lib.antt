@@ -51,3 +51,4 @@ pub mod CoreFacts
 pub mod OpenedCore
 pub mod CallsKeep
 pub mod CallsEnd
+pub mod Quiet

@@ -52,3 +52,4 @@ pub mod OpenedCore
 pub mod CallsKeep
 pub mod CallsEnd
 pub mod Quiet
+pub mod SoleResume

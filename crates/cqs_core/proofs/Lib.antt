@@ -30,6 +30,7 @@ pub mod Waits
 pub mod WaitsEnd
 pub mod Collected
 pub mod Promised
+pub mod Resumptions
 pub mod Keys
 pub mod Picked
 pub mod LineReads
@@ -52,3 +53,7 @@ pub mod RowsLook
 pub mod StepKeeps
 pub mod CoreFacts
 pub mod OpenedCore
+pub mod CallsKeep
+pub mod CallsEnd
+pub mod Quiet
+pub mod SoleResume

@@ -11,4 +11,8 @@ pub mod SemaphoreTable
 pub mod SemaphoreAnswers
 pub mod SemaphoreShown
 pub mod SemaphoreRuns
+pub mod SemaphoreWords
+pub mod SemaphoreCalls
 pub mod SemaphoreLaws
+pub mod Resting
+pub mod SoleCaller

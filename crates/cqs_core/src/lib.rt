@@ -10,6 +10,9 @@ mod events;
 mod law;
 mod laws;
 mod outcomes;
+mod runnable;
+mod table;
+mod whole_calls;
 
 pub use calls::{Call, Reply};
 pub use cells::{CoreCell, CoreState};
@@ -23,3 +26,4 @@ pub use laws::{
     service_is_in_order, waits_end_once,
 };
 pub use outcomes::Outcome;
+pub use runnable::Core;

@@ -8,6 +8,7 @@ mod entries;
 mod errors;
 mod events;
 mod outcomes;
+mod shortage;
 
 pub use calls::{Call, Reply};
 pub use cells::{CoreCell, CoreState};
@@ -16,3 +17,4 @@ pub use entries::Entry;
 pub use errors::CoreError;
 pub use events::Event;
 pub use outcomes::Outcome;
+pub use shortage::Memory;

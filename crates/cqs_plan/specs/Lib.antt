@@ -1,0 +1,3 @@
+pub mod PlanSteps
+pub mod Floor
+pub mod FloorCalls

@@ -4,8 +4,11 @@
 //! number of turns. `plans` has the types, one a file.
 #![tactic(auto)]
 
+mod floors;
 mod plans;
 
+pub use floors::answers::{FloorEnd, FloorGive, FloorLeave, FloorLook, FloorTake};
+pub use floors::floor::Floor;
 pub use plans::error::PlanError;
 pub use plans::fault_kind::FaultKind;
 pub use plans::job::{Job, Jobs};

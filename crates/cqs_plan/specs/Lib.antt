@@ -1,3 +1,4 @@
 pub mod PlanSteps
 pub mod Floor
 pub mod FloorCalls
+pub mod Runnable

@@ -1,1 +1,6 @@
 mod Examples
+pub mod Growth
+pub mod Held
+pub mod Moved
+pub mod Readied
+pub mod GivingBack

@@ -1,3 +1,5 @@
 pub mod Lines
 pub mod Turns
 pub mod Report
+pub mod Ready
+pub mod Roles

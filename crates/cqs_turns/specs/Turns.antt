@@ -3,7 +3,7 @@ use Rattle.std.specs.Prelude.{ℕ, zero, suc, ◌+◌, nat_lt, nat_le, Bool, tru
 use Rattle.std.specs.Option.{option_map_or}
 use Rattle.cqs_plan.specs.declared.plans.resource.Resource.{Resource}
 use Rattle.cqs_plan.specs.declared.plans.step.Step.{Step}
-use Rattle.cqs_plan.specs.declared.plans.step.Step.TheVariants.{Take, Give, Down, Await, Arrive, Work}
+use Rattle.cqs_plan.specs.declared.plans.step.Step.TheVariants.{Take, Give, Work}
 use Rattle.cqs_plan.specs.declared.plans.job.Job.{Job}
 use Rattle.cqs_plan.specs.declared.plans.plan.Plan.{Plan}
 use Rattle.cqs_plan.specs.declared.floors.answers.FloorTake.{FloorTake}
@@ -89,21 +89,32 @@ given_all r s = given_back r (places_held s.floor r.place) s
 abbrev pub finished : Role → Scene → Acted
 finished r s = let t = given_all r s in left_at (event r t t.floor told.Done) (Ended end.Done)
 
-abbrev pub match_take : {X : Type 0} → FloorTake → (ℕ → X) → (ℕ → X) → X
-match_take (Now element) now waits = now element
-match_take (Waits number) now waits = waits number
+-- what a step makes of the scene, and how far the job is where its turn ends with this step
+pub record Made : Type 0 where
+  pub scene : Scene
+  pub stops : Option Progress
 
--- The job makes its steps one after the other, until it works or must wait. `next` is the place of the first of them.
+abbrev pub took : Role → ℕ → ℕ → FloorTake → Scene → Made
+took r next at (Now element) s = record { scene = taken r at (Now element) s; stops = None }
+took r next at (Waits number) s =
+    record { scene = taken r at (Waits number) s; stops = Some (Waiting (next + 1) at number) }
+
+-- a step: `work` ends the job's turn, and so does a `take` that must wait
+abbrev pub made : Role → ℕ → Step → Scene → Made
+made r next (Work turns) s = record { scene = s; stops = Some (Working (next + 1) (r.turn + turns)) }
+made r next (Take at) s = took r next at (take_answer s.floor at r.place) s
+made r next (Give at) s = record { scene = given r at s; stops = None }
+made r next _ s = record { scene = s; stops = None }
+
+-- the job's turn ends with this step, or goes on
+abbrev pub stop_or : Made → Acted → Acted
+stop_or m onward = option_map_or (left_at m.scene) m.stops onward
+
+-- the job makes these steps one after the other; the first one's place is `next`
 abbrev pub stepped : Role → List Step → ℕ → Scene → Acted
 stepped r [] next s = finished r s
-stepped r (Work turns ∷ steps) next s = left_at s (Working (next + 1) (r.turn + turns))
-stepped r (Take at ∷ steps) next s = match_take (take_answer s.floor at r.place)
-    (λ element. stepped r steps (next + 1) (taken r at (Now element) s))
-    (λ number. left_at (taken r at (Waits number) s) (Waiting (next + 1) at number))
-stepped r (Give at ∷ steps) next s = stepped r steps (next + 1) (given r at s)
-stepped r (Down at ∷ steps) next s = stepped r steps (next + 1) s
-stepped r (Await at ∷ steps) next s = stepped r steps (next + 1) s
-stepped r (Arrive at ∷ steps) next s = stepped r steps (next + 1) s
+stepped r (step ∷ steps) next s =
+    let m = made r next step s in stop_or m (stepped r steps (next + 1) m.scene)
 
 -- the job goes to its next step
 abbrev pub go_on : Role → ℕ → Scene → Acted

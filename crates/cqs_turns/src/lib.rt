@@ -4,5 +4,11 @@
 //! event is one line of the report. After the last turn come a line for each resource and the totals.
 #![tactic(auto)]
 
+mod actors;
+mod acts;
 mod lines;
+mod reports;
 mod states;
+mod texts;
+
+pub use reports::Report;

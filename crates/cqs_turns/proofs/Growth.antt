@@ -1,5 +1,5 @@
 -- The report only grows: what stands in it before an event, a step or a turn is a front of what stands there after.
-use Rattle.std.proofs.Common.{◌≡◌, ℕ, ◌+◌, suc, zero, List, [], ◌∷◌, ◌++◌, Option, Some, None, refl, sym, ap, ◌∙◌, append_assoc}
+use Rattle.std.proofs.Common.{◌≡◌, ℕ, ◌+◌, suc, zero, List, [], ◌∷◌, ◌++◌, Option, Some, None, Result, Ok, Err, OnErr, refl, sym, ap, ◌∙◌, append_assoc}
 use Rattle.std.proofs.lemmas.List.{append-nil}
 use Rattle.cqs_plan.specs.declared.plans.step.Step.{Step}
 use Rattle.cqs_plan.specs.declared.plans.step.Step.TheVariants.{Take, Give, Down, Await, Arrive, Work}
@@ -12,6 +12,11 @@ use Rattle.cqs_turns.specs.declared.states.Progress.{Progress}
 use Rattle.cqs_turns.specs.Lines.{line_text}
 use Rattle.cqs_turns.specs.Report.{IsFrontOf}
 use Rattle.cqs_turns.specs.Turns.{Role, Scene, Acted, Made, event, given, given_back, given_all, finished, made, took, stop_or, stepped, places_held}
+
+-- a clause on an error, from its fact
+pub on-err : {T E P : Type 0} (r : Result T E) → P → OnErr r P
+on-err (Ok x) fact = tt
+on-err (Err e) fact = fact
 
 pub front-same : (t : List ℕ) → IsFrontOf t t
 front-same t = record { rest = []; joined = sym (append-nil t) }

@@ -1,6 +1,6 @@
 -- What a job holds, as the list of its places.
-use Rattle.std.proofs.Common.{◌≡◌, ℕ, ◌+◌, ◌<◌, List, [], ◌∷◌, ◌++◌, Bool, true, false, cond, ◌==◌, ◌||◌, Option, Some, None, IsSome, length, map, set, get_or, refl, sym, ap, ◌∙◌, eq-eqb, arith}
-use Rattle.std.proofs.lemmas.List.{map-append, get_or-set_same}
+use Rattle.std.proofs.Common.{◌≡◌, ℕ, suc, ◌+◌, ◌<◌, List, [], ◌∷◌, ◌++◌, Bool, true, false, cond, ◌==◌, ◌||◌, Option, Some, None, IsSome, length, map, set, get_or, refl, sym, ap, ◌∙◌, eq-eqb, arith}
+use Rattle.std.specs.List.{position_from, remove}
 use Rattle.cqs_core.specs.Keyed.{without}
 use Rattle.cqs_plan.specs.Floor.{PlainFloor, Holding, oldest, holds_of}
 use Rattle.cqs_turns.specs.Ready.{is_held}
@@ -32,3 +32,49 @@ map-without at (h ∷ holds) = map-without_by at h holds (at == h.at) refl (map-
 -- the first of the list goes first
 pub without-head : (at : ℕ) (places : List ℕ) → without (λ place. place) at (at ∷ places) ≡ places
 without-head at places = let same : at == at ≡ true = eq-eqb at at refl in rw same refl
+
+-- the oldest is found by its place
+remove-found_by : (at p : ℕ) (places : List ℕ) (i n : ℕ) (b : Bool) → at == p ≡ b
+  → position_from (λ q. at == q) i (p ∷ places) ≡ Some n
+  → (position_from (λ q. at == q) (i + 1) places ≡ Some n
+    → (k : ℕ) × (n ≡ (i + 1) + k) × (remove places k ≡ without (λ q. q) at places))
+  → (k : ℕ) × (n ≡ i + k) × (remove (p ∷ places) k ≡ without (λ q. q) at (p ∷ places))
+remove-found_by at p places i n true same found later =
+    let here : Some i ≡ Some n = rw same at found in
+    let first : i ≡ n = cc in
+    (0, omega (arith, first), rw same refl)
+remove-found_by at p places i n false other found later =
+    let further : position_from (λ q. at == q) (i + 1) places ≡ Some n = rw other at found in
+    let rest : (k : ℕ) × (n ≡ (i + 1) + k) × (remove places k ≡ without (λ q. q) at places) = later further in
+    (suc rest.0, omega (arith, rest.1), rw other (ap (λ xs. p ∷ xs) rest.2))
+
+remove-found : (at : ℕ) (places : List ℕ) (i n : ℕ) → position_from (λ q. at == q) i places ≡ Some n
+  → (k : ℕ) × (n ≡ i + k) × (remove places k ≡ without (λ q. q) at places)
+remove-found at [] i n found = absurd (cc)
+remove-found at (p ∷ places) i n found =
+    remove-found_by at p places i n (at == p) refl found (remove-found at places (i + 1) n)
+
+pub remove-oldest : (at : ℕ) (places : List ℕ) (n : ℕ) → Some n ≡ position_from (λ q. at == q) 0 places
+  → remove places n ≡ without (λ q. q) at places
+remove-oldest at places n found =
+    let there : (k : ℕ) × (n ≡ 0 + k) × (remove places k ≡ without (λ q. q) at places)
+        = remove-found at places 0 n (sym found) in
+    let same : n ≡ there.0 = omega (arith, there.1) in
+    rw same there.2
+
+without-none_by : (at p : ℕ) (places : List ℕ) (i : ℕ) (b : Bool) → at == p ≡ b
+  → position_from (λ q. at == q) i (p ∷ places) ≡ None
+  → (position_from (λ q. at == q) (i + 1) places ≡ None → without (λ q. q) at places ≡ places)
+  → without (λ q. q) at (p ∷ places) ≡ p ∷ places
+without-none_by at p places i true same none later =
+    let here : Some i ≡ None = rw same at none in absurd (cc)
+without-none_by at p places i false other none later =
+    let further : position_from (λ q. at == q) (i + 1) places ≡ None = rw other at none in
+    rw other (ap (λ xs. p ∷ xs) (later further))
+
+-- where none is held, none goes
+pub without-none : (at : ℕ) (places : List ℕ) (i : ℕ) → position_from (λ q. at == q) i places ≡ None
+  → without (λ q. q) at places ≡ places
+without-none at [] i none = refl
+without-none at (p ∷ places) i none =
+    without-none_by at p places i (at == p) refl none (without-none at places (i + 1))

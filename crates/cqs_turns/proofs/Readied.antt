@@ -1,5 +1,5 @@
 -- What keeps a job ready: after each call of the floor it can go on with the steps that are left.
-use Rattle.std.proofs.Common.{◌≡◌, ℕ, ◌+◌, ◌<◌, List, [], ◌∷◌, ◌++◌, Bool, true, false, cond, ◌==◌, Option, Some, None, length, map, set, get_or, slice_get, refl, sym, ap, ◌∙◌, subst, arith}
+use Rattle.std.proofs.Common.{◌≡◌, ℕ, ◌+◌, ◌<◌, List, [], ◌∷◌, ◌++◌, Bool, true, false, cond, ◌==◌, Option, Some, None, length, map, set, get_or, slice_get, refl, sym, ap, ◌∙◌, subst, eqb-true, arith}
 use Rattle.std.proofs.lemmas.List.{map-append, get_or-set_same, length-set}
 use Rattle.cqs_core.specs.declared.entries.Entry.{Entry}
 use Rattle.cqs_core.specs.declared.entries.Entry.TheVariants as entry
@@ -13,11 +13,11 @@ use Rattle.cqs_plan.specs.declared.floors.answers.FloorGive.TheVariants.{Free, S
 use Rattle.cqs_plan.specs.declared.floors.answers.FloorLook.TheVariants.{Granted}
 use Rattle.cqs_plan.specs.declared.floors.answers.FloorLeave.{FloorLeave}
 use Rattle.cqs_plan.specs.declared.floors.answers.FloorLeave.TheVariants.{Gone, Late}
-use Rattle.cqs_plan.specs.Floor.{PlainFloor, JobWait, Holding, IsJob, IsHoldable, wait_of, holds_of, with_newest, without_oldest}
+use Rattle.cqs_plan.specs.Floor.{PlainFloor, JobWait, Holding, IsJob, IsHoldable, IsHolding, wait_of, holds_of, with_newest, without_oldest}
 use Rattle.cqs_plan.specs.FloorCalls.{after_take, after_give, after_look, after_leave, with_granted, with_left}
-use Rattle.cqs_turns.specs.Ready.{IsReady, AreHoldable, CanMake, coming}
+use Rattle.cqs_turns.specs.Ready.{IsReady, is_held, AreHoldable, CanMake, coming}
 use Rattle.cqs_turns.specs.Turns.{places_held}
-use Rattle.cqs_turns.proofs.Held.{map-without, without-head}
+use Rattle.cqs_turns.proofs.Held.{oldest-there, map-without, without-head}
 
 holdable-push : (kinds : List Kind) (places : List ℕ) (at : ℕ) → AreHoldable kinds places
   → IsHoldable (slice_get kinds at) → AreHoldable kinds (places ++ at ∷ [])
@@ -39,6 +39,29 @@ holdable-without : (kinds : List Kind) (at : ℕ) (places : List ℕ) → AreHol
 holdable-without kinds at [] all = tt
 holdable-without kinds at (p ∷ places) all =
     holdable-without_by kinds at p places (at == p) refl all (holdable-without kinds at places all.1)
+
+holdable-at_by : (kinds : List Kind) (at p : ℕ) (places : List ℕ) (b : Bool) → p == at ≡ b
+  → is_held at (p ∷ places) ≡ true → AreHoldable kinds (p ∷ places)
+  → (is_held at places ≡ true → IsHoldable (slice_get kinds at)) → IsHoldable (slice_get kinds at)
+holdable-at_by kinds at p places true same held all later =
+    let here : p ≡ at = eqb-true p at same in rw (← here) all.0
+holdable-at_by kinds at p places false other held all later = later (rw other at held)
+
+-- what is held can be held
+holdable-at : (kinds : List Kind) (at : ℕ) (places : List ℕ) → is_held at places ≡ true → AreHoldable kinds places
+  → IsHoldable (slice_get kinds at)
+holdable-at kinds at [] held all = absurd (cc)
+holdable-at kinds at (p ∷ places) held all =
+    holdable-at_by kinds at p places (p == at) refl held all (λ further. holdable-at kinds at places further all.1)
+
+-- a job that can give has what it gives
+pub can-give : (f : PlainFloor) (place at : ℕ) (steps : List Step) → IsReady f place None (Give at ∷ steps)
+  → IsHoldable (slice_get f.kinds at)
+can-give f place at steps ready = holdable-at f.kinds at (places_held f place) ready.makeable.0 ready.holdable
+
+pub holds-given : (f : PlainFloor) (place at : ℕ) (steps : List Step) → IsReady f place None (Give at ∷ steps)
+  → IsHolding f at place
+holds-given f place at steps ready = oldest-there at (holds_of f place) ready.makeable.0
 
 -- what the job holds after a call
 places-newest : (f : PlainFloor) (place at element : ℕ) → IsJob f place
@@ -102,7 +125,7 @@ waiting-ready f place at number steps ready =
     (holdable-push f.kinds (places_held f place) at ready.holdable ready.makeable.0) ready.makeable.1
 
 -- what a give leaves, where the job could give
-given-held : (f : PlainFloor) (place at : ℕ) (answer : FloorGive) → IsJob f place
+pub given-held : (f : PlainFloor) (place at : ℕ) (answer : FloorGive) → IsJob f place
   → places_held (after_give f at place answer) place ≡ without (λ p. p) at (places_held f place)
 given-held f place at (Free element) job = places-without f place at job
 given-held f place at (Sent element number) job = places-without f place at job

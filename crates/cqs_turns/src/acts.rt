@@ -1,16 +1,21 @@
 //! What a job does in its turn.
 
-ghost use Rattle.std.specs.Prelude.{◌≡◌, ◌≤◌, ◌∷◌, [], List, Option, Some, None, length, drop, slice_get, OnOk, OnErr, IfOk};
+ghost use Rattle.std.specs.Prelude.{◌≡◌, ◌≤◌, ◌<◌, ◌∷◌, [], None, Some, drop, slice_get, length, ◌==◌, IfSome, OnOk, OnErr, IfOk};
+ghost use Rattle.std.specs.List.{position_from};
+ghost use Rattle.cqs_core.specs.Keyed.{without};
 ghost use Rattle.cqs_plan.specs.Floor.{IsJob, IsHolding, IsHoldable};
-ghost use Rattle.cqs_turns.specs.Turns.{Made, given, given_back, made, stepped, places_held};
+ghost use Rattle.cqs_plan.specs.FloorCalls.{take_answer};
+ghost use Rattle.cqs_turns.specs.Turns.{given, given_back, took, made, left_at, finished, places_held};
 ghost use Rattle.cqs_turns.specs.Ready.{IsReady, HasRoom};
 ghost use Rattle.cqs_turns.specs.Report.{IsFrontOf};
-ghost use Rattle.cqs_turns.specs.Roles.{role, scene};
+ghost use Rattle.cqs_turns.specs.Roles.{role, scene, made_of};
 
-use crate::actors::{Actor, told_of_give};
+use crate::actors::{Actor, told_of_give, told_of_take};
+use crate::lines::Told;
 use crate::reports::Report;
+use crate::states::{End, Progress};
 use cqs_core::Memory;
-use cqs_plan::Floor;
+use cqs_plan::{Floor, FloorTake, Step};
 
 /// The job gives back the oldest that it holds of this resource.
 fn give<F: Floor>(
@@ -50,4 +55,131 @@ fn give_all<F: Floor>(
     }
     held.clear();
     Ok(())
+}
+
+/// After its last step the job gives back all that it holds, and is done.
+fn finish<F: Floor>(
+    floor: &mut F,
+    report: &mut Report,
+    actor: &Actor<'_>,
+    held: &mut Vec<u32>,
+) -> Result<Progress, Memory>
+    requires held { held.old.items ≡ places_held (F.plain floor.old) actor.now.place }
+    requires ready { IsReady (F.plain floor.old) actor.now.place None [] }
+    ensures ok { IfOk result (λ progress. left_at (scene (F.plain floor.new) report.new) progress ≡
+        finished (role actor.now) (scene (F.plain floor.old) report.old)) }
+    ensures held { OnOk result (held.new.items ≡ places_held (F.plain floor.new) actor.now.place) }
+    ensures err { OnErr result (IsFrontOf
+        (finished (role actor.now) (scene (F.plain floor.old) report.old)).scene.text report.new) }
+{
+    give_all(floor, report, actor, held)?;
+    actor.tell(report, Told::Done)?;
+    Ok(Progress::Ended(End::Done))
+}
+
+/// The job takes: it holds what it took as its newest, or its turn ends.
+fn take<F: Floor>(
+    floor: &mut F,
+    report: &mut Report,
+    actor: &Actor<'_>,
+    held: &mut Vec<u32>,
+    next: u32,
+    at: u32,
+) -> Result<Option<Progress>, Memory>
+    requires held { held.old.items ≡ places_held (F.plain floor.old) actor.now.place }
+    requires ready { IsReady (F.plain floor.old) actor.now.place None (Step.Take at ∷ []) }
+    requires room { HasRoom (F.plain floor.old) (Step.Take at ∷ []) }
+    requires next { next < 64 }
+    ensures ok { IfOk result (λ stops. made_of (scene (F.plain floor.new) report.new) stops ≡
+        took (role actor.now) next at (take_answer (F.plain floor.old) at actor.now.place)
+        (scene (F.plain floor.old) report.old)) }
+    ensures held { OnOk result (held.new.items ≡ places_held (F.plain floor.new) actor.now.place) }
+    ensures err { OnErr result (IsFrontOf
+        (took (role actor.now) next at (take_answer (F.plain floor.old) at actor.now.place)
+        (scene (F.plain floor.old) report.old)).scene.text report.new) }
+{
+    let answer = floor.take(at, actor.place);
+    actor.tell(report, told_of_take(at, answer))?;
+    match answer {
+        FloorTake::Now(_) => {
+            held.push(at)?;
+            Ok(None)
+        }
+        FloorTake::Waits(number) => Ok(Some(Progress::Waiting {
+            next: next + 1,
+            at,
+            number,
+        })),
+    }
+}
+
+/// Where the oldest of this resource stands in what is held.
+fn oldest_of(held: &[u32], at: u32) -> Option<usize>
+    ensures place { result ≡ position_from (λ place. at == place) 0 held.now }
+    ensures there { IfSome result (λ place. place < length held.now) }
+{
+    held.iter().position(|place| at == *place)
+}
+
+/// The oldest of this resource isn't held any more.
+fn forget_oldest(held: &mut Vec<u32>, at: u32)
+    ensures { held.new.items ≡ without (λ place. place) at held.old.items }
+{
+    if let Some(oldest) = oldest_of(held.as_slice(), at) {
+        held.remove(oldest);
+    }
+}
+
+/// The job gives back the oldest that it holds of this resource, as a step.
+fn give_step<F: Floor>(
+    floor: &mut F,
+    report: &mut Report,
+    actor: &Actor<'_>,
+    held: &mut Vec<u32>,
+    at: u32,
+) -> Result<(), Memory>
+    requires held { held.old.items ≡ places_held (F.plain floor.old) actor.now.place }
+    requires ready { IsReady (F.plain floor.old) actor.now.place None (Step.Give at ∷ []) }
+    ensures ok { OnOk result (scene (F.plain floor.new) report.new ≡
+        given (role actor.now) at (scene (F.plain floor.old) report.old)) }
+    ensures held { OnOk result (held.new.items ≡ places_held (F.plain floor.new) actor.now.place) }
+    ensures err { OnErr result (report.new ≡ report.old) }
+{
+    give(floor, report, actor, at)?;
+    forget_oldest(held, at);
+    Ok(())
+}
+
+/// The job makes a step. Its progress comes where its turn ends with this step.
+fn make_step<F: Floor>(
+    floor: &mut F,
+    report: &mut Report,
+    actor: &Actor<'_>,
+    held: &mut Vec<u32>,
+    next: u32,
+    step: Step,
+) -> Result<Option<Progress>, Memory>
+    requires held { held.old.items ≡ places_held (F.plain floor.old) actor.now.place }
+    requires ready { IsReady (F.plain floor.old) actor.now.place None (step ∷ []) }
+    requires room { HasRoom (F.plain floor.old) (step ∷ []) }
+    requires next { next < 64 }
+    requires turn { actor.now.turn ≤ 40000 }
+    ensures ok { IfOk result (λ stops. made_of (scene (F.plain floor.new) report.new) stops ≡
+        made (role actor.now) next step (scene (F.plain floor.old) report.old)) }
+    ensures held { OnOk result (held.new.items ≡ places_held (F.plain floor.new) actor.now.place) }
+    ensures err { OnErr result (IsFrontOf
+        (made (role actor.now) next step (scene (F.plain floor.old) report.old)).scene.text report.new) }
+{
+    match step {
+        Step::Work(turns) => Ok(Some(Progress::Working {
+            next: next + 1,
+            until: actor.turn + turns,
+        })),
+        Step::Take(at) => take(floor, report, actor, held, next, at),
+        Step::Give(at) => {
+            give_step(floor, report, actor, held, at)?;
+            Ok(None)
+        }
+        Step::Down(_) | Step::Await(_) | Step::Arrive(_) => unreachable!(),
+    }
 }

@@ -52,7 +52,7 @@ made-grows r next (Down at) s = front-same s.text
 made-grows r next (Await at) s = front-same s.text
 made-grows r next (Arrive at) s = front-same s.text
 
-stop_or-grows : (m : Made) (onward : Acted) → IsFrontOf onward.scene.text m.scene.text
+pub stop_or-grows : (m : Made) (onward : Acted) → IsFrontOf onward.scene.text m.scene.text
   → IsFrontOf (stop_or m onward).scene.text m.scene.text
 stop_or-grows m onward grows = go m.stops
   where

@@ -4,3 +4,4 @@ pub mod Held
 pub mod Moved
 pub mod Readied
 pub mod GivingBack
+pub mod Stepping

@@ -5,7 +5,7 @@ ghost use Rattle.std.specs.List.{position_from};
 ghost use Rattle.cqs_core.specs.Keyed.{without};
 ghost use Rattle.cqs_plan.specs.Floor.{IsJob, IsHolding, IsHoldable};
 ghost use Rattle.cqs_plan.specs.FloorCalls.{take_answer};
-ghost use Rattle.cqs_turns.specs.Turns.{given, given_back, took, made, left_at, finished, places_held};
+ghost use Rattle.cqs_turns.specs.Turns.{given, given_back, took, made, left_at, finished, go_on, places_held};
 ghost use Rattle.cqs_turns.specs.Ready.{IsReady, HasRoom};
 ghost use Rattle.cqs_turns.specs.Report.{IsFrontOf};
 ghost use Rattle.cqs_turns.specs.Roles.{role, scene, made_of};
@@ -182,4 +182,33 @@ fn make_step<F: Floor>(
         }
         Step::Down(_) | Step::Await(_) | Step::Arrive(_) => unreachable!(),
     }
+}
+
+/// The job makes its steps from this one on, until it works, waits or has ended.
+fn make_steps<F: Floor>(
+    floor: &mut F,
+    report: &mut Report,
+    actor: &Actor<'_>,
+    held: &mut Vec<u32>,
+    first: u32,
+) -> Result<Progress, Memory>
+    requires held { held.old.items ≡ places_held (F.plain floor.old) actor.now.place }
+    requires ready { IsReady (F.plain floor.old) actor.now.place None (drop first actor.now.job.now.steps) }
+    requires room { HasRoom (F.plain floor.old) (drop first actor.now.job.now.steps) }
+    requires few_steps { length actor.now.job.now.steps ≤ 64 }
+    requires turn { actor.now.turn ≤ 40000 }
+    ensures ok { IfOk result (λ progress. left_at (scene (F.plain floor.new) report.new) progress ≡
+        go_on (role actor.now) first (scene (F.plain floor.old) report.old)) }
+    ensures held { OnOk result (held.new.items ≡ places_held (F.plain floor.new) actor.now.place) }
+    ensures err { OnErr result (IsFrontOf
+        (go_on (role actor.now) first (scene (F.plain floor.old) report.old)).scene.text report.new) }
+{
+    let steps = actor.job.steps.as_slice();
+    for next in first as usize..steps.len() {
+        let stops = make_step(floor, report, actor, held, next as u32, steps[next])?;
+        if let Some(progress) = stops {
+            return Ok(progress);
+        }
+    }
+    finish(floor, report, actor, held)
 }

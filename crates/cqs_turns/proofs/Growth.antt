@@ -1,17 +1,18 @@
 -- The report only grows: what stands in it before an event, a step or a turn is a front of what stands there after.
-use Rattle.std.proofs.Common.{◌≡◌, ℕ, ◌+◌, suc, zero, List, [], ◌∷◌, ◌++◌, Option, Some, None, Result, Ok, Err, OnErr, refl, sym, ap, ◌∙◌, append_assoc}
+use Rattle.std.proofs.Common.{◌≡◌, ℕ, ◌+◌, suc, zero, List, [], ◌∷◌, ◌++◌, drop, Option, Some, None, Result, Ok, Err, OnErr, refl, sym, ap, ◌∙◌, append_assoc}
 use Rattle.std.proofs.lemmas.List.{append-nil}
 use Rattle.cqs_plan.specs.declared.plans.step.Step.{Step}
 use Rattle.cqs_plan.specs.declared.plans.step.Step.TheVariants.{Take, Give, Down, Await, Arrive, Work}
 use Rattle.cqs_plan.specs.declared.floors.answers.FloorTake.{FloorTake}
 use Rattle.cqs_plan.specs.declared.floors.answers.FloorTake.TheVariants.{Now, Waits}
+use Rattle.cqs_plan.specs.declared.floors.answers.FloorLeave.{FloorLeave}
 use Rattle.cqs_plan.specs.Floor.{PlainFloor}
 use Rattle.cqs_plan.specs.FloorCalls.{take_answer}
 use Rattle.cqs_turns.specs.declared.lines.Told.{Told}
 use Rattle.cqs_turns.specs.declared.states.Progress.{Progress}
 use Rattle.cqs_turns.specs.Lines.{line_text}
 use Rattle.cqs_turns.specs.Report.{IsFrontOf}
-use Rattle.cqs_turns.specs.Turns.{Role, Scene, Acted, Made, event, given, given_back, given_all, finished, made, took, stop_or, stepped, places_held}
+use Rattle.cqs_turns.specs.Turns.{Role, Scene, Acted, Made, event, given, given_back, given_all, finished, made, took, stop_or, stepped, go_on, went, gave_up, places_held}
 
 -- a clause on an error, from its fact
 pub on-err : {T E P : Type 0} (r : Result T E) → P → OnErr r P
@@ -68,3 +69,16 @@ stepped-grows r (step ∷ steps) next s =
     front-through _ m.scene.text _
     (stop_or-grows m (stepped r steps (next + 1) m.scene) (stepped-grows r steps (next + 1) m.scene))
     (made-grows r next step s)
+
+-- a job that goes on after an event
+pub go_on-grows : (r : Role) (next : ℕ) (s : Scene) (floor : PlainFloor) (told : Told)
+  → IsFrontOf (go_on r next (event r s floor told)).scene.text s.text
+go_on-grows r next s floor told =
+    front-through _ (event r s floor told).text s.text
+    (stepped-grows r (drop next r.job.steps) next (event r s floor told)) (front-added s.text _)
+
+pub gave_up-grows : (r : Role) (at number : ℕ) (answer : FloorLeave) (s : Scene)
+  → IsFrontOf (gave_up r at number answer s).scene.text s.text
+gave_up-grows r at number answer s =
+    let e : Scene = went r at number answer s in
+    front-through _ e.text s.text (given_back-grows r (places_held e.floor r.place) e) (front-added s.text _)

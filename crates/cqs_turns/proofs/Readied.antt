@@ -16,6 +16,7 @@ use Rattle.cqs_plan.specs.declared.floors.answers.FloorLeave.TheVariants.{Gone, 
 use Rattle.cqs_plan.specs.Floor.{PlainFloor, JobWait, Holding, IsJob, IsHoldable, IsHolding, wait_of, holds_of, with_newest, without_oldest}
 use Rattle.cqs_plan.specs.FloorCalls.{after_take, after_give, after_look, after_leave, with_granted, with_left}
 use Rattle.cqs_turns.specs.Ready.{IsReady, is_held, AreHoldable, CanMake, coming}
+use Rattle.cqs_turns.specs.Roles.{left_with}
 use Rattle.cqs_turns.specs.Turns.{places_held}
 use Rattle.cqs_turns.proofs.Held.{oldest-there, map-without, without-head}
 
@@ -221,3 +222,30 @@ leave-ready f place wait Gone steps ready =
     subst Goes (sym ready.waits) (went-ready f place wait steps ready)
 leave-ready f place wait (Late element) steps ready =
     ready-to-end _ place None steps (granted-ready f place (λ w. entry.Late 0 w.number) wait element steps ready)
+
+granted-held : (f : PlainFloor) (place : ℕ) (entry_of : JobWait → Entry) (wait : JobWait) (element : ℕ)
+  → IsJob f place → wait_of f place ≡ Some wait
+  → places_held (with_granted f place entry_of (wait_of f place) element) place ≡ places_held f place ++ wait.at ∷ []
+granted-held f place entry_of wait element job waits =
+    let Holds : Option JobWait → Type 0 = λ o.
+        places_held (with_granted f place entry_of o element) place ≡ places_held f place ++ wait.at ∷ [] in
+    subst Holds (sym waits) (places-newest f place wait.at element job)
+
+went-held : (f : PlainFloor) (place : ℕ) (wait : Option JobWait) → places_held (with_left f place wait) place ≡ places_held f place
+went-held f place None = refl
+went-held f place (Some wait) = refl
+
+-- what a job holds that left the line, or was late
+pub left-held : (f : PlainFloor) (place : ℕ) (wait : JobWait) (answer : FloorLeave) (steps : List Step)
+  → IsReady f place (Some wait) steps
+  → left_with (places_held f place) wait.at answer ≡ places_held (after_leave f place answer) place
+left-held f place wait Gone steps ready = sym (went-held f place (wait_of f place))
+left-held f place wait (Late element) steps ready =
+    sym (granted-held f place (λ w. entry.Late 0 w.number) wait element ready.job ready.waits)
+
+-- what a job holds that was served
+pub looked-held : (f : PlainFloor) (place : ℕ) (wait : JobWait) (element : ℕ) (steps : List Step)
+  → IsReady f place (Some wait) steps
+  → places_held (after_look f place (Granted element)) place ≡ places_held f place ++ wait.at ∷ []
+looked-held f place wait element steps ready =
+    granted-held f place (λ w. entry.LookGranted 0 w.number) wait element ready.job ready.waits

@@ -3,3 +3,4 @@ pub mod Turns
 pub mod Report
 pub mod Ready
 pub mod Roles
+pub mod States

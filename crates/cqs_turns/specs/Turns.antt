@@ -128,11 +128,13 @@ abbrev pub end_of : FloorLeave → End
 end_of leave.Gone = end.GaveUp
 end_of (leave.Late element) = end.Late
 
--- the job cancels its wait, gives back all that it holds, what came too late as its newest, and has ended
+-- the job cancels its wait: the wait is gone, or too late, and then the job holds what came as its newest
+abbrev pub went : Role → ℕ → ℕ → FloorLeave → Scene → Scene
+went r at number answer s = event r s (after_leave s.floor r.place answer) (leave_told at number answer)
+
+-- the job gives up: it cancels its wait, gives back all that it holds, and has ended
 abbrev pub gave_up : Role → ℕ → ℕ → FloorLeave → Scene → Acted
-gave_up r at number answer s =
-    left_at (given_all r (event r s (after_leave s.floor r.place answer) (leave_told at number answer)))
-    (Ended (end_of answer))
+gave_up r at number answer s = left_at (given_all r (went r at number answer s)) (Ended (end_of answer))
 
 -- the job looks: while its wait is pending its turn is over
 abbrev pub looked : Role → ℕ → ℕ → ℕ → FloorLook → Scene → Acted

@@ -2,7 +2,7 @@
 
 ghost use Rattle.std.specs.Prelude.{◌≡◌, ◌++◌, OnOk, OnErr};
 ghost use Rattle.cqs_turns.specs.Lines.{line_text};
-ghost use Rattle.cqs_turns.specs.Turns.{take_told, give_told, leave_told};
+ghost use Rattle.cqs_turns.specs.Turns.{take_told, give_told, leave_told, is_due};
 
 use crate::lines::Told;
 use crate::reports::Report;
@@ -20,6 +20,16 @@ pub struct Actor<'a> {
 }
 
 impl Actor<'_> {
+    /// The job's deadline has come.
+    pub fn is_due(&self) -> bool
+        ensures { result ≡ is_due self.now.job.now.deadline self.now.turn }
+    {
+        match self.job.deadline {
+            Some(deadline) => deadline <= self.turn,
+            None => false,
+        }
+    }
+
     /// Adds the line of an event of this job.
     pub fn tell(&self, report: &mut Report, told: Told) -> Result<(), Memory>
         ensures ok { OnOk result (report.new ≡ report.old ++

@@ -11,6 +11,7 @@ mod law;
 mod laws;
 mod outcomes;
 mod runnable;
+mod shortage;
 mod table;
 mod whole_calls;
 
@@ -27,3 +28,4 @@ pub use laws::{
 };
 pub use outcomes::Outcome;
 pub use runnable::Core;
+pub use shortage::Memory;

@@ -1,0 +1,113 @@
+-- The plain floor: what contracts see of a floor. One caller makes all its calls, as pass 0.
+use Rattle.std.specs.Prelude.{◌≡◌, ℕ, ◌+◌, ◌-◌, ◌<◌, List, [], ◌∷◌, ◌++◌, Option, Some, None, IsSome, length, map, replicate, sum_by, count_by, find, ◌==◌, slice_get, slice_index, slice_index_or, slice_set}
+use Rattle.std.specs.Option.{option_and_then}
+use Rattle.std.specs.List.{range_with_len}
+use Rattle.cqs_core.specs.declared.entries.Entry.{Entry}
+use Rattle.cqs_core.specs.Keyed.{without}
+use Rattle.cqs_core.specs.SemaphoreObject.{Semaphore}
+use Rattle.cqs_core.specs.SemaphoreEntries.{object_after}
+use Rattle.cqs_plan.specs.declared.plans.kind.Kind.{Kind}
+use Rattle.cqs_plan.specs.declared.plans.kind.Kind.TheVariants as kind
+use Rattle.cqs_plan.specs.declared.plans.plan.Plan.{Plan}
+use Rattle.cqs_plan.specs.PlanSteps.{is_take}
+
+-- the wait of a job: the place of its resource, and its number there
+pub record JobWait : Type 0 where
+  pub at : ℕ
+  pub number : ℕ
+
+-- something that a job holds: the place of its resource, and which element of it
+pub record Holding : Type 0 where
+  pub at : ℕ
+  pub element : ℕ
+
+pub record PlainFloor : Type 0 where
+  -- what each resource is
+  pub kinds : List Kind
+  -- for each resource the entries so far, without looks that found nothing new
+  pub entries : List (List Entry)
+  -- for each resource how many takes it has room for
+  pub room : List ℕ
+  -- for each job its wait
+  pub waits : List (Option JobWait)
+  -- for each job what it holds, oldest first
+  pub holds : List (List Holding)
+
+-- what stands at a place
+abbrev pub entries_at : PlainFloor → ℕ → List Entry
+entries_at f at = slice_index_or f.entries at []
+
+abbrev pub room_at : PlainFloor → ℕ → ℕ
+room_at f at = slice_index f.room at
+
+abbrev pub wait_of : PlainFloor → ℕ → Option JobWait
+wait_of f job = slice_index_or f.waits job None
+
+abbrev pub holds_of : PlainFloor → ℕ → List Holding
+holds_of f job = slice_index_or f.holds job []
+
+-- how many permits a resource has
+abbrev pub permits_of : Option Kind → ℕ
+permits_of (Some (kind.Semaphore permits)) = permits
+permits_of _ = 0
+
+-- the plain semaphore at a place
+abbrev pub object_at : PlainFloor → ℕ → Semaphore
+object_at f at = object_after (permits_of (slice_get f.kinds at)) (entries_at f at)
+
+-- a resource of a kind that can be taken and given
+abbrev pub IsHoldable : Option Kind → Type 0
+IsHoldable (Some (kind.Semaphore permits)) = Unit {0}
+IsHoldable _ = ⊥
+
+-- the place of a job
+pub record IsJob (f : PlainFloor) (job : ℕ) : Type 0 where
+  pub waits : job < length f.waits
+  pub holds : job < length f.holds
+
+abbrev pub IsIdle : PlainFloor → ℕ → Type 0
+IsIdle f job = wait_of f job ≡ None
+
+abbrev pub IsWaiting : PlainFloor → ℕ → Type 0
+IsWaiting f job = IsSome (wait_of f job)
+
+-- the oldest that is held of a resource
+abbrev pub oldest : ℕ → List Holding → Option Holding
+oldest at holds = find (λ h. h.at == at) holds
+
+abbrev pub IsHolding : PlainFloor → ℕ → ℕ → Type 0
+IsHolding f at job = IsSome (oldest at (holds_of f job))
+
+-- these entries come after those so far
+abbrev pub with_entries : PlainFloor → ℕ → List Entry → PlainFloor
+with_entries f at entries = record f { entries = slice_set f.entries at (entries_at f at ++ entries) }
+
+-- one take less has room
+abbrev pub with_less_room : PlainFloor → ℕ → PlainFloor
+with_less_room f at = record f { room = slice_set f.room at (room_at f at - 1) }
+
+abbrev pub with_wait : PlainFloor → ℕ → Option JobWait → PlainFloor
+with_wait f job wait = record f { waits = slice_set f.waits job wait }
+
+-- what came is the newest that the job holds
+abbrev pub with_newest : PlainFloor → ℕ → ℕ → ℕ → PlainFloor
+with_newest f job at element =
+    record f { holds = slice_set f.holds job (holds_of f job ++ record { at = at; element = element } ∷ []) }
+
+-- the oldest that the job holds of a resource is gone
+abbrev pub without_oldest : PlainFloor → ℕ → ℕ → PlainFloor
+without_oldest f job at = record f { holds = slice_set f.holds job (without (λ h. h.at) at (holds_of f job)) }
+
+-- how many take steps a plan has on a resource
+abbrev pub takes_in : Plan → ℕ → ℕ
+takes_in plan at = sum_by (λ job. count_by (is_take at) job.steps) plan.jobs
+
+-- the floor on which a plan begins: nothing has happened, and each resource has room for the plan's takes
+abbrev pub opening_floor : Plan → PlainFloor
+opening_floor plan = record {
+  kinds = map (λ resource. resource.kind) plan.resources;
+  entries = replicate (length plan.resources) [];
+  room = map (takes_in plan) (range_with_len 0 (length plan.resources));
+  waits = replicate (length plan.jobs) None;
+  holds = replicate (length plan.jobs) [];
+}

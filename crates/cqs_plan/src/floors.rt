@@ -1,0 +1,4 @@
+//! Floors: what carries out the steps of a plan's jobs.
+
+pub mod answers;
+pub mod floor;

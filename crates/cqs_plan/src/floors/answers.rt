@@ -1,0 +1,50 @@
+//! What the calls of a floor answer. An element's number is that of a pool's element, and 0 for every
+//! other kind of resource.
+
+/// What a job's take came to.
+#[derive(Clone, Copy, Debug, PartialEq, Eq)]
+pub enum FloorTake {
+    /// The job holds this element.
+    Now(u32),
+    /// The job waits under this number.
+    Waits(u64),
+}
+
+/// Where what a job gave back went.
+#[derive(Clone, Copy, Debug, PartialEq, Eq)]
+pub enum FloorGive {
+    /// Nobody waits: this element is free.
+    Free(u32),
+    /// This element was sent to the wait of this number.
+    Sent(u32, u64),
+}
+
+/// What a job found that looked at its wait.
+#[derive(Clone, Copy, Debug, PartialEq, Eq)]
+pub enum FloorLook {
+    /// It isn't served yet.
+    Pending,
+    /// It was served: the job holds this element.
+    Granted(u32),
+}
+
+/// What a job found that wanted to leave the line.
+#[derive(Clone, Copy, Debug, PartialEq, Eq)]
+pub enum FloorLeave {
+    /// Its wait is gone.
+    Gone,
+    /// Its wait was served before: the job holds this element.
+    Late(u32),
+}
+
+/// How a resource stands.
+#[derive(Clone, Copy, Debug, PartialEq, Eq)]
+pub enum FloorEnd {
+    /// What can be taken and given: how many are free, how many jobs hold or were sent and not yet
+    /// looked at, and how many waits stand in the line.
+    Permits { free: u32, held: u32, line: u32 },
+    /// What a latch still counts, and how many waits stand in its line.
+    Latch { count: u32, line: u32 },
+    /// How many rounds of a barrier are over.
+    Rounds { over: u32 },
+}

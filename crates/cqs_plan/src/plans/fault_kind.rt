@@ -1,0 +1,22 @@
+/// What is wrong at one place of a plan.
+#[derive(Clone, Copy, Debug, PartialEq, Eq)]
+pub enum FaultKind {
+    /// The table has a key that the plan language doesn't know.
+    Key,
+    /// A required key is absent.
+    Missing,
+    /// The value has another TOML type.
+    Shape,
+    /// An integer is out of its range.
+    Range,
+    /// A name breaks the rule for names, or stands already.
+    Name,
+    /// The text is no step.
+    Step,
+    /// The step names no resource, or one of a kind that its verb doesn't take.
+    Target,
+    /// The job gives what it hasn't taken before.
+    Unheld,
+    /// There are too many of them.
+    Many,
+}

@@ -1,0 +1,84 @@
+-- The report only grows: what stands in it before an event, a step or a turn is a front of what stands there after.
+use Rattle.std.proofs.Common.{◌≡◌, ℕ, ◌+◌, suc, zero, List, [], ◌∷◌, ◌++◌, drop, Option, Some, None, Result, Ok, Err, OnErr, refl, sym, ap, ◌∙◌, append_assoc}
+use Rattle.std.proofs.lemmas.List.{append-nil}
+use Rattle.cqs_plan.specs.declared.plans.step.Step.{Step}
+use Rattle.cqs_plan.specs.declared.plans.step.Step.TheVariants.{Take, Give, Down, Await, Arrive, Work}
+use Rattle.cqs_plan.specs.declared.floors.answers.FloorTake.{FloorTake}
+use Rattle.cqs_plan.specs.declared.floors.answers.FloorTake.TheVariants.{Now, Waits}
+use Rattle.cqs_plan.specs.declared.floors.answers.FloorLeave.{FloorLeave}
+use Rattle.cqs_plan.specs.Floor.{PlainFloor}
+use Rattle.cqs_plan.specs.FloorCalls.{take_answer}
+use Rattle.cqs_turns.specs.declared.lines.Told.{Told}
+use Rattle.cqs_turns.specs.declared.states.Progress.{Progress}
+use Rattle.cqs_turns.specs.Lines.{line_text}
+use Rattle.cqs_turns.specs.Report.{IsFrontOf}
+use Rattle.cqs_turns.specs.Turns.{Role, Scene, Acted, Made, event, given, given_back, given_all, finished, made, took, stop_or, stepped, go_on, went, gave_up, places_held}
+
+-- a clause on an error, from its fact
+pub on-err : {T E P : Type 0} (r : Result T E) → P → OnErr r P
+on-err (Ok x) fact = tt
+on-err (Err e) fact = fact
+
+pub front-same : (t : List ℕ) → IsFrontOf t t
+front-same t = record { rest = []; joined = sym (append-nil t) }
+
+pub front-added : (t more : List ℕ) → IsFrontOf (t ++ more) t
+front-added t more = record { rest = more; joined = refl }
+
+pub front-through : (whole middle text : List ℕ) → IsFrontOf whole middle → IsFrontOf middle text → IsFrontOf whole text
+front-through whole middle text last first = record {
+  rest = first.rest ++ last.rest;
+  joined = last.joined ∙ ap (λ t. t ++ last.rest) first.joined ∙ append_assoc text first.rest last.rest;
+}
+
+pub given_back-grows : (r : Role) (places : List ℕ) (s : Scene) → IsFrontOf (given_back r places s).text s.text
+given_back-grows r [] s = front-same s.text
+given_back-grows r (at ∷ places) s =
+    front-through _ (given r at s).text _ (given_back-grows r places (given r at s)) (front-added s.text _)
+
+pub finished-grows : (r : Role) (s : Scene) → IsFrontOf (finished r s).scene.text s.text
+finished-grows r s =
+    let all = given_all r s in
+    front-through _ all.text _ (front-added all.text _) (given_back-grows r (places_held s.floor r.place) s)
+
+pub made-grows : (r : Role) (next : ℕ) (step : Step) (s : Scene) → IsFrontOf (made r next step s).scene.text s.text
+made-grows r next (Work turns) s = front-same s.text
+made-grows r next (Take at) s = took-grows (take_answer s.floor at r.place)
+  where
+    took-grows : (answer : FloorTake) → IsFrontOf (took r next at answer s).scene.text s.text
+    took-grows (Now element) = front-added s.text _
+    took-grows (Waits number) = front-added s.text _
+made-grows r next (Give at) s = front-added s.text _
+made-grows r next (Down at) s = front-same s.text
+made-grows r next (Await at) s = front-same s.text
+made-grows r next (Arrive at) s = front-same s.text
+
+pub stop_or-grows : (m : Made) (onward : Acted) → IsFrontOf onward.scene.text m.scene.text
+  → IsFrontOf (stop_or m onward).scene.text m.scene.text
+stop_or-grows m onward grows = go m.stops
+  where
+    go : (stops : Option Progress) → IsFrontOf (stop_or (record m { stops = stops }) onward).scene.text m.scene.text
+    go None = grows
+    go (Some p) = front-same m.scene.text
+
+pub stepped-grows : (r : Role) (steps : List Step) (next : ℕ) (s : Scene)
+  → IsFrontOf (stepped r steps next s).scene.text s.text
+stepped-grows r [] next s = finished-grows r s
+stepped-grows r (step ∷ steps) next s =
+    let m : Made = made r next step s in
+    front-through _ m.scene.text _
+    (stop_or-grows m (stepped r steps (next + 1) m.scene) (stepped-grows r steps (next + 1) m.scene))
+    (made-grows r next step s)
+
+-- a job that goes on after an event
+pub go_on-grows : (r : Role) (next : ℕ) (s : Scene) (floor : PlainFloor) (told : Told)
+  → IsFrontOf (go_on r next (event r s floor told)).scene.text s.text
+go_on-grows r next s floor told =
+    front-through _ (event r s floor told).text s.text
+    (stepped-grows r (drop next r.job.steps) next (event r s floor told)) (front-added s.text _)
+
+pub gave_up-grows : (r : Role) (at number : ℕ) (answer : FloorLeave) (s : Scene)
+  → IsFrontOf (gave_up r at number answer s).scene.text s.text
+gave_up-grows r at number answer s =
+    let e : Scene = went r at number answer s in
+    front-through _ e.text s.text (given_back-grows r (places_held e.floor r.place) e) (front-added s.text _)

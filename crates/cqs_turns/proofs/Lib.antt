@@ -1,0 +1,7 @@
+mod Examples
+pub mod Growth
+pub mod Held
+pub mod Moved
+pub mod Readied
+pub mod GivingBack
+pub mod Stepping

@@ -1,0 +1,6 @@
+pub mod Lines
+pub mod Turns
+pub mod Report
+pub mod Ready
+pub mod Roles
+pub mod States

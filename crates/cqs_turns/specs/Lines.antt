@@ -1,0 +1,74 @@
+-- The lines of the report.
+use Rattle.std.specs.Prelude.{ℕ, ◌+◌, List, [], ◌∷◌, ◌++◌, Bool, true, false, count_by, codes, slice_get}
+use Rattle.std.specs.Option.{option_map_or}
+use Rattle.std.specs.Fmt.{decimal}
+use Rattle.cqs_plan.specs.declared.plans.resource.Resource.{Resource}
+use Rattle.cqs_plan.specs.declared.floors.answers.FloorEnd.{FloorEnd}
+use Rattle.cqs_plan.specs.declared.floors.answers.FloorEnd.TheVariants.{Permits, Latch, Rounds}
+use Rattle.cqs_plan.specs.Floor.{PlainFloor}
+use Rattle.cqs_plan.specs.FloorCalls.{end_answer}
+use Rattle.cqs_turns.specs.declared.lines.Told.{Told}
+use Rattle.cqs_turns.specs.declared.lines.Told.TheVariants as told
+use Rattle.cqs_turns.specs.declared.states.End.TheVariants.{Done, GaveUp, Late}
+use Rattle.cqs_turns.specs.declared.states.Progress.{Progress}
+use Rattle.cqs_turns.specs.declared.states.Progress.TheVariants.{Ended}
+
+-- the name of the resource at a place
+abbrev pub name_at : List Resource → ℕ → List ℕ
+name_at resources at = option_map_or (λ resource. resource.name) (slice_get resources at) []
+
+-- the words of a line: a verb and a resource, and then what else there is to tell
+abbrev pub told_text : List Resource → Told → List ℕ
+told_text resources (told.Takes at) = codes "takes " ++ name_at resources at
+told_text resources (told.Waits at number) = codes "waits " ++ name_at resources at ++ codes " " ++ decimal number
+told_text resources (told.Served at number) = codes "served " ++ name_at resources at ++ codes " " ++ decimal number
+told_text resources (told.GivesFree at) = codes "gives " ++ name_at resources at ++ codes " free"
+told_text resources (told.GivesSent at number) =
+    codes "gives " ++ name_at resources at ++ codes " sent " ++ decimal number
+told_text resources (told.GaveUp at number) = codes "gaveup " ++ name_at resources at ++ codes " " ++ decimal number
+told_text resources (told.Late at number) = codes "late " ++ name_at resources at ++ codes " " ++ decimal number
+told_text resources told.Done = codes "done"
+
+-- a line: the turn, the job's name and the words
+abbrev pub line_text : List Resource → ℕ → List ℕ → Told → List ℕ
+line_text resources turn name told =
+    decimal turn ++ codes " " ++ name ++ codes " " ++ told_text resources told ++ codes "\n"
+
+-- how a resource stands at the end
+abbrev pub end_words : FloorEnd → List ℕ
+end_words (Permits free held line) =
+    codes " free " ++ decimal free ++ codes " held " ++ decimal held ++ codes " line " ++ decimal line
+end_words (Latch count line) = codes " count " ++ decimal count ++ codes " line " ++ decimal line
+end_words (Rounds over) = codes " rounds " ++ decimal over
+
+abbrev pub end_text : List ℕ → FloorEnd → List ℕ
+end_text name end = codes "end " ++ name ++ end_words end ++ codes "\n"
+
+-- the end lines of these resources, in order; the first one's place is `at`
+abbrev pub ends_text : List Resource → ℕ → PlainFloor → List ℕ
+ends_text [] at f = []
+ends_text (resource ∷ resources) at f = end_text resource.name (end_answer f at) ++ ends_text resources (at + 1) f
+
+abbrev pub is_done : Progress → Bool
+is_done (Ended Done) = true
+is_done _ = false
+
+abbrev pub has_given_up : Progress → Bool
+has_given_up (Ended GaveUp) = true
+has_given_up _ = false
+
+abbrev pub is_late : Progress → Bool
+is_late (Ended Late) = true
+is_late _ = false
+
+abbrev pub is_unfinished : Progress → Bool
+is_unfinished (Ended end) = false
+is_unfinished _ = true
+
+-- how many jobs came to each end, and how many to none
+abbrev pub total_text : List Progress → List ℕ
+total_text progress =
+    codes "total done " ++ decimal (count_by is_done progress)
+    ++ codes " gaveup " ++ decimal (count_by has_given_up progress)
+    ++ codes " late " ++ decimal (count_by is_late progress)
+    ++ codes " unfinished " ++ decimal (count_by is_unfinished progress) ++ codes "\n"

@@ -1,0 +1,16 @@
+-- The report of a plan: the lines of its turns, then a line for each resource, then the totals.
+use Rattle.std.specs.Prelude.{◌≡◌, ℕ, List, ◌++◌}
+use Rattle.cqs_plan.specs.declared.plans.plan.Plan.{Plan}
+use Rattle.cqs_turns.specs.Lines.{ends_text, total_text}
+use Rattle.cqs_turns.specs.Turns.{Machine, machine_after}
+
+abbrev pub report_of : Plan → Machine → List ℕ
+report_of plan m = m.scene.text ++ ends_text plan.resources 0 m.scene.floor ++ total_text m.progress
+
+abbrev pub report : Plan → List ℕ
+report plan = report_of plan (machine_after plan plan.turns)
+
+-- the text is the first part of the whole
+pub record IsFrontOf (whole text : List ℕ) : Type 0 where
+  pub rest : List ℕ
+  pub joined : whole ≡ text ++ rest

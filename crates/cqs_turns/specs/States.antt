@@ -1,0 +1,12 @@
+-- What the machine keeps of the jobs, beside the floor.
+use Rattle.std.specs.Prelude.{◌≡◌, ℕ, List, map, slice_get, Some}
+use Rattle.cqs_plan.specs.Floor.{PlainFloor}
+use Rattle.cqs_turns.specs.declared.states.JobState.{JobState}
+use Rattle.cqs_turns.specs.declared.states.Progress.{Progress}
+use Rattle.cqs_turns.specs.Ready.{IsReady, wait_in, steps_left}
+use Rattle.cqs_turns.specs.Turns.{Role, places_held}
+
+-- the floor has the job as its state does, and the job can go on
+pub record IsSet (f : PlainFloor) (r : Role) (state : JobState) : Type 0 where
+  pub held : state.held.items ≡ places_held f r.place
+  pub ready : IsReady f r.place (wait_in state.progress) (steps_left r.job.steps state.progress)

@@ -1,0 +1,369 @@
+//! What a job does in its turn.
+
+ghost use Rattle.std.specs.Prelude.{◌≡◌, ◌≤◌, ◌<◌, ◌∷◌, ◌++◌, [], None, Some, drop, slice_get, length, ◌==◌, IfSome, OnOk, OnErr, IfOk};
+ghost use Rattle.std.specs.List.{position_from};
+ghost use Rattle.cqs_core.specs.Keyed.{without};
+ghost use Rattle.cqs_plan.specs.Floor.{IsJob, IsHolding, IsHoldable};
+ghost use Rattle.cqs_plan.specs.FloorCalls.{take_answer, leave_answer, look_answer};
+ghost use Rattle.cqs_turns.specs.Turns.{acted, given, given_back, took, made, event, left_at, finished, go_on, went, gave_up, end_of, looked, places_held};
+ghost use Rattle.cqs_turns.specs.Ready.{IsReady, HasRoom, steps_left};
+ghost use Rattle.cqs_turns.specs.Report.{IsFrontOf};
+ghost use Rattle.cqs_turns.specs.Roles.{role, scene, made_of, wait_at, left_with, told_served};
+ghost use Rattle.cqs_turns.specs.States.{IsSet};
+
+use crate::actors::{Actor, told_of_give, told_of_leave, told_of_take};
+use crate::lines::Told;
+use crate::reports::Report;
+use crate::states::{End, JobState, Progress};
+use cqs_core::Memory;
+use cqs_plan::{Floor, FloorLeave, FloorLook, FloorTake, Step};
+
+/// The job gives back the oldest that it holds of this resource.
+fn give<F: Floor>(
+    floor: &mut F,
+    report: &mut Report,
+    actor: &Actor<'_>,
+    at: u32,
+) -> Result<(), Memory>
+    requires resource { IsHoldable (slice_get (F.plain floor.old).kinds at) }
+    requires job { IsJob (F.plain floor.old) actor.now.place }
+    requires holds { IsHolding (F.plain floor.old) at actor.now.place }
+    ensures ok { OnOk result (scene (F.plain floor.new) report.new ≡
+        given (role actor.now) at (scene (F.plain floor.old) report.old)) }
+    ensures err { OnErr result (report.new ≡ report.old) }
+{
+    let answer = floor.give(at, actor.place);
+    actor.tell(report, told_of_give(at, answer))
+}
+
+/// The job gives back all that it holds, oldest first.
+fn give_all<F: Floor>(
+    floor: &mut F,
+    report: &mut Report,
+    actor: &Actor<'_>,
+    held: &mut Vec<u32>,
+) -> Result<(), Memory>
+    requires held { held.old.items ≡ places_held (F.plain floor.old) actor.now.place }
+    requires ready { IsReady (F.plain floor.old) actor.now.place None [] }
+    ensures ok { OnOk result (scene (F.plain floor.new) report.new ≡
+        given_back (role actor.now) held.old.items (scene (F.plain floor.old) report.old)) }
+    ensures held { OnOk result (held.new.items ≡ places_held (F.plain floor.new) actor.now.place) }
+    ensures err { OnErr result (IsFrontOf
+        (given_back (role actor.now) held.old.items (scene (F.plain floor.old) report.old)).text report.new) }
+{
+    for at in held.iter() {
+        give(floor, report, actor, *at)?;
+    }
+    held.clear();
+    Ok(())
+}
+
+/// After its last step the job gives back all that it holds, and is done.
+fn finish<F: Floor>(
+    floor: &mut F,
+    report: &mut Report,
+    actor: &Actor<'_>,
+    held: &mut Vec<u32>,
+) -> Result<Progress, Memory>
+    requires held { held.old.items ≡ places_held (F.plain floor.old) actor.now.place }
+    requires ready { IsReady (F.plain floor.old) actor.now.place None [] }
+    ensures ok { IfOk result (λ progress. left_at (scene (F.plain floor.new) report.new) progress ≡
+        finished (role actor.now) (scene (F.plain floor.old) report.old)) }
+    ensures held { OnOk result (held.new.items ≡ places_held (F.plain floor.new) actor.now.place) }
+    ensures err { OnErr result (IsFrontOf
+        (finished (role actor.now) (scene (F.plain floor.old) report.old)).scene.text report.new) }
+{
+    give_all(floor, report, actor, held)?;
+    actor.tell(report, Told::Done)?;
+    Ok(Progress::Ended(End::Done))
+}
+
+/// The job takes: it holds what it took as its newest, or its turn ends.
+fn take<F: Floor>(
+    floor: &mut F,
+    report: &mut Report,
+    actor: &Actor<'_>,
+    held: &mut Vec<u32>,
+    next: u32,
+    at: u32,
+) -> Result<Option<Progress>, Memory>
+    requires held { held.old.items ≡ places_held (F.plain floor.old) actor.now.place }
+    requires ready { IsReady (F.plain floor.old) actor.now.place None (Step.Take at ∷ []) }
+    requires room { HasRoom (F.plain floor.old) (Step.Take at ∷ []) }
+    requires next { next < 64 }
+    ensures ok { IfOk result (λ stops. made_of (scene (F.plain floor.new) report.new) stops ≡
+        took (role actor.now) next at (take_answer (F.plain floor.old) at actor.now.place)
+        (scene (F.plain floor.old) report.old)) }
+    ensures held { OnOk result (held.new.items ≡ places_held (F.plain floor.new) actor.now.place) }
+    ensures err { OnErr result (IsFrontOf
+        (took (role actor.now) next at (take_answer (F.plain floor.old) at actor.now.place)
+        (scene (F.plain floor.old) report.old)).scene.text report.new) }
+{
+    let answer = floor.take(at, actor.place);
+    actor.tell(report, told_of_take(at, answer))?;
+    match answer {
+        FloorTake::Now(_) => {
+            held.push(at)?;
+            Ok(None)
+        }
+        FloorTake::Waits(number) => Ok(Some(Progress::Waiting {
+            next: next + 1,
+            at,
+            number,
+        })),
+    }
+}
+
+/// Where the oldest of this resource stands in what is held.
+fn oldest_of(held: &[u32], at: u32) -> Option<usize>
+    ensures place { result ≡ position_from (λ place. at == place) 0 held.now }
+    ensures there { IfSome result (λ place. place < length held.now) }
+{
+    held.iter().position(|place| at == *place)
+}
+
+/// The oldest of this resource isn't held any more.
+fn forget_oldest(held: &mut Vec<u32>, at: u32)
+    ensures { held.new.items ≡ without (λ place. place) at held.old.items }
+{
+    if let Some(oldest) = oldest_of(held.as_slice(), at) {
+        held.remove(oldest);
+    }
+}
+
+/// The job gives back the oldest that it holds of this resource, as a step.
+fn give_step<F: Floor>(
+    floor: &mut F,
+    report: &mut Report,
+    actor: &Actor<'_>,
+    held: &mut Vec<u32>,
+    at: u32,
+) -> Result<(), Memory>
+    requires held { held.old.items ≡ places_held (F.plain floor.old) actor.now.place }
+    requires ready { IsReady (F.plain floor.old) actor.now.place None (Step.Give at ∷ []) }
+    ensures ok { OnOk result (scene (F.plain floor.new) report.new ≡
+        given (role actor.now) at (scene (F.plain floor.old) report.old)) }
+    ensures held { OnOk result (held.new.items ≡ places_held (F.plain floor.new) actor.now.place) }
+    ensures err { OnErr result (report.new ≡ report.old) }
+{
+    give(floor, report, actor, at)?;
+    forget_oldest(held, at);
+    Ok(())
+}
+
+/// The job makes a step. Its progress comes where its turn ends with this step.
+fn make_step<F: Floor>(
+    floor: &mut F,
+    report: &mut Report,
+    actor: &Actor<'_>,
+    held: &mut Vec<u32>,
+    next: u32,
+    step: Step,
+) -> Result<Option<Progress>, Memory>
+    requires held { held.old.items ≡ places_held (F.plain floor.old) actor.now.place }
+    requires ready { IsReady (F.plain floor.old) actor.now.place None (step ∷ []) }
+    requires room { HasRoom (F.plain floor.old) (step ∷ []) }
+    requires next { next < 64 }
+    requires turn { actor.now.turn ≤ 40000 }
+    ensures ok { IfOk result (λ stops. made_of (scene (F.plain floor.new) report.new) stops ≡
+        made (role actor.now) next step (scene (F.plain floor.old) report.old)) }
+    ensures held { OnOk result (held.new.items ≡ places_held (F.plain floor.new) actor.now.place) }
+    ensures err { OnErr result (IsFrontOf
+        (made (role actor.now) next step (scene (F.plain floor.old) report.old)).scene.text report.new) }
+{
+    match step {
+        Step::Work(turns) => Ok(Some(Progress::Working {
+            next: next + 1,
+            until: actor.turn + turns,
+        })),
+        Step::Take(at) => take(floor, report, actor, held, next, at),
+        Step::Give(at) => {
+            give_step(floor, report, actor, held, at)?;
+            Ok(None)
+        }
+        Step::Down(_) | Step::Await(_) | Step::Arrive(_) => unreachable!(),
+    }
+}
+
+/// The job makes its steps from this one on, until it works, waits or has ended.
+fn make_steps<F: Floor>(
+    floor: &mut F,
+    report: &mut Report,
+    actor: &Actor<'_>,
+    held: &mut Vec<u32>,
+    first: u32,
+) -> Result<Progress, Memory>
+    requires held { held.old.items ≡ places_held (F.plain floor.old) actor.now.place }
+    requires ready { IsReady (F.plain floor.old) actor.now.place None (drop first actor.now.job.now.steps) }
+    requires room { HasRoom (F.plain floor.old) (drop first actor.now.job.now.steps) }
+    requires few_steps { length actor.now.job.now.steps ≤ 64 }
+    requires turn { actor.now.turn ≤ 40000 }
+    ensures ok { IfOk result (λ progress. left_at (scene (F.plain floor.new) report.new) progress ≡
+        go_on (role actor.now) first (scene (F.plain floor.old) report.old)) }
+    ensures held { OnOk result (held.new.items ≡ places_held (F.plain floor.new) actor.now.place) }
+    ensures err { OnErr result (IsFrontOf
+        (go_on (role actor.now) first (scene (F.plain floor.old) report.old)).scene.text report.new) }
+{
+    let steps = actor.job.steps.as_slice();
+    for next in first as usize..steps.len() {
+        let stops = make_step(floor, report, actor, held, next as u32, steps[next])?;
+        if let Some(progress) = stops {
+            return Ok(progress);
+        }
+    }
+    finish(floor, report, actor, held)
+}
+
+/// What came too late is the newest that the job holds. Says how the job ends.
+fn hold_late(held: &mut Vec<u32>, at: u32, answer: FloorLeave) -> Result<End, Memory>
+    ensures end { IfOk result (λ end. end ≡ end_of answer) }
+    ensures held { OnOk result (held.new.items ≡ left_with held.old.items at answer) }
+{
+    match answer {
+        FloorLeave::Gone => Ok(End::GaveUp),
+        FloorLeave::Late(_) => {
+            held.push(at)?;
+            Ok(End::Late)
+        }
+    }
+}
+
+/// The job cancels its wait. Says how the job ends.
+fn leave<F: Floor>(
+    floor: &mut F,
+    report: &mut Report,
+    actor: &Actor<'_>,
+    held: &mut Vec<u32>,
+    at: u32,
+    number: u64,
+) -> Result<End, Memory>
+    requires held { held.old.items ≡ places_held (F.plain floor.old) actor.now.place }
+    requires ready { IsReady (F.plain floor.old) actor.now.place (Some (wait_at at number)) [] }
+    ensures ok { OnOk result (scene (F.plain floor.new) report.new ≡
+        went (role actor.now) at number (leave_answer (F.plain floor.old) actor.now.place)
+        (scene (F.plain floor.old) report.old)) }
+    ensures end { IfOk result (λ end. end ≡ end_of (leave_answer (F.plain floor.old) actor.now.place)) }
+    ensures held { OnOk result (held.new.items ≡ places_held (F.plain floor.new) actor.now.place) }
+    ensures ready { OnOk result (IsReady (F.plain floor.new) actor.now.place None []) }
+    ensures err { OnErr result (report.new ≡ report.old) }
+{
+    let answer = floor.leave(actor.place);
+    let end = hold_late(held, at, answer)?;
+    actor.tell(report, told_of_leave(at, number, answer))?;
+    Ok(end)
+}
+
+/// The job's deadline has come: it gives its wait up, gives back all that it holds, and has ended.
+fn give_up<F: Floor>(
+    floor: &mut F,
+    report: &mut Report,
+    actor: &Actor<'_>,
+    held: &mut Vec<u32>,
+    at: u32,
+    number: u64,
+) -> Result<Progress, Memory>
+    requires held { held.old.items ≡ places_held (F.plain floor.old) actor.now.place }
+    requires ready { IsReady (F.plain floor.old) actor.now.place (Some (wait_at at number)) [] }
+    ensures ok { IfOk result (λ progress. left_at (scene (F.plain floor.new) report.new) progress ≡
+        gave_up (role actor.now) at number (leave_answer (F.plain floor.old) actor.now.place)
+        (scene (F.plain floor.old) report.old)) }
+    ensures held { OnOk result (held.new.items ≡ places_held (F.plain floor.new) actor.now.place) }
+    ensures err { OnErr result (IsFrontOf
+        (gave_up (role actor.now) at number (leave_answer (F.plain floor.old) actor.now.place)
+        (scene (F.plain floor.old) report.old)).scene.text report.new) }
+{
+    let end = leave(floor, report, actor, held, at, number)?;
+    give_all(floor, report, actor, held)?;
+    Ok(Progress::Ended(end))
+}
+
+/// The job was served: it holds what came as its newest, and goes on.
+fn be_served<F: Floor>(
+    floor: &mut F,
+    report: &mut Report,
+    actor: &Actor<'_>,
+    held: &mut Vec<u32>,
+    next: u32,
+    at: u32,
+    number: u64,
+) -> Result<Progress, Memory>
+    requires held { places_held (F.plain floor.old) actor.now.place ≡ held.old.items ++ at ∷ [] }
+    requires ready { IsReady (F.plain floor.old) actor.now.place None (drop next actor.now.job.now.steps) }
+    requires room { HasRoom (F.plain floor.old) (drop next actor.now.job.now.steps) }
+    requires few_steps { length actor.now.job.now.steps ≤ 64 }
+    requires turn { actor.now.turn ≤ 40000 }
+    ensures ok { IfOk result (λ progress. left_at (scene (F.plain floor.new) report.new) progress ≡
+        go_on (role actor.now) next (event (role actor.now) (scene (F.plain floor.old) report.old)
+        (F.plain floor.old) (told_served at number))) }
+    ensures held { OnOk result (held.new.items ≡ places_held (F.plain floor.new) actor.now.place) }
+    ensures err { OnErr result (IsFrontOf
+        (go_on (role actor.now) next (event (role actor.now) (scene (F.plain floor.old) report.old)
+        (F.plain floor.old) (told_served at number))).scene.text report.new) }
+{
+    held.push(at)?;
+    actor.tell(report, Told::Served(at, number))?;
+    make_steps(floor, report, actor, held, next)
+}
+
+/// The job looks at its wait.
+fn look<F: Floor>(
+    floor: &mut F,
+    report: &mut Report,
+    actor: &Actor<'_>,
+    held: &mut Vec<u32>,
+    next: u32,
+    at: u32,
+    number: u64,
+) -> Result<Progress, Memory>
+    requires held { held.old.items ≡ places_held (F.plain floor.old) actor.now.place }
+    requires ready { IsReady (F.plain floor.old) actor.now.place (Some (wait_at at number))
+        (drop next actor.now.job.now.steps) }
+    requires room { HasRoom (F.plain floor.old) (drop next actor.now.job.now.steps) }
+    requires few_steps { length actor.now.job.now.steps ≤ 64 }
+    requires turn { actor.now.turn ≤ 40000 }
+    ensures ok { IfOk result (λ progress. left_at (scene (F.plain floor.new) report.new) progress ≡
+        looked (role actor.now) next at number (look_answer (F.plain floor.old) actor.now.place)
+        (scene (F.plain floor.old) report.old)) }
+    ensures held { OnOk result (held.new.items ≡ places_held (F.plain floor.new) actor.now.place) }
+    ensures err { OnErr result (IsFrontOf
+        (looked (role actor.now) next at number (look_answer (F.plain floor.old) actor.now.place)
+        (scene (F.plain floor.old) report.old)).scene.text report.new) }
+{
+    match floor.look(actor.place) {
+        FloorLook::Pending => Ok(Progress::Waiting { next, at, number }),
+        FloorLook::Granted(_) => be_served(floor, report, actor, held, next, at, number),
+    }
+}
+
+/// The job has its turn.
+pub fn act<F: Floor>(
+    floor: &mut F,
+    report: &mut Report,
+    actor: &Actor<'_>,
+    state: &mut JobState,
+) -> Result<(), Memory>
+    requires ready { IsSet (F.plain floor.old) (role actor.now) state.old }
+    requires room { HasRoom (F.plain floor.old) (steps_left actor.now.job.now.steps state.old.progress) }
+    requires few_steps { length actor.now.job.now.steps ≤ 64 }
+    requires turn { actor.now.turn ≤ 40000 }
+    ensures ok { OnOk result (left_at (scene (F.plain floor.new) report.new) state.new.progress ≡
+        acted (role actor.now) state.old.progress (scene (F.plain floor.old) report.old)) }
+    ensures held { OnOk result (state.new.held.items ≡ places_held (F.plain floor.new) actor.now.place) }
+    ensures err { OnErr result (IsFrontOf
+        (acted (role actor.now) state.old.progress (scene (F.plain floor.old) report.old)).scene.text report.new) }
+{
+    match state.progress {
+        Progress::Ended(_) => {}
+        Progress::Working { until, .. } if actor.turn < until => {}
+        Progress::Stepping(next) | Progress::Working { next, .. } => {
+            state.progress = make_steps(floor, report, actor, &mut state.held, next)?;
+        }
+        Progress::Waiting { next: _, at, number } if actor.is_due() => {
+            state.progress = give_up(floor, report, actor, &mut state.held, at, number)?;
+        }
+        Progress::Waiting { next, at, number } => {
+            state.progress = look(floor, report, actor, &mut state.held, next, at, number)?;
+        }
+    }
+    Ok(())
+}

@@ -1,0 +1,131 @@
+//! The text of the report's lines, byte by byte.
+
+ghost use Rattle.std.specs.Prelude.{◌≡◌, ◌++◌, OnOk, codes, decimal};
+ghost use Rattle.cqs_turns.specs.Lines.{name_at, told_text, line_text, end_words, end_text, total_text};
+
+use crate::lines::Told;
+use crate::states::{End, Progress};
+use cqs_core::Memory;
+use cqs_plan::{FloorEnd, Resource};
+use itoa::Buffer;
+
+fn push_number(line: &mut Vec<u8>, number: u64) -> Result<(), Memory>
+    ensures { OnOk result (line.new.items ≡ line.old.items ++ decimal number) }
+{
+    let mut buffer = Buffer::new();
+    line.extend_from_slice(buffer.format(number).as_bytes())?;
+    Ok(())
+}
+
+/// A label and then a number.
+fn push_labelled(line: &mut Vec<u8>, label: &[u8], number: u64) -> Result<(), Memory>
+    ensures { OnOk result (line.new.items ≡ line.old.items ++ label.now ++ decimal number) }
+{
+    line.extend_from_slice(label)?;
+    push_number(line, number)
+}
+
+/// A verb and what it is done to.
+fn push_verb(line: &mut Vec<u8>, verb: &[u8], name: &[u8]) -> Result<(), Memory>
+    ensures { OnOk result (line.new.items ≡ line.old.items ++ verb.now ++ name.now) }
+{
+    line.extend_from_slice(verb)?;
+    line.extend_from_slice(name)?;
+    Ok(())
+}
+
+/// The name of the resource at a place.
+fn name_of(resources: &[Resource], at: u32) -> &[u8]
+    ensures { result.now ≡ name_at resources.now at }
+{
+    match resources.get(at as usize) {
+        Some(resource) => resource.name.as_slice(),
+        None => &[],
+    }
+}
+
+fn push_told(line: &mut Vec<u8>, resources: &[Resource], told: Told) -> Result<(), Memory>
+    ensures { OnOk result (line.new.items ≡ line.old.items ++ told_text resources.now told) }
+{
+    match told {
+        Told::Takes(at) => push_verb(line, b"takes ", name_of(resources, at)),
+        Told::Waits(at, number) => {
+            push_verb(line, b"waits ", name_of(resources, at))?;
+            push_labelled(line, b" ", number)
+        }
+        Told::Served(at, number) => {
+            push_verb(line, b"served ", name_of(resources, at))?;
+            push_labelled(line, b" ", number)
+        }
+        Told::GivesFree(at) => {
+            push_verb(line, b"gives ", name_of(resources, at))?;
+            line.extend_from_slice(b" free")?;
+            Ok(())
+        }
+        Told::GivesSent(at, number) => {
+            push_verb(line, b"gives ", name_of(resources, at))?;
+            push_labelled(line, b" sent ", number)
+        }
+        Told::GaveUp(at, number) => {
+            push_verb(line, b"gaveup ", name_of(resources, at))?;
+            push_labelled(line, b" ", number)
+        }
+        Told::Late(at, number) => {
+            push_verb(line, b"late ", name_of(resources, at))?;
+            push_labelled(line, b" ", number)
+        }
+        Told::Done => {
+            line.extend_from_slice(b"done")?;
+            Ok(())
+        }
+    }
+}
+
+/// The line of an event.
+pub fn push_line(
+    line: &mut Vec<u8>,
+    resources: &[Resource],
+    turn: u32,
+    name: &[u8],
+    told: Told,
+) -> Result<(), Memory>
+    ensures { OnOk result (line.new.items ≡ line.old.items ++ line_text resources.now turn name.now told) }
+{
+    push_number(line, u64::from(turn))?;
+    push_verb(line, b" ", name)?;
+    line.extend_from_slice(b" ")?;
+    push_told(line, resources, told)?;
+    line.extend_from_slice(b"\n")?;
+    Ok(())
+}
+
+fn push_end_words(line: &mut Vec<u8>, end: FloorEnd) -> Result<(), Memory>
+    ensures { OnOk result (line.new.items ≡ line.old.items ++ end_words end) }
+{
+    match end {
+        FloorEnd::Permits {
+            free,
+            held,
+            line: waits,
+        } => {
+            push_labelled(line, b" free ", u64::from(free))?;
+            push_labelled(line, b" held ", u64::from(held))?;
+            push_labelled(line, b" line ", u64::from(waits))
+        }
+        FloorEnd::Latch { count, line: waits } => {
+            push_labelled(line, b" count ", u64::from(count))?;
+            push_labelled(line, b" line ", u64::from(waits))
+        }
+        FloorEnd::Rounds { over } => push_labelled(line, b" rounds ", u64::from(over)),
+    }
+}
+
+/// How a resource stands at the end.
+pub fn push_end(line: &mut Vec<u8>, name: &[u8], end: FloorEnd) -> Result<(), Memory>
+    ensures { OnOk result (line.new.items ≡ line.old.items ++ end_text name.now end) }
+{
+    push_verb(line, b"end ", name)?;
+    push_end_words(line, end)?;
+    line.extend_from_slice(b"\n")?;
+    Ok(())
+}

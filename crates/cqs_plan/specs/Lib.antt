@@ -1,0 +1,6 @@
+pub mod Language
+pub mod Meaning
+pub mod Faults
+pub mod PlanText
+pub mod Places
+pub mod Reading

@@ -5,6 +5,7 @@
 #![tactic(auto)]
 
 mod plans;
+mod reader;
 
 pub use plans::error::PlanError;
 pub use plans::fault_kind::FaultKind;

@@ -1,0 +1,6 @@
+//! Reading a plan from the bytes of a TOML document.
+
+pub mod members;
+pub mod names;
+pub mod numbers;
+pub mod place;

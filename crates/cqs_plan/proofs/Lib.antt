@@ -1,2 +1,4 @@
 mod Examples
 mod DataLists
+mod WorkSteps
+mod FoundPlaces

@@ -4,3 +4,4 @@ pub mod Faults
 pub mod PlanText
 pub mod Places
 pub mod Reading
+pub mod Order

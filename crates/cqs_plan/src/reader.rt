@@ -4,3 +4,5 @@ pub mod members;
 pub mod names;
 pub mod numbers;
 pub mod place;
+pub mod places;
+pub mod steps;

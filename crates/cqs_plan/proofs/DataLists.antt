@@ -1,14 +1,22 @@
 -- The lists that a table and an array are seen as, beside the map and the vector that hold them.
-use Rattle.std.proofs.Common.{◌≡◌, ℕ, Bool, ◌&&◌, ◌||◌, List, [], ◌∷◌, map, String, Global, string_bytes, Bor, refl, ap, ◌∙◌}
-use Rattle.std.specs.List.{list_all, list_any}
+use Rattle.std.proofs.Common.{◌≡◌, ℕ, zero, suc, length, BTreeMap, Less, nat_cmp, arith, Bool, ◌&&◌, ◌||◌, List, [], ◌∷◌, map, String, Global, string_bytes, Bor, refl, ap, ◌∙◌}
+use Rattle.std.specs.BTreeMap.{IsOrdered}
+use Rattle.std.specs.Cmp.Lexicographic.{slice_cmp}
+use Rattle.std.specs.List.{list_all, list_any, All, AllPairs, AllByRecursion}
+use Rattle.std.specs.List.Sorted.{IsStrictlySortedBy}
+use Rattle.std.specs.String.{string_cmp}
+use Rattle.std.proofs.lemmas.List.Kept.{AllPairs-cons}
 use Rattle.std.specs.Map.{keys_of}
 use Rattle.std.specs.Str.{bytes_eq}
 use Rattle.toml.specs.Data.{Data}
 use Rattle.toml.specs.View.{view, items_view, members_view}
 use Rattle.toml.proofs.Views.{Entry}
 use Rattle.toml.specs.declared.value.Value.{Value}
+use Rattle.cqs_plan.specs.declared.plans.resource.Resource.{Resource}
 use Rattle.cqs_plan.specs.Faults.{has_only}
-use Rattle.cqs_plan.specs.Meaning.{items_list, members_list}
+use Rattle.cqs_plan.specs.Language.{ResourceKind}
+use Rattle.cqs_plan.specs.Meaning.{items_list, members_list, resource_in}
+use Rattle.cqs_plan.specs.Order.{AreInOrder, Precedes}
 
 -- an entry of a table's map as a key with its value
 abbrev pub entry_view : Entry → List ℕ × Data
@@ -33,3 +41,22 @@ pub has_only-keys : (known : List (Bor (List ℕ))) (entries : List Entry)
     ≡ has_only (map (λ word. word.now) known) (members_view entries)
 has_only-keys known [] = refl
 has_only-keys known (e ∷ es) = rw (list_any-now (string_bytes e.0) known, has_only-keys known es)
+
+-- names that ascend, from the keys of the map
+names_above : (kind : ResourceKind) (first : Entry) (entries : List Entry)
+    → AllByRecursion (λ key. string_cmp first.0 key ≡ Less) (keys_of entries)
+    → All (Precedes (resource_in kind (entry_view first))) (map (resource_in kind) (map entry_view entries))
+names_above kind first [] above k d below = absurd (omega arith)
+names_above kind first (e ∷ es) above zero d below = above.0
+names_above kind first (e ∷ es) above (suc k) d below = names_above kind first es above.1 k d (omega arith)
+
+names_ascend : (kind : ResourceKind) (entries : List Entry) → IsStrictlySortedBy string_cmp (keys_of entries)
+    → AllPairs Precedes (map (resource_in kind) (map entry_view entries))
+unfolding IsStrictlySortedBy
+names_ascend kind [] ordered = λ i j d less below. absurd (omega arith)
+names_ascend kind (e ∷ es) ordered = AllPairs-cons Precedes (resource_in kind (entry_view e)) _ (names_above kind e es ordered.0) (names_ascend kind es ordered.1)
+
+-- the resources of a table in order of its keys are in order
+pub AreInOrder-table : (kind : ResourceKind) (table : BTreeMap (String Global) Value) → IsOrdered string_cmp table
+    → AreInOrder (map (resource_in kind) (map entry_view table.entries))
+AreInOrder-table kind table ordered = record { names = names_ascend kind table.entries ordered }

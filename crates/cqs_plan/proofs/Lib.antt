@@ -2,3 +2,4 @@ mod Examples
 mod DataLists
 mod WorkSteps
 mod FoundPlaces
+mod FirstFaults

@@ -56,6 +56,12 @@ number_faults place least most value =
 abbrev pub dotted : List ℕ → List ℕ → List ℕ
 dotted place key = place ++ codes "." ++ key
 
+-- the faults of the numbers that a kind requires
+abbrev pub resource_number_faults : ResourceKind → List ℕ → Members → List Fault
+resource_number_faults kind name table = flat_map (λ number.
+    let place = dotted (dotted kind.key name) number.key in
+    required place (get_member number.key table) (number_faults place number.least number.most)) kind.numbers
+
 -- the faults of the i-th resource of a kind, where these names stand in earlier kinds
 abbrev pub resource_faults : ResourceKind → List (List ℕ) → ℕ → List ℕ × Data → List Fault
 resource_faults kind earlier i (name, value) =
@@ -65,8 +71,7 @@ resource_faults kind earlier i (name, value) =
     unless (has_only (map (λ number. number.key) kind.numbers) table) place fault.Key
     ++ unless (not (list_any (bytes_eq name) earlier)) place fault.Name
     ++ unless (nat_lt (length earlier + i) 64) place fault.Many
-    ++ flat_map (λ number. required (dotted place number.key) (get_member number.key table)
-    (number_faults (dotted place number.key) number.least number.most)) kind.numbers)
+    ++ resource_number_faults kind name table)
 
 -- the names of the resources of these kinds
 abbrev pub names_in : List ResourceKind → Members → List (List ℕ)

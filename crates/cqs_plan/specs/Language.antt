@@ -27,14 +27,16 @@ pub record ResourceKind : Type 0 where
   pub numbers : List Number
   pub kind : List ℕ → Kind
 
+abbrev pub semaphores : ResourceKind
+semaphores = record {
+  key = codes "semaphore";
+  numbers = record { key = codes "size"; least = 1; most = 1048576 } ∷ [];
+  kind = λ numbers. Semaphore (slice_index numbers 0);
+}
+
 -- the kinds, in the order in which their resources stand
 abbrev pub resource_kinds : List ResourceKind
-resource_kinds =
-    record {
-      key = codes "semaphore";
-      numbers = record { key = codes "size"; least = 1; most = 1048576 } ∷ [];
-      kind = λ numbers. Semaphore (slice_index numbers 0);
-    } ∷ []
+resource_kinds = semaphores ∷ []
 
 -- a verb whose argument is a resource: its word, the kinds that it works on, and its step at a place
 pub record Verb : Type 0 where

@@ -5,4 +5,5 @@ pub mod names;
 pub mod numbers;
 pub mod place;
 pub mod places;
+pub mod resources;
 pub mod steps;

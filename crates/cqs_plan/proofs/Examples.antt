@@ -4,18 +4,15 @@ use Rattle.std.specs.Prelude.{slice_get, option_and_then, option_map}
 use Rattle.toml.specs.Data.{Members}
 use Rattle.toml.specs.Parse.{parse_document}
 use Rattle.toml.proofs.OnLiterals.{toml_on_literals}
-use Rattle.cqs_plan.specs.Faults.{Fault, dotted, indexed, faults_in}
+use Rattle.cqs_plan.specs.Faults.{Fault, indexed, part_place, faults_in}
 use Rattle.cqs_plan.specs.declared.plans.fault_kind.FaultKind.TheVariants as fault
 
 -- the first fault of a text, if it is a document
 abbrev first_fault : List ℕ → Option Fault
 first_fault text = option_and_then (λ root. slice_get (faults_in root) 0) (parse_document text)
 
-abbrev job_place : ℕ → List ℕ
-job_place i = indexed (codes "job") i
-
 abbrev step_place : ℕ → ℕ → List ℕ
-step_place i j = indexed (dotted (job_place i) (codes "steps")) j
+step_place i j = indexed (part_place i (codes "steps")) j
 
 empty_text : first_fault (codes "") ≡ Some (record { place = codes "version"; kind = fault.Missing })
 unfolding toml_on_literals
@@ -37,11 +34,11 @@ size_zero : first_fault (codes "version = 1\nturns = 8\n[semaphore.db]\nsize = 0
 unfolding toml_on_literals
 size_zero = refl
 
-no_name : first_fault (codes "version = 1\nturns = 8\n[semaphore.db]\nsize = 1\n[[job]]\n") ≡ Some (record { place = dotted (job_place 0) (codes "name"); kind = fault.Missing })
+no_name : first_fault (codes "version = 1\nturns = 8\n[semaphore.db]\nsize = 1\n[[job]]\n") ≡ Some (record { place = part_place 0 (codes "name"); kind = fault.Missing })
 unfolding toml_on_literals
 no_name = refl
 
-no_steps : first_fault (codes "version = 1\nturns = 8\n[semaphore.db]\nsize = 1\n[[job]]\nname = \"a\"\n") ≡ Some (record { place = dotted (job_place 0) (codes "steps"); kind = fault.Missing })
+no_steps : first_fault (codes "version = 1\nturns = 8\n[semaphore.db]\nsize = 1\n[[job]]\nname = \"a\"\n") ≡ Some (record { place = part_place 0 (codes "steps"); kind = fault.Missing })
 unfolding toml_on_literals
 no_steps = refl
 

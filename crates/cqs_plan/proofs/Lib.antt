@@ -3,3 +3,4 @@ mod DataLists
 mod WorkSteps
 mod FoundPlaces
 mod FirstFaults
+mod MeaningLemmas

@@ -109,26 +109,50 @@ step_faults place resources earlier value =
 abbrev pub indexed : List ℕ → ℕ → List ℕ
 indexed place i = place ++ codes "[" ++ decimal i ++ codes "]"
 
+-- where the i-th job is, and where a part of it is
+abbrev pub job_place : ℕ → List ℕ
+job_place i = indexed (codes "job") i
+
+abbrev pub part_place : ℕ → List ℕ → List ℕ
+part_place i key = dotted (job_place i) key
+
+-- the faults of the j-th of the steps of a job
+abbrev pub job_step_faults : List ℕ → List Resource → List Data → ℕ → Data → List Fault
+job_step_faults place resources steps j value = step_faults (indexed place j) resources (steps_in resources (take j steps)) value
+
 abbrev pub steps_faults : List ℕ → List Resource → List Data → List Fault
 steps_faults place resources steps =
     unless (nat_le (length steps) 64) place fault.Many
-    ++ each steps (λ j. step_faults (indexed place j) resources (steps_in resources (take j steps)))
+    ++ each steps (job_step_faults place resources steps)
+
+-- the faults of what a job has at `steps`
+abbrev pub steps_part_faults : ℕ → List Resource → Option Data → List Fault
+steps_part_faults i resources value =
+    let place = part_place i (codes "steps") in
+    required place value (λ steps. shaped place (as_array steps) (λ items. steps_faults place resources (items_list items)))
+
+-- the faults of a name, where some names stand already
+abbrev pub name_faults : List ℕ → (List ℕ → Bool) → Data → List Fault
+name_faults place stands value = shaped place (as_str value) (λ text. unless (is_name text && not (stands text)) place fault.Name)
+
+-- one of these jobs has the name
+abbrev pub is_named : List Data → List ℕ → Bool
+is_named jobs name = list_any (λ job. bytes_eq (job_name job) name) jobs
+
+-- the keys of a job
+abbrev pub job_keys : List (List ℕ)
+job_keys = codes "name" ∷ codes "steps" ∷ codes "deadline" ∷ []
 
 -- the faults of the i-th job
 abbrev pub job_faults : List Resource → List Data → ℕ → Data → List Fault
 job_faults resources jobs i value =
-    let place = indexed (codes "job") i in
-    let name_place = dotted place (codes "name") in
-    let deadline_place = dotted place (codes "deadline") in
-    let steps_place = dotted place (codes "steps") in
-    shaped place (as_table value) (λ job.
-    unless (has_only (codes "name" ∷ codes "steps" ∷ codes "deadline" ∷ []) job) place fault.Key
-    ++ required name_place (get_member (codes "name") job) (λ name.
-    shaped name_place (as_str name) (λ text.
-    unless (is_name text && not (list_any (λ other. bytes_eq text (job_name other)) (take i jobs))) name_place fault.Name))
+    let name_place = part_place i (codes "name") in
+    let deadline_place = part_place i (codes "deadline") in
+    shaped (job_place i) (as_table value) (λ job.
+    unless (has_only job_keys job) (job_place i) fault.Key
+    ++ required name_place (get_member (codes "name") job) (name_faults name_place (is_named (take i jobs)))
     ++ optional (get_member (codes "deadline") job) (number_faults deadline_place 0 40000)
-    ++ required steps_place (get_member (codes "steps") job) (λ steps.
-    shaped steps_place (as_array steps) (λ items. steps_faults steps_place resources (items_list items))))
+    ++ steps_part_faults i resources (get_member (codes "steps") job))
 
 abbrev pub jobs_faults : List Resource → List Data → List Fault
 jobs_faults resources jobs = unless (nat_le (length jobs) 4096) (codes "job") fault.Many ++ each jobs (job_faults resources jobs)

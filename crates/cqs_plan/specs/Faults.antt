@@ -143,19 +143,28 @@ is_named jobs name = list_any (λ job. bytes_eq (job_name job) name) jobs
 abbrev pub job_keys : List (List ℕ)
 job_keys = codes "name" ∷ codes "steps" ∷ codes "deadline" ∷ []
 
--- the faults of the i-th job
-abbrev pub job_faults : List Resource → List Data → ℕ → Data → List Fault
-job_faults resources jobs i value =
+-- the faults of the i-th job, where some names stand already
+abbrev pub job_faults : List Resource → (List ℕ → Bool) → ℕ → Data → List Fault
+job_faults resources stands i value =
     let name_place = part_place i (codes "name") in
     let deadline_place = part_place i (codes "deadline") in
     shaped (job_place i) (as_table value) (λ job.
     unless (has_only job_keys job) (job_place i) fault.Key
-    ++ required name_place (get_member (codes "name") job) (name_faults name_place (is_named (take i jobs)))
+    ++ required name_place (get_member (codes "name") job) (name_faults name_place stands)
     ++ optional (get_member (codes "deadline") job) (number_faults deadline_place 0 40000)
     ++ steps_part_faults i resources (get_member (codes "steps") job))
 
+-- the faults of the i-th of these jobs, where the names of those before it stand already
+abbrev pub listed_job_faults : List Resource → List Data → ℕ → Data → List Fault
+listed_job_faults resources jobs i value = job_faults resources (is_named (take i jobs)) i value
+
 abbrev pub jobs_faults : List Resource → List Data → List Fault
-jobs_faults resources jobs = unless (nat_le (length jobs) 4096) (codes "job") fault.Many ++ each jobs (job_faults resources jobs)
+jobs_faults resources jobs = unless (nat_le (length jobs) 4096) (codes "job") fault.Many ++ each jobs (listed_job_faults resources jobs)
+
+-- the faults of what the root has at `job`
+abbrev pub jobs_part_faults : List Resource → Option Data → List Fault
+jobs_part_faults resources value = optional value (λ jobs.
+    shaped (codes "job") (as_array jobs) (λ items. jobs_faults resources (items_list items)))
 
 -- the keys of the root
 abbrev pub root_keys : List (List ℕ)
@@ -168,5 +177,4 @@ faults_in root =
     ++ required (codes "version") (get_member (codes "version") root) (number_faults (codes "version") 1 1)
     ++ required (codes "turns") (get_member (codes "turns") root) (number_faults (codes "turns") 1 40000)
     ++ resources_faults root
-    ++ optional (get_member (codes "job") root) (λ value.
-    shaped (codes "job") (as_array value) (λ jobs. jobs_faults (resources_in resource_kinds root) (items_list jobs)))
+    ++ jobs_part_faults (resources_in resource_kinds root) (get_member (codes "job") root)

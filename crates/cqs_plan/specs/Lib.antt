@@ -5,4 +5,3 @@ pub mod PlanText
 pub mod Places
 pub mod Reading
 pub mod Order
-pub mod Names

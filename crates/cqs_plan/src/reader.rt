@@ -1,5 +1,6 @@
 //! Reading a plan from the bytes of a TOML document.
 
+pub mod jobs;
 pub mod members;
 pub mod names;
 pub mod numbers;

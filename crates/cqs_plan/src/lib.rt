@@ -15,3 +15,4 @@ pub use plans::name::Name;
 pub use plans::plan::Plan;
 pub use plans::resource::{Resource, Resources};
 pub use plans::step::{Step, Steps};
+pub use reader::read_plan;

@@ -1,4 +1,4 @@
-ghost use Rattle.std.specs.Prelude.{◌≡◌, IfOk, [], codes, map};
+ghost use Rattle.std.specs.Prelude.{◌≡◌, ◌<◌, ◌≤◌, IfOk, OnOk, [], codes, map, vec_len};
 ghost use Rattle.toml.specs.Data.{get_member};
 ghost use Rattle.toml.specs.View.{view, table_view};
 ghost use Rattle.cqs_plan.specs.Faults.{each, resource_faults, resource_number_faults, resources_faults};
@@ -36,6 +36,7 @@ fn size(alloc: Global, name: &str, table: &Table) -> Result<u32, PlanError>
 fn semaphore(alloc: Global, index: usize, name: &str, value: &Value) -> Result<Resource, PlanError>
     ensures faults { Reads result (resource_faults semaphores [] index (name.now, view value.now)) }
     ensures value { IfOk result (λ resource. resource ≡ resource_in semaphores (name.now, view value.now)) }
+    ensures few { OnOk result (index < 64) }
 {
     if !is_name(name) {
         return Err(Place::Word("semaphore").fault(alloc, FaultKind::Name));
@@ -64,6 +65,7 @@ fn semaphores(alloc: Global, table: &Table) -> Result<Vec<Resource>, PlanError>
     ensures faults { Reads result (each (members_list (table_view table.now)) (resource_faults semaphores [])) }
     ensures value { IfOk result (λ found. found.items ≡ map (resource_in semaphores) (members_list (table_view table.now))) }
     ensures order { IfOk result (λ found. AreInOrder found.items) }
+    ensures few { IfOk result (λ found. vec_len found ≤ 64) }
 {
     let mut found = Vec::with_capacity(alloc, table.len().min(64))?;
     for (name, value) in table {
@@ -78,6 +80,7 @@ pub fn resources(alloc: Global, root: &Table) -> Result<Vec<Resource>, PlanError
     ensures faults { Reads result (resources_faults (table_view root.now)) }
     ensures value { IfOk result (λ found. found.items ≡ resources_in resource_kinds (table_view root.now)) }
     ensures order { IfOk result (λ found. AreInOrder found.items) }
+    ensures few { IfOk result (λ found. vec_len found ≤ 64) }
 {
     let Some(value) = member(root, "semaphore") else {
         return Ok(Vec::new(alloc));

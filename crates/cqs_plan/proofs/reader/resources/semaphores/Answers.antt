@@ -34,3 +34,6 @@ returns-clause-order c =
     let all : c.loop-name.found.items ≡ map (resource_in semaphores) (map entry_view c.args.table.now.entries) =
     rw (c.loop-name.invariant.values, done) (sym (append-nil c.loop-name.found.items)) in
     rw all (AreInOrder-table semaphores c.args.table.now c.len.ensures.ordered)
+
+pub returns-clause-few : goal.returns-clause-few
+returns-clause-few c = c.loop-name.invariant.few

@@ -4,3 +4,5 @@ mod WorkSteps
 mod FoundPlaces
 mod FirstFaults
 mod MeaningLemmas
+mod ValidNumbers
+mod ValidSteps

@@ -52,8 +52,11 @@ can_hold (Pool elements) = true
 can_hold (Latch count) = false
 can_hold (Rounds parties rounds) = false
 
+abbrev pub take_verb : Verb
+take_verb = record { word = codes "take"; works_on = can_hold; step = Take }
+
+abbrev pub give_verb : Verb
+give_verb = record { word = codes "give"; works_on = can_hold; step = Give }
+
 abbrev pub verbs : List Verb
-verbs =
-    record { word = codes "take"; works_on = can_hold; step = Take }
-    ∷ record { word = codes "give"; works_on = can_hold; step = Give }
-    ∷ []
+verbs = take_verb ∷ give_verb ∷ []

@@ -5,3 +5,4 @@ pub mod PlanText
 pub mod Places
 pub mod Reading
 pub mod Order
+pub mod Validity

@@ -7,7 +7,7 @@ ghost use Rattle.cqs_plan.specs.declared.plans.fault_kind.FaultKind.{FaultKind};
 ghost use Rattle.toml.specs.View.{table_view};
 ghost use Rattle.cqs_plan.specs.Faults.{faults_in};
 ghost use Rattle.cqs_plan.specs.Meaning.{plan_in};
-ghost use Rattle.cqs_plan.specs.Order.{AreInOrder};
+ghost use Rattle.cqs_plan.specs.Order.{AreInNameOrder};
 ghost use Rattle.cqs_plan.specs.PlanText.{IsFirstFault, IsNoToml, IsPlanText};
 ghost use Rattle.cqs_plan.specs.Reading.{Reads};
 
@@ -35,7 +35,7 @@ use toml::Table;
 fn plan_from(alloc: Global, root: &Table) -> Result<Plan, PlanError>
     ensures faults { Reads result (faults_in (table_view root.now)) }
     ensures value { IfOk result (λ plan. plan ≡ plan_in (table_view root.now)) }
-    ensures order { IfOk result (λ plan. AreInOrder plan.resources) }
+    ensures order { IfOk result (λ plan. AreInNameOrder plan.resources) }
 {
     if !has_only(&["version", "turns", "semaphore", "job"], root) {
         return Err(Place::Word("plan").fault(alloc, FaultKind::Key));

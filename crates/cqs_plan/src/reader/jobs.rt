@@ -5,7 +5,7 @@ ghost use Rattle.toml.specs.Data.{get_member};
 ghost use Rattle.toml.specs.View.{array_view, table_view, view};
 ghost use Rattle.cqs_plan.specs.Faults.{each, job_faults, jobs_faults, jobs_part_faults, listed_job_faults, number_faults, optional, part_place};
 ghost use Rattle.cqs_plan.specs.Meaning.{items_in, items_list, job_in, number_in};
-ghost use Rattle.cqs_plan.specs.Order.{AreInOrder};
+ghost use Rattle.cqs_plan.specs.Order.{AreInNameOrder};
 ghost use Rattle.cqs_plan.specs.Reading.{Reads};
 
 use super::members::{has_only, member};
@@ -45,7 +45,7 @@ fn job(
     resources: &[Resource],
     names: &mut BTreeSet<String>,
 ) -> Result<Job, PlanError>
-    requires order { AreInOrder resources.now }
+    requires order { AreInNameOrder resources.now }
     requires few { length resources.now < 2 ^ 32 }
     ensures faults { Reads result (job_faults resources.now (contains_text names.old) index (view value.now)) }
     ensures value { IfOk result (λ job. job ≡ job_in resources.now (view value.now)) }
@@ -74,7 +74,7 @@ fn job(
 
 /// The jobs that values say, each after those before it.
 fn each_job(alloc: Global, values: &Array, resources: &[Resource]) -> Result<Vec<Job>, PlanError>
-    requires order { AreInOrder resources.now }
+    requires order { AreInNameOrder resources.now }
     requires few { length resources.now < 2 ^ 32 }
     ensures faults { let all = map view values.now.items in Reads result (each all (listed_job_faults resources.now all)) }
     ensures value { IfOk result (λ jobs. jobs.items ≡ map (job_in resources.now) (map view values.now.items)) }
@@ -90,7 +90,7 @@ fn each_job(alloc: Global, values: &Array, resources: &[Resource]) -> Result<Vec
 
 /// The jobs that an array says.
 fn listed_jobs(alloc: Global, values: &Array, resources: &[Resource]) -> Result<Vec<Job>, PlanError>
-    requires order { AreInOrder resources.now }
+    requires order { AreInNameOrder resources.now }
     requires few { length resources.now < 2 ^ 32 }
     ensures faults { Reads result (jobs_faults resources.now (items_list (array_view values.now))) }
     ensures value { IfOk result (λ jobs. jobs.items ≡ map (job_in resources.now) (items_list (array_view values.now))) }
@@ -103,7 +103,7 @@ fn listed_jobs(alloc: Global, values: &Array, resources: &[Resource]) -> Result<
 
 /// The jobs of a plan, in order.
 pub fn jobs(alloc: Global, root: &Table, resources: &[Resource]) -> Result<Vec<Job>, PlanError>
-    requires order { AreInOrder resources.now }
+    requires order { AreInNameOrder resources.now }
     requires few { length resources.now < 2 ^ 32 }
     ensures faults { Reads result (jobs_part_faults resources.now (get_member (codes "job") (table_view root.now))) }
     ensures value { IfOk result (λ jobs. jobs.items ≡ map (job_in resources.now) (items_in (get_member (codes "job") (table_view root.now)))) }

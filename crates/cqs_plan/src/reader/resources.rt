@@ -4,7 +4,7 @@ ghost use Rattle.toml.specs.View.{view, table_view};
 ghost use Rattle.cqs_plan.specs.Faults.{each, resource_faults, resource_number_faults, resources_faults};
 ghost use Rattle.cqs_plan.specs.Language.{semaphores, resource_kinds};
 ghost use Rattle.cqs_plan.specs.Meaning.{members_list, number_in, resource_in, resources_in};
-ghost use Rattle.cqs_plan.specs.Order.{AreInOrder};
+ghost use Rattle.cqs_plan.specs.Order.{AreInNameOrder};
 ghost use Rattle.cqs_plan.specs.Reading.{Reads};
 
 use super::members::{has_only, member};
@@ -64,7 +64,7 @@ fn semaphore(alloc: Global, index: usize, name: &str, value: &Value) -> Result<R
 fn semaphores(alloc: Global, table: &Table) -> Result<Vec<Resource>, PlanError>
     ensures faults { Reads result (each (members_list (table_view table.now)) (resource_faults semaphores [])) }
     ensures value { IfOk result (λ found. found.items ≡ map (resource_in semaphores) (members_list (table_view table.now))) }
-    ensures order { IfOk result (λ found. AreInOrder found.items) }
+    ensures order { IfOk result (λ found. AreInNameOrder found.items) }
     ensures few { IfOk result (λ found. vec_len found ≤ 64) }
 {
     let mut found = Vec::with_capacity(alloc, table.len().min(64))?;
@@ -79,7 +79,7 @@ fn semaphores(alloc: Global, table: &Table) -> Result<Vec<Resource>, PlanError>
 pub fn resources(alloc: Global, root: &Table) -> Result<Vec<Resource>, PlanError>
     ensures faults { Reads result (resources_faults (table_view root.now)) }
     ensures value { IfOk result (λ found. found.items ≡ resources_in resource_kinds (table_view root.now)) }
-    ensures order { IfOk result (λ found. AreInOrder found.items) }
+    ensures order { IfOk result (λ found. AreInNameOrder found.items) }
     ensures few { IfOk result (λ found. vec_len found ≤ 64) }
 {
     let Some(value) = member(root, "semaphore") else {

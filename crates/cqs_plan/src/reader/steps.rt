@@ -4,7 +4,7 @@ ghost use Rattle.std.specs.List.{list_all};
 ghost use Rattle.toml.specs.View.{array_view, view};
 ghost use Rattle.cqs_plan.specs.Faults.{each, is_give, is_held, is_take, job_step_faults, part_place, step_faults, steps_faults, steps_part_faults};
 ghost use Rattle.cqs_plan.specs.Meaning.{has_one_space, is_decimal, items_in, items_list, step_in, step_of, steps_in, verb_step, work_step};
-ghost use Rattle.cqs_plan.specs.Order.{AreInOrder};
+ghost use Rattle.cqs_plan.specs.Order.{AreInNameOrder};
 ghost use Rattle.cqs_plan.specs.Places.{place_text};
 ghost use Rattle.cqs_plan.specs.Reading.{Reads};
 
@@ -49,7 +49,7 @@ fn work(turns: &str) -> Result<Step, FaultKind>
 }
 
 fn verb_step(word: &str, argument: &str, resources: &[Resource]) -> Result<Step, FaultKind>
-    requires order { AreInOrder resources.now }
+    requires order { AreInNameOrder resources.now }
     requires few { length resources.now < 2 ^ 32 }
     ensures { result ≡ verb_step resources.now word.now argument.now }
 {
@@ -67,7 +67,7 @@ fn verb_step(word: &str, argument: &str, resources: &[Resource]) -> Result<Step,
 
 /// The step that a text says: a verb, one space and an argument.
 pub fn step_of(text: &str, resources: &[Resource]) -> Result<Step, FaultKind>
-    requires order { AreInOrder resources.now }
+    requires order { AreInNameOrder resources.now }
     requires few { length resources.now < 2 ^ 32 }
     ensures { result ≡ step_of resources.now text.now }
 {
@@ -115,7 +115,7 @@ fn step(
     resources: &[Resource],
     earlier: &[Step],
 ) -> Result<Step, PlanError>
-    requires order { AreInOrder resources.now }
+    requires order { AreInNameOrder resources.now }
     requires few { length resources.now < 2 ^ 32 }
     ensures faults { Reads result (step_faults (place_text place.entry) resources.now earlier.now (view value.now)) }
     ensures value { IfOk result (λ step. step_in resources.now (view value.now) ≡ Some step) }
@@ -137,7 +137,7 @@ fn each_step(
     values: &Array,
     resources: &[Resource],
 ) -> Result<Vec<Step>, PlanError>
-    requires order { AreInOrder resources.now }
+    requires order { AreInNameOrder resources.now }
     requires few { length resources.now < 2 ^ 32 }
     ensures faults { let all = map view values.now.items in Reads result (each all (job_step_faults (part_place job (codes "steps")) resources.now all)) }
     ensures value { IfOk result (λ steps. steps.items ≡ steps_in resources.now (map view values.now.items)) }
@@ -158,7 +158,7 @@ fn listed_steps(
     values: &Array,
     resources: &[Resource],
 ) -> Result<Vec<Step>, PlanError>
-    requires order { AreInOrder resources.now }
+    requires order { AreInNameOrder resources.now }
     requires few { length resources.now < 2 ^ 32 }
     ensures faults { Reads result (steps_faults (part_place job (codes "steps")) resources.now (items_list (array_view values.now))) }
     ensures value { IfOk result (λ steps. steps.items ≡ steps_in resources.now (items_list (array_view values.now))) }
@@ -176,7 +176,7 @@ pub fn job_steps(
     value: Option<&Value>,
     resources: &[Resource],
 ) -> Result<Vec<Step>, PlanError>
-    requires order { AreInOrder resources.now }
+    requires order { AreInNameOrder resources.now }
     requires few { length resources.now < 2 ^ 32 }
     ensures faults { Reads result (steps_part_faults job resources.now (option_map (λ value. view value.now) value.entry)) }
     ensures value { IfOk result (λ steps. steps.items ≡ steps_in resources.now (items_in (option_map (λ value. view value.now) value.entry))) }

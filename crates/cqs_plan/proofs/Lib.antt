@@ -1,3 +1,10 @@
-pub mod FirstPlanLemmas
 pub mod Loops
 pub mod StreamLemmas
+mod Examples
+mod DataLists
+mod WorkSteps
+mod FoundPlaces
+mod FirstFaults
+mod MeaningLemmas
+mod ValidNumbers
+mod ValidSteps

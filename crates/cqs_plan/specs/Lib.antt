@@ -1,4 +1,3 @@
-pub mod FirstPlan
 pub mod InMemory
 pub mod Script
 pub mod Stream
@@ -6,3 +5,11 @@ pub mod PlanSteps
 pub mod Floor
 pub mod FloorCalls
 pub mod Runnable
+pub mod Language
+pub mod Meaning
+pub mod Faults
+pub mod PlanText
+pub mod Places
+pub mod Reading
+pub mod Order
+pub mod Validity

@@ -9,13 +9,12 @@
 //! only loops over them.
 #![tactic(auto)]
 
-mod first_plan;
 mod floors;
 mod plans;
+mod reader;
 mod streams;
 
 pub use cqs_core::Memory;
-pub use first_plan::{FirstPlan, FirstPlanError, read_first_plan};
 pub use floors::answers::{FloorEnd, FloorGive, FloorLeave, FloorLook, FloorTake};
 pub use floors::floor::Floor;
 pub use plans::error::PlanError;
@@ -26,6 +25,7 @@ pub use plans::name::Name;
 pub use plans::plan::Plan;
 pub use plans::resource::{Resource, Resources};
 pub use plans::step::{Step, Steps};
+pub use reader::read_plan;
 pub use streams::bytes_sink::BytesSink;
 pub use streams::bytes_source::BytesSource;
 pub use streams::failed::Failed;

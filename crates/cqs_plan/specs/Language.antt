@@ -1,0 +1,62 @@
+-- The words of the plan language: its names, its kinds of resource and its verbs.
+use Rattle.std.specs.Prelude.{ℕ, Bool, true, false, ◌&&◌, ◌||◌, ◌==◌, nat_le, List, [], ◌∷◌, length, codes, slice_index}
+use Rattle.std.specs.List.{list_all}
+use Rattle.std.specs.Char.{is_ascii_alphanumeric}
+use Rattle.cqs_plan.specs.declared.plans.kind.Kind.{Kind}
+use Rattle.cqs_plan.specs.declared.plans.kind.Kind.TheVariants.{Semaphore, Mutex, Pool, Latch, Rounds}
+use Rattle.cqs_plan.specs.declared.plans.step.Step.{Step}
+use Rattle.cqs_plan.specs.declared.plans.step.Step.TheVariants.{Take, Give}
+
+-- an ASCII letter, an ASCII digit, `_` or `-`
+abbrev pub is_name_byte : ℕ → Bool
+is_name_byte byte = (is_ascii_alphanumeric byte || (byte == 95)) || (byte == 45)
+
+-- 1 to 32 such bytes
+abbrev pub is_name : List ℕ → Bool
+is_name text = (nat_le 1 (length text) && nat_le (length text) 32) && list_all is_name_byte text
+
+-- an integer that a table holds: its key and its range
+pub record Number : Type 0 where
+  pub key : List ℕ
+  pub least : ℕ
+  pub most : ℕ
+
+-- a kind of resource: its key in the root, the numbers of each of its resources, in order, and what they make
+pub record ResourceKind : Type 0 where
+  pub key : List ℕ
+  pub numbers : List Number
+  pub kind : List ℕ → Kind
+
+abbrev pub semaphores : ResourceKind
+semaphores = record {
+  key = codes "semaphore";
+  numbers = record { key = codes "size"; least = 1; most = 1048576 } ∷ [];
+  kind = λ numbers. Semaphore (slice_index numbers 0);
+}
+
+-- the kinds, in the order in which their resources stand
+abbrev pub resource_kinds : List ResourceKind
+resource_kinds = semaphores ∷ []
+
+-- a verb whose argument is a resource: its word, the kinds that it works on, and its step at a place
+pub record Verb : Type 0 where
+  pub word : List ℕ
+  pub works_on : Kind → Bool
+  pub step : ℕ → Step
+
+-- what can be taken and given
+abbrev pub can_hold : Kind → Bool
+can_hold (Semaphore permits) = true
+can_hold Mutex = true
+can_hold (Pool elements) = true
+can_hold (Latch count) = false
+can_hold (Rounds parties rounds) = false
+
+abbrev pub take_verb : Verb
+take_verb = record { word = codes "take"; works_on = can_hold; step = Take }
+
+abbrev pub give_verb : Verb
+give_verb = record { word = codes "give"; works_on = can_hold; step = Give }
+
+abbrev pub verbs : List Verb
+verbs = take_verb ∷ give_verb ∷ []

@@ -1,0 +1,72 @@
+//! Reading a plan from the bytes of a TOML document.
+//!
+//! The document is parsed whole, and then read key by key, in the order in which faults are looked
+//! for. So the first fault that is met is the one that the error names.
+ghost use Rattle.std.specs.Prelude.{◌≡◌, ℕ, List, IfOk};
+ghost use Rattle.cqs_plan.specs.declared.plans.fault_kind.FaultKind.{FaultKind};
+ghost use Rattle.toml.specs.View.{table_view};
+ghost use Rattle.cqs_plan.specs.Faults.{faults_in};
+ghost use Rattle.cqs_plan.specs.Meaning.{plan_in};
+ghost use Rattle.cqs_plan.specs.Order.{AreInNameOrder};
+ghost use Rattle.cqs_plan.specs.PlanText.{IsFirstFault, IsNoToml, IsPlanText};
+ghost use Rattle.cqs_plan.specs.Reading.{Reads};
+
+pub mod jobs;
+pub mod members;
+pub mod names;
+pub mod numbers;
+pub mod place;
+pub mod places;
+pub mod resources;
+pub mod steps;
+
+use crate::plans::error::PlanError;
+use crate::plans::fault_kind::FaultKind;
+use crate::plans::job::Jobs;
+use crate::plans::plan::Plan;
+use crate::plans::resource::Resources;
+use members::{has_only, member};
+use numbers::required_number;
+use place::Place;
+use std::alloc::Global;
+use toml::Table;
+
+/// The plan that the root of a document says.
+fn plan_from(alloc: Global, root: &Table) -> Result<Plan, PlanError>
+    ensures faults { Reads result (faults_in (table_view root.now)) }
+    ensures value { IfOk result (λ plan. plan ≡ plan_in (table_view root.now)) }
+    ensures order { IfOk result (λ plan. AreInNameOrder plan.resources) }
+{
+    if !has_only(&["version", "turns", "semaphore", "job"], root) {
+        return Err(Place::Word("plan").fault(alloc, FaultKind::Key));
+    }
+    let version = required_number(alloc, Place::Word("version"), member(root, "version"), 1, 1)?;
+    let turns = required_number(
+        alloc,
+        Place::Word("turns"),
+        member(root, "turns"),
+        1,
+        40_000,
+    )?;
+    let resources = resources::resources(alloc, root)?;
+    let jobs = jobs::jobs(alloc, root, resources.as_slice())?;
+    Ok(Plan {
+        version,
+        turns,
+        resources: Resources::from(resources),
+        jobs: Jobs::from(jobs),
+    })
+}
+
+/// Reads a plan.
+pub fn read_plan(alloc: Global, bytes: &[u8]) -> Result<Plan, PlanError>
+    ensures plan { IfOk result (IsPlanText bytes.now) }
+    ensures not_toml { result ≡ Err PlanError.NotToml → IsNoToml bytes.now }
+    ensures fault { (place : List ℕ) (kind : FaultKind) → result ≡ Err (PlanError.Fault place kind) → IsFirstFault bytes.now place kind }
+{
+    match toml::table_from_slice(alloc, bytes) {
+        Ok(root) => plan_from(alloc, &root),
+        Err(error) if error.is_memory() => Err(PlanError::Memory),
+        Err(_) => Err(PlanError::NotToml),
+    }
+}

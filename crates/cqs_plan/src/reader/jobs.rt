@@ -1,0 +1,118 @@
+ghost use Rattle.std.specs.Prelude.{◌≡◌, ◌||◌, ◌<◌, ◌^◌, ℕ, List, Some, IfOk, codes, length, map, option_map};
+ghost use Rattle.std.specs.BTreeSet.{contains_text};
+ghost use Rattle.std.specs.Str.{bytes_eq};
+ghost use Rattle.toml.specs.Data.{get_member};
+ghost use Rattle.toml.specs.View.{array_view, table_view, view};
+ghost use Rattle.cqs_plan.specs.Faults.{each, job_faults, jobs_faults, jobs_part_faults, listed_job_faults, number_faults, optional, part_place};
+ghost use Rattle.cqs_plan.specs.Meaning.{items_in, items_list, job_in, number_in};
+ghost use Rattle.cqs_plan.specs.Order.{AreInNameOrder};
+ghost use Rattle.cqs_plan.specs.Reading.{Reads};
+
+use super::members::{has_only, member};
+use super::names::new_name;
+use super::numbers::number;
+use super::place::Place;
+use super::steps::job_steps;
+use crate::plans::error::PlanError;
+use crate::plans::fault_kind::FaultKind;
+use crate::plans::job::Job;
+use crate::plans::resource::Resource;
+use crate::plans::step::Steps;
+use std::alloc::Global;
+use std::collections::BTreeSet;
+use toml::value::Array;
+use toml::{Table, Value};
+
+fn deadline(alloc: Global, job: usize, value: Option<&Value>) -> Result<Option<u32>, PlanError>
+    ensures faults { Reads result (optional (option_map (λ value. view value.now) value.entry) (number_faults (part_place job (codes "deadline")) 0 40000)) }
+    ensures value { IfOk result (λ deadline. deadline ≡ option_map (λ value. number_in (Some (view value.now))) value.entry) }
+{
+    let Some(value) = value else {
+        return Ok(None);
+    };
+    let place = Place::Part {
+        job,
+        key: "deadline",
+    };
+    Ok(Some(number(alloc, place, value, 0, 40_000)?))
+}
+
+/// The `index`-th job, whose name is then added to those that stand.
+fn job(
+    alloc: Global,
+    index: usize,
+    value: &Value,
+    resources: &[Resource],
+    names: &mut BTreeSet<String>,
+) -> Result<Job, PlanError>
+    requires order { AreInNameOrder resources.now }
+    requires few { length resources.now < 2 ^ 32 }
+    ensures faults { Reads result (job_faults resources.now (contains_text names.old) index (view value.now)) }
+    ensures value { IfOk result (λ job. job ≡ job_in resources.now (view value.now)) }
+    ensures added { IfOk result (λ job. (other : List ℕ) → contains_text names.new other ≡ (bytes_eq job.name other || contains_text names.old other)) }
+{
+    let place = Place::Job(index);
+    let Some(table) = value.as_table() else {
+        return Err(place.fault(alloc, FaultKind::Shape));
+    };
+    if !has_only(&["name", "steps", "deadline"], table) {
+        return Err(place.fault(alloc, FaultKind::Key));
+    }
+    let name_place = Place::Part {
+        job: index,
+        key: "name",
+    };
+    let name = new_name(alloc, name_place, member(table, "name"), names)?;
+    let deadline = deadline(alloc, index, member(table, "deadline"))?;
+    let steps = job_steps(alloc, index, member(table, "steps"), resources)?;
+    Ok(Job {
+        name,
+        steps: Steps::from(steps),
+        deadline,
+    })
+}
+
+/// The jobs that values say, each after those before it.
+fn each_job(alloc: Global, values: &Array, resources: &[Resource]) -> Result<Vec<Job>, PlanError>
+    requires order { AreInNameOrder resources.now }
+    requires few { length resources.now < 2 ^ 32 }
+    ensures faults { let all = map view values.now.items in Reads result (each all (listed_job_faults resources.now all)) }
+    ensures value { IfOk result (λ jobs. jobs.items ≡ map (job_in resources.now) (map view values.now.items)) }
+{
+    let mut names = BTreeSet::new(alloc);
+    let mut jobs = Vec::with_capacity(alloc, values.len())?;
+    for (index, value) in values.iter().enumerate() {
+        let read = job(alloc, index, value, resources, &mut names)?;
+        jobs.push(read)?;
+    }
+    Ok(jobs)
+}
+
+/// The jobs that an array says.
+fn listed_jobs(alloc: Global, values: &Array, resources: &[Resource]) -> Result<Vec<Job>, PlanError>
+    requires order { AreInNameOrder resources.now }
+    requires few { length resources.now < 2 ^ 32 }
+    ensures faults { Reads result (jobs_faults resources.now (items_list (array_view values.now))) }
+    ensures value { IfOk result (λ jobs. jobs.items ≡ map (job_in resources.now) (items_list (array_view values.now))) }
+{
+    if values.len() > 4096 {
+        return Err(Place::Word("job").fault(alloc, FaultKind::Many));
+    }
+    each_job(alloc, values, resources)
+}
+
+/// The jobs of a plan, in order.
+pub fn jobs(alloc: Global, root: &Table, resources: &[Resource]) -> Result<Vec<Job>, PlanError>
+    requires order { AreInNameOrder resources.now }
+    requires few { length resources.now < 2 ^ 32 }
+    ensures faults { Reads result (jobs_part_faults resources.now (get_member (codes "job") (table_view root.now))) }
+    ensures value { IfOk result (λ jobs. jobs.items ≡ map (job_in resources.now) (items_in (get_member (codes "job") (table_view root.now)))) }
+{
+    let Some(value) = member(root, "job") else {
+        return Ok(Vec::new(alloc));
+    };
+    match value.as_array() {
+        None => Err(Place::Word("job").fault(alloc, FaultKind::Shape)),
+        Some(values) => listed_jobs(alloc, values, resources),
+    }
+}

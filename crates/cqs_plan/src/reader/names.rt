@@ -1,0 +1,61 @@
+ghost use Rattle.std.specs.Prelude.{◌≡◌, ◌||◌, ℕ, List, IfOk, option_map};
+ghost use Rattle.std.specs.BTreeSet.{contains_text};
+ghost use Rattle.std.specs.List.{list_all};
+ghost use Rattle.std.specs.Str.{bytes_eq};
+ghost use Rattle.toml.specs.View.{view};
+ghost use Rattle.cqs_plan.specs.Faults.{name_faults, required};
+ghost use Rattle.cqs_plan.specs.Language.{is_name, is_name_byte};
+ghost use Rattle.cqs_plan.specs.Meaning.{text_in};
+ghost use Rattle.cqs_plan.specs.Places.{place_text};
+ghost use Rattle.cqs_plan.specs.Reading.{Reads};
+
+use super::place::Place;
+use crate::plans::error::PlanError;
+use crate::plans::fault_kind::FaultKind;
+use crate::plans::name::Name;
+use std::alloc::Global;
+use std::collections::BTreeSet;
+use toml::Value;
+
+fn is_name_byte(byte: u8) -> bool
+    ensures { result ≡ is_name_byte byte }
+{
+    byte.is_ascii_alphanumeric() || byte == b'_' || byte == b'-'
+}
+
+fn has_name_bytes(text: &[u8]) -> bool
+    ensures { result ≡ list_all is_name_byte text.now }
+{
+    text.iter().all(|byte| is_name_byte(*byte))
+}
+
+/// Whether a text may be the name of a resource or of a job.
+pub fn is_name(text: &str) -> bool
+    ensures { result ≡ is_name text.now }
+{
+    1 <= text.len() && text.len() <= 32 && has_name_bytes(text.as_bytes())
+}
+
+/// A name that doesn't stand already, which is then added to those that do.
+pub fn new_name(
+    alloc: Global,
+    place: Place<'_>,
+    value: Option<&Value>,
+    names: &mut BTreeSet<String>,
+) -> Result<Name, PlanError>
+    ensures faults { Reads result (required (place_text place.entry) (option_map (λ value. view value.now) value.entry) (name_faults (place_text place.entry) (contains_text names.old))) }
+    ensures value { IfOk result (λ name. name ≡ text_in (option_map (λ value. view value.now) value.entry)) }
+    ensures added { IfOk result (λ name. (other : List ℕ) → contains_text names.new other ≡ (bytes_eq name other || contains_text names.old other)) }
+{
+    let Some(value) = value else {
+        return Err(place.fault(alloc, FaultKind::Missing));
+    };
+    let Some(text) = value.as_str() else {
+        return Err(place.fault(alloc, FaultKind::Shape));
+    };
+    if !is_name(text) || names.contains(text) {
+        return Err(place.fault(alloc, FaultKind::Name));
+    }
+    names.insert(String::from_str(alloc, text)?)?;
+    Ok(Name::from(text.as_bytes().to_vec(alloc)?))
+}

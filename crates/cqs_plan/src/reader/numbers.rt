@@ -1,0 +1,49 @@
+ghost use Rattle.std.specs.Prelude.{◌≡◌, IfOk, option_map};
+ghost use Rattle.toml.specs.View.{view};
+ghost use Rattle.cqs_plan.specs.Faults.{number_faults, required};
+ghost use Rattle.cqs_plan.specs.Meaning.{number_in};
+ghost use Rattle.cqs_plan.specs.Places.{place_text};
+ghost use Rattle.cqs_plan.specs.Reading.{Reads};
+
+use super::place::Place;
+use crate::plans::error::PlanError;
+use crate::plans::fault_kind::FaultKind;
+use std::alloc::Global;
+use toml::Value;
+
+/// An integer from `least` to `most`.
+pub fn number(
+    alloc: Global,
+    place: Place<'_>,
+    value: &Value,
+    least: u32,
+    most: u32,
+) -> Result<u32, PlanError>
+    ensures faults { Reads result (number_faults (place_text place.entry) least most (view value.now)) }
+    ensures value { IfOk result (λ number. number ≡ number_in (Some (view value.now))) }
+{
+    match value.as_integer() {
+        None => Err(place.fault(alloc, FaultKind::Shape)),
+        Some(number) if i64::from(least) <= number && number <= i64::from(most) => Ok(
+            number as u32,
+        ),
+        Some(_) => Err(place.fault(alloc, FaultKind::Range)),
+    }
+}
+
+/// An integer that has to be there.
+pub fn required_number(
+    alloc: Global,
+    place: Place<'_>,
+    value: Option<&Value>,
+    least: u32,
+    most: u32,
+) -> Result<u32, PlanError>
+    ensures faults { Reads result (required (place_text place.entry) (option_map (λ value. view value.now) value.entry) (number_faults (place_text place.entry) least most)) }
+    ensures value { IfOk result (λ number. number ≡ number_in (option_map (λ value. view value.now) value.entry)) }
+{
+    match value {
+        None => Err(place.fault(alloc, FaultKind::Missing)),
+        Some(value) => number(alloc, place, value, least, most),
+    }
+}

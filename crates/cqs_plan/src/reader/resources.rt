@@ -1,0 +1,92 @@
+ghost use Rattle.std.specs.Prelude.{◌≡◌, ◌<◌, ◌≤◌, IfOk, OnOk, [], codes, map, vec_len};
+ghost use Rattle.toml.specs.Data.{get_member};
+ghost use Rattle.toml.specs.View.{view, table_view};
+ghost use Rattle.cqs_plan.specs.Faults.{each, resource_faults, resource_number_faults, resources_faults};
+ghost use Rattle.cqs_plan.specs.Language.{semaphores, resource_kinds};
+ghost use Rattle.cqs_plan.specs.Meaning.{members_list, number_in, resource_in, resources_in};
+ghost use Rattle.cqs_plan.specs.Order.{AreInNameOrder};
+ghost use Rattle.cqs_plan.specs.Reading.{Reads};
+
+use super::members::{has_only, member};
+use super::names::is_name;
+use super::numbers::required_number;
+use super::place::Place;
+use crate::plans::error::PlanError;
+use crate::plans::fault_kind::FaultKind;
+use crate::plans::kind::Kind;
+use crate::plans::name::Name;
+use crate::plans::resource::Resource;
+use std::alloc::Global;
+use toml::{Table, Value};
+
+/// The number of permits in the table of a semaphore.
+fn size(alloc: Global, name: &str, table: &Table) -> Result<u32, PlanError>
+    ensures faults { Reads result (resource_number_faults semaphores name.now (table_view table.now)) }
+    ensures value { IfOk result (λ size. size ≡ number_in (get_member (codes "size") (table_view table.now))) }
+{
+    let place = Place::Number {
+        kind: "semaphore",
+        name,
+        key: "size",
+    };
+    required_number(alloc, place, member(table, "size"), 1, 1_048_576)
+}
+
+/// A semaphore, from its name and its value, which is the `index`-th of the table.
+fn semaphore(alloc: Global, index: usize, name: &str, value: &Value) -> Result<Resource, PlanError>
+    ensures faults { Reads result (resource_faults semaphores [] index (name.now, view value.now)) }
+    ensures value { IfOk result (λ resource. resource ≡ resource_in semaphores (name.now, view value.now)) }
+    ensures few { OnOk result (index < 64) }
+{
+    if !is_name(name) {
+        return Err(Place::Word("semaphore").fault(alloc, FaultKind::Name));
+    }
+    let place = Place::Resource {
+        kind: "semaphore",
+        name,
+    };
+    let Some(table) = value.as_table() else {
+        return Err(place.fault(alloc, FaultKind::Shape));
+    };
+    if !has_only(&["size"], table) {
+        return Err(place.fault(alloc, FaultKind::Key));
+    }
+    if index >= 64 {
+        return Err(place.fault(alloc, FaultKind::Many));
+    }
+    let permits = size(alloc, name, table)?;
+    Ok(Resource {
+        name: Name::from(name.as_bytes().to_vec(alloc)?),
+        kind: Kind::Semaphore(permits),
+    })
+}
+
+fn semaphores(alloc: Global, table: &Table) -> Result<Vec<Resource>, PlanError>
+    ensures faults { Reads result (each (members_list (table_view table.now)) (resource_faults semaphores [])) }
+    ensures value { IfOk result (λ found. found.items ≡ map (resource_in semaphores) (members_list (table_view table.now))) }
+    ensures order { IfOk result (λ found. AreInNameOrder found.items) }
+    ensures few { IfOk result (λ found. vec_len found ≤ 64) }
+{
+    let mut found = Vec::with_capacity(alloc, table.len().min(64))?;
+    for (name, value) in table {
+        let resource = semaphore(alloc, found.len(), name.as_str(), value)?;
+        found.push(resource)?;
+    }
+    Ok(found)
+}
+
+/// The resources of a plan, in order.
+pub fn resources(alloc: Global, root: &Table) -> Result<Vec<Resource>, PlanError>
+    ensures faults { Reads result (resources_faults (table_view root.now)) }
+    ensures value { IfOk result (λ found. found.items ≡ resources_in resource_kinds (table_view root.now)) }
+    ensures order { IfOk result (λ found. AreInNameOrder found.items) }
+    ensures few { IfOk result (λ found. vec_len found ≤ 64) }
+{
+    let Some(value) = member(root, "semaphore") else {
+        return Ok(Vec::new(alloc));
+    };
+    match value.as_table() {
+        None => Err(Place::Word("semaphore").fault(alloc, FaultKind::Shape)),
+        Some(table) => semaphores(alloc, table),
+    }
+}

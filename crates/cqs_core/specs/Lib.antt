@@ -1,0 +1,14 @@
+pub mod Numbered
+pub mod Keyed
+pub mod QueueState
+pub mod QueueLine
+pub mod QueueMoves
+pub mod QueueSound
+pub mod QueueCover
+pub mod SemaphoreObject
+pub mod SemaphoreEntries
+pub mod SemaphoreTable
+pub mod SemaphoreAnswers
+pub mod SemaphoreShown
+pub mod SemaphoreRuns
+pub mod SemaphoreLaws

@@ -1,0 +1,30 @@
+-- How a call of the core answers, by what the table says of its event.
+use Rattle.std.specs.Prelude.{◌≡◌, ℕ, ◌+◌, ◌≤◌, Option, Some, None, Result, Ok, Err}
+use Rattle.cqs_core.specs.declared.errors.CoreError.{CoreError}
+use Rattle.cqs_core.specs.declared.errors.CoreError.TheVariants.{Memory, BadSize, NotEnabled}
+use Rattle.cqs_core.specs.declared.outcomes.Outcome.{Outcome}
+use Rattle.cqs_core.specs.SemaphoreTable.{Shape, Stepped}
+
+-- An allowed event is made, and one that isn't is refused; want of memory alone may refuse an allowed one.
+-- Every refusal leaves the core unchanged.
+abbrev pub Makes : Option Stepped → Result Outcome CoreError → Shape → Shape → Type 0
+Makes (Some row) (Ok o) old new = (o ≡ row.outcome) × (new ≡ row.shape)
+Makes (Some row) (Err Memory) old new = new ≡ old
+Makes (Some row) (Err BadSize) old new = ⊥
+Makes (Some row) (Err NotEnabled) old new = ⊥
+Makes None (Ok o) old new = ⊥
+Makes None (Err Memory) old new = new ≡ old
+Makes None (Err BadSize) old new = ⊥
+Makes None (Err NotEnabled) old new = new ≡ old
+
+-- a core, and for how many further entries and cells it has memory
+pub record Room : Type 0 where
+  pub shape : Shape
+  pub spare : ℕ
+
+-- an event with room for its entry and its cell is made where it is allowed, and takes at most one from the room
+abbrev pub MakesReady : Option Stepped → Option Outcome → Room → Room → Type 0
+MakesReady (Some row) (Some o) old new = (o ≡ row.outcome) × (new.shape ≡ row.shape) × (old.spare ≤ new.spare + 1)
+MakesReady None None old new = new ≡ old
+MakesReady (Some row) None old new = ⊥
+MakesReady None (Some o) old new = ⊥

@@ -1,0 +1,110 @@
+-- The entries of the fair semaphore: where each may come, and what it changes. A history is legal where each of its
+-- entries may come after those before it.
+use Rattle.std.specs.Prelude.{◌≡◌, ◌⊎◌, ℕ, ◌+◌, ◌-◌, ◌<◌, ◌==◌, nat_lt, true, false, List, [], ◌∷◌, ◌++◌, Option, Some, None, length, take, slice_get, if◌then◌else◌}
+use Rattle.std.specs.List.{fold}
+use Rattle.cqs_core.specs.declared.entries.Entry.{Entry}
+use Rattle.cqs_core.specs.declared.entries.Entry.TheVariants as entry
+use Rattle.cqs_core.specs.Numbered.{IsIn}
+use Rattle.cqs_core.specs.Keyed.{placed, without, changed}
+use Rattle.cqs_core.specs.QueueLine.{Waiting, Service}
+use Rattle.cqs_core.specs.SemaphoreObject.{Semaphore, opening, due}
+
+-- the caller of wait k is in this list
+abbrev pub Waits : ℕ → ℕ → List Waiting → Type 0
+Waits k c waits = IsIn (record { wait = k; pass = c }) waits
+
+-- wait k was served for c, and its permit hasn't been looked at
+abbrev pub IsServed : ℕ → ℕ → List Service → Type 0
+IsServed k c served = IsIn (record { wait = k; pass = c; is_open = true }) served
+
+-- where an entry may come
+abbrev pub IsAllowed : Semaphore → Entry → Type 0
+IsAllowed o (entry.TakeNow c) = 0 < o.free
+IsAllowed o (entry.TakeDoor c) = o.free ≡ 0
+IsAllowed o (entry.Enter c k) = IsIn c o.door × (k ≡ o.next)
+IsAllowed o (entry.TryGot c) = 0 < o.free
+IsAllowed o (entry.TryBusy c) = o.free ≡ 0
+IsAllowed o (entry.GiveFreed c) = (0 < o.held) × (o.way ≡ due o)
+IsAllowed o (entry.GiveSent c) = (0 < o.held) × (o.way < due o)
+IsAllowed o (entry.Deliver k) = (c : ℕ) × Waits k c (take o.way o.line)
+IsAllowed o (entry.Leave c k) = Waits k c o.line
+IsAllowed o (entry.Late c k) = IsServed k c o.served
+IsAllowed o (entry.LookGranted c k) = IsServed k c o.served
+IsAllowed o (entry.LookPending c k) = Waits k c o.line
+
+-- one permit goes from the free ones to a caller
+abbrev pub taken : Semaphore → Semaphore
+taken o = record o { free = o.free - 1; held = o.held + 1 }
+
+abbrev pub at_door : Semaphore → ℕ → Semaphore
+at_door o c = record o { door = placed (λ d. d) c o.door }
+
+abbrev pub entered : Semaphore → ℕ → ℕ → Semaphore
+entered o c k =
+    record o { door = without (λ d. d) c o.door; line = o.line ++ record { wait = k; pass = c } ∷ []; next = o.next + 1 }
+
+-- who waits under number k
+abbrev pub find_wait : ℕ → List Waiting → Option Waiting
+find_wait k [] = None
+find_wait k (w ∷ waits) = if k == w.wait then Some w else find_wait k waits
+
+abbrev pub with_service : Option Waiting → List Service → List Service
+with_service None served = served
+with_service (Some w) served = placed (λ s. s.wait) (record { wait = w.wait; pass = w.pass; is_open = true }) served
+
+-- a permit on its way reaches wait k
+abbrev pub delivered : Semaphore → ℕ → Semaphore
+delivered o k =
+    record o {
+      way = o.way - 1;
+      held = o.held + 1;
+      line = without (λ w. w.wait) k o.line;
+      served = with_service (find_wait k o.line) o.served;
+    }
+
+-- a permit on its way is free again, where more were on their way than wait
+abbrev pub turned_back : Semaphore → Semaphore
+turned_back o = if nat_lt (due o) o.way then record o { way = o.way - 1; free = o.free + 1 } else o
+
+abbrev pub left : Semaphore → ℕ → Semaphore
+left o k = turned_back (record o { line = without (λ w. w.wait) k o.line })
+
+-- the permit of wait k has been looked at
+abbrev pub closed : Semaphore → ℕ → Semaphore
+closed o k =
+    record o { served = changed (λ s. s.wait) k (λ s. record { wait = s.wait; pass = s.pass; is_open = false }) o.served }
+
+-- what an entry changes
+abbrev pub after_entry : Semaphore → Entry → Semaphore
+after_entry o (entry.TakeNow c) = taken o
+after_entry o (entry.TakeDoor c) = at_door o c
+after_entry o (entry.Enter c k) = entered o c k
+after_entry o (entry.TryGot c) = taken o
+after_entry o (entry.TryBusy c) = o
+after_entry o (entry.GiveFreed c) = record o { held = o.held - 1; free = o.free + 1 }
+after_entry o (entry.GiveSent c) = record o { held = o.held - 1; way = o.way + 1 }
+after_entry o (entry.Deliver k) = delivered o k
+after_entry o (entry.Leave c k) = left o k
+after_entry o (entry.Late c k) = closed o k
+after_entry o (entry.LookGranted c k) = closed o k
+after_entry o (entry.LookPending c k) = o
+
+-- the semaphore after a history
+abbrev pub object_after : ℕ → List Entry → Semaphore
+object_after permits history = fold after_entry (opening permits) history
+
+-- each entry may come after those before it
+pub record IsLegal (permits : ℕ) (history : List Entry) : Type 0 where
+  pub at : (n : ℕ) (e : Entry) → slice_get history n ≡ Some e → IsAllowed (object_after permits (take n history)) e
+
+-- The laws of the semaphore. No permit is lost; no more are on their way than wait; and none is free while some wait
+-- for whom none is on its way.
+pub record IsBalanced (permits : ℕ) (o : Semaphore) : Type 0 where
+  pub conserved : o.held + o.free + o.way ≡ permits
+  pub wanted : o.way < due o + 1
+  pub eager : (o.free ≡ 0) ⊎ (o.way ≡ due o)
+
+-- where one permit is on its way, it is delivered to the first of the line
+abbrev pub IsFirst : ℕ → List Waiting → Type 0
+IsFirst k [] = ⊥
+IsFirst k (w ∷ line) = w.wait ≡ k

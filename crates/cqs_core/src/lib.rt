@@ -1,0 +1,25 @@
+//! The fair semaphore as a plain object, and the runnable core of the cancellable queue, which shows it.
+#![tactic(auto)]
+
+mod calls;
+mod cells;
+mod doings;
+mod entries;
+mod errors;
+mod events;
+mod law;
+mod laws;
+mod outcomes;
+
+pub use calls::{Call, Reply};
+pub use cells::{CoreCell, CoreState};
+pub use doings::Doing;
+pub use entries::Entry;
+pub use errors::CoreError;
+pub use events::Event;
+pub use law::every_run_is_legal;
+pub use laws::{
+    one_permit_goes_to_the_first, permits_are_collected_once, permits_are_conserved,
+    service_is_in_order, waits_end_once,
+};
+pub use outcomes::Outcome;

@@ -1,0 +1,249 @@
+//! The plain fold that the program is measured against: the same plan language, with ordinary data and nothing proved.
+//!
+//! `plain plan` writes the plan at the limits, `plain run` runs it from memory and prints the nanoseconds of the run and a
+//! sum over the report's bytes, by which the two reports are compared.
+
+use std::collections::VecDeque;
+use std::fmt::Write as _;
+use std::io::Write as _;
+use std::time::Instant;
+
+const TURNS: u32 = 40_000;
+const JOBS: u32 = 4_096;
+const RESOURCES: u32 = 64;
+
+#[derive(Clone, Copy)]
+enum Step {
+    Take(usize),
+    Give(usize),
+    Work(u32),
+}
+
+struct Job {
+    name: String,
+    steps: Vec<Step>,
+    deadline: Option<u32>,
+}
+
+/// The plan at the limits: each resource is wanted by 64 jobs, every other job has a deadline, and most of the jobs wait
+/// through most of the turns.
+fn plan() -> (Vec<(String, u32)>, Vec<Job>) {
+    let resources = (0..RESOURCES).map(|r| (format!("r{r:02}"), 2)).collect();
+    let jobs = (0..JOBS)
+        .map(|j| {
+            let first = (j % RESOURCES) as usize;
+            let second = ((j / RESOURCES + j) % RESOURCES) as usize;
+            let mut steps = vec![Step::Work(1 + j % 7), Step::Take(first), Step::Work(400 + j % 600), Step::Give(first)];
+            if second != first {
+                steps.extend([Step::Take(second), Step::Work(1 + j % 90)]);
+            }
+            Job { name: format!("j{j}"), steps, deadline: (j % 2 == 1).then_some(1_000 + 9 * j) }
+        })
+        .collect();
+    (resources, jobs)
+}
+
+fn write_plan(resources: &[(String, u32)], jobs: &[Job]) -> String {
+    let mut text = format!("version = 1\nturns = {TURNS}\n");
+    for (name, size) in resources {
+        let _ = write!(text, "[semaphore.{name}]\nsize = {size}\n");
+    }
+    for job in jobs {
+        let steps: Vec<String> = job
+            .steps
+            .iter()
+            .map(|step| match step {
+                Step::Take(r) => format!("\"take {}\"", resources[*r].0),
+                Step::Give(r) => format!("\"give {}\"", resources[*r].0),
+                Step::Work(n) => format!("\"work {n}\""),
+            })
+            .collect();
+        let _ = write!(text, "[[job]]\nname = \"{}\"\nsteps = [{}]\n", job.name, steps.join(", "));
+        if let Some(deadline) = job.deadline {
+            let _ = writeln!(text, "deadline = {deadline}");
+        }
+    }
+    text
+}
+
+#[derive(Clone, Copy, PartialEq)]
+enum Wait {
+    InLine,
+    Served,
+    Gone,
+}
+
+struct Semaphore {
+    free: u32,
+    line: VecDeque<usize>,
+    waits: Vec<Wait>,
+    inside: usize,
+    ready: usize,
+}
+
+impl Semaphore {
+    fn take(&mut self) -> Option<usize> {
+        if self.free > 0 {
+            self.free -= 1;
+            return None;
+        }
+        self.waits.push(Wait::InLine);
+        self.line.push_back(self.waits.len() - 1);
+        self.inside += 1;
+        Some(self.waits.len() - 1)
+    }
+
+    fn give(&mut self) -> Option<usize> {
+        while let Some(wait) = self.line.pop_front() {
+            if self.waits[wait] == Wait::InLine {
+                self.waits[wait] = Wait::Served;
+                self.inside -= 1;
+                self.ready += 1;
+                return Some(wait);
+            }
+        }
+        self.free += 1;
+        None
+    }
+}
+
+#[derive(Clone, Copy)]
+enum Progress {
+    Ready(usize),
+    Working(usize, u32),
+    Waiting(usize, usize, usize),
+    Done,
+    GaveUp,
+    Late,
+}
+
+struct Run<'a> {
+    resources: &'a [(String, u32)],
+    semaphores: Vec<Semaphore>,
+    report: String,
+}
+
+impl Run<'_> {
+    fn give(&mut self, turn: u32, job: &Job, r: usize) {
+        let name = &self.resources[r].0;
+        let _ = match self.semaphores[r].give() {
+            None => writeln!(self.report, "{turn} {} gives {name} free", job.name),
+            Some(wait) => writeln!(self.report, "{turn} {} gives {name} sent {wait}", job.name),
+        };
+    }
+
+    fn give_all(&mut self, turn: u32, job: &Job, holds: &mut Vec<usize>) {
+        for r in holds.drain(..) {
+            self.give(turn, job, r);
+        }
+    }
+
+    fn turn(&mut self, turn: u32, job: &Job, progress: &mut Progress, holds: &mut Vec<usize>) {
+        let mut at = match *progress {
+            Progress::Ready(at) => at,
+            Progress::Working(_, until) if turn < until => return,
+            Progress::Working(at, _) => at + 1,
+            Progress::Waiting(at, r, wait) => {
+                let name = &self.resources[r].0;
+                let served = self.semaphores[r].waits[wait] == Wait::Served;
+                if job.deadline.is_some_and(|deadline| deadline <= turn) {
+                    if served {
+                        self.semaphores[r].ready -= 1;
+                        let _ = writeln!(self.report, "{turn} {} late {name} {wait}", job.name);
+                        holds.push(r);
+                        *progress = Progress::Late;
+                    } else {
+                        self.semaphores[r].waits[wait] = Wait::Gone;
+                        self.semaphores[r].inside -= 1;
+                        let _ = writeln!(self.report, "{turn} {} gaveup {name} {wait}", job.name);
+                        *progress = Progress::GaveUp;
+                    }
+                    self.give_all(turn, job, holds);
+                    return;
+                }
+                if !served {
+                    return;
+                }
+                self.semaphores[r].ready -= 1;
+                let _ = writeln!(self.report, "{turn} {} served {name} {wait}", job.name);
+                holds.push(r);
+                at + 1
+            }
+            Progress::Done | Progress::GaveUp | Progress::Late => return,
+        };
+        while let Some(step) = job.steps.get(at) {
+            match *step {
+                Step::Work(n) => {
+                    *progress = Progress::Working(at, turn + n);
+                    return;
+                }
+                Step::Take(r) => {
+                    let name = &self.resources[r].0;
+                    if let Some(wait) = self.semaphores[r].take() {
+                        let _ = writeln!(self.report, "{turn} {} waits {name} {wait}", job.name);
+                        *progress = Progress::Waiting(at, r, wait);
+                        return;
+                    }
+                    let _ = writeln!(self.report, "{turn} {} takes {name}", job.name);
+                    holds.push(r);
+                }
+                Step::Give(r) => {
+                    if let Some(place) = holds.iter().position(|held| *held == r) {
+                        holds.remove(place);
+                    }
+                    self.give(turn, job, r);
+                }
+            }
+            at += 1;
+        }
+        self.give_all(turn, job, holds);
+        let _ = writeln!(self.report, "{turn} {} done", job.name);
+        *progress = Progress::Done;
+    }
+}
+
+fn run(resources: &[(String, u32)], jobs: &[Job]) -> String {
+    let semaphores = resources
+        .iter()
+        .map(|(_, size)| Semaphore { free: *size, line: VecDeque::new(), waits: Vec::new(), inside: 0, ready: 0 })
+        .collect();
+    let mut run = Run { resources, semaphores, report: String::new() };
+    let mut progress = vec![Progress::Ready(0); jobs.len()];
+    let mut holds: Vec<Vec<usize>> = vec![Vec::new(); jobs.len()];
+    for turn in 0..TURNS {
+        for (i, job) in jobs.iter().enumerate() {
+            run.turn(turn, job, &mut progress[i], &mut holds[i]);
+        }
+    }
+    for (r, (name, _)) in resources.iter().enumerate() {
+        let held = holds.iter().flatten().filter(|held| **held == r).count() + run.semaphores[r].ready;
+        let (free, line) = (run.semaphores[r].free, run.semaphores[r].inside);
+        let _ = writeln!(run.report, "end {name} free {free} held {held} line {line}");
+    }
+    let count = |test: fn(&Progress) -> bool| progress.iter().filter(|p| test(p)).count();
+    let done = count(|p| matches!(p, Progress::Done));
+    let gaveup = count(|p| matches!(p, Progress::GaveUp));
+    let late = count(|p| matches!(p, Progress::Late));
+    let unfinished = jobs.len() - done - gaveup - late;
+    let _ = writeln!(run.report, "total done {done} gaveup {gaveup} late {late} unfinished {unfinished}");
+    run.report
+}
+
+fn main() {
+    let (resources, jobs) = plan();
+    match std::env::args().nth(1).as_deref() {
+        Some("plan") => print!("{}", write_plan(&resources, &jobs)),
+        Some("report") => print!("{}", run(&resources, &jobs)),
+        Some("run") => {
+            let start = Instant::now();
+            let report = run(&resources, &jobs);
+            let nanoseconds = start.elapsed().as_nanos();
+            let sum: u64 = report.bytes().fold(0, |sum, byte| sum.wrapping_mul(31).wrapping_add(u64::from(byte)));
+            let _ = writeln!(std::io::stdout(), "run {nanoseconds} bytes {} sum {sum}", report.len());
+        }
+        _ => {
+            let _ = writeln!(std::io::stderr(), "usage: plain plan | plain report | plain run");
+            std::process::exit(2);
+        }
+    }
+}

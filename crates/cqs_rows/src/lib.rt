@@ -1,4 +1,4 @@
-//! Tests that run the program over streams in memory. Their expected values were worked out by hand.
+//! Worked examples and other tests that cross crates. Their expected values were worked out by hand.
 #![tactic(auto)]
 
 #[cfg(test)]
@@ -7,3 +7,5 @@ mod calls;
 mod empty_plan;
 #[cfg(test)]
 mod faulty_input_and_output;
+#[cfg(test)]
+mod packed_words;

@@ -18,8 +18,6 @@ mod head;
 mod layout;
 mod segment;
 mod state;
-#[cfg(test)]
-mod tests;
 
 pub use cell::{CellState, CellWord};
 pub use head::{HeadTag, HeadWord};

@@ -3,7 +3,7 @@ ghost use Rattle.cqs_words.specs.State.{StateFits};
 ghost use Rattle.cqs_words.specs.Head.{HeadFits};
 ghost use Rattle.cqs_words.specs.Segment.{TailFits, LinkFits};
 
-use crate::{CellState, CellWord, HeadTag, HeadWord, LinkWord, StateWord, TailWord};
+use cqs_words::{CellState, CellWord, HeadTag, HeadWord, LinkWord, StateWord, TailWord};
 use std::process::Abort;
 
 fn cell_is(rt: &impl Abort, index: u64, state: CellState, payload: u32, number: u64)

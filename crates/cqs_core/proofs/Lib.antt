@@ -53,3 +53,4 @@ pub mod CallsKeep
 pub mod CallsEnd
 pub mod Quiet
 pub mod SoleResume
+pub mod SoleLine

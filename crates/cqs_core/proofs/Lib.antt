@@ -54,3 +54,6 @@ pub mod CallsEnd
 pub mod Quiet
 pub mod SoleResume
 pub mod SoleLine
+pub mod SoleStart
+pub mod SoleAcquire
+pub mod SoleRelease

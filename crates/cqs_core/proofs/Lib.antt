@@ -19,6 +19,9 @@ pub mod CoverSteps
 pub mod CoveredPlain
 pub mod CoveredCancel
 pub mod CoveredCounters
+pub mod CoveredTurn
+pub mod CoveredDraw
+pub mod CoveredReach
 pub mod CoveredMoved
 pub mod Rising
 pub mod Distinct
@@ -38,7 +41,7 @@ pub mod HiddenMoves
 pub mod DrawMoves
 pub mod DeliveryMoves
 pub mod LineMoves
-pub mod History
+pub mod HistoryPush
 pub mod RowsKeep
 pub mod CoreFrame
 pub mod CoreSteps
@@ -46,6 +49,8 @@ pub mod RowsTake
 pub mod RowsSuspend
 pub mod RowsResume
 pub mod RowsCancel
+pub mod RowsDecide
+pub mod RowsLook
 pub mod StepKeeps
 pub mod CoreFacts
 pub mod OpenedCore

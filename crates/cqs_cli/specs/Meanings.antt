@@ -1,0 +1,47 @@
+-- What the statuses of the program mean.
+use Rattle.std.specs.Prelude.{◌≡◌, ℕ, ◌⊎◌, List, [], ◌∷◌, Option, Contains}
+use Rattle.cqs_plan.specs.Stream.{Gains, GainsFront}
+use Rattle.cqs_cli.specs.Input.{IsInput}
+use Rattle.cqs_cli.specs.Plans.{IsFaultLine, IsReport}
+use Rattle.cqs_cli.specs.Words.{IsCommand, IsRun, usage}
+use Rattle.cqs_cli.specs.declared.ending.TheConstants.{DONE, NO_COMMAND, NO_MEMORY, NO_PLAN, SINK_FAILED, SOURCE_FAILED, TOO_LONG}
+
+-- the input was a plan, and the sink took its whole report
+pub record Reported (left after held now : Option (List ℕ)) : Type 0 where
+  pub bytes : List ℕ
+  pub input : IsInput bytes left after
+  pub text : List ℕ
+  pub report : IsReport bytes text
+  pub written : Gains text held now
+
+-- the input was no plan, and the sink took the whole line that says why
+pub record NamedFault (left after held now : Option (List ℕ)) : Type 0 where
+  pub bytes : List ℕ
+  pub input : IsInput bytes left after
+  pub line : List ℕ
+  pub fault : IsFaultLine bytes line
+  pub written : Gains line held now
+
+-- the text that an input calls for
+abbrev pub IsAnswer : List ℕ → List ℕ → Type 0
+IsAnswer bytes text = IsReport bytes text ⊎ IsFaultLine bytes text
+
+-- the text that the words and the input call for
+abbrev pub IsDue : List (List ℕ) → Option (List ℕ) → Option (List ℕ) → List ℕ → Type 0
+IsDue words left after text =
+    ((¬ IsCommand words) × (text ≡ usage))
+    ⊎ (IsRun words × ((bytes : List ℕ) × IsInput bytes left after × IsAnswer bytes text))
+
+-- the sink took a front of the text that the words and the input call for
+pub record BrokeOff (words : List (List ℕ)) (left after held now : Option (List ℕ)) : Type 0 where
+  pub text : List ℕ
+  pub due : IsDue words left after text
+  pub front : GainsFront text held now
+
+-- the statuses that there are
+abbrev pub IsStatus : ℕ → Type 0
+IsStatus = Contains (DONE ∷ NO_COMMAND ∷ NO_PLAN ∷ SOURCE_FAILED ∷ SINK_FAILED ∷ NO_MEMORY ∷ TOO_LONG ∷ [])
+
+-- the status that must come, unless there was no memory
+abbrev pub MustEnd : ℕ → ℕ → Type 0
+MustEnd status result = (result ≡ status) ⊎ (result ≡ NO_MEMORY)

@@ -1,0 +1,19 @@
+//! The program `cqs` as a library: its commands over any source and sink.
+//!
+//! `top` judges first and tells after. `judge` reads the words and the source and knows no sink;
+//! `tell` knows the sink alone, and writes a text that was made whole before. What each status means
+//! stands on `top`. The real streams are in `standard`, the trusted edge.
+#![tactic(auto)]
+
+mod ending;
+mod judging;
+mod plans;
+mod standard;
+mod telling;
+mod top_call;
+mod verdict;
+mod words;
+
+pub use ending::{DONE, NO_COMMAND, NO_MEMORY, NO_PLAN, SINK_FAILED, SOURCE_FAILED, TOO_LONG};
+pub use standard::{StdinSource, StdoutSink, words_after_name};
+pub use top_call::top;

@@ -1,0 +1,81 @@
+ghost use Rattle.std.specs.Prelude.{◌≡◌, ◌≢◌, ℕ, ◌+◌, ◌<◌, ◌≤◌, List, length, map, string_bytes, IsTrue, Some};
+ghost use Rattle.cqs_plan.specs.Stream.{Gains, GivesCount, Rises};
+ghost use Rattle.cqs_cli.specs.Meanings.{BrokeOff, IsStatus, MustEnd, NamedFault, Reported};
+ghost use Rattle.cqs_cli.specs.Plans.{IsPlan};
+ghost use Rattle.cqs_cli.specs.Words.{IsCommand, IsRun, usage};
+
+use crate::ending::{DONE, NO_COMMAND, NO_MEMORY, NO_PLAN, SINK_FAILED, SOURCE_FAILED, TOO_LONG};
+use crate::judging::judge;
+use crate::telling::tell;
+use cqs_plan::{LONGEST_INPUT, Sink, Source};
+use std::alloc::Global;
+
+/// One call of the program: does what the words say and gives the status that the process ends with.
+///
+/// The first clauses say what each status means, each by itself. The last four say which status must
+/// come where no fault does. What they say of content holds where the source and the sink tell it.
+pub fn top<S: Source, K: Sink>(alloc: Global, words: &[String], source: &mut S, sink: &mut K) -> u8
+    // The input was a plan, and its whole report was written and flushed.
+    ensures done { result ≡ DONE → IsRun (map string_bytes words.now)
+        × Reported (S.left source.old) (S.left source.new) (K.held sink.old) (K.held sink.new)
+        × IsTrue (K.is_flushed sink.new) }
+
+    // The words are no command, nothing was read, and the usage text was written and flushed.
+    ensures no_command { result ≡ NO_COMMAND → (¬ IsCommand (map string_bytes words.now))
+        × (source.new ≡ source.old)
+        × Gains usage (K.held sink.old) (K.held sink.new)
+        × IsTrue (K.is_flushed sink.new) }
+
+    // The input was no plan, and the line that says why was written and flushed.
+    ensures no_plan { result ≡ NO_PLAN → IsRun (map string_bytes words.now)
+        × NamedFault (S.left source.old) (S.left source.new) (K.held sink.old) (K.held sink.new)
+        × IsTrue (K.is_flushed sink.new) }
+
+    // The source failed, and nothing was written.
+    ensures source_failed { result ≡ SOURCE_FAILED → IsRun (map string_bytes words.now)
+        × Rises (S.faults source.old) (S.faults source.new)
+        × (sink.new ≡ sink.old) }
+
+    // The sink failed, after a front of the text that was to be written.
+    ensures sink_failed { result ≡ SINK_FAILED →
+        Rises (K.faults sink.old) (K.faults sink.new)
+        × BrokeOff (map string_bytes words.now) (S.left source.old) (S.left source.new) (K.held sink.old) (K.held sink.new) }
+
+    // Memory was wanting, and nothing was written.
+    ensures no_memory { result ≡ NO_MEMORY → IsRun (map string_bytes words.now) × (sink.new ≡ sink.old) }
+
+    // One byte more than an input may have was read, and nothing was written.
+    ensures too_long { result ≡ TOO_LONG → IsRun (map string_bytes words.now)
+        × GivesCount (LONGEST_INPUT + 1) (S.left source.old) (S.left source.new)
+        × (sink.new ≡ sink.old) }
+
+    // There is no other status, and a fault is never hidden behind one.
+    ensures statuses { IsStatus result }
+    ensures source_calm { result ≢ SOURCE_FAILED → S.faults source.new ≡ S.faults source.old }
+    ensures sink_calm { result ≢ SINK_FAILED → K.faults sink.new ≡ K.faults sink.old }
+
+    // Words that are no command are always answered by the usage text.
+    ensures wrong_words { ¬ IsCommand (map string_bytes words.now)
+        → ¬ Rises (K.faults sink.old) (K.faults sink.new) → result ≡ NO_COMMAND }
+
+    // An input that is no plan is always answered by the line that says why.
+    ensures wrong_input { IsRun (map string_bytes words.now) → (bytes : List ℕ) → S.left source.old ≡ Some bytes
+        → length bytes ≤ LONGEST_INPUT → ¬ IsPlan bytes
+        → ¬ Rises (S.faults source.old) (S.faults source.new) → ¬ Rises (K.faults sink.old) (K.faults sink.new)
+        → MustEnd NO_PLAN result }
+
+    // An input that is too long is always refused.
+    ensures long_input { IsRun (map string_bytes words.now) → (bytes : List ℕ) → S.left source.old ≡ Some bytes
+        → LONGEST_INPUT < length bytes
+        → ¬ Rises (S.faults source.old) (S.faults source.new)
+        → MustEnd TOO_LONG result }
+
+    // An input that is a plan is always answered by its report.
+    ensures complete { IsRun (map string_bytes words.now) → (bytes : List ℕ) → S.left source.old ≡ Some bytes
+        → length bytes ≤ LONGEST_INPUT → IsPlan bytes
+        → ¬ Rises (S.faults source.old) (S.faults source.new) → ¬ Rises (K.faults sink.old) (K.faults sink.new)
+        → MustEnd DONE result }
+{
+    let verdict = judge(alloc, words, source);
+    tell(sink, &verdict).status()
+}

@@ -1,0 +1,16 @@
+/// What a call of the program comes to, before anything is written.
+#[derive(Drop)]
+pub enum Verdict {
+    /// The words are no command. The usage text is to be written.
+    NoCommand,
+    /// The input is a plan with this report.
+    Report(Vec<u8>),
+    /// The input is no plan, and this line says what is wrong with it.
+    BadPlan(Vec<u8>),
+    /// The source failed. Nothing is to be written.
+    SourceFailed,
+    /// There was no memory. Nothing is to be written.
+    NoMemory,
+    /// The input is too long. Nothing is to be written.
+    TooLong,
+}

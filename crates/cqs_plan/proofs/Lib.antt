@@ -1,0 +1,3 @@
+pub mod FirstPlanLemmas
+pub mod Loops
+pub mod StreamLemmas

@@ -1,0 +1,4 @@
+pub mod FirstPlan
+pub mod InMemory
+pub mod Script
+pub mod Stream

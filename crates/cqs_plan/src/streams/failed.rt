@@ -1,0 +1,3 @@
+/// A stream could not read or write. What went wrong is the stream's own affair; it has counted it.
+#[derive(Clone, Copy, Debug, PartialEq, Eq)]
+pub struct Failed;

@@ -1,0 +1,57 @@
+use crate::{Failed, Memory, Source};
+use std::alloc::Global;
+use std::marker::Model;
+
+/// Bytes in memory as a source that never fails. Each read gives at most `chunk` of them.
+#[derive(Drop)]
+pub struct SureSource {
+    bytes: Vec<u8>,
+    place: usize,
+    chunk: u32,
+}
+
+impl Model for SureSource {
+    ghost use Rattle.std.specs.Prelude.{◌≤◌, drop, vec_len};
+    ghost use Rattle.cqs_plan.specs.InMemory.{PlainSource};
+
+    ghost Value = { PlainSource };
+
+    ghost view = { λ source. record { left = drop source.place source.bytes.items; chunk = source.chunk } };
+
+    ghost invariant = { λ source. (source.place ≤ vec_len source.bytes) × (1 ≤ source.chunk) };
+}
+
+impl SureSource {
+    ghost use Rattle.std.specs.Prelude.{◌≡◌, ◌≤◌, IfOk};
+
+    /// A source of a copy of these bytes.
+    pub fn new(alloc: Global, bytes: &[u8], chunk: u32) -> Result<SureSource, Memory>
+        requires { 1 ≤ chunk }
+        ensures { IfOk result (λ source. source ≡ record { left = bytes.now; chunk = chunk }) }
+    {
+        Ok(SureSource {
+            bytes: Vec::from_slice(alloc, bytes)?,
+            place: 0,
+            chunk,
+        })
+    }
+}
+
+impl Source for SureSource {
+    ghost use Rattle.std.specs.Prelude.{Some};
+    ghost use Rattle.cqs_plan.specs.InMemory.{ReadsSurely};
+
+    ghost left = { λ source. Some source.left };
+
+    ghost faults = { λ _. 0 };
+
+    ghost reads = { ReadsSurely };
+
+    fn read(&mut self, buffer: &mut [u8]) -> Result<usize, Failed> {
+        let left = self.bytes.len() - self.place;
+        let count = buffer.len().min(self.chunk as usize).min(left);
+        buffer[..count].copy_from_slice(&self.bytes[self.place..self.place + count]);
+        self.place += count;
+        Ok(count)
+    }
+}

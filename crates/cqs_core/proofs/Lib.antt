@@ -18,7 +18,6 @@ pub mod FirstOfWay
 pub mod CoverSteps
 pub mod CoveredPlain
 pub mod CoveredCancel
-pub mod CoveredCounters
 pub mod CoveredTurn
 pub mod CoveredDraw
 pub mod CoveredReach

@@ -54,6 +54,11 @@ pub mod StepKeeps
 pub mod CoreFacts
 pub mod OpenedCore
 pub mod CallsKeep
-pub mod CallsEnd
 pub mod Quiet
 pub mod SoleResume
+pub mod SoleLine
+pub mod SoleStart
+pub mod SoleAcquire
+pub mod SoleRelease
+pub mod SoleWait
+pub mod SoleCalls

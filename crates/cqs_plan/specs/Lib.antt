@@ -6,3 +6,4 @@ pub mod Places
 pub mod Reading
 pub mod Order
 pub mod Validity
+pub mod FaultLine

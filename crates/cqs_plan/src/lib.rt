@@ -4,9 +4,11 @@
 //! number of turns. `plans` has the types, one a file.
 #![tactic(auto)]
 
+mod lines;
 mod plans;
 mod reader;
 
+pub use lines::fault_line;
 pub use plans::error::PlanError;
 pub use plans::fault_kind::FaultKind;
 pub use plans::job::{Job, Jobs};

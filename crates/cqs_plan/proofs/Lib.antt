@@ -8,3 +8,6 @@ mod FirstFaults
 mod MeaningLemmas
 mod ValidNumbers
 mod ValidSteps
+mod ValidJobs
+mod ValidPlans
+mod OneAnswer

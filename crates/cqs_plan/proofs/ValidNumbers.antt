@@ -36,7 +36,7 @@ in_range : (least most : ℕ) (z : ℤ) → (int_le (pos least) z && int_le z (p
 in_range least most (pos n) within =
     let parts = and_parts (int_le (pos least) (pos n)) (int_le (pos n) (pos most)) within in
     (leb-true least n parts.0, leb-true n most parts.1)
-in_range least most (negsuc n) within = absurd (false≢true (and_parts (int_le (pos least) (negsuc n)) _ within).0)
+in_range least most (negsuc n) within = absurd (false≢true within)
 
 pub number-valid : (place : List ℕ) (least most : ℕ) (d : Data) → number_faults place least most d ≡ []
     → IsInRange least most (number_in (Some d))

@@ -13,3 +13,4 @@ pub mod Places
 pub mod Reading
 pub mod Order
 pub mod Validity
+pub mod FaultLine

@@ -1,9 +1,11 @@
 -- Which bytes are a plan, and the first fault of a document that is none.
-use Rattle.std.specs.Prelude.{◌≡◌, ℕ, List, [], Some, IsUtf8, slice_get}
+use Rattle.std.specs.Prelude.{◌≡◌, ℕ, List, [], Some, IsUtf8, slice_get, ◌⊎◌, Result, Err}
 use Rattle.toml.specs.Data.{Members}
 use Rattle.toml.specs.Parse.{parse_document}
 use Rattle.cqs_plan.specs.declared.plans.plan.Plan.{Plan}
 use Rattle.cqs_plan.specs.declared.plans.fault_kind.FaultKind.{FaultKind}
+use Rattle.cqs_plan.specs.declared.plans.error.PlanError.{PlanError}
+use Rattle.cqs_plan.specs.declared.plans.error.PlanError.TheVariants.{Memory}
 use Rattle.cqs_plan.specs.Faults.{faults_in}
 use Rattle.cqs_plan.specs.Meaning.{plan_in}
 
@@ -27,3 +29,7 @@ pub record IsFirstFault (bytes place : List ℕ) (kind : FaultKind) : Type 0 whe
   pub root : Members
   pub toml : IsToml bytes root
   pub first : slice_get (faults_in root) 0 ≡ Some (record { place = place; kind = kind })
+
+-- this is the answer, unless memory ran out
+abbrev pub IsOrMemory : Result Plan PlanError → Result Plan PlanError → Type 0
+IsOrMemory result answer = (result ≡ answer) ⊎ (result ≡ Err Memory)

@@ -10,6 +10,7 @@
 #![tactic(auto)]
 
 mod floors;
+mod lines;
 mod plans;
 mod reader;
 mod streams;
@@ -17,6 +18,7 @@ mod streams;
 pub use cqs_core::Memory;
 pub use floors::answers::{FloorEnd, FloorGive, FloorLeave, FloorLook, FloorTake};
 pub use floors::floor::Floor;
+pub use lines::fault_line;
 pub use plans::error::PlanError;
 pub use plans::fault_kind::FaultKind;
 pub use plans::job::{Job, Jobs};

@@ -8,8 +8,10 @@ ghost use Rattle.toml.specs.View.{table_view};
 ghost use Rattle.cqs_plan.specs.Faults.{faults_in};
 ghost use Rattle.cqs_plan.specs.Meaning.{plan_in};
 ghost use Rattle.cqs_plan.specs.Order.{AreInNameOrder};
-ghost use Rattle.cqs_plan.specs.PlanText.{IsFirstFault, IsNoToml, IsPlanText};
+ghost use Rattle.cqs_plan.specs.declared.plans.plan.Plan.{Plan};
+ghost use Rattle.cqs_plan.specs.PlanText.{IsFirstFault, IsNoToml, IsOrMemory, IsPlanText};
 ghost use Rattle.cqs_plan.specs.Reading.{Reads};
+ghost use Rattle.cqs_plan.specs.Validity.{IsValid};
 
 pub mod jobs;
 pub mod members;
@@ -58,9 +60,9 @@ fn plan_from(alloc: Global, root: &Table) -> Result<Plan, PlanError>
     })
 }
 
-/// Reads a plan.
-pub fn read_plan(alloc: Global, bytes: &[u8]) -> Result<Plan, PlanError>
+fn read(alloc: Global, bytes: &[u8]) -> Result<Plan, PlanError>
     ensures plan { IfOk result (IsPlanText bytes.now) }
+    ensures order { IfOk result (λ plan. AreInNameOrder plan.resources) }
     ensures not_toml { result ≡ Err PlanError.NotToml → IsNoToml bytes.now }
     ensures fault { (place : List ℕ) (kind : FaultKind) → result ≡ Err (PlanError.Fault place kind) → IsFirstFault bytes.now place kind }
 {
@@ -69,4 +71,19 @@ pub fn read_plan(alloc: Global, bytes: &[u8]) -> Result<Plan, PlanError>
         Err(error) if error.is_memory() => Err(PlanError::Memory),
         Err(_) => Err(PlanError::NotToml),
     }
+}
+
+/// Reads a plan.
+pub fn read_plan(alloc: Global, bytes: &[u8]) -> Result<Plan, PlanError>
+    ensures plan { IfOk result (IsPlanText bytes.now) }
+    ensures valid { IfOk result IsValid }
+    ensures not_toml { result ≡ Err PlanError.NotToml → IsNoToml bytes.now }
+    ensures fault { (place : List ℕ) (kind : FaultKind) → result ≡ Err (PlanError.Fault place kind) → IsFirstFault bytes.now place kind }
+
+    // Each answer comes where its cause is there, unless memory runs out.
+    ensures of_plan { (plan : Plan) → IsPlanText bytes.now plan → IsOrMemory result (Ok plan) }
+    ensures of_no_toml { IsNoToml bytes.now → IsOrMemory result (Err PlanError.NotToml) }
+    ensures of_fault { (place : List ℕ) (kind : FaultKind) → IsFirstFault bytes.now place kind → IsOrMemory result (Err (PlanError.Fault place kind)) }
+{
+    read(alloc, bytes)
 }

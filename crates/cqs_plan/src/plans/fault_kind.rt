@@ -1,3 +1,5 @@
+ghost use Rattle.std.specs.Prelude.{◌≡◌};
+
 /// What is wrong at one place of a plan.
 #[derive(Clone, Copy, Debug, PartialEq, Eq)]
 pub enum FaultKind {
@@ -19,4 +21,25 @@ pub enum FaultKind {
     Unheld,
     /// There are too many of them.
     Many,
+}
+
+impl FaultKind {
+    ghost use Rattle.cqs_plan.specs.FaultLine.{word_of};
+
+    /// The word by which a fault line names this kind.
+    pub fn word(self) -> &'static str
+        ensures { result.now ≡ word_of self }
+    {
+        match self {
+            FaultKind::Key => "key",
+            FaultKind::Missing => "missing",
+            FaultKind::Shape => "shape",
+            FaultKind::Range => "range",
+            FaultKind::Name => "name",
+            FaultKind::Step => "step",
+            FaultKind::Target => "target",
+            FaultKind::Unheld => "unheld",
+            FaultKind::Many => "many",
+        }
+    }
 }

@@ -5,3 +5,4 @@ pub mod Moved
 pub mod Readied
 pub mod GivingBack
 pub mod Stepping
+pub mod Turned

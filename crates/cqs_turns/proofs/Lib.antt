@@ -6,3 +6,5 @@ pub mod Readied
 pub mod GivingBack
 pub mod Stepping
 pub mod Turned
+pub mod Opened
+pub mod RunningLemmas

@@ -5,3 +5,6 @@ pub mod Moved
 pub mod Readied
 pub mod GivingBack
 pub mod Stepping
+pub mod Turned
+pub mod Opened
+pub mod RunningLemmas

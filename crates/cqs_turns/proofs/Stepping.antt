@@ -48,7 +48,7 @@ wait_after : Option Progress → Option JobWait
 wait_after stops = option_map_or wait_in stops None
 
 -- a job that made a step is ready for the rest
-made-ready : (r : Role) (next : ℕ) (step : Step) (rest : List Step) (s : Scene)
+pub made-ready : (r : Role) (next : ℕ) (step : Step) (rest : List Step) (s : Scene)
   → IsReady s.floor r.place None (step ∷ rest)
   → IsReady (made r next step s).scene.floor r.place (option_map_or wait_in (made r next step s).stops None) rest
 made-ready r next (Work turns) rest s ready =
@@ -68,7 +68,7 @@ made-ready r next (Arrive at) rest s ready = absurd ready.makeable
 fewer-takes : (at : ℕ) (step : Step) (rest : List Step) → count_by (is_take at) rest ≤ count_by (is_take at) (step ∷ rest)
 fewer-takes at step rest = omega (arith, takes-cons at step rest)
 
-made-moves : (r : Role) (next : ℕ) (step : Step) (rest : List Step) (s : Scene) → HasRoom s.floor (step ∷ rest)
+pub made-moves : (r : Role) (next : ℕ) (step : Step) (rest : List Step) (s : Scene) → HasRoom s.floor (step ∷ rest)
   → Moves r.place s.floor (step ∷ rest) (made r next step s).scene.floor rest
 made-moves r next (Work turns) rest s room =
     moves-fewer r.place s.floor (Work turns ∷ rest) rest (λ at. fewer-takes at (Work turns) rest)

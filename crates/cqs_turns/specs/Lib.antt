@@ -4,3 +4,4 @@ pub mod Report
 pub mod Ready
 pub mod Roles
 pub mod States
+pub mod Running

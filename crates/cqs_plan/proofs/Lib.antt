@@ -11,3 +11,4 @@ mod ValidSteps
 mod ValidJobs
 mod ValidPlans
 mod OneAnswer
+pub mod RunnablePlans

@@ -9,6 +9,7 @@ use Rattle.cqs_plan.specs.declared.plans.fault_kind.FaultKind.{FaultKind}
 use Rattle.cqs_plan.specs.declared.plans.fault_kind.FaultKind.TheVariants as fault
 use Rattle.cqs_plan.specs.declared.plans.step.Step.{Step}
 use Rattle.cqs_plan.specs.declared.plans.step.Step.TheVariants.{Take, Give, Down, Await, Arrive, Work}
+use Rattle.cqs_plan.specs.PlanSteps.{is_take, is_give}
 use Rattle.cqs_plan.specs.Language.{is_name, Number, ResourceKind, resource_kinds}
 use Rattle.cqs_plan.specs.Meaning.{items_list, members_list, members_in, items_in, resources_in, step_of, steps_in, job_name}
 
@@ -82,14 +83,6 @@ abbrev pub resources_faults : Members → List Fault
 resources_faults root = each resource_kinds (λ i kind. optional (get_member kind.key root) (λ value.
     shaped kind.key (as_table value) (λ table.
     each (members_list table) (resource_faults kind (names_in (take i resource_kinds) root)))))
-
-abbrev pub is_take : ℕ → Step → Bool
-is_take place (Take p) = p == place
-is_take place _ = false
-
-abbrev pub is_give : ℕ → Step → Bool
-is_give place (Give p) = p == place
-is_give place _ = false
 
 -- a `give` has an earlier `take` of its own
 abbrev pub is_held : List Step → Step → Bool

@@ -1,5 +1,5 @@
 -- What running a plan rests on: its steps name resources that are there, and give what was taken before.
-use Rattle.std.specs.Prelude.{ℕ, ◌<◌, ◌≤◌, List, take, length, count_by, map, slice_get}
+use Rattle.std.specs.Prelude.{ℕ, ◌<◌, ◌≤◌, List, take, length, count_by, map, Some, slice_get}
 use Rattle.cqs_core.specs.Numbered.{EachAt}
 use Rattle.cqs_plan.specs.declared.plans.kind.Kind.{Kind}
 use Rattle.cqs_plan.specs.declared.plans.resource.Resource.{Resource}
@@ -35,3 +35,7 @@ pub record IsRunnable (plan : Plan) : Type 0 where
   -- each resource is of a kind that is built
   pub kinds : EachAt (λ at resource. IsHoldable (slice_get (kinds_of plan.resources) at)) plan.resources
   pub steps : EachAt (λ place job. AreMakeable (kinds_of plan.resources) job.steps) plan.jobs
+
+-- the plan's resources are semaphores, the kind that is built
+abbrev pub HasSemaphoresAlone : Plan → Type 0
+HasSemaphoresAlone plan = EachAt (λ at resource. IsHoldable (Some resource.kind)) plan.resources

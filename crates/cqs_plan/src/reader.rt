@@ -10,6 +10,7 @@ ghost use Rattle.cqs_plan.specs.Meaning.{plan_in};
 ghost use Rattle.cqs_plan.specs.Order.{AreInNameOrder};
 ghost use Rattle.cqs_plan.specs.declared.plans.plan.Plan.{Plan};
 ghost use Rattle.cqs_plan.specs.PlanText.{IsFirstFault, IsNoToml, IsOrMemory, IsPlanText};
+ghost use Rattle.cqs_plan.specs.Runnable.{HasSemaphoresAlone, IsRunnable};
 ghost use Rattle.cqs_plan.specs.Reading.{Reads};
 ghost use Rattle.cqs_plan.specs.Validity.{IsValid};
 
@@ -77,6 +78,8 @@ fn read(alloc: Global, bytes: &[u8]) -> Result<Plan, PlanError>
 pub fn read_plan(alloc: Global, bytes: &[u8]) -> Result<Plan, PlanError>
     ensures plan { IfOk result (IsPlanText bytes.now) }
     ensures valid { IfOk result IsValid }
+    ensures runnable { IfOk result IsRunnable }
+    ensures built { IfOk result HasSemaphoresAlone }
     ensures not_toml { result ≡ Err PlanError.NotToml → IsNoToml bytes.now }
     ensures fault { (place : List ℕ) (kind : FaultKind) → result ≡ Err (PlanError.Fault place kind) → IsFirstFault bytes.now place kind }
 

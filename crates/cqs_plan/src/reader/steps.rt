@@ -2,7 +2,8 @@ ghost use Rattle.std.specs.Prelude.{◌≡◌, ◌<◌, ◌^◌, codes, length, 
 ghost use Rattle.std.specs.Char.{is_ascii_digit};
 ghost use Rattle.std.specs.List.{list_all};
 ghost use Rattle.toml.specs.View.{array_view, view};
-ghost use Rattle.cqs_plan.specs.Faults.{each, is_give, is_held, is_take, job_step_faults, part_place, step_faults, steps_faults, steps_part_faults};
+ghost use Rattle.cqs_plan.specs.PlanSteps.{is_give, is_take};
+ghost use Rattle.cqs_plan.specs.Faults.{each, is_held, job_step_faults, part_place, step_faults, steps_faults, steps_part_faults};
 ghost use Rattle.cqs_plan.specs.Meaning.{has_one_space, is_decimal, items_in, items_list, step_in, step_of, steps_in, verb_step, work_step};
 ghost use Rattle.cqs_plan.specs.Order.{AreInNameOrder};
 ghost use Rattle.cqs_plan.specs.Places.{place_text};

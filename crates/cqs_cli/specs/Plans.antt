@@ -1,23 +1,29 @@
 -- What is written for an input: the report of a plan, or the line that says what is wrong with it.
 use Rattle.std.specs.Prelude.{◌≡◌, ℕ, ◌⊎◌, List, codes}
-use Rattle.cqs_plan.specs.declared.first_plan.FirstPlan.{FirstPlan}
-use Rattle.cqs_plan.specs.FirstPlan.{IsFirstPlan, IsNoToml, IsOtherToml}
+use Rattle.cqs_plan.specs.declared.plans.fault_kind.FaultKind.{FaultKind}
+use Rattle.cqs_plan.specs.declared.plans.plan.Plan.{Plan}
+use Rattle.cqs_plan.specs.FaultLine.{line_of}
+use Rattle.cqs_plan.specs.PlanText.{IsFirstFault, IsNoToml, IsPlanText}
+use Rattle.cqs_turns.specs.Report.{report}
 
 -- the bytes are a plan
 abbrev pub IsPlan : List ℕ → Type 0
-IsPlan bytes = (plan : FirstPlan) × IsFirstPlan bytes plan
+IsPlan bytes = (plan : Plan) × IsPlanText bytes plan
 
--- the report of a plan with nothing to do
-abbrev pub empty_report : List ℕ
-empty_report = codes "total done 0 gaveup 0 late 0 unfinished 0\n"
-
--- the bytes are a plan, and the text is its report
+-- the bytes are a plan, and the text is the report of the turn machine on it
 pub record IsReport (bytes text : List ℕ) : Type 0 where
-  pub plan : IsPlan bytes
-  pub report : text ≡ empty_report
+  pub plan : Plan
+  pub says : IsPlanText bytes plan
+  pub reported : text ≡ report plan
 
--- the bytes are no plan, and the text says why
+-- the bytes are a document that is no plan, and the line names its first fault
+pub record NamesFault (bytes line : List ℕ) : Type 0 where
+  pub place : List ℕ
+  pub kind : FaultKind
+  pub first : IsFirstFault bytes place kind
+  pub named : line ≡ line_of place kind
+
+-- the bytes are no plan, and the line says why
 abbrev pub IsFaultLine : List ℕ → List ℕ → Type 0
-IsFaultLine bytes text =
-    (IsNoToml bytes × (text ≡ codes "bad plan: not a TOML document\n"))
-    ⊎ (IsOtherToml bytes × (text ≡ codes "bad plan: not a first plan\n"))
+IsFaultLine bytes line =
+    (IsNoToml bytes × (line ≡ codes "bad plan: not a TOML document\n")) ⊎ NamesFault bytes line

@@ -1,9 +1,14 @@
 ghost use Rattle.std.specs.Prelude.{◌≡◌, IfOk};
+ghost use Rattle.cqs_plan.specs.Runnable.{HasSemaphoresAlone, IsRunnable};
+ghost use Rattle.cqs_turns.specs.Report.{report};
 ghost use Rattle.cqs_cli.specs.Verdicts.{IsVerdictOn};
 
+use crate::floors::core_floor::CoreFloor;
 use crate::verdict::Verdict;
-use cqs_plan::{FirstPlanError, read_first_plan};
-use std::alloc::{AllocError, Global};
+use cqs_core::Memory;
+use cqs_plan::{Plan, PlanError, fault_line, read_plan};
+use cqs_turns::{Report, run_plan};
+use std::alloc::Global;
 
 /// Reads an input as a plan, and makes its report or the line that says what is wrong with it.
 pub fn judge_input(alloc: Global, bytes: &[u8]) -> Verdict
@@ -15,28 +20,30 @@ pub fn judge_input(alloc: Global, bytes: &[u8]) -> Verdict
     }
 }
 
-fn answer(alloc: Global, bytes: &[u8]) -> Result<Verdict, AllocError>
+fn answer(alloc: Global, bytes: &[u8]) -> Result<Verdict, Memory>
     ensures { IfOk result (IsVerdictOn bytes.now) }
 {
-    match read_first_plan(alloc, bytes) {
-        Ok(_) => {
-            let report = text(alloc, "total done 0 gaveup 0 late 0 unfinished 0\n")?;
-            Ok(Verdict::Report(report))
+    match read_plan(alloc, bytes) {
+        Ok(plan) => Ok(Verdict::Report(report_of(alloc, &plan)?)),
+        Err(PlanError::NotToml) => Ok(Verdict::BadPlan(Vec::from_slice(
+            alloc,
+            b"bad plan: not a TOML document\n",
+        )?)),
+        Err(PlanError::Fault { place, kind }) => {
+            Ok(Verdict::BadPlan(fault_line(alloc, &place, kind)?))
         }
-        Err(FirstPlanError::NotToml) => {
-            let line = text(alloc, "bad plan: not a TOML document\n")?;
-            Ok(Verdict::BadPlan(line))
-        }
-        Err(FirstPlanError::Unread) => {
-            let line = text(alloc, "bad plan: not a first plan\n")?;
-            Ok(Verdict::BadPlan(line))
-        }
-        Err(FirstPlanError::Memory) => Ok(Verdict::NoMemory),
+        Err(PlanError::Memory) => Ok(Verdict::NoMemory),
     }
 }
 
-fn text(alloc: Global, words: &str) -> Result<Vec<u8>, AllocError>
-    ensures { IfOk result (λ text. text.items ≡ words.now) }
+/// The report of a plan, over a floor on one core for each semaphore.
+fn report_of(alloc: Global, plan: &Plan) -> Result<Vec<u8>, Memory>
+    requires runnable { IsRunnable plan.now }
+    requires built { HasSemaphoresAlone plan.now }
+    ensures { IfOk result (λ text. text.items ≡ report plan.now) }
 {
-    Vec::from_slice(alloc, words.as_bytes())
+    let mut floor = CoreFloor::new(alloc, plan)?;
+    let mut told = Report::new(alloc);
+    run_plan(alloc, plan, &mut floor, &mut told)?;
+    Ok(told.into_text())
 }

@@ -24,7 +24,7 @@ same_plan bytes one other first second =
     first.says ∙ ap plan_in (same_root bytes first.root second.root first.toml second.toml) ∙ sym second.says
 
 -- a document without a fault has no first fault
-faultless : (bytes : List ℕ) (plan : Plan) (place : List ℕ) (kind : FaultKind) → IsPlanText bytes plan → IsFirstFault bytes place kind → ⊥
+pub faultless : (bytes : List ℕ) (plan : Plan) (place : List ℕ) (kind : FaultKind) → IsPlanText bytes plan → IsFirstFault bytes place kind → ⊥
 faultless bytes plan place kind text fault =
     let root : fault.root ≡ text.root = same_root bytes fault.root text.root fault.toml text.toml in
     let none : slice_get (faults_in fault.root) 0 ≡ None = rw (root, text.faultless) in

@@ -1,13 +1,13 @@
 //! The runnable core: every core that is made and changed here shows a fair semaphore.
 
-ghost use Rattle.std.specs.Prelude.{◌≡◌, ◌+◌, ◌≤◌, Err, IfOk, IfSome, OnOk, OnErr, slice_get};
+ghost use Rattle.std.specs.Prelude.{◌≡◌, ◌+◌, ◌≤◌, Err, IfNone, IfOk, IfSome, OnOk, OnErr, slice_get};
 ghost use Rattle.cqs_core.specs.SemaphoreAnswers.{Makes, MakesReady, Opens};
 ghost use Rattle.cqs_core.specs.SemaphoreCalls.{MakesCall, MakesCallReady, course};
 ghost use Rattle.cqs_core.specs.SemaphoreEntries.{object_after, IsBalanced, IsLegal};
 ghost use Rattle.cqs_core.specs.SemaphoreShown.{Shows, shown};
 ghost use Rattle.cqs_core.specs.SemaphoreTable.{step};
 ghost use Rattle.cqs_core.specs.Resting.{IsResting};
-ghost use Rattle.cqs_core.specs.SoleCaller.{IsSoleCall};
+ghost use Rattle.cqs_core.specs.SoleCaller.{IsSoleCall, IsSoleRefusal};
 
 use std::alloc::Global;
 use std::marker::Model;
@@ -112,6 +112,7 @@ impl Core {
         requires room { 3 ≤ self.old.spare }
         ensures made { MakesCallReady (course self.old.shape call) result self.old self.new }
         ensures sole { IfSome result (λ answer. IsSoleCall self.old.shape call answer self.new.shape) }
+        ensures refused { IfNone result (IsSoleRefusal self.old.shape call) }
     {
         self.table.run_ready(call)
     }

@@ -62,3 +62,4 @@ pub mod SoleAcquire
 pub mod SoleRelease
 pub mod SoleWait
 pub mod SoleCalls
+pub mod WaitCells

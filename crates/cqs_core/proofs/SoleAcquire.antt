@@ -1,5 +1,5 @@
 -- A sole caller acquires, or tries to: a free permit is taken; else a number is drawn, whose cell is a new one.
-use Rattle.std.proofs.Common.{◌≡◌, ℕ, ◌+◌, ◌<◌, ◌≤◌, Bool, true, false, nat_lt, pos, List, [], ◌∷◌, ◌++◌, Option, Some, None, length, slice_get, set, refl, ap, sym, ◌∙◌, subst, arith}
+use Rattle.std.proofs.Common.{◌≡◌, ◌≢◌, ◌⊎◌, inl, inr, ℕ, ◌+◌, ◌<◌, ◌≤◌, Bool, true, false, nat_lt, pos, List, [], ◌∷◌, ◌++◌, Option, Some, None, length, slice_get, set, refl, ap, sym, ◌∙◌, subst, arith}
 use Rattle.std.specs.Prelude.{int_lt, int_le, if◌then◌else◌}
 use Rattle.std.specs.Option.{option_and_then}
 use Rattle.std.proofs.lemmas.Bool.{lt-ltb}
@@ -13,13 +13,15 @@ use Rattle.cqs_core.specs.declared.entries.Entry.TheVariants as entry
 use Rattle.cqs_core.specs.declared.events.Event.TheVariants as event
 use Rattle.cqs_core.specs.declared.outcomes.Outcome.TheVariants as outcome
 use Rattle.cqs_core.specs.QueueMoves as move
+use Rattle.cqs_core.specs.QueueMoves.{at_state}
 use Rattle.cqs_core.specs.Resting.{IsResting}
 use Rattle.cqs_core.specs.SemaphoreCalls.{Course, replied, course, first, onward, suspends_at, swaps_at, after_take, after_draw, after_install, after_load, after_swap}
 use Rattle.cqs_core.specs.SemaphoreTable.{Shape, Stepped, step, take_row, try_load_row, gains, takes, records, moves, answers, lowest, last_number}
-use Rattle.cqs_core.specs.SoleCaller.{IsSoleCall}
-use Rattle.cqs_core.proofs.Places.{get-set_here, get-past, get-push_at}
+use Rattle.cqs_core.specs.SoleCaller.{IsSoleCall, MayCall, NoneTaken}
+use Rattle.cqs_core.proofs.EachAtLemmas.{EachAt-write, EachAt-push}
+use Rattle.cqs_core.proofs.Places.{get-set_here, get-below, get-past, get-push_at}
 use Rattle.cqs_core.proofs.Quiet.{IsQuiet}
-use Rattle.cqs_core.proofs.SoleStart.{IsSoleCourse, sole-along, idle-again, write-twice, write-thrice, two-entries, some-free, none-free, none-free_le, some-free_le, same-state}
+use Rattle.cqs_core.proofs.SoleStart.{IsSoleCourse, sole-along, idle-again, write-twice, write-thrice, two-entries, some-free, none-free, none-free_le, some-free_le, same-state, short-few, short-many, cases_idle, pass-there}
 
 -- the cell that a suspend makes for its pass
 abbrev drawn_cell : ℕ → CoreCell
@@ -56,12 +58,33 @@ suspends-new s p door below made =
 abbrev at_door : Shape → ℕ → Shape
 at_door s p = records (moves (takes s) (move.turn p doing.Idle doing.Door)) (entry.TakeDoor p)
 
+may-acquire : (s : Shape) (p : ℕ) → IsQuiet s → slice_get s.queue.doing p ≡ Some doing.Idle
+    → int_lt lowest s.state ≡ true → MayCall s (call.Acquire p)
+may-acquire s p quiet does low =
+    let few = short-few s.state low in
+    let waits = quiet.waits in
+    (get-below s.queue.doing p doing.Idle does, omega arith)
+
+-- the new cell isn't one that was taken
+untaken-new : (s : Shape) (p : ℕ) → length s.queue.cells ≡ s.queue.suspends → NoneTaken s → NoneTaken (installed s p)
+untaken-new s p made none =
+    EachAt-write (λ k c. c.state ≢ state.Taken) (λ k c. c.state ≢ state.Taken) (drawn s p).queue.cells s.queue.suspends
+        (drawn_cell p) (at_state (drawn_cell p) state.Waiter)
+        (get-push_at s.queue.cells (drawn_cell p) s.queue.suspends (sym made)) (λ e. absurd (cc))
+        (λ k x got other is. is)
+        (EachAt-push (λ k c. c.state ≢ state.Taken) (λ k c. c.state ≢ state.Taken) s.queue.cells (drawn_cell p)
+            (λ e. absurd (cc)) (λ k x got is. is) none)
+
 sole-later : (s : Shape) (p : ℕ) → IsResting s → IsQuiet s → slice_get s.queue.doing p ≡ Some doing.Idle
-    → int_lt (pos 0) s.state ≡ false → IsSoleCourse s (call.Acquire p) (suspends_at p (at_door s p))
-sole-later s p rests quiet does none =
+    → int_lt lowest s.state ≡ true → int_lt (pos 0) s.state ≡ false → IsSoleCourse s (call.Acquire p) (suspends_at p (at_door s p))
+sole-later s p rests quiet does low none =
     sole-along s (call.Acquire p) _ _
         (suspends-new (at_door s p) p (get-set_here s.queue.doing p doing.Idle doing.Door does) rests.numbers quiet.made)
         (record {
+          held = refl;
+          permits = refl;
+          allowed = may-acquire s p quiet does low;
+          untaken = untaken-new (at_door s p) p quiet.made;
           appended = two-entries s.history _ _ ∙ rw (none-free s.state none) refl;
           replied = rw (none-free s.state none) refl;
           idle = rw (write-thrice s.queue.doing p doing.Door (doing.Drawn s.queue.suspends) doing.Idle)
@@ -77,19 +100,32 @@ sole-take : (s : Shape) (p : ℕ) → IsResting s → IsQuiet s → slice_get s.
                  else answers (at_door s p) outcome.Door)
              else None)
             (after_take p))
-sole-take s p rests quiet does false some low_is some_is = tt
+sole-take s p rests quiet does false some low_is some_is =
+    λ untaken may. let many = short-many s.state low_is in
+        let waits = quiet.waits in absurd (let few = may.1 in omega arith)
 sole-take s p rests quiet does true true low_is some_is = record {
+  held = refl;
+  permits = refl;
+  allowed = may-acquire s p quiet does low_is;
+  untaken = λ untaken. untaken;
   appended = rw (some-free s.state some_is) refl;
   replied = rw (some-free s.state some_is) refl;
   idle = rests.idle;
 }
-sole-take s p rests quiet does true false low_is some_is = sole-later s p rests quiet does some_is
+sole-take s p rests quiet does true false low_is some_is = sole-later s p rests quiet does low_is some_is
 
-pub sole-acquire : (s : Shape) (p : ℕ) → IsResting s → IsQuiet s → (does : Option Doing) → slice_get s.queue.doing p ≡ does
-    → IsSoleCourse s (call.Acquire p) (first (take_row s p does) (after_take p))
-sole-acquire s p rests quiet (Some doing.Idle) does =
-    sole-take s p rests quiet does (int_lt lowest s.state) (int_lt (pos 0) s.state) refl refl
-sole-acquire s p rests quiet _ does = tt
+pub sole-acquire : (s : Shape) (p : ℕ) → IsResting s → IsQuiet s
+    → IsSoleCourse s (call.Acquire p) (first (take_row s p (slice_get s.queue.doing p)) (after_take p))
+sole-acquire s p rests quiet = go (cases_idle s.queue.doing p rests.idle)
+  where
+    go : (slice_get s.queue.doing p ≡ None) ⊎ (slice_get s.queue.doing p ≡ Some doing.Idle)
+        → IsSoleCourse s (call.Acquire p) (first (take_row s p (slice_get s.queue.doing p)) (after_take p))
+    go (inl none) =
+        sole-along s (call.Acquire p) _ _ (ap (λ o. first (take_row s p o) (after_take p)) none)
+            (λ untaken may. pass-there s.queue.doing p none may.0)
+    go (inr does) =
+        sole-along s (call.Acquire p) _ _ (ap (λ o. first (take_row s p o) (after_take p)) does)
+            (sole-take s p rests quiet does (int_lt lowest s.state) (int_lt (pos 0) s.state) refl refl)
 
 -- a core whose pass has loaded the state
 abbrev loaded : Shape → ℕ → Shape
@@ -100,6 +136,10 @@ sole-got : (s : Shape) (p : ℕ) → IsResting s → slice_get s.queue.doing p �
 sole-got s p rests does some =
     sole-along s (call.Try p) _ _ (ap (λ row. onward row after_swap) swaps)
         (record {
+          held = refl;
+          permits = refl;
+          allowed = get-below s.queue.doing p doing.Idle does;
+          untaken = λ untaken. untaken;
           appended = rw (some-free_le s.state some) refl;
           replied = rw (some-free_le s.state some) refl;
           idle = rw (write-twice s.queue.doing p (doing.TryAt s.state) doing.Idle)
@@ -122,13 +162,25 @@ sole-load : (s : Shape) (p : ℕ) → IsResting s → slice_get s.queue.doing p 
              else answers (loaded s p) (outcome.Loaded s.state))
             (after_load p))
 sole-load s p rests does true none_is = record {
+  held = refl;
+  permits = refl;
+  allowed = get-below s.queue.doing p doing.Idle does;
+  untaken = λ untaken. untaken;
   appended = rw (none-free_le s.state none_is) refl;
   replied = rw (none-free_le s.state none_is) refl;
   idle = rests.idle;
 }
 sole-load s p rests does false none_is = sole-got s p rests does none_is
 
-pub sole-try : (s : Shape) (p : ℕ) → IsResting s → (does : Option Doing) → slice_get s.queue.doing p ≡ does
-    → IsSoleCourse s (call.Try p) (first (try_load_row s p does) (after_load p))
-sole-try s p rests (Some doing.Idle) does = sole-load s p rests does (int_le s.state (pos 0)) refl
-sole-try s p rests _ does = tt
+pub sole-try : (s : Shape) (p : ℕ) → IsResting s
+    → IsSoleCourse s (call.Try p) (first (try_load_row s p (slice_get s.queue.doing p)) (after_load p))
+sole-try s p rests = go (cases_idle s.queue.doing p rests.idle)
+  where
+    go : (slice_get s.queue.doing p ≡ None) ⊎ (slice_get s.queue.doing p ≡ Some doing.Idle)
+        → IsSoleCourse s (call.Try p) (first (try_load_row s p (slice_get s.queue.doing p)) (after_load p))
+    go (inl none) =
+        sole-along s (call.Try p) _ _ (ap (λ o. first (try_load_row s p o) (after_load p)) none)
+            (λ untaken may. pass-there s.queue.doing p none may)
+    go (inr does) =
+        sole-along s (call.Try p) _ _ (ap (λ o. first (try_load_row s p o) (after_load p)) does)
+            (sole-load s p rests does (int_le s.state (pos 0)) refl)

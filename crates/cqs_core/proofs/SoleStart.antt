@@ -14,13 +14,14 @@ use Rattle.cqs_core.specs.declared.entries.Entry.{Entry}
 use Rattle.cqs_core.specs.Resting.{IsIdle}
 use Rattle.cqs_core.specs.SemaphoreCalls.{Course, refused, replied, stuck}
 use Rattle.cqs_core.specs.SemaphoreShown.{free_of, short_of}
-use Rattle.cqs_core.specs.SemaphoreTable.{Shape}
-use Rattle.cqs_core.specs.SoleCaller.{IsSoleCall}
+use Rattle.cqs_core.specs.SemaphoreTable.{Shape, lowest}
+use Rattle.cqs_core.specs.SoleCaller.{IsSoleCall, IsSoleRefusal}
 use Rattle.cqs_core.proofs.EachAtLemmas.{EachAt-write}
+use Rattle.cqs_core.proofs.Places.{get-there}
 
 -- what a call of a sole caller comes to: where it is allowed it replies, and is what the plain semaphore does at once
 abbrev pub IsSoleCourse : Shape → Call → Course → Type 0
-IsSoleCourse s c refused = Unit {0}
+IsSoleCourse s c refused = IsSoleRefusal s c
 IsSoleCourse s c (replied new answer) = IsSoleCall s c answer new
 IsSoleCourse s c stuck = ⊥
 
@@ -65,3 +66,22 @@ none-short z above = grind (arith, ints)
 
 pub same-state : (z : ℤ) → int_eq z z ≡ true
 same-state z = (Decides-int_eq z z).1 refl
+
+pub short-few : (z : ℤ) → int_lt lowest z ≡ true → short_of z < 4294967295
+short-few z above = grind (arith, ints)
+
+pub short-many : (z : ℤ) → int_lt lowest z ≡ false → 4294967295 ≤ short_of z
+short-many z below = grind (arith, ints)
+
+-- where every pass is idle, a pass is idle or isn't there
+pub cases_idle : (passes : List Doing) (p : ℕ) → IsIdle passes
+    → (slice_get passes p ≡ None) ⊎ (slice_get passes p ≡ Some doing.Idle)
+cases_idle passes p idle = go (slice_get passes p) refl
+  where
+    go : (does : Option Doing) → slice_get passes p ≡ does → (does ≡ None) ⊎ (does ≡ Some doing.Idle)
+    go None is = inl refl
+    go (Some d) is = inr (ap Some (idle.at p d is))
+
+-- a pass that isn't there
+pub pass-there : (passes : List Doing) (p : ℕ) → slice_get passes p ≡ None → ¬ (p < length passes)
+pass-there passes p none below = let there = get-there passes p below in absurd (cc (none, there.1))

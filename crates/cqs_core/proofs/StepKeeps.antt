@@ -139,7 +139,7 @@ uncollected-true : (b : Bool) → (if b then false else true) ≡ true → b ≡
 uncollected-true true e = absurd (cc)
 uncollected-true false e = refl
 
-owns-from : (p : ℕ) (cell : CoreCell) → is_with p cell ≡ true → Owns p cell
+pub owns-from : (p : ℕ) (cell : CoreCell) → is_with p cell ≡ true → Owns p cell
 owns-from p cell e =
     let both = and_parts (is_owner p cell.owner) (if cell.collected then false else true) e in
     record { owner = owner-true p cell.owner both.0; uncollected = uncollected-true cell.collected both.1 }

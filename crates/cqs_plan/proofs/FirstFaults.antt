@@ -6,7 +6,7 @@ use Rattle.std.specs.List.{flat_map, enumerate_from}
 use Rattle.cqs_plan.specs.declared.plans.error.PlanError.{PlanError}
 use Rattle.cqs_plan.specs.declared.plans.error.PlanError.TheVariants as stop
 use Rattle.cqs_plan.specs.declared.plans.fault_kind.FaultKind.TheVariants as fault
-use Rattle.cqs_plan.specs.Faults.{Fault, fault_at, unless}
+use Rattle.cqs_plan.specs.FaultRules.{Fault, fault_at, unless}
 use Rattle.cqs_plan.specs.Reading.{StopsAt}
 
 -- the faults of these values, the first of which stands at place n

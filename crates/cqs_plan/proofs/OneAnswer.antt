@@ -6,7 +6,8 @@ use Rattle.cqs_plan.specs.declared.plans.error.PlanError.{PlanError}
 use Rattle.cqs_plan.specs.declared.plans.error.PlanError.TheVariants.{Memory, NotToml, Fault}
 use Rattle.cqs_plan.specs.declared.plans.fault_kind.FaultKind.{FaultKind}
 use Rattle.cqs_plan.specs.declared.plans.plan.Plan.{Plan}
-use Rattle.cqs_plan.specs.Faults.{Fault as FaultRecord, faults_in}
+use Rattle.cqs_plan.specs.FaultRules.{Fault as FaultRecord}
+use Rattle.cqs_plan.specs.Faults.{faults_in}
 use Rattle.cqs_plan.specs.Meaning.{plan_in}
 use Rattle.cqs_plan.specs.PlanText.{IsToml, IsNoToml, IsPlanText, IsFirstFault, IsOrMemory}
 

@@ -13,7 +13,10 @@ use Rattle.cqs_plan.specs.declared.plans.resource.Resource.{Resource}
 use Rattle.cqs_plan.specs.declared.plans.step.Step.{Step}
 use Rattle.cqs_plan.specs.declared.plans.step.Step.TheVariants.{Give}
 use Rattle.cqs_plan.specs.Language.{is_name}
-use Rattle.cqs_plan.specs.Faults.{Fault, unless, required, optional, indexed, has_only, job_keys, job_place, part_place, number_faults, name_faults, is_held, is_give, is_take, is_named, read_step_faults, step_faults, steps_faults, steps_part_faults, job_step_faults, job_faults}
+use Rattle.cqs_plan.specs.FaultRules.{Fault, has_only, optional, required, unless}
+use Rattle.cqs_plan.specs.Faults.{is_named, job_faults, job_keys, job_step_faults, name_faults, number_faults, read_step_faults, step_faults, steps_faults, steps_part_faults}
+use Rattle.cqs_plan.specs.Holding.{is_give, is_held, is_take}
+use Rattle.cqs_plan.specs.Places.{indexed, job_place, part_place}
 use Rattle.cqs_plan.specs.Meaning.{items_in, items_list, text_in, job_in, job_name, number_in, step_in, step_of, steps_in}
 use Rattle.cqs_plan.specs.Validity.{IsStep, IsJob, GivesWhatItTook}
 use Rattle.cqs_plan.proofs.ValidNumbers.{no_faults, unless-passed, required-there, shaped-right, number-valid, each-faultless}

@@ -6,7 +6,8 @@ use Rattle.std.specs.List.{flat_map, enumerate_from}
 use Rattle.std.proofs.lemmas.Bool.{and_parts, false≢true, leb-true}
 use Rattle.toml.specs.Data.{Data, as_integer}
 use Rattle.cqs_plan.specs.declared.plans.fault_kind.FaultKind.{FaultKind}
-use Rattle.cqs_plan.specs.Faults.{Fault, fault_at, unless, required, optional, shaped, number_faults}
+use Rattle.cqs_plan.specs.FaultRules.{Fault, fault_at, optional, required, shaped, unless}
+use Rattle.cqs_plan.specs.Faults.{number_faults}
 use Rattle.cqs_plan.specs.Meaning.{count_in, number_in}
 use Rattle.cqs_plan.proofs.FirstFaults.{faults_from}
 

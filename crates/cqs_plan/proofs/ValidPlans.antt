@@ -17,9 +17,11 @@ use Rattle.cqs_plan.specs.declared.plans.plan.Plan.{Plan}
 use Rattle.cqs_plan.specs.declared.plans.resource.Resource.{Resource}
 use Rattle.cqs_plan.specs.declared.plans.fault_kind.FaultKind.TheVariants as fault
 use Rattle.cqs_plan.specs.Language.{is_name, resource_kinds, semaphores}
-use Rattle.cqs_plan.specs.Faults.{Fault, unless, required, optional, shaped, dotted, each, has_only, root_keys, number_faults, resource_number_faults, resource_faults, resources_faults, is_named, jobs_faults, jobs_part_faults, listed_job_faults, faults_in}
+use Rattle.cqs_plan.specs.FaultRules.{Fault, each, has_only, optional, required, shaped, unless}
+use Rattle.cqs_plan.specs.Faults.{faults_in, is_named, jobs_faults, jobs_part_faults, listed_job_faults, number_faults, resource_faults, resource_number_faults, resources_faults, root_keys}
+use Rattle.cqs_plan.specs.Places.{dotted}
 use Rattle.cqs_plan.specs.Meaning.{items_in, items_list, members_in, members_list, job_in, job_name, number_in, plan_in, resource_in, resources_in}
-use Rattle.cqs_plan.specs.Order.{AreInOrder, AreInNameOrder, IsBelow, rank}
+use Rattle.cqs_plan.specs.Order.{AreInOrder, AreSearchable, IsBelow, rank}
 use Rattle.cqs_plan.specs.PlanText.{IsPlanText}
 use Rattle.cqs_plan.specs.Validity.{IsJob, IsResource, IsValid}
 use Rattle.cqs_plan.proofs.FirstFaults.{faults_from}
@@ -95,7 +97,7 @@ semaphore_rank : (members : List (List ℕ × Data)) (i : ℕ) (d : Resource) �
 semaphore_rank members i d below = rw (get_or-map (resource_in semaphores) members i no_member d below)
 
 -- semaphores in order of their names are in order
-in_order : (members : List (List ℕ × Data)) → AreInNameOrder (map (resource_in semaphores) members) → AreInOrder (map (resource_in semaphores) members)
+in_order : (members : List (List ℕ × Data)) → AreSearchable (map (resource_in semaphores) members) → AreInOrder (map (resource_in semaphores) members)
 in_order members order =
     let as_many : length (map (resource_in semaphores) members) ≡ length members = length-map members (resource_in semaphores) in record {
       order = λ i j d less below.
@@ -154,7 +156,7 @@ distinct-names resources values jobs = λ i j d less below.
     rw (one, other, ← get_or-take j values i nothing less) differs
 
 -- the plan of a document without a fault, whose resources stand in order of their names
-pub plan-valid : (root : Members) → faults_in root ≡ [] → AreInNameOrder (plan_in root).resources → IsValid (plan_in root)
+pub plan-valid : (root : Members) → faults_in root ≡ [] → AreSearchable (plan_in root).resources → IsValid (plan_in root)
 plan-valid root none order =
     let resources = resources_in resource_kinds root in
     let members = members_in (get_member (codes "semaphore") root) in
@@ -179,8 +181,8 @@ plan-valid root none order =
 
 -- and so is the plan that was read of a text
 pub read-valid : (bytes : List ℕ) (result : Result Plan PlanError) → IfOk result (IsPlanText bytes)
-    → IfOk result (λ plan. AreInNameOrder plan.resources) → IfOk result IsValid
+    → IfOk result (λ plan. AreSearchable plan.resources) → IfOk result IsValid
 read-valid bytes (Ok plan) text order =
-    let InOrder : Plan → Type 0 = λ p. AreInNameOrder p.resources in
+    let InOrder : Plan → Type 0 = λ p. AreSearchable p.resources in
     rw text.says (plan-valid text.root text.faultless (subst InOrder text.says order))
 read-valid bytes (Err error) text order = tt

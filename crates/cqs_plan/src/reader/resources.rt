@@ -1,10 +1,12 @@
-ghost use Rattle.std.specs.Prelude.{◌≡◌, ◌<◌, ◌≤◌, IfOk, OnOk, [], codes, map, vec_len};
+//! The resources of a plan.
+ghost use Rattle.std.specs.Prelude.{◌≡◌, ◌<◌, IfOk, OnOk, [], codes, map};
 ghost use Rattle.toml.specs.Data.{get_member};
-ghost use Rattle.toml.specs.View.{view, table_view};
-ghost use Rattle.cqs_plan.specs.Faults.{each, resource_faults, resource_number_faults, resources_faults};
-ghost use Rattle.cqs_plan.specs.Language.{semaphores, resource_kinds};
+ghost use Rattle.toml.specs.View.{table_view, view};
+ghost use Rattle.cqs_plan.specs.FaultRules.{each};
+ghost use Rattle.cqs_plan.specs.Faults.{resource_faults, resource_number_faults, resources_faults};
+ghost use Rattle.cqs_plan.specs.Language.{resource_kinds, semaphores};
 ghost use Rattle.cqs_plan.specs.Meaning.{members_list, number_in, resource_in, resources_in};
-ghost use Rattle.cqs_plan.specs.Order.{AreInNameOrder};
+ghost use Rattle.cqs_plan.specs.Order.{AreSearchable};
 ghost use Rattle.cqs_plan.specs.Reading.{Reads};
 
 use super::members::{has_only, member};
@@ -61,11 +63,12 @@ fn semaphore(alloc: Global, index: usize, name: &str, value: &Value) -> Result<R
     })
 }
 
-fn semaphores(alloc: Global, table: &Table) -> Result<Vec<Resource>, PlanError>
+/// The semaphores that a table says.
+fn listed_semaphores(alloc: Global, table: &Table) -> Result<Vec<Resource>, PlanError>
     ensures faults { Reads result (each (members_list (table_view table.now)) (resource_faults semaphores [])) }
-    ensures value { IfOk result (λ found. found.items ≡ map (resource_in semaphores) (members_list (table_view table.now))) }
-    ensures order { IfOk result (λ found. AreInNameOrder found.items) }
-    ensures few { IfOk result (λ found. vec_len found ≤ 64) }
+    ensures value { let members = members_list (table_view table.now) in
+        IfOk result (λ found. found.items ≡ map (resource_in semaphores) members) }
+    ensures order { IfOk result (λ found. AreSearchable found.items) }
 {
     let mut found = Vec::with_capacity(alloc, table.len().min(64))?;
     for (name, value) in table {
@@ -79,14 +82,13 @@ fn semaphores(alloc: Global, table: &Table) -> Result<Vec<Resource>, PlanError>
 pub fn resources(alloc: Global, root: &Table) -> Result<Vec<Resource>, PlanError>
     ensures faults { Reads result (resources_faults (table_view root.now)) }
     ensures value { IfOk result (λ found. found.items ≡ resources_in resource_kinds (table_view root.now)) }
-    ensures order { IfOk result (λ found. AreInNameOrder found.items) }
-    ensures few { IfOk result (λ found. vec_len found ≤ 64) }
+    ensures order { IfOk result (λ found. AreSearchable found.items) }
 {
     let Some(value) = member(root, "semaphore") else {
         return Ok(Vec::new(alloc));
     };
     match value.as_table() {
         None => Err(Place::Word("semaphore").fault(alloc, FaultKind::Shape)),
-        Some(table) => semaphores(alloc, table),
+        Some(table) => listed_semaphores(alloc, table),
     }
 }

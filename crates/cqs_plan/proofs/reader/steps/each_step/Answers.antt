@@ -2,7 +2,8 @@ use Rattle.std.proofs.Common.{◌≡◌, ◌<◌, ◌≤◌, codes, map, length,
 use Rattle.std.proofs.lemmas.List.{take_all, length-map}
 use Rattle.std.proofs.lemmas.Result.{err_from_is_err_and}
 use Rattle.toml.specs.View.{view}
-use Rattle.cqs_plan.specs.Faults.{job_step_faults, part_place}
+use Rattle.cqs_plan.specs.Faults.{job_step_faults}
+use Rattle.cqs_plan.specs.Places.{part_place}
 use Rattle.cqs_plan.specs.Meaning.{steps_in}
 use Rattle.cqs_plan.specs.Reading.{StopsAt}
 use Rattle.cqs_plan.proofs.FirstFaults.{take-map, stops-at, goes-on, ends}

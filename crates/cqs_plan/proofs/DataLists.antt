@@ -22,7 +22,8 @@ use Rattle.cqs_plan.specs.Order.{IsBelow}
 abbrev pub entry_view : Entry → List ℕ × Data
 entry_view entry = (string_bytes entry.0, view entry.1)
 
-pub members_list-view : (entries : List Entry) → members_list (members_view entries) ≡ map entry_view entries
+pub members_list-view : (entries : List Entry)
+    → members_list (members_view entries) ≡ map entry_view entries
 members_list-view [] = refl
 members_list-view (e ∷ es) = ap (λ rest. entry_view e ∷ rest) (members_list-view es)
 
@@ -51,7 +52,8 @@ names_above kind first (e ∷ es) above zero d below = above.0
 names_above kind first (e ∷ es) above (suc k) d below = names_above kind first es above.1 k d (omega arith)
 
 -- the names of the resources of a table ascend
-pub names_ascend : (kind : ResourceKind) (entries : List Entry) → IsStrictlySortedBy string_cmp (keys_of entries)
+pub names_ascend : (kind : ResourceKind) (entries : List Entry)
+    → IsStrictlySortedBy string_cmp (keys_of entries)
     → AllPairs (λ (one other : Resource). IsBelow one.name other.name) (map (resource_in kind) (map entry_view entries))
 unfolding IsStrictlySortedBy
 names_ascend kind [] ordered = λ i j d less below. absurd (omega arith)

@@ -28,7 +28,8 @@ use toml::{Table, Value};
 fn deadline(alloc: Global, job: usize, value: Option<&Value>) -> Result<Option<u32>, PlanError>
     ensures faults { let place = part_place job (codes "deadline") in
         Reads result (optional (data_in value.entry) (number_faults place 0 40000)) }
-    ensures value { IfOk result (λ turn. turn ≡ option_map (λ found. number_in (Some found)) (data_in value.entry)) }
+    ensures value { let given = data_in value.entry in
+        IfOk result (λ turn. turn ≡ option_map (λ found. number_in (Some found)) given) }
 {
     let Some(value) = value else {
         return Ok(None);
@@ -49,7 +50,8 @@ fn job(
     names: &mut BTreeSet<String>,
 ) -> Result<Job, PlanError>
     requires { AreSearchable resources.now }
-    ensures faults { Reads result (job_faults resources.now (contains_text names.old) index (view value.now)) }
+    ensures faults { let stands = contains_text names.old in
+        Reads result (job_faults resources.now stands index (view value.now)) }
     ensures value { IfOk result (λ job. job ≡ job_in resources.now (view value.now)) }
     ensures added { IfOk result (λ job. AddsName names.old names.new job.name) }
 {
@@ -79,7 +81,8 @@ fn each_job(alloc: Global, values: &Array, resources: &[Resource]) -> Result<Vec
     requires { AreSearchable resources.now }
     ensures faults { let all = map view values.now.items in
         Reads result (each all (listed_job_faults resources.now all)) }
-    ensures value { IfOk result (λ jobs. jobs.items ≡ map (job_in resources.now) (map view values.now.items)) }
+    ensures value { let all = map view values.now.items in
+        IfOk result (λ jobs. jobs.items ≡ map (job_in resources.now) all) }
 {
     let mut names = BTreeSet::new(alloc);
     let mut jobs = Vec::with_capacity(alloc, values.len())?;
@@ -106,7 +109,8 @@ fn listed_jobs(alloc: Global, values: &Array, resources: &[Resource]) -> Result<
 /// The jobs of a plan, in order.
 pub fn jobs(alloc: Global, root: &Table, resources: &[Resource]) -> Result<Vec<Job>, PlanError>
     requires { AreSearchable resources.now }
-    ensures faults { Reads result (jobs_part_faults resources.now (get_member (codes "job") (table_view root.now))) }
+    ensures faults { let given = get_member (codes "job") (table_view root.now) in
+        Reads result (jobs_part_faults resources.now given) }
     ensures value { let all = items_in (get_member (codes "job") (table_view root.now)) in
         IfOk result (λ jobs. jobs.items ≡ map (job_in resources.now) all) }
 {

@@ -24,7 +24,8 @@ fn is_among(key: &str, known: &[&str]) -> bool
 }
 
 fn keys_are_among(known: &[&str], table: &Table) -> bool
-    ensures { result ≡ list_all (λ key. list_any (λ word. bytes_eq (string_bytes key) word.now) known.now)
+    ensures { result ≡ list_all
+        (λ key. list_any (λ word. bytes_eq (string_bytes key) word.now) known.now)
         (keys table.now) }
 {
     table.keys().all(|key| is_among(key.as_str(), known))

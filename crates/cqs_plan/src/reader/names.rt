@@ -44,7 +44,8 @@ pub fn new_name(
     names: &mut BTreeSet<String>,
 ) -> Result<Name, PlanError>
     ensures faults { let place = place_text place.entry in
-        Reads result (required place (data_in value.entry) (name_faults place (contains_text names.old))) }
+        let stands = contains_text names.old in
+        Reads result (required place (data_in value.entry) (name_faults place stands)) }
     ensures value { IfOk result (λ name. name ≡ text_in (data_in value.entry)) }
     ensures added { IfOk result (AddsName names.old names.new) }
 {

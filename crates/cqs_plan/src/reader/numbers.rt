@@ -21,7 +21,8 @@ pub fn number(
     least: u32,
     most: u32,
 ) -> Result<u32, PlanError>
-    ensures faults { Reads result (number_faults (place_text place.entry) least most (view value.now)) }
+    ensures faults { let place = place_text place.entry in
+        Reads result (number_faults place least most (view value.now)) }
     ensures value { IfOk result (λ number. number ≡ number_in (Some (view value.now))) }
 {
     match value.as_integer() {

@@ -23,8 +23,10 @@ use toml::{Table, Value};
 
 /// The number of permits in the table of a semaphore.
 fn size(alloc: Global, name: &str, table: &Table) -> Result<u32, PlanError>
-    ensures faults { Reads result (resource_number_faults semaphores name.now (table_view table.now)) }
-    ensures value { IfOk result (λ size. size ≡ number_in (get_member (codes "size") (table_view table.now))) }
+    ensures faults { let members = table_view table.now in
+        Reads result (resource_number_faults semaphores name.now members) }
+    ensures value { let members = table_view table.now in
+        IfOk result (λ size. size ≡ number_in (get_member (codes "size") members)) }
 {
     let place = Place::Number {
         kind: "semaphore",
@@ -37,7 +39,8 @@ fn size(alloc: Global, name: &str, table: &Table) -> Result<u32, PlanError>
 /// A semaphore, from its name and its value, which is the `index`-th of the table.
 fn semaphore(alloc: Global, index: usize, name: &str, value: &Value) -> Result<Resource, PlanError>
     ensures faults { Reads result (resource_faults semaphores [] index (name.now, view value.now)) }
-    ensures value { IfOk result (λ resource. resource ≡ resource_in semaphores (name.now, view value.now)) }
+    ensures value { let said = resource_in semaphores (name.now, view value.now) in
+        IfOk result (λ resource. resource ≡ said) }
     ensures few { OnOk result (index < 64) }
 {
     if !is_name(name) {
@@ -65,7 +68,8 @@ fn semaphore(alloc: Global, index: usize, name: &str, value: &Value) -> Result<R
 
 /// The semaphores that a table says.
 fn listed_semaphores(alloc: Global, table: &Table) -> Result<Vec<Resource>, PlanError>
-    ensures faults { Reads result (each (members_list (table_view table.now)) (resource_faults semaphores [])) }
+    ensures faults { let members = members_list (table_view table.now) in
+        Reads result (each members (resource_faults semaphores [])) }
     ensures value { let members = members_list (table_view table.now) in
         IfOk result (λ found. found.items ≡ map (resource_in semaphores) members) }
     ensures order { IfOk result (λ found. AreSearchable found.items) }
@@ -81,7 +85,8 @@ fn listed_semaphores(alloc: Global, table: &Table) -> Result<Vec<Resource>, Plan
 /// The resources of a plan, in order.
 pub fn resources(alloc: Global, root: &Table) -> Result<Vec<Resource>, PlanError>
     ensures faults { Reads result (resources_faults (table_view root.now)) }
-    ensures value { IfOk result (λ found. found.items ≡ resources_in resource_kinds (table_view root.now)) }
+    ensures value { let all = resources_in resource_kinds (table_view root.now) in
+        IfOk result (λ found. found.items ≡ all) }
     ensures order { IfOk result (λ found. AreSearchable found.items) }
 {
     let Some(value) = member(root, "semaphore") else {

@@ -57,7 +57,8 @@ fn step(
     earlier: &[Step],
 ) -> Result<Step, PlanError>
     requires { AreSearchable resources.now }
-    ensures faults { Reads result (step_faults (place_text place.entry) resources.now earlier.now (view value.now)) }
+    ensures faults { let place = place_text place.entry in
+        Reads result (step_faults place resources.now earlier.now (view value.now)) }
     ensures value { IfOk result (λ step. step_in resources.now (view value.now) ≡ Some step) }
 {
     let Some(text) = value.as_str() else {
@@ -79,8 +80,10 @@ fn each_step(
 ) -> Result<Vec<Step>, PlanError>
     requires { AreSearchable resources.now }
     ensures faults { let all = map view values.now.items in
-        Reads result (each all (job_step_faults (part_place job (codes "steps")) resources.now all)) }
-    ensures value { IfOk result (λ steps. steps.items ≡ steps_in resources.now (map view values.now.items)) }
+        let place = part_place job (codes "steps") in
+        Reads result (each all (job_step_faults place resources.now all)) }
+    ensures value { let all = map view values.now.items in
+        IfOk result (λ steps. steps.items ≡ steps_in resources.now all) }
 {
     let mut steps = Vec::with_capacity(alloc, values.len())?;
     for (index, value) in values.iter().enumerate() {
@@ -101,7 +104,8 @@ fn listed_steps(
     requires { AreSearchable resources.now }
     ensures faults { let place = part_place job (codes "steps") in
         Reads result (steps_faults place resources.now (items_list (array_view values.now))) }
-    ensures value { IfOk result (λ steps. steps.items ≡ steps_in resources.now (items_list (array_view values.now))) }
+    ensures value { let all = items_list (array_view values.now) in
+        IfOk result (λ steps. steps.items ≡ steps_in resources.now all) }
 {
     if values.len() > 64 {
         return Err(Place::Part { job, key: "steps" }.fault(alloc, FaultKind::Many));
@@ -118,7 +122,8 @@ pub fn job_steps(
 ) -> Result<Vec<Step>, PlanError>
     requires { AreSearchable resources.now }
     ensures faults { Reads result (steps_part_faults job resources.now (data_in value.entry)) }
-    ensures value { IfOk result (λ steps. steps.items ≡ steps_in resources.now (items_in (data_in value.entry))) }
+    ensures value { let all = items_in (data_in value.entry) in
+        IfOk result (λ steps. steps.items ≡ steps_in resources.now all) }
 {
     let place = Place::Part { job, key: "steps" };
     let Some(value) = value else {

@@ -13,9 +13,12 @@ use Rattle.cqs_plan.proofs.reader.resources.listed_semaphores.Goals as goal
 
 pub returns-in_err-resource-clause-faults : goal.returns-in_err-resource-clause-faults
 returns-in_err-resource-clause-faults c =
-    let p = err_from_is_err_and c.from_residual-in_err-resource.result c.from_residual-in_err-resource.ensures.1 in
-    let here = rest_more deref_pair _ _ c.next.result (c.in-Some.name, c.in-Some.value) c.in-Some.is c.next.ensures.steps in
-    let faults : StopsAt (resource_faults semaphores [] (vec_len c.loop-name.found) (string_bytes c.in-Some.name.now, view c.in-Some.value.now)) c.in_err-resource.field-0.0 = search rules in
+    let p =
+    err_from_is_err_and c.from_residual-in_err-resource.result c.from_residual-in_err-resource.ensures.1 in
+    let here =
+    rest_more deref_pair _ _ c.next.result (c.in-Some.name, c.in-Some.value) c.in-Some.is c.next.ensures.steps in
+    let faults : StopsAt (resource_faults semaphores [] (vec_len c.loop-name.found) (string_bytes c.in-Some.name.now, view c.in-Some.value.now)) c.in_err-resource.field-0.0 =
+    search rules in
     rw (p.1, p.2, members_list-view c.args.table.now.entries, c.loop-name.invariant.faults, here) (StopsAt-append _ _ _ faults)
 
 pub returns-clause-faults : goal.returns-clause-faults

@@ -12,7 +12,8 @@ use Rattle.cqs_plan.proofs.reader.steps.each_step.Goals as goal
 use Rattle.cqs_plan.proofs.reader.steps.each_step.Goals.{After-step}
 
 -- the value that this turn reads
-this_value : (c : After-step) → c.value-item.result ≡ get_or c.args.values.now.items c.loop-index.index c.value-item.result
+this_value : (c : After-step)
+    → c.value-item.result ≡ get_or c.args.values.now.items c.loop-index.index c.value-item.result
 this_value c = rw (← c.deref-value-items.ensures.value) c.value-item.is
 
 pub returns-in_err-read-clause-faults : goal.returns-in_err-read-clause-faults

@@ -13,16 +13,17 @@ use Rattle.toml.specs.View.{view, items_view, members_view}
 use Rattle.toml.proofs.Views.{Entry}
 use Rattle.toml.specs.declared.value.Value.{Value}
 use Rattle.cqs_plan.specs.declared.plans.resource.Resource.{Resource}
-use Rattle.cqs_plan.specs.Faults.{has_only}
+use Rattle.cqs_plan.specs.FaultRules.{has_only}
 use Rattle.cqs_plan.specs.Language.{ResourceKind}
 use Rattle.cqs_plan.specs.Meaning.{items_list, members_list, resource_in}
-use Rattle.cqs_plan.specs.Order.{AreInNameOrder, IsBelow}
+use Rattle.cqs_plan.specs.Order.{IsBelow}
 
 -- an entry of a table's map as a key with its value
 abbrev pub entry_view : Entry → List ℕ × Data
 entry_view entry = (string_bytes entry.0, view entry.1)
 
-pub members_list-view : (entries : List Entry) → members_list (members_view entries) ≡ map entry_view entries
+pub members_list-view : (entries : List Entry)
+    → members_list (members_view entries) ≡ map entry_view entries
 members_list-view [] = refl
 members_list-view (e ∷ es) = ap (λ rest. entry_view e ∷ rest) (members_list-view es)
 
@@ -50,13 +51,10 @@ names_above kind first [] above k d below = absurd (omega arith)
 names_above kind first (e ∷ es) above zero d below = above.0
 names_above kind first (e ∷ es) above (suc k) d below = names_above kind first es above.1 k d (omega arith)
 
-names_ascend : (kind : ResourceKind) (entries : List Entry) → IsStrictlySortedBy string_cmp (keys_of entries)
+-- the names of the resources of a table ascend
+pub names_ascend : (kind : ResourceKind) (entries : List Entry)
+    → IsStrictlySortedBy string_cmp (keys_of entries)
     → AllPairs (λ (one other : Resource). IsBelow one.name other.name) (map (resource_in kind) (map entry_view entries))
 unfolding IsStrictlySortedBy
 names_ascend kind [] ordered = λ i j d less below. absurd (omega arith)
 names_ascend kind (e ∷ es) ordered = AllPairs-cons (λ (one other : Resource). IsBelow one.name other.name) (resource_in kind (entry_view e)) _ (names_above kind e es ordered.0) (names_ascend kind es ordered.1)
-
--- the resources of a table in order of its keys are in order
-pub AreInNameOrder-table : (kind : ResourceKind) (table : BTreeMap (String Global) Value) → IsOrdered string_cmp table
-    → AreInNameOrder (map (resource_in kind) (map entry_view table.entries))
-AreInNameOrder-table kind table ordered = record { names = names_ascend kind table.entries ordered }

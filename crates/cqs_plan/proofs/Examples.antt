@@ -4,7 +4,9 @@ use Rattle.std.specs.Prelude.{slice_get, option_and_then, option_map}
 use Rattle.toml.specs.Data.{Members}
 use Rattle.toml.specs.Parse.{parse_document}
 use Rattle.toml.proofs.OnLiterals.{toml_on_literals}
-use Rattle.cqs_plan.specs.Faults.{Fault, indexed, part_place, faults_in}
+use Rattle.cqs_plan.specs.FaultRules.{Fault}
+use Rattle.cqs_plan.specs.Faults.{faults_in}
+use Rattle.cqs_plan.specs.Places.{indexed, part_place}
 use Rattle.cqs_plan.specs.declared.plans.fault_kind.FaultKind.TheVariants as fault
 
 -- the first fault of a text, if it is a document

@@ -6,7 +6,7 @@ use Rattle.std.specs.List.{flat_map, enumerate_from}
 use Rattle.cqs_plan.specs.declared.plans.error.PlanError.{PlanError}
 use Rattle.cqs_plan.specs.declared.plans.error.PlanError.TheVariants as stop
 use Rattle.cqs_plan.specs.declared.plans.fault_kind.FaultKind.TheVariants as fault
-use Rattle.cqs_plan.specs.Faults.{Fault, fault_at, unless}
+use Rattle.cqs_plan.specs.FaultRules.{Fault, fault_at, unless}
 use Rattle.cqs_plan.specs.Reading.{StopsAt}
 
 -- the faults of these values, the first of which stands at place n
@@ -47,19 +47,23 @@ take-map f vs i v below is =
 
 -- the faults from a place on begin with those of the element there
 pub stops-at : {V X : Type 0} (f : V → X) (faults : ℕ → X → List Fault) (vs : List V) (i : ℕ) (v : V) (e : PlanError)
-    → faults_from faults 0 (map f vs) ≡ faults_from faults i (drop i (map f vs)) → i < length vs → v ≡ get_or vs i v
+    → faults_from faults 0 (map f vs) ≡ faults_from faults i (drop i (map f vs)) → i < length vs
+    → v ≡ get_or vs i v
     → StopsAt (faults i (f v)) e → StopsAt (faults_from faults 0 (map f vs)) e
 stops-at f faults vs i v e rest below is stops =
     rw (rest, drop-map f vs i v below is) (StopsAt-append (faults i (f v)) _ e stops)
 
 -- and where it has none, go on with the next
 pub goes-on : {V X : Type 0} (f : V → X) (faults : ℕ → X → List Fault) (vs : List V) (i : ℕ) (v : V)
-    → faults_from faults 0 (map f vs) ≡ faults_from faults i (drop i (map f vs)) → i < length vs → v ≡ get_or vs i v
-    → faults i (f v) ≡ [] → faults_from faults 0 (map f vs) ≡ faults_from faults (i + 1) (drop (i + 1) (map f vs))
+    → faults_from faults 0 (map f vs) ≡ faults_from faults i (drop i (map f vs)) → i < length vs
+    → v ≡ get_or vs i v
+    → faults i (f v) ≡ []
+    → faults_from faults 0 (map f vs) ≡ faults_from faults (i + 1) (drop (i + 1) (map f vs))
 goes-on f faults vs i v rest below is none = rw (rest, drop-map f vs i v below is, none)
 
 pub ends : {V X : Type 0} (f : V → X) (faults : ℕ → X → List Fault) (vs : List V) (i : ℕ)
-    → faults_from faults 0 (map f vs) ≡ faults_from faults i (drop i (map f vs)) → length vs ≤ i → faults_from faults 0 (map f vs) ≡ []
+    → faults_from faults 0 (map f vs) ≡ faults_from faults i (drop i (map f vs)) → length vs ≤ i
+    → faults_from faults 0 (map f vs) ≡ []
 ends f faults vs i rest past =
     let outside : length (map f vs) ≤ i = rw length-map past in
     rw (rest, drop_all i (map f vs) outside)

@@ -13,7 +13,7 @@ use Rattle.std.proofs.lemmas.Map.Text.{is_eq-slice_cmp}
 use Rattle.std.proofs.lemmas.Slice.Eq.{bytes_eq-Decides}
 use Rattle.cqs_plan.specs.declared.plans.resource.Resource.{Resource}
 use Rattle.cqs_plan.specs.Language.{can_hold}
-use Rattle.cqs_plan.specs.Order.{AreInNameOrder}
+use Rattle.cqs_plan.specs.Order.{AreSearchable}
 
 -- no element passes
 pub position_from-none : {X : Type 0} (test : X → Bool) (n : ℕ) (xs : List X)
@@ -33,7 +33,8 @@ position_from-at test n (suc k) m (x ∷ xs) is below passes fails =
     (position_from-at test (n + 1) k m xs (omega arith) (omega arith) passes (λ j d lower. fails (suc j) d (omega arith)))
 
 -- whether a resource has the name, from how the two compare
-named : (r : Resource) (name : List ℕ) (o : Ordering) → slice_cmp nat_cmp r.name name ≡ o → bytes_eq r.name name ≡ is_eq o
+named : (r : Resource) (name : List ℕ) (o : Ordering) → slice_cmp nat_cmp r.name name ≡ o
+    → bytes_eq r.name name ≡ is_eq o
 named r name o compared = sym (is_eq-slice_cmp r.name name) ∙ ap is_eq compared
 
 -- what compares equal is the same text
@@ -46,7 +47,7 @@ reversed : (x y : List ℕ) → slice_cmp nat_cmp x y ≡ Less → slice_cmp nat
 reversed x y less = nat_list_cmp_total.antisymm y x ∙ ap ordering_reverse less
 
 -- resources in order are as a binary search wants them
-searchable : (rs : List Resource) (name : List ℕ) → AreInNameOrder rs
+searchable : (rs : List Resource) (name : List ℕ) → AreSearchable rs
     → IsNonDecreasingBy (λ (r : Resource). ordering_index (slice_cmp nat_cmp r.name name)) rs
 searchable rs name order =
     searchable_from_sorted nat_list_cmp_total (λ (r : Resource). r.name) rs name
@@ -54,15 +55,20 @@ searchable rs name order =
     (order.names k (k + 1) d (omega arith) below)))
 
 -- the resource at a place, if it serves, is the first of its name that does
-pub place-found : (rs : List Resource) (name : List ℕ) (place : ℕ) (serves : Bool) (r : Resource) → AreInNameOrder rs → place < length rs
-    → ((d : Resource) → slice_cmp nat_cmp (get_or rs place d).name name ≡ Equal) → r ≡ get_or rs place r → can_hold r.kind ≡ serves
+pub place-found : (rs : List Resource) (name : List ℕ) (place : ℕ) (serves : Bool) (r : Resource)
+    → AreSearchable rs → place < length rs
+    → ((d : Resource) → slice_cmp nat_cmp (get_or rs place d).name name ≡ Equal) → r ≡ get_or rs place r
+    → can_hold r.kind ≡ serves
     → position_from (λ other. bytes_eq other.name name && can_hold other.kind) 0 rs ≡ cond serves (Some place) None
 place-found rs name place serves r order below found is can =
     let here : (d : Resource) → get_or rs place d ≡ r = λ d. get_or_default rs place d r below ∙ sym is in
-    let same : (d : Resource) → bytes_eq (get_or rs place d).name name ≡ true = λ d. named (get_or rs place d) name Equal (found d) in
-    let before : (j : ℕ) (d : Resource) → j < place → bytes_eq (get_or rs j d).name name ≡ false = λ j d lower.
+    let same : (d : Resource) → bytes_eq (get_or rs place d).name name ≡ true =
+    λ d. named (get_or rs place d) name Equal (found d) in
+    let before : (j : ℕ) (d : Resource) → j < place → bytes_eq (get_or rs j d).name name ≡ false =
+    λ j d lower.
     named (get_or rs j d) name Less (rw (← same_text (get_or rs place d).name name (found d)) (order.names j place d lower below)) in
-    let after : (j : ℕ) (d : Resource) → place < j → j < length rs → bytes_eq (get_or rs j d).name name ≡ false = λ j d upper inside.
+    let after : (j : ℕ) (d : Resource) → place < j → j < length rs → bytes_eq (get_or rs j d).name name ≡ false =
+    λ j d upper inside.
     named (get_or rs j d) name Greater (rw (← same_text (get_or rs place d).name name (found d)) (reversed (get_or rs place d).name (get_or rs j d).name (order.names place j d upper inside))) in
     elim (cases_Bool serves) [
       | inl serving ↦
@@ -79,7 +85,7 @@ place-found rs name place serves r order below found is can =
     ]
 
 -- where a search found no resource of the name, there is none
-pub place-none : (rs : List Resource) (name : List ℕ) (place : ℕ) → AreInNameOrder rs
+pub place-none : (rs : List Resource) (name : List ℕ) (place : ℕ) → AreSearchable rs
     → (IsNonDecreasingBy (λ (r : Resource). ordering_index (slice_cmp nat_cmp r.name name)) rs
     → IsPartitionPoint (λ (r : Resource). slice_cmp nat_cmp r.name name ≡ Less) (λ (r : Resource). slice_cmp nat_cmp r.name name ≡ Greater) rs place)
     → position_from (λ r. bytes_eq r.name name && can_hold r.kind) 0 rs ≡ None

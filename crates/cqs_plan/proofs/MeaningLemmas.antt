@@ -10,13 +10,15 @@ use Rattle.cqs_plan.specs.Faults.{is_named, job_faults}
 use Rattle.cqs_plan.specs.Meaning.{job_name, step_in, steps_in}
 
 pub steps_in-push : (resources : List Resource) (values : List Data) (value : Data) (step : Step)
-    → step_in resources value ≡ Some step → steps_in resources (values ++ value ∷ []) ≡ steps_in resources values ++ step ∷ []
+    → step_in resources value ≡ Some step
+    → steps_in resources (values ++ value ∷ []) ≡ steps_in resources values ++ step ∷ []
 steps_in-push resources values value step says =
     filter_map-append (step_in resources) values (value ∷ []) ∙ rw says
 
 -- the faults of a job depend on which names stand, and not on how that is told
 pub job_faults-same : (resources : List Resource) (stands others : List ℕ → Bool) (i : ℕ) (value : Data)
-    → ((name : List ℕ) → stands name ≡ others name) → job_faults resources stands i value ≡ job_faults resources others i value
+    → ((name : List ℕ) → stands name ≡ others name)
+    → job_faults resources stands i value ≡ job_faults resources others i value
 job_faults-same resources stands others i value same =
     let equal : stands ≡ others = λ d name. same name d in
     ap (λ (told : List ℕ → Bool). job_faults resources told i value) equal

@@ -6,7 +6,8 @@ use Rattle.std.specs.List.{flat_map, enumerate_from}
 use Rattle.std.proofs.lemmas.Bool.{and_parts, false≢true, leb-true}
 use Rattle.toml.specs.Data.{Data, as_integer}
 use Rattle.cqs_plan.specs.declared.plans.fault_kind.FaultKind.{FaultKind}
-use Rattle.cqs_plan.specs.Faults.{Fault, fault_at, unless, required, optional, shaped, number_faults}
+use Rattle.cqs_plan.specs.FaultRules.{Fault, fault_at, optional, required, shaped, unless}
+use Rattle.cqs_plan.specs.Faults.{number_faults}
 use Rattle.cqs_plan.specs.Meaning.{count_in, number_in}
 use Rattle.cqs_plan.proofs.FirstFaults.{faults_from}
 
@@ -15,24 +16,28 @@ pub no_faults : (a b : List Fault) → a ++ b ≡ [] → (a ≡ []) × (b ≡ []
 no_faults [] b none = (refl, none)
 no_faults (x ∷ a) b none = cc
 
-pub unless-passed : (test : Bool) (place : List ℕ) (kind : FaultKind) → unless test place kind ≡ [] → test ≡ true
+pub unless-passed : (test : Bool) (place : List ℕ) (kind : FaultKind) → unless test place kind ≡ []
+    → test ≡ true
 unless-passed true place kind none = refl
 unless-passed false place kind none = cc
 
 -- the value that has to be there
-pub required-there : (place : List ℕ) (value : Option Data) (faults : Data → List Fault) → required place value faults ≡ []
+pub required-there : (place : List ℕ) (value : Option Data) (faults : Data → List Fault)
+    → required place value faults ≡ []
     → (d : Data) × (value ≡ Some d) × (faults d ≡ [])
 required-there place None faults none = cc
 required-there place (Some d) faults none = (d, refl, none)
 
 -- the value of the type that it has to have
-pub shaped-right : {X : Type 0} (place : List ℕ) (value : Option X) (faults : X → List Fault) → shaped place value faults ≡ []
+pub shaped-right : {X : Type 0} (place : List ℕ) (value : Option X) (faults : X → List Fault)
+    → shaped place value faults ≡ []
     → (x : X) × (value ≡ Some x) × (faults x ≡ [])
 shaped-right place None faults none = cc
 shaped-right place (Some x) faults none = (x, refl, none)
 
 -- an integer between two bounds is a count between them
-in_range : (least most : ℕ) (z : ℤ) → (int_le (pos least) z && int_le z (pos most)) ≡ true → IsInRange least most (count_in z)
+in_range : (least most : ℕ) (z : ℤ) → (int_le (pos least) z && int_le z (pos most)) ≡ true
+    → IsInRange least most (count_in z)
 in_range least most (pos n) within =
     let parts = and_parts (int_le (pos least) (pos n)) (int_le (pos n) (pos most)) within in
     (leb-true least n parts.0, leb-true n most parts.1)
@@ -51,7 +56,8 @@ required_number-valid place least most value none =
     rw is (number-valid place least most d faultless)
 
 -- no element of a list has a fault
-pub each-faultless : {X : Type 0} (faults : ℕ → X → List Fault) (n m : ℕ) (xs : List X) (i : ℕ) (d : X) → faults_from faults n xs ≡ []
+pub each-faultless : {X : Type 0} (faults : ℕ → X → List Fault) (n m : ℕ) (xs : List X) (i : ℕ) (d : X)
+    → faults_from faults n xs ≡ []
     → m ≡ n + i → i < length xs → faults m (get_or xs i d) ≡ []
 each-faultless faults n m [] i d none is below = absurd (omega arith)
 each-faultless faults n m (x ∷ xs) zero d none is below =

@@ -17,9 +17,11 @@ use Rattle.cqs_plan.specs.declared.plans.plan.Plan.{Plan}
 use Rattle.cqs_plan.specs.declared.plans.resource.Resource.{Resource}
 use Rattle.cqs_plan.specs.declared.plans.fault_kind.FaultKind.TheVariants as fault
 use Rattle.cqs_plan.specs.Language.{is_name, resource_kinds, semaphores}
-use Rattle.cqs_plan.specs.Faults.{Fault, unless, required, optional, shaped, dotted, each, has_only, root_keys, number_faults, resource_number_faults, resource_faults, resources_faults, is_named, jobs_faults, jobs_part_faults, listed_job_faults, faults_in}
+use Rattle.cqs_plan.specs.FaultRules.{Fault, each, has_only, optional, required, shaped, unless}
+use Rattle.cqs_plan.specs.Faults.{faults_in, is_named, jobs_faults, jobs_part_faults, listed_job_faults, number_faults, resource_faults, resource_number_faults, resources_faults, root_keys}
+use Rattle.cqs_plan.specs.Places.{dotted}
 use Rattle.cqs_plan.specs.Meaning.{items_in, items_list, members_in, members_list, job_in, job_name, number_in, plan_in, resource_in, resources_in}
-use Rattle.cqs_plan.specs.Order.{AreInOrder, AreInNameOrder, IsBelow, rank}
+use Rattle.cqs_plan.specs.Order.{AreInOrder, AreSearchable, IsBelow, rank}
 use Rattle.cqs_plan.specs.PlanText.{IsPlanText}
 use Rattle.cqs_plan.specs.Validity.{IsJob, IsResource, IsValid}
 use Rattle.cqs_plan.proofs.FirstFaults.{faults_from}
@@ -28,7 +30,8 @@ use Rattle.cqs_plan.proofs.ValidJobs.{get-table, items_in-there, nothing, job-va
 
 -- the semaphore of a table whose size is in its range
 sized : (name : List ℕ) (value : Data) (found : Members) → is_name name ≡ true → as_table value ≡ Some found
-    → IsInRange 1 1048576 (number_in (get_member (codes "size") found)) → IsResource (resource_in semaphores (name, value))
+    → IsInRange 1 1048576 (number_in (get_member (codes "size") found))
+    → IsResource (resource_in semaphores (name, value))
 sized name value found named is size = record { named = named; sized = rw (get-table (codes "size") value found is) size }
 
 -- a semaphore without a fault
@@ -41,11 +44,13 @@ resource-valid i (name, value) none =
     let counted = no_faults _ (resource_number_faults semaphores name found) faultless in
     let few = no_faults _ (unless (nat_lt (0 + i) 64) place fault.Many) counted.0 in
     let number = no_faults (required (dotted place (codes "size")) (get_member (codes "size") found) (number_faults (dotted place (codes "size")) 1 1048576)) [] counted.1 in
-    let size = required_number-valid (dotted place (codes "size")) 1 1048576 (get_member (codes "size") found) number.0 in
+    let size =
+    required_number-valid (dotted place (codes "size")) 1 1048576 (get_member (codes "size") found) number.0 in
     let below : 0 + i < 64 = ltb-true (0 + i) 64 (unless-passed _ place _ few.1) in
     (sized name value found (unless-passed (is_name name) _ _ front.0) is size, omega arith)
 
-members_in-there : (d : Data) (found : Members) → as_table d ≡ Some found → members_in (Some d) ≡ members_list found
+members_in-there : (d : Data) (found : Members) → as_table d ≡ Some found
+    → members_in (Some d) ≡ members_list found
 members_in-there d found is = rw is
 
 -- the faults of a kind's table are those of its members
@@ -61,7 +66,8 @@ members-faultless (Some d) faults none =
 record AreFaultless (members : List (List ℕ × Data)) : Type 0 where
   each : (i : ℕ) (d : List ℕ × Data) → i < length members → resource_faults semaphores [] i (get_or members i d) ≡ []
 
-resources-faultless : (root : Members) → resources_faults root ≡ [] → AreFaultless (members_in (get_member (codes "semaphore") root))
+resources-faultless : (root : Members) → resources_faults root ≡ []
+    → AreFaultless (members_in (get_member (codes "semaphore") root))
 resources-faultless root none =
     let members = members_in (get_member (codes "semaphore") root) in
     let all = members-faultless (get_member (codes "semaphore") root) (resource_faults semaphores []) (no_faults _ [] none).0 in
@@ -77,7 +83,8 @@ few-resources members faultless =
       | inr few ↦ few
     ]
 
-all-resources : (members : List (List ℕ × Data)) → AreFaultless members → All IsResource (map (resource_in semaphores) members)
+all-resources : (members : List (List ℕ × Data)) → AreFaultless members
+    → All IsResource (map (resource_in semaphores) members)
 all-resources members faultless = λ k d below.
     let inside : k < length members = rw (← length-map members (resource_in semaphores)) below in
     rw (get_or-map (resource_in semaphores) members k no_member d inside)
@@ -95,16 +102,19 @@ semaphore_rank : (members : List (List ℕ × Data)) (i : ℕ) (d : Resource) �
 semaphore_rank members i d below = rw (get_or-map (resource_in semaphores) members i no_member d below)
 
 -- semaphores in order of their names are in order
-in_order : (members : List (List ℕ × Data)) → AreInNameOrder (map (resource_in semaphores) members) → AreInOrder (map (resource_in semaphores) members)
+in_order : (members : List (List ℕ × Data)) → AreSearchable (map (resource_in semaphores) members)
+    → AreInOrder (map (resource_in semaphores) members)
 in_order members order =
-    let as_many : length (map (resource_in semaphores) members) ≡ length members = length-map members (resource_in semaphores) in record {
+    let as_many : length (map (resource_in semaphores) members) ≡ length members =
+    length-map members (resource_in semaphores) in record {
       order = λ i j d less below.
           inr (semaphore_rank members i d (omega arith) ∙ sym (semaphore_rank members j d (omega arith)), order.names i j d less below);
       distinct = λ i j d less below. below_differs _ _ (order.names i j d less below);
     }
 
 -- the names of the jobs before the j-th differ from its own
-name_differs : (name : List ℕ) (jobs : List Data) (i : ℕ) (d : Data) → is_named jobs name ≡ false → i < length jobs → job_name (get_or jobs i d) ≢ name
+name_differs : (name : List ℕ) (jobs : List Data) (i : ℕ) (d : Data) → is_named jobs name ≡ false
+    → i < length jobs → job_name (get_or jobs i d) ≢ name
 name_differs name [] i d new below = absurd (omega arith)
 name_differs name (job ∷ jobs) zero d new below = λ same.
     let here = (or_parts (bytes_eq (job_name job) name) _ new).0 in
@@ -119,7 +129,8 @@ record AreJobs (resources : List Resource) (values : List Data) : Type 0 where
   each : (i : ℕ) (d : Data) → i < length values → IsJob resources (job_in resources (get_or values i d))
   names : (i : ℕ) (d : Data) → i < length values → is_named (take i values) (job_name (get_or values i d)) ≡ false
 
-listed-valid : (resources : List Resource) (values : List Data) → jobs_faults resources values ≡ [] → AreJobs resources values
+listed-valid : (resources : List Resource) (values : List Data) → jobs_faults resources values ≡ []
+    → AreJobs resources values
 listed-valid resources values none =
     let parts = no_faults (unless (nat_le (length values) 4096) (codes "job") fault.Many) _ none in
     let job = λ (i : ℕ) (d : Data) (below : i < length values).
@@ -130,13 +141,15 @@ listed-valid resources values none =
       names = λ i d below. (job i d below).1;
     }
 
-jobs-valid : (resources : List Resource) (value : Option Data) → jobs_part_faults resources value ≡ [] → AreJobs resources (items_in value)
+jobs-valid : (resources : List Resource) (value : Option Data) → jobs_part_faults resources value ≡ []
+    → AreJobs resources (items_in value)
 jobs-valid resources None none = record { few = omega arith; each = λ i d below. absurd (omega arith); names = λ i d below. absurd (omega arith) }
 jobs-valid resources (Some d) none =
     let (items, is, faultless) = shaped-right (codes "job") (as_array d) _ none in
     rw (items_in-there (Some d) d items refl is) (listed-valid resources (items_list items) faultless)
 
-all-jobs : (resources : List Resource) (values : List Data) → AreJobs resources values → All (IsJob resources) (map (job_in resources) values)
+all-jobs : (resources : List Resource) (values : List Data) → AreJobs resources values
+    → All (IsJob resources) (map (job_in resources) values)
 all-jobs resources values jobs = λ k d below.
     let inside : k < length values = rw (← length-map values (job_in resources)) below in
     rw (get_or-map (job_in resources) values k nothing d inside) (jobs.each k nothing inside)
@@ -154,7 +167,8 @@ distinct-names resources values jobs = λ i j d less below.
     rw (one, other, ← get_or-take j values i nothing less) differs
 
 -- the plan of a document without a fault, whose resources stand in order of their names
-pub plan-valid : (root : Members) → faults_in root ≡ [] → AreInNameOrder (plan_in root).resources → IsValid (plan_in root)
+pub plan-valid : (root : Members) → faults_in root ≡ [] → AreSearchable (plan_in root).resources
+    → IsValid (plan_in root)
 plan-valid root none order =
     let resources = resources_in resource_kinds root in
     let members = members_in (get_member (codes "semaphore") root) in
@@ -164,7 +178,8 @@ plan-valid root none order =
     let version = no_faults (unless (has_only root_keys root) (codes "plan") fault.Key) _ turns.0 in
     let faultless = resources-faultless root with_resources.1 in
     let jobs = jobs-valid resources (get_member (codes "job") root) with_jobs.1 in
-    let listed : resources ≡ map (resource_in semaphores) members = append-nil (map (resource_in semaphores) members) in
+    let listed : resources ≡ map (resource_in semaphores) members =
+    append-nil (map (resource_in semaphores) members) in
     let one = required_number-valid (codes "version") 1 1 (get_member (codes "version") root) version.1 in
     let values = items_in (get_member (codes "job") root) in record {
       version = omega arith;
@@ -179,8 +194,8 @@ plan-valid root none order =
 
 -- and so is the plan that was read of a text
 pub read-valid : (bytes : List ℕ) (result : Result Plan PlanError) → IfOk result (IsPlanText bytes)
-    → IfOk result (λ plan. AreInNameOrder plan.resources) → IfOk result IsValid
+    → IfOk result (λ plan. AreSearchable plan.resources) → IfOk result IsValid
 read-valid bytes (Ok plan) text order =
-    let InOrder : Plan → Type 0 = λ p. AreInNameOrder p.resources in
+    let InOrder : Plan → Type 0 = λ p. AreSearchable p.resources in
     rw text.says (plan-valid text.root text.faultless (subst InOrder text.says order))
 read-valid bytes (Err error) text order = tt

@@ -21,7 +21,8 @@ if_ok : (test : Bool) (answer : Result Step FaultKind) (kind : FaultKind) (step 
 if_ok true answer kind step is = (refl, is)
 if_ok false answer kind step is = cc
 
-work-valid : (resources : List Resource) (text : List ℕ) (step : Step) → work_step text ≡ Ok step → IsStep resources step
+work-valid : (resources : List Resource) (text : List ℕ) (step : Step) → work_step text ≡ Ok step
+    → IsStep resources step
 work-valid resources text step is =
     let (tested, done) = if_ok _ _ _ step is in
     let bounds = and_parts (nat_le 1 (decimal_value text)) _ (and_parts (is_decimal text) _ tested).1 in
@@ -36,24 +37,28 @@ position_case : {X : Type 0} (test : X → Bool) (n k : ℕ) (x : X) (xs : List 
 position_case test n k x xs true passes found later = let here : n ≡ k = cc in (0, omega arith, passes)
 position_case test n k x xs false fails found later = let (i, at, passes) = later found in (suc i, omega arith, passes)
 
-position_from-passes : {X : Type 0} (test : X → Bool) (n k : ℕ) (xs : List X) → position_from test n xs ≡ Some k
+position_from-passes : {X : Type 0} (test : X → Bool) (n k : ℕ) (xs : List X)
+    → position_from test n xs ≡ Some k
     → (i : ℕ) × (k ≡ n + i) × IsSomeAnd (slice_get xs i) (λ x. test x ≡ true)
 position_from-passes test n k [] found = cc
 position_from-passes test n k (x ∷ xs) found =
     position_case test n k x xs (test x) refl found (λ later. position_from-passes test (n + 1) k xs later)
 
 found_step : (verb : Verb) (place : Option ℕ) (step : Step)
-    → option_map_or (λ p. Ok (verb.step p)) place (Err fault.Target) ≡ Ok step → (p : ℕ) × (place ≡ Some p) × (step ≡ verb.step p)
+    → option_map_or (λ p. Ok (verb.step p)) place (Err fault.Target) ≡ Ok step
+    → (p : ℕ) × (place ≡ Some p) × (step ≡ verb.step p)
 found_step verb None step is = cc
 found_step verb (Some p) step is = (p, refl, cc)
 
 works_there : (verb : Verb) (name : List ℕ) (found : Option Resource)
-    → IsSomeAnd found (λ r. (bytes_eq r.name name && verb.works_on r.kind) ≡ true) → IsSomeAnd found (λ r. IsTrue (verb.works_on r.kind))
+    → IsSomeAnd found (λ r. (bytes_eq r.name name && verb.works_on r.kind) ≡ true)
+    → IsSomeAnd found (λ r. IsTrue (verb.works_on r.kind))
 works_there verb name None has = has
 works_there verb name (Some r) has = (and_parts (bytes_eq r.name name) _ has).1
 
 -- a verb's step has its resource
-verb-valid : (verb : Verb) (resources : List Resource) (name : List ℕ) (step : Step) → step_at verb resources name ≡ Ok step
+verb-valid : (verb : Verb) (resources : List Resource) (name : List ℕ) (step : Step)
+    → step_at verb resources name ≡ Ok step
     → (place : ℕ) × (step ≡ verb.step place) × HasKindAt resources verb.works_on place
 verb-valid verb resources name step is =
     let (p, found, made) = found_step verb _ step is in
@@ -72,7 +77,8 @@ verb_case resources argument step false false true is =
     let (place, made, has) = verb-valid give_verb resources argument step is in rw made has
 verb_case resources argument step false false false is = cc
 
-pub step-valid : (resources : List Resource) (text : List ℕ) (step : Step) → step_of resources text ≡ Ok step → IsStep resources step
+pub step-valid : (resources : List Resource) (text : List ℕ) (step : Step)
+    → step_of resources text ≡ Ok step → IsStep resources step
 step-valid resources text step is =
     let word = before_first is_space text in
     let (tested, done) = if_ok (has_one_space text) _ fault.Step step is in

@@ -33,12 +33,14 @@ pub work_step-parsed : {E : Type 0} (text : List ℕ) (parsed : Result ℕ E) �
     → is_decimal text ≡ true → work_step text ≡ turns_step parsed
 work_step-parsed {E} text (Ok turns) read decimal =
     let digits = (and_parts (list_all is_ascii_digit text) _ decimal).0 in
-    let gives : OkIff {T = ℕ} {E = E} (Ok turns) ((0 < length text) × (decimal_value text < 2 ^ 32)) (decimal_value text) =
+    let gives : OkIff {T =
+    ℕ} {E = E} (Ok turns) ((0 < length text) × (decimal_value text < 2 ^ 32)) (decimal_value text) =
     parse_digits numerals {E = E} 32 text (Ok turns) read digits in
     rw (decimal, gives.1)
 work_step-parsed {E} text (Err e) read decimal =
     let digits = (and_parts (list_all is_ascii_digit text) _ decimal).0 in
-    let gives : OkIff {T = ℕ} {E = E} (Err e) ((0 < length text) × (decimal_value text < 2 ^ 32)) (decimal_value text) =
+    let gives : OkIff {T =
+    ℕ} {E = E} (Err e) ((0 < length text) × (decimal_value text < 2 ^ 32)) (decimal_value text) =
     parse_digits numerals {E = E} 32 text (Err e) read digits in
     elim (cases_Bool (nat_le 1 (decimal_value text) && nat_le (decimal_value text) 1000)) [
       | inl near ↦

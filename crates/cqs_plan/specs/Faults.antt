@@ -1,61 +1,22 @@
--- All faults of a document that is to be a plan, in the order in which they are looked for.
-use Rattle.std.specs.Prelude.{ℕ, ◌+◌, ℤ, pos, Bool, true, false, ◌&&◌, ◌||◌, not, ◌==◌, nat_le, nat_lt, int_le, List, [], ◌∷◌, ◌++◌, map, take, length, Option, Some, None, Result, Ok, Err, codes, count_by}
-use Rattle.std.specs.List.{list_all, list_any, flat_map, enumerate_from}
-use Rattle.std.specs.Fmt.{decimal}
+-- All faults of a document that is to be a plan, in the order in which they are looked for: `faults_in`, at the end.
+use Rattle.std.specs.Prelude.{ℕ, ◌+◌, ℤ, pos, Bool, ◌&&◌, not, nat_le, nat_lt, int_le, List, [], ◌∷◌, ◌++◌, map, take, length, Option, Result, Ok, Err, codes}
+use Rattle.std.specs.List.{list_any, flat_map}
 use Rattle.std.specs.Str.{bytes_eq}
 use Rattle.toml.specs.Data.{Data, Members, get_member, as_integer, as_str, as_array, as_table}
 use Rattle.cqs_plan.specs.declared.plans.resource.Resource.{Resource}
 use Rattle.cqs_plan.specs.declared.plans.fault_kind.FaultKind.{FaultKind}
 use Rattle.cqs_plan.specs.declared.plans.fault_kind.FaultKind.TheVariants as fault
 use Rattle.cqs_plan.specs.declared.plans.step.Step.{Step}
-use Rattle.cqs_plan.specs.declared.plans.step.Step.TheVariants.{Take, Give, Down, Await, Arrive, Work}
-use Rattle.cqs_plan.specs.PlanSteps.{is_take, is_give}
+use Rattle.cqs_plan.specs.FaultRules.{Fault, fault_at, unless, required, optional, shaped, each, has_only}
+use Rattle.cqs_plan.specs.Holding.{is_held}
 use Rattle.cqs_plan.specs.Language.{is_name, Number, ResourceKind, resource_kinds}
-use Rattle.cqs_plan.specs.Meaning.{items_list, members_list, members_in, items_in, resources_in, step_of, steps_in, job_name}
-
--- what is wrong, and where
-pub record Fault : Type 0 where
-  pub place : List ℕ
-  pub kind : FaultKind
-
-abbrev pub fault_at : List ℕ → FaultKind → List Fault
-fault_at place kind = record { place = place; kind = kind } ∷ []
-
--- a fault where the test fails
-abbrev pub unless : Bool → List ℕ → FaultKind → List Fault
-unless true place kind = []
-unless false place kind = fault_at place kind
-
--- `missing`, or the faults of what is there
-abbrev pub required : List ℕ → Option Data → (Data → List Fault) → List Fault
-required place None faults = fault_at place fault.Missing
-required place (Some value) faults = faults value
-
-abbrev pub optional : Option Data → (Data → List Fault) → List Fault
-optional None faults = []
-optional (Some value) faults = faults value
-
--- `shape`, or the faults of what the value is
-abbrev pub shaped : {X : Type 0} → List ℕ → Option X → (X → List Fault) → List Fault
-shaped place None faults = fault_at place fault.Shape
-shaped place (Some value) faults = faults value
-
--- the faults of each element, at its place
-abbrev pub each : {X : Type 0} → List X → (ℕ → X → List Fault) → List Fault
-each values faults = flat_map (λ (i, value). faults i value) (enumerate_from 0 values)
-
--- the keys of the table are among these
-abbrev pub has_only : List (List ℕ) → Members → Bool
-has_only known members = list_all (λ m. list_any (bytes_eq m.0) known) (members_list members)
+use Rattle.cqs_plan.specs.Meaning.{items_list, members_list, members_in, resources_in, step_of, steps_in, job_name}
+use Rattle.cqs_plan.specs.Places.{dotted, indexed, job_place, part_place}
 
 -- an integer from least to most
 abbrev pub number_faults : List ℕ → ℕ → ℕ → Data → List Fault
 number_faults place least most value =
     shaped place (as_integer value) (λ z. unless (int_le (pos least) z && int_le z (pos most)) place fault.Range)
-
--- where a resource and its numbers are
-abbrev pub dotted : List ℕ → List ℕ → List ℕ
-dotted place key = place ++ codes "." ++ key
 
 -- the faults of the numbers that a kind requires
 abbrev pub resource_number_faults : ResourceKind → List ℕ → Members → List Fault
@@ -84,11 +45,6 @@ resources_faults root = each resource_kinds (λ i kind. optional (get_member kin
     shaped kind.key (as_table value) (λ table.
     each (members_list table) (resource_faults kind (names_in (take i resource_kinds) root)))))
 
--- a `give` has an earlier `take` of its own
-abbrev pub is_held : List Step → Step → Bool
-is_held earlier (Give place) = nat_lt (count_by (is_give place) earlier) (count_by (is_take place) earlier)
-is_held earlier _ = true
-
 -- the fault of a text that is no step, or of one that gives what isn't held
 abbrev pub read_step_faults : List ℕ → List Step → Result Step FaultKind → List Fault
 read_step_faults place earlier (Ok step) = unless (is_held earlier step) place fault.Unheld
@@ -97,17 +53,6 @@ read_step_faults place earlier (Err kind) = fault_at place kind
 abbrev pub step_faults : List ℕ → List Resource → List Step → Data → List Fault
 step_faults place resources earlier value =
     shaped place (as_str value) (λ text. read_step_faults place earlier (step_of resources text))
-
--- the j-th of something, as `steps[j]`
-abbrev pub indexed : List ℕ → ℕ → List ℕ
-indexed place i = place ++ codes "[" ++ decimal i ++ codes "]"
-
--- where the i-th job is, and where a part of it is
-abbrev pub job_place : ℕ → List ℕ
-job_place i = indexed (codes "job") i
-
-abbrev pub part_place : ℕ → List ℕ → List ℕ
-part_place i key = dotted (job_place i) key
 
 -- the faults of the j-th of the steps of a job
 abbrev pub job_step_faults : List ℕ → List Resource → List Data → ℕ → Data → List Fault
@@ -163,11 +108,15 @@ jobs_part_faults resources value = optional value (λ jobs.
 abbrev pub root_keys : List (List ℕ)
 root_keys = codes "version" ∷ codes "turns" ∷ map (λ kind. kind.key) resource_kinds ++ codes "job" ∷ []
 
+-- the faults of an integer that the root has to have
+abbrev pub root_number_faults : List ℕ → ℕ → ℕ → Members → List Fault
+root_number_faults key least most root = required key (get_member key root) (number_faults key least most)
+
 -- all faults of a document, in order
 abbrev pub faults_in : Members → List Fault
 faults_in root =
     unless (has_only root_keys root) (codes "plan") fault.Key
-    ++ required (codes "version") (get_member (codes "version") root) (number_faults (codes "version") 1 1)
-    ++ required (codes "turns") (get_member (codes "turns") root) (number_faults (codes "turns") 1 40000)
+    ++ root_number_faults (codes "version") 1 1 root
+    ++ root_number_faults (codes "turns") 1 40000 root
     ++ resources_faults root
     ++ jobs_part_faults (resources_in resource_kinds root) (get_member (codes "job") root)

@@ -6,11 +6,13 @@ pub mod Floor
 pub mod FloorCalls
 pub mod Runnable
 pub mod Language
+pub mod Order
+pub mod Holding
 pub mod Meaning
+pub mod Places
+pub mod FaultRules
 pub mod Faults
 pub mod PlanText
-pub mod Places
-pub mod Reading
-pub mod Order
 pub mod Validity
+pub mod Reading
 pub mod FaultLine

@@ -1,5 +1,5 @@
 -- The order in which the resources of a plan stand.
-use Rattle.std.specs.Prelude.{◌≡◌, ◌≢◌, ℕ, ◌<◌, ◌⊎◌, List, AllPairs}
+use Rattle.std.specs.Prelude.{◌≡◌, ◌≢◌, ℕ, ◌<◌, ◌≤◌, ◌⊎◌, List, length, AllPairs}
 use Rattle.std.specs.Ordering.{nat_cmp}
 use Rattle.std.specs.declared.cmp.Ordering.TheVariants.{Less}
 use Rattle.std.specs.Cmp.Lexicographic.{slice_cmp}
@@ -20,13 +20,15 @@ IsBelow one other = slice_cmp nat_cmp one other ≡ Less
 
 -- of an earlier kind, or of the same kind and below in byte order of the names
 abbrev pub Precedes : Resource → Resource → Type 0
-Precedes one other = (rank one.kind < rank other.kind) ⊎ ((rank one.kind ≡ rank other.kind) × IsBelow one.name other.name)
+Precedes one other =
+    (rank one.kind < rank other.kind) ⊎ ((rank one.kind ≡ rank other.kind) × IsBelow one.name other.name)
 
 -- kind by kind, and within a kind in byte order of the names, which are all different
 pub record AreInOrder (resources : List Resource) : Type 0 where
   pub order : AllPairs Precedes resources
   pub distinct : AllPairs (λ one other. one.name ≢ other.name) resources
 
--- in byte order of the names, as resources of one kind stand
-pub record AreInNameOrder (resources : List Resource) : Type 0 where
+-- at most 64, in byte order of the names, as resources of one kind stand
+pub record AreSearchable (resources : List Resource) : Type 0 where
+  pub few : length resources ≤ 64
   pub names : AllPairs (λ one other. IsBelow one.name other.name) resources

@@ -1,8 +1,23 @@
 -- How a fault line names a place of the document.
 use Rattle.std.specs.Prelude.{ℕ, List, ◌++◌, codes}
+use Rattle.std.specs.Fmt.{decimal}
 use Rattle.cqs_plan.specs.declared.reader.place.Place.{Place}
 use Rattle.cqs_plan.specs.declared.reader.place.Place.TheVariants.{Word, Resource, Number, Job, Part, Step}
-use Rattle.cqs_plan.specs.Faults.{dotted, indexed, job_place, part_place}
+
+-- what stands below a place, as `semaphore.db`
+abbrev pub dotted : List ℕ → List ℕ → List ℕ
+dotted place key = place ++ codes "." ++ key
+
+-- the i-th of an array, as `job[3]`
+abbrev pub indexed : List ℕ → ℕ → List ℕ
+indexed place i = place ++ codes "[" ++ decimal i ++ codes "]"
+
+-- the i-th job, and a part of it, as `job[3].name`
+abbrev pub job_place : ℕ → List ℕ
+job_place i = indexed (codes "job") i
+
+abbrev pub part_place : ℕ → List ℕ → List ℕ
+part_place i key = dotted (job_place i) key
 
 -- the text of a place
 abbrev pub place_text : Place → List ℕ

@@ -8,7 +8,7 @@ use Rattle.cqs_plan.specs.declared.plans.plan.Plan.{Plan}
 use Rattle.cqs_plan.specs.declared.plans.resource.Resource.{Resource}
 use Rattle.cqs_plan.specs.declared.plans.step.Step.{Step}
 use Rattle.cqs_plan.specs.declared.plans.step.Step.TheVariants.{Take, Give, Down, Await, Arrive, Work}
-use Rattle.cqs_plan.specs.PlanSteps.{is_give, is_take}
+use Rattle.cqs_plan.specs.Holding.{is_give, is_take}
 use Rattle.cqs_plan.specs.Language.{can_hold, is_name}
 use Rattle.cqs_plan.specs.Order.{AreInOrder}
 

@@ -7,7 +7,7 @@ ghost use Rattle.cqs_plan.specs.declared.plans.fault_kind.FaultKind.{FaultKind};
 ghost use Rattle.toml.specs.View.{table_view};
 ghost use Rattle.cqs_plan.specs.Faults.{faults_in};
 ghost use Rattle.cqs_plan.specs.Meaning.{plan_in};
-ghost use Rattle.cqs_plan.specs.Order.{AreInNameOrder};
+ghost use Rattle.cqs_plan.specs.Order.{AreSearchable};
 ghost use Rattle.cqs_plan.specs.declared.plans.plan.Plan.{Plan};
 ghost use Rattle.cqs_plan.specs.PlanText.{IsFirstFault, IsNoToml, IsOrMemory, IsPlanText};
 ghost use Rattle.cqs_plan.specs.Runnable.{HasSemaphoresAlone, IsRunnable};
@@ -21,6 +21,7 @@ pub mod numbers;
 pub mod place;
 pub mod places;
 pub mod resources;
+pub mod step_text;
 pub mod steps;
 
 use crate::plans::error::PlanError;
@@ -38,7 +39,7 @@ use toml::Table;
 fn plan_from(alloc: Global, root: &Table) -> Result<Plan, PlanError>
     ensures faults { Reads result (faults_in (table_view root.now)) }
     ensures value { IfOk result (λ plan. plan ≡ plan_in (table_view root.now)) }
-    ensures order { IfOk result (λ plan. AreInNameOrder plan.resources) }
+    ensures order { IfOk result (λ plan. AreSearchable plan.resources) }
 {
     if !has_only(&["version", "turns", "semaphore", "job"], root) {
         return Err(Place::Word("plan").fault(alloc, FaultKind::Key));
@@ -63,9 +64,10 @@ fn plan_from(alloc: Global, root: &Table) -> Result<Plan, PlanError>
 
 fn read(alloc: Global, bytes: &[u8]) -> Result<Plan, PlanError>
     ensures plan { IfOk result (IsPlanText bytes.now) }
-    ensures order { IfOk result (λ plan. AreInNameOrder plan.resources) }
+    ensures order { IfOk result (λ plan. AreSearchable plan.resources) }
     ensures not_toml { result ≡ Err PlanError.NotToml → IsNoToml bytes.now }
-    ensures fault { (place : List ℕ) (kind : FaultKind) → result ≡ Err (PlanError.Fault place kind) → IsFirstFault bytes.now place kind }
+    ensures fault { (place : List ℕ) (kind : FaultKind)
+        → result ≡ Err (PlanError.Fault place kind) → IsFirstFault bytes.now place kind }
 {
     match toml::table_from_slice(alloc, bytes) {
         Ok(root) => plan_from(alloc, &root),
@@ -74,19 +76,22 @@ fn read(alloc: Global, bytes: &[u8]) -> Result<Plan, PlanError>
     }
 }
 
-/// Reads a plan.
+/// Reads a plan. An error says why the bytes are none: they are no document, or what the first
+/// fault of the document is and where. Only want of memory says nothing of them.
 pub fn read_plan(alloc: Global, bytes: &[u8]) -> Result<Plan, PlanError>
     ensures plan { IfOk result (IsPlanText bytes.now) }
     ensures valid { IfOk result IsValid }
     ensures runnable { IfOk result IsRunnable }
     ensures built { IfOk result HasSemaphoresAlone }
     ensures not_toml { result ≡ Err PlanError.NotToml → IsNoToml bytes.now }
-    ensures fault { (place : List ℕ) (kind : FaultKind) → result ≡ Err (PlanError.Fault place kind) → IsFirstFault bytes.now place kind }
+    ensures fault { (place : List ℕ) (kind : FaultKind)
+        → result ≡ Err (PlanError.Fault place kind) → IsFirstFault bytes.now place kind }
 
     // Each answer comes where its cause is there, unless memory runs out.
     ensures of_plan { (plan : Plan) → IsPlanText bytes.now plan → IsOrMemory result (Ok plan) }
     ensures of_no_toml { IsNoToml bytes.now → IsOrMemory result (Err PlanError.NotToml) }
-    ensures of_fault { (place : List ℕ) (kind : FaultKind) → IsFirstFault bytes.now place kind → IsOrMemory result (Err (PlanError.Fault place kind)) }
+    ensures of_fault { (place : List ℕ) (kind : FaultKind)
+        → IsFirstFault bytes.now place kind → IsOrMemory result (Err (PlanError.Fault place kind)) }
 {
     read(alloc, bytes)
 }

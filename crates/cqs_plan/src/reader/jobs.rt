@@ -1,12 +1,14 @@
-ghost use Rattle.std.specs.Prelude.{◌≡◌, ◌||◌, ◌<◌, ◌^◌, ℕ, List, Some, IfOk, codes, length, map, option_map};
+//! The jobs of a plan.
+ghost use Rattle.std.specs.Prelude.{◌≡◌, IfOk, Some, codes, map, option_map};
 ghost use Rattle.std.specs.BTreeSet.{contains_text};
-ghost use Rattle.std.specs.Str.{bytes_eq};
 ghost use Rattle.toml.specs.Data.{get_member};
 ghost use Rattle.toml.specs.View.{array_view, table_view, view};
-ghost use Rattle.cqs_plan.specs.Faults.{each, job_faults, jobs_faults, jobs_part_faults, listed_job_faults, number_faults, optional, part_place};
+ghost use Rattle.cqs_plan.specs.FaultRules.{each, optional};
+ghost use Rattle.cqs_plan.specs.Faults.{job_faults, jobs_faults, jobs_part_faults, listed_job_faults, number_faults};
 ghost use Rattle.cqs_plan.specs.Meaning.{items_in, items_list, job_in, number_in};
-ghost use Rattle.cqs_plan.specs.Order.{AreInNameOrder};
-ghost use Rattle.cqs_plan.specs.Reading.{Reads};
+ghost use Rattle.cqs_plan.specs.Order.{AreSearchable};
+ghost use Rattle.cqs_plan.specs.Places.{part_place};
+ghost use Rattle.cqs_plan.specs.Reading.{AddsName, Reads, data_in};
 
 use super::members::{has_only, member};
 use super::names::new_name;
@@ -24,8 +26,10 @@ use toml::value::Array;
 use toml::{Table, Value};
 
 fn deadline(alloc: Global, job: usize, value: Option<&Value>) -> Result<Option<u32>, PlanError>
-    ensures faults { Reads result (optional (option_map (λ value. view value.now) value.entry) (number_faults (part_place job (codes "deadline")) 0 40000)) }
-    ensures value { IfOk result (λ deadline. deadline ≡ option_map (λ value. number_in (Some (view value.now))) value.entry) }
+    ensures faults { let place = part_place job (codes "deadline") in
+        Reads result (optional (data_in value.entry) (number_faults place 0 40000)) }
+    ensures value { let given = data_in value.entry in
+        IfOk result (λ turn. turn ≡ option_map (λ found. number_in (Some found)) given) }
 {
     let Some(value) = value else {
         return Ok(None);
@@ -45,11 +49,11 @@ fn job(
     resources: &[Resource],
     names: &mut BTreeSet<String>,
 ) -> Result<Job, PlanError>
-    requires order { AreInNameOrder resources.now }
-    requires few { length resources.now < 2 ^ 32 }
-    ensures faults { Reads result (job_faults resources.now (contains_text names.old) index (view value.now)) }
+    requires { AreSearchable resources.now }
+    ensures faults { let stands = contains_text names.old in
+        Reads result (job_faults resources.now stands index (view value.now)) }
     ensures value { IfOk result (λ job. job ≡ job_in resources.now (view value.now)) }
-    ensures added { IfOk result (λ job. (other : List ℕ) → contains_text names.new other ≡ (bytes_eq job.name other || contains_text names.old other)) }
+    ensures added { IfOk result (λ job. AddsName names.old names.new job.name) }
 {
     let place = Place::Job(index);
     let Some(table) = value.as_table() else {
@@ -74,10 +78,11 @@ fn job(
 
 /// The jobs that values say, each after those before it.
 fn each_job(alloc: Global, values: &Array, resources: &[Resource]) -> Result<Vec<Job>, PlanError>
-    requires order { AreInNameOrder resources.now }
-    requires few { length resources.now < 2 ^ 32 }
-    ensures faults { let all = map view values.now.items in Reads result (each all (listed_job_faults resources.now all)) }
-    ensures value { IfOk result (λ jobs. jobs.items ≡ map (job_in resources.now) (map view values.now.items)) }
+    requires { AreSearchable resources.now }
+    ensures faults { let all = map view values.now.items in
+        Reads result (each all (listed_job_faults resources.now all)) }
+    ensures value { let all = map view values.now.items in
+        IfOk result (λ jobs. jobs.items ≡ map (job_in resources.now) all) }
 {
     let mut names = BTreeSet::new(alloc);
     let mut jobs = Vec::with_capacity(alloc, values.len())?;
@@ -90,10 +95,10 @@ fn each_job(alloc: Global, values: &Array, resources: &[Resource]) -> Result<Vec
 
 /// The jobs that an array says.
 fn listed_jobs(alloc: Global, values: &Array, resources: &[Resource]) -> Result<Vec<Job>, PlanError>
-    requires order { AreInNameOrder resources.now }
-    requires few { length resources.now < 2 ^ 32 }
+    requires { AreSearchable resources.now }
     ensures faults { Reads result (jobs_faults resources.now (items_list (array_view values.now))) }
-    ensures value { IfOk result (λ jobs. jobs.items ≡ map (job_in resources.now) (items_list (array_view values.now))) }
+    ensures value { let all = items_list (array_view values.now) in
+        IfOk result (λ jobs. jobs.items ≡ map (job_in resources.now) all) }
 {
     if values.len() > 4096 {
         return Err(Place::Word("job").fault(alloc, FaultKind::Many));
@@ -103,10 +108,11 @@ fn listed_jobs(alloc: Global, values: &Array, resources: &[Resource]) -> Result<
 
 /// The jobs of a plan, in order.
 pub fn jobs(alloc: Global, root: &Table, resources: &[Resource]) -> Result<Vec<Job>, PlanError>
-    requires order { AreInNameOrder resources.now }
-    requires few { length resources.now < 2 ^ 32 }
-    ensures faults { Reads result (jobs_part_faults resources.now (get_member (codes "job") (table_view root.now))) }
-    ensures value { IfOk result (λ jobs. jobs.items ≡ map (job_in resources.now) (items_in (get_member (codes "job") (table_view root.now)))) }
+    requires { AreSearchable resources.now }
+    ensures faults { let given = get_member (codes "job") (table_view root.now) in
+        Reads result (jobs_part_faults resources.now given) }
+    ensures value { let all = items_in (get_member (codes "job") (table_view root.now)) in
+        IfOk result (λ jobs. jobs.items ≡ map (job_in resources.now) all) }
 {
     let Some(value) = member(root, "job") else {
         return Ok(Vec::new(alloc));

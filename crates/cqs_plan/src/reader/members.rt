@@ -1,16 +1,18 @@
-ghost use Rattle.std.specs.Prelude.{◌≡◌, map, option_map, string_bytes};
+//! What a table has at its keys.
+ghost use Rattle.std.specs.Prelude.{◌≡◌, map, string_bytes};
 ghost use Rattle.std.specs.BTreeMap.{keys};
 ghost use Rattle.std.specs.List.{list_all, list_any};
 ghost use Rattle.std.specs.Str.{bytes_eq};
 ghost use Rattle.toml.specs.Data.{get_member};
-ghost use Rattle.toml.specs.View.{view, table_view};
-ghost use Rattle.cqs_plan.specs.Faults.{has_only};
+ghost use Rattle.toml.specs.View.{table_view};
+ghost use Rattle.cqs_plan.specs.FaultRules.{has_only};
+ghost use Rattle.cqs_plan.specs.Reading.{data_in};
 
 use toml::{Table, Value};
 
 /// The value at a key, if the table has the key.
 pub fn member<'a>(table: &'a Table, key: &str) -> Option<&'a Value>
-    ensures { option_map (λ value. view value.now) result ≡ get_member key.now (table_view table.now) }
+    ensures { data_in result ≡ get_member key.now (table_view table.now) }
 {
     table.get(key)
 }
@@ -22,7 +24,9 @@ fn is_among(key: &str, known: &[&str]) -> bool
 }
 
 fn keys_are_among(known: &[&str], table: &Table) -> bool
-    ensures { result ≡ list_all (λ key. list_any (λ word. bytes_eq (string_bytes key) word.now) known.now) (keys table.now) }
+    ensures { result ≡ list_all
+        (λ key. list_any (λ word. bytes_eq (string_bytes key) word.now) known.now)
+        (keys table.now) }
 {
     table.keys().all(|key| is_among(key.as_str(), known))
 }

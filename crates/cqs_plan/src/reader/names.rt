@@ -1,13 +1,13 @@
-ghost use Rattle.std.specs.Prelude.{◌≡◌, ◌||◌, ℕ, List, IfOk, option_map};
+//! Names.
+ghost use Rattle.std.specs.Prelude.{◌≡◌, IfOk};
 ghost use Rattle.std.specs.BTreeSet.{contains_text};
 ghost use Rattle.std.specs.List.{list_all};
-ghost use Rattle.std.specs.Str.{bytes_eq};
-ghost use Rattle.toml.specs.View.{view};
-ghost use Rattle.cqs_plan.specs.Faults.{name_faults, required};
+ghost use Rattle.cqs_plan.specs.FaultRules.{required};
+ghost use Rattle.cqs_plan.specs.Faults.{name_faults};
+ghost use Rattle.cqs_plan.specs.Places.{place_text};
 ghost use Rattle.cqs_plan.specs.Language.{is_name, is_name_byte};
 ghost use Rattle.cqs_plan.specs.Meaning.{text_in};
-ghost use Rattle.cqs_plan.specs.Places.{place_text};
-ghost use Rattle.cqs_plan.specs.Reading.{Reads};
+ghost use Rattle.cqs_plan.specs.Reading.{AddsName, Reads, data_in};
 
 use super::place::Place;
 use crate::plans::error::PlanError;
@@ -43,9 +43,11 @@ pub fn new_name(
     value: Option<&Value>,
     names: &mut BTreeSet<String>,
 ) -> Result<Name, PlanError>
-    ensures faults { Reads result (required (place_text place.entry) (option_map (λ value. view value.now) value.entry) (name_faults (place_text place.entry) (contains_text names.old))) }
-    ensures value { IfOk result (λ name. name ≡ text_in (option_map (λ value. view value.now) value.entry)) }
-    ensures added { IfOk result (λ name. (other : List ℕ) → contains_text names.new other ≡ (bytes_eq name other || contains_text names.old other)) }
+    ensures faults { let place = place_text place.entry in
+        let stands = contains_text names.old in
+        Reads result (required place (data_in value.entry) (name_faults place stands)) }
+    ensures value { IfOk result (λ name. name ≡ text_in (data_in value.entry)) }
+    ensures added { IfOk result (AddsName names.old names.new) }
 {
     let Some(value) = value else {
         return Err(place.fault(alloc, FaultKind::Missing));

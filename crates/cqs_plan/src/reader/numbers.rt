@@ -1,9 +1,11 @@
-ghost use Rattle.std.specs.Prelude.{◌≡◌, IfOk, option_map};
+//! Integers in a range.
+ghost use Rattle.std.specs.Prelude.{◌≡◌, IfOk, Some};
 ghost use Rattle.toml.specs.View.{view};
-ghost use Rattle.cqs_plan.specs.Faults.{number_faults, required};
-ghost use Rattle.cqs_plan.specs.Meaning.{number_in};
+ghost use Rattle.cqs_plan.specs.FaultRules.{required};
+ghost use Rattle.cqs_plan.specs.Faults.{number_faults};
 ghost use Rattle.cqs_plan.specs.Places.{place_text};
-ghost use Rattle.cqs_plan.specs.Reading.{Reads};
+ghost use Rattle.cqs_plan.specs.Meaning.{number_in};
+ghost use Rattle.cqs_plan.specs.Reading.{Reads, data_in};
 
 use super::place::Place;
 use crate::plans::error::PlanError;
@@ -19,7 +21,8 @@ pub fn number(
     least: u32,
     most: u32,
 ) -> Result<u32, PlanError>
-    ensures faults { Reads result (number_faults (place_text place.entry) least most (view value.now)) }
+    ensures faults { let place = place_text place.entry in
+        Reads result (number_faults place least most (view value.now)) }
     ensures value { IfOk result (λ number. number ≡ number_in (Some (view value.now))) }
 {
     match value.as_integer() {
@@ -39,8 +42,9 @@ pub fn required_number(
     least: u32,
     most: u32,
 ) -> Result<u32, PlanError>
-    ensures faults { Reads result (required (place_text place.entry) (option_map (λ value. view value.now) value.entry) (number_faults (place_text place.entry) least most)) }
-    ensures value { IfOk result (λ number. number ≡ number_in (option_map (λ value. view value.now) value.entry)) }
+    ensures faults { let place = place_text place.entry in
+        Reads result (required place (data_in value.entry) (number_faults place least most)) }
+    ensures value { IfOk result (λ number. number ≡ number_in (data_in value.entry)) }
 {
     match value {
         None => Err(place.fault(alloc, FaultKind::Missing)),

@@ -1,7 +1,7 @@
 ghost use Rattle.std.specs.Prelude.{codes, ◌++◌, Some};
-ghost use Rattle.cqs_plan.specs.Faults.{fault_at};
-ghost use Rattle.cqs_plan.specs.Reading.{StopsAt};
+ghost use Rattle.cqs_plan.specs.FaultRules.{fault_at};
 ghost use Rattle.cqs_plan.specs.Places.{place_text};
+ghost use Rattle.cqs_plan.specs.Reading.{StopsAt};
 
 use crate::plans::error::PlanError;
 use crate::plans::fault_kind::FaultKind;

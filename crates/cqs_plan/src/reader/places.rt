@@ -1,10 +1,11 @@
-ghost use Rattle.std.specs.Prelude.{◌≡◌, ◌&&◌, ◌<◌, ◌^◌, length};
+//! Where a resource stands.
+ghost use Rattle.std.specs.Prelude.{◌≡◌, ◌&&◌};
 ghost use Rattle.std.specs.Cmp.Lexicographic.{slice_cmp};
 ghost use Rattle.std.specs.Ordering.{nat_cmp};
 ghost use Rattle.std.specs.Str.{bytes_eq};
 ghost use Rattle.std.specs.List.{position_from};
 ghost use Rattle.cqs_plan.specs.Language.{can_hold};
-ghost use Rattle.cqs_plan.specs.Order.{AreInNameOrder};
+ghost use Rattle.cqs_plan.specs.Order.{AreSearchable};
 
 use crate::plans::kind::Kind;
 use crate::plans::resource::Resource;
@@ -28,9 +29,9 @@ fn name_cmp(resource: &Resource, name: &[u8]) -> Ordering
 /// The place of the resource of this name, if it can be taken and given. The resources stand in
 /// byte order of their names, so few of them are looked at.
 pub fn place_of(name: &str, resources: &[Resource]) -> Option<u32>
-    requires order { AreInNameOrder resources.now }
-    requires few { length resources.now < 2 ^ 32 }
-    ensures { result ≡ position_from (λ resource. bytes_eq resource.name name.now && can_hold resource.kind) 0 resources.now }
+    requires { AreSearchable resources.now }
+    ensures { result ≡ position_from
+        (λ resource. bytes_eq resource.name name.now && can_hold resource.kind) 0 resources.now }
 {
     let bytes = name.as_bytes();
     match resources.binary_search_by(|resource| name_cmp(resource, bytes)) {

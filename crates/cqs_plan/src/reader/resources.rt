@@ -1,10 +1,12 @@
-ghost use Rattle.std.specs.Prelude.{◌≡◌, ◌<◌, ◌≤◌, IfOk, OnOk, [], codes, map, vec_len};
+//! The resources of a plan.
+ghost use Rattle.std.specs.Prelude.{◌≡◌, ◌<◌, IfOk, OnOk, [], codes, map};
 ghost use Rattle.toml.specs.Data.{get_member};
-ghost use Rattle.toml.specs.View.{view, table_view};
-ghost use Rattle.cqs_plan.specs.Faults.{each, resource_faults, resource_number_faults, resources_faults};
-ghost use Rattle.cqs_plan.specs.Language.{semaphores, resource_kinds};
+ghost use Rattle.toml.specs.View.{table_view, view};
+ghost use Rattle.cqs_plan.specs.FaultRules.{each};
+ghost use Rattle.cqs_plan.specs.Faults.{resource_faults, resource_number_faults, resources_faults};
+ghost use Rattle.cqs_plan.specs.Language.{resource_kinds, semaphores};
 ghost use Rattle.cqs_plan.specs.Meaning.{members_list, number_in, resource_in, resources_in};
-ghost use Rattle.cqs_plan.specs.Order.{AreInNameOrder};
+ghost use Rattle.cqs_plan.specs.Order.{AreSearchable};
 ghost use Rattle.cqs_plan.specs.Reading.{Reads};
 
 use super::members::{has_only, member};
@@ -21,8 +23,10 @@ use toml::{Table, Value};
 
 /// The number of permits in the table of a semaphore.
 fn size(alloc: Global, name: &str, table: &Table) -> Result<u32, PlanError>
-    ensures faults { Reads result (resource_number_faults semaphores name.now (table_view table.now)) }
-    ensures value { IfOk result (λ size. size ≡ number_in (get_member (codes "size") (table_view table.now))) }
+    ensures faults { let members = table_view table.now in
+        Reads result (resource_number_faults semaphores name.now members) }
+    ensures value { let members = table_view table.now in
+        IfOk result (λ size. size ≡ number_in (get_member (codes "size") members)) }
 {
     let place = Place::Number {
         kind: "semaphore",
@@ -35,7 +39,8 @@ fn size(alloc: Global, name: &str, table: &Table) -> Result<u32, PlanError>
 /// A semaphore, from its name and its value, which is the `index`-th of the table.
 fn semaphore(alloc: Global, index: usize, name: &str, value: &Value) -> Result<Resource, PlanError>
     ensures faults { Reads result (resource_faults semaphores [] index (name.now, view value.now)) }
-    ensures value { IfOk result (λ resource. resource ≡ resource_in semaphores (name.now, view value.now)) }
+    ensures value { let said = resource_in semaphores (name.now, view value.now) in
+        IfOk result (λ resource. resource ≡ said) }
     ensures few { OnOk result (index < 64) }
 {
     if !is_name(name) {
@@ -61,11 +66,13 @@ fn semaphore(alloc: Global, index: usize, name: &str, value: &Value) -> Result<R
     })
 }
 
-fn semaphores(alloc: Global, table: &Table) -> Result<Vec<Resource>, PlanError>
-    ensures faults { Reads result (each (members_list (table_view table.now)) (resource_faults semaphores [])) }
-    ensures value { IfOk result (λ found. found.items ≡ map (resource_in semaphores) (members_list (table_view table.now))) }
-    ensures order { IfOk result (λ found. AreInNameOrder found.items) }
-    ensures few { IfOk result (λ found. vec_len found ≤ 64) }
+/// The semaphores that a table says.
+fn listed_semaphores(alloc: Global, table: &Table) -> Result<Vec<Resource>, PlanError>
+    ensures faults { let members = members_list (table_view table.now) in
+        Reads result (each members (resource_faults semaphores [])) }
+    ensures value { let members = members_list (table_view table.now) in
+        IfOk result (λ found. found.items ≡ map (resource_in semaphores) members) }
+    ensures order { IfOk result (λ found. AreSearchable found.items) }
 {
     let mut found = Vec::with_capacity(alloc, table.len().min(64))?;
     for (name, value) in table {
@@ -78,15 +85,15 @@ fn semaphores(alloc: Global, table: &Table) -> Result<Vec<Resource>, PlanError>
 /// The resources of a plan, in order.
 pub fn resources(alloc: Global, root: &Table) -> Result<Vec<Resource>, PlanError>
     ensures faults { Reads result (resources_faults (table_view root.now)) }
-    ensures value { IfOk result (λ found. found.items ≡ resources_in resource_kinds (table_view root.now)) }
-    ensures order { IfOk result (λ found. AreInNameOrder found.items) }
-    ensures few { IfOk result (λ found. vec_len found ≤ 64) }
+    ensures value { let all = resources_in resource_kinds (table_view root.now) in
+        IfOk result (λ found. found.items ≡ all) }
+    ensures order { IfOk result (λ found. AreSearchable found.items) }
 {
     let Some(value) = member(root, "semaphore") else {
         return Ok(Vec::new(alloc));
     };
     match value.as_table() {
         None => Err(Place::Word("semaphore").fault(alloc, FaultKind::Shape)),
-        Some(table) => semaphores(alloc, table),
+        Some(table) => listed_semaphores(alloc, table),
     }
 }

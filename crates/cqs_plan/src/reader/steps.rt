@@ -1,16 +1,16 @@
-ghost use Rattle.std.specs.Prelude.{◌≡◌, ◌<◌, ◌^◌, codes, length, count_by, Some, IfOk, map, option_map};
-ghost use Rattle.std.specs.Char.{is_ascii_digit};
-ghost use Rattle.std.specs.List.{list_all};
+//! The steps of a job.
+ghost use Rattle.std.specs.Prelude.{◌≡◌, codes, count_by, Some, IfOk, map};
 ghost use Rattle.toml.specs.View.{array_view, view};
-ghost use Rattle.cqs_plan.specs.PlanSteps.{is_give, is_take};
-ghost use Rattle.cqs_plan.specs.Faults.{each, is_held, job_step_faults, part_place, step_faults, steps_faults, steps_part_faults};
-ghost use Rattle.cqs_plan.specs.Meaning.{has_one_space, is_decimal, items_in, items_list, step_in, step_of, steps_in, verb_step, work_step};
-ghost use Rattle.cqs_plan.specs.Order.{AreInNameOrder};
-ghost use Rattle.cqs_plan.specs.Places.{place_text};
-ghost use Rattle.cqs_plan.specs.Reading.{Reads};
+ghost use Rattle.cqs_plan.specs.FaultRules.{each};
+ghost use Rattle.cqs_plan.specs.Faults.{job_step_faults, step_faults, steps_faults, steps_part_faults};
+ghost use Rattle.cqs_plan.specs.Holding.{is_give, is_held, is_take};
+ghost use Rattle.cqs_plan.specs.Meaning.{items_in, items_list, step_in, steps_in};
+ghost use Rattle.cqs_plan.specs.Order.{AreSearchable};
+ghost use Rattle.cqs_plan.specs.Places.{part_place, place_text};
+ghost use Rattle.cqs_plan.specs.Reading.{Reads, data_in};
 
 use super::place::Place;
-use super::places::place_of;
+use super::step_text::step_of;
 use crate::plans::error::PlanError;
 use crate::plans::fault_kind::FaultKind;
 use crate::plans::resource::Resource;
@@ -19,68 +19,7 @@ use std::alloc::Global;
 use toml::Value;
 use toml::value::Array;
 
-fn has_one_space(text: &[u8]) -> bool
-    ensures { result ≡ has_one_space text.now }
-{
-    text.iter().filter(|byte| **byte == b' ').count() == 1
-}
-
-fn has_digits(text: &[u8]) -> bool
-    ensures { result ≡ list_all is_ascii_digit text.now }
-{
-    text.iter().all(|byte| byte.is_ascii_digit())
-}
-
-fn is_decimal(text: &[u8]) -> bool
-    ensures { result ≡ is_decimal text.now }
-{
-    has_digits(text) && !text.starts_with(b"0")
-}
-
-fn work(turns: &str) -> Result<Step, FaultKind>
-    ensures { result ≡ work_step turns.now }
-{
-    if !is_decimal(turns.as_bytes()) {
-        return Err(FaultKind::Step);
-    }
-    match turns.parse::<u32>() {
-        Ok(number) if 1 <= number && number <= 1000 => Ok(Step::Work(number)),
-        _ => Err(FaultKind::Step),
-    }
-}
-
-fn verb_step(word: &str, argument: &str, resources: &[Resource]) -> Result<Step, FaultKind>
-    requires order { AreInNameOrder resources.now }
-    requires few { length resources.now < 2 ^ 32 }
-    ensures { result ≡ verb_step resources.now word.now argument.now }
-{
-    match word {
-        "work" => work(argument),
-        "take" => place_of(argument, resources)
-            .map(Step::Take)
-            .ok_or(FaultKind::Target),
-        "give" => place_of(argument, resources)
-            .map(Step::Give)
-            .ok_or(FaultKind::Target),
-        _ => Err(FaultKind::Step),
-    }
-}
-
-/// The step that a text says: a verb, one space and an argument.
-pub fn step_of(text: &str, resources: &[Resource]) -> Result<Step, FaultKind>
-    requires order { AreInNameOrder resources.now }
-    requires few { length resources.now < 2 ^ 32 }
-    ensures { result ≡ step_of resources.now text.now }
-{
-    if !has_one_space(text.as_bytes()) {
-        return Err(FaultKind::Step);
-    }
-    match text.split_once(' ') {
-        Some((word, argument)) => verb_step(word, argument, resources),
-        None => Err(FaultKind::Step),
-    }
-}
-
+/// How often a resource was taken.
 fn takes(earlier: &[Step], resource: u32) -> usize
     ensures { result ≡ count_by (is_take resource) earlier.now }
 {
@@ -90,6 +29,7 @@ fn takes(earlier: &[Step], resource: u32) -> usize
         .count()
 }
 
+/// How often it was given back.
 fn gives(earlier: &[Step], resource: u32) -> usize
     ensures { result ≡ count_by (is_give resource) earlier.now }
 {
@@ -116,9 +56,9 @@ fn step(
     resources: &[Resource],
     earlier: &[Step],
 ) -> Result<Step, PlanError>
-    requires order { AreInNameOrder resources.now }
-    requires few { length resources.now < 2 ^ 32 }
-    ensures faults { Reads result (step_faults (place_text place.entry) resources.now earlier.now (view value.now)) }
+    requires { AreSearchable resources.now }
+    ensures faults { let place = place_text place.entry in
+        Reads result (step_faults place resources.now earlier.now (view value.now)) }
     ensures value { IfOk result (λ step. step_in resources.now (view value.now) ≡ Some step) }
 {
     let Some(text) = value.as_str() else {
@@ -138,10 +78,12 @@ fn each_step(
     values: &Array,
     resources: &[Resource],
 ) -> Result<Vec<Step>, PlanError>
-    requires order { AreInNameOrder resources.now }
-    requires few { length resources.now < 2 ^ 32 }
-    ensures faults { let all = map view values.now.items in Reads result (each all (job_step_faults (part_place job (codes "steps")) resources.now all)) }
-    ensures value { IfOk result (λ steps. steps.items ≡ steps_in resources.now (map view values.now.items)) }
+    requires { AreSearchable resources.now }
+    ensures faults { let all = map view values.now.items in
+        let place = part_place job (codes "steps") in
+        Reads result (each all (job_step_faults place resources.now all)) }
+    ensures value { let all = map view values.now.items in
+        IfOk result (λ steps. steps.items ≡ steps_in resources.now all) }
 {
     let mut steps = Vec::with_capacity(alloc, values.len())?;
     for (index, value) in values.iter().enumerate() {
@@ -159,10 +101,11 @@ fn listed_steps(
     values: &Array,
     resources: &[Resource],
 ) -> Result<Vec<Step>, PlanError>
-    requires order { AreInNameOrder resources.now }
-    requires few { length resources.now < 2 ^ 32 }
-    ensures faults { Reads result (steps_faults (part_place job (codes "steps")) resources.now (items_list (array_view values.now))) }
-    ensures value { IfOk result (λ steps. steps.items ≡ steps_in resources.now (items_list (array_view values.now))) }
+    requires { AreSearchable resources.now }
+    ensures faults { let place = part_place job (codes "steps") in
+        Reads result (steps_faults place resources.now (items_list (array_view values.now))) }
+    ensures value { let all = items_list (array_view values.now) in
+        IfOk result (λ steps. steps.items ≡ steps_in resources.now all) }
 {
     if values.len() > 64 {
         return Err(Place::Part { job, key: "steps" }.fault(alloc, FaultKind::Many));
@@ -170,17 +113,17 @@ fn listed_steps(
     each_step(alloc, job, values, resources)
 }
 
-/// The steps of a job.
+/// The steps of a job, from what it has at `steps`.
 pub fn job_steps(
     alloc: Global,
     job: usize,
     value: Option<&Value>,
     resources: &[Resource],
 ) -> Result<Vec<Step>, PlanError>
-    requires order { AreInNameOrder resources.now }
-    requires few { length resources.now < 2 ^ 32 }
-    ensures faults { Reads result (steps_part_faults job resources.now (option_map (λ value. view value.now) value.entry)) }
-    ensures value { IfOk result (λ steps. steps.items ≡ steps_in resources.now (items_in (option_map (λ value. view value.now) value.entry))) }
+    requires { AreSearchable resources.now }
+    ensures faults { Reads result (steps_part_faults job resources.now (data_in value.entry)) }
+    ensures value { let all = items_in (data_in value.entry) in
+        IfOk result (λ steps. steps.items ≡ steps_in resources.now all) }
 {
     let place = Place::Part { job, key: "steps" };
     let Some(value) = value else {

@@ -12,11 +12,13 @@ use Rattle.cqs_plan.proofs.reader.jobs.each_job.Goals as goal
 use Rattle.cqs_plan.proofs.reader.jobs.each_job.Goals.{After-job}
 
 -- the value that this turn reads
-this_value : (c : After-job) → c.value-item.result ≡ get_or c.args.values.now.items c.loop-index.index c.value-item.result
+this_value : (c : After-job)
+    → c.value-item.result ≡ get_or c.args.values.now.items c.loop-index.index c.value-item.result
 this_value c = rw (← c.deref-value-items.ensures.value) c.value-item.is
 
 -- its faults, where the names of the jobs before it stand
-same_faults : (c : After-job) → job_faults c.args.resources.now (contains_text c.loop-index.names) c.loop-index.index (view c.value-item.result)
+same_faults : (c : After-job)
+    → job_faults c.args.resources.now (contains_text c.loop-index.names) c.loop-index.index (view c.value-item.result)
     ≡ listed_job_faults c.args.resources.now (map view c.args.values.now.items) c.loop-index.index (view c.value-item.result)
 same_faults c = job_faults-same c.args.resources.now (contains_text c.loop-index.names)
     (is_named (take c.loop-index.index (map view c.args.values.now.items))) c.loop-index.index (view c.value-item.result) c.loop-index.invariant.names
@@ -36,8 +38,10 @@ loop-index-preserved c =
     let faults = listed_job_faults c.args.resources.now all in
     let after = (goal.at.loop-index-preserved c).After-job in
     let below : c.loop-index.index < length c.args.values.now.items = omega arith in
-    let none : faults c.loop-index.index (view c.value-item.result) ≡ [] = sym (same_faults after) ∙ c.in_ok-read.ensures.faults in
-    let upto = take-map view c.args.values.now.items c.loop-index.index c.value-item.result below (this_value after) in
+    let none : faults c.loop-index.index (view c.value-item.result) ≡ [] =
+    sym (same_faults after) ∙ c.in_ok-read.ensures.faults in
+    let upto =
+    take-map view c.args.values.now.items c.loop-index.index c.value-item.result below (this_value after) in
     record {
       faults = goes-on view faults c.args.values.now.items c.loop-index.index c.value-item.result c.loop-index.invariant.faults below (this_value after) none;
       values = rw (c.in_ok-push.ensures.items, upto, map-append, c.loop-index.invariant.values, c.in_ok-read.ensures.value);

@@ -12,5 +12,6 @@ pub returns-clause-added : goal.returns-clause-added
 returns-clause-added c = λ other.
     let key = string_bytes c.in_ok-from_str.field-0 in
     let same : c.from.result ≡ key = search rules in
-    let inserted = btree_set_updates_text key c.args.names.now c.insert.new.self true c.in_ok-insert.ensures.updates other in
+    let inserted =
+    btree_set_updates_text key c.args.names.now c.insert.new.self true c.in_ok-insert.ensures.updates other in
     rw same (inserted ∙ cond-or (bytes_eq key other) (contains_text c.args.names.now other))

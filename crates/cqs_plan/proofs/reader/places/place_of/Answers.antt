@@ -11,15 +11,15 @@ pub returns-in-Ok : goal.returns-in-Ok
 returns-in-Ok c =
     let found = c.in-Ok.ensures.position (λ (r : Resource). slice_cmp nat_cmp r.name c.args.name.now) (always_returns_same _ _ _ (λ a r q k. (search rules, search rules))) in
     let serves : can_hold c.index-resources-place.result.kind ≡ true = cc in
-    sym (place-found c.args.resources.now c.args.name.now c.in-Ok.place true c.index-resources-place.result c.requires.order c.in-Ok.ensures.bound found c.index-resources-place.is serves)
+    sym (place-found c.args.resources.now c.args.name.now c.in-Ok.place true c.index-resources-place.result c.requires c.in-Ok.ensures.bound found c.index-resources-place.is serves)
 
 pub returns-in_default : goal.returns-in_default
 returns-in_default c =
     let found = c.in-Ok.ensures.position (λ (r : Resource). slice_cmp nat_cmp r.name c.args.name.now) (always_returns_same _ _ _ (λ a r q k. (search rules, search rules))) in
     let idle : can_hold c.index-resources-place.result.kind ≡ false = cc in
-    sym (place-found c.args.resources.now c.args.name.now c.in-Ok.place false c.index-resources-place.result c.requires.order c.in-Ok.ensures.bound found c.index-resources-place.is idle)
+    sym (place-found c.args.resources.now c.args.name.now c.in-Ok.place false c.index-resources-place.result c.requires c.in-Ok.ensures.bound found c.index-resources-place.is idle)
 
 pub returns-in_default-2 : goal.returns-in_default-2
 returns-in_default-2 c =
     let found = c.in_default.ensures.position (λ (r : Resource). slice_cmp nat_cmp r.name c.args.name.now) (always_returns_same _ _ _ (λ a r q k. (search rules, search rules))) in
-    sym (place-none c.args.resources.now c.args.name.now _ c.requires.order found)
+    sym (place-none c.args.resources.now c.args.name.now _ c.requires found)

@@ -2,7 +2,8 @@ use Rattle.std.proofs.Common.{◌≡◌, ◌<◌, ◌≤◌, codes, map, length,
 use Rattle.std.proofs.lemmas.List.{take_all, length-map}
 use Rattle.std.proofs.lemmas.Result.{err_from_is_err_and}
 use Rattle.toml.specs.View.{view}
-use Rattle.cqs_plan.specs.Faults.{job_step_faults, part_place}
+use Rattle.cqs_plan.specs.Faults.{job_step_faults}
+use Rattle.cqs_plan.specs.Places.{part_place}
 use Rattle.cqs_plan.specs.Meaning.{steps_in}
 use Rattle.cqs_plan.specs.Reading.{StopsAt}
 use Rattle.cqs_plan.proofs.FirstFaults.{take-map, stops-at, goes-on, ends}
@@ -11,7 +12,8 @@ use Rattle.cqs_plan.proofs.reader.steps.each_step.Goals as goal
 use Rattle.cqs_plan.proofs.reader.steps.each_step.Goals.{After-step}
 
 -- the value that this turn reads
-this_value : (c : After-step) → c.value-item.result ≡ get_or c.args.values.now.items c.loop-index.index c.value-item.result
+this_value : (c : After-step)
+    → c.value-item.result ≡ get_or c.args.values.now.items c.loop-index.index c.value-item.result
 this_value c = rw (← c.deref-value-items.ensures.value) c.value-item.is
 
 pub returns-in_err-read-clause-faults : goal.returns-in_err-read-clause-faults

@@ -1,6 +1,7 @@
 use Rattle.std.proofs.Common.{◌≡◌, codes, drop, map, take}
 use Rattle.toml.specs.View.{view}
-use Rattle.cqs_plan.specs.Faults.{job_step_faults, part_place}
+use Rattle.cqs_plan.specs.Faults.{job_step_faults}
+use Rattle.cqs_plan.specs.Places.{part_place}
 use Rattle.cqs_plan.specs.Meaning.{steps_in}
 use Rattle.cqs_plan.proofs.FirstFaults.{faults_from}
 use Rattle.cqs_plan.proofs.reader.steps.each_step.Given as goal

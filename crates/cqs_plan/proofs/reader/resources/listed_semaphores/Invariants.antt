@@ -1,10 +1,10 @@
-use Rattle.std.proofs.Common.{◌≡◌, ◌≤◌, vec_len, [], ◌++◌, map}
+use Rattle.std.proofs.Common.{◌≡◌, ◌≤◌, length, vec_len, [], ◌++◌, map}
 use Rattle.cqs_plan.specs.Faults.{resource_faults}
 use Rattle.cqs_plan.specs.Language.{semaphores}
 use Rattle.cqs_plan.specs.Meaning.{resource_in}
 use Rattle.cqs_plan.proofs.DataLists.{entry_view}
 use Rattle.cqs_plan.proofs.FirstFaults.{faults_from}
-use Rattle.cqs_plan.proofs.reader.resources.semaphores.Given as goal
+use Rattle.cqs_plan.proofs.reader.resources.listed_semaphores.Given as goal
 
 abbrev pub invariant-loop-name : goal.invariant-loop-name
 invariant-loop-name l = record {
@@ -14,5 +14,5 @@ invariant-loop-name l = record {
   values :
       map (resource_in semaphores) (map entry_view l.table.entries)
       ≡ l.found.items ++ map (resource_in semaphores) (map entry_view l.name-iterator);
-  few : vec_len l.found ≤ 64;
+  few : length l.found.items ≤ 64;
 }

@@ -2,8 +2,8 @@ use Rattle.std.proofs.Common.{◌≡◌, ◌≤◌, ◌<◌, true, Ok, Err, sym,
 use Rattle.std.proofs.lemmas.Bool.{le-leb, lt-leb}
 use Rattle.cqs_plan.specs.Meaning.{is_decimal, work_step}
 use Rattle.cqs_plan.proofs.WorkSteps.{turns_step, work_step-parsed}
-use Rattle.cqs_plan.proofs.reader.steps.work.Goals as goal
-use Rattle.cqs_plan.proofs.reader.steps.work.Goals.{After-parse}
+use Rattle.cqs_plan.proofs.reader.step_text.work.Goals as goal
+use Rattle.cqs_plan.proofs.reader.step_text.work.Goals.{After-parse}
 
 -- what the step is, by what the digits gave
 parsed : (c : After-parse) → work_step c.args.turns.now ≡ turns_step c.parse.result

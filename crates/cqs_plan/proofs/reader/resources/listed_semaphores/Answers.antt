@@ -7,15 +7,18 @@ use Rattle.cqs_plan.specs.Faults.{resource_faults}
 use Rattle.cqs_plan.specs.Language.{semaphores}
 use Rattle.cqs_plan.specs.Meaning.{resource_in}
 use Rattle.cqs_plan.specs.Reading.{StopsAt}
-use Rattle.cqs_plan.proofs.DataLists.{entry_view, members_list-view, AreInNameOrder-table}
+use Rattle.cqs_plan.proofs.DataLists.{entry_view, members_list-view, names_ascend}
 use Rattle.cqs_plan.proofs.FirstFaults.{StopsAt-append}
-use Rattle.cqs_plan.proofs.reader.resources.semaphores.Goals as goal
+use Rattle.cqs_plan.proofs.reader.resources.listed_semaphores.Goals as goal
 
 pub returns-in_err-resource-clause-faults : goal.returns-in_err-resource-clause-faults
 returns-in_err-resource-clause-faults c =
-    let p = err_from_is_err_and c.from_residual-in_err-resource.result c.from_residual-in_err-resource.ensures.1 in
-    let here = rest_more deref_pair _ _ c.next.result (c.in-Some.name, c.in-Some.value) c.in-Some.is c.next.ensures.steps in
-    let faults : StopsAt (resource_faults semaphores [] (vec_len c.loop-name.found) (string_bytes c.in-Some.name.now, view c.in-Some.value.now)) c.in_err-resource.field-0.0 = search rules in
+    let p =
+    err_from_is_err_and c.from_residual-in_err-resource.result c.from_residual-in_err-resource.ensures.1 in
+    let here =
+    rest_more deref_pair _ _ c.next.result (c.in-Some.name, c.in-Some.value) c.in-Some.is c.next.ensures.steps in
+    let faults : StopsAt (resource_faults semaphores [] (vec_len c.loop-name.found) (string_bytes c.in-Some.name.now, view c.in-Some.value.now)) c.in_err-resource.field-0.0 =
+    search rules in
     rw (p.1, p.2, members_list-view c.args.table.now.entries, c.loop-name.invariant.faults, here) (StopsAt-append _ _ _ faults)
 
 pub returns-clause-faults : goal.returns-clause-faults
@@ -33,7 +36,7 @@ returns-clause-order c =
     let done = rest_all deref_pair _ _ c.next.result c.in-None.is c.next.ensures.steps in
     let all : c.loop-name.found.items ≡ map (resource_in semaphores) (map entry_view c.args.table.now.entries) =
     rw (c.loop-name.invariant.values, done) (sym (append-nil c.loop-name.found.items)) in
-    rw all (AreInNameOrder-table semaphores c.args.table.now c.len.ensures.ordered)
-
-pub returns-clause-few : goal.returns-clause-few
-returns-clause-few c = c.loop-name.invariant.few
+    record {
+      few = c.loop-name.invariant.few;
+      names = rw all (names_ascend semaphores c.args.table.now.entries c.len.ensures.ordered);
+    }

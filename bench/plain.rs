@@ -1,7 +1,7 @@
 //! The plain fold that the program is measured against: the same plan language, with ordinary data and nothing proved.
 //!
-//! `plain plan` writes the plan at the limits, `plain run` runs it from memory and prints the nanoseconds of the run and a
-//! sum over the report's bytes, by which the two reports are compared.
+//! `plain plan` writes the plan at the limits, and `plain large` a plan of one mebibyte. `plain run` runs the first from
+//! memory and prints the nanoseconds of the run and a sum over the report's bytes, by which the two reports are compared.
 
 use std::collections::VecDeque;
 use std::fmt::Write as _;
@@ -11,6 +11,8 @@ use std::time::Instant;
 const TURNS: u32 = 40_000;
 const JOBS: u32 = 4_096;
 const RESOURCES: u32 = 64;
+const MOST_STEPS: usize = 64;
+const LARGE: usize = 1 << 20;
 
 #[derive(Clone, Copy)]
 enum Step {
@@ -62,6 +64,36 @@ fn write_plan(resources: &[(String, u32)], jobs: &[Job]) -> String {
         if let Some(deadline) = job.deadline {
             let _ = writeln!(text, "deadline = {deadline}");
         }
+    }
+    text
+}
+
+/// A plan of exactly one mebibyte, for readers: every eighth job has the most steps that a job may have, and the others
+/// as many as leave each job its share of the bytes.
+fn large_plan() -> String {
+    let mut text = String::from("version = 1\nturns = 32784\n");
+    for r in 0..RESOURCES {
+        let _ = write!(text, "[semaphore.r{r:02}]\nsize = 2\n");
+    }
+    let start = text.len();
+    for j in 0..JOBS as usize {
+        let _ = write!(text, "[[job]]\nname = \"j{j:04}\"\nsteps = [");
+        let share = start + (LARGE - start) * (j + 1) / JOBS as usize;
+        let mut step = 0;
+        while step < MOST_STEPS && (step == 0 || j % 8 == 0 || text.len() + 16 < share) {
+            let r = (j + step / 3 * 7) % RESOURCES as usize;
+            let separator = if step == 0 { "" } else { ", " };
+            let _ = match step % 3 {
+                0 => write!(text, "{separator}\"take r{r:02}\""),
+                1 => write!(text, "{separator}\"work {}\"", 1 + (j + step) % 1000),
+                _ => write!(text, "{separator}\"give r{r:02}\""),
+            };
+            step += 1;
+        }
+        text.push_str("]\n");
+    }
+    while text.len() < LARGE {
+        text.push('\n');
     }
     text
 }
@@ -233,6 +265,7 @@ fn main() {
     let (resources, jobs) = plan();
     match std::env::args().nth(1).as_deref() {
         Some("plan") => print!("{}", write_plan(&resources, &jobs)),
+        Some("large") => print!("{}", large_plan()),
         Some("report") => print!("{}", run(&resources, &jobs)),
         Some("run") => {
             let start = Instant::now();
@@ -242,7 +275,7 @@ fn main() {
             let _ = writeln!(std::io::stdout(), "run {nanoseconds} bytes {} sum {sum}", report.len());
         }
         _ => {
-            let _ = writeln!(std::io::stderr(), "usage: plain plan | plain report | plain run");
+            let _ = writeln!(std::io::stderr(), "usage: plain plan | plain large | plain report | plain run");
             std::process::exit(2);
         }
     }

@@ -1,5 +1,5 @@
 -- The report only grows: what stands in it before an event, a step or a turn is a front of what stands there after.
-use Rattle.std.proofs.Common.{◌≡◌, ℕ, ◌+◌, suc, zero, List, [], ◌∷◌, ◌++◌, drop, Option, Some, None, Result, Ok, Err, OnErr, refl, sym, ap, ◌∙◌, append_assoc}
+use Rattle.std.proofs.Common.{◌≡◌, ℕ, ◌+◌, suc, zero, List, [], ◌∷◌, ◌++◌, drop, Option, Some, None, Result, Ok, Err, OnOk, OnErr, refl, sym, ap, ◌∙◌, append_assoc}
 use Rattle.std.proofs.lemmas.List.{append-nil}
 use Rattle.cqs_plan.specs.declared.plans.step.Step.{Step}
 use Rattle.cqs_plan.specs.declared.plans.step.Step.TheVariants.{Take, Give, Down, Await, Arrive, Work}
@@ -18,6 +18,11 @@ use Rattle.cqs_turns.specs.Turns.{Role, Scene, Acted, Made, event, given, given_
 pub on-err : {T E P : Type 0} (r : Result T E) → P → OnErr r P
 on-err (Ok x) fact = tt
 on-err (Err e) fact = fact
+
+-- a clause on success, from two others
+pub on-ok-both : {T E P Q R : Type 0} (r : Result T E) → (P → Q → R) → OnOk r P → OnOk r Q → OnOk r R
+on-ok-both (Ok x) both first second = both first second
+on-ok-both (Err e) both first second = tt
 
 pub front-same : (t : List ℕ) → IsFrontOf t t
 front-same t = record { rest = []; joined = sym (append-nil t) }

@@ -8,3 +8,4 @@ pub mod Stepping
 pub mod Turned
 pub mod Opened
 pub mod RunningLemmas
+pub mod Jobs

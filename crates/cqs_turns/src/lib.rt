@@ -10,5 +10,6 @@ mod lines;
 mod reports;
 mod states;
 mod texts;
+mod turns;
 
 pub use reports::Report;

@@ -9,3 +9,4 @@ pub mod Turned
 pub mod Opened
 pub mod RunningLemmas
 pub mod Jobs
+pub mod Turning

@@ -8,6 +8,7 @@ use Rattle.cqs_plan.specs.Runnable.{kinds_of}
 use Rattle.cqs_plan.specs.Floor.{PlainFloor, room_at}
 use Rattle.cqs_turns.specs.declared.states.JobState.{JobState}
 use Rattle.cqs_turns.specs.declared.states.Progress.{Progress}
+use Rattle.cqs_turns.specs.declared.states.Progress.TheVariants.{Stepping}
 use Rattle.cqs_turns.specs.Ready.{IsReady, wait_in, steps_left}
 use Rattle.cqs_turns.specs.Turns.{Machine, one_job, places_held}
 
@@ -38,3 +39,11 @@ pub record IsKept (f : PlainFloor) (states : List JobState) : Type 0 where
 -- the job at a place has its turn
 abbrev pub turn_at : Plan → ℕ → ℕ → Machine → Machine
 turn_at plan turn place m = option_map_or (λ job. one_job plan.resources turn place job m) (slice_get plan.jobs place) m
+
+-- a job that has just begun
+pub record IsOpening (state : JobState) : Type 0 where
+  pub progress : state.progress ≡ Stepping 0
+  pub held : state.held.items ≡ []
+
+pub record AreOpening (states : List JobState) : Type 0 where
+  pub at : (place : ℕ) (state : JobState) → slice_get states place ≡ Some state → IsOpening state

@@ -1,5 +1,5 @@
 -- The report only grows: what stands in it before an event, a step or a turn is a front of what stands there after.
-use Rattle.std.proofs.Common.{◌≡◌, ℕ, ◌+◌, suc, zero, add-zero, add-suc, Bool, true, false, cond, nat_lt, slice_index_or, List, [], ◌∷◌, ◌++◌, drop, Option, Some, None, Result, Ok, Err, OnOk, OnErr, refl, sym, ap, ◌∙◌, append_assoc}
+use Rattle.std.proofs.Common.{◌≡◌, ℕ, ◌+◌, suc, zero, add-zero, add-suc, add-one, ◌-◌, ◌<◌, arith, Bool, true, false, cond, nat_lt, slice_index_or, List, [], ◌∷◌, ◌++◌, drop, Option, Some, None, Result, Ok, Err, OnOk, OnErr, refl, sym, ap, ◌∙◌, append_assoc}
 use Rattle.std.specs.Bool.{if◌then◌else◌}
 use Rattle.std.proofs.lemmas.List.{append-nil}
 use Rattle.cqs_plan.specs.declared.plans.step.Step.{Step}
@@ -21,7 +21,7 @@ use Rattle.cqs_turns.specs.declared.states.Progress.{Progress}
 use Rattle.cqs_turns.specs.declared.states.Progress.TheVariants.{Stepping, Working, Waiting, Ended}
 use Rattle.cqs_turns.specs.Lines.{line_text}
 use Rattle.cqs_turns.specs.Report.{IsFrontOf}
-use Rattle.cqs_turns.specs.Turns.{Role, Scene, Acted, Made, event, given, given_back, given_all, finished, made, took, stop_or, stepped, go_on, went, gave_up, looked, acted, left_at, is_due, one_job, each_job, machine_after, Machine, places_held}
+use Rattle.cqs_turns.specs.Turns.{Role, Scene, Acted, Made, event, given, given_back, given_all, finished, made, took, stop_or, stepped, go_on, went, gave_up, looked, acted, left_at, is_due, one_job, each_job, one_turn, machine_after, Machine, places_held}
 
 -- a clause on an error, from its fact
 pub on-err : {T E P : Type 0} (r : Result T E) → P → OnErr r P
@@ -138,3 +138,16 @@ machine_after-grows plan n zero = rw add-zero (front-same (machine_after plan n)
 machine_after-grows plan n (suc k) =
     rw add-suc (front-through _ (machine_after plan (n + k)).scene.text _
     (each_job-grows plan.resources (n + k) 0 plan.jobs (machine_after plan (n + k))) (machine_after-grows plan n k))
+
+-- what stands after a part of a turn is a front of what stands after all turns
+pub front-of-later : (plan : Plan) (turn turns : ℕ) (now : Machine) (text : List ℕ) → now ≡ machine_after plan turn
+  → turn < turns → IsFrontOf (one_turn plan turn now).scene.text text → IsFrontOf (machine_after plan turns).scene.text text
+front-of-later plan turn turns now text same below front =
+    let at : ℕ = turn + 1 in
+    let this_turn : one_turn plan turn now ≡ machine_after plan at
+        = ap (one_turn plan turn) same ∙ ap (machine_after plan) (sym (add-one turn)) in
+    let later : IsFrontOf (machine_after plan turns).scene.text (machine_after plan at).scene.text
+        = let sum : turns ≡ at + (turns - at) = omega arith in
+          rw sum (machine_after-grows plan at (turns - at)) in
+    let so_far : IsFrontOf (machine_after plan at).scene.text text = rw this_turn at front in
+    front-through _ (machine_after plan at).scene.text text later so_far

@@ -10,3 +10,4 @@ pub mod Opened
 pub mod RunningLemmas
 pub mod Jobs
 pub mod Turning
+pub mod Ends

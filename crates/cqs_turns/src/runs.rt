@@ -32,6 +32,7 @@ fn opening_state(alloc: Global, job: &Job) -> Result<JobState, Memory>
 }
 
 /// The jobs before the first turn.
+#[tactic(auto, using(crate::proofs::Ends::opening_push))]
 fn opening_states(alloc: Global, jobs: &[Job]) -> Result<Vec<JobState>, Memory>
     ensures len { IfOk result (λ states. vec_len states ≡ length jobs.now) }
     ensures opening { IfOk result (λ states. AreOpening states.items) }

@@ -131,38 +131,42 @@ pub fn push_end(line: &mut Vec<u8>, name: &[u8], end: FloorEnd) -> Result<(), Me
 }
 
 fn count_done(states: &[JobState]) -> usize
-    ensures { result ≡ count_by (λ state. is_done state.progress) states.now }
+    ensures { result ≡ count_by is_done (map (λ state. state.progress) states.now) }
 {
     states
         .iter()
-        .filter(|state| state.progress.is_done())
+        .map(|state| state.progress)
+        .filter(|progress| progress.is_done())
         .count()
 }
 
 fn count_given_up(states: &[JobState]) -> usize
-    ensures { result ≡ count_by (λ state. has_given_up state.progress) states.now }
+    ensures { result ≡ count_by has_given_up (map (λ state. state.progress) states.now) }
 {
     states
         .iter()
-        .filter(|state| state.progress.has_given_up())
+        .map(|state| state.progress)
+        .filter(|progress| progress.has_given_up())
         .count()
 }
 
 fn count_late(states: &[JobState]) -> usize
-    ensures { result ≡ count_by (λ state. is_late state.progress) states.now }
+    ensures { result ≡ count_by is_late (map (λ state. state.progress) states.now) }
 {
     states
         .iter()
-        .filter(|state| state.progress.is_late())
+        .map(|state| state.progress)
+        .filter(|progress| progress.is_late())
         .count()
 }
 
 fn count_unfinished(states: &[JobState]) -> usize
-    ensures { result ≡ count_by (λ state. is_unfinished state.progress) states.now }
+    ensures { result ≡ count_by is_unfinished (map (λ state. state.progress) states.now) }
 {
     states
         .iter()
-        .filter(|state| state.progress.is_unfinished())
+        .map(|state| state.progress)
+        .filter(|progress| progress.is_unfinished())
         .count()
 }
 

@@ -6,7 +6,7 @@ use Rattle.cqs_plan.specs.declared.plans.job.Job.{Job}
 use Rattle.cqs_plan.specs.declared.plans.step.Step.{Step}
 use Rattle.cqs_plan.specs.declared.plans.step.Step.TheVariants.{Take, Give, Work}
 use Rattle.cqs_plan.specs.declared.plans.plan.Plan.{Plan}
-use Rattle.cqs_turns.specs.Report.{report}
+use Rattle.cqs_turns.specs.Report.{report_of}
 
 -- a plan of these jobs
 abbrev plan_of : ℕ → List Job → Plan
@@ -15,22 +15,22 @@ plan_of turns jobs = record { version = 1; turns = turns; resources = record { n
 abbrev job : List ℕ → List Step → Option ℕ → Job
 job name steps deadline = record { name = name; steps = steps; deadline = deadline }
 
-two_jobs_one_permit : report (plan_of 8 (job (codes "a") (Take 0 ∷ Work 2 ∷ Give 0 ∷ []) None ∷ job (codes "b") (Take 0 ∷ Work 2 ∷ Give 0 ∷ []) None ∷ []))
+two_jobs_one_permit : report_of (plan_of 8 (job (codes "a") (Take 0 ∷ Work 2 ∷ Give 0 ∷ []) None ∷ job (codes "b") (Take 0 ∷ Work 2 ∷ Give 0 ∷ []) None ∷ []))
     ≡ codes "0 a takes db\n0 b waits db 0\n2 a gives db sent 0\n2 a done\n2 b served db 0\n4 b gives db free\n4 b done\nend db free 1 held 0 line 0\ntotal done 2 gaveup 0 late 0 unfinished 0\n"
 unfolding digits
 two_jobs_one_permit = refl
 
-a_waiter_gives_up : report (plan_of 8 (job (codes "a") (Take 0 ∷ Work 4 ∷ Give 0 ∷ []) None ∷ job (codes "b") (Take 0 ∷ []) (Some 2) ∷ job (codes "c") (Take 0 ∷ []) None ∷ []))
+a_waiter_gives_up : report_of (plan_of 8 (job (codes "a") (Take 0 ∷ Work 4 ∷ Give 0 ∷ []) None ∷ job (codes "b") (Take 0 ∷ []) (Some 2) ∷ job (codes "c") (Take 0 ∷ []) None ∷ []))
     ≡ codes "0 a takes db\n0 b waits db 0\n0 c waits db 1\n2 b gaveup db 0\n4 a gives db sent 1\n4 a done\n4 c served db 1\n4 c gives db free\n4 c done\nend db free 1 held 0 line 0\ntotal done 2 gaveup 1 late 0 unfinished 0\n"
 unfolding digits
 a_waiter_gives_up = refl
 
-late_at_its_deadline : report (plan_of 6 (job (codes "b") (Work 1 ∷ Take 0 ∷ []) (Some 3) ∷ job (codes "a") (Take 0 ∷ Work 2 ∷ Give 0 ∷ []) None ∷ job (codes "c") (Work 1 ∷ Take 0 ∷ []) None ∷ []))
+late_at_its_deadline : report_of (plan_of 6 (job (codes "b") (Work 1 ∷ Take 0 ∷ []) (Some 3) ∷ job (codes "a") (Take 0 ∷ Work 2 ∷ Give 0 ∷ []) None ∷ job (codes "c") (Work 1 ∷ Take 0 ∷ []) None ∷ []))
     ≡ codes "0 a takes db\n1 b waits db 0\n1 c waits db 1\n2 a gives db sent 0\n2 a done\n3 b late db 0\n3 b gives db sent 1\n3 c served db 1\n3 c gives db free\n3 c done\nend db free 1 held 0 line 0\ntotal done 2 gaveup 0 late 1 unfinished 0\n"
 unfolding digits
 late_at_its_deadline = refl
 
-both_give_up : report (plan_of 8 (job (codes "a") (Take 0 ∷ Work 4 ∷ Give 0 ∷ []) None ∷ job (codes "b") (Take 0 ∷ []) (Some 1) ∷ job (codes "c") (Take 0 ∷ []) (Some 2) ∷ []))
+both_give_up : report_of (plan_of 8 (job (codes "a") (Take 0 ∷ Work 4 ∷ Give 0 ∷ []) None ∷ job (codes "b") (Take 0 ∷ []) (Some 1) ∷ job (codes "c") (Take 0 ∷ []) (Some 2) ∷ []))
     ≡ codes "0 a takes db\n0 b waits db 0\n0 c waits db 1\n1 b gaveup db 0\n2 c gaveup db 1\n4 a gives db free\n4 a done\nend db free 1 held 0 line 0\ntotal done 1 gaveup 2 late 0 unfinished 0\n"
 unfolding digits
 both_give_up = refl

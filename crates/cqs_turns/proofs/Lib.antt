@@ -8,3 +8,6 @@ pub mod Stepping
 pub mod Turned
 pub mod Opened
 pub mod RunningLemmas
+pub mod Jobs
+pub mod Turning
+pub mod Ends

@@ -4,11 +4,12 @@ use Rattle.cqs_plan.specs.declared.plans.plan.Plan.{Plan}
 use Rattle.cqs_turns.specs.Lines.{ends_text, total_text}
 use Rattle.cqs_turns.specs.Turns.{Machine, machine_after}
 
-abbrev pub report_of : Plan → Machine → List ℕ
-report_of plan m = m.scene.text ++ ends_text plan.resources 0 m.scene.floor ++ total_text m.progress
+-- the whole report, where the turns end with this machine
+abbrev pub report_after : Plan → Machine → List ℕ
+report_after plan m = m.scene.text ++ ends_text plan.resources 0 m.scene.floor ++ total_text m.progress
 
-abbrev pub report : Plan → List ℕ
-report plan = report_of plan (machine_after plan plan.turns)
+abbrev pub report_of : Plan → List ℕ
+report_of plan = report_after plan (machine_after plan plan.turns)
 
 -- the text is the first part of the whole
 pub record IsFrontOf (whole text : List ℕ) : Type 0 where

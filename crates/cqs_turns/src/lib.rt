@@ -8,7 +8,10 @@ mod actors;
 mod acts;
 mod lines;
 mod reports;
+mod runs;
 mod states;
 mod texts;
+mod turns;
 
 pub use reports::Report;
+pub use runs::run_plan;

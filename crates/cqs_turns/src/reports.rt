@@ -1,10 +1,11 @@
 //! The report of a plan, as it grows.
 
-ghost use Rattle.std.specs.Prelude.{◌≡◌, [], ◌++◌, OnOk, OnErr};
+ghost use Rattle.std.specs.Prelude.{◌≡◌, [], ◌++◌, map, OnOk, OnErr};
 ghost use Rattle.cqs_turns.specs.Lines.{line_text, end_text, total_text};
 
 use crate::lines::Told;
-use crate::texts::{push_end, push_line};
+use crate::states::JobState;
+use crate::texts::{push_end, push_line, push_total};
 use cqs_core::Memory;
 use cqs_plan::{FloorEnd, Resource};
 use std::alloc::Global;
@@ -69,6 +70,17 @@ impl Report {
     {
         self.line.clear();
         push_end(&mut self.line, name, end)?;
+        self.text.extend_from_slice(self.line.as_slice())?;
+        Ok(())
+    }
+
+    /// Adds the totals of the jobs.
+    pub fn tell_total(&mut self, states: &[JobState]) -> Result<(), Memory>
+        ensures ok { OnOk result (self.new ≡ self.old ++ total_text (map (λ state. state.progress) states.now)) }
+        ensures err { OnErr result (self.new ≡ self.old) }
+    {
+        self.line.clear();
+        push_total(&mut self.line, states)?;
         self.text.extend_from_slice(self.line.as_slice())?;
         Ok(())
     }

@@ -1,10 +1,10 @@
 //! The text of the report's lines, byte by byte.
 
-ghost use Rattle.std.specs.Prelude.{◌≡◌, ◌++◌, OnOk, codes, decimal};
-ghost use Rattle.cqs_turns.specs.Lines.{name_at, told_text, line_text, end_words, end_text, total_text};
+ghost use Rattle.std.specs.Prelude.{◌≡◌, ◌++◌, OnOk, count_by, map, decimal};
+ghost use Rattle.cqs_turns.specs.Lines.{name_at, told_text, line_text, end_words, end_text, total_text, is_done, has_given_up, is_late, is_unfinished};
 
 use crate::lines::Told;
-use crate::states::{End, Progress};
+use crate::states::JobState;
 use cqs_core::Memory;
 use cqs_plan::{FloorEnd, Resource};
 use itoa::Buffer;
@@ -126,6 +126,59 @@ pub fn push_end(line: &mut Vec<u8>, name: &[u8], end: FloorEnd) -> Result<(), Me
 {
     push_verb(line, b"end ", name)?;
     push_end_words(line, end)?;
+    line.extend_from_slice(b"\n")?;
+    Ok(())
+}
+
+fn count_done(states: &[JobState]) -> usize
+    ensures { result ≡ count_by is_done (map (λ state. state.progress) states.now) }
+{
+    states
+        .iter()
+        .map(|state| state.progress)
+        .filter(|progress| progress.is_done())
+        .count()
+}
+
+fn count_given_up(states: &[JobState]) -> usize
+    ensures { result ≡ count_by has_given_up (map (λ state. state.progress) states.now) }
+{
+    states
+        .iter()
+        .map(|state| state.progress)
+        .filter(|progress| progress.has_given_up())
+        .count()
+}
+
+fn count_late(states: &[JobState]) -> usize
+    ensures { result ≡ count_by is_late (map (λ state. state.progress) states.now) }
+{
+    states
+        .iter()
+        .map(|state| state.progress)
+        .filter(|progress| progress.is_late())
+        .count()
+}
+
+fn count_unfinished(states: &[JobState]) -> usize
+    ensures { result ≡ count_by is_unfinished (map (λ state. state.progress) states.now) }
+{
+    states
+        .iter()
+        .map(|state| state.progress)
+        .filter(|progress| progress.is_unfinished())
+        .count()
+}
+
+/// How many jobs came to each end, and how many to none.
+pub fn push_total(line: &mut Vec<u8>, states: &[JobState]) -> Result<(), Memory>
+    ensures { OnOk result (line.new.items ≡ line.old.items
+        ++ total_text (map (λ state. state.progress) states.now)) }
+{
+    push_labelled(line, b"total done ", count_done(states) as u64)?;
+    push_labelled(line, b" gaveup ", count_given_up(states) as u64)?;
+    push_labelled(line, b" late ", count_late(states) as u64)?;
+    push_labelled(line, b" unfinished ", count_unfinished(states) as u64)?;
     line.extend_from_slice(b"\n")?;
     Ok(())
 }

@@ -1,0 +1,19 @@
+use Rattle.std.proofs.Common.{◌<◌, length, ap, arith}
+use Rattle.cqs_turns.proofs.Growth.{on-err}
+use Rattle.cqs_turns.proofs.Turning.{turns_on, turning_front}
+use Rattle.cqs_turns.proofs.turns.one_turn.Goals as goal
+
+pub returns-in_err-one_job-clause-err : goal.returns-in_err-one_job-clause-err
+returns-in_err-one_job-clause-err g c =
+    let below : c.loop-place.place < length c.args.plan.now.jobs = omega (arith, ap length c.as_slice-place-end.ensures) in
+    on-err c.from_residual.result
+    (turning_front _ _ _ _ _ _ c.loop-place.invariant.on below c.in_err-one_job.ensures.err)
+
+pub loop-place-preserved : goal.loop-place-preserved
+loop-place-preserved g c =
+    let below : c.loop-place.place < length c.args.plan.now.jobs = omega (arith, ap length c.as_slice-place-end.ensures) in
+    record {
+      on = turns_on _ _ _ _ _ _ c.loop-place.invariant.on below c.in_ok-one_job.ensures.ok;
+      running = c.in_ok-one_job.ensures.running;
+      kept = c.in_ok-one_job.ensures.kept;
+    }

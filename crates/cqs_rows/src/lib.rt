@@ -1,8 +1,14 @@
-//! Tests that run the program over streams in memory. Their expected values were worked out by hand.
+//! Tests that cross crates. Their expected values were worked out by hand.
 #![tactic(auto)]
 
 #[cfg(test)]
 mod calls;
+#[cfg(test)]
+mod core_calls;
+#[cfg(test)]
+mod core_schedules;
+#[cfg(test)]
+mod core_sizes;
 #[cfg(test)]
 mod empty_plan;
 #[cfg(test)]

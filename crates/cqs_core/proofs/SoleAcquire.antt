@@ -82,6 +82,7 @@ sole-later s p rests quiet does low none =
         (suspends-new (at_door s p) p (get-set_here s.queue.doing p doing.Idle doing.Door does) rests.numbers quiet.made)
         (record {
           held = refl;
+          numbers = omega arith;
           permits = refl;
           allowed = may-acquire s p quiet does low;
           untaken = untaken-new (at_door s p) p quiet.made;
@@ -105,6 +106,7 @@ sole-take s p rests quiet does false some low_is some_is =
         let waits = quiet.waits in absurd (let few = may.1 in omega arith)
 sole-take s p rests quiet does true true low_is some_is = record {
   held = refl;
+  numbers = omega arith;
   permits = refl;
   allowed = may-acquire s p quiet does low_is;
   untaken = λ untaken. untaken;
@@ -137,6 +139,7 @@ sole-got s p rests does some =
     sole-along s (call.Try p) _ _ (ap (λ row. onward row after_swap) swaps)
         (record {
           held = refl;
+          numbers = omega arith;
           permits = refl;
           allowed = get-below s.queue.doing p doing.Idle does;
           untaken = λ untaken. untaken;
@@ -163,6 +166,7 @@ sole-load : (s : Shape) (p : ℕ) → IsResting s → slice_get s.queue.doing p 
             (after_load p))
 sole-load s p rests does true none_is = record {
   held = refl;
+  numbers = omega arith;
   permits = refl;
   allowed = get-below s.queue.doing p doing.Idle does;
   untaken = λ untaken. untaken;

@@ -1,5 +1,5 @@
 -- The law of a sole caller, and that the calls of a core in which every pass is idle come to their ends.
-use Rattle.std.proofs.Common.{◌≡◌, ℕ, zero, suc, List, ◌++◌, Option, Some, None, slice_get, replicate, refl, ap, sym, ◌∙◌, arith}
+use Rattle.std.proofs.Common.{◌≡◌, ℕ, List, ◌++◌, Option, Some, None, slice_get, refl, ap, sym, ◌∙◌, arith}
 use Rattle.std.specs.List.{fold}
 use Rattle.std.proofs.lemmas.List.Sums.{fold-append}
 use Rattle.std.specs.Prelude.{IfSome, IfNone, IsSomeAnd}
@@ -8,14 +8,12 @@ use Rattle.cqs_core.specs.declared.calls.Call.TheVariants as call
 use Rattle.cqs_core.specs.declared.calls.Reply.{Reply}
 use Rattle.cqs_core.specs.declared.cells.CoreState.{CoreState}
 use Rattle.cqs_core.specs.declared.cells.CoreState.TheVariants as state
-use Rattle.cqs_core.specs.declared.doings.Doing.{Doing}
-use Rattle.cqs_core.specs.declared.doings.Doing.TheVariants as doing
 use Rattle.cqs_core.specs.Resting.{IsIdle, IsResting}
 use Rattle.cqs_core.specs.SemaphoreAnswers.{Room}
 use Rattle.cqs_core.specs.SemaphoreCalls.{Course, refused, replied, stuck, course, HasEnd, MakesCallReady}
 use Rattle.cqs_core.specs.SemaphoreEntries.{after_entry, object_after}
 use Rattle.cqs_core.specs.SemaphoreObject.{opening}
-use Rattle.cqs_core.specs.SemaphoreShown.{IsCore, shown, opened}
+use Rattle.cqs_core.specs.SemaphoreShown.{IsCore, shown}
 use Rattle.cqs_core.specs.SemaphoreTable.{Shape}
 use Rattle.cqs_core.specs.SoleCaller.{IsSoleCall, IsSoleRefusal, ShowsNext, TellsWait, NoneTaken, sole_call}
 use Rattle.cqs_core.proofs.CallsKeep.{call_ready-core}
@@ -100,18 +98,3 @@ cell-tells s k core idle untaken = record {
     tells : (at : CoreState) (p : ℕ) → IsOwnWait s.queue p k at
         → IsSomeAnd (slice_get s.queue.cells k) (λ cell. cell.state ≡ at)
     tells at p own = rw own.found own.stands
-
--- a core as it is made is at rest
-pub opened-rests : (permits passes : ℕ) → IsResting (opened permits passes)
-opened-rests permits passes = record {
-  idle = record { at = λ p d got. get-replicate passes doing.Idle p d got };
-  numbers = omega arith;
-}
-  where
-    get-replicate : (n : ℕ) (x : Doing) (i : ℕ) (y : Doing) → slice_get (replicate n x) i ≡ Some y → y ≡ x
-    get-replicate zero x i y got = absurd (cc)
-    get-replicate (suc n) x zero y got = cc
-    get-replicate (suc n) x (suc i) y got = get-replicate n x i y got
-
-pub opened-untaken : (permits passes : ℕ) → NoneTaken (opened permits passes)
-opened-untaken permits passes = record { at = λ k cell got. absurd (cc) }

@@ -69,6 +69,7 @@ sole-sent s p w rest core rests quiet holds does is =
     sole-along s (call.Release p) _ _ (ap (λ o. lands (λ k. reply.Sent k) o) lands_there)
         (record {
           held = refl;
+          numbers = omega arith;
           permits = refl;
           allowed = holds;
           untaken = untaken-served s p w.wait head.cell head.found;
@@ -99,6 +100,7 @@ sole-freed s p rests quiet holds above = go (line s.queue) refl
         → IsSoleCall s (call.Release p) reply.Freed (records (loses (adds s) p) (entry.GiveFreed p))
     go [] is = record {
       held = refl;
+      numbers = omega arith;
       permits = refl;
       allowed = holds;
       appended = rw is refl;

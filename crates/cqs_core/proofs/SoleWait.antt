@@ -1,5 +1,5 @@
 -- A sole caller polls or cancels a wait: it stands in the line where its cell still waits, and else was served.
-use Rattle.std.proofs.Common.{◌≡◌, ◌≢◌, ◌⊎◌, inl, inr, ℕ, ◌+◌, ◌<◌, Bool, true, false, pos, List, [], ◌∷◌, ◌++◌, Option, Some, None, slice_get, set, refl, ap, sym, ◌∙◌, subst, arith}
+use Rattle.std.proofs.Common.{◌≡◌, ◌≢◌, ◌⊎◌, inl, inr, ℕ, ◌+◌, ◌<◌, ◌≤◌, Bool, true, false, pos, List, [], ◌∷◌, ◌++◌, Option, Some, None, slice_get, set, refl, ap, sym, ◌∙◌, subst, arith}
 use Rattle.std.specs.Prelude.{int_lt, if◌then◌else◌}
 use Rattle.std.specs.Option.{option_and_then}
 use Rattle.std.proofs.lemmas.List.{set-set}
@@ -116,6 +116,7 @@ sole-look s p k cell state.Waiter core rests found own is =
     let there = line-has s k cell core found is in
     record {
       held = refl;
+      numbers = omega arith;
       permits = refl;
       allowed = has-waiter s p k cell found own is;
       appended = rw there.1 refl;
@@ -127,6 +128,7 @@ sole-look s p k cell state.Resumed core rests found own is =
     let gone = line-lacks s k cell core rests found is in
     record {
       held = refl;
+      numbers = omega arith;
       permits = refl;
       allowed = has-served s p k cell found own is;
       appended = rw gone refl;
@@ -221,6 +223,11 @@ settled-permits : (s : Shape) (p k : ℕ) (cell : CoreCell) (on : Bool) → (set
 settled-permits s p k cell true = refl
 settled-permits s p k cell false = refl
 
+settled-numbers : (s : Shape) (p k : ℕ) (cell : CoreCell) (on : Bool)
+    → (settled s p k cell on).queue.suspends ≤ s.queue.suspends + 1
+settled-numbers s p k cell true = omega arith
+settled-numbers s p k cell false = omega arith
+
 sole-cancelling : (s : Shape) (p k : ℕ) (cell : CoreCell) (on : Bool) → IsCore s → IsResting s
     → slice_get s.queue.doing p ≡ Some doing.Idle → slice_get s.queue.cells k ≡ Some cell → is_with p cell ≡ true
     → state.Waiter ≡ cell.state → int_lt s.state (pos 0) ≡ on
@@ -231,6 +238,7 @@ sole-cancelling s p k cell on core rests does found own waits is =
         (ap (λ row. onward row (after_decide p)) (decides s p k cell on does is) ∙ settles s p k cell on does found)
         (record {
           held = settled-held s p k cell on;
+          numbers = settled-numbers s p k cell on;
           permits = settled-permits s p k cell on;
           allowed = has-waiter s p k cell found own waits;
           appended = settled-history s p k cell on ∙ rw there.1 refl;
@@ -248,6 +256,7 @@ sole-leave s p k cell state.Resumed core rests does found own is =
     let gone = line-lacks s k cell core rests found is in
     record {
       held = refl;
+      numbers = omega arith;
       permits = refl;
       allowed = has-served s p k cell found own is;
       appended = rw gone refl;

@@ -1,6 +1,6 @@
 -- The law of a sole caller: where every pass is idle between two calls, each call is what the plain semaphore does at
 -- once. No counters, no cells: only the free permits, the line and the waits that were served.
-use Rattle.std.specs.Prelude.{◌≡◌, ◌≢◌, ◌⊎◌, ℕ, ◌+◌, ◌-◌, ◌<◌, nat_lt, length, slice_index, slice_set, IsSomeAnd, List, [], ◌∷◌, ◌++◌, Option, Some, None, if◌then◌else◌}
+use Rattle.std.specs.Prelude.{◌≡◌, ◌≢◌, ◌⊎◌, ℕ, ◌+◌, ◌-◌, ◌<◌, ◌≤◌, nat_lt, length, slice_index, slice_set, IsSomeAnd, List, [], ◌∷◌, ◌++◌, Option, Some, None, if◌then◌else◌}
 use Rattle.std.specs.List.{fold}
 use Rattle.cqs_core.specs.declared.calls.Call.{Call}
 use Rattle.cqs_core.specs.declared.calls.Call.TheVariants as call
@@ -90,6 +90,7 @@ pub record IsSoleCall (old : Shape) (c : Call) (answer : Reply) (new : Shape) : 
   pub held : new.held ≡ held_after old.held c answer
   pub permits : new.permits ≡ old.permits
   pub idle : IsIdle new.queue.doing
+  pub numbers : new.queue.suspends ≤ old.queue.suspends + 1
   pub untaken : NoneTaken old → NoneTaken new
 
 -- the semaphore that is shown afterwards is the one after the call's entries

@@ -4,6 +4,12 @@
 #[cfg(test)]
 mod calls;
 #[cfg(test)]
+mod core_calls;
+#[cfg(test)]
+mod core_schedules;
+#[cfg(test)]
+mod core_sizes;
+#[cfg(test)]
 mod empty_plan;
 #[cfg(test)]
 mod faulty_input_and_output;

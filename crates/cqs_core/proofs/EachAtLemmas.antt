@@ -11,8 +11,8 @@ module _ {X : Type 0} where
 
   -- the fact of the written element is new, and those of the others may change with it
   pub EachAt-write : (P Q : ℕ → X → Type 0) (xs : List X) (i : ℕ) (old new : X) → slice_get xs i ≡ Some old
-    → Q i new → ((k : ℕ) (x : X) → slice_get xs k ≡ Some x → k ≢ i → P k x → Q k x)
-    → EachAt P xs → EachAt Q (set xs i new)
+      → Q i new → ((k : ℕ) (x : X) → slice_get xs k ≡ Some x → k ≢ i → P k x → Q k x)
+      → EachAt P xs → EachAt Q (set xs i new)
   EachAt-write P Q xs i old new there here others each = record { at = λ k x got. go k x got (cases_eq k i) }
     where
       go : (k : ℕ) (x : X) → slice_get (set xs i new) k ≡ Some x → (k ≡ i) ⊎ (k ≢ i) → Q k x
@@ -25,8 +25,8 @@ module _ {X : Type 0} where
 
   -- one more element
   pub EachAt-push : (P Q : ℕ → X → Type 0) (xs : List X) (new : X)
-    → Q (length xs) new → ((k : ℕ) (x : X) → slice_get xs k ≡ Some x → P k x → Q k x)
-    → EachAt P xs → EachAt Q (xs ++ new ∷ [])
+      → Q (length xs) new → ((k : ℕ) (x : X) → slice_get xs k ≡ Some x → P k x → Q k x)
+      → EachAt P xs → EachAt Q (xs ++ new ∷ [])
   EachAt-push P Q xs new here others each = record { at = λ k x got. go k x got (cases_lt k (length xs)) }
     where
       go : (k : ℕ) (x : X) → slice_get (xs ++ new ∷ []) k ≡ Some x → (k < length xs) ⊎ (length xs ≤ k) → Q k x
@@ -36,7 +36,7 @@ module _ {X : Type 0} where
       go k x got (inr past) = last k x got past (cases_eq k (length xs))
         where
           last : (k : ℕ) (x : X) → slice_get (xs ++ new ∷ []) k ≡ Some x → length xs ≤ k
-            → (k ≡ length xs) ⊎ (k ≢ length xs) → Q k x
+              → (k ≡ length xs) ⊎ (k ≢ length xs) → Q k x
           last k x got past (inl same) =
               same-some (λ y. Q k y) new x (sym (get-push_at xs new k same) ∙ got) (rw same here)
           last k x got past (inr more) =
@@ -45,5 +45,5 @@ module _ {X : Type 0} where
 
   -- the fact follows from another
   pub EachAt-weaker : (P Q : ℕ → X → Type 0) (xs : List X)
-    → ((k : ℕ) (x : X) → slice_get xs k ≡ Some x → P k x → Q k x) → EachAt P xs → EachAt Q xs
+      → ((k : ℕ) (x : X) → slice_get xs k ≡ Some x → P k x → Q k x) → EachAt P xs → EachAt Q xs
   EachAt-weaker P Q xs follows each = record { at = λ k x got. follows k x got (each.at k x got) }

@@ -64,3 +64,15 @@ module _ {X : Type 0} where
   get-drop (suc n) [] i k e = refl
   get-drop (suc n) (z ∷ zs) i zero e = absurd (omega arith)
   get-drop (suc n) (z ∷ zs) i (suc k) e = get-drop n zs i k (omega arith)
+
+  -- what stands there already is written
+  pub set-same : (xs : List X) (i : ℕ) (x : X) → slice_get xs i ≡ Some x → set xs i x ≡ xs
+  set-same [] i x h = refl
+  set-same (z ∷ zs) zero x h = let same : z ≡ x = cc in ap (λ y. y ∷ zs) (sym same)
+  set-same (z ∷ zs) (suc i) x h = ap (λ ys. z ∷ ys) (set-same zs i x h)
+
+  -- the list ends before a number that has no element
+  pub get-none : (xs : List X) (i : ℕ) → slice_get xs i ≡ None → length xs ≤ i
+  get-none [] i h = omega arith
+  get-none (z ∷ zs) zero h = absurd (cc)
+  get-none (z ∷ zs) (suc i) h = omega (arith, get-none zs i h)

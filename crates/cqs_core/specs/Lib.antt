@@ -11,3 +11,7 @@ pub mod SemaphoreTable
 pub mod SemaphoreAnswers
 pub mod SemaphoreShown
 pub mod SemaphoreRuns
+pub mod SemaphoreWords
+pub mod SemaphoreCalls
+pub mod SemaphoreLaws
+pub mod Resting

@@ -52,7 +52,7 @@ takes_one passes k cell = not (is_gone passes k cell)
 -- on, are no more than the resumptions that are still to draw a number
 pub record IsCovered (q : Queue) : Type 0 where
   pub at : (j : ℕ) (cell : CoreCell) → slice_get q.cells j ≡ Some cell → is_declined q.doing j cell ≡ true → q.resumes ≤ j
-    → count_at (takes_one q.doing) q.resumes (drop q.resumes (take (j + 1) q.cells)) ≤ roaming q
+      → count_at (takes_one q.doing) q.resumes (drop q.resumes (take (j + 1) q.cells)) ≤ roaming q
 
 -- A cell may be declined only where as many resumptions are under way as must be resumed; the primitive's answer says so.
 abbrev pub IsFair : Queue → Move → Type 0

@@ -36,6 +36,13 @@ IsLight doing.Door = Unit {0}
 IsLight doing.Owes = Unit {0}
 IsLight _ = ⊥
 
+-- the pass names no cell and owes nothing: it is between two calls, tries, or stands at the door
+abbrev pub IsClear : Doing → Type 0
+IsClear doing.Idle = Unit {0}
+IsClear (doing.TryAt v) = Unit {0}
+IsClear doing.Door = Unit {0}
+IsClear _ = ⊥
+
 abbrev pub IsCancelling : CoreState → Type 0
 IsCancelling state.Cancelling = Unit {0}
 IsCancelling state.Delegated = Unit {0}
@@ -55,7 +62,7 @@ pub record Owns (p : ℕ) (found : CoreCell) : Type 0 where
 -- where a move may be made
 abbrev pub IsOpen : Queue → Move → Type 0
 IsOpen q stay = Unit {0}
-IsOpen q (turn p from to) = (slice_get q.doing p ≡ Some from) × IsLight from × IsLight to
+IsOpen q (turn p from to) = (slice_get q.doing p ≡ Some from) × IsClear from × IsLight to
 IsOpen q (draw p k found) = (slice_get q.doing p ≡ Some doing.Door) × (k ≡ q.suspends) × (slice_get q.cells k ≡ found)
 IsOpen q (install p k found) = Works q p (doing.Drawn k) k found state.Empty
 IsOpen q (take_value p k found) = Works q p (doing.Drawn k) k found state.Value
@@ -101,14 +108,22 @@ abbrev pub moved : Queue → Move → Queue
 moved q stay = q
 moved q (turn p from to) = now_doing q p to
 moved q (draw p k found) =
-    record { suspends = q.suspends + 1; resumes = q.resumes;
-             cells = cells_drawn q.cells k p found; doing = slice_set q.doing p (doing.Drawn k) }
+    record {
+      suspends = q.suspends + 1;
+      resumes = q.resumes;
+      cells = cells_drawn q.cells k p found;
+      doing = slice_set q.doing p (doing.Drawn k);
+    }
 moved q (install p k found) = now_doing (with_cell q k (at_state found state.Waiter)) p doing.Idle
 moved q (take_value p k found) =
     now_doing (with_cell q k (record { state = state.Taken; owner = found.owner; collected = true })) p doing.Idle
 moved q (reach p k found) =
-    record { suspends = q.suspends; resumes = q.resumes + 1;
-             cells = cells_reached q.cells found; doing = slice_set q.doing p (doing.Ticket k) }
+    record {
+      suspends = q.suspends;
+      resumes = q.resumes + 1;
+      cells = cells_reached q.cells found;
+      doing = slice_set q.doing p (doing.Ticket k);
+    }
 moved q (serve p k found) = now_doing (with_cell q k (at_state found state.Resumed)) p doing.Idle
 moved q (leave_value p k found) = now_doing (with_cell q k (at_state found state.Value)) p doing.Idle
 moved q (delegate p k found) = now_doing (with_cell q k (at_state found state.Delegated)) p doing.Idle

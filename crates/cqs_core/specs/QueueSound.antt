@@ -26,8 +26,8 @@ IsUninstalled q k cell =
 pub record IsLeft (q : Queue) (k : ℕ) (cell : CoreCell) : Type 0 where
   pub entered : IsEntered q k cell
   pub stage :
-    (owner_doing q.doing cell ≡ Some (doing.Leaving k))
-    ⊎ ((on : Bool) × (owner_doing q.doing cell ≡ Some (doing.Decided k on)))
+      (owner_doing q.doing cell ≡ Some (doing.Leaving k))
+      ⊎ ((on : Bool) × (owner_doing q.doing cell ≡ Some (doing.Decided k on)))
 
 -- a resume that drew this number is still to meet its cell
 abbrev pub IsAwaited : Queue → ℕ → Type 0

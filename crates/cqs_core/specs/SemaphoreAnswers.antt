@@ -3,7 +3,9 @@ use Rattle.std.specs.Prelude.{◌≡◌, ℕ, ◌+◌, ◌≤◌, Option, Some, 
 use Rattle.cqs_core.specs.declared.errors.CoreError.{CoreError}
 use Rattle.cqs_core.specs.declared.errors.CoreError.TheVariants.{Memory, BadSize, NotEnabled}
 use Rattle.cqs_core.specs.declared.outcomes.Outcome.{Outcome}
+use Rattle.cqs_core.specs.declared.outcomes.Outcome.TheVariants as outcome
 use Rattle.cqs_core.specs.SemaphoreTable.{Shape, Stepped}
+use Rattle.cqs_core.specs.SemaphoreShown.{IsSize, opened}
 
 -- An allowed event is made, and one that isn't is refused; want of memory alone may refuse an allowed one.
 -- Every refusal leaves the core unchanged.
@@ -28,3 +30,16 @@ MakesReady (Some row) (Some o) old new = (o ≡ row.outcome) × (new.shape ≡ r
 MakesReady None None old new = new ≡ old
 MakesReady (Some row) None old new = ⊥
 MakesReady None (Some o) old new = ⊥
+
+-- a resume passed over the cell that it met
+abbrev pub HasPassed : Outcome → Type 0
+HasPassed (outcome.Passed k) = Unit {0}
+HasPassed _ = ⊥
+
+-- A core is made where its numbers are in their ranges, and refused elsewhere; want of memory alone may refuse one of
+-- these numbers.
+abbrev pub Opens : ℕ → ℕ → Result Room CoreError → Type 0
+Opens permits passes (Ok core) = IsSize permits passes × (core.shape ≡ opened permits passes)
+Opens permits passes (Err Memory) = IsSize permits passes
+Opens permits passes (Err BadSize) = ¬ IsSize permits passes
+Opens permits passes (Err NotEnabled) = ⊥

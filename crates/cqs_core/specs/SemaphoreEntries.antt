@@ -55,8 +55,12 @@ with_service (Some w) served = placed (λ s. s.wait) (record { wait = w.wait; pa
 -- a permit on its way reaches wait k
 abbrev pub delivered : Semaphore → ℕ → Semaphore
 delivered o k =
-    record o { way = o.way - 1; held = o.held + 1; line = without (λ w. w.wait) k o.line;
-               served = with_service (find_wait k o.line) o.served }
+    record o {
+      way = o.way - 1;
+      held = o.held + 1;
+      line = without (λ w. w.wait) k o.line;
+      served = with_service (find_wait k o.line) o.served;
+    }
 
 -- a permit on its way is free again, where more were on their way than wait
 abbrev pub turned_back : Semaphore → Semaphore

@@ -30,7 +30,8 @@ shown s = record {
   line = queue.line s.queue;
   next = s.queue.suspends;
   served = queue.served s.queue;
-  held = sum s.held + queue.ready s.queue }
+  held = sum s.held + queue.ready s.queue;
+}
 
 -- the state word of a semaphore: the free permits, less those who wait with none on its way
 abbrev pub state_of : Semaphore → ℤ
@@ -73,7 +74,7 @@ pub record IsCore (s : Shape) : Type 0 where
   pub short : queue.going s.queue + short_of s.state ≡ queue.due s.queue + queue.ending s.queue
   -- no permit is lost
   pub conserved :
-    sum s.held + queue.ready s.queue + free_of s.state + queue.going s.queue ≡ s.permits + queue.ending s.queue
+      sum s.held + queue.ready s.queue + free_of s.state + queue.going s.queue ≡ s.permits + queue.ending s.queue
 
 -- a core as it is made
 abbrev pub opened : ℕ → ℕ → Shape
@@ -82,7 +83,8 @@ opened permits passes = record {
   state = pos permits;
   held = replicate passes 0;
   history = [];
-  queue = record { suspends = 0; resumes = 0; cells = []; doing = replicate passes doing.Idle } }
+  queue = record { suspends = 0; resumes = 0; cells = []; doing = replicate passes doing.Idle };
+}
 
 -- the numbers that a core may be made with
 pub record IsSize (permits passes : ℕ) : Type 0 where

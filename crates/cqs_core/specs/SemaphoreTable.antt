@@ -65,9 +65,9 @@ last_number = 1099511627775
 abbrev pub take_row : Shape → ℕ → Option Doing → Option Stepped
 take_row s p (Some doing.Idle) =
     if int_lt lowest s.state then
-        (if int_lt (pos 0) s.state
-         then answers (records (gains (takes s) p) (entry.TakeNow p)) outcome.Now
-         else answers (records (moves (takes s) (move.turn p doing.Idle doing.Door)) (entry.TakeDoor p)) outcome.Door)
+    (if int_lt (pos 0) s.state
+    then answers (records (gains (takes s) p) (entry.TakeNow p)) outcome.Now
+    else answers (records (moves (takes s) (move.turn p doing.Idle doing.Door)) (entry.TakeDoor p)) outcome.Door)
     else None
 take_row s p _ = None
 
@@ -89,9 +89,9 @@ abbrev pub draw_row : Shape → ℕ → Option Doing → Option Stepped
 draw_row s p (Some doing.Door) =
     if nat_lt s.queue.suspends last_number
     then answers
-        (records (moves s (move.draw p s.queue.suspends (slice_get s.queue.cells s.queue.suspends)))
-                 (entry.Enter p s.queue.suspends))
-        (outcome.Drew s.queue.suspends)
+    (records (moves s (move.draw p s.queue.suspends (slice_get s.queue.cells s.queue.suspends)))
+    (entry.Enter p s.queue.suspends))
+    (outcome.Drew s.queue.suspends)
     else None
 draw_row s p _ = None
 
@@ -109,9 +109,9 @@ install_row s p _ = None
 abbrev pub give_row : Shape → ℕ → Option Doing → Option Stepped
 give_row s p (Some doing.Idle) =
     if nat_lt 0 (slice_index s.held p) then
-        (if int_lt s.state (pos 0)
-         then answers (records (moves (loses (adds s) p) (move.turn p doing.Idle doing.Owes)) (entry.GiveSent p)) outcome.Owes
-         else answers (records (loses (adds s) p) (entry.GiveFreed p)) outcome.Freed)
+    (if int_lt s.state (pos 0)
+    then answers (records (moves (loses (adds s) p) (move.turn p doing.Idle doing.Owes)) (entry.GiveSent p)) outcome.Owes
+    else answers (records (loses (adds s) p) (entry.GiveFreed p)) outcome.Freed)
     else None
 give_row s p _ = None
 
@@ -119,7 +119,7 @@ abbrev pub reach_row : Shape → ℕ → Option Doing → Option Stepped
 reach_row s p (Some doing.Owes) =
     if nat_lt s.queue.resumes last_number
     then answers (moves s (move.reach p s.queue.resumes (slice_get s.queue.cells s.queue.resumes)))
-                 (outcome.Reached s.queue.resumes)
+    (outcome.Reached s.queue.resumes)
     else None
 reach_row s p _ = None
 

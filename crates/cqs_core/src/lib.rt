@@ -7,8 +7,13 @@ mod doings;
 mod entries;
 mod errors;
 mod events;
+mod law;
+mod laws;
 mod outcomes;
 mod shortage;
+mod runnable;
+mod table;
+mod whole_calls;
 
 pub use calls::{Call, Reply};
 pub use cells::{CoreCell, CoreState};
@@ -16,5 +21,11 @@ pub use doings::Doing;
 pub use entries::Entry;
 pub use errors::CoreError;
 pub use events::Event;
+pub use law::every_run_is_legal;
+pub use laws::{
+    one_permit_goes_to_the_first, permits_are_collected_once, permits_are_conserved,
+    service_is_in_order, waits_end_once,
+};
 pub use outcomes::Outcome;
 pub use shortage::Memory;
+pub use runnable::Core;

@@ -1,0 +1,162 @@
+//! The runnable core: every core that is made and changed here shows a fair semaphore.
+
+ghost use Rattle.std.specs.Prelude.{◌≡◌, ◌+◌, ◌≤◌, Err, OnOk, OnErr, slice_get};
+ghost use Rattle.cqs_core.specs.SemaphoreAnswers.{Makes, Opens};
+ghost use Rattle.cqs_core.specs.SemaphoreCalls.{MakesCall, MakesCallReady, course};
+ghost use Rattle.cqs_core.specs.SemaphoreEntries.{object_after, IsBalanced, IsLegal};
+ghost use Rattle.cqs_core.specs.SemaphoreShown.{Shows, shown};
+ghost use Rattle.cqs_core.specs.SemaphoreTable.{step};
+ghost use Rattle.cqs_core.specs.Resting.{IsResting};
+
+use std::alloc::Global;
+use std::marker::Model;
+
+use crate::calls::{Call, Reply};
+use crate::cells::CoreCell;
+use crate::doings::Doing;
+use crate::entries::Entry;
+use crate::errors::CoreError;
+use crate::events::Event;
+use crate::outcomes::Outcome;
+use crate::table::Table;
+
+/// The most permits that a core may be made with.
+const MOST_PERMITS: u32 = 1_048_576;
+
+/// The most passes that a core may be made with.
+const MOST_PASSES: u32 = 32;
+
+/// A semaphore with its queue of cells, as plain data that makes one event after the other.
+///
+/// Contracts see its shape (the words, cells and passes, and the history so far) and its spare room: for how many further
+/// entries and cells it has memory.
+#[derive(Drop)]
+pub struct Core {
+    table: Table,
+}
+
+impl Model for Core {
+    ghost use Rattle.cqs_core.specs.SemaphoreAnswers.{Room};
+    ghost use Rattle.cqs_core.specs.SemaphoreShown.{IsCore};
+
+    ghost Value = { Room };
+
+    ghost view = { λ core. core.table };
+
+    ghost invariant = { λ core. IsCore core.table.shape };
+}
+
+impl Core {
+    /// A core with all its permits free, and with so many passes, each of them idle.
+    ///
+    /// There are 1 to 1,048,576 permits and 1 to 32 passes; any other number is `BadSize`.
+    pub fn new(alloc: Global, permits: u32, passes: u32) -> Result<Self, CoreError>
+        ensures { Opens permits passes result }
+    {
+        if permits == 0 || permits > MOST_PERMITS || passes == 0 || passes > MOST_PASSES {
+            return Err(CoreError::BadSize);
+        }
+        let table = Table::new(alloc, permits, passes)?;
+        Ok(Core { table })
+    }
+
+    /// Makes one event, where the table of events allows it.
+    pub fn step(&mut self, event: Event) -> Result<Outcome, CoreError>
+        ensures { Makes (step self.old.shape event) result self.old.shape self.new.shape }
+    {
+        self.table.reserve(1)?;
+        match self.table.step_ready(event) {
+            Some(outcome) => Ok(outcome),
+            None => Err(CoreError::NotEnabled),
+        }
+    }
+
+    /// Makes the events of a call, one after the other, until its pass is idle again.
+    ///
+    /// Room for all of them is made first, so that `Memory` leaves the core as it was.
+    pub fn run_call(&mut self, call: Call) -> Result<Reply, CoreError>
+        requires { IsResting self.old.shape }
+        ensures { MakesCall (course self.old.shape call) result self.old.shape self.new.shape }
+    {
+        self.table.reserve(3)?;
+        match self.table.run_ready(call) {
+            Some(reply) => Ok(reply),
+            None => Err(CoreError::NotEnabled),
+        }
+    }
+
+    /// Makes room for so many further entries and cells. Its only error is `Memory`.
+    pub fn reserve(&mut self, more: u32) -> Result<(), CoreError>
+        ensures ok { OnOk result (more ≤ self.new.spare) }
+        ensures err { OnErr result (result ≡ Err CoreError.Memory) }
+        ensures same { self.new.shape ≡ self.old.shape }
+        ensures kept { self.old.spare ≤ self.new.spare }
+    {
+        self.table.reserve(more)?;
+        Ok(())
+    }
+
+    /// Makes the events of a call as `run_call` does, within the room that was reserved.
+    pub fn run_ready(&mut self, call: Call) -> Option<Reply>
+        requires resting { IsResting self.old.shape }
+        requires room { 3 ≤ self.old.spare }
+        ensures { MakesCallReady (course self.old.shape call) result self.old self.new }
+    {
+        self.table.run_ready(call)
+    }
+
+    /// The state word: the free permits, less those who wait with none on its way.
+    pub fn state(&self) -> i64
+        ensures { result ≡ self.now.shape.state }
+    {
+        self.table.state()
+    }
+
+    /// How many numbers the suspends have drawn.
+    pub fn suspends(&self) -> u64
+        ensures { result ≡ self.now.shape.queue.suspends }
+    {
+        self.table.suspends()
+    }
+
+    /// How many numbers the resumes have drawn.
+    pub fn resumes(&self) -> u64
+        ensures { result ≡ self.now.shape.queue.resumes }
+    {
+        self.table.resumes()
+    }
+
+    /// The cell of a number; none where neither counter has passed it.
+    pub fn cell(&self, number: u64) -> Option<CoreCell>
+        ensures { result ≡ slice_get self.now.shape.queue.cells number }
+    {
+        self.table.cell(number)
+    }
+
+    /// What a pass is doing; none where there is no such pass.
+    pub fn doing(&self, pass: u32) -> Option<Doing>
+        ensures { result ≡ slice_get self.now.shape.queue.doing pass }
+    {
+        self.table.doing(pass)
+    }
+
+    /// How many permits a pass holds; none where there is no such pass.
+    pub fn held(&self, pass: u32) -> Option<u32>
+        ensures { result ≡ slice_get self.now.shape.held pass }
+    {
+        self.table.held(pass)
+    }
+
+    /// The entries that its events have made so far, oldest first.
+    pub fn history(&self) -> &[Entry]
+        ensures value { result.now ≡ self.now.shape.history }
+
+        // Each entry may come where it stands, and the semaphore after them all is the one that the core shows.
+        ensures legal { IsLegal self.now.shape.permits self.now.shape.history }
+        ensures object { object_after self.now.shape.permits self.now.shape.history ≡ shown self.now.shape }
+        ensures shows { Shows self.now.shape (object_after self.now.shape.permits self.now.shape.history) }
+        ensures balanced { IsBalanced self.now.shape.permits (object_after self.now.shape.permits self.now.shape.history) }
+    {
+        self.table.history()
+    }
+}

@@ -49,3 +49,6 @@ pub mod RowsCancel
 pub mod StepKeeps
 pub mod CoreFacts
 pub mod OpenedCore
+pub mod CallsKeep
+pub mod CallsEnd
+pub mod Quiet

@@ -15,3 +15,4 @@ pub mod SemaphoreWords
 pub mod SemaphoreCalls
 pub mod SemaphoreLaws
 pub mod Resting
+pub mod SoleCaller

@@ -158,9 +158,8 @@ MakesCallReady _ _ old new = ⊥
 
 -- A call is made where its first event is allowed, and refused elsewhere; want of memory alone may refuse an allowed one.
 -- Every refusal leaves the core unchanged.
-abbrev pub MakesCall : Course → Result Reply CoreError → Shape → Shape → Type 0
-MakesCall (replied s given) (Ok answer) old new = (answer ≡ given) × (new ≡ s)
-MakesCall (replied s given) (Err Memory) old new = new ≡ old
-MakesCall refused (Err Memory) old new = new ≡ old
-MakesCall refused (Err NotEnabled) old new = new ≡ old
+abbrev pub MakesCall : Result Reply CoreError → Course → Shape → Shape → Type 0
+MakesCall (Ok answer) (replied s given) old new = (answer ≡ given) × (new ≡ s)
+MakesCall (Err Memory) found old new = new ≡ old
+MakesCall (Err NotEnabled) refused old new = new ≡ old
 MakesCall _ _ old new = ⊥

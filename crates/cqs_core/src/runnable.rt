@@ -1,7 +1,7 @@
 //! The runnable core: every core that is made and changed here shows a fair semaphore.
 
 ghost use Rattle.std.specs.Prelude.{◌≡◌, ◌+◌, ◌≤◌, Err, OnOk, OnErr, slice_get};
-ghost use Rattle.cqs_core.specs.SemaphoreAnswers.{Makes, Opens};
+ghost use Rattle.cqs_core.specs.SemaphoreAnswers.{Makes, MakesReady, Opens};
 ghost use Rattle.cqs_core.specs.SemaphoreCalls.{MakesCall, MakesCallReady, course};
 ghost use Rattle.cqs_core.specs.SemaphoreEntries.{object_after, IsBalanced, IsLegal};
 ghost use Rattle.cqs_core.specs.SemaphoreShown.{Shows, shown};
@@ -64,11 +64,19 @@ impl Core {
     pub fn step(&mut self, event: Event) -> Result<Outcome, CoreError>
         ensures { Makes (step self.old.shape event) result self.old.shape self.new.shape }
     {
-        self.table.reserve(1)?;
-        match self.table.step_ready(event) {
+        self.reserve(1)?;
+        match self.step_ready(event) {
             Some(outcome) => Ok(outcome),
             None => Err(CoreError::NotEnabled),
         }
+    }
+
+    /// Makes one event as `step` does, within the room that was reserved.
+    pub fn step_ready(&mut self, event: Event) -> Option<Outcome>
+        requires { 1 ≤ self.old.spare }
+        ensures { MakesReady (step self.old.shape event) result self.old self.new }
+    {
+        self.table.step_ready(event)
     }
 
     /// Makes the events of a call, one after the other, until its pass is idle again.
@@ -76,10 +84,10 @@ impl Core {
     /// Room for all of them is made first, so that `Memory` leaves the core as it was.
     pub fn run_call(&mut self, call: Call) -> Result<Reply, CoreError>
         requires { IsResting self.old.shape }
-        ensures { MakesCall (course self.old.shape call) result self.old.shape self.new.shape }
+        ensures { MakesCall result (course self.old.shape call) self.old.shape self.new.shape }
     {
-        self.table.reserve(3)?;
-        match self.table.run_ready(call) {
+        self.reserve(3)?;
+        match self.run_ready(call) {
             Some(reply) => Ok(reply),
             None => Err(CoreError::NotEnabled),
         }

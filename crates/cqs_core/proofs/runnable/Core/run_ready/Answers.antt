@@ -1,0 +1,12 @@
+use Rattle.cqs_core.proofs.CallsKeep.{core-fits, call_ready-core}
+use Rattle.cqs_core.proofs.CallsEnd.{calls-end}
+use Rattle.cqs_core.proofs.runnable.Core.run_ready.Goals as goal
+
+pub run_ready-requires-clause-fits : goal.run_ready-requires-clause-fits
+run_ready-requires-clause-fits c = core-fits _ c.self.invariant
+
+pub run_ready-requires-clause-ends : goal.run_ready-requires-clause-ends
+run_ready-requires-clause-ends c = calls-end _ c.args.call c.self.invariant (rw c.self.view_is c.requires.resting)
+
+pub invariant_of-self : goal.invariant_of-self
+invariant_of-self c = call_ready-core _ _ _ _ c.self.invariant c.run_ready.ensures

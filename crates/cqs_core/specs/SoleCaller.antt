@@ -1,0 +1,55 @@
+-- The law of a sole caller: where every pass is idle between two calls, each call is what the plain semaphore does at
+-- once. No counters, no cells: only the free permits, the line and the waits that were served.
+use Rattle.std.specs.Prelude.{◌≡◌, ℕ, nat_lt, List, [], ◌∷◌, ◌++◌, Option, Some, None, if◌then◌else◌}
+use Rattle.cqs_core.specs.declared.calls.Call.{Call}
+use Rattle.cqs_core.specs.declared.calls.Call.TheVariants as call
+use Rattle.cqs_core.specs.declared.calls.Reply.{Reply}
+use Rattle.cqs_core.specs.declared.calls.Reply.TheVariants as reply
+use Rattle.cqs_core.specs.declared.entries.Entry.{Entry}
+use Rattle.cqs_core.specs.declared.entries.Entry.TheVariants as entry
+use Rattle.cqs_core.specs.QueueLine.{Waiting}
+use Rattle.cqs_core.specs.Resting.{IsIdle}
+use Rattle.cqs_core.specs.SemaphoreEntries.{find_wait}
+use Rattle.cqs_core.specs.SemaphoreObject.{Semaphore}
+use Rattle.cqs_core.specs.SemaphoreShown.{shown}
+use Rattle.cqs_core.specs.SemaphoreTable.{Shape}
+
+-- what a call does to the plain semaphore: the entries that it appends, and its reply
+pub record Told : Type 0 where
+  pub entries : List Entry
+  pub answer : Reply
+
+abbrev pub tells : List Entry → Reply → Told
+tells entries answer = record { entries = entries; answer = answer }
+
+-- a release goes to the first of the line, where there is one
+abbrev pub sole_release : ℕ → List Waiting → Told
+sole_release p [] = tells (entry.GiveFreed p ∷ []) reply.Freed
+sole_release p (first ∷ line) =
+    tells (entry.GiveSent p ∷ entry.Deliver first.wait ∷ []) (reply.Sent first.wait)
+
+-- a wait that isn't in the line any more was served
+abbrev pub sole_poll : ℕ → ℕ → Option Waiting → Told
+sole_poll p k (Some wait) = tells (entry.LookPending p k ∷ []) reply.Pending
+sole_poll p k None = tells (entry.LookGranted p k ∷ []) reply.Granted
+
+abbrev pub sole_cancel : ℕ → ℕ → Option Waiting → Told
+sole_cancel p k (Some wait) = tells (entry.Leave p k ∷ []) reply.Cancelled
+sole_cancel p k None = tells (entry.Late p k ∷ []) reply.TooLate
+
+-- what an allowed call of a sole caller is
+abbrev pub sole_call : Semaphore → Call → Told
+sole_call o (call.Acquire p) =
+    if nat_lt 0 o.free then tells (entry.TakeNow p ∷ []) reply.Now
+    else tells (entry.TakeDoor p ∷ entry.Enter p o.next ∷ []) (reply.Later o.next)
+sole_call o (call.Try p) =
+    if nat_lt 0 o.free then tells (entry.TryGot p ∷ []) reply.Got else tells (entry.TryBusy p ∷ []) reply.Busy
+sole_call o (call.Release p) = sole_release p o.line
+sole_call o (call.Poll p k) = sole_poll p k (find_wait k o.line)
+sole_call o (call.Cancel p k) = sole_cancel p k (find_wait k o.line)
+
+-- a call was made as a sole caller's, and every pass is idle again
+pub record IsSoleCall (old : Shape) (c : Call) (answer : Reply) (new : Shape) : Type 0 where
+  pub appended : new.history ≡ old.history ++ (sole_call (shown old) c).entries
+  pub replied : answer ≡ (sole_call (shown old) c).answer
+  pub idle : IsIdle new.queue.doing

@@ -1,0 +1,5 @@
+pub mod SoleCore
+pub mod Ledger
+pub mod DeskCalls
+pub mod Kept
+pub mod Opening

@@ -1,1 +1,3 @@
 pub mod PromisedSole
+pub mod First
+pub mod SoleLike

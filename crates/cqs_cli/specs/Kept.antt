@@ -2,12 +2,10 @@
 use Rattle.std.specs.Prelude.{◌≡◌, ◌⊎◌, ℕ, ◌+◌, ◌*◌, ◌<◌, ◌≤◌, ◌==◌, Bool, true, false, List, [], ◌∷◌, length, Option, Some, None, All, is_some, sum, sum_by, count_by, slice_get, slice_index, if◌then◌else◌}
 use Rattle.std.specs.Option.{option_map_or}
 use Rattle.cqs_core.specs.Numbered.{EachAt}
-use Rattle.cqs_core.specs.QueueLine.{Service}
+use Rattle.cqs_core.specs.QueueLine.{Waiting, Service}
 use Rattle.cqs_core.specs.SemaphoreAnswers.{Room}
-use Rattle.cqs_core.specs.SemaphoreEntries.{find_wait}
 use Rattle.cqs_core.specs.SemaphoreObject.{Semaphore}
 use Rattle.cqs_core.specs.SemaphoreShown.{shown}
-use Rattle.cqs_core.specs.SemaphoreTable.{Shape}
 use Rattle.cqs_plan.specs.Floor.{Holding, permits_of}
 use Rattle.cqs_cli.specs.declared.floors.waits.Wait.{Wait}
 use Rattle.cqs_cli.specs.Ledger.{Ledger, holds_after}
@@ -30,18 +28,18 @@ held_at holds at = sum_by (λ hs. count_by (λ h. h.at == at) hs) holds
 abbrev pub unseen : List Service → ℕ
 unseen served = count_by (λ s. s.is_open) served
 
--- the first service of this number
-abbrev pub find_service : ℕ → List Service → Option Service
-find_service k [] = None
-find_service k (s ∷ served) = if k == s.wait then Some s else find_service k served
+-- the first with this key
+abbrev pub first_at : {Y : Type 0} → (Y → ℕ) → ℕ → List Y → Option Y
+first_at key k [] = None
+first_at key k (y ∷ ys) = if k == key y then Some y else first_at key k ys
 
 -- wait k is in the line
 abbrev pub is_in_line : ℕ → Semaphore → Bool
-is_in_line k o = is_some (find_wait k o.line)
+is_in_line k o = is_some (first_at (λ w. w.wait) k o.line)
 
 -- wait k was served, and hasn't been looked at
 abbrev pub is_unseen : ℕ → Semaphore → Bool
-is_unseen k o = option_map_or (λ s. s.is_open) (find_service k o.served) false
+is_unseen k o = option_map_or (λ s. s.is_open) (first_at (λ s. s.wait) k o.served) false
 
 -- wait k is still to be looked at
 abbrev pub Stands : Semaphore → ℕ → Type 0

@@ -14,7 +14,7 @@ use Rattle.cqs_core.specs.SemaphoreCalls.{Course, Landed, refused, replied, stuc
 use Rattle.cqs_core.specs.SemaphoreShown.{IsCore}
 use Rattle.cqs_core.specs.SemaphoreTable.{Shape, Stepped, step}
 use Rattle.cqs_core.specs.SemaphoreWords.{FitsWords}
-use Rattle.cqs_core.proofs.CoreFacts.{holds-fits, state-few, holders-are}
+use Rattle.cqs_core.proofs.CoreFacts.{holds-fits, state-few}
 use Rattle.cqs_core.proofs.StepKeeps.{row-core}
 
 -- the code's words can hold the numbers of a core
@@ -23,7 +23,7 @@ core-fits s core = record {
   held = λ p. holds-fits s p core;
   low = core.range.state;
   high = state-few s core;
-  holders = holders-are s core;
+  holders = core.holders;
 }
 
 -- where a call replies, it leaves a core

@@ -1,16 +1,14 @@
 -- What every core gives: it shows the object after its history, the laws of the semaphore hold of it, and its
 -- numbers are small.
-use Rattle.std.proofs.Common.{◌≡◌, ◌⊎◌, inl, inr, ℕ, ◌+◌, ◌-◌, ◌^◌, ◌<◌, ◌≤◌, ℤ, pos, negsuc, ◌+ℤ◌, ◌-ℤ◌, ◌≤ℤ◌, length, sum, get_or, slice_index, refl, sym, ap, ◌∙◌, subst, arith}
+use Rattle.std.proofs.Common.{◌≡◌, ◌⊎◌, inl, inr, ℕ, ◌+◌, ◌-◌, ◌^◌, ◌<◌, ◌≤◌, ℤ, pos, negsuc, ◌-ℤ◌, ◌≤ℤ◌, length, sum, get_or, slice_index, refl, sym, ap, ◌∙◌, subst, arith}
 use Rattle.std.proofs.lemmas.Bool.{cases_lt}
 use Rattle.std.proofs.lemmas.Int.{ints}
 use Rattle.std.proofs.lemmas.List.{get_or_past}
-use Rattle.std.proofs.lemmas.List.Sums.{get_or-le-sum_by}
-use Rattle.cqs_core.specs.QueueLine as queue
-use Rattle.cqs_core.specs.QueueLine.{going, ending}
 use Rattle.cqs_core.specs.SemaphoreObject.{Semaphore, due}
 use Rattle.cqs_core.specs.SemaphoreEntries.{object_after, IsBalanced}
 use Rattle.cqs_core.specs.SemaphoreTable.{Shape, last_number}
 use Rattle.cqs_core.specs.SemaphoreShown.{IsCore, Shows, shown, free_of, short_of}
+use Rattle.cqs_core.proofs.CoreSteps.{held-within}
 use Rattle.cqs_core.proofs.Promised.{ending-within}
 
 -- the state word is the free permits less those who are short of one
@@ -22,10 +20,7 @@ state-apart (negsuc n) = omega (arith, ints)
 short-is : (s : Shape) → IsCore s → due (shown s) - (shown s).way ≡ short_of s.state
 short-is s core =
     let within = ending-within s.queue core.sound core.covered in
-    apart (going s.queue) (ending s.queue) (queue.due s.queue) (short_of s.state) within core.short
-  where
-    apart : (g e d a : ℕ) → e ≤ g → g + a ≡ d + e → d - (g - e) ≡ a
-    apart g e d a within was = omega arith
+    omega (arith, core.short)
 
 -- a core shows what is read off it
 shows-shown : (s : Shape) → IsCore s → Shows s (shown s)
@@ -36,13 +31,10 @@ shows-shown s core =
       next = refl;
       door = refl;
       line = refl;
-      way = apart (going s.queue) (ending s.queue) within;
+      way = omega arith;
       served = refl;
       held = refl;
     }
-  where
-    apart : (g e : ℕ) → e ≤ g → g - e + e ≡ g
-    apart g e within = omega arith
 
 -- a core shows the object after its history
 pub shows-object : (s : Shape) → IsCore s → Shows s (object_after s.permits s.history)
@@ -52,30 +44,21 @@ free-or-short : (z : ℤ) → (free_of z ≡ 0) ⊎ (short_of z ≡ 0)
 free-or-short (pos n) = inr refl
 free-or-short (negsuc n) = inl refl
 
+eager-shown : (s : Shape) → IsCore s → (free_of s.state ≡ 0) ⊎ (short_of s.state ≡ 0)
+    → (free_of s.state ≡ 0) ⊎ ((shown s).way ≡ due (shown s))
+eager-shown s core (inl none_free) = inl none_free
+eager-shown s core (inr none_short) =
+    let within = ending-within s.queue core.sound core.covered in
+    inr (omega (arith, core.short))
+
 balanced-shown : (s : Shape) → IsCore s → IsBalanced s.permits (shown s)
 balanced-shown s core =
     let within = ending-within s.queue core.sound core.covered in
     record {
-      conserved = sums (going s.queue) (ending s.queue) _ _ (free_of s.state) s.permits within core.conserved;
-      wanted = wanted (going s.queue) (ending s.queue) (queue.due s.queue) (short_of s.state) core.short;
-      eager = eager (free-or-short s.state);
+      conserved = omega (arith, core.conserved);
+      wanted = omega (arith, core.short);
+      eager = eager-shown s core (free-or-short s.state);
     }
-  where
-    sums : (g e a b f n : ℕ) → e ≤ g → a + b + f + g ≡ n + e → a + b + f + (g - e) ≡ n
-    sums g e a b f n within was = omega arith
-
-    wanted : (g e d a : ℕ) → g + a ≡ d + e → g - e < d + 1
-    wanted g e d a was = omega arith
-
-    equal : (g e d a : ℕ) → e ≤ g → a ≡ 0 → g + a ≡ d + e → g - e ≡ d
-    equal g e d a within none was = omega arith
-
-    eager : (free_of s.state ≡ 0) ⊎ (short_of s.state ≡ 0)
-        → (free_of s.state ≡ 0) ⊎ ((shown s).way ≡ due (shown s))
-    eager (inl none) = inl none
-    eager (inr enough) =
-        inr (equal (going s.queue) (ending s.queue) (queue.due s.queue) (short_of s.state)
-        (ending-within s.queue core.sound core.covered) enough core.short)
 
 -- the laws of the semaphore hold of the object after the history
 pub balanced-object : (s : Shape) → IsCore s → IsBalanced s.permits (object_after s.permits s.history)
@@ -87,18 +70,16 @@ balanced-object s core =
 -- the passes together hold no more than there are
 pub held-few : (s : Shape) → IsCore s → sum s.held ≤ s.permits
 held-few s core =
-    few (going s.queue) (ending s.queue) _ _ _ s.permits (ending-within s.queue core.sound core.covered)
-    core.conserved
-  where
-    few : (g e a b f n : ℕ) → e ≤ g → a + b + f + g ≡ n + e → a ≤ n
-    few g e a b f n within was = omega arith
+    let within = ending-within s.queue core.sound core.covered in
+    omega (arith, core.conserved)
 
+-- and a pass no more than may ever be
 pub holds-few : (s : Shape) (p : ℕ) → IsCore s → slice_index s.held p ≤ 1048576
 holds-few s p core = go (cases_lt p (length s.held))
   where
     go : (p < length s.held) ⊎ (length s.held ≤ p) → get_or s.held p 0 ≤ 1048576
     go (inl there) =
-        let one = get_or-le-sum_by (λ n. n) s.held p 0 there in
+        let one = held-within s.held p there in
         let all = held-few s core in
         omega (arith, core.range.permits)
     go (inr past) = let none = get_or_past s.held p 0 past in omega arith
@@ -109,11 +90,8 @@ holds-fits s p core = let few = holds-few s p core in omega arith
 
 pub free-few : (s : Shape) → IsCore s → free_of s.state ≤ s.permits
 free-few s core =
-    few (going s.queue) (ending s.queue) _ _ _ s.permits (ending-within s.queue core.sound core.covered)
-    core.conserved
-  where
-    few : (g e a b f n : ℕ) → e ≤ g → a + b + f + g ≡ n + e → f ≤ n
-    few g e a b f n within was = omega arith
+    let within = ending-within s.queue core.sound core.covered in
+    omega (arith, core.conserved)
 
 state-by-free : (z : ℤ) (n : ℕ) → free_of z ≤ n → z ≤ℤ pos n
 state-by-free (pos m) n few = omega (arith, ints)
@@ -125,27 +103,13 @@ state-few s core =
     let few = free-few s core in
     state-by-free s.state 1048576 (omega (arith, core.range.permits))
 
--- a permit comes back only where the state is below the permits: one more fits
-pub state-room : (s : Shape) → IsCore s → (s.state +ℤ pos 1) ≤ℤ pos 1048577
-state-room s core = let few = state-few s core in omega (arith, ints)
-
-pub permits-few : (s : Shape) → IsCore s → s.permits ≤ 1048576
-permits-few s core = core.range.permits
-
 -- there is a cell for each number that a counter has passed
 pub cells-suspends : (s : Shape) → IsCore s → s.queue.suspends ≤ length s.queue.cells
-cells-suspends s core = let made = core.sound.made in omega arith
+cells-suspends s core = omega (arith, core.sound.made)
 
 pub cells-resumes : (s : Shape) → IsCore s → s.queue.resumes ≤ length s.queue.cells
-cells-resumes s core = let made = core.sound.made in omega arith
+cells-resumes s core = omega (arith, core.sound.made)
 
+-- and for no more
 pub cells-few : (s : Shape) → IsCore s → length s.queue.cells ≤ last_number
-cells-few s core =
-    let made = core.sound.made in
-    let suspends = core.range.suspends in
-    let resumes = core.range.resumes in
-    omega arith
-
--- each pass has its word of held permits
-pub holders-are : (s : Shape) → IsCore s → length s.held ≡ length s.queue.doing
-holders-are s core = core.holders
+cells-few s core = omega (arith, core.sound.made, core.range.suspends, core.range.resumes)

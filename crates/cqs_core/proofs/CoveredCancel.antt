@@ -2,15 +2,16 @@
 -- a cell that is told to pass on takes none any more; and a cell may be refused where as many are under way
 -- as must be resumed, since then all that will take a resumption ahead are covered, wherever the declined
 -- ones stand.
-use Rattle.std.proofs.Common.{◌≡◌, ◌⊎◌, inl, inr, ℕ, ◌+◌, ◌≤◌, ◌<◌, max, nat_le, ◌&&◌, ◌||◌, Bool, true, false, Option, Some, None, List, [], ◌∷◌, length, set, slice_get, refl, ap, sym, ◌∙◌, subst, arith, eq-eqb, length-set}
-use Rattle.std.proofs.lemmas.Bool.{and_parts, and_from, or_right, both_ways, lt-leb, leb-true, false≢true}
+use Rattle.std.proofs.Common.{◌≡◌, ℕ, ◌+◌, ◌≤◌, ◌<◌, nat_le, ◌||◌, Bool, true, false, Option, Some, List, length, take, set, slice_get, refl, ap, sym, ◌∙◌, arith, eq-eqb, length-set}
+use Rattle.std.proofs.lemmas.Bool.{and_parts, and_from, or_right, both_ways, lt-leb, leb-true}
 use Rattle.cqs_core.specs.declared.cells.CoreCell.{CoreCell}
 use Rattle.cqs_core.specs.declared.cells.CoreState.{CoreState}
 use Rattle.cqs_core.specs.declared.cells.CoreState.TheVariants as state
 use Rattle.cqs_core.specs.declared.doings.Doing.{Doing}
 use Rattle.cqs_core.specs.declared.doings.Doing.TheVariants as doing
+use Rattle.cqs_core.specs.Numbered.{count_at}
 use Rattle.cqs_core.specs.QueueState.{Queue, owner_doing, is_passing_on, is_refusing, has_ticket}
-use Rattle.cqs_core.specs.QueueLine.{going, ending, due, door, line}
+use Rattle.cqs_core.specs.QueueLine.{going, ending, due}
 use Rattle.cqs_core.specs.QueueMoves as move
 use Rattle.cqs_core.specs.QueueMoves.{Works, IsCancelling, moved, now_doing}
 use Rattle.cqs_core.specs.QueueCover.{IsFair, roaming, is_gone_at, is_declined_at, is_gone, is_declined, is_delegated, is_passing_by}
@@ -19,7 +20,7 @@ use Rattle.cqs_core.proofs.Places.{get-below}
 use Rattle.cqs_core.proofs.Counts.{bit, bit-le, count_at-none}
 use Rattle.cqs_core.proofs.Tickets.{has_ticket-frame, owner_doing-frame, owner_doing-here}
 use Rattle.cqs_core.proofs.Letters.{is_undrawn, will_take, will_decline}
-use Rattle.cqs_core.proofs.Equations.{HasFlow, flow, takers, early}
+use Rattle.cqs_core.proofs.Equations.{HasFlow, flow, takers}
 use Rattle.cqs_core.proofs.CoverLemmas.{Covers, NoNewTakers, count-take-le, takers-le}
 use Rattle.cqs_core.proofs.CoverSteps.{IsToldAlike, names-idle, names-owes, names-ticket, names-leaving, names-decided, stepped, covers-step, takes-step, roaming-step}
 use Rattle.cqs_core.proofs.CoveredPlain.{IsLike, recast, gone-recast, covers-recast, covers-unwritten}
@@ -27,6 +28,11 @@ use Rattle.cqs_core.proofs.CoveredPlain.{IsLike, recast, gone-recast, covers-rec
 bit-most : (b : Bool) → bit b ≤ 1
 bit-most true = omega arith
 bit-most false = omega arith
+
+-- a resumption passes by: the cell is gone, and the resumption has its ticket or was delegated
+passing_by-parts : (passes : List Doing) (k : ℕ) (cell : CoreCell) → is_passing_by passes k cell ≡ true
+    → (is_gone passes k cell ≡ true) × ((has_ticket k passes || is_delegated cell.state) ≡ true)
+passing_by-parts passes k cell = and_parts (is_gone passes k cell) (has_ticket k passes || is_delegated cell.state)
 
 -- a cell that is being cancelled is what its owner was told
 gone-cancelling : (k : ℕ) (s : CoreState) (o : Option Doing) → IsCancelling s
@@ -59,16 +65,20 @@ module _ (q : Queue) (covers : Covers q) (p k : ℕ) (found : CoreCell) where
       now : CoreCell
       now = recast found state.Delegated found.collected
 
-      still_there : bit (is_passing_by q.doing k found)
-          ≤ bit (is_passing_by (set q.doing p doing.Idle) k now)
-      still_there =
-          bit-le (is_passing_by q.doing k found) (is_passing_by (set q.doing p doing.Idle) k now) (λ e.
-          let gone : is_gone q.doing k found ≡ true =
-          (and_parts (is_gone q.doing k found) (has_ticket k q.doing || is_delegated found.state) e).0 in
-          let gone_now : is_gone (set q.doing p doing.Idle) k now ≡ true =
-          gone-recast q p k (doing.Ticket k) doing.Idle found state.Delegated found.collected works.does
-          alike like ∙ gone in
-          and_from _ _ gone_now (or_right (has_ticket k (set q.doing p doing.Idle)) true refl))
+      after : List Doing
+      after = set q.doing p doing.Idle
+
+      stays_gone : is_gone after k now ≡ is_gone q.doing k found
+      stays_gone = gone-recast q p k (doing.Ticket k) doing.Idle found state.Delegated found.collected
+          works.does alike like
+
+      passes_by : is_passing_by q.doing k found ≡ true → is_passing_by after k now ≡ true
+      passes_by e =
+          let gone : is_gone after k now ≡ true = stays_gone ∙ (passing_by-parts q.doing k found e).0 in
+          and_from (is_gone after k now) (has_ticket k after || true) gone (or_right (has_ticket k after) true refl)
+
+      still_there : bit (is_passing_by q.doing k found) ≤ bit (is_passing_by after k now)
+      still_there = bit-le (is_passing_by q.doing k found) (is_passing_by after k now) passes_by
 
   -- a resumption passes over the cell, and owes on
   pub covers-pass_over : Works q p (doing.Ticket k) k found state.Cancelled
@@ -99,15 +109,17 @@ module _ (q : Queue) (covers : Covers q) (p k : ℕ) (found : CoreCell) where
       now : CoreCell
       now = recast found state.Cancelled found.collected
 
-      still_there : bit (is_passing_by q.doing k found)
-          ≤ bit (is_passing_by (set q.doing p doing.Idle) k now)
-      still_there =
-          bit-le (is_passing_by q.doing k found) (is_passing_by (set q.doing p doing.Idle) k now) (λ e.
-          let ticket : has_ticket k (set q.doing p doing.Idle) ≡ has_ticket k q.doing =
-          has_ticket-frame q.doing p k (doing.Decided k true) doing.Idle works.does refl in
-          let stands : (has_ticket k q.doing || is_delegated found.state) ≡ true =
-          (and_parts (is_gone q.doing k found) (has_ticket k q.doing || is_delegated found.state) e).1 in
-          rw ticket (rw works.at at stands))
+      after : List Doing
+      after = set q.doing p doing.Idle
+
+      passes_by : is_passing_by q.doing k found ≡ true → is_passing_by after k now ≡ true
+      passes_by e =
+          let ticket = has_ticket-frame q.doing p k (doing.Decided k true) doing.Idle works.does refl in
+          let stands = (passing_by-parts q.doing k found e).1 in
+          rw ticket (rw works.at at stands)
+
+      still_there : bit (is_passing_by q.doing k found) ≤ bit (is_passing_by after k now)
+      still_there = bit-le (is_passing_by q.doing k found) (is_passing_by after k now) passes_by
 
   -- the resumption that was delegated to the cell owes on
   pub covers-cancel_owing : Works q p (doing.Decided k true) k found state.Delegated
@@ -180,21 +192,14 @@ module _ (q : Queue) (sound : IsSound q) (p k : ℕ) (leaves : slice_get q.doing
     takers-covered : going q ≡ due q + ending q → q.resumes < length q.cells → takers q ≤ roaming q
     takers-covered fair ahead =
         let flows : HasFlow q = flow q sound in
-        let none_early : early q ≡ 0 = count_at-none (is_undrawn q) q.cells (λ i cell f.
-        lt-leb q.suspends i (omega (arith, get-below q.cells i cell f, ahead, sound.made))) in
-        omega (arith, flows.whole, fair, none_early)
+        omega (arith, flows.whole, fair, count_at-none (is_undrawn q) q.cells none_early)
+      where
+        none_early : (i : ℕ) (cell : CoreCell) → slice_get q.cells i ≡ Some cell → is_undrawn q i cell ≡ false
+        none_early i cell f = lt-leb q.suspends i (omega (arith, get-below q.cells i cell f, ahead, sound.made))
 
     pub covers-decide_false : IsFair q (move.decide p k false) → Covers (moved q (move.decide p k false))
     covers-decide_false fair =
-        covers-unwritten q p (doing.Decided k false) k own.cell own.found (record {
-          at = λ j y g declines.
-              let there : j < length q.cells = omega
-              (arith, get-below (set q.cells k own.cell) j y g, length-set q.cells k own.cell) in
-              let past : q.resumes ≤ j = leb-true q.resumes j (and_parts _ _ declines).0 in
-              let all = takers-covered fair (omega arith) in
-              let few = takers-le q then (length-set q.cells k own.cell) takes (j + 1) in
-              omega (arith, all, few, count-take-le (will_take q) (j + 1) q.cells, roams);
-        })
+        covers-unwritten q p (doing.Decided k false) k own.cell own.found (record { at = bounded })
       where
         then : Queue
         then = stepped q p (doing.Decided k false) k own.cell
@@ -207,3 +212,14 @@ module _ (q : Queue) (sound : IsSound q) (p k : ℕ) (leaves : slice_get q.doing
         roams =
             roaming-step q p k (doing.Leaving k) (doing.Decided k false) own.cell own.cell leaves own.found
             (names-leaving k) (names-decided k false) (omega (arith, ap bit none))
+
+        -- whatever cell is declined ahead, all the takers there are covered
+        bounded : (j : ℕ) (y : CoreCell) → slice_get then.cells j ≡ Some y → will_decline then j y ≡ true
+            → count_at (will_take then) 0 (take (j + 1) then.cells) ≤ roaming then
+        bounded j y g declines =
+            let long : length then.cells ≡ length q.cells = length-set q.cells k own.cell in
+            let there : j < length q.cells = omega (arith, get-below then.cells j y g) in
+            let past : q.resumes ≤ j = leb-true q.resumes j (and_parts (nat_le q.resumes j) _ declines).0 in
+            let all = takers-covered fair (omega arith) in
+            let few = takers-le q then long takes (j + 1) in
+            omega (arith, all, few, count-take-le (will_take q) (j + 1) q.cells, roams)

@@ -1,5 +1,5 @@
 -- Every move that may be made keeps cover.
-use Rattle.std.proofs.Common.{◌≡◌, ℕ, Bool, true, false, Option, Some}
+use Rattle.std.proofs.Common.{true, false}
 use Rattle.cqs_core.specs.QueueState.{Queue}
 use Rattle.cqs_core.specs.QueueMoves as move
 use Rattle.cqs_core.specs.QueueMoves.{Move, IsOpen, moved}
@@ -8,7 +8,9 @@ use Rattle.cqs_core.specs.QueueCover.{IsCovered, IsFair}
 use Rattle.cqs_core.proofs.CoverLemmas.{Covers, covers-from, covers-to}
 use Rattle.cqs_core.proofs.CoveredPlain.{covers-install, covers-take_value, covers-serve, covers-leave_value, covers-meet_refused, covers-begin_cancel, covers-collect}
 use Rattle.cqs_core.proofs.CoveredCancel.{covers-delegate, covers-pass_over, covers-cancel, covers-cancel_owing, covers-refuse, covers-decide_true, covers-decide_false}
-use Rattle.cqs_core.proofs.CoveredCounters.{covers-turn, covers-draw, covers-reach}
+use Rattle.cqs_core.proofs.CoveredTurn.{covers-turn}
+use Rattle.cqs_core.proofs.CoveredDraw.{covers-draw}
+use Rattle.cqs_core.proofs.CoveredReach.{covers-reach}
 
 covers-moved : (q : Queue) (m : Move) → IsSound q → Covers q → IsOpen q m → IsFair q m → Covers (moved q m)
 covers-moved q move.stay sound covers opens fair = covers

@@ -1,23 +1,22 @@
 -- The moves at one cell that keep cover at once: a wait that is installed, served or looked at, a value
 -- that is left or taken, and a wait whose cancellation begins. The cell isn't gone, and no owner was told
 -- anything new of it.
-use Rattle.std.proofs.Common.{◌≡◌, ◌⊎◌, inl, inr, ℕ, ◌+◌, ◌≤◌, ◌&&◌, ◌||◌, Bool, true, false, Option, Some, None, List, [], ◌∷◌, set, slice_get, refl, ap, sym, ◌∙◌, subst, arith}
-use Rattle.std.proofs.lemmas.Bool.{and_parts, and_from, or_right, both_ways}
+use Rattle.std.proofs.Common.{◌≡◌, ℕ, ◌+◌, ◌≤◌, Bool, true, false, Option, Some, set, slice_get, refl, ap, sym, ◌∙◌, subst, arith}
 use Rattle.cqs_core.specs.declared.cells.CoreCell.{CoreCell}
 use Rattle.cqs_core.specs.declared.cells.CoreState.{CoreState}
 use Rattle.cqs_core.specs.declared.cells.CoreState.TheVariants as state
 use Rattle.cqs_core.specs.declared.doings.Doing.{Doing}
 use Rattle.cqs_core.specs.declared.doings.Doing.TheVariants as doing
-use Rattle.cqs_core.specs.QueueState.{Queue, owner_doing, is_passing_on, is_refusing}
+use Rattle.cqs_core.specs.QueueState.{Queue, owner_doing}
 use Rattle.cqs_core.specs.QueueMoves as move
 use Rattle.cqs_core.specs.QueueMoves.{Move, IsOpen, Works, IsCancelling, moved, now_doing, with_cell}
 use Rattle.cqs_core.specs.QueueCover.{is_owing, is_gone_at, is_declined_at, is_gone, is_declined, is_passing_by}
 use Rattle.cqs_core.specs.QueueSound.{IsSound}
 use Rattle.cqs_core.proofs.Places.{set-same}
-use Rattle.cqs_core.proofs.Counts.{bit, bit-le}
+use Rattle.cqs_core.proofs.Counts.{bit}
 use Rattle.cqs_core.proofs.CellReads.{Owner, not-cancelling}
 use Rattle.cqs_core.proofs.CoverLemmas.{Covers}
-use Rattle.cqs_core.proofs.CoverSteps.{NamesOnly, names-idle, names-owes, names-drawn, names-ticket, names-leaving, IsToldAlike, gone-alike, declined-alike, stepped, covers-step}
+use Rattle.cqs_core.proofs.CoverSteps.{NamesOnly, names-idle, names-drawn, names-ticket, names-leaving, IsToldAlike, gone-alike, declined-alike, stepped, covers-step}
 
 -- the two states read alike, whatever the owner was told
 pub record IsLike (k : ℕ) (s t : CoreState) : Type 0 where

@@ -36,7 +36,7 @@ turn-door q p does =
     let came : door (moved q (move.turn p doing.Idle doing.Door)) ≡ placed caller p (door q) =
     around-came caller p _ _ _ _ (door-around q.doing p doing.Idle doing.Door does) p refl refl refl in
     record {
-      longer = ap (λ xs. length xs) came ∙ length-placed caller p (door q);
+      longer = ap length came ∙ length-placed caller p (door q);
       door = came;
       line = line-turn q.doing q.cells p doing.Idle doing.Door does (λ k. refl);
       going = omega (arith, ways.goes);

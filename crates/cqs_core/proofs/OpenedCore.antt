@@ -11,7 +11,6 @@ use Rattle.cqs_core.specs.Numbered.{picked}
 use Rattle.cqs_core.specs.QueueState.{Queue}
 use Rattle.cqs_core.specs.QueueLine.{at_door, door, is_resuming, is_told_refused, going, ending, ready}
 use Rattle.cqs_core.specs.QueueSound.{IsSound}
-use Rattle.cqs_core.specs.SemaphoreObject.{opening}
 use Rattle.cqs_core.specs.SemaphoreTable.{Shape, Stepped, step}
 use Rattle.cqs_core.specs.SemaphoreShown.{IsCore, IsSize, opened, shown}
 use Rattle.cqs_core.specs.SemaphoreRuns.{Step, makes, hands_over, handed, hand_over, shape_of, run_step, run, EveryRunIsLegal}
@@ -89,8 +88,8 @@ opened-core permits passes size =
           };
       holders = length-replicate passes 0 ∙ sym (length-replicate passes doing.Idle);
       legal = record { at = λ n e got. absurd (cc) };
-      object = same-semaphore (opening permits) (shown (opened permits passes))
-          refl (sym (ap₂ (λ g e. g - e) going_none ending_none)) (sym nobody) refl refl refl (omega arith);
+      object = same-semaphore refl (sym (ap₂ (λ g e. g - e) going_none ending_none)) (sym nobody) refl refl
+          refl (omega arith);
       short = rw (going_none, ending_none, nobody) refl;
       conserved = omega arith;
     }

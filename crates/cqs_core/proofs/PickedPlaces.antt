@@ -1,5 +1,5 @@
 -- Where an element of a picked list stands: as many elements before it as were picked before its number.
-use Rattle.std.proofs.Common.{◌≡◌, ℕ, zero, suc, ◌+◌, ◌<◌, ◌≤◌, ◌&&◌, nat_le, not, Bool, true, false, List, [], ◌∷◌, Option, Some, None, is_some, length, take, slice_get, refl, ap, sym, ◌∙◌, arith}
+use Rattle.std.proofs.Common.{◌≡◌, ℕ, zero, suc, ◌+◌, ◌<◌, ◌≤◌, ◌&&◌, nat_le, not, Bool, false, List, [], ◌∷◌, Option, Some, None, is_some, length, take, slice_get, refl, ap, ◌∙◌, arith}
 use Rattle.std.proofs.lemmas.Bool.{lt-leb}
 use Rattle.cqs_core.specs.Numbered.{cons_option, picked, count_at, IsIn}
 use Rattle.cqs_core.proofs.Places.{get-take}

@@ -1,5 +1,5 @@
 -- The steps of a resume keep the core: a permit comes back, a number is drawn, and its cell is met.
-use Rattle.std.proofs.Common.{◌≡◌, ℕ, ◌+◌, ◌-◌, ◌<◌, ◌≤◌, ℤ, pos, ◌≤ℤ◌, ◌<ℤ◌, ◌+ℤ◌, List, [], ◌∷◌, ◌++◌, Some, length, set, sum, slice_get, slice_index, refl, sym, ap, ap₂, ◌∙◌, arith}
+use Rattle.std.proofs.Common.{◌≡◌, ℕ, ◌+◌, ◌-◌, ◌<◌, ◌≤◌, ℤ, pos, ◌≤ℤ◌, ◌<ℤ◌, ◌+ℤ◌, List, Some, length, set, sum, slice_get, slice_index, refl, sym, ap, ap₂, ◌∙◌, arith}
 use Rattle.std.proofs.lemmas.List.{length-set}
 use Rattle.cqs_core.specs.declared.cells.CoreCell.{CoreCell}
 use Rattle.cqs_core.specs.declared.cells.CoreState.TheVariants as state
@@ -7,12 +7,12 @@ use Rattle.cqs_core.specs.declared.doings.Doing.TheVariants as doing
 use Rattle.cqs_core.specs.declared.entries.Entry.TheVariants as entry
 use Rattle.cqs_core.specs.QueueMoves as move
 use Rattle.cqs_core.specs.QueueMoves.{Move, moved, Works}
-use Rattle.cqs_core.specs.QueueLine.{door, line, going, ending, ready}
+use Rattle.cqs_core.specs.QueueLine.{door, line, going, ending, way, due, ready}
 use Rattle.cqs_core.specs.SemaphoreEntries.{after_entry}
 use Rattle.cqs_core.specs.SemaphoreTable.{Shape, loses, adds, records, moves, last_number}
-use Rattle.cqs_core.specs.SemaphoreShown.{IsCore, shown}
-use Rattle.cqs_core.proofs.CoreFrame.{altered, same-semaphore, core-push, loaded-turn}
-use Rattle.cqs_core.proofs.CoreSteps.{loses-sum, held-within, holds-there, words-fit, with_permits, hidden-push, hidden-quiet, delivered-core}
+use Rattle.cqs_core.specs.SemaphoreShown.{IsCore, shown, free_of, short_of}
+use Rattle.cqs_core.proofs.CoreFrame.{WordsFit, TellsShort, Conserves, seen, same-semaphore, core-push, loaded-turn}
+use Rattle.cqs_core.proofs.CoreSteps.{loses-sum, held-within, holds-there, with_permits, hidden-push, hidden-quiet, delivered-core}
 use Rattle.cqs_core.proofs.DeliveryMoves.{delivers-serve, serve-ready}
 use Rattle.cqs_core.proofs.DrawMoves.{same-reach}
 use Rattle.cqs_core.proofs.HiddenMoves.{looks-same, same-leave_value, same-delegate, same-pass_over, same-meet_refused}
@@ -30,73 +30,61 @@ pub give-sent : (s : Shape) (p : ℕ) → IsCore s → slice_get s.queue.doing p
     → IsCore (records (moves (loses (adds s) p) (move.turn p doing.Idle doing.Owes)) (entry.GiveSent p))
 give-sent s p core does holds below =
     let m : Move = move.turn p doing.Idle doing.Owes in
-    let there : p < length s.held = holds-there s p doing.Idle core does in
+    let z : ℤ = s.state +ℤ pos 1 in
     let held : List ℕ = set s.held p (slice_index s.held p - 1) in
-    let one_fewer = loses-sum s.held p there holds in
+    let there : p < length s.held = holds-there s p doing.Idle core does in
+    let one_fewer : sum held + 1 ≡ sum s.held = loses-sum s.held p there holds in
     let within : ending s.queue ≤ going s.queue = ending-within s.queue core.sound core.covered in
     let begins = turn-owes s.queue p does in
-    let doors : length (door (moved s.queue m)) ≡ length (door s.queue) = ap (λ xs. length xs) begins.door in
-    let lines : length (line (moved s.queue m)) ≡ length (line s.queue) = ap (λ xs. length xs) begins.line in
-    core-push s m (s.state +ℤ pos 1) held (entry.GiveSent p) core (does, tt, tt) tt
-    (words-fit s m (s.state +ℤ pos 1) held core
-    (record {
+    let doors : length (door (moved s.queue m)) ≡ length (door s.queue) = ap length begins.door in
+    let lines : length (line (moved s.queue m)) ≡ length (line s.queue) = ap length begins.line in
+    let none_free : free_of s.state ≡ 0 = free-below s.state (below-within s.state below) in
+    let none_free_after : free_of z ≡ 0 = add-short_free s.state below in
+    let some_short : 0 < short_of s.state = short-below s.state below in
+    let less_short : short_of z + 1 ≡ short_of s.state = add-short s.state below in
+    let words : WordsFit s m z held = record {
       state = add-range s.state core.range.state;
       suspends = core.range.suspends;
       resumes = core.range.resumes;
       loaded = loaded-turn s.queue.doing p doing.Idle doing.Owes does tt core.loaded;
       holders = length-set s.held p (slice_index s.held p - 1);
-    })
-    (short _ _ _ _ _ _ _ _ _ _ doors lines begins.going begins.ending (add-short s.state below) core.short)
-    (conserved _ _ _ _ _ _ _ _ _ s.permits one_fewer (add-short_free s.state below)
-    (free-below s.state (below-within s.state below)) begins.going begins.ending core.conserved))
-    (some-held s p there holds, fewer _ _ _ _ within (short-below s.state below) core.short)
-    (same-semaphore (after_entry (shown s) (entry.GiveSent p))
-    (shown (altered s (s.state +ℤ pos 1) held (s.history ++ entry.GiveSent p ∷ []) (moved s.queue m)))
-    (free-below s.state (below-within s.state below) ∙ sym (add-short_free s.state below))
-    (ways _ _ _ _ within begins.going begins.ending)
-    (sym begins.door) (sym begins.line) refl refl
-    (omega arith))
-  where
-    short : (g e h f a b c d k l : ℕ) → k ≡ c → l ≡ d → h ≡ g + 1 → f ≡ e → b + 1 ≡ a → g + a ≡ c + d + e
-        → h + b ≡ k + l + f
-    short g e h f a b c d k l doors lines goes ends shorts was = omega arith
-
-    conserved : (g e h f a b c d l n : ℕ) → l + 1 ≡ d → b ≡ 0 → a ≡ 0 → h ≡ g + 1 → f ≡ e
-        → d + c + a + g ≡ n + e
-        → l + c + b + h ≡ n + f
-    conserved g e h f a b c d l n fewer free_after free goes ends was = omega arith
-
-    fewer : (g e a c : ℕ) → e ≤ g → 0 < a → g + a ≡ c + e → g - e < c
-    fewer g e a c within some was = omega arith
-
-    ways : (g e h f : ℕ) → e ≤ g → h ≡ g + 1 → f ≡ e → g - e + 1 ≡ h - f
-    ways g e h f within goes ends = omega arith
+    } in
+    let short : TellsShort z (moved s.queue m) = omega (arith, begins.going, begins.ending, core.short) in
+    let conserved : Conserves s.permits z held (moved s.queue m) =
+    omega (arith, begins.going, begins.ending, core.conserved) in
+    let too_few : way s.queue < due s.queue = omega (arith, core.short) in
+    let one_more_way : way s.queue + 1 ≡ way (moved s.queue m) = omega (arith, begins.going, begins.ending) in
+    let shows : after_entry (shown s) (entry.GiveSent p) ≡ seen z held (moved s.queue m) =
+    same-semaphore (none_free ∙ sym none_free_after) one_more_way (sym begins.door) (sym begins.line) refl refl
+    (omega arith) in
+    core-push s m z held (entry.GiveSent p) core (does, tt, tt) tt words short conserved
+    (some-held s p there holds, too_few) shows
 
 -- Give, nobody must be resumed
 pub give-freed : (s : Shape) (p : ℕ) → IsCore s → slice_get s.queue.doing p ≡ Some doing.Idle
     → 0 < slice_index s.held p → pos 0 ≤ℤ s.state
     → IsCore (records (loses (adds s) p) (entry.GiveFreed p))
 give-freed s p core does holds above =
-    let there : p < length s.held = holds-there s p doing.Idle core does in
+    let z : ℤ = s.state +ℤ pos 1 in
     let held : List ℕ = set s.held p (slice_index s.held p - 1) in
-    let one_fewer = loses-sum s.held p there holds in
-    let one_free = add-free s.state above in
+    let there : p < length s.held = holds-there s p doing.Idle core does in
+    let one_fewer : sum held + 1 ≡ sum s.held = loses-sum s.held p there holds in
+    let one_free : free_of z ≡ free_of s.state + 1 = add-free s.state above in
+    let none_short : short_of s.state ≡ 0 = short-above s.state above in
     let within : ending s.queue ≤ going s.queue = ending-within s.queue core.sound core.covered in
-    hidden-push s move.stay (s.state +ℤ pos 1) held (entry.GiveFreed p) core tt tt (looks-same s.queue)
-    (record {
+    let as_many : way s.queue ≡ due s.queue = omega (arith, core.short) in
+    let words : WordsFit s move.stay z held = record {
       state = add-range s.state core.range.state;
       suspends = core.range.suspends;
       resumes = core.range.resumes;
       loaded = core.loaded;
       holders = length-set s.held p (slice_index s.held p - 1);
-    })
-    (add-free_short s.state above ∙ sym (short-above s.state above))
+    } in
+    hidden-push s move.stay z held (entry.GiveFreed p) core tt tt (looks-same s.queue) words
+    (add-free_short s.state above ∙ sym none_short)
     (omega arith)
-    (some-held s p there holds, equal _ _ _ _ within (short-above s.state above) core.short)
+    (some-held s p there holds, as_many)
     (ap₂ (with_permits (shown s)) (sym one_free) (omega arith))
-  where
-    equal : (g e a c : ℕ) → e ≤ g → a ≡ 0 → g + a ≡ c + e → g - e ≡ c
-    equal g e a c within none was = omega arith
 
 -- Reach
 pub reach-number : (s : Shape) (p : ℕ) → IsCore s → slice_get s.queue.doing p ≡ Some doing.Owes

@@ -1,18 +1,19 @@
 -- The steps of a suspend keep the core: the caller draws a number, and installs its waiter or takes the value.
-use Rattle.std.proofs.Common.{◌≡◌, ℕ, ◌+◌, ◌-◌, ◌<◌, [], ◌∷◌, ◌++◌, Some, length, set, sum, slice_get, slice_index, refl, sym, ap, ap₂, ◌∙◌, arith}
+use Rattle.std.proofs.Common.{◌≡◌, ℕ, ◌+◌, ◌<◌, Some, length, set, sum, slice_get, slice_index, refl, sym, ap, ◌∙◌, arith}
 use Rattle.std.proofs.lemmas.List.{length-set, length_push}
 use Rattle.cqs_core.specs.declared.cells.CoreCell.{CoreCell}
 use Rattle.cqs_core.specs.declared.cells.CoreState.TheVariants as state
 use Rattle.cqs_core.specs.declared.doings.Doing.TheVariants as doing
 use Rattle.cqs_core.specs.declared.entries.Entry.TheVariants as entry
+use Rattle.cqs_core.specs.Numbered.{IsIn}
 use Rattle.cqs_core.specs.QueueMoves as move
 use Rattle.cqs_core.specs.QueueMoves.{Move, moved, Works}
-use Rattle.cqs_core.specs.QueueLine.{at_door, door, line, going, ending, ready}
+use Rattle.cqs_core.specs.QueueLine.{at_door, door, line, way}
 use Rattle.cqs_core.specs.SemaphoreEntries.{after_entry}
 use Rattle.cqs_core.specs.SemaphoreTable.{Shape, gains, records, moves, last_number}
-use Rattle.cqs_core.specs.SemaphoreShown.{IsCore, shown, free_of, short_of}
-use Rattle.cqs_core.proofs.CoreFrame.{altered, same-semaphore, core-push, loaded-turn}
-use Rattle.cqs_core.proofs.CoreSteps.{gains-sum, holds-there, words-fit, hidden-quiet, delivered-core}
+use Rattle.cqs_core.specs.SemaphoreShown.{IsCore, shown}
+use Rattle.cqs_core.proofs.CoreFrame.{WordsFit, TellsShort, Conserves, seen, same-semaphore, core-push, loaded-turn}
+use Rattle.cqs_core.proofs.CoreSteps.{gains-sum, holds-there, hidden-quiet, delivered-core}
 use Rattle.cqs_core.proofs.DeliveryMoves.{waiting, delivers-take_value, take_value-ready}
 use Rattle.cqs_core.proofs.DrawMoves.{enters-draw}
 use Rattle.cqs_core.proofs.HiddenMoves.{same-install}
@@ -28,33 +29,27 @@ draw-number s p core does below =
     let m : Move = move.draw p k (slice_get s.queue.cells k) in
     let enters = enters-draw s.queue p (slice_get s.queue.cells k) core.sound does refl in
     let longer : length (line (moved s.queue m)) ≡ length (line s.queue) + 1 =
-    ap (λ xs. length xs) enters.line ∙ length_push (line s.queue) (waiting k p) in
-    core-push s m s.state s.held (entry.Enter p k) core (does, refl, refl) tt
-    (words-fit s m s.state s.held core
-    (record {
+    ap length enters.line ∙ length_push (line s.queue) (waiting k p) in
+    let words : WordsFit s m s.state s.held = record {
       state = core.range.state;
       suspends = omega arith;
       resumes = core.range.resumes;
       loaded = loaded-turn s.queue.doing p doing.Door (doing.Drawn k) does tt core.loaded;
       holders = refl;
-    })
-    (short _ _ _ _ (short_of s.state) _ _ _ _ enters.shorter longer enters.going enters.ending core.short)
-    (conserved _ _ _ _ (free_of s.state) _ _ _ s.permits enters.ready enters.going enters.ending
-    core.conserved))
-    (picked-in at_door 0 s.queue.doing p p doing.Door p (omega arith) does refl, refl)
-    (same-semaphore (after_entry (shown s) (entry.Enter p k))
-    (shown (altered s s.state s.held (s.history ++ entry.Enter p k ∷ []) (moved s.queue m)))
-    refl
-    (ap₂ (λ g e. g - e) (sym enters.going) (sym enters.ending))
-    (sym enters.door) (sym enters.line) refl (sym enters.served)
-    (ap (λ n. sum s.held + n) (sym enters.ready)))
-  where
-    short : (g e h f a c d k l : ℕ) → k + 1 ≡ c → l ≡ d + 1 → h ≡ g → f ≡ e → g + a ≡ c + d + e
-        → h + a ≡ k + l + f
-    short g e h f a c d k l shorter longer goes ends was = omega arith
-
-    conserved : (g e h f a c d k n : ℕ) → k ≡ c → h ≡ g → f ≡ e → d + c + a + g ≡ n + e → d + k + a + h ≡ n + f
-    conserved g e h f a c d k n readies goes ends was = omega arith
+    } in
+    let short : TellsShort s.state (moved s.queue m) =
+    omega (arith, enters.shorter, enters.going, enters.ending, core.short) in
+    let conserved : Conserves s.permits s.state s.held (moved s.queue m) =
+    omega (arith, enters.ready, enters.going, enters.ending, core.conserved) in
+    let ways : way s.queue ≡ way (moved s.queue m) = omega (arith, enters.going, enters.ending) in
+    let stands : IsIn p (door s.queue) =
+    picked-in at_door 0 s.queue.doing p p doing.Door p (omega arith) does refl in
+    let shows : after_entry (shown s) (entry.Enter p k) ≡ seen s.state s.held (moved s.queue m) =
+    same-semaphore refl ways (sym enters.door) (sym enters.line) refl (sym enters.served)
+    (ap (λ n. sum s.held + n) (sym enters.ready)) in
+    core-push s m s.state s.held (entry.Enter p k) core (does, refl, refl) tt words short conserved
+    (stands, refl)
+    shows
 
 -- Install, the cell is Empty
 pub install-waiter : (s : Shape) (p k : ℕ) (found : CoreCell) → IsCore s

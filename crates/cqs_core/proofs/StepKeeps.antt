@@ -1,5 +1,5 @@
 -- Each row of the table keeps the core, and so does each call that answers by a row.
-use Rattle.std.proofs.Common.{◌≡◌, ℕ, ◌<◌, ℤ, ◌≤ℤ◌, ◌<ℤ◌, Bool, true, false, Option, Some, None, Result, Ok, Err, slice_get, refl, arith, if◌then◌else◌, int_lt, int_le, ltb-true, eqb-true}
+use Rattle.std.proofs.Common.{◌≡◌, ℕ, ℤ, ◌≤ℤ◌, ◌<ℤ◌, Bool, true, false, Option, Some, None, Result, Ok, Err, slice_get, refl, arith, if◌then◌else◌, int_lt, int_le, ltb-true, eqb-true}
 use Rattle.std.proofs.lemmas.Bool.{and_parts}
 use Rattle.std.proofs.lemmas.Int.{ints}
 use Rattle.std.proofs.lemmas.Bool.Decides.{Decides-int_eq}
@@ -21,7 +21,9 @@ use Rattle.cqs_core.proofs.RowsKeep.{KeepsCore, keeps-none, keeps-answers, keeps
 use Rattle.cqs_core.proofs.RowsTake.{take-now, take-door, try-busy, try-loaded, try-got, try-contended}
 use Rattle.cqs_core.proofs.RowsSuspend.{draw-number, install-waiter, install-took}
 use Rattle.cqs_core.proofs.RowsResume.{give-sent, give-freed, reach-number, meet-waiter, meet-empty, meet-cancelling, meet-cancelled, meet-refused}
-use Rattle.cqs_core.proofs.RowsCancel.{leave-waiter, leave-late, decide-passes, decide-refuses, settle-cancelled, settle-owing, settle-refused, settle-ended, look-pending, look-granted}
+use Rattle.cqs_core.proofs.RowsCancel.{leave-waiter, leave-late, settle-cancelled, settle-owing, settle-refused, settle-ended}
+use Rattle.cqs_core.proofs.RowsDecide.{decide-passes, decide-refuses}
+use Rattle.cqs_core.proofs.RowsLook.{look-pending, look-granted}
 
 -- what the table's tests of the state word say
 below-true : (a b : ℤ) → int_lt a b ≡ true → a <ℤ b
@@ -137,7 +139,7 @@ uncollected-true : (b : Bool) → (if b then false else true) ≡ true → b ≡
 uncollected-true true e = absurd (cc)
 uncollected-true false e = refl
 
-owns-from : (p : ℕ) (cell : CoreCell) → is_with p cell ≡ true → Owns p cell
+pub owns-from : (p : ℕ) (cell : CoreCell) → is_with p cell ≡ true → Owns p cell
 owns-from p cell e =
     let both = and_parts (is_owner p cell.owner) (if cell.collected then false else true) e in
     record { owner = owner-true p cell.owner both.0; uncollected = uncollected-true cell.collected both.1 }

@@ -1,15 +1,17 @@
 -- The law of a sole caller: where every pass is idle between two calls, each call is what the plain semaphore does at
 -- once. No counters, no cells: only the free permits, the line and the waits that were served.
-use Rattle.std.specs.Prelude.{◌≡◌, ℕ, nat_lt, List, [], ◌∷◌, ◌++◌, Option, Some, None, if◌then◌else◌}
+use Rattle.std.specs.Prelude.{◌≡◌, ◌≢◌, ◌⊎◌, ℕ, ◌<◌, nat_lt, length, slice_index, List, [], ◌∷◌, ◌++◌, Option, Some, None, if◌then◌else◌}
 use Rattle.cqs_core.specs.declared.calls.Call.{Call}
 use Rattle.cqs_core.specs.declared.calls.Call.TheVariants as call
 use Rattle.cqs_core.specs.declared.calls.Reply.{Reply}
 use Rattle.cqs_core.specs.declared.calls.Reply.TheVariants as reply
 use Rattle.cqs_core.specs.declared.entries.Entry.{Entry}
 use Rattle.cqs_core.specs.declared.entries.Entry.TheVariants as entry
+use Rattle.cqs_core.specs.declared.cells.CoreState.TheVariants as state
+use Rattle.cqs_core.specs.Numbered.{EachAt}
 use Rattle.cqs_core.specs.QueueLine.{Waiting}
 use Rattle.cqs_core.specs.Resting.{IsIdle}
-use Rattle.cqs_core.specs.SemaphoreEntries.{find_wait}
+use Rattle.cqs_core.specs.SemaphoreEntries.{find_wait, Waits, IsServed}
 use Rattle.cqs_core.specs.SemaphoreObject.{Semaphore}
 use Rattle.cqs_core.specs.SemaphoreShown.{shown}
 use Rattle.cqs_core.specs.SemaphoreTable.{Shape}
@@ -48,8 +50,35 @@ sole_call o (call.Release p) = sole_release p o.line
 sole_call o (call.Poll p k) = sole_poll p k (find_wait k o.line)
 sole_call o (call.Cancel p k) = sole_cancel p k (find_wait k o.line)
 
+-- the state word can count so many waiters
+abbrev pub most_waiters : ℕ
+most_waiters = 4294967295
+
+-- wait k is the pass's: it stands in the line, or was served and not looked at
+abbrev pub HasWait : ℕ → ℕ → Semaphore → Type 0
+HasWait k p o = Waits k p o.line ⊎ IsServed k p o.served
+
+-- where a sole caller's call is allowed
+abbrev pub MayCall : Shape → Call → Type 0
+MayCall s (call.Acquire p) = (p < length s.queue.doing) × (length (shown s).line < most_waiters)
+MayCall s (call.Try p) = p < length s.queue.doing
+MayCall s (call.Release p) = 0 < slice_index s.held p
+MayCall s (call.Poll p k) = HasWait k p (shown s)
+MayCall s (call.Cancel p k) = HasWait k p (shown s)
+
+-- No suspend found its value before it came. It never does where a sole caller made all the calls; a wait of such a cell
+-- is closed from the start, though the plain semaphore counts it among those that were served.
+abbrev pub NoneTaken : Shape → Type 0
+NoneTaken s = EachAt (λ k cell. cell.state ≢ state.Taken) s.queue.cells
+
 -- a call was made as a sole caller's, and every pass is idle again
 pub record IsSoleCall (old : Shape) (c : Call) (answer : Reply) (new : Shape) : Type 0 where
+  pub allowed : MayCall old c
   pub appended : new.history ≡ old.history ++ (sole_call (shown old) c).entries
   pub replied : answer ≡ (sole_call (shown old) c).answer
   pub idle : IsIdle new.queue.doing
+  pub untaken : NoneTaken old → NoneTaken new
+
+-- a call was refused as a sole caller's
+abbrev pub IsSoleRefusal : Shape → Call → Type 0
+IsSoleRefusal s c = NoneTaken s → ¬ MayCall s c

@@ -10,7 +10,6 @@ mod events;
 mod law;
 mod laws;
 mod outcomes;
-mod shortage;
 mod runnable;
 mod table;
 mod whole_calls;
@@ -27,5 +26,4 @@ pub use laws::{
     service_is_in_order, waits_end_once,
 };
 pub use outcomes::Outcome;
-pub use shortage::Memory;
 pub use runnable::Core;

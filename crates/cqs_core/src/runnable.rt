@@ -1,12 +1,13 @@
 //! The runnable core: every core that is made and changed here shows a fair semaphore.
 
-ghost use Rattle.std.specs.Prelude.{◌≡◌, ◌+◌, ◌≤◌, Err, OnOk, OnErr, slice_get};
+ghost use Rattle.std.specs.Prelude.{◌≡◌, ◌+◌, ◌≤◌, Err, IfNone, IfOk, IfSome, OnOk, OnErr, slice_get};
 ghost use Rattle.cqs_core.specs.SemaphoreAnswers.{Makes, MakesReady, Opens};
 ghost use Rattle.cqs_core.specs.SemaphoreCalls.{MakesCall, MakesCallReady, course};
 ghost use Rattle.cqs_core.specs.SemaphoreEntries.{object_after, IsBalanced, IsLegal};
 ghost use Rattle.cqs_core.specs.SemaphoreShown.{Shows, shown};
 ghost use Rattle.cqs_core.specs.SemaphoreTable.{step};
 ghost use Rattle.cqs_core.specs.Resting.{IsResting};
+ghost use Rattle.cqs_core.specs.SoleCaller.{IsSoleCall, IsSoleRefusal};
 
 use std::alloc::Global;
 use std::marker::Model;
@@ -84,7 +85,8 @@ impl Core {
     /// Room for all of them is made first, so that `Memory` leaves the core as it was.
     pub fn run_call(&mut self, call: Call) -> Result<Reply, CoreError>
         requires { IsResting self.old.shape }
-        ensures { MakesCall result (course self.old.shape call) self.old.shape self.new.shape }
+        ensures made { MakesCall result (course self.old.shape call) self.old.shape self.new.shape }
+        ensures sole { IfOk result (λ answer. IsSoleCall self.old.shape call answer self.new.shape) }
     {
         self.reserve(3)?;
         match self.run_ready(call) {
@@ -108,7 +110,9 @@ impl Core {
     pub fn run_ready(&mut self, call: Call) -> Option<Reply>
         requires resting { IsResting self.old.shape }
         requires room { 3 ≤ self.old.spare }
-        ensures { MakesCallReady (course self.old.shape call) result self.old self.new }
+        ensures made { MakesCallReady (course self.old.shape call) result self.old self.new }
+        ensures sole { IfSome result (λ answer. IsSoleCall self.old.shape call answer self.new.shape) }
+        ensures refused { IfNone result (IsSoleRefusal self.old.shape call) }
     {
         self.table.run_ready(call)
     }

@@ -1,5 +1,5 @@
 use Rattle.cqs_core.proofs.CallsKeep.{core-fits, call_ready-core}
-use Rattle.cqs_core.proofs.CallsEnd.{calls-end}
+use Rattle.cqs_core.proofs.SoleCalls.{calls-end, sole-ready, sole-refused}
 use Rattle.cqs_core.proofs.runnable.Core.run_ready.Goals as goal
 
 pub run_ready-requires-clause-fits : goal.run_ready-requires-clause-fits
@@ -10,3 +10,15 @@ run_ready-requires-clause-ends c = calls-end _ c.args.call c.self.invariant (rw 
 
 pub invariant_of-self : goal.invariant_of-self
 invariant_of-self c = call_ready-core _ _ _ _ c.self.invariant c.run_ready.ensures
+
+pub returns-clause-sole : goal.returns-clause-sole
+returns-clause-sole c =
+    rw (← c.self.view_is)
+        (sole-ready c.self.inside.table c.run_ready.new.self c.args.call c.run_ready.result c.self.invariant
+            (rw c.self.view_is c.requires.resting) c.run_ready.ensures)
+
+pub returns-clause-refused : goal.returns-clause-refused
+returns-clause-refused c =
+    rw (← c.self.view_is)
+        (sole-refused c.self.inside.table c.run_ready.new.self c.args.call c.run_ready.result c.self.invariant
+            (rw c.self.view_is c.requires.resting) c.run_ready.ensures)

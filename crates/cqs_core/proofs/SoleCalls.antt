@@ -1,0 +1,59 @@
+-- The law of a sole caller, and that the calls of a core in which every pass is idle come to their ends.
+use Rattle.std.proofs.Common.{◌≡◌, Option, Some, None, slice_get, refl}
+use Rattle.std.specs.Prelude.{IfSome, IfNone}
+use Rattle.cqs_core.specs.declared.calls.Call.{Call}
+use Rattle.cqs_core.specs.declared.calls.Call.TheVariants as call
+use Rattle.cqs_core.specs.declared.calls.Reply.{Reply}
+use Rattle.cqs_core.specs.Resting.{IsResting}
+use Rattle.cqs_core.specs.SemaphoreAnswers.{Room}
+use Rattle.cqs_core.specs.SemaphoreCalls.{Course, refused, replied, stuck, course, HasEnd, MakesCallReady}
+use Rattle.cqs_core.specs.SemaphoreShown.{IsCore}
+use Rattle.cqs_core.specs.SemaphoreTable.{Shape}
+use Rattle.cqs_core.specs.SoleCaller.{IsSoleCall, IsSoleRefusal}
+use Rattle.cqs_core.proofs.Quiet.{IsQuiet, quiet-core}
+use Rattle.cqs_core.proofs.SoleStart.{IsSoleCourse}
+use Rattle.cqs_core.proofs.SoleAcquire.{sole-acquire, sole-try}
+use Rattle.cqs_core.proofs.SoleRelease.{sole-release}
+use Rattle.cqs_core.proofs.SoleWait.{sole-poll, sole-cancel}
+
+pub sole-course : (s : Shape) (c : Call) → IsCore s → IsResting s → IsSoleCourse s c (course s c)
+sole-course s (call.Acquire p) core rests =
+    sole-acquire s p rests (quiet-core s core rests)
+sole-course s (call.Try p) core rests = sole-try s p rests
+sole-course s (call.Release p) core rests =
+    sole-release s p core rests (quiet-core s core rests)
+sole-course s (call.Poll p k) core rests = sole-poll s p k core rests
+sole-course s (call.Cancel p k) core rests = sole-cancel s p k core rests
+
+-- a call of such a core comes to its end
+pub calls-end : (s : Shape) (c : Call) → IsCore s → IsResting s → HasEnd (course s c)
+calls-end s c core rests = go (course s c) (sole-course s c core rests)
+  where
+    go : (x : Course) → IsSoleCourse s c x → HasEnd x
+    go refused sole = tt
+    go (replied new answer) sole = tt
+    go stuck sole = sole
+
+-- a call that was refused wasn't allowed
+pub sole-refused : (old new : Room) (c : Call) (r : Option Reply) → IsCore old.shape → IsResting old.shape
+    → MakesCallReady (course old.shape c) r old new → IfNone r (IsSoleRefusal old.shape c)
+sole-refused old new c r core rests made = go (course old.shape c) r (sole-course old.shape c core rests) made
+  where
+    go : (x : Course) (r : Option Reply) → IsSoleCourse old.shape c x → MakesCallReady x r old new
+        → IfNone r (IsSoleRefusal old.shape c)
+    go refused None sole made = sole
+    go (replied s given) None sole made = absurd made
+    go stuck None sole made = absurd made
+    go x (Some answer) sole made = tt
+
+-- a call that was made is a sole caller's
+pub sole-ready : (old new : Room) (c : Call) (r : Option Reply) → IsCore old.shape → IsResting old.shape
+    → MakesCallReady (course old.shape c) r old new → IfSome r (λ answer. IsSoleCall old.shape c answer new.shape)
+sole-ready old new c r core rests made = go (course old.shape c) r (sole-course old.shape c core rests) made
+  where
+    go : (x : Course) (r : Option Reply) → IsSoleCourse old.shape c x → MakesCallReady x r old new
+        → IfSome r (λ answer. IsSoleCall old.shape c answer new.shape)
+    go (replied s given) (Some answer) sole made = rw (made.0, made.1) sole
+    go x None sole made = tt
+    go refused (Some answer) sole made = absurd made
+    go stuck (Some answer) sole made = absurd made

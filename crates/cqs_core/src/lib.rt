@@ -10,6 +10,7 @@ mod events;
 mod law;
 mod laws;
 mod outcomes;
+mod shortage;
 mod runnable;
 mod table;
 mod whole_calls;
@@ -27,3 +28,4 @@ pub use laws::{
 };
 pub use outcomes::Outcome;
 pub use runnable::Core;
+pub use shortage::Memory;

@@ -1,3 +1,2 @@
-pub mod PromisedSole
 pub mod First
 pub mod SoleLike

@@ -1,5 +1,4 @@
--- What whole calls leave as it was: the permits that the core was made with, the number of its passes, and that no
--- permit was taken out of a cell.
+-- What whole calls leave as it was: the permits that the core was made with, and the number of its passes.
 use Rattle.std.proofs.Common.{◌≡◌, ◌≢◌, ◌⊎◌, inl, inr, ℕ, zero, suc, Bool, true, false, List, [], ◌∷◌, ◌++◌, Option, Some, None, length, set, slice_get, refl, sym, ap, ◌∙◌, subst, if◌then◌else◌, int_lt, int_le, nat_lt}
 use Rattle.std.specs.Option.{option_and_then}
 use Rattle.cqs_core.specs.declared.calls.Call.{Call}
@@ -25,103 +24,38 @@ use Rattle.cqs_core.proofs.CoreFrame.{passes-moved}
 use Rattle.cqs_core.proofs.EachAtLemmas.{EachAt-write, EachAt-push}
 use Rattle.cqs_cli.specs.SoleCore.{IsSole}
 
-abbrev pub IsUntaken : List CoreCell → Type 0
-IsUntaken cells = EachAt (λ k cell. cell.state ≢ state.Taken) cells
-
 -- what a call leaves as it was
 pub record IsLike (s t : Shape) : Type 0 where
   pub permits : t.permits ≡ s.permits
   pub passes : length t.queue.doing ≡ length s.queue.doing
-  pub untaken : IsUntaken s.queue.cells → IsUntaken t.queue.cells
 
 like-next : (s t u : Shape) → IsLike s t → IsLike t u → IsLike s u
 like-next s t u before after = record {
   permits = after.permits ∙ before.permits;
   passes = after.passes ∙ before.passes;
-  untaken = λ all. after.untaken (before.untaken all);
 }
 
--- a written cell that isn't Taken
-untaken-write : (cells : List CoreCell) (k : ℕ) (old new : CoreCell) → slice_get cells k ≡ Some old
-    → new.state ≢ state.Taken → IsUntaken cells → IsUntaken (set cells k new)
-untaken-write cells k old new there fine all =
-    EachAt-write (λ j cell. cell.state ≢ state.Taken) (λ j cell. cell.state ≢ state.Taken) cells k old new there fine
-        (λ j cell got other was. was) all
-
-untaken-push : (cells : List CoreCell) (new : CoreCell) → new.state ≢ state.Taken → IsUntaken cells
-    → IsUntaken (cells ++ new ∷ [])
-untaken-push cells new fine all =
-    EachAt-push (λ j cell. cell.state ≢ state.Taken) (λ j cell. cell.state ≢ state.Taken) cells new fine
-        (λ j cell got was. was) all
-
--- the move finds its cell as it says, and takes no value out of it
-abbrev Leaves : Queue → Move → Type 0
-Leaves q (move.draw p k found) = slice_get q.cells k ≡ found
-Leaves q (move.install p k found) = slice_get q.cells k ≡ Some found
-Leaves q (move.take_value p k found) = ⊥
-Leaves q (move.reach p k found) = slice_get q.cells k ≡ found
-Leaves q (move.serve p k found) = slice_get q.cells k ≡ Some found
-Leaves q (move.leave_value p k found) = slice_get q.cells k ≡ Some found
-Leaves q (move.delegate p k found) = slice_get q.cells k ≡ Some found
-Leaves q (move.begin_cancel p k found) = slice_get q.cells k ≡ Some found
-Leaves q (move.collect p k found) = slice_get q.cells k ≡ Some found
-Leaves q (move.cancel p k found) = slice_get q.cells k ≡ Some found
-Leaves q (move.cancel_owing p k found) = slice_get q.cells k ≡ Some found
-Leaves q (move.refuse p k found) = slice_get q.cells k ≡ Some found
-Leaves q _ = Unit {0}
-
-untaken-moved : (q : Queue) (m : Move) → Leaves q m → IsUntaken q.cells → IsUntaken (moved q m).cells
-untaken-moved q move.stay leaves all = all
-untaken-moved q (move.turn p from to) leaves all = all
-untaken-moved q (move.draw p k (Some found)) leaves all =
-    untaken-write q.cells k found _ leaves (all.at k found leaves) all
-untaken-moved q (move.draw p k None) leaves all = untaken-push q.cells _ (λ e. cc) all
-untaken-moved q (move.install p k found) leaves all = untaken-write q.cells k found _ leaves (λ e. cc) all
-untaken-moved q (move.take_value p k found) leaves all = absurd leaves
-untaken-moved q (move.reach p k (Some found)) leaves all = all
-untaken-moved q (move.reach p k None) leaves all = untaken-push q.cells fresh_cell (λ e. cc) all
-untaken-moved q (move.serve p k found) leaves all = untaken-write q.cells k found _ leaves (λ e. cc) all
-untaken-moved q (move.leave_value p k found) leaves all = untaken-write q.cells k found _ leaves (λ e. cc) all
-untaken-moved q (move.delegate p k found) leaves all = untaken-write q.cells k found _ leaves (λ e. cc) all
-untaken-moved q (move.pass_over p k found) leaves all = all
-untaken-moved q (move.meet_refused p k found) leaves all = all
-untaken-moved q (move.begin_cancel p k found) leaves all = untaken-write q.cells k found _ leaves (λ e. cc) all
-untaken-moved q (move.collect p k found) leaves all =
-    untaken-write q.cells k found _ leaves (all.at k found leaves) all
-untaken-moved q (move.decide p k on) leaves all = all
-untaken-moved q (move.cancel p k found) leaves all = untaken-write q.cells k found _ leaves (λ e. cc) all
-untaken-moved q (move.cancel_owing p k found) leaves all = untaken-write q.cells k found _ leaves (λ e. cc) all
-untaken-moved q (move.refuse p k found) leaves all = untaken-write q.cells k found _ leaves (λ e. cc) all
-
-like-moved : (s t : Shape) (m : Move) → t.permits ≡ s.permits → t.queue ≡ moved s.queue m → Leaves s.queue m → IsLike s t
-like-moved s t m permits queue leaves = record {
+like-moved : (s t : Shape) (m : Move) → t.permits ≡ s.permits → t.queue ≡ moved s.queue m → IsLike s t
+like-moved s t m permits queue = record {
   permits = permits;
   passes = ap (λ (q : Queue). length q.doing) queue ∙ passes-moved s.queue m;
-  untaken = λ all. subst (λ (q : Queue). IsUntaken q.cells) (sym queue) (untaken-moved s.queue m leaves all);
 }
-
--- the event took no value out of a cell
-abbrev IsPlainOutcome : Outcome → Type 0
-IsPlainOutcome (outcome.Took k) = ⊥
-IsPlainOutcome _ = Unit {0}
 
 -- a row leaves this as it was
 record KeepsLike (s : Shape) (row : Option Stepped) : Type 0 where
-  at : (t : Stepped) → row ≡ Some t → IsPlainOutcome t.outcome → IsLike s t.shape
+  at : (t : Stepped) → row ≡ Some t → IsLike s t.shape
 
 likes-none : (s : Shape) → KeepsLike s None
-likes-none s = record { at = λ t is fine. absurd (cc) }
+likes-none s = record { at = λ t is. absurd (cc) }
 
-likes-answers : (s t : Shape) (o : Outcome) → (IsPlainOutcome o → IsLike s t) → KeepsLike s (answers t o)
-likes-answers s t o like = record { at = λ row is fine. go row is fine }
+likes-answers : (s t : Shape) (o : Outcome) → IsLike s t → KeepsLike s (answers t o)
+likes-answers s t o like = record { at = λ row is. go row is }
   where
     made : Stepped
     made = record { shape = t; outcome = o }
 
-    go : (row : Stepped) → Some made ≡ Some row → IsPlainOutcome row.outcome → IsLike s row.shape
-    go row is =
-        let same : made ≡ row = cc in
-        subst (λ (r : Stepped). IsPlainOutcome r.outcome → IsLike s r.shape) same like
+    go : (row : Stepped) → Some made ≡ Some row → IsLike s row.shape
+    go row is = let same : made ≡ row = cc in subst (λ (r : Stepped). IsLike s r.shape) same like
 
 likes-if : (s : Shape) (b : Bool) (x y : Option Stepped) → KeepsLike s x → KeepsLike s y → KeepsLike s (if b then x else y)
 likes-if s true x y one other = one
@@ -136,133 +70,131 @@ like-take : (s : Shape) (p : ℕ) (d : Option Doing) → KeepsLike s (take_row s
 like-take s p (Some doing.Idle) =
     likes-if s _ _ _
         (likes-if s _ _ _
-            (likes-answers s _ _ (λ fine. like-moved s _ move.stay refl refl tt))
-            (likes-answers s _ _ (λ fine. like-moved s _ (move.turn p doing.Idle doing.Door) refl refl tt)))
+            (likes-answers s _ _ (like-moved s _ move.stay refl refl))
+            (likes-answers s _ _ (like-moved s _ (move.turn p doing.Idle doing.Door) refl refl)))
         (likes-none s)
 like-take s p _ = likes-none s
 
 like-try_load : (s : Shape) (p : ℕ) (d : Option Doing) → KeepsLike s (try_load_row s p d)
 like-try_load s p (Some doing.Idle) =
     likes-if s _ _ _
-        (likes-answers s _ _ (λ fine. like-moved s _ move.stay refl refl tt))
-        (likes-answers s _ _ (λ fine. like-moved s _ (move.turn p doing.Idle (doing.TryAt s.state)) refl refl tt))
+        (likes-answers s _ _ (like-moved s _ move.stay refl refl))
+        (likes-answers s _ _ (like-moved s _ (move.turn p doing.Idle (doing.TryAt s.state)) refl refl))
 like-try_load s p _ = likes-none s
 
 like-try_swap : (s : Shape) (p : ℕ) (d : Option Doing) → KeepsLike s (try_swap_row s p d)
 like-try_swap s p (Some (doing.TryAt v)) =
     likes-if s _ _ _
-        (likes-answers s _ _ (λ fine. like-moved s _ (move.turn p (doing.TryAt v) doing.Idle) refl refl tt))
-        (likes-answers s _ _ (λ fine. like-moved s _ (move.turn p (doing.TryAt v) doing.Idle) refl refl tt))
+        (likes-answers s _ _ (like-moved s _ (move.turn p (doing.TryAt v) doing.Idle) refl refl))
+        (likes-answers s _ _ (like-moved s _ (move.turn p (doing.TryAt v) doing.Idle) refl refl))
 like-try_swap s p _ = likes-none s
 
 like-draw : (s : Shape) (p : ℕ) (d : Option Doing) → KeepsLike s (draw_row s p d)
 like-draw s p (Some doing.Door) =
     likes-if s _ _ _
-        (likes-answers s _ _ (λ fine.
-            like-moved s _ (move.draw p s.queue.suspends (slice_get s.queue.cells s.queue.suspends)) refl refl refl))
+        (likes-answers s _ _ (like-moved s _ (move.draw p s.queue.suspends (slice_get s.queue.cells s.queue.suspends)) refl refl))
         (likes-none s)
 like-draw s p _ = likes-none s
 
-like-install_at : (s : Shape) (p k : ℕ) (cell : CoreCell) (now : CoreState) → slice_get s.queue.cells k ≡ Some cell
+like-install_at : (s : Shape) (p k : ℕ) (cell : CoreCell) (now : CoreState)
     → KeepsLike s (install_at s p k cell now)
-like-install_at s p k cell state.Empty finds =
-    likes-answers s _ _ (λ fine. like-moved s _ (move.install p k cell) refl refl finds)
-like-install_at s p k cell state.Value finds = likes-answers s _ _ (λ fine. absurd fine)
-like-install_at s p k cell _ finds = likes-none s
+like-install_at s p k cell state.Empty =
+    likes-answers s _ _ (like-moved s _ (move.install p k cell) refl refl)
+like-install_at s p k cell state.Value = likes-answers s _ _ (like-moved s _ (move.take_value p k cell) refl refl)
+like-install_at s p k cell _ = likes-none s
 
 like-install : (s : Shape) (p : ℕ) (d : Option Doing) → KeepsLike s (install_row s p d)
 like-install s p (Some (doing.Drawn k)) =
     likes-found s (λ cell. install_at s p k cell cell.state) (slice_get s.queue.cells k)
-        (λ cell finds. like-install_at s p k cell cell.state finds)
+        (λ cell finds. like-install_at s p k cell cell.state)
 like-install s p _ = likes-none s
 
 like-give : (s : Shape) (p : ℕ) (d : Option Doing) → KeepsLike s (give_row s p d)
 like-give s p (Some doing.Idle) =
     likes-if s _ _ _
         (likes-if s _ _ _
-            (likes-answers s _ _ (λ fine. like-moved s _ (move.turn p doing.Idle doing.Owes) refl refl tt))
-            (likes-answers s _ _ (λ fine. like-moved s _ move.stay refl refl tt)))
+            (likes-answers s _ _ (like-moved s _ (move.turn p doing.Idle doing.Owes) refl refl))
+            (likes-answers s _ _ (like-moved s _ move.stay refl refl)))
         (likes-none s)
 like-give s p _ = likes-none s
 
 like-reach : (s : Shape) (p : ℕ) (d : Option Doing) → KeepsLike s (reach_row s p d)
 like-reach s p (Some doing.Owes) =
     likes-if s _ _ _
-        (likes-answers s _ _ (λ fine.
-            like-moved s _ (move.reach p s.queue.resumes (slice_get s.queue.cells s.queue.resumes)) refl refl refl))
+        (likes-answers s _ _ (like-moved s _ (move.reach p s.queue.resumes (slice_get s.queue.cells s.queue.resumes)) refl refl))
         (likes-none s)
 like-reach s p _ = likes-none s
 
-like-meet_at : (s : Shape) (p k : ℕ) (cell : CoreCell) (now : CoreState) → slice_get s.queue.cells k ≡ Some cell
+like-meet_at : (s : Shape) (p k : ℕ) (cell : CoreCell) (now : CoreState)
     → KeepsLike s (meet_at s p k cell now)
-like-meet_at s p k cell state.Waiter finds =
-    likes-answers s _ _ (λ fine. like-moved s _ (move.serve p k cell) refl refl finds)
-like-meet_at s p k cell state.Empty finds =
-    likes-answers s _ _ (λ fine. like-moved s _ (move.leave_value p k cell) refl refl finds)
-like-meet_at s p k cell state.Cancelling finds =
-    likes-answers s _ _ (λ fine. like-moved s _ (move.delegate p k cell) refl refl finds)
-like-meet_at s p k cell state.Cancelled finds =
-    likes-answers s _ _ (λ fine. like-moved s _ (move.pass_over p k cell) refl refl tt)
-like-meet_at s p k cell state.Refused finds =
-    likes-answers s _ _ (λ fine. like-moved s _ (move.meet_refused p k cell) refl refl tt)
-like-meet_at s p k cell _ finds = likes-none s
+like-meet_at s p k cell state.Waiter =
+    likes-answers s _ _ (like-moved s _ (move.serve p k cell) refl refl)
+like-meet_at s p k cell state.Empty =
+    likes-answers s _ _ (like-moved s _ (move.leave_value p k cell) refl refl)
+like-meet_at s p k cell state.Cancelling =
+    likes-answers s _ _ (like-moved s _ (move.delegate p k cell) refl refl)
+like-meet_at s p k cell state.Cancelled =
+    likes-answers s _ _ (like-moved s _ (move.pass_over p k cell) refl refl)
+like-meet_at s p k cell state.Refused =
+    likes-answers s _ _ (like-moved s _ (move.meet_refused p k cell) refl refl)
+like-meet_at s p k cell _ = likes-none s
 
 like-meet : (s : Shape) (p : ℕ) (d : Option Doing) → KeepsLike s (meet_row s p d)
 like-meet s p (Some (doing.Ticket k)) =
     likes-found s (λ cell. meet_at s p k cell cell.state) (slice_get s.queue.cells k)
-        (λ cell finds. like-meet_at s p k cell cell.state finds)
+        (λ cell finds. like-meet_at s p k cell cell.state)
 like-meet s p _ = likes-none s
 
-like-leave_at : (s : Shape) (p k : ℕ) (cell : CoreCell) (now : CoreState) → slice_get s.queue.cells k ≡ Some cell
+like-leave_at : (s : Shape) (p k : ℕ) (cell : CoreCell) (now : CoreState)
     → KeepsLike s (leave_at s p k cell now)
-like-leave_at s p k cell state.Waiter finds =
-    likes-answers s _ _ (λ fine. like-moved s _ (move.begin_cancel p k cell) refl refl finds)
-like-leave_at s p k cell state.Resumed finds =
-    likes-answers s _ _ (λ fine. like-moved s _ (move.collect p k cell) refl refl finds)
-like-leave_at s p k cell _ finds = likes-none s
+like-leave_at s p k cell state.Waiter =
+    likes-answers s _ _ (like-moved s _ (move.begin_cancel p k cell) refl refl)
+like-leave_at s p k cell state.Resumed =
+    likes-answers s _ _ (like-moved s _ (move.collect p k cell) refl refl)
+like-leave_at s p k cell _ = likes-none s
 
 like-leave : (s : Shape) (p k : ℕ) (d : Option Doing) → KeepsLike s (leave_row s p k d)
 like-leave s p k (Some doing.Idle) =
     likes-found s (λ cell. leave_with s p k cell) (slice_get s.queue.cells k)
-        (λ cell finds. likes-if s _ _ _ (like-leave_at s p k cell cell.state finds) (likes-none s))
+        (λ cell finds. likes-if s _ _ _ (like-leave_at s p k cell cell.state) (likes-none s))
 like-leave s p k _ = likes-none s
 
 like-decide : (s : Shape) (p : ℕ) (d : Option Doing) → KeepsLike s (decide_row s p d)
 like-decide s p (Some (doing.Leaving k)) =
     likes-if s _ _ _
-        (likes-answers s _ _ (λ fine. like-moved s _ (move.decide p k true) refl refl tt))
-        (likes-answers s _ _ (λ fine. like-moved s _ (move.decide p k false) refl refl tt))
+        (likes-answers s _ _ (like-moved s _ (move.decide p k true) refl refl))
+        (likes-answers s _ _ (like-moved s _ (move.decide p k false) refl refl))
 like-decide s p _ = likes-none s
 
 like-settle_at : (s : Shape) (p k : ℕ) (on : Bool) (cell : CoreCell) (now : CoreState)
-    → slice_get s.queue.cells k ≡ Some cell → KeepsLike s (settle_at s p k on cell now)
-like-settle_at s p k true cell state.Cancelling finds =
-    likes-answers s _ _ (λ fine. like-moved s _ (move.cancel p k cell) refl refl finds)
-like-settle_at s p k true cell state.Delegated finds =
-    likes-answers s _ _ (λ fine. like-moved s _ (move.cancel_owing p k cell) refl refl finds)
-like-settle_at s p k false cell state.Cancelling finds =
-    likes-answers s _ _ (λ fine. like-moved s _ (move.refuse p k cell) refl refl finds)
-like-settle_at s p k false cell state.Delegated finds =
-    likes-answers s _ _ (λ fine. like-moved s _ (move.refuse p k cell) refl refl finds)
-like-settle_at s p k on cell _ finds = likes-none s
+    → KeepsLike s (settle_at s p k on cell now)
+like-settle_at s p k true cell state.Cancelling =
+    likes-answers s _ _ (like-moved s _ (move.cancel p k cell) refl refl)
+like-settle_at s p k true cell state.Delegated =
+    likes-answers s _ _ (like-moved s _ (move.cancel_owing p k cell) refl refl)
+like-settle_at s p k false cell state.Cancelling =
+    likes-answers s _ _ (like-moved s _ (move.refuse p k cell) refl refl)
+like-settle_at s p k false cell state.Delegated =
+    likes-answers s _ _ (like-moved s _ (move.refuse p k cell) refl refl)
+like-settle_at s p k on cell _ = likes-none s
 
 like-settle : (s : Shape) (p : ℕ) (d : Option Doing) → KeepsLike s (settle_row s p d)
 like-settle s p (Some (doing.Decided k on)) =
     likes-found s (λ cell. settle_at s p k on cell cell.state) (slice_get s.queue.cells k)
-        (λ cell finds. like-settle_at s p k on cell cell.state finds)
+        (λ cell finds. like-settle_at s p k on cell cell.state)
 like-settle s p _ = likes-none s
 
-like-look_at : (s : Shape) (p k : ℕ) (cell : CoreCell) (now : CoreState) → slice_get s.queue.cells k ≡ Some cell
+like-look_at : (s : Shape) (p k : ℕ) (cell : CoreCell) (now : CoreState)
     → KeepsLike s (look_at s p k cell now)
-like-look_at s p k cell state.Waiter finds = likes-answers s _ _ (λ fine. like-moved s _ move.stay refl refl tt)
-like-look_at s p k cell state.Resumed finds =
-    likes-answers s _ _ (λ fine. like-moved s _ (move.collect p k cell) refl refl finds)
-like-look_at s p k cell _ finds = likes-none s
+like-look_at s p k cell state.Waiter = likes-answers s _ _ (like-moved s _ move.stay refl refl)
+like-look_at s p k cell state.Resumed =
+    likes-answers s _ _ (like-moved s _ (move.collect p k cell) refl refl)
+like-look_at s p k cell _ = likes-none s
 
 like-look : (s : Shape) (p k : ℕ) (d : Option Doing) → KeepsLike s (look_row s p k d)
 like-look s p k (Some doing.Idle) =
     likes-found s (λ cell. look_with s p k cell) (slice_get s.queue.cells k)
-        (λ cell finds. likes-if s _ _ _ (like-look_at s p k cell cell.state finds) (likes-none s))
+        (λ cell finds. likes-if s _ _ _ (like-look_at s p k cell cell.state) (likes-none s))
 like-look s p k _ = likes-none s
 
 like-step : (s : Shape) (e : Event) → KeepsLike s (step s e)
@@ -279,15 +211,10 @@ like-step s (event.Decide p) = like-decide s p (slice_get s.queue.doing p)
 like-step s (event.Settle p) = like-settle s p (slice_get s.queue.doing p)
 like-step s (event.Look p k) = like-look s p k (slice_get s.queue.doing p)
 
--- the call took no value out of a cell
-abbrev pub IsPlainReply : Reply → Type 0
-IsPlainReply (reply.Took k) = ⊥
-IsPlainReply _ = Unit {0}
-
 -- a call leaves this as it was, from its beginning on
 abbrev LeavesLike : Shape → Course → Type 0
 LeavesLike s refused = Unit {0}
-LeavesLike s (replied t answer) = IsPlainReply answer → IsLike s t
+LeavesLike s (replied t answer) = IsLike s t
 LeavesLike s stuck = Unit {0}
 
 abbrev LandsLike : Shape → Option Landed → Type 0
@@ -296,66 +223,54 @@ LandsLike s (Some landed) = IsLike s landed.shape
 
 -- an event on the way, and how the call goes on
 first-like : (s : Shape) (e : Event) (next : Shape → Outcome → Course)
-    → ((t : Shape) (o : Outcome) → (IsPlainOutcome o → IsLike s t) → LeavesLike s (next t o))
+    → ((t : Shape) (o : Outcome) → IsLike s t → LeavesLike s (next t o))
     → LeavesLike s (first (step s e) next)
 first-like s e next keeps = go (step s e) refl
   where
     go : (row : Option Stepped) → step s e ≡ row → LeavesLike s (first row next)
     go None is = tt
-    go (Some t) is = keeps t.shape t.outcome (λ fine. (like-step s e).at t is fine)
+    go (Some t) is = keeps t.shape t.outcome ((like-step s e).at t is)
 
 onward-like : (s t : Shape) (e : Event) (next : Shape → Outcome → Course) → IsLike s t
-    → ((u : Shape) (o : Outcome) → (IsPlainOutcome o → IsLike s u) → LeavesLike s (next u o))
+    → ((u : Shape) (o : Outcome) → IsLike s u → LeavesLike s (next u o))
     → LeavesLike s (onward (step t e) next)
 onward-like s t e next like keeps = go (step t e) refl
   where
     go : (row : Option Stepped) → step t e ≡ row → LeavesLike s (onward row next)
     go None is = tt
-    go (Some u) is = keeps u.shape u.outcome (λ fine. like-next s t u.shape like ((like-step t e).at u is fine))
+    go (Some u) is = keeps u.shape u.outcome (like-next s t u.shape like ((like-step t e).at u is))
 
-install-like : (s t : Shape) (o : Outcome) → (IsPlainOutcome o → IsLike s t) → LeavesLike s (after_install t o)
-install-like s t (outcome.Waits k) like = λ fine. like tt
-install-like s t (outcome.Took k) like = λ fine. absurd fine
+install-like : (s t : Shape) (o : Outcome) → IsLike s t → LeavesLike s (after_install t o)
+install-like s t (outcome.Waits k) like = like
+install-like s t (outcome.Took k) like = like
 install-like s t _ like = tt
 
-draw-like : (s : Shape) (p : ℕ) (t : Shape) (o : Outcome) → (IsPlainOutcome o → IsLike s t)
+draw-like : (s : Shape) (p : ℕ) (t : Shape) (o : Outcome) → IsLike s t
     → LeavesLike s (after_draw p t o)
-draw-like s p t (outcome.Drew k) like = onward-like s t (event.Install p) after_install (like tt) (install-like s)
+draw-like s p t (outcome.Drew k) like = onward-like s t (event.Install p) after_install like (install-like s)
 draw-like s p t _ like = tt
 
-taken-like : (s : Shape) (p : ℕ) (t : Shape) (o : Outcome) → (IsPlainOutcome o → IsLike s t)
+taken-like : (s : Shape) (p : ℕ) (t : Shape) (o : Outcome) → IsLike s t
     → LeavesLike s (after_take p t o)
-taken-like s p t outcome.Now like = λ fine. like tt
-taken-like s p t outcome.Door like = onward-like s t (event.Draw p) (after_draw p) (like tt) (draw-like s p)
+taken-like s p t outcome.Now like = like
+taken-like s p t outcome.Door like = onward-like s t (event.Draw p) (after_draw p) like (draw-like s p)
 taken-like s p t _ like = tt
 
-swap-like : (s t : Shape) (o : Outcome) → (IsPlainOutcome o → IsLike s t) → LeavesLike s (after_swap t o)
-swap-like s t outcome.Got like = λ fine. like tt
+swap-like : (s t : Shape) (o : Outcome) → IsLike s t → LeavesLike s (after_swap t o)
+swap-like s t outcome.Got like = like
 swap-like s t _ like = tt
 
-load-like : (s : Shape) (p : ℕ) (t : Shape) (o : Outcome) → (IsPlainOutcome o → IsLike s t)
+load-like : (s : Shape) (p : ℕ) (t : Shape) (o : Outcome) → IsLike s t
     → LeavesLike s (after_load p t o)
-load-like s p t outcome.Busy like = λ fine. like tt
-load-like s p t (outcome.Loaded v) like = onward-like s t (event.TrySwap p) after_swap (like tt) (swap-like s)
+load-like s p t outcome.Busy like = like
+load-like s p t (outcome.Loaded v) like = onward-like s t (event.TrySwap p) after_swap like (swap-like s)
 load-like s p t _ like = tt
 
-meets-like : (s : Shape) (again : Shape → Option Landed) (t : Shape) (o : Outcome) → (IsPlainOutcome o → IsLike s t)
+meets-like : (s : Shape) (again : Shape → Option Landed) (t : Shape) (o : Outcome) → IsLike s t
     → ((u : Shape) → IsLike s u → LandsLike s (again u)) → LandsLike s (after_meet again t o)
-meets-like s again t (outcome.Served k) like keeps = like tt
-meets-like s again t (outcome.Passed k) like keeps = keeps t (like tt)
+meets-like s again t (outcome.Served k) like keeps = like
+meets-like s again t (outcome.Passed k) like keeps = keeps t like
 meets-like s again t _ like keeps = tt
-
--- a reach takes no value
-reach-plain : (t : Shape) (p : ℕ) (r : Stepped) → step t (event.Reach p) ≡ Some r → IsPlainOutcome r.outcome
-reach-plain t p r is = go (slice_get t.queue.doing p) is
-  where
-    go : (d : Option Doing) → reach_row t p d ≡ Some r → IsPlainOutcome r.outcome
-    go (Some doing.Owes) is = tested (nat_lt t.queue.resumes last_number) is
-      where
-        tested : (b : Bool) → (if b then answers (moves t (move.reach p t.queue.resumes (slice_get t.queue.cells t.queue.resumes))) (outcome.Reached t.queue.resumes) else None) ≡ Some r → IsPlainOutcome r.outcome
-        tested true is = let o : outcome.Reached t.queue.resumes ≡ r.outcome = cc in subst IsPlainOutcome o tt
-        tested false is = absurd (cc)
-    go _ is = absurd (cc)
 
 number-like : (s : Shape) (again : Shape → Option Landed) (p : ℕ) (t : Shape) → IsLike s t
     → ((u : Shape) → IsLike s u → LandsLike s (again u))
@@ -369,17 +284,14 @@ number-like s again p t like keeps = reached (step t (event.Reach p)) refl
     met u so_far None is = tt
     met u so_far (Some m) is =
         meets-like s again m.shape m.outcome
-            (λ fine. like-next s u m.shape so_far ((like-step u (event.Meet p)).at m is fine)) keeps
-
-    landed : (r : Stepped) → step t (event.Reach p) ≡ Some r → IsPlainOutcome r.outcome → IsLike s r.shape
-    landed r is fine = like-next s t r.shape like ((like-step t (event.Reach p)).at r is fine)
+            (like-next s u m.shape so_far ((like-step u (event.Meet p)).at m is)) keeps
 
     reached : (row : Option Stepped) → step t (event.Reach p) ≡ row
         → LandsLike s (option_and_then
             (λ r. option_and_then (λ m. after_meet again m.shape m.outcome) (step r.shape (event.Meet p)))
             row)
     reached None is = tt
-    reached (Some r) is = met r.shape (landed r is (reach-plain t p r is)) (step r.shape (event.Meet p)) refl
+    reached (Some r) is = met r.shape (like-next s t r.shape like ((like-step t (event.Reach p)).at r is)) (step r.shape (event.Meet p)) refl
 
 resumes-like : (s : Shape) (tries p : ℕ) (t : Shape) → IsLike s t → LandsLike s (resumes_in tries p t)
 resumes-like s zero p t like = tt
@@ -388,42 +300,42 @@ resumes-like s (suc tries) p t like =
 
 lands-like : (s : Shape) (answer : ℕ → Reply) (o : Option Landed) → LandsLike s o → LeavesLike s (lands answer o)
 lands-like s answer None like = tt
-lands-like s answer (Some landed) like = λ fine. like
+lands-like s answer (Some landed) like = like
 
-given-like : (s : Shape) (p : ℕ) (t : Shape) (o : Outcome) → (IsPlainOutcome o → IsLike s t)
+given-like : (s : Shape) (p : ℕ) (t : Shape) (o : Outcome) → IsLike s t
     → LeavesLike s (after_give p t o)
-given-like s p t outcome.Freed like = λ fine. like tt
+given-like s p t outcome.Freed like = like
 given-like s p t outcome.Owes like =
-    lands-like s _ (resumes_at p t) (resumes-like s (suc (ahead t)) p t (like tt))
+    lands-like s _ (resumes_at p t) (resumes-like s (suc (ahead t)) p t like)
 given-like s p t _ like = tt
 
-looked-like : (s t : Shape) (o : Outcome) → (IsPlainOutcome o → IsLike s t) → LeavesLike s (after_look t o)
-looked-like s t outcome.Granted like = λ fine. like tt
-looked-like s t outcome.Pending like = λ fine. like tt
+looked-like : (s t : Shape) (o : Outcome) → IsLike s t → LeavesLike s (after_look t o)
+looked-like s t outcome.Granted like = like
+looked-like s t outcome.Pending like = like
 looked-like s t _ like = tt
 
-settled-like : (s : Shape) (p : ℕ) (t : Shape) (o : Outcome) → (IsPlainOutcome o → IsLike s t)
+settled-like : (s : Shape) (p : ℕ) (t : Shape) (o : Outcome) → IsLike s t
     → LeavesLike s (after_settle p t o)
-settled-like s p t (outcome.Cancelled k) like = λ fine. like tt
-settled-like s p t (outcome.Refused k) like = λ fine. like tt
+settled-like s p t (outcome.Cancelled k) like = like
+settled-like s p t (outcome.Refused k) like = like
 settled-like s p t (outcome.OwesOn k) like =
-    lands-like s _ (resumes_at p t) (resumes-like s (suc (ahead t)) p t (like tt))
+    lands-like s _ (resumes_at p t) (resumes-like s (suc (ahead t)) p t like)
 settled-like s p t _ like = tt
 
-decided-like : (s : Shape) (p : ℕ) (t : Shape) (o : Outcome) → (IsPlainOutcome o → IsLike s t)
+decided-like : (s : Shape) (p : ℕ) (t : Shape) (o : Outcome) → IsLike s t
     → LeavesLike s (after_decide p t o)
 decided-like s p t (outcome.Decided on) like =
-    onward-like s t (event.Settle p) (after_settle p) (like tt) (settled-like s p)
+    onward-like s t (event.Settle p) (after_settle p) like (settled-like s p)
 decided-like s p t _ like = tt
 
-left-like : (s : Shape) (p : ℕ) (t : Shape) (o : Outcome) → (IsPlainOutcome o → IsLike s t)
+left-like : (s : Shape) (p : ℕ) (t : Shape) (o : Outcome) → IsLike s t
     → LeavesLike s (after_leave p t o)
 left-like s p t (outcome.Cancelling k) like =
-    onward-like s t (event.Decide p) (after_decide p) (like tt) (decided-like s p)
-left-like s p t (outcome.TooLate k) like = λ fine. like tt
+    onward-like s t (event.Decide p) (after_decide p) like (decided-like s p)
+left-like s p t (outcome.TooLate k) like = like
 left-like s p t _ like = tt
 
--- a call leaves this as it was, where it took no value out of a cell
+-- a call leaves this as it was
 course-like : (s : Shape) (c : Call) → LeavesLike s (course s c)
 course-like s (call.Acquire p) = first-like s (event.Take p) (after_take p) (taken-like s p)
 course-like s (call.Try p) = first-like s (event.TryLoad p) (after_load p) (load-like s p)
@@ -431,6 +343,5 @@ course-like s (call.Release p) = first-like s (event.Give p) (after_give p) (giv
 course-like s (call.Poll p k) = first-like s (event.Look p k) after_look (looked-like s)
 course-like s (call.Cancel p k) = first-like s (event.Leave p k) (after_leave p) (left-like s p)
 
-pub call-like : (s t : Shape) (c : Call) (answer : Reply) → course s c ≡ replied t answer → IsPlainReply answer
-    → IsLike s t
-call-like s t c answer made fine = subst (LeavesLike s) made (course-like s c) fine
+pub call-like : (s t : Shape) (c : Call) (answer : Reply) → course s c ≡ replied t answer → IsLike s t
+call-like s t c answer made = subst (LeavesLike s) made (course-like s c)

@@ -5,8 +5,7 @@ use Rattle.cqs_core.specs.declared.calls.Call.TheVariants as call
 use Rattle.cqs_core.specs.declared.calls.Reply.{Reply}
 use Rattle.cqs_core.specs.declared.calls.Reply.TheVariants as reply
 use Rattle.cqs_core.specs.SemaphoreAnswers.{Room}
-use Rattle.cqs_core.specs.SemaphoreCalls.{course}
-use Rattle.cqs_core.specs.SemaphoreTable.{Shape}
+use Rattle.cqs_core.specs.SoleCaller.{MayCall}
 use Rattle.cqs_plan.specs.declared.floors.answers.FloorTake.{FloorTake}
 use Rattle.cqs_plan.specs.declared.floors.answers.FloorTake.TheVariants.{Now, Waits}
 use Rattle.cqs_plan.specs.declared.floors.answers.FloorGive.{FloorGive}
@@ -20,14 +19,14 @@ use Rattle.cqs_plan.specs.declared.floors.answers.FloorEnd.TheVariants.{Permits}
 use Rattle.cqs_plan.specs.declared.plans.kind.Kind.TheVariants as kind
 use Rattle.cqs_cli.specs.declared.floors.waits.Wait.{Wait}
 use Rattle.cqs_cli.specs.Ledger.{Ledger, granted, with_cores, with_wait}
-use Rattle.cqs_cli.specs.SoleCore.{HasMade, IsOffered, IsReady, is_served_at}
+use Rattle.cqs_cli.specs.SoleCore.{HasMade, IsReady, is_served_at}
 
 -- the core at a place can make this call
 pub record CanCall (cores : List Room) (at : ℕ) (c : Call) : Type 0 where
   pub core : Room
   pub there : slice_get cores at ≡ Some core
   pub ready : IsReady core
-  pub offered : IsOffered (course core.shape c)
+  pub allowed : MayCall core.shape c
 
 -- the core at a place has made this call, and the others are as they were
 pub record Calls (old : List Room) (at : ℕ) (c : Call) (answer : Reply) (new : List Room) : Type 0 where
@@ -65,7 +64,7 @@ pub record CanLook (cores : List Room) (wait : Wait) : Type 0 where
   pub core : Room
   pub there : slice_get cores wait.at ≡ Some core
   pub ready : IsReady core
-  pub offered : is_wait_served core wait ≡ true → IsOffered (course core.shape (call.Poll 0 wait.number))
+  pub allowed : is_wait_served core wait ≡ true → MayCall core.shape (call.Poll 0 wait.number)
 
 -- the wait wasn't served
 pub record IsUnserved (cores : List Room) (wait : Wait) : Type 0 where

@@ -1,36 +1,28 @@
 -- A core with one pass, which makes one whole call after the other.
-use Rattle.std.specs.Prelude.{◌≡◌, ◌≢◌, ℕ, ◌+◌, ◌<◌, ◌≤◌, length, Bool, true, false, Option, Some, None}
+use Rattle.std.specs.Prelude.{◌≡◌, ℕ, ◌+◌, ◌<◌, ◌≤◌, length, Bool, true, false, Option, Some, None}
 use Rattle.cqs_core.specs.declared.calls.Call.{Call}
 use Rattle.cqs_core.specs.declared.calls.Reply.{Reply}
 use Rattle.cqs_core.specs.declared.cells.CoreCell.{CoreCell}
 use Rattle.cqs_core.specs.declared.cells.CoreState.{CoreState}
 use Rattle.cqs_core.specs.declared.cells.CoreState.TheVariants as state
-use Rattle.cqs_core.specs.Numbered.{EachAt}
 use Rattle.cqs_core.specs.Resting.{IsIdle}
 use Rattle.cqs_core.specs.SemaphoreAnswers.{Room}
-use Rattle.cqs_core.specs.SemaphoreCalls.{Course, refused, replied, stuck}
 use Rattle.cqs_core.specs.SemaphoreShown.{IsCore}
 use Rattle.cqs_core.specs.SemaphoreTable.{Shape, last_number}
-use Rattle.cqs_core.specs.SoleCaller.{IsSoleCall}
+use Rattle.cqs_core.specs.SoleCaller.{IsSoleCall, NoneTaken}
 
--- its one pass is between two calls, and no permit was ever taken out of a cell: each went to a wait that stood
+-- its one pass is between two calls, and no suspend ever found its value in its cell
 pub record IsSole (s : Shape) : Type 0 where
   pub core : IsCore s
   pub idle : IsIdle s.queue.doing
   pub one : length s.queue.doing ≡ 1
-  pub untaken : EachAt (λ k cell. cell.state ≢ state.Taken) s.queue.cells
+  pub untaken : NoneTaken s
 
 -- one more call may be made
 pub record IsReady (core : Room) : Type 0 where
   pub sole : IsSole core.shape
   pub numbers : core.shape.queue.suspends < last_number
   pub room : 3 ≤ core.spare
-
--- the call is allowed
-abbrev pub IsOffered : Course → Type 0
-IsOffered refused = ⊥
-IsOffered (replied shape answer) = Unit {0}
-IsOffered stuck = Unit {0}
 
 -- the core has made the call as the plain semaphore does
 pub record HasMade (old : Room) (c : Call) (answer : Reply) (new : Room) : Type 0 where

@@ -1,15 +1,15 @@
 //! The calls of a core that has one pass.
 
 ghost use Rattle.std.specs.Prelude.{◌≡◌, slice_get};
-ghost use Rattle.cqs_core.specs.SemaphoreCalls.{course};
-ghost use Rattle.cqs_cli.specs.SoleCore.{HasMade, IsOffered, IsReady, is_served_at};
+ghost use Rattle.cqs_core.specs.SoleCaller.{MayCall};
+ghost use Rattle.cqs_cli.specs.SoleCore.{HasMade, IsReady, is_served_at};
 
 use cqs_core::{Call, Core, CoreCell, CoreState, Reply};
 
 /// Makes a call that is allowed.
 pub fn call_core(core: &mut Core, call: Call) -> Reply
     requires ready { IsReady core.old }
-    requires offered { IsOffered (course core.old.shape call) }
+    requires allowed { MayCall core.old.shape call }
     ensures { HasMade core.old call result core.new }
 {
     match core.run_ready(call) {

@@ -1,2 +1,5 @@
 pub mod First
+pub mod Stays
 pub mod SoleLike
+pub mod SoleCells
+pub mod SoleMade

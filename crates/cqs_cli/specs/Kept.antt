@@ -1,11 +1,10 @@
 -- What holds of a ledger between two calls of its floor.
-use Rattle.std.specs.Prelude.{◌≡◌, ◌⊎◌, ℕ, ◌+◌, ◌*◌, ◌<◌, ◌≤◌, ◌==◌, Bool, true, false, List, [], ◌∷◌, length, Option, Some, None, All, is_some, sum, sum_by, count_by, slice_get, slice_index, if◌then◌else◌}
-use Rattle.std.specs.Option.{option_map_or}
+use Rattle.std.specs.Prelude.{◌≡◌, ℕ, ◌+◌, ◌*◌, ◌≤◌, ◌==◌, Bool, true, false, List, length, Option, Some, None, All, is_some, sum, sum_by, count_by, slice_get, slice_index}
 use Rattle.cqs_core.specs.Numbered.{EachAt}
-use Rattle.cqs_core.specs.QueueLine.{Waiting, Service}
+use Rattle.cqs_core.specs.QueueLine.{Service}
 use Rattle.cqs_core.specs.SemaphoreAnswers.{Room}
-use Rattle.cqs_core.specs.SemaphoreObject.{Semaphore}
 use Rattle.cqs_core.specs.SemaphoreShown.{shown}
+use Rattle.cqs_core.specs.SoleCaller.{HasWait}
 use Rattle.cqs_plan.specs.Floor.{Holding, permits_of}
 use Rattle.cqs_cli.specs.declared.floors.waits.Wait.{Wait}
 use Rattle.cqs_cli.specs.Ledger.{Ledger, holds_after}
@@ -28,23 +27,6 @@ held_at holds at = sum_by (λ hs. count_by (λ h. h.at == at) hs) holds
 abbrev pub unseen : List Service → ℕ
 unseen served = count_by (λ s. s.is_open) served
 
--- the first with this key
-abbrev pub first_at : {Y : Type 0} → (Y → ℕ) → ℕ → List Y → Option Y
-first_at key k [] = None
-first_at key k (y ∷ ys) = if k == key y then Some y else first_at key k ys
-
--- wait k is in the line
-abbrev pub is_in_line : ℕ → Semaphore → Bool
-is_in_line k o = is_some (first_at (λ w. w.wait) k o.line)
-
--- wait k was served, and hasn't been looked at
-abbrev pub is_unseen : ℕ → Semaphore → Bool
-is_unseen k o = option_map_or (λ s. s.is_open) (first_at (λ s. s.wait) k o.served) false
-
--- wait k is still to be looked at
-abbrev pub Stands : Semaphore → ℕ → Type 0
-Stands o k = (is_in_line k o ≡ true) ⊎ (is_unseen k o ≡ true)
-
 -- The core of a resource has room for all that can still come: three entries for each take, three for the look or the
 -- leave of each wait, and three for each give. Of its semaphore's held permits the jobs hold those that aren't unseen.
 pub record IsFunded (core : Room) (size room waiting held : ℕ) : Type 0 where
@@ -58,7 +40,7 @@ pub record IsFunded (core : Room) (size room waiting held : ℕ) : Type 0 where
 pub record StandsIn (cores : List Room) (wait : Wait) : Type 0 where
   pub core : Room
   pub there : slice_get cores wait.at ≡ Some core
-  pub stands : Stands (shown core.shape) wait.number
+  pub stands : HasWait wait.number 0 (shown core.shape)
 
 -- no two jobs have one wait
 pub record AreApart (waits : List (Option Wait)) : Type 0 where

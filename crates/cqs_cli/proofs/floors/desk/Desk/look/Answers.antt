@@ -1,0 +1,23 @@
+use Rattle.std.proofs.Common.{rules, ◌≡◌, ◌<◌, Some, None, IsSome, length, slice_get, slice_index, ℕ, ◌+◌, ◌-◌, ◌*◌, ◌≤◌, ◌/◌, ◌%◌, Bool, true, false, nat_eq, nat_lt, List, [], ◌∷◌, ◌++◌, slice_index_or, slice_set, bit_and, bit_or, Fits, w8, w32, w64, Bor, MutBor}
+use Rattle.cqs_core.specs.declared.calls.Call.TheVariants as call
+use Rattle.cqs_plan.specs.declared.plans.kind.Kind.TheVariants as kind
+use Rattle.cqs_cli.specs.declared.floors.transfers.Transfer.TheVariants.{Got, GaveBack}
+use Rattle.cqs_cli.specs.Ledger.{granted, taken, wait_at, with_cores, with_transfer}
+use Rattle.cqs_cli.specs.DeskCalls.{Answers, CanCall, CanEnd, CanLook, Ends, Looks, end_of, give_of, leave_of, left, take_of}
+use Rattle.cqs_cli.proofs.floors.desk.Desk.look.Goals as goal
+
+-- src/floors/desk.rt:106:13
+pub returns-then-not-is_served : goal.returns-then-not-is_served
+returns-then-not-is_served c = ?
+
+-- src/floors/desk.rt:108:9
+pub call_core-requires-clause-ready : goal.call_core-requires-clause-ready
+call_core-requires-clause-ready c = ?
+
+-- src/floors/desk.rt:108:9
+pub call_core-requires-clause-allowed : goal.call_core-requires-clause-allowed
+call_core-requires-clause-allowed c = ?
+
+-- src/floors/desk.rt:98:5
+pub returns : goal.returns
+returns c = ?

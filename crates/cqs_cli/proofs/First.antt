@@ -25,7 +25,7 @@ module _ {Y : Type 0} (key : Y → ℕ) where
       go true before later = rw before (sum_by-cons (λ z. cond (p z) 1 0) x (y ∷ ys))
       go false behind later =
           let now : count_by p (y ∷ placed key x ys) ≡ cond (p y) 1 0 + count_by p (placed key x ys) =
-              sum_by-cons (λ z. cond (p z) 1 0) y (placed key x ys) in
+          sum_by-cons (λ z. cond (p z) 1 0) y (placed key x ys) in
           let was : count_by p (y ∷ ys) ≡ cond (p y) 1 0 + count_by p ys = sum_by-cons (λ z. cond (p z) 1 0) y ys in
           rw behind (omega (arith, now, was, later))
 
@@ -46,14 +46,14 @@ module _ {Y : Type 0} (key : Y → ℕ) where
           let none : bit (p (f z)) ≡ 0 = ap bit (fails z) in
           let was : count_by p (z ∷ ys) ≡ cond (p z) 1 0 + count_by p ys = sum_by-cons (λ x. cond (p x) 1 0) z ys in
           let now : count_by p (f z ∷ ys) ≡ cond (p (f z)) 1 0 + count_by p ys =
-              sum_by-cons (λ x. cond (p x) 1 0) (f z) ys in
+          sum_by-cons (λ x. cond (p x) 1 0) (f z) ys in
           rw same (omega (arith, was, now, one, none))
       go false other later =
           let rest : first_at key k ys ≡ Some y = rw other at found in
           let fewer = later rest in
           let was : count_by p (z ∷ ys) ≡ cond (p z) 1 0 + count_by p ys = sum_by-cons (λ x. cond (p x) 1 0) z ys in
           let now : count_by p (z ∷ changed key k f ys) ≡ cond (p z) 1 0 + count_by p (changed key k f ys) =
-              sum_by-cons (λ x. cond (p x) 1 0) z (changed key k f ys) in
+          sum_by-cons (λ x. cond (p x) 1 0) z (changed key k f ys) in
           rw other (omega (arith, was, now, fewer))
 
   module _ {X : Type 0} (f : ℕ → X → Option Y) (keyed : IsKeyed f key) where
@@ -64,7 +64,6 @@ module _ {Y : Type 0} (key : Y → ℕ) where
         go None is = refl
         go (Some y) is =
             let number : key y ≡ n = keyed.at n x y is in first_at-head k y ys (λ e. other (e ∙ number))
-
 
     -- nothing of a smaller number is picked
     first_at-past : (k n : ℕ) (xs : List X) → k < n → first_at key k (picked f n xs) ≡ None

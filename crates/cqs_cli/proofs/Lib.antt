@@ -3,3 +3,4 @@ pub mod Stays
 pub mod SoleLike
 pub mod SoleCells
 pub mod SoleMade
+pub mod Objects

@@ -126,22 +126,22 @@ cell-unseen n state.Refused owner collected rest free owned = omega arith
 cells-unseen : (n : ℕ) (cells : List CoreCell)
     → ((i : ℕ) (cell : CoreCell) → slice_get cells i ≡ Some cell → cell.state ≢ state.Taken)
     → ((i : ℕ) (cell : CoreCell) → slice_get cells i ≡ Some cell → cell.state ≡ state.Resumed
-        → (p : ℕ) × (cell.owner ≡ Some p))
+    → (p : ℕ) × (cell.owner ≡ Some p))
     → unseen (picked is_served n cells) ≡ count_by has_ready cells
 cells-unseen n [] free owned = refl
 cells-unseen n (c ∷ cells) free owned =
     let rest : unseen (picked is_served (suc n) cells) ≡ count_by has_ready cells =
-        cells-unseen (suc n) cells (λ i cell got. free (suc i) cell got) (λ i cell got. owned (suc i) cell got) in
+    cells-unseen (suc n) cells (λ i cell got. free (suc i) cell got) (λ i cell got. owned (suc i) cell got) in
     let here = cell-unseen n c.state c.owner c.collected (picked is_served (suc n) cells) (free 0 c refl) (owned 0 c refl) in
     let all : count_by has_ready (c ∷ cells) ≡ bit (has_ready c) + count_by has_ready cells =
-        sum_by-cons (λ (x : CoreCell). bit (has_ready x)) c cells in
+    sum_by-cons (λ (x : CoreCell). bit (has_ready x)) c cells in
     omega (arith, here, rest, all)
 
 -- the permits that came and weren't looked at are those of the cells
 pub unseen-ready : (s : Shape) → IsSole s → unseen (served s.queue) ≡ ready s.queue
 unseen-ready s sole =
     cells-unseen 0 s.queue.cells (λ i cell got. sole.untaken.at i cell got)
-        (λ i cell got resumed. owned i cell cell.state (sole.core.sound.cells.at i cell got) resumed)
+    (λ i cell got resumed. owned i cell cell.state (sole.core.sound.cells.at i cell got) resumed)
   where
     owned : (i : ℕ) (cell : CoreCell) (st : CoreState) → IsSoundAt s.queue i cell st → st ≡ state.Resumed
         → (p : ℕ) × (cell.owner ≡ Some p)

@@ -69,31 +69,31 @@ likes-found s next (Some cell) keeps = keeps cell refl
 like-take : (s : Shape) (p : ℕ) (d : Option Doing) → KeepsLike s (take_row s p d)
 like-take s p (Some doing.Idle) =
     likes-if s _ _ _
-        (likes-if s _ _ _
-            (likes-answers s _ _ (like-moved s _ move.stay refl refl))
-            (likes-answers s _ _ (like-moved s _ (move.turn p doing.Idle doing.Door) refl refl)))
-        (likes-none s)
+    (likes-if s _ _ _
+    (likes-answers s _ _ (like-moved s _ move.stay refl refl))
+    (likes-answers s _ _ (like-moved s _ (move.turn p doing.Idle doing.Door) refl refl)))
+    (likes-none s)
 like-take s p _ = likes-none s
 
 like-try_load : (s : Shape) (p : ℕ) (d : Option Doing) → KeepsLike s (try_load_row s p d)
 like-try_load s p (Some doing.Idle) =
     likes-if s _ _ _
-        (likes-answers s _ _ (like-moved s _ move.stay refl refl))
-        (likes-answers s _ _ (like-moved s _ (move.turn p doing.Idle (doing.TryAt s.state)) refl refl))
+    (likes-answers s _ _ (like-moved s _ move.stay refl refl))
+    (likes-answers s _ _ (like-moved s _ (move.turn p doing.Idle (doing.TryAt s.state)) refl refl))
 like-try_load s p _ = likes-none s
 
 like-try_swap : (s : Shape) (p : ℕ) (d : Option Doing) → KeepsLike s (try_swap_row s p d)
 like-try_swap s p (Some (doing.TryAt v)) =
     likes-if s _ _ _
-        (likes-answers s _ _ (like-moved s _ (move.turn p (doing.TryAt v) doing.Idle) refl refl))
-        (likes-answers s _ _ (like-moved s _ (move.turn p (doing.TryAt v) doing.Idle) refl refl))
+    (likes-answers s _ _ (like-moved s _ (move.turn p (doing.TryAt v) doing.Idle) refl refl))
+    (likes-answers s _ _ (like-moved s _ (move.turn p (doing.TryAt v) doing.Idle) refl refl))
 like-try_swap s p _ = likes-none s
 
 like-draw : (s : Shape) (p : ℕ) (d : Option Doing) → KeepsLike s (draw_row s p d)
 like-draw s p (Some doing.Door) =
     likes-if s _ _ _
-        (likes-answers s _ _ (like-moved s _ (move.draw p s.queue.suspends (slice_get s.queue.cells s.queue.suspends)) refl refl))
-        (likes-none s)
+    (likes-answers s _ _ (like-moved s _ (move.draw p s.queue.suspends (slice_get s.queue.cells s.queue.suspends)) refl refl))
+    (likes-none s)
 like-draw s p _ = likes-none s
 
 like-install_at : (s : Shape) (p k : ℕ) (cell : CoreCell) (now : CoreState)
@@ -106,23 +106,23 @@ like-install_at s p k cell _ = likes-none s
 like-install : (s : Shape) (p : ℕ) (d : Option Doing) → KeepsLike s (install_row s p d)
 like-install s p (Some (doing.Drawn k)) =
     likes-found s (λ cell. install_at s p k cell cell.state) (slice_get s.queue.cells k)
-        (λ cell finds. like-install_at s p k cell cell.state)
+    (λ cell finds. like-install_at s p k cell cell.state)
 like-install s p _ = likes-none s
 
 like-give : (s : Shape) (p : ℕ) (d : Option Doing) → KeepsLike s (give_row s p d)
 like-give s p (Some doing.Idle) =
     likes-if s _ _ _
-        (likes-if s _ _ _
-            (likes-answers s _ _ (like-moved s _ (move.turn p doing.Idle doing.Owes) refl refl))
-            (likes-answers s _ _ (like-moved s _ move.stay refl refl)))
-        (likes-none s)
+    (likes-if s _ _ _
+    (likes-answers s _ _ (like-moved s _ (move.turn p doing.Idle doing.Owes) refl refl))
+    (likes-answers s _ _ (like-moved s _ move.stay refl refl)))
+    (likes-none s)
 like-give s p _ = likes-none s
 
 like-reach : (s : Shape) (p : ℕ) (d : Option Doing) → KeepsLike s (reach_row s p d)
 like-reach s p (Some doing.Owes) =
     likes-if s _ _ _
-        (likes-answers s _ _ (like-moved s _ (move.reach p s.queue.resumes (slice_get s.queue.cells s.queue.resumes)) refl refl))
-        (likes-none s)
+    (likes-answers s _ _ (like-moved s _ (move.reach p s.queue.resumes (slice_get s.queue.cells s.queue.resumes)) refl refl))
+    (likes-none s)
 like-reach s p _ = likes-none s
 
 like-meet_at : (s : Shape) (p k : ℕ) (cell : CoreCell) (now : CoreState)
@@ -142,7 +142,7 @@ like-meet_at s p k cell _ = likes-none s
 like-meet : (s : Shape) (p : ℕ) (d : Option Doing) → KeepsLike s (meet_row s p d)
 like-meet s p (Some (doing.Ticket k)) =
     likes-found s (λ cell. meet_at s p k cell cell.state) (slice_get s.queue.cells k)
-        (λ cell finds. like-meet_at s p k cell cell.state)
+    (λ cell finds. like-meet_at s p k cell cell.state)
 like-meet s p _ = likes-none s
 
 like-leave_at : (s : Shape) (p k : ℕ) (cell : CoreCell) (now : CoreState)
@@ -156,14 +156,14 @@ like-leave_at s p k cell _ = likes-none s
 like-leave : (s : Shape) (p k : ℕ) (d : Option Doing) → KeepsLike s (leave_row s p k d)
 like-leave s p k (Some doing.Idle) =
     likes-found s (λ cell. leave_with s p k cell) (slice_get s.queue.cells k)
-        (λ cell finds. likes-if s _ _ _ (like-leave_at s p k cell cell.state) (likes-none s))
+    (λ cell finds. likes-if s _ _ _ (like-leave_at s p k cell cell.state) (likes-none s))
 like-leave s p k _ = likes-none s
 
 like-decide : (s : Shape) (p : ℕ) (d : Option Doing) → KeepsLike s (decide_row s p d)
 like-decide s p (Some (doing.Leaving k)) =
     likes-if s _ _ _
-        (likes-answers s _ _ (like-moved s _ (move.decide p k true) refl refl))
-        (likes-answers s _ _ (like-moved s _ (move.decide p k false) refl refl))
+    (likes-answers s _ _ (like-moved s _ (move.decide p k true) refl refl))
+    (likes-answers s _ _ (like-moved s _ (move.decide p k false) refl refl))
 like-decide s p _ = likes-none s
 
 like-settle_at : (s : Shape) (p k : ℕ) (on : Bool) (cell : CoreCell) (now : CoreState)
@@ -181,7 +181,7 @@ like-settle_at s p k on cell _ = likes-none s
 like-settle : (s : Shape) (p : ℕ) (d : Option Doing) → KeepsLike s (settle_row s p d)
 like-settle s p (Some (doing.Decided k on)) =
     likes-found s (λ cell. settle_at s p k on cell cell.state) (slice_get s.queue.cells k)
-        (λ cell finds. like-settle_at s p k on cell cell.state)
+    (λ cell finds. like-settle_at s p k on cell cell.state)
 like-settle s p _ = likes-none s
 
 like-look_at : (s : Shape) (p k : ℕ) (cell : CoreCell) (now : CoreState)
@@ -194,7 +194,7 @@ like-look_at s p k cell _ = likes-none s
 like-look : (s : Shape) (p k : ℕ) (d : Option Doing) → KeepsLike s (look_row s p k d)
 like-look s p k (Some doing.Idle) =
     likes-found s (λ cell. look_with s p k cell) (slice_get s.queue.cells k)
-        (λ cell finds. likes-if s _ _ _ (like-look_at s p k cell cell.state) (likes-none s))
+    (λ cell finds. likes-if s _ _ _ (like-look_at s p k cell cell.state) (likes-none s))
 like-look s p k _ = likes-none s
 
 like-step : (s : Shape) (e : Event) → KeepsLike s (step s e)
@@ -275,8 +275,8 @@ meets-like s again t _ like keeps = tt
 number-like : (s : Shape) (again : Shape → Option Landed) (p : ℕ) (t : Shape) → IsLike s t
     → ((u : Shape) → IsLike s u → LandsLike s (again u))
     → LandsLike s (option_and_then
-        (λ r. option_and_then (λ m. after_meet again m.shape m.outcome) (step r.shape (event.Meet p)))
-        (step t (event.Reach p)))
+    (λ r. option_and_then (λ m. after_meet again m.shape m.outcome) (step r.shape (event.Meet p)))
+    (step t (event.Reach p)))
 number-like s again p t like keeps = reached (step t (event.Reach p)) refl
   where
     met : (u : Shape) → (IsLike s u) → (row : Option Stepped) → step u (event.Meet p) ≡ row
@@ -284,12 +284,12 @@ number-like s again p t like keeps = reached (step t (event.Reach p)) refl
     met u so_far None is = tt
     met u so_far (Some m) is =
         meets-like s again m.shape m.outcome
-            (like-next s u m.shape so_far ((like-step u (event.Meet p)).at m is)) keeps
+        (like-next s u m.shape so_far ((like-step u (event.Meet p)).at m is)) keeps
 
     reached : (row : Option Stepped) → step t (event.Reach p) ≡ row
         → LandsLike s (option_and_then
-            (λ r. option_and_then (λ m. after_meet again m.shape m.outcome) (step r.shape (event.Meet p)))
-            row)
+        (λ r. option_and_then (λ m. after_meet again m.shape m.outcome) (step r.shape (event.Meet p)))
+        row)
     reached None is = tt
     reached (Some r) is = met r.shape (like-next s t r.shape like ((like-step t (event.Reach p)).at r is)) (step r.shape (event.Meet p)) refl
 

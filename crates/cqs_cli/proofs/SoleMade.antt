@@ -65,7 +65,7 @@ pub shown-one : (old new : Room) (c : Call) (answer : Reply) (e : Entry) → IsS
     → (sole_call (shown old.shape) c).entries ≡ e ∷ [] → shown new.shape ≡ after_entry (shown old.shape) e
 shown-one old new c answer e sole made is =
     shown-history old new c answer (old.shape.history ++ e ∷ []) made
-        (made.call.appended ∙ ap (λ es. old.shape.history ++ es) is)
+    (made.call.appended ∙ ap (λ es. old.shape.history ++ es) is)
     ∙ object-one old.shape.permits old.shape.history e ∙ ap (λ o. after_entry o e) sole.core.object
 
 pub shown-two : (old new : Room) (c : Call) (answer : Reply) (d e : Entry) → IsSole old.shape → HasMade old c answer new
@@ -73,5 +73,5 @@ pub shown-two : (old new : Room) (c : Call) (answer : Reply) (d e : Entry) → I
     → shown new.shape ≡ after_entry (after_entry (shown old.shape) d) e
 shown-two old new c answer d e sole made is =
     shown-history old new c answer (old.shape.history ++ d ∷ e ∷ []) made
-        (made.call.appended ∙ ap (λ es. old.shape.history ++ es) is)
+    (made.call.appended ∙ ap (λ es. old.shape.history ++ es) is)
     ∙ object-two old.shape.permits old.shape.history d e ∙ ap (λ o. after_entry (after_entry o d) e) sole.core.object

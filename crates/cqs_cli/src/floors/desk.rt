@@ -3,7 +3,7 @@
 //! Each call makes one call of one core and writes down what the job got or gave back. All memory was taken
 //! before: a core has room for the calls that are still to come, and so has the list of transfers.
 
-ghost use Rattle.std.specs.Prelude.{◌≡◌, ◌<◌, Some, None, IsSome, length, slice_get, slice_index};
+ghost use Rattle.std.specs.Prelude.{◌≡◌, ◌<◌, ◌≤ℤ◌, pos, negsuc, Some, None, IsSome, length, slice_get, slice_index};
 ghost use Rattle.cqs_core.specs.declared.calls.Call.TheVariants as call;
 ghost use Rattle.cqs_plan.specs.declared.plans.kind.Kind.TheVariants as kind;
 ghost use Rattle.cqs_cli.specs.declared.floors.transfers.Transfer.TheVariants.{Got, GaveBack};
@@ -47,7 +47,7 @@ impl Desk {
     /// The wait of a job that waits.
     pub fn wait(&self, job: u32) -> Wait
         requires { IsSome (wait_at self.now job) }
-        ensures { slice_get self.now.waits job ≡ Some (Some result) }
+        ensures { wait_at self.now job ≡ Some result }
     {
         let Some(wait) = self.waits[job as usize] else {
             unreachable!()
@@ -101,17 +101,14 @@ impl Desk {
         requires spare { 0 < self.old.spare }
         ensures { Looks self.old job wait result self.new }
     {
-        let core = &mut self.cores[wait.at as usize];
-        if !is_served(core, wait.number) {
+        if !is_served(&self.cores[wait.at as usize], wait.number) {
             return FloorLook::Pending;
         }
-        call_core(
-            core,
-            Call::Poll {
-                pass: 0,
-                wait: wait.number,
-            },
-        );
+        let poll = Call::Poll {
+            pass: 0,
+            wait: wait.number,
+        };
+        call_core(&mut self.cores[wait.at as usize], poll);
         self.grant(job, wait);
         FloorLook::Granted(0)
     }
@@ -160,19 +157,27 @@ impl Desk {
         let Kind::Semaphore(permits) = self.kinds[at as usize] else {
             unreachable!()
         };
-        let state = self.cores[at as usize].state();
-        if state < 0 {
-            return FloorEnd::Permits {
-                free: 0,
-                held: permits,
-                line: (-state) as u32,
-            };
-        }
-        let free = state as u32;
-        FloorEnd::Permits {
-            free,
-            held: permits - free,
-            line: 0,
-        }
+        stand_of(permits, self.cores[at as usize].state())
+    }
+}
+
+/// How a semaphore with so many permits stands, by the state word of a core whose pass is idle.
+fn stand_of(permits: u32, state: i64) -> FloorEnd
+    requires least { negsuc 4294967294 ≤ℤ state }
+    requires most { state ≤ℤ pos permits }
+    ensures { result ≡ end_of permits state }
+{
+    if state < 0 {
+        return FloorEnd::Permits {
+            free: 0,
+            held: permits,
+            line: (-state) as u32,
+        };
+    }
+    let free = state as u32;
+    FloorEnd::Permits {
+        free,
+        held: permits - free,
+        line: 0,
     }
 }

@@ -1,3 +1,9 @@
 pub mod MeaningLemmas
 pub mod PlanLemmas
 pub mod WordLemmas
+pub mod First
+pub mod Stays
+pub mod SoleLike
+pub mod SoleCells
+pub mod SoleMade
+pub mod Objects

@@ -6,3 +6,8 @@ pub mod Standard
 pub mod Tellings
 pub mod Verdicts
 pub mod Words
+pub mod SoleCore
+pub mod Ledger
+pub mod DeskCalls
+pub mod Kept
+pub mod Opening

@@ -2,10 +2,12 @@
 //!
 //! `top` judges first and tells after. `judge` reads the words and the source and knows no sink;
 //! `tell` knows the sink alone, and writes a text that was made whole before. What each status means
-//! stands on `top`. The real streams are in `standard`, the trusted edge.
+//! stands on `top`. `floors` has the floor on which a plan is run. The real streams are in `standard`,
+//! the trusted edge.
 #![tactic(auto)]
 
 mod ending;
+mod floors;
 mod judging;
 mod plans;
 mod standard;
@@ -15,5 +17,6 @@ mod verdict;
 mod words;
 
 pub use ending::{DONE, NO_COMMAND, NO_MEMORY, NO_PLAN, SINK_FAILED, SOURCE_FAILED, TOO_LONG};
+pub use floors::core_floor::CoreFloor;
 pub use standard::{StdinSource, StdoutSink, words_after_name};
 pub use top_call::top;

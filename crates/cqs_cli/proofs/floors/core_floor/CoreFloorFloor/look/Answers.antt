@@ -1,0 +1,25 @@
+use Rattle.std.proofs.Common.{rules, ◌≡◌, IfOk, ℕ, ◌+◌, ◌-◌, ◌*◌, ◌<◌, ◌≤◌, length, ◌/◌, ◌%◌, Bool, true, false, nat_eq, nat_lt, List, [], ◌∷◌, ◌++◌, slice_index_or, slice_set, bit_and, bit_or, Fits, w8, w32, w64, Bor, MutBor}
+use Rattle.cqs_plan.specs.Floor.{opening_floor}
+use Rattle.cqs_plan.specs.Runnable.{IsRunnable}
+use Rattle.cqs_cli.specs.Opening.{AreSemaphores}
+use Rattle.cqs_cli.proofs.floors.core_floor.CoreFloorFloor.look.Goals as goal
+
+-- src/floors/core_floor.rt:60:9
+pub look-requires-clause-core : goal.look-requires-clause-core
+look-requires-clause-core c = ?
+
+-- src/floors/core_floor.rt:60:9
+pub look-requires-clause-spare : goal.look-requires-clause-spare
+look-requires-clause-spare c = ?
+
+-- src/floors/core_floor.rt:58:5
+pub invariant_of-self : goal.invariant_of-self
+invariant_of-self c = ?
+
+-- src/floors/core_floor.rt:58:5
+pub returns-clause-answer : goal.returns-clause-answer
+returns-clause-answer c = ?
+
+-- src/floors/core_floor.rt:58:5
+pub returns-clause-after : goal.returns-clause-after
+returns-clause-after c = ?

@@ -1,0 +1,64 @@
+-- What holds of a ledger between two calls of its floor.
+use Rattle.std.specs.Prelude.{◌≡◌, ℕ, ◌+◌, ◌*◌, ◌≤◌, ◌==◌, Bool, true, false, List, length, Option, Some, None, All, is_some, sum, sum_by, count_by, slice_get, slice_index}
+use Rattle.cqs_core.specs.Numbered.{EachAt}
+use Rattle.cqs_core.specs.QueueLine.{Service}
+use Rattle.cqs_core.specs.SemaphoreAnswers.{Room}
+use Rattle.cqs_core.specs.SemaphoreShown.{shown}
+use Rattle.cqs_core.specs.SoleCaller.{HasWait}
+use Rattle.cqs_plan.specs.Floor.{Holding, permits_of}
+use Rattle.cqs_cli.specs.declared.floors.waits.Wait.{Wait}
+use Rattle.cqs_cli.specs.Ledger.{Ledger, holds_after}
+use Rattle.cqs_cli.specs.SoleCore.{IsSole}
+
+-- the wait is for this resource
+abbrev pub is_wait_at : ℕ → Option Wait → Bool
+is_wait_at at (Some wait) = wait.at == at
+is_wait_at at None = false
+
+-- how many jobs wait for a resource
+abbrev pub waiting_at : List (Option Wait) → ℕ → ℕ
+waiting_at waits at = count_by (is_wait_at at) waits
+
+-- how many permits of a resource the jobs hold
+abbrev pub held_at : List (List Holding) → ℕ → ℕ
+held_at holds at = sum_by (λ hs. count_by (λ h. h.at == at) hs) holds
+
+-- how many that were served haven't been looked at
+abbrev pub unseen : List Service → ℕ
+unseen served = count_by (λ s. s.is_open) served
+
+-- The core of a resource has room for all that can still come: three entries for each take, three for the look or the
+-- leave of each wait, and three for each give. Of its semaphore's held permits the jobs hold those that aren't unseen.
+pub record IsFunded (core : Room) (size room waiting held : ℕ) : Type 0 where
+  pub sole : IsSole core.shape
+  pub permits : core.shape.permits ≡ size
+  pub numbers : core.shape.queue.suspends + room ≤ 1048576
+  pub spare : 9 * room + 6 * waiting + 3 * held ≤ core.spare
+  pub holds : (shown core.shape).held ≡ held + unseen (shown core.shape).served
+
+-- a wait stands in its core
+pub record StandsIn (cores : List Room) (wait : Wait) : Type 0 where
+  pub core : Room
+  pub there : slice_get cores wait.at ≡ Some core
+  pub stands : HasWait wait.number 0 (shown core.shape)
+
+-- no two jobs have one wait
+pub record AreApart (waits : List (Option Wait)) : Type 0 where
+  pub same : (i j : ℕ) (wait : Wait) → slice_get waits i ≡ Some (Some wait) → slice_get waits j ≡ Some (Some wait) → i ≡ j
+
+-- what the jobs of a ledger hold
+abbrev pub holds_in : Ledger → List (List Holding)
+holds_in l = holds_after (length l.waits) l.transfers
+
+pub record IsKept (l : Ledger) : Type 0 where
+  pub cores : length l.cores ≡ length l.kinds
+  pub rooms : length l.room ≡ length l.kinds
+  pub funded : EachAt
+      (λ at core. IsFunded core (permits_of (slice_get l.kinds at)) (slice_index l.room at) (waiting_at l.waits at) (held_at (holds_in l) at))
+      l.cores
+  pub waits : (job : ℕ) (wait : Wait) → slice_get l.waits job ≡ Some (Some wait) → StandsIn l.cores wait
+  pub apart : AreApart l.waits
+  -- a permit has no number
+  pub plain : All (λ hs. All (λ h. h.element ≡ 0) hs) (holds_in l)
+  -- the list of transfers has room for two of each take to come, two of each wait and one of each permit held
+  pub spare : 2 * sum l.room + 2 * count_by (λ wait. is_some wait) l.waits + sum_by (λ hs. length hs) (holds_in l) ≤ l.spare

@@ -1,0 +1,71 @@
+//! A floor on one runnable core for each semaphore.
+
+ghost use Rattle.std.specs.Prelude.{◌≡◌, IfOk};
+ghost use Rattle.cqs_plan.specs.Floor.{opening_floor};
+ghost use Rattle.cqs_plan.specs.Runnable.{IsRunnable};
+ghost use Rattle.cqs_cli.specs.Opening.{AreSemaphores};
+
+use super::desk::Desk;
+use cqs_core::Memory;
+use cqs_plan::{Floor, FloorEnd, FloorGive, FloorLeave, FloorLook, FloorTake, Plan};
+use std::alloc::Global;
+use std::marker::Model;
+
+/// A floor for plans that have semaphores alone: each is a core with one pass.
+///
+/// Contracts see its plain floor. Its cores have room for all the calls that its plan's takes can lead to.
+#[derive(Drop)]
+pub struct CoreFloor {
+    desk: Desk,
+}
+
+impl Model for CoreFloor {
+    ghost use Rattle.cqs_plan.specs.Floor.{PlainFloor};
+
+    ghost Value = { PlainFloor };
+
+    ghost use Rattle.cqs_cli.specs.Ledger.{plain_floor};
+    ghost use Rattle.cqs_cli.specs.Kept.{IsKept};
+
+    ghost view = { λ floor. plain_floor floor.desk };
+
+    ghost invariant = { λ floor. IsKept floor.desk };
+}
+
+impl CoreFloor {
+    /// A floor on which nothing has happened, with room for the plan's takes.
+    pub fn new(alloc: Global, plan: &Plan) -> Result<Self, Memory>
+        requires runnable { IsRunnable plan.now }
+        requires semaphores { AreSemaphores plan.now.resources }
+        ensures { IfOk result (λ floor. floor ≡ opening_floor plan.now) }
+    {
+        let desk = Desk::new(alloc, plan)?;
+        Ok(CoreFloor { desk })
+    }
+}
+
+impl Floor for CoreFloor {
+    ghost plain = { λ floor. floor };
+
+    fn take(&mut self, at: u32, job: u32) -> FloorTake {
+        self.desk.take(at, job)
+    }
+
+    fn give(&mut self, at: u32, job: u32) -> FloorGive {
+        self.desk.give(at, job)
+    }
+
+    fn look(&mut self, job: u32) -> FloorLook {
+        let wait = self.desk.wait(job);
+        self.desk.look(job, wait)
+    }
+
+    fn leave(&mut self, job: u32) -> FloorLeave {
+        let wait = self.desk.wait(job);
+        self.desk.leave(job, wait)
+    }
+
+    fn end(&mut self, at: u32) -> FloorEnd {
+        self.desk.end(at)
+    }
+}

@@ -10,4 +10,3 @@ pub mod SoleCore
 pub mod Ledger
 pub mod DeskCalls
 pub mod Kept
-pub mod Opening

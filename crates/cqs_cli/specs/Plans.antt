@@ -4,7 +4,7 @@ use Rattle.cqs_plan.specs.declared.plans.fault_kind.FaultKind.{FaultKind}
 use Rattle.cqs_plan.specs.declared.plans.plan.Plan.{Plan}
 use Rattle.cqs_plan.specs.FaultLine.{line_of}
 use Rattle.cqs_plan.specs.PlanText.{IsFirstFault, IsNoToml, IsPlanText}
-use Rattle.cqs_turns.specs.Report.{report}
+use Rattle.cqs_turns.specs.Report.{report_of}
 
 -- the bytes are a plan
 abbrev pub IsPlan : List ℕ → Type 0
@@ -14,7 +14,7 @@ IsPlan bytes = (plan : Plan) × IsPlanText bytes plan
 pub record IsReport (bytes text : List ℕ) : Type 0 where
   pub plan : Plan
   pub says : IsPlanText bytes plan
-  pub reported : text ≡ report plan
+  pub reported : text ≡ report_of plan
 
 -- the bytes are a document that is no plan, and the line names its first fault
 pub record NamesFault (bytes line : List ℕ) : Type 0 where

@@ -1,6 +1,6 @@
 ghost use Rattle.std.specs.Prelude.{◌≡◌, IfOk};
-ghost use Rattle.cqs_plan.specs.Runnable.{HasSemaphoresAlone, IsRunnable};
-ghost use Rattle.cqs_turns.specs.Report.{report};
+ghost use Rattle.cqs_plan.specs.Runnable.{AreSemaphores, IsRunnable};
+ghost use Rattle.cqs_turns.specs.Report.{report_of};
 ghost use Rattle.cqs_cli.specs.Verdicts.{IsVerdictOn};
 
 use crate::floors::core_floor::CoreFloor;
@@ -39,8 +39,8 @@ fn answer(alloc: Global, bytes: &[u8]) -> Result<Verdict, Memory>
 /// The report of a plan, over a floor on one core for each semaphore.
 fn report_of(alloc: Global, plan: &Plan) -> Result<Vec<u8>, Memory>
     requires runnable { IsRunnable plan.now }
-    requires built { HasSemaphoresAlone plan.now }
-    ensures { IfOk result (λ text. text.items ≡ report plan.now) }
+    requires built { AreSemaphores plan.now.resources }
+    ensures { IfOk result (λ text. text.items ≡ report_of plan.now) }
 {
     let mut floor = CoreFloor::new(alloc, plan)?;
     let mut told = Report::new(alloc);

@@ -18,8 +18,8 @@ use Rattle.cqs_plan.specs.Floor.{IsHoldable}
 use Rattle.cqs_plan.specs.Language.{can_hold, semaphores}
 use Rattle.cqs_plan.specs.Meaning.{resource_in, members_in, plan_in}
 use Rattle.cqs_plan.specs.PlanText.{IsPlanText}
-use Rattle.cqs_plan.specs.Runnable.{kinds_of, IsMakeable, AreMakeable, IsRunnable, HasSemaphoresAlone}
-use Rattle.cqs_plan.specs.Validity.{IsValid, IsJob, IsStep, HasKindAt, is_latch, is_barrier}
+use Rattle.cqs_plan.specs.Runnable.{kinds_of, IsMakeable, AreMakeable, IsRunnable, IsSemaphore, AreSemaphores}
+use Rattle.cqs_plan.specs.Validity.{IsValid, IsKind, IsResource, IsJob, IsStep, HasKindAt, is_latch, is_barrier}
 
 -- an element is where its number says
 get_or-at : {X : Type 0} (xs : List X) (i : ℕ) (x : X) → slice_get xs i ≡ Some x → slice_index_or xs i x ≡ x
@@ -38,6 +38,10 @@ resources-are f rest each none [] at r there = let gone : slice_get {X = Resourc
 resources-are f rest each none (m ∷ members) zero r there =
     let same : f m ≡ r = cc in rw (← same) (each m)
 resources-are f rest each none (m ∷ members) (suc at) r there = resources-are f rest each none members at r there
+
+-- the plan's resources are of the kind that is built
+abbrev HasSemaphoresAlone : Plan → Type 0
+HasSemaphoresAlone plan = EachAt (λ at resource. IsHoldable (Some resource.kind)) plan.resources
 
 alone-in : (root : Members) → HasSemaphoresAlone (plan_in root)
 alone-in root = record { at = λ at r there.
@@ -91,7 +95,7 @@ module _ (plan : Plan) (valid : IsValid plan) (alone : HasSemaphoresAlone plan) 
   makeable : (job : Job) → IsJob plan.resources job → (n : ℕ) (step : Step) → slice_get job.steps n ≡ Some step
       → IsStep plan.resources step → IsMakeable (kinds_of plan.resources) (take n job.steps) step
   makeable job fits n (Take at) there named = named-at can_hold at named
-  makeable job fits n (Give at) there named = (named-at can_hold at named, fits.gives n at there)
+  makeable job fits n (Give at) there named = fits.gives n at there
   makeable job fits n (Down at) there named = other-kind is_latch no-latch at named
   makeable job fits n (Await at) there named = other-kind is_latch no-latch at named
   makeable job fits n (Arrive at) there named = other-kind is_barrier no-barrier at named
@@ -100,10 +104,11 @@ module _ (plan : Plan) (valid : IsValid plan) (alone : HasSemaphoresAlone plan) 
   pub runnable : IsRunnable plan
   runnable = record {
     turns = valid.turns.1;
+    resources = valid.few_resources;
     jobs = valid.few_jobs;
     few_steps = record { at = λ place job there.
         let fits = all-at (IsJob plan.resources) plan.jobs place job valid.jobs there in fits.few };
-    kinds = record { at = λ at r there. holdable-at at r there };
+    kinds = alone;
     steps = record { at = λ place job there.
         let fits = all-at (IsJob plan.resources) plan.jobs place job valid.jobs there in
         record { at = λ n step found. makeable job fits n step found (all-at (IsStep plan.resources) job.steps n step fits.steps found) } };
@@ -115,6 +120,17 @@ pub read-runnable : (bytes : List ℕ) (result : Result Plan PlanError) → IfOk
 read-runnable bytes (Ok plan) text valid = runnable plan valid (semaphores-alone bytes plan text)
 read-runnable bytes (Err error) text valid = tt
 
-pub read-built : (bytes : List ℕ) (result : Result Plan PlanError) → IfOk result (IsPlanText bytes) → IfOk result HasSemaphoresAlone
-read-built bytes (Ok plan) text = semaphores-alone bytes plan text
-read-built bytes (Err error) text = tt
+-- a semaphore whose size is in its range
+sized : (kind : Kind) → IsHoldable (Some kind) → IsKind kind → IsSemaphore kind
+sized (Semaphore permits) holdable fits = (omega arith, fits.1)
+sized Mutex holdable fits = holdable
+sized (Pool elements) holdable fits = holdable
+sized (Latch count) holdable fits = holdable
+sized (Rounds parties rounds) holdable fits = holdable
+
+pub read-built : (bytes : List ℕ) (result : Result Plan PlanError) → IfOk result (IsPlanText bytes) → IfOk result IsValid
+    → IfOk result (λ plan. AreSemaphores plan.resources)
+read-built bytes (Ok plan) text valid = record { at = λ at r there.
+    let fits = all-at IsResource plan.resources at r valid.resources there in
+    let alone = semaphores-alone bytes plan text in sized r.kind (alone.at at r there) fits.sized }
+read-built bytes (Err error) text valid = tt

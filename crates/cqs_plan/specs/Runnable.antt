@@ -2,6 +2,7 @@
 use Rattle.std.specs.Prelude.{ℕ, ◌<◌, ◌≤◌, List, take, length, count_by, map, Some, slice_get}
 use Rattle.cqs_core.specs.Numbered.{EachAt}
 use Rattle.cqs_plan.specs.declared.plans.kind.Kind.{Kind}
+use Rattle.cqs_plan.specs.declared.plans.kind.Kind.TheVariants.{Semaphore}
 use Rattle.cqs_plan.specs.declared.plans.resource.Resource.{Resource}
 use Rattle.cqs_plan.specs.declared.plans.step.Step.{Step}
 use Rattle.cqs_plan.specs.declared.plans.step.Step.TheVariants.{Take, Give, Down, Await, Arrive, Work}
@@ -14,11 +15,11 @@ use Rattle.cqs_plan.specs.Floor.{IsHoldable}
 abbrev pub kinds_of : List Resource → List Kind
 kinds_of resources = map (λ resource. resource.kind) resources
 
--- after these earlier steps, the step can be made
+-- After these earlier steps, the step can be made: it takes what is there, gives what was taken and not yet given, or
+-- works.
 abbrev pub IsMakeable : List Kind → List Step → Step → Type 0
 IsMakeable kinds earlier (Take at) = IsHoldable (slice_get kinds at)
-IsMakeable kinds earlier (Give at) =
-    IsHoldable (slice_get kinds at) × (count_by (is_give at) earlier < count_by (is_take at) earlier)
+IsMakeable kinds earlier (Give at) = count_by (is_give at) earlier < count_by (is_take at) earlier
 IsMakeable kinds earlier (Work turns) = turns ≤ 1000
 IsMakeable kinds earlier (Down at) = ⊥
 IsMakeable kinds earlier (Await at) = ⊥
@@ -30,12 +31,18 @@ AreMakeable kinds steps = EachAt (λ n step. IsMakeable kinds (take n steps) ste
 
 pub record IsRunnable (plan : Plan) : Type 0 where
   pub turns : plan.turns ≤ 40000
+  pub resources : length plan.resources ≤ 64
   pub jobs : length plan.jobs ≤ 4096
   pub few_steps : EachAt (λ place job. length job.steps ≤ 64) plan.jobs
   -- each resource is of a kind that is built
-  pub kinds : EachAt (λ at resource. IsHoldable (slice_get (kinds_of plan.resources) at)) plan.resources
+  pub kinds : EachAt (λ at resource. IsHoldable (Some resource.kind)) plan.resources
   pub steps : EachAt (λ place job. AreMakeable (kinds_of plan.resources) job.steps) plan.jobs
 
--- the plan's resources are semaphores, the kind that is built
-abbrev pub HasSemaphoresAlone : Plan → Type 0
-HasSemaphoresAlone plan = EachAt (λ at resource. IsHoldable (Some resource.kind)) plan.resources
+-- a semaphore with 1 to 1,048,576 permits, the kind that is built
+abbrev pub IsSemaphore : Kind → Type 0
+IsSemaphore (Semaphore permits) = (0 < permits) × (permits ≤ 1048576)
+IsSemaphore _ = ⊥
+
+-- the resources are semaphores alone
+abbrev pub AreSemaphores : List Resource → Type 0
+AreSemaphores resources = EachAt (λ at resource. IsSemaphore resource.kind) resources

@@ -10,7 +10,7 @@ ghost use Rattle.cqs_plan.specs.Meaning.{plan_in};
 ghost use Rattle.cqs_plan.specs.Order.{AreSearchable};
 ghost use Rattle.cqs_plan.specs.declared.plans.plan.Plan.{Plan};
 ghost use Rattle.cqs_plan.specs.PlanText.{IsFirstFault, IsNoToml, IsOrMemory, IsPlanText};
-ghost use Rattle.cqs_plan.specs.Runnable.{HasSemaphoresAlone, IsRunnable};
+ghost use Rattle.cqs_plan.specs.Runnable.{AreSemaphores, IsRunnable};
 ghost use Rattle.cqs_plan.specs.Reading.{Reads};
 ghost use Rattle.cqs_plan.specs.Validity.{IsValid};
 
@@ -82,7 +82,7 @@ pub fn read_plan(alloc: Global, bytes: &[u8]) -> Result<Plan, PlanError>
     ensures plan { IfOk result (IsPlanText bytes.now) }
     ensures valid { IfOk result IsValid }
     ensures runnable { IfOk result IsRunnable }
-    ensures built { IfOk result HasSemaphoresAlone }
+    ensures built { IfOk result (λ plan. AreSemaphores plan.resources) }
     ensures not_toml { result ≡ Err PlanError.NotToml → IsNoToml bytes.now }
     ensures fault { (place : List ℕ) (kind : FaultKind)
         → result ≡ Err (PlanError.Fault place kind) → IsFirstFault bytes.now place kind }

@@ -26,3 +26,4 @@ returns-clause-runnable c = read-runnable c.args.bytes.now c.read.result c.read.
 
 pub returns-clause-built : goal.returns-clause-built
 returns-clause-built c = read-built c.args.bytes.now c.read.result c.read.ensures.plan
+    (read-valid c.args.bytes.now c.read.result c.read.ensures.plan c.read.ensures.order)

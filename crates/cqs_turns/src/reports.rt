@@ -46,6 +46,13 @@ impl Report {
         self.text.as_slice()
     }
 
+    /// The lines so far, without a copy.
+    pub fn into_text(self) -> Vec<u8>
+        ensures { result.items ≡ self }
+    {
+        self.text
+    }
+
     /// Adds the line of an event.
     pub fn tell(
         &mut self,

@@ -11,10 +11,13 @@ pub returns-clause-valid : goal.returns-clause-valid
 returns-clause-valid c = read-valid c.args.bytes.now c.read.result c.read.ensures.plan c.read.ensures.order
 
 pub returns-clause-of_plan : goal.returns-clause-of_plan
-returns-clause-of_plan c = of-plan c.args.bytes.now c.read.result (cause (goal.at.returns-clause-of_plan c).After-read)
+returns-clause-of_plan c =
+    of-plan c.args.bytes.now c.read.result (cause (goal.at.returns-clause-of_plan c).After-read)
 
 pub returns-clause-of_no_toml : goal.returns-clause-of_no_toml
-returns-clause-of_no_toml c = of-no_toml c.args.bytes.now c.read.result (cause (goal.at.returns-clause-of_no_toml c).After-read)
+returns-clause-of_no_toml c =
+    of-no_toml c.args.bytes.now c.read.result (cause (goal.at.returns-clause-of_no_toml c).After-read)
 
 pub returns-clause-of_fault : goal.returns-clause-of_fault
-returns-clause-of_fault c = of-fault c.args.bytes.now c.read.result (cause (goal.at.returns-clause-of_fault c).After-read)
+returns-clause-of_fault c =
+    of-fault c.args.bytes.now c.read.result (cause (goal.at.returns-clause-of_fault c).After-read)

@@ -46,15 +46,21 @@ has_only-keys known (e ∷ es) = rw (list_any-now (string_bytes e.0) known, has_
 -- names that ascend, from the keys of the map
 names_above : (kind : ResourceKind) (first : Entry) (entries : List Entry)
     → AllByRecursion (λ key. string_cmp first.0 key ≡ Less) (keys_of entries)
-    → All (λ (other : Resource). IsBelow (string_bytes first.0) other.name) (map (resource_in kind) (map entry_view entries))
+    → All (λ (other : Resource). IsBelow (string_bytes first.0) other.name)
+    (map (resource_in kind) (map entry_view entries))
 names_above kind first [] above k d below = absurd (omega arith)
 names_above kind first (e ∷ es) above zero d below = above.0
 names_above kind first (e ∷ es) above (suc k) d below = names_above kind first es above.1 k d (omega arith)
 
+abbrev pub NamesAscend : Resource → Resource → Type 0
+NamesAscend one other = IsBelow one.name other.name
+
 -- the names of the resources of a table ascend
 pub names_ascend : (kind : ResourceKind) (entries : List Entry)
     → IsStrictlySortedBy string_cmp (keys_of entries)
-    → AllPairs (λ (one other : Resource). IsBelow one.name other.name) (map (resource_in kind) (map entry_view entries))
+    → AllPairs NamesAscend (map (resource_in kind) (map entry_view entries))
 unfolding IsStrictlySortedBy
 names_ascend kind [] ordered = λ i j d less below. absurd (omega arith)
-names_ascend kind (e ∷ es) ordered = AllPairs-cons (λ (one other : Resource). IsBelow one.name other.name) (resource_in kind (entry_view e)) _ (names_above kind e es ordered.0) (names_ascend kind es ordered.1)
+names_ascend kind (e ∷ es) ordered =
+    AllPairs-cons NamesAscend (resource_in kind (entry_view e)) (map (resource_in kind) (map entry_view es))
+    (names_above kind e es ordered.0) (names_ascend kind es ordered.1)

@@ -1,65 +1,79 @@
 -- The first faults of some documents, computed.
-use Rattle.std.proofs.Common.{◌≡◌, ℕ, List, [], ◌++◌, Option, Some, None, codes, refl}
-use Rattle.std.specs.Prelude.{slice_get, option_and_then, option_map}
-use Rattle.toml.specs.Data.{Members}
+use Rattle.std.proofs.Common.{◌≡◌, ℕ, List, ◌++◌, Option, Some, None, codes, refl}
+use Rattle.std.specs.Prelude.{slice_get, option_and_then}
 use Rattle.toml.specs.Parse.{parse_document}
 use Rattle.toml.proofs.OnLiterals.{toml_on_literals}
+use Rattle.cqs_plan.specs.declared.plans.fault_kind.FaultKind.{FaultKind}
+use Rattle.cqs_plan.specs.declared.plans.fault_kind.FaultKind.TheVariants as fault
 use Rattle.cqs_plan.specs.FaultRules.{Fault}
 use Rattle.cqs_plan.specs.Faults.{faults_in}
 use Rattle.cqs_plan.specs.Places.{indexed, part_place}
-use Rattle.cqs_plan.specs.declared.plans.fault_kind.FaultKind.TheVariants as fault
 
 -- the first fault of a text, if it is a document
 abbrev first_fault : List ℕ → Option Fault
 first_fault text = option_and_then (λ root. slice_get (faults_in root) 0) (parse_document text)
 
+abbrev HasFirst : List ℕ → List ℕ → FaultKind → Type 0
+HasFirst text place kind = first_fault text ≡ Some (record { place = place; kind = kind })
+
 abbrev step_place : ℕ → ℕ → List ℕ
 step_place i j = indexed (part_place i (codes "steps")) j
 
-empty_text : first_fault (codes "") ≡ Some (record { place = codes "version"; kind = fault.Missing })
+-- a plan with nothing, one with a semaphore, and one with a job besides, which has these steps
+abbrev empty : List ℕ
+empty = codes "version = 1\nturns = 8\n"
+
+abbrev db : List ℕ
+db = empty ++ codes "[semaphore.db]\nsize = 1\n"
+
+abbrev with_job : List ℕ → List ℕ
+with_job steps = db ++ codes "[[job]]\nname = \"a\"\nsteps = [" ++ steps ++ codes "]\n"
+
+empty_text : HasFirst (codes "") (codes "version") fault.Missing
 unfolding toml_on_literals
 empty_text = refl
 
-no_turns : first_fault (codes "version = 1\n") ≡ Some (record { place = codes "turns"; kind = fault.Missing })
+no_turns : HasFirst (codes "version = 1\n") (codes "turns") fault.Missing
 unfolding toml_on_literals
 no_turns = refl
 
-no_jobs : first_fault (codes "version = 1\nturns = 8\n") ≡ None
+no_jobs : first_fault empty ≡ None
 unfolding toml_on_literals
 no_jobs = refl
 
-no_size : first_fault (codes "version = 1\nturns = 8\n[semaphore.db]\n") ≡ Some (record { place = codes "semaphore.db.size"; kind = fault.Missing })
+no_size : HasFirst (empty ++ codes "[semaphore.db]\n") (codes "semaphore.db.size") fault.Missing
 unfolding toml_on_literals
 no_size = refl
 
-size_zero : first_fault (codes "version = 1\nturns = 8\n[semaphore.db]\nsize = 0\n") ≡ Some (record { place = codes "semaphore.db.size"; kind = fault.Range })
+size_zero :
+    HasFirst (empty ++ codes "[semaphore.db]\nsize = 0\n") (codes "semaphore.db.size") fault.Range
 unfolding toml_on_literals
 size_zero = refl
 
-no_name : first_fault (codes "version = 1\nturns = 8\n[semaphore.db]\nsize = 1\n[[job]]\n") ≡ Some (record { place = part_place 0 (codes "name"); kind = fault.Missing })
-unfolding toml_on_literals
-no_name = refl
-
-no_steps : first_fault (codes "version = 1\nturns = 8\n[semaphore.db]\nsize = 1\n[[job]]\nname = \"a\"\n") ≡ Some (record { place = part_place 0 (codes "steps"); kind = fault.Missing })
-unfolding toml_on_literals
-no_steps = refl
-
-a_mutex : first_fault (codes "version = 1\nturns = 8\n[semaphore.db]\nsize = 1\n[mutex.m]\n") ≡ Some (record { place = codes "plan"; kind = fault.Key })
+a_mutex : HasFirst (db ++ codes "[mutex.m]\n") (codes "plan") fault.Key
 unfolding toml_on_literals
 a_mutex = refl
 
-whole_plan : first_fault (codes "version = 1\nturns = 8\n[semaphore.db]\nsize = 1\n[[job]]\nname = \"a\"\nsteps = [\"take db\", \"work 2\", \"give db\"]\n[[job]]\nname = \"b\"\nsteps = [\"take db\", \"work 2\", \"give db\"]\n") ≡ None
+no_name : HasFirst (db ++ codes "[[job]]\n") (part_place 0 (codes "name")) fault.Missing
+unfolding toml_on_literals
+no_name = refl
+
+no_steps : HasFirst (db ++ codes "[[job]]\nname = \"a\"\n") (part_place 0 (codes "steps")) fault.Missing
+unfolding toml_on_literals
+no_steps = refl
+
+whole_plan : first_fault (with_job (codes "\"take db\", \"work 2\", \"give db\"")) ≡ None
 unfolding toml_on_literals
 whole_plan = refl
 
-given_first : first_fault (codes "version = 1\nturns = 8\n[semaphore.db]\nsize = 1\n[[job]]\nname = \"a\"\nsteps = [\"give db\", \"take db\", \"work 2\", \"give db\"]\n") ≡ Some (record { place = step_place 0 0; kind = fault.Unheld })
+given_first : HasFirst (with_job (codes "\"give db\", \"take db\"")) (step_place 0 0) fault.Unheld
 unfolding toml_on_literals
 given_first = refl
 
-two_spaces : first_fault (codes "version = 1\nturns = 8\n[semaphore.db]\nsize = 1\n[[job]]\nname = \"a\"\nsteps = [\"take db\", \"take  db\"]\n") ≡ Some (record { place = step_place 0 1; kind = fault.Step })
+two_spaces : HasFirst (with_job (codes "\"take db\", \"take  db\"")) (step_place 0 1) fault.Step
 unfolding toml_on_literals
 two_spaces = refl
 
-unknown_target : first_fault (codes "version = 1\nturns = 8\n[semaphore.db]\nsize = 1\n[[job]]\nname = \"a\"\nsteps = [\"take \"]\n") ≡ Some (record { place = step_place 0 0; kind = fault.Target })
+unknown_target : HasFirst (with_job (codes "\"take \"")) (step_place 0 0) fault.Target
 unfolding toml_on_literals
 unknown_target = refl

@@ -30,37 +30,45 @@ stops-over n most place rest e over stops =
     let passed : nat_le n most ≡ false = lt-leb n most over in
     rw passed (StopsAt-append (fault_at place fault.Many) rest e stops)
 
--- from a place on, a list is its element there and what comes after it
-pub drop-map : {V X : Type 0} (f : V → X) (vs : List V) (i : ℕ) (v : V) → i < length vs → v ≡ get_or vs i v
+-- v is the i-th of the values, and no value before it has a fault
+pub record Turn {V X : Type 0} (f : V → X) (faults : ℕ → X → List Fault) (vs : List V) (i : ℕ) (v : V)
+    : Type 0 where
+  pub below : i < length vs
+  pub is : v ≡ get_or vs i v
+  pub rest : faults_from faults 0 (map f vs) ≡ faults_from faults i (drop i (map f vs))
+
+-- what the i-th of the values is seen as
+seen : {V X : Type 0} (f : V → X) (vs : List V) (i : ℕ) (v : V) → i < length vs → v ≡ get_or vs i v
+    → get_or (map f vs) i (f v) ≡ f v
+seen f vs i v below is = get_or-map f vs i v (f v) below ∙ ap f (sym is)
+
+drop-turn : {V X : Type 0} (f : V → X) (vs : List V) (i : ℕ) (v : V) → i < length vs → v ≡ get_or vs i v
     → drop i (map f vs) ≡ f v ∷ drop (i + 1) (map f vs)
-drop-map f vs i v below is =
-    let here : get_or (map f vs) i (f v) ≡ f v = get_or-map f vs i v (f v) below ∙ ap f (sym is) in
+drop-turn f vs i v below is =
     let inside : i < length (map f vs) = rw length-map below in
-    drop_more (map f vs) i (f v) inside ∙ ap (λ x. x ∷ drop (i + 1) (map f vs)) here
+    drop_more (map f vs) i (f v) inside ∙ ap (λ x. x ∷ drop (i + 1) (map f vs)) (seen f vs i v below is)
 
-pub take-map : {V X : Type 0} (f : V → X) (vs : List V) (i : ℕ) (v : V) → i < length vs → v ≡ get_or vs i v
-    → take (i + 1) (map f vs) ≡ take i (map f vs) ++ f v ∷ []
-take-map f vs i v below is =
-    let here : get_or (map f vs) i (f v) ≡ f v = get_or-map f vs i v (f v) below ∙ ap f (sym is) in
-    let inside : i < length (map f vs) = rw length-map below in
-    take_more (map f vs) i (f v) inside ∙ ap (λ x. take i (map f vs) ++ x ∷ []) here
+pub take-turn : {V X : Type 0} {f : V → X} {faults : ℕ → X → List Fault} {vs : List V} {i : ℕ} {v : V}
+    → Turn f faults vs i v → take (i + 1) (map f vs) ≡ take i (map f vs) ++ f v ∷ []
+take-turn {f = f} {vs = vs} {i = i} {v = v} now =
+    let inside : i < length (map f vs) = rw length-map now.below in
+    take_more (map f vs) i (f v) inside
+    ∙ ap (λ x. take i (map f vs) ++ x ∷ []) (seen f vs i v now.below now.is)
 
--- the faults from a place on begin with those of the element there
-pub stops-at : {V X : Type 0} (f : V → X) (faults : ℕ → X → List Fault) (vs : List V) (i : ℕ) (v : V) (e : PlanError)
-    → faults_from faults 0 (map f vs) ≡ faults_from faults i (drop i (map f vs)) → i < length vs
-    → v ≡ get_or vs i v
-    → StopsAt (faults i (f v)) e → StopsAt (faults_from faults 0 (map f vs)) e
-stops-at f faults vs i v e rest below is stops =
-    rw (rest, drop-map f vs i v below is) (StopsAt-append (faults i (f v)) _ e stops)
+-- the first fault of the value is that of all values
+pub stops-here : {V X : Type 0} {f : V → X} {faults : ℕ → X → List Fault} {vs : List V} {i : ℕ} {v : V}
+    → Turn f faults vs i v → (e : PlanError) → StopsAt (faults i (f v)) e
+    → StopsAt (faults_from faults 0 (map f vs)) e
+stops-here {f = f} {faults = faults} {vs = vs} {i = i} {v = v} now e stops =
+    rw (now.rest, drop-turn f vs i v now.below now.is) (StopsAt-append (faults i (f v)) _ e stops)
 
--- and where it has none, go on with the next
-pub goes-on : {V X : Type 0} (f : V → X) (faults : ℕ → X → List Fault) (vs : List V) (i : ℕ) (v : V)
-    → faults_from faults 0 (map f vs) ≡ faults_from faults i (drop i (map f vs)) → i < length vs
-    → v ≡ get_or vs i v
-    → faults i (f v) ≡ []
+-- where it has none, the faults are those of the values after it
+pub goes-on : {V X : Type 0} {f : V → X} {faults : ℕ → X → List Fault} {vs : List V} {i : ℕ} {v : V}
+    → Turn f faults vs i v → faults i (f v) ≡ []
     → faults_from faults 0 (map f vs) ≡ faults_from faults (i + 1) (drop (i + 1) (map f vs))
-goes-on f faults vs i v rest below is none = rw (rest, drop-map f vs i v below is, none)
+goes-on {f = f} {vs = vs} {i = i} {v = v} now none = rw (now.rest, drop-turn f vs i v now.below now.is, none)
 
+-- past the last value there are none
 pub ends : {V X : Type 0} (f : V → X) (faults : ℕ → X → List Fault) (vs : List V) (i : ℕ)
     → faults_from faults 0 (map f vs) ≡ faults_from faults i (drop i (map f vs)) → length vs ≤ i
     → faults_from faults 0 (map f vs) ≡ []

@@ -20,7 +20,8 @@ pub position_from-none : {X : Type 0} (test : X → Bool) (n : ℕ) (xs : List X
     → ((j : ℕ) (d : X) → j < length xs → test (get_or xs j d) ≡ false) → position_from test n xs ≡ None
 position_from-none test n [] fails = refl
 position_from-none test n (x ∷ xs) fails =
-    rw (fails 0 x (omega arith)) (position_from-none test (n + 1) xs (λ j d below. fails (suc j) d (omega arith)))
+    rw (fails 0 x (omega arith))
+    (position_from-none test (n + 1) xs (λ j d below. fails (suc j) d (omega arith)))
 
 -- the element at k passes, and none before it does
 pub position_from-at : {X : Type 0} (test : X → Bool) (n k m : ℕ) (xs : List X) → m ≡ n + k → k < length xs
@@ -30,7 +31,8 @@ position_from-at test n k m [] is below passes fails = absurd (omega arith)
 position_from-at test n zero m (x ∷ xs) is below passes fails = rw (passes x) (ap Some (omega arith))
 position_from-at test n (suc k) m (x ∷ xs) is below passes fails =
     rw (fails 0 x (omega arith))
-    (position_from-at test (n + 1) k m xs (omega arith) (omega arith) passes (λ j d lower. fails (suc j) d (omega arith)))
+    (position_from-at test (n + 1) k m xs (omega arith) (omega arith) passes
+    (λ j d lower. fails (suc j) d (omega arith)))
 
 -- whether a resource has the name, from how the two compare
 named : (r : Resource) (name : List ℕ) (o : Ordering) → slice_cmp nat_cmp r.name name ≡ o
@@ -59,20 +61,28 @@ pub place-found : (rs : List Resource) (name : List ℕ) (place : ℕ) (serves :
     → AreSearchable rs → place < length rs
     → ((d : Resource) → slice_cmp nat_cmp (get_or rs place d).name name ≡ Equal) → r ≡ get_or rs place r
     → can_hold r.kind ≡ serves
-    → position_from (λ other. bytes_eq other.name name && can_hold other.kind) 0 rs ≡ cond serves (Some place) None
+    → position_from (λ other. bytes_eq other.name name && can_hold other.kind) 0 rs
+    ≡ cond serves (Some place) None
 place-found rs name place serves r order below found is can =
     let here : (d : Resource) → get_or rs place d ≡ r = λ d. get_or_default rs place d r below ∙ sym is in
     let same : (d : Resource) → bytes_eq (get_or rs place d).name name ≡ true =
     λ d. named (get_or rs place d) name Equal (found d) in
+    let text : (d : Resource) → (get_or rs place d).name ≡ name =
+    λ d. same_text (get_or rs place d).name name (found d) in
     let before : (j : ℕ) (d : Resource) → j < place → bytes_eq (get_or rs j d).name name ≡ false =
     λ j d lower.
-    named (get_or rs j d) name Less (rw (← same_text (get_or rs place d).name name (found d)) (order.names j place d lower below)) in
-    let after : (j : ℕ) (d : Resource) → place < j → j < length rs → bytes_eq (get_or rs j d).name name ≡ false =
+    named (get_or rs j d) name Less (rw (← text d) (order.names j place d lower below)) in
+    let after : (j : ℕ) (d : Resource) → place < j → j < length rs
+    → bytes_eq (get_or rs j d).name name ≡ false =
     λ j d upper inside.
-    named (get_or rs j d) name Greater (rw (← same_text (get_or rs place d).name name (found d)) (reversed (get_or rs place d).name (get_or rs j d).name (order.names place j d upper inside))) in
+    named (get_or rs j d) name Greater
+    (rw (← text d)
+    (reversed (get_or rs place d).name (get_or rs j d).name (order.names place j d upper inside))) in
     elim (cases_Bool serves) [
       | inl serving ↦
-          rw serving (position_from-at _ 0 place place rs (omega arith) below (λ d. rw (same d, here d, can, serving)) (λ j d lower. rw (before j d lower)))
+          rw serving
+          (position_from-at _ 0 place place rs (omega arith) below
+          (λ d. rw (same d, here d, can, serving)) (λ j d lower. rw (before j d lower)))
       | inr idle ↦
           rw idle (position_from-none _ 0 rs (λ j d inside.
           elim (cases_lt j place) [
@@ -87,7 +97,8 @@ place-found rs name place serves r order below found is can =
 -- where a search found no resource of the name, there is none
 pub place-none : (rs : List Resource) (name : List ℕ) (place : ℕ) → AreSearchable rs
     → (IsNonDecreasingBy (λ (r : Resource). ordering_index (slice_cmp nat_cmp r.name name)) rs
-    → IsPartitionPoint (λ (r : Resource). slice_cmp nat_cmp r.name name ≡ Less) (λ (r : Resource). slice_cmp nat_cmp r.name name ≡ Greater) rs place)
+    → IsPartitionPoint (λ (r : Resource). slice_cmp nat_cmp r.name name ≡ Less)
+    (λ (r : Resource). slice_cmp nat_cmp r.name name ≡ Greater) rs place)
     → position_from (λ r. bytes_eq r.name name && can_hold r.kind) 0 rs ≡ None
 place-none rs name place order found =
     let parts = found (searchable rs name order) in

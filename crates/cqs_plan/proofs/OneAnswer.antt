@@ -15,7 +15,8 @@ use Rattle.cqs_plan.specs.PlanText.{IsToml, IsNoToml, IsPlanText, IsFirstFault, 
 pub record IsCause (bytes : List ℕ) (result : Result Plan PlanError) : Type 0 where
   pub plan : IfOk result (IsPlanText bytes)
   pub not_toml : result ≡ Err NotToml → IsNoToml bytes
-  pub fault : (place : List ℕ) (kind : FaultKind) → result ≡ Err (Fault place kind) → IsFirstFault bytes place kind
+  pub fault : (place : List ℕ) (kind : FaultKind)
+      → result ≡ Err (Fault place kind) → IsFirstFault bytes place kind
 
 same_root : (bytes : List ℕ) (one other : Members) → IsToml bytes one → IsToml bytes other → one ≡ other
 same_root bytes one other first second = let joined = sym first.document ∙ second.document in cc
@@ -38,14 +39,16 @@ same_first : (faults : List FaultRecord) (one other : List ℕ) (kind kind' : Fa
     → slice_get faults 0 ≡ Some (record { place = other; kind = kind' })
     → (one ≡ other) × (kind ≡ kind')
 same_first faults one other kind kind' first second =
-    let same = same_Some _ _ (sym first ∙ second) in (ap (λ (f : FaultRecord). f.place) same, ap (λ (f : FaultRecord). f.kind) same)
+    let same = same_Some _ _ (sym first ∙ second) in
+    (ap (λ (f : FaultRecord). f.place) same, ap (λ (f : FaultRecord). f.kind) same)
 
 same_fault : (bytes : List ℕ) (one other : List ℕ) (kind kind' : FaultKind) → IsFirstFault bytes one kind
     → IsFirstFault bytes other kind'
     → (one ≡ other) × (kind ≡ kind')
 same_fault bytes one other kind kind' first second =
     let root = same_root bytes first.root second.root first.toml second.toml in
-    same_first (faults_in second.root) one other kind kind' (ap (λ r. slice_get (faults_in r) 0) (sym root) ∙ first.first) second.first
+    let moved = ap (λ r. slice_get (faults_in r) 0) (sym root) ∙ first.first in
+    same_first (faults_in second.root) one other kind kind' moved second.first
 
 pub of-plan : (bytes : List ℕ) (result : Result Plan PlanError) → IsCause bytes result → (plan : Plan)
     → IsPlanText bytes plan
@@ -53,7 +56,8 @@ pub of-plan : (bytes : List ℕ) (result : Result Plan PlanError) → IsCause by
 of-plan bytes (Ok read) cause plan text = inl (ap Ok (same_plan bytes read plan cause.plan text))
 of-plan bytes (Err Memory) cause plan text = inr refl
 of-plan bytes (Err NotToml) cause plan text = absurd (cause.not_toml refl text.root text.toml)
-of-plan bytes (Err (Fault place kind)) cause plan text = absurd (faultless bytes plan place kind text (cause.fault place kind refl))
+of-plan bytes (Err (Fault place kind)) cause plan text =
+    absurd (faultless bytes plan place kind text (cause.fault place kind refl))
 
 pub of-no_toml : (bytes : List ℕ) (result : Result Plan PlanError) → IsCause bytes result → IsNoToml bytes
     → IsOrMemory result (Err NotToml)

@@ -83,13 +83,20 @@ reads : (place : List ℕ) (resources : List Resource) (earlier : List Step) (va
     → step_faults place resources earlier value ≡ [] → (step : Step) × ReadsAs resources earlier value step
 reads place resources earlier value none =
     let (text, is, faultless) = shaped-right place (as_str value) _ none in
-    let (step, read, held) = read_case place earlier (step_of resources text) faultless in
-    (step, record { says = step_in-read resources value text step is read; valid = step-valid resources text step read; held = held })
+    let (step, read, held) = read_case place earlier (step_of resources text) faultless in (
+      step,
+      record {
+        says = step_in-read resources value text step is read;
+        valid = step-valid resources text step read;
+        held = held;
+      },
+    )
 
 -- what the steps of a job without a fault are
 record AreReadAs (resources : List Resource) (values : List Data) : Type 0 where
   few : length values ≤ 64
-  each : (j : ℕ) (d : Data) → j < length values → (step : Step) × ReadsAs resources (steps_in resources (take j values)) (get_or values j d) step
+  each : (j : ℕ) (d : Data) → j < length values
+      → (step : Step) × ReadsAs resources (steps_in resources (take j values)) (get_or values j d) step
 
 all_read : (place : List ℕ) (resources : List Resource) (values : List Data)
     → steps_faults place resources values ≡ []
@@ -99,7 +106,8 @@ all_read place resources values none =
       few = leb-true (length values) 64 (unless-passed _ place _ parts.0);
       each = λ j d below.
           reads (indexed place j) resources (steps_in resources (take j values)) (get_or values j d)
-          (each-faultless (job_step_faults place resources values) 0 j values j d parts.1 (omega arith) below);
+          (each-faultless (job_step_faults place resources values) 0 j values j d parts.1
+          (omega arith) below);
     }
 
 all_some : (resources : List Resource) (values : List Data) → AreReadAs resources values
@@ -161,7 +169,8 @@ name-valid place stands value none =
     let (d, is, faultless) = required-there place value (name_faults place stands) none in
     let (text, says, passed) = shaped-right place (as_str d) _ faultless in
     let tests = and_parts (is_name text) (not (stands text)) (unless-passed _ place _ passed) in
-    rw (text_in-there value d text is says) (record { named = tests.0; fresh = not-true (stands text) tests.1 })
+    rw (text_in-there value d text is says)
+    (record { named = tests.0; fresh = not-true (stands text) tests.1 })
 
 steps_part-valid : (i : ℕ) (resources : List Resource) (value : Option Data)
     → steps_part_faults i resources value ≡ []
@@ -187,7 +196,10 @@ job_name-table value job is = rw (get-table (codes "name") value job is)
 job_in-table : (resources : List Resource) (value : Data) (job : Members) → as_table value ≡ Some job
     → job_in resources value ≡ table_job resources job
 job_in-table resources value job is =
-    rw (get-table (codes "name") value job is, get-table (codes "steps") value job is, get-table (codes "deadline") value job is)
+    let name = get-table (codes "name") value job is in
+    let steps = get-table (codes "steps") value job is in
+    let deadline = get-table (codes "deadline") value job is in
+    rw (name, steps, deadline)
 
 table_job-valid : (resources : List Resource) (job : Members)
     → is_name (text_in (get_member (codes "name") job)) ≡ true
@@ -211,7 +223,9 @@ pub job-valid : (resources : List Resource) (stands : List ℕ → Bool) (i : �
 job-valid resources stands i value none =
     let (job, is, faultless) = shaped-right (job_place i) (as_table value) _ none in
     let front = no_faults _ (steps_part_faults i resources (get_member (codes "steps") job)) faultless in
-    let middle = no_faults _ (optional (get_member (codes "deadline") job) (number_faults (part_place i (codes "deadline")) 0 40000)) front.0 in
+    let late = part_place i (codes "deadline") in
+    let turn = get_member (codes "deadline") job in
+    let middle = no_faults _ (optional turn (number_faults late 0 40000)) front.0 in
     let start = no_faults (unless (has_only job_keys job) (job_place i) fault.Key) _ middle.0 in
     let name = name-valid (part_place i (codes "name")) stands (get_member (codes "name") job) start.1 in
     let steps = steps_part-valid i resources (get_member (codes "steps") job) front.1 in

@@ -18,7 +18,7 @@ use Rattle.cqs_plan.specs.declared.plans.resource.Resource.{Resource}
 use Rattle.cqs_plan.specs.declared.plans.fault_kind.FaultKind.TheVariants as fault
 use Rattle.cqs_plan.specs.Language.{is_name, resource_kinds, semaphores}
 use Rattle.cqs_plan.specs.FaultRules.{Fault, each, has_only, optional, required, shaped, unless}
-use Rattle.cqs_plan.specs.Faults.{faults_in, is_named, jobs_faults, jobs_part_faults, listed_job_faults, number_faults, resource_faults, resource_number_faults, resources_faults, root_keys}
+use Rattle.cqs_plan.specs.Faults.{faults_in, is_named, jobs_faults, jobs_part_faults, listed_job_faults, number_faults, resource_faults, resource_number_faults, resources_faults, root_keys, root_number_faults}
 use Rattle.cqs_plan.specs.Places.{dotted}
 use Rattle.cqs_plan.specs.Meaning.{items_in, items_list, members_in, members_list, job_in, job_name, number_in, plan_in, resource_in, resources_in}
 use Rattle.cqs_plan.specs.Order.{AreInOrder, AreSearchable, IsBelow, rank}
@@ -32,7 +32,8 @@ use Rattle.cqs_plan.proofs.ValidJobs.{get-table, items_in-there, nothing, job-va
 sized : (name : List ℕ) (value : Data) (found : Members) → is_name name ≡ true → as_table value ≡ Some found
     → IsInRange 1 1048576 (number_in (get_member (codes "size") found))
     → IsResource (resource_in semaphores (name, value))
-sized name value found named is size = record { named = named; sized = rw (get-table (codes "size") value found is) size }
+sized name value found named is size =
+    record { named = named; sized = rw (get-table (codes "size") value found is) size }
 
 -- a semaphore without a fault
 resource-valid : (i : ℕ) (m : List ℕ × Data) → resource_faults semaphores [] i m ≡ []
@@ -43,9 +44,11 @@ resource-valid i (name, value) none =
     let (found, is, faultless) = shaped-right place (as_table value) _ front.1 in
     let counted = no_faults _ (resource_number_faults semaphores name found) faultless in
     let few = no_faults _ (unless (nat_lt (0 + i) 64) place fault.Many) counted.0 in
-    let number = no_faults (required (dotted place (codes "size")) (get_member (codes "size") found) (number_faults (dotted place (codes "size")) 1 1048576)) [] counted.1 in
-    let size =
-    required_number-valid (dotted place (codes "size")) 1 1048576 (get_member (codes "size") found) number.0 in
+    let size_place = dotted place (codes "size") in
+    let value_of_size = get_member (codes "size") found in
+    let number =
+    no_faults (required size_place value_of_size (number_faults size_place 1 1048576)) [] counted.1 in
+    let size = required_number-valid size_place 1 1048576 value_of_size number.0 in
     let below : 0 + i < 64 = ltb-true (0 + i) 64 (unless-passed _ place _ few.1) in
     (sized name value found (unless-passed (is_name name) _ _ front.0) is size, omega arith)
 
@@ -55,7 +58,8 @@ members_in-there d found is = rw is
 
 -- the faults of a kind's table are those of its members
 members-faultless : (value : Option Data) (faults : ℕ → List ℕ × Data → List Fault)
-    → optional value (λ d. shaped (codes "semaphore") (as_table d) (λ found. each (members_list found) faults)) ≡ []
+    → optional value (λ d.
+    shaped (codes "semaphore") (as_table d) (λ found. each (members_list found) faults)) ≡ []
     → faults_from faults 0 (members_in value) ≡ []
 members-faultless None faults none = refl
 members-faultless (Some d) faults none =
@@ -64,14 +68,16 @@ members-faultless (Some d) faults none =
 
 -- no resource has a fault
 record AreFaultless (members : List (List ℕ × Data)) : Type 0 where
-  each : (i : ℕ) (d : List ℕ × Data) → i < length members → resource_faults semaphores [] i (get_or members i d) ≡ []
+  each : (i : ℕ) (d : List ℕ × Data) → i < length members
+      → resource_faults semaphores [] i (get_or members i d) ≡ []
 
 resources-faultless : (root : Members) → resources_faults root ≡ []
     → AreFaultless (members_in (get_member (codes "semaphore") root))
 resources-faultless root none =
     let members = members_in (get_member (codes "semaphore") root) in
-    let all = members-faultless (get_member (codes "semaphore") root) (resource_faults semaphores []) (no_faults _ [] none).0 in
-    record { each = λ i d below. each-faultless (resource_faults semaphores []) 0 i members i d all (omega arith) below }
+    let faults = resource_faults semaphores [] in
+    let all = members-faultless (get_member (codes "semaphore") root) faults (no_faults _ [] none).0 in
+    record { each = λ i d below. each-faultless faults 0 i members i d all (omega arith) below }
 
 no_member : List ℕ × Data
 no_member = ([], nothing)
@@ -79,7 +85,9 @@ no_member = ([], nothing)
 few-resources : (members : List (List ℕ × Data)) → AreFaultless members → length members ≤ 64
 few-resources members faultless =
     elim (cases_lt 64 (length members)) [
-      | inl many ↦ let past = (resource-valid 64 (get_or members 64 no_member) (faultless.each 64 no_member many)).1 in absurd (omega arith)
+      | inl many ↦
+          let past = resource-valid 64 (get_or members 64 no_member) (faultless.each 64 no_member many) in
+          absurd (omega (arith, past.1))
       | inr few ↦ few
     ]
 
@@ -108,7 +116,9 @@ in_order members order =
     let as_many : length (map (resource_in semaphores) members) ≡ length members =
     length-map members (resource_in semaphores) in record {
       order = λ i j d less below.
-          inr (semaphore_rank members i d (omega arith) ∙ sym (semaphore_rank members j d (omega arith)), order.names i j d less below);
+          let one = semaphore_rank members i d (omega arith) in
+          let other = semaphore_rank members j d (omega arith) in
+          inr (one ∙ sym other, order.names i j d less below);
       distinct = λ i j d less below. below_differs _ _ (order.names i j d less below);
     }
 
@@ -127,7 +137,8 @@ name_differs name (job ∷ jobs) (suc i) d new below =
 record AreJobs (resources : List Resource) (values : List Data) : Type 0 where
   few : length values ≤ 4096
   each : (i : ℕ) (d : Data) → i < length values → IsJob resources (job_in resources (get_or values i d))
-  names : (i : ℕ) (d : Data) → i < length values → is_named (take i values) (job_name (get_or values i d)) ≡ false
+  names : (i : ℕ) (d : Data) → i < length values
+      → is_named (take i values) (job_name (get_or values i d)) ≡ false
 
 listed-valid : (resources : List Resource) (values : List Data) → jobs_faults resources values ≡ []
     → AreJobs resources values
@@ -135,7 +146,8 @@ listed-valid resources values none =
     let parts = no_faults (unless (nat_le (length values) 4096) (codes "job") fault.Many) _ none in
     let job = λ (i : ℕ) (d : Data) (below : i < length values).
     job-valid resources (is_named (take i values)) i (get_or values i d)
-    (each-faultless (listed_job_faults resources values) 0 i values i d parts.1 (omega arith) below) in record {
+    (each-faultless (listed_job_faults resources values) 0 i values i d parts.1 (omega arith) below) in
+    record {
       few = leb-true (length values) 4096 (unless-passed _ (codes "job") _ parts.0);
       each = λ i d below. (job i d below).0;
       names = λ i d below. (job i d below).1;
@@ -143,7 +155,11 @@ listed-valid resources values none =
 
 jobs-valid : (resources : List Resource) (value : Option Data) → jobs_part_faults resources value ≡ []
     → AreJobs resources (items_in value)
-jobs-valid resources None none = record { few = omega arith; each = λ i d below. absurd (omega arith); names = λ i d below. absurd (omega arith) }
+jobs-valid resources None none = record {
+  few = omega arith;
+  each = λ i d below. absurd (omega arith);
+  names = λ i d below. absurd (omega arith);
+}
 jobs-valid resources (Some d) none =
     let (items, is, faultless) = shaped-right (codes "job") (as_array d) _ none in
     rw (items_in-there (Some d) d items refl is) (listed-valid resources (items_list items) faultless)
@@ -163,7 +179,9 @@ distinct-names resources values jobs = λ i j d less below.
     get_or-map (job_in resources) values i nothing d (omega arith) in
     let other : get_or (map (job_in resources) values) j d ≡ job_in resources (get_or values j nothing) =
     get_or-map (job_in resources) values j nothing d inside in
-    let differs = name_differs (job_name (get_or values j nothing)) (take j values) i nothing (jobs.names j nothing inside) (omega arith) in
+    let differs =
+    name_differs (job_name (get_or values j nothing)) (take j values) i nothing
+    (jobs.names j nothing inside) (omega arith) in
     rw (one, other, ← get_or-take j values i nothing less) differs
 
 -- the plan of a document without a fault, whose resources stand in order of their names
@@ -174,7 +192,7 @@ plan-valid root none order =
     let members = members_in (get_member (codes "semaphore") root) in
     let with_jobs = no_faults _ (jobs_part_faults resources (get_member (codes "job") root)) none in
     let with_resources = no_faults _ (resources_faults root) with_jobs.0 in
-    let turns = no_faults _ (required (codes "turns") (get_member (codes "turns") root) (number_faults (codes "turns") 1 40000)) with_resources.0 in
+    let turns = no_faults _ (root_number_faults (codes "turns") 1 40000 root) with_resources.0 in
     let version = no_faults (unless (has_only root_keys root) (codes "plan") fault.Key) _ turns.0 in
     let faultless = resources-faultless root with_resources.1 in
     let jobs = jobs-valid resources (get_member (codes "job") root) with_jobs.1 in

@@ -32,10 +32,12 @@ work-valid resources text step is =
 -- the place that was found has an element that passes
 position_case : {X : Type 0} (test : X → Bool) (n k : ℕ) (x : X) (xs : List X) (b : Bool) → test x ≡ b
     → cond b (Some n) (position_from test (n + 1) xs) ≡ Some k
-    → (position_from test (n + 1) xs ≡ Some k → (i : ℕ) × (k ≡ (n + 1) + i) × IsSomeAnd (slice_get xs i) (λ y. test y ≡ true))
+    → (position_from test (n + 1) xs ≡ Some k
+    → (i : ℕ) × (k ≡ (n + 1) + i) × IsSomeAnd (slice_get xs i) (λ y. test y ≡ true))
     → (i : ℕ) × (k ≡ n + i) × IsSomeAnd (slice_get (x ∷ xs) i) (λ y. test y ≡ true)
 position_case test n k x xs true passes found later = let here : n ≡ k = cc in (0, omega arith, passes)
-position_case test n k x xs false fails found later = let (i, at, passes) = later found in (suc i, omega arith, passes)
+position_case test n k x xs false fails found later =
+    let (i, at, passes) = later found in (suc i, omega arith, passes)
 
 position_from-passes : {X : Type 0} (test : X → Bool) (n k : ℕ) (xs : List X)
     → position_from test n xs ≡ Some k
@@ -68,7 +70,8 @@ verb-valid verb resources name step is =
 
 verb_case : (resources : List Resource) (argument : List ℕ) (step : Step) (works takes gives : Bool)
     → (if works then work_step argument
-    else option_map_or (λ verb. step_at verb resources argument) (cond takes (Some take_verb) (cond gives (Some give_verb) None)) (Err fault.Step)) ≡ Ok step
+    else option_map_or (λ verb. step_at verb resources argument)
+    (cond takes (Some take_verb) (cond gives (Some give_verb) None)) (Err fault.Step)) ≡ Ok step
     → IsStep resources step
 verb_case resources argument step true takes gives is = work-valid resources argument step is
 verb_case resources argument step false true gives is =
@@ -82,4 +85,5 @@ pub step-valid : (resources : List Resource) (text : List ℕ) (step : Step)
 step-valid resources text step is =
     let word = before_first is_space text in
     let (tested, done) = if_ok (has_one_space text) _ fault.Step step is in
-    verb_case resources (after_first is_space text) step (bytes_eq word (codes "work")) (bytes_eq word (codes "take")) (bytes_eq word (codes "give")) done
+    verb_case resources (after_first is_space text) step
+    (bytes_eq word (codes "work")) (bytes_eq word (codes "take")) (bytes_eq word (codes "give")) done

@@ -17,7 +17,9 @@ use Rattle.cqs_plan.specs.Meaning.{is_decimal, decimal_value, work_step}
 
 -- digits and their number, in this crate's words
 numerals : IsNumeralModel (λ digits. list_all is_ascii_digit digits ≡ true) decimal_value
-numerals = numerals_by_fold _ (search rules) (λ n digits. fold (λ value digit. value * 10 + (digit - 48)) n digits) (search rules)
+numerals =
+    numerals_by_fold _ (search rules)
+    (λ n digits. fold (λ value digit. value * 10 + (digit - 48)) n digits) (search rules)
 
 -- the step that a number of turns makes
 abbrev pub turns_step : {E : Type 0} → Result ℕ E → Result Step FaultKind

@@ -1,4 +1,4 @@
--- All faults of a document that is to be a plan, in the order in which they are looked for: `faults_in`, at the end.
+-- All faults of a document, in the order in which they are looked for: `faults_in`, at the end of this file.
 use Rattle.std.specs.Prelude.{ℕ, ◌+◌, ℤ, pos, Bool, ◌&&◌, not, nat_le, nat_lt, int_le, List, [], ◌∷◌, ◌++◌, map, take, length, Option, Result, Ok, Err, codes}
 use Rattle.std.specs.List.{list_any, flat_map}
 use Rattle.std.specs.Str.{bytes_eq}
@@ -16,7 +16,8 @@ use Rattle.cqs_plan.specs.Places.{dotted, indexed, job_place, part_place}
 -- an integer from least to most
 abbrev pub number_faults : List ℕ → ℕ → ℕ → Data → List Fault
 number_faults place least most value =
-    shaped place (as_integer value) (λ z. unless (int_le (pos least) z && int_le z (pos most)) place fault.Range)
+    shaped place (as_integer value) (λ number.
+    unless (int_le (pos least) number && int_le number (pos most)) place fault.Range)
 
 -- the faults of the numbers that a kind requires
 abbrev pub resource_number_faults : ResourceKind → List ℕ → Members → List Fault
@@ -56,7 +57,8 @@ step_faults place resources earlier value =
 
 -- the faults of the j-th of the steps of a job
 abbrev pub job_step_faults : List ℕ → List Resource → List Data → ℕ → Data → List Fault
-job_step_faults place resources steps j value = step_faults (indexed place j) resources (steps_in resources (take j steps)) value
+job_step_faults place resources steps j value =
+    step_faults (indexed place j) resources (steps_in resources (take j steps)) value
 
 abbrev pub steps_faults : List ℕ → List Resource → List Data → List Fault
 steps_faults place resources steps =
@@ -67,11 +69,13 @@ steps_faults place resources steps =
 abbrev pub steps_part_faults : ℕ → List Resource → Option Data → List Fault
 steps_part_faults i resources value =
     let place = part_place i (codes "steps") in
-    required place value (λ steps. shaped place (as_array steps) (λ items. steps_faults place resources (items_list items)))
+    required place value (λ steps.
+    shaped place (as_array steps) (λ items. steps_faults place resources (items_list items)))
 
 -- the faults of a name, where some names stand already
 abbrev pub name_faults : List ℕ → (List ℕ → Bool) → Data → List Fault
-name_faults place stands value = shaped place (as_str value) (λ text. unless (is_name text && not (stands text)) place fault.Name)
+name_faults place stands value =
+    shaped place (as_str value) (λ text. unless (is_name text && not (stands text)) place fault.Name)
 
 -- one of these jobs has the name
 abbrev pub is_named : List Data → List ℕ → Bool
@@ -97,7 +101,9 @@ abbrev pub listed_job_faults : List Resource → List Data → ℕ → Data → 
 listed_job_faults resources jobs i value = job_faults resources (is_named (take i jobs)) i value
 
 abbrev pub jobs_faults : List Resource → List Data → List Fault
-jobs_faults resources jobs = unless (nat_le (length jobs) 4096) (codes "job") fault.Many ++ each jobs (listed_job_faults resources jobs)
+jobs_faults resources jobs =
+    unless (nat_le (length jobs) 4096) (codes "job") fault.Many
+    ++ each jobs (listed_job_faults resources jobs)
 
 -- the faults of what the root has at `job`
 abbrev pub jobs_part_faults : List Resource → Option Data → List Fault

@@ -51,7 +51,8 @@ resource_in kind (name, value) = record {
 
 -- the resources: kind by kind, and within a kind as their table has them, in byte order of the names
 abbrev pub resources_in : List ResourceKind → Members → List Resource
-resources_in kinds root = flat_map (λ kind. map (resource_in kind) (members_in (get_member kind.key root))) kinds
+resources_in kinds root =
+    flat_map (λ kind. map (resource_in kind) (members_in (get_member kind.key root))) kinds
 
 abbrev pub is_space : ℕ → Bool
 is_space byte = byte == 32
@@ -86,7 +87,9 @@ step_at verb resources name =
 abbrev pub verb_step : List Resource → List ℕ → List ℕ → Result Step FaultKind
 verb_step resources word argument =
     if bytes_eq word (codes "work") then work_step argument
-    else option_map_or (λ verb. step_at verb resources argument) (find (λ verb. bytes_eq word verb.word) verbs) (Err fault.Step)
+    else option_map_or (λ verb. step_at verb resources argument)
+    (find (λ verb. bytes_eq word verb.word) verbs)
+    (Err fault.Step)
 
 -- the step that a text says: a verb, one space and an argument
 abbrev pub step_of : List Resource → List ℕ → Result Step FaultKind

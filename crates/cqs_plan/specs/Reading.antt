@@ -28,4 +28,5 @@ data_in value = option_map (λ v. view v.now) value
 
 -- the name is added to the set
 abbrev pub AddsName : BTreeSet (String Global) → BTreeSet (String Global) → List ℕ → Type 0
-AddsName old new name = (other : List ℕ) → contains_text new other ≡ (bytes_eq name other || contains_text old other)
+AddsName old new name =
+    (other : List ℕ) → contains_text new other ≡ (bytes_eq name other || contains_text old other)

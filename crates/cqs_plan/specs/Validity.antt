@@ -34,7 +34,8 @@ is_barrier _ = false
 
 -- there is a resource at the place, of a kind that passes the test
 abbrev pub HasKindAt : List Resource → (Kind → Bool) → ℕ → Type 0
-HasKindAt resources test place = IsSomeAnd (slice_get resources place) (λ resource. IsTrue (test resource.kind))
+HasKindAt resources test place =
+    IsSomeAnd (slice_get resources place) (λ resource. IsTrue (test resource.kind))
 
 -- a step names a resource of a kind that it works on, and works for 1 to 1,000 turns
 abbrev pub IsStep : List Resource → Step → Type 0

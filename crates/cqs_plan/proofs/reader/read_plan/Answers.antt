@@ -1,6 +1,6 @@
 use Rattle.cqs_plan.proofs.OneAnswer.{IsCause, of-plan, of-no_toml, of-fault}
-use Rattle.cqs_plan.proofs.ValidPlans.{read-valid}
 use Rattle.cqs_plan.proofs.RunnablePlans.{read-runnable, read-built}
+use Rattle.cqs_plan.proofs.ValidPlans.{read-valid}
 use Rattle.cqs_plan.proofs.reader.read_plan.Goals as goal
 use Rattle.cqs_plan.proofs.reader.read_plan.Goals.{After-read}
 
@@ -12,18 +12,23 @@ pub returns-clause-valid : goal.returns-clause-valid
 returns-clause-valid c = read-valid c.args.bytes.now c.read.result c.read.ensures.plan c.read.ensures.order
 
 pub returns-clause-of_plan : goal.returns-clause-of_plan
-returns-clause-of_plan c = of-plan c.args.bytes.now c.read.result (cause (goal.at.returns-clause-of_plan c).After-read)
+returns-clause-of_plan c =
+    of-plan c.args.bytes.now c.read.result (cause (goal.at.returns-clause-of_plan c).After-read)
 
 pub returns-clause-of_no_toml : goal.returns-clause-of_no_toml
-returns-clause-of_no_toml c = of-no_toml c.args.bytes.now c.read.result (cause (goal.at.returns-clause-of_no_toml c).After-read)
+returns-clause-of_no_toml c =
+    of-no_toml c.args.bytes.now c.read.result (cause (goal.at.returns-clause-of_no_toml c).After-read)
 
 pub returns-clause-of_fault : goal.returns-clause-of_fault
-returns-clause-of_fault c = of-fault c.args.bytes.now c.read.result (cause (goal.at.returns-clause-of_fault c).After-read)
+returns-clause-of_fault c =
+    of-fault c.args.bytes.now c.read.result (cause (goal.at.returns-clause-of_fault c).After-read)
 
 pub returns-clause-runnable : goal.returns-clause-runnable
-returns-clause-runnable c = read-runnable c.args.bytes.now c.read.result c.read.ensures.plan
+returns-clause-runnable c =
+    read-runnable c.args.bytes.now c.read.result c.read.ensures.plan
     (read-valid c.args.bytes.now c.read.result c.read.ensures.plan c.read.ensures.order)
 
 pub returns-clause-built : goal.returns-clause-built
-returns-clause-built c = read-built c.args.bytes.now c.read.result c.read.ensures.plan
+returns-clause-built c =
+    read-built c.args.bytes.now c.read.result c.read.ensures.plan
     (read-valid c.args.bytes.now c.read.result c.read.ensures.plan c.read.ensures.order)

@@ -13,13 +13,17 @@ use Rattle.cqs_plan.proofs.reader.resources.listed_semaphores.Goals as goal
 
 pub returns-in_err-resource-clause-faults : goal.returns-in_err-resource-clause-faults
 returns-in_err-resource-clause-faults c =
-    let p =
-    err_from_is_err_and c.from_residual-in_err-resource.result c.from_residual-in_err-resource.ensures.1 in
+    let p = err_from_is_err_and c.from_residual-in_err-resource.result c.from_residual-in_err-resource.ensures.1 in
     let here =
-    rest_more deref_pair _ _ c.next.result (c.in-Some.name, c.in-Some.value) c.in-Some.is c.next.ensures.steps in
-    let faults : StopsAt (resource_faults semaphores [] (vec_len c.loop-name.found) (string_bytes c.in-Some.name.now, view c.in-Some.value.now)) c.in_err-resource.field-0.0 =
+    rest_more deref_pair _ _ c.next.result (c.in-Some.name, c.in-Some.value) c.in-Some.is
+    c.next.ensures.steps in
+    let name = string_bytes c.in-Some.name.now in
+    let index = vec_len c.loop-name.found in
+    let faults : StopsAt (resource_faults semaphores [] index (name, view c.in-Some.value.now))
+    c.in_err-resource.field-0.0 =
     search rules in
-    rw (p.1, p.2, members_list-view c.args.table.now.entries, c.loop-name.invariant.faults, here) (StopsAt-append _ _ _ faults)
+    rw (p.1, p.2, members_list-view c.args.table.now.entries, c.loop-name.invariant.faults, here)
+    (StopsAt-append _ _ _ faults)
 
 pub returns-clause-faults : goal.returns-clause-faults
 returns-clause-faults c =
@@ -29,12 +33,14 @@ returns-clause-faults c =
 pub returns-clause-value : goal.returns-clause-value
 returns-clause-value c =
     let done = rest_all deref_pair _ _ c.next.result c.in-None.is c.next.ensures.steps in
-    rw (members_list-view c.args.table.now.entries, c.loop-name.invariant.values, done) (sym (append-nil c.loop-name.found.items))
+    rw (members_list-view c.args.table.now.entries, c.loop-name.invariant.values, done)
+    (sym (append-nil c.loop-name.found.items))
 
 pub returns-clause-order : goal.returns-clause-order
 returns-clause-order c =
     let done = rest_all deref_pair _ _ c.next.result c.in-None.is c.next.ensures.steps in
-    let all : c.loop-name.found.items ≡ map (resource_in semaphores) (map entry_view c.args.table.now.entries) =
+    let members = map entry_view c.args.table.now.entries in
+    let all : c.loop-name.found.items ≡ map (resource_in semaphores) members =
     rw (c.loop-name.invariant.values, done) (sym (append-nil c.loop-name.found.items)) in
     record {
       few = c.loop-name.invariant.few;

@@ -44,8 +44,10 @@ abbrev HasSemaphoresAlone : Plan → Type 0
 HasSemaphoresAlone plan = EachAt (λ at resource. IsHoldable (Some resource.kind)) plan.resources
 
 alone-in : (root : Members) → HasSemaphoresAlone (plan_in root)
-alone-in root = record { at = λ at r there.
-    resources-are (resource_in semaphores) [] (λ m. tt) refl (members_in (get_member (codes "semaphore") root)) at r there }
+alone-in root = record {
+  at = λ at r there.
+      resources-are (resource_in semaphores) [] (λ m. tt) refl (members_in (get_member (codes "semaphore") root)) at r there;
+}
 
 pub semaphores-alone : (bytes : List ℕ) (plan : Plan) → IsPlanText bytes plan → HasSemaphoresAlone plan
 semaphores-alone bytes plan text = subst HasSemaphoresAlone (sym text.says) (alone-in text.root)
@@ -56,7 +58,7 @@ module _ (plan : Plan) (valid : IsValid plan) (alone : HasSemaphoresAlone plan) 
       → IsHoldable (slice_get (kinds_of plan.resources) at)
   holdable-at at r there =
       let kind : slice_get (kinds_of plan.resources) at ≡ Some r.kind =
-          slice_get-map (λ (x : Resource). x.kind) plan.resources at ∙ ap (option_map (λ (x : Resource). x.kind)) there in
+      slice_get-map (λ (x : Resource). x.kind) plan.resources at ∙ ap (option_map (λ (x : Resource). x.kind)) there in
       rw kind (alone.at at r there)
 
   -- a place of a resource of some kind is one of a semaphore
@@ -106,12 +108,16 @@ module _ (plan : Plan) (valid : IsValid plan) (alone : HasSemaphoresAlone plan) 
     turns = valid.turns.1;
     resources = valid.few_resources;
     jobs = valid.few_jobs;
-    few_steps = record { at = λ place job there.
-        let fits = all-at (IsJob plan.resources) plan.jobs place job valid.jobs there in fits.few };
+    few_steps = record {
+      at = λ place job there.
+          let fits = all-at (IsJob plan.resources) plan.jobs place job valid.jobs there in fits.few;
+    };
     kinds = alone;
-    steps = record { at = λ place job there.
-        let fits = all-at (IsJob plan.resources) plan.jobs place job valid.jobs there in
-        record { at = λ n step found. makeable job fits n step found (all-at (IsStep plan.resources) job.steps n step fits.steps found) } };
+    steps = record {
+      at = λ place job there.
+          let fits = all-at (IsJob plan.resources) plan.jobs place job valid.jobs there in
+          record { at = λ n step found. makeable job fits n step found (all-at (IsStep plan.resources) job.steps n step fits.steps found) };
+    };
   }
 
 -- what a reader answers can be run
@@ -130,7 +136,9 @@ sized (Rounds parties rounds) holdable fits = holdable
 
 pub read-built : (bytes : List ℕ) (result : Result Plan PlanError) → IfOk result (IsPlanText bytes) → IfOk result IsValid
     → IfOk result (λ plan. AreSemaphores plan.resources)
-read-built bytes (Ok plan) text valid = record { at = λ at r there.
-    let fits = all-at IsResource plan.resources at r valid.resources there in
-    let alone = semaphores-alone bytes plan text in sized r.kind (alone.at at r there) fits.sized }
+read-built bytes (Ok plan) text valid = record {
+  at = λ at r there.
+      let fits = all-at IsResource plan.resources at r valid.resources there in
+      let alone = semaphores-alone bytes plan text in sized r.kind (alone.at at r there) fits.sized;
+}
 read-built bytes (Err error) text valid = tt

@@ -9,7 +9,6 @@ use Rattle.cqs_core.specs.declared.outcomes.Outcome.{Outcome}
 use Rattle.cqs_core.specs.declared.outcomes.Outcome.TheVariants as outcome
 use Rattle.std.specs.Option.{option_and_then}
 use Rattle.cqs_core.specs.SemaphoreAnswers.{Room}
-
 use Rattle.cqs_core.specs.SemaphoreCalls.{Course, Landed, refused, replied, stuck, first, onward, after_install, after_draw, suspends_at, after_take, after_swap, swaps_at, after_load, after_meet, resumes_in, resumes_at, ahead, lands, after_give, after_look, after_settle, after_decide, cancels_at, after_leave, course, MakesCallReady}
 use Rattle.cqs_core.specs.SemaphoreShown.{IsCore}
 use Rattle.cqs_core.specs.SemaphoreTable.{Shape, Stepped, step}
@@ -86,8 +85,8 @@ after_meet-core again s _ core keeps = tt
 next_number-core : (again : Shape → Option Landed) (p : ℕ) (s : Shape) → IsCore s
     → ((t : Shape) → IsCore t → LandsOnCore (again t))
     → LandsOnCore (option_and_then
-        (λ r. option_and_then (λ m. after_meet again m.shape m.outcome) (step r.shape (event.Meet p)))
-        (step s (event.Reach p)))
+    (λ r. option_and_then (λ m. after_meet again m.shape m.outcome) (step r.shape (event.Meet p)))
+    (step s (event.Reach p)))
 next_number-core again p s core keeps = reached (step s (event.Reach p)) refl
   where
     met : (t : Shape) → IsCore t → (row : Option Stepped) → step t (event.Meet p) ≡ row
@@ -97,8 +96,8 @@ next_number-core again p s core keeps = reached (step s (event.Reach p)) refl
 
     reached : (row : Option Stepped) → step s (event.Reach p) ≡ row
         → LandsOnCore (option_and_then
-            (λ r. option_and_then (λ m. after_meet again m.shape m.outcome) (step r.shape (event.Meet p)))
-            row)
+        (λ r. option_and_then (λ m. after_meet again m.shape m.outcome) (step r.shape (event.Meet p)))
+        row)
     reached None is = tt
     reached (Some r) is = met r.shape (row-core s (event.Reach p) r core is) (step r.shape (event.Meet p)) refl
 

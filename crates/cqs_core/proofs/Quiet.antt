@@ -27,7 +27,7 @@ module _ {X Y : Type 0} where
   picked-none f k [] none = refl
   picked-none f k (x ∷ xs) none =
       rw (none 0 k x (omega arith) refl)
-          (picked-none f (suc k) xs (λ i n z at got. none (suc i) n z (omega arith) got))
+      (picked-none f (suc k) xs (λ i n z at got. none (suc i) n z (omega arith) got))
 
 module _ {X : Type 0} where
   -- an element that passes is counted
@@ -186,14 +186,14 @@ module _ (q : Queue) (sound : IsSound q) (idle : IsIdle q.doing) where
   not-overtaken short balance past =
       let first = get-there q.cells q.suspends (let made = sound.made in omega arith) in
       let left : has_left first.0 ≡ true =
-          left-state q.suspends first.0 first.0.state (quiet-cell q.suspends first.0 first.1) (omega arith) in
+      left-state q.suspends first.0 first.0.state (quiet-cell q.suspends first.0 first.1) (omega arith) in
       let some : 0 < count_at (λ n. has_left) 0 q.cells =
-          count_at-some (λ n. has_left) 0 q.cells q.suspends q.suspends first.0 (omega arith) first.1 left in
+      count_at-some (λ n. has_left) 0 q.cells q.suspends q.suspends first.0 (omega arith) first.1 left in
       let unmet : count_at (is_unmet q.resumes q.doing) 0 q.cells ≡ 0 =
-          count_at-none (is_unmet q.resumes q.doing) q.cells
-              (λ k cell found. unmet-state k cell cell.state (quiet-cell k cell found) (omega arith)) in
+      count_at-none (is_unmet q.resumes q.doing) q.cells
+      (λ k cell found. unmet-state k cell cell.state (quiet-cell k cell found) (omega arith)) in
       let nobody : line q ≡ [] =
-          picked-none (in_line q.doing) 0 q.cells (λ i n cell at found. gone i n cell at found) in
+      picked-none (in_line q.doing) 0 q.cells (λ i n cell at found. gone i n cell at found) in
       let no_line : length (line q) ≡ 0 = ap (λ xs. length xs) nobody in
       let no_door : length (door q) ≡ 0 = ap (λ xs. length xs) nobody-at_door in
       omega (arith, count_by-at has_left q.cells, none-resume, none-refuse)
@@ -232,8 +232,8 @@ module _ (q : Queue) (sound : IsSound q) (idle : IsIdle q.doing) where
   pub none-going : q.resumes ≤ q.suspends → going q ≡ 0
   none-going within =
       let none_left : count_by has_left q.cells ≡ 0 =
-          count_by-none has_left q.cells
-              (λ k cell found. right-state k cell cell.state (quiet-cell k cell found) within) in
+      count_by-none has_left q.cells
+      (λ k cell found. right-state k cell cell.state (quiet-cell k cell found) within) in
       omega (arith, none-resume)
 
   ahead-state : (k : ℕ) (cell : CoreCell) (s : CoreState) → IsQuietAt q k cell s → q.resumes ≤ q.suspends → q.resumes ≤ k
@@ -256,7 +256,7 @@ module _ (q : Queue) (sound : IsSound q) (idle : IsIdle q.doing) where
       → q.resumes ≤ k → (cell.state ≡ state.Waiter) ⊎ (cell.state ≡ state.Cancelled)
   ahead-cell within none k cell found past =
       ahead-state k cell cell.state (quiet-cell k cell found) within past
-          (met (is_unmet q.resumes q.doing k cell) refl)
+      (met (is_unmet q.resumes q.doing k cell) refl)
     where
       met : (b : Bool) → is_unmet q.resumes q.doing k cell ≡ b → is_unmet q.resumes q.doing k cell ≡ false
       met false is = is

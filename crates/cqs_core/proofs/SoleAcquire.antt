@@ -44,8 +44,10 @@ draws-new s p door below made =
 installs-new : (s : Shape) (p : ℕ) → slice_get s.queue.doing p ≡ Some doing.Door → length s.queue.cells ≡ s.queue.suspends
     → step (drawn s p) (event.Install p) ≡ Some (record { shape = installed s p; outcome = outcome.Waits s.queue.suspends })
 installs-new s p door made =
-    rw (get-set_here s.queue.doing p doing.Door (doing.Drawn s.queue.suspends) door,
-        get-push_at s.queue.cells (drawn_cell p) s.queue.suspends (sym made)) refl
+    rw (
+      get-set_here s.queue.doing p doing.Door (doing.Drawn s.queue.suspends) door,
+      get-push_at s.queue.cells (drawn_cell p) s.queue.suspends (sym made),
+    ) refl
 
 suspends-new : (s : Shape) (p : ℕ) → slice_get s.queue.doing p ≡ Some doing.Door → s.queue.suspends < last_number
     → length s.queue.cells ≡ s.queue.suspends
@@ -69,41 +71,41 @@ may-acquire s p quiet does low =
 untaken-new : (s : Shape) (p : ℕ) → length s.queue.cells ≡ s.queue.suspends → NoneTaken s → NoneTaken (installed s p)
 untaken-new s p made none =
     EachAt-write (λ k c. c.state ≢ state.Taken) (λ k c. c.state ≢ state.Taken) (drawn s p).queue.cells s.queue.suspends
-        (drawn_cell p) (at_state (drawn_cell p) state.Waiter)
-        (get-push_at s.queue.cells (drawn_cell p) s.queue.suspends (sym made)) (λ e. absurd (cc))
-        (λ k x got other is. is)
-        (EachAt-push (λ k c. c.state ≢ state.Taken) (λ k c. c.state ≢ state.Taken) s.queue.cells (drawn_cell p)
-            (λ e. absurd (cc)) (λ k x got is. is) none)
+    (drawn_cell p) (at_state (drawn_cell p) state.Waiter)
+    (get-push_at s.queue.cells (drawn_cell p) s.queue.suspends (sym made)) (λ e. absurd (cc))
+    (λ k x got other is. is)
+    (EachAt-push (λ k c. c.state ≢ state.Taken) (λ k c. c.state ≢ state.Taken) s.queue.cells (drawn_cell p)
+    (λ e. absurd (cc)) (λ k x got is. is) none)
 
 sole-later : (s : Shape) (p : ℕ) → IsResting s → IsQuiet s → slice_get s.queue.doing p ≡ Some doing.Idle
     → int_lt lowest s.state ≡ true → int_lt (pos 0) s.state ≡ false → IsSoleCourse s (call.Acquire p) (suspends_at p (at_door s p))
 sole-later s p rests quiet does low none =
     sole-along s (call.Acquire p) _ _
-        (suspends-new (at_door s p) p (get-set_here s.queue.doing p doing.Idle doing.Door does) rests.numbers quiet.made)
-        (record {
-          held = refl;
-          numbers = omega arith;
-          permits = refl;
-          allowed = may-acquire s p quiet does low;
-          untaken = untaken-new (at_door s p) p quiet.made;
-          appended = two-entries s.history _ _ ∙ rw (none-free s.state none) refl;
-          replied = rw (none-free s.state none) refl;
-          idle = rw (write-thrice s.queue.doing p doing.Door (doing.Drawn s.queue.suspends) doing.Idle)
-              (idle-again s.queue.doing p doing.Idle does rests.idle);
-        })
+    (suspends-new (at_door s p) p (get-set_here s.queue.doing p doing.Idle doing.Door does) rests.numbers quiet.made)
+    (record {
+      held = refl;
+      numbers = omega arith;
+      permits = refl;
+      allowed = may-acquire s p quiet does low;
+      untaken = untaken-new (at_door s p) p quiet.made;
+      appended = two-entries s.history _ _ ∙ rw (none-free s.state none) refl;
+      replied = rw (none-free s.state none) refl;
+      idle = rw (write-thrice s.queue.doing p doing.Door (doing.Drawn s.queue.suspends) doing.Idle)
+          (idle-again s.queue.doing p doing.Idle does rests.idle);
+    })
 
 sole-take : (s : Shape) (p : ℕ) → IsResting s → IsQuiet s → slice_get s.queue.doing p ≡ Some doing.Idle → (low some : Bool)
     → int_lt lowest s.state ≡ low → int_lt (pos 0) s.state ≡ some
     → IsSoleCourse s (call.Acquire p)
-        (first
-            (if low then
-                (if some then answers (records (gains (takes s) p) (entry.TakeNow p)) outcome.Now
-                 else answers (at_door s p) outcome.Door)
-             else None)
-            (after_take p))
+    (first
+    (if low then
+    (if some then answers (records (gains (takes s) p) (entry.TakeNow p)) outcome.Now
+    else answers (at_door s p) outcome.Door)
+    else None)
+    (after_take p))
 sole-take s p rests quiet does false some low_is some_is =
     λ untaken may. let many = short-many s.state low_is in
-        let waits = quiet.waits in absurd (let few = may.1 in omega arith)
+    let waits = quiet.waits in absurd (let few = may.1 in omega arith)
 sole-take s p rests quiet does true true low_is some_is = record {
   held = refl;
   numbers = omega arith;
@@ -124,10 +126,10 @@ sole-acquire s p rests quiet = go (cases_idle s.queue.doing p rests.idle)
         → IsSoleCourse s (call.Acquire p) (first (take_row s p (slice_get s.queue.doing p)) (after_take p))
     go (inl none) =
         sole-along s (call.Acquire p) _ _ (ap (λ o. first (take_row s p o) (after_take p)) none)
-            (λ untaken may. pass-there s.queue.doing p none may.0)
+        (λ untaken may. pass-there s.queue.doing p none may.0)
     go (inr does) =
         sole-along s (call.Acquire p) _ _ (ap (λ o. first (take_row s p o) (after_take p)) does)
-            (sole-take s p rests quiet does (int_lt lowest s.state) (int_lt (pos 0) s.state) refl refl)
+        (sole-take s p rests quiet does (int_lt lowest s.state) (int_lt (pos 0) s.state) refl refl)
 
 -- a core whose pass has loaded the state
 abbrev loaded : Shape → ℕ → Shape
@@ -137,17 +139,17 @@ sole-got : (s : Shape) (p : ℕ) → IsResting s → slice_get s.queue.doing p �
     → int_le s.state (pos 0) ≡ false → IsSoleCourse s (call.Try p) (swaps_at p (loaded s p))
 sole-got s p rests does some =
     sole-along s (call.Try p) _ _ (ap (λ row. onward row after_swap) swaps)
-        (record {
-          held = refl;
-          numbers = omega arith;
-          permits = refl;
-          allowed = get-below s.queue.doing p doing.Idle does;
-          untaken = λ untaken. untaken;
-          appended = rw (some-free_le s.state some) refl;
-          replied = rw (some-free_le s.state some) refl;
-          idle = rw (write-twice s.queue.doing p (doing.TryAt s.state) doing.Idle)
-              (idle-again s.queue.doing p doing.Idle does rests.idle);
-        })
+    (record {
+      held = refl;
+      numbers = omega arith;
+      permits = refl;
+      allowed = get-below s.queue.doing p doing.Idle does;
+      untaken = λ untaken. untaken;
+      appended = rw (some-free_le s.state some) refl;
+      replied = rw (some-free_le s.state some) refl;
+      idle = rw (write-twice s.queue.doing p (doing.TryAt s.state) doing.Idle)
+          (idle-again s.queue.doing p doing.Idle does rests.idle);
+    })
   where
     swaps : step (loaded s p) (event.TrySwap p)
         ≡ Some (record {
@@ -160,10 +162,10 @@ sole-got s p rests does some =
 sole-load : (s : Shape) (p : ℕ) → IsResting s → slice_get s.queue.doing p ≡ Some doing.Idle → (none : Bool)
     → int_le s.state (pos 0) ≡ none
     → IsSoleCourse s (call.Try p)
-        (first
-            (if none then answers (records s (entry.TryBusy p)) outcome.Busy
-             else answers (loaded s p) (outcome.Loaded s.state))
-            (after_load p))
+    (first
+    (if none then answers (records s (entry.TryBusy p)) outcome.Busy
+    else answers (loaded s p) (outcome.Loaded s.state))
+    (after_load p))
 sole-load s p rests does true none_is = record {
   held = refl;
   numbers = omega arith;
@@ -184,7 +186,7 @@ sole-try s p rests = go (cases_idle s.queue.doing p rests.idle)
         → IsSoleCourse s (call.Try p) (first (try_load_row s p (slice_get s.queue.doing p)) (after_load p))
     go (inl none) =
         sole-along s (call.Try p) _ _ (ap (λ o. first (try_load_row s p o) (after_load p)) none)
-            (λ untaken may. pass-there s.queue.doing p none may)
+        (λ untaken may. pass-there s.queue.doing p none may)
     go (inr does) =
         sole-along s (call.Try p) _ _ (ap (λ o. first (try_load_row s p o) (after_load p)) does)
-            (sole-load s p rests does (int_le s.state (pos 0)) refl)
+        (sole-load s p rests does (int_le s.state (pos 0)) refl)

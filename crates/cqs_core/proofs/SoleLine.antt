@@ -70,7 +70,7 @@ pub in_line-waiter : (q : Queue) (k : ℕ) (cell : CoreCell) → IsSound q → s
     → cell.state ≡ state.Waiter → (p : ℕ) × (cell.owner ≡ Some p) × (in_line q.doing k cell ≡ Some (record { wait = k; pass = p }))
 in_line-waiter q k cell sound found waits =
     let is : IsSoundAt q k cell state.Waiter =
-        subst (λ (x : CoreState). IsSoundAt q k cell x) waits (sound.cells.at k cell found) in
+    subst (λ (x : CoreState). IsSoundAt q k cell x) waits (sound.cells.at k cell found) in
     (is.0.pass, is.0.owner, waits-read k is.0.pass cell.owner cell.state (owner_doing q.doing cell) is.0.owner waits)
 
 -- the first wait of the line
@@ -112,7 +112,7 @@ pub found-in_line : (q : Queue) (k : ℕ) (cell : CoreCell) → IsSound q → sl
 found-in_line q k cell sound found waits =
     let there = in_line-waiter q k cell sound found waits in
     let stands : Waits k there.0 (line q) =
-        picked-in (in_line q.doing) 0 q.cells k k cell (record { wait = k; pass = there.0 }) (sym (zero-add k)) found there.2 in
+    picked-in (in_line q.doing) 0 q.cells k k cell (record { wait = k; pass = there.0 }) (sym (zero-add k)) found there.2 in
     let is = found-waits k there.0 (line q) stands in
     (is.wait, is.is)
 
@@ -130,10 +130,10 @@ find-nobody passes m k (c ∷ cells) none =
     go (Some w) reads rest =
         let number : w.wait ≡ m = (line-keyed passes).at m c w reads in
         let other : k ≢ w.wait = λ e.
-            let here : k ≡ m + 0 = omega arith in
-            let nothing : in_line passes k c ≡ None = none 0 c here refl in
-            let same : in_line passes k c ≡ in_line passes m c = ap (λ n. in_line passes n c) (omega arith) in
-            absurd (cc (nothing, same, reads)) in
+        let here : k ≡ m + 0 = omega arith in
+        let nothing : in_line passes k c ≡ None = none 0 c here refl in
+        let same : in_line passes k c ≡ in_line passes m c = ap (λ n. in_line passes n c) (omega arith) in
+        absurd (cc (nothing, same, reads)) in
         rw (ne_eqb k w.wait other) rest
 
 -- a cell in which nobody waits is not found in the line
@@ -141,6 +141,6 @@ pub gone-from_line : (q : Queue) (k : ℕ) (cell : CoreCell) → IsSound q → I
     → cell.state ≢ state.Waiter → find_wait k (line q) ≡ None
 gone-from_line q k cell sound idle found other =
     find-nobody q.doing 0 k q.cells (λ i c at got.
-        let here : slice_get q.cells k ≡ Some c = ap (slice_get q.cells) (at ∙ zero-add i) ∙ got in
-        let same : c ≡ cell = cc in
-        ap (in_line q.doing k) same ∙ not-in_line q sound idle k cell found other)
+    let here : slice_get q.cells k ≡ Some c = ap (slice_get q.cells) (at ∙ zero-add i) ∙ got in
+    let same : c ≡ cell = cc in
+    ap (in_line q.doing k) same ∙ not-in_line q sound idle k cell found other)

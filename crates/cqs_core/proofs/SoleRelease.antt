@@ -55,7 +55,7 @@ untaken-served : (s : Shape) (p k : ℕ) (cell : CoreCell) → slice_get s.queue
     → NoneTaken (served_at (sent s p) p k cell)
 untaken-served s p k cell found none =
     EachAt-write (λ j c. c.state ≢ state.Taken) (λ j c. c.state ≢ state.Taken) s.queue.cells k cell
-        (at_state cell state.Resumed) found (λ e. absurd (cc)) (λ j x got other is. is) none
+    (at_state cell state.Resumed) found (λ e. absurd (cc)) (λ j x got other is. is) none
 
 sole-sent : (s : Shape) (p : ℕ) (w : Waiting) (rest : List Waiting) → IsCore s → IsResting s → IsQuiet s
     → 0 < slice_index s.held p → slice_get s.queue.doing p ≡ Some doing.Idle → line s.queue ≡ w ∷ rest
@@ -65,19 +65,19 @@ sole-sent s p w rest core rests quiet holds does is =
     let past = waits-ahead s.queue core.sound rests.idle w.wait head.cell head.found head.waits in
     let finds = finds-head s p w.wait head core rests quiet does in
     let lands_there : resumes_at p (sent s p) ≡ Some (record { shape = served_at (sent s p) p w.wait head.cell; wait = w.wait }) =
-        resumes-first (ahead s) (w.wait - s.queue.resumes) p w.wait (sent s p) head.cell (omega arith) (omega arith) finds in
+    resumes-first (ahead s) (w.wait - s.queue.resumes) p w.wait (sent s p) head.cell (omega arith) (omega arith) finds in
     sole-along s (call.Release p) _ _ (ap (λ o. lands (λ k. reply.Sent k) o) lands_there)
-        (record {
-          held = refl;
-          numbers = omega arith;
-          permits = refl;
-          allowed = holds;
-          untaken = untaken-served s p w.wait head.cell head.found;
-          appended = two-entries s.history (entry.GiveSent p) (entry.Deliver w.wait) ∙ rw is refl;
-          replied = rw is refl;
-          idle = rw (write-twice s.queue.doing p doing.Owes doing.Idle)
-              (idle-again s.queue.doing p doing.Idle does rests.idle);
-        })
+    (record {
+      held = refl;
+      numbers = omega arith;
+      permits = refl;
+      allowed = holds;
+      untaken = untaken-served s p w.wait head.cell head.found;
+      appended = two-entries s.history (entry.GiveSent p) (entry.Deliver w.wait) ∙ rw is refl;
+      replied = rw is refl;
+      idle = rw (write-twice s.queue.doing p doing.Owes doing.Idle)
+          (idle-again s.queue.doing p doing.Idle does rests.idle);
+    })
 
 sole-owes : (s : Shape) (p : ℕ) → IsCore s → IsResting s → IsQuiet s → 0 < slice_index s.held p
     → slice_get s.queue.doing p ≡ Some doing.Idle → int_lt s.state (pos 0) ≡ true
@@ -116,12 +116,12 @@ sole-freed s p rests quiet holds above = go (line s.queue) refl
 sole-give : (s : Shape) (p : ℕ) → IsCore s → IsResting s → IsQuiet s → slice_get s.queue.doing p ≡ Some doing.Idle
     → (holds below : Bool) → nat_lt 0 (slice_index s.held p) ≡ holds → int_lt s.state (pos 0) ≡ below
     → IsSoleCourse s (call.Release p)
-        (first
-            (if holds then
-                (if below then answers (sent s p) outcome.Owes
-                 else answers (records (loses (adds s) p) (entry.GiveFreed p)) outcome.Freed)
-             else None)
-            (after_give p))
+    (first
+    (if holds then
+    (if below then answers (sent s p) outcome.Owes
+    else answers (records (loses (adds s) p) (entry.GiveFreed p)) outcome.Freed)
+    else None)
+    (after_give p))
 sole-give s p core rests quiet does false below none is =
     λ untaken holds. absurd (cc (none, lt-ltb 0 (slice_index s.held p) holds))
 sole-give s p core rests quiet does true true some is =
@@ -144,7 +144,7 @@ sole-release s p core rests quiet = go (cases_idle s.queue.doing p rests.idle)
         → IsSoleCourse s (call.Release p) (first (give_row s p (slice_get s.queue.doing p)) (after_give p))
     go (inl none) =
         sole-along s (call.Release p) _ _ (ap (λ o. first (give_row s p o) (after_give p)) none)
-            (λ untaken holds. holds-none s p core none holds)
+        (λ untaken holds. holds-none s p core none holds)
     go (inr does) =
         sole-along s (call.Release p) _ _ (ap (λ o. first (give_row s p o) (after_give p)) does)
-            (sole-give s p core rests quiet does (nat_lt 0 (slice_index s.held p)) (int_lt s.state (pos 0)) refl refl)
+        (sole-give s p core rests quiet does (nat_lt 0 (slice_index s.held p)) (int_lt s.state (pos 0)) refl refl)

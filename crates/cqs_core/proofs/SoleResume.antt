@@ -119,8 +119,8 @@ resumes-first (suc n) (suc d) p k s cell at few finds =
     let there = finds.there s.queue.resumes (omega arith) in
     let below : s.queue.resumes < last_number = let small = finds.few in omega arith in
     let cancelled : there.0.state ≡ state.Cancelled =
-        finds.before s.queue.resumes there.0 (omega arith) (omega arith) there.1 in
+    finds.before s.queue.resumes there.0 (omega arith) (omega arith) there.1 in
     tries-one (suc n) p s _ _ (reaches-cell s p there.0 finds.owes below there.1)
-        (meets-cancelled s p there.0 finds.owes there.1 cancelled)
+    (meets-cancelled s p there.0 finds.owes there.1 cancelled)
     ∙ resumes-first n d p k (passed_over s p there.0) cell (omega arith) (omega arith) (finds-later s p k there.0 cell finds)
     ∙ ap (λ (x : Shape). Some (record { shape = x; wait = k })) (serves-later s p k there.0 cell)

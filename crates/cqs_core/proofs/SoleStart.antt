@@ -33,7 +33,7 @@ pub idle-again : (passes : List Doing) (p : ℕ) (d : Doing) → slice_get passe
     → IsIdle (set passes p doing.Idle)
 idle-again passes p d does idle =
     EachAt-write (λ q x. x ≡ doing.Idle) (λ q x. x ≡ doing.Idle) passes p d doing.Idle does refl
-        (λ q x got other is. is) idle
+    (λ q x got other is. is) idle
 
 -- the last of several writes of a pass stays
 pub write-twice : (passes : List Doing) (p : ℕ) (a b : Doing) → set (set passes p a) p b ≡ set passes p b

@@ -99,15 +99,15 @@ untaken-write : (s : Shape) (k : ℕ) (old new : CoreCell) → slice_get s.queue
     → NoneTaken s → EachAt (λ j c. c.state ≢ state.Taken) (set s.queue.cells k new)
 untaken-write s k old new found fresh none =
     EachAt-write (λ j c. c.state ≢ state.Taken) (λ j c. c.state ≢ state.Taken) s.queue.cells k old new found fresh
-        (λ j x got other is. is) none
+    (λ j x got other is. is) none
 
 untaken-collected : (s : Shape) (k : ℕ) (cell : CoreCell) → slice_get s.queue.cells k ≡ Some cell → state.Resumed ≡ cell.state
     → NoneTaken s
     → EachAt (λ j c. c.state ≢ state.Taken)
-        (set s.queue.cells k (record { state = cell.state; owner = cell.owner; collected = true }))
+    (set s.queue.cells k (record { state = cell.state; owner = cell.owner; collected = true }))
 untaken-collected s k cell found served none =
     untaken-write s k cell (record { state = cell.state; owner = cell.owner; collected = true }) found
-        (λ taken. absurd (cc (served, taken))) none
+    (λ taken. absurd (cc (served, taken))) none
 
 sole-look : (s : Shape) (p k : ℕ) (cell : CoreCell) (at : CoreState) → IsCore s → IsResting s
     → slice_get s.queue.cells k ≡ Some cell → is_with p cell ≡ true → at ≡ cell.state
@@ -158,10 +158,10 @@ sole-poll s p k core rests = go (cases_idle s.queue.doing p rests.idle)
         → IsSoleCourse s (call.Poll p k) (first (look_row s p k (slice_get s.queue.doing p)) after_look)
     go (inl none) =
         sole-along s (call.Poll p k) _ _ (ap (λ o. first (look_row s p k o) after_look) none)
-            (no-pass s p k core rests none)
+        (no-pass s p k core rests none)
     go (inr does) =
         sole-along s (call.Poll p k) _ _ (ap (λ o. first (look_row s p k o) after_look) does)
-            (at (slice_get s.queue.cells k) refl)
+        (at (slice_get s.queue.cells k) refl)
 
 -- a core whose pass has begun to cancel wait k
 abbrev leaving : Shape → ℕ → ℕ → CoreCell → Shape
@@ -188,13 +188,17 @@ settles : (s : Shape) (p k : ℕ) (cell : CoreCell) (on : Bool) → slice_get s.
     → onward (step (decided s p k cell on) (event.Settle p)) (after_settle p)
     ≡ replied (settled s p k cell on) reply.Cancelled
 settles s p k cell true does found =
-    rw (get-set_here (set s.queue.doing p (doing.Leaving k)) p (doing.Leaving k) (doing.Decided k true)
-            (get-set_here s.queue.doing p doing.Idle (doing.Leaving k) does),
-        get-set_here s.queue.cells k cell (at_state cell state.Cancelling) found) refl
+    rw (
+      get-set_here (set s.queue.doing p (doing.Leaving k)) p (doing.Leaving k) (doing.Decided k true)
+          (get-set_here s.queue.doing p doing.Idle (doing.Leaving k) does),
+      get-set_here s.queue.cells k cell (at_state cell state.Cancelling) found,
+    ) refl
 settles s p k cell false does found =
-    rw (get-set_here (set s.queue.doing p (doing.Leaving k)) p (doing.Leaving k) (doing.Decided k false)
-            (get-set_here s.queue.doing p doing.Idle (doing.Leaving k) does),
-        get-set_here s.queue.cells k cell (at_state cell state.Cancelling) found) refl
+    rw (
+      get-set_here (set s.queue.doing p (doing.Leaving k)) p (doing.Leaving k) (doing.Decided k false)
+          (get-set_here s.queue.doing p doing.Idle (doing.Leaving k) does),
+      get-set_here s.queue.cells k cell (at_state cell state.Cancelling) found,
+    ) refl
 
 settled-idle : (s : Shape) (p k : ℕ) (cell : CoreCell) (on : Bool)
     → (settled s p k cell on).queue.doing ≡ set s.queue.doing p doing.Idle
@@ -210,10 +214,10 @@ untaken-settled : (s : Shape) (p k : ℕ) (cell : CoreCell) (on : Bool) → slic
     → NoneTaken s → NoneTaken (settled s p k cell on)
 untaken-settled s p k cell true found none =
     rw (set-set s.queue.cells k (at_state cell state.Cancelling) (at_state cell state.Cancelled))
-        (untaken-write s k cell (at_state cell state.Cancelled) found (λ e. absurd (cc)) none)
+    (untaken-write s k cell (at_state cell state.Cancelled) found (λ e. absurd (cc)) none)
 untaken-settled s p k cell false found none =
     rw (set-set s.queue.cells k (at_state cell state.Cancelling) (at_state cell state.Refused))
-        (untaken-write s k cell (at_state cell state.Refused) found (λ e. absurd (cc)) none)
+    (untaken-write s k cell (at_state cell state.Refused) found (λ e. absurd (cc)) none)
 
 settled-held : (s : Shape) (p k : ℕ) (cell : CoreCell) (on : Bool) → (settled s p k cell on).held ≡ s.held
 settled-held s p k cell true = refl
@@ -235,17 +239,17 @@ sole-cancelling : (s : Shape) (p k : ℕ) (cell : CoreCell) (on : Bool) → IsCo
 sole-cancelling s p k cell on core rests does found own waits is =
     let there = line-has s k cell core found waits in
     sole-along s (call.Cancel p k) _ _
-        (ap (λ row. onward row (after_decide p)) (decides s p k cell on does is) ∙ settles s p k cell on does found)
-        (record {
-          held = settled-held s p k cell on;
-          numbers = settled-numbers s p k cell on;
-          permits = settled-permits s p k cell on;
-          allowed = has-waiter s p k cell found own waits;
-          appended = settled-history s p k cell on ∙ rw there.1 refl;
-          replied = rw there.1 refl;
-          idle = rw (settled-idle s p k cell on) (idle-again s.queue.doing p doing.Idle does rests.idle);
-          untaken = untaken-settled s p k cell on found;
-        })
+    (ap (λ row. onward row (after_decide p)) (decides s p k cell on does is) ∙ settles s p k cell on does found)
+    (record {
+      held = settled-held s p k cell on;
+      numbers = settled-numbers s p k cell on;
+      permits = settled-permits s p k cell on;
+      allowed = has-waiter s p k cell found own waits;
+      appended = settled-history s p k cell on ∙ rw there.1 refl;
+      replied = rw there.1 refl;
+      idle = rw (settled-idle s p k cell on) (idle-again s.queue.doing p doing.Idle does rests.idle);
+      untaken = untaken-settled s p k cell on found;
+    })
 
 sole-leave : (s : Shape) (p k : ℕ) (cell : CoreCell) (at : CoreState) → IsCore s → IsResting s
     → slice_get s.queue.doing p ≡ Some doing.Idle → slice_get s.queue.cells k ≡ Some cell → is_with p cell ≡ true
@@ -270,7 +274,7 @@ sole-leave s p k cell _ core rests does found own is =
 sole-leave_with : (s : Shape) (p k : ℕ) (cell : CoreCell) (mine : Bool) → IsCore s → IsResting s
     → slice_get s.queue.doing p ≡ Some doing.Idle → slice_get s.queue.cells k ≡ Some cell → is_with p cell ≡ mine
     → IsSoleCourse s (call.Cancel p k)
-        (first (if mine then leave_at s p k cell cell.state else None) (after_leave p))
+    (first (if mine then leave_at s p k cell cell.state else None) (after_leave p))
 sole-leave_with s p k cell true core rests does found own =
     sole-leave s p k cell cell.state core rests does found own refl
 sole-leave_with s p k cell false core rests does found own = not-own s p k cell core rests found own
@@ -288,7 +292,7 @@ sole-cancel s p k core rests = go (cases_idle s.queue.doing p rests.idle)
         → IsSoleCourse s (call.Cancel p k) (first (leave_row s p k (slice_get s.queue.doing p)) (after_leave p))
     go (inl none) =
         sole-along s (call.Cancel p k) _ _ (ap (λ o. first (leave_row s p k o) (after_leave p)) none)
-            (no-pass s p k core rests none)
+        (no-pass s p k core rests none)
     go (inr does) =
         sole-along s (call.Cancel p k) _ _ (ap (λ o. first (leave_row s p k o) (after_leave p)) does)
-            (at does (slice_get s.queue.cells k) refl)
+        (at does (slice_get s.queue.cells k) refl)

@@ -96,7 +96,7 @@ wait-in_line q p k sound idle waits =
     let w : Waiting = record { wait = k; pass = p } in
     let read = picked-read (in_line q.doing) 0 q.cells w waits.place waits.there in
     let number : k ≡ read.place =
-        (line-keyed q.doing).at read.place read.element w (read.reads read.place (sym (zero-add read.place))) in
+    (line-keyed q.doing).at read.place read.element w (read.reads read.place (sym (zero-add read.place))) in
     let reads : in_line q.doing k read.element ≡ Some w = read.reads k (number ∙ sym (zero-add read.place)) in
     at read.element (ap (slice_get q.cells) number ∙ read.found) reads (cases_waiter read.element.state)
   where
@@ -105,7 +105,7 @@ wait-in_line q p k sound idle waits =
     at cell found reads (inr other) = absurd (cc (not-in_line q sound idle k cell found other, reads))
     at cell found reads (inl waits) =
         let mine : cell.owner ≡ Some p =
-            waiting_of-owner k p cell.owner (stays_in_line k cell.state (owner_doing q.doing cell)) reads in
+        waiting_of-owner k p cell.owner (stays_in_line k cell.state (owner_doing q.doing cell)) reads in
         let is : IsSoundAt q k cell state.Waiter = sound-at q k cell state.Waiter sound found waits in
         record {
           cell = cell;
@@ -148,11 +148,11 @@ wait-served q p k sound untaken serves =
     let v : Service = record { wait = k; pass = p; is_open = true } in
     let read = picked-read is_served 0 q.cells v serves.place serves.there in
     let number : k ≡ read.place =
-        served-keyed.at read.place read.element v (read.reads read.place (sym (zero-add read.place))) in
+    served-keyed.at read.place read.element v (read.reads read.place (sym (zero-add read.place))) in
     let found : slice_get q.cells k ≡ Some read.element = ap (slice_get q.cells) number ∙ read.found in
     let reads : is_served k read.element ≡ Some v = read.reads k (number ∙ sym (zero-add read.place)) in
     let own = service_of-own k p read.element.state read.element.owner read.element.collected reads
-        (untaken k read.element found) in
+    (untaken k read.element found) in
     let is : IsSoundAt q k read.element state.Resumed = sound-at q k read.element state.Resumed sound found own.resumed in
     record {
       cell = read.element;
@@ -173,7 +173,7 @@ pub waiter-waits : (q : Queue) (p k : ℕ) (cell : CoreCell) → slice_get q.cel
     → cell.state ≡ state.Waiter → Waits k p (line q)
 waiter-waits q p k cell found mine waits =
     picked-in (in_line q.doing) 0 q.cells k k cell (record { wait = k; pass = p }) (sym (zero-add k)) found
-        (read cell.owner cell.state (owner_doing q.doing cell) mine waits)
+    (read cell.owner cell.state (owner_doing q.doing cell) mine waits)
   where
     read : (owner : Option ℕ) (s : CoreState) (does : Option Doing) → owner ≡ Some p → s ≡ state.Waiter
         → waiting_of k owner (stays_in_line k s does) ≡ Some (record { wait = k; pass = p })
@@ -184,7 +184,7 @@ pub resumed-served : (q : Queue) (p k : ℕ) (cell : CoreCell) → slice_get q.c
     → cell.collected ≡ false → cell.state ≡ state.Resumed → IsServed k p (served q)
 resumed-served q p k cell found mine uncollected resumed =
     picked-in is_served 0 q.cells k k cell (record { wait = k; pass = p; is_open = true }) (sym (zero-add k)) found
-        (read cell.state cell.owner cell.collected resumed mine uncollected)
+    (read cell.state cell.owner cell.collected resumed mine uncollected)
   where
     read : (s : CoreState) (owner : Option ℕ) (collected : Bool) → s ≡ state.Resumed → owner ≡ Some p → collected ≡ false
         → service_of k s owner collected ≡ Some (record { wait = k; pass = p; is_open = true })

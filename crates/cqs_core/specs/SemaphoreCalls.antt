@@ -77,10 +77,10 @@ abbrev pub resumes_in : ℕ → ℕ → Shape → Option Landed
 resumes_in zero p s = None
 resumes_in (suc tries) p s =
     option_and_then
-        (λ reached. option_and_then
-            (λ row. after_meet (λ next. resumes_in tries p next) row.shape row.outcome)
-            (step reached.shape (event.Meet p)))
-        (step s (event.Reach p))
+    (λ reached. option_and_then
+    (λ row. after_meet (λ next. resumes_in tries p next) row.shape row.outcome)
+    (step reached.shape (event.Meet p)))
+    (step s (event.Reach p))
 
 -- how many numbers the suspends have drawn and no resume has
 abbrev pub ahead : Shape → ℕ

@@ -9,9 +9,6 @@ ghost use Rattle.cqs_core.specs.SemaphoreTable.{step};
 ghost use Rattle.cqs_core.specs.Resting.{IsIdle, IsResting};
 ghost use Rattle.cqs_core.specs.SoleCaller.{IsSoleCall, IsSoleRefusal, NoneTaken, ShowsNext, TellsWait};
 
-use std::alloc::Global;
-use std::marker::Model;
-
 use crate::calls::{Call, Reply};
 use crate::cells::CoreCell;
 use crate::doings::Doing;
@@ -20,6 +17,8 @@ use crate::errors::CoreError;
 use crate::events::Event;
 use crate::outcomes::Outcome;
 use crate::table::Table;
+use std::alloc::Global;
+use std::marker::Model;
 
 /// The most permits that a core may be made with.
 const MOST_PERMITS: u32 = 1_048_576;

@@ -14,17 +14,17 @@ invariant_of-self c = call_ready-core _ _ _ _ c.self.invariant c.run_ready.ensur
 pub returns-clause-sole : goal.returns-clause-sole
 returns-clause-sole c =
     rw (← c.self.view_is)
-        (sole-ready c.self.inside.table c.run_ready.new.self c.args.call c.run_ready.result c.self.invariant
-            (rw c.self.view_is c.requires.resting) c.run_ready.ensures)
+    (sole-ready c.self.inside.table c.run_ready.new.self c.args.call c.run_ready.result c.self.invariant
+    (rw c.self.view_is c.requires.resting) c.run_ready.ensures)
 
 pub returns-clause-refused : goal.returns-clause-refused
 returns-clause-refused c =
     rw (← c.self.view_is)
-        (sole-refused c.self.inside.table c.run_ready.new.self c.args.call c.run_ready.result c.self.invariant
-            (rw c.self.view_is c.requires.resting) c.run_ready.ensures)
+    (sole-refused c.self.inside.table c.run_ready.new.self c.args.call c.run_ready.result c.self.invariant
+    (rw c.self.view_is c.requires.resting) c.run_ready.ensures)
 
 pub returns-clause-shown : goal.returns-clause-shown
 returns-clause-shown c =
     rw (← c.self.view_is)
-        (sole-shown c.self.inside.table c.run_ready.new.self c.args.call c.run_ready.result c.self.invariant
-            (rw c.self.view_is c.requires.resting) c.run_ready.ensures)
+    (sole-shown c.self.inside.table c.run_ready.new.self c.args.call c.run_ready.result c.self.invariant
+    (rw c.self.view_is c.requires.resting) c.run_ready.ensures)

@@ -6,7 +6,8 @@ abbrev pub invariant-resumes : goal.invariant-resumes
 invariant-resumes l = record {
   course : resumes_at l.pass l.initial.self.shape ≡ resumes_at l.pass l.self.shape;
   ends : IsSome (resumes_at l.pass l.self.shape);
-  spare : l.initial.self.spare ≤ l.self.spare }
+  spare : l.initial.self.spare ≤ l.self.spare;
+}
 
 abbrev pub decreases-resumes : goal.decreases-resumes
 decreases-resumes l = ahead l.self.shape

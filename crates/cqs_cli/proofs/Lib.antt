@@ -4,3 +4,4 @@ pub mod SoleLike
 pub mod SoleCells
 pub mod SoleMade
 pub mod Objects
+pub mod Holdings

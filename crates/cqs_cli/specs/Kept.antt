@@ -1,5 +1,5 @@
 -- What holds of a ledger between two calls of its floor.
-use Rattle.std.specs.Prelude.{◌≡◌, ℕ, ◌+◌, ◌*◌, ◌≤◌, ◌==◌, Bool, true, false, List, length, Option, Some, None, All, is_some, sum, sum_by, count_by, slice_get, slice_index}
+use Rattle.std.specs.Prelude.{◌≡◌, ℕ, ◌+◌, ◌*◌, ◌≤◌, ◌==◌, Bool, true, false, List, [], ◌∷◌, length, Option, Some, None, is_some, sum, sum_by, count_by, slice_get, slice_index}
 use Rattle.cqs_core.specs.Numbered.{EachAt}
 use Rattle.cqs_core.specs.QueueLine.{Service}
 use Rattle.cqs_core.specs.SemaphoreAnswers.{Room}
@@ -22,6 +22,15 @@ waiting_at waits at = count_by (is_wait_at at) waits
 -- how many permits of a resource the jobs hold
 abbrev pub held_at : List (List Holding) → ℕ → ℕ
 held_at holds at = sum_by (λ hs. count_by (λ h. h.at == at) hs) holds
+
+-- what is held are permits, which have no number
+abbrev pub ArePermits : List Holding → Type 0
+ArePermits [] = Unit {0}
+ArePermits (h ∷ hs) = (h.element ≡ 0) × ArePermits hs
+
+abbrev pub HoldPermits : List (List Holding) → Type 0
+HoldPermits [] = Unit {0}
+HoldPermits (hs ∷ holds) = ArePermits hs × HoldPermits holds
 
 -- how many that were served haven't been looked at
 abbrev pub unseen : List Service → ℕ
@@ -58,7 +67,6 @@ pub record IsKept (l : Ledger) : Type 0 where
       l.cores
   pub waits : (job : ℕ) (wait : Wait) → slice_get l.waits job ≡ Some (Some wait) → StandsIn l.cores wait
   pub apart : AreApart l.waits
-  -- a permit has no number
-  pub plain : All (λ hs. All (λ h. h.element ≡ 0) hs) (holds_in l)
+  pub plain : HoldPermits (holds_in l)
   -- the list of transfers has room for two of each take to come, two of each wait and one of each permit held
   pub spare : 2 * sum l.room + 2 * count_by (λ wait. is_some wait) l.waits + sum_by (λ hs. length hs) (holds_in l) ≤ l.spare

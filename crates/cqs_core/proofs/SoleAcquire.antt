@@ -81,6 +81,9 @@ sole-later s p rests quiet does low none =
     sole-along s (call.Acquire p) _ _
         (suspends-new (at_door s p) p (get-set_here s.queue.doing p doing.Idle doing.Door does) rests.numbers quiet.made)
         (record {
+          held = refl;
+          numbers = omega arith;
+          permits = refl;
           allowed = may-acquire s p quiet does low;
           untaken = untaken-new (at_door s p) p quiet.made;
           appended = two-entries s.history _ _ ∙ rw (none-free s.state none) refl;
@@ -102,6 +105,9 @@ sole-take s p rests quiet does false some low_is some_is =
     λ untaken may. let many = short-many s.state low_is in
         let waits = quiet.waits in absurd (let few = may.1 in omega arith)
 sole-take s p rests quiet does true true low_is some_is = record {
+  held = refl;
+  numbers = omega arith;
+  permits = refl;
   allowed = may-acquire s p quiet does low_is;
   untaken = λ untaken. untaken;
   appended = rw (some-free s.state some_is) refl;
@@ -132,6 +138,9 @@ sole-got : (s : Shape) (p : ℕ) → IsResting s → slice_get s.queue.doing p �
 sole-got s p rests does some =
     sole-along s (call.Try p) _ _ (ap (λ row. onward row after_swap) swaps)
         (record {
+          held = refl;
+          numbers = omega arith;
+          permits = refl;
           allowed = get-below s.queue.doing p doing.Idle does;
           untaken = λ untaken. untaken;
           appended = rw (some-free_le s.state some) refl;
@@ -156,6 +165,9 @@ sole-load : (s : Shape) (p : ℕ) → IsResting s → slice_get s.queue.doing p 
              else answers (loaded s p) (outcome.Loaded s.state))
             (after_load p))
 sole-load s p rests does true none_is = record {
+  held = refl;
+  numbers = omega arith;
+  permits = refl;
   allowed = get-below s.queue.doing p doing.Idle does;
   untaken = λ untaken. untaken;
   appended = rw (none-free_le s.state none_is) refl;

@@ -68,6 +68,9 @@ sole-sent s p w rest core rests quiet holds does is =
         resumes-first (ahead s) (w.wait - s.queue.resumes) p w.wait (sent s p) head.cell (omega arith) (omega arith) finds in
     sole-along s (call.Release p) _ _ (ap (λ o. lands (λ k. reply.Sent k) o) lands_there)
         (record {
+          held = refl;
+          numbers = omega arith;
+          permits = refl;
           allowed = holds;
           untaken = untaken-served s p w.wait head.cell head.found;
           appended = two-entries s.history (entry.GiveSent p) (entry.Deliver w.wait) ∙ rw is refl;
@@ -96,6 +99,9 @@ sole-freed s p rests quiet holds above = go (line s.queue) refl
     go : (waits : List Waiting) → line s.queue ≡ waits
         → IsSoleCall s (call.Release p) reply.Freed (records (loses (adds s) p) (entry.GiveFreed p))
     go [] is = record {
+      held = refl;
+      numbers = omega arith;
+      permits = refl;
       allowed = holds;
       appended = rw is refl;
       replied = rw is refl;

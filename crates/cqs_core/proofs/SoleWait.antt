@@ -1,5 +1,5 @@
 -- A sole caller polls or cancels a wait: it stands in the line where its cell still waits, and else was served.
-use Rattle.std.proofs.Common.{◌≡◌, ◌≢◌, ◌⊎◌, inl, inr, ℕ, ◌+◌, ◌<◌, Bool, true, false, pos, List, [], ◌∷◌, ◌++◌, Option, Some, None, slice_get, set, refl, ap, sym, ◌∙◌, subst, arith}
+use Rattle.std.proofs.Common.{◌≡◌, ◌≢◌, ◌⊎◌, inl, inr, ℕ, ◌+◌, ◌<◌, ◌≤◌, Bool, true, false, pos, List, [], ◌∷◌, ◌++◌, Option, Some, None, slice_get, set, refl, ap, sym, ◌∙◌, subst, arith}
 use Rattle.std.specs.Prelude.{int_lt, if◌then◌else◌}
 use Rattle.std.specs.Option.{option_and_then}
 use Rattle.std.proofs.lemmas.List.{set-set}
@@ -52,29 +52,47 @@ has-served s p k cell found own served =
     let owns = owns-from p cell own in
     inr (resumed-served s.queue p k cell found owns.owner owns.uncollected (sym served))
 
--- a call that finds no such cell is refused rightly
+-- a call that finds no such cell, or none of the pass's, or none that waits or was resumed, is refused rightly
+no-pass : (s : Shape) (p k : ℕ) → IsCore s → IsResting s → slice_get s.queue.doing p ≡ None → NoneTaken s
+    → ¬ HasWait k p (shown s)
+no-pass s p k core rests none untaken may = go (has-wait s p k core rests untaken may)
+  where
+    go : (IsOwnWait s.queue p k state.Waiter) ⊎ (IsOwnWait s.queue p k state.Resumed) → ⊥
+    go (inl own) = pass-there s.queue.doing p none own.there
+    go (inr own) = pass-there s.queue.doing p none own.there
+
 no-cell : (s : Shape) (p k : ℕ) → IsCore s → IsResting s → slice_get s.queue.cells k ≡ None → NoneTaken s
     → ¬ HasWait k p (shown s)
-no-cell s p k core rests none untaken may =
-    let own = has-wait s p k core rests untaken may in absurd (cc (none, own.found))
+no-cell s p k core rests none untaken may = go (has-wait s p k core rests untaken may)
+  where
+    go : (IsOwnWait s.queue p k state.Waiter) ⊎ (IsOwnWait s.queue p k state.Resumed) → ⊥
+    go (inl own) = absurd (cc (none, own.found))
+    go (inr own) = absurd (cc (none, own.found))
 
 not-own : (s : Shape) (p k : ℕ) (cell : CoreCell) → IsCore s → IsResting s → slice_get s.queue.cells k ≡ Some cell
     → is_with p cell ≡ false → NoneTaken s → ¬ HasWait k p (shown s)
-not-own s p k cell core rests found other untaken may =
-    let own = has-wait s p k core rests untaken may in
-    let same : own.cell ≡ cell = cc (found, own.found) in
-    absurd (cc (other, ap (is_with p) (sym same), own.own))
+not-own s p k cell core rests found other untaken may = go (has-wait s p k core rests untaken may)
+  where
+    another : (at : CoreState) → IsOwnWait s.queue p k at → ⊥
+    another at own =
+        let same : own.cell ≡ cell = cc (found, own.found) in
+        absurd (cc (other, ap (is_with p) (sym same), own.own))
+
+    go : (IsOwnWait s.queue p k state.Waiter) ⊎ (IsOwnWait s.queue p k state.Resumed) → ⊥
+    go (inl own) = another state.Waiter own
+    go (inr own) = another state.Resumed own
 
 neither-own : (s : Shape) (p k : ℕ) (cell : CoreCell) → IsCore s → IsResting s → slice_get s.queue.cells k ≡ Some cell
     → cell.state ≢ state.Waiter → cell.state ≢ state.Resumed → NoneTaken s → ¬ HasWait k p (shown s)
-neither-own s p k cell core rests found waits served untaken may =
-    let own = has-wait s p k core rests untaken may in
-    let same : own.cell ≡ cell = cc (found, own.found) in
-    go own.cell same own.at
+neither-own s p k cell core rests found waits served untaken may = go (has-wait s p k core rests untaken may)
   where
-    go : (c : CoreCell) → c ≡ cell → (c.state ≡ state.Waiter) ⊎ (c.state ≡ state.Resumed) → ⊥
-    go c same (inl is) = waits (ap (λ x. x.state) (sym same) ∙ is)
-    go c same (inr is) = served (ap (λ x. x.state) (sym same) ∙ is)
+    stands : (at : CoreState) → IsOwnWait s.queue p k at → cell.state ≡ at
+    stands at own =
+        let same : own.cell ≡ cell = cc (found, own.found) in ap (λ x. x.state) (sym same) ∙ own.stands
+
+    go : (IsOwnWait s.queue p k state.Waiter) ⊎ (IsOwnWait s.queue p k state.Resumed) → ⊥
+    go (inl own) = waits (stands state.Waiter own)
+    go (inr own) = served (stands state.Resumed own)
 
 -- a write that closes a wait takes no value
 untaken-write : (s : Shape) (k : ℕ) (old new : CoreCell) → slice_get s.queue.cells k ≡ Some old → new.state ≢ state.Taken
@@ -97,6 +115,9 @@ sole-look : (s : Shape) (p k : ℕ) (cell : CoreCell) (at : CoreState) → IsCor
 sole-look s p k cell state.Waiter core rests found own is =
     let there = line-has s k cell core found is in
     record {
+      held = refl;
+      numbers = omega arith;
+      permits = refl;
       allowed = has-waiter s p k cell found own is;
       appended = rw there.1 refl;
       replied = rw there.1 refl;
@@ -106,6 +127,9 @@ sole-look s p k cell state.Waiter core rests found own is =
 sole-look s p k cell state.Resumed core rests found own is =
     let gone = line-lacks s k cell core rests found is in
     record {
+      held = refl;
+      numbers = omega arith;
+      permits = refl;
       allowed = has-served s p k cell found own is;
       appended = rw gone refl;
       replied = rw gone refl;
@@ -134,7 +158,7 @@ sole-poll s p k core rests = go (cases_idle s.queue.doing p rests.idle)
         → IsSoleCourse s (call.Poll p k) (first (look_row s p k (slice_get s.queue.doing p)) after_look)
     go (inl none) =
         sole-along s (call.Poll p k) _ _ (ap (λ o. first (look_row s p k o) after_look) none)
-            (λ untaken may. pass-there s.queue.doing p none (has-wait s p k core rests untaken may).there)
+            (no-pass s p k core rests none)
     go (inr does) =
         sole-along s (call.Poll p k) _ _ (ap (λ o. first (look_row s p k o) after_look) does)
             (at (slice_get s.queue.cells k) refl)
@@ -191,6 +215,19 @@ untaken-settled s p k cell false found none =
     rw (set-set s.queue.cells k (at_state cell state.Cancelling) (at_state cell state.Refused))
         (untaken-write s k cell (at_state cell state.Refused) found (λ e. absurd (cc)) none)
 
+settled-held : (s : Shape) (p k : ℕ) (cell : CoreCell) (on : Bool) → (settled s p k cell on).held ≡ s.held
+settled-held s p k cell true = refl
+settled-held s p k cell false = refl
+
+settled-permits : (s : Shape) (p k : ℕ) (cell : CoreCell) (on : Bool) → (settled s p k cell on).permits ≡ s.permits
+settled-permits s p k cell true = refl
+settled-permits s p k cell false = refl
+
+settled-numbers : (s : Shape) (p k : ℕ) (cell : CoreCell) (on : Bool)
+    → (settled s p k cell on).queue.suspends ≤ s.queue.suspends + 1
+settled-numbers s p k cell true = omega arith
+settled-numbers s p k cell false = omega arith
+
 sole-cancelling : (s : Shape) (p k : ℕ) (cell : CoreCell) (on : Bool) → IsCore s → IsResting s
     → slice_get s.queue.doing p ≡ Some doing.Idle → slice_get s.queue.cells k ≡ Some cell → is_with p cell ≡ true
     → state.Waiter ≡ cell.state → int_lt s.state (pos 0) ≡ on
@@ -200,6 +237,9 @@ sole-cancelling s p k cell on core rests does found own waits is =
     sole-along s (call.Cancel p k) _ _
         (ap (λ row. onward row (after_decide p)) (decides s p k cell on does is) ∙ settles s p k cell on does found)
         (record {
+          held = settled-held s p k cell on;
+          numbers = settled-numbers s p k cell on;
+          permits = settled-permits s p k cell on;
           allowed = has-waiter s p k cell found own waits;
           appended = settled-history s p k cell on ∙ rw there.1 refl;
           replied = rw there.1 refl;
@@ -215,6 +255,9 @@ sole-leave s p k cell state.Waiter core rests does found own is =
 sole-leave s p k cell state.Resumed core rests does found own is =
     let gone = line-lacks s k cell core rests found is in
     record {
+      held = refl;
+      numbers = omega arith;
+      permits = refl;
       allowed = has-served s p k cell found own is;
       appended = rw gone refl;
       replied = rw gone refl;
@@ -245,7 +288,7 @@ sole-cancel s p k core rests = go (cases_idle s.queue.doing p rests.idle)
         → IsSoleCourse s (call.Cancel p k) (first (leave_row s p k (slice_get s.queue.doing p)) (after_leave p))
     go (inl none) =
         sole-along s (call.Cancel p k) _ _ (ap (λ o. first (leave_row s p k o) (after_leave p)) none)
-            (λ untaken may. pass-there s.queue.doing p none (has-wait s p k core rests untaken may).there)
+            (no-pass s p k core rests none)
     go (inr does) =
         sole-along s (call.Cancel p k) _ _ (ap (λ o. first (leave_row s p k o) (after_leave p)) does)
             (at does (slice_get s.queue.cells k) refl)

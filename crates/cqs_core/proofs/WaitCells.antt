@@ -55,12 +55,12 @@ module _ {X Y : Type 0} where
           }
       go (Some z) is (suc i) there rest = behind (rest i there)
 
--- a wait of a pass that is there, in a cell that waits or was resumed
-pub record IsOwnWait (q : Queue) (p k : ℕ) : Type 0 where
+-- a wait of a pass that is there, in a cell of this state
+pub record IsOwnWait (q : Queue) (p k : ℕ) (at : CoreState) : Type 0 where
   pub cell : CoreCell
   pub found : slice_get q.cells k ≡ Some cell
   pub own : is_with p cell ≡ true
-  pub at : (cell.state ≡ state.Waiter) ⊎ (cell.state ≡ state.Resumed)
+  pub stands : cell.state ≡ at
   pub there : p < length q.doing
 
 is_with-from : (p : ℕ) (cell : CoreCell) → cell.owner ≡ Some p → cell.collected ≡ false → is_with p cell ≡ true
@@ -89,7 +89,9 @@ waiting_of-owner k p None true is = absurd (cc)
 waiting_of-owner k p None false is = absurd (cc)
 waiting_of-owner k p (Some r) false is = absurd (cc)
 
-wait-in_line : (q : Queue) (p k : ℕ) → IsSound q → IsIdle q.doing → Waits k p (line q) → IsOwnWait q p k
+-- a wait of the line is the pass's own, in a cell that waits
+pub wait-in_line : (q : Queue) (p k : ℕ) → IsSound q → IsIdle q.doing → Waits k p (line q)
+    → IsOwnWait q p k state.Waiter
 wait-in_line q p k sound idle waits =
     let w : Waiting = record { wait = k; pass = p } in
     let read = picked-read (in_line q.doing) 0 q.cells w waits.place waits.there in
@@ -99,7 +101,7 @@ wait-in_line q p k sound idle waits =
     at read.element (ap (slice_get q.cells) number ∙ read.found) reads (cases_waiter read.element.state)
   where
     at : (cell : CoreCell) → slice_get q.cells k ≡ Some cell → in_line q.doing k cell ≡ Some (record { wait = k; pass = p })
-        → (cell.state ≡ state.Waiter) ⊎ (cell.state ≢ state.Waiter) → IsOwnWait q p k
+        → (cell.state ≡ state.Waiter) ⊎ (cell.state ≢ state.Waiter) → IsOwnWait q p k state.Waiter
     at cell found reads (inr other) = absurd (cc (not-in_line q sound idle k cell found other, reads))
     at cell found reads (inl waits) =
         let mine : cell.owner ≡ Some p =
@@ -109,7 +111,7 @@ wait-in_line q p k sound idle waits =
           cell = cell;
           found = found;
           own = is_with-from p cell mine is.2;
-          at = inl waits;
+          stands = waits;
           there = there-from q p k cell is.0 mine;
         }
 
@@ -138,9 +140,10 @@ service_of-own k p state.Resumed None collected is untaken = absurd (cc)
 service_of-own k p state.Taken owner collected is untaken = absurd (untaken refl)
 service_of-own k p _ owner collected is untaken = absurd (cc)
 
-wait-served : (q : Queue) (p k : ℕ) → IsSound q
+-- a wait that was served and not looked at is the pass's own, in a cell that was resumed
+pub wait-served : (q : Queue) (p k : ℕ) → IsSound q
     → ((j : ℕ) (c : CoreCell) → slice_get q.cells j ≡ Some c → c.state ≢ state.Taken)
-    → IsServed k p (served q) → IsOwnWait q p k
+    → IsServed k p (served q) → IsOwnWait q p k state.Resumed
 wait-served q p k sound untaken serves =
     let v : Service = record { wait = k; pass = p; is_open = true } in
     let read = picked-read is_served 0 q.cells v serves.place serves.there in
@@ -155,13 +158,15 @@ wait-served q p k sound untaken serves =
       cell = read.element;
       found = found;
       own = is_with-from p read.element own.mine own.uncollected;
-      at = inr own.resumed;
+      stands = own.resumed;
       there = there-from q p k read.element is.0 own.mine;
     }
 
-pub has-wait : (s : Shape) (p k : ℕ) → IsCore s → IsResting s → NoneTaken s → HasWait k p (shown s) → IsOwnWait s.queue p k
-has-wait s p k core rests untaken (inl waits) = wait-in_line s.queue p k core.sound rests.idle waits
-has-wait s p k core rests untaken (inr serves) = wait-served s.queue p k core.sound (λ j c got. untaken.at j c got) serves
+pub has-wait : (s : Shape) (p k : ℕ) → IsCore s → IsResting s → NoneTaken s → HasWait k p (shown s)
+    → (IsOwnWait s.queue p k state.Waiter) ⊎ (IsOwnWait s.queue p k state.Resumed)
+has-wait s p k core rests untaken (inl waits) = inl (wait-in_line s.queue p k core.sound rests.idle waits)
+has-wait s p k core rests untaken (inr serves) =
+    inr (wait-served s.queue p k core.sound (λ j c got. untaken.at j c got) serves)
 
 -- a pass's own wait that waits is in the line
 pub waiter-waits : (q : Queue) (p k : ℕ) (cell : CoreCell) → slice_get q.cells k ≡ Some cell → cell.owner ≡ Some p

@@ -1,17 +1,19 @@
 -- The law of a sole caller: where every pass is idle between two calls, each call is what the plain semaphore does at
 -- once. No counters, no cells: only the free permits, the line and the waits that were served.
-use Rattle.std.specs.Prelude.{◌≡◌, ◌≢◌, ◌⊎◌, ℕ, ◌<◌, nat_lt, length, slice_index, List, [], ◌∷◌, ◌++◌, Option, Some, None, if◌then◌else◌}
+use Rattle.std.specs.Prelude.{◌≡◌, ◌≢◌, ◌⊎◌, ℕ, ◌+◌, ◌-◌, ◌<◌, ◌≤◌, nat_lt, length, slice_index, slice_set, IsSomeAnd, List, [], ◌∷◌, ◌++◌, Option, Some, None, if◌then◌else◌}
+use Rattle.std.specs.List.{fold}
 use Rattle.cqs_core.specs.declared.calls.Call.{Call}
 use Rattle.cqs_core.specs.declared.calls.Call.TheVariants as call
 use Rattle.cqs_core.specs.declared.calls.Reply.{Reply}
 use Rattle.cqs_core.specs.declared.calls.Reply.TheVariants as reply
 use Rattle.cqs_core.specs.declared.entries.Entry.{Entry}
 use Rattle.cqs_core.specs.declared.entries.Entry.TheVariants as entry
+use Rattle.cqs_core.specs.declared.cells.CoreCell.{CoreCell}
 use Rattle.cqs_core.specs.declared.cells.CoreState.TheVariants as state
 use Rattle.cqs_core.specs.Numbered.{EachAt}
 use Rattle.cqs_core.specs.QueueLine.{Waiting}
 use Rattle.cqs_core.specs.Resting.{IsIdle}
-use Rattle.cqs_core.specs.SemaphoreEntries.{find_wait, Waits, IsServed}
+use Rattle.cqs_core.specs.SemaphoreEntries.{find_wait, Waits, IsServed, after_entry}
 use Rattle.cqs_core.specs.SemaphoreObject.{Semaphore}
 use Rattle.cqs_core.specs.SemaphoreShown.{shown}
 use Rattle.cqs_core.specs.SemaphoreTable.{Shape}
@@ -71,14 +73,35 @@ MayCall s (call.Cancel p k) = HasWait k p (shown s)
 abbrev pub NoneTaken : Shape → Type 0
 NoneTaken s = EachAt (λ k cell. cell.state ≢ state.Taken) s.queue.cells
 
+-- what the passes hold after a call that replied so
+abbrev pub held_after : List ℕ → Call → Reply → List ℕ
+held_after held (call.Acquire p) reply.Now = slice_set held p (slice_index held p + 1)
+held_after held (call.Try p) reply.Got = slice_set held p (slice_index held p + 1)
+held_after held (call.Release p) answer = slice_set held p (slice_index held p - 1)
+held_after held (call.Poll p k) reply.Granted = slice_set held p (slice_index held p + 1)
+held_after held (call.Cancel p k) reply.TooLate = slice_set held p (slice_index held p + 1)
+held_after held _ answer = held
+
 -- a call was made as a sole caller's, and every pass is idle again
 pub record IsSoleCall (old : Shape) (c : Call) (answer : Reply) (new : Shape) : Type 0 where
   pub allowed : MayCall old c
   pub appended : new.history ≡ old.history ++ (sole_call (shown old) c).entries
   pub replied : answer ≡ (sole_call (shown old) c).answer
+  pub held : new.held ≡ held_after old.held c answer
+  pub permits : new.permits ≡ old.permits
   pub idle : IsIdle new.queue.doing
+  pub numbers : new.queue.suspends ≤ old.queue.suspends + 1
   pub untaken : NoneTaken old → NoneTaken new
+
+-- the semaphore that is shown afterwards is the one after the call's entries
+abbrev pub ShowsNext : Shape → Call → Shape → Type 0
+ShowsNext old c new = shown new ≡ fold after_entry (shown old) (sole_call (shown old) c).entries
 
 -- a call was refused as a sole caller's
 abbrev pub IsSoleRefusal : Shape → Call → Type 0
 IsSoleRefusal s c = NoneTaken s → ¬ MayCall s c
+
+-- a cell tells a sole caller of its wait: a Waiter stands in the line, and a Resumed one was served
+pub record TellsWait (s : Shape) (k : ℕ) (found : Option CoreCell) : Type 0 where
+  pub waits : (p : ℕ) → Waits k p (shown s).line → IsSomeAnd found (λ cell. cell.state ≡ state.Waiter)
+  pub served : (p : ℕ) → IsServed k p (shown s).served → IsSomeAnd found (λ cell. cell.state ≡ state.Resumed)

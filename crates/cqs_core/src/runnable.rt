@@ -6,8 +6,8 @@ ghost use Rattle.cqs_core.specs.SemaphoreCalls.{MakesCall, MakesCallReady, cours
 ghost use Rattle.cqs_core.specs.SemaphoreEntries.{object_after, IsBalanced, IsLegal};
 ghost use Rattle.cqs_core.specs.SemaphoreShown.{Shows, shown};
 ghost use Rattle.cqs_core.specs.SemaphoreTable.{step};
-ghost use Rattle.cqs_core.specs.Resting.{IsResting};
-ghost use Rattle.cqs_core.specs.SoleCaller.{IsSoleCall, IsSoleRefusal};
+ghost use Rattle.cqs_core.specs.Resting.{IsIdle, IsResting};
+ghost use Rattle.cqs_core.specs.SoleCaller.{IsSoleCall, IsSoleRefusal, NoneTaken, ShowsNext, TellsWait};
 
 use std::alloc::Global;
 use std::marker::Model;
@@ -52,7 +52,8 @@ impl Core {
     ///
     /// There are 1 to 1,048,576 permits and 1 to 32 passes; any other number is `BadSize`.
     pub fn new(alloc: Global, permits: u32, passes: u32) -> Result<Self, CoreError>
-        ensures { Opens permits passes result }
+        ensures made { Opens permits passes result }
+        ensures rests { IfOk result (λ core. IsResting core.shape × NoneTaken core.shape) }
     {
         if permits == 0 || permits > MOST_PERMITS || passes == 0 || passes > MOST_PASSES {
             return Err(CoreError::BadSize);
@@ -73,7 +74,7 @@ impl Core {
     }
 
     /// Makes one event as `step` does, within the room that was reserved.
-    pub fn step_ready(&mut self, event: Event) -> Option<Outcome>
+    fn step_ready(&mut self, event: Event) -> Option<Outcome>
         requires { 1 ≤ self.old.spare }
         ensures { MakesReady (step self.old.shape event) result self.old self.new }
     {
@@ -87,6 +88,7 @@ impl Core {
         requires { IsResting self.old.shape }
         ensures made { MakesCall result (course self.old.shape call) self.old.shape self.new.shape }
         ensures sole { IfOk result (λ answer. IsSoleCall self.old.shape call answer self.new.shape) }
+        ensures shown { IfOk result (λ _. ShowsNext self.old.shape call self.new.shape) }
     {
         self.reserve(3)?;
         match self.run_ready(call) {
@@ -112,6 +114,7 @@ impl Core {
         requires room { 3 ≤ self.old.spare }
         ensures made { MakesCallReady (course self.old.shape call) result self.old self.new }
         ensures sole { IfSome result (λ answer. IsSoleCall self.old.shape call answer self.new.shape) }
+        ensures shown { IfSome result (λ _. ShowsNext self.old.shape call self.new.shape) }
         ensures refused { IfNone result (IsSoleRefusal self.old.shape call) }
     {
         self.table.run_ready(call)
@@ -140,7 +143,8 @@ impl Core {
 
     /// The cell of a number; none where neither counter has passed it.
     pub fn cell(&self, number: u64) -> Option<CoreCell>
-        ensures { result ≡ slice_get self.now.shape.queue.cells number }
+        ensures value { result ≡ slice_get self.now.shape.queue.cells number }
+        ensures sole { IsIdle self.now.shape.queue.doing → NoneTaken self.now.shape → TellsWait self.now.shape number result }
     {
         self.table.cell(number)
     }

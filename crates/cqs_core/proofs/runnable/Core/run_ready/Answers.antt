@@ -1,5 +1,5 @@
 use Rattle.cqs_core.proofs.CallsKeep.{core-fits, call_ready-core}
-use Rattle.cqs_core.proofs.SoleCalls.{calls-end, sole-ready, sole-refused}
+use Rattle.cqs_core.proofs.SoleCalls.{calls-end, sole-ready, sole-refused, sole-shown}
 use Rattle.cqs_core.proofs.runnable.Core.run_ready.Goals as goal
 
 pub run_ready-requires-clause-fits : goal.run_ready-requires-clause-fits
@@ -21,4 +21,10 @@ pub returns-clause-refused : goal.returns-clause-refused
 returns-clause-refused c =
     rw (← c.self.view_is)
         (sole-refused c.self.inside.table c.run_ready.new.self c.args.call c.run_ready.result c.self.invariant
+            (rw c.self.view_is c.requires.resting) c.run_ready.ensures)
+
+pub returns-clause-shown : goal.returns-clause-shown
+returns-clause-shown c =
+    rw (← c.self.view_is)
+        (sole-shown c.self.inside.table c.run_ready.new.self c.args.call c.run_ready.result c.self.invariant
             (rw c.self.view_is c.requires.resting) c.run_ready.ensures)

@@ -3,7 +3,9 @@ pub mod PlanLemmas
 pub mod WordLemmas
 pub mod First
 pub mod Stays
-pub mod SoleLike
 pub mod SoleCells
 pub mod SoleMade
 pub mod Objects
+pub mod Holdings
+pub mod Came
+pub mod Funded

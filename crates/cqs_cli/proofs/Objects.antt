@@ -9,8 +9,6 @@ use Rattle.cqs_core.specs.QueueLine.{Waiting, Service}
 use Rattle.cqs_core.specs.SemaphoreEntries.{after_entry, find_wait, with_service, turned_back, left, IsServed, Waits}
 use Rattle.cqs_core.specs.SemaphoreObject.{Semaphore, due}
 use Rattle.cqs_core.specs.SoleCaller.{HasWait}
-use Rattle.cqs_cli.specs.Kept.{unseen}
-use Rattle.cqs_cli.proofs.First.{first_at, count_by-placed, count_by-changed}
 use Rattle.cqs_cli.proofs.Stays.{stays-append, comes-last, stays-without, stays-placed, comes-placed, stays-changed}
 
 -- a caller that goes to the end of the line
@@ -51,25 +49,11 @@ stays-sent o first rest k is alone (inr serves) =
     inr (rw (sent-served o first rest is)
         (stays-placed (λ (v : Service). v.wait) (record { wait = k; pass = 0; is_open = true }) _ o.served serves))
 
-pub unseen-sent : (o : Semaphore) (first : Waiting) (rest : List Waiting) → o.line ≡ first ∷ rest
-    → unseen (sent_to o first).served ≡ 1 + unseen o.served
-unseen-sent o first rest is =
-    ap unseen (sent-served o first rest is)
-    ∙ count_by-placed (λ (v : Service). v.wait) (λ v. v.is_open)
-        (record { wait = first.wait; pass = first.pass; is_open = true }) o.served
-
 -- a permit that came, and that its caller looked at or was too late to leave
 pub stays-closed : (o : Semaphore) (k j : ℕ) → j ≢ k → HasWait j 0 o → HasWait j 0 (after_entry o (entry.LookGranted 0 k))
 stays-closed o k j other (inl waits) = inl waits
 stays-closed o k j other (inr serves) =
     inr (stays-changed (λ (v : Service). v.wait) (record { wait = j; pass = 0; is_open = true }) k _ o.served other serves)
-
-pub unseen-closed : (o : Semaphore) (k : ℕ)
-    → first_at (λ v. v.wait) k o.served ≡ Some (record { wait = k; pass = 0; is_open = true })
-    → unseen (after_entry o (entry.LookGranted 0 k)).served + 1 ≡ unseen o.served
-unseen-closed o k first =
-    count_by-changed (λ (v : Service). v.wait) (λ v. v.is_open) k _ o.served (record { wait = k; pass = 0; is_open = true })
-        first refl (λ v. refl)
 
 -- the line without a wait
 abbrev line_without : Semaphore → ℕ → Semaphore
@@ -86,15 +70,3 @@ stays-left o k j other has = turn (nat_lt (due (line_without o k)) o.way) refl (
     turn : (b : Bool) → nat_lt (due (line_without o k)) o.way ≡ b → HasWait j 0 (line_without o k) → HasWait j 0 (turned_back (line_without o k))
     turn true is stands = rw is stands
     turn false is stands = rw is stands
-
-pub record IsLeftAlike (o n : Semaphore) : Type 0 where
-  pub held : n.held ≡ o.held
-  pub served : n.served ≡ o.served
-  pub next : n.next ≡ o.next
-
-pub left-alike : (o : Semaphore) (k : ℕ) → IsLeftAlike o (left o k)
-left-alike o k = turn (nat_lt (due (line_without o k)) o.way) refl
-  where
-    turn : (b : Bool) → nat_lt (due (line_without o k)) o.way ≡ b → IsLeftAlike o (turned_back (line_without o k))
-    turn true is = rw is (record { held = refl; served = refl; next = refl })
-    turn false is = rw is (record { held = refl; served = refl; next = refl })

@@ -1,7 +1,6 @@
 -- What holds of a ledger between two calls of its floor.
-use Rattle.std.specs.Prelude.{◌≡◌, ℕ, ◌+◌, ◌*◌, ◌≤◌, ◌==◌, Bool, true, false, List, length, Option, Some, None, All, is_some, sum, sum_by, count_by, slice_get, slice_index}
+use Rattle.std.specs.Prelude.{◌≡◌, ℕ, ◌+◌, ◌*◌, ◌≤◌, ◌==◌, Bool, true, false, List, [], ◌∷◌, length, Option, Some, None, is_some, sum, sum_by, count_by, slice_get, slice_index}
 use Rattle.cqs_core.specs.Numbered.{EachAt}
-use Rattle.cqs_core.specs.QueueLine.{Service}
 use Rattle.cqs_core.specs.SemaphoreAnswers.{Room}
 use Rattle.cqs_core.specs.SemaphoreShown.{shown}
 use Rattle.cqs_core.specs.SoleCaller.{HasWait}
@@ -23,18 +22,23 @@ waiting_at waits at = count_by (is_wait_at at) waits
 abbrev pub held_at : List (List Holding) → ℕ → ℕ
 held_at holds at = sum_by (λ hs. count_by (λ h. h.at == at) hs) holds
 
--- how many that were served haven't been looked at
-abbrev pub unseen : List Service → ℕ
-unseen served = count_by (λ s. s.is_open) served
+-- what is held are permits, which have no number
+abbrev pub ArePermits : List Holding → Type 0
+ArePermits [] = Unit {0}
+ArePermits (h ∷ hs) = (h.element ≡ 0) × ArePermits hs
+
+abbrev pub HoldPermits : List (List Holding) → Type 0
+HoldPermits [] = Unit {0}
+HoldPermits (hs ∷ holds) = ArePermits hs × HoldPermits holds
 
 -- The core of a resource has room for all that can still come: three entries for each take, three for the look or the
--- leave of each wait, and three for each give. Of its semaphore's held permits the jobs hold those that aren't unseen.
+-- leave of each wait, and three for each give. Its pass holds what the jobs hold.
 pub record IsFunded (core : Room) (size room waiting held : ℕ) : Type 0 where
   pub sole : IsSole core.shape
   pub permits : core.shape.permits ≡ size
   pub numbers : core.shape.queue.suspends + room ≤ 1048576
   pub spare : 9 * room + 6 * waiting + 3 * held ≤ core.spare
-  pub holds : (shown core.shape).held ≡ held + unseen (shown core.shape).served
+  pub holds : slice_index core.shape.held 0 ≡ held
 
 -- a wait stands in its core
 pub record StandsIn (cores : List Room) (wait : Wait) : Type 0 where
@@ -58,7 +62,6 @@ pub record IsKept (l : Ledger) : Type 0 where
       l.cores
   pub waits : (job : ℕ) (wait : Wait) → slice_get l.waits job ≡ Some (Some wait) → StandsIn l.cores wait
   pub apart : AreApart l.waits
-  -- a permit has no number
-  pub plain : All (λ hs. All (λ h. h.element ≡ 0) hs) (holds_in l)
+  pub plain : HoldPermits (holds_in l)
   -- the list of transfers has room for two of each take to come, two of each wait and one of each permit held
   pub spare : 2 * sum l.room + 2 * count_by (λ wait. is_some wait) l.waits + sum_by (λ hs. length hs) (holds_in l) ≤ l.spare

@@ -9,7 +9,7 @@ use Rattle.cqs_core.specs.Resting.{IsIdle}
 use Rattle.cqs_core.specs.SemaphoreAnswers.{Room}
 use Rattle.cqs_core.specs.SemaphoreShown.{IsCore}
 use Rattle.cqs_core.specs.SemaphoreTable.{Shape, last_number}
-use Rattle.cqs_core.specs.SoleCaller.{IsSoleCall, NoneTaken}
+use Rattle.cqs_core.specs.SoleCaller.{IsSoleCall, NoneTaken, ShowsNext}
 
 -- its one pass is between two calls, and no suspend ever found its value in its cell
 pub record IsSole (s : Shape) : Type 0 where
@@ -27,8 +27,8 @@ pub record IsReady (core : Room) : Type 0 where
 -- the core has made the call as the plain semaphore does
 pub record HasMade (old : Room) (c : Call) (answer : Reply) (new : Room) : Type 0 where
   pub call : IsSoleCall old.shape c answer new.shape
+  pub shown : ShowsNext old.shape c new.shape
   pub sole : IsSole new.shape
-  pub permits : new.shape.permits ≡ old.shape.permits
   pub spare : old.spare ≤ new.spare + 3
 
 -- the wait of a cell was served

@@ -2,4 +2,5 @@ use Rattle.cqs_cli.proofs.SoleMade.{made-sole}
 use Rattle.cqs_cli.proofs.floors.calls.call_core.Goals as goal
 
 pub returns : goal.returns
-returns c = made-sole _ _ _ _ c.requires.ready c.in-Some.ensures.made c.in-Some.ensures.sole
+returns c =
+    made-sole _ _ _ _ c.requires.ready c.in-Some.ensures.made c.in-Some.ensures.sole c.in-Some.ensures.shown

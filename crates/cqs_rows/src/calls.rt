@@ -1,4 +1,4 @@
-use cqs_cli::top;
+use cqs_cli::{DONE, NO_PLAN, top};
 use cqs_plan::{BytesSink, BytesSource, SureSink, SureSource};
 use std::alloc::Global;
 use std::process::Abort;
@@ -35,12 +35,45 @@ pub fn expect_surely(
         status,
         "{text}"
     );
-    assert_eq!(rt; sink.bytes(), Some(text.as_bytes()));
+    assert_eq!(rt; sink.bytes(), Some(text.as_bytes()), "{text}");
+    Ok(())
+}
+
+/// Runs plans, each a front and a rest, and expects these reports.
+pub fn expect_reports(
+    rt: &(impl Abort + AllocGlobal),
+    front: &str,
+    rows: &[(&str, &str)],
+) -> Result<(), Fail> {
+    for (rest, report) in rows {
+        let plan = format!(in rt.alloc(); "{front}{rest}")?;
+        expect_surely(rt, &["run"], plan.as_str().as_bytes(), DONE, report)?;
+    }
+    Ok(())
+}
+
+/// Reads documents that are no plans, each a front and a rest, and expects these faults to be named.
+pub fn expect_faults(
+    rt: &(impl Abort + AllocGlobal),
+    front: &str,
+    rows: &[(&str, &str)],
+) -> Result<(), Fail> {
+    for (rest, fault) in rows {
+        let document = format!(in rt.alloc(); "{front}{rest}")?;
+        let line = format!(in rt.alloc(); "bad plan: {fault}\n")?;
+        expect_surely(
+            rt,
+            &["run"],
+            document.as_str().as_bytes(),
+            NO_PLAN,
+            line.as_str(),
+        )?;
+    }
     Ok(())
 }
 
 /// The faults and the sizes of a source and a sink.
-#[derive(Clone, Copy)]
+#[derive(Clone, Copy, Debug)]
 pub struct Faults<'a> {
     pub chunk: u32,
     pub reads: &'a [u32],
@@ -48,23 +81,24 @@ pub struct Faults<'a> {
     pub writes: &'a [u32],
 }
 
-/// Runs the empty plan through streams with faults, and expects this status and text.
+/// Runs a plan through streams with faults, and expects this status and text.
 pub fn expect_by_faults(
     rt: &(impl Abort + AllocGlobal),
+    plan: &str,
     faults: &Faults<'_>,
     status: u8,
-    text: &str,
+    text: &[u8],
 ) -> Result<(), Fail> {
     let alloc = rt.alloc();
     let words = words(alloc, &["run"])?;
     assert!(rt; 1 <= faults.chunk);
-    let mut source = BytesSource::new(alloc, EMPTY_PLAN.as_bytes(), faults.chunk, faults.reads)?;
+    let mut source = BytesSource::new(alloc, plan.as_bytes(), faults.chunk, faults.reads)?;
     let mut sink = BytesSink::new(alloc, faults.room, faults.chunk, faults.writes)?;
     assert_eq!(rt;
         top(alloc, &words, &mut source, &mut sink),
         status,
-        "{text}"
+        "{faults:?}"
     );
-    assert_eq!(rt; sink.bytes(), text.as_bytes());
+    assert_eq!(rt; sink.bytes(), text, "{faults:?}");
     Ok(())
 }

@@ -1,7 +1,6 @@
 pub mod MeaningLemmas
 pub mod PlanLemmas
 pub mod WordLemmas
-pub mod First
 pub mod Stays
 pub mod SoleCells
 pub mod SoleMade

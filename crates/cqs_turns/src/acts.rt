@@ -358,7 +358,11 @@ pub fn act<F: Floor>(
         Progress::Stepping(next) | Progress::Working { next, .. } => {
             state.progress = make_steps(floor, report, actor, &mut state.held, next)?;
         }
-        Progress::Waiting { next: _, at, number } if actor.is_due() => {
+        Progress::Waiting {
+            next: _,
+            at,
+            number,
+        } if actor.is_due() => {
             state.progress = give_up(floor, report, actor, &mut state.held, at, number)?;
         }
         Progress::Waiting { next, at, number } => {

@@ -10,5 +10,5 @@ mod ValidNumbers
 mod ValidSteps
 mod ValidJobs
 mod ValidPlans
-mod OneAnswer
+pub mod OneAnswer
 pub mod RunnablePlans

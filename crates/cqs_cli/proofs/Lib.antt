@@ -5,3 +5,4 @@ pub mod Objects
 pub mod Holdings
 pub mod Came
 pub mod Funded
+pub mod KeptNext

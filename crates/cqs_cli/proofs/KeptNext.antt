@@ -16,6 +16,7 @@ use Rattle.cqs_plan.specs.Floor.{Holding, permits_of}
 use Rattle.cqs_cli.specs.declared.floors.waits.Wait.{Wait}
 use Rattle.cqs_cli.specs.Kept.{IsKept, IsFunded, StandsIn, AreApart, HoldPermits, holds_in, waiting_at, held_at}
 use Rattle.cqs_cli.specs.Ledger.{Ledger}
+use Rattle.cqs_cli.proofs.Resources.{history-at}
 
 -- after a call of the core at a place: that core is another, and all that is counted of the other resources is as it was
 pub record Follows (l : Ledger) (at : ℕ) (core after : Room) (n : Ledger) : Type 0 where
@@ -88,10 +89,4 @@ pub histories-next : (cores : List Room) (at : ℕ) (core after : Room) (entries
 histories-next cores at core after entries there history =
     map-set (λ (c : Room). c.shape.history) cores at after
     ∙ ap (set (map (λ c. c.shape.history) cores) at)
-        (history ∙ ap (λ h. h ++ entries) (sym (history-at cores at there)))
-  where
-    history-at : (cores : List Room) (at : ℕ) → slice_get cores at ≡ Some core
-        → get_or (map (λ c. c.shape.history) cores) at [] ≡ core.shape.history
-    history-at [] at there = absurd (cc)
-    history-at (c ∷ cores) zero there = let same : c ≡ core = cc in ap (λ (x : Room). x.shape.history) same
-    history-at (c ∷ cores) (suc at) there = history-at cores at there
+        (history ∙ ap (λ h. h ++ entries) (sym (history-at cores at core there)))

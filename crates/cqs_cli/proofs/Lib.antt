@@ -5,4 +5,6 @@ pub mod Objects
 pub mod Holdings
 pub mod Came
 pub mod Funded
+pub mod Resources
 pub mod KeptNext
+pub mod Takes

@@ -34,11 +34,11 @@ use Rattle.cqs_cli.proofs.Funded.{funded-next, funded-rests, funded-ready}
 use Rattle.cqs_cli.proofs.Holdings.{count-set, held-got, many-got, permits-transfer, holds-transfer}
 use Rattle.cqs_cli.proofs.KeptNext.{Follows, kept-next, stands-on, histories-next}
 use Rattle.cqs_cli.proofs.Objects.{entered_after_door, stays-entered, comes-entered}
-use Rattle.cqs_cli.proofs.Resources.{Funds, funds-at, bit-same, bit-other, object-shown}
+use Rattle.cqs_cli.proofs.Resources.{Funds, funds-at, bit-same, bit-other, object-shown, place-room, job-there, idle-there}
 use Rattle.cqs_cli.proofs.SoleCells.{read-wait, line-few}
 
 -- a resource with room can take one more call
-pub can-take : (l : Ledger) (at : ℕ) → IsKept l → IsHoldable (slice_get l.kinds at) → 0 < slice_index l.room at
+can-take : (l : Ledger) (at : ℕ) → IsKept l → IsHoldable (slice_get l.kinds at) → 0 < slice_index l.room at
     → CanCall l.cores at (call.Acquire 0)
 can-take l at kept holdable room =
     let funds : Funds l at = funds-at l at kept holdable in
@@ -49,6 +49,13 @@ can-take l at kept holdable room =
       ready = funded-ready _ _ _ _ _ funds.funded (omega arith);
       allowed = (omega (arith, funds.funded.sole.one), omega (arith, few, funds.funded.numbers));
     }
+
+pub take-can : (l : Ledger) (f : PlainFloor) (at : ℕ) → plain_floor l ≡ f → IsKept l → IsHoldable (slice_get f.kinds at)
+    → 0 < room_at f at → CanCall l.cores at (call.Acquire 0)
+take-can l f at view kept =
+    let Allows : PlainFloor → Type 0 = λ g. IsHoldable (slice_get g.kinds at) → 0 < room_at g at
+        → CanCall l.cores at (call.Acquire 0) in
+    subst Allows view (can-take l at kept)
 
 -- a job that can take from a resource with room
 module _ (l : Ledger) (at job : ℕ) (kept : IsKept l) (place : at < length l.room) (room : 0 < slice_index l.room at)
@@ -230,3 +237,76 @@ module _ (l : Ledger) (at job : ℕ) (kept : IsKept l) (place : at < length l.ro
             (entry.TakeDoor 0 ∷ entry.Enter 0 (shown core.shape).next ∷ []) there came.history in
         let waits = map-set (option_map job_wait) l.waits job (Some wait) in
         rw (entries, waits, same-holds) refl
+
+-- what a take comes to: its answer is the plain floor's, and so is what it leaves
+pub record TakesWell (f : PlainFloor) (at job : ℕ) (answer : FloorTake) (n : Ledger) : Type 0 where
+  pub answers : answer ≡ take_answer f at job
+  pub leaves : plain_floor n ≡ after_take f at job answer
+  pub kept : IsKept n
+
+take-well : (l n : Ledger) (at job : ℕ) (answer : FloorTake) → IsKept l → IsHoldable (slice_get l.kinds at)
+    → IsJob (plain_floor l) job → IsIdle (plain_floor l) job → 0 < slice_index l.room at
+    → Answers take_of (call.Acquire 0) l.cores at n.cores answer → n ≡ with_cores (taken l at job answer) n.cores
+    → TakesWell (plain_floor l) at job answer n
+take-well l n at job answer kept holdable is_job idle room a written =
+    go (nat_lt 0 (shown core.shape).free) refl
+  where
+    core : Room
+    core = a.calls.core
+
+    object : object_at (plain_floor l) at ≡ shown core.shape
+    object = object-shown l at core kept a.calls.there
+
+    -- what holds of one answer, at the ledger that it makes
+    at-answer : (given : FloorTake) → answer ≡ given
+        → take_answer (plain_floor l) at job ≡ given
+        → plain_floor (with_cores (taken l at job given) (set l.cores at a.calls.after)) ≡ after_take (plain_floor l) at job given
+        → IsKept (with_cores (taken l at job given) (set l.cores at a.calls.after))
+        → TakesWell (plain_floor l) at job answer n
+    at-answer given is answers leaves holds =
+        let same : n ≡ with_cores (taken l at job given) (set l.cores at a.calls.after) =
+            written ∙ ap (λ g. with_cores (taken l at job g) n.cores) is
+            ∙ ap (with_cores (taken l at job given)) a.calls.cores in
+        record {
+          answers = is ∙ sym answers;
+          leaves = ap plain_floor same ∙ leaves ∙ ap (after_take (plain_floor l) at job) (sym is);
+          kept = subst IsKept (sym same) holds;
+        }
+
+    place : at < length l.room
+    place = place-room l at kept holdable
+
+    waiter : job < length l.waits
+    waiter = job-there l job is_job
+
+    nobody : get_or l.waits job None ≡ None
+    nobody = idle-there l.waits job idle
+
+    funded : IsFunded core (permits_of (slice_get l.kinds at)) (slice_index l.room at) (waiting_at l.waits at)
+        (held_at (holds_in l) at)
+    funded = kept.funded.at at core a.calls.there
+
+    go : (b : Bool) → nat_lt 0 (shown core.shape).free ≡ b → TakesWell (plain_floor l) at job answer n
+    go true some =
+        let came = came-now core a.calls.after a.reply funded.sole a.calls.made some in
+        at-answer (Now 0) (a.told ∙ ap take_of came.is) (rw (object, some) refl)
+            (plain-now l at job kept place room is_job.holds waiter nobody core a.calls.after a.reply a.calls.there a.calls.made some)
+            (kept-next l _ at core a.calls.after kept
+                (follows-now l at job kept place room is_job.holds waiter nobody core a.calls.after a.reply a.calls.there a.calls.made some))
+    go false none =
+        let came = came-later core a.calls.after a.reply funded.sole a.calls.made none in
+        at-answer (Waits (shown core.shape).next) (a.told ∙ ap take_of came.is) (rw (object, none) refl)
+            (plain-later l at job kept place room is_job.holds waiter nobody core a.calls.after a.reply a.calls.there a.calls.made none)
+            (kept-next l _ at core a.calls.after kept
+                (follows-later l at job kept place room is_job.holds waiter nobody core a.calls.after a.reply a.calls.there a.calls.made none))
+
+-- the same where the floor is seen as its plain floor
+pub take-floor : (l n : Ledger) (f : PlainFloor) (at job : ℕ) (answer : FloorTake) → plain_floor l ≡ f → IsKept l
+    → IsHoldable (slice_get f.kinds at) → IsJob f job → IsIdle f job → 0 < room_at f at
+    → Answers take_of (call.Acquire 0) l.cores at n.cores answer → n ≡ with_cores (taken l at job answer) n.cores
+    → TakesWell f at job answer n
+take-floor l n f at job answer view kept =
+    let Comes : PlainFloor → Type 0 = λ g. IsHoldable (slice_get g.kinds at) → IsJob g job → IsIdle g job → 0 < room_at g at
+        → Answers take_of (call.Acquire 0) l.cores at n.cores answer → n ≡ with_cores (taken l at job answer) n.cores
+        → TakesWell g at job answer n in
+    subst Comes view (take-well l n at job answer kept)

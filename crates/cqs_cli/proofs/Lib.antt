@@ -8,3 +8,4 @@ pub mod Funded
 pub mod Resources
 pub mod KeptNext
 pub mod Takes
+pub mod Gives

@@ -113,7 +113,7 @@ permits-set [] job hs all new = all
 permits-set (x ∷ holds) zero hs all new = (new, all.1)
 permits-set (x ∷ holds) (suc job) hs all new = (all.0, permits-set holds job hs all.1 new)
 
-permits-at : (holds : List (List Holding)) (job : ℕ) → HoldPermits holds → ArePermits (get_or holds job [])
+pub permits-at : (holds : List (List Holding)) (job : ℕ) → HoldPermits holds → ArePermits (get_or holds job [])
 permits-at [] job all = tt
 permits-at (hs ∷ holds) zero all = all.0
 permits-at (hs ∷ holds) (suc job) all = permits-at holds job all.1

@@ -8,3 +8,7 @@ pub mod Objects
 pub mod Holdings
 pub mod Came
 pub mod Funded
+pub mod Resources
+pub mod KeptNext
+pub mod Takes
+pub mod Gives

@@ -1,21 +1,21 @@
-use Rattle.std.proofs.Common.{rules, ◌≡◌, IfOk, ℕ, ◌+◌, ◌-◌, ◌*◌, ◌<◌, ◌≤◌, length, ◌/◌, ◌%◌, Bool, true, false, nat_eq, nat_lt, List, [], ◌∷◌, ◌++◌, slice_index_or, slice_set, bit_and, bit_or, Fits, w8, w32, w64, Bor, MutBor}
-use Rattle.cqs_plan.specs.Floor.{opening_floor}
-use Rattle.cqs_plan.specs.Runnable.{IsRunnable}
-use Rattle.cqs_plan.specs.Runnable.{AreSemaphores}
+use Rattle.cqs_cli.proofs.Gives.{give-can, give-floor}
 use Rattle.cqs_cli.proofs.floors.core_floor.CoreFloorFloor.give.Goals as goal
 
--- src/floors/core_floor.rt:55:9
 pub give-requires-clause-core : goal.give-requires-clause-core
-give-requires-clause-core c = ?
+give-requires-clause-core c =
+    give-can _ _ _ _ c.self.view_is c.self.invariant c.requires.resource c.requires.job c.requires.holds
 
--- src/floors/core_floor.rt:54:5
 pub invariant_of-self : goal.invariant_of-self
-invariant_of-self c = ?
+invariant_of-self c =
+    (give-floor _ _ _ _ _ _ c.self.view_is c.self.invariant c.requires.job c.requires.holds
+        c.give.ensures.answer c.give.ensures.written).kept
 
--- src/floors/core_floor.rt:54:5
 pub returns-clause-answer : goal.returns-clause-answer
-returns-clause-answer c = ?
+returns-clause-answer c =
+    (give-floor _ _ _ _ _ _ c.self.view_is c.self.invariant c.requires.job c.requires.holds
+        c.give.ensures.answer c.give.ensures.written).answers
 
--- src/floors/core_floor.rt:54:5
 pub returns-clause-after : goal.returns-clause-after
-returns-clause-after c = ?
+returns-clause-after c =
+    (give-floor _ _ _ _ _ _ c.self.view_is c.self.invariant c.requires.job c.requires.holds
+        c.give.ensures.answer c.give.ensures.written).leaves

@@ -1,21 +1,21 @@
-use Rattle.std.proofs.Common.{rules, ◌≡◌, IfOk, ℕ, ◌+◌, ◌-◌, ◌*◌, ◌<◌, ◌≤◌, length, ◌/◌, ◌%◌, Bool, true, false, nat_eq, nat_lt, List, [], ◌∷◌, ◌++◌, slice_index_or, slice_set, bit_and, bit_or, Fits, w8, w32, w64, Bor, MutBor}
-use Rattle.cqs_plan.specs.Floor.{opening_floor}
-use Rattle.cqs_plan.specs.Runnable.{IsRunnable}
-use Rattle.cqs_plan.specs.Runnable.{AreSemaphores}
+use Rattle.cqs_cli.proofs.Takes.{take-can, take-floor}
 use Rattle.cqs_cli.proofs.floors.core_floor.CoreFloorFloor.take.Goals as goal
 
--- src/floors/core_floor.rt:51:9
 pub take-requires-clause-core : goal.take-requires-clause-core
-take-requires-clause-core c = ?
+take-requires-clause-core c =
+    take-can _ _ _ c.self.view_is c.self.invariant c.requires.resource c.requires.room
 
--- src/floors/core_floor.rt:50:5
 pub invariant_of-self : goal.invariant_of-self
-invariant_of-self c = ?
+invariant_of-self c =
+    (take-floor _ _ _ _ _ _ c.self.view_is c.self.invariant c.requires.resource c.requires.job c.requires.idle
+        c.requires.room c.take.ensures.answer c.take.ensures.written).kept
 
--- src/floors/core_floor.rt:50:5
 pub returns-clause-answer : goal.returns-clause-answer
-returns-clause-answer c = ?
+returns-clause-answer c =
+    (take-floor _ _ _ _ _ _ c.self.view_is c.self.invariant c.requires.resource c.requires.job c.requires.idle
+        c.requires.room c.take.ensures.answer c.take.ensures.written).answers
 
--- src/floors/core_floor.rt:50:5
 pub returns-clause-after : goal.returns-clause-after
-returns-clause-after c = ?
+returns-clause-after c =
+    (take-floor _ _ _ _ _ _ c.self.view_is c.self.invariant c.requires.resource c.requires.job c.requires.idle
+        c.requires.room c.take.ensures.answer c.take.ensures.written).leaves

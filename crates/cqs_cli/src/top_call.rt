@@ -21,6 +21,9 @@ pub fn top<S: Source, K: Sink>(alloc: Global, words: &[String], source: &mut S, 
         × Reported (S.left source.old) (S.left source.new) (K.held sink.old) (K.held sink.new)
         × IsTrue (K.is_flushed sink.new) }
 
+    // Status 0 means that the bytes read are a plan, and that the text written is the report of the turn machine on it.
+    ensures headline { result ≡ DONE → Reported (S.left source.old) (S.left source.new) (K.held sink.old) (K.held sink.new) }
+
     // The words are no command, nothing was read, and the usage text was written and flushed.
     ensures no_command { result ≡ NO_COMMAND → (¬ IsCommand (map string_bytes words.now))
         × (source.new ≡ source.old)

@@ -47,11 +47,11 @@ fn calls_within_reserved_room(rt: HostRuntime) -> Result<(), Fail> {
         core.run_ready(Call::Acquire { pass: 0 }),
         Some(Reply::Later(0))
     );
-    assert_eq!(rt; core.run_ready(Call::Release { pass: 0 }), None);
     assert_eq!(rt;
         core.run_ready(Call::Release { pass: 1 }),
         Some(Reply::Sent(0))
     );
+    assert_eq!(rt; core.run_ready(Call::Release { pass: 1 }), None);
     Ok(())
 }
 

@@ -6,6 +6,8 @@ mod calls;
 #[cfg(test)]
 mod core_calls;
 #[cfg(test)]
+mod core_histories;
+#[cfg(test)]
 mod core_schedules;
 #[cfg(test)]
 mod core_sizes;

@@ -1,5 +1,5 @@
 -- What running a plan rests on: its steps name resources that are there, and give what was taken before.
-use Rattle.std.specs.Prelude.{ℕ, ◌<◌, ◌≤◌, List, take, length, count_by, map, slice_get}
+use Rattle.std.specs.Prelude.{ℕ, ◌<◌, ◌≤◌, List, take, length, count_by, map, Some, slice_get}
 use Rattle.cqs_core.specs.Numbered.{EachAt}
 use Rattle.cqs_plan.specs.declared.plans.kind.Kind.{Kind}
 use Rattle.cqs_plan.specs.declared.plans.resource.Resource.{Resource}
@@ -14,11 +14,11 @@ use Rattle.cqs_plan.specs.Floor.{IsHoldable}
 abbrev pub kinds_of : List Resource → List Kind
 kinds_of resources = map (λ resource. resource.kind) resources
 
--- after these earlier steps, the step can be made
+-- After these earlier steps, the step can be made: it takes what is there, gives what was taken and not yet given, or
+-- works.
 abbrev pub IsMakeable : List Kind → List Step → Step → Type 0
 IsMakeable kinds earlier (Take at) = IsHoldable (slice_get kinds at)
-IsMakeable kinds earlier (Give at) =
-    IsHoldable (slice_get kinds at) × (count_by (is_give at) earlier < count_by (is_take at) earlier)
+IsMakeable kinds earlier (Give at) = count_by (is_give at) earlier < count_by (is_take at) earlier
 IsMakeable kinds earlier (Work turns) = turns ≤ 1000
 IsMakeable kinds earlier (Down at) = ⊥
 IsMakeable kinds earlier (Await at) = ⊥
@@ -30,8 +30,9 @@ AreMakeable kinds steps = EachAt (λ n step. IsMakeable kinds (take n steps) ste
 
 pub record IsRunnable (plan : Plan) : Type 0 where
   pub turns : plan.turns ≤ 40000
+  pub resources : length plan.resources ≤ 64
   pub jobs : length plan.jobs ≤ 4096
   pub few_steps : EachAt (λ place job. length job.steps ≤ 64) plan.jobs
   -- each resource is of a kind that is built
-  pub kinds : EachAt (λ at resource. IsHoldable (slice_get (kinds_of plan.resources) at)) plan.resources
+  pub kinds : EachAt (λ at resource. IsHoldable (Some resource.kind)) plan.resources
   pub steps : EachAt (λ place job. AreMakeable (kinds_of plan.resources) job.steps) plan.jobs

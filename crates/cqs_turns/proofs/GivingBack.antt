@@ -18,12 +18,12 @@ pub record GivingBack (r : Role) (all : List ℕ) (i : ℕ) (start now : Scene) 
   pub ready : IsReady now.floor r.place None []
 
 next-one : (r : Role) (all : List ℕ) (i : ℕ) (start now : Scene) → GivingBack r all i start now → i < length all
-  → places_held now.floor r.place ≡ get_or all i 0 ∷ drop (i + 1) all
+    → places_held now.floor r.place ≡ get_or all i 0 ∷ drop (i + 1) all
 next-one r all i start now giving below = giving.held ∙ drop_more all i 0 below
 
 -- the job holds the next one
 pub holds-next : (r : Role) (all : List ℕ) (i : ℕ) (start now : Scene) → GivingBack r all i start now → i < length all
-  → IsHolding now.floor (get_or all i 0) r.place
+    → IsHolding now.floor (get_or all i 0) r.place
 holds-next r all i start now giving below =
     let at : ℕ = get_or all i 0 in
     let first : at == at ≡ true = eq-eqb at at refl in
@@ -31,27 +31,27 @@ holds-next r all i start now giving below =
     oldest-there at (holds_of now.floor r.place) (rw (next-one r all i start now giving below) there)
 
 pub can-give-next : (r : Role) (all : List ℕ) (i : ℕ) (start now : Scene) → GivingBack r all i start now
-  → i < length all → IsHoldable (slice_get now.floor.kinds (get_or all i 0))
+    → i < length all → IsHoldable (slice_get now.floor.kinds (get_or all i 0))
 can-give-next r all i start now giving below =
     (rw (next-one r all i start now giving below) at giving.ready.holdable).0
 
 pub gives-next : (r : Role) (all : List ℕ) (i : ℕ) (start now after : Scene) → GivingBack r all i start now
-  → i < length all → after ≡ given r (get_or all i 0) now → GivingBack r all (i + 1) start after
+    → i < length all → after ≡ given r (get_or all i 0) now → GivingBack r all (i + 1) start after
 gives-next r all i start now after giving below same =
     let at : ℕ = get_or all i 0 in
     let Goes : Scene → Type 0 = λ s. GivingBack r all (i + 1) start s in
     subst Goes (sym same) (record {
       whole = ap (λ places. given_back r places now) (sym (drop_more all i 0 below)) ∙ giving.whole;
       held = first-given now.floor r.place at (drop (i + 1) all) (give_answer now.floor at r.place) giving.ready.job
-        (next-one r all i start now giving below);
+          (next-one r all i start now giving below);
       ready = first-ready now.floor r.place at (give_answer now.floor at r.place) giving.ready;
     })
 
 -- the report so far is a front of what it will be
 pub giving-front : (r : Role) (all : List ℕ) (i : ℕ) (start now : Scene) → GivingBack r all i start now
-  → IsFrontOf (given_back r all start).text now.text
+    → IsFrontOf (given_back r all start).text now.text
 giving-front r all i start now giving = rw (← giving.whole) (given_back-grows r (drop i all) now)
 
 pub begins-giving : (r : Role) (all : List ℕ) (start : Scene) → places_held start.floor r.place ≡ all
-  → IsReady start.floor r.place None [] → GivingBack r all 0 start start
+    → IsReady start.floor r.place None [] → GivingBack r all 0 start start
 begins-giving r all start held ready = record { whole = refl; held = held; ready = ready }

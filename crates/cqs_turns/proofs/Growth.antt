@@ -21,7 +21,7 @@ use Rattle.cqs_turns.specs.declared.states.Progress.{Progress}
 use Rattle.cqs_turns.specs.declared.states.Progress.TheVariants.{Stepping, Working, Waiting, Ended}
 use Rattle.cqs_turns.specs.Lines.{line_text}
 use Rattle.cqs_turns.specs.Report.{IsFrontOf}
-use Rattle.cqs_turns.specs.Turns.{Role, Scene, Acted, Made, event, given, given_back, given_all, finished, made, took, stop_or, stepped, go_on, went, gave_up, looked, acted, left_at, is_due, one_job, each_job, one_turn, machine_after, Machine, places_held}
+use Rattle.cqs_turns.specs.Turns.{Role, Scene, Acted, Made, event, given, given_back, given_all, finished, made, took, stop_or, stepped, go_on, cancelled, gave_up, looked, acted, left_at, is_due, one_job, each_job, one_turn, machine_after, Machine, places_held}
 
 -- a clause on an error, from its fact
 pub on-err : {T E P : Type 0} (r : Result T E) → P → OnErr r P
@@ -68,7 +68,7 @@ made-grows r next (Await at) s = front-same s.text
 made-grows r next (Arrive at) s = front-same s.text
 
 pub stop_or-grows : (m : Made) (onward : Acted) → IsFrontOf onward.scene.text m.scene.text
-  → IsFrontOf (stop_or m onward).scene.text m.scene.text
+    → IsFrontOf (stop_or m onward).scene.text m.scene.text
 stop_or-grows m onward grows = go m.stops
   where
     go : (stops : Option Progress) → IsFrontOf (stop_or (record m { stops = stops }) onward).scene.text m.scene.text
@@ -76,7 +76,7 @@ stop_or-grows m onward grows = go m.stops
     go (Some p) = front-same m.scene.text
 
 pub stepped-grows : (r : Role) (steps : List Step) (next : ℕ) (s : Scene)
-  → IsFrontOf (stepped r steps next s).scene.text s.text
+    → IsFrontOf (stepped r steps next s).scene.text s.text
 stepped-grows r [] next s = finished-grows r s
 stepped-grows r (step ∷ steps) next s =
     let m : Made = made r next step s in
@@ -86,24 +86,24 @@ stepped-grows r (step ∷ steps) next s =
 
 -- a job that goes on after an event
 pub go_on-grows : (r : Role) (next : ℕ) (s : Scene) (floor : PlainFloor) (told : Told)
-  → IsFrontOf (go_on r next (event r s floor told)).scene.text s.text
+    → IsFrontOf (go_on r next (event r s floor told)).scene.text s.text
 go_on-grows r next s floor told =
     front-through _ (event r s floor told).text s.text
     (stepped-grows r (drop next r.job.steps) next (event r s floor told)) (front-added s.text _)
 
 pub gave_up-grows : (r : Role) (at number : ℕ) (answer : FloorLeave) (s : Scene)
-  → IsFrontOf (gave_up r at number answer s).scene.text s.text
+    → IsFrontOf (gave_up r at number answer s).scene.text s.text
 gave_up-grows r at number answer s =
-    let e : Scene = went r at number answer s in
+    let e : Scene = cancelled r at number answer s in
     front-through _ e.text s.text (given_back-grows r (places_held e.floor r.place) e) (front-added s.text _)
 
 acted-if : (b : Bool) (a c : Acted) (text : List ℕ) → IsFrontOf a.scene.text text → IsFrontOf c.scene.text text
-  → IsFrontOf (if b then a else c).scene.text text
+    → IsFrontOf (if b then a else c).scene.text text
 acted-if true a c text here there = here
 acted-if false a c text here there = there
 
 looked-grows : (r : Role) (next at number : ℕ) (answer : FloorLook) (s : Scene)
-  → IsFrontOf (looked r next at number answer s).scene.text s.text
+    → IsFrontOf (looked r next at number answer s).scene.text s.text
 looked-grows r next at number Pending s = front-same s.text
 looked-grows r next at number (Granted element) s =
     go_on-grows r next s (after_look s.floor r.place (Granted element)) (told.Served at number)
@@ -121,11 +121,11 @@ acted-grows r (Waiting next at number) s =
 acted-grows r (Ended end) s = front-same s.text
 
 one_job-grows : (resources : List Resource) (turn place : ℕ) (job : Job) (m : Machine)
-  → IsFrontOf (one_job resources turn place job m).scene.text m.scene.text
+    → IsFrontOf (one_job resources turn place job m).scene.text m.scene.text
 one_job-grows resources turn place job m = acted-grows _ (slice_index_or m.progress place (Ended end.Done)) m.scene
 
 pub each_job-grows : (resources : List Resource) (turn place : ℕ) (jobs : List Job) (m : Machine)
-  → IsFrontOf (each_job resources turn place jobs m).scene.text m.scene.text
+    → IsFrontOf (each_job resources turn place jobs m).scene.text m.scene.text
 each_job-grows resources turn place [] m = front-same m.scene.text
 each_job-grows resources turn place (job ∷ jobs) m =
     let after : Machine = one_job resources turn place job m in
@@ -141,13 +141,13 @@ machine_after-grows plan n (suc k) =
 
 -- what stands after a part of a turn is a front of what stands after all turns
 pub front-of-later : (plan : Plan) (turn turns : ℕ) (now : Machine) (text : List ℕ) → now ≡ machine_after plan turn
-  → turn < turns → IsFrontOf (one_turn plan turn now).scene.text text → IsFrontOf (machine_after plan turns).scene.text text
+    → turn < turns → IsFrontOf (one_turn plan turn now).scene.text text → IsFrontOf (machine_after plan turns).scene.text text
 front-of-later plan turn turns now text same below front =
     let at : ℕ = turn + 1 in
     let this_turn : one_turn plan turn now ≡ machine_after plan at
-        = ap (one_turn plan turn) same ∙ ap (machine_after plan) (sym (add-one turn)) in
+    = ap (one_turn plan turn) same ∙ ap (machine_after plan) (sym (add-one turn)) in
     let later : IsFrontOf (machine_after plan turns).scene.text (machine_after plan at).scene.text
-        = let sum : turns ≡ at + (turns - at) = omega arith in
-          rw sum (machine_after-grows plan at (turns - at)) in
+    = let sum : turns ≡ at + (turns - at) = omega arith in
+    rw sum (machine_after-grows plan at (turns - at)) in
     let so_far : IsFrontOf (machine_after plan at).scene.text text = rw this_turn at front in
     front-through _ (machine_after plan at).scene.text text later so_far

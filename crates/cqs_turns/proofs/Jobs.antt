@@ -18,12 +18,13 @@ use Rattle.cqs_turns.specs.Roles.{scene}
 use Rattle.cqs_turns.specs.Running.{IsRunning, IsKept, machine_of, turn_at}
 use Rattle.cqs_turns.specs.States.{IsSet}
 use Rattle.cqs_turns.specs.Turns.{Role, Scene, Acted, Machine, acted, left_at, one_job, places_held}
+use Rattle.cqs_turns.proofs.Mapped.{get-map}
 use Rattle.cqs_turns.proofs.RunningLemmas.{room-of, running-on}
 use Rattle.cqs_turns.proofs.Turned.{Turned, acted-turned}
 
 -- the job r, with this state, is about to act on a running machine
 pub record Acting (plan : Plan) (r : Role) (f : PlainFloor) (text : List ℕ) (states : List JobState) (state : JobState)
-  : Type 0 where
+    : Type 0 where
   pub resources : r.resources ≡ plan.resources
   pub job : slice_get plan.jobs r.place ≡ Some r.job
   pub its_state : slice_get states r.place ≡ Some state
@@ -31,19 +32,13 @@ pub record Acting (plan : Plan) (r : Role) (f : PlainFloor) (text : List ℕ) (s
   pub running : IsRunning plan (machine_of f text states)
   pub kept : IsKept f states
 
-get-map : {X Y : Type 0} (h : X → Y) (xs : List X) (i : ℕ) (x : X) → slice_get xs i ≡ Some x → slice_get (map h xs) i ≡ Some (h x)
-get-map h [] i x got = absurd (cc)
-get-map h (y ∷ ys) zero x got = let same : y ≡ x = cc in ap (λ z. Some (h z)) same
-get-map h (y ∷ ys) (suc i) x got = get-map h ys i x got
-
 -- the machine after a job acted
 abbrev turn_with : Role → List JobState → Acted → Machine
 turn_with r states a =
     record { scene = a.scene; progress = set (map (λ s. s.progress) states) r.place a.progress }
 
 module _ (plan : Plan) (r : Role) (f : PlainFloor) (text : List ℕ) (states : List JobState) (state : JobState)
-  (acting : Acting plan r f text states state) where
-
+    (acting : Acting plan r f text states state) where
   its-progress : slice_get (map (λ s. s.progress) states) r.place ≡ Some state.progress
   its-progress = get-map (λ (s : JobState). s.progress) states r.place state acting.its_state
 
@@ -61,23 +56,22 @@ module _ (plan : Plan) (r : Role) (f : PlainFloor) (text : List ℕ) (states : L
 
   -- what the turn of the job is to the machine
   machine-turn : turn_at plan r.turn r.place (machine_of f text states)
-    ≡ turn_with r states (acted r state.progress (scene f text))
+      ≡ turn_with r states (acted r state.progress (scene f text))
   machine-turn =
       let m : Machine = machine_of f text states in
       let this_job : turn_at plan r.turn r.place m ≡ one_job plan.resources r.turn r.place r.job m
-          = ap (λ o. option_map_or (λ job. one_job plan.resources r.turn r.place job m) o m) acting.job in
+      = ap (λ o. option_map_or (λ job. one_job plan.resources r.turn r.place job m) o m) acting.job in
       let these_resources : one_job plan.resources r.turn r.place r.job m ≡ one_job r.resources r.turn r.place r.job m
-          = ap (λ rs. one_job rs r.turn r.place r.job m) (sym acting.resources) in
+      = ap (λ rs. one_job rs r.turn r.place r.job m) (sym acting.resources) in
       let its_progress : get_or (map (λ s. s.progress) states) r.place (Ended end.Done) ≡ state.progress
-          = get_or_from_slice_get (map (λ (s : JobState). s.progress) states) r.place state.progress (Ended end.Done) its-progress in
+      = get_or_from_slice_get (map (λ (s : JobState). s.progress) states) r.place state.progress (Ended end.Done) its-progress in
       this_job ∙ these_resources ∙ ap (λ p. turn_with r states (acted r p (scene f text))) its_progress
 
   its-turned : Turned r f (steps_left r.job.steps state.progress) (acted r state.progress (scene f text))
   its-turned = acted-turned r state.progress (scene f text) acting-set.ready acting-room
 
   module _ (g : PlainFloor) (new : List ℕ) (after : JobState)
-    (acts : left_at (scene g new) after.progress ≡ acted r state.progress (scene f text)) where
-
+      (acts : left_at (scene g new) after.progress ≡ acted r state.progress (scene f text)) where
     machine-after : machine_of g new (set states r.place after) ≡ turn_with r states (left_at (scene g new) after.progress)
     machine-after =
         ap (λ progress. record { scene = scene g new; progress = progress })
@@ -89,18 +83,18 @@ module _ (plan : Plan) (r : Role) (f : PlainFloor) (text : List ℕ) (states : L
     pub acting-running : IsRunning plan (machine_of g new (set states r.place after))
     acting-running =
         let turned : IsRunning plan (turn_with r states (acted r state.progress (scene f text)))
-            = running-on plan (machine_of f text states) r state.progress (acted r state.progress (scene f text))
-              acting.running acting.job its-progress its-turned in
+        = running-on plan (machine_of f text states) r state.progress (acted r state.progress (scene f text))
+        acting.running acting.job its-progress its-turned in
         subst (IsRunning plan) (sym (machine-after ∙ ap (turn_with r states) acts)) turned
 
     pub acting-kept : after.held.items ≡ places_held g r.place → IsKept g (set states r.place after)
     acting-kept held = record { held = λ j s got. kept j s got (cases_eq j r.place) }
       where
         kept : (j : ℕ) (s : JobState) → slice_get (set states r.place after) j ≡ Some s → (j ≡ r.place) ⊎ (j ≢ r.place)
-          → s.held.items ≡ places_held g j
+            → s.held.items ≡ places_held g j
         kept j s got (inl here) =
             let now : slice_get (set states r.place after) r.place ≡ Some after
-                = get-set_here states r.place state after acting.its_state in
+            = get-set_here states r.place state after acting.its_state in
             let there : slice_get (set states r.place after) r.place ≡ Some s = rw here at got in
             let same : s ≡ after = cc in
             rw (here, same) held
@@ -108,23 +102,23 @@ module _ (plan : Plan) (r : Role) (f : PlainFloor) (text : List ℕ) (states : L
             let before : slice_get states j ≡ Some s = sym (get-set_else states r.place j after (λ e. other (sym e))) ∙ got in
             let floor_after : g ≡ (acted r state.progress (scene f text)).scene.floor = ap (λ (a : Acted). a.scene.floor) acts in
             let unmoved : holds_of g j ≡ holds_of f j
-                = ap (λ h. holds_of h j) floor_after ∙ its-turned.moves.holds j other in
+            = ap (λ h. holds_of h j) floor_after ∙ its-turned.moves.holds j other in
             acting.kept.held j s before ∙ ap (map (λ h. h.at)) (sym unmoved)
 
   pub acting-err : (so_far : List ℕ) → IsFrontOf (acted r state.progress (scene f text)).scene.text so_far
-    → IsFrontOf (turn_at plan r.turn r.place (machine_of f text states)).scene.text so_far
+      → IsFrontOf (turn_at plan r.turn r.place (machine_of f text states)).scene.text so_far
   acting-err so_far front = rw machine-turn front
 
 -- the job at a place of a running machine acts
 pub acting-at : (plan : Plan) (r : Role) (f : PlainFloor) (text : List ℕ) (states : List JobState) (place : ℕ)
-  (d : JobState) → r.resources ≡ plan.resources → r.place ≡ place → slice_get plan.jobs place ≡ Some r.job
-  → IsRunnable plan → IsRunning plan (machine_of f text states) → IsKept f states → place < length plan.jobs
-  → Acting plan r f text states (get_or states place d)
+    (d : JobState) → r.resources ≡ plan.resources → r.place ≡ place → slice_get plan.jobs place ≡ Some r.job
+    → IsRunnable plan → IsRunning plan (machine_of f text states) → IsKept f states → place < length plan.jobs
+    → Acting plan r f text states (get_or states place d)
 acting-at plan r f text states place d resources there job runnable running kept below = record {
   resources = resources;
   job = rw there job;
   its_state = rw there (slice_get-get_or states place d
-    (omega (arith, below, running.jobs, length-map states (λ (s : JobState). s.progress))));
+      (omega (arith, below, running.jobs, length-map states (λ (s : JobState). s.progress))));
   runnable = runnable;
   running = running;
   kept = kept;
@@ -132,17 +126,16 @@ acting-at plan r f text states place d resources there job runnable running kept
 
 -- what the turn of the job at a place leaves
 module _ (plan : Plan) (r : Role) (f : PlainFloor) (text : List ℕ) (states : List JobState) (state : JobState)
-  (acting : Acting plan r f text states state) (turn place : ℕ) (at_turn : r.turn ≡ turn) (there : r.place ≡ place)
-  (g : PlainFloor) (new : List ℕ) (after : JobState) where
-
+    (acting : Acting plan r f text states state) (turn place : ℕ) (at_turn : r.turn ≡ turn) (there : r.place ≡ place)
+    (g : PlainFloor) (new : List ℕ) (after : JobState) where
   pub one-job-ok : left_at (scene g new) after.progress ≡ acted r state.progress (scene f text)
-    → machine_of g new (set states place after) ≡ turn_at plan turn place (machine_of f text states)
+      → machine_of g new (set states place after) ≡ turn_at plan turn place (machine_of f text states)
   one-job-ok acts = rw (← there, ← at_turn) (acting-ok plan r f text states state acting g new after acts)
 
   pub one-job-running : left_at (scene g new) after.progress ≡ acted r state.progress (scene f text)
-    → IsRunning plan (machine_of g new (set states place after))
+      → IsRunning plan (machine_of g new (set states place after))
   one-job-running acts = rw (← there) (acting-running plan r f text states state acting g new after acts)
 
   pub one-job-kept : left_at (scene g new) after.progress ≡ acted r state.progress (scene f text)
-    → after.held.items ≡ places_held g r.place → IsKept g (set states place after)
+      → after.held.items ≡ places_held g r.place → IsKept g (set states place after)
   one-job-kept acts held = rw (← there) (acting-kept plan r f text states state acting g new after acts held)

@@ -11,3 +11,4 @@ pub mod RunningLemmas
 pub mod Jobs
 pub mod Turning
 pub mod Ends
+pub mod Mapped

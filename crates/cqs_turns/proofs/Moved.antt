@@ -32,9 +32,13 @@ pub record Moves (place : ℕ) (f : PlainFloor) (steps : List Step) (g : PlainFl
 
 -- steps that aren't made
 pub moves-fewer : (place : ℕ) (f : PlainFloor) (steps left : List Step)
-  → ((at : ℕ) → count_by (is_take at) left ≤ count_by (is_take at) steps) → Moves place f steps f left
+    → ((at : ℕ) → count_by (is_take at) left ≤ count_by (is_take at) steps) → Moves place f steps f left
 moves-fewer place f steps left fewer = record {
-  kinds = refl; all_waits = refl; all_holds = refl; waits = λ j other. refl; holds = λ j other. refl;
+  kinds = refl;
+  all_waits = refl;
+  all_holds = refl;
+  waits = λ j other. refl;
+  holds = λ j other. refl;
   room = λ at. omega (arith, fewer at);
 }
 
@@ -42,7 +46,7 @@ pub moves-none : (place : ℕ) (f : PlainFloor) (steps : List Step) → Moves pl
 moves-none place f steps = moves-fewer place f steps steps (λ at. omega arith)
 
 pub moves-on : (place : ℕ) (f : PlainFloor) (steps : List Step) (g : PlainFloor) (left : List Step) (h : PlainFloor)
-  (last : List Step) → Moves place f steps g left → Moves place g left h last → Moves place f steps h last
+    (last : List Step) → Moves place f steps g left → Moves place g left h last → Moves place f steps h last
 moves-on place f steps g left h last first second = record {
   kinds = second.kinds ∙ first.kinds;
   all_waits = second.all_waits ∙ first.all_waits;
@@ -53,27 +57,33 @@ moves-on place f steps g left h last first second = record {
 }
 
 pub moves-wait : (place : ℕ) (f : PlainFloor) (w : Option JobWait) (steps : List Step)
-  → Moves place f steps (with_wait f place w) steps
+    → Moves place f steps (with_wait f place w) steps
 moves-wait place f w steps = record {
-  kinds = refl; all_waits = length-set f.waits place w; all_holds = refl;
-  waits = λ j other. get_or-set_other f.waits place j w None other; holds = λ j other. refl;
+  kinds = refl;
+  all_waits = length-set f.waits place w;
+  all_holds = refl;
+  waits = λ j other. get_or-set_other f.waits place j w None other;
+  holds = λ j other. refl;
   room = λ at. omega arith;
 }
 
 moves-holds : (place : ℕ) (f : PlainFloor) (hs : List Holding) (steps : List Step)
-  → Moves place f steps (record f { holds = set f.holds place hs }) steps
+    → Moves place f steps (record f { holds = set f.holds place hs }) steps
 moves-holds place f hs steps = record {
-  kinds = refl; all_waits = refl; all_holds = length-set f.holds place hs;
-  waits = λ j other. refl; holds = λ j other. get_or-set_other f.holds place j hs [] other;
+  kinds = refl;
+  all_waits = refl;
+  all_holds = length-set f.holds place hs;
+  waits = λ j other. refl;
+  holds = λ j other. get_or-set_other f.holds place j hs [] other;
   room = λ at. omega arith;
 }
 
 pub takes-cons : (at : ℕ) (step : Step) (steps : List Step)
-  → count_by (is_take at) (step ∷ steps) ≡ cond (is_take at step) 1 0 + count_by (is_take at) steps
+    → count_by (is_take at) (step ∷ steps) ≡ cond (is_take at step) 1 0 + count_by (is_take at) steps
 takes-cons at step steps = sum_by-cons (λ s. cond (is_take at s) 1 0) step steps
 
 takes-here : (at : ℕ) (steps : List Step)
-  → count_by (is_take at) (Take at ∷ steps) ≡ 1 + count_by (is_take at) steps
+    → count_by (is_take at) (Take at ∷ steps) ≡ 1 + count_by (is_take at) steps
 takes-here at steps =
     takes-cons at (Take at) steps ∙ ap (λ b. cond b 1 0 + count_by (is_take at) steps) (eq-eqb at at refl)
 
@@ -91,43 +101,51 @@ resource-there room at some = go (cases_lt at (length room))
 
 -- a take lowers the room of its resource by one
 pub moves-room : (place : ℕ) (f : PlainFloor) (at : ℕ) (steps : List Step) → 0 < room_at f at
-  → Moves place f (Take at ∷ steps) (with_less_room f at) steps
+    → Moves place f (Take at ∷ steps) (with_less_room f at) steps
 moves-room place f at steps some = record {
-  kinds = refl; all_waits = refl; all_holds = refl; waits = λ j other. refl; holds = λ j other. refl;
+  kinds = refl;
+  all_waits = refl;
+  all_holds = refl;
+  waits = λ j other. refl;
+  holds = λ j other. refl;
   room = λ q. room q (cases_eq q at);
 }
   where
     room : (q : ℕ) → (q ≡ at) ⊎ (q ≢ at)
-      → room_at f q + count_by (is_take q) steps
+        → room_at f q + count_by (is_take q) steps
         ≤ room_at (with_less_room f at) q + count_by (is_take q) (Take at ∷ steps)
     room q (inl same) =
         let there : at < length f.room = resource-there f.room at some in
         let counted : count_by (is_take at) (Take at ∷ steps) ≡ 1 + count_by (is_take at) steps = takes-here at steps in
         let less : room_at (with_less_room f at) at ≡ room_at f at - 1
-            = get_or-set_same f.room at (room_at f at - 1) 0 there in
+        = get_or-set_same f.room at (room_at f at - 1) 0 there in
         let enough : ℕ → Type 0 = λ n. room_at f n + count_by (is_take n) steps
-            ≤ room_at (with_less_room f at) n + count_by (is_take n) (Take at ∷ steps) in
+        ≤ room_at (with_less_room f at) n + count_by (is_take n) (Take at ∷ steps) in
         subst enough (sym same) (omega (arith, counted, less))
     room q (inr other) =
         let kept : room_at (with_less_room f at) q ≡ room_at f q
-            = get_or-set_other f.room at q (room_at f at - 1) 0 other in
+        = get_or-set_other f.room at q (room_at f at - 1) 0 other in
         omega (arith, takes-cons q (Take at) steps, kept)
 
 -- a floor with room has room for what is left
 pub room-after : (place : ℕ) (f : PlainFloor) (steps : List Step) (g : PlainFloor) (left : List Step)
-  → Moves place f steps g left → HasRoom f steps → HasRoom g left
+    → Moves place f steps g left → HasRoom f steps → HasRoom g left
 room-after place f steps g left moves room =
     record { for = λ at. omega (arith, moves.room at, room.for at) }
 
 moves-entries : (place : ℕ) (f : PlainFloor) (at : ℕ) (entries : List Entry) (steps : List Step)
-  → Moves place f steps (with_entries f at entries) steps
+    → Moves place f steps (with_entries f at entries) steps
 moves-entries place f at entries steps = record {
-  kinds = refl; all_waits = refl; all_holds = refl; waits = λ j other. refl; holds = λ j other. refl;
+  kinds = refl;
+  all_waits = refl;
+  all_holds = refl;
+  waits = λ j other. refl;
+  holds = λ j other. refl;
   room = λ q. omega arith;
 }
 
 pub taken-moves : (place : ℕ) (f : PlainFloor) (at : ℕ) (answer : FloorTake) (steps : List Step)
-  → HasRoom f (Take at ∷ steps) → Moves place f (Take at ∷ steps) (after_take f at place answer) steps
+    → HasRoom f (Take at ∷ steps) → Moves place f (Take at ∷ steps) (after_take f at place answer) steps
 taken-moves place f at (Now element) steps room =
     let less : PlainFloor = with_less_room f at in
     let told : PlainFloor = with_entries less at (entry.TakeNow 0 ∷ []) in
@@ -143,20 +161,20 @@ taken-moves place f at (Waits number) steps room =
     (moves-wait place told (Some (record { at = at; number = number })) steps))
 
 given-by : (place : ℕ) (f : PlainFloor) (at : ℕ) (entries : List Entry) (steps : List Step)
-  → Moves place f steps (without_oldest (with_entries f at entries) place at) steps
+    → Moves place f steps (without_oldest (with_entries f at entries) place at) steps
 given-by place f at entries steps =
     let told : PlainFloor = with_entries f at entries in
     moves-on place f steps told steps _ steps (moves-entries place f at entries steps)
     (moves-holds place told (without (λ h. h.at) at (holds_of told place)) steps)
 
 pub given-moves : (place : ℕ) (f : PlainFloor) (at : ℕ) (answer : FloorGive) (steps : List Step)
-  → Moves place f steps (after_give f at place answer) steps
+    → Moves place f steps (after_give f at place answer) steps
 given-moves place f at (Free element) steps = given-by place f at (entry.GiveFreed 0 ∷ []) steps
 given-moves place f at (Sent element number) steps =
     given-by place f at (entry.GiveSent 0 ∷ entry.Deliver number ∷ []) steps
 
 granted-moves : (place : ℕ) (f : PlainFloor) (entry_of : JobWait → Entry) (wait : Option JobWait) (element : ℕ)
-  (steps : List Step) → Moves place f steps (with_granted f place entry_of wait element) steps
+    (steps : List Step) → Moves place f steps (with_granted f place entry_of wait element) steps
 granted-moves place f entry_of None element steps = moves-none place f steps
 granted-moves place f entry_of (Some wait) element steps =
     let entries : List Entry = entry_of wait ∷ [] in
@@ -167,12 +185,12 @@ granted-moves place f entry_of (Some wait) element steps =
     (moves-holds place over (holds_of over place ++ record { at = wait.at; element = element } ∷ []) steps))
 
 pub looked-moves : (place : ℕ) (f : PlainFloor) (element : ℕ) (steps : List Step)
-  → Moves place f steps (after_look f place (Granted element)) steps
+    → Moves place f steps (after_look f place (Granted element)) steps
 looked-moves place f element steps =
     granted-moves place f (λ wait. entry.LookGranted 0 wait.number) (wait_of f place) element steps
 
 left-moves : (place : ℕ) (f : PlainFloor) (wait : Option JobWait) (steps : List Step)
-  → Moves place f steps (with_left f place wait) steps
+    → Moves place f steps (with_left f place wait) steps
 left-moves place f None steps = moves-none place f steps
 left-moves place f (Some wait) steps =
     let entries : List Entry = entry.Leave 0 wait.number ∷ [] in
@@ -181,7 +199,7 @@ left-moves place f (Some wait) steps =
     (moves-wait place told None steps)
 
 pub leave-moves : (place : ℕ) (f : PlainFloor) (answer : FloorLeave) (steps : List Step)
-  → Moves place f steps (after_leave f place answer) steps
+    → Moves place f steps (after_leave f place answer) steps
 leave-moves place f Gone steps = left-moves place f (wait_of f place) steps
 leave-moves place f (Late element) steps =
     granted-moves place f (λ wait. entry.Late 0 wait.number) (wait_of f place) element steps

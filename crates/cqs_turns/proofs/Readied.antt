@@ -21,7 +21,7 @@ use Rattle.cqs_turns.specs.Turns.{places_held}
 use Rattle.cqs_turns.proofs.Held.{oldest-there, map-without, without-head}
 
 holdable-push : (kinds : List Kind) (places : List ℕ) (at : ℕ) → AreHoldable kinds places
-  → IsHoldable (slice_get kinds at) → AreHoldable kinds (places ++ at ∷ [])
+    → IsHoldable (slice_get kinds at) → AreHoldable kinds (places ++ at ∷ [])
 holdable-push kinds [] at all here = (here, tt)
 holdable-push kinds (p ∷ places) at all here = (all.0, holdable-push kinds places at all.1 here)
 
@@ -30,77 +30,77 @@ holdable-front kinds [] more all = tt
 holdable-front kinds (p ∷ places) more all = (all.0, holdable-front kinds places more all.1)
 
 holdable-without_by : (kinds : List Kind) (at p : ℕ) (places : List ℕ) (b : Bool) → at == p ≡ b
-  → AreHoldable kinds (p ∷ places) → AreHoldable kinds (without (λ place. place) at places)
-  → AreHoldable kinds (without (λ place. place) at (p ∷ places))
+    → AreHoldable kinds (p ∷ places) → AreHoldable kinds (without (λ place. place) at places)
+    → AreHoldable kinds (without (λ place. place) at (p ∷ places))
 holdable-without_by kinds at p places true same all later = rw same all.1
 holdable-without_by kinds at p places false other all later = rw other (all.0, later)
 
 holdable-without : (kinds : List Kind) (at : ℕ) (places : List ℕ) → AreHoldable kinds places
-  → AreHoldable kinds (without (λ place. place) at places)
+    → AreHoldable kinds (without (λ place. place) at places)
 holdable-without kinds at [] all = tt
 holdable-without kinds at (p ∷ places) all =
     holdable-without_by kinds at p places (at == p) refl all (holdable-without kinds at places all.1)
 
 holdable-at_by : (kinds : List Kind) (at p : ℕ) (places : List ℕ) (b : Bool) → p == at ≡ b
-  → is_held at (p ∷ places) ≡ true → AreHoldable kinds (p ∷ places)
-  → (is_held at places ≡ true → IsHoldable (slice_get kinds at)) → IsHoldable (slice_get kinds at)
+    → is_held at (p ∷ places) ≡ true → AreHoldable kinds (p ∷ places)
+    → (is_held at places ≡ true → IsHoldable (slice_get kinds at)) → IsHoldable (slice_get kinds at)
 holdable-at_by kinds at p places true same held all later =
     let here : p ≡ at = eqb-true p at same in rw (← here) all.0
 holdable-at_by kinds at p places false other held all later = later (rw other at held)
 
 -- what is held can be held
 holdable-at : (kinds : List Kind) (at : ℕ) (places : List ℕ) → is_held at places ≡ true → AreHoldable kinds places
-  → IsHoldable (slice_get kinds at)
+    → IsHoldable (slice_get kinds at)
 holdable-at kinds at [] held all = absurd (cc)
 holdable-at kinds at (p ∷ places) held all =
     holdable-at_by kinds at p places (p == at) refl held all (λ further. holdable-at kinds at places further all.1)
 
 -- a job that can give has what it gives
 pub can-give : (f : PlainFloor) (place at : ℕ) (steps : List Step) → IsReady f place None (Give at ∷ steps)
-  → IsHoldable (slice_get f.kinds at)
+    → IsHoldable (slice_get f.kinds at)
 can-give f place at steps ready = holdable-at f.kinds at (places_held f place) ready.makeable.0 ready.holdable
 
 pub holds-given : (f : PlainFloor) (place at : ℕ) (steps : List Step) → IsReady f place None (Give at ∷ steps)
-  → IsHolding f at place
+    → IsHolding f at place
 holds-given f place at steps ready = oldest-there at (holds_of f place) ready.makeable.0
 
 -- what the job holds after a call
 places-newest : (f : PlainFloor) (place at element : ℕ) → IsJob f place
-  → places_held (with_newest f place at element) place ≡ places_held f place ++ at ∷ []
+    → places_held (with_newest f place at element) place ≡ places_held f place ++ at ∷ []
 places-newest f place at element job =
     let newest : Holding = record { at = at; element = element } in
     ap (map (λ h. h.at)) (get_or-set_same f.holds place (holds_of f place ++ newest ∷ []) [] job.holds)
     ∙ map-append (λ h. h.at) (holds_of f place) (newest ∷ [])
 
 places-without : (f : PlainFloor) (place at : ℕ) → IsJob f place
-  → places_held (without_oldest f place at) place ≡ without (λ p. p) at (places_held f place)
+    → places_held (without_oldest f place at) place ≡ without (λ p. p) at (places_held f place)
 places-without f place at job =
     ap (map (λ h. h.at)) (get_or-set_same f.holds place (without (λ h. h.at) at (holds_of f place)) [] job.holds)
     ∙ map-without at (holds_of f place)
 
 ready-at : (g : PlainFloor) (place : ℕ) (wait : Option JobWait) (steps : List Step) (held : List ℕ) → IsJob g place
-  → wait_of g place ≡ wait → coming (places_held g place) wait ≡ held → AreHoldable g.kinds held
-  → CanMake g.kinds held steps → IsReady g place wait steps
+    → wait_of g place ≡ wait → coming (places_held g place) wait ≡ held → AreHoldable g.kinds held
+    → CanMake g.kinds held steps → IsReady g place wait steps
 ready-at g place wait steps held job waits same holdable makeable =
     record { job = job; waits = waits; holdable = rw same holdable; makeable = rw same makeable }
 
 job-holds : (f : PlainFloor) (place : ℕ) (hs : List Holding) → IsJob f place
-  → IsJob (record f { holds = set f.holds place hs }) place
+    → IsJob (record f { holds = set f.holds place hs }) place
 job-holds f place hs job = record { waits = job.waits; holds = omega (arith, job.holds, length-set f.holds place hs) }
 
 job-waits : (f : PlainFloor) (place : ℕ) (wait : Option JobWait) → IsJob f place
-  → IsJob (record f { waits = set f.waits place wait }) place
+    → IsJob (record f { waits = set f.waits place wait }) place
 job-waits f place wait job =
     record { waits = omega (arith, job.waits, length-set f.waits place wait); holds = job.holds }
 
 -- a job stays ready where its steps are no more
 pub ready-to-end : (f : PlainFloor) (place : ℕ) (wait : Option JobWait) (steps : List Step)
-  → IsReady f place wait steps → IsReady f place wait []
+    → IsReady f place wait steps → IsReady f place wait []
 ready-to-end f place wait steps ready =
     record { job = ready.job; waits = ready.waits; holdable = ready.holdable; makeable = tt }
 
 pub taken-ready : (f : PlainFloor) (place at element : ℕ) (steps : List Step)
-  → IsReady f place None (Take at ∷ steps) → IsReady (after_take f at place (Now element)) place None steps
+    → IsReady f place None (Take at ∷ steps) → IsReady (after_take f at place (Now element)) place None steps
 taken-ready f place at element steps ready =
     let g : PlainFloor = after_take f at place (Now element) in
     let newest : Holding = record { at = at; element = element } in
@@ -112,8 +112,8 @@ taken-ready f place at element steps ready =
     (holdable-push f.kinds (places_held f place) at ready.holdable ready.makeable.0) ready.makeable.1
 
 pub waiting-ready : (f : PlainFloor) (place at number : ℕ) (steps : List Step)
-  → IsReady f place None (Take at ∷ steps)
-  → IsReady (after_take f at place (Waits number)) place (Some (record { at = at; number = number })) steps
+    → IsReady f place None (Take at ∷ steps)
+    → IsReady (after_take f at place (Waits number)) place (Some (record { at = at; number = number })) steps
 waiting-ready f place at number steps ready =
     let g : PlainFloor = after_take f at place (Waits number) in
     let wait : Option JobWait = Some (record { at = at; number = number }) in
@@ -126,8 +126,8 @@ waiting-ready f place at number steps ready =
     (holdable-push f.kinds (places_held f place) at ready.holdable ready.makeable.0) ready.makeable.1
 
 -- what a give leaves, where the job could give
-pub given-held : (f : PlainFloor) (place at : ℕ) (answer : FloorGive) → IsJob f place
-  → places_held (after_give f at place answer) place ≡ without (λ p. p) at (places_held f place)
+given-held : (f : PlainFloor) (place at : ℕ) (answer : FloorGive) → IsJob f place
+    → places_held (after_give f at place answer) place ≡ without (λ p. p) at (places_held f place)
 given-held f place at (Free element) job = places-without f place at job
 given-held f place at (Sent element number) job = places-without f place at job
 
@@ -141,6 +141,14 @@ given-job f place at (Sent element number) job = record {
   holds = omega (arith, job.holds, length-set f.holds place (without (λ h. h.at) at (holds_of f place)));
 }
 
+-- what the job holds, as the code and the floor have it, after a give
+pub given-left : (f g : PlainFloor) (place at : ℕ) (answer : FloorGive) (held left : List ℕ) → IsJob f place
+  → held ≡ places_held f place → left ≡ without (λ p. p) at held → g ≡ after_give f at place answer
+  → left ≡ places_held g place
+given-left f g place at answer held left job before fewer after =
+    fewer ∙ ap (without (λ p. p) at) before ∙ sym (given-held f place at answer job)
+    ∙ ap (λ h. places_held h place) (sym after)
+
 given-kinds : (f : PlainFloor) (place at : ℕ) (answer : FloorGive) → (after_give f at place answer).kinds ≡ f.kinds
 given-kinds f place at (Free element) = refl
 given-kinds f place at (Sent element number) = refl
@@ -150,7 +158,7 @@ given-waits f place at (Free element) = refl
 given-waits f place at (Sent element number) = refl
 
 pub given-ready : (f : PlainFloor) (place at : ℕ) (answer : FloorGive) (steps : List Step)
-  → IsReady f place None (Give at ∷ steps) → IsReady (after_give f at place answer) place None steps
+    → IsReady f place None (Give at ∷ steps) → IsReady (after_give f at place answer) place None steps
 given-ready f place at answer steps ready =
     let g : PlainFloor = after_give f at place answer in
     let rest : List ℕ = without (λ p. p) at (places_held f place) in
@@ -162,12 +170,12 @@ given-ready f place at answer steps ready =
 
 -- a job gives back the oldest of all
 pub first-given : (f : PlainFloor) (place at : ℕ) (rest : List ℕ) (answer : FloorGive) → IsJob f place
-  → places_held f place ≡ at ∷ rest → places_held (after_give f at place answer) place ≡ rest
+    → places_held f place ≡ at ∷ rest → places_held (after_give f at place answer) place ≡ rest
 first-given f place at rest answer job first =
     given-held f place at answer job ∙ ap (without (λ p. p) at) first ∙ without-head at rest
 
 pub first-ready : (f : PlainFloor) (place at : ℕ) (answer : FloorGive)
-  → IsReady f place None [] → IsReady (after_give f at place answer) place None []
+    → IsReady f place None [] → IsReady (after_give f at place answer) place None []
 first-ready f place at answer ready =
     let g : PlainFloor = after_give f at place answer in
     let rest : List ℕ = without (λ p. p) at (places_held f place) in
@@ -179,7 +187,7 @@ first-ready f place at answer ready =
 
 -- what was waited for came
 came-ready : (f : PlainFloor) (place : ℕ) (entry_of : JobWait → Entry) (wait : JobWait) (element : ℕ) (steps : List Step)
-  → IsReady f place (Some wait) steps → IsReady (with_granted f place entry_of (Some wait) element) place None steps
+    → IsReady f place (Some wait) steps → IsReady (with_granted f place entry_of (Some wait) element) place None steps
 came-ready f place entry_of wait element steps ready =
     let g : PlainFloor = with_granted f place entry_of (Some wait) element in
     let newest : Holding = record { at = wait.at; element = element } in
@@ -192,19 +200,19 @@ came-ready f place entry_of wait element steps ready =
     (places-newest f place wait.at element ready.job) ready.holdable ready.makeable
 
 granted-ready : (f : PlainFloor) (place : ℕ) (entry_of : JobWait → Entry) (wait : JobWait) (element : ℕ) (steps : List Step)
-  → IsReady f place (Some wait) steps
-  → IsReady (with_granted f place entry_of (wait_of f place) element) place None steps
+    → IsReady f place (Some wait) steps
+    → IsReady (with_granted f place entry_of (wait_of f place) element) place None steps
 granted-ready f place entry_of wait element steps ready =
     let Goes : Option JobWait → Type 0 = λ o. IsReady (with_granted f place entry_of o element) place None steps in
     subst Goes (sym ready.waits) (came-ready f place entry_of wait element steps ready)
 
 pub looked-ready : (f : PlainFloor) (place : ℕ) (wait : JobWait) (element : ℕ) (steps : List Step)
-  → IsReady f place (Some wait) steps → IsReady (after_look f place (Granted element)) place None steps
+    → IsReady f place (Some wait) steps → IsReady (after_look f place (Granted element)) place None steps
 looked-ready f place wait element steps ready =
     granted-ready f place (λ w. entry.LookGranted 0 w.number) wait element steps ready
 
 went-ready : (f : PlainFloor) (place : ℕ) (wait : JobWait) (steps : List Step)
-  → IsReady f place (Some wait) steps → IsReady (with_left f place (Some wait)) place None []
+    → IsReady f place (Some wait) steps → IsReady (with_left f place (Some wait)) place None []
 went-ready f place wait steps ready =
     let g : PlainFloor = with_left f place (Some wait) in
     let job : IsJob g place = record {
@@ -216,7 +224,7 @@ went-ready f place wait steps ready =
 
 -- a job that left the line, or was late, can give back all that it holds
 pub leave-ready : (f : PlainFloor) (place : ℕ) (wait : JobWait) (answer : FloorLeave) (steps : List Step)
-  → IsReady f place (Some wait) steps → IsReady (after_leave f place answer) place None []
+    → IsReady f place (Some wait) steps → IsReady (after_leave f place answer) place None []
 leave-ready f place wait Gone steps ready =
     let Goes : Option JobWait → Type 0 = λ o. IsReady (with_left f place o) place None [] in
     subst Goes (sym ready.waits) (went-ready f place wait steps ready)
@@ -224,11 +232,11 @@ leave-ready f place wait (Late element) steps ready =
     ready-to-end _ place None steps (granted-ready f place (λ w. entry.Late 0 w.number) wait element steps ready)
 
 granted-held : (f : PlainFloor) (place : ℕ) (entry_of : JobWait → Entry) (wait : JobWait) (element : ℕ)
-  → IsJob f place → wait_of f place ≡ Some wait
-  → places_held (with_granted f place entry_of (wait_of f place) element) place ≡ places_held f place ++ wait.at ∷ []
+    → IsJob f place → wait_of f place ≡ Some wait
+    → places_held (with_granted f place entry_of (wait_of f place) element) place ≡ places_held f place ++ wait.at ∷ []
 granted-held f place entry_of wait element job waits =
     let Holds : Option JobWait → Type 0 = λ o.
-        places_held (with_granted f place entry_of o element) place ≡ places_held f place ++ wait.at ∷ [] in
+    places_held (with_granted f place entry_of o element) place ≡ places_held f place ++ wait.at ∷ [] in
     subst Holds (sym waits) (places-newest f place wait.at element job)
 
 went-held : (f : PlainFloor) (place : ℕ) (wait : Option JobWait) → places_held (with_left f place wait) place ≡ places_held f place
@@ -237,15 +245,15 @@ went-held f place (Some wait) = refl
 
 -- what a job holds that left the line, or was late
 pub left-held : (f : PlainFloor) (place : ℕ) (wait : JobWait) (answer : FloorLeave) (steps : List Step)
-  → IsReady f place (Some wait) steps
-  → left_with (places_held f place) wait.at answer ≡ places_held (after_leave f place answer) place
+    → IsReady f place (Some wait) steps
+    → left_with (places_held f place) wait.at answer ≡ places_held (after_leave f place answer) place
 left-held f place wait Gone steps ready = sym (went-held f place (wait_of f place))
 left-held f place wait (Late element) steps ready =
     sym (granted-held f place (λ w. entry.Late 0 w.number) wait element ready.job ready.waits)
 
 -- what a job holds that was served
 pub looked-held : (f : PlainFloor) (place : ℕ) (wait : JobWait) (element : ℕ) (steps : List Step)
-  → IsReady f place (Some wait) steps
-  → places_held (after_look f place (Granted element)) place ≡ places_held f place ++ wait.at ∷ []
+    → IsReady f place (Some wait) steps
+    → places_held (after_look f place (Granted element)) place ≡ places_held f place ++ wait.at ∷ []
 looked-held f place wait element steps ready =
     granted-held f place (λ w. entry.LookGranted 0 w.number) wait element ready.job ready.waits

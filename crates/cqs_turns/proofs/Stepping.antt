@@ -23,7 +23,7 @@ use Rattle.cqs_turns.proofs.Readied.{taken-ready, waiting-ready, given-ready}
 
 -- a job that can make a step and others can make the step
 one-makeable : (kinds : List Kind) (held : List ℕ) (step : Step) (rest : List Step) → CanMake kinds held (step ∷ rest)
-  → CanMake kinds held (step ∷ [])
+    → CanMake kinds held (step ∷ [])
 one-makeable kinds held (Take at) rest can = (can.0, tt)
 one-makeable kinds held (Give at) rest can = (can.0, tt)
 one-makeable kinds held (Work turns) rest can = (can.0, tt)
@@ -32,9 +32,11 @@ one-makeable kinds held (Await at) rest can = can
 one-makeable kinds held (Arrive at) rest can = can
 
 one-ready : (f : PlainFloor) (place : ℕ) (step : Step) (rest : List Step) → IsReady f place None (step ∷ rest)
-  → IsReady f place None (step ∷ [])
+    → IsReady f place None (step ∷ [])
 one-ready f place step rest ready = record {
-  job = ready.job; waits = ready.waits; holdable = ready.holdable;
+  job = ready.job;
+  waits = ready.waits;
+  holdable = ready.holdable;
   makeable = one-makeable f.kinds (places_held f place) step rest ready.makeable;
 }
 
@@ -49,14 +51,14 @@ wait_after stops = option_map_or wait_in stops None
 
 -- a job that made a step is ready for the rest
 pub made-ready : (r : Role) (next : ℕ) (step : Step) (rest : List Step) (s : Scene)
-  → IsReady s.floor r.place None (step ∷ rest)
-  → IsReady (made r next step s).scene.floor r.place (option_map_or wait_in (made r next step s).stops None) rest
+    → IsReady s.floor r.place None (step ∷ rest)
+    → IsReady (made r next step s).scene.floor r.place (option_map_or wait_in (made r next step s).stops None) rest
 made-ready r next (Work turns) rest s ready =
     record { job = ready.job; waits = ready.waits; holdable = ready.holdable; makeable = ready.makeable.1 }
 made-ready r next (Take at) rest s ready = took-ready (take_answer s.floor at r.place)
   where
     took-ready : (answer : FloorTake)
-      → IsReady (took r next at answer s).scene.floor r.place (option_map_or wait_in (took r next at answer s).stops None) rest
+        → IsReady (took r next at answer s).scene.floor r.place (option_map_or wait_in (took r next at answer s).stops None) rest
     took-ready (Now element) = taken-ready s.floor r.place at element rest ready
     took-ready (Waits number) = waiting-ready s.floor r.place at number rest ready
 made-ready r next (Give at) rest s ready = given-ready s.floor r.place at (give_answer s.floor at r.place) rest ready
@@ -69,13 +71,13 @@ fewer-takes : (at : ℕ) (step : Step) (rest : List Step) → count_by (is_take 
 fewer-takes at step rest = omega (arith, takes-cons at step rest)
 
 pub made-moves : (r : Role) (next : ℕ) (step : Step) (rest : List Step) (s : Scene) → HasRoom s.floor (step ∷ rest)
-  → Moves r.place s.floor (step ∷ rest) (made r next step s).scene.floor rest
+    → Moves r.place s.floor (step ∷ rest) (made r next step s).scene.floor rest
 made-moves r next (Work turns) rest s room =
     moves-fewer r.place s.floor (Work turns ∷ rest) rest (λ at. fewer-takes at (Work turns) rest)
 made-moves r next (Take at) rest s room = took-moves (take_answer s.floor at r.place)
   where
     took-moves : (answer : FloorTake)
-      → Moves r.place s.floor (Take at ∷ rest) (took r next at answer s).scene.floor rest
+        → Moves r.place s.floor (Take at ∷ rest) (took r next at answer s).scene.floor rest
     took-moves (Now element) = taken-moves r.place s.floor at (Now element) rest room
     took-moves (Waits number) = taken-moves r.place s.floor at (Waits number) rest room
 made-moves r next (Give at) rest s room =
@@ -96,76 +98,76 @@ pub record SteppingOn (r : Role) (first next : ℕ) (start now : Scene) : Type 0
   pub room : HasRoom now.floor (drop next r.job.steps)
 
 pub begins-stepping : (r : Role) (first : ℕ) (start : Scene) → IsReady start.floor r.place None (drop first r.job.steps)
-  → HasRoom start.floor (drop first r.job.steps) → SteppingOn r first first start start
+    → HasRoom start.floor (drop first r.job.steps) → SteppingOn r first first start start
 begins-stepping r first start ready room = record { whole = refl; ready = ready; room = room }
 
 -- the step that comes next, and those after it
 next-step : (steps : List Step) (next : ℕ) (step d : Step) → next < length steps → step ≡ get_or steps next d
-  → drop next steps ≡ step ∷ drop (next + 1) steps
+    → drop next steps ≡ step ∷ drop (next + 1) steps
 next-step steps next step d below is =
     drop_more steps next d below ∙ ap (λ s. s ∷ drop (next + 1) steps) (sym is)
 
 pub step-ready : (r : Role) (first next : ℕ) (start now : Scene) (step d : Step) → SteppingOn r first next start now
-  → next < length r.job.steps → step ≡ get_or r.job.steps next d → IsReady now.floor r.place None (step ∷ [])
+    → next < length r.job.steps → step ≡ get_or r.job.steps next d → IsReady now.floor r.place None (step ∷ [])
 step-ready r first next start now step d on below is =
     one-ready now.floor r.place step (drop (next + 1) r.job.steps)
     (rw (next-step r.job.steps next step d below is) at on.ready)
 
 pub step-room : (r : Role) (first next : ℕ) (start now : Scene) (step d : Step) → SteppingOn r first next start now
-  → next < length r.job.steps → step ≡ get_or r.job.steps next d → HasRoom now.floor (step ∷ [])
+    → next < length r.job.steps → step ≡ get_or r.job.steps next d → HasRoom now.floor (step ∷ [])
 step-room r first next start now step d on below is =
     one-room now.floor step (drop (next + 1) r.job.steps) (rw (next-step r.job.steps next step d below is) at on.room)
 
 -- what remains, seen as the next step and the rest
 unrolled : (r : Role) (first next : ℕ) (start now : Scene) (step d : Step) → SteppingOn r first next start now
-  → next < length r.job.steps → step ≡ get_or r.job.steps next d
-  → stepped r (drop first r.job.steps) first start
+    → next < length r.job.steps → step ≡ get_or r.job.steps next d
+    → stepped r (drop first r.job.steps) first start
     ≡ stop_or (made r next step now)
-      (stepped r (drop (next + 1) r.job.steps) (next + 1) (made r next step now).scene)
+    (stepped r (drop (next + 1) r.job.steps) (next + 1) (made r next step now).scene)
 unrolled r first next start now step d on below is =
     sym on.whole ∙ ap (λ steps. stepped r steps next now) (next-step r.job.steps next step d below is)
 
 -- the job goes on after the step
 pub steps-on : (r : Role) (first next : ℕ) (start now after : Scene) (step d : Step) → SteppingOn r first next start now
-  → next < length r.job.steps → step ≡ get_or r.job.steps next d → made_of after None ≡ made r next step now
-  → SteppingOn r first (next + 1) start after
+    → next < length r.job.steps → step ≡ get_or r.job.steps next d → made_of after None ≡ made r next step now
+    → SteppingOn r first (next + 1) start after
 steps-on r first next start now after step d on below is same =
     let rest : List Step = drop (next + 1) r.job.steps in
     let ready : IsReady now.floor r.place None (step ∷ rest) = rw (next-step r.job.steps next step d below is) at on.ready in
     let room : HasRoom now.floor (step ∷ rest) = rw (next-step r.job.steps next step d below is) at on.room in
     let Whole : Made → Type 0 = λ m.
-        stepped r (drop first r.job.steps) first start ≡ stop_or m (stepped r rest (next + 1) m.scene) in
+    stepped r (drop first r.job.steps) first start ≡ stop_or m (stepped r rest (next + 1) m.scene) in
     let Stays : Made → Type 0 = λ m. IsReady m.scene.floor r.place (option_map_or wait_in m.stops None) rest in
     let Leaves : Made → Type 0 = λ m. HasRoom m.scene.floor rest in
     record {
       whole = sym (subst Whole (sym same) (unrolled r first next start now step d on below is));
       ready = subst Stays (sym same) (made-ready r next step rest now ready);
       room = subst Leaves (sym same)
-        (room-after r.place now.floor (step ∷ rest) _ rest (made-moves r next step rest now room) room);
+          (room-after r.place now.floor (step ∷ rest) _ rest (made-moves r next step rest now room) room);
     }
 
 -- the job's turn ends with the step
 pub stops-at : (r : Role) (first next : ℕ) (start now after : Scene) (step d : Step) (progress : Progress)
-  → SteppingOn r first next start now → next < length r.job.steps → step ≡ get_or r.job.steps next d
-  → made_of after (Some progress) ≡ made r next step now
-  → left_at after progress ≡ stepped r (drop first r.job.steps) first start
+    → SteppingOn r first next start now → next < length r.job.steps → step ≡ get_or r.job.steps next d
+    → made_of after (Some progress) ≡ made r next step now
+    → left_at after progress ≡ stepped r (drop first r.job.steps) first start
 stops-at r first next start now after step d progress on below is same =
     let rest : List Step = drop (next + 1) r.job.steps in
     let Whole : Made → Type 0 = λ m.
-        stepped r (drop first r.job.steps) first start ≡ stop_or m (stepped r rest (next + 1) m.scene) in
+    stepped r (drop first r.job.steps) first start ≡ stop_or m (stepped r rest (next + 1) m.scene) in
     sym (subst Whole (sym same) (unrolled r first next start now step d on below is))
 
 -- all steps are made
 pub steps-end : (r : Role) (first next : ℕ) (start now : Scene) → SteppingOn r first next start now
-  → length r.job.steps ≤ next → finished r now ≡ stepped r (drop first r.job.steps) first start
+    → length r.job.steps ≤ next → finished r now ≡ stepped r (drop first r.job.steps) first start
 steps-end r first next start now on past =
     ap (λ steps. stepped r steps next now) (sym (drop_all next r.job.steps past)) ∙ on.whole
 
 -- a part of the step's report is a front of the whole
 pub stepping-front : (r : Role) (first next : ℕ) (start now : Scene) (step d : Step) (text : List ℕ)
-  → SteppingOn r first next start now → next < length r.job.steps → step ≡ get_or r.job.steps next d
-  → IsFrontOf (made r next step now).scene.text text
-  → IsFrontOf (stepped r (drop first r.job.steps) first start).scene.text text
+    → SteppingOn r first next start now → next < length r.job.steps → step ≡ get_or r.job.steps next d
+    → IsFrontOf (made r next step now).scene.text text
+    → IsFrontOf (stepped r (drop first r.job.steps) first start).scene.text text
 stepping-front r first next start now step d text on below is front =
     let m : Made = made r next step now in
     let rest : List Step = drop (next + 1) r.job.steps in

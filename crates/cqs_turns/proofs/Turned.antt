@@ -18,7 +18,7 @@ use Rattle.cqs_turns.specs.declared.states.Progress.{Progress}
 use Rattle.cqs_turns.specs.declared.states.Progress.TheVariants.{Stepping, Working, Waiting, Ended}
 use Rattle.cqs_turns.specs.Ready.{IsReady, HasRoom, wait_in, steps_left}
 use Rattle.cqs_turns.specs.Roles.{wait_at}
-use Rattle.cqs_turns.specs.Turns.{Role, Scene, Made, Acted, event, given, given_back, given_all, made, took, stop_or, stepped, go_on, left_at, finished, went, gave_up, looked, acted, is_due, end_of, places_held}
+use Rattle.cqs_turns.specs.Turns.{Role, Scene, Made, Acted, event, given, given_back, given_all, made, took, stop_or, stepped, go_on, left_at, finished, cancelled, gave_up, looked, acted, is_due, end_of, places_held}
 use Rattle.cqs_turns.proofs.Moved.{Moves, moves-fewer, moves-none, moves-on, given-moves, leave-moves, looked-moves, room-after}
 use Rattle.cqs_turns.proofs.Readied.{first-ready, leave-ready, looked-ready, ready-to-end}
 use Rattle.cqs_turns.proofs.Stepping.{made-ready, made-moves}
@@ -29,7 +29,7 @@ pub record Turned (r : Role) (f : PlainFloor) (steps : List Step) (a : Acted) : 
   pub moves : Moves r.place f steps a.scene.floor (steps_left r.job.steps a.progress)
 
 given_back-ready : (r : Role) (places : List ℕ) (s : Scene) → IsReady s.floor r.place None []
-  → IsReady (given_back r places s).floor r.place None []
+    → IsReady (given_back r places s).floor r.place None []
 given_back-ready r [] s ready = ready
 given_back-ready r (at ∷ places) s ready =
     given_back-ready r places (given r at s) (first-ready s.floor r.place at (give_answer s.floor at r.place) ready)
@@ -49,12 +49,12 @@ finished-turned r s ready = record {
 
 -- the steps after the first
 rest-of : (n : ℕ) (steps : List Step) (step : Step) (rest : List Step) → drop n steps ≡ step ∷ rest
-  → drop (n + 1) steps ≡ rest
+    → drop (n + 1) steps ≡ rest
 rest-of n steps step rest split = sym (drop-drop 1 n steps) ∙ ap (drop 1) split
 
 -- where the job's turn ends with a step, the steps after it are left
 stops-before : (r : Role) (next : ℕ) (step : Step) (rest : List Step) (s : Scene) (p : Progress)
-  → drop (next + 1) r.job.steps ≡ rest → (made r next step s).stops ≡ Some p → steps_left r.job.steps p ≡ rest
+    → drop (next + 1) r.job.steps ≡ rest → (made r next step s).stops ≡ Some p → steps_left r.job.steps p ≡ rest
 stops-before r next (Work turns) rest s p after stops =
     let same : p ≡ Working (next + 1) (r.turn + turns) = cc in rw same after
 stops-before r next (Take at) rest s p after stops = took-stops (take_answer s.floor at r.place) stops
@@ -68,10 +68,10 @@ stops-before r next (Await at) rest s p after stops = absurd (cc)
 stops-before r next (Arrive at) rest s p after stops = absurd (cc)
 
 stop-turned : (r : Role) (scene : Scene) (stops : Option Progress) (onward : Acted) (rest : List Step)
-  → IsReady scene.floor r.place (option_map_or wait_in stops None) rest
-  → ((p : Progress) → stops ≡ Some p → steps_left r.job.steps p ≡ rest)
-  → (stops ≡ None → Turned r scene.floor rest onward)
-  → Turned r scene.floor rest (stop_or (record { scene = scene; stops = stops }) onward)
+    → IsReady scene.floor r.place (option_map_or wait_in stops None) rest
+    → ((p : Progress) → stops ≡ Some p → steps_left r.job.steps p ≡ rest)
+    → (stops ≡ None → Turned r scene.floor rest onward)
+    → Turned r scene.floor rest (stop_or (record { scene = scene; stops = stops }) onward)
 stop-turned r scene None onward rest ready left goes = goes refl
 stop-turned r scene (Some p) onward rest ready left goes = record {
   ready = rw (left p refl) ready;
@@ -79,7 +79,7 @@ stop-turned r scene (Some p) onward rest ready left goes = record {
 }
 
 pub stepped-turned : (r : Role) (steps : List Step) (next : ℕ) (s : Scene) → drop next r.job.steps ≡ steps
-  → IsReady s.floor r.place None steps → HasRoom s.floor steps → Turned r s.floor steps (stepped r steps next s)
+    → IsReady s.floor r.place None steps → HasRoom s.floor steps → Turned r s.floor steps (stepped r steps next s)
 stepped-turned r [] next s split ready room = finished-turned r s ready
 stepped-turned r (step ∷ rest) next s split ready room =
     let m : Made = made r next step s in
@@ -87,38 +87,38 @@ stepped-turned r (step ∷ rest) next s split ready room =
     let after : drop (next + 1) r.job.steps ≡ rest = rest-of next r.job.steps step rest split in
     let moved : Moves r.place s.floor (step ∷ rest) m.scene.floor rest = made-moves r next step rest s room in
     let waits : IsReady m.scene.floor r.place (option_map_or wait_in m.stops None) rest
-        = made-ready r next step rest s ready in
+    = made-ready r next step rest s ready in
     let goes : m.stops ≡ None → Turned r m.scene.floor rest onward = λ none.
-        stepped-turned r rest (next + 1) m.scene after (rw none at waits)
-        (room-after r.place s.floor (step ∷ rest) m.scene.floor rest moved room) in
+    stepped-turned r rest (next + 1) m.scene after (rw none at waits)
+    (room-after r.place s.floor (step ∷ rest) m.scene.floor rest moved room) in
     let turned : Turned r m.scene.floor rest (stop_or m onward)
-        = stop-turned r m.scene m.stops onward rest waits (λ p. stops-before r next step rest s p after) goes in
+    = stop-turned r m.scene m.stops onward rest waits (λ p. stops-before r next step rest s p after) goes in
     record {
       ready = turned.ready;
       moves = moves-on r.place s.floor (step ∷ rest) m.scene.floor rest _ _ moved turned.moves;
     }
 
 turned-if : (r : Role) (f : PlainFloor) (steps : List Step) (b : Bool) (a c : Acted) → Turned r f steps a
-  → Turned r f steps c → Turned r f steps (if b then a else c)
+    → Turned r f steps c → Turned r f steps (if b then a else c)
 turned-if r f steps true a c here there = here
 turned-if r f steps false a c here there = there
 
 gave_up-turned : (r : Role) (at number : ℕ) (answer : FloorLeave) (s : Scene) (steps : List Step)
-  → IsReady s.floor r.place (Some (wait_at at number)) steps → Turned r s.floor steps (gave_up r at number answer s)
+    → IsReady s.floor r.place (Some (wait_at at number)) steps → Turned r s.floor steps (gave_up r at number answer s)
 gave_up-turned r at number answer s steps ready =
-    let e : Scene = went r at number answer s in
+    let e : Scene = cancelled r at number answer s in
     let f : PlainFloor = s.floor in
     record {
       ready = given_back-ready r (places_held e.floor r.place) e
-        (leave-ready f r.place (wait_at at number) answer steps ready);
+          (leave-ready f r.place (wait_at at number) answer steps ready);
       moves = moves-on r.place f steps f [] _ [] (moves-fewer r.place f steps [] (λ q. omega arith))
-        (moves-on r.place f [] e.floor [] _ [] (leave-moves r.place f answer [])
-        (given_back-moves r (places_held e.floor r.place) e));
+          (moves-on r.place f [] e.floor [] _ [] (leave-moves r.place f answer [])
+          (given_back-moves r (places_held e.floor r.place) e));
     }
 
 looked-turned : (r : Role) (next at number : ℕ) (answer : FloorLook) (s : Scene)
-  → IsReady s.floor r.place (Some (wait_at at number)) (drop next r.job.steps) → HasRoom s.floor (drop next r.job.steps)
-  → Turned r s.floor (drop next r.job.steps) (looked r next at number answer s)
+    → IsReady s.floor r.place (Some (wait_at at number)) (drop next r.job.steps) → HasRoom s.floor (drop next r.job.steps)
+    → Turned r s.floor (drop next r.job.steps) (looked r next at number answer s)
 looked-turned r next at number Pending s ready room =
     record { ready = ready; moves = moves-none r.place s.floor (drop next r.job.steps) }
 looked-turned r next at number (Granted element) s ready room =
@@ -127,8 +127,8 @@ looked-turned r next at number (Granted element) s ready room =
     let e : Scene = event r s g (told.Served at number) in
     let moved : Moves r.place s.floor steps g steps = looked-moves r.place s.floor element steps in
     let turned : Turned r g steps (stepped r steps next e)
-        = stepped-turned r steps next e refl (looked-ready s.floor r.place (wait_at at number) element steps ready)
-          (room-after r.place s.floor steps g steps moved room) in
+    = stepped-turned r steps next e refl (looked-ready s.floor r.place (wait_at at number) element steps ready)
+    (room-after r.place s.floor steps g steps moved room) in
     record {
       ready = turned.ready;
       moves = moves-on r.place s.floor steps g steps _ _ moved turned.moves;
@@ -136,8 +136,8 @@ looked-turned r next at number (Granted element) s ready room =
 
 -- the turn of a job
 pub acted-turned : (r : Role) (p : Progress) (s : Scene)
-  → IsReady s.floor r.place (wait_in p) (steps_left r.job.steps p) → HasRoom s.floor (steps_left r.job.steps p)
-  → Turned r s.floor (steps_left r.job.steps p) (acted r p s)
+    → IsReady s.floor r.place (wait_in p) (steps_left r.job.steps p) → HasRoom s.floor (steps_left r.job.steps p)
+    → Turned r s.floor (steps_left r.job.steps p) (acted r p s)
 acted-turned r (Stepping next) s ready room = stepped-turned r (drop next r.job.steps) next s refl ready room
 acted-turned r (Working next until) s ready room =
     let steps : List Step = drop next r.job.steps in

@@ -21,14 +21,14 @@ drop-at xs i x got =
 
 -- what remains, seen as the next job and the rest
 turn-unrolled : (plan : Plan) (turn place : ℕ) (start now : Machine) → TurningOn plan turn place start now
-  → place < length plan.jobs
-  → each_job plan.resources turn (place + 1) (drop (place + 1) plan.jobs) (turn_at plan turn place now)
+    → place < length plan.jobs
+    → each_job plan.resources turn (place + 1) (drop (place + 1) plan.jobs) (turn_at plan turn place now)
     ≡ one_turn plan turn start
 turn-unrolled plan turn place start now on below =
     let next : (job : Job) × (slice_get plan.jobs place ≡ Some job) = get-there plan.jobs place below in
     let split : drop place plan.jobs ≡ next.0 ∷ drop (place + 1) plan.jobs = drop-at plan.jobs place next.0 next.1 in
     let its_turn : turn_at plan turn place now ≡ one_job plan.resources turn place next.0 now
-        = ap (λ o. option_map_or (λ job. one_job plan.resources turn place job now) o now) next.1 in
+    = ap (λ o. option_map_or (λ job. one_job plan.resources turn place job now) o now) next.1 in
     ap (each_job plan.resources turn (place + 1) (drop (place + 1) plan.jobs)) its_turn
     ∙ ap (λ jobs. each_job plan.resources turn place jobs now) (sym split) ∙ on.whole
 
@@ -36,20 +36,20 @@ pub begins-turning : (plan : Plan) (turn : ℕ) (start : Machine) → TurningOn 
 begins-turning plan turn start = record { whole = refl }
 
 pub turns_on : (plan : Plan) (turn place : ℕ) (start now after : Machine) → TurningOn plan turn place start now
-  → place < length plan.jobs → after ≡ turn_at plan turn place now → TurningOn plan turn (place + 1) start after
+    → place < length plan.jobs → after ≡ turn_at plan turn place now → TurningOn plan turn (place + 1) start after
 turns_on plan turn place start now after on below same = record {
   whole = ap (each_job plan.resources turn (place + 1) (drop (place + 1) plan.jobs)) same
-    ∙ turn-unrolled plan turn place start now on below;
+      ∙ turn-unrolled plan turn place start now on below;
 }
 
 pub turn_ends : (plan : Plan) (turn place : ℕ) (start now : Machine) → TurningOn plan turn place start now
-  → length plan.jobs ≤ place → now ≡ one_turn plan turn start
+    → length plan.jobs ≤ place → now ≡ one_turn plan turn start
 turn_ends plan turn place start now on past =
     ap (λ jobs. each_job plan.resources turn place jobs now) (sym (drop_all place plan.jobs past)) ∙ on.whole
 
 pub turning_front : (plan : Plan) (turn place : ℕ) (start now : Machine) (text : List ℕ)
-  → TurningOn plan turn place start now → place < length plan.jobs
-  → IsFrontOf (turn_at plan turn place now).scene.text text → IsFrontOf (one_turn plan turn start).scene.text text
+    → TurningOn plan turn place start now → place < length plan.jobs
+    → IsFrontOf (turn_at plan turn place now).scene.text text → IsFrontOf (one_turn plan turn start).scene.text text
 turning_front plan turn place start now text on below front =
     let after : Machine = turn_at plan turn place now in
     rw (← turn-unrolled plan turn place start now on below)

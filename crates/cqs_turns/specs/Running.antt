@@ -23,7 +23,7 @@ pub record IsRunning (plan : Plan) (m : Machine) : Type 0 where
   pub jobs : length m.progress ≡ length plan.jobs
   pub kinds : m.scene.floor.kinds ≡ kinds_of plan.resources
   pub ready : (place : ℕ) (job : Job) (p : Progress) → slice_get plan.jobs place ≡ Some job
-    → slice_get m.progress place ≡ Some p → IsReady m.scene.floor place (wait_in p) (steps_left job.steps p)
+      → slice_get m.progress place ≡ Some p → IsReady m.scene.floor place (wait_in p) (steps_left job.steps p)
   pub room : (at : ℕ) → takes_left at plan.jobs m.progress ≤ room_at m.scene.floor at
 
 -- the machine, as the code keeps it
@@ -34,7 +34,7 @@ machine_of floor text states =
 -- each state has the places of what the floor holds for the job
 pub record IsKept (f : PlainFloor) (states : List JobState) : Type 0 where
   pub held : (place : ℕ) (state : JobState) → slice_get states place ≡ Some state
-    → state.held.items ≡ places_held f place
+      → state.held.items ≡ places_held f place
 
 -- the job at a place has its turn
 abbrev pub turn_at : Plan → ℕ → ℕ → Machine → Machine
@@ -45,5 +45,6 @@ pub record IsOpening (state : JobState) : Type 0 where
   pub progress : state.progress ≡ Stepping 0
   pub held : state.held.items ≡ []
 
+-- jobs that have just begun
 pub record AreOpening (states : List JobState) : Type 0 where
   pub at : (place : ℕ) (state : JobState) → slice_get states place ≡ Some state → IsOpening state

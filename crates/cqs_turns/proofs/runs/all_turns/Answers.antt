@@ -9,7 +9,7 @@ pub loop-turn-init : goal.loop-turn-init
 loop-turn-init g c = record {
   now = c.requires.opening;
   running = subst (IsRunning c.args.plan.now) (sym c.requires.opening)
-    (opening-running c.args.plan.now c.requires.runnable);
+      (opening-running c.args.plan.now c.requires.runnable);
   kept = c.requires.kept;
 }
 

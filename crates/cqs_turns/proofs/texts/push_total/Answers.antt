@@ -3,6 +3,14 @@ use Rattle.cqs_turns.proofs.texts.push_total.Goals as goal
 
 pub returns : goal.returns
 returns c =
-    rw (c.in_ok-extend_from_slice.ensures.items, c.in_ok-push_labelled-4.ensures, c.count_unfinished.ensures,
-    c.in_ok-push_labelled-3.ensures, c.count_late.ensures, c.in_ok-push_labelled-2.ensures, c.count_given_up.ensures,
-    c.in_ok-push_labelled.ensures, c.count_done.ensures) (simp append_assoc)
+    rw (
+      c.in_ok-extend_from_slice.ensures.items,
+      c.in_ok-push_labelled-4.ensures,
+      c.count_unfinished.ensures,
+      c.in_ok-push_labelled-3.ensures,
+      c.count_late.ensures,
+      c.in_ok-push_labelled-2.ensures,
+      c.count_given_up.ensures,
+      c.in_ok-push_labelled.ensures,
+      c.count_done.ensures,
+    ) (simp append_assoc)

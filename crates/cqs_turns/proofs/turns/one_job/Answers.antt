@@ -9,27 +9,27 @@ pub act-requires-clause-ready : goal.act-requires-clause-ready
 act-requires-clause-ready g c =
     let actor = c.actor_at-actor.ensures in
     let acting : Acting c.args.plan.now (role c.actor_at-actor.result) (g.F.Floor.plain c.args.floor.now) c.args.report.now
-        c.args.states.now (get_or c.args.states.now c.args.place c.index-states-place.result)
-        = acting-at _ _ _ _ _ _ c.index-states-place.result actor.resources actor.place actor.job
-          c.requires.runnable c.requires.running c.requires.kept c.requires.place in
+    c.args.states.now (get_or c.args.states.now c.args.place c.index-states-place.result)
+    = acting-at _ _ _ _ _ _ c.index-states-place.result actor.resources actor.place actor.job
+    c.requires.runnable c.requires.running c.requires.kept c.requires.place in
     acting-set _ _ _ _ _ _ acting
 
 pub act-requires-clause-room : goal.act-requires-clause-room
 act-requires-clause-room g c =
     let actor = c.actor_at-actor.ensures in
     let acting : Acting c.args.plan.now (role c.actor_at-actor.result) (g.F.Floor.plain c.args.floor.now) c.args.report.now
-        c.args.states.now (get_or c.args.states.now c.args.place c.index-states-place.result)
-        = acting-at _ _ _ _ _ _ c.index-states-place.result actor.resources actor.place actor.job
-          c.requires.runnable c.requires.running c.requires.kept c.requires.place in
+    c.args.states.now (get_or c.args.states.now c.args.place c.index-states-place.result)
+    = acting-at _ _ _ _ _ _ c.index-states-place.result actor.resources actor.place actor.job
+    c.requires.runnable c.requires.running c.requires.kept c.requires.place in
     acting-room _ _ _ _ _ _ acting
 
 pub returns-clause-ok : goal.returns-clause-ok
 returns-clause-ok g c =
     let actor = c.actor_at-actor.ensures in
     let acting : Acting c.args.plan.now (role c.actor_at-actor.result) (g.F.Floor.plain c.args.floor.now) c.args.report.now
-        c.args.states.now (get_or c.args.states.now c.args.place c.index-states-place.result)
-        = acting-at _ _ _ _ _ _ c.index-states-place.result actor.resources actor.place actor.job
-          c.requires.runnable c.requires.running c.requires.kept c.requires.place in
+    c.args.states.now (get_or c.args.states.now c.args.place c.index-states-place.result)
+    = acting-at _ _ _ _ _ _ c.index-states-place.result actor.resources actor.place actor.job
+    c.requires.runnable c.requires.running c.requires.kept c.requires.place in
     on_ok_weaker c.act.result
     (one-job-ok _ _ _ _ _ _ acting c.args.turn c.args.place actor.turn actor.place _ _ c.act.new.state) c.act.ensures.ok
 
@@ -37,9 +37,9 @@ pub returns-clause-running : goal.returns-clause-running
 returns-clause-running g c =
     let actor = c.actor_at-actor.ensures in
     let acting : Acting c.args.plan.now (role c.actor_at-actor.result) (g.F.Floor.plain c.args.floor.now) c.args.report.now
-        c.args.states.now (get_or c.args.states.now c.args.place c.index-states-place.result)
-        = acting-at _ _ _ _ _ _ c.index-states-place.result actor.resources actor.place actor.job
-          c.requires.runnable c.requires.running c.requires.kept c.requires.place in
+    c.args.states.now (get_or c.args.states.now c.args.place c.index-states-place.result)
+    = acting-at _ _ _ _ _ _ c.index-states-place.result actor.resources actor.place actor.job
+    c.requires.runnable c.requires.running c.requires.kept c.requires.place in
     on_ok_weaker c.act.result
     (one-job-running _ _ _ _ _ _ acting c.args.turn c.args.place actor.turn actor.place _ _ c.act.new.state) c.act.ensures.ok
 
@@ -47,9 +47,9 @@ pub returns-clause-kept : goal.returns-clause-kept
 returns-clause-kept g c =
     let actor = c.actor_at-actor.ensures in
     let acting : Acting c.args.plan.now (role c.actor_at-actor.result) (g.F.Floor.plain c.args.floor.now) c.args.report.now
-        c.args.states.now (get_or c.args.states.now c.args.place c.index-states-place.result)
-        = acting-at _ _ _ _ _ _ c.index-states-place.result actor.resources actor.place actor.job
-          c.requires.runnable c.requires.running c.requires.kept c.requires.place in
+    c.args.states.now (get_or c.args.states.now c.args.place c.index-states-place.result)
+    = acting-at _ _ _ _ _ _ c.index-states-place.result actor.resources actor.place actor.job
+    c.requires.runnable c.requires.running c.requires.kept c.requires.place in
     on-ok-both c.act.result
     (one-job-kept _ _ _ _ _ _ acting c.args.turn c.args.place actor.turn actor.place _ _ c.act.new.state)
     c.act.ensures.ok c.act.ensures.held

@@ -21,6 +21,7 @@ pub record Holding : Type 0 where
   pub at : ℕ
   pub element : ℕ
 
+-- all that a floor is to its caller
 pub record PlainFloor : Type 0 where
   -- what each resource is
   pub kinds : List Kind
@@ -33,16 +34,19 @@ pub record PlainFloor : Type 0 where
   -- for each job what it holds, oldest first
   pub holds : List (List Holding)
 
--- what stands at a place
+-- the entries of a resource
 abbrev pub entries_at : PlainFloor → ℕ → List Entry
 entries_at f at = slice_index_or f.entries at []
 
+-- how many takes a resource has room for
 abbrev pub room_at : PlainFloor → ℕ → ℕ
 room_at f at = slice_index f.room at
 
+-- the wait of a job, if it has one
 abbrev pub wait_of : PlainFloor → ℕ → Option JobWait
 wait_of f job = slice_index_or f.waits job None
 
+-- what a job holds
 abbrev pub holds_of : PlainFloor → ℕ → List Holding
 holds_of f job = slice_index_or f.holds job []
 
@@ -65,9 +69,11 @@ pub record IsJob (f : PlainFloor) (job : ℕ) : Type 0 where
   pub waits : job < length f.waits
   pub holds : job < length f.holds
 
+-- the job has no wait
 abbrev pub IsIdle : PlainFloor → ℕ → Type 0
 IsIdle f job = wait_of f job ≡ None
 
+-- the job has a wait
 abbrev pub IsWaiting : PlainFloor → ℕ → Type 0
 IsWaiting f job = IsSome (wait_of f job)
 
@@ -75,6 +81,7 @@ IsWaiting f job = IsSome (wait_of f job)
 abbrev pub oldest : ℕ → List Holding → Option Holding
 oldest at holds = find (λ h. h.at == at) holds
 
+-- the job holds something of the resource
 abbrev pub IsHolding : PlainFloor → ℕ → ℕ → Type 0
 IsHolding f at job = IsSome (oldest at (holds_of f job))
 
@@ -86,6 +93,7 @@ with_entries f at entries = record f { entries = slice_set f.entries at (entries
 abbrev pub with_less_room : PlainFloor → ℕ → PlainFloor
 with_less_room f at = record f { room = slice_set f.room at (room_at f at - 1) }
 
+-- the wait of a job changes
 abbrev pub with_wait : PlainFloor → ℕ → Option JobWait → PlainFloor
 with_wait f job wait = record f { waits = slice_set f.waits job wait }
 

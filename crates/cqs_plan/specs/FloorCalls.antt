@@ -22,6 +22,7 @@ use Rattle.cqs_plan.specs.Floor.{PlainFloor, JobWait, Holding, object_at, wait_o
 abbrev pub take_answer : PlainFloor → ℕ → ℕ → FloorTake
 take_answer f at job = if nat_lt 0 (object_at f at).free then Now 0 else Waits (object_at f at).next
 
+-- a take that must wait goes by the door into the line
 abbrev pub after_take : PlainFloor → ℕ → ℕ → FloorTake → PlainFloor
 after_take f at job (Now element) =
     with_newest (with_entries (with_less_room f at) at (entry.TakeNow 0 ∷ [])) job at element
@@ -34,9 +35,11 @@ abbrev pub give_of : List Waiting → Option Holding → FloorGive
 give_of [] held = Free (option_map_or (λ h. h.element) held 0)
 give_of (first ∷ line) held = Sent (option_map_or (λ h. h.element) held 0) first.wait
 
+-- what a give answers
 abbrev pub give_answer : PlainFloor → ℕ → ℕ → FloorGive
 give_answer f at job = give_of (object_at f at).line (oldest at (holds_of f job))
 
+-- a give to the line is delivered at once
 abbrev pub after_give : PlainFloor → ℕ → ℕ → FloorGive → PlainFloor
 after_give f at job (Free element) = without_oldest (with_entries f at (entry.GiveFreed 0 ∷ [])) job at
 after_give f at job (Sent element number) =
@@ -57,9 +60,11 @@ abbrev pub look_of : PlainFloor → Option JobWait → FloorLook
 look_of f None = Pending
 look_of f (Some wait) = if is_in_line f wait then Pending else Granted 0
 
+-- what a look answers
 abbrev pub look_answer : PlainFloor → ℕ → FloorLook
 look_answer f job = look_of f (wait_of f job)
 
+-- a look that finds nothing new changes nothing
 abbrev pub after_look : PlainFloor → ℕ → FloorLook → PlainFloor
 after_look f job Pending = f
 after_look f job (Granted element) = with_granted f job (λ wait. entry.LookGranted 0 wait.number) (wait_of f job) element
@@ -69,13 +74,16 @@ abbrev pub leave_of : PlainFloor → Option JobWait → FloorLeave
 leave_of f None = Gone
 leave_of f (Some wait) = if is_in_line f wait then Gone else Late 0
 
+-- what a leave answers
 abbrev pub leave_answer : PlainFloor → ℕ → FloorLeave
 leave_answer f job = leave_of f (wait_of f job)
 
+-- the wait of the job is gone
 abbrev pub with_left : PlainFloor → ℕ → Option JobWait → PlainFloor
 with_left f job None = f
 with_left f job (Some wait) = with_wait (with_entries f wait.at (entry.Leave 0 wait.number ∷ [])) job None
 
+-- a job that was late has what came
 abbrev pub after_leave : PlainFloor → ℕ → FloorLeave → PlainFloor
 after_leave f job Gone = with_left f job (wait_of f job)
 after_leave f job (Late element) = with_granted f job (λ wait. entry.Late 0 wait.number) (wait_of f job) element

@@ -21,7 +21,7 @@ use Rattle.cqs_turns.specs.declared.states.Progress.{Progress}
 use Rattle.cqs_turns.specs.declared.states.Progress.TheVariants.{Stepping, Working, Waiting, Ended}
 use Rattle.cqs_turns.specs.Lines.{line_text}
 use Rattle.cqs_turns.specs.Report.{IsFrontOf}
-use Rattle.cqs_turns.specs.Turns.{Role, Scene, Acted, Made, event, given, given_back, given_all, finished, made, took, stop_or, stepped, go_on, went, gave_up, looked, acted, left_at, is_due, one_job, each_job, one_turn, machine_after, Machine, places_held}
+use Rattle.cqs_turns.specs.Turns.{Role, Scene, Acted, Made, event, given, given_back, given_all, finished, made, took, stop_or, stepped, go_on, cancelled, gave_up, looked, acted, left_at, is_due, one_job, each_job, one_turn, machine_after, Machine, places_held}
 
 -- a clause on an error, from its fact
 pub on-err : {T E P : Type 0} (r : Result T E) → P → OnErr r P
@@ -94,7 +94,7 @@ go_on-grows r next s floor told =
 pub gave_up-grows : (r : Role) (at number : ℕ) (answer : FloorLeave) (s : Scene)
     → IsFrontOf (gave_up r at number answer s).scene.text s.text
 gave_up-grows r at number answer s =
-    let e : Scene = went r at number answer s in
+    let e : Scene = cancelled r at number answer s in
     front-through _ e.text s.text (given_back-grows r (places_held e.floor r.place) e) (front-added s.text _)
 
 acted-if : (b : Bool) (a c : Acted) (text : List ℕ) → IsFrontOf a.scene.text text → IsFrontOf c.scene.text text

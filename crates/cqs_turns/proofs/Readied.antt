@@ -126,7 +126,7 @@ waiting-ready f place at number steps ready =
     (holdable-push f.kinds (places_held f place) at ready.holdable ready.makeable.0) ready.makeable.1
 
 -- what a give leaves, where the job could give
-pub given-held : (f : PlainFloor) (place at : ℕ) (answer : FloorGive) → IsJob f place
+given-held : (f : PlainFloor) (place at : ℕ) (answer : FloorGive) → IsJob f place
     → places_held (after_give f at place answer) place ≡ without (λ p. p) at (places_held f place)
 given-held f place at (Free element) job = places-without f place at job
 given-held f place at (Sent element number) job = places-without f place at job
@@ -140,6 +140,14 @@ given-job f place at (Sent element number) job = record {
   waits = job.waits;
   holds = omega (arith, job.holds, length-set f.holds place (without (λ h. h.at) at (holds_of f place)));
 }
+
+-- what the job holds, as the code and the floor have it, after a give
+pub given-left : (f g : PlainFloor) (place at : ℕ) (answer : FloorGive) (held left : List ℕ) → IsJob f place
+  → held ≡ places_held f place → left ≡ without (λ p. p) at held → g ≡ after_give f at place answer
+  → left ≡ places_held g place
+given-left f g place at answer held left job before fewer after =
+    fewer ∙ ap (without (λ p. p) at) before ∙ sym (given-held f place at answer job)
+    ∙ ap (λ h. places_held h place) (sym after)
 
 given-kinds : (f : PlainFloor) (place at : ℕ) (answer : FloorGive) → (after_give f at place answer).kinds ≡ f.kinds
 given-kinds f place at (Free element) = refl

@@ -18,7 +18,7 @@ use Rattle.cqs_turns.specs.declared.states.Progress.{Progress}
 use Rattle.cqs_turns.specs.declared.states.Progress.TheVariants.{Stepping, Working, Waiting, Ended}
 use Rattle.cqs_turns.specs.Ready.{IsReady, HasRoom, wait_in, steps_left}
 use Rattle.cqs_turns.specs.Roles.{wait_at}
-use Rattle.cqs_turns.specs.Turns.{Role, Scene, Made, Acted, event, given, given_back, given_all, made, took, stop_or, stepped, go_on, left_at, finished, went, gave_up, looked, acted, is_due, end_of, places_held}
+use Rattle.cqs_turns.specs.Turns.{Role, Scene, Made, Acted, event, given, given_back, given_all, made, took, stop_or, stepped, go_on, left_at, finished, cancelled, gave_up, looked, acted, is_due, end_of, places_held}
 use Rattle.cqs_turns.proofs.Moved.{Moves, moves-fewer, moves-none, moves-on, given-moves, leave-moves, looked-moves, room-after}
 use Rattle.cqs_turns.proofs.Readied.{first-ready, leave-ready, looked-ready, ready-to-end}
 use Rattle.cqs_turns.proofs.Stepping.{made-ready, made-moves}
@@ -106,7 +106,7 @@ turned-if r f steps false a c here there = there
 gave_up-turned : (r : Role) (at number : ℕ) (answer : FloorLeave) (s : Scene) (steps : List Step)
     → IsReady s.floor r.place (Some (wait_at at number)) steps → Turned r s.floor steps (gave_up r at number answer s)
 gave_up-turned r at number answer s steps ready =
-    let e : Scene = went r at number answer s in
+    let e : Scene = cancelled r at number answer s in
     let f : PlainFloor = s.floor in
     record {
       ready = given_back-ready r (places_held e.floor r.place) e

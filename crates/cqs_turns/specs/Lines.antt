@@ -34,13 +34,14 @@ abbrev pub line_text : List Resource → ℕ → List ℕ → Told → List ℕ
 line_text resources turn name told =
     decimal turn ++ codes " " ++ name ++ codes " " ++ told_text resources told ++ codes "\n"
 
--- how a resource stands at the end
+-- the words that tell how a resource stands at the end
 abbrev pub end_words : FloorEnd → List ℕ
 end_words (Permits free held line) =
     codes " free " ++ decimal free ++ codes " held " ++ decimal held ++ codes " line " ++ decimal line
 end_words (Latch count line) = codes " count " ++ decimal count ++ codes " line " ++ decimal line
 end_words (Rounds over) = codes " rounds " ++ decimal over
 
+-- the line of a resource at the end
 abbrev pub end_text : List ℕ → FloorEnd → List ℕ
 end_text name end = codes "end " ++ name ++ end_words end ++ codes "\n"
 
@@ -49,6 +50,7 @@ abbrev pub ends_text : List Resource → ℕ → PlainFloor → List ℕ
 ends_text [] at f = []
 ends_text (resource ∷ resources) at f = end_text resource.name (end_answer f at) ++ ends_text resources (at + 1) f
 
+-- how a job ended, if it has
 abbrev pub is_done : Progress → Bool
 is_done (Ended Done) = true
 is_done _ = false

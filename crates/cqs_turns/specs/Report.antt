@@ -8,6 +8,7 @@ use Rattle.cqs_turns.specs.Turns.{Machine, machine_after}
 abbrev pub report_after : Plan → Machine → List ℕ
 report_after plan m = m.scene.text ++ ends_text plan.resources 0 m.scene.floor ++ total_text m.progress
 
+-- the report of a plan
 abbrev pub report_of : Plan → List ℕ
 report_of plan = report_after plan (machine_after plan plan.turns)
 

@@ -45,5 +45,6 @@ pub record IsOpening (state : JobState) : Type 0 where
   pub progress : state.progress ≡ Stepping 0
   pub held : state.held.items ≡ []
 
+-- jobs that have just begun
 pub record AreOpening (states : List JobState) : Type 0 where
   pub at : (place : ℕ) (state : JobState) → slice_get states place ≡ Some state → IsOpening state

@@ -41,6 +41,7 @@ pub record Acted : Type 0 where
   pub scene : Scene
   pub progress : Progress
 
+-- the job leaves the scene so, at this point
 abbrev pub left_at : Scene → Progress → Acted
 left_at s progress = record { scene = s; progress = progress }
 
@@ -48,15 +49,17 @@ left_at s progress = record { scene = s; progress = progress }
 abbrev pub event : Role → Scene → PlainFloor → Told → Scene
 event r s floor told = record { floor = floor; text = s.text ++ line_text r.resources r.turn r.job.name told }
 
--- what each answer of the floor tells
+-- what the answer to a take tells
 abbrev pub take_told : ℕ → FloorTake → Told
 take_told at (Now element) = told.Takes at
 take_told at (Waits number) = told.Waits at number
 
+-- what the answer to a give tells
 abbrev pub give_told : ℕ → FloorGive → Told
 give_told at (Free element) = told.GivesFree at
 give_told at (Sent element number) = told.GivesSent at number
 
+-- what the answer to the cancelling of a wait tells
 abbrev pub leave_told : ℕ → ℕ → FloorLeave → Told
 leave_told at number leave.Gone = told.GaveUp at number
 leave_told at number (leave.Late element) = told.Late at number
@@ -65,10 +68,11 @@ leave_told at number (leave.Late element) = told.Late at number
 abbrev pub taken : Role → ℕ → FloorTake → Scene → Scene
 taken r at answer s = event r s (after_take s.floor at r.place answer) (take_told at answer)
 
--- the job gives back the oldest that it holds of a resource
+-- the job gives back the oldest that it holds of a resource, and this is the floor's answer
 abbrev pub given_by : Role → ℕ → FloorGive → Scene → Scene
 given_by r at answer s = event r s (after_give s.floor at r.place answer) (give_told at answer)
 
+-- the job gives back the oldest that it holds of a resource
 abbrev pub given : Role → ℕ → Scene → Scene
 given r at s = given_by r at (give_answer s.floor at r.place) s
 
@@ -94,6 +98,7 @@ pub record Made : Type 0 where
   pub scene : Scene
   pub stops : Option Progress
 
+-- a `take`, whose answer is this
 abbrev pub took : Role → ℕ → ℕ → FloorTake → Scene → Made
 took r next at (Now element) s = record { scene = taken r at (Now element) s; stops = None }
 took r next at (Waits number) s =
@@ -124,17 +129,18 @@ go_on r next s = stepped r (drop next r.job.steps) next s
 abbrev pub is_due : Option ℕ → ℕ → Bool
 is_due deadline turn = option_map_or (λ d. nat_le d turn) deadline false
 
+-- how a job ends that cancelled its wait
 abbrev pub end_of : FloorLeave → End
 end_of leave.Gone = end.GaveUp
 end_of (leave.Late element) = end.Late
 
 -- the job cancels its wait: the wait is gone, or too late, and then the job holds what came as its newest
-abbrev pub went : Role → ℕ → ℕ → FloorLeave → Scene → Scene
-went r at number answer s = event r s (after_leave s.floor r.place answer) (leave_told at number answer)
+abbrev pub cancelled : Role → ℕ → ℕ → FloorLeave → Scene → Scene
+cancelled r at number answer s = event r s (after_leave s.floor r.place answer) (leave_told at number answer)
 
 -- the job gives up: it cancels its wait, gives back all that it holds, and has ended
 abbrev pub gave_up : Role → ℕ → ℕ → FloorLeave → Scene → Acted
-gave_up r at number answer s = left_at (given_all r (went r at number answer s)) (Ended (end_of answer))
+gave_up r at number answer s = left_at (given_all r (cancelled r at number answer s)) (Ended (end_of answer))
 
 -- the job looks: while its wait is pending its turn is over
 abbrev pub looked : Role → ℕ → ℕ → ℕ → FloorLook → Scene → Acted
@@ -151,9 +157,9 @@ acted r (Waiting next at number) s =
     else looked r next at number (look_answer s.floor r.place) s
 acted r (Ended end) s = left_at s (Ended end)
 
+-- the whole: the scene, and how far each job is
 pub record Machine : Type 0 where
   pub scene : Scene
-  -- how far each job is
   pub progress : List Progress
 
 -- the job at a place has its turn
@@ -173,6 +179,7 @@ each_job resources turn place (job ∷ jobs) m =
 abbrev pub one_turn : Plan → ℕ → Machine → Machine
 one_turn plan turn m = each_job plan.resources turn 0 plan.jobs m
 
+-- the machine before the first turn: every job is at its first step
 abbrev pub opening_machine : Plan → Machine
 opening_machine plan = record {
   scene = record { floor = opening_floor plan; text = [] };

@@ -5,7 +5,7 @@ ghost use Rattle.std.specs.List.{position_from};
 ghost use Rattle.cqs_core.specs.Keyed.{without};
 ghost use Rattle.cqs_plan.specs.Floor.{IsJob, IsHolding, IsHoldable};
 ghost use Rattle.cqs_plan.specs.FloorCalls.{take_answer, leave_answer, look_answer};
-ghost use Rattle.cqs_turns.specs.Turns.{acted, given, given_back, took, made, event, left_at, finished, go_on, went, gave_up, end_of, looked, places_held};
+ghost use Rattle.cqs_turns.specs.Turns.{acted, given, given_back, took, made, event, left_at, finished, go_on, cancelled, gave_up, end_of, looked, places_held};
 ghost use Rattle.cqs_turns.specs.Ready.{IsReady, HasRoom, steps_left};
 ghost use Rattle.cqs_turns.specs.Report.{IsFrontOf};
 ghost use Rattle.cqs_turns.specs.Roles.{role, scene, made_of, wait_at, left_with, told_served};
@@ -240,7 +240,7 @@ fn leave<F: Floor>(
     requires held { held.old.items ≡ places_held (F.plain floor.old) actor.now.place }
     requires ready { IsReady (F.plain floor.old) actor.now.place (Some (wait_at at number)) [] }
     ensures ok { OnOk result (scene (F.plain floor.new) report.new ≡
-        went (role actor.now) at number (leave_answer (F.plain floor.old) actor.now.place)
+        cancelled (role actor.now) at number (leave_answer (F.plain floor.old) actor.now.place)
         (scene (F.plain floor.old) report.old)) }
     ensures end { IfOk result (λ end. end ≡ end_of (leave_answer (F.plain floor.old) actor.now.place)) }
     ensures held { OnOk result (held.new.items ≡ places_held (F.plain floor.new) actor.now.place) }

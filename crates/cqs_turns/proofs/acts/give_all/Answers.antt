@@ -1,4 +1,6 @@
-use Rattle.std.proofs.lemmas.Result.{err_from_is_err_and}
+use Rattle.cqs_turns.specs.Roles.{role, scene}
+use Rattle.cqs_turns.specs.Turns.{Role, Scene}
+use Rattle.cqs_turns.proofs.Growth.{on-err}
 use Rattle.cqs_turns.proofs.GivingBack.{holds-next, gives-next, giving-front}
 use Rattle.cqs_turns.proofs.acts.give_all.Goals as goal
 
@@ -7,8 +9,12 @@ give-requires-clause-holds g c = holds-next _ _ _ _ _ c.loop-at.invariant c.loop
 
 pub returns-in_err-give-clause-err : goal.returns-in_err-give-clause-err
 returns-in_err-give-clause-err g c =
-    let refused = err_from_is_err_and c.from_residual.result c.from_residual.ensures.1 in
-    rw (refused.1, ← c.deref-at-items.ensures.value, c.in_err-give.ensures.err) (giving-front _ _ _ _ _ c.loop-at.invariant)
+    let r : Role = role c.args.actor.now in
+    let start : Scene = scene (g.F.Floor.plain c.args.floor.now) c.args.report.now in
+    let now : Scene = scene (g.F.Floor.plain c.loop-at.floor) c.loop-at.report in
+    on-err c.from_residual.result
+    (rw (← c.deref-at-items.ensures.value, c.in_err-give.ensures.err)
+    (giving-front r c.deref-at-items.result.now c.loop-at.at-index start now c.loop-at.invariant))
 
 pub loop-at-preserved : goal.loop-at-preserved
 loop-at-preserved g c = gives-next _ _ _ _ _ _ c.loop-at.invariant c.loop-at-test.true c.in_ok-give.ensures.ok

@@ -143,8 +143,8 @@ given-job f place at (Sent element number) job = record {
 
 -- what the job holds, as the code and the floor have it, after a give
 pub given-left : (f g : PlainFloor) (place at : ℕ) (answer : FloorGive) (held left : List ℕ) → IsJob f place
-  → held ≡ places_held f place → left ≡ without (λ p. p) at held → g ≡ after_give f at place answer
-  → left ≡ places_held g place
+    → held ≡ places_held f place → left ≡ without (λ p. p) at held → g ≡ after_give f at place answer
+    → left ≡ places_held g place
 given-left f g place at answer held left job before fewer after =
     fewer ∙ ap (without (λ p. p) at) before ∙ sym (given-held f place at answer job)
     ∙ ap (λ h. places_held h place) (sym after)

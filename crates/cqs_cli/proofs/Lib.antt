@@ -9,3 +9,4 @@ pub mod Resources
 pub mod KeptNext
 pub mod Takes
 pub mod Gives
+pub mod WaitOver

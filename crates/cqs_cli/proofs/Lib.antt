@@ -10,3 +10,4 @@ pub mod KeptNext
 pub mod Takes
 pub mod Gives
 pub mod WaitOver
+pub mod Looks

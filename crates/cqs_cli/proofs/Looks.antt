@@ -24,7 +24,7 @@ use Rattle.cqs_cli.specs.DeskCalls.{Answers, CanCall, CanLook, Calls, Looks, Rea
 use Rattle.cqs_cli.specs.Kept.{IsKept, IsFunded, StandsIn, holds_in, waiting_at, held_at}
 use Rattle.cqs_cli.specs.Ledger.{Ledger, plain_floor, wait_at, with_cores, with_wait, granted, job_wait}
 use Rattle.cqs_cli.specs.SoleCore.{HasMade, IsSole, is_served_at}
-use Rattle.cqs_cli.proofs.Came.{came-granted, came-left, came-late}
+use Rattle.cqs_cli.proofs.Came.{Came, came-granted, came-left, came-late}
 use Rattle.cqs_cli.proofs.Funded.{funded-rests, funded-ready}
 use Rattle.cqs_cli.proofs.Objects.{stays-closed, stays-left, left-next}
 use Rattle.cqs_cli.proofs.Resources.{object-shown, wait-there}
@@ -90,7 +90,7 @@ module _ (l : Ledger) (job : ℕ) (wait : Wait) (kept : IsKept l) (slot : get_or
         ap (λ (o : Semaphore). list_any (λ w. w.wait == wait.number) o.line) (object-shown l wait.at core kept there)
         ∙ any-find wait.number (shown core.shape).line
 
-  can-look : CanLook l.cores wait
+  pub can-look : CanLook l.cores wait
   can-look = record {
     core = stands.core;
     there = stands.there;
@@ -98,7 +98,7 @@ module _ (l : Ledger) (job : ℕ) (wait : Wait) (kept : IsKept l) (slot : get_or
     allowed = λ served. waits stands.core stands.there;
   }
 
-  can-leave : CanCall l.cores wait.at (call.Cancel 0 wait.number)
+  pub can-leave : CanCall l.cores wait.at (call.Cancel 0 wait.number)
   can-leave = record {
     core = stands.core;
     there = stands.there;
@@ -106,5 +106,152 @@ module _ (l : Ledger) (job : ℕ) (wait : Wait) (kept : IsKept l) (slot : get_or
     allowed = waits stands.core stands.there;
   }
 
-  some-spare : 0 < l.spare
+  pub some-spare : 0 < l.spare
   some-spare = omega (arith, kept.spare, fewer l job wait kept has)
+
+-- what a look comes to: its answer is the plain floor's, and so is what it leaves
+pub record LooksWell (f : PlainFloor) (job : ℕ) (answer : FloorLook) (n : Ledger) : Type 0 where
+  pub answers : answer ≡ plain.look_answer f job
+  pub leaves : plain_floor n ≡ plain.after_look f job answer
+  pub kept : IsKept n
+
+look-well : (l n : Ledger) (job : ℕ) (wait : Wait) (answer : FloorLook) → IsKept l → IsJob (plain_floor l) job
+    → get_or l.waits job None ≡ Some wait → Looks l job wait answer n → LooksWell (plain_floor l) job answer n
+look-well l n job wait Pending kept is_job slot (reads, same) =
+    let there : is_some (find_wait wait.number (shown reads.core.shape).line) ≡ true =
+        not-false _ (sym reads.reads ∙ served-reads l job wait kept slot reads.core reads.there) in
+    let in_line : plain.is_in_line (plain_floor l) (job_wait wait) ≡ true =
+        line-reads l job wait kept slot reads.core reads.there ∙ there in
+    record {
+      answers = rw (seen l job wait kept slot, in_line) refl;
+      leaves = ap plain_floor same;
+      kept = subst IsKept (sym same) kept;
+    }
+look-well l n job wait (Granted element) kept is_job slot (none, reads, (answer, calls), written) = record {
+  answers = rw (none, seen l job wait kept slot, in_line) refl;
+  leaves = ap plain_floor same
+      ∙ plain-came l job wait kept job_has core after _ answer calls.there calls.made _ _ _ came
+      ∙ ap (λ o. plain.with_granted (plain_floor l) job (λ w. entry.LookGranted 0 w.number) o 0) (sym (seen l job wait kept slot))
+      ∙ ap (λ e. plain.after_look (plain_floor l) job (Granted e)) (sym none);
+  kept = subst IsKept (sym same)
+      (kept-came l job wait kept job_has core after _ answer calls.there calls.made _ _ is_job.holds came
+          (ap (λ (o : Semaphore). o.next) came.shows)
+          (λ k other stands. subst (λ (o : Semaphore). HasWait k 0 o) (sym came.shows)
+              (stays-closed (shown core.shape) wait.number k other stands)));
+}
+  where
+    core : Room
+    core = calls.core
+
+    after : Room
+    after = calls.after
+
+    job_has : slice_get l.waits job ≡ Some (Some wait)
+    job_has = has l job wait kept slot
+
+    sole : IsSole core.shape
+    sole = (funded l job wait kept slot core calls.there).sole
+
+    one_core : reads.core ≡ core
+    one_core = let found : Some reads.core ≡ Some core = sym reads.there ∙ calls.there in cc
+
+    missing : is_some (find_wait wait.number (shown core.shape).line) ≡ false
+    missing =
+        not-true _
+            (sym (ap (λ c. is_wait_served c wait) (sym one_core) ∙ reads.reads)
+                ∙ served-reads l job wait kept slot core calls.there)
+
+    in_line : plain.is_in_line (plain_floor l) (job_wait wait) ≡ false
+    in_line = line-reads l job wait kept slot core calls.there ∙ missing
+
+    came : Came core after answer reply.Granted (entry.LookGranted 0 wait.number ∷ []) (slice_index core.shape.held 0 + 1)
+    came = came-granted core after answer sole wait.number calls.made (none-found _ missing)
+
+    same : n ≡ with_cores (granted l job wait) (set l.cores wait.at after)
+    same = written ∙ ap (with_cores (granted l job wait)) calls.cores
+
+-- what a leave comes to
+pub record LeavesWell (f : PlainFloor) (job : ℕ) (answer : FloorLeave) (n : Ledger) : Type 0 where
+  pub answers : answer ≡ plain.leave_answer f job
+  pub leaves : plain_floor n ≡ plain.after_leave f job answer
+  pub kept : IsKept n
+
+leave-well : (l n : Ledger) (job : ℕ) (wait : Wait) (answer : FloorLeave) → IsKept l → IsJob (plain_floor l) job
+    → get_or l.waits job None ≡ Some wait
+    → Answers leave_of (call.Cancel 0 wait.number) l.cores wait.at n.cores answer
+    → n ≡ with_cores (left l job wait answer) n.cores → LeavesWell (plain_floor l) job answer n
+leave-well l n job wait answer kept is_job slot a written =
+    go (is_some (find_wait wait.number (shown core.shape).line)) refl
+  where
+    core : Room
+    core = a.calls.core
+
+    after : Room
+    after = a.calls.after
+
+    job_has : slice_get l.waits job ≡ Some (Some wait)
+    job_has = has l job wait kept slot
+
+    sole : IsSole core.shape
+    sole = (funded l job wait kept slot core a.calls.there).sole
+
+    job_waits : wait_of (plain_floor l) job ≡ Some (job_wait wait)
+    job_waits = seen l job wait kept slot
+
+    in_line : plain.is_in_line (plain_floor l) (job_wait wait) ≡ is_some (find_wait wait.number (shown core.shape).line)
+    in_line = line-reads l job wait kept slot core a.calls.there
+
+    same : (told : FloorLeave) → answer ≡ told → n ≡ with_cores (left l job wait told) (set l.cores wait.at after)
+    same told is =
+        written ∙ ap (λ g. with_cores (left l job wait g) n.cores) is ∙ ap (with_cores (left l job wait told)) a.calls.cores
+
+    go : (b : Bool) → is_some (find_wait wait.number (shown core.shape).line) ≡ b → LeavesWell (plain_floor l) job answer n
+    go true there =
+        let found = some-found _ there in
+        let came = came-left core after a.reply sole wait.number found.0 a.calls.made found.1 in
+        let is : answer ≡ Gone = a.told ∙ ap leave_of came.is in
+        record {
+          answers = is ∙ rw (job_waits, in_line, there) refl;
+          leaves = ap plain_floor (same Gone is)
+              ∙ plain-gone l job wait kept job_has core after _ a.reply a.calls.there a.calls.made _ _ _ came
+              ∙ ap (plain.with_left (plain_floor l) job) (sym job_waits)
+              ∙ ap (plain.after_leave (plain_floor l) job) (sym is);
+          kept = subst IsKept (sym (same Gone is))
+              (kept-gone l job wait kept job_has core after _ a.reply a.calls.there a.calls.made _ _ came
+                  (ap (λ (o : Semaphore). o.next) came.shows ∙ left-next (shown core.shape) wait.number)
+                  (λ k other stands. subst (λ (o : Semaphore). HasWait k 0 o) (sym came.shows)
+                      (stays-left (shown core.shape) wait.number k other stands)));
+        }
+    go false missing =
+        let came = came-late core after a.reply sole wait.number a.calls.made (none-found _ missing) in
+        let is : answer ≡ Late 0 = a.told ∙ ap leave_of came.is in
+        record {
+          answers = is ∙ rw (job_waits, in_line, missing) refl;
+          leaves = ap plain_floor (same (Late 0) is)
+              ∙ plain-came l job wait kept job_has core after _ a.reply a.calls.there a.calls.made _ _ _ came
+              ∙ ap (λ o. plain.with_granted (plain_floor l) job (λ w. entry.Late 0 w.number) o 0) (sym job_waits)
+              ∙ ap (plain.after_leave (plain_floor l) job) (sym is);
+          kept = subst IsKept (sym (same (Late 0) is))
+              (kept-came l job wait kept job_has core after _ a.reply a.calls.there a.calls.made _ _ is_job.holds came
+                  (ap (λ (o : Semaphore). o.next) came.shows)
+                  (λ k other stands. subst (λ (o : Semaphore). HasWait k 0 o) (sym came.shows)
+                      (stays-closed (shown core.shape) wait.number k other stands)));
+        }
+
+-- the same where the floor is seen as its plain floor
+pub look-floor : (l n : Ledger) (f : PlainFloor) (job : ℕ) (wait : Wait) (answer : FloorLook) → plain_floor l ≡ f → IsKept l
+    → IsJob f job → get_or l.waits job None ≡ Some wait → Looks l job wait answer n → LooksWell f job answer n
+look-floor l n f job wait answer view kept =
+    let Comes : PlainFloor → Type 0 = λ g. IsJob g job → get_or l.waits job None ≡ Some wait → Looks l job wait answer n
+        → LooksWell g job answer n in
+    subst Comes view (look-well l n job wait answer kept)
+
+pub leave-floor : (l n : Ledger) (f : PlainFloor) (job : ℕ) (wait : Wait) (answer : FloorLeave) → plain_floor l ≡ f
+    → IsKept l → IsJob f job → get_or l.waits job None ≡ Some wait
+    → Answers leave_of (call.Cancel 0 wait.number) l.cores wait.at n.cores answer
+    → n ≡ with_cores (left l job wait answer) n.cores → LeavesWell f job answer n
+leave-floor l n f job wait answer view kept =
+    let Comes : PlainFloor → Type 0 = λ g. IsJob g job → get_or l.waits job None ≡ Some wait
+        → Answers leave_of (call.Cancel 0 wait.number) l.cores wait.at n.cores answer
+        → n ≡ with_cores (left l job wait answer) n.cores → LeavesWell g job answer n in
+    subst Comes view (leave-well l n job wait answer kept)

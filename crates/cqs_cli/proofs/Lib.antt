@@ -11,3 +11,4 @@ pub mod Takes
 pub mod Gives
 pub mod WaitOver
 pub mod Looks
+pub mod Ends

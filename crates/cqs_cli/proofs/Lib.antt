@@ -12,3 +12,6 @@ pub mod Resources
 pub mod KeptNext
 pub mod Takes
 pub mod Gives
+pub mod WaitOver
+pub mod Looks
+pub mod Ends

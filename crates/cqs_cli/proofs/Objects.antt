@@ -70,3 +70,10 @@ stays-left o k j other has = turn (nat_lt (due (line_without o k)) o.way) refl (
     turn : (b : Bool) → nat_lt (due (line_without o k)) o.way ≡ b → HasWait j 0 (line_without o k) → HasWait j 0 (turned_back (line_without o k))
     turn true is stands = rw is stands
     turn false is stands = rw is stands
+
+pub left-next : (o : Semaphore) (k : ℕ) → (left o k).next ≡ o.next
+left-next o k = turn (nat_lt (due (line_without o k)) o.way) refl
+  where
+    turn : (b : Bool) → nat_lt (due (line_without o k)) o.way ≡ b → (turned_back (line_without o k)).next ≡ o.next
+    turn true is = rw is refl
+    turn false is = rw is refl

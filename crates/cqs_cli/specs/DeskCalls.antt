@@ -66,17 +66,18 @@ pub record CanLook (cores : List Room) (wait : Wait) : Type 0 where
   pub ready : IsReady core
   pub allowed : is_wait_served core wait ≡ true → MayCall core.shape (call.Poll 0 wait.number)
 
--- the wait wasn't served
-pub record IsUnserved (cores : List Room) (wait : Wait) : Type 0 where
+-- the cell of a wait says whether it was served
+pub record Reads (cores : List Room) (wait : Wait) (served : Bool) : Type 0 where
   pub core : Room
   pub there : slice_get cores wait.at ≡ Some core
-  pub unserved : is_wait_served core wait ≡ false
+  pub reads : is_wait_served core wait ≡ served
 
 -- a look: nothing changes where the wait wasn't served, and else the core is asked and the job has what came
 abbrev pub Looks : Ledger → ℕ → Wait → FloorLook → Ledger → Type 0
-Looks old job wait Pending new = IsUnserved old.cores wait × (new ≡ old)
+Looks old job wait Pending new = Reads old.cores wait false × (new ≡ old)
 Looks old job wait (Granted element) new =
     (element ≡ 0)
+    × Reads old.cores wait true
     × ((reply : Reply) × Calls old.cores wait.at (call.Poll 0 wait.number) reply new.cores)
     × (new ≡ with_cores (granted old job wait) new.cores)
 

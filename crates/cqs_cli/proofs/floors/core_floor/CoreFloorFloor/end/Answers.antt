@@ -1,13 +1,8 @@
-use Rattle.std.proofs.Common.{rules, ◌≡◌, IfOk, ℕ, ◌+◌, ◌-◌, ◌*◌, ◌<◌, ◌≤◌, length, ◌/◌, ◌%◌, Bool, true, false, nat_eq, nat_lt, List, [], ◌∷◌, ◌++◌, slice_index_or, slice_set, bit_and, bit_or, Fits, w8, w32, w64, Bor, MutBor}
-use Rattle.cqs_plan.specs.Floor.{opening_floor}
-use Rattle.cqs_plan.specs.Runnable.{IsRunnable}
-use Rattle.cqs_plan.specs.Runnable.{AreSemaphores}
+use Rattle.cqs_cli.proofs.Ends.{end-can, end-floor}
 use Rattle.cqs_cli.proofs.floors.core_floor.CoreFloorFloor.end.Goals as goal
 
--- src/floors/core_floor.rt:69:9
 pub end-requires : goal.end-requires
-end-requires c = ?
+end-requires c = end-can _ _ _ c.self.view_is c.self.invariant c.requires
 
--- src/floors/core_floor.rt:68:5
 pub returns-clause-answer : goal.returns-clause-answer
-returns-clause-answer c = ?
+returns-clause-answer c = end-floor _ _ _ _ c.self.view_is c.self.invariant c.end.ensures

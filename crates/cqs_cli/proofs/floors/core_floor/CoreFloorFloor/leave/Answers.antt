@@ -1,25 +1,23 @@
-use Rattle.std.proofs.Common.{rules, ◌≡◌, IfOk, ℕ, ◌+◌, ◌-◌, ◌*◌, ◌<◌, ◌≤◌, length, ◌/◌, ◌%◌, Bool, true, false, nat_eq, nat_lt, List, [], ◌∷◌, ◌++◌, slice_index_or, slice_set, bit_and, bit_or, Fits, w8, w32, w64, Bor, MutBor}
-use Rattle.cqs_plan.specs.Floor.{opening_floor}
-use Rattle.cqs_plan.specs.Runnable.{IsRunnable}
-use Rattle.cqs_plan.specs.Runnable.{AreSemaphores}
+use Rattle.cqs_cli.proofs.Looks.{can-leave, some-spare, leave-floor}
 use Rattle.cqs_cli.proofs.floors.core_floor.CoreFloorFloor.leave.Goals as goal
 
--- src/floors/core_floor.rt:65:9
 pub leave-requires-clause-core : goal.leave-requires-clause-core
-leave-requires-clause-core c = ?
+leave-requires-clause-core c = can-leave _ _ _ c.self.invariant c.wait-wait.ensures
 
--- src/floors/core_floor.rt:65:9
 pub leave-requires-clause-spare : goal.leave-requires-clause-spare
-leave-requires-clause-spare c = ?
+leave-requires-clause-spare c = some-spare _ _ _ c.self.invariant c.wait-wait.ensures
 
--- src/floors/core_floor.rt:63:5
 pub invariant_of-self : goal.invariant_of-self
-invariant_of-self c = ?
+invariant_of-self c =
+    (leave-floor _ _ _ _ _ _ c.self.view_is c.self.invariant c.requires.job c.wait-wait.ensures
+        c.leave.ensures.answer c.leave.ensures.written).kept
 
--- src/floors/core_floor.rt:63:5
 pub returns-clause-answer : goal.returns-clause-answer
-returns-clause-answer c = ?
+returns-clause-answer c =
+    (leave-floor _ _ _ _ _ _ c.self.view_is c.self.invariant c.requires.job c.wait-wait.ensures
+        c.leave.ensures.answer c.leave.ensures.written).answers
 
--- src/floors/core_floor.rt:63:5
 pub returns-clause-after : goal.returns-clause-after
-returns-clause-after c = ?
+returns-clause-after c =
+    (leave-floor _ _ _ _ _ _ c.self.view_is c.self.invariant c.requires.job c.wait-wait.ensures
+        c.leave.ensures.answer c.leave.ensures.written).leaves

@@ -1,25 +1,20 @@
-use Rattle.std.proofs.Common.{rules, ◌≡◌, IfOk, ℕ, ◌+◌, ◌-◌, ◌*◌, ◌<◌, ◌≤◌, length, ◌/◌, ◌%◌, Bool, true, false, nat_eq, nat_lt, List, [], ◌∷◌, ◌++◌, slice_index_or, slice_set, bit_and, bit_or, Fits, w8, w32, w64, Bor, MutBor}
-use Rattle.cqs_plan.specs.Floor.{opening_floor}
-use Rattle.cqs_plan.specs.Runnable.{IsRunnable}
-use Rattle.cqs_plan.specs.Runnable.{AreSemaphores}
+use Rattle.cqs_cli.proofs.Looks.{can-look, some-spare, look-floor}
 use Rattle.cqs_cli.proofs.floors.core_floor.CoreFloorFloor.look.Goals as goal
 
--- src/floors/core_floor.rt:60:9
 pub look-requires-clause-core : goal.look-requires-clause-core
-look-requires-clause-core c = ?
+look-requires-clause-core c = can-look _ _ _ c.self.invariant c.wait-wait.ensures
 
--- src/floors/core_floor.rt:60:9
 pub look-requires-clause-spare : goal.look-requires-clause-spare
-look-requires-clause-spare c = ?
+look-requires-clause-spare c = some-spare _ _ _ c.self.invariant c.wait-wait.ensures
 
--- src/floors/core_floor.rt:58:5
 pub invariant_of-self : goal.invariant_of-self
-invariant_of-self c = ?
+invariant_of-self c =
+    (look-floor _ _ _ _ _ _ c.self.view_is c.self.invariant c.requires.job c.wait-wait.ensures c.look.ensures).kept
 
--- src/floors/core_floor.rt:58:5
 pub returns-clause-answer : goal.returns-clause-answer
-returns-clause-answer c = ?
+returns-clause-answer c =
+    (look-floor _ _ _ _ _ _ c.self.view_is c.self.invariant c.requires.job c.wait-wait.ensures c.look.ensures).answers
 
--- src/floors/core_floor.rt:58:5
 pub returns-clause-after : goal.returns-clause-after
-returns-clause-after c = ?
+returns-clause-after c =
+    (look-floor _ _ _ _ _ _ c.self.view_is c.self.invariant c.requires.job c.wait-wait.ensures c.look.ensures).leaves

@@ -96,7 +96,7 @@ module _ {S K : Type 0} (left : S → Option (List ℕ)) (source_faults : S → 
     pub answers_fault : (given : Verdict) (end : Ending) → Ends given end → ¬ IsPlan bytes → MustEnd 3 (status_of end)
     answers_fault verdict.NoCommand end ((wrong, untouched), told) no_plan = absurd (wrong run)
     answers_fault (verdict.Report text) end ((_, calm, read), told) no_plan =
-        absurd (no_plan (subst IsPlan (sym (input_told read.bytes bytes _ _ read.input tells)) read.right.plan))
+        absurd (no_plan (subst IsPlan (sym (input_told read.bytes bytes _ _ read.input tells)) (read.right.plan, read.right.says)))
     answers_fault (verdict.BadPlan line) end (judged, inl (is, wrote)) no_plan = inl (ap status_of is)
     answers_fault (verdict.BadPlan line) end (judged, inr (is, broke)) no_plan = absurd (sink_calm broke.cause)
     answers_fault verdict.SourceFailed end ((_, rises), told) no_plan = absurd (source_calm rises)

@@ -10,3 +10,4 @@ pub mod SoleCore
 pub mod Ledger
 pub mod DeskCalls
 pub mod Kept
+pub mod Opening

@@ -3,7 +3,7 @@
 ghost use Rattle.std.specs.Prelude.{◌≡◌, IfOk};
 ghost use Rattle.cqs_plan.specs.Floor.{opening_floor};
 ghost use Rattle.cqs_plan.specs.Runnable.{IsRunnable};
-ghost use Rattle.cqs_plan.specs.Runnable.{AreSemaphores};
+ghost use Rattle.cqs_cli.specs.Opening.{AreSemaphores};
 
 use super::desk::Desk;
 use cqs_core::Memory;

@@ -1,0 +1,5 @@
+pub mod PackingLaws
+pub mod CellLaws
+pub mod StateLaws
+pub mod HeadLaws
+pub mod SegmentLaws

@@ -1,0 +1,5 @@
+pub mod Packing
+pub mod Cell
+pub mod State
+pub mod Head
+pub mod Segment

@@ -126,13 +126,14 @@ module _ {X : Type 0} where
       → ((k : ℕ) (x : X) → slice_get xs k ≡ Some x → points ps k x ≡ points qs k x)
       → counts ps 0 xs ≡ counts qs 0 xs
   counts-balance ps qs xs each =
-      counts-total ps 0 xs
-      ∙ total-same (points ps) (points qs) 0 xs xs refl
-      (λ i n x y at f g.
-      let number : n ≡ i = omega arith in
-      let same : x ≡ y = cc in
-      rw (number, ← same) (each i x f))
-      ∙ sym (counts-total qs 0 xs)
+      counts-total ps 0 xs ∙ total-same (points ps) (points qs) 0 xs xs refl equal ∙ sym (counts-total qs 0 xs)
+    where
+      equal : (i n : ℕ) (x y : X) → n ≡ 0 + i → slice_get xs i ≡ Some x → slice_get xs i ≡ Some y
+        → points ps n x ≡ points qs n y
+      equal i n x y at f g =
+          let number : n ≡ i = omega arith in
+          let same : x ≡ y = cc in
+          rw (number, ← same) (each i x f)
 
   -- two counts over lists of one length that pass the same elements but for those of one number
   pub count_at-change : (p q : ℕ → X → Bool) (xs ys : List X) (k : ℕ) (old new : X) → length xs ≡ length ys
@@ -140,13 +141,22 @@ module _ {X : Type 0} where
       → ((j : ℕ) (x y : X) → j ≢ k → slice_get xs j ≡ Some x → slice_get ys j ≡ Some y → p j x ≡ q j y)
       → count_at q 0 ys + bit (p k old) ≡ count_at p 0 xs + bit (q k new)
   count_at-change p q xs ys k old new long was now others =
-      let change = total-change (λ n x. bit (p n x)) (λ n x. bit (q n x)) 0 xs ys k k old new long
-      (omega arith) was now
-      (λ j m x y at ne f g.
-      let same : m ≡ j = omega arith in
-      let other : j ≢ k = λ e. ne (same ∙ e) in
-      rw same (ap bit (others j x y other f g))) in
+      let start : k ≡ 0 + k = omega arith in
+      let change = total-change weigh_p weigh_q 0 xs ys k k old new long start was now elsewhere in
       omega (arith, change, count_at-total p 0 xs, count_at-total q 0 ys)
+    where
+      weigh_p : ℕ → X → ℕ
+      weigh_p n x = bit (p n x)
+
+      weigh_q : ℕ → X → ℕ
+      weigh_q n x = bit (q n x)
+
+      elsewhere : (j m : ℕ) (x y : X) → m ≡ 0 + j → m ≢ k → slice_get xs j ≡ Some x → slice_get ys j ≡ Some y
+        → weigh_p m x ≡ weigh_q m y
+      elsewhere j m x y at ne f g =
+          let same : m ≡ j = omega arith in
+          let other : j ≢ k = λ e. ne (same ∙ e) in
+          rw same (ap bit (others j x y other f g))
 
   -- two counts over lists of one length that pass the same elements
   pub count_at-same : (p q : ℕ → X → Bool) (xs ys : List X) → length xs ≡ length ys
@@ -162,20 +172,44 @@ module _ {X : Type 0} where
       → ((j : ℕ) (x y : X) → slice_get xs j ≡ Some x → slice_get ys j ≡ Some y → p j x ≡ true → q j y ≡ true)
       → count_at p 0 xs ≤ count_at q 0 ys
   count_at-le p q xs ys long follows =
-      let less = total-le (λ n x. bit (p n x)) (λ n x. bit (q n x)) 0 xs ys long
-      (λ i n x y at f g. let number : n ≡ i = omega arith in rw number
-      (bit-le (p i x) (q i y) (follows i x y f g))) in
+      let less = total-le (λ n x. bit (p n x)) (λ n x. bit (q n x)) 0 xs ys long each in
       omega (arith, less, count_at-total p 0 xs, count_at-total q 0 ys)
+    where
+      each : (i n : ℕ) (x y : X) → n ≡ 0 + i → slice_get xs i ≡ Some x → slice_get ys i ≡ Some y
+        → bit (p n x) ≤ bit (q n y)
+      each i n x y at f g =
+          let number : n ≡ i = omega arith in
+          rw number (bit-le (p i x) (q i y) (follows i x y f g))
+
+  -- two counts of one list by tests that agree on its elements
+  pub count_at-agree : (p q : ℕ → X → Bool) (xs : List X)
+    → ((j : ℕ) (x : X) → slice_get xs j ≡ Some x → p j x ≡ q j x) → count_at p 0 xs ≡ count_at q 0 xs
+  count_at-agree p q xs agree = count_at-same p q xs xs refl each
+    where
+      each : (j : ℕ) (x y : X) → slice_get xs j ≡ Some x → slice_get xs j ≡ Some y → p j x ≡ q j y
+      each j x y f g = let same : x ≡ y = cc in rw (← same) (agree j x f)
+
+  -- two counts of one list by tests that agree on its elements but one
+  pub count_at-agree_but : (p q : ℕ → X → Bool) (xs : List X) (k : ℕ) (one : X) → slice_get xs k ≡ Some one
+    → ((j : ℕ) (x : X) → j ≢ k → slice_get xs j ≡ Some x → p j x ≡ q j x)
+    → count_at q 0 xs + bit (p k one) ≡ count_at p 0 xs + bit (q k one)
+  count_at-agree_but p q xs k one there agree = count_at-change p q xs xs k one one refl there there each
+    where
+      each : (j : ℕ) (x y : X) → j ≢ k → slice_get xs j ≡ Some x → slice_get xs j ≡ Some y → p j x ≡ q j y
+      each j x y ne f g = let same : x ≡ y = cc in rw (← same) (agree j x ne f)
 
   pub count_at-write : (p : ℕ → X → Bool) (xs : List X) (k : ℕ) (old new : X) → slice_get xs k ≡ Some old
       → count_at p 0 (set xs k new) + bit (p k old) ≡ count_at p 0 xs + bit (p k new)
   count_at-write p xs k old new there =
-      count_at-change p p xs (set xs k new) k old new (sym (length-set xs k new)) there
-      (get-set_here xs k old new there)
-      (λ j x y ne f g.
-      let kept : slice_get xs j ≡ Some y = sym (get-set_else xs k j new (λ e. ne (sym e))) ∙ g in
-      let same : x ≡ y = cc in
-      ap (p j) same)
+      let written : slice_get (set xs k new) k ≡ Some new = get-set_here xs k old new there in
+      count_at-change p p xs (set xs k new) k old new (sym (length-set xs k new)) there written elsewhere
+    where
+      elsewhere : (j : ℕ) (x y : X) → j ≢ k → slice_get xs j ≡ Some x → slice_get (set xs k new) j ≡ Some y
+        → p j x ≡ p j y
+      elsewhere j x y ne f g =
+          let kept : slice_get xs j ≡ Some y = sym (get-set_else xs k j new (λ e. ne (sym e))) ∙ g in
+          let same : x ≡ y = cc in
+          ap (p j) same
 
   pub count_at-push : (p : ℕ → X → Bool) (xs : List X) (y : X)
       → count_at p 0 (xs ++ y ∷ []) ≡ count_at p 0 xs + bit (p (length xs) y)
@@ -186,17 +220,16 @@ module _ {X : Type 0} where
   pub count_at-none : (p : ℕ → X → Bool) (xs : List X)
       → ((k : ℕ) (x : X) → slice_get xs k ≡ Some x → p k x ≡ false) → count_at p 0 xs ≡ 0
   count_at-none p xs none =
-      let same = count_at-same p (λ n x. false) xs xs refl (λ k x y f g. none k x f) in
+      let same = count_at-agree p (λ n x. false) xs none in
       omega (arith, same, count_at-total (λ n x. false) 0 xs, total-zero 0 xs)
 
   pub count_at-one : (p : ℕ → X → Bool) (xs : List X) (k : ℕ) (x : X) → slice_get xs k ≡ Some x
       → p k x ≡ true
       → ((j : ℕ) (y : X) → j ≢ k → slice_get xs j ≡ Some y → p j y ≡ false) → count_at p 0 xs ≡ 1
   count_at-one p xs k x there here none =
-      let change : count_at p 0 xs + 0 ≡ count_at (λ n y. false) 0 xs + bit (p k x) =
-      count_at-change (λ n y. false) p xs xs k x x refl there there (λ j y z ne f g. sym (none j z ne g)) in
+      let but_one = count_at-agree_but (λ n y. false) p xs k x there (λ j y ne f. sym (none j y ne f)) in
       let one : bit (p k x) ≡ 1 = rw here refl in
-      omega (arith, change, one, count_at-none (λ n y. false) xs (λ n y f. refl))
+      omega (arith, but_one, one, count_at-none (λ n y. false) xs (λ n y f. refl))
 
   pub count_by-at : (p : X → Bool) (xs : List X) → count_by p xs ≡ count_at (λ n. p) 0 xs
   count_by-at p xs = count_by-total p 0 xs ∙ sym (count_at-total (λ n. p) 0 xs)

@@ -40,17 +40,21 @@ pub record HasFlow (q : Queue) : Type 0 where
 resuming-parts : (passes : List Doing)
     → count_by is_resuming passes ≡ count_by is_owing passes + count_by is_holding passes
 resuming-parts passes =
-    let parts = counts-balance ((λ n. is_resuming) ∷ []) ((λ n. is_owing) ∷ (λ n. is_holding) ∷ []) passes
-    (λ k d f. each d) in
-    omega (
-      arith,
-      parts,
-      count_by-at is_resuming passes,
-      count_by-at is_owing passes,
-      count_by-at
-          is_holding passes,
-    )
+    let parts = counts-balance (resuming ∷ []) (owing ∷ holding ∷ []) passes (λ k d f. each d) in
+    let all = count_by-at is_resuming passes in
+    let owe = count_by-at is_owing passes in
+    let hold = count_by-at is_holding passes in
+    omega (arith, parts, all, owe, hold)
   where
+    resuming : ℕ → Doing → Bool
+    resuming n = is_resuming
+
+    owing : ℕ → Doing → Bool
+    owing n = is_owing
+
+    holding : ℕ → Doing → Bool
+    holding n = is_holding
+
     each : (d : Doing) → bit (is_resuming d) + 0 ≡ bit (is_owing d) + (bit (is_holding d) + 0)
     each doing.Owes = refl
     each (doing.Ticket k) = refl

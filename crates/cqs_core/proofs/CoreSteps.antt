@@ -1,0 +1,157 @@
+-- The kinds of step: hidden from the fair semaphore, a permit that reaches a wait, and a look that closes one.
+use Rattle.std.proofs.Common.{◌≡◌, ℕ, ◌+◌, ◌-◌, ◌<◌, ◌≤◌, ℤ, List, [], ◌∷◌, ◌++◌, Some, length, set, sum, slice_get, get_or, refl, sym, ap, ◌∙◌, arith}
+use Rattle.std.proofs.lemmas.List.Sums.{sum_by-set, get_or-le-sum_by}
+use Rattle.cqs_core.specs.declared.doings.Doing.{Doing}
+use Rattle.cqs_core.specs.declared.entries.Entry.{Entry}
+use Rattle.cqs_core.specs.declared.entries.Entry.TheVariants as entry
+use Rattle.cqs_core.specs.Numbered.{EachAt}
+use Rattle.cqs_core.specs.QueueLine.{door, line, served, way, ready}
+use Rattle.cqs_core.specs.QueueMoves.{Move, IsOpen, moved}
+use Rattle.cqs_core.specs.QueueCover.{IsFair}
+use Rattle.cqs_core.specs.SemaphoreObject.{Semaphore}
+use Rattle.cqs_core.specs.SemaphoreEntries.{IsAllowed, after_entry, find_wait, with_service, closed}
+use Rattle.cqs_core.specs.SemaphoreTable.{Shape, moves, last_number}
+use Rattle.cqs_core.specs.SemaphoreShown.{IsCore, HasLoaded, shown, free_of, short_of}
+use Rattle.cqs_core.proofs.CoreFrame.{WordsFit, TellsShort, Conserves, seen, altered, same-semaphore, core-push, core-quiet}
+use Rattle.cqs_core.proofs.DeliveryMoves.{Delivers, Closes}
+use Rattle.cqs_core.proofs.HiddenMoves.{LooksSame}
+use Rattle.cqs_core.proofs.Places.{get-below}
+use Rattle.cqs_core.proofs.Promised.{sound-moved, covered-moved, ending-within}
+
+-- what a pass holds, one more or one fewer
+pub gains-sum : (held : List ℕ) (p : ℕ) → p < length held
+    → sum (set held p (get_or held p 0 + 1)) ≡ sum held + 1
+gains-sum held p there = let changed = sum_by-set (λ n. n) held p (get_or held p 0 + 1) 0 there in omega arith
+
+pub loses-sum : (held : List ℕ) (p : ℕ) → p < length held → 0 < get_or held p 0
+    → sum (set held p (get_or held p 0 - 1)) + 1 ≡ sum held
+loses-sum held p there some =
+    let changed = sum_by-set (λ n. n) held p (get_or held p 0 - 1) 0 there in omega arith
+
+pub held-within : (held : List ℕ) (p : ℕ) → p < length held → get_or held p 0 ≤ sum held
+held-within held p there = get_or-le-sum_by (λ n. n) held p 0 there
+
+-- a pass that does something holds something
+pub holds-there : (s : Shape) (p : ℕ) (d : Doing) → IsCore s → slice_get s.queue.doing p ≡ Some d
+    → p < length s.held
+holds-there s p d core does = let there = get-below s.queue.doing p d does in omega (arith, core.holders)
+
+-- Steps that the fair semaphore doesn't see, but for a permit that goes from the free ones to the held ones or
+-- back.
+
+-- the semaphore with other numbers of free and held permits
+abbrev pub with_permits : Semaphore → ℕ → ℕ → Semaphore
+with_permits o free held = record o { free = free; held = held }
+
+way-same : (s : Shape) (m : Move) → IsCore s → IsOpen s.queue m → IsFair s.queue m
+    → LooksSame s.queue (moved s.queue m) → way s.queue ≡ way (moved s.queue m)
+way-same s m core opens fair same =
+    let sound_after = sound-moved s.queue m core.sound opens in
+    let covered_after = covered-moved s.queue m core.sound core.covered opens fair in
+    let within = ending-within s.queue core.sound core.covered in
+    let within_after = ending-within (moved s.queue m) sound_after covered_after in
+    omega (arith, same.way, within, within_after)
+
+hidden-short : (s : Shape) (m : Move) (z : ℤ) → IsCore s → LooksSame s.queue (moved s.queue m)
+    → short_of z ≡ short_of s.state → TellsShort z (moved s.queue m)
+hidden-short s m z core same short_same =
+    let doors : length (door (moved s.queue m)) ≡ length (door s.queue) = ap length same.door in
+    let lines : length (line (moved s.queue m)) ≡ length (line s.queue) = ap length same.line in
+    omega (arith, same.way, core.short)
+
+hidden-conserved : (s : Shape) (m : Move) (z : ℤ) (held : List ℕ) → IsCore s
+    → LooksSame s.queue (moved s.queue m)
+    → sum held + free_of z ≡ sum s.held + free_of s.state → Conserves s.permits z held (moved s.queue m)
+hidden-conserved s m z held core same permits_same = omega (arith, same.ready, same.way, core.conserved)
+
+hidden-shows : (s : Shape) (m : Move) (z : ℤ) (held : List ℕ) → way s.queue ≡ way (moved s.queue m)
+    → LooksSame s.queue (moved s.queue m)
+    → with_permits (shown s) (free_of z) (sum held + ready s.queue) ≡ seen z held (moved s.queue m)
+hidden-shows s m z held ways same =
+    same-semaphore refl ways (sym same.door) (sym same.line) (sym same.suspends) (sym same.served)
+    (ap (λ n. sum held + n) (sym same.ready))
+
+pub hidden-push : (s : Shape) (m : Move) (z : ℤ) (held : List ℕ) (e : Entry)
+    → IsCore s → IsOpen s.queue m → IsFair s.queue m → LooksSame s.queue (moved s.queue m) → WordsFit s m z held
+    → short_of z ≡ short_of s.state → sum held + free_of z ≡ sum s.held + free_of s.state
+    → IsAllowed (shown s) e
+    → after_entry (shown s) e ≡ with_permits (shown s) (free_of z) (sum held + ready s.queue)
+    → IsCore (altered s z held (s.history ++ e ∷ []) (moved s.queue m))
+hidden-push s m z held e core opens fair same words short_same permits_same allowed changes =
+    core-push s m z held e core opens fair words
+    (hidden-short s m z core same short_same)
+    (hidden-conserved s m z held core same permits_same)
+    allowed
+    (changes ∙ hidden-shows s m z held (way-same s m core opens fair same) same)
+
+pub hidden-quiet : (s : Shape) (m : Move)
+    → IsCore s → IsOpen s.queue m → IsFair s.queue m → LooksSame s.queue (moved s.queue m)
+    → (moved s.queue m).resumes ≤ last_number → EachAt HasLoaded (moved s.queue m).doing
+    → IsCore (moves s m)
+hidden-quiet s m core opens fair same resumes loaded =
+    let words : WordsFit s m s.state s.held = record {
+      state = core.range.state;
+      suspends = rw same.suspends core.range.suspends;
+      resumes = resumes;
+      loaded = loaded;
+      holders = refl;
+    } in
+    core-quiet s m s.state s.held core opens fair words
+    (hidden-short s m s.state core same refl)
+    (hidden-conserved s m s.state s.held core same refl)
+    (hidden-shows s m s.state s.held (way-same s m core opens fair same) same)
+
+-- A permit on its way reaches wait k of pass c.
+pub delivered-core : (s : Shape) (m : Move) (held : List ℕ) (k c : ℕ)
+    → IsCore s → IsOpen s.queue m → IsFair s.queue m → Delivers s.queue (moved s.queue m) k c
+    → (moved s.queue m).resumes ≤ last_number → EachAt HasLoaded (moved s.queue m).doing
+    → length held ≡ length s.held → sum held + ready (moved s.queue m) ≡ sum s.held + ready s.queue + 1
+    → IsCore (altered s s.state held (s.history ++ entry.Deliver k ∷ []) (moved s.queue m))
+delivered-core s m held k c core opens fair delivers resumes loaded holders more =
+    let words : WordsFit s m s.state held = record {
+      state = core.range.state;
+      suspends = rw delivers.suspends core.range.suspends;
+      resumes = resumes;
+      loaded = loaded;
+      holders = holders;
+    } in
+    let doors : length (door (moved s.queue m)) ≡ length (door s.queue) = ap length delivers.door in
+    let short : TellsShort s.state (moved s.queue m) =
+    omega (arith, delivers.shorter, delivers.going, delivers.ending, core.short) in
+    let conserved : Conserves s.permits s.state held (moved s.queue m) =
+    omega (arith, more, delivers.going, delivers.ending, core.conserved) in
+    let one_fewer : way s.queue - 1 ≡ way (moved s.queue m) = omega (arith, delivers.going, delivers.ending) in
+    let served_too : with_service (find_wait k (line s.queue)) (served s.queue) ≡ served (moved s.queue m) =
+    ap (λ w. with_service w (served s.queue)) delivers.found ∙ sym delivers.served in
+    let shows : after_entry (shown s) (entry.Deliver k) ≡ seen s.state held (moved s.queue m) =
+    same-semaphore refl one_fewer (sym delivers.door) (sym delivers.line) (sym delivers.suspends) served_too
+    (sym more) in
+    core-push s m s.state held (entry.Deliver k) core opens fair words short conserved (c, delivers.first) shows
+
+-- The permit of wait k, which was served, is looked at: it is the pass's.
+pub closed-core : (s : Shape) (m : Move) (held : List ℕ) (e : Entry) (k c : ℕ)
+    → IsCore s → IsOpen s.queue m → IsFair s.queue m → Closes s.queue (moved s.queue m) k c
+    → (moved s.queue m).resumes ≤ last_number → EachAt HasLoaded (moved s.queue m).doing
+    → length held ≡ length s.held → sum held ≡ sum s.held + 1
+    → IsAllowed (shown s) e → after_entry (shown s) e ≡ closed (shown s) k
+    → IsCore (altered s s.state held (s.history ++ e ∷ []) (moved s.queue m))
+closed-core s m held e k c core opens fair closes resumes loaded holders more allowed changes =
+    let words : WordsFit s m s.state held = record {
+      state = core.range.state;
+      suspends = rw closes.suspends core.range.suspends;
+      resumes = resumes;
+      loaded = loaded;
+      holders = holders;
+    } in
+    let doors : length (door (moved s.queue m)) ≡ length (door s.queue) = ap length closes.door in
+    let lines : length (line (moved s.queue m)) ≡ length (line s.queue) = ap length closes.line in
+    let short : TellsShort s.state (moved s.queue m) = omega (arith, closes.going, closes.ending, core.short) in
+    let conserved : Conserves s.permits s.state held (moved s.queue m) =
+    omega (arith, more, closes.ready, closes.going, closes.ending, core.conserved) in
+    let as_many : way s.queue ≡ way (moved s.queue m) = omega (arith, closes.going, closes.ending) in
+    let held_same : sum s.held + ready s.queue ≡ sum held + ready (moved s.queue m) =
+    omega (arith, closes.ready) in
+    let shows : closed (shown s) k ≡ seen s.state held (moved s.queue m) =
+    same-semaphore refl as_many (sym closes.door) (sym closes.line) (sym closes.suspends) (sym closes.served)
+    held_same in
+    core-push s m s.state held e core opens fair words short conserved allowed (changes ∙ shows)

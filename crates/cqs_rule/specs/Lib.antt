@@ -1,0 +1,9 @@
+pub mod Layout
+pub mod Hidden
+pub mod Lists
+pub mod Views
+pub mod Ruled
+pub mod Opened
+pub mod Told
+pub mod Configured
+pub mod Passes

@@ -1,0 +1,16 @@
+//! The running rule.
+#![tactic(auto)]
+
+mod client;
+mod config;
+mod layout;
+mod queue;
+mod rule;
+mod view;
+
+pub use client::{Client, ClientWords, Shown};
+pub use config::{CancelMode, Config, MakeError, Place};
+pub use layout::{CELLS_WORD, CLIENT_WORD, CREW_WORD, RESUMES_WORD, SUSPENDS_WORD};
+pub use queue::{Pass, Queue};
+pub use rule::{Key, Rule};
+pub use view::{Facts, Glimpse, Sighting, View};

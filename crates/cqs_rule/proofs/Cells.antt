@@ -86,7 +86,7 @@ new_cell-owner leaves found = refl
 new_cell-owner takes found = refl
 new_cell-owner serves found = refl
 
-rank-rises : (s : QueueStep) → IsExchange s → rank (state_before s) < rank (state_after s)
+pub rank-rises : (s : QueueStep) → IsExchange s → rank (state_before s) < rank (state_after s)
 rank-rises draws e = absurd e
 rank-rises reaches e = absurd e
 rank-rises installs e = omega arith

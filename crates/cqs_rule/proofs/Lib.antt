@@ -1,4 +1,10 @@
 pub mod Lists
 pub mod Cells
+pub mod Words
 pub mod Grow
+pub mod Others
+pub mod Tells
+pub mod Looks
+pub mod Draws
+pub mod Crosses
 pub mod Opens

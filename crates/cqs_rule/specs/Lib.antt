@@ -4,6 +4,7 @@ pub mod Lists
 pub mod Views
 pub mod Ruled
 pub mod Opened
+pub mod Client
 pub mod Told
 pub mod Configured
 pub mod Passes

@@ -81,6 +81,18 @@ MayFind serves state.Empty = Unit {0}
 MayFind serves state.Waiter = Unit {0}
 MayFind _ _ = ⊥
 
+-- An exchange that a pass may make on the cell of its number: from the state that the step wants to the one that it makes. A
+-- resume leaves what it owes.
+pub record IsCrossing (s : QueueStep) (facts : Facts) (word expected new : ℕ) : Type 0 where
+  pub exchange : IsExchange s
+  pub works : facts.doing ≡ works_at s (number_at facts.doing)
+  pub place : word ≡ cell_place (number_at facts.doing)
+  pub payload : ℕ
+  pub payload_fits : payload < 2 ^ 20
+  pub expects : expected ≡ word_of (number_at facts.doing) (state_before s) payload
+  pub owes : facts.payload < 2 ^ 20
+  pub makes : new ≡ word_of (number_at facts.doing) (state_after s) (payload_made s facts.payload)
+
 -- the word n is that of the cell of the number k, found so
 pub record FoundCell (k n : ℕ) (g : Glimpse) : Type 0 where
   pub word : n ≡ word_of k g.state g.payload

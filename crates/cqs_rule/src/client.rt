@@ -13,15 +13,9 @@ pub trait ClientWords: Sized + Drop {
     /// What its history consists of.
     type Entry;
 
-    ghost use Rattle.std.specs.Prelude.{◌≡◌, ℕ, ◌+◌, ◌<◌, ◌≤◌, ◌^◌, Bool, List, [], ◌++◌, length, slice_index, slice_get, count_by, Option, Some};
-    ghost use Rattle.cqs_core.specs.declared.cells.CoreCell.{CoreCell};
-    ghost use Rattle.cqs_core.specs.QueueLine.{door};
-    ghost use Rattle.cqs_core.specs.QueueSound.{IsSound};
-    ghost use Rattle.cqs_core.specs.QueueMoves.{IsOpen};
-    ghost use Rattle.cqs_core.specs.declared.doings.Doing.TheVariants as doing;
-    ghost use Rattle.cqs_rule.specs.Hidden.{Hidden, QueueStep, move_of, happened, now_may_draw};
-    ghost use Rattle.cqs_rule.specs.Lists.{NamesOnly};
-    ghost use Rattle.cqs_rule.specs.Opened.{first_hidden, four};
+    ghost use Rattle.std.specs.Prelude.{◌≡◌, ℕ, ◌<◌, ◌≤◌, ◌^◌, Bool, List, length, slice_index};
+    ghost use Rattle.cqs_rule.specs.Client.{IsClient};
+    ghost use Rattle.cqs_rule.specs.Hidden.{Hidden, QueueStep};
 
     // The client's words, the history and the values handed in go with what is hidden.
     ghost shows: { Self → Hidden → List ℕ → List Self.Entry → List Self.Slot → Type 0 };
@@ -77,27 +71,7 @@ pub trait ClientWords: Sized + Drop {
         requires { gains held < 2 ^ 32 }
         ensures { result ≡ gains held };
 
-    ghost begins: { (x : Self) (passes : ℕ) → 0 < passes → passes ≤ 32 → shows x (first_hidden passes (first_values x) (first_held x)) (four (opened x)) [] [] };
-
-    ghost steps: { (x : Self) (c : Hidden) (s : QueueStep) (p k : ℕ) (found : Option CoreCell) (payload : ℕ) (words : List ℕ) (log : List Self.Entry) (handed : List Self.Slot)
-        → shows x c words log handed → IsOpen c.queue (move_of s p k found) → c.queue.suspends < 1099511627775 → c.queue.resumes < 1099511627775
-        → shows x (happened gains c s p k found payload) words (log ++ entries s p k) handed };
-
-    ghost counts: { (x : Self) (c : Hidden) (p : ℕ) (may : Bool) (words : List ℕ) (log : List Self.Entry) (handed : List Self.Slot)
-        → shows x c words log handed → shows x (now_may_draw c p may) words log handed };
-
-    ghost silent: { (s : QueueStep) (p k : ℕ) → NamesOnly names p (entries s p k) };
-
-    ghost sound: { (x : Self) (c : Hidden) (words : List ℕ) (log : List Self.Entry) (handed : List Self.Slot) → shows x c words log handed → IsSound c.queue };
-
-    ghost legal_shown: { (x : Self) (c : Hidden) (words : List ℕ) (log : List Self.Entry) (handed : List Self.Slot) → shows x c words log handed → legal (size x) log };
-
-    ghost held_fits: { (x : Self) (c : Hidden) (words : List ℕ) (log : List Self.Entry) (handed : List Self.Slot) (p n : ℕ)
-        → shows x c words log handed → slice_get c.held p ≡ Some n → n < 2 ^ 32 };
-
-    // Where a resumption is owed, fewer numbers were drawn for resumptions than were drawn to suspend at and wait at the door.
-    ghost reaches_few: { (x : Self) (c : Hidden) (words : List ℕ) (log : List Self.Entry) (handed : List Self.Slot) (p : ℕ)
-        → shows x c words log handed → slice_get c.queue.doing p ≡ Some doing.Owes → c.queue.resumes < c.queue.suspends + length (door c.queue) + first_values x };
+    ghost keeps: { (x : Self) → IsClient names (legal (size x)) (shows x) entries gains (opened x) (first_values x) (first_held x) };
 }
 
 /// A primitive, with what the queue calls back.

@@ -9,4 +9,4 @@ vacant-requires g c =
     opens-by g.C.ClientWords.names (g.C.ClientWords.shows c.args.client) c.args.config c.from.result
     (g.C.ClientWords.first_values c.args.client) c.values.result (g.C.ClientWords.size c.args.client) (g.C.ClientWords.first_held c.args.client) _ _ _ _ good
     c.from.ensures c.values.ensures c.as_slice.ensures.value c.in_ok-words.ensures c.requires.few
-    (g.met.C.ClientWords.begins c.args.client)
+    (g.met.C.ClientWords.keeps c.args.client).begins

@@ -5,6 +5,7 @@ pub mod Grow
 pub mod Others
 pub mod Tells
 pub mod Looks
-pub mod Draws
+pub mod Counters
 pub mod Crosses
+pub mod Moves
 pub mod Opens

@@ -106,3 +106,8 @@ module _ {E S : Type 0} (names : ℕ → E → Bool) (legal : ℕ → List E →
               let same : set r.hidden.may_draw p may ≡ r.hidden.may_draw = ap (set r.hidden.may_draw p) e ∙ set-same r.hidden.may_draw p old there in
               let g = r.room.ground in
               subst (λ (l : List Bool). r.hidden.queue.suspends + count_by (λ b. b) l < limit + passes) (sym same) g
+
+  pub counts-at : (slots id : ℕ) (me : Me (Option S) (View E S)) (word : ℕ) → me.0.weight ≡ 1 → word ≡ 16
+      → Allows (Ruled names shows passes limit values size) slots id me word (λ n. n) (counted names legal (step slots word 0 0 none) me)
+  counts-at slots id me word one is =
+      subst (λ z. Allows (Ruled names shows passes limit values size) slots id me z (λ n. n) (counted names legal (step slots z 0 0 none) me)) (sym is) (counts slots id me one)

@@ -1,5 +1,5 @@
 -- What each step tells the pass that makes it, and what a client owes for a step on a word of its own.
-use Rattle.std.specs.Prelude.{◌≡◌, ◌≢◌, ℕ, ◌+◌, ◌-◌, ◌%◌, ◌^◌, ◌<◌, nat_lt, Bool, true, false, List, [], ◌∷◌, ◌++◌, slice_index, slice_set, slice_get, Option, Some, None, ℤ, pos, negsuc, if◌then◌else◌}
+use Rattle.std.specs.Prelude.{◌≡◌, ◌≢◌, ℕ, suc, ◌+◌, ◌-◌, ◌%◌, ◌^◌, ◌<◌, nat_lt, Bool, true, false, List, [], ◌∷◌, ◌++◌, slice_index, slice_set, slice_get, Option, Some, None, ℤ, pos, negsuc, if◌then◌else◌}
 use Rattle.atomic_table.specs.Table.{Me, Step}
 use Rattle.cqs_core.specs.declared.cells.CoreState.{CoreState}
 use Rattle.cqs_core.specs.declared.cells.CoreState.TheVariants as state
@@ -9,7 +9,7 @@ use Rattle.cqs_rule.specs.declared.view.View.{View}
 use Rattle.cqs_rule.specs.declared.view.Facts.{Facts}
 use Rattle.cqs_rule.specs.declared.view.Glimpse.{Glimpse}
 use Rattle.cqs_rule.specs.declared.view.Sighting.TheVariants.{Cell, Resumes}
-use Rattle.cqs_rule.specs.Layout.{suspends_place, cell_place}
+use Rattle.cqs_rule.specs.Layout.{suspends_place, resumes_place, cell_place}
 use Rattle.cqs_rule.specs.Hidden.{Hidden, QueueStep, draws, reaches, installs, leaves, takes, serves, stands_at}
 use Rattle.cqs_rule.specs.Lists.{Has, IsPrefix, part, NamesOnly}
 use Rattle.cqs_rule.specs.Views.{IsSame}
@@ -57,6 +57,11 @@ facts_after gains installs k n f = record f { doing = doing.Idle; last = None; w
 facts_after gains takes k n f = record f { doing = doing.Idle; last = None; held = gains f.held; found = f.found ++ Cell k n ∷ [] }
 facts_after gains _ k n f = record f { doing = doing.Idle; last = None; found = f.found ++ Cell k n ∷ [] }
 
+-- what a pass that held this much holds after a step of the queue
+abbrev pub held_then : (ℕ → ℕ) → QueueStep → ℕ → ℕ
+held_then gains takes held = gains held
+held_then gains _ held = held
+
 -- an exchange on the cell of the number k was not made: the word n was found
 abbrev pub facts_missed : ℕ → ℕ → Glimpse → Facts → Facts
 facts_missed k n g f = record f { last = Some g; found = f.found ++ Cell k n ∷ [] }
@@ -80,6 +85,12 @@ MayFind leaves state.Waiter = Unit {0}
 MayFind serves state.Empty = Unit {0}
 MayFind serves state.Waiter = Unit {0}
 MayFind _ _ = ⊥
+
+-- A number that a pass may draw: at the door from the suspend counter, and where it owes a resumption from the resume counter.
+abbrev pub IsCount : QueueStep → Facts → ℕ → ℤ → Type 0
+IsCount draws facts word by = (facts.doing ≡ doing.Door) × (word ≡ suspends_place) × (by ≡ pos 1)
+IsCount reaches facts word by = (facts.doing ≡ doing.Owes) × (word ≡ resumes_place) × (by ≡ pos 1)
+IsCount _ facts word by = ⊥
 
 -- An exchange that a pass may make on the cell of its number: from the state that the step wants to the one that it makes. A
 -- resume leaves what it owes.
@@ -148,7 +159,7 @@ module _ {E : Type 0} (names : ℕ → E → Bool) (legal : ℕ → List E → T
 -- a word with a signed number added, as it wraps
 abbrev pub raise : ℤ → ℕ
 raise (pos k) = k
-raise (negsuc k) = 2 ^ 64 - (k + 1)
+raise (negsuc k) = 2 ^ 64 - suc k
 
 abbrev pub added : ℤ → ℕ → ℕ
 added by n = (n + raise by) % 2 ^ 64

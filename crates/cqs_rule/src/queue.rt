@@ -4,6 +4,8 @@ ghost use Rattle.std.specs.Prelude.{◌≡◌, ℕ, ◌+◌, ◌<◌, length};
 ghost use Rattle.cqs_rule.specs.Ruled.{number_at};
 
 mod opening;
+mod steps;
+mod words;
 
 use crate::client::ClientWords;
 use crate::config::CancelMode;

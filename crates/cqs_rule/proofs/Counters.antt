@@ -1,6 +1,6 @@
 -- The steps that draw a number from a counter. No counter comes past the cells: those at the door may draw, and the numbers drawn
 -- with those who may draw stay below the limit and the passes.
-use Rattle.std.proofs.Common.{◌≡◌, ◌≢◌, ℕ, zero, suc, ◌+◌, ◌%◌, ◌<◌, ◌≤◌, ◌^◌, Bool, true, false, List, [], ◌∷◌, ◌++◌, length, set, sym, refl, ap, ◌∙◌, subst, inl, arith, Option, Some, None, slice_get, cond}
+use Rattle.std.proofs.Common.{◌≡◌, ◌≢◌, ℕ, zero, suc, ◌+◌, ◌%◌, ◌<◌, ◌≤◌, ◌^◌, Bool, true, false, List, [], ◌∷◌, ◌++◌, length, set, sym, refl, ap, ◌∙◌, subst, inl, arith, Option, Some, None, slice_get, cond, ℤ, pos, unsigned_abs}
 use Rattle.std.specs.Prelude.{slice_index, slice_set, count_by}
 use Rattle.std.proofs.lemmas.List.{length-set}
 use Rattle.std.proofs.lemmas.List.Sums.{sum_by-cons}
@@ -17,12 +17,12 @@ use Rattle.cqs_core.specs.QueueLine as queue
 use Rattle.cqs_core.proofs.Places.{get-set_here, get-set_else, get-below}
 use Rattle.cqs_rule.specs.declared.view.View.{View}
 use Rattle.cqs_rule.specs.declared.view.Facts.{Facts}
-use Rattle.cqs_rule.specs.Hidden.{Hidden, QueueStep, draws, reaches, happened}
+use Rattle.cqs_rule.specs.Hidden.{Hidden, QueueStep, draws, reaches, installs, leaves, takes, serves, happened}
 use Rattle.cqs_rule.specs.Layout.{client_words}
 use Rattle.cqs_rule.specs.Views.{grown}
 use Rattle.cqs_rule.specs.Ruled.{Ruled, Stands, CountersShow, CellsShow, HasRoom, DoorMayDraw}
 use Rattle.cqs_rule.specs.Client.{IsClient}
-use Rattle.cqs_rule.specs.Told.{Saw, drew, facts_after}
+use Rattle.cqs_rule.specs.Told.{Saw, drew, facts_after, IsCount}
 use Rattle.cqs_rule.proofs.Lists.{fewer_draw}
 use Rattle.cqs_rule.proofs.Cells.{drawn-state, reached-state}
 use Rattle.cqs_rule.proofs.Words.{this-word, crew-else, cells-else, client-below, other-word}
@@ -47,6 +47,9 @@ doors-draw (d ∷ ds) (m ∷ may) k door =
     let rest = doors-draw ds may (suc k) (λ p at. door (suc p) at) in
     let more = sum_by-cons (λ b. cond b 1 0) m may in
     omega arith
+
+one-more : (amount : ℕ) (by : ℤ) → amount ≡ unsigned_abs by → by ≡ pos 1 → amount ≡ 1
+one-more amount by is up = is ∙ ap unsigned_abs up
 
 module _ {E S : Type 0} (names : ℕ → E → Bool) (legal : ℕ → List E → Type 0) (shows : Hidden → List ℕ → List E → List S → Type 0)
     (entries : QueueStep → ℕ → ℕ → List E) (gains : ℕ → ℕ) (opened : List ℕ) (passes limit values size held : ℕ)
@@ -145,3 +148,25 @@ module _ {E S : Type 0} (names : ℕ → E → Bool) (legal : ℕ → List E →
       } in
       let done = steps names legal shows entries gains opened passes limit values size held client s r id me 32 x d (entries reaches p n) (facts_after gains reaches n n f) here one t in
       (grown v (facts_after gains reaches n n f) (r.log ++ entries reaches p n) r.handed, keeps, tt, done.0, (done.1, refl))
+
+  -- a number is drawn from the counter that the step names
+  pub count : (slots id : ℕ) (me : Me (Option S) (View E S)) (t : QueueStep) (word amount : ℕ) (by : ℤ) → me.0.weight ≡ 1 → amount ≡ unsigned_abs by → IsCount t me.0.facts word by
+      → Allows (Ruled names shows passes limit values size) slots id me word (λ n. (n + amount) % 2 ^ 64) (drew names legal gains entries t (step slots word amount 0 none) me)
+  count slots id me draws word amount by one is c =
+      subst (λ (z : ℕ × ℕ). Allows (Ruled names shows passes limit values size) slots id me z.0 (λ n. (n + z.1) % 2 ^ 64) (drew names legal gains entries draws (step slots z.0 z.1 0 none) me))
+      (λ i. (sym c.1 i, sym (one-more amount by is c.2) i)) (draw slots id me one c.0)
+  count slots id me reaches word amount by one is c =
+      subst (λ (z : ℕ × ℕ). Allows (Ruled names shows passes limit values size) slots id me z.0 (λ n. (n + z.1) % 2 ^ 64) (drew names legal gains entries reaches (step slots z.0 z.1 0 none) me))
+      (λ i. (sym c.1 i, sym (one-more amount by is c.2) i)) (reach slots id me one c.0)
+  count slots id me installs word amount by one is c = absurd c
+  count slots id me leaves word amount by one is c = absurd c
+  count slots id me takes word amount by one is c = absurd c
+  count slots id me serves word amount by one is c = absurd c
+
+pub counter-low : (t : QueueStep) (facts : Facts) (word : ℕ) (by : ℤ) → IsCount t facts word by → word < 112
+counter-low draws facts word by c = let e = c.1 in omega arith
+counter-low reaches facts word by c = let e = c.1 in omega arith
+counter-low installs facts word by c = absurd c
+counter-low leaves facts word by c = absurd c
+counter-low takes facts word by c = absurd c
+counter-low serves facts word by c = absurd c

@@ -94,7 +94,7 @@ module _ {E S : Type 0} (names : ℕ → E → Bool) (legal : ℕ → List E →
         door = door-keeps c d p r.door (λ m a. get-set_else c.queue.doing p m (doing.Drawn n) (λ e. a (sym e))) (may-else gains c p n f.payload draws found)
             (λ e. let mine = get-set_here c.queue.doing p f.doing (doing.Drawn n) at.doing in absurd (cc));
         shown = subst (λ (ws : List ℕ). shows d ws (r.log ++ entries draws p n) r.handed) (sym (client-below s.words 16 x (omega arith)))
-            (client.steps c draws p n found f.payload (client_words s.words) r.log r.handed r.shown (does, is, refl) (omega arith) (resumes-low passes limit values c r.room));
+            (client.steps c draws p n found f.payload (client_words s.words) r.log r.handed r.shown (does, is, refl) (omega arith) (let m = resumes-low passes limit values c r.room in omega arith));
         others = others-drawn gains c p n f.payload found refl is;
         self = drawn-self gains c p n f.payload found n f refl is at;
         silent = client.silent draws p n;
@@ -141,7 +141,7 @@ module _ {E S : Type 0} (names : ℕ → E → Bool) (legal : ℕ → List E →
         door = door-keeps c d p r.door (λ m a. get-set_else c.queue.doing p m (doing.Ticket n) (λ e. a (sym e))) (may-else gains c p n f.payload reaches found)
             (λ e. let mine = get-set_here c.queue.doing p f.doing (doing.Ticket n) at.doing in absurd (cc));
         shown = subst (λ (ws : List ℕ). shows d ws (r.log ++ entries reaches p n) r.handed) (sym (client-below s.words 32 x (omega arith)))
-            (client.steps c reaches p n found f.payload (client_words s.words) r.log r.handed r.shown (does, is, refl) (let l = suspends-low passes limit values c r.room in omega arith) low);
+            (client.steps c reaches p n found f.payload (client_words s.words) r.log r.handed r.shown (does, is, refl) (let l = suspends-low passes limit values c r.room in omega arith) (omega arith));
         others = others-reached gains c p n f.payload found;
         self = reached-self gains c p n f.payload found n f at;
         silent = client.silent reaches p n;

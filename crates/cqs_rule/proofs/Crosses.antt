@@ -15,7 +15,7 @@ use Rattle.cqs_core.specs.declared.cells.CoreState.TheVariants as state
 use Rattle.cqs_core.specs.declared.doings.Doing.{Doing}
 use Rattle.cqs_core.specs.declared.doings.Doing.TheVariants as doing
 use Rattle.cqs_core.specs.QueueState.{Queue}
-use Rattle.cqs_core.specs.QueueMoves.{IsOpen, Works}
+use Rattle.cqs_core.specs.QueueMoves.{Works}
 use Rattle.cqs_core.specs.QueueSound.{IsSound, IsPass, IsOwn, IsTicket, IsUntaken, IsUnended, IsSoundAt}
 use Rattle.cqs_core.proofs.Places.{get-set_here, get-set_else}
 use Rattle.cqs_words.specs.declared.cell.CellState.{CellState}
@@ -25,7 +25,7 @@ use Rattle.cqs_words.proofs.CellLaws.{state_code-below, state_code-injective, ce
 use Rattle.cqs_rule.specs.declared.view.View.{View}
 use Rattle.cqs_rule.specs.declared.view.Facts.{Facts}
 use Rattle.cqs_rule.specs.declared.view.Glimpse.{Glimpse}
-use Rattle.cqs_rule.specs.Hidden.{Hidden, QueueStep, draws, reaches, installs, leaves, takes, serves, move_of, happened, payloads_after, state_in, state_at}
+use Rattle.cqs_rule.specs.Hidden.{Hidden, QueueStep, draws, reaches, installs, leaves, takes, serves, IsOpenStep, happened, payloads_after, state_in, state_at}
 use Rattle.cqs_rule.specs.Layout.{client_words, cell_place}
 use Rattle.cqs_rule.specs.Views.{grown}
 use Rattle.cqs_rule.specs.Ruled.{Ruled, Stands, CellsShow, HasRoom, IsWaitOf, IsSince, IsBare, IsPlain, number_at, shown_state, word_of}
@@ -147,7 +147,7 @@ works-at q serves p k e sound does plain =
 
 -- where the cell is as the step wants it, the step is open
 opens-at : (q : Queue) (s : QueueStep) (p k : ℕ) (cell : CoreCell) → IsExchange s → slice_get q.doing p ≡ Some (works_at s k)
-    → slice_get q.cells k ≡ Some cell → cell.state ≡ state_before s → IsOpen q (move_of s p k (Some cell))
+    → slice_get q.cells k ≡ Some cell → cell.state ≡ state_before s → IsOpenStep q s p k (Some cell)
 opens-at q draws p k cell e does there before = absurd e
 opens-at q reaches p k cell e does there before = absurd e
 opens-at q installs p k cell e does there before = record { does = does; finds = there; at = before }
@@ -305,7 +305,7 @@ module _ {E S : Type 0} (names : ℕ → E → Bool) (legal : ℕ → List E →
             (λ q. let mine : slice_get d.queue.doing p ≡ Some doing.Idle = ap (λ (l : List Doing). slice_get l p) idle ∙ get-set_here c.queue.doing p f.doing doing.Idle at.doing in absurd (cc));
         shown = subst (λ (ws : List ℕ). shows d ws (r.log ++ entries t p k) r.handed) (sym (client-above s.words (k + 112) x (omega arith)))
             (client.steps c t p k (Some cell) f.payload (client_words s.words) r.log r.handed r.shown open_there
-            (let l = suspends-low passes limit values c r.room in omega arith) (resumes-low passes limit values c r.room));
+            (let l = suspends-low passes limit values c r.room in omega arith) (let l = resumes-low passes limit values c r.room in omega arith));
         others = others;
         self = exchanged-self gains c p k f.payload t cell e there before n f at
             (λ q. subst (λ z. IsWaitOf (happened gains c z p k (Some cell) f.payload).queue p k) (sym q)

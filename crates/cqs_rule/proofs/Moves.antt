@@ -22,7 +22,7 @@ use Rattle.cqs_rule.specs.Told.{moved_by, facts_moved, Moves, added}
 use Rattle.cqs_rule.proofs.Words.{crew-else, counters-else, cells-else, client-at, client-set}
 use Rattle.cqs_rule.proofs.Grow.{Turned}
 use Rattle.cqs_rule.proofs.Others.{others-moved, door-keeps}
-use Rattle.cqs_rule.proofs.Tells.{steps, suspends-low}
+use Rattle.cqs_rule.proofs.Tells.{steps, suspends-low, resumes-low}
 
 module _ {E S : Type 0} (names : ℕ → E → Bool) (legal : ℕ → List E → Type 0) (shows : Hidden → List ℕ → List E → List S → Type 0)
     (entries : QueueStep → ℕ → ℕ → List E) (gains : ℕ → ℕ) (opened : List ℕ) (passes limit values size held : ℕ)
@@ -61,7 +61,7 @@ module _ {E S : Type 0} (names : ℕ → E → Bool) (legal : ℕ → List E →
             at.may_draw ∙ ap Some (law.door n door));
         shown = subst (λ (ws : List ℕ). shows d ws (r.log ++ es) r.handed) (sym (client-set s.words i (f n) few (omega arith)))
             (subst (λ z. shows (stands_at c p (goes facts.doing z) (holds facts.held z)) (slice_set (client_words s.words) i (f z)) (r.log ++ shown p facts.doing z) r.handed) is
-            (law.step c (client_words s.words) r.log r.handed r.shown at.doing at.held (suspends-low passes limit values c r.room) (subst (λ z. z < 2 ^ 64) (sym is) small)));
+            (law.step c (client_words s.words) r.log r.handed r.shown at.doing at.held (suspends-low passes limit values c r.room) (resumes-low passes limit values c r.room) (subst (λ z. z < 2 ^ 64) (sym is) small)));
         others = others-moved c p now holding;
         self = record {
           doing = get-set_here c.queue.doing p facts.doing now at.doing;

@@ -39,11 +39,11 @@ inside-of passes limit values c p d room sound is = by-doing d (sound.passes.at 
     by-doing doing.Owes own = some-cell
 
 -- no counter is near a number that none draws
-pub suspends-low : (passes limit values : ℕ) (c : Hidden) → HasRoom passes limit values c → c.queue.suspends < 1048608
+pub suspends-low : (passes limit values : ℕ) (c : Hidden) → HasRoom passes limit values c → c.queue.suspends < 4194304
 suspends-low passes limit values c room =
     let g = room.ground in let l = room.low_limit in let p = room.few_passes in omega arith
 
-pub resumes-low : (passes limit values : ℕ) (c : Hidden) → HasRoom passes limit values c → c.queue.resumes < 1099511627775
+pub resumes-low : (passes limit values : ℕ) (c : Hidden) → HasRoom passes limit values c → c.queue.resumes < 4194304
 resumes-low passes limit values c room =
     let r = room.resumes in let l = room.low_limit in let p = room.few_passes in let v = room.few_values in omega arith
 

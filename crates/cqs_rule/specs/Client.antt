@@ -5,12 +5,11 @@ use Rattle.cqs_core.specs.declared.cells.CoreCell.{CoreCell}
 use Rattle.cqs_core.specs.declared.doings.Doing.TheVariants as doing
 use Rattle.cqs_core.specs.QueueLine.{door}
 use Rattle.cqs_core.specs.QueueSound.{IsSound}
-use Rattle.cqs_core.specs.QueueMoves.{IsOpen}
-use Rattle.cqs_rule.specs.Hidden.{Hidden, QueueStep, move_of, happened, now_may_draw}
+use Rattle.cqs_rule.specs.Hidden.{Hidden, QueueStep, IsOpenStep, happened, now_may_draw}
 use Rattle.cqs_rule.specs.Lists.{NamesOnly}
 use Rattle.cqs_rule.specs.Opened.{first_hidden, four}
 
--- a number of this size is drawn by no counter: a counter's last number lies below
+-- no counter comes as far as this number
 abbrev pub no_number : ℕ
 no_number = 1099511627775
 
@@ -21,7 +20,7 @@ module _ {E S : Type 0} (names : ℕ → E → Bool) (legal : List E → Type 0)
     pub begins : (passes : ℕ) → 0 < passes → passes ≤ 32 → shows (first_hidden passes values held) (four opened) [] []
     -- each step of the queue that is open there appends its entries
     pub steps : (c : Hidden) (s : QueueStep) (p k : ℕ) (found : Option CoreCell) (payload : ℕ) (words : List ℕ) (log : List E) (handed : List S)
-        → shows c words log handed → IsOpen c.queue (move_of s p k found) → c.queue.suspends < no_number → c.queue.resumes < no_number
+        → shows c words log handed → IsOpenStep c.queue s p k found → c.queue.suspends < no_number → c.queue.resumes < no_number
         → shows (happened gains c s p k found payload) words (log ++ entries s p k) handed
     -- who may draw is no part of what it shows
     pub counts : (c : Hidden) (p : ℕ) (may : Bool) (words : List ℕ) (log : List E) (handed : List S)

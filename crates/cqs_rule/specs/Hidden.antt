@@ -7,7 +7,7 @@ use Rattle.cqs_core.specs.declared.doings.Doing.{Doing}
 use Rattle.cqs_core.specs.declared.doings.Doing.TheVariants as doing
 use Rattle.cqs_core.specs.QueueState.{Queue}
 use Rattle.cqs_core.specs.QueueMoves as move
-use Rattle.cqs_core.specs.QueueMoves.{Move, moved}
+use Rattle.cqs_core.specs.QueueMoves.{Move, IsOpen, moved}
 
 -- the queue part of a core, what each pass holds, who may draw a number to suspend at, and what is left in the cells
 pub record Hidden : Type 0 where
@@ -38,6 +38,19 @@ move_of installs p k None = move.stay
 move_of leaves p k None = move.stay
 move_of takes p k None = move.stay
 move_of serves p k None = move.stay
+
+-- where a step of the queue may be made
+abbrev pub IsOpenStep : Queue → QueueStep → ℕ → ℕ → Option CoreCell → Type 0
+IsOpenStep q draws p k found = IsOpen q (move.draw p k found)
+IsOpenStep q reaches p k found = IsOpen q (move.reach p k found)
+IsOpenStep q installs p k (Some found) = IsOpen q (move.install p k found)
+IsOpenStep q leaves p k (Some found) = IsOpen q (move.leave_value p k found)
+IsOpenStep q takes p k (Some found) = IsOpen q (move.take_value p k found)
+IsOpenStep q serves p k (Some found) = IsOpen q (move.serve p k found)
+IsOpenStep q installs p k None = ⊥
+IsOpenStep q leaves p k None = ⊥
+IsOpenStep q takes p k None = ⊥
+IsOpenStep q serves p k None = ⊥
 
 -- f with one value changed
 abbrev pub changed : {A : Type 0} → (ℕ → A) → ℕ → A → ℕ → A

@@ -7,4 +7,6 @@ pub mod Opened
 pub mod Client
 pub mod Told
 pub mod Configured
+pub mod Semaphore
+pub mod SemaphoreClient
 pub mod Passes

@@ -168,7 +168,7 @@ added by n = (n + raise by) % 2 ^ 64
 -- the entries and the pass's next facts go together again. A step that brings the pass to the door needs that it may draw.
 pub record Moves {E S : Type 0} (names : ℕ → E → Bool) (shows : Hidden → List ℕ → List E → List S → Type 0) (entries : ℕ → Doing → ℕ → List E) (after : Doing → ℕ → Doing) (holds : ℕ → ℕ → ℕ) (p : ℕ) (facts : Facts) (i : ℕ) (f : ℕ → ℕ) : Type 0 where
   pub step : (c : Hidden) (words : List ℕ) (log : List E) (handed : List S) → shows c words log handed
-      → slice_get c.queue.doing p ≡ Some facts.doing → slice_get c.held p ≡ Some facts.held → c.queue.suspends < 1048608
+      → slice_get c.queue.doing p ≡ Some facts.doing → slice_get c.held p ≡ Some facts.held → c.queue.suspends < 4194304 → c.queue.resumes < 4194304
       → slice_index words i < 2 ^ 64
       → shows (stands_at c p (after facts.doing (slice_index words i)) (holds facts.held (slice_index words i)))
           (slice_set words i (f (slice_index words i))) (log ++ entries p facts.doing (slice_index words i)) handed

@@ -15,7 +15,7 @@ use Rattle.cqs_core.specs.QueueState.{Queue}
 use Rattle.cqs_core.specs.QueueLine.{door, line, going, ending, due}
 use Rattle.cqs_core.specs.QueueCover.{roaming, is_owing, takes_one}
 use Rattle.cqs_core.specs.SemaphoreTable.{Shape, lowest}
-use Rattle.cqs_core.specs.SemaphoreShown.{IsCore, short_of}
+use Rattle.cqs_core.specs.SemaphoreShown.{IsCore, short_of, free_of}
 use Rattle.cqs_core.proofs.Counts.{count_at-none, count_by-write}
 use Rattle.cqs_core.proofs.Equations.{HasFlow, flow, takers, early}
 use Rattle.cqs_core.proofs.FirstOfWay.{ending-within}
@@ -98,4 +98,12 @@ held-small s p n core there =
     let below : p < length s.held = get-below s.held p n there in
     let is : get_or s.held p 0 ≡ n = get_or_from_slice_get s.held p n 0 there in
     let one : get_or s.held p 0 ≤ sum s.held = get_or-le-sum_by (λ m. m) s.held p 0 below in
+    omega arith
+
+-- no more permits are free than there are
+pub free-small : (s : Shape) → IsCore s → free_of s.state ≤ 1048576
+free-small s core =
+    let few : ending s.queue ≤ going s.queue = ending-within s.queue core.sound core.covered in
+    let all = core.conserved in
+    let permits = core.range.permits in
     omega arith

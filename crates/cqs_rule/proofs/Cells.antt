@@ -1,15 +1,14 @@
 -- How a step of the queue changes the cells, and what it leaves of what the other passes know.
-use Rattle.std.proofs.Common.{◌≡◌, ◌≢◌, ◌⊎◌, ℕ, zero, suc, ◌+◌, ◌<◌, ◌≤◌, Bool, true, false, List, [], ◌∷◌, ◌++◌, length, set, sym, refl, ap, ◌∙◌, subst, inl, inr, ⊎_elim, arith, Option, Some, None, slice_get, eqb, eq-eqb, ne_eqb, if◌then◌else◌}
+use Rattle.std.proofs.Common.{◌≡◌, ◌≢◌, ◌⊎◌, ℕ, zero, suc, ◌<◌, true, List, [], ◌∷◌, ◌++◌, set, sym, refl, ap, ◌∙◌, subst, inl, inr, arith, Option, Some, None, slice_get, eq-eqb, ne_eqb, if◌then◌else◌}
 use mathlib.Core.Logic.{dite}
 use native.Mathlib.Decide.{ℕ_discrete}
 use Rattle.cqs_core.specs.declared.cells.CoreCell.{CoreCell}
 use Rattle.cqs_core.specs.declared.cells.CoreState.{CoreState}
 use Rattle.cqs_core.specs.declared.cells.CoreState.TheVariants as state
-use Rattle.cqs_core.specs.declared.doings.Doing.{Doing}
 use Rattle.cqs_core.specs.declared.doings.Doing.TheVariants as doing
-use Rattle.cqs_core.specs.QueueState.{Queue, fresh_cell}
+use Rattle.cqs_core.specs.QueueState.{fresh_cell}
 use Rattle.cqs_core.specs.QueueMoves.{moved, at_state}
-use Rattle.cqs_core.proofs.Places.{get-set_here, get-set_else, get-below, get-append_left, get-append_below, get-push_at, get-past, get-none}
+use Rattle.cqs_core.proofs.Places.{get-set_here, get-set_else, get-append_left}
 use Rattle.cqs_rule.specs.declared.view.Glimpse.{Glimpse}
 use Rattle.cqs_rule.specs.Hidden.{Hidden, QueueStep, draws, reaches, installs, leaves, takes, serves, move_of, changed, happened, state_in, state_at}
 use Rattle.cqs_rule.specs.Ruled.{IsWaitOf, IsInstalled, IsSince, rank}
@@ -146,7 +145,12 @@ module _ (gains : ℕ → ℕ) (c : Hidden) (p k payload : ℕ) where
     installed = w.installed;
   }
   reached-wait (Some found) n j w = record {
-    cell = w.cell; there = w.there; owner = w.owner; drawn = w.drawn; uncollected = w.uncollected; installed = w.installed;
+    cell = w.cell;
+    there = w.there;
+    owner = w.owner;
+    drawn = w.drawn;
+    uncollected = w.uncollected;
+    installed = w.installed;
   }
 
   pub exchange-cells : (s : QueueStep) (found : CoreCell) → IsExchange s

@@ -1,34 +1,32 @@
 -- The steps that draw a number from a counter. No counter comes past the cells: those at the door may draw, and the numbers drawn
 -- with those who may draw stay below the limit and the passes.
-use Rattle.std.proofs.Common.{◌≡◌, ◌≢◌, ℕ, zero, suc, ◌+◌, ◌%◌, ◌<◌, ◌≤◌, ◌^◌, Bool, true, false, List, [], ◌∷◌, ◌++◌, length, set, sym, refl, ap, ◌∙◌, subst, inl, arith, Option, Some, None, slice_get, cond, ℤ, pos, unsigned_abs}
-use Rattle.std.specs.Prelude.{slice_index, slice_set, count_by}
+use Rattle.std.proofs.Common.{◌≡◌, ℕ, suc, ◌+◌, ◌%◌, ◌<◌, ◌≤◌, ◌^◌, Bool, true, false, List, [], ◌∷◌, ◌++◌, length, sym, refl, ap, ◌∙◌, subst, arith, Option, Some, slice_get, cond, ℤ, pos, unsigned_abs}
+use Rattle.std.specs.Prelude.{slice_index, count_by}
 use Rattle.std.proofs.lemmas.List.{length-set}
 use Rattle.std.proofs.lemmas.List.Sums.{sum_by-cons}
 use Rattle.std.proofs.lemmas.Option.{same_Some}
-use mathlib.Core.Option.{some, none}
-use lib.ListN.{get_elem?}
-use Rattle.atomic_table.specs.Table.{State, Me, Act, keeps, step, stepped, carried_after, Valid, Allows}
-use Rattle.cqs_core.specs.declared.cells.CoreCell.{CoreCell}
+use mathlib.Core.Option.{none}
+use Rattle.atomic_table.specs.Table.{State, Me, keeps, step, Allows}
 use Rattle.cqs_core.specs.declared.doings.Doing.{Doing}
 use Rattle.cqs_core.specs.declared.doings.Doing.TheVariants as doing
 use Rattle.cqs_core.specs.Numbered.{picked}
 use Rattle.cqs_core.specs.QueueLine.{at_door}
 use Rattle.cqs_core.specs.QueueLine as queue
-use Rattle.cqs_core.proofs.Places.{get-set_here, get-set_else, get-below}
+use Rattle.cqs_core.proofs.Places.{get-set_here, get-set_else}
 use Rattle.cqs_rule.specs.declared.view.View.{View}
 use Rattle.cqs_rule.specs.declared.view.Facts.{Facts}
 use Rattle.cqs_rule.specs.Hidden.{Hidden, QueueStep, draws, reaches, installs, leaves, takes, serves, happened}
 use Rattle.cqs_rule.specs.Layout.{client_words}
 use Rattle.cqs_rule.specs.Views.{grown}
-use Rattle.cqs_rule.specs.Ruled.{Ruled, Stands, CountersShow, CellsShow, HasRoom, DoorMayDraw}
+use Rattle.cqs_rule.specs.Ruled.{Ruled}
 use Rattle.cqs_rule.specs.Client.{IsClient}
-use Rattle.cqs_rule.specs.Told.{Saw, drew, facts_after, IsCount}
+use Rattle.cqs_rule.specs.Told.{drew, facts_after, IsCount}
 use Rattle.cqs_rule.proofs.Lists.{fewer_draw}
 use Rattle.cqs_rule.proofs.Cells.{drawn-state, reached-state}
 use Rattle.cqs_rule.proofs.Words.{this-word, crew-else, cells-else, client-below, other-word}
-use Rattle.cqs_rule.proofs.Grow.{Turned, OthersStay}
+use Rattle.cqs_rule.proofs.Grow.{Turned}
 use Rattle.cqs_rule.proofs.Others.{others-drawn, others-reached, drawn-self, reached-self, door-keeps, may-else}
-use Rattle.cqs_rule.proofs.Tells.{steps, Steps, suspends-low, resumes-low}
+use Rattle.cqs_rule.proofs.Tells.{steps, suspends-low, resumes-low}
 
 -- the passes at the door are among those who may draw
 doors-draw : (doings : List Doing) (may : List Bool) (k : ℕ)

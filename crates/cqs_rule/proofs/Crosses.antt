@@ -1,5 +1,5 @@
 -- An exchange on the cell of a pass's number: it is made, or the cell was found otherwise.
-use Rattle.std.proofs.Common.{◌≡◌, ◌≢◌, ◌⊎◌, ℕ, ◌+◌, ◌<◌, ◌≤◌, ◌^◌, Bool, true, false, List, [], ◌∷◌, ◌++◌, length, set, sym, refl, ap, ◌∙◌, subst, inl, inr, ⊎_elim, arith, Option, Some, None, slice_get, eqb, eq-eqb, ne_eqb}
+use Rattle.std.proofs.Common.{◌≡◌, ◌≢◌, ℕ, ◌+◌, ◌<◌, ◌^◌, Bool, List, [], ◌++◌, length, sym, refl, ap, ◌∙◌, subst, inl, ⊎_elim, arith, Option, Some, slice_get, eqb, eq-eqb, ne_eqb}
 use Rattle.std.specs.Prelude.{slice_index, slice_set, count_by}
 use Rattle.std.proofs.lemmas.List.{length-set}
 use Rattle.std.proofs.lemmas.Option.{same_Some}
@@ -15,9 +15,8 @@ use Rattle.cqs_core.specs.declared.cells.CoreState.TheVariants as state
 use Rattle.cqs_core.specs.declared.doings.Doing.{Doing}
 use Rattle.cqs_core.specs.declared.doings.Doing.TheVariants as doing
 use Rattle.cqs_core.specs.QueueState.{Queue}
-use Rattle.cqs_core.specs.QueueMoves.{Works}
-use Rattle.cqs_core.specs.QueueSound.{IsSound, IsPass, IsOwn, IsTicket, IsUntaken, IsUnended, IsSoundAt}
-use Rattle.cqs_core.proofs.Places.{get-set_here, get-set_else}
+use Rattle.cqs_core.specs.QueueSound.{IsSound, IsOwn, IsTicket, IsUntaken, IsUnended, IsSoundAt}
+use Rattle.cqs_core.proofs.Places.{get-set_here}
 use Rattle.cqs_words.specs.declared.cell.CellState.{CellState}
 use Rattle.cqs_words.specs.declared.cell.CellState.TheVariants as shown
 use Rattle.cqs_words.specs.Cell.{state_code}
@@ -26,15 +25,15 @@ use Rattle.cqs_rule.specs.declared.view.View.{View}
 use Rattle.cqs_rule.specs.declared.view.Facts.{Facts}
 use Rattle.cqs_rule.specs.declared.view.Glimpse.{Glimpse}
 use Rattle.cqs_rule.specs.Hidden.{Hidden, QueueStep, draws, reaches, installs, leaves, takes, serves, IsOpenStep, happened, payloads_after, state_in, state_at}
-use Rattle.cqs_rule.specs.Layout.{client_words, cell_place}
+use Rattle.cqs_rule.specs.Layout.{client_words}
 use Rattle.cqs_rule.specs.Views.{grown}
-use Rattle.cqs_rule.specs.Ruled.{Ruled, Stands, CellsShow, HasRoom, IsWaitOf, IsSince, IsBare, IsPlain, number_at, shown_state, word_of}
+use Rattle.cqs_rule.specs.Ruled.{Ruled, Stands, CellsShow, IsWaitOf, IsBare, IsPlain, number_at, shown_state, word_of}
 use Rattle.cqs_rule.specs.Client.{IsClient}
-use Rattle.cqs_rule.specs.Told.{Saw, Crossed, crossed, facts_after, facts_missed, works_at, state_before, state_after, payload_made, IsExchange, IsCrossing, MayFind}
-use Rattle.cqs_rule.proofs.Cells.{changed_here, exchange-cells, exchange-suspends, exchange-resumes, exchange-doing, exchange-here, exchange-else, exchange-wait, new_cell}
+use Rattle.cqs_rule.specs.Told.{crossed, facts_after, facts_missed, works_at, state_before, state_after, payload_made, IsExchange, IsCrossing, MayFind}
+use Rattle.cqs_rule.proofs.Cells.{changed_here, exchange-suspends, exchange-resumes, exchange-doing, exchange-here, exchange-else, new_cell}
 use Rattle.cqs_rule.proofs.Words.{this-word, other-word, crew-else, counters-else, client-above}
 use Rattle.cqs_rule.proofs.Grow.{Turned}
-use Rattle.cqs_rule.proofs.Others.{after, others-exchanged, exchanged-self, door-keeps, may-else, payload-else, same-or-not}
+use Rattle.cqs_rule.proofs.Others.{others-exchanged, exchanged-self, door-keeps, may-else, payload-else, same-or-not}
 use Rattle.cqs_rule.proofs.Tells.{steps, Steps, inside-of, suspends-low, resumes-low}
 use Rattle.cqs_rule.proofs.Looks.{looks-to}
 
@@ -270,8 +269,8 @@ module _ {E S : Type 0} (names : ℕ → E → Bool) (legal : ℕ → List E →
       → get_elem? s.views id ≡ some me.0 → me.0.weight ≡ 1 → IsExchange t → me.0.facts.doing ≡ works_at t k → me.0.facts.payload < 2 ^ 20
       → slice_get r.hidden.queue.cells k ≡ Some cell → cell.state ≡ state_before t → k < limit + passes + values
       → Steps names legal shows entries gains opened passes limit values size held client s id me (k + 112) (word_of k (state_after t) (payload_made t me.0.facts.payload))
-          (entries t me.0.number k) (facts_after gains t k (slice_index s.words (k + 112)) me.0.facts)
-          (grown me.0 (facts_after gains t k (slice_index s.words (k + 112)) me.0.facts) (r.log ++ entries t me.0.number k) r.handed)
+      (entries t me.0.number k) (facts_after gains t k (slice_index s.words (k + 112)) me.0.facts)
+      (grown me.0 (facts_after gains t k (slice_index s.words (k + 112)) me.0.facts) (r.log ++ entries t me.0.number k) r.handed)
   made s r id me t k cell here one e works fits there before below =
       let v = me.0 in let p = v.number in let f = v.facts in let c = r.hidden in
       let at = (r.each_view id v here).stands (omega arith) in
@@ -352,12 +351,11 @@ module _ {E S : Type 0} (names : ℕ → E → Bool) (legal : ℕ → List E →
           let is : state_at c.queue k ≡ stood.cell.state = ap state_in stood.there in
           let may : MayFind t (state_at c.queue k) = subst (MayFind t) (sym is) stood.may in
           let T : Bool → Type 0 = λ b. (w : View E S) × (a : Act (Option S)) × Valid s.homes me.1 a × Ruled names shows passes limit values size (stepped s (k + 112) (either b new n) id me.1 w a)
-              × crossed names legal gains entries t (step slots (k + 112) expected new none) me n (w, carried_after me.1 a) in
+          × crossed names legal gains entries t (step slots (k + 112) expected new none) me n (w, carried_after me.1 a) in
           dite (ℕ_discrete n expected)
           (λ e. subst T (sym (eq-eqb n expected e))
           (let same = word_of-injective k k (state_at c.queue k) (state_before t) (c.payloads k) x.payload (r.cells.fits k) x.payload_fits (sym word ∙ (e ∙ x.expects)) in
-          let done = made s r id me t k stood.cell here one x.exchange x.works x.owes stood.there (sym is ∙ same.1) below in
-          (
+          let done = made s r id me t k stood.cell here one x.exchange x.works x.owes stood.there (sym is ∙ same.1) below in (
             grown v (facts_after gains t k n f) (r.log ++ entries t v.number k) r.handed,
             keeps,
             tt,
@@ -367,8 +365,7 @@ module _ {E S : Type 0} (names : ℕ → E → Bool) (legal : ℕ → List E →
           (λ a. subst T (sym (ne_eqb n expected a))
           (let facts = facts_missed k n g f in
           let done = looks-to names legal shows entries gains opened passes limit values size held client s r id me (k + 112) facts here one
-              (record { doing = at.doing; held = at.held; may_draw = at.may_draw; waits = at.waits; last = inl (refl, refl) }) in
-          (
+          (record { doing = at.doing; held = at.held; may_draw = at.may_draw; waits = at.waits; last = inl (refl, refl) }) in (
             grown v facts (r.log ++ []) r.handed,
             keeps,
             tt,

@@ -1,20 +1,19 @@
 -- A step of a live pass: it sees the whole history, to which it adds entries of its own. What the rule says of all other passes
 -- stays, whatever kind of step it is; a kind has to show only what `Turned` asks.
-use Rattle.std.proofs.Common.{◌≡◌, ◌≢◌, ◌⊎◌, ℕ, ◌+◌, ◌<◌, ◌≤◌, ◌^◌, Bool, true, List, [], ◌∷◌, ◌++◌, length, set, sym, refl, ap, ◌∙◌, subst, ⊎_elim, inl, arith, length-set, Option, Some, slice_get}
+use Rattle.std.proofs.Common.{◌≡◌, ◌≢◌, ℕ, ◌+◌, ◌<◌, ◌^◌, Bool, true, List, [], ◌++◌, set, sym, refl, ap, ◌∙◌, subst, ⊎_elim, inl, arith, length-set, Option, slice_get}
 use Rattle.std.specs.Prelude.{slice_index, slice_set}
 use Rattle.std.proofs.lemmas.List.{append-nil}
 use mathlib.Core.Option.{some}
 use lib.ListN.{get_elem?}
 use Rattle.atomic_table.specs.Table.{State, stepped, keeps}
 use Rattle.atomic_table.proofs.Lists.{at_set}
-use Rattle.cqs_core.specs.QueueSound.{IsSound}
 use Rattle.cqs_rule.specs.declared.view.View.{View}
 use Rattle.cqs_rule.specs.declared.view.Facts.{Facts}
 use Rattle.cqs_rule.specs.Hidden.{Hidden}
 use Rattle.cqs_rule.specs.Layout.{client_words}
-use Rattle.cqs_rule.specs.Lists.{Has, IsPrefix, part, NamesOnly}
-use Rattle.cqs_rule.specs.Views.{all_own, weight, grown, Apart, Tip}
-use Rattle.cqs_rule.specs.Ruled.{Ruled, Knows, Sees, Stands, CountersShow, CellsShow, HasRoom, CrewShows, DoorMayDraw, number_at}
+use Rattle.cqs_rule.specs.Lists.{Has, NamesOnly}
+use Rattle.cqs_rule.specs.Views.{all_own, weight, grown, Apart}
+use Rattle.cqs_rule.specs.Ruled.{Ruled, Knows, Sees, Stands, CountersShow, CellsShow, HasRoom, DoorMayDraw, number_at}
 use Rattle.cqs_rule.specs.Told.{Saw}
 use Rattle.cqs_rule.proofs.Lists.{set_there, set_all, total_set, two_of, nothing_more, longer, has_left, has_right, part_more, unnamed}
 

@@ -8,4 +8,5 @@ pub mod Looks
 pub mod Counters
 pub mod Crosses
 pub mod Moves
+pub mod SemaphoreMoves
 pub mod Opens

@@ -1,13 +1,12 @@
 -- Steps that leave the word as it is: a load without an event, a load of the suspend counter, an exchange that isn't made.
-use Rattle.std.proofs.Common.{◌≡◌, ◌≢◌, ℕ, ◌+◌, ◌<◌, ◌≤◌, ◌^◌, Bool, true, false, List, [], ◌∷◌, ◌++◌, length, set, sym, refl, ap, ◌∙◌, subst, inl, arith, Option, Some, None, slice_get, nat_lt, ltb-true, if◌then◌else◌}
+use Rattle.std.proofs.Common.{◌≡◌, ℕ, ◌+◌, ◌<◌, Bool, true, false, List, [], ◌++◌, set, sym, refl, ap, ◌∙◌, subst, arith, Option, Some, slice_get, nat_lt, ltb-true, if◌then◌else◌}
 use Rattle.std.proofs.lemmas.Option.{same_Some}
 use Rattle.std.specs.Prelude.{slice_index, slice_set, count_by}
 use Rattle.std.proofs.lemmas.List.{append-nil, length-set}
 use mathlib.Core.Option.{some, none}
 use lib.ListN.{get_elem?}
 use lib.Seq.{set-get_or}
-use Rattle.atomic_table.specs.Table.{State, Me, Act, keeps, step, stepped, carried_after, Valid, Allows}
-use Rattle.cqs_core.specs.declared.doings.Doing.TheVariants as doing
+use Rattle.atomic_table.specs.Table.{State, Me, keeps, step, Allows}
 use Rattle.cqs_rule.specs.declared.view.View.{View}
 use Rattle.cqs_rule.specs.declared.view.Facts.{Facts}
 use Rattle.cqs_rule.specs.Hidden.{Hidden, QueueStep, now_may_draw}
@@ -15,11 +14,11 @@ use Rattle.cqs_rule.specs.Layout.{client_words}
 use Rattle.cqs_rule.specs.Views.{grown}
 use Rattle.cqs_rule.specs.Ruled.{Ruled, Stands, CountersShow, CellsShow, HasRoom, DoorMayDraw}
 use Rattle.cqs_rule.specs.Client.{IsClient}
-use Rattle.cqs_rule.specs.Told.{Saw, looked, counted, facts_counted}
+use Rattle.cqs_rule.specs.Told.{looked, counted, facts_counted}
 use Rattle.cqs_rule.proofs.Lists.{all_draw}
 use Rattle.cqs_rule.proofs.Grow.{Turned, OthersStay}
 use Rattle.cqs_rule.proofs.Others.{others-same, others-counted, door-keeps}
-use Rattle.cqs_rule.proofs.Tells.{steps, Steps, R}
+use Rattle.cqs_rule.proofs.Tells.{steps, Steps}
 use Rattle.cqs_core.proofs.Places.{get-set_here, get-set_else, set-same}
 
 module _ {E S : Type 0} (names : ℕ → E → Bool) (legal : ℕ → List E → Type 0) (shows : Hidden → List ℕ → List E → List S → Type 0)
@@ -72,14 +71,14 @@ module _ {E S : Type 0} (names : ℕ → E → Bool) (legal : ℕ → List E →
       let may : Bool = (facts_counted me.0.limit n f).may_draw in
       let d = now_may_draw r.hidden p may in
       let t = steps names legal shows entries gains opened passes limit values size held client s r id me 16 n d [] (facts_counted me.0.limit n f) here one
-          (still s r me.0 16 d (facts_counted me.0.limit n f) (record { suspends = r.counters.suspends; resumes = r.counters.resumes })
-          (record { at = r.cells.at; fits = r.cells.fits; bare = r.cells.bare; plain = r.cells.plain })
-          (room s r p may (nat_lt n me.0.limit) f.may_draw at.may_draw refl (λ below. let low : n < me.0.limit = ltb-true n me.0.limit below in let l = k.limit_is in let c = r.counters.suspends in omega arith))
-          (door-keeps r.hidden d p r.door (λ m apart. refl) (λ m apart. get-set_else r.hidden.may_draw p m may (λ e. apart (sym e)))
-          (λ at_door. get-set_here r.hidden.may_draw p f.may_draw may at.may_draw ∙ ap Some (still-true (nat_lt n me.0.limit) f.may_draw (same_Some f.may_draw true (sym at.may_draw ∙ r.door p at_door)))))
-          (client.counts r.hidden p may (client_words s.words) r.log r.handed r.shown)
-          (others-counted r.hidden p may)
-          (record { doing = at.doing; held = at.held; may_draw = get-set_here r.hidden.may_draw p f.may_draw may at.may_draw; waits = at.waits; last = at.last })) in
+      (still s r me.0 16 d (facts_counted me.0.limit n f) (record { suspends = r.counters.suspends; resumes = r.counters.resumes })
+      (record { at = r.cells.at; fits = r.cells.fits; bare = r.cells.bare; plain = r.cells.plain })
+      (room s r p may (nat_lt n me.0.limit) f.may_draw at.may_draw refl (λ below. let low : n < me.0.limit = ltb-true n me.0.limit below in let l = k.limit_is in let c = r.counters.suspends in omega arith))
+      (door-keeps r.hidden d p r.door (λ m apart. refl) (λ m apart. get-set_else r.hidden.may_draw p m may (λ e. apart (sym e)))
+      (λ at_door. get-set_here r.hidden.may_draw p f.may_draw may at.may_draw ∙ ap Some (still-true (nat_lt n me.0.limit) f.may_draw (same_Some f.may_draw true (sym at.may_draw ∙ r.door p at_door)))))
+      (client.counts r.hidden p may (client_words s.words) r.log r.handed r.shown)
+      (others-counted r.hidden p may)
+      (record { doing = at.doing; held = at.held; may_draw = get-set_here r.hidden.may_draw p f.may_draw may at.may_draw; waits = at.waits; last = at.last })) in
       (grown me.0 (facts_counted me.0.limit n f) (r.log ++ []) r.handed, keeps, tt, t.0, (t.1, refl))
     where
       still-true : (b may : Bool) → may ≡ true → (if b then true else may) ≡ true

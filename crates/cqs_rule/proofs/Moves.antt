@@ -1,22 +1,19 @@
 -- A step on a word of the client.
-use Rattle.std.proofs.Common.{◌≡◌, ◌≢◌, ℕ, ◌+◌, ◌*◌, ◌<◌, ◌≤◌, ◌^◌, Bool, true, false, List, [], ◌∷◌, ◌++◌, length, set, sym, refl, ap, ◌∙◌, subst, arith, Option, Some, None, slice_get, ℤ, pos, negsuc, ◌<ℤ◌, ◌≤ℤ◌, ◌-◌, ◌%◌, unsigned_abs}
+use Rattle.std.proofs.Common.{◌≡◌, ℕ, ◌+◌, ◌<◌, ◌^◌, Bool, List, ◌++◌, sym, refl, ap, ◌∙◌, subst, arith, Option, Some, ℤ, pos, negsuc, ◌<ℤ◌, ◌≤ℤ◌, ◌-◌, ◌%◌, unsigned_abs}
 use Rattle.std.proofs.lemmas.Int.{ints}
 use Rattle.std.specs.Prelude.{slice_index, slice_set}
 use Rattle.std.proofs.lemmas.List.{length-set}
 use Rattle.std.proofs.lemmas.Option.{same_Some}
-use mathlib.Core.Option.{some, none}
-use lib.ListN.{get_elem?}
-use Rattle.atomic_table.specs.Table.{State, Me, Step, step, keeps, Allows}
+use mathlib.Core.Option.{none}
+use Rattle.atomic_table.specs.Table.{Me, Step, step, keeps, Allows}
 use Rattle.cqs_core.specs.declared.doings.Doing.{Doing}
 use Rattle.cqs_core.specs.declared.doings.Doing.TheVariants as doing
 use Rattle.cqs_core.proofs.Places.{get-set_here, get-set_else}
 use Rattle.cqs_rule.specs.declared.view.View.{View}
-use Rattle.cqs_rule.specs.declared.view.Facts.{Facts}
 use Rattle.cqs_rule.specs.Hidden.{Hidden, QueueStep, stands_at}
 use Rattle.cqs_rule.specs.Layout.{client_words, client_place}
-use Rattle.cqs_rule.specs.Lists.{Has}
 use Rattle.cqs_rule.specs.Views.{grown}
-use Rattle.cqs_rule.specs.Ruled.{Ruled, Stands, IsWaitOf}
+use Rattle.cqs_rule.specs.Ruled.{Ruled}
 use Rattle.cqs_rule.specs.Client.{IsClient}
 use Rattle.cqs_rule.specs.Told.{moved_by, facts_moved, Moves, added}
 use Rattle.cqs_rule.proofs.Words.{crew-else, counters-else, cells-else, client-at, client-set}

@@ -1,21 +1,21 @@
 -- The rule holds as a queue opens.
-use Rattle.std.proofs.Common.{◌≡◌, ◌≢◌, ◌⊎◌, ℕ, zero, suc, ◌+◌, ◌-◌, ◌*◌, ◌<◌, ◌≤◌, Bool, true, false, List, [], ◌∷◌, ◌++◌, map, length, replicate, sym, refl, ap, ◌∙◌, subst, inl, inr, arith, Option, Some, None, slice_get, nat_lt, nat_le, lt-ltb, le-ltb, le-leb, leb-true, if◌then◌else◌, cond}
+use Rattle.std.proofs.Common.{◌≡◌, ◌⊎◌, ℕ, zero, suc, ◌+◌, ◌-◌, ◌<◌, ◌≤◌, Bool, true, false, List, [], ◌∷◌, ◌++◌, length, replicate, sym, refl, ap, ◌∙◌, subst, inl, inr, arith, Option, Some, slice_get, nat_lt, nat_le, lt-ltb, le-ltb, le-leb, leb-true, if◌then◌else◌}
 use Rattle.std.specs.Prelude.{slice_index}
-use Rattle.std.proofs.lemmas.List.{append-nil, length-replicate, length_push, get_or_append_left, get_or_push}
+use Rattle.std.proofs.lemmas.List.{length-replicate, length_push, get_or_append_left, get_or_push}
 use Rattle.std.proofs.lemmas.Bool.{cases_lt, and_parts}
 use mathlib.Core.Option.{some, some-injective, some-ne-none}
 use lib.ListN.{get_elem?}
-use Rattle.atomic_table.specs.Table.{State, opening}
+use Rattle.atomic_table.specs.Table.{opening}
 use Rattle.cqs_core.specs.declared.cells.CoreState.TheVariants as state
 use Rattle.cqs_core.specs.declared.doings.Doing.TheVariants as doing
-use Rattle.cqs_core.proofs.Places.{get-past, get-below}
+use Rattle.cqs_core.proofs.Places.{get-past}
 use Rattle.cqs_rule.specs.declared.config.Config.{Config}
 use Rattle.cqs_rule.specs.Configured.{is_config}
 use Rattle.cqs_rule.specs.declared.view.View.{View}
 use Rattle.cqs_rule.specs.Hidden.{Hidden, state_in}
-use Rattle.cqs_rule.specs.Lists.{Has, part}
+use Rattle.cqs_rule.specs.Lists.{Has}
 use Rattle.cqs_rule.specs.Layout.{client_words}
-use Rattle.cqs_rule.specs.Views.{first_view, all_own, Apart, first_facts}
+use Rattle.cqs_rule.specs.Views.{first_view, all_own, first_facts}
 use Rattle.cqs_rule.specs.Ruled.{Ruled, Knows, IsBare, IsPlain, word_of, Stands}
 use Rattle.cqs_rule.specs.Opened.{value_cell, first_payload, first_hidden, four, first_word, first_cell, IsOpening}
 use Rattle.cqs_rule.proofs.Lists.{all_draw}

@@ -1,21 +1,20 @@
 -- What a step of one pass leaves of all others, and where the pass itself stands after it.
-use Rattle.std.proofs.Common.{◌≡◌, ◌≢◌, ◌⊎◌, ℕ, zero, suc, ◌+◌, ◌<◌, ◌≤◌, Bool, true, false, List, [], ◌∷◌, ◌++◌, length, set, sym, refl, ap, ◌∙◌, subst, inl, inr, ⊎_elim, arith, Option, Some, None, slice_get, get_or}
+use Rattle.std.proofs.Common.{◌≡◌, ◌≢◌, ◌⊎◌, ℕ, ◌<◌, Bool, true, false, List, [], ◌∷◌, sym, refl, ap, ◌∙◌, subst, inl, inr, ⊎_elim, Option, Some, None, slice_get}
 use mathlib.Core.Logic.{dite}
 use native.Mathlib.Decide.{ℕ_discrete}
 use Rattle.cqs_core.specs.declared.cells.CoreCell.{CoreCell}
 use Rattle.cqs_core.specs.declared.cells.CoreState.{CoreState}
 use Rattle.cqs_core.specs.declared.doings.Doing.{Doing}
 use Rattle.cqs_core.specs.declared.doings.Doing.TheVariants as doing
-use Rattle.cqs_core.specs.QueueSound.{IsSound}
 use Rattle.cqs_core.proofs.Places.{get-set_here, get-set_else}
 use Rattle.cqs_rule.specs.declared.view.Facts.{Facts}
 use Rattle.cqs_rule.specs.declared.view.Glimpse.{Glimpse}
-use Rattle.cqs_rule.specs.Hidden.{Hidden, QueueStep, draws, reaches, installs, leaves, takes, serves, move_of, happened, state_in, state_at, stands_at, now_may_draw, payloads_after}
+use Rattle.cqs_rule.specs.Hidden.{Hidden, QueueStep, draws, reaches, installs, leaves, takes, serves, happened, state_in, state_at, stands_at, now_may_draw, payloads_after}
 use Rattle.cqs_rule.specs.Lists.{Has}
-use Rattle.cqs_rule.specs.Ruled.{IsWaitOf, IsSince, Stands, number_at, rank, DoorMayDraw, HasRoom}
-use Rattle.cqs_rule.specs.Told.{state_before, state_after, IsExchange, works_at, facts_after}
+use Rattle.cqs_rule.specs.Ruled.{IsWaitOf, IsSince, Stands, number_at, rank, DoorMayDraw}
+use Rattle.cqs_rule.specs.Told.{state_before, IsExchange, facts_after}
 use Rattle.cqs_rule.proofs.Lists.{get_index, has_append}
-use Rattle.cqs_rule.proofs.Cells.{changed_here, changed_else, GoesOn, since-goes_on, drawn-state, reached-state, drawn-wait, reached-wait, exchange-cells, exchange-suspends, exchange-doing, exchange-here, exchange-else, exchange-wait, rank-rises}
+use Rattle.cqs_rule.proofs.Cells.{changed_else, GoesOn, since-goes_on, drawn-state, reached-state, drawn-wait, reached-wait, exchange-doing, exchange-here, exchange-else, exchange-wait, rank-rises}
 use Rattle.cqs_rule.proofs.Grow.{OthersStay}
 
 -- nothing hidden changes
@@ -50,7 +49,12 @@ others-moved c p d held = record {
   where
     wait-moved : (k n : ℕ) → IsWaitOf c.queue n k → IsWaitOf (stands_at c p d held).queue n k
     wait-moved k n w = record {
-      cell = w.cell; there = w.there; owner = w.owner; drawn = w.drawn; uncollected = w.uncollected; installed = w.installed;
+      cell = w.cell;
+      there = w.there;
+      owner = w.owner;
+      drawn = w.drawn;
+      uncollected = w.uncollected;
+      installed = w.installed;
     }
 
 pub same-or-not : (m n : ℕ) → (m ≡ n) ⊎ (m ≢ n)

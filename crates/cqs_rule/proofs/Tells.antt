@@ -1,9 +1,9 @@
 -- What a step that keeps the rule tells its pass.
-use Rattle.std.proofs.Common.{◌≡◌, ◌≢◌, ℕ, ◌+◌, ◌<◌, ◌≤◌, ◌^◌, Bool, true, List, [], ◌∷◌, ◌++◌, length, sym, refl, ap, ◌∙◌, arith, Option, Some, slice_get}
-use Rattle.std.specs.Prelude.{slice_index, slice_set}
+use Rattle.std.proofs.Common.{◌≡◌, ℕ, ◌+◌, ◌<◌, Bool, List, ◌++◌, arith, Option, Some, slice_get}
+use Rattle.std.specs.Prelude.{slice_set}
 use mathlib.Core.Option.{some}
 use lib.ListN.{get_elem?}
-use Rattle.atomic_table.specs.Table.{State, Me, Act, keeps, stepped, carried_after, Valid}
+use Rattle.atomic_table.specs.Table.{State, Me, keeps, stepped}
 use Rattle.cqs_core.specs.declared.doings.Doing.{Doing}
 use Rattle.cqs_core.specs.declared.doings.Doing.TheVariants as doing
 use Rattle.cqs_core.specs.QueueSound.{IsSound, IsPass}
@@ -62,9 +62,10 @@ module _ {E S : Type 0} (names : ℕ → E → Bool) (legal : ℕ → List E →
       → Steps s id me i x es facts (grown me.0 facts (r.log ++ es) r.handed)
   steps s r id me i x d es facts here one t =
       let words = client_words (slice_set s.words i x) in
-      let log = r.log ++ es in
-      (advance names shows passes limit values size s r id me.1 me.0 i x d es facts here one t,
+      let log = r.log ++ es in (
+        advance names shows passes limit values size s r id me.1 me.0 i x d es facts here one t,
         saw names shows passes limit values size legal s r id me.0 es facts here one
-        (client.legal_shown d words log r.handed t.shown)
-        (client.held_fits d words log r.handed me.0.number facts.held t.shown t.self.held)
-        (inside-of passes limit values d me.0.number facts.doing t.room (client.sound d words log r.handed t.shown) t.self.doing))
+            (client.legal_shown d words log r.handed t.shown)
+            (client.held_fits d words log r.handed me.0.number facts.held t.shown t.self.held)
+            (inside-of passes limit values d me.0.number facts.doing t.room (client.sound d words log r.handed t.shown) t.self.doing),
+      )

@@ -2,7 +2,7 @@
 use Rattle.std.proofs.Common.{◌≡◌, ◌≢◌, ℕ, zero, suc, ◌+◌, ◌*◌, ◌<◌, ◌≤◌, List, [], ◌∷◌, length, set, sym, refl, ap, ◌∙◌, arith, get_or-set_other, get_or-set_same, length-set}
 use Rattle.std.specs.Prelude.{slice_index, slice_set}
 use Rattle.cqs_core.specs.QueueState.{Queue}
-use Rattle.cqs_rule.specs.Layout.{client_place, client_words, cell_place}
+use Rattle.cqs_rule.specs.Layout.{client_place, client_words}
 use Rattle.cqs_rule.specs.Hidden.{Hidden, state_at}
 use Rattle.cqs_rule.specs.Ruled.{CountersShow, CellsShow, word_of, IsBare, IsPlain}
 

@@ -1,5 +1,5 @@
 -- Which configurations a queue may be made with.
-use Rattle.std.specs.Prelude.{ℕ, ◌+◌, ◌*◌, nat_le, ◌&&◌, Bool}
+use Rattle.std.specs.Prelude.{◌+◌, ◌*◌, nat_le, ◌&&◌, Bool}
 use Rattle.cqs_rule.specs.declared.config.Config.{Config}
 
 abbrev pub is_config : Config → Bool

@@ -1,14 +1,12 @@
 -- The semaphore as a client: its one word is the state of a core, whose history is the client's.
-use Rattle.std.specs.Prelude.{◌≡◌, ℕ, ◌+◌, ◌==◌, nat_lt, Bool, false, List, [], ◌∷◌, slice_index, ℤ, pos, ◌-ℤ◌, if◌then◌else◌}
+use Rattle.std.specs.Prelude.{ℕ, ◌+◌, ◌==◌, nat_lt, Bool, false, List, [], ◌∷◌, slice_index, ℤ, pos, ◌-ℤ◌, if◌then◌else◌}
 use Rattle.cqs_core.specs.declared.doings.Doing.{Doing}
 use Rattle.cqs_core.specs.declared.doings.Doing.TheVariants as doing
-use Rattle.cqs_core.specs.declared.cells.CoreState.{CoreState}
-use Rattle.cqs_core.specs.declared.cells.CoreState.TheVariants as state
 use Rattle.cqs_core.specs.declared.entries.Entry.{Entry}
 use Rattle.cqs_core.specs.declared.entries.Entry.TheVariants as entry
 use Rattle.cqs_core.specs.SemaphoreTable.{Shape}
 use Rattle.cqs_core.specs.SemaphoreShown.{IsCore}
-use Rattle.cqs_rule.specs.Hidden.{Hidden, QueueStep, draws, reaches, installs, leaves, takes, serves}
+use Rattle.cqs_rule.specs.Hidden.{Hidden, QueueStep, draws, takes, serves}
 
 -- the state that the word holds: it is raised by 2 ^ 32
 abbrev pub state_in_word : ℕ → ℤ
@@ -17,7 +15,11 @@ state_in_word n = pos n -ℤ pos 4294967296
 -- the core that the table of a semaphore shows
 abbrev pub core_shown : ℕ → Hidden → List ℕ → List Entry → Shape
 core_shown permits c words log = record {
-  permits = permits; state = state_in_word (slice_index words 0); held = c.held; history = log; queue = c.queue;
+  permits = permits;
+  state = state_in_word (slice_index words 0);
+  held = c.held;
+  history = log;
+  queue = c.queue;
 }
 
 abbrev pub shows_core : {T : Type 0} → ℕ → Hidden → List ℕ → List Entry → List T → Type 0

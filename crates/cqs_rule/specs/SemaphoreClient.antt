@@ -1,20 +1,19 @@
 -- The semaphore is a client: each step of the queue is an event of its core, by the law of the core.
-use Rattle.std.proofs.Common.{◌≡◌, ◌≢◌, ℕ, zero, suc, ◌+◌, ◌-◌, ◌<◌, ◌≤◌, ◌^◌, Bool, true, false, List, [], ◌∷◌, ◌++◌, length, replicate, refl, ap, sym, ◌∙◌, subst, arith, Option, Some, None, slice_get, slice_index, nat_lt, lt-ltb, eqb, ne_eqb, ℤ, pos, ◌-ℤ◌, filter, if◌then◌else◌}
+use Rattle.std.proofs.Common.{◌≡◌, ℕ, zero, suc, ◌+◌, ◌-◌, ◌<◌, ◌≤◌, true, List, [], ◌∷◌, ◌++◌, replicate, refl, ap, sym, ◌∙◌, subst, arith, Option, Some, None, slice_get, nat_lt, lt-ltb, ne_eqb, ℤ, pos}
 use Rattle.std.proofs.lemmas.List.{append-nil}
 use Rattle.std.proofs.lemmas.Int.{ints}
 use Rattle.cqs_core.specs.declared.cells.CoreCell.{CoreCell}
 use Rattle.cqs_core.specs.declared.doings.Doing.TheVariants as doing
 use Rattle.cqs_core.specs.declared.entries.Entry.{Entry}
-use Rattle.cqs_core.specs.declared.entries.Entry.TheVariants as entry
 use Rattle.cqs_core.specs.declared.events.Event.{Event}
 use Rattle.cqs_core.specs.declared.events.Event.TheVariants as event
 use Rattle.cqs_core.specs.declared.outcomes.Outcome.{Outcome}
 use Rattle.cqs_core.specs.declared.outcomes.Outcome.TheVariants as outcome
 use Rattle.cqs_core.specs.declared.cells.CoreState.TheVariants as state
 use Rattle.cqs_core.specs.QueueMoves.{Works}
-use Rattle.cqs_core.specs.SemaphoreTable.{Shape, Stepped, step}
+use Rattle.cqs_core.specs.SemaphoreTable.{Shape, step}
 use Rattle.cqs_core.specs.SemaphoreEntries.{IsLegal}
-use Rattle.cqs_core.specs.SemaphoreShown.{IsCore, opened, IsSize}
+use Rattle.cqs_core.specs.SemaphoreShown.{IsCore, opened}
 use Rattle.cqs_core.proofs.StepKeeps.{row-core}
 use Rattle.cqs_core.proofs.OpenedCore.{opened-core}
 use Rattle.cqs_core.proofs.Ground.{reached-few, held-small}

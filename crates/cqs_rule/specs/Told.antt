@@ -171,6 +171,6 @@ pub record Moves {E S : Type 0} (names : ℕ → E → Bool) (shows : Hidden →
       → slice_get c.queue.doing p ≡ Some facts.doing → slice_get c.held p ≡ Some facts.held → c.queue.suspends < 4194304 → c.queue.resumes < 4194304
       → slice_index words i < 2 ^ 64
       → shows (stands_at c p (after facts.doing (slice_index words i)) (holds facts.held (slice_index words i)))
-          (slice_set words i (f (slice_index words i))) (log ++ entries p facts.doing (slice_index words i)) handed
+      (slice_set words i (f (slice_index words i))) (log ++ entries p facts.doing (slice_index words i)) handed
   pub silent : (n : ℕ) → NamesOnly names p (entries p facts.doing n)
   pub door : (n : ℕ) → after facts.doing n ≡ doing.Door → facts.may_draw ≡ true

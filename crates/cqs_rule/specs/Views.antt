@@ -1,5 +1,5 @@
 -- The views of the passes: the first one, what of them the rule counts, and what stays of one at each step.
-use Rattle.std.specs.Prelude.{◌≡◌, ◌⊎◌, ℕ, ◌+◌, ◌-◌, ◌*◌, ◌/◌, ◌%◌, ◌<◌, Bool, true, false, List, [], ◌∷◌, ◌++◌, Option, None}
+use Rattle.std.specs.Prelude.{◌≡◌, ◌⊎◌, ℕ, ◌+◌, ◌-◌, ◌*◌, ◌/◌, ◌%◌, ◌<◌, true, List, [], ◌∷◌, ◌++◌, None}
 use mathlib.Core.Option.{some}
 use lib.ListN.{get_elem?}
 use Rattle.cqs_core.specs.declared.doings.Doing.TheVariants as doing
@@ -10,7 +10,15 @@ use Rattle.cqs_rule.specs.Lists.{Has}
 -- what the first pass is at
 abbrev pub first_facts : ℕ → Facts
 first_facts held = record {
-  doing = doing.Idle; held = held; payload = 0; may_draw = true; last = None; waits = []; passed = []; heads = []; found = [];
+  doing = doing.Idle;
+  held = held;
+  payload = 0;
+  may_draw = true;
+  last = None;
+  waits = [];
+  passed = [];
+  heads = [];
+  found = [];
 }
 
 -- it rises with each pass made and each pass met away
@@ -24,7 +32,19 @@ WasCrew made live n = (crew_turn n < 2 * made - live) ⊎ (n ≡ made * 42949672
 module _ {E S : Type 0} where
   abbrev pub first_view : ℕ → ℕ → ℕ → ℕ → View E S
   first_view limit cells size held = record {
-    number = 0; weight = 1; facts = first_facts held; seen = []; handed = []; own = 0 ∷ []; other = []; others = []; crew = 0; alone = true; limit = limit; cells = cells; size = size;
+    number = 0;
+    weight = 1;
+    facts = first_facts held;
+    seen = [];
+    handed = [];
+    own = 0 ∷ [];
+    other = [];
+    others = [];
+    crew = 0;
+    alone = true;
+    limit = limit;
+    cells = cells;
+    size = size;
   }
 
   abbrev pub all_own : View E S → List ℕ

@@ -35,4 +35,3 @@ pub struct Pass<C: ClientWords> {
     ghost cells_are: { seat.me.0.cells + 112 ≡ seat.table_id.words },
     ghost inside: { number_at seat.me.0.facts.doing < seat.me.0.cells },
 }
-

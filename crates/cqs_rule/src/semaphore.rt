@@ -7,7 +7,6 @@ mod client;
 mod events;
 
 pub use events::{Give, Take};
-
 use std::marker::PhantomData;
 
 /// A semaphore with values of `T` in its slots; a plain one has none.

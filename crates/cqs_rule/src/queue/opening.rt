@@ -72,7 +72,11 @@ fn word_at<C: ClientWords>(client: &C, place: usize) -> u64
     }
 }
 
-fn opening_words<C: ClientWords>(alloc: Global, count: usize, client: &C) -> Result<Vec<u64>, AllocError>
+fn opening_words<C: ClientWords>(
+    alloc: Global,
+    count: usize,
+    client: &C,
+) -> Result<Vec<u64>, AllocError>
     requires few { C.first_values client.now ≤ 4096 }
     requires small { count < 2 ^ 40 }
     ensures { IfOk result (λ words. IsOpening count (C.first_values client.now) (C.opened client.now) words.items) }
@@ -86,7 +90,12 @@ fn opening_words<C: ClientWords>(alloc: Global, count: usize, client: &C) -> Res
 
 impl<C: ClientWords> Queue<C> {
     /// A queue on a table of its own, and its first pass, which has number 0 and has seen nothing.
-    pub fn new(alloc: Global, config: Config, mode: CancelMode, client: C) -> Result<(Queue<C>, Pass<C>), MakeError>
+    pub fn new(
+        alloc: Global,
+        config: Config,
+        mode: CancelMode,
+        client: C,
+    ) -> Result<(Queue<C>, Pass<C>), MakeError>
         requires few { C.first_values client ≤ 4096 }
         ensures bad_config { IsErrOf result MakeError.BadConfig ↔ (is_config config ≡ false) }
         ensures client { IfOk result (λ made. (client_of made.0 ≡ client) × (passes_of made.0 ≡ config.passes)) }
@@ -111,6 +120,13 @@ impl<C: ClientWords> Queue<C> {
             limit: config.limit,
             mode,
         };
-        Ok((queue, Pass { seat, number: 0, held }))
+        Ok((
+            queue,
+            Pass {
+                seat,
+                number: 0,
+                held,
+            },
+        ))
     }
 }

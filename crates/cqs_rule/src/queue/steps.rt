@@ -18,7 +18,9 @@ impl<C: ClientWords> Queue<C> {
         ensures belongs { IsOf self.now pass.new }
         ensures saw { Saw C.names C.legal (pass_view pass.old) (facts_counted (pass_view pass.old).limit result (pass_view pass.old).facts) [] (pass_view pass.new) }
     {
-        self.table.shared.load::<Count<C>>(&mut pass.seat, word as usize)
+        self.table
+            .shared
+            .load::<Count<C>>(&mut pass.seat, word as usize)
     }
 
     /// Draws the next number from a counter.
@@ -28,7 +30,9 @@ impl<C: ClientWords> Queue<C> {
         ensures belongs { IsOf self.now pass.new }
         ensures saw { Saw C.names C.legal (pass_view pass.old) (facts_after C.gains K.step result result (pass_view pass.old).facts) (C.entries K.step (pass_view pass.old).number result) (pass_view pass.new) }
     {
-        self.table.shared.fetch_add::<Draw<C, K>>(&mut pass.seat, word as usize, by.unsigned_abs())
+        self.table
+            .shared
+            .fetch_add::<Draw<C, K>>(&mut pass.seat, word as usize, by.unsigned_abs())
     }
 
     /// Makes an exchange on the cell of the pass's number.
@@ -38,7 +42,10 @@ impl<C: ClientWords> Queue<C> {
         ensures belongs { IsOf self.now pass.new }
         ensures crossed { Crossed C.names C.legal C.gains C.entries K.step saw (pass_view pass.old) result (pass_view pass.new) }
     {
-        let found = self.table.shared.compare_exchange::<Cross<C, K>>(&mut pass.seat, word as usize, saw, new);
+        let found = self
+            .table
+            .shared
+            .compare_exchange::<Cross<C, K>>(&mut pass.seat, word as usize, saw, new);
         if found == saw {
             pass.held = K::held_after::<C>(pass.held);
         }

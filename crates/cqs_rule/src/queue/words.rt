@@ -28,7 +28,10 @@ impl<C: ClientWords> Queue<C> {
         ensures belongs { IsOf self.now pass.new }
         ensures saw { Moved C.names C.legal M.entries M.after M.holds M.payload (pass_view pass.old) result (pass_view pass.new) }
     {
-        let found = self.table.shared.load::<Show<C, M>>(&mut pass.seat, place(word));
+        let found = self
+            .table
+            .shared
+            .load::<Show<C, M>>(&mut pass.seat, place(word));
         pass.held = M::held_after(pass.held, found);
         found
     }
@@ -44,9 +47,13 @@ impl<C: ClientWords> Queue<C> {
         let place = place(word);
         let amount = by.unsigned_abs();
         let found = if by < 0 {
-            self.table.shared.fetch_sub::<Show<C, M>>(&mut pass.seat, place, amount)
+            self.table
+                .shared
+                .fetch_sub::<Show<C, M>>(&mut pass.seat, place, amount)
         } else {
-            self.table.shared.fetch_add::<Show<C, M>>(&mut pass.seat, place, amount)
+            self.table
+                .shared
+                .fetch_add::<Show<C, M>>(&mut pass.seat, place, amount)
         };
         pass.held = M::held_after(pass.held, found);
         found
@@ -60,7 +67,10 @@ impl<C: ClientWords> Queue<C> {
         ensures belongs { IsOf self.now pass.new }
         ensures saw { Moved C.names C.legal M.entries M.after M.holds M.payload (pass_view pass.old) result (pass_view pass.new) }
     {
-        let found = self.table.shared.fetch_or::<Show<C, M>>(&mut pass.seat, place(word), bits);
+        let found = self
+            .table
+            .shared
+            .fetch_or::<Show<C, M>>(&mut pass.seat, place(word), bits);
         pass.held = M::held_after(pass.held, found);
         found
     }
@@ -73,7 +83,10 @@ impl<C: ClientWords> Queue<C> {
         ensures belongs { IsOf self.now pass.new }
         ensures saw { Moved C.names C.legal M.entries M.after M.holds M.payload (pass_view pass.old) result (pass_view pass.new) }
     {
-        let found = self.table.shared.compare_exchange::<Show<C, M>>(&mut pass.seat, place(word), saw, new);
+        let found = self
+            .table
+            .shared
+            .compare_exchange::<Show<C, M>>(&mut pass.seat, place(word), saw, new);
         pass.held = M::held_after(pass.held, found);
         found
     }

@@ -18,11 +18,7 @@ impl<T: Drop> Shown<SemClient<T>> for Take {
     ghost payload = { λ payload. payload };
 
     fn held_after(held: u32, found: u64) -> u32 {
-        if found > 1 << 32 {
-            held + 1
-        } else {
-            held
-        }
+        if found > 1 << 32 { held + 1 } else { held }
     }
 }
 

@@ -346,6 +346,7 @@ module _ {E S : Type 0} (names : ℕ → E → Bool) (legal : ℕ → List E →
       here-at =
           let stood = works-at c.queue t v.number k x.exchange sound (at.doing ∙ ap Some x.works) r.cells.plain in
           let below : k < limit + passes + values = inside-of passes limit values c v.number f.doing r.room sound at.doing in
+          let small_number : k < 2 ^ 40 = let a = r.room.low_limit in let b = r.room.few_passes in let d = r.room.few_values in omega arith in
           let g : Glimpse = record { state = state_at c.queue k; payload = c.payloads k } in
           let word : n ≡ word_of k (state_at c.queue k) (c.payloads k) = r.cells.at k below in
           let is : state_at c.queue k ≡ stood.cell.state = ap state_in stood.there in
@@ -360,7 +361,7 @@ module _ {E S : Type 0} (names : ℕ → E → Bool) (legal : ℕ → List E →
             keeps,
             tt,
             subst (λ z. Ruled names shows passes limit values size (stepped s (k + 112) z id me.1 (grown v (facts_after gains t k n f) (r.log ++ entries t v.number k) r.handed) keeps)) (sym x.makes) done.0,
-            (record { found = g; cell = record { word = word; fits = r.cells.fits k }; may = may; since = at.last; made = λ _. done.1; missed = λ a. absurd (a e) }, refl),
+            (record { found = g; cell = record { word = word; number = small_number; fits = r.cells.fits k; bare = r.cells.bare k }; may = may; since = at.last; made = λ _. done.1; missed = λ a. absurd (a e) }, refl),
           )))
           (λ a. subst T (sym (ne_eqb n expected a))
           (let facts = facts_missed k n g f in
@@ -370,5 +371,5 @@ module _ {E S : Type 0} (names : ℕ → E → Bool) (legal : ℕ → List E →
             keeps,
             tt,
             done.0,
-            (record { found = g; cell = record { word = word; fits = r.cells.fits k }; may = may; since = at.last; made = λ e. absurd (a e); missed = λ _. done.1 }, refl),
+            (record { found = g; cell = record { word = word; number = small_number; fits = r.cells.fits k; bare = r.cells.bare k }; may = may; since = at.last; made = λ e. absurd (a e); missed = λ _. done.1 }, refl),
           )))

@@ -148,8 +148,9 @@ module _ {E S : Type 0} (names : ℕ → E → Bool) (shows : Hidden → List �
   -- what the step tells the pass
   pub saw : (legal : ℕ → List E → Type 0) (s : State (Option S) (View E S)) (r : R s) (id : ℕ) (v : View E S) (es : List E) (facts : Facts)
       → get_elem? s.views id ≡ some v → v.weight ≡ 1 → legal size (r.log ++ es) → facts.held < 2 ^ 32 → number_at facts.doing < limit + passes + values
+      → ((n : ℕ) → Has n facts.waits → n < limit + passes + values)
       → Saw names legal v facts es (grown v facts (r.log ++ es) r.handed)
-  saw legal s r id v es facts here one is_legal fits inside =
+  saw legal s r id v es facts here one is_legal fits inside waits =
       let k = r.each_view id v here in record {
         between = k.sees.seen.0;
         seen = ap (λ l. l ++ es) k.sees.seen.1;
@@ -161,5 +162,8 @@ module _ {E S : Type 0} (names : ℕ → E → Bool) (shows : Hidden → List �
         sole = λ a. nothing_more v.seen k.sees.seen.0 ((k.alone a).2 ∙ k.sees.seen.1);
         legal_seen = subst (λ z. legal z (r.log ++ es)) (sym k.size_is) is_legal;
         held = fits;
-        inside = subst (λ z. number_at facts.doing < z) (sym k.cells_are) inside;
+        inside = record {
+          number = subst (λ z. number_at facts.doing < z) (sym k.cells_are) inside;
+          waits = λ n h. subst (λ z. n < z) (sym k.cells_are) (waits n h);
+        };
       }

@@ -5,8 +5,11 @@ pub mod Views
 pub mod Ruled
 pub mod Opened
 pub mod Client
+pub mod Inside
 pub mod Told
 pub mod Configured
 pub mod Semaphore
 pub mod SemaphoreClient
 pub mod Passes
+pub mod Placed
+pub mod Waits

@@ -12,8 +12,10 @@ use Rattle.cqs_rule.specs.declared.view.Sighting.TheVariants.{Cell, Resumes}
 use Rattle.cqs_rule.specs.Layout.{suspends_place, resumes_place, cell_place}
 use Rattle.cqs_rule.specs.Hidden.{Hidden, QueueStep, draws, reaches, installs, leaves, takes, serves, stands_at}
 use Rattle.cqs_rule.specs.Lists.{Has, IsPrefix, part, NamesOnly}
+use Rattle.cqs_words.specs.declared.cell.CellState.{CellState}
 use Rattle.cqs_rule.specs.Views.{IsSame}
-use Rattle.cqs_rule.specs.Ruled.{number_at, word_of, IsSince}
+use Rattle.cqs_rule.specs.Inside.{IsInside}
+use Rattle.cqs_rule.specs.Ruled.{number_at, word_of, IsSince, IsBare, shown_state}
 
 -- what a step of the queue by the pass is made at
 abbrev pub works_at : QueueStep → ℕ → Doing
@@ -107,7 +109,9 @@ pub record IsCrossing (s : QueueStep) (facts : Facts) (word expected new : ℕ) 
 -- the word n is that of the cell of the number k, found so
 pub record FoundCell (k n : ℕ) (g : Glimpse) : Type 0 where
   pub word : n ≡ word_of k g.state g.payload
+  pub number : k < 2 ^ 40
   pub fits : g.payload < 2 ^ 20
+  pub bare : IsBare g.state → g.payload ≡ 0
 
 module _ {E : Type 0} (names : ℕ → E → Bool) (legal : ℕ → List E → Type 0) where
   module _ {S : Type 0} where
@@ -124,7 +128,7 @@ module _ {E : Type 0} (names : ℕ → E → Bool) (legal : ℕ → List E → T
       pub sole : v.alone ≡ true → between ≡ []
       pub legal_seen : legal w.size w.seen
       pub held : w.facts.held < 2 ^ 32
-      pub inside : number_at w.facts.doing < w.cells
+      pub inside : IsInside w
 
     -- an exchange on the cell of the pass's number: it was made, or the cell was found otherwise
     pub record Crossed (gains : ℕ → ℕ) (entries : QueueStep → ℕ → ℕ → List E) (s : QueueStep) (expected : ℕ) (v : View E S) (n : ℕ) (w : View E S) : Type 0 where
@@ -174,3 +178,20 @@ pub record Moves {E S : Type 0} (names : ℕ → E → Bool) (shows : Hidden →
       (slice_set words i (f (slice_index words i))) (log ++ entries p facts.doing (slice_index words i)) handed
   pub silent : (n : ℕ) → NamesOnly names p (entries p facts.doing n)
   pub door : (n : ℕ) → after facts.doing n ≡ doing.Door → facts.may_draw ≡ true
+
+module _ {E S : Type 0} (names : ℕ → E → Bool) (legal : ℕ → List E → Type 0) (gains : ℕ → ℕ) (entries : QueueStep → ℕ → ℕ → List E) where
+  -- an exchange on the cell of the pass's number was made
+  pub record Made (s : QueueStep) (v w : View E S) : Type 0 where
+    pub word : ℕ
+    pub saw : Saw names legal v (facts_after gains s (number_at v.facts.doing) word v.facts) (entries s v.number (number_at v.facts.doing)) w
+
+  -- it wasn't, since the cell was found in this state
+  pub record Missed (s : QueueStep) (v : View E S) (found : CellState) (w : View E S) : Type 0 where
+    pub word : ℕ
+    pub glimpse : Glimpse
+    pub cell : FoundCell (number_at v.facts.doing) word glimpse
+    pub state : shown_state glimpse.state ≡ found
+    pub other : IsBare (state_before s) → glimpse.state ≢ state_before s
+    pub may : MayFind s glimpse.state
+    pub since : IsSince glimpse.state glimpse.payload v.facts.last
+    pub saw : Saw names legal v (facts_missed (number_at v.facts.doing) word glimpse v.facts) [] w

@@ -15,7 +15,7 @@ pub use client::{Client, ClientWords, Shown};
 pub use config::{CancelMode, Config, MakeError, Place};
 pub use kinds::{Draws, Installs, Kind, Leaves, Reaches, Serves, Takes};
 pub use layout::{CELLS_WORD, CLIENT_WORD, CREW_WORD, RESUMES_WORD, SUSPENDS_WORD};
-pub use queue::{Pass, Queue};
+pub use queue::{Pass, Queue, Wait};
 pub use rule::{Key, Rule};
 pub use semaphore::{Give, SemClient, Take};
 pub use view::{Facts, Glimpse, Sighting, View};

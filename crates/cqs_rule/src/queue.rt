@@ -1,11 +1,14 @@
 //! The queue, and the passes that callers make its steps with.
 
-ghost use Rattle.std.specs.Prelude.{◌≡◌, ℕ, ◌+◌, ◌<◌, length};
-ghost use Rattle.cqs_rule.specs.Ruled.{number_at};
+ghost use Rattle.std.specs.Prelude.{◌≡◌, ◌+◌, ◌<◌, ◌^◌, length};
+ghost use Rattle.cqs_rule.specs.Inside.{IsInside};
 
 mod opening;
 mod steps;
+mod tokens;
 mod words;
+
+pub use tokens::Wait;
 
 use crate::client::ClientWords;
 use crate::config::CancelMode;
@@ -29,9 +32,10 @@ pub struct Pass<C: ClientWords> {
     seat: Seat<Option<C::Slot>, View<C::Entry, C::Slot>>,
     number: u32,
     held: u32,
-    ghost live: { (seat.me.0.weight ≡ 1) × (length seat.me.1 ≡ 0) },
-    ghost number_is: { seat.me.0.number ≡ number },
-    ghost held_is: { seat.me.0.facts.held ≡ held },
-    ghost cells_are: { seat.me.0.cells + 112 ≡ seat.table_id.words },
-    ghost inside: { number_at seat.me.0.facts.doing < seat.me.0.cells },
+    pub ghost live: { (seat.me.0.weight ≡ 1) × (length seat.me.1 ≡ 0) },
+    pub ghost number_is: { seat.me.0.number ≡ number },
+    pub ghost held_is: { seat.me.0.facts.held ≡ held },
+    pub ghost cells_are: { seat.me.0.cells + 112 ≡ seat.table_id.words },
+    pub ghost inside: { IsInside seat.me.0 },
+    pub ghost few_cells: { seat.me.0.cells < 2 ^ 31 },
 }

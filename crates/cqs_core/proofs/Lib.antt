@@ -29,6 +29,7 @@ pub mod Balance
 pub mod Waits
 pub mod WaitsEnd
 pub mod Collected
+pub mod Ground
 pub mod Promised
 pub mod Resumptions
 pub mod Keys

@@ -1,0 +1,232 @@
+-- How a step of the queue changes the cells, and what it leaves of what the other passes know.
+use Rattle.std.proofs.Common.{◌≡◌, ◌≢◌, ◌⊎◌, ℕ, zero, suc, ◌<◌, true, List, [], ◌∷◌, ◌++◌, set, sym, refl, ap, ◌∙◌, subst, inl, inr, arith, Option, Some, None, slice_get, eq-eqb, ne_eqb, if◌then◌else◌}
+use mathlib.Core.Logic.{dite}
+use native.Mathlib.Decide.{ℕ_discrete}
+use Rattle.cqs_core.specs.declared.cells.CoreCell.{CoreCell}
+use Rattle.cqs_core.specs.declared.cells.CoreState.{CoreState}
+use Rattle.cqs_core.specs.declared.cells.CoreState.TheVariants as state
+use Rattle.cqs_core.specs.declared.doings.Doing.TheVariants as doing
+use Rattle.cqs_core.specs.QueueState.{fresh_cell}
+use Rattle.cqs_core.specs.QueueMoves.{moved, at_state}
+use Rattle.cqs_core.proofs.Places.{get-set_here, get-set_else, get-append_left}
+use Rattle.cqs_rule.specs.declared.view.Glimpse.{Glimpse}
+use Rattle.cqs_rule.specs.Hidden.{Hidden, QueueStep, draws, reaches, installs, leaves, takes, serves, move_of, changed, happened, state_in, state_at}
+use Rattle.cqs_rule.specs.Ruled.{IsWaitOf, IsInstalled, IsSince, rank}
+use Rattle.cqs_rule.specs.Told.{state_before, state_after, IsExchange}
+use Rattle.std.proofs.lemmas.Option.{same_Some}
+
+module _ {A : Type 0} where
+  pub changed_here : (f : ℕ → A) (n : ℕ) (x : A) → changed f n x n ≡ x
+  changed_here f n x = ap (λ b. if b then x else f n) (eq-eqb n n refl)
+
+  pub changed_else : (f : ℕ → A) (n : ℕ) (x : A) (m : ℕ) → m ≢ n → changed f n x m ≡ f m
+  changed_else f n x m apart = ap (λ b. if b then x else f m) (ne_eqb m n apart)
+
+-- the cells with one written
+written_here : (cells : List CoreCell) (k : ℕ) (old new : CoreCell) → slice_get cells k ≡ Some old
+    → state_in (slice_get (set cells k new) k) ≡ new.state
+written_here cells k old new e = ap state_in (get-set_here cells k old new e)
+
+written_else : (cells : List CoreCell) (k j : ℕ) (new : CoreCell) → j ≢ k
+    → state_in (slice_get (set cells k new) j) ≡ state_in (slice_get cells j)
+written_else cells k j new apart = ap state_in (get-set_else cells k j new (λ e. apart (sym e)))
+
+-- a cell of the same state is written
+written_same : (cells : List CoreCell) (k j : ℕ) (old new : CoreCell) → slice_get cells k ≡ Some old → new.state ≡ old.state
+    → state_in (slice_get (set cells k new) j) ≡ state_in (slice_get cells j)
+written_same cells k j old new e same =
+    dite (ℕ_discrete j k)
+    (λ (q : j ≡ k). subst (λ z. state_in (slice_get (set cells k new) z) ≡ state_in (slice_get cells z)) (sym q)
+    (written_here cells k old new e ∙ (same ∙ ap state_in (sym e))))
+    (λ a. written_else cells k j new a)
+
+-- an empty cell is made behind the others
+made_same : (cells : List CoreCell) (new : CoreCell) (j : ℕ) → new.state ≡ state.Empty
+    → state_in (slice_get (cells ++ new ∷ []) j) ≡ state_in (slice_get cells j)
+made_same [] new zero empty = empty
+made_same [] new (suc j) empty = refl
+made_same (x ∷ xs) new zero empty = refl
+made_same (x ∷ xs) new (suc j) empty = made_same xs new j empty
+
+-- a cell is as it was, or has gone on
+abbrev pub GoesOn : Hidden → Hidden → ℕ → Type 0
+GoesOn c d j = ((state_at d.queue j ≡ state_at c.queue j) × (d.payloads j ≡ c.payloads j)) ⊎ (rank (state_at c.queue j) < rank (state_at d.queue j))
+
+pub since-goes_on : (c d : Hidden) (j : ℕ) (last : Option Glimpse) → GoesOn c d j
+    → IsSince (state_at c.queue j) (c.payloads j) last → IsSince (state_at d.queue j) (d.payloads j) last
+since-goes_on c d j None goes since = tt
+since-goes_on c d j (Some g) (inl same) (inl is) = inl (same.0 ∙ is.0, same.1 ∙ is.1)
+since-goes_on c d j (Some g) (inl same) (inr rose) =
+    inr (subst (λ (z : CoreState). rank g.state < rank z) (sym same.0) rose)
+since-goes_on c d j (Some g) (inr rises) (inl is) =
+    inr (subst (λ (z : CoreState). rank z < rank (state_at d.queue j)) is.0 rises)
+since-goes_on c d j (Some g) (inr rises) (inr rose) = inr (omega arith)
+
+-- the cell that an exchange makes of one that it found
+abbrev pub new_cell : QueueStep → CoreCell → CoreCell
+new_cell installs found = at_state found state.Waiter
+new_cell leaves found = at_state found state.Value
+new_cell takes found = record { state = state.Taken; owner = found.owner; collected = true }
+new_cell _ found = at_state found state.Resumed
+
+new_cell-state : (s : QueueStep) (found : CoreCell) → IsExchange s → (new_cell s found).state ≡ state_after s
+new_cell-state draws found e = absurd e
+new_cell-state reaches found e = absurd e
+new_cell-state installs found e = refl
+new_cell-state leaves found e = refl
+new_cell-state takes found e = refl
+new_cell-state serves found e = refl
+
+new_cell-owner : (s : QueueStep) (found : CoreCell) → (new_cell s found).owner ≡ found.owner
+new_cell-owner draws found = refl
+new_cell-owner reaches found = refl
+new_cell-owner installs found = refl
+new_cell-owner leaves found = refl
+new_cell-owner takes found = refl
+new_cell-owner serves found = refl
+
+pub rank-rises : (s : QueueStep) → IsExchange s → rank (state_before s) < rank (state_after s)
+rank-rises draws e = absurd e
+rank-rises reaches e = absurd e
+rank-rises installs e = omega arith
+rank-rises leaves e = omega arith
+rank-rises takes e = omega arith
+rank-rises serves e = omega arith
+
+-- a waiter is served, and no other exchange is made where one stands
+serves-installed : (s : QueueStep) → IsExchange s → IsInstalled (state_before s) → s ≡ serves
+serves-installed draws e h = absurd e
+serves-installed reaches e h = absurd e
+serves-installed installs e h = absurd h
+serves-installed leaves e h = absurd h
+serves-installed takes e h = absurd h
+serves-installed serves e h = refl
+
+module _ (gains : ℕ → ℕ) (c : Hidden) (p k payload : ℕ) where
+  -- a number is drawn: each cell keeps its state
+  pub drawn-state : (found : Option CoreCell) (j : ℕ) → slice_get c.queue.cells k ≡ found
+      → state_at (moved c.queue (move_of draws p k found)) j ≡ state_at c.queue j
+  drawn-state None j e = made_same c.queue.cells _ j refl
+  drawn-state (Some found) j e = written_same c.queue.cells k j found _ e refl
+
+  pub reached-state : (found : Option CoreCell) (j : ℕ)
+      → state_at (moved c.queue (move_of reaches p k found)) j ≡ state_at c.queue j
+  reached-state None j = made_same c.queue.cells fresh_cell j refl
+  reached-state (Some found) j = refl
+
+  -- a wait is of a number that was drawn before
+  pub drawn-wait : (found : Option CoreCell) (n j : ℕ) → slice_get c.queue.cells k ≡ found → k ≡ c.queue.suspends
+      → IsWaitOf c.queue n j → IsWaitOf (moved c.queue (move_of draws p k found)) n j
+  drawn-wait None n j e next w = record {
+    cell = w.cell;
+    there = get-append_left c.queue.cells _ j w.cell w.there;
+    owner = w.owner;
+    drawn = let d = w.drawn in omega arith;
+    uncollected = w.uncollected;
+    installed = w.installed;
+  }
+  drawn-wait (Some found) n j e next w = record {
+    cell = w.cell;
+    there = let d = w.drawn in get-set_else c.queue.cells k j _ (λ q. omega arith) ∙ w.there;
+    owner = w.owner;
+    drawn = let d = w.drawn in omega arith;
+    uncollected = w.uncollected;
+    installed = w.installed;
+  }
+
+  pub reached-wait : (found : Option CoreCell) (n j : ℕ)
+      → IsWaitOf c.queue n j → IsWaitOf (moved c.queue (move_of reaches p k found)) n j
+  reached-wait None n j w = record {
+    cell = w.cell;
+    there = get-append_left c.queue.cells _ j w.cell w.there;
+    owner = w.owner;
+    drawn = w.drawn;
+    uncollected = w.uncollected;
+    installed = w.installed;
+  }
+  reached-wait (Some found) n j w = record {
+    cell = w.cell;
+    there = w.there;
+    owner = w.owner;
+    drawn = w.drawn;
+    uncollected = w.uncollected;
+    installed = w.installed;
+  }
+
+  pub exchange-cells : (s : QueueStep) (found : CoreCell) → IsExchange s
+      → (happened gains c s p k (Some found) payload).queue.cells ≡ set c.queue.cells k (new_cell s found)
+  exchange-cells draws found e = absurd e
+  exchange-cells reaches found e = absurd e
+  exchange-cells installs found e = refl
+  exchange-cells leaves found e = refl
+  exchange-cells takes found e = refl
+  exchange-cells serves found e = refl
+
+  pub exchange-suspends : (s : QueueStep) (found : CoreCell) → IsExchange s
+      → (happened gains c s p k (Some found) payload).queue.suspends ≡ c.queue.suspends
+  exchange-suspends draws found e = absurd e
+  exchange-suspends reaches found e = absurd e
+  exchange-suspends installs found e = refl
+  exchange-suspends leaves found e = refl
+  exchange-suspends takes found e = refl
+  exchange-suspends serves found e = refl
+
+  pub exchange-resumes : (s : QueueStep) (found : CoreCell) → IsExchange s
+      → (happened gains c s p k (Some found) payload).queue.resumes ≡ c.queue.resumes
+  exchange-resumes draws found e = absurd e
+  exchange-resumes reaches found e = absurd e
+  exchange-resumes installs found e = refl
+  exchange-resumes leaves found e = refl
+  exchange-resumes takes found e = refl
+  exchange-resumes serves found e = refl
+
+  pub exchange-doing : (s : QueueStep) (found : CoreCell) → IsExchange s
+      → (happened gains c s p k (Some found) payload).queue.doing ≡ set c.queue.doing p doing.Idle
+  exchange-doing draws found e = absurd e
+  exchange-doing reaches found e = absurd e
+  exchange-doing installs found e = refl
+  exchange-doing leaves found e = refl
+  exchange-doing takes found e = refl
+  exchange-doing serves found e = refl
+
+  module _ (s : QueueStep) (found : CoreCell) (e : IsExchange s) (there : slice_get c.queue.cells k ≡ Some found)
+      (before : found.state ≡ state_before s) where
+    abbrev pub d : Hidden
+    d = happened gains c s p k (Some found) payload
+
+    pub exchange-here : state_at d.queue k ≡ state_after s
+    exchange-here =
+        ap (λ (cells : List CoreCell). state_in (slice_get cells k)) (exchange-cells s found e)
+        ∙ (written_here c.queue.cells k found (new_cell s found) there ∙ new_cell-state s found e)
+
+    pub exchange-else : (j : ℕ) → j ≢ k → state_at d.queue j ≡ state_at c.queue j
+    exchange-else j apart =
+        ap (λ (cells : List CoreCell). state_in (slice_get cells j)) (exchange-cells s found e)
+        ∙ written_else c.queue.cells k j (new_cell s found) apart
+
+    state-before : state_at c.queue k ≡ state_before s
+    state-before = ap state_in there ∙ before
+
+    pub exchange-wait : (n j : ℕ) → IsWaitOf c.queue n j → IsWaitOf d.queue n j
+    exchange-wait n j w = dite (ℕ_discrete j k)
+        (λ (q : j ≡ k).
+        let same : w.cell ≡ found = same_Some w.cell found (sym w.there ∙ (ap (slice_get c.queue.cells) q ∙ there)) in
+        let stood : IsInstalled (state_before s) = subst IsInstalled (ap (λ (x : CoreCell). x.state) same ∙ before) w.installed in
+        let served : s ≡ serves = serves-installed s e stood in
+        record {
+          cell = new_cell s found;
+          there = ap (λ (cells : List CoreCell). slice_get cells j) (exchange-cells s found e)
+              ∙ (ap (slice_get (set c.queue.cells k (new_cell s found))) q ∙ get-set_here c.queue.cells k found (new_cell s found) there);
+          owner = new_cell-owner s found ∙ (ap (λ (x : CoreCell). x.owner) (sym same) ∙ w.owner);
+          drawn = let u = exchange-suspends s found e in let v = w.drawn in omega arith;
+          uncollected = ap (λ (z : QueueStep). (new_cell z found).collected) served ∙ (ap (λ (x : CoreCell). x.collected) (sym same) ∙ w.uncollected);
+          installed = subst (λ (z : QueueStep). IsInstalled (new_cell z found).state) (sym served) tt;
+        })
+        (λ (a : j ≢ k). record {
+          cell = w.cell;
+          there = ap (λ (cells : List CoreCell). slice_get cells j) (exchange-cells s found e) ∙ (get-set_else c.queue.cells k j _ (λ q. a (sym q)) ∙ w.there);
+          owner = w.owner;
+          drawn = let u = exchange-suspends s found e in let v = w.drawn in omega arith;
+          uncollected = w.uncollected;
+          installed = w.installed;
+        })

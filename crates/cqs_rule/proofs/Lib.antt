@@ -1,0 +1,12 @@
+pub mod Lists
+pub mod Cells
+pub mod Words
+pub mod Grow
+pub mod Others
+pub mod Tells
+pub mod Looks
+pub mod Counters
+pub mod Crosses
+pub mod Moves
+pub mod SemaphoreMoves
+pub mod Opens

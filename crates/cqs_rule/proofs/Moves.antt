@@ -1,0 +1,90 @@
+-- A step on a word of the client.
+use Rattle.std.proofs.Common.{◌≡◌, ℕ, ◌+◌, ◌<◌, ◌^◌, Bool, List, ◌++◌, sym, refl, ap, ◌∙◌, subst, arith, Option, Some, ℤ, pos, negsuc, ◌<ℤ◌, ◌≤ℤ◌, ◌-◌, ◌%◌, unsigned_abs}
+use Rattle.std.proofs.lemmas.Int.{ints}
+use Rattle.std.specs.Prelude.{slice_index, slice_set}
+use Rattle.std.proofs.lemmas.List.{length-set}
+use Rattle.std.proofs.lemmas.Option.{same_Some}
+use mathlib.Core.Option.{none}
+use Rattle.atomic_table.specs.Table.{Me, Step, step, keeps, Allows}
+use Rattle.cqs_core.specs.declared.doings.Doing.{Doing}
+use Rattle.cqs_core.specs.declared.doings.Doing.TheVariants as doing
+use Rattle.cqs_core.proofs.Places.{get-set_here, get-set_else}
+use Rattle.cqs_rule.specs.declared.view.View.{View}
+use Rattle.cqs_rule.specs.Hidden.{Hidden, QueueStep, stands_at}
+use Rattle.cqs_rule.specs.Layout.{client_words, client_place}
+use Rattle.cqs_rule.specs.Views.{grown}
+use Rattle.cqs_rule.specs.Ruled.{Ruled}
+use Rattle.cqs_rule.specs.Client.{IsClient}
+use Rattle.cqs_rule.specs.Told.{moved_by, facts_moved, Moves, added}
+use Rattle.cqs_rule.proofs.Words.{crew-else, counters-else, cells-else, client-at, client-set}
+use Rattle.cqs_rule.proofs.Grow.{Turned}
+use Rattle.cqs_rule.proofs.Others.{others-moved, door-keeps}
+use Rattle.cqs_rule.proofs.Tells.{steps, suspends-low, resumes-low}
+
+module _ {E S : Type 0} (names : ℕ → E → Bool) (legal : ℕ → List E → Type 0) (shows : Hidden → List ℕ → List E → List S → Type 0)
+    (entries : QueueStep → ℕ → ℕ → List E) (gains : ℕ → ℕ) (opened : List ℕ) (passes limit values size held : ℕ)
+    (client : IsClient names (legal size) shows entries gains opened values held) where
+  pub moves : (shown : ℕ → Doing → ℕ → List E) (goes : Doing → ℕ → Doing) (holds : ℕ → ℕ → ℕ) (payload : ℕ → ℕ) (slots id : ℕ) (me : Me (Option S) (View E S)) (i : ℕ) (f : ℕ → ℕ) (st : Step (Option S))
+      → me.0.weight ≡ 1 → i < 4 → Moves names shows shown goes holds me.0.number me.0.facts i f
+      → Allows (Ruled names shows passes limit values size) slots id me (client_place i) f (moved_by names legal shown goes holds payload st me)
+  moves shown goes holds payload slots id me i f st one few law s r _ here small =
+      let v = me.0 in let p = v.number in let facts = v.facts in let c = r.hidden in
+      let at = (r.each_view id v here).stands (omega arith) in
+      let word = client_place i in
+      let n = slice_index s.words word in
+      let now = goes facts.doing n in
+      let holding = holds facts.held n in
+      let d = stands_at c p now holding in
+      let es = shown p facts.doing n in
+      let wide = r.wide in
+      let is : slice_index (client_words s.words) i ≡ n = client-at s.words i few in
+      let t : Turned names shows passes limit values size s r v word (f n) d es (facts_moved now holding (payload facts.payload) facts) = record {
+        crew = crew-else s.words word (f n) (omega arith);
+        counters = counters-else c.queue d.queue s.words word (f n) (omega arith) refl refl r.counters;
+        cells = cells-else c d (limit + passes + values) s.words word (f n) (omega arith) (λ k. refl) (λ k. refl) r.cells;
+        room = record {
+          few_passes = r.room.few_passes;
+          low_limit = r.room.low_limit;
+          few_values = r.room.few_values;
+          doing = length-set c.queue.doing p now ∙ r.room.doing;
+          held = length-set c.held p holding ∙ r.room.held;
+          may_draw = r.room.may_draw;
+          ground = r.room.ground;
+          resumes = r.room.resumes;
+        };
+        door = door-keeps c d p r.door (λ m a. get-set_else c.queue.doing p m now (λ e. a (sym e))) (λ m a. refl)
+            (λ at_door. let mine = get-set_here c.queue.doing p facts.doing now at.doing in
+            let door : now ≡ doing.Door = same_Some now doing.Door (sym mine ∙ at_door) in
+            at.may_draw ∙ ap Some (law.door n door));
+        shown = subst (λ (ws : List ℕ). shows d ws (r.log ++ es) r.handed) (sym (client-set s.words i (f n) few (omega arith)))
+            (subst (λ z. shows (stands_at c p (goes facts.doing z) (holds facts.held z)) (slice_set (client_words s.words) i (f z)) (r.log ++ shown p facts.doing z) r.handed) is
+            (law.step c (client_words s.words) r.log r.handed r.shown at.doing at.held (suspends-low passes limit values c r.room) (resumes-low passes limit values c r.room) (subst (λ z. z < 2 ^ 64) (sym is) small)));
+        others = others-moved c p now holding;
+        self = record {
+          doing = get-set_here c.queue.doing p facts.doing now at.doing;
+          held = get-set_here c.held p facts.held holding at.held;
+          may_draw = at.may_draw;
+          waits = λ k h. let w = at.waits k h in record { cell = w.cell; there = w.there; owner = w.owner; drawn = w.drawn; uncollected = w.uncollected; installed = w.installed };
+          last = tt;
+        };
+        silent = law.silent n;
+      } in
+      let done = steps names legal shows entries gains opened passes limit values size held client s r id me word (f n) d es (facts_moved now holding (payload facts.payload) facts) here one t in
+      (grown v (facts_moved now holding (payload facts.payload) facts) (r.log ++ es) r.handed, keeps, tt, done.0, (done.1, refl))
+
+  -- the same at a word's place, by what the step computes of the word found
+  pub moves-at : (shown : ℕ → Doing → ℕ → List E) (goes : Doing → ℕ → Doing) (holds : ℕ → ℕ → ℕ) (payload : ℕ → ℕ) (slots id : ℕ) (me : Me (Option S) (View E S)) (i place : ℕ) (f g : ℕ → ℕ)
+      → me.0.weight ≡ 1 → i < 4 → place ≡ client_place i → ((n : ℕ) → g n ≡ f n) → Moves names shows shown goes holds me.0.number me.0.facts i f
+      → Allows (Ruled names shows passes limit values size) slots id me place g (moved_by names legal shown goes holds payload (step slots place 0 0 none) me)
+  moves-at shown goes holds payload slots id me i place f g one few is same law =
+      subst (λ (z : ℕ × (ℕ → ℕ)). Allows (Ruled names shows passes limit values size) slots id me z.0 z.1 (moved_by names legal shown goes holds payload (step slots place 0 0 none) me))
+      (λ j. (sym is j, λ n. sym (same n) j)) (moves shown goes holds payload slots id me i f (step slots place 0 0 none) one few law)
+
+-- what is added where the number is not negative, and where it is
+pub added-up : (by : ℤ) (amount n : ℕ) → amount ≡ unsigned_abs by → pos 0 ≤ℤ by → (n + amount) % 2 ^ 64 ≡ added by n
+added-up (pos k) amount n is above = ap (λ z. (n + z) % 2 ^ 64) is
+added-up (negsuc k) amount n is above = absurd (grind (arith, ints))
+
+pub added-down : (by : ℤ) (amount n : ℕ) → amount ≡ unsigned_abs by → by <ℤ pos 0 → (n + (2 ^ 64 - amount)) % 2 ^ 64 ≡ added by n
+added-down (negsuc k) amount n is below = ap (λ z. (n + (2 ^ 64 - z)) % 2 ^ 64) is
+added-down (pos k) amount n is below = absurd (grind (arith, ints))

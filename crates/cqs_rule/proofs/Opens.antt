@@ -1,0 +1,209 @@
+-- The rule holds as a queue opens.
+use Rattle.std.proofs.Common.{◌≡◌, ◌⊎◌, ℕ, zero, suc, ◌+◌, ◌-◌, ◌<◌, ◌≤◌, Bool, true, false, List, [], ◌∷◌, ◌++◌, length, replicate, sym, refl, ap, ◌∙◌, subst, inl, inr, arith, Option, Some, slice_get, nat_lt, nat_le, lt-ltb, le-ltb, le-leb, leb-true, if◌then◌else◌}
+use Rattle.std.specs.Prelude.{slice_index}
+use Rattle.std.proofs.lemmas.List.{length-replicate, length_push, get_or_append_left, get_or_push}
+use Rattle.std.proofs.lemmas.Bool.{cases_lt, and_parts}
+use mathlib.Core.Option.{some, some-injective, some-ne-none}
+use lib.ListN.{get_elem?}
+use Rattle.atomic_table.specs.Table.{opening}
+use Rattle.cqs_core.specs.declared.cells.CoreState.TheVariants as state
+use Rattle.cqs_core.specs.declared.doings.Doing.TheVariants as doing
+use Rattle.cqs_core.proofs.Places.{get-past}
+use Rattle.cqs_rule.specs.declared.config.Config.{Config}
+use Rattle.cqs_rule.specs.Configured.{is_config}
+use Rattle.cqs_rule.specs.declared.view.View.{View}
+use Rattle.cqs_rule.specs.Hidden.{Hidden, state_in}
+use Rattle.cqs_rule.specs.Lists.{Has}
+use Rattle.cqs_rule.specs.Layout.{client_words}
+use Rattle.cqs_rule.specs.Views.{first_view, all_own, first_facts}
+use Rattle.cqs_rule.specs.Ruled.{Ruled, Knows, IsBare, IsPlain, word_of, Stands}
+use Rattle.cqs_rule.specs.Opened.{value_cell, first_payload, first_hidden, four, first_word, first_cell, IsOpening}
+use Rattle.cqs_rule.proofs.Lists.{all_draw}
+
+module _ {A : Type 0} where
+  pub get-replicate : (n i : ℕ) (a : A) → i < n → slice_get (replicate n a) i ≡ Some a
+  get-replicate zero i a h = absurd (omega arith)
+  get-replicate (suc n) zero a h = refl
+  get-replicate (suc n) (suc i) a h = get-replicate n i a (omega arith)
+
+  -- each element of such a list is a
+  get-replicate-is : (n i : ℕ) (a x : A) → slice_get (replicate n a) i ≡ Some x → x ≡ a
+  get-replicate-is zero i a x e = absurd (cc)
+  get-replicate-is (suc n) zero a x e = cc
+  get-replicate-is (suc n) (suc i) a x e = get-replicate-is n i a x e
+
+  only-one : (a b : A) (j : ℕ) → get_elem? (a ∷ []) j ≡ some b → (j ≡ 0) × (a ≡ b)
+  only-one a b zero e = (refl, some-injective a b e)
+  only-one a b (suc j) e = absurd (some-ne-none b (sym e))
+
+-- a cell that opens with a value, and one that opens empty
+cell-value : (values k : ℕ) → k < values → (state_in (slice_get (replicate values value_cell) k) ≡ state.Value) × (first_payload values k ≡ k) × (first_cell values k ≡ word_of k state.Value k)
+cell-value values k below =
+    let is : nat_lt k values ≡ true = lt-ltb k values below in
+    (ap state_in (get-replicate values k value_cell below), ap (λ b. if b then k else 0) is, ap (λ b. if b then word_of k state.Value k else word_of k state.Empty 0) is)
+
+cell-empty : (values k : ℕ) → values ≤ k → (state_in (slice_get (replicate values value_cell) k) ≡ state.Empty) × (first_payload values k ≡ 0) × (first_cell values k ≡ word_of k state.Empty 0)
+cell-empty values k above =
+    let is : nat_lt k values ≡ false = le-ltb k values above in
+    let long : length (replicate values value_cell) ≤ k = omega (arith, length-replicate values value_cell) in
+    (ap state_in (get-past (replicate values value_cell) k long), ap (λ b. if b then k else 0) is, ap (λ b. if b then word_of k state.Value k else word_of k state.Empty 0) is)
+
+first-cell-at : (values k : ℕ) (words : List ℕ) → first_word values words (k + 112) ≡ first_cell values k
+first-cell-at values k words =
+    let is : nat_le 112 (k + 112) ≡ true = le-leb 112 (k + 112) (omega arith) in
+    let back : (k + 112) - 112 ≡ k = omega arith in
+    rw is (ap (first_cell values) back)
+
+module _ {E S : Type 0} (names : ℕ → E → Bool) (shows : Hidden → List ℕ → List E → List S → Type 0) (passes limit values size held : ℕ) where
+  abbrev pub first : View E S
+  first = first_view limit (limit + passes + values) size held
+
+  abbrev pub h : Hidden
+  h = first_hidden passes values held
+
+  pub opens : (words client : List ℕ) (homes : List (Option S)) → IsOpening (limit + passes + values + 112) values client words
+      → 0 < passes → passes ≤ 32 → 0 < limit → limit ≤ 1048576 → values ≤ 4096 → shows h (four client) [] []
+      → Ruled names shows passes limit values size (opening words homes first)
+  opens words client homes o any few any_limit low_limit few_values begins = record {
+    hidden = h;
+    log = [];
+    handed = [];
+    made = 1;
+    live = 1;
+    wide = let long = o.long in omega arith;
+    crew = record {
+      word = o.at 0 (omega arith);
+      some_made = omega arith;
+      few = any;
+      live_few = omega arith;
+      live_is = refl;
+    };
+    counters = record { suspends = o.at 16 (omega arith); resumes = o.at 32 (omega arith) };
+    cells = record {
+      at = λ k below. o.at (k + 112) (omega arith) ∙ (first-cell-at values k client ∙ cell-is k (cases_lt k values));
+      fits = λ k. payload-fits k (cases_lt k values);
+      bare = λ k is. payload-bare k is (cases_lt k values);
+      plain = λ k. is-plain k (cases_lt k values);
+    };
+    room = record {
+      few_passes = few;
+      low_limit = low_limit;
+      few_values = few_values;
+      doing = length-replicate passes doing.Idle;
+      held = omega (arith, length-replicate {A = ℕ} (passes - 1) 0);
+      may_draw = length-replicate passes true;
+      ground = let all = all_draw (replicate passes true) in let long = length-replicate passes true in omega arith;
+      resumes = omega arith;
+    };
+    door = λ p e. let is = get-replicate-is passes p doing.Idle doing.Door e in absurd (cc);
+    shown = subst (λ (ws : List ℕ). shows h ws [] []) (sym client-is) begins;
+    each_view = λ j v e. let t = only-one first v j e in subst (Knows names h [] [] 1 1 limit (limit + passes + values) size) t.1 know;
+    apart = λ a b v w n e f g k. (only-one first v a e).0 ∙ sym (only-one first w b f).0;
+    unnamed = λ n above. refl;
+    unused = λ n above below. record { doing = get-replicate passes n doing.Idle below };
+    tip = record { place = 0; view = first; there = refl; live = omega arith; sees = inl refl };
+  }
+    where
+      cell-is : (k : ℕ) → (k < values) ⊎ (values ≤ k) → first_cell values k ≡ word_of k (state_in (slice_get h.queue.cells k)) (h.payloads k)
+      cell-is k (inl low) = let t = cell-value values k low in t.2 ∙ sym (λ i. word_of k (t.0 i) (t.1 i))
+      cell-is k (inr high) = let t = cell-empty values k high in t.2 ∙ sym (λ i. word_of k (t.0 i) (t.1 i))
+
+      payload-fits : (k : ℕ) → (k < values) ⊎ (values ≤ k) → h.payloads k < 1048576
+      payload-fits k (inl low) = let t = (cell-value values k low).1 in omega arith
+      payload-fits k (inr high) = let t = (cell-empty values k high).1 in omega arith
+
+      payload-bare : (k : ℕ) → IsBare (state_in (slice_get h.queue.cells k)) → (k < values) ⊎ (values ≤ k) → h.payloads k ≡ 0
+      payload-bare k is (inl low) = absurd (subst IsBare (cell-value values k low).0 is)
+      payload-bare k is (inr high) = (cell-empty values k high).1
+
+      is-plain : (k : ℕ) → (k < values) ⊎ (values ≤ k) → IsPlain (state_in (slice_get h.queue.cells k))
+      is-plain k (inl low) = subst IsPlain (sym (cell-value values k low).0) tt
+      is-plain k (inr high) = subst IsPlain (sym (cell-empty values k high).0) tt
+
+      client-is : client_words words ≡ four client
+      client-is =
+          let a = o.at 48 (omega arith) in let b = o.at 64 (omega arith) in let c = o.at 80 (omega arith) in let d = o.at 96 (omega arith) in
+          (λ i. a i ∷ b i ∷ c i ∷ d i ∷ [])
+
+      stand : Stands h 0 (first_facts held)
+      stand = record {
+        doing = get-replicate passes 0 doing.Idle any;
+        held = refl;
+        may_draw = get-replicate passes 0 true any;
+        waits = λ k n. absurd n;
+        last = tt;
+      }
+
+      know : Knows names h [] [] 1 1 limit (limit + passes + values) size first
+      know = record {
+        sees = record { seen = ([], refl); other = ([], refl); handed_in = ([], refl); mine = λ n has. refl; theirs = λ n has. refl };
+        below = λ n has. only-zero n has;
+        light = λ _. refl;
+        parted = λ n has other. other;
+        own = λ _. inl refl;
+        stands = λ _. stand;
+        resting = λ n has other. absurd (other (is-zero n has));
+        crew = inl (omega arith);
+        alone = λ _. (refl, refl, refl);
+        limit_is = refl;
+        cells_are = refl;
+        size_is = refl;
+      }
+        where
+          is-zero : (n : ℕ) → Has n (all_own first) → n ≡ 0
+          is-zero n (inl e) = e
+          is-zero n (inr e) = absurd e
+
+          only-zero : (n : ℕ) → Has n (all_own first) → n < 1
+          only-zero n has = let e = is-zero n has in omega arith
+
+-- one word more
+pub opening-push : (place values : ℕ) (client items : List ℕ) (word : ℕ) → word ≡ first_word values client place
+    → IsOpening place values client items → IsOpening (place + 1) values client (items ++ word ∷ [])
+opening-push place values client items word is o = record {
+  long = omega (arith, length_push items word, o.long);
+  at = λ i below. at-push i (cases_lt i place) below;
+}
+  where
+    at-push : (i : ℕ) → (i < place) ⊎ (place ≤ i) → i < place + 1 → slice_index (items ++ word ∷ []) i ≡ first_word values client i
+    at-push i (inl low) below = get_or_append_left items (word ∷ []) 0 i (let long = o.long in omega arith) ∙ o.at i low
+    at-push i (inr high) below =
+        let here : i ≡ place = omega arith in
+        get_or_push items word 0 i (let long = o.long in omega arith) ∙ (is ∙ ap (first_word values client) (sym here))
+
+pub opening-none : (values : ℕ) (client : List ℕ) → IsOpening 0 values client []
+opening-none values client = record { long = refl; at = λ i below. absurd (omega arith) }
+
+-- the numbers of a configuration that is in range
+pub record InBounds (c : Config) : Type 0 where
+  pub some_passes : 0 < c.passes
+  pub few_passes : c.passes ≤ 32
+  pub some_limit : 0 < c.limit
+  pub low_limit : c.limit ≤ 1048576
+
+pub config-bounds : (c : Config) → is_config c ≡ true → InBounds c
+config-bounds c good =
+    let all = and_parts _ _ good in
+    let front = and_parts _ _ all.0 in
+    let passes = and_parts _ _ front.0 in
+    let limit = and_parts _ _ front.1 in
+    let a : 1 ≤ c.passes = leb-true _ _ passes.0 in
+    let b : c.passes ≤ 32 = leb-true _ _ passes.1 in
+    let d : 1 ≤ c.limit = leb-true _ _ limit.0 in
+    let e : c.limit ≤ 1048576 = leb-true _ _ limit.1 in
+    record { some_passes = omega arith; few_passes = b; some_limit = omega arith; low_limit = e }
+
+-- the same by what the code computes of a configuration
+pub opens-by : {E S : Type 0} (names : ℕ → E → Bool) (shows : Hidden → List ℕ → List E → List S → Type 0) (config : Config) (passes values values' size held : ℕ)
+    (words items client : List ℕ) (homes : List (Option S)) → is_config config ≡ true → passes ≡ config.passes → values' ≡ values
+    → words ≡ items → IsOpening (config.limit + config.passes + values' + 112) values client items → values ≤ 4096
+    → ((n : ℕ) → 0 < n → n ≤ 32 → shows (first_hidden n values held) (four client) [] [])
+    → Ruled names shows passes config.limit values size (opening words homes (first_view config.limit (config.limit + passes + values) size held))
+opens-by names shows config passes values values' size held words items client homes good is_passes is_values is_words o few begins =
+    let b = config-bounds config good in
+    let any : 0 < passes = let h = b.some_passes in omega arith in
+    let low : passes ≤ 32 = let h = b.few_passes in omega arith in
+    let count : config.limit + config.passes + values' + 112 ≡ config.limit + passes + values + 112 = omega arith in
+    let whole : IsOpening (config.limit + passes + values + 112) values client words =
+    subst (λ (t : ℕ × List ℕ). IsOpening t.0 values client t.1) (λ i. (count i, sym is_words i)) o in
+    opens names shows passes config.limit values size held words client homes whole any low b.some_limit b.low_limit few (begins passes any low)

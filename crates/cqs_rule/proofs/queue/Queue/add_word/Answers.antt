@@ -1,0 +1,25 @@
+use Rattle.std.proofs.Common.{rules, ◌≡◌, pos, unsigned_abs, ◌<ℤ◌, ◌≤ℤ◌}
+use Rattle.cqs_rule.proofs.Moves.{moves-at, added-down, added-up}
+use Rattle.cqs_rule.proofs.queue.Queue.add_word.Goals as goal
+
+pub fetch_sub-found-requires : goal.fetch_sub-found-requires
+fetch_sub-found-requires g c =
+    let side : c.args.by <ℤ pos 0 = search rules in
+    let is : c.unsigned_abs-amount.result ≡ unsigned_abs c.args.by = search rules in (
+      search rules,
+      search rules,
+      moves-at _ _ _ _ _ _ _ _ _ _ _ (g.met.C.ClientWords.keeps c.args.self.now.table.shared.key.client) g.M.Shown.entries g.M.Shown.after
+          g.M.Shown.holds g.M.Shown.payload _ _ _ c.args.word _ _ _ c.args.pass.now.live.0 c.requires.word c.place-place.ensures
+          (λ n. added-down c.args.by _ n is side) c.requires.law,
+    )
+
+pub fetch_add-found-requires : goal.fetch_add-found-requires
+fetch_add-found-requires g c =
+    let side : pos 0 ≤ℤ c.args.by = search rules in
+    let is : c.unsigned_abs-amount.result ≡ unsigned_abs c.args.by = search rules in (
+      search rules,
+      search rules,
+      moves-at _ _ _ _ _ _ _ _ _ _ _ (g.met.C.ClientWords.keeps c.args.self.now.table.shared.key.client) g.M.Shown.entries g.M.Shown.after
+          g.M.Shown.holds g.M.Shown.payload _ _ _ c.args.word _ _ _ c.args.pass.now.live.0 c.requires.word c.place-place.ensures
+          (λ n. added-up c.args.by _ n is side) c.requires.law,
+    )

@@ -1,0 +1,24 @@
+-- Which word of the table holds what. Words that change often stand 16 apart, so that no two share a cache line.
+use Rattle.std.specs.Prelude.{ℕ, ◌+◌, ◌*◌, List, [], ◌∷◌, slice_index}
+
+-- the passes made and the passes live
+abbrev pub crew_place : ℕ
+crew_place = 0
+
+abbrev pub suspends_place : ℕ
+suspends_place = 16
+
+abbrev pub resumes_place : ℕ
+resumes_place = 32
+
+-- the client's words, at most four
+abbrev pub client_place : ℕ → ℕ
+client_place i = 16 * i + 48
+
+-- the cell of a number
+abbrev pub cell_place : ℕ → ℕ
+cell_place k = k + 112
+
+abbrev pub client_words : List ℕ → List ℕ
+client_words words =
+    slice_index words 48 ∷ slice_index words 64 ∷ slice_index words 80 ∷ slice_index words 96 ∷ []

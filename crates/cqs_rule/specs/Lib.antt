@@ -1,0 +1,15 @@
+pub mod Layout
+pub mod Hidden
+pub mod Lists
+pub mod Views
+pub mod Ruled
+pub mod Opened
+pub mod Client
+pub mod Inside
+pub mod Told
+pub mod Configured
+pub mod Semaphore
+pub mod SemaphoreClient
+pub mod Passes
+pub mod Placed
+pub mod Waits

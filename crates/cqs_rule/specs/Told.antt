@@ -1,0 +1,197 @@
+-- What each step tells the pass that makes it, and what a client owes for a step on a word of its own.
+use Rattle.std.specs.Prelude.{◌≡◌, ◌≢◌, ℕ, suc, ◌+◌, ◌-◌, ◌%◌, ◌^◌, ◌<◌, nat_lt, Bool, true, false, List, [], ◌∷◌, ◌++◌, slice_index, slice_set, slice_get, Option, Some, None, ℤ, pos, negsuc, if◌then◌else◌}
+use Rattle.atomic_table.specs.Table.{Me, Step}
+use Rattle.cqs_core.specs.declared.cells.CoreState.{CoreState}
+use Rattle.cqs_core.specs.declared.cells.CoreState.TheVariants as state
+use Rattle.cqs_core.specs.declared.doings.Doing.{Doing}
+use Rattle.cqs_core.specs.declared.doings.Doing.TheVariants as doing
+use Rattle.cqs_rule.specs.declared.view.View.{View}
+use Rattle.cqs_rule.specs.declared.view.Facts.{Facts}
+use Rattle.cqs_rule.specs.declared.view.Glimpse.{Glimpse}
+use Rattle.cqs_rule.specs.declared.view.Sighting.TheVariants.{Cell, Resumes}
+use Rattle.cqs_rule.specs.Layout.{suspends_place, resumes_place, cell_place}
+use Rattle.cqs_rule.specs.Hidden.{Hidden, QueueStep, draws, reaches, installs, leaves, takes, serves, stands_at}
+use Rattle.cqs_rule.specs.Lists.{Has, IsPrefix, part, NamesOnly}
+use Rattle.cqs_words.specs.declared.cell.CellState.{CellState}
+use Rattle.cqs_rule.specs.Views.{IsSame}
+use Rattle.cqs_rule.specs.Inside.{IsInside}
+use Rattle.cqs_rule.specs.Ruled.{number_at, word_of, IsSince, IsBare, shown_state}
+
+-- what a step of the queue by the pass is made at
+abbrev pub works_at : QueueStep → ℕ → Doing
+works_at draws k = doing.Door
+works_at reaches k = doing.Owes
+works_at installs k = doing.Drawn k
+works_at takes k = doing.Drawn k
+works_at leaves k = doing.Ticket k
+works_at serves k = doing.Ticket k
+
+-- the state of the cell in which an exchange is made, and the one that it makes
+abbrev pub state_before : QueueStep → CoreState
+state_before installs = state.Empty
+state_before leaves = state.Empty
+state_before takes = state.Value
+state_before _ = state.Waiter
+
+abbrev pub state_after : QueueStep → CoreState
+state_after installs = state.Waiter
+state_after leaves = state.Value
+state_after takes = state.Taken
+state_after _ = state.Resumed
+
+-- the steps that are exchanges on a cell
+abbrev pub IsExchange : QueueStep → Type 0
+IsExchange draws = ⊥
+IsExchange reaches = ⊥
+IsExchange _ = Unit {0}
+
+-- what an exchange leaves in the cell: a resume leaves what it owes
+abbrev pub payload_made : QueueStep → ℕ → ℕ
+payload_made leaves payload = payload
+payload_made serves payload = payload
+payload_made _ payload = 0
+
+-- what a step of the queue at the number k leaves the pass at; it found the word n
+abbrev pub facts_after : (ℕ → ℕ) → QueueStep → ℕ → ℕ → Facts → Facts
+facts_after gains draws k n f = record f { doing = doing.Drawn k; may_draw = false; last = None }
+facts_after gains reaches k n f = record f { doing = doing.Ticket k; last = None; found = f.found ++ Resumes n ∷ [] }
+facts_after gains installs k n f = record f { doing = doing.Idle; last = None; waits = f.waits ++ k ∷ []; found = f.found ++ Cell k n ∷ [] }
+facts_after gains takes k n f = record f { doing = doing.Idle; last = None; held = gains f.held; found = f.found ++ Cell k n ∷ [] }
+facts_after gains _ k n f = record f { doing = doing.Idle; last = None; found = f.found ++ Cell k n ∷ [] }
+
+-- what a pass that held this much holds after a step of the queue
+abbrev pub held_then : (ℕ → ℕ) → QueueStep → ℕ → ℕ
+held_then gains takes held = gains held
+held_then gains _ held = held
+
+-- an exchange on the cell of the number k was not made: the word n was found
+abbrev pub facts_missed : ℕ → ℕ → Glimpse → Facts → Facts
+facts_missed k n g f = record f { last = Some g; found = f.found ++ Cell k n ∷ [] }
+
+-- the suspend counter was found at n
+abbrev pub facts_counted : ℕ → ℕ → Facts → Facts
+facts_counted limit n f = record f { may_draw = (if nat_lt n limit then true else f.may_draw) }
+
+-- a step on a client's word leaves the pass at d; it holds so much, and this is what it owes if it owes
+abbrev pub facts_moved : Doing → ℕ → ℕ → Facts → Facts
+facts_moved d held payload f = record f { doing = d; held = held; payload = payload; last = None }
+
+-- the states in which an exchange may find the cell of its number
+abbrev pub MayFind : QueueStep → CoreState → Type 0
+MayFind installs state.Empty = Unit {0}
+MayFind installs state.Value = Unit {0}
+MayFind takes state.Empty = Unit {0}
+MayFind takes state.Value = Unit {0}
+MayFind leaves state.Empty = Unit {0}
+MayFind leaves state.Waiter = Unit {0}
+MayFind serves state.Empty = Unit {0}
+MayFind serves state.Waiter = Unit {0}
+MayFind _ _ = ⊥
+
+-- A number that a pass may draw: at the door from the suspend counter, and where it owes a resumption from the resume counter.
+abbrev pub IsCount : QueueStep → Facts → ℕ → ℤ → Type 0
+IsCount draws facts word by = (facts.doing ≡ doing.Door) × (word ≡ suspends_place) × (by ≡ pos 1)
+IsCount reaches facts word by = (facts.doing ≡ doing.Owes) × (word ≡ resumes_place) × (by ≡ pos 1)
+IsCount _ facts word by = ⊥
+
+-- An exchange that a pass may make on the cell of its number: from the state that the step wants to the one that it makes. A
+-- resume leaves what it owes.
+pub record IsCrossing (s : QueueStep) (facts : Facts) (word expected new : ℕ) : Type 0 where
+  pub exchange : IsExchange s
+  pub works : facts.doing ≡ works_at s (number_at facts.doing)
+  pub place : word ≡ cell_place (number_at facts.doing)
+  pub payload : ℕ
+  pub payload_fits : payload < 2 ^ 20
+  pub expects : expected ≡ word_of (number_at facts.doing) (state_before s) payload
+  pub owes : facts.payload < 2 ^ 20
+  pub makes : new ≡ word_of (number_at facts.doing) (state_after s) (payload_made s facts.payload)
+
+-- the word n is that of the cell of the number k, found so
+pub record FoundCell (k n : ℕ) (g : Glimpse) : Type 0 where
+  pub word : n ≡ word_of k g.state g.payload
+  pub number : k < 2 ^ 40
+  pub fits : g.payload < 2 ^ 20
+  pub bare : IsBare g.state → g.payload ≡ 0
+
+module _ {E : Type 0} (names : ℕ → E → Bool) (legal : ℕ → List E → Type 0) where
+  module _ {S : Type 0} where
+    -- The pass has seen more of the history: what others did meanwhile, which names none of its numbers, and then these
+    -- entries of its own. It is at these facts now, and all that it has seen is legal.
+    pub record Saw (v : View E S) (facts : Facts) (entries : List E) (w : View E S) : Type 0 where
+      pub between : List E
+      pub seen : w.seen ≡ (v.seen ++ between) ++ entries
+      pub silent : (n : ℕ) → Has n v.own → part names n between ≡ []
+      pub facts_are : w.facts ≡ facts
+      pub same : IsSame v w
+      pub own : Has v.number v.own
+      pub handed : IsPrefix v.handed w.handed
+      pub sole : v.alone ≡ true → between ≡ []
+      pub legal_seen : legal w.size w.seen
+      pub held : w.facts.held < 2 ^ 32
+      pub inside : IsInside w
+
+    -- an exchange on the cell of the pass's number: it was made, or the cell was found otherwise
+    pub record Crossed (gains : ℕ → ℕ) (entries : QueueStep → ℕ → ℕ → List E) (s : QueueStep) (expected : ℕ) (v : View E S) (n : ℕ) (w : View E S) : Type 0 where
+      pub found : Glimpse
+      pub cell : FoundCell (number_at v.facts.doing) n found
+      pub may : MayFind s found.state
+      pub since : IsSince found.state found.payload v.facts.last
+      pub made : n ≡ expected → Saw v (facts_after gains s (number_at v.facts.doing) n v.facts) (entries s v.number (number_at v.facts.doing)) w
+      pub missed : n ≢ expected → Saw v (facts_missed (number_at v.facts.doing) n found v.facts) [] w
+
+    -- a load of a client's word, or of a cell, that shows no event
+    abbrev pub looked : Step (Option S) → Me (Option S) (View E S) → ℕ → Me (Option S) (View E S) → Type 0
+    looked st me n me' = Saw me.0 me.0.facts [] me'.0 × (me'.1 ≡ me.1)
+
+    -- a load of the suspend counter
+    abbrev pub counted : Step (Option S) → Me (Option S) (View E S) → ℕ → Me (Option S) (View E S) → Type 0
+    counted st me n me' = Saw me.0 (facts_counted me.0.limit n me.0.facts) [] me'.0 × (me'.1 ≡ me.1)
+
+    -- a number was drawn from a counter
+    abbrev pub drew : (ℕ → ℕ) → (QueueStep → ℕ → ℕ → List E) → QueueStep → Step (Option S) → Me (Option S) (View E S) → ℕ → Me (Option S) (View E S) → Type 0
+    drew gains entries s st me n me' = Saw me.0 (facts_after gains s n n me.0.facts) (entries s me.0.number n) me'.0 × (me'.1 ≡ me.1)
+
+    abbrev pub crossed : (ℕ → ℕ) → (QueueStep → ℕ → ℕ → List E) → QueueStep → Step (Option S) → Me (Option S) (View E S) → ℕ → Me (Option S) (View E S) → Type 0
+    crossed gains entries s st me n me' = Crossed gains entries s st.first me.0 n me'.0 × (me'.1 ≡ me.1)
+
+    -- a step on a client's word, which shows the event of these entries
+    abbrev pub moved_by : (ℕ → Doing → ℕ → List E) → (Doing → ℕ → Doing) → (ℕ → ℕ → ℕ) → (ℕ → ℕ) → Step (Option S) → Me (Option S) (View E S) → ℕ → Me (Option S) (View E S) → Type 0
+    moved_by entries after holds payload st me n me' =
+        Saw me.0 (facts_moved (after me.0.facts.doing n) (holds me.0.facts.held n) (payload me.0.facts.payload) me.0.facts) (entries me.0.number me.0.facts.doing n) me'.0
+        × (me'.1 ≡ me.1)
+
+-- a word with a signed number added, as it wraps
+abbrev pub raise : ℤ → ℕ
+raise (pos k) = k
+raise (negsuc k) = 2 ^ 64 - suc k
+
+abbrev pub added : ℤ → ℕ → ℕ
+added by n = (n + raise by) % 2 ^ 64
+
+-- What a client owes for a step on its word i, by which n becomes f n: wherever the pass is at these facts, the client's words,
+-- the entries and the pass's next facts go together again. A step that brings the pass to the door needs that it may draw.
+pub record Moves {E S : Type 0} (names : ℕ → E → Bool) (shows : Hidden → List ℕ → List E → List S → Type 0) (entries : ℕ → Doing → ℕ → List E) (after : Doing → ℕ → Doing) (holds : ℕ → ℕ → ℕ) (p : ℕ) (facts : Facts) (i : ℕ) (f : ℕ → ℕ) : Type 0 where
+  pub step : (c : Hidden) (words : List ℕ) (log : List E) (handed : List S) → shows c words log handed
+      → slice_get c.queue.doing p ≡ Some facts.doing → slice_get c.held p ≡ Some facts.held → c.queue.suspends < 4194304 → c.queue.resumes < 4194304
+      → slice_index words i < 2 ^ 64
+      → shows (stands_at c p (after facts.doing (slice_index words i)) (holds facts.held (slice_index words i)))
+      (slice_set words i (f (slice_index words i))) (log ++ entries p facts.doing (slice_index words i)) handed
+  pub silent : (n : ℕ) → NamesOnly names p (entries p facts.doing n)
+  pub door : (n : ℕ) → after facts.doing n ≡ doing.Door → facts.may_draw ≡ true
+
+module _ {E S : Type 0} (names : ℕ → E → Bool) (legal : ℕ → List E → Type 0) (gains : ℕ → ℕ) (entries : QueueStep → ℕ → ℕ → List E) where
+  -- an exchange on the cell of the pass's number was made
+  pub record Made (s : QueueStep) (v w : View E S) : Type 0 where
+    pub word : ℕ
+    pub saw : Saw names legal v (facts_after gains s (number_at v.facts.doing) word v.facts) (entries s v.number (number_at v.facts.doing)) w
+
+  -- it wasn't, since the cell was found in this state
+  pub record Missed (s : QueueStep) (v : View E S) (found : CellState) (w : View E S) : Type 0 where
+    pub word : ℕ
+    pub glimpse : Glimpse
+    pub cell : FoundCell (number_at v.facts.doing) word glimpse
+    pub state : shown_state glimpse.state ≡ found
+    pub other : IsBare (state_before s) → glimpse.state ≢ state_before s
+    pub may : MayFind s glimpse.state
+    pub since : IsSince glimpse.state glimpse.payload v.facts.last
+    pub saw : Saw names legal v (facts_missed (number_at v.facts.doing) word glimpse v.facts) [] w

@@ -1,0 +1,85 @@
+//! The steps of the queue itself, as type parameters of the calls that make them.
+
+ghost use Rattle.cqs_rule.specs.Hidden.{draws, reaches, installs, leaves, takes, serves};
+
+use crate::client::ClientWords;
+
+/// Which step of the queue a call makes.
+pub trait Kind {
+    ghost use Rattle.std.specs.Prelude.{◌≡◌, ◌<◌, ◌^◌};
+    ghost use Rattle.cqs_rule.specs.Hidden.{QueueStep};
+    ghost use Rattle.cqs_rule.specs.Told.{held_then};
+
+    ghost step: { QueueStep };
+
+    /// What a pass that held this much holds after the step.
+    fn held_after<C: ClientWords>(held: u32) -> u32
+        requires { held_then C.gains step held < 2 ^ 32 }
+        ensures { result ≡ held_then C.gains step held };
+}
+
+/// A number is drawn to suspend at.
+pub struct Draws;
+
+impl Kind for Draws {
+    ghost step = { draws };
+
+    fn held_after<C: ClientWords>(held: u32) -> u32 {
+        held
+    }
+}
+
+/// A number is drawn to resume at.
+pub struct Reaches;
+
+impl Kind for Reaches {
+    ghost step = { reaches };
+
+    fn held_after<C: ClientWords>(held: u32) -> u32 {
+        held
+    }
+}
+
+/// An empty cell gets a waiter.
+pub struct Installs;
+
+impl Kind for Installs {
+    ghost step = { installs };
+
+    fn held_after<C: ClientWords>(held: u32) -> u32 {
+        held
+    }
+}
+
+/// An empty cell gets the value of a resume.
+pub struct Leaves;
+
+impl Kind for Leaves {
+    ghost step = { leaves };
+
+    fn held_after<C: ClientWords>(held: u32) -> u32 {
+        held
+    }
+}
+
+/// A suspend takes the value that a resume left.
+pub struct Takes;
+
+impl Kind for Takes {
+    ghost step = { takes };
+
+    fn held_after<C: ClientWords>(held: u32) -> u32 {
+        C::held_after_take(held)
+    }
+}
+
+/// A resume serves the waiter.
+pub struct Serves;
+
+impl Kind for Serves {
+    ghost step = { serves };
+
+    fn held_after<C: ClientWords>(held: u32) -> u32 {
+        held
+    }
+}

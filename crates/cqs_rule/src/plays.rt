@@ -1,0 +1,45 @@
+//! What each step tells. These types are for the proofs alone.
+
+ghost use Rattle.cqs_rule.specs.Told.{looked, counted, drew, crossed, moved_by};
+
+use crate::client::{ClientWords, Shown};
+use crate::kinds::Kind;
+use crate::view::View;
+use atomic_table::Play;
+use std::marker::PhantomData;
+
+/// A load of the suspend counter.
+pub(crate) struct Count<C> {
+    of: PhantomData<C>,
+}
+
+impl<C: ClientWords> Play<Option<C::Slot>, View<C::Entry, C::Slot>> for Count<C> {
+    ghost then = { counted C.names C.legal };
+}
+
+/// A number is drawn from a counter.
+pub(crate) struct Draw<C, K> {
+    of: PhantomData<(C, K)>,
+}
+
+impl<C: ClientWords, K: Kind> Play<Option<C::Slot>, View<C::Entry, C::Slot>> for Draw<C, K> {
+    ghost then = { drew C.names C.legal C.gains C.entries K.step };
+}
+
+/// An exchange on a cell.
+pub(crate) struct Cross<C, K> {
+    of: PhantomData<(C, K)>,
+}
+
+impl<C: ClientWords, K: Kind> Play<Option<C::Slot>, View<C::Entry, C::Slot>> for Cross<C, K> {
+    ghost then = { crossed C.names C.legal C.gains C.entries K.step };
+}
+
+/// A step on a word of the client, by the event that it shows.
+pub(crate) struct Show<C, M> {
+    of: PhantomData<(C, M)>,
+}
+
+impl<C: ClientWords, M: Shown<C>> Play<Option<C::Slot>, View<C::Entry, C::Slot>> for Show<C, M> {
+    ghost then = { moved_by C.names C.legal M.entries M.after M.holds M.payload };
+}

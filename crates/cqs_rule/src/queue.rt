@@ -1,0 +1,41 @@
+//! The queue, and the passes that callers make its steps with.
+
+ghost use Rattle.std.specs.Prelude.{◌≡◌, ◌+◌, ◌<◌, ◌^◌, length};
+ghost use Rattle.cqs_rule.specs.Inside.{IsInside};
+
+mod opening;
+mod steps;
+mod tokens;
+mod words;
+
+pub use tokens::Wait;
+
+use crate::client::ClientWords;
+use crate::config::CancelMode;
+use crate::rule::{Key, Rule};
+use crate::view::View;
+use atomic_table::{Seat, Table};
+use std::alloc::Global;
+
+/// A queue on one table of words. Its steps are made through a shared reference, with a pass.
+#[derive(Drop)]
+pub struct Queue<C: ClientWords> {
+    table: Table<Option<C::Slot>, View<C::Entry, C::Slot>, Key<C>, Rule<C>, Global>,
+    limit: u64,
+    mode: CancelMode,
+    ghost limit_is: { table.shared.key.limit ≡ limit },
+}
+
+/// What a caller makes steps with. Contracts see what it has seen of the queue, and what it is doing there.
+#[derive(Drop)]
+pub struct Pass<C: ClientWords> {
+    seat: Seat<Option<C::Slot>, View<C::Entry, C::Slot>>,
+    number: u32,
+    held: u32,
+    pub ghost live: { (seat.me.0.weight ≡ 1) × (length seat.me.1 ≡ 0) },
+    pub ghost number_is: { seat.me.0.number ≡ number },
+    pub ghost held_is: { seat.me.0.facts.held ≡ held },
+    pub ghost cells_are: { seat.me.0.cells + 112 ≡ seat.table_id.words },
+    pub ghost inside: { IsInside seat.me.0 },
+    pub ghost few_cells: { seat.me.0.cells < 2 ^ 31 },
+}

@@ -1,0 +1,93 @@
+//! Single steps on the words of the client.
+
+ghost use Rattle.std.specs.Prelude.{◌≡◌, ◌<◌, ◌==◌, bit_or};
+ghost use prog.Atomic.{either};
+ghost use Rattle.cqs_rule.specs.Layout.{client_place};
+ghost use Rattle.cqs_rule.specs.Passes.{pass_view, client_of, IsOf, Moved};
+ghost use Rattle.cqs_rule.specs.Told.{Moves, added};
+
+use crate::client::{ClientWords, Shown};
+use crate::layout::CLIENT_WORD;
+use crate::plays::Show;
+use crate::queue::{Pass, Queue};
+
+// Where a word of the client stands.
+fn place(word: u32) -> usize
+    requires { word < 4 }
+    ensures { result ≡ client_place word }
+{
+    (16 * word + CLIENT_WORD) as usize
+}
+
+impl<C: ClientWords> Queue<C> {
+    /// Loads a word of the client.
+    pub fn load_word<M: Shown<C>>(&self, pass: &mut Pass<C>, word: u32) -> u64
+        requires belongs { IsOf self.now pass.old }
+        requires word { word < 4 }
+        requires law { Moves C.names (C.shows (client_of self.now)) M.entries M.after M.holds (pass_view pass.old).number (pass_view pass.old).facts word (λ n. n) }
+        ensures belongs { IsOf self.now pass.new }
+        ensures saw { Moved C.names C.legal M.entries M.after M.holds M.payload (pass_view pass.old) result (pass_view pass.new) }
+    {
+        let found = self
+            .table
+            .shared
+            .load::<Show<C, M>>(&mut pass.seat, place(word));
+        pass.held = M::held_after(pass.held, found);
+        found
+    }
+
+    /// Adds to a word of the client, which wraps.
+    pub fn add_word<M: Shown<C>>(&self, pass: &mut Pass<C>, word: u32, by: i64) -> u64
+        requires belongs { IsOf self.now pass.old }
+        requires word { word < 4 }
+        requires law { Moves C.names (C.shows (client_of self.now)) M.entries M.after M.holds (pass_view pass.old).number (pass_view pass.old).facts word (added by) }
+        ensures belongs { IsOf self.now pass.new }
+        ensures saw { Moved C.names C.legal M.entries M.after M.holds M.payload (pass_view pass.old) result (pass_view pass.new) }
+    {
+        let place = place(word);
+        let amount = by.unsigned_abs();
+        let found = if by < 0 {
+            self.table
+                .shared
+                .fetch_sub::<Show<C, M>>(&mut pass.seat, place, amount)
+        } else {
+            self.table
+                .shared
+                .fetch_add::<Show<C, M>>(&mut pass.seat, place, amount)
+        };
+        pass.held = M::held_after(pass.held, found);
+        found
+    }
+
+    /// Sets bits of a word of the client.
+    pub fn or_word<M: Shown<C>>(&self, pass: &mut Pass<C>, word: u32, bits: u64) -> u64
+        requires belongs { IsOf self.now pass.old }
+        requires word { word < 4 }
+        requires law { Moves C.names (C.shows (client_of self.now)) M.entries M.after M.holds (pass_view pass.old).number (pass_view pass.old).facts word (λ n. bit_or n bits) }
+        ensures belongs { IsOf self.now pass.new }
+        ensures saw { Moved C.names C.legal M.entries M.after M.holds M.payload (pass_view pass.old) result (pass_view pass.new) }
+    {
+        let found = self
+            .table
+            .shared
+            .fetch_or::<Show<C, M>>(&mut pass.seat, place(word), bits);
+        pass.held = M::held_after(pass.held, found);
+        found
+    }
+
+    /// Writes `new` to a word of the client, if it is still `saw`.
+    pub fn swap_word<M: Shown<C>>(&self, pass: &mut Pass<C>, word: u32, saw: u64, new: u64) -> u64
+        requires belongs { IsOf self.now pass.old }
+        requires word { word < 4 }
+        requires law { Moves C.names (C.shows (client_of self.now)) M.entries M.after M.holds (pass_view pass.old).number (pass_view pass.old).facts word (λ n. either (n == saw) new n) }
+        ensures belongs { IsOf self.now pass.new }
+        ensures saw { Moved C.names C.legal M.entries M.after M.holds M.payload (pass_view pass.old) result (pass_view pass.new) }
+    {
+        let found = self
+            .table
+            .shared
+            .compare_exchange::<Show<C, M>>(&mut pass.seat, place(word), saw, new);
+        pass.held = M::held_after(pass.held, found);
+        found
+    }
+}

@@ -1,0 +1,33 @@
+//! The first client: a semaphore by its one word, the state. Where it is above 0, so many permits are free; below 0 so many
+//! callers wait with no permit on its way.
+
+ghost use Rattle.std.specs.Prelude.{◌≡◌, ◌+◌, ◌<◌, ◌≤◌, [], ◌∷◌};
+
+mod client;
+mod events;
+
+pub use events::{Give, Take};
+use std::marker::PhantomData;
+
+/// A semaphore with values of `T` in its slots; a plain one has none.
+#[derive(Drop)]
+pub struct SemClient<T = ()> {
+    permits: u32,
+    value: PhantomData<T>,
+    ghost some: { 0 < permits },
+    ghost few: { permits ≤ 1048576 },
+}
+
+impl SemClient {
+    /// A semaphore that opens with this many permits.
+    pub fn new(permits: u32) -> SemClient
+        requires some { 0 < permits }
+        requires few { permits ≤ 1048576 }
+        ensures { result.permits ≡ permits }
+    {
+        SemClient {
+            permits,
+            value: PhantomData,
+        }
+    }
+}

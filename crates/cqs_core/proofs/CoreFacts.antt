@@ -9,7 +9,7 @@ use Rattle.cqs_core.specs.SemaphoreEntries.{object_after, IsBalanced}
 use Rattle.cqs_core.specs.SemaphoreTable.{Shape, last_number}
 use Rattle.cqs_core.specs.SemaphoreShown.{IsCore, Shows, shown, free_of, short_of}
 use Rattle.cqs_core.proofs.CoreSteps.{held-within}
-use Rattle.cqs_core.proofs.Promised.{ending-within}
+use Rattle.cqs_core.proofs.FirstOfWay.{ending-within}
 
 -- the state word is the free permits less those who are short of one
 state-apart : (z : ℤ) → z ≡ pos (free_of z) -ℤ pos (short_of z)

@@ -17,7 +17,8 @@ use Rattle.cqs_core.specs.SemaphoreTable.{Shape, lowest, last_number}
 use Rattle.cqs_core.specs.SemaphoreShown.{IsCore, HasLoaded, shown, free_of, short_of}
 use Rattle.cqs_core.proofs.EachAtLemmas.{EachAt-write}
 use Rattle.cqs_core.proofs.HistoryPush.{object-push, legal-push}
-use Rattle.cqs_core.proofs.Promised.{sound-moved, covered-moved}
+use Rattle.cqs_core.proofs.Sound.{sound-moved}
+use Rattle.cqs_core.proofs.CoveredMoved.{covered-moved}
 
 pub same-semaphore : {a b : Semaphore} → a.free ≡ b.free → a.way ≡ b.way → a.door ≡ b.door → a.line ≡ b.line
     → a.next ≡ b.next → a.served ≡ b.served → a.held ≡ b.held → a ≡ b

@@ -16,7 +16,9 @@ use Rattle.cqs_core.proofs.CoreFrame.{WordsFit, TellsShort, Conserves, seen, alt
 use Rattle.cqs_core.proofs.DeliveryMoves.{Delivers, Closes}
 use Rattle.cqs_core.proofs.HiddenMoves.{LooksSame}
 use Rattle.cqs_core.proofs.Places.{get-below}
-use Rattle.cqs_core.proofs.Promised.{sound-moved, covered-moved, ending-within}
+use Rattle.cqs_core.proofs.Sound.{sound-moved}
+use Rattle.cqs_core.proofs.CoveredMoved.{covered-moved}
+use Rattle.cqs_core.proofs.FirstOfWay.{ending-within}
 
 -- what a pass holds, one more or one fewer
 pub gains-sum : (held : List ℕ) (p : ℕ) → p < length held

@@ -19,7 +19,7 @@ use Rattle.cqs_core.proofs.HiddenMoves.{Writes, no-other-ticket}
 use Rattle.cqs_core.proofs.Keys.{AllBelow, Around, around-kept, around-came, around-went, around-changed, around-shorter}
 use Rattle.cqs_core.proofs.LineReads.{caller, wait_of, service_wait, line-around, served-around, door-around, line-keyed}
 use Rattle.cqs_core.proofs.Picked.{picked-in, picked-around}
-use Rattle.cqs_core.proofs.Promised.{first-of-way}
+use Rattle.cqs_core.proofs.FirstOfWay.{first-of-way}
 use Rattle.cqs_core.proofs.WaysChange.{ways-cell}
 
 -- who waits under a number is found, where all before it have smaller numbers

@@ -30,7 +30,6 @@ pub mod Waits
 pub mod WaitsEnd
 pub mod Collected
 pub mod Ground
-pub mod Promised
 pub mod Resumptions
 pub mod Keys
 pub mod Picked

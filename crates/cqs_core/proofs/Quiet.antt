@@ -17,7 +17,7 @@ use Rattle.cqs_core.specs.SemaphoreShown.{IsCore, short_of}
 use Rattle.cqs_core.specs.SemaphoreTable.{Shape}
 use Rattle.cqs_core.proofs.Counts.{count_at-none, count_by-none, count_by-at}
 use Rattle.cqs_core.proofs.Places.{get-below, get-there}
-use Rattle.cqs_core.proofs.Promised.{ending-within}
+use Rattle.cqs_core.proofs.FirstOfWay.{ending-within}
 use Rattle.cqs_core.proofs.Tickets.{has_ticket-none}
 
 module _ {X Y : Type 0} where

@@ -16,7 +16,7 @@ use Rattle.cqs_core.specs.SemaphoreShown.{IsCore, shown, free_of, short_of}
 use Rattle.cqs_core.proofs.CoreFrame.{WordsFit, TellsShort, Conserves, seen, same-semaphore, core-push, loaded-turn}
 use Rattle.cqs_core.proofs.LineMoves.{decide-leaves}
 use Rattle.cqs_core.proofs.LineReads.{wait_of}
-use Rattle.cqs_core.proofs.Promised.{ending-within}
+use Rattle.cqs_core.proofs.FirstOfWay.{ending-within}
 use Rattle.cqs_core.proofs.StateWord.{short-above, free-below, short-below, add-short, add-short_free, add-free, add-free_short, add-range, below-within}
 
 -- the semaphore without this wait in its line

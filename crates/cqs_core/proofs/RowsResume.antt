@@ -17,7 +17,7 @@ use Rattle.cqs_core.proofs.DeliveryMoves.{delivers-serve, serve-ready}
 use Rattle.cqs_core.proofs.DrawMoves.{same-reach}
 use Rattle.cqs_core.proofs.HiddenMoves.{looks-same, same-leave_value, same-delegate, same-pass_over, same-meet_refused}
 use Rattle.cqs_core.proofs.LineMoves.{turn-owes}
-use Rattle.cqs_core.proofs.Promised.{ending-within}
+use Rattle.cqs_core.proofs.FirstOfWay.{ending-within}
 use Rattle.cqs_core.proofs.StateWord.{short-above, free-below, short-below, add-short, add-short_free, add-free, add-free_short, add-range, below-within}
 
 -- a pass that holds a permit shows that one is held

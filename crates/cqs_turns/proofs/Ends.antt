@@ -1,7 +1,6 @@
 -- What comes after the last turn: the lines of the resources and the totals.
-use Rattle.std.proofs.Common.{◌≡◌, ℕ, zero, suc, ◌+◌, ◌<◌, ◌≤◌, List, [], ◌∷◌, ◌++◌, Bool, cond, Option, Some, None, map, drop, replicate, get_or, length, slice_get, count_by, sum_by, refl, sym, ap, subst, ◌∙◌, append_assoc, arith}
+use Rattle.std.proofs.Common.{◌≡◌, ℕ, zero, suc, ◌+◌, ◌<◌, ◌≤◌, List, [], ◌∷◌, ◌++◌, Some, map, drop, replicate, get_or, length, slice_get, refl, sym, ap, ◌∙◌, append_assoc, arith}
 use Rattle.std.proofs.lemmas.List.{drop_more, drop_all, append-nil}
-use Rattle.std.proofs.lemmas.List.Sums.{sum_by-cons}
 use Rattle.cqs_core.specs.Numbered.{EachAt}
 use Rattle.cqs_core.proofs.Places.{get-there}
 use Rattle.cqs_core.proofs.EachAtLemmas.{EachAt-push}

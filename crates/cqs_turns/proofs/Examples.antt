@@ -1,5 +1,5 @@
 -- Worked plans over one semaphore `db` of one permit: their reports, computed from the definitions alone.
-use Rattle.std.proofs.Common.{◌≡◌, ℕ, List, [], ◌∷◌, ◌++◌, Some, None, Option, refl, codes}
+use Rattle.std.proofs.Common.{◌≡◌, ℕ, List, [], ◌∷◌, Some, None, Option, refl, codes}
 use Rattle.std.specs.Fmt.{digits}
 use Rattle.cqs_plan.specs.declared.plans.kind.Kind.TheVariants.{Semaphore}
 use Rattle.cqs_plan.specs.declared.plans.job.Job.{Job}

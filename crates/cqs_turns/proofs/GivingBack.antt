@@ -1,8 +1,7 @@
 -- A job that gives back all that it holds, one after the other.
-use Rattle.std.proofs.Common.{◌≡◌, ℕ, ◌+◌, ◌<◌, ◌≤◌, List, [], ◌∷◌, drop, get_or, slice_get, length, None, Option, IsSome, true, ◌==◌, refl, sym, ap, subst, ◌∙◌, eq-eqb, arith}
-use Rattle.std.proofs.lemmas.List.{drop_more, drop_all}
-use Rattle.std.specs.List.{list_any}
-use Rattle.cqs_plan.specs.Floor.{PlainFloor, IsHolding, IsHoldable, holds_of, oldest}
+use Rattle.std.proofs.Common.{◌≡◌, ℕ, ◌+◌, ◌<◌, List, [], ◌∷◌, drop, get_or, slice_get, length, None, true, ◌==◌, refl, sym, ap, subst, ◌∙◌, eq-eqb}
+use Rattle.std.proofs.lemmas.List.{drop_more}
+use Rattle.cqs_plan.specs.Floor.{IsHolding, IsHoldable, holds_of}
 use Rattle.cqs_plan.specs.FloorCalls.{give_answer}
 use Rattle.cqs_turns.specs.Report.{IsFrontOf}
 use Rattle.cqs_turns.specs.Ready.{IsReady, is_held}

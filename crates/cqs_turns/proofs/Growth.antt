@@ -1,5 +1,5 @@
 -- The report only grows: what stands in it before an event, a step or a turn is a front of what stands there after.
-use Rattle.std.proofs.Common.{◌≡◌, ℕ, ◌+◌, suc, zero, add-zero, add-suc, add-one, ◌-◌, ◌<◌, arith, Bool, true, false, cond, nat_lt, slice_index_or, List, [], ◌∷◌, ◌++◌, drop, Option, Some, None, Result, Ok, Err, OnOk, OnErr, refl, sym, ap, ◌∙◌, append_assoc}
+use Rattle.std.proofs.Common.{◌≡◌, ℕ, ◌+◌, suc, zero, add-zero, add-suc, add-one, ◌-◌, ◌<◌, arith, Bool, true, false, nat_lt, slice_index_or, List, [], ◌∷◌, ◌++◌, drop, Option, Some, None, Result, Ok, Err, OnOk, OnErr, refl, sym, ap, ◌∙◌, append_assoc}
 use Rattle.std.specs.Bool.{if◌then◌else◌}
 use Rattle.std.proofs.lemmas.List.{append-nil}
 use Rattle.cqs_plan.specs.declared.plans.step.Step.{Step}
@@ -19,7 +19,6 @@ use Rattle.cqs_turns.specs.declared.lines.Told.TheVariants as told
 use Rattle.cqs_turns.specs.declared.states.End.TheVariants as end
 use Rattle.cqs_turns.specs.declared.states.Progress.{Progress}
 use Rattle.cqs_turns.specs.declared.states.Progress.TheVariants.{Stepping, Working, Waiting, Ended}
-use Rattle.cqs_turns.specs.Lines.{line_text}
 use Rattle.cqs_turns.specs.Report.{IsFrontOf}
 use Rattle.cqs_turns.specs.Turns.{Role, Scene, Acted, Made, event, given, given_back, given_all, finished, made, took, stop_or, stepped, go_on, cancelled, gave_up, looked, acted, left_at, is_due, one_job, each_job, one_turn, machine_after, Machine, places_held}
 

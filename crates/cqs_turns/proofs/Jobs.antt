@@ -1,5 +1,5 @@
 -- One job of a running machine has its turn.
-use Rattle.std.proofs.Common.{◌≡◌, ◌≢◌, ◌⊎◌, inl, inr, ℕ, zero, suc, ◌+◌, ◌<◌, ◌≤◌, List, [], ◌∷◌, Option, Some, None, Result, OnOk, OnErr, length, map, set, get_or, slice_get, refl, sym, ap, subst, ◌∙◌, arith}
+use Rattle.std.proofs.Common.{◌≡◌, ◌≢◌, ◌⊎◌, inl, inr, ℕ, ◌<◌, ◌≤◌, List, Some, length, map, set, get_or, slice_get, sym, ap, subst, ◌∙◌, arith}
 use Rattle.std.specs.Option.{option_map_or}
 use Rattle.std.proofs.lemmas.Bool.{cases_eq}
 use Rattle.std.proofs.lemmas.List.{map-set, length-map}
@@ -10,14 +10,13 @@ use Rattle.cqs_plan.specs.Floor.{PlainFloor, holds_of}
 use Rattle.cqs_plan.specs.Runnable.{IsRunnable}
 use Rattle.cqs_turns.specs.declared.states.JobState.{JobState}
 use Rattle.cqs_turns.specs.declared.states.End.TheVariants as end
-use Rattle.cqs_turns.specs.declared.states.Progress.{Progress}
 use Rattle.cqs_turns.specs.declared.states.Progress.TheVariants.{Ended}
-use Rattle.cqs_turns.specs.Ready.{IsReady, HasRoom, steps_left}
+use Rattle.cqs_turns.specs.Ready.{HasRoom, steps_left}
 use Rattle.cqs_turns.specs.Report.{IsFrontOf}
 use Rattle.cqs_turns.specs.Roles.{scene}
 use Rattle.cqs_turns.specs.Running.{IsRunning, IsKept, machine_of, turn_at}
 use Rattle.cqs_turns.specs.States.{IsSet}
-use Rattle.cqs_turns.specs.Turns.{Role, Scene, Acted, Machine, acted, left_at, one_job, places_held}
+use Rattle.cqs_turns.specs.Turns.{Role, Acted, Machine, acted, left_at, one_job, places_held}
 use Rattle.cqs_turns.proofs.Mapped.{get-map}
 use Rattle.cqs_turns.proofs.RunningLemmas.{room-of, running-on}
 use Rattle.cqs_turns.proofs.Turned.{Turned, acted-turned}

@@ -1,5 +1,5 @@
 -- What keeps a job ready: after each call of the floor it can go on with the steps that are left.
-use Rattle.std.proofs.Common.{◌≡◌, ℕ, ◌+◌, ◌<◌, List, [], ◌∷◌, ◌++◌, Bool, true, false, cond, ◌==◌, Option, Some, None, length, map, set, get_or, slice_get, refl, sym, ap, ◌∙◌, subst, eqb-true, arith}
+use Rattle.std.proofs.Common.{◌≡◌, ℕ, List, [], ◌∷◌, ◌++◌, Bool, true, false, ◌==◌, Option, Some, None, map, set, get_or, slice_get, refl, sym, ap, ◌∙◌, subst, eqb-true, arith}
 use Rattle.std.proofs.lemmas.List.{map-append, get_or-set_same, length-set}
 use Rattle.cqs_core.specs.declared.entries.Entry.{Entry}
 use Rattle.cqs_core.specs.declared.entries.Entry.TheVariants as entry
@@ -143,8 +143,8 @@ given-job f place at (Sent element number) job = record {
 
 -- what the job holds, as the code and the floor have it, after a give
 pub given-left : (f g : PlainFloor) (place at : ℕ) (answer : FloorGive) (held left : List ℕ) → IsJob f place
-  → held ≡ places_held f place → left ≡ without (λ p. p) at held → g ≡ after_give f at place answer
-  → left ≡ places_held g place
+    → held ≡ places_held f place → left ≡ without (λ p. p) at held → g ≡ after_give f at place answer
+    → left ≡ places_held g place
 given-left f g place at answer held left job before fewer after =
     fewer ∙ ap (without (λ p. p) at) before ∙ sym (given-held f place at answer job)
     ∙ ap (λ h. places_held h place) (sym after)

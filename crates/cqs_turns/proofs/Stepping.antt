@@ -1,23 +1,21 @@
 -- A job that makes its steps, one after the other.
-use Rattle.std.proofs.Common.{◌≡◌, ℕ, ◌+◌, ◌<◌, ◌≤◌, List, [], ◌∷◌, ◌++◌, Bool, true, false, cond, Option, Some, None, drop, get_or, length, count_by, refl, sym, ap, subst, ◌∙◌, arith}
+use Rattle.std.proofs.Common.{◌≡◌, ℕ, ◌+◌, ◌<◌, ◌≤◌, List, [], ◌∷◌, Option, Some, None, drop, get_or, length, count_by, refl, sym, ap, subst, ◌∙◌, arith}
 use Rattle.std.specs.Option.{option_map_or}
 use Rattle.std.proofs.lemmas.List.{drop_more, drop_all}
-use Rattle.std.proofs.lemmas.List.Sums.{sum_by-cons}
 use Rattle.cqs_plan.specs.declared.plans.kind.Kind.{Kind}
 use Rattle.cqs_plan.specs.declared.plans.step.Step.{Step}
 use Rattle.cqs_plan.specs.declared.plans.step.Step.TheVariants.{Take, Give, Down, Await, Arrive, Work}
 use Rattle.cqs_plan.specs.declared.floors.answers.FloorTake.{FloorTake}
 use Rattle.cqs_plan.specs.declared.floors.answers.FloorTake.TheVariants.{Now, Waits}
 use Rattle.cqs_plan.specs.PlanSteps.{is_take}
-use Rattle.cqs_plan.specs.Floor.{PlainFloor, JobWait, room_at}
+use Rattle.cqs_plan.specs.Floor.{PlainFloor, JobWait}
 use Rattle.cqs_plan.specs.FloorCalls.{take_answer, give_answer}
 use Rattle.cqs_turns.specs.declared.states.Progress.{Progress}
-use Rattle.cqs_turns.specs.declared.states.Progress.TheVariants.{Stepping, Working, Waiting, Ended}
 use Rattle.cqs_turns.specs.Report.{IsFrontOf}
-use Rattle.cqs_turns.specs.Ready.{IsReady, HasRoom, CanMake, wait_in, steps_left}
+use Rattle.cqs_turns.specs.Ready.{IsReady, HasRoom, CanMake, wait_in}
 use Rattle.cqs_turns.specs.Roles.{made_of}
-use Rattle.cqs_turns.specs.Turns.{Role, Scene, Made, Acted, made, took, stop_or, stepped, left_at, finished, places_held}
-use Rattle.cqs_turns.proofs.Growth.{front-same, front-through, stepped-grows, made-grows, stop_or-grows}
+use Rattle.cqs_turns.specs.Turns.{Role, Scene, Made, made, took, stop_or, stepped, left_at, finished, places_held}
+use Rattle.cqs_turns.proofs.Growth.{front-through, stepped-grows, stop_or-grows}
 use Rattle.cqs_turns.proofs.Moved.{Moves, moves-fewer, moves-on, taken-moves, given-moves, takes-cons, room-after}
 use Rattle.cqs_turns.proofs.Readied.{taken-ready, waiting-ready, given-ready}
 

@@ -76,7 +76,8 @@ count-without at q [] here = absurd (cc)
 count-without at q (p ∷ held) here = count-without_by at q p held (cases_eq p at) (count-without at q held) here
 
 -- the step after these earlier ones
-get-next : {X : Type 0} (earlier : List X) (x : X) (rest : List X) → slice_get (earlier ++ x ∷ rest) (length earlier) ≡ Some x
+get-next : {X : Type 0} (earlier : List X) (x : X) (rest : List X)
+    → slice_get (earlier ++ x ∷ rest) (length earlier) ≡ Some x
 get-next [] x rest = refl
 get-next (y ∷ earlier) x rest = get-next earlier x rest
 
@@ -221,8 +222,13 @@ opening-room plan runnable at = go (cases_lt at (length plan.resources))
         = get_or-map-range_with_len (takes_in plan) 0 (length plan.resources) at at 0 below (omega arith) in
         omega (arith, room, takes-left_opening at plan.jobs)
     go (inr past) =
-        let beyond : length (kinds_of plan.resources) ≤ at = omega (arith, past, length-map plan.resources (λ resource. resource.kind)) in
-        omega (arith, takes-left_opening at plan.jobs, none-beyond (kinds_of plan.resources) at plan.jobs beyond runnable.steps)
+        let beyond : length (kinds_of plan.resources) ≤ at
+        = omega (arith, past, length-map plan.resources (λ resource. resource.kind)) in
+        omega (
+          arith,
+          takes-left_opening at plan.jobs,
+          none-beyond (kinds_of plan.resources) at plan.jobs beyond runnable.steps,
+        )
 
 opening-ready : (plan : Plan) → IsRunnable plan → (place : ℕ) (job : Job) → slice_get plan.jobs place ≡ Some job
     → IsReady (opening_floor plan) place None job.steps
@@ -247,7 +253,8 @@ pub opening-running : (plan : Plan) → IsRunnable plan → IsRunning plan (open
 opening-running plan runnable = record {
   jobs = length-replicate (length plan.jobs) (Stepping 0);
   kinds = refl;
-  ready = λ place job p got_job got. opened place job p got_job (get-replicate (length plan.jobs) place (Stepping 0) p got);
+  ready = λ place job p got_job got.
+      opened place job p got_job (get-replicate (length plan.jobs) place (Stepping 0) p got);
   room = opening-room plan runnable;
 }
   where

@@ -1,8 +1,7 @@
 -- A job that gives back all that it holds, one after the other.
-use Rattle.std.proofs.Common.{◌≡◌, ℕ, ◌+◌, ◌<◌, ◌≤◌, List, [], ◌∷◌, drop, get_or, slice_get, length, None, Option, IsSome, true, ◌==◌, refl, sym, ap, subst, ◌∙◌, eq-eqb, arith}
-use Rattle.std.proofs.lemmas.List.{drop_more, drop_all}
-use Rattle.std.specs.List.{list_any}
-use Rattle.cqs_plan.specs.Floor.{PlainFloor, IsHolding, IsHoldable, holds_of, oldest}
+use Rattle.std.proofs.Common.{◌≡◌, ℕ, ◌+◌, ◌<◌, List, [], ◌∷◌, drop, get_or, length, None, true, ◌==◌, refl, sym, ap, subst, ◌∙◌, eq-eqb}
+use Rattle.std.proofs.lemmas.List.{drop_more}
+use Rattle.cqs_plan.specs.Floor.{IsHolding, holds_of}
 use Rattle.cqs_plan.specs.FloorCalls.{give_answer}
 use Rattle.cqs_turns.specs.Report.{IsFrontOf}
 use Rattle.cqs_turns.specs.Ready.{IsReady, is_held}
@@ -30,11 +29,6 @@ holds-next r all i start now giving below =
     let there : is_held at (at ∷ drop (i + 1) all) ≡ true = rw first refl in
     oldest-there at (holds_of now.floor r.place) (rw (next-one r all i start now giving below) there)
 
-pub can-give-next : (r : Role) (all : List ℕ) (i : ℕ) (start now : Scene) → GivingBack r all i start now
-    → i < length all → IsHoldable (slice_get now.floor.kinds (get_or all i 0))
-can-give-next r all i start now giving below =
-    (rw (next-one r all i start now giving below) at giving.ready.holdable).0
-
 pub gives-next : (r : Role) (all : List ℕ) (i : ℕ) (start now after : Scene) → GivingBack r all i start now
     → i < length all → after ≡ given r (get_or all i 0) now → GivingBack r all (i + 1) start after
 gives-next r all i start now after giving below same =
@@ -51,7 +45,3 @@ gives-next r all i start now after giving below same =
 pub giving-front : (r : Role) (all : List ℕ) (i : ℕ) (start now : Scene) → GivingBack r all i start now
     → IsFrontOf (given_back r all start).text now.text
 giving-front r all i start now giving = rw (← giving.whole) (given_back-grows r (drop i all) now)
-
-pub begins-giving : (r : Role) (all : List ℕ) (start : Scene) → places_held start.floor r.place ≡ all
-    → IsReady start.floor r.place None [] → GivingBack r all 0 start start
-begins-giving r all start held ready = record { whole = refl; held = held; ready = ready }

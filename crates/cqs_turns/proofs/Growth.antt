@@ -1,5 +1,5 @@
 -- The report only grows: what stands in it before an event, a step or a turn is a front of what stands there after.
-use Rattle.std.proofs.Common.{◌≡◌, ℕ, ◌+◌, suc, zero, add-zero, add-suc, add-one, ◌-◌, ◌<◌, arith, Bool, true, false, cond, nat_lt, slice_index_or, List, [], ◌∷◌, ◌++◌, drop, Option, Some, None, Result, Ok, Err, OnOk, OnErr, refl, sym, ap, ◌∙◌, append_assoc}
+use Rattle.std.proofs.Common.{◌≡◌, ℕ, ◌+◌, suc, zero, add-zero, add-suc, add-one, ◌-◌, ◌<◌, arith, Bool, true, false, nat_lt, slice_index_or, List, [], ◌∷◌, ◌++◌, drop, Option, Some, None, Result, Ok, Err, OnOk, OnErr, refl, sym, ap, ◌∙◌, append_assoc}
 use Rattle.std.specs.Bool.{if◌then◌else◌}
 use Rattle.std.proofs.lemmas.List.{append-nil}
 use Rattle.cqs_plan.specs.declared.plans.step.Step.{Step}
@@ -19,7 +19,6 @@ use Rattle.cqs_turns.specs.declared.lines.Told.TheVariants as told
 use Rattle.cqs_turns.specs.declared.states.End.TheVariants as end
 use Rattle.cqs_turns.specs.declared.states.Progress.{Progress}
 use Rattle.cqs_turns.specs.declared.states.Progress.TheVariants.{Stepping, Working, Waiting, Ended}
-use Rattle.cqs_turns.specs.Lines.{line_text}
 use Rattle.cqs_turns.specs.Report.{IsFrontOf}
 use Rattle.cqs_turns.specs.Turns.{Role, Scene, Acted, Made, event, given, given_back, given_all, finished, made, took, stop_or, stepped, go_on, cancelled, gave_up, looked, acted, left_at, is_due, one_job, each_job, one_turn, machine_after, Machine, places_held}
 
@@ -115,7 +114,8 @@ acted-grows r (Working next until) s =
     (front-same s.text) (stepped-grows r (drop next r.job.steps) next s)
 acted-grows r (Waiting next at number) s =
     acted-if (is_due r.job.deadline r.turn)
-    (gave_up r at number (leave_answer s.floor r.place) s) (looked r next at number (look_answer s.floor r.place) s) s.text
+    (gave_up r at number (leave_answer s.floor r.place) s)
+    (looked r next at number (look_answer s.floor r.place) s) s.text
     (gave_up-grows r at number (leave_answer s.floor r.place) s)
     (looked-grows r next at number (look_answer s.floor r.place) s)
 acted-grows r (Ended end) s = front-same s.text
@@ -133,7 +133,8 @@ each_job-grows resources turn place (job ∷ jobs) m =
     (each_job-grows resources turn (place + 1) jobs after) (one_job-grows resources turn place job m)
 
 -- the report after some turns is a front of the report after more
-pub machine_after-grows : (plan : Plan) (n k : ℕ) → IsFrontOf (machine_after plan (n + k)).scene.text (machine_after plan n).scene.text
+pub machine_after-grows : (plan : Plan) (n k : ℕ)
+    → IsFrontOf (machine_after plan (n + k)).scene.text (machine_after plan n).scene.text
 machine_after-grows plan n zero = rw add-zero (front-same (machine_after plan n).scene.text)
 machine_after-grows plan n (suc k) =
     rw add-suc (front-through _ (machine_after plan (n + k)).scene.text _
@@ -141,7 +142,8 @@ machine_after-grows plan n (suc k) =
 
 -- what stands after a part of a turn is a front of what stands after all turns
 pub front-of-later : (plan : Plan) (turn turns : ℕ) (now : Machine) (text : List ℕ) → now ≡ machine_after plan turn
-    → turn < turns → IsFrontOf (one_turn plan turn now).scene.text text → IsFrontOf (machine_after plan turns).scene.text text
+    → turn < turns → IsFrontOf (one_turn plan turn now).scene.text text
+    → IsFrontOf (machine_after plan turns).scene.text text
 front-of-later plan turn turns now text same below front =
     let at : ℕ = turn + 1 in
     let this_turn : one_turn plan turn now ≡ machine_after plan at

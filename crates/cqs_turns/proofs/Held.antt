@@ -1,10 +1,9 @@
 -- What a job holds, as the list of its places.
-use Rattle.std.proofs.Common.{◌≡◌, ℕ, suc, ◌+◌, ◌<◌, List, [], ◌∷◌, ◌++◌, Bool, true, false, cond, ◌==◌, ◌||◌, Option, Some, None, IsSome, length, map, set, get_or, refl, sym, ap, ◌∙◌, eq-eqb, arith}
+use Rattle.std.proofs.Common.{◌≡◌, ℕ, suc, ◌+◌, List, [], ◌∷◌, Bool, true, false, ◌==◌, Some, None, IsSome, map, refl, sym, ap, eq-eqb, arith}
 use Rattle.std.specs.List.{position_from, remove}
 use Rattle.cqs_core.specs.Keyed.{without}
-use Rattle.cqs_plan.specs.Floor.{PlainFloor, Holding, oldest, holds_of}
+use Rattle.cqs_plan.specs.Floor.{Holding, oldest}
 use Rattle.cqs_turns.specs.Ready.{is_held}
-use Rattle.cqs_turns.specs.Turns.{places_held}
 
 -- something is held of a place that stands in the list of places
 oldest-there_by : (at : ℕ) (h : Holding) (holds : List Holding) (b : Bool) → h.at == at ≡ b

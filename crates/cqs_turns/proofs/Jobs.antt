@@ -1,5 +1,5 @@
 -- One job of a running machine has its turn.
-use Rattle.std.proofs.Common.{◌≡◌, ◌≢◌, ◌⊎◌, inl, inr, ℕ, zero, suc, ◌+◌, ◌<◌, ◌≤◌, List, [], ◌∷◌, Option, Some, None, Result, OnOk, OnErr, length, map, set, get_or, slice_get, refl, sym, ap, subst, ◌∙◌, arith}
+use Rattle.std.proofs.Common.{◌≡◌, ◌≢◌, ◌⊎◌, inl, inr, ℕ, ◌<◌, List, Some, length, map, set, get_or, slice_get, sym, ap, subst, ◌∙◌, arith}
 use Rattle.std.specs.Option.{option_map_or}
 use Rattle.std.proofs.lemmas.Bool.{cases_eq}
 use Rattle.std.proofs.lemmas.List.{map-set, length-map}
@@ -10,14 +10,12 @@ use Rattle.cqs_plan.specs.Floor.{PlainFloor, holds_of}
 use Rattle.cqs_plan.specs.Runnable.{IsRunnable}
 use Rattle.cqs_turns.specs.declared.states.JobState.{JobState}
 use Rattle.cqs_turns.specs.declared.states.End.TheVariants as end
-use Rattle.cqs_turns.specs.declared.states.Progress.{Progress}
 use Rattle.cqs_turns.specs.declared.states.Progress.TheVariants.{Ended}
-use Rattle.cqs_turns.specs.Ready.{IsReady, HasRoom, steps_left}
-use Rattle.cqs_turns.specs.Report.{IsFrontOf}
+use Rattle.cqs_turns.specs.Ready.{HasRoom, steps_left}
 use Rattle.cqs_turns.specs.Roles.{scene}
 use Rattle.cqs_turns.specs.Running.{IsRunning, IsKept, machine_of, turn_at}
 use Rattle.cqs_turns.specs.States.{IsSet}
-use Rattle.cqs_turns.specs.Turns.{Role, Scene, Acted, Machine, acted, left_at, one_job, places_held}
+use Rattle.cqs_turns.specs.Turns.{Role, Acted, Machine, acted, left_at, one_job, places_held}
 use Rattle.cqs_turns.proofs.Mapped.{get-map}
 use Rattle.cqs_turns.proofs.RunningLemmas.{room-of, running-on}
 use Rattle.cqs_turns.proofs.Turned.{Turned, acted-turned}
@@ -49,10 +47,8 @@ module _ (plan : Plan) (r : Role) (f : PlainFloor) (text : List ℕ) (states : L
   }
 
   pub acting-room : HasRoom f (steps_left r.job.steps state.progress)
-  acting-room = room-of plan (machine_of f text states) r.place r.job state.progress acting.running acting.job its-progress
-
-  pub acting-few : length r.job.steps ≤ 64
-  acting-few = acting.runnable.few_steps.at r.place r.job acting.job
+  acting-room =
+      room-of plan (machine_of f text states) r.place r.job state.progress acting.running acting.job its-progress
 
   -- what the turn of the job is to the machine
   machine-turn : turn_at plan r.turn r.place (machine_of f text states)
@@ -64,7 +60,8 @@ module _ (plan : Plan) (r : Role) (f : PlainFloor) (text : List ℕ) (states : L
       let these_resources : one_job plan.resources r.turn r.place r.job m ≡ one_job r.resources r.turn r.place r.job m
       = ap (λ rs. one_job rs r.turn r.place r.job m) (sym acting.resources) in
       let its_progress : get_or (map (λ s. s.progress) states) r.place (Ended end.Done) ≡ state.progress
-      = get_or_from_slice_get (map (λ (s : JobState). s.progress) states) r.place state.progress (Ended end.Done) its-progress in
+      = get_or_from_slice_get (map (λ (s : JobState). s.progress) states) r.place state.progress
+      (Ended end.Done) its-progress in
       this_job ∙ these_resources ∙ ap (λ p. turn_with r states (acted r p (scene f text))) its_progress
 
   its-turned : Turned r f (steps_left r.job.steps state.progress) (acted r state.progress (scene f text))
@@ -72,7 +69,8 @@ module _ (plan : Plan) (r : Role) (f : PlainFloor) (text : List ℕ) (states : L
 
   module _ (g : PlainFloor) (new : List ℕ) (after : JobState)
       (acts : left_at (scene g new) after.progress ≡ acted r state.progress (scene f text)) where
-    machine-after : machine_of g new (set states r.place after) ≡ turn_with r states (left_at (scene g new) after.progress)
+    machine-after : machine_of g new (set states r.place after)
+        ≡ turn_with r states (left_at (scene g new) after.progress)
     machine-after =
         ap (λ progress. record { scene = scene g new; progress = progress })
         (map-set (λ (s : JobState). s.progress) states r.place after)
@@ -99,15 +97,13 @@ module _ (plan : Plan) (r : Role) (f : PlainFloor) (text : List ℕ) (states : L
             let same : s ≡ after = cc in
             rw (here, same) held
         kept j s got (inr other) =
-            let before : slice_get states j ≡ Some s = sym (get-set_else states r.place j after (λ e. other (sym e))) ∙ got in
-            let floor_after : g ≡ (acted r state.progress (scene f text)).scene.floor = ap (λ (a : Acted). a.scene.floor) acts in
+            let before : slice_get states j ≡ Some s
+            = sym (get-set_else states r.place j after (λ e. other (sym e))) ∙ got in
+            let floor_after : g ≡ (acted r state.progress (scene f text)).scene.floor
+            = ap (λ (a : Acted). a.scene.floor) acts in
             let unmoved : holds_of g j ≡ holds_of f j
             = ap (λ h. holds_of h j) floor_after ∙ its-turned.moves.holds j other in
             acting.kept.held j s before ∙ ap (map (λ h. h.at)) (sym unmoved)
-
-  pub acting-err : (so_far : List ℕ) → IsFrontOf (acted r state.progress (scene f text)).scene.text so_far
-      → IsFrontOf (turn_at plan r.turn r.place (machine_of f text states)).scene.text so_far
-  acting-err so_far front = rw machine-turn front
 
 -- the job at a place of a running machine acts
 pub acting-at : (plan : Plan) (r : Role) (f : PlainFloor) (text : List ℕ) (states : List JobState) (place : ℕ)

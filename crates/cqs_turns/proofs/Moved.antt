@@ -1,5 +1,5 @@
 -- What a job's call of the floor changes, what it leaves to the other jobs, and how far it uses up the room.
-use Rattle.std.proofs.Common.{◌≡◌, ◌≢◌, ◌⊎◌, inl, inr, ℕ, ◌+◌, ◌-◌, ◌<◌, ◌≤◌, List, [], ◌∷◌, ◌++◌, Bool, true, false, cond, ◌==◌, Option, Some, None, length, map, set, get_or, slice_index, count_by, refl, sym, ap, subst, ◌∙◌, eq-eqb, ne_eqb, arith}
+use Rattle.std.proofs.Common.{◌≡◌, ◌≢◌, ◌⊎◌, inl, inr, ℕ, ◌+◌, ◌-◌, ◌<◌, ◌≤◌, List, [], ◌∷◌, ◌++◌, cond, Option, Some, None, length, set, get_or, count_by, refl, sym, ap, subst, ◌∙◌, eq-eqb, arith}
 use Rattle.std.proofs.lemmas.Bool.{cases_eq, cases_lt}
 use Rattle.std.proofs.lemmas.List.Sums.{sum_by-cons}
 use Rattle.std.proofs.lemmas.List.{get_or-set_same, get_or-set_other, get_or_past, length-set}
@@ -7,7 +7,7 @@ use Rattle.cqs_core.specs.declared.entries.Entry.{Entry}
 use Rattle.cqs_core.specs.declared.entries.Entry.TheVariants as entry
 use Rattle.cqs_core.specs.Keyed.{without}
 use Rattle.cqs_plan.specs.declared.plans.step.Step.{Step}
-use Rattle.cqs_plan.specs.declared.plans.step.Step.TheVariants.{Take, Give, Down, Await, Arrive, Work}
+use Rattle.cqs_plan.specs.declared.plans.step.Step.TheVariants.{Take}
 use Rattle.cqs_plan.specs.declared.floors.answers.FloorTake.{FloorTake}
 use Rattle.cqs_plan.specs.declared.floors.answers.FloorTake.TheVariants.{Now, Waits}
 use Rattle.cqs_plan.specs.declared.floors.answers.FloorGive.{FloorGive}
@@ -16,7 +16,7 @@ use Rattle.cqs_plan.specs.declared.floors.answers.FloorLook.TheVariants.{Granted
 use Rattle.cqs_plan.specs.declared.floors.answers.FloorLeave.{FloorLeave}
 use Rattle.cqs_plan.specs.declared.floors.answers.FloorLeave.TheVariants.{Gone, Late}
 use Rattle.cqs_plan.specs.PlanSteps.{is_take}
-use Rattle.cqs_plan.specs.Floor.{PlainFloor, JobWait, Holding, IsJob, wait_of, holds_of, room_at, with_entries, with_less_room, with_wait, with_newest, without_oldest}
+use Rattle.cqs_plan.specs.Floor.{PlainFloor, JobWait, Holding, wait_of, holds_of, room_at, with_entries, with_less_room, with_wait, without_oldest}
 use Rattle.cqs_plan.specs.FloorCalls.{after_take, after_give, after_look, after_leave, with_granted, with_left}
 use Rattle.cqs_turns.specs.Ready.{HasRoom}
 

@@ -1,13 +1,12 @@
 -- A plan that can be run: its opening machine runs.
-use Rattle.std.proofs.Common.{◌≡◌, ◌≢◌, ◌⊎◌, inl, inr, ℕ, zero, suc, ◌+◌, ◌<◌, ◌≤◌, List, [], ◌∷◌, ◌++◌, Bool, true, false, cond, ◌==◌, Option, Some, None, length, map, take, drop, replicate, get_or, slice_get, count_by, sum_by, refl, sym, ap, subst, ◌∙◌, eq-eqb, ne_eqb, eqb-true, arith}
-use Rattle.std.specs.List.{range_with_len}
+use Rattle.std.proofs.Common.{◌≡◌, ◌≢◌, ◌⊎◌, inl, inr, ℕ, zero, suc, ◌+◌, ◌<◌, ◌≤◌, List, [], ◌∷◌, ◌++◌, Bool, true, false, cond, ◌==◌, Option, Some, None, length, map, take, replicate, slice_get, count_by, sum_by, refl, sym, ap, ◌∙◌, eq-eqb, ne_eqb, arith}
 use Rattle.std.proofs.lemmas.Bool.{cases_eq, cases_lt}
-use Rattle.std.proofs.lemmas.List.{append_assoc, append-nil, take_at, length-replicate, length-map, get_or-replicate, length_push}
+use Rattle.std.proofs.lemmas.List.{append_assoc, take_at, length-replicate, length-map, get_or-replicate}
 use Rattle.std.proofs.lemmas.List.FromFn.{get_or-map-range_with_len}
-use Rattle.std.proofs.lemmas.List.Sums.{sum_by-cons, sum_by_push, sum_by-append}
+use Rattle.std.proofs.lemmas.List.Sums.{sum_by-cons, sum_by_push}
 use Rattle.cqs_core.specs.Numbered.{EachAt}
 use Rattle.cqs_core.specs.Keyed.{without}
-use Rattle.cqs_core.proofs.Places.{get-push_at, get-append_left, get-past, get-below}
+use Rattle.cqs_core.proofs.Places.{get-past, get-below}
 use Rattle.cqs_plan.specs.declared.plans.kind.Kind.{Kind}
 use Rattle.cqs_plan.specs.declared.plans.step.Step.{Step}
 use Rattle.cqs_plan.specs.declared.plans.step.Step.TheVariants.{Take, Give, Down, Await, Arrive, Work}
@@ -20,7 +19,7 @@ use Rattle.cqs_turns.specs.declared.states.Progress.{Progress}
 use Rattle.cqs_turns.specs.declared.states.Progress.TheVariants.{Stepping}
 use Rattle.cqs_turns.specs.Ready.{CanMake, is_held, IsReady, wait_in, steps_left}
 use Rattle.cqs_turns.specs.Running.{IsRunning, takes_left}
-use Rattle.cqs_turns.specs.Turns.{Machine, opening_machine, places_held}
+use Rattle.cqs_turns.specs.Turns.{opening_machine, places_held}
 
 -- 1 for what passes a test
 abbrev one : Bool → ℕ
@@ -77,7 +76,8 @@ count-without at q [] here = absurd (cc)
 count-without at q (p ∷ held) here = count-without_by at q p held (cases_eq p at) (count-without at q held) here
 
 -- the step after these earlier ones
-get-next : {X : Type 0} (earlier : List X) (x : X) (rest : List X) → slice_get (earlier ++ x ∷ rest) (length earlier) ≡ Some x
+get-next : {X : Type 0} (earlier : List X) (x : X) (rest : List X)
+    → slice_get (earlier ++ x ∷ rest) (length earlier) ≡ Some x
 get-next [] x rest = refl
 get-next (y ∷ earlier) x rest = get-next earlier x rest
 
@@ -222,8 +222,13 @@ opening-room plan runnable at = go (cases_lt at (length plan.resources))
         = get_or-map-range_with_len (takes_in plan) 0 (length plan.resources) at at 0 below (omega arith) in
         omega (arith, room, takes-left_opening at plan.jobs)
     go (inr past) =
-        let beyond : length (kinds_of plan.resources) ≤ at = omega (arith, past, length-map plan.resources (λ resource. resource.kind)) in
-        omega (arith, takes-left_opening at plan.jobs, none-beyond (kinds_of plan.resources) at plan.jobs beyond runnable.steps)
+        let beyond : length (kinds_of plan.resources) ≤ at
+        = omega (arith, past, length-map plan.resources (λ resource. resource.kind)) in
+        omega (
+          arith,
+          takes-left_opening at plan.jobs,
+          none-beyond (kinds_of plan.resources) at plan.jobs beyond runnable.steps,
+        )
 
 opening-ready : (plan : Plan) → IsRunnable plan → (place : ℕ) (job : Job) → slice_get plan.jobs place ≡ Some job
     → IsReady (opening_floor plan) place None job.steps
@@ -248,7 +253,8 @@ pub opening-running : (plan : Plan) → IsRunnable plan → IsRunning plan (open
 opening-running plan runnable = record {
   jobs = length-replicate (length plan.jobs) (Stepping 0);
   kinds = refl;
-  ready = λ place job p got_job got. opened place job p got_job (get-replicate (length plan.jobs) place (Stepping 0) p got);
+  ready = λ place job p got_job got.
+      opened place job p got_job (get-replicate (length plan.jobs) place (Stepping 0) p got);
   room = opening-room plan runnable;
 }
   where

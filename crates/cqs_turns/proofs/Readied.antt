@@ -1,5 +1,5 @@
 -- What keeps a job ready: after each call of the floor it can go on with the steps that are left.
-use Rattle.std.proofs.Common.{◌≡◌, ℕ, ◌+◌, ◌<◌, List, [], ◌∷◌, ◌++◌, Bool, true, false, cond, ◌==◌, Option, Some, None, length, map, set, get_or, slice_get, refl, sym, ap, ◌∙◌, subst, eqb-true, arith}
+use Rattle.std.proofs.Common.{◌≡◌, ℕ, List, [], ◌∷◌, ◌++◌, Bool, true, false, ◌==◌, Option, Some, None, map, get_or, slice_get, refl, sym, ap, ◌∙◌, subst, eqb-true, arith}
 use Rattle.std.proofs.lemmas.List.{map-append, get_or-set_same, length-set}
 use Rattle.cqs_core.specs.declared.entries.Entry.{Entry}
 use Rattle.cqs_core.specs.declared.entries.Entry.TheVariants as entry
@@ -16,7 +16,6 @@ use Rattle.cqs_plan.specs.declared.floors.answers.FloorLeave.TheVariants.{Gone, 
 use Rattle.cqs_plan.specs.Floor.{PlainFloor, JobWait, Holding, IsJob, IsHoldable, IsHolding, wait_of, holds_of, with_newest, without_oldest}
 use Rattle.cqs_plan.specs.FloorCalls.{after_take, after_give, after_look, after_leave, with_granted, with_left}
 use Rattle.cqs_turns.specs.Ready.{IsReady, is_held, AreHoldable, CanMake, coming}
-use Rattle.cqs_turns.specs.Roles.{left_with}
 use Rattle.cqs_turns.specs.Turns.{places_held}
 use Rattle.cqs_turns.proofs.Held.{oldest-there, map-without, without-head}
 
@@ -25,7 +24,8 @@ holdable-push : (kinds : List Kind) (places : List ℕ) (at : ℕ) → AreHoldab
 holdable-push kinds [] at all here = (here, tt)
 holdable-push kinds (p ∷ places) at all here = (all.0, holdable-push kinds places at all.1 here)
 
-holdable-front : (kinds : List Kind) (places more : List ℕ) → AreHoldable kinds (places ++ more) → AreHoldable kinds places
+holdable-front : (kinds : List Kind) (places more : List ℕ) → AreHoldable kinds (places ++ more)
+    → AreHoldable kinds places
 holdable-front kinds [] more all = tt
 holdable-front kinds (p ∷ places) more all = (all.0, holdable-front kinds places more all.1)
 
@@ -84,15 +84,6 @@ ready-at : (g : PlainFloor) (place : ℕ) (wait : Option JobWait) (steps : List 
 ready-at g place wait steps held job waits same holdable makeable =
     record { job = job; waits = waits; holdable = rw same holdable; makeable = rw same makeable }
 
-job-holds : (f : PlainFloor) (place : ℕ) (hs : List Holding) → IsJob f place
-    → IsJob (record f { holds = set f.holds place hs }) place
-job-holds f place hs job = record { waits = job.waits; holds = omega (arith, job.holds, length-set f.holds place hs) }
-
-job-waits : (f : PlainFloor) (place : ℕ) (wait : Option JobWait) → IsJob f place
-    → IsJob (record f { waits = set f.waits place wait }) place
-job-waits f place wait job =
-    record { waits = omega (arith, job.waits, length-set f.waits place wait); holds = job.holds }
-
 -- a job stays ready where its steps are no more
 pub ready-to-end : (f : PlainFloor) (place : ℕ) (wait : Option JobWait) (steps : List Step)
     → IsReady f place wait steps → IsReady f place wait []
@@ -108,7 +99,8 @@ taken-ready f place at element steps ready =
       waits = ready.job.waits;
       holds = omega (arith, ready.job.holds, length-set f.holds place (holds_of f place ++ newest ∷ []));
     } in
-    ready-at g place None steps (places_held f place ++ at ∷ []) job ready.waits (places-newest f place at element ready.job)
+    ready-at g place None steps (places_held f place ++ at ∷ []) job ready.waits
+    (places-newest f place at element ready.job)
     (holdable-push f.kinds (places_held f place) at ready.holdable ready.makeable.0) ready.makeable.1
 
 pub waiting-ready : (f : PlainFloor) (place at number : ℕ) (steps : List Step)
@@ -131,7 +123,8 @@ given-held : (f : PlainFloor) (place at : ℕ) (answer : FloorGive) → IsJob f 
 given-held f place at (Free element) job = places-without f place at job
 given-held f place at (Sent element number) job = places-without f place at job
 
-given-job : (f : PlainFloor) (place at : ℕ) (answer : FloorGive) → IsJob f place → IsJob (after_give f at place answer) place
+given-job : (f : PlainFloor) (place at : ℕ) (answer : FloorGive) → IsJob f place
+    → IsJob (after_give f at place answer) place
 given-job f place at (Free element) job = record {
   waits = job.waits;
   holds = omega (arith, job.holds, length-set f.holds place (without (λ h. h.at) at (holds_of f place)));
@@ -199,7 +192,8 @@ came-ready f place entry_of wait element steps ready =
     (get_or-set_same f.waits place None None ready.job.waits)
     (places-newest f place wait.at element ready.job) ready.holdable ready.makeable
 
-granted-ready : (f : PlainFloor) (place : ℕ) (entry_of : JobWait → Entry) (wait : JobWait) (element : ℕ) (steps : List Step)
+granted-ready : (f : PlainFloor) (place : ℕ) (entry_of : JobWait → Entry) (wait : JobWait) (element : ℕ)
+    (steps : List Step)
     → IsReady f place (Some wait) steps
     → IsReady (with_granted f place entry_of (wait_of f place) element) place None steps
 granted-ready f place entry_of wait element steps ready =
@@ -238,22 +232,3 @@ granted-held f place entry_of wait element job waits =
     let Holds : Option JobWait → Type 0 = λ o.
     places_held (with_granted f place entry_of o element) place ≡ places_held f place ++ wait.at ∷ [] in
     subst Holds (sym waits) (places-newest f place wait.at element job)
-
-went-held : (f : PlainFloor) (place : ℕ) (wait : Option JobWait) → places_held (with_left f place wait) place ≡ places_held f place
-went-held f place None = refl
-went-held f place (Some wait) = refl
-
--- what a job holds that left the line, or was late
-pub left-held : (f : PlainFloor) (place : ℕ) (wait : JobWait) (answer : FloorLeave) (steps : List Step)
-    → IsReady f place (Some wait) steps
-    → left_with (places_held f place) wait.at answer ≡ places_held (after_leave f place answer) place
-left-held f place wait Gone steps ready = sym (went-held f place (wait_of f place))
-left-held f place wait (Late element) steps ready =
-    sym (granted-held f place (λ w. entry.Late 0 w.number) wait element ready.job ready.waits)
-
--- what a job holds that was served
-pub looked-held : (f : PlainFloor) (place : ℕ) (wait : JobWait) (element : ℕ) (steps : List Step)
-    → IsReady f place (Some wait) steps
-    → places_held (after_look f place (Granted element)) place ≡ places_held f place ++ wait.at ∷ []
-looked-held f place wait element steps ready =
-    granted-held f place (λ w. entry.LookGranted 0 w.number) wait element ready.job ready.waits

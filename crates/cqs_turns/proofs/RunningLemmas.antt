@@ -1,16 +1,15 @@
 -- The machine keeps running: the turn of one job leaves every job ready, and room for all takes that are left.
-use Rattle.std.proofs.Common.{◌≡◌, ◌≢◌, ◌⊎◌, inl, inr, ℕ, zero, suc, ◌+◌, ◌<◌, ◌≤◌, List, [], ◌∷◌, Option, Some, None, length, map, set, get_or, slice_get, count_by, refl, sym, ap, subst, ◌∙◌, arith}
+use Rattle.std.proofs.Common.{◌≡◌, ◌≢◌, ◌⊎◌, inl, inr, ℕ, zero, suc, ◌+◌, ◌≤◌, List, [], ◌∷◌, Option, Some, map, set, slice_get, count_by, sym, ap, ◌∙◌, arith}
 use Rattle.std.proofs.lemmas.Bool.{cases_eq}
 use Rattle.std.proofs.lemmas.List.{length-set}
-use Rattle.std.proofs.lemmas.Option.{get_or_from_slice_get}
 use Rattle.cqs_core.proofs.Places.{get-set_here, get-set_else}
 use Rattle.cqs_plan.specs.declared.plans.step.Step.{Step}
 use Rattle.cqs_plan.specs.declared.plans.job.Job.{Job}
 use Rattle.cqs_plan.specs.declared.plans.plan.Plan.{Plan}
 use Rattle.cqs_plan.specs.PlanSteps.{is_take}
-use Rattle.cqs_plan.specs.Floor.{PlainFloor, JobWait, holds_of, room_at}
+use Rattle.cqs_plan.specs.Floor.{PlainFloor, JobWait}
 use Rattle.cqs_turns.specs.declared.states.Progress.{Progress}
-use Rattle.cqs_turns.specs.Ready.{IsReady, HasRoom, AreHoldable, CanMake, coming, wait_in, steps_left}
+use Rattle.cqs_turns.specs.Ready.{IsReady, HasRoom, wait_in, steps_left}
 use Rattle.cqs_turns.specs.Running.{IsRunning, takes_left}
 use Rattle.cqs_turns.specs.Turns.{Role, Acted, Machine, places_held}
 use Rattle.cqs_turns.proofs.Moved.{Moves}

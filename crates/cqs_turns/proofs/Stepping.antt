@@ -1,53 +1,20 @@
 -- A job that makes its steps, one after the other.
-use Rattle.std.proofs.Common.{◌≡◌, ℕ, ◌+◌, ◌<◌, ◌≤◌, List, [], ◌∷◌, ◌++◌, Bool, true, false, cond, Option, Some, None, drop, get_or, length, count_by, refl, sym, ap, subst, ◌∙◌, arith}
+use Rattle.std.proofs.Common.{◌≡◌, ℕ, ◌+◌, ◌<◌, ◌≤◌, List, ◌∷◌, None, drop, get_or, length, count_by, sym, ap, subst, ◌∙◌, arith}
 use Rattle.std.specs.Option.{option_map_or}
-use Rattle.std.proofs.lemmas.List.{drop_more, drop_all}
-use Rattle.std.proofs.lemmas.List.Sums.{sum_by-cons}
-use Rattle.cqs_plan.specs.declared.plans.kind.Kind.{Kind}
+use Rattle.std.proofs.lemmas.List.{drop_more}
 use Rattle.cqs_plan.specs.declared.plans.step.Step.{Step}
 use Rattle.cqs_plan.specs.declared.plans.step.Step.TheVariants.{Take, Give, Down, Await, Arrive, Work}
 use Rattle.cqs_plan.specs.declared.floors.answers.FloorTake.{FloorTake}
 use Rattle.cqs_plan.specs.declared.floors.answers.FloorTake.TheVariants.{Now, Waits}
 use Rattle.cqs_plan.specs.PlanSteps.{is_take}
-use Rattle.cqs_plan.specs.Floor.{PlainFloor, JobWait, room_at}
 use Rattle.cqs_plan.specs.FloorCalls.{take_answer, give_answer}
-use Rattle.cqs_turns.specs.declared.states.Progress.{Progress}
-use Rattle.cqs_turns.specs.declared.states.Progress.TheVariants.{Stepping, Working, Waiting, Ended}
 use Rattle.cqs_turns.specs.Report.{IsFrontOf}
-use Rattle.cqs_turns.specs.Ready.{IsReady, HasRoom, CanMake, wait_in, steps_left}
+use Rattle.cqs_turns.specs.Ready.{IsReady, HasRoom, wait_in}
 use Rattle.cqs_turns.specs.Roles.{made_of}
-use Rattle.cqs_turns.specs.Turns.{Role, Scene, Made, Acted, made, took, stop_or, stepped, left_at, finished, places_held}
-use Rattle.cqs_turns.proofs.Growth.{front-same, front-through, stepped-grows, made-grows, stop_or-grows}
+use Rattle.cqs_turns.specs.Turns.{Role, Scene, Made, made, took, stop_or, stepped}
+use Rattle.cqs_turns.proofs.Growth.{front-through, stepped-grows, stop_or-grows}
 use Rattle.cqs_turns.proofs.Moved.{Moves, moves-fewer, moves-on, taken-moves, given-moves, takes-cons, room-after}
 use Rattle.cqs_turns.proofs.Readied.{taken-ready, waiting-ready, given-ready}
-
--- a job that can make a step and others can make the step
-one-makeable : (kinds : List Kind) (held : List ℕ) (step : Step) (rest : List Step) → CanMake kinds held (step ∷ rest)
-    → CanMake kinds held (step ∷ [])
-one-makeable kinds held (Take at) rest can = (can.0, tt)
-one-makeable kinds held (Give at) rest can = (can.0, tt)
-one-makeable kinds held (Work turns) rest can = (can.0, tt)
-one-makeable kinds held (Down at) rest can = can
-one-makeable kinds held (Await at) rest can = can
-one-makeable kinds held (Arrive at) rest can = can
-
-one-ready : (f : PlainFloor) (place : ℕ) (step : Step) (rest : List Step) → IsReady f place None (step ∷ rest)
-    → IsReady f place None (step ∷ [])
-one-ready f place step rest ready = record {
-  job = ready.job;
-  waits = ready.waits;
-  holdable = ready.holdable;
-  makeable = one-makeable f.kinds (places_held f place) step rest ready.makeable;
-}
-
-one-room : (f : PlainFloor) (step : Step) (rest : List Step) → HasRoom f (step ∷ rest) → HasRoom f (step ∷ [])
-one-room f step rest room = record {
-  for = λ at. omega (arith, room.for at, takes-cons at step rest, takes-cons at step []);
-}
-
--- the wait of a job after a step
-wait_after : Option Progress → Option JobWait
-wait_after stops = option_map_or wait_in stops None
 
 -- a job that made a step is ready for the rest
 pub made-ready : (r : Role) (next : ℕ) (step : Step) (rest : List Step) (s : Scene)
@@ -58,7 +25,8 @@ made-ready r next (Work turns) rest s ready =
 made-ready r next (Take at) rest s ready = took-ready (take_answer s.floor at r.place)
   where
     took-ready : (answer : FloorTake)
-        → IsReady (took r next at answer s).scene.floor r.place (option_map_or wait_in (took r next at answer s).stops None) rest
+        → IsReady (took r next at answer s).scene.floor r.place
+        (option_map_or wait_in (took r next at answer s).stops None) rest
     took-ready (Now element) = taken-ready s.floor r.place at element rest ready
     took-ready (Waits number) = waiting-ready s.floor r.place at number rest ready
 made-ready r next (Give at) rest s ready = given-ready s.floor r.place at (give_answer s.floor at r.place) rest ready
@@ -97,26 +65,11 @@ pub record SteppingOn (r : Role) (first next : ℕ) (start now : Scene) : Type 0
   pub ready : IsReady now.floor r.place None (drop next r.job.steps)
   pub room : HasRoom now.floor (drop next r.job.steps)
 
-pub begins-stepping : (r : Role) (first : ℕ) (start : Scene) → IsReady start.floor r.place None (drop first r.job.steps)
-    → HasRoom start.floor (drop first r.job.steps) → SteppingOn r first first start start
-begins-stepping r first start ready room = record { whole = refl; ready = ready; room = room }
-
 -- the step that comes next, and those after it
 next-step : (steps : List Step) (next : ℕ) (step d : Step) → next < length steps → step ≡ get_or steps next d
     → drop next steps ≡ step ∷ drop (next + 1) steps
 next-step steps next step d below is =
     drop_more steps next d below ∙ ap (λ s. s ∷ drop (next + 1) steps) (sym is)
-
-pub step-ready : (r : Role) (first next : ℕ) (start now : Scene) (step d : Step) → SteppingOn r first next start now
-    → next < length r.job.steps → step ≡ get_or r.job.steps next d → IsReady now.floor r.place None (step ∷ [])
-step-ready r first next start now step d on below is =
-    one-ready now.floor r.place step (drop (next + 1) r.job.steps)
-    (rw (next-step r.job.steps next step d below is) at on.ready)
-
-pub step-room : (r : Role) (first next : ℕ) (start now : Scene) (step d : Step) → SteppingOn r first next start now
-    → next < length r.job.steps → step ≡ get_or r.job.steps next d → HasRoom now.floor (step ∷ [])
-step-room r first next start now step d on below is =
-    one-room now.floor step (drop (next + 1) r.job.steps) (rw (next-step r.job.steps next step d below is) at on.room)
 
 -- what remains, seen as the next step and the rest
 unrolled : (r : Role) (first next : ℕ) (start now : Scene) (step d : Step) → SteppingOn r first next start now
@@ -133,7 +86,8 @@ pub steps-on : (r : Role) (first next : ℕ) (start now after : Scene) (step d :
     → SteppingOn r first (next + 1) start after
 steps-on r first next start now after step d on below is same =
     let rest : List Step = drop (next + 1) r.job.steps in
-    let ready : IsReady now.floor r.place None (step ∷ rest) = rw (next-step r.job.steps next step d below is) at on.ready in
+    let ready : IsReady now.floor r.place None (step ∷ rest)
+    = rw (next-step r.job.steps next step d below is) at on.ready in
     let room : HasRoom now.floor (step ∷ rest) = rw (next-step r.job.steps next step d below is) at on.room in
     let Whole : Made → Type 0 = λ m.
     stepped r (drop first r.job.steps) first start ≡ stop_or m (stepped r rest (next + 1) m.scene) in
@@ -145,23 +99,6 @@ steps-on r first next start now after step d on below is same =
       room = subst Leaves (sym same)
           (room-after r.place now.floor (step ∷ rest) _ rest (made-moves r next step rest now room) room);
     }
-
--- the job's turn ends with the step
-pub stops-at : (r : Role) (first next : ℕ) (start now after : Scene) (step d : Step) (progress : Progress)
-    → SteppingOn r first next start now → next < length r.job.steps → step ≡ get_or r.job.steps next d
-    → made_of after (Some progress) ≡ made r next step now
-    → left_at after progress ≡ stepped r (drop first r.job.steps) first start
-stops-at r first next start now after step d progress on below is same =
-    let rest : List Step = drop (next + 1) r.job.steps in
-    let Whole : Made → Type 0 = λ m.
-    stepped r (drop first r.job.steps) first start ≡ stop_or m (stepped r rest (next + 1) m.scene) in
-    sym (subst Whole (sym same) (unrolled r first next start now step d on below is))
-
--- all steps are made
-pub steps-end : (r : Role) (first next : ℕ) (start now : Scene) → SteppingOn r first next start now
-    → length r.job.steps ≤ next → finished r now ≡ stepped r (drop first r.job.steps) first start
-steps-end r first next start now on past =
-    ap (λ steps. stepped r steps next now) (sym (drop_all next r.job.steps past)) ∙ on.whole
 
 -- a part of the step's report is a front of the whole
 pub stepping-front : (r : Role) (first next : ℕ) (start now : Scene) (step d : Step) (text : List ℕ)

@@ -1,5 +1,5 @@
 -- What the turn of a job leaves: the job is ready for its next turn, and the floor has moved for this job alone.
-use Rattle.std.proofs.Common.{◌≡◌, ℕ, ◌+◌, ◌<◌, ◌≤◌, List, [], ◌∷◌, ◌++◌, Bool, true, false, cond, nat_lt, Option, Some, None, drop, get_or, length, count_by, refl, sym, ap, subst, ◌∙◌, arith}
+use Rattle.std.proofs.Common.{◌≡◌, ℕ, ◌+◌, List, [], ◌∷◌, Bool, true, false, nat_lt, Option, Some, None, drop, refl, sym, ap, ◌∙◌, arith}
 use Rattle.std.specs.Bool.{if◌then◌else◌}
 use Rattle.std.specs.Option.{option_map_or}
 use Rattle.std.proofs.lemmas.List.{drop-drop}
@@ -10,17 +10,16 @@ use Rattle.cqs_plan.specs.declared.floors.answers.FloorTake.TheVariants.{Now, Wa
 use Rattle.cqs_plan.specs.declared.floors.answers.FloorLook.{FloorLook}
 use Rattle.cqs_plan.specs.declared.floors.answers.FloorLook.TheVariants.{Pending, Granted}
 use Rattle.cqs_plan.specs.declared.floors.answers.FloorLeave.{FloorLeave}
-use Rattle.cqs_plan.specs.PlanSteps.{is_take}
-use Rattle.cqs_plan.specs.Floor.{PlainFloor, JobWait, room_at}
-use Rattle.cqs_plan.specs.FloorCalls.{take_answer, give_answer, look_answer, leave_answer, after_look, after_leave}
+use Rattle.cqs_plan.specs.Floor.{PlainFloor}
+use Rattle.cqs_plan.specs.FloorCalls.{take_answer, give_answer, look_answer, leave_answer, after_look}
 use Rattle.cqs_turns.specs.declared.lines.Told.TheVariants as told
 use Rattle.cqs_turns.specs.declared.states.Progress.{Progress}
 use Rattle.cqs_turns.specs.declared.states.Progress.TheVariants.{Stepping, Working, Waiting, Ended}
 use Rattle.cqs_turns.specs.Ready.{IsReady, HasRoom, wait_in, steps_left}
 use Rattle.cqs_turns.specs.Roles.{wait_at}
-use Rattle.cqs_turns.specs.Turns.{Role, Scene, Made, Acted, event, given, given_back, given_all, made, took, stop_or, stepped, go_on, left_at, finished, cancelled, gave_up, looked, acted, is_due, end_of, places_held}
+use Rattle.cqs_turns.specs.Turns.{Role, Scene, Made, Acted, event, given, given_back, made, took, stop_or, stepped, go_on, left_at, finished, cancelled, gave_up, looked, acted, is_due, places_held}
 use Rattle.cqs_turns.proofs.Moved.{Moves, moves-fewer, moves-none, moves-on, given-moves, leave-moves, looked-moves, room-after}
-use Rattle.cqs_turns.proofs.Readied.{first-ready, leave-ready, looked-ready, ready-to-end}
+use Rattle.cqs_turns.proofs.Readied.{first-ready, leave-ready, looked-ready}
 use Rattle.cqs_turns.proofs.Stepping.{made-ready, made-moves}
 
 -- the job that had these steps left on the floor f is ready, and the floor has moved for it alone

@@ -1,7 +1,7 @@
 -- A turn: each job has its turn, in order.
-use Rattle.std.proofs.Common.{◌≡◌, ℕ, ◌+◌, ◌<◌, ◌≤◌, List, [], ◌∷◌, Option, Some, None, drop, get_or, length, slice_get, refl, sym, ap, subst, ◌∙◌, arith}
+use Rattle.std.proofs.Common.{◌≡◌, ℕ, ◌+◌, ◌<◌, List, ◌∷◌, Some, drop, length, slice_get, sym, ap, ◌∙◌}
 use Rattle.std.specs.Option.{option_map_or}
-use Rattle.std.proofs.lemmas.List.{drop_more, drop_all}
+use Rattle.std.proofs.lemmas.List.{drop_more}
 use Rattle.std.proofs.lemmas.Option.{get_or_from_slice_get}
 use Rattle.cqs_core.proofs.Places.{get-there, get-below}
 use Rattle.cqs_plan.specs.declared.plans.job.Job.{Job}
@@ -32,20 +32,12 @@ turn-unrolled plan turn place start now on below =
     ap (each_job plan.resources turn (place + 1) (drop (place + 1) plan.jobs)) its_turn
     ∙ ap (λ jobs. each_job plan.resources turn place jobs now) (sym split) ∙ on.whole
 
-pub begins-turning : (plan : Plan) (turn : ℕ) (start : Machine) → TurningOn plan turn 0 start start
-begins-turning plan turn start = record { whole = refl }
-
 pub turns_on : (plan : Plan) (turn place : ℕ) (start now after : Machine) → TurningOn plan turn place start now
     → place < length plan.jobs → after ≡ turn_at plan turn place now → TurningOn plan turn (place + 1) start after
 turns_on plan turn place start now after on below same = record {
   whole = ap (each_job plan.resources turn (place + 1) (drop (place + 1) plan.jobs)) same
       ∙ turn-unrolled plan turn place start now on below;
 }
-
-pub turn_ends : (plan : Plan) (turn place : ℕ) (start now : Machine) → TurningOn plan turn place start now
-    → length plan.jobs ≤ place → now ≡ one_turn plan turn start
-turn_ends plan turn place start now on past =
-    ap (λ jobs. each_job plan.resources turn place jobs now) (sym (drop_all place plan.jobs past)) ∙ on.whole
 
 pub turning_front : (plan : Plan) (turn place : ℕ) (start now : Machine) (text : List ℕ)
     → TurningOn plan turn place start now → place < length plan.jobs

@@ -1,5 +1,5 @@
 -- What a job's turn rests on: the floor knows the job as its progress does, and its steps can be made from there.
-use Rattle.std.specs.Prelude.{◌≡◌, ℕ, ◌≤◌, List, [], ◌∷◌, ◌++◌, Option, Some, None, Bool, true, ◌==◌, length, drop, count_by, slice_get}
+use Rattle.std.specs.Prelude.{◌≡◌, ℕ, ◌≤◌, List, [], ◌∷◌, ◌++◌, Option, Some, None, Bool, true, ◌==◌, drop, count_by, slice_get}
 use Rattle.std.specs.List.{list_any}
 use Rattle.cqs_core.specs.Keyed.{without}
 use Rattle.cqs_plan.specs.declared.plans.kind.Kind.{Kind}
@@ -9,7 +9,7 @@ use Rattle.cqs_plan.specs.PlanSteps.{is_take}
 use Rattle.cqs_plan.specs.Floor.{PlainFloor, JobWait, IsJob, IsHoldable, wait_of, room_at}
 use Rattle.cqs_turns.specs.declared.states.Progress.{Progress}
 use Rattle.cqs_turns.specs.declared.states.Progress.TheVariants.{Stepping, Working, Waiting, Ended}
-use Rattle.cqs_turns.specs.Turns.{Role, places_held}
+use Rattle.cqs_turns.specs.Turns.{places_held}
 
 -- the steps that a job has still to make
 abbrev pub steps_left : List Step → Progress → List Step

@@ -1,8 +1,7 @@
 -- What the machine keeps of the jobs, beside the floor.
-use Rattle.std.specs.Prelude.{◌≡◌, ℕ, List, map, slice_get, Some}
+use Rattle.std.specs.Prelude.{◌≡◌}
 use Rattle.cqs_plan.specs.Floor.{PlainFloor}
 use Rattle.cqs_turns.specs.declared.states.JobState.{JobState}
-use Rattle.cqs_turns.specs.declared.states.Progress.{Progress}
 use Rattle.cqs_turns.specs.Ready.{IsReady, wait_in, steps_left}
 use Rattle.cqs_turns.specs.Turns.{Role, places_held}
 

@@ -1,6 +1,5 @@
-use Rattle.std.proofs.Common.{get_or, ap, sym, ◌∙◌}
+use Rattle.std.proofs.Common.{get_or, ap}
 use Rattle.cqs_plan.specs.declared.plans.step.Step.TheVariants.{Take}
-use Rattle.cqs_turns.specs.Roles.{made_of, scene}
 use Rattle.cqs_turns.proofs.Growth.{on-err}
 use Rattle.cqs_turns.proofs.Stepping.{stepping-front, steps-on}
 use Rattle.cqs_turns.proofs.acts.make_steps.Goals as goal

@@ -1,5 +1,4 @@
-use Rattle.std.proofs.Common.{◌≡◌, ◌+◌, ◌-◌, ap, subst, sym, add-one, arith}
-use Rattle.cqs_turns.specs.Report.{IsFrontOf}
+use Rattle.std.proofs.Common.{subst, sym}
 use Rattle.cqs_turns.specs.Running.{IsRunning}
 use Rattle.cqs_turns.proofs.Growth.{on-err, front-of-later}
 use Rattle.cqs_turns.proofs.Opened.{opening-running}

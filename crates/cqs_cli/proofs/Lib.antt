@@ -12,3 +12,4 @@ pub mod Gives
 pub mod WaitOver
 pub mod Looks
 pub mod Ends
+pub mod Counting

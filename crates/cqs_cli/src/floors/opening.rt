@@ -1,22 +1,123 @@
-//! The making of a desk.
+//! The making of a desk: its cores, and the memory for all that the takes of a plan can lead to.
 
-ghost use Rattle.std.specs.Prelude.{◌≡◌, IfOk};
-ghost use Rattle.cqs_plan.specs.Runnable.{IsRunnable};
-ghost use Rattle.cqs_cli.specs.Opening.{AreSemaphores};
+ghost use Rattle.std.specs.Prelude.{◌≡◌, ℕ, ◌+◌, ◌*◌, ◌^◌, ◌<◌, ◌≤◌, IfOk, All, length, map, sum, count_by, slice_index, EachIndex};
+ghost use Rattle.std.specs.List.{range_with_len};
+ghost use Rattle.cqs_core.specs.Numbered.{EachAt};
+ghost use Rattle.cqs_plan.specs.PlanSteps.{is_take};
+ghost use Rattle.cqs_plan.specs.Runnable.{IsRunnable, kinds_of};
+ghost use Rattle.cqs_cli.specs.Opening.{
+  AreOpened,
+  AreSemaphores,
+  AreWithin,
+  IsCountable,
+  IsOpened,
+  IsOpening,
+  IsSemaphore,
+  takes_of,
+};
 
 use super::desk::Desk;
-use cqs_core::Memory;
-use cqs_plan::Plan;
-use std::alloc::Global;
+use super::waits::Wait;
+use cqs_core::{Core, Memory};
+use cqs_plan::{Job, Kind, Plan, Resource, Step};
+use std::alloc::{AllocError, Global};
+
+/// The entries for which a core needs memory, for each take: three for the take, three for the look or the leave of its
+/// wait, and three for the give.
+const ENTRIES_A_TAKE: u32 = 9;
 
 impl Desk {
-    /// A desk at which nothing has happened.
+    /// A desk at which nothing has happened, with memory for all that the plan's takes can lead to.
     pub fn new(alloc: Global, plan: &Plan) -> Result<Self, Memory>
         requires runnable { IsRunnable plan.now }
         requires semaphores { AreSemaphores plan.now.resources }
+        ensures { IfOk result (λ desk. IsOpening plan.now desk) }
     {
-        let _ = alloc;
-        let _ = plan;
-        Err(Memory)
+        let resources = plan.resources.as_slice();
+        let jobs = plan.jobs.as_slice();
+        let room = count_takes(alloc, resources.len(), jobs)?;
+        let takes = total(&room);
+        Ok(Desk {
+            kinds: kinds(alloc, resources)?,
+            cores: open_cores(alloc, resources, &room)?,
+            waits: vec![in alloc; None::<Wait>; jobs.len()]?,
+            transfers: Vec::with_capacity(alloc, 2 * takes)?,
+            room,
+        })
     }
+}
+
+/// What each resource is.
+fn kinds(alloc: Global, resources: &[Resource]) -> Result<Vec<Kind>, AllocError>
+    ensures { IfOk result (λ kinds. kinds.items ≡ kinds_of resources.now) }
+{
+    resources
+        .iter()
+        .map(|resource| resource.kind)
+        .collect(alloc)
+}
+
+/// For each resource how many takes the jobs have of it.
+fn count_takes(alloc: Global, resources: usize, jobs: &[Job]) -> Result<Vec<u32>, AllocError>
+    requires few { length jobs.now ≤ 4096 }
+    requires countable { EachAt (λ place job. IsCountable resources job) jobs.now }
+    ensures counts { IfOk result (λ room. room.items ≡ map (takes_of jobs.now) (range_with_len 0 resources)) }
+    ensures few { IfOk result (λ room. sum room.items ≤ 262144) }
+{
+    let mut room = vec![in alloc; 0u32; resources]?;
+    for job in jobs {
+        count_steps(&mut room, job.steps.as_slice());
+    }
+    Ok(room)
+}
+
+/// Adds to each resource how many of the steps are takes of it.
+fn count_steps(room: &mut [u32], steps: &[Step])
+    requires few { sum room.old + length steps.now < 2 ^ 32 }
+    requires within { AreWithin (length room.old) steps.now }
+    ensures counts { (at : ℕ) → slice_index room.new at ≡ slice_index room.old at + count_by (is_take at) steps.now }
+    ensures few { sum room.new ≤ sum room.old + length steps.now }
+{
+    for step in steps {
+        if let Step::Take(at) = step {
+            room[*at as usize] += 1;
+        }
+    }
+}
+
+/// How many takes there are of all resources together.
+fn total(room: &[u32]) -> usize
+    requires { sum room.now ≤ 262144 }
+    ensures { result ≡ sum room.now }
+{
+    room.iter().map(|takes| *takes as usize).sum()
+}
+
+/// A core for each resource.
+fn open_cores(alloc: Global, resources: &[Resource], room: &[u32]) -> Result<Vec<Core>, Memory>
+    requires semaphores { AreSemaphores resources.now }
+    requires same { length room.now ≡ length resources.now }
+    requires few { sum room.now ≤ 262144 }
+    ensures opened { IfOk result (λ cores. AreOpened resources.now room.now cores.items) }
+    ensures long { IfOk result (λ cores. length cores.items ≡ length resources.now) }
+{
+    let mut cores = Vec::with_capacity(alloc, resources.len())?;
+    for (at, resource) in resources.iter().enumerate() {
+        cores.push(open_core(alloc, resource.kind, room[at])?)?;
+    }
+    Ok(cores)
+}
+
+/// A core with one pass for a semaphore, with memory for so many takes and what they lead to.
+fn open_core(alloc: Global, kind: Kind, takes: u32) -> Result<Core, Memory>
+    requires semaphore { IsSemaphore kind }
+    requires few { takes ≤ 262144 }
+    ensures { IfOk result (λ core. IsOpened kind takes core) }
+{
+    let Kind::Semaphore(permits) = kind else {
+        unreachable!()
+    };
+    let mut core = Core::new(alloc, permits, 1).map_err(|_| Memory)?;
+    core.reserve(ENTRIES_A_TAKE * takes).map_err(|_| Memory)?;
+    Ok(core)
 }

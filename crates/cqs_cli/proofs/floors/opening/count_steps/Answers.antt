@@ -1,0 +1,31 @@
+use Rattle.std.proofs.Common.{◌<◌, length, arith}
+use Rattle.cqs_core.proofs.CoreSteps.{gains-sum}
+use Rattle.cqs_cli.proofs.Counting.{within-at, counted-take, counted-else}
+use Rattle.cqs_cli.proofs.floors.opening.count_steps.Goals as goal
+use Rattle.cqs_cli.proofs.floors.opening.count_steps.Goals.{in-Take, in_default}
+
+pub bounds-room-at : goal.bounds-room-at
+bounds-room-at c =
+    omega (arith, within-at _ _ _ _ c.requires.within c.loop-step-test.true c.in-Take.is, c.loop-step.auto.room)
+
+pub bounds-room-at-in-Take : goal.bounds-room-at-in-Take
+bounds-room-at-in-Take c =
+    omega (arith, within-at _ _ _ _ c.requires.within c.loop-step-test.true c.in-Take.is, c.loop-step.auto.room)
+
+pub loop-step-preserved : goal.loop-step-preserved
+loop-step-preserved c = elim c.match-step.branch [
+  in-Take w ↦
+    let place = within-at _ _ _ _ c.requires.within c.loop-step-test.true w.in-Take.is in
+    let there : w.in-Take.at < length c.loop-step.room = omega (arith, place, c.loop-step.auto.room) in
+    record {
+      counts = rw w.room-is
+          (counted-take _ _ _ _ _ c.loop-step-test.true there w.in-Take.is c.loop-step.invariant.counts);
+      few = rw w.room-is (omega (arith, gains-sum c.loop-step.room w.in-Take.at there, c.loop-step.invariant.few));
+    }
+  | in_default w ↦
+    record {
+      counts = rw w.room-is
+          (counted-else _ _ _ _ c.loop-step-test.true w.in_default.not-Take c.loop-step.invariant.counts);
+      few = rw w.room-is (omega (arith, c.loop-step.invariant.few));
+    }
+]

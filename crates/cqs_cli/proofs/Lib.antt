@@ -13,3 +13,4 @@ pub mod WaitOver
 pub mod Looks
 pub mod Ends
 pub mod Counting
+pub mod Opened

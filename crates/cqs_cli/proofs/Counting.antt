@@ -56,8 +56,8 @@ counted-take first now steps i at below place is counted a = go (cases_eq a at)
     go (inl same) =
         let one : bit (at == a) ≡ 1 = ap (λ n. bit (at == n)) same ∙ bit-same at in
         let written : get_or (set now at (get_or now at 0 + 1)) a 0 ≡ get_or now a 0 + 1 =
-            ap (λ n. get_or (set now at (get_or now at 0 + 1)) n 0) same
-            ∙ get_or-set_same now at (get_or now at 0 + 1) 0 place ∙ ap (λ n. get_or now n 0 + 1) (sym same) in
+        ap (λ n. get_or (set now at (get_or now at 0 + 1)) n 0) same
+        ∙ get_or-set_same now at (get_or now at 0 + 1) 0 place ∙ ap (λ n. get_or now n 0 + 1) (sym same) in
         omega (arith, written, counted a, more, one)
     go (inr other) =
         let none : bit (at == a) ≡ 0 = bit-other at a (λ e. other (sym e)) in
@@ -93,9 +93,9 @@ pub counts-all : (room : List ℕ) (jobs : List Job) (n i : ℕ) → length room
     → room ≡ map (takes_of jobs) (range_with_len 0 n)
 counts-all room jobs n i long all counts =
     same_number_lists room (map (takes_of jobs) (range_with_len 0 n))
-        (long ∙ sym (length-map-range_with_len (takes_of jobs) 0 n))
-        (λ k below. counts k ∙ whole k
-            ∙ sym (get_or-map-range_with_len (takes_of jobs) 0 n k k 0 (omega arith) (omega arith)))
+    (long ∙ sym (length-map-range_with_len (takes_of jobs) 0 n))
+    (λ k below. counts k ∙ whole k
+    ∙ sym (get_or-map-range_with_len (takes_of jobs) 0 n k k 0 (omega arith) (omega arith)))
   where
     whole : (k : ℕ) → takes_of (take i jobs) k ≡ takes_of jobs k
     whole k = ap (λ m. takes_of (take m jobs) k) all ∙ ap (λ js. takes_of js k) (take-length jobs)
@@ -113,11 +113,11 @@ opened-push resources room cores resource core below is opens opened = record { 
         opened.each at r c named (sym (get-append_below cores (core ∷ []) at before) ∙ got)
     go at r c named got (inr past) =
         let last : at ≡ length cores =
-            omega (arith, get-below (cores ++ core ∷ []) at c got, length_push cores core) in
+        omega (arith, get-below (cores ++ core ∷ []) at c got, length_push cores core) in
         let core_is : Some core ≡ Some c = sym (get-push_at cores core at last) ∙ got in
         let same_core : core ≡ c = cc in
         let named_is : Some (get_or resources (length cores) resource) ≡ Some r =
-            sym (slice_get-get_or resources (length cores) resource below) ∙ ap (slice_get resources) (sym last) ∙ named in
+        sym (slice_get-get_or resources (length cores) resource below) ∙ ap (slice_get resources) (sym last) ∙ named in
         let same : get_or resources (length cores) resource ≡ r = cc in
         let same_resource : resource ≡ r = is ∙ same in
         rw (last, ← same_core, ← same_resource) opens

@@ -98,16 +98,16 @@ module _ (plan : Plan) (l : Ledger) (semaphores : AreSemaphores plan.resources) 
 
   funded-opened : (at : ℕ) (core : Room) → slice_get l.cores at ≡ Some core
       → IsFunded core (permits_of (slice_get l.kinds at)) (slice_index l.room at) (waiting_at l.waits at)
-          (held_at (holds_in l) at)
+      (held_at (holds_in l) at)
   funded-opened at core there =
       let below : at < length plan.resources = omega (arith, get-below l.cores at core there, o.long) in
       let named = get-there plan.resources at below in
       let opens : IsOpened named.0.kind (slice_index l.room at) core = o.cores.each at named.0 core named.1 there in
       let kind_is : slice_get l.kinds at ≡ Some named.0.kind = kind-at at named.0 named.1 in
       let waiting : waiting_at l.waits at ≡ 0 =
-          ap (λ ws. waiting_at ws at) o.waits ∙ waiting-none (length plan.jobs) at in
+      ap (λ ws. waiting_at ws at) o.waits ∙ waiting-none (length plan.jobs) at in
       let held : held_at (holds_in l) at ≡ 0 =
-          ap (λ hs. held_at hs at) holds-none ∙ held-none (length plan.jobs) at in
+      ap (λ hs. held_at hs at) holds-none ∙ held-none (length plan.jobs) at in
       let suspends : core.shape.queue.suspends ≡ 0 = ap (λ (s : Shape). s.queue.suspends) opens.shape in
       record {
         sole = subst IsSole (sym opens.shape) (sole-semaphore named.0.kind (semaphores.at at named.0 named.1));
@@ -120,7 +120,7 @@ module _ (plan : Plan) (l : Ledger) (semaphores : AreSemaphores plan.resources) 
   no-wait : (job : ℕ) (wait : Wait) → slice_get l.waits job ≡ Some (Some wait) → ⊥
   no-wait job wait got =
       let none : Some wait ≡ None =
-          replicate-all (length plan.jobs) None (Some wait) job (ap (λ ws. slice_get ws job) (sym o.waits) ∙ got) in
+      replicate-all (length plan.jobs) None (Some wait) job (ap (λ ws. slice_get ws job) (sym o.waits) ∙ got) in
       cc
 
   pub kept-opened : IsKept l
@@ -150,9 +150,9 @@ module _ (plan : Plan) (l : Ledger) (semaphores : AreSemaphores plan.resources) 
   pub plain-opened : plain_floor l ≡ opening_floor plan
   plain-opened =
       let entries : map (λ (c : Room). c.shape.history) l.cores ≡ replicate (length plan.resources) [] =
-          histories l.cores no-history ∙ ap (λ n. replicate n []) o.long in
+      histories l.cores no-history ∙ ap (λ n. replicate n []) o.long in
       let waits : map (option_map job_wait) l.waits ≡ replicate (length plan.jobs) None =
-          ap (map (option_map job_wait)) o.waits ∙ map-none (length plan.jobs) in
+      ap (map (option_map job_wait)) o.waits ∙ map-none (length plan.jobs) in
       rw (o.kinds, entries, o.room, waits, holds-none) refl
     where
       histories : (cores : List Room) → ((at : ℕ) (c : Room) → slice_get cores at ≡ Some c → c.shape.history ≡ [])

@@ -1,19 +1,17 @@
 -- A floor on cores as it is made: all is kept, and it is the plain floor on which nothing has happened.
-use Rattle.std.proofs.Common.{◌≡◌, ◌≢◌, ℕ, zero, suc, ◌+◌, ◌*◌, ◌<◌, ◌≤◌, List, [], ◌∷◌, ◌++◌, Option, Some, None, is_some, length, map, replicate, get_or, slice_get, sum, sum_by, count_by, refl, ap, ap₂, sym, ◌∙◌, subst, cond, ◌==◌, lit<, lit≤, arith}
+use Rattle.std.proofs.Common.{◌≡◌, ℕ, zero, suc, ◌<◌, ◌≤◌, List, [], ◌∷◌, Option, Some, None, is_some, length, map, replicate, slice_get, sum_by, count_by, refl, ap, ap₂, sym, ◌∙◌, subst, cond, ◌==◌, lit<, lit≤, arith}
 use Rattle.std.specs.Prelude.{slice_index}
-use Rattle.std.specs.List.{range_with_len}
 use Rattle.std.specs.Option.{option_map}
 use Rattle.std.proofs.lemmas.List.{length-replicate, length-map}
 use Rattle.std.proofs.lemmas.List.Folds.{sum_by-replicate}
 use Rattle.std.proofs.lemmas.List.FromFn.{length-map-range_with_len}
 use Rattle.std.proofs.lemmas.List.Sums.{get_or-le-sum_by}
 use Rattle.std.proofs.lemmas.Option.{slice_get-map}
-use Rattle.cqs_core.specs.declared.doings.Doing.{Doing}
 use Rattle.cqs_core.specs.declared.doings.Doing.TheVariants as doing
 use Rattle.cqs_core.specs.declared.entries.Entry.{Entry}
 use Rattle.cqs_core.specs.Resting.{IsIdle}
 use Rattle.cqs_core.specs.SemaphoreAnswers.{Room}
-use Rattle.cqs_core.specs.SemaphoreShown.{IsSize, opened}
+use Rattle.cqs_core.specs.SemaphoreShown.{opened}
 use Rattle.cqs_core.specs.SemaphoreTable.{Shape}
 use Rattle.cqs_core.proofs.OpenedCore.{opened-core}
 use Rattle.cqs_core.proofs.Places.{get-below, get-there}
@@ -21,11 +19,9 @@ use Rattle.cqs_plan.specs.declared.plans.kind.Kind.{Kind}
 use Rattle.cqs_plan.specs.declared.plans.kind.Kind.TheVariants as kind
 use Rattle.cqs_plan.specs.declared.plans.plan.Plan.{Plan}
 use Rattle.cqs_plan.specs.declared.plans.resource.Resource.{Resource}
-use Rattle.cqs_plan.specs.Floor.{Holding, JobWait, PlainFloor, opening_floor, permits_of, takes_in}
-use Rattle.cqs_plan.specs.Runnable.{kinds_of}
-use Rattle.cqs_cli.specs.declared.floors.transfers.Transfer.{Transfer}
+use Rattle.cqs_plan.specs.Floor.{Holding, opening_floor, permits_of, takes_in}
 use Rattle.cqs_cli.specs.declared.floors.waits.Wait.{Wait}
-use Rattle.cqs_cli.specs.Kept.{IsKept, IsFunded, StandsIn, AreApart, HoldPermits, held_at, holds_in, is_wait_at, waiting_at}
+use Rattle.cqs_cli.specs.Kept.{IsKept, IsFundedAt, HoldPermits, held_at, holds_in, is_wait_at, waiting_at}
 use Rattle.cqs_cli.specs.Ledger.{Ledger, holds_after, job_wait, plain_floor}
 use Rattle.cqs_cli.specs.Opening.{AreSemaphores, IsOpened, IsOpening, IsSemaphore}
 use Rattle.cqs_cli.specs.SoleCore.{IsSole}
@@ -97,8 +93,7 @@ module _ (plan : Plan) (l : Ledger) (semaphores : AreSemaphores plan.resources) 
       ∙ ap (option_map (λ (x : Resource). x.kind)) named
 
   funded-opened : (at : ℕ) (core : Room) → slice_get l.cores at ≡ Some core
-      → IsFunded core (permits_of (slice_get l.kinds at)) (slice_index l.room at) (waiting_at l.waits at)
-      (held_at (holds_in l) at)
+      → IsFundedAt l at core
   funded-opened at core there =
       let below : at < length plan.resources = omega (arith, get-below l.cores at core there, o.long) in
       let named = get-there plan.resources at below in

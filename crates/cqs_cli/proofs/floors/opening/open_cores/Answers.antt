@@ -1,4 +1,4 @@
-use Rattle.std.proofs.Common.{arith, length, sym}
+use Rattle.std.proofs.Common.{arith}
 use Rattle.std.proofs.lemmas.List.{length_push}
 use Rattle.cqs_cli.proofs.Counting.{opened-push}
 use Rattle.cqs_cli.proofs.floors.opening.open_cores.Goals as goal

@@ -49,7 +49,7 @@ module _ (core after : Room) (answer : Reply) (sole : IsSole core.shape) where
 
   pub came-later : HasMade core (call.Acquire 0) answer after → nat_lt 0 (shown core.shape).free ≡ false
       → Came core after answer (reply.Later (shown core.shape).next)
-          (entry.TakeDoor 0 ∷ entry.Enter 0 (shown core.shape).next ∷ []) (slice_index core.shape.held 0)
+      (entry.TakeDoor 0 ∷ entry.Enter 0 (shown core.shape).next ∷ []) (slice_index core.shape.held 0)
   came-later made none = came core after _ answer sole made _ _ _ (rw none refl) refl
 
   pub came-freed : HasMade core (call.Release 0) answer after → (shown core.shape).line ≡ []
@@ -60,7 +60,7 @@ module _ (core after : Room) (answer : Reply) (sole : IsSole core.shape) where
   pub came-sent : (first : Waiting) (rest : List Waiting) → HasMade core (call.Release 0) answer after
       → (shown core.shape).line ≡ first ∷ rest
       → Came core after answer (reply.Sent first.wait) (entry.GiveSent 0 ∷ entry.Deliver first.wait ∷ [])
-          (slice_index core.shape.held 0 - 1)
+      (slice_index core.shape.held 0 - 1)
   came-sent first rest made is =
       came core after _ answer sole made _ _ _ (ap (sole_release 0) is) (written core after _ answer sole made _)
 

@@ -42,7 +42,7 @@ module _ (core : Room) (size room waiting held : ℕ) (funded : IsFunded core si
   pub all-there : (shown core.shape).held + free_of core.shape.state ≡ size
   all-there =
       let still : going core.shape.queue ≡ 0 =
-          none-going core.shape.queue funded.sole.core.sound funded.sole.idle quiet.behind in
+      none-going core.shape.queue funded.sole.core.sound funded.sole.idle quiet.behind in
       let few = ending-within core.shape.queue funded.sole.core.sound funded.sole.core.covered in
       let conserved = funded.sole.core.conserved in
       omega (arith, still, few, conserved, funded.permits)

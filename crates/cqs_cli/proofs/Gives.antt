@@ -101,8 +101,8 @@ module _ (l : Ledger) (at job : ℕ) (kept : IsKept l) (holder : job < length (h
     kept-freed : IsKept given
     kept-freed =
         kept-next l given at core after kept
-            (follows-given _ _ freed (ap (λ (o : Semaphore). o.next) freed.shows)
-                (λ k has. subst (λ (o : Semaphore). HasWait k 0 o) (sym freed.shows) has))
+        (follows-given _ _ freed (ap (λ (o : Semaphore). o.next) freed.shows)
+        (λ k has. subst (λ (o : Semaphore). HasWait k 0 o) (sym freed.shows) has))
 
     plain-freed : plain_floor given ≡ plain.after_give (plain_floor l) at job (Free 0)
     plain-freed =
@@ -124,9 +124,9 @@ module _ (l : Ledger) (at job : ℕ) (kept : IsKept l) (holder : job < length (h
     kept-sent : IsKept given
     kept-sent =
         kept-next l given at core after kept
-            (follows-given _ _ sent (ap (λ (o : Semaphore). o.next) sent.shows)
-                (λ k has. subst (λ (o : Semaphore). HasWait k 0 o) (sym sent.shows)
-                    (stays-sent (shown core.shape) first rest k is first-alone has)))
+        (follows-given _ _ sent (ap (λ (o : Semaphore). o.next) sent.shows)
+        (λ k has. subst (λ (o : Semaphore). HasWait k 0 o) (sym sent.shows)
+        (stays-sent (shown core.shape) first rest k is first-alone has)))
 
     plain-sent : plain_floor given ≡ plain.after_give (plain_floor l) at job (Sent 0 first.wait)
     plain-sent =
@@ -156,7 +156,7 @@ give-well l n at job answer kept is_job holding a written = go (shown core.shape
 
     at-answer : (told : FloorGive) → answer ≡ told → plain.give_answer (plain_floor l) at job ≡ told
         → plain_floor (with_cores (with_transfer l (GaveBack job at)) (set l.cores at a.calls.after))
-            ≡ plain.after_give (plain_floor l) at job told
+        ≡ plain.after_give (plain_floor l) at job told
         → IsKept (with_cores (with_transfer l (GaveBack job at)) (set l.cores at a.calls.after))
         → GivesWell (plain_floor l) at job answer n
     at-answer told is answers leaves holds = record {
@@ -175,20 +175,20 @@ give-well l n at job answer kept is_job holding a written = go (shown core.shape
     go [] is =
         let came = came-freed core a.calls.after a.reply held.sole a.calls.made is in
         at-answer (Free 0) (a.told ∙ ap give_of came.is) (rw (line, is, element) refl)
-            (plain-freed l at job kept is_job.holds holding core a.calls.after a.reply a.calls.there a.calls.made is)
-            (kept-freed l at job kept is_job.holds holding core a.calls.after a.reply a.calls.there a.calls.made is)
+        (plain-freed l at job kept is_job.holds holding core a.calls.after a.reply a.calls.there a.calls.made is)
+        (kept-freed l at job kept is_job.holds holding core a.calls.after a.reply a.calls.there a.calls.made is)
     go (first ∷ rest) is =
         let came = came-sent core a.calls.after a.reply held.sole first rest a.calls.made is in
         at-answer (Sent 0 first.wait) (a.told ∙ ap give_of came.is) (rw (line, is, element) refl)
-            (plain-sent l at job kept is_job.holds holding core a.calls.after a.reply a.calls.there a.calls.made first rest is)
-            (kept-sent l at job kept is_job.holds holding core a.calls.after a.reply a.calls.there a.calls.made first rest is)
+        (plain-sent l at job kept is_job.holds holding core a.calls.after a.reply a.calls.there a.calls.made first rest is)
+        (kept-sent l at job kept is_job.holds holding core a.calls.after a.reply a.calls.there a.calls.made first rest is)
 
 -- the same where the floor is seen as its plain floor
 pub give-can : (l : Ledger) (f : PlainFloor) (at job : ℕ) → plain_floor l ≡ f → IsKept l → IsHoldable (slice_get f.kinds at)
     → IsJob f job → IsHolding f at job → CanCall l.cores at (call.Release 0)
 give-can l f at job view kept =
     let Allows : PlainFloor → Type 0 = λ g. IsHoldable (slice_get g.kinds at) → IsJob g job → IsHolding g at job
-        → CanCall l.cores at (call.Release 0) in
+    → CanCall l.cores at (call.Release 0) in
     subst Allows view (can-give l at job kept)
 
 pub give-floor : (l n : Ledger) (f : PlainFloor) (at job : ℕ) (answer : FloorGive) → plain_floor l ≡ f → IsKept l
@@ -196,6 +196,6 @@ pub give-floor : (l n : Ledger) (f : PlainFloor) (at job : ℕ) (answer : FloorG
     → n ≡ with_cores (with_transfer l (GaveBack job at)) n.cores → GivesWell f at job answer n
 give-floor l n f at job answer view kept =
     let Comes : PlainFloor → Type 0 = λ g. IsJob g job → IsHolding g at job
-        → Answers give_of (call.Release 0) l.cores at n.cores answer
-        → n ≡ with_cores (with_transfer l (GaveBack job at)) n.cores → GivesWell g at job answer n in
+    → Answers give_of (call.Release 0) l.cores at n.cores answer
+    → n ≡ with_cores (with_transfer l (GaveBack job at)) n.cores → GivesWell g at job answer n in
     subst Comes view (give-well l n at job answer kept)

@@ -32,7 +32,7 @@ module _ (holds : List (List Holding)) (job at : ℕ) (below : job < length hold
   held-got i =
       let written = sum_by-set (λ hs. held_of i hs) holds job (before ++ newest ∷ []) [] below in
       let more : held_of i (before ++ newest ∷ []) ≡ held_of i before + bit (at == i) =
-          sum_by_push (λ (h : Holding). bit (h.at == i)) before newest in
+      sum_by_push (λ (h : Holding). bit (h.at == i)) before newest in
       omega (arith, written, more)
 
   pub many-got : sum_by (λ hs. length hs) (after_transfer holds (Got job at)) ≡ sum_by (λ hs. length hs) holds + 1
@@ -62,7 +62,7 @@ held_of-without at i (h ∷ hs) some = go (h.at == at) refl (held_of-without at 
         let rest : IsSome (oldest at hs) = rw other at some in
         let fewer = later rest in
         let now : held_of i (h ∷ without (λ x. x.at) at hs) ≡ bit (h.at == i) + held_of i (without (λ x. x.at) at hs) =
-            sum_by-cons (λ (x : Holding). bit (x.at == i)) h (without (λ x. x.at) at hs) in
+        sum_by-cons (λ (x : Holding). bit (x.at == i)) h (without (λ x. x.at) at hs) in
         rw (ne_eqb at h.at differs) (omega (arith, all, now, fewer))
 
 length-without : (at : ℕ) (hs : List Holding) → IsSome (oldest at hs) → length (without (λ h. h.at) at hs) + 1 ≡ length hs
@@ -90,7 +90,7 @@ module _ (holds : List (List Holding)) (job at : ℕ) (below : job < length hold
   pub many-gave : sum_by (λ hs. length hs) (after_transfer holds (GaveBack job at)) + 1 ≡ sum_by (λ hs. length hs) holds
   many-gave =
       let written = sum_by-set (λ (hs : List Holding). length hs) holds job
-          (without (λ h. h.at) at (get_or holds job [])) [] below in
+      (without (λ h. h.at) at (get_or holds job [])) [] below in
       let fewer = length-without at (get_or holds job []) some in
       omega (arith, written, fewer)
 
@@ -122,7 +122,7 @@ pub permits-transfer : (holds : List (List Holding)) (t : Transfer) → HoldPerm
     → HoldPermits (after_transfer holds t)
 permits-transfer holds (Got job at) all =
     permits-set holds job _ all
-        (permits-push (get_or holds job []) _ (permits-at holds job all) refl)
+    (permits-push (get_or holds job []) _ (permits-at holds job all) refl)
 permits-transfer holds (GaveBack job at) all =
     permits-set holds job _ all (permits-without at (get_or holds job []) (permits-at holds job all))
 

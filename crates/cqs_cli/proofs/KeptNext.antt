@@ -41,9 +41,9 @@ kept-next l n at core after kept f = record {
   rooms = f.rooms ∙ kept.rooms ∙ ap (λ (ks : List Kind). length ks) (sym f.kinds);
   funded = subst (λ (cs : List Room). EachAt Now cs) (sym f.cores)
       (EachAt-write Was Now l.cores at core after f.there
-          (subst (λ (ks : List Kind). IsFunded after (permits_of (slice_get ks at)) (slice_index n.room at)
-              (waiting_at n.waits at) (held_at (holds_in n) at)) (sym f.kinds) f.funded)
-          others kept.funded);
+      (subst (λ (ks : List Kind). IsFunded after (permits_of (slice_get ks at)) (slice_index n.room at)
+      (waiting_at n.waits at) (held_at (holds_in n) at)) (sym f.kinds) f.funded)
+      others kept.funded);
   waits = λ job wait got. subst (λ (cs : List Room). StandsIn cs wait) (sym f.cores) (f.waits job wait got);
   apart = f.apart;
   plain = f.plain;
@@ -85,8 +85,8 @@ stands-on cores at core after wait there on stands = go (cases_eq wait.at at)
 pub histories-next : (cores : List Room) (at : ℕ) (core after : Room) (entries : List Entry)
     → slice_get cores at ≡ Some core → after.shape.history ≡ core.shape.history ++ entries
     → map (λ c. c.shape.history) (set cores at after)
-        ≡ set (map (λ c. c.shape.history) cores) at (get_or (map (λ c. c.shape.history) cores) at [] ++ entries)
+    ≡ set (map (λ c. c.shape.history) cores) at (get_or (map (λ c. c.shape.history) cores) at [] ++ entries)
 histories-next cores at core after entries there history =
     map-set (λ (c : Room). c.shape.history) cores at after
     ∙ ap (set (map (λ c. c.shape.history) cores) at)
-        (history ∙ ap (λ h. h ++ entries) (sym (history-at cores at core there)))
+    (history ∙ ap (λ h. h ++ entries) (sym (history-at cores at core there)))

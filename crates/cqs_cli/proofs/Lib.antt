@@ -15,3 +15,5 @@ pub mod Gives
 pub mod WaitOver
 pub mod Looks
 pub mod Ends
+pub mod Counting
+pub mod Opened

@@ -119,9 +119,9 @@ look-well : (l n : Ledger) (job : ℕ) (wait : Wait) (answer : FloorLook) → Is
     → get_or l.waits job None ≡ Some wait → Looks l job wait answer n → LooksWell (plain_floor l) job answer n
 look-well l n job wait Pending kept is_job slot (reads, same) =
     let there : is_some (find_wait wait.number (shown reads.core.shape).line) ≡ true =
-        not-false _ (sym reads.reads ∙ served-reads l job wait kept slot reads.core reads.there) in
+    not-false _ (sym reads.reads ∙ served-reads l job wait kept slot reads.core reads.there) in
     let in_line : plain.is_in_line (plain_floor l) (job_wait wait) ≡ true =
-        line-reads l job wait kept slot reads.core reads.there ∙ there in
+    line-reads l job wait kept slot reads.core reads.there ∙ there in
     record {
       answers = rw (seen l job wait kept slot, in_line) refl;
       leaves = ap plain_floor same;
@@ -135,9 +135,9 @@ look-well l n job wait (Granted element) kept is_job slot (none, reads, (answer,
       ∙ ap (λ e. plain.after_look (plain_floor l) job (Granted e)) (sym none);
   kept = subst IsKept (sym same)
       (kept-came l job wait kept job_has core after _ answer calls.there calls.made _ _ is_job.holds came
-          (ap (λ (o : Semaphore). o.next) came.shows)
-          (λ k other stands. subst (λ (o : Semaphore). HasWait k 0 o) (sym came.shows)
-              (stays-closed (shown core.shape) wait.number k other stands)));
+      (ap (λ (o : Semaphore). o.next) came.shows)
+      (λ k other stands. subst (λ (o : Semaphore). HasWait k 0 o) (sym came.shows)
+      (stays-closed (shown core.shape) wait.number k other stands)));
 }
   where
     core : Room
@@ -158,8 +158,8 @@ look-well l n job wait (Granted element) kept is_job slot (none, reads, (answer,
     missing : is_some (find_wait wait.number (shown core.shape).line) ≡ false
     missing =
         not-true _
-            (sym (ap (λ c. is_wait_served c wait) (sym one_core) ∙ reads.reads)
-                ∙ served-reads l job wait kept slot core calls.there)
+        (sym (ap (λ c. is_wait_served c wait) (sym one_core) ∙ reads.reads)
+        ∙ served-reads l job wait kept slot core calls.there)
 
     in_line : plain.is_in_line (plain_floor l) (job_wait wait) ≡ false
     in_line = line-reads l job wait kept slot core calls.there ∙ missing
@@ -218,9 +218,9 @@ leave-well l n job wait answer kept is_job slot a written =
               ∙ ap (plain.after_leave (plain_floor l) job) (sym is);
           kept = subst IsKept (sym (same Gone is))
               (kept-gone l job wait kept job_has core after _ a.reply a.calls.there a.calls.made _ _ came
-                  (ap (λ (o : Semaphore). o.next) came.shows ∙ left-next (shown core.shape) wait.number)
-                  (λ k other stands. subst (λ (o : Semaphore). HasWait k 0 o) (sym came.shows)
-                      (stays-left (shown core.shape) wait.number k other stands)));
+              (ap (λ (o : Semaphore). o.next) came.shows ∙ left-next (shown core.shape) wait.number)
+              (λ k other stands. subst (λ (o : Semaphore). HasWait k 0 o) (sym came.shows)
+              (stays-left (shown core.shape) wait.number k other stands)));
         }
     go false missing =
         let came = came-late core after a.reply sole wait.number a.calls.made (none-found _ missing) in
@@ -233,9 +233,9 @@ leave-well l n job wait answer kept is_job slot a written =
               ∙ ap (plain.after_leave (plain_floor l) job) (sym is);
           kept = subst IsKept (sym (same (Late 0) is))
               (kept-came l job wait kept job_has core after _ a.reply a.calls.there a.calls.made _ _ is_job.holds came
-                  (ap (λ (o : Semaphore). o.next) came.shows)
-                  (λ k other stands. subst (λ (o : Semaphore). HasWait k 0 o) (sym came.shows)
-                      (stays-closed (shown core.shape) wait.number k other stands)));
+              (ap (λ (o : Semaphore). o.next) came.shows)
+              (λ k other stands. subst (λ (o : Semaphore). HasWait k 0 o) (sym came.shows)
+              (stays-closed (shown core.shape) wait.number k other stands)));
         }
 
 -- the same where the floor is seen as its plain floor
@@ -243,7 +243,7 @@ pub look-floor : (l n : Ledger) (f : PlainFloor) (job : ℕ) (wait : Wait) (answ
     → IsJob f job → get_or l.waits job None ≡ Some wait → Looks l job wait answer n → LooksWell f job answer n
 look-floor l n f job wait answer view kept =
     let Comes : PlainFloor → Type 0 = λ g. IsJob g job → get_or l.waits job None ≡ Some wait → Looks l job wait answer n
-        → LooksWell g job answer n in
+    → LooksWell g job answer n in
     subst Comes view (look-well l n job wait answer kept)
 
 pub leave-floor : (l n : Ledger) (f : PlainFloor) (job : ℕ) (wait : Wait) (answer : FloorLeave) → plain_floor l ≡ f
@@ -252,6 +252,6 @@ pub leave-floor : (l n : Ledger) (f : PlainFloor) (job : ℕ) (wait : Wait) (ans
     → n ≡ with_cores (left l job wait answer) n.cores → LeavesWell f job answer n
 leave-floor l n f job wait answer view kept =
     let Comes : PlainFloor → Type 0 = λ g. IsJob g job → get_or l.waits job None ≡ Some wait
-        → Answers leave_of (call.Cancel 0 wait.number) l.cores wait.at n.cores answer
-        → n ≡ with_cores (left l job wait answer) n.cores → LeavesWell g job answer n in
+    → Answers leave_of (call.Cancel 0 wait.number) l.cores wait.at n.cores answer
+    → n ≡ with_cores (left l job wait answer) n.cores → LeavesWell g job answer n in
     subst Comes view (leave-well l n job wait answer kept)

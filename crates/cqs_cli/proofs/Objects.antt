@@ -28,7 +28,7 @@ sent_to o first = after_entry (after_entry o (entry.GiveSent 0)) (entry.Deliver 
 
 sent-served : (o : Semaphore) (first : Waiting) (rest : List Waiting) → o.line ≡ first ∷ rest
     → (sent_to o first).served
-        ≡ placed (λ v. v.wait) (record { wait = first.wait; pass = first.pass; is_open = true }) o.served
+    ≡ placed (λ v. v.wait) (record { wait = first.wait; pass = first.pass; is_open = true }) o.served
 sent-served o first rest is =
     let found : find_wait first.wait (first ∷ rest) ≡ Some first = rw (eq-eqb first.wait first.wait refl) refl in
     ap (λ w. with_service w o.served) (ap (find_wait first.wait) is ∙ found)
@@ -40,14 +40,14 @@ stays-sent o first rest k is alone (inl waits) = go (cases_eq k first.wait)
     go : (k ≡ first.wait) ⊎ (k ≢ first.wait) → HasWait k 0 (sent_to o first)
     go (inl same) =
         let now : IsServed first.wait first.pass (sent_to o first).served =
-            rw (sent-served o first rest is)
-                (comes-placed (λ (v : Service). v.wait) (record { wait = first.wait; pass = first.pass; is_open = true }) o.served) in
+        rw (sent-served o first rest is)
+        (comes-placed (λ (v : Service). v.wait) (record { wait = first.wait; pass = first.pass; is_open = true }) o.served) in
         inr (rw (same, ← alone) now)
     go (inr other) =
         inl (stays-without (λ (w : Waiting). w.wait) (record { wait = k; pass = 0 }) first.wait o.line other waits)
 stays-sent o first rest k is alone (inr serves) =
     inr (rw (sent-served o first rest is)
-        (stays-placed (λ (v : Service). v.wait) (record { wait = k; pass = 0; is_open = true }) _ o.served serves))
+    (stays-placed (λ (v : Service). v.wait) (record { wait = k; pass = 0; is_open = true }) _ o.served serves))
 
 -- a permit that came, and that its caller looked at or was too late to leave
 pub stays-closed : (o : Semaphore) (k j : ℕ) → j ≢ k → HasWait j 0 o → HasWait j 0 (after_entry o (entry.LookGranted 0 k))

@@ -31,7 +31,7 @@ read-wait s sole rests k p has = go (has-wait s p k sole.core rests sole.untaken
     quiet-at : (at : CoreState) (own : IsOwnWait s.queue p k at) → IsQuietAt s.queue k own.cell at
     quiet-at at own =
         subst (λ (x : CoreState). IsQuietAt s.queue k own.cell x) own.stands
-            (quiet-cell s.queue sole.core.sound sole.idle k own.cell own.found)
+        (quiet-cell s.queue sole.core.sound sole.idle k own.cell own.found)
 
     go : (IsOwnWait s.queue p k state.Waiter) ⊎ (IsOwnWait s.queue p k state.Resumed) → IsRead s k p
     go (inl own) =

@@ -36,7 +36,7 @@ pub made-sole : (old new : Room) (c : Call) (answer : Reply) → IsReady old
 made-sole old new c answer ready made sole next =
     let core : IsCore new.shape = call_ready-core old new c (Some answer) ready.sole.core made in
     let as_many : length new.shape.held ≡ length old.shape.held =
-        ap (λ (held : List ℕ). length held) sole.held ∙ length-held_after old.shape.held c answer in
+    ap (λ (held : List ℕ). length held) sole.held ∙ length-held_after old.shape.held c answer in
     record {
       call = sole;
       shown = next;

@@ -54,7 +54,7 @@ pub take-can : (l : Ledger) (f : PlainFloor) (at : ℕ) → plain_floor l ≡ f 
     → 0 < room_at f at → CanCall l.cores at (call.Acquire 0)
 take-can l f at view kept =
     let Allows : PlainFloor → Type 0 = λ g. IsHoldable (slice_get g.kinds at) → 0 < room_at g at
-        → CanCall l.cores at (call.Acquire 0) in
+    → CanCall l.cores at (call.Acquire 0) in
     subst Allows view (can-take l at kept)
 
 -- a job that can take from a resource with room
@@ -141,7 +141,7 @@ module _ (l : Ledger) (at job : ℕ) (kept : IsKept l) (place : at < length l.ro
         go (inl same) =
             let was = get-there l.waits job waiter in
             let now : Some (Some wait) ≡ Some (Some w) =
-                sym (get-set_here l.waits job was.0 (Some wait) was.1) ∙ ap (slice_get (set l.waits job (Some wait))) (sym same) ∙ got in
+            sym (get-set_here l.waits job was.0 (Some wait) was.1) ∙ ap (slice_get (set l.waits job (Some wait))) (sym same) ∙ got in
             let is : wait ≡ w = cc in
             inl (same, is)
         go (inr other) = inr (other, sym (get-set_else l.waits job j (Some wait) (λ e. other (sym e))) ∙ got)
@@ -154,7 +154,7 @@ module _ (l : Ledger) (at job : ℕ) (kept : IsKept l) (place : at < length l.ro
         let found : Some stands.core ≡ Some core = sym stands.there ∙ ap (slice_get l.cores) here ∙ there in
         let is : stands.core ≡ core = cc in
         let has : HasWait w.number 0 (shown core.shape) =
-            subst (λ (c : Room). HasWait w.number 0 (shown c.shape)) is stands.stands in
+        subst (λ (c : Room). HasWait w.number 0 (shown c.shape)) is stands.stands in
         let read = read-wait core.shape funded.sole (funded-rests core _ _ _ _ funded) w.number 0 has in
         let number : (shown core.shape).next ≡ w.number = ap (λ (x : Wait). x.number) same in
         absurd (omega (arith, read.drawn, number))
@@ -162,7 +162,7 @@ module _ (l : Ledger) (at job : ℕ) (kept : IsKept l) (place : at < length l.ro
     waiting-after : (i : ℕ) → waiting_at (set l.waits job (Some wait)) i ≡ waiting_at l.waits i + bit (at == i)
     waiting-after i =
         let changed : waiting_at (set l.waits job (Some wait)) i + 0 ≡ waiting_at l.waits i + bit (at == i) =
-            count-set (is_wait_at i) l.waits job None (Some wait) None waiter idle in
+        count-set (is_wait_at i) l.waits job None (Some wait) None waiter idle in
         omega (arith, changed)
 
     follows-later : nat_lt 0 (shown core.shape).free ≡ false → Follows l at core after later
@@ -202,7 +202,7 @@ module _ (l : Ledger) (at job : ℕ) (kept : IsKept l) (place : at < length l.ro
         more : count_by (λ w. is_some w) later.waits ≡ count_by (λ w. is_some w) l.waits + 1
         more =
             let changed : count_by (λ w. is_some w) later.waits + 0 ≡ count_by (λ w. is_some w) l.waits + 1 =
-                count-set (λ w. is_some w) l.waits job None (Some wait) None waiter idle in
+            count-set (λ w. is_some w) l.waits job None (Some wait) None waiter idle in
             omega (arith, changed)
 
         waits : (j : ℕ) (w : Wait) → ((j ≡ job) × (wait ≡ w)) ⊎ ((j ≢ job) × (slice_get l.waits j ≡ Some (Some w)))
@@ -217,9 +217,9 @@ module _ (l : Ledger) (at job : ℕ) (kept : IsKept l) (place : at < length l.ro
             subst (λ (x : Wait). StandsIn (set l.cores at after) x) is new
         waits j w (inr (other, was)) =
             stands-on l.cores at core after w there
-                (λ same has. subst (λ (o : Semaphore). HasWait w.number 0 o) (sym came.shows)
-                    (stays-entered (shown core.shape) w.number 0 has))
-                (kept.waits j w was)
+            (λ same has. subst (λ (o : Semaphore). HasWait w.number 0 o) (sym came.shows)
+            (stays-entered (shown core.shape) w.number 0 has))
+            (kept.waits j w was)
 
         apart : (i j : ℕ) (w : Wait)
             → ((i ≡ job) × (wait ≡ w)) ⊎ ((i ≢ job) × (slice_get l.waits i ≡ Some (Some w)))
@@ -234,7 +234,7 @@ module _ (l : Ledger) (at job : ℕ) (kept : IsKept l) (place : at < length l.ro
     plain-later none =
         let came = came-later core after answer funded.sole made none in
         let entries = histories-next l.cores at core after
-            (entry.TakeDoor 0 ∷ entry.Enter 0 (shown core.shape).next ∷ []) there came.history in
+        (entry.TakeDoor 0 ∷ entry.Enter 0 (shown core.shape).next ∷ []) there came.history in
         let waits = map-set (option_map job_wait) l.waits job (Some wait) in
         rw (entries, waits, same-holds) refl
 
@@ -265,8 +265,8 @@ take-well l n at job answer kept holdable is_job idle room a written =
         → TakesWell (plain_floor l) at job answer n
     at-answer given is answers leaves holds =
         let same : n ≡ with_cores (taken l at job given) (set l.cores at a.calls.after) =
-            written ∙ ap (λ g. with_cores (taken l at job g) n.cores) is
-            ∙ ap (with_cores (taken l at job given)) a.calls.cores in
+        written ∙ ap (λ g. with_cores (taken l at job g) n.cores) is
+        ∙ ap (with_cores (taken l at job given)) a.calls.cores in
         record {
           answers = is ∙ sym answers;
           leaves = ap plain_floor same ∙ leaves ∙ ap (after_take (plain_floor l) at job) (sym is);
@@ -290,15 +290,15 @@ take-well l n at job answer kept holdable is_job idle room a written =
     go true some =
         let came = came-now core a.calls.after a.reply funded.sole a.calls.made some in
         at-answer (Now 0) (a.told ∙ ap take_of came.is) (rw (object, some) refl)
-            (plain-now l at job kept place room is_job.holds waiter nobody core a.calls.after a.reply a.calls.there a.calls.made some)
-            (kept-next l _ at core a.calls.after kept
-                (follows-now l at job kept place room is_job.holds waiter nobody core a.calls.after a.reply a.calls.there a.calls.made some))
+        (plain-now l at job kept place room is_job.holds waiter nobody core a.calls.after a.reply a.calls.there a.calls.made some)
+        (kept-next l _ at core a.calls.after kept
+        (follows-now l at job kept place room is_job.holds waiter nobody core a.calls.after a.reply a.calls.there a.calls.made some))
     go false none =
         let came = came-later core a.calls.after a.reply funded.sole a.calls.made none in
         at-answer (Waits (shown core.shape).next) (a.told ∙ ap take_of came.is) (rw (object, none) refl)
-            (plain-later l at job kept place room is_job.holds waiter nobody core a.calls.after a.reply a.calls.there a.calls.made none)
-            (kept-next l _ at core a.calls.after kept
-                (follows-later l at job kept place room is_job.holds waiter nobody core a.calls.after a.reply a.calls.there a.calls.made none))
+        (plain-later l at job kept place room is_job.holds waiter nobody core a.calls.after a.reply a.calls.there a.calls.made none)
+        (kept-next l _ at core a.calls.after kept
+        (follows-later l at job kept place room is_job.holds waiter nobody core a.calls.after a.reply a.calls.there a.calls.made none))
 
 -- the same where the floor is seen as its plain floor
 pub take-floor : (l n : Ledger) (f : PlainFloor) (at job : ℕ) (answer : FloorTake) → plain_floor l ≡ f → IsKept l
@@ -307,6 +307,6 @@ pub take-floor : (l n : Ledger) (f : PlainFloor) (at job : ℕ) (answer : FloorT
     → TakesWell f at job answer n
 take-floor l n f at job answer view kept =
     let Comes : PlainFloor → Type 0 = λ g. IsHoldable (slice_get g.kinds at) → IsJob g job → IsIdle g job → 0 < room_at g at
-        → Answers take_of (call.Acquire 0) l.cores at n.cores answer → n ≡ with_cores (taken l at job answer) n.cores
-        → TakesWell g at job answer n in
+    → Answers take_of (call.Acquire 0) l.cores at n.cores answer → n ≡ with_cores (taken l at job answer) n.cores
+    → TakesWell g at job answer n in
     subst Comes view (take-well l n at job answer kept)

@@ -45,11 +45,11 @@ module _ (l : Ledger) (job : ℕ) (wait : Wait) (kept : IsKept l) (has : slice_g
       go : (j ≡ job) ⊎ (j ≢ job) → IsAnother j w
       go (inl same) =
           let gone : Some None ≡ Some (Some w) =
-              sym (get-set_here l.waits job (Some wait) None has) ∙ ap (slice_get (set l.waits job None)) (sym same) ∙ got in
+          sym (get-set_here l.waits job (Some wait) None has) ∙ ap (slice_get (set l.waits job None)) (sym same) ∙ got in
           absurd (cc)
       go (inr other) =
           let stands : slice_get l.waits j ≡ Some (Some w) =
-              sym (get-set_else l.waits job j None (λ e. other (sym e))) ∙ got in
+          sym (get-set_else l.waits job j None (λ e. other (sym e))) ∙ got in
           record {
             stands = stands;
             number = λ at number.
@@ -66,7 +66,7 @@ module _ (l : Ledger) (job : ℕ) (wait : Wait) (kept : IsKept l) (has : slice_g
   waiting-after : (i : ℕ) → waiting_at (set l.waits job None) i + bit (wait.at == i) ≡ waiting_at l.waits i
   waiting-after i =
       let changed : waiting_at (set l.waits job None) i + bit (wait.at == i) ≡ waiting_at l.waits i + 0 =
-          count-set (is_wait_at i) l.waits job (Some wait) None None below was in
+      count-set (is_wait_at i) l.waits job (Some wait) None None below was in
       omega (arith, changed)
 
   pub waiting-here : waiting_at (set l.waits job None) wait.at + 1 ≡ waiting_at l.waits wait.at
@@ -78,7 +78,7 @@ module _ (l : Ledger) (job : ℕ) (wait : Wait) (kept : IsKept l) (has : slice_g
   pub fewer : count_by (λ w. is_some w) (set l.waits job None) + 1 ≡ count_by (λ w. is_some w) l.waits
   fewer =
       let changed : count_by (λ w. is_some w) (set l.waits job None) + 1 ≡ count_by (λ w. is_some w) l.waits + 0 =
-          count-set (λ w. is_some w) l.waits job (Some wait) None None below was in
+      count-set (λ w. is_some w) l.waits job (Some wait) None None below was in
       omega (arith, changed)
 
   -- a call of the core of that wait
@@ -94,7 +94,7 @@ module _ (l : Ledger) (job : ℕ) (wait : Wait) (kept : IsKept l) (has : slice_g
     stand-on stays j w got =
         let other = another j w got in
         stands-on l.cores wait.at core after w there (λ same stands. stays w.number (other.number same) stands)
-            (kept.waits j w other.stands)
+        (kept.waits j w other.stands)
 
     -- the job left the line
     abbrev pub gone : Ledger
@@ -170,10 +170,10 @@ module _ (l : Ledger) (job : ℕ) (wait : Wait) (kept : IsKept l) (has : slice_g
     -- the plain floors of both
     pub plain-gone : (told : Reply) (held : ℕ) (e : Entry) → Came core after answer told (e ∷ []) held
         → plain_floor gone ≡ record (plain_floor l) {
-            entries = set (map (λ x. x.shape.history) l.cores) wait.at
-                (get_or (map (λ x. x.shape.history) l.cores) wait.at [] ++ e ∷ []);
-            waits = set (map (option_map job_wait) l.waits) job None;
-          }
+          entries = set (map (λ x. x.shape.history) l.cores) wait.at
+              (get_or (map (λ x. x.shape.history) l.cores) wait.at [] ++ e ∷ []);
+          waits = set (map (option_map job_wait) l.waits) job None;
+        }
     plain-gone told held e came =
         let entries = histories-next l.cores wait.at core after (e ∷ []) there came.history in
         let waits = map-set (option_map job_wait) l.waits job None in
@@ -181,11 +181,11 @@ module _ (l : Ledger) (job : ℕ) (wait : Wait) (kept : IsKept l) (has : slice_g
 
     pub plain-came : (told : Reply) (held : ℕ) (e : Entry) → Came core after answer told (e ∷ []) held
         → plain_floor came_to ≡ record (plain_floor l) {
-            entries = set (map (λ x. x.shape.history) l.cores) wait.at
-                (get_or (map (λ x. x.shape.history) l.cores) wait.at [] ++ e ∷ []);
-            waits = set (map (option_map job_wait) l.waits) job None;
-            holds = after_transfer (holds_in l) (Got job wait.at);
-          }
+          entries = set (map (λ x. x.shape.history) l.cores) wait.at
+              (get_or (map (λ x. x.shape.history) l.cores) wait.at [] ++ e ∷ []);
+          waits = set (map (option_map job_wait) l.waits) job None;
+          holds = after_transfer (holds_in l) (Got job wait.at);
+        }
     plain-came told held e came =
         let entries = histories-next l.cores wait.at core after (e ∷ []) there came.history in
         let waits = map-set (option_map job_wait) l.waits job None in

@@ -1,4 +1,4 @@
-use Rattle.std.proofs.Common.{arith, rules, get_or, ℕ}
+use Rattle.std.proofs.Common.{◌<◌, length, arith}
 use Rattle.cqs_core.proofs.CoreSteps.{gains-sum}
 use Rattle.cqs_cli.proofs.Counting.{within-at, counted-take, counted-else}
 use Rattle.cqs_cli.proofs.floors.opening.count_steps.Goals as goal
@@ -16,7 +16,7 @@ pub loop-step-preserved : goal.loop-step-preserved
 loop-step-preserved c = elim c.match-step.branch [
   in-Take w ↦
     let place = within-at _ _ _ _ c.requires.within c.loop-step-test.true w.in-Take.is in
-    let there = omega (arith, place, c.loop-step.auto.room) in
+    let there : w.in-Take.at < length c.loop-step.room = omega (arith, place, c.loop-step.auto.room) in
     record {
       counts = rw w.room-is
           (counted-take _ _ _ _ _ c.loop-step-test.true there w.in-Take.is c.loop-step.invariant.counts);

@@ -8,14 +8,14 @@ give-requires-clause-core c =
 pub invariant_of-self : goal.invariant_of-self
 invariant_of-self c =
     (give-floor _ _ _ _ _ _ c.self.view_is c.self.invariant c.requires.job c.requires.holds
-        c.give.ensures.answer c.give.ensures.written).kept
+    c.give.ensures.answer c.give.ensures.written).kept
 
 pub returns-clause-answer : goal.returns-clause-answer
 returns-clause-answer c =
     (give-floor _ _ _ _ _ _ c.self.view_is c.self.invariant c.requires.job c.requires.holds
-        c.give.ensures.answer c.give.ensures.written).answers
+    c.give.ensures.answer c.give.ensures.written).answers
 
 pub returns-clause-after : goal.returns-clause-after
 returns-clause-after c =
     (give-floor _ _ _ _ _ _ c.self.view_is c.self.invariant c.requires.job c.requires.holds
-        c.give.ensures.answer c.give.ensures.written).leaves
+    c.give.ensures.answer c.give.ensures.written).leaves

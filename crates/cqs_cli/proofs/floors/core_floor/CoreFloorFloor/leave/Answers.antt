@@ -10,14 +10,14 @@ leave-requires-clause-spare c = some-spare _ _ _ c.self.invariant c.wait-wait.en
 pub invariant_of-self : goal.invariant_of-self
 invariant_of-self c =
     (leave-floor _ _ _ _ _ _ c.self.view_is c.self.invariant c.requires.job c.wait-wait.ensures
-        c.leave.ensures.answer c.leave.ensures.written).kept
+    c.leave.ensures.answer c.leave.ensures.written).kept
 
 pub returns-clause-answer : goal.returns-clause-answer
 returns-clause-answer c =
     (leave-floor _ _ _ _ _ _ c.self.view_is c.self.invariant c.requires.job c.wait-wait.ensures
-        c.leave.ensures.answer c.leave.ensures.written).answers
+    c.leave.ensures.answer c.leave.ensures.written).answers
 
 pub returns-clause-after : goal.returns-clause-after
 returns-clause-after c =
     (leave-floor _ _ _ _ _ _ c.self.view_is c.self.invariant c.requires.job c.wait-wait.ensures
-        c.leave.ensures.answer c.leave.ensures.written).leaves
+    c.leave.ensures.answer c.leave.ensures.written).leaves

@@ -8,14 +8,14 @@ take-requires-clause-core c =
 pub invariant_of-self : goal.invariant_of-self
 invariant_of-self c =
     (take-floor _ _ _ _ _ _ c.self.view_is c.self.invariant c.requires.resource c.requires.job c.requires.idle
-        c.requires.room c.take.ensures.answer c.take.ensures.written).kept
+    c.requires.room c.take.ensures.answer c.take.ensures.written).kept
 
 pub returns-clause-answer : goal.returns-clause-answer
 returns-clause-answer c =
     (take-floor _ _ _ _ _ _ c.self.view_is c.self.invariant c.requires.resource c.requires.job c.requires.idle
-        c.requires.room c.take.ensures.answer c.take.ensures.written).answers
+    c.requires.room c.take.ensures.answer c.take.ensures.written).answers
 
 pub returns-clause-after : goal.returns-clause-after
 returns-clause-after c =
     (take-floor _ _ _ _ _ _ c.self.view_is c.self.invariant c.requires.resource c.requires.job c.requires.idle
-        c.requires.room c.take.ensures.answer c.take.ensures.written).leaves
+    c.requires.room c.take.ensures.answer c.take.ensures.written).leaves

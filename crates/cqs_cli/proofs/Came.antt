@@ -1,6 +1,6 @@
--- What each call of a core with one pass answers, and what it leaves: its entries, the semaphore after them, and what
--- the pass holds.
-use Rattle.std.proofs.Common.{◌≡◌, ℕ, zero, ◌+◌, ◌-◌, ◌<◌, nat_lt, Bool, true, false, List, [], ◌∷◌, ◌++◌, Option, Some, None, length, get_or, set, refl, sym, ap, ◌∙◌, arith}
+-- What each call of a core with one pass answers, and what it leaves: its entries, the semaphore after them, and
+-- what the pass holds.
+use Rattle.std.proofs.Common.{◌≡◌, ℕ, ◌+◌, ◌-◌, ◌<◌, nat_lt, true, false, List, [], ◌∷◌, ◌++◌, Some, None, length, set, refl, ap, ◌∙◌, arith}
 use Rattle.std.specs.Prelude.{slice_index}
 use Rattle.std.specs.List.{fold}
 use Rattle.std.proofs.lemmas.List.{get_or-set_same}
@@ -23,7 +23,8 @@ pub record Came (core after : Room) (answer told : Reply) (entries : List Entry)
   pub shows : shown after.shape ≡ fold after_entry (shown core.shape) entries
   pub holds : slice_index after.shape.held 0 ≡ held
 
-module _ (core after : Room) (c : Call) (answer : Reply) (sole : IsSole core.shape) (made : HasMade core c answer after) where
+module _ (core after : Room) (c : Call) (answer : Reply) (sole : IsSole core.shape)
+    (made : HasMade core c answer after) where
   came : (entries : List Entry) (told : Reply) (held : ℕ) → sole_call (shown core.shape) c ≡ tells entries told
       → slice_index (held_after core.shape.held c told) 0 ≡ held → Came core after answer told entries held
   came entries told held says holds =
@@ -45,7 +46,8 @@ module _ (core after : Room) (c : Call) (answer : Reply) (sole : IsSole core.sha
 module _ (core after : Room) (answer : Reply) (sole : IsSole core.shape) where
   pub came-now : HasMade core (call.Acquire 0) answer after → nat_lt 0 (shown core.shape).free ≡ true
       → Came core after answer reply.Now (entry.TakeNow 0 ∷ []) (slice_index core.shape.held 0 + 1)
-  came-now made some = came core after _ answer sole made _ _ _ (rw some refl) (written core after _ answer sole made _)
+  came-now made some = came core after _ answer sole made _ _ _ (rw some refl)
+      (written core after _ answer sole made _)
 
   pub came-later : HasMade core (call.Acquire 0) answer after → nat_lt 0 (shown core.shape).free ≡ false
       → Came core after answer (reply.Later (shown core.shape).next)
@@ -55,26 +57,32 @@ module _ (core after : Room) (answer : Reply) (sole : IsSole core.shape) where
   pub came-freed : HasMade core (call.Release 0) answer after → (shown core.shape).line ≡ []
       → Came core after answer reply.Freed (entry.GiveFreed 0 ∷ []) (slice_index core.shape.held 0 - 1)
   came-freed made empty =
-      came core after _ answer sole made _ _ _ (ap (sole_release 0) empty) (written core after _ answer sole made _)
+      came core after _ answer sole made _ _ _ (ap (sole_release 0) empty)
+      (written core after _ answer sole made _)
 
   pub came-sent : (first : Waiting) (rest : List Waiting) → HasMade core (call.Release 0) answer after
       → (shown core.shape).line ≡ first ∷ rest
       → Came core after answer (reply.Sent first.wait) (entry.GiveSent 0 ∷ entry.Deliver first.wait ∷ [])
       (slice_index core.shape.held 0 - 1)
   came-sent first rest made is =
-      came core after _ answer sole made _ _ _ (ap (sole_release 0) is) (written core after _ answer sole made _)
+      came core after _ answer sole made _ _ _ (ap (sole_release 0) is)
+      (written core after _ answer sole made _)
 
-  pub came-granted : (k : ℕ) → HasMade core (call.Poll 0 k) answer after → find_wait k (shown core.shape).line ≡ None
+  pub came-granted : (k : ℕ) → HasMade core (call.Poll 0 k) answer after
+      → find_wait k (shown core.shape).line ≡ None
       → Came core after answer reply.Granted (entry.LookGranted 0 k ∷ []) (slice_index core.shape.held 0 + 1)
   came-granted k made gone =
-      came core after _ answer sole made _ _ _ (ap (sole_poll 0 k) gone) (written core after _ answer sole made _)
+      came core after _ answer sole made _ _ _ (ap (sole_poll 0 k) gone)
+      (written core after _ answer sole made _)
 
   pub came-left : (k : ℕ) (w : Waiting) → HasMade core (call.Cancel 0 k) answer after
       → find_wait k (shown core.shape).line ≡ Some w
       → Came core after answer reply.Cancelled (entry.Leave 0 k ∷ []) (slice_index core.shape.held 0)
   came-left k w made there = came core after _ answer sole made _ _ _ (ap (sole_cancel 0 k) there) refl
 
-  pub came-late : (k : ℕ) → HasMade core (call.Cancel 0 k) answer after → find_wait k (shown core.shape).line ≡ None
+  pub came-late : (k : ℕ) → HasMade core (call.Cancel 0 k) answer after
+      → find_wait k (shown core.shape).line ≡ None
       → Came core after answer reply.TooLate (entry.Late 0 k ∷ []) (slice_index core.shape.held 0 + 1)
   came-late k made gone =
-      came core after _ answer sole made _ _ _ (ap (sole_cancel 0 k) gone) (written core after _ answer sole made _)
+      came core after _ answer sole made _ _ _ (ap (sole_cancel 0 k) gone)
+      (written core after _ answer sole made _)

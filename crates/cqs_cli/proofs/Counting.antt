@@ -1,5 +1,5 @@
 -- Counting the takes of a plan, and opening its cores.
-use Rattle.std.proofs.Common.{◌≡◌, ◌≢◌, ◌⊎◌, inl, inr, ℕ, zero, suc, ◌+◌, ◌*◌, ◌<◌, ◌≤◌, ◌==◌, Bool, true, false, List, [], ◌∷◌, ◌++◌, Option, Some, None, length, map, take, drop, set, get_or, slice_get, sum, sum_by, count_by, refl, ap, sym, ◌∙◌, subst, arith}
+use Rattle.std.proofs.Common.{◌≡◌, ◌≢◌, ◌⊎◌, inl, inr, ℕ, ◌+◌, ◌<◌, ◌≤◌, ◌==◌, Bool, false, List, [], ◌∷◌, ◌++◌, Some, length, map, take, set, get_or, slice_get, count_by, refl, ap, sym, ◌∙◌, arith}
 use Rattle.std.specs.Prelude.{slice_index}
 use Rattle.std.specs.List.{range_with_len}
 use Rattle.std.proofs.lemmas.Bool.{cases_eq, cases_lt}
@@ -8,7 +8,7 @@ use Rattle.std.proofs.lemmas.List.{take_more, get_or-set_same, get_or-set_other,
 use Rattle.std.proofs.lemmas.List.FromFn.{get_or-map-range_with_len, length-map-range_with_len}
 use Rattle.std.proofs.lemmas.List.Sums.{sum_by_push}
 use Rattle.std.proofs.lemmas.Option.{slice_get-get_or}
-use Rattle.std.proofs.Math.Seq.{take-append_seam, take-length}
+use Rattle.std.proofs.Math.Seq.{take-length}
 use Rattle.cqs_core.specs.Numbered.{EachAt}
 use Rattle.cqs_core.specs.SemaphoreAnswers.{Room}
 use Rattle.cqs_core.proofs.Counts.{bit}
@@ -52,12 +52,13 @@ counted-take first now steps i at below place is counted a = go (cases_eq a at)
         ∙ ap (λ s. count_by (is_take a) (take i steps) + bit (is_take a s)) is
 
     go : (a ≡ at) ⊎ (a ≢ at)
-        → get_or (set now at (get_or now at 0 + 1)) a 0 ≡ get_or first a 0 + count_by (is_take a) (take (i + 1) steps)
+        → get_or (set now at (get_or now at 0 + 1)) a 0
+        ≡ get_or first a 0 + count_by (is_take a) (take (i + 1) steps)
     go (inl same) =
         let one : bit (at == a) ≡ 1 = ap (λ n. bit (at == n)) same ∙ bit-same at in
         let written : get_or (set now at (get_or now at 0 + 1)) a 0 ≡ get_or now a 0 + 1 =
-            ap (λ n. get_or (set now at (get_or now at 0 + 1)) n 0) same
-            ∙ get_or-set_same now at (get_or now at 0 + 1) 0 place ∙ ap (λ n. get_or now n 0 + 1) (sym same) in
+        ap (λ n. get_or (set now at (get_or now at 0 + 1)) n 0) same
+        ∙ get_or-set_same now at (get_or now at 0 + 1) 0 place ∙ ap (λ n. get_or now n 0 + 1) (sym same) in
         omega (arith, written, counted a, more, one)
     go (inr other) =
         let none : bit (at == a) ≡ 0 = bit-other at a (λ e. other (sym e)) in
@@ -76,7 +77,8 @@ pub counted-else : (first now : List ℕ) (steps : List Step) (i : ℕ) → i < 
     → ((at : ℕ) → get_or steps i (step.Take 0) ≡ step.Take at → ⊥) → Counted first now (take i steps)
     → Counted first now (take (i + 1) steps)
 counted-else first now steps i below other counted a =
-    let none : bit (is_take a (get_or steps i (step.Take 0))) ≡ 0 = ap bit (no-take a (get_or steps i (step.Take 0)) other) in
+    let none : bit (is_take a (get_or steps i (step.Take 0))) ≡ 0 =
+    ap bit (no-take a (get_or steps i (step.Take 0)) other) in
     omega (arith, counted a, count-more (is_take a) steps i (step.Take 0) below, none)
 
 -- one more job is counted
@@ -93,31 +95,35 @@ pub counts-all : (room : List ℕ) (jobs : List Job) (n i : ℕ) → length room
     → room ≡ map (takes_of jobs) (range_with_len 0 n)
 counts-all room jobs n i long all counts =
     same_number_lists room (map (takes_of jobs) (range_with_len 0 n))
-        (long ∙ sym (length-map-range_with_len (takes_of jobs) 0 n))
-        (λ k below. counts k ∙ whole k
-            ∙ sym (get_or-map-range_with_len (takes_of jobs) 0 n k k 0 (omega arith) (omega arith)))
+    (long ∙ sym (length-map-range_with_len (takes_of jobs) 0 n))
+    (λ k below. counts k ∙ whole k
+    ∙ sym (get_or-map-range_with_len (takes_of jobs) 0 n k k 0 (omega arith) (omega arith)))
   where
     whole : (k : ℕ) → takes_of (take i jobs) k ≡ takes_of jobs k
     whole k = ap (λ m. takes_of (take m jobs) k) all ∙ ap (λ js. takes_of js k) (take-length jobs)
 
 -- a core for one more resource
-pub opened-push : (resources : List Resource) (room : List ℕ) (cores : List Room) (resource : Resource) (core : Room)
+pub opened-push : (resources : List Resource) (room : List ℕ) (cores : List Room) (resource : Resource)
+    (core : Room)
     → length cores < length resources → resource ≡ get_or resources (length cores) resource
     → IsOpened resource.kind (slice_index room (length cores)) core → AreOpened resources room cores
     → AreOpened resources room (cores ++ core ∷ [])
-opened-push resources room cores resource core below is opens opened = record { each = λ at r c named got. go at r c named got (cases_lt at (length cores)) }
+opened-push resources room cores resource core below is opens opened =
+    record { each = λ at r c named got. go at r c named got (cases_lt at (length cores)) }
   where
-    go : (at : ℕ) (r : Resource) (c : Room) → slice_get resources at ≡ Some r → slice_get (cores ++ core ∷ []) at ≡ Some c
+    go : (at : ℕ) (r : Resource) (c : Room) → slice_get resources at ≡ Some r
+        → slice_get (cores ++ core ∷ []) at ≡ Some c
         → (at < length cores) ⊎ (length cores ≤ at) → IsOpened r.kind (slice_index room at) c
     go at r c named got (inl before) =
         opened.each at r c named (sym (get-append_below cores (core ∷ []) at before) ∙ got)
     go at r c named got (inr past) =
         let last : at ≡ length cores =
-            omega (arith, get-below (cores ++ core ∷ []) at c got, length_push cores core) in
+        omega (arith, get-below (cores ++ core ∷ []) at c got, length_push cores core) in
         let core_is : Some core ≡ Some c = sym (get-push_at cores core at last) ∙ got in
         let same_core : core ≡ c = cc in
         let named_is : Some (get_or resources (length cores) resource) ≡ Some r =
-            sym (slice_get-get_or resources (length cores) resource below) ∙ ap (slice_get resources) (sym last) ∙ named in
+        sym (slice_get-get_or resources (length cores) resource below)
+        ∙ ap (slice_get resources) (sym last) ∙ named in
         let same : get_or resources (length cores) resource ≡ r = cc in
         let same_resource : resource ≡ r = is ∙ same in
         rw (last, ← same_core, ← same_resource) opens
@@ -134,9 +140,14 @@ runnable-countable plan runnable = record {
   };
 }
   where
-    place-below : (at : ℕ) (k : Kind) → slice_get (kinds_of plan.resources) at ≡ Some k → at < length plan.resources
+    place-below : (at : ℕ) (k : Kind) → slice_get (kinds_of plan.resources) at ≡ Some k
+        → at < length plan.resources
     place-below at k got =
-        omega (arith, get-below (kinds_of plan.resources) at k got, length-map plan.resources (λ (r : Resource). r.kind))
+        omega (
+          arith,
+          get-below (kinds_of plan.resources) at k got,
+          length-map plan.resources (λ (r : Resource). r.kind),
+        )
 
     within : (s : Step) (earlier : List Step) → IsMakeable (kinds_of plan.resources) earlier s
         → IsWithin (length plan.resources) s

@@ -1,5 +1,5 @@
 -- A give: what it rests on, what it answers, and what it leaves.
-use Rattle.std.proofs.Common.{◌≡◌, ◌≢◌, ◌⊎◌, inl, inr, ℕ, ◌+◌, ◌-◌, ◌*◌, ◌<◌, ◌≤◌, ◌==◌, Bool, true, false, List, [], ◌∷◌, ◌++◌, Option, Some, None, IsSome, is_some, length, map, set, get_or, slice_get, sum, sum_by, count_by, refl, ap, sym, ◌∙◌, subst, arith}
+use Rattle.std.proofs.Common.{◌≡◌, inl, ℕ, ◌+◌, ◌-◌, ◌<◌, ◌==◌, List, [], ◌∷◌, Some, IsSome, length, set, get_or, slice_get, sum_by, refl, ap, sym, ◌∙◌, subst, arith}
 use Rattle.std.specs.Prelude.{slice_index}
 use Rattle.std.specs.Option.{option_map_or}
 use Rattle.cqs_core.specs.declared.calls.Call.TheVariants as call
@@ -15,26 +15,25 @@ use Rattle.cqs_core.specs.SoleCaller.{HasWait}
 use Rattle.cqs_core.proofs.Counts.{bit}
 use Rattle.cqs_plan.specs.declared.floors.answers.FloorGive.{FloorGive}
 use Rattle.cqs_plan.specs.declared.floors.answers.FloorGive.TheVariants.{Free, Sent}
-use Rattle.cqs_plan.specs.Floor.{PlainFloor, Holding, IsHoldable, IsJob, IsHolding, oldest, holds_of, permits_of, object_at}
+use Rattle.cqs_plan.specs.Floor.{PlainFloor, IsHoldable, IsJob, IsHolding, oldest, holds_of, permits_of, object_at}
 use Rattle.cqs_plan.specs.FloorCalls as plain
-use Rattle.cqs_cli.specs.declared.floors.transfers.Transfer.TheVariants.{Got, GaveBack}
-use Rattle.cqs_cli.specs.declared.floors.waits.Wait.{Wait}
+use Rattle.cqs_cli.specs.declared.floors.transfers.Transfer.TheVariants.{GaveBack}
 use Rattle.cqs_cli.specs.DeskCalls.{Answers, CanCall, give_of}
-use Rattle.cqs_cli.specs.Kept.{IsKept, IsFunded, HoldPermits, holds_in, waiting_at, held_at}
+use Rattle.cqs_cli.specs.Kept.{IsKept, IsFundedAt, HoldPermits, holds_in, waiting_at, held_at}
 use Rattle.cqs_cli.specs.Ledger.{Ledger, plain_floor, with_cores, with_transfer, after_transfer}
 use Rattle.cqs_cli.specs.SoleCore.{HasMade}
 use Rattle.cqs_cli.proofs.Came.{Came, came-freed, came-sent}
 use Rattle.cqs_cli.proofs.Funded.{funded-next, funded-rests, funded-ready}
 use Rattle.cqs_cli.proofs.Holdings.{held-gave, many-gave, permits-transfer, holds-transfer, permits-at, oldest-plain}
 use Rattle.cqs_cli.proofs.KeptNext.{Follows, kept-next, stands-on, histories-next}
-use Rattle.cqs_cli.proofs.Objects.{sent_to, stays-sent}
+use Rattle.cqs_cli.proofs.Objects.{stays-sent}
 use Rattle.cqs_cli.proofs.Resources.{Funds, funds-at, bit-same, bit-other, object-shown}
 use Rattle.cqs_cli.proofs.SoleCells.{read-wait}
 use Rattle.cqs_cli.proofs.Stays.{in-head}
 
 -- a job that holds something of a resource can give it
-can-give : (l : Ledger) (at job : ℕ) → IsKept l → IsHoldable (slice_get l.kinds at) → IsJob (plain_floor l) job
-    → IsHolding (plain_floor l) at job → CanCall l.cores at (call.Release 0)
+can-give : (l : Ledger) (at job : ℕ) → IsKept l → IsHoldable (slice_get l.kinds at)
+    → IsJob (plain_floor l) job → IsHolding (plain_floor l) at job → CanCall l.cores at (call.Release 0)
 can-give l at job kept holdable is_job holding =
     let funds : Funds l at = funds-at l at kept holdable in
     let fewer = held-gave (holds_in l) job at is_job.holds holding at in
@@ -51,8 +50,7 @@ module _ (l : Ledger) (at job : ℕ) (kept : IsKept l) (holder : job < length (h
     (holding : IsSome (oldest at (get_or (holds_in l) job [])))
     (core after : Room) (answer : Reply) (there : slice_get l.cores at ≡ Some core)
     (made : HasMade core (call.Release 0) answer after) where
-  funded : IsFunded core (permits_of (slice_get l.kinds at)) (slice_index l.room at) (waiting_at l.waits at)
-      (held_at (holds_in l) at)
+  funded : IsFundedAt l at core
   funded = kept.funded.at at core there
 
   abbrev given : Ledger
@@ -69,20 +67,23 @@ module _ (l : Ledger) (at job : ℕ) (kept : IsKept l) (holder : job < length (h
   held-here = omega (arith, held-after at, bit-same at)
 
   many : sum_by (λ hs. length hs) (holds_in given) + 1 ≡ sum_by (λ hs. length hs) (holds_in l)
-  many = ap (λ hss. sum_by (λ hs. length hs) hss + 1) transferred ∙ many-gave (holds_in l) job at holder holding
+  many =
+      ap (λ hss. sum_by (λ hs. length hs) hss + 1) transferred ∙ many-gave (holds_in l) job at holder holding
 
   -- what is kept, whatever the core replied: nobody's wait is over
   follows-given : (told : Reply) (entries : List Entry)
       → Came core after answer told entries (slice_index core.shape.held 0 - 1)
       → after.shape.queue.suspends ≡ core.shape.queue.suspends
-      → ((k : ℕ) → HasWait k 0 (shown core.shape) → HasWait k 0 (shown after.shape)) → Follows l at core after given
+      → ((k : ℕ) → HasWait k 0 (shown core.shape) → HasWait k 0 (shown after.shape))
+      → Follows l at core after given
   follows-given told entries came numbers stays = record {
     there = there;
     kinds = refl;
     cores = refl;
     rooms = refl;
     funded = funded-next core after _ answer _ _ _ _ _ _ _ funded made
-        (omega (arith, numbers)) (omega (arith, held-here)) (omega (arith, came.holds, funded.holds, held-here));
+        (omega (arith, numbers)) (omega (arith, held-here))
+        (omega (arith, came.holds, funded.holds, held-here));
     room = λ i other. refl;
     waiting = λ i other. refl;
     held = λ i other. omega (arith, held-after i, bit-other at i (λ e. other (sym e)));
@@ -130,7 +131,8 @@ module _ (l : Ledger) (at job : ℕ) (kept : IsKept l) (holder : job < length (h
 
     plain-sent : plain_floor given ≡ plain.after_give (plain_floor l) at job (Sent 0 first.wait)
     plain-sent =
-        let entries = histories-next l.cores at core after (entry.GiveSent 0 ∷ entry.Deliver first.wait ∷ []) there sent.history in
+        let entries = histories-next l.cores at core after
+        (entry.GiveSent 0 ∷ entry.Deliver first.wait ∷ []) there sent.history in
         rw (entries, transferred) refl
 
 -- what a give comes to: its answer is the plain floor's, and so is what it leaves
@@ -147,8 +149,7 @@ give-well l n at job answer kept is_job holding a written = go (shown core.shape
     core : Room
     core = a.calls.core
 
-    held : IsFunded core (permits_of (slice_get l.kinds at)) (slice_index l.room at) (waiting_at l.waits at)
-        (held_at (holds_in l) at)
+    held : IsFundedAt l at core
     held = kept.funded.at at core a.calls.there
 
     same : n ≡ with_cores (with_transfer l (GaveBack job at)) (set l.cores at a.calls.after)
@@ -184,14 +185,16 @@ give-well l n at job answer kept is_job holding a written = go (shown core.shape
         (kept-sent l at job kept is_job.holds holding core a.calls.after a.reply a.calls.there a.calls.made first rest is)
 
 -- the same where the floor is seen as its plain floor
-pub give-can : (l : Ledger) (f : PlainFloor) (at job : ℕ) → plain_floor l ≡ f → IsKept l → IsHoldable (slice_get f.kinds at)
-    → IsJob f job → IsHolding f at job → CanCall l.cores at (call.Release 0)
+pub give-can : (l : Ledger) (f : PlainFloor) (at job : ℕ) → plain_floor l ≡ f → IsKept l
+    → IsHoldable (slice_get f.kinds at) → IsJob f job → IsHolding f at job → CanCall l.cores at (call.Release 0)
 give-can l f at job view kept =
-    let Allows : PlainFloor → Type 0 = λ g. IsHoldable (slice_get g.kinds at) → IsJob g job → IsHolding g at job
+    let Allows : PlainFloor → Type 0 = λ g. IsHoldable (slice_get g.kinds at) → IsJob g job
+    → IsHolding g at job
     → CanCall l.cores at (call.Release 0) in
     subst Allows view (can-give l at job kept)
 
-pub give-floor : (l n : Ledger) (f : PlainFloor) (at job : ℕ) (answer : FloorGive) → plain_floor l ≡ f → IsKept l
+pub give-floor : (l n : Ledger) (f : PlainFloor) (at job : ℕ) (answer : FloorGive)
+    → plain_floor l ≡ f → IsKept l
     → IsJob f job → IsHolding f at job → Answers give_of (call.Release 0) l.cores at n.cores answer
     → n ≡ with_cores (with_transfer l (GaveBack job at)) n.cores → GivesWell f at job answer n
 give-floor l n f at job answer view kept =

@@ -1,5 +1,5 @@
 -- What the jobs hold and wait for, counted before and after a transfer and a written wait.
-use Rattle.std.proofs.Common.{◌≡◌, ◌≢◌, ◌⊎◌, inl, inr, ℕ, zero, suc, ◌+◌, ◌*◌, ◌<◌, ◌≤◌, ◌==◌, Bool, true, false, cond, List, [], ◌∷◌, ◌++◌, Option, Some, None, IsSome, is_some, length, set, get_or, sum, sum_by, count_by, find, refl, ap, sym, ◌∙◌, subst, length-set, eq-eqb, ne_eqb, eqb-true, arith}
+use Rattle.std.proofs.Common.{◌≡◌, ◌≢◌, ℕ, zero, suc, ◌+◌, ◌<◌, ◌==◌, Bool, true, false, List, [], ◌∷◌, ◌++◌, IsSome, length, set, get_or, sum_by, count_by, refl, ap, sym, eq-eqb, ne_eqb, eqb-true, arith}
 use Rattle.std.specs.Option.{option_map_or}
 use Rattle.std.proofs.lemmas.List.{length_push}
 use Rattle.std.proofs.lemmas.List.Sums.{sum_by-set, sum_by_push, sum_by-cons, fold_push}
@@ -12,7 +12,8 @@ use Rattle.cqs_cli.specs.Kept.{ArePermits, HoldPermits, held_at}
 use Rattle.cqs_cli.specs.Ledger.{after_transfer, holds_after}
 
 -- a count after a write
-pub count-set : {X : Type 0} (p : X → Bool) (xs : List X) (i : ℕ) (old new d : X) → i < length xs → get_or xs i d ≡ old
+pub count-set : {X : Type 0} (p : X → Bool) (xs : List X) (i : ℕ) (old new d : X) → i < length xs
+    → get_or xs i d ≡ old
     → count_by p (set xs i new) + bit (p old) ≡ count_by p xs + bit (p new)
 count-set p xs i old new d below was = rw (← was) (sum_by-set (λ x. bit (p x)) xs i new d below)
 
@@ -35,7 +36,8 @@ module _ (holds : List (List Holding)) (job at : ℕ) (below : job < length hold
       sum_by_push (λ (h : Holding). bit (h.at == i)) before newest in
       omega (arith, written, more)
 
-  pub many-got : sum_by (λ hs. length hs) (after_transfer holds (Got job at)) ≡ sum_by (λ hs. length hs) holds + 1
+  pub many-got : sum_by (λ hs. length hs) (after_transfer holds (Got job at))
+      ≡ sum_by (λ hs. length hs) holds + 1
   many-got =
       let written = sum_by-set (λ (hs : List Holding). length hs) holds job (before ++ newest ∷ []) [] below in
       let more = length_push before newest in
@@ -58,22 +60,25 @@ held_of-without at i (h ∷ hs) some = go (h.at == at) refl (held_of-without at 
         let one : bit (h.at == i) ≡ bit (at == i) = ap (λ n. bit (n == i)) here in
         rw (eq-eqb at h.at (sym here)) (omega (arith, all, one))
     go false other later =
-        let differs : at ≢ h.at = λ e. let same : h.at == at ≡ true = eq-eqb h.at at (sym e) in absurd (cc (same, other)) in
+        let differs : at ≢ h.at = λ e. absurd (cc (eq-eqb h.at at (sym e), other)) in
         let rest : IsSome (oldest at hs) = rw other at some in
         let fewer = later rest in
-        let now : held_of i (h ∷ without (λ x. x.at) at hs) ≡ bit (h.at == i) + held_of i (without (λ x. x.at) at hs) =
+        let now : held_of i (h ∷ without (λ x. x.at) at hs)
+        ≡ bit (h.at == i) + held_of i (without (λ x. x.at) at hs) =
         sum_by-cons (λ (x : Holding). bit (x.at == i)) h (without (λ x. x.at) at hs) in
         rw (ne_eqb at h.at differs) (omega (arith, all, now, fewer))
 
-length-without : (at : ℕ) (hs : List Holding) → IsSome (oldest at hs) → length (without (λ h. h.at) at hs) + 1 ≡ length hs
+length-without : (at : ℕ) (hs : List Holding) → IsSome (oldest at hs)
+    → length (without (λ h. h.at) at hs) + 1 ≡ length hs
 length-without at [] some = absurd (cc)
 length-without at (h ∷ hs) some = go (h.at == at) refl (length-without at hs)
   where
-    go : (b : Bool) → h.at == at ≡ b → (IsSome (oldest at hs) → length (without (λ h. h.at) at hs) + 1 ≡ length hs)
+    go : (b : Bool) → h.at == at ≡ b
+        → (IsSome (oldest at hs) → length (without (λ h. h.at) at hs) + 1 ≡ length hs)
         → length (without (λ h. h.at) at (h ∷ hs)) + 1 ≡ length (h ∷ hs)
     go true same later = rw (eq-eqb at h.at (sym (eqb-true h.at at same))) (omega arith)
     go false other later =
-        let differs : at ≢ h.at = λ e. let same : h.at == at ≡ true = eq-eqb h.at at (sym e) in absurd (cc (same, other)) in
+        let differs : at ≢ h.at = λ e. absurd (cc (eq-eqb h.at at (sym e), other)) in
         let rest : IsSome (oldest at hs) = rw other at some in
         let fewer = later rest in
         rw (ne_eqb at h.at differs) (omega (arith, fewer))
@@ -83,11 +88,13 @@ module _ (holds : List (List Holding)) (job at : ℕ) (below : job < length hold
     (some : IsSome (oldest at (get_or holds job []))) where
   pub held-gave : (i : ℕ) → held_at (after_transfer holds (GaveBack job at)) i + bit (at == i) ≡ held_at holds i
   held-gave i =
-      let written = sum_by-set (λ hs. held_of i hs) holds job (without (λ h. h.at) at (get_or holds job [])) [] below in
+      let written = sum_by-set (λ hs. held_of i hs) holds job
+      (without (λ h. h.at) at (get_or holds job [])) [] below in
       let fewer = held_of-without at i (get_or holds job []) some in
       omega (arith, written, fewer)
 
-  pub many-gave : sum_by (λ hs. length hs) (after_transfer holds (GaveBack job at)) + 1 ≡ sum_by (λ hs. length hs) holds
+  pub many-gave : sum_by (λ hs. length hs) (after_transfer holds (GaveBack job at)) + 1
+      ≡ sum_by (λ hs. length hs) holds
   many-gave =
       let written = sum_by-set (λ (hs : List Holding). length hs) holds job
       (without (λ h. h.at) at (get_or holds job [])) [] below in
@@ -127,7 +134,8 @@ permits-transfer holds (GaveBack job at) all =
     permits-set holds job _ all (permits-without at (get_or holds job []) (permits-at holds job all))
 
 -- what is given back has no number
-pub oldest-plain : (at : ℕ) (hs : List Holding) → ArePermits hs → option_map_or (λ h. h.element) (oldest at hs) 0 ≡ 0
+pub oldest-plain : (at : ℕ) (hs : List Holding) → ArePermits hs
+    → option_map_or (λ h. h.element) (oldest at hs) 0 ≡ 0
 oldest-plain at [] all = refl
 oldest-plain at (h ∷ hs) all = go (h.at == at) refl (oldest-plain at hs all.1)
   where

@@ -1,62 +1,52 @@
 -- What a ledger keeps after a call at one resource.
-use Rattle.std.proofs.Common.{◌≡◌, ◌≢◌, ◌⊎◌, inl, inr, ℕ, zero, suc, ◌+◌, ◌*◌, ◌<◌, ◌≤◌, ◌==◌, Bool, true, false, List, [], ◌∷◌, ◌++◌, Option, Some, None, is_some, length, map, set, get_or, slice_get, sum, sum_by, count_by, refl, ap, sym, ◌∙◌, subst, length-set, arith}
+use Rattle.std.proofs.Common.{◌≡◌, ◌≢◌, ◌⊎◌, inl, inr, ℕ, ◌+◌, ◌*◌, ◌≤◌, List, [], ◌++◌, Some, is_some, length, map, set, get_or, slice_get, sum, sum_by, count_by, ap, sym, ◌∙◌, subst, length-set}
 use Rattle.std.specs.Prelude.{slice_index}
 use Rattle.std.proofs.lemmas.Bool.{cases_eq}
 use Rattle.std.proofs.lemmas.List.{map-set}
-use Rattle.std.proofs.lemmas.Option.{get_or_from_slice_get, slice_get-get_or}
 use Rattle.cqs_core.specs.declared.entries.Entry.{Entry}
 use Rattle.cqs_core.specs.Numbered.{EachAt}
 use Rattle.cqs_core.specs.SemaphoreAnswers.{Room}
 use Rattle.cqs_core.specs.SemaphoreShown.{shown}
 use Rattle.cqs_core.specs.SoleCaller.{HasWait}
 use Rattle.cqs_core.proofs.EachAtLemmas.{EachAt-write}
-use Rattle.cqs_core.proofs.Places.{get-set_here, get-set_else, get-below}
+use Rattle.cqs_core.proofs.Places.{get-set_here, get-set_else}
 use Rattle.cqs_plan.specs.declared.plans.kind.Kind.{Kind}
-use Rattle.cqs_plan.specs.Floor.{Holding, permits_of}
+use Rattle.cqs_plan.specs.Floor.{permits_of}
 use Rattle.cqs_cli.specs.declared.floors.waits.Wait.{Wait}
-use Rattle.cqs_cli.specs.Kept.{IsKept, IsFunded, StandsIn, AreApart, HoldPermits, holds_in, waiting_at, held_at}
+use Rattle.cqs_cli.specs.Kept.{IsKept, IsFundedAt, StandsIn, AreApart, HoldPermits, holds_in, waiting_at, held_at, transfers_to_come}
 use Rattle.cqs_cli.specs.Ledger.{Ledger}
 use Rattle.cqs_cli.proofs.Resources.{history-at}
 
--- after a call of the core at a place: that core is another, and all that is counted of the other resources is as it was
+-- after a call of the core at a place: that core is another, and what is counted of the other resources is as it was
 pub record Follows (l : Ledger) (at : ℕ) (core after : Room) (n : Ledger) : Type 0 where
   pub there : slice_get l.cores at ≡ Some core
   pub kinds : n.kinds ≡ l.kinds
   pub cores : n.cores ≡ set l.cores at after
   pub rooms : length n.room ≡ length l.room
-  pub funded :
-      IsFunded after (permits_of (slice_get l.kinds at)) (slice_index n.room at) (waiting_at n.waits at) (held_at (holds_in n) at)
+  pub funded : IsFundedAt n at after
   pub room : (i : ℕ) → i ≢ at → slice_index n.room i ≡ slice_index l.room i
   pub waiting : (i : ℕ) → i ≢ at → waiting_at n.waits i ≡ waiting_at l.waits i
   pub held : (i : ℕ) → i ≢ at → held_at (holds_in n) i ≡ held_at (holds_in l) i
-  pub waits : (job : ℕ) (wait : Wait) → slice_get n.waits job ≡ Some (Some wait) → StandsIn (set l.cores at after) wait
+  pub waits : (job : ℕ) (wait : Wait) → slice_get n.waits job ≡ Some (Some wait)
+      → StandsIn (set l.cores at after) wait
   pub apart : AreApart n.waits
   pub plain : HoldPermits (holds_in n)
-  pub spare : 2 * sum n.room + 2 * count_by (λ wait. is_some wait) n.waits + sum_by (λ hs. length hs) (holds_in n) ≤ n.spare
+  pub spare : transfers_to_come n ≤ n.spare
 
 pub kept-next : (l n : Ledger) (at : ℕ) (core after : Room) → IsKept l → Follows l at core after n → IsKept n
 kept-next l n at core after kept f = record {
   cores = ap (λ (cs : List Room). length cs) f.cores ∙ length-set l.cores at after ∙ kept.cores
       ∙ ap (λ (ks : List Kind). length ks) (sym f.kinds);
   rooms = f.rooms ∙ kept.rooms ∙ ap (λ (ks : List Kind). length ks) (sym f.kinds);
-  funded = subst (λ (cs : List Room). EachAt Now cs) (sym f.cores)
-      (EachAt-write Was Now l.cores at core after f.there
-      (subst (λ (ks : List Kind). IsFunded after (permits_of (slice_get ks at)) (slice_index n.room at)
-      (waiting_at n.waits at) (held_at (holds_in n) at)) (sym f.kinds) f.funded)
-      others kept.funded);
+  funded = subst (λ (cs : List Room). EachAt (IsFundedAt n) cs) (sym f.cores)
+      (EachAt-write (IsFundedAt l) (IsFundedAt n) l.cores at core after f.there f.funded others kept.funded);
   waits = λ job wait got. subst (λ (cs : List Room). StandsIn cs wait) (sym f.cores) (f.waits job wait got);
   apart = f.apart;
   plain = f.plain;
   spare = f.spare;
 }
   where
-    Was : ℕ → Room → Type 0
-    Was i c = IsFunded c (permits_of (slice_get l.kinds i)) (slice_index l.room i) (waiting_at l.waits i) (held_at (holds_in l) i)
-
-    Now : ℕ → Room → Type 0
-    Now i c = IsFunded c (permits_of (slice_get n.kinds i)) (slice_index n.room i) (waiting_at n.waits i) (held_at (holds_in n) i)
-
-    others : (i : ℕ) (c : Room) → slice_get l.cores i ≡ Some c → i ≢ at → Was i c → Now i c
+    others : (i : ℕ) (c : Room) → slice_get l.cores i ≡ Some c → i ≢ at → IsFundedAt l i c → IsFundedAt n i c
     others i c got other was = rw (f.kinds, f.room i other, f.waiting i other, f.held i other) was
 
 -- a wait stands on in the cores where it stands on in the one that made the call

@@ -1,10 +1,8 @@
 -- A look at a wait, and a leave: what they rest on, what they answer, and what they leave.
-use Rattle.std.proofs.Common.{◌≡◌, ◌≢◌, ℕ, ◌+◌, ◌*◌, ◌<◌, ◌≤◌, ◌==◌, not, Bool, true, false, List, [], ◌∷◌, ◌++◌, Option, Some, None, IsSome, is_some, length, map, set, get_or, slice_get, refl, ap, sym, ◌∙◌, subst, eq-eqb, ne_eqb, eqb-true, arith}
+use Rattle.std.proofs.Common.{◌≡◌, ◌≢◌, ℕ, ◌+◌, ◌<◌, ◌==◌, not, Bool, true, false, List, [], ◌∷◌, Option, Some, None, is_some, set, get_or, slice_get, refl, ap, sym, ◌∙◌, subst, eq-eqb, ne_eqb, eqb-true, arith}
 use Rattle.std.specs.Prelude.{slice_index}
 use Rattle.std.specs.List.{list_any}
-use Rattle.std.specs.Option.{option_map}
 use Rattle.cqs_core.specs.declared.calls.Call.TheVariants as call
-use Rattle.cqs_core.specs.declared.calls.Reply.{Reply}
 use Rattle.cqs_core.specs.declared.calls.Reply.TheVariants as reply
 use Rattle.cqs_core.specs.declared.entries.Entry.TheVariants as entry
 use Rattle.cqs_core.specs.QueueLine.{Waiting}
@@ -17,13 +15,13 @@ use Rattle.cqs_plan.specs.declared.floors.answers.FloorLook.{FloorLook}
 use Rattle.cqs_plan.specs.declared.floors.answers.FloorLook.TheVariants.{Pending, Granted}
 use Rattle.cqs_plan.specs.declared.floors.answers.FloorLeave.{FloorLeave}
 use Rattle.cqs_plan.specs.declared.floors.answers.FloorLeave.TheVariants.{Gone, Late}
-use Rattle.cqs_plan.specs.Floor.{PlainFloor, JobWait, IsJob, IsWaiting, wait_of, permits_of, object_at}
+use Rattle.cqs_plan.specs.Floor.{PlainFloor, IsJob, wait_of, permits_of}
 use Rattle.cqs_plan.specs.FloorCalls as plain
 use Rattle.cqs_cli.specs.declared.floors.waits.Wait.{Wait}
-use Rattle.cqs_cli.specs.DeskCalls.{Answers, CanCall, CanLook, Calls, Looks, Reads, leave_of, left, is_wait_served}
-use Rattle.cqs_cli.specs.Kept.{IsKept, IsFunded, StandsIn, holds_in, waiting_at, held_at}
-use Rattle.cqs_cli.specs.Ledger.{Ledger, plain_floor, wait_at, with_cores, with_wait, granted, job_wait}
-use Rattle.cqs_cli.specs.SoleCore.{HasMade, IsSole, is_served_at}
+use Rattle.cqs_cli.specs.DeskCalls.{Answers, CanCall, CanLook, Looks, leave_of, left, is_wait_served}
+use Rattle.cqs_cli.specs.Kept.{IsKept, IsFundedAt, StandsIn}
+use Rattle.cqs_cli.specs.Ledger.{Ledger, plain_floor, with_cores, granted, job_wait}
+use Rattle.cqs_cli.specs.SoleCore.{IsSole}
 use Rattle.cqs_cli.proofs.Came.{Came, came-granted, came-left, came-late}
 use Rattle.cqs_cli.proofs.Funded.{funded-rests, funded-ready}
 use Rattle.cqs_cli.proofs.Objects.{stays-closed, stays-left, left-next}
@@ -40,7 +38,7 @@ any-find k (w ∷ ws) = go (w.wait == k) refl (any-find k ws)
         → list_any (λ x. x.wait == k) (w ∷ ws) ≡ is_some (find_wait k (w ∷ ws))
     go true same later = rw (same, eq-eqb k w.wait (sym (eqb-true w.wait k same))) refl
     go false other later =
-        let differs : k ≢ w.wait = λ e. let same : w.wait == k ≡ true = eq-eqb w.wait k (sym e) in absurd (cc (same, other)) in
+        let differs : k ≢ w.wait = λ e. absurd (cc (eq-eqb w.wait k (sym e), other)) in
         rw (other, ne_eqb k w.wait differs) later
 
 none-found : (o : Option Waiting) → is_some o ≡ false → o ≡ None
@@ -60,7 +58,8 @@ not-false true is = refl
 not-false false is = absurd (cc)
 
 -- a job of the ledger whose wait stands
-module _ (l : Ledger) (job : ℕ) (wait : Wait) (kept : IsKept l) (slot : get_or l.waits job None ≡ Some wait) where
+module _ (l : Ledger) (job : ℕ) (wait : Wait) (kept : IsKept l)
+    (slot : get_or l.waits job None ≡ Some wait) where
   has : slice_get l.waits job ≡ Some (Some wait)
   has = (wait-there l.waits job wait slot).0
 
@@ -72,8 +71,7 @@ module _ (l : Ledger) (job : ℕ) (wait : Wait) (kept : IsKept l) (slot : get_or
 
   -- any core that stands at the place of the wait is this one
   module _ (core : Room) (there : slice_get l.cores wait.at ≡ Some core) where
-    funded : IsFunded core (permits_of (slice_get l.kinds wait.at)) (slice_index l.room wait.at)
-        (waiting_at l.waits wait.at) (held_at (holds_in l) wait.at)
+    funded : IsFundedAt l wait.at core
     funded = kept.funded.at wait.at core there
 
     waits : HasWait wait.number 0 (shown core.shape)
@@ -83,18 +81,22 @@ module _ (l : Ledger) (job : ℕ) (wait : Wait) (kept : IsKept l) (slot : get_or
         subst (λ (c : Room). HasWait wait.number 0 (shown c.shape)) is stands.stands
 
     served-reads : is_wait_served core wait ≡ not (is_some (find_wait wait.number (shown core.shape).line))
-    served-reads = (read-wait core.shape funded.sole (funded-rests core _ _ _ _ funded) wait.number 0 waits).reads
+    served-reads =
+        (read-wait core.shape funded.sole (funded-rests core _ _ _ _ funded) wait.number 0 waits).reads
 
-    line-reads : plain.is_in_line (plain_floor l) (job_wait wait) ≡ is_some (find_wait wait.number (shown core.shape).line)
+    line-reads : plain.is_in_line (plain_floor l) (job_wait wait)
+        ≡ is_some (find_wait wait.number (shown core.shape).line)
     line-reads =
-        ap (λ (o : Semaphore). list_any (λ w. w.wait == wait.number) o.line) (object-shown l wait.at core kept there)
+        ap (λ (o : Semaphore). list_any (λ w. w.wait == wait.number) o.line)
+        (object-shown l wait.at core kept there)
         ∙ any-find wait.number (shown core.shape).line
 
   pub can-look : CanLook l.cores wait
   can-look = record {
     core = stands.core;
     there = stands.there;
-    ready = funded-ready _ _ _ _ _ (funded stands.core stands.there) (omega (arith, waiting-here l job wait kept has));
+    ready = funded-ready _ _ _ _ _ (funded stands.core stands.there)
+        (omega (arith, waiting-here l job wait kept has));
     allowed = λ served. waits stands.core stands.there;
   }
 
@@ -102,7 +104,8 @@ module _ (l : Ledger) (job : ℕ) (wait : Wait) (kept : IsKept l) (slot : get_or
   can-leave = record {
     core = stands.core;
     there = stands.there;
-    ready = funded-ready _ _ _ _ _ (funded stands.core stands.there) (omega (arith, waiting-here l job wait kept has));
+    ready = funded-ready _ _ _ _ _ (funded stands.core stands.there)
+        (omega (arith, waiting-here l job wait kept has));
     allowed = waits stands.core stands.there;
   }
 
@@ -131,7 +134,8 @@ look-well l n job wait (Granted element) kept is_job slot (none, reads, (answer,
   answers = rw (none, seen l job wait kept slot, in_line) refl;
   leaves = ap plain_floor same
       ∙ plain-came l job wait kept job_has core after _ answer calls.there calls.made _ _ _ came
-      ∙ ap (λ o. plain.with_granted (plain_floor l) job (λ w. entry.LookGranted 0 w.number) o 0) (sym (seen l job wait kept slot))
+      ∙ ap (λ o. plain.with_granted (plain_floor l) job (λ w. entry.LookGranted 0 w.number) o 0)
+      (sym (seen l job wait kept slot))
       ∙ ap (λ e. plain.after_look (plain_floor l) job (Granted e)) (sym none);
   kept = subst IsKept (sym same)
       (kept-came l job wait kept job_has core after _ answer calls.there calls.made _ _ is_job.holds came
@@ -164,7 +168,8 @@ look-well l n job wait (Granted element) kept is_job slot (none, reads, (answer,
     in_line : plain.is_in_line (plain_floor l) (job_wait wait) ≡ false
     in_line = line-reads l job wait kept slot core calls.there ∙ missing
 
-    came : Came core after answer reply.Granted (entry.LookGranted 0 wait.number ∷ []) (slice_index core.shape.held 0 + 1)
+    came : Came core after answer reply.Granted (entry.LookGranted 0 wait.number ∷ [])
+        (slice_index core.shape.held 0 + 1)
     came = came-granted core after answer sole wait.number calls.made (none-found _ missing)
 
     same : n ≡ with_cores (granted l job wait) (set l.cores wait.at after)
@@ -176,8 +181,8 @@ pub record LeavesWell (f : PlainFloor) (job : ℕ) (answer : FloorLeave) (n : Le
   pub leaves : plain_floor n ≡ plain.after_leave f job answer
   pub kept : IsKept n
 
-leave-well : (l n : Ledger) (job : ℕ) (wait : Wait) (answer : FloorLeave) → IsKept l → IsJob (plain_floor l) job
-    → get_or l.waits job None ≡ Some wait
+leave-well : (l n : Ledger) (job : ℕ) (wait : Wait) (answer : FloorLeave) → IsKept l
+    → IsJob (plain_floor l) job → get_or l.waits job None ≡ Some wait
     → Answers leave_of (call.Cancel 0 wait.number) l.cores wait.at n.cores answer
     → n ≡ with_cores (left l job wait answer) n.cores → LeavesWell (plain_floor l) job answer n
 leave-well l n job wait answer kept is_job slot a written =
@@ -198,14 +203,18 @@ leave-well l n job wait answer kept is_job slot a written =
     job_waits : wait_of (plain_floor l) job ≡ Some (job_wait wait)
     job_waits = seen l job wait kept slot
 
-    in_line : plain.is_in_line (plain_floor l) (job_wait wait) ≡ is_some (find_wait wait.number (shown core.shape).line)
+    in_line : plain.is_in_line (plain_floor l) (job_wait wait)
+        ≡ is_some (find_wait wait.number (shown core.shape).line)
     in_line = line-reads l job wait kept slot core a.calls.there
 
-    same : (told : FloorLeave) → answer ≡ told → n ≡ with_cores (left l job wait told) (set l.cores wait.at after)
+    same : (told : FloorLeave) → answer ≡ told
+        → n ≡ with_cores (left l job wait told) (set l.cores wait.at after)
     same told is =
-        written ∙ ap (λ g. with_cores (left l job wait g) n.cores) is ∙ ap (with_cores (left l job wait told)) a.calls.cores
+        written ∙ ap (λ g. with_cores (left l job wait g) n.cores) is
+        ∙ ap (with_cores (left l job wait told)) a.calls.cores
 
-    go : (b : Bool) → is_some (find_wait wait.number (shown core.shape).line) ≡ b → LeavesWell (plain_floor l) job answer n
+    go : (b : Bool) → is_some (find_wait wait.number (shown core.shape).line) ≡ b
+        → LeavesWell (plain_floor l) job answer n
     go true there =
         let found = some-found _ there in
         let came = came-left core after a.reply sole wait.number found.0 a.calls.made found.1 in
@@ -229,25 +238,28 @@ leave-well l n job wait answer kept is_job slot a written =
           answers = is ∙ rw (job_waits, in_line, missing) refl;
           leaves = ap plain_floor (same (Late 0) is)
               ∙ plain-came l job wait kept job_has core after _ a.reply a.calls.there a.calls.made _ _ _ came
-              ∙ ap (λ o. plain.with_granted (plain_floor l) job (λ w. entry.Late 0 w.number) o 0) (sym job_waits)
+              ∙ ap (λ o. plain.with_granted (plain_floor l) job (λ w. entry.Late 0 w.number) o 0)
+              (sym job_waits)
               ∙ ap (plain.after_leave (plain_floor l) job) (sym is);
           kept = subst IsKept (sym (same (Late 0) is))
-              (kept-came l job wait kept job_has core after _ a.reply a.calls.there a.calls.made _ _ is_job.holds came
+              (kept-came l job wait kept job_has core after _ a.reply a.calls.there a.calls.made _ _
+              is_job.holds came
               (ap (λ (o : Semaphore). o.next) came.shows)
               (λ k other stands. subst (λ (o : Semaphore). HasWait k 0 o) (sym came.shows)
               (stays-closed (shown core.shape) wait.number k other stands)));
         }
 
 -- the same where the floor is seen as its plain floor
-pub look-floor : (l n : Ledger) (f : PlainFloor) (job : ℕ) (wait : Wait) (answer : FloorLook) → plain_floor l ≡ f → IsKept l
+pub look-floor : (l n : Ledger) (f : PlainFloor) (job : ℕ) (wait : Wait) (answer : FloorLook)
+    → plain_floor l ≡ f → IsKept l
     → IsJob f job → get_or l.waits job None ≡ Some wait → Looks l job wait answer n → LooksWell f job answer n
 look-floor l n f job wait answer view kept =
     let Comes : PlainFloor → Type 0 = λ g. IsJob g job → get_or l.waits job None ≡ Some wait → Looks l job wait answer n
     → LooksWell g job answer n in
     subst Comes view (look-well l n job wait answer kept)
 
-pub leave-floor : (l n : Ledger) (f : PlainFloor) (job : ℕ) (wait : Wait) (answer : FloorLeave) → plain_floor l ≡ f
-    → IsKept l → IsJob f job → get_or l.waits job None ≡ Some wait
+pub leave-floor : (l n : Ledger) (f : PlainFloor) (job : ℕ) (wait : Wait) (answer : FloorLeave)
+    → plain_floor l ≡ f → IsKept l → IsJob f job → get_or l.waits job None ≡ Some wait
     → Answers leave_of (call.Cancel 0 wait.number) l.cores wait.at n.cores answer
     → n ≡ with_cores (left l job wait answer) n.cores → LeavesWell f job answer n
 leave-floor l n f job wait answer view kept =

@@ -1,12 +1,11 @@
 -- What the entries of one caller's calls make of a semaphore: which waits still stand, and how many permits are held
 -- and how many of them nobody has looked at.
-use Rattle.std.proofs.Common.{◌≡◌, ◌≢◌, ◌⊎◌, inl, inr, ℕ, ◌+◌, ◌-◌, ◌<◌, nat_lt, Bool, true, false, List, [], ◌∷◌, Some, refl, ap, sym, ◌∙◌, subst, eq-eqb, arith}
+use Rattle.std.proofs.Common.{◌≡◌, ◌≢◌, ◌⊎◌, inl, inr, ℕ, nat_lt, Bool, true, false, List, ◌∷◌, Some, refl, ap, ◌∙◌, eq-eqb}
 use Rattle.std.proofs.lemmas.Bool.{cases_eq}
 use Rattle.cqs_core.specs.declared.entries.Entry.TheVariants as entry
 use Rattle.cqs_core.specs.Keyed.{placed, without}
-use Rattle.cqs_core.specs.Numbered.{IsIn}
 use Rattle.cqs_core.specs.QueueLine.{Waiting, Service}
-use Rattle.cqs_core.specs.SemaphoreEntries.{after_entry, find_wait, with_service, turned_back, left, IsServed, Waits}
+use Rattle.cqs_core.specs.SemaphoreEntries.{after_entry, find_wait, with_service, turned_back, left, IsServed}
 use Rattle.cqs_core.specs.SemaphoreObject.{Semaphore, due}
 use Rattle.cqs_core.specs.SoleCaller.{HasWait}
 use Rattle.cqs_cli.proofs.Stays.{stays-append, comes-last, stays-without, stays-placed, comes-placed, stays-changed}

@@ -1,19 +1,17 @@
 -- A floor on cores as it is made: all is kept, and it is the plain floor on which nothing has happened.
-use Rattle.std.proofs.Common.{◌≡◌, ◌≢◌, ℕ, zero, suc, ◌+◌, ◌*◌, ◌<◌, ◌≤◌, List, [], ◌∷◌, ◌++◌, Option, Some, None, is_some, length, map, replicate, get_or, slice_get, sum, sum_by, count_by, refl, ap, ap₂, sym, ◌∙◌, subst, cond, ◌==◌, lit<, lit≤, arith}
+use Rattle.std.proofs.Common.{◌≡◌, ℕ, zero, suc, ◌<◌, ◌≤◌, List, [], ◌∷◌, Option, Some, None, is_some, length, map, replicate, slice_get, sum_by, count_by, refl, ap, ap₂, sym, ◌∙◌, subst, cond, ◌==◌, lit<, lit≤, arith}
 use Rattle.std.specs.Prelude.{slice_index}
-use Rattle.std.specs.List.{range_with_len}
 use Rattle.std.specs.Option.{option_map}
 use Rattle.std.proofs.lemmas.List.{length-replicate, length-map}
 use Rattle.std.proofs.lemmas.List.Folds.{sum_by-replicate}
 use Rattle.std.proofs.lemmas.List.FromFn.{length-map-range_with_len}
 use Rattle.std.proofs.lemmas.List.Sums.{get_or-le-sum_by}
 use Rattle.std.proofs.lemmas.Option.{slice_get-map}
-use Rattle.cqs_core.specs.declared.doings.Doing.{Doing}
 use Rattle.cqs_core.specs.declared.doings.Doing.TheVariants as doing
 use Rattle.cqs_core.specs.declared.entries.Entry.{Entry}
 use Rattle.cqs_core.specs.Resting.{IsIdle}
 use Rattle.cqs_core.specs.SemaphoreAnswers.{Room}
-use Rattle.cqs_core.specs.SemaphoreShown.{IsSize, opened}
+use Rattle.cqs_core.specs.SemaphoreShown.{opened}
 use Rattle.cqs_core.specs.SemaphoreTable.{Shape}
 use Rattle.cqs_core.proofs.OpenedCore.{opened-core}
 use Rattle.cqs_core.proofs.Places.{get-below, get-there}
@@ -21,11 +19,9 @@ use Rattle.cqs_plan.specs.declared.plans.kind.Kind.{Kind}
 use Rattle.cqs_plan.specs.declared.plans.kind.Kind.TheVariants as kind
 use Rattle.cqs_plan.specs.declared.plans.plan.Plan.{Plan}
 use Rattle.cqs_plan.specs.declared.plans.resource.Resource.{Resource}
-use Rattle.cqs_plan.specs.Floor.{Holding, JobWait, PlainFloor, opening_floor, permits_of, takes_in}
-use Rattle.cqs_plan.specs.Runnable.{kinds_of}
-use Rattle.cqs_cli.specs.declared.floors.transfers.Transfer.{Transfer}
+use Rattle.cqs_plan.specs.Floor.{Holding, opening_floor, permits_of, takes_in}
 use Rattle.cqs_cli.specs.declared.floors.waits.Wait.{Wait}
-use Rattle.cqs_cli.specs.Kept.{IsKept, IsFunded, StandsIn, AreApart, HoldPermits, held_at, holds_in, is_wait_at, waiting_at}
+use Rattle.cqs_cli.specs.Kept.{IsKept, IsFundedAt, HoldPermits, held_at, holds_in, is_wait_at, waiting_at}
 use Rattle.cqs_cli.specs.Ledger.{Ledger, holds_after, job_wait, plain_floor}
 use Rattle.cqs_cli.specs.Opening.{AreSemaphores, IsOpened, IsOpening, IsSemaphore}
 use Rattle.cqs_cli.specs.SoleCore.{IsSole}
@@ -97,17 +93,16 @@ module _ (plan : Plan) (l : Ledger) (semaphores : AreSemaphores plan.resources) 
       ∙ ap (option_map (λ (x : Resource). x.kind)) named
 
   funded-opened : (at : ℕ) (core : Room) → slice_get l.cores at ≡ Some core
-      → IsFunded core (permits_of (slice_get l.kinds at)) (slice_index l.room at) (waiting_at l.waits at)
-          (held_at (holds_in l) at)
+      → IsFundedAt l at core
   funded-opened at core there =
       let below : at < length plan.resources = omega (arith, get-below l.cores at core there, o.long) in
       let named = get-there plan.resources at below in
       let opens : IsOpened named.0.kind (slice_index l.room at) core = o.cores.each at named.0 core named.1 there in
       let kind_is : slice_get l.kinds at ≡ Some named.0.kind = kind-at at named.0 named.1 in
       let waiting : waiting_at l.waits at ≡ 0 =
-          ap (λ ws. waiting_at ws at) o.waits ∙ waiting-none (length plan.jobs) at in
+      ap (λ ws. waiting_at ws at) o.waits ∙ waiting-none (length plan.jobs) at in
       let held : held_at (holds_in l) at ≡ 0 =
-          ap (λ hs. held_at hs at) holds-none ∙ held-none (length plan.jobs) at in
+      ap (λ hs. held_at hs at) holds-none ∙ held-none (length plan.jobs) at in
       let suspends : core.shape.queue.suspends ≡ 0 = ap (λ (s : Shape). s.queue.suspends) opens.shape in
       record {
         sole = subst IsSole (sym opens.shape) (sole-semaphore named.0.kind (semaphores.at at named.0 named.1));
@@ -120,7 +115,7 @@ module _ (plan : Plan) (l : Ledger) (semaphores : AreSemaphores plan.resources) 
   no-wait : (job : ℕ) (wait : Wait) → slice_get l.waits job ≡ Some (Some wait) → ⊥
   no-wait job wait got =
       let none : Some wait ≡ None =
-          replicate-all (length plan.jobs) None (Some wait) job (ap (λ ws. slice_get ws job) (sym o.waits) ∙ got) in
+      replicate-all (length plan.jobs) None (Some wait) job (ap (λ ws. slice_get ws job) (sym o.waits) ∙ got) in
       cc
 
   pub kept-opened : IsKept l
@@ -150,9 +145,9 @@ module _ (plan : Plan) (l : Ledger) (semaphores : AreSemaphores plan.resources) 
   pub plain-opened : plain_floor l ≡ opening_floor plan
   plain-opened =
       let entries : map (λ (c : Room). c.shape.history) l.cores ≡ replicate (length plan.resources) [] =
-          histories l.cores no-history ∙ ap (λ n. replicate n []) o.long in
+      histories l.cores no-history ∙ ap (λ n. replicate n []) o.long in
       let waits : map (option_map job_wait) l.waits ≡ replicate (length plan.jobs) None =
-          ap (map (option_map job_wait)) o.waits ∙ map-none (length plan.jobs) in
+      ap (map (option_map job_wait)) o.waits ∙ map-none (length plan.jobs) in
       rw (o.kinds, entries, o.room, waits, holds-none) refl
     where
       histories : (cores : List Room) → ((at : ℕ) (c : Room) → slice_get cores at ≡ Some c → c.shape.history ≡ [])

@@ -1,5 +1,5 @@
 -- The resources of a ledger: each has its core, which shows the plain semaphore of the resource.
-use Rattle.std.proofs.Common.{◌≡◌, ◌≢◌, ℕ, zero, suc, ◌+◌, ◌<◌, ◌≤◌, ◌==◌, Bool, true, false, List, [], ◌∷◌, ◌++◌, Option, Some, None, length, map, get_or, slice_get, refl, ap, sym, ◌∙◌, subst, eq-eqb, ne_eqb, arith}
+use Rattle.std.proofs.Common.{◌≡◌, ◌≢◌, ℕ, zero, suc, ◌<◌, ◌==◌, List, [], ◌∷◌, Option, Some, None, length, map, get_or, slice_get, refl, ap, sym, ◌∙◌, eq-eqb, ne_eqb, arith}
 use Rattle.std.specs.Prelude.{slice_index}
 use Rattle.std.specs.Option.{option_map}
 use Rattle.std.proofs.lemmas.List.{length-map}
@@ -12,7 +12,7 @@ use Rattle.cqs_plan.specs.declared.plans.kind.Kind.{Kind}
 use Rattle.cqs_plan.specs.declared.plans.kind.Kind.TheVariants as kind
 use Rattle.cqs_plan.specs.Floor.{IsHoldable, IsJob, permits_of, object_at}
 use Rattle.cqs_cli.specs.declared.floors.waits.Wait.{Wait}
-use Rattle.cqs_cli.specs.Kept.{IsKept, IsFunded, holds_in, waiting_at, held_at}
+use Rattle.cqs_cli.specs.Kept.{IsKept, IsFundedAt}
 use Rattle.cqs_cli.specs.Ledger.{Ledger, job_wait, plain_floor}
 
 pub bit-same : (n : ℕ) → bit (n == n) ≡ 1
@@ -25,8 +25,7 @@ bit-other n m other = ap bit (ne_eqb n m other)
 pub record Funds (l : Ledger) (at : ℕ) : Type 0 where
   pub core : Room
   pub there : slice_get l.cores at ≡ Some core
-  pub funded :
-      IsFunded core (permits_of (slice_get l.kinds at)) (slice_index l.room at) (waiting_at l.waits at) (held_at (holds_in l) at)
+  pub funded : IsFundedAt l at core
 
 -- something that can be held is a semaphore
 pub holdable-semaphore : (k : Option Kind) → IsHoldable k → (permits : ℕ) × (k ≡ Some (kind.Semaphore permits))

@@ -1,6 +1,5 @@
 -- The cells of a core whose one pass is between two calls: what stands in them of a wait.
-use Rattle.std.proofs.Common.{◌≡◌, ◌≢◌, ◌⊎◌, inl, inr, ℕ, suc, ◌+◌, ◌<◌, ◌≤◌, not, Bool, true, false, List, [], ◌∷◌, Option, Some, None, is_some, length, slice_get, refl, ap, sym, ◌∙◌, subst, arith}
-use Rattle.cqs_core.specs.declared.cells.CoreCell.{CoreCell}
+use Rattle.std.proofs.Common.{◌≡◌, ◌≢◌, ◌⊎◌, inl, inr, ℕ, suc, ◌<◌, ◌≤◌, not, List, [], ◌∷◌, Option, Some, None, is_some, length, slice_get, refl, subst, arith}
 use Rattle.cqs_core.specs.declared.cells.CoreState.{CoreState}
 use Rattle.cqs_core.specs.declared.cells.CoreState.TheVariants as state
 use Rattle.cqs_core.specs.Numbered.{cons_option, picked}

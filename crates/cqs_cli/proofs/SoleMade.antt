@@ -1,5 +1,5 @@
 -- What a call of a core with one pass comes to.
-use Rattle.std.proofs.Common.{◌≡◌, ℕ, ◌+◌, ◌-◌, ◌≤◌, List, [], ◌∷◌, ◌++◌, Option, Some, None, length, get_or, set, refl, sym, ap, ◌∙◌, length-set, arith}
+use Rattle.std.proofs.Common.{◌≡◌, ℕ, ◌+◌, ◌≤◌, List, Some, length, refl, sym, ap, ◌∙◌, length-set}
 use Rattle.cqs_core.specs.declared.calls.Call.{Call}
 use Rattle.cqs_core.specs.declared.calls.Call.TheVariants as call
 use Rattle.cqs_core.specs.declared.calls.Reply.{Reply}
@@ -9,7 +9,7 @@ use Rattle.cqs_core.specs.SemaphoreCalls.{Course, refused, replied, stuck, cours
 use Rattle.cqs_core.specs.SemaphoreShown.{IsCore}
 use Rattle.cqs_core.specs.SoleCaller.{IsSoleCall, ShowsNext, held_after}
 use Rattle.cqs_core.proofs.CallsKeep.{call_ready-core}
-use Rattle.cqs_cli.specs.SoleCore.{HasMade, IsReady, IsSole}
+use Rattle.cqs_cli.specs.SoleCore.{HasMade, IsReady}
 
 -- a call changes what a pass holds, and not how many passes there are
 length-held_after : (held : List ℕ) (c : Call) (answer : Reply) → length (held_after held c answer) ≡ length held

@@ -1,5 +1,5 @@
 -- What stays in a list when another element is left out, placed or changed.
-use Rattle.std.proofs.Common.{◌≡◌, ◌≢◌, ◌⊎◌, inl, inr, ℕ, zero, suc, ◌==◌, nat_lt, Bool, true, false, List, [], ◌∷◌, ◌++◌, Option, Some, None, if◌then◌else◌, refl, ap, sym, ◌∙◌, subst, eqb-true}
+use Rattle.std.proofs.Common.{◌≡◌, ◌≢◌, ◌⊎◌, inl, inr, ℕ, zero, suc, ◌==◌, nat_lt, Bool, true, false, List, [], ◌∷◌, ◌++◌, Some, refl, ap, sym, ◌∙◌, eqb-true}
 use Rattle.cqs_core.specs.Keyed.{placed, without, changed}
 use Rattle.cqs_core.specs.Numbered.{IsIn}
 use Rattle.cqs_core.proofs.Places.{get-append_left}

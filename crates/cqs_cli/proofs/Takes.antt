@@ -1,39 +1,35 @@
 -- A take: what it rests on, what it answers, and what it leaves.
-use Rattle.std.proofs.Common.{◌≡◌, ◌≢◌, ◌⊎◌, inl, inr, ℕ, ◌+◌, ◌-◌, ◌*◌, ◌<◌, ◌≤◌, ◌==◌, nat_lt, Bool, true, false, List, [], ◌∷◌, ◌++◌, Option, Some, None, is_some, length, map, set, get_or, slice_get, sum, sum_by, count_by, refl, ap, sym, ◌∙◌, subst, length-set, eq-eqb, ne_eqb, arith}
+use Rattle.std.proofs.Common.{◌≡◌, ◌≢◌, ◌⊎◌, inl, inr, ℕ, ◌+◌, ◌-◌, ◌<◌, ◌==◌, nat_lt, Bool, true, false, [], ◌∷◌, Some, None, is_some, length, set, get_or, slice_get, sum, sum_by, count_by, refl, ap, sym, ◌∙◌, subst, length-set, arith}
 use Rattle.std.specs.Prelude.{slice_index}
 use Rattle.std.specs.Option.{option_map}
 use Rattle.std.proofs.lemmas.Bool.{cases_eq}
 use Rattle.std.proofs.lemmas.List.{map-set, get_or-set_same, get_or-set_other}
-use Rattle.std.proofs.lemmas.List.Sums.{sum_by-set}
 use Rattle.cqs_core.specs.declared.calls.Call.TheVariants as call
 use Rattle.cqs_core.specs.declared.calls.Reply.{Reply}
 use Rattle.cqs_core.specs.declared.calls.Reply.TheVariants as reply
 use Rattle.cqs_core.specs.declared.entries.Entry.TheVariants as entry
 use Rattle.cqs_core.specs.SemaphoreAnswers.{Room}
-use Rattle.cqs_core.specs.SemaphoreEntries.{after_entry}
 use Rattle.cqs_core.specs.SemaphoreObject.{Semaphore}
 use Rattle.cqs_core.specs.SemaphoreShown.{shown}
-use Rattle.cqs_core.specs.SoleCaller.{HasWait, MayCall}
+use Rattle.cqs_core.specs.SoleCaller.{HasWait}
 use Rattle.cqs_core.proofs.CoreSteps.{loses-sum}
 use Rattle.cqs_core.proofs.Counts.{bit}
-use Rattle.cqs_core.proofs.Places.{get-set_here, get-set_else, get-below, get-there}
+use Rattle.cqs_core.proofs.Places.{get-set_here, get-set_else, get-there}
 use Rattle.cqs_plan.specs.declared.floors.answers.FloorTake.{FloorTake}
 use Rattle.cqs_plan.specs.declared.floors.answers.FloorTake.TheVariants.{Now, Waits}
-use Rattle.cqs_plan.specs.declared.plans.kind.Kind.{Kind}
-use Rattle.cqs_plan.specs.declared.plans.kind.Kind.TheVariants as kind
-use Rattle.cqs_plan.specs.Floor.{PlainFloor, JobWait, Holding, IsHoldable, IsJob, IsIdle, permits_of, object_at, room_at}
+use Rattle.cqs_plan.specs.Floor.{PlainFloor, IsHoldable, IsJob, IsIdle, permits_of, object_at, room_at}
 use Rattle.cqs_plan.specs.FloorCalls.{take_answer, after_take}
-use Rattle.cqs_cli.specs.declared.floors.transfers.Transfer.TheVariants.{Got, GaveBack}
+use Rattle.cqs_cli.specs.declared.floors.transfers.Transfer.TheVariants.{Got}
 use Rattle.cqs_cli.specs.declared.floors.waits.Wait.{Wait}
-use Rattle.cqs_cli.specs.DeskCalls.{Answers, CanCall, Calls, take_of}
-use Rattle.cqs_cli.specs.Kept.{IsKept, IsFunded, StandsIn, AreApart, HoldPermits, holds_in, waiting_at, held_at, is_wait_at}
+use Rattle.cqs_cli.specs.DeskCalls.{Answers, CanCall, take_of}
+use Rattle.cqs_cli.specs.Kept.{IsKept, IsFundedAt, StandsIn, HoldPermits, holds_in, waiting_at, held_at, is_wait_at}
 use Rattle.cqs_cli.specs.Ledger.{Ledger, plain_floor, taken, with_cores, job_wait, holds_after, after_transfer}
 use Rattle.cqs_cli.specs.SoleCore.{HasMade}
 use Rattle.cqs_cli.proofs.Came.{Came, came-now, came-later}
 use Rattle.cqs_cli.proofs.Funded.{funded-next, funded-rests, funded-ready}
 use Rattle.cqs_cli.proofs.Holdings.{count-set, held-got, many-got, permits-transfer, holds-transfer}
 use Rattle.cqs_cli.proofs.KeptNext.{Follows, kept-next, stands-on, histories-next}
-use Rattle.cqs_cli.proofs.Objects.{entered_after_door, stays-entered, comes-entered}
+use Rattle.cqs_cli.proofs.Objects.{stays-entered, comes-entered}
 use Rattle.cqs_cli.proofs.Resources.{Funds, funds-at, bit-same, bit-other, object-shown, place-room, job-there, idle-there}
 use Rattle.cqs_cli.proofs.SoleCells.{read-wait, line-few}
 
@@ -68,8 +64,7 @@ module _ (l : Ledger) (at job : ℕ) (kept : IsKept l) (place : at < length l.ro
 
   module _ (core after : Room) (answer : Reply) (there : slice_get l.cores at ≡ Some core)
       (made : HasMade core (call.Acquire 0) answer after) where
-    funded : IsFunded core (permits_of (slice_get l.kinds at)) (slice_index l.room at) (waiting_at l.waits at)
-        (held_at (holds_in l) at)
+    funded : IsFundedAt l at core
     funded = kept.funded.at at core there
 
     -- the job has a permit
@@ -282,8 +277,7 @@ take-well l n at job answer kept holdable is_job idle room a written =
     nobody : get_or l.waits job None ≡ None
     nobody = idle-there l.waits job idle
 
-    funded : IsFunded core (permits_of (slice_get l.kinds at)) (slice_index l.room at) (waiting_at l.waits at)
-        (held_at (holds_in l) at)
+    funded : IsFundedAt l at core
     funded = kept.funded.at at core a.calls.there
 
     go : (b : Bool) → nat_lt 0 (shown core.shape).free ≡ b → TakesWell (plain_floor l) at job answer n

@@ -1,5 +1,5 @@
 -- The wait of a job is over: it looked at what came, left the line, or was too late to leave.
-use Rattle.std.proofs.Common.{◌≡◌, ◌≢◌, ◌⊎◌, inl, inr, ℕ, ◌+◌, ◌-◌, ◌*◌, ◌<◌, ◌≤◌, ◌==◌, Bool, true, false, List, [], ◌∷◌, ◌++◌, Option, Some, None, is_some, length, map, set, get_or, slice_get, sum, sum_by, count_by, refl, ap, ap₂, sym, ◌∙◌, subst, length-set, arith}
+use Rattle.std.proofs.Common.{◌≡◌, ◌≢◌, ◌⊎◌, inl, inr, ℕ, ◌+◌, ◌<◌, ◌==◌, List, [], ◌∷◌, ◌++◌, Some, None, is_some, length, map, set, get_or, slice_get, sum_by, count_by, refl, ap, ap₂, sym, ◌∙◌, subst, length-set, arith}
 use Rattle.std.specs.Prelude.{slice_index}
 use Rattle.std.specs.Option.{option_map}
 use Rattle.std.proofs.lemmas.Bool.{cases_eq}
@@ -13,18 +13,17 @@ use Rattle.cqs_core.specs.SemaphoreShown.{shown}
 use Rattle.cqs_core.specs.SoleCaller.{HasWait}
 use Rattle.cqs_core.proofs.Counts.{bit}
 use Rattle.cqs_core.proofs.Places.{get-set_here, get-set_else, get-below}
-use Rattle.cqs_plan.specs.Floor.{Holding, JobWait, PlainFloor, permits_of}
-use Rattle.cqs_plan.specs.FloorCalls as plain
-use Rattle.cqs_cli.specs.declared.floors.transfers.Transfer.TheVariants.{Got, GaveBack}
+use Rattle.cqs_plan.specs.Floor.{permits_of}
+use Rattle.cqs_cli.specs.declared.floors.transfers.Transfer.TheVariants.{Got}
 use Rattle.cqs_cli.specs.declared.floors.waits.Wait.{Wait}
-use Rattle.cqs_cli.specs.Kept.{IsKept, IsFunded, StandsIn, AreApart, HoldPermits, holds_in, waiting_at, held_at, is_wait_at}
+use Rattle.cqs_cli.specs.Kept.{IsKept, IsFundedAt, StandsIn, AreApart, HoldPermits, holds_in, waiting_at, held_at, is_wait_at}
 use Rattle.cqs_cli.specs.Ledger.{Ledger, plain_floor, with_cores, with_wait, granted, after_transfer, holds_after, job_wait}
 use Rattle.cqs_cli.specs.SoleCore.{HasMade}
 use Rattle.cqs_cli.proofs.Came.{Came}
 use Rattle.cqs_cli.proofs.Funded.{funded-next}
 use Rattle.cqs_cli.proofs.Holdings.{count-set, held-got, many-got, permits-transfer, holds-transfer}
-use Rattle.cqs_cli.proofs.KeptNext.{Follows, kept-next, stands-on, histories-next}
-use Rattle.cqs_cli.proofs.Resources.{bit-same, bit-other, wait-there}
+use Rattle.cqs_cli.proofs.KeptNext.{kept-next, stands-on, histories-next}
+use Rattle.cqs_cli.proofs.Resources.{bit-same, bit-other}
 
 -- a job whose wait stands
 module _ (l : Ledger) (job : ℕ) (wait : Wait) (kept : IsKept l) (has : slice_get l.waits job ≡ Some (Some wait)) where
@@ -84,8 +83,7 @@ module _ (l : Ledger) (job : ℕ) (wait : Wait) (kept : IsKept l) (has : slice_g
   -- a call of the core of that wait
   module _ (core after : Room) (c : Call) (answer : Reply) (there : slice_get l.cores wait.at ≡ Some core)
       (made : HasMade core c answer after) where
-    funded : IsFunded core (permits_of (slice_get l.kinds wait.at)) (slice_index l.room wait.at) (waiting_at l.waits wait.at)
-        (held_at (holds_in l) wait.at)
+    funded : IsFundedAt l wait.at core
     funded = kept.funded.at wait.at core there
 
     -- the other waits stand on

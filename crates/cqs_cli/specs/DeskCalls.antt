@@ -1,5 +1,5 @@
 -- The calls of a floor on cores in the words of its ledger.
-use Rattle.std.specs.Prelude.{◌≡◌, ℕ, ◌+◌, ◌-◌, ◌<◌, ◌≤◌, ℤ, pos, negsuc, ◌≤ℤ◌, Bool, true, false, List, Option, Some, None, length, slice_get, slice_set, slice_index}
+use Rattle.std.specs.Prelude.{◌≡◌, ℕ, ◌+◌, ◌-◌, ℤ, pos, negsuc, ◌≤ℤ◌, Bool, true, false, List, Some, None, slice_get, slice_set}
 use Rattle.cqs_core.specs.declared.calls.Call.{Call}
 use Rattle.cqs_core.specs.declared.calls.Call.TheVariants as call
 use Rattle.cqs_core.specs.declared.calls.Reply.{Reply}
@@ -37,7 +37,8 @@ pub record Calls (old : List Room) (at : ℕ) (c : Call) (answer : Reply) (new :
   pub cores : new ≡ slice_set old at after
 
 -- a floor answers by the reply of the core at a place
-pub record Answers {A : Type 0} (answer_of : Reply → A) (c : Call) (old : List Room) (at : ℕ) (new : List Room) (answer : A) : Type 0 where
+pub record Answers {A : Type 0} (answer_of : Reply → A) (c : Call) (old : List Room) (at : ℕ) (new : List Room)
+    (answer : A) : Type 0 where
   pub reply : Reply
   pub calls : Calls old at c reply new
   pub told : answer ≡ answer_of reply

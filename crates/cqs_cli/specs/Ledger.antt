@@ -1,10 +1,9 @@
 -- What a floor on cores keeps, and the plain floor that it stands for.
-use Rattle.std.specs.Prelude.{ℕ, ◌-◌, List, [], ◌∷◌, ◌++◌, Option, Some, None, length, map, replicate, slice_get, slice_index, slice_index_or, slice_set}
+use Rattle.std.specs.Prelude.{ℕ, ◌-◌, List, [], ◌∷◌, ◌++◌, Option, Some, None, length, map, replicate, slice_index, slice_index_or, slice_set}
 use Rattle.std.specs.Option.{option_map}
 use Rattle.std.specs.List.{fold}
 use Rattle.cqs_core.specs.Keyed.{without}
 use Rattle.cqs_core.specs.SemaphoreAnswers.{Room}
-use Rattle.cqs_plan.specs.declared.floors.answers.FloorGive.{FloorGive}
 use Rattle.cqs_plan.specs.declared.floors.answers.FloorTake.{FloorTake}
 use Rattle.cqs_plan.specs.declared.floors.answers.FloorTake.TheVariants.{Now, Waits}
 use Rattle.cqs_plan.specs.declared.plans.kind.Kind.{Kind}
@@ -72,7 +71,8 @@ with_less_room l at = record l { room = slice_set l.room at (slice_index l.room 
 -- what a take writes down
 abbrev pub taken : Ledger → ℕ → ℕ → FloorTake → Ledger
 taken l at job (Now element) = with_transfer (with_less_room l at) (Got job at)
-taken l at job (Waits number) = with_wait (with_less_room l at) job (Some (record { at = at; number = number }))
+taken l at job (Waits number) =
+    with_wait (with_less_room l at) job (Some (record { at = at; number = number }))
 
 -- the wait of a job is over, and it has what came
 abbrev pub granted : Ledger → ℕ → Wait → Ledger

@@ -14,18 +14,18 @@ bounds-room-at-in-Take c =
 
 pub loop-step-preserved : goal.loop-step-preserved
 loop-step-preserved c = elim c.match-step.branch [
-  in-Take w ↦
-    let place = within-at _ _ _ _ c.requires.within c.loop-step-test.true w.in-Take.is in
-    let there : w.in-Take.at < length c.loop-step.room = omega (arith, place, c.loop-step.auto.room) in
-    record {
-      counts = rw w.room-is
-          (counted-take _ _ _ _ _ c.loop-step-test.true there w.in-Take.is c.loop-step.invariant.counts);
-      few = rw w.room-is (omega (arith, gains-sum c.loop-step.room w.in-Take.at there, c.loop-step.invariant.few));
-    }
+  | in-Take w ↦
+      let place = within-at _ _ _ _ c.requires.within c.loop-step-test.true w.in-Take.is in
+      let there : w.in-Take.at < length c.loop-step.room = omega (arith, place, c.loop-step.auto.room) in
+      record {
+        counts = rw w.room-is
+            (counted-take _ _ _ _ _ c.loop-step-test.true there w.in-Take.is c.loop-step.invariant.counts);
+        few = rw w.room-is (omega (arith, gains-sum c.loop-step.room w.in-Take.at there, c.loop-step.invariant.few));
+      }
   | in_default w ↦
-    record {
-      counts = rw w.room-is
-          (counted-else _ _ _ _ c.loop-step-test.true w.in_default.not-Take c.loop-step.invariant.counts);
-      few = rw w.room-is (omega (arith, c.loop-step.invariant.few));
-    }
+      record {
+        counts = rw w.room-is
+            (counted-else _ _ _ _ c.loop-step-test.true w.in_default.not-Take c.loop-step.invariant.counts);
+        few = rw w.room-is (omega (arith, c.loop-step.invariant.few));
+      }
 ]

@@ -10,19 +10,19 @@ loop-job-preserved c =
     let new : List ℕ = c.count_steps.new.room in
     let long : c.loop-job.room.len ≡ length new = omega (arith, c.count_steps.auto.room, c.deref_mut.ensures.len) in
     let whole : take c.loop-job.room.len (new ++ drop (length new) c.loop-job.room.items) ≡ new =
-        ap (λ n. take n (new ++ drop (length new) c.loop-job.room.items)) long
-        ∙ take-append_seam new (drop (length new) c.loop-job.room.items) in
+    ap (λ n. take n (new ++ drop (length new) c.loop-job.room.items)) long
+    ∙ take-append_seam new (drop (length new) c.loop-job.room.items) in
     let few_steps : length c.job-item.result.steps ≤ 64 =
-        (c.requires.countable.at c.loop-job.job-index c.job-item.result
-            (slice_get-get_or c.args.jobs.now c.loop-job.job-index c.job-item.result c.loop-job-test.true
-                ∙ ap Some (sym c.job-item.is))).few in
+    (c.requires.countable.at c.loop-job.job-index c.job-item.result
+    (slice_get-get_or c.args.jobs.now c.loop-job.job-index c.job-item.result c.loop-job-test.true
+    ∙ ap Some (sym c.job-item.is))).few in
     let sums : sum new ≤ sum c.loop-job.room.items + length c.job-item.result.steps =
-        rw (← c.deref_mut.ensures.value, ← c.as_slice.ensures) c.count_steps.ensures.few in
+    rw (← c.deref_mut.ensures.value, ← c.as_slice.ensures) c.count_steps.ensures.few in
     record {
       counts = λ at.
           let written : get_or new at 0
-              ≡ get_or c.loop-job.room.items at 0 + count_by (is_take at) c.job-item.result.steps =
-              rw (← c.deref_mut.ensures.value, ← c.as_slice.ensures) (c.count_steps.ensures.counts at) in
+          ≡ get_or c.loop-job.room.items at 0 + count_by (is_take at) c.job-item.result.steps =
+          rw (← c.deref_mut.ensures.value, ← c.as_slice.ensures) (c.count_steps.ensures.counts at) in
           ap (λ xs. get_or xs at 0) whole ∙ written
           ∙ ap (λ n. n + count_by (is_take at) c.job-item.result.steps) (c.loop-job.invariant.counts at)
           ∙ sym (takes-more c.args.jobs.now c.loop-job.job-index c.job-item.result at c.loop-job-test.true c.job-item.is);
@@ -33,4 +33,4 @@ loop-job-preserved c =
 pub returns-clause-counts : goal.returns-clause-counts
 returns-clause-counts c =
     counts-all c.loop-job.room.items c.args.jobs.now c.args.resources c.loop-job.job-index c.loop-job.invariant.long
-        (omega (arith, c.loop-job-test.false, c.loop-job.auto.job-index-end)) c.loop-job.invariant.counts
+    (omega (arith, c.loop-job-test.false, c.loop-job.auto.job-index-end)) c.loop-job.invariant.counts

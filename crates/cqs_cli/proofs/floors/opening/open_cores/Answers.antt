@@ -1,4 +1,4 @@
-use Rattle.std.proofs.Common.{arith, length, sym}
+use Rattle.std.proofs.Common.{arith}
 use Rattle.std.proofs.lemmas.List.{length_push}
 use Rattle.cqs_cli.proofs.Counting.{opened-push}
 use Rattle.cqs_cli.proofs.floors.opening.open_cores.Goals as goal
@@ -11,5 +11,5 @@ loop-at-preserved c =
           (omega (arith, length_push c.loop-at.cores.items c.in_ok-open_core.field-0, long));
       opened = rw c.in_ok-push.ensures.items
           (opened-push _ _ _ c.index-resources-at.result _ (omega (arith, long, c.loop-at-test.true))
-              (rw long c.index-resources-at.is) (rw long c.in_ok-open_core.ensures) c.loop-at.invariant.opened);
+          (rw long c.index-resources-at.is) (rw long c.in_ok-open_core.ensures) c.loop-at.invariant.opened);
     }

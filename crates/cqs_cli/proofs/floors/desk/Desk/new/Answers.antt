@@ -1,4 +1,3 @@
-use Rattle.std.proofs.Common.{length, ap, ◌∙◌}
 use Rattle.std.proofs.lemmas.List.FromFn.{length-map-range_with_len}
 use Rattle.cqs_cli.proofs.Counting.{runnable-countable}
 use Rattle.cqs_cli.proofs.floors.desk.Desk.new.Goals as goal

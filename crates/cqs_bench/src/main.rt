@@ -1,50 +1,92 @@
-//! Times what the program does with a plan on standard input: the parse of its bytes, or the reading of the plan.
+//! Times what the program does with a plan on standard input: the parse of its document, the reading of the plan, or its run.
 //!
-//! It prints one line, with nanoseconds and with what the plain code prints of the same plan.
+//! Each part prints one line, which starts with its word and its nanoseconds.
 #![tactic(auto)]
 
+use cqs_cli::CoreFloor;
 use cqs_plan::read_plan;
-use std::alloc::Global;
+use cqs_turns::{Report, run_plan};
 use std::env;
-use std::io::Read;
+use std::io::{self, Read};
 use std::process::ExitCode;
+use std::rt::Clock;
 use std::time::Instant;
 
-const USAGE: &str = "usage: cqs_bench toml | plan < PLAN";
+const USAGE: &str = "usage: cqs_bench toml | plan | run, with a plan on standard input";
 
 const BAD_COMMAND: u8 = 2;
 
-/// Parses the bytes as a TOML document, and drops it again.
-fn parse(alloc: Global, bytes: &[u8]) -> anyhow::Result<usize> {
-    match toml::table_from_slice(alloc, bytes) {
-        Ok(table) => Ok(table.len()),
-        Err(_) => anyhow::bail!("not a TOML document"),
-    }
+/// The parse of the document, and the freeing of what was parsed.
+fn time_parse(rt: &(impl Clock + Print + AllocGlobal), bytes: &[u8]) -> anyhow::Result<()> {
+    let start = Instant::now(rt)?;
+    let keys = match toml::table_from_slice(rt.alloc(), bytes) {
+        Ok(table) => table.len(),
+        Err(_) => anyhow::bail!("the input is no TOML document"),
+    };
+    let nanoseconds = start.elapsed(rt)?.as_nanos();
+    println!(rt; "toml {nanoseconds} bytes {} keys {keys}", bytes.len())?;
+    Ok(())
 }
 
-/// Reads the bytes as a plan, and drops it again.
-fn plan(alloc: Global, bytes: &[u8]) -> anyhow::Result<usize> {
-    match read_plan(alloc, bytes) {
-        Ok(plan) => Ok(plan.jobs.as_slice().len()),
-        Err(_) => anyhow::bail!("not a plan"),
+/// The reading of the plan, from its bytes on, and the freeing of the plan.
+fn time_reading(rt: &(impl Clock + Print + AllocGlobal), bytes: &[u8]) -> anyhow::Result<()> {
+    let start = Instant::now(rt)?;
+    let jobs = match read_plan(rt.alloc(), bytes) {
+        Ok(plan) => plan.jobs.as_slice().len(),
+        Err(_) => anyhow::bail!("the input is no plan"),
+    };
+    let nanoseconds = start.elapsed(rt)?.as_nanos();
+    println!(rt; "plan {nanoseconds} bytes {} jobs {jobs}", bytes.len())?;
+    Ok(())
+}
+
+/// A sum over a text, by which two reports are compared.
+fn sum_of(text: &[u8]) -> u64 {
+    text.iter().fold(0u64, |sum, byte| {
+        sum.wrapping_mul(31).wrapping_add(u64::from(*byte))
+    })
+}
+
+/// The run of a plan that was read before, with the making of its floor.
+fn time_run(rt: &(impl Clock + Print + AllocGlobal), bytes: &[u8]) -> anyhow::Result<()> {
+    let alloc = rt.alloc();
+    let Ok(plan) = read_plan(alloc, bytes) else {
+        anyhow::bail!("the input is no plan");
+    };
+    let start = Instant::now(rt)?;
+    let Ok(mut floor) = CoreFloor::new(alloc, &plan) else {
+        anyhow::bail!("no memory for the floor");
+    };
+    let mut report = Report::new(alloc);
+    if run_plan(alloc, &plan, &mut floor, &mut report).is_err() {
+        anyhow::bail!("no memory for the report");
     }
+    let nanoseconds = start.elapsed(rt)?.as_nanos();
+    let text = report.text();
+    println!(rt;
+        "run {nanoseconds} bytes {} sum {}",
+        text.len(),
+        sum_of(text)
+    )?;
+    Ok(())
+}
+
+fn usage(rt: &impl Print) -> io::Result<ExitCode> {
+    println!(rt; "{USAGE}")?;
+    Ok(ExitCode::from(BAD_COMMAND))
 }
 
 fn main(rt: HostRuntime) -> anyhow::Result<ExitCode> {
-    let alloc = rt.alloc();
     let Some(word) = env::args(&rt)?.nth(1) else {
-        println!(rt; "{USAGE}")?;
-        return Ok(ExitCode::from(BAD_COMMAND));
+        return Ok(usage(&rt)?);
     };
-    let mut bytes = Vec::new(alloc);
+    let mut bytes = Vec::new(rt.alloc());
     rt.stdin().read_to_end(&mut bytes)?;
-    let start = Instant::now(&rt)?;
-    let count = match word.as_str() {
-        "toml" => parse(alloc, &bytes)?,
-        "plan" => plan(alloc, &bytes)?,
-        _ => anyhow::bail!("no such word"),
-    };
-    let nanoseconds = start.elapsed(&rt)?.as_nanos();
-    println!(rt; "{word} {nanoseconds} bytes {} sum {count}", bytes.len())?;
+    match word.as_str() {
+        "toml" => time_parse(&rt, &bytes)?,
+        "plan" => time_reading(&rt, &bytes)?,
+        "run" => time_run(&rt, &bytes)?,
+        _ => return Ok(usage(&rt)?),
+    }
     Ok(ExitCode::SUCCESS)
 }

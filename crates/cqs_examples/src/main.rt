@@ -6,7 +6,13 @@ use cqs_plan::{SureSink, SureSource};
 use std::fs;
 use std::rt::Files;
 
-const NAMES: [&str; 5] = ["empty", "two-jobs", "connection-pool", "nightly-batch", "job-server"];
+const NAMES: [&str; 5] = [
+    "empty",
+    "two-jobs",
+    "connection-pool",
+    "nightly-batch",
+    "job-server",
+];
 
 /// The most that a report of an example takes.
 const ROOM: u32 = 65_536;
@@ -29,7 +35,11 @@ fn is_as_stored<R: Files + AllocGlobal>(rt: &R, name: &str) -> anyhow::Result<bo
 
 fn main(rt: HostRuntime) -> anyhow::Result<()> {
     for name in NAMES {
-        let told = if is_as_stored(&rt, name)? { "as stored" } else { "NOT as stored" };
+        let told = if is_as_stored(&rt, name)? {
+            "as stored"
+        } else {
+            "NOT as stored"
+        };
         println!(rt; "{name}: {told}")?;
     }
     Ok(())

@@ -102,8 +102,9 @@ pub record IsCrossing (s : QueueStep) (facts : Facts) (word expected new : ℕ) 
   pub place : word ≡ cell_place (number_at facts.doing)
   pub payload : ℕ
   pub payload_fits : payload < 2 ^ 20
+  pub bare : IsBare (state_before s) → payload ≡ 0
   pub expects : expected ≡ word_of (number_at facts.doing) (state_before s) payload
-  pub owes : facts.payload < 2 ^ 20
+  pub owes : payload_made s facts.payload < 2 ^ 20
   pub makes : new ≡ word_of (number_at facts.doing) (state_after s) (payload_made s facts.payload)
 
 -- the word n is that of the cell of the number k, found so

@@ -5,5 +5,7 @@
 
 mod cross;
 mod transitions;
+mod values;
 
 pub use transitions::{install, leave_value, serve};
+pub use values::take_value;

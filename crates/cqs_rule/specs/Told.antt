@@ -196,3 +196,13 @@ module _ {E S : Type 0} (names : ℕ → E → Bool) (legal : ℕ → List E →
     pub may : MayFind s glimpse.state
     pub since : IsSince glimpse.state glimpse.payload v.facts.last
     pub saw : Saw names legal v (facts_missed (number_at v.facts.doing) word glimpse v.facts) [] w
+
+  -- the value that a resume left was taken, perhaps after an exchange that found another payload than it expected
+  pub record Took (v : View E S) (payload : ℕ) (w : View E S) : Type 0 where
+    pub word : ℕ
+    pub cell : FoundCell (number_at v.facts.doing) word (record { state = state.Value; payload = payload })
+    pub facts : Facts
+    pub saw : Saw names legal v facts (entries takes v.number (number_at v.facts.doing)) w
+    pub idle : facts.doing ≡ doing.Idle
+    pub held : facts.held ≡ gains v.facts.held
+    pub waits : facts.waits ≡ v.facts.waits

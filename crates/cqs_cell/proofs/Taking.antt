@@ -15,7 +15,7 @@ use Rattle.cqs_rule.specs.Told.{Crossed, FoundCell, Made, Missed, MayFind, Saw, 
 use Rattle.cqs_rule.proofs.Calls.{saw-then}
 
 -- a value that was found there before is there still
-still-value : (now : CoreState) (payload p : ℕ) → MayFind takes now → IsSince now payload (Some (record { state = state.Value; payload = p }))
+pub still-value : (now : CoreState) (payload p : ℕ) → MayFind takes now → IsSince now payload (Some (record { state = state.Value; payload = p }))
     → (now ≡ state.Value) × (payload ≡ p)
 still-value now payload p may since = ⊎_elim (λ (t : (now ≡ state.Value) × (payload ≡ p)). t) (λ (r : 1 < rank now). absurd (none now may r)) since
   where

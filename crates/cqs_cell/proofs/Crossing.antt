@@ -1,9 +1,8 @@
 -- The exchanges that a pass may make on the cell of its number.
-use Rattle.std.proofs.Common.{◌≡◌, ℕ, ◌<◌, ◌^◌, refl, sym, ap, ◌∙◌, subst, arith}
-use Rattle.cqs_core.specs.declared.doings.Doing.TheVariants as doing
+use Rattle.std.proofs.Common.{◌≡◌, ℕ, ◌<◌, ◌^◌, sym, ap, ◌∙◌}
 use Rattle.cqs_rule.specs.declared.config.Place.{Place}
 use Rattle.cqs_rule.specs.declared.view.Facts.{Facts}
-use Rattle.cqs_rule.specs.Hidden.{QueueStep, installs, leaves, takes, serves}
+use Rattle.cqs_rule.specs.Hidden.{QueueStep}
 use Rattle.cqs_rule.specs.Layout.{cell_place}
 use Rattle.cqs_rule.specs.Placed.{IsPlace}
 use Rattle.cqs_rule.specs.Ruled.{IsBare, number_at, word_of}

@@ -1,17 +1,14 @@
 -- A suspend takes the value that its cell holds.
-use Rattle.std.proofs.Common.{◌≡◌, ◌≢◌, ⊎_elim, ℕ, ◌<◌, ◌^◌, Bool, List, [], ◌++◌, Option, Some, None, sym, refl, ap, ◌∙◌, subst, arith}
-use Rattle.std.proofs.lemmas.Option.{same_Some}
+use Rattle.std.proofs.Common.{◌≡◌, ⊎_elim, ℕ, ◌<◌, ◌^◌, Bool, List, Some, sym, refl, ap, ◌∙◌, subst, arith}
 use Rattle.cqs_core.specs.declared.cells.CoreState.{CoreState}
 use Rattle.cqs_core.specs.declared.cells.CoreState.TheVariants as state
-use Rattle.cqs_core.specs.declared.doings.Doing.TheVariants as doing
 use Rattle.cqs_words.specs.declared.cell.CellState.{CellState}
 use Rattle.cqs_words.specs.declared.cell.CellState.TheVariants as shown
 use Rattle.cqs_rule.specs.declared.view.View.{View}
 use Rattle.cqs_rule.specs.declared.view.Facts.{Facts}
-use Rattle.cqs_rule.specs.declared.view.Glimpse.{Glimpse}
 use Rattle.cqs_rule.specs.Hidden.{QueueStep, takes}
 use Rattle.cqs_rule.specs.Ruled.{IsSince, number_at, rank, shown_state, word_of}
-use Rattle.cqs_rule.specs.Told.{Crossed, FoundCell, Made, Missed, MayFind, Saw, Took, facts_after, facts_missed}
+use Rattle.cqs_rule.specs.Told.{Crossed, Made, Missed, MayFind, Saw, Took, facts_after, facts_missed}
 use Rattle.cqs_rule.proofs.Calls.{saw-then}
 
 -- a value that was found there before is there still

@@ -12,7 +12,11 @@ use cqs_rule::{ClientWords, Installs, Leaves, Pass, Place, Queue, Serves};
 use cqs_words::{CellState, CellWord};
 
 /// An empty cell gets a waiter, by the suspend of its number.
-pub fn install<C: ClientWords>(queue: &Queue<C>, pass: &mut Pass<C>, at: Place) -> Result<(), CellState>
+pub fn install<C: ClientWords>(
+    queue: &Queue<C>,
+    pass: &mut Pass<C>,
+    at: Place,
+) -> Result<(), CellState>
     requires belongs { IsOf queue.now pass.old }
     requires drawn { (pass_view pass.old).facts.doing ≡ doing.Drawn at.index }
     requires place { IsPlace at }
@@ -26,7 +30,12 @@ pub fn install<C: ClientWords>(queue: &Queue<C>, pass: &mut Pass<C>, at: Place) 
 }
 
 /// An empty cell gets what its resume owes.
-pub fn leave_value<C: ClientWords>(queue: &Queue<C>, pass: &mut Pass<C>, at: Place, payload: u32) -> Result<(), CellState>
+pub fn leave_value<C: ClientWords>(
+    queue: &Queue<C>,
+    pass: &mut Pass<C>,
+    at: Place,
+    payload: u32,
+) -> Result<(), CellState>
     requires belongs { IsOf queue.now pass.old }
     requires ticket { (pass_view pass.old).facts.doing ≡ doing.Ticket at.index }
     requires place { IsPlace at }
@@ -46,7 +55,12 @@ pub fn leave_value<C: ClientWords>(queue: &Queue<C>, pass: &mut Pass<C>, at: Pla
 }
 
 /// The waiter in a cell is served, by the resume of its number.
-pub fn serve<C: ClientWords>(queue: &Queue<C>, pass: &mut Pass<C>, at: Place, payload: u32) -> Result<(), CellState>
+pub fn serve<C: ClientWords>(
+    queue: &Queue<C>,
+    pass: &mut Pass<C>,
+    at: Place,
+    payload: u32,
+) -> Result<(), CellState>
     requires belongs { IsOf queue.now pass.old }
     requires ticket { (pass_view pass.old).facts.doing ≡ doing.Ticket at.index }
     requires place { IsPlace at }

@@ -14,7 +14,13 @@ use cqs_rule::{ClientWords, Pass, Place, Queue, Takes};
 use cqs_words::{CellState, CellWord};
 
 // A value that the pass has found is still there: nobody else takes it.
-fn take_found<C: ClientWords>(queue: &Queue<C>, pass: &mut Pass<C>, at: Place, found: u64, payload: u32)
+fn take_found<C: ClientWords>(
+    queue: &Queue<C>,
+    pass: &mut Pass<C>,
+    at: Place,
+    found: u64,
+    payload: u32,
+)
     requires belongs { IsOf queue.now pass.old }
     requires drawn { (pass_view pass.old).facts.doing ≡ doing.Drawn at.index }
     requires place { IsPlace at }
@@ -29,7 +35,11 @@ fn take_found<C: ClientWords>(queue: &Queue<C>, pass: &mut Pass<C>, at: Place, f
 }
 
 /// A suspend takes the value that the resume of its number left, and answers its payload.
-pub fn take_value<C: ClientWords>(queue: &Queue<C>, pass: &mut Pass<C>, at: Place) -> Result<u32, CellState>
+pub fn take_value<C: ClientWords>(
+    queue: &Queue<C>,
+    pass: &mut Pass<C>,
+    at: Place,
+) -> Result<u32, CellState>
     requires belongs { IsOf queue.now pass.old }
     requires drawn { (pass_view pass.old).facts.doing ≡ doing.Drawn at.index }
     requires place { IsPlace at }

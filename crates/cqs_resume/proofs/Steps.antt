@@ -1,16 +1,15 @@
 -- A resume is its steps: a number is drawn, and an exchange on its cell is made, perhaps after some that weren't.
-use Rattle.std.proofs.Common.{◌≡◌, ◌≢◌, ⊎_elim, ℕ, ◌<◌, Bool, List, [], ◌∷◌, ◌++◌, Option, Some, None, sym, refl, ap, ◌∙◌, subst, inl, arith}
+use Rattle.std.proofs.Common.{◌≡◌, ◌≢◌, ⊎_elim, ℕ, ◌<◌, Bool, List, ◌++◌, Some, sym, refl, ap, ◌∙◌, subst, arith}
 use Rattle.cqs_core.specs.declared.cells.CoreState.{CoreState}
 use Rattle.cqs_core.specs.declared.cells.CoreState.TheVariants as state
 use Rattle.cqs_core.specs.declared.doings.Doing.TheVariants as doing
 use Rattle.cqs_words.specs.declared.cell.CellState.{CellState}
 use Rattle.cqs_rule.specs.declared.view.View.{View}
 use Rattle.cqs_rule.specs.declared.view.Facts.{Facts}
-use Rattle.cqs_rule.specs.declared.view.Glimpse.{Glimpse}
 use Rattle.cqs_rule.specs.Called.{Called}
 use Rattle.cqs_rule.specs.Hidden.{QueueStep, reaches, leaves, serves}
 use Rattle.cqs_rule.specs.Ruled.{IsSince, number_at, rank}
-use Rattle.cqs_rule.specs.Told.{Saw, Made, Missed, MayFind, facts_after, facts_missed}
+use Rattle.cqs_rule.specs.Told.{Saw, Made, Missed, MayFind, facts_after}
 use Rattle.cqs_rule.proofs.Calls.{called-by, called-then, saw-then}
 use Rattle.cqs_resume.specs.Resumes.{Ended}
 

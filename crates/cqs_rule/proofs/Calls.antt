@@ -1,5 +1,5 @@
 -- A call is its steps, one after the other.
-use Rattle.std.proofs.Common.{◌≡◌, ℕ, Bool, true, List, [], ◌∷◌, ◌++◌, sym, refl, ap, ◌∙◌, subst, append_assoc}
+use Rattle.std.proofs.Common.{◌≡◌, ℕ, Bool, List, [], ◌++◌, sym, ap, ◌∙◌, subst, append_assoc}
 use Rattle.std.proofs.lemmas.List.{append-nil}
 use Rattle.std.proofs.lemmas.List.Elements.{filter-append}
 use Rattle.cqs_rule.specs.declared.view.View.{View}
@@ -29,7 +29,6 @@ module _ {E : Type 0} (names : ℕ → E → Bool) where
   -- the entries of a step that name the pass, among all that it has seen since
   part-step : (n : ℕ) (between es : List E) → part names n between ≡ [] → part names n (between ++ es) ≡ part names n es
   part-step n between es none = filter-append (names n) between es ∙ ap (λ l. l ++ part names n es) none
-
 
 module _ {E S : Type 0} (names : ℕ → E → Bool) (legal : ℕ → List E → Type 0) where
   -- a call of one step

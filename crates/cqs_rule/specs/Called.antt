@@ -1,5 +1,5 @@
 -- What a whole call leaves of what its pass has seen: read off its steps, one after the other.
-use Rattle.std.specs.Prelude.{◌≡◌, ℕ, ◌<◌, ◌^◌, Bool, true, List, ◌++◌}
+use Rattle.std.specs.Prelude.{◌≡◌, ℕ, Bool, true, List, ◌++◌}
 use Rattle.cqs_rule.specs.declared.view.View.{View}
 use Rattle.cqs_rule.specs.Lists.{Has, IsPrefix, part}
 use Rattle.cqs_rule.specs.Views.{IsSame}

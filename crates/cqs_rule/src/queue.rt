@@ -8,14 +8,13 @@ mod steps;
 mod tokens;
 mod words;
 
-pub use tokens::Wait;
-
 use crate::client::ClientWords;
 use crate::config::CancelMode;
 use crate::rule::{Key, Rule};
 use crate::view::View;
 use atomic_table::{Seat, Table};
 use std::alloc::Global;
+pub use tokens::Wait;
 
 /// A queue on one table of words. Its steps are made through a shared reference, with a pass.
 #[derive(Drop)]

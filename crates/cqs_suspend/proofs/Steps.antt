@@ -1,5 +1,5 @@
 -- A suspend is its steps: a number is drawn, and an exchange on its cell is made.
-use Rattle.std.proofs.Common.{◌≡◌, ◌≢◌, ⊎_elim, ℕ, ◌<◌, Bool, List, [], ◌∷◌, ◌++◌, Option, Some, None, sym, refl, ap, ◌∙◌, subst, inl, arith}
+use Rattle.std.proofs.Common.{◌≡◌, ◌≢◌, ℕ, Bool, List, [], ◌∷◌, ◌++◌, Some, sym, refl, ap, ◌∙◌, subst, inl}
 use Rattle.cqs_core.specs.declared.cells.CoreState.{CoreState}
 use Rattle.cqs_core.specs.declared.cells.CoreState.TheVariants as state
 use Rattle.cqs_core.specs.declared.doings.Doing.TheVariants as doing
@@ -7,12 +7,11 @@ use Rattle.cqs_words.specs.declared.cell.CellState.{CellState}
 use Rattle.cqs_words.specs.declared.cell.CellState.TheVariants as shown
 use Rattle.cqs_rule.specs.declared.view.View.{View}
 use Rattle.cqs_rule.specs.declared.view.Facts.{Facts}
-use Rattle.cqs_rule.specs.declared.view.Glimpse.{Glimpse}
 use Rattle.cqs_rule.specs.Called.{Called}
 use Rattle.cqs_rule.specs.Hidden.{QueueStep, draws, installs, takes}
 use Rattle.cqs_rule.specs.Lists.{Has}
 use Rattle.cqs_rule.specs.Ruled.{IsSince, number_at, shown_state}
-use Rattle.cqs_rule.specs.Told.{Saw, Made, Missed, MayFind, Took, facts_after, facts_missed}
+use Rattle.cqs_rule.specs.Told.{Saw, Made, Missed, MayFind, Took, facts_after}
 use Rattle.cqs_rule.proofs.Calls.{called-by, called-then, saw-then}
 use Rattle.cqs_rule.proofs.Lists.{has_right}
 use Rattle.cqs_cell.proofs.Taking.{still-value}
@@ -79,7 +78,7 @@ module _ {E S : Type 0} (names : ℕ → E → Bool) (legal : ℕ → List E →
       let last : t.facts.last ≡ Some (record { state = state.Value; payload = m.glimpse.payload }) =
       ap (λ (f : Facts). f.last) m.saw.facts_are ∙ (λ i. Some (record { state = value i; payload = m.glimpse.payload })) in
       let still = still-value n.glimpse.state n.glimpse.payload m.glimpse.payload n.may
-          (subst (IsSince n.glimpse.state n.glimpse.payload) last n.since) in
+      (subst (IsSince n.glimpse.state n.glimpse.payload) last n.since) in
       apart (sym n.state ∙ ap shown_state still.0)
 
   -- a step that makes none in between leaves what was seen

@@ -1,4 +1,4 @@
-use Rattle.std.proofs.Common.{ℕ, ◌<◌, arith}
+use Rattle.std.proofs.Common.{arith}
 use Rattle.cqs_rule.specs.Passes.{pass_view}
 use Rattle.cqs_find.proofs.Numbers.{below-cells}
 use Rattle.cqs_find.proofs.find.Goals as goal

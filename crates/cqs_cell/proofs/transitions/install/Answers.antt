@@ -1,8 +1,6 @@
-use Rattle.std.proofs.Common.{refl, ap, sym, ◌∙◌, arith}
-use Rattle.cqs_core.specs.declared.cells.CoreState.TheVariants as state
+use Rattle.std.proofs.Common.{refl, ap, ◌∙◌, arith}
 use Rattle.cqs_words.specs.Cell.{packed_cell}
 use Rattle.cqs_rule.specs.Hidden.{installs}
-use Rattle.cqs_rule.specs.Ruled.{word_of}
 use Rattle.cqs_cell.proofs.Crossing.{crossing-at}
 use Rattle.cqs_cell.proofs.transitions.install.Goals as goal
 

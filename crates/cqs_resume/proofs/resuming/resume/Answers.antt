@@ -1,7 +1,7 @@
 use Rattle.std.proofs.Common.{ap}
 use Rattle.cqs_rule.specs.Hidden.{leaves, serves}
 use Rattle.cqs_rule.specs.Passes.{pass_view}
-use Rattle.cqs_resume.proofs.Steps.{ended, ends-leaves, ends-serves, tried-none, tried-miss}
+use Rattle.cqs_resume.proofs.Steps.{ended, ends-serves, tried-none, tried-miss}
 use Rattle.cqs_resume.proofs.resuming.resume.Goals as goal
 
 pub returns-clause-resumes : goal.returns-clause-resumes

@@ -164,14 +164,6 @@ payload-here payloads leaves k payload e bare = changed_here payloads k payload
 payload-here payloads takes k payload e bare = changed_here payloads k 0
 payload-here payloads serves k payload e bare = changed_here payloads k payload
 
-made-fits : (s : QueueStep) (payload : ℕ) → payload < 2 ^ 20 → payload_made s payload < 2 ^ 20
-made-fits draws payload fits = omega arith
-made-fits reaches payload fits = omega arith
-made-fits installs payload fits = omega arith
-made-fits leaves payload fits = fits
-made-fits takes payload fits = omega arith
-made-fits serves payload fits = fits
-
 made-bare : (s : QueueStep) (payload : ℕ) → IsExchange s → IsBare (state_after s) → payload_made s payload ≡ 0
 made-bare draws payload e bare = absurd e
 made-bare reaches payload e bare = absurd e
@@ -225,7 +217,7 @@ module _ {E S : Type 0} (names : ℕ → E → Bool) (legal : ℕ → List E →
     (client : IsClient names (legal size) shows entries gains opened values held) where
   -- the cells after an exchange
   cells-crossed : (c : Hidden) (cells : ℕ) (words : List ℕ) (s : QueueStep) (p k payload : ℕ) (cell : CoreCell) → IsExchange s
-      → slice_get c.queue.cells k ≡ Some cell → cell.state ≡ state_before s → payload < 2 ^ 20 → k + 112 < length words
+      → slice_get c.queue.cells k ≡ Some cell → cell.state ≡ state_before s → payload_made s payload < 2 ^ 20 → k + 112 < length words
       → CellsShow c cells words
       → CellsShow (happened gains c s p k (Some cell) payload) cells (slice_set words (k + 112) (word_of k (state_after s) (payload_made s payload)))
   cells-crossed c cells words s p k payload cell e there before fits wide show = record {
@@ -236,7 +228,7 @@ module _ {E S : Type 0} (names : ℕ → E → Bool) (legal : ℕ → List E →
         ∙ (show.at j below ∙ sym (λ i. word_of j (exchange-else gains c p k payload s cell e there before j a i) (payload-else c.payloads s k payload j a i))))
         (same-or-not j k);
     fits = λ j. ⊎_elim
-        (λ (q : j ≡ k). subst (λ z. d.payloads z < 2 ^ 20) (sym q) (subst (λ z. z < 2 ^ 20) (sym left) (made-fits s payload fits)))
+        (λ (q : j ≡ k). subst (λ z. d.payloads z < 2 ^ 20) (sym q) (subst (λ z. z < 2 ^ 20) (sym left) fits))
         (λ (a : j ≢ k). subst (λ z. z < 2 ^ 20) (sym (payload-else c.payloads s k payload j a)) (show.fits j))
         (same-or-not j k);
     bare = λ j is. ⊎_elim
@@ -266,7 +258,7 @@ module _ {E S : Type 0} (names : ℕ → E → Bool) (legal : ℕ → List E →
 
   -- the exchange is made
   made : (s : State (Option S) (View E S)) (r : Ruled names shows passes limit values size s) (id : ℕ) (me : Me (Option S) (View E S)) (t : QueueStep) (k : ℕ) (cell : CoreCell)
-      → get_elem? s.views id ≡ some me.0 → me.0.weight ≡ 1 → IsExchange t → me.0.facts.doing ≡ works_at t k → me.0.facts.payload < 2 ^ 20
+      → get_elem? s.views id ≡ some me.0 → me.0.weight ≡ 1 → IsExchange t → me.0.facts.doing ≡ works_at t k → payload_made t me.0.facts.payload < 2 ^ 20
       → slice_get r.hidden.queue.cells k ≡ Some cell → cell.state ≡ state_before t → k < limit + passes + values
       → Steps names legal shows entries gains opened passes limit values size held client s id me (k + 112) (word_of k (state_after t) (payload_made t me.0.facts.payload))
       (entries t me.0.number k) (facts_after gains t k (slice_index s.words (k + 112)) me.0.facts)

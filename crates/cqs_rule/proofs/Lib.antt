@@ -9,4 +9,5 @@ pub mod Counters
 pub mod Crosses
 pub mod Moves
 pub mod SemaphoreMoves
+pub mod Calls
 pub mod Opens

@@ -102,8 +102,9 @@ pub record IsCrossing (s : QueueStep) (facts : Facts) (word expected new : ℕ) 
   pub place : word ≡ cell_place (number_at facts.doing)
   pub payload : ℕ
   pub payload_fits : payload < 2 ^ 20
+  pub bare : IsBare (state_before s) → payload ≡ 0
   pub expects : expected ≡ word_of (number_at facts.doing) (state_before s) payload
-  pub owes : facts.payload < 2 ^ 20
+  pub owes : payload_made s facts.payload < 2 ^ 20
   pub makes : new ≡ word_of (number_at facts.doing) (state_after s) (payload_made s facts.payload)
 
 -- the word n is that of the cell of the number k, found so
@@ -195,3 +196,13 @@ module _ {E S : Type 0} (names : ℕ → E → Bool) (legal : ℕ → List E →
     pub may : MayFind s glimpse.state
     pub since : IsSince glimpse.state glimpse.payload v.facts.last
     pub saw : Saw names legal v (facts_missed (number_at v.facts.doing) word glimpse v.facts) [] w
+
+  -- the value that a resume left was taken, perhaps after an exchange that found another payload than it expected
+  pub record Took (v : View E S) (payload : ℕ) (w : View E S) : Type 0 where
+    pub word : ℕ
+    pub cell : FoundCell (number_at v.facts.doing) word (record { state = state.Value; payload = payload })
+    pub facts : Facts
+    pub saw : Saw names legal v facts (entries takes v.number (number_at v.facts.doing)) w
+    pub idle : facts.doing ≡ doing.Idle
+    pub held : facts.held ≡ gains v.facts.held
+    pub waits : facts.waits ≡ v.facts.waits

@@ -1,4 +1,7 @@
-//! The running rule.
+//! The queue on one table of atomic words: the single steps of its passes, and the rule that each of them keeps.
+//!
+//! A pass carries what its caller has seen; contracts alone know it. Each step is made through the shared queue with a pass, answers
+//! the word that it found, and tells what the pass has seen since: first what others did, and then its own entries.
 #![tactic(auto)]
 
 mod client;
@@ -9,6 +12,7 @@ mod plays;
 mod queue;
 mod rule;
 mod semaphore;
+mod threads;
 mod view;
 
 pub use client::{Client, ClientWords, Shown};

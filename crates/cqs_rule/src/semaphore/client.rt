@@ -1,6 +1,6 @@
 //! What the semaphore tells the queue.
 
-use crate::client::ClientWords;
+use crate::client::{Client, ClientWords};
 use crate::semaphore::SemClient;
 use cqs_core::Entry;
 use cqs_words::StateWord;
@@ -64,3 +64,5 @@ impl<T: Drop> ClientWords for SemClient<T> {
 
     ghost keeps = { λ x. semaphore-client x.permits x.some x.few };
 }
+
+impl<T: Send + Drop> Client for SemClient<T> {}

@@ -1,0 +1,16 @@
+use Rattle.std.proofs.Common.{arith}
+use Rattle.cqs_rule.specs.Passes.{pass_view}
+use Rattle.cqs_find.proofs.Numbers.{below-cells}
+use Rattle.cqs_find.proofs.find.Goals as goal
+
+pub overflow_cast-result : goal.overflow_cast-result
+overflow_cast-result g c =
+    let low = below-cells (pass_view c.args.pass.now) c.args.index c.args.pass.now.inside c.requires.number in
+    let few = c.args.pass.now.few_cells in
+    record { fits = omega arith }
+
+pub overflow_add-result : goal.overflow_add-result
+overflow_add-result g c =
+    let low = below-cells (pass_view c.args.pass.now) c.args.index c.args.pass.now.inside c.requires.number in
+    let few = c.args.pass.now.few_cells in
+    record { fits = omega arith }

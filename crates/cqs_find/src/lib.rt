@@ -1,0 +1,34 @@
+//! Where the cell of a number stands.
+//!
+//! Until segments come, the cells stand in a row, and each number has its word for good.
+#![tactic(auto)]
+
+ghost use Rattle.std.specs.Prelude.{◌≡◌, ◌⊎◌};
+ghost use Rattle.cqs_find.specs.Finds.{IsFoundAt};
+ghost use Rattle.cqs_rule.specs.Lists.{Has};
+ghost use Rattle.cqs_rule.specs.Passes.{pass_view, IsOf};
+ghost use Rattle.cqs_rule.specs.Ruled.{number_at};
+
+use cqs_rule::{CELLS_WORD, ClientWords, Pass, Place, Queue};
+
+/// Where a cell was found.
+#[derive(Clone, Copy, Debug, PartialEq, Eq)]
+pub enum Found {
+    /// At this place.
+    At(Place),
+    /// Its segment was taken out: all cells from it to below this number are settled.
+    Over(u64),
+}
+
+/// The place of the cell of a number, which the pass has drawn or waits under.
+pub fn find<C: ClientWords>(queue: &Queue<C>, pass: &mut Pass<C>, index: u64) -> Found
+    requires belongs { IsOf queue.now pass.old }
+    requires number { (number_at (pass_view pass.old).facts.doing ≡ index) ⊎ Has index (pass_view pass.old).facts.waits }
+    ensures at { IsFoundAt index result }
+    ensures same { pass.new ≡ pass.old }
+{
+    Found::At(Place {
+        word: index as u32 + CELLS_WORD,
+        index,
+    })
+}

@@ -1,0 +1,89 @@
+-- A suspend is its steps: a number is drawn, and an exchange on its cell is made.
+use Rattle.std.proofs.Common.{◌≡◌, ◌≢◌, ℕ, Bool, List, [], ◌∷◌, ◌++◌, Some, sym, refl, ap, ◌∙◌, subst, inl}
+use Rattle.cqs_core.specs.declared.cells.CoreState.{CoreState}
+use Rattle.cqs_core.specs.declared.cells.CoreState.TheVariants as state
+use Rattle.cqs_core.specs.declared.doings.Doing.TheVariants as doing
+use Rattle.cqs_words.specs.declared.cell.CellState.{CellState}
+use Rattle.cqs_words.specs.declared.cell.CellState.TheVariants as shown
+use Rattle.cqs_rule.specs.declared.view.View.{View}
+use Rattle.cqs_rule.specs.declared.view.Facts.{Facts}
+use Rattle.cqs_rule.specs.Called.{Called}
+use Rattle.cqs_rule.specs.Hidden.{QueueStep, draws, installs, takes}
+use Rattle.cqs_rule.specs.Lists.{Has}
+use Rattle.cqs_rule.specs.Ruled.{IsSince, number_at, shown_state}
+use Rattle.cqs_rule.specs.Told.{Saw, Made, Missed, MayFind, Took, facts_after}
+use Rattle.cqs_rule.proofs.Calls.{called-by, called-then, saw-then}
+use Rattle.cqs_rule.proofs.Lists.{has_right}
+use Rattle.cqs_cell.proofs.Taking.{still-value}
+use Rattle.cqs_suspend.specs.Suspends.{Waited, TookValue}
+
+-- an exchange that wasn't made in an empty cell found a value
+found-value : (s : CoreState) → MayFind installs s → s ≢ state.Empty → s ≡ state.Value
+found-value state.Empty m other = absurd (other refl)
+found-value state.Value m other = refl
+found-value state.Waiter m other = absurd m
+found-value state.Taken m other = absurd m
+found-value state.Broken m other = absurd m
+found-value state.Resumed m other = absurd m
+found-value state.Cancelling m other = absurd m
+found-value state.Delegated m other = absurd m
+found-value state.Cancelled m other = absurd m
+found-value state.Refused m other = absurd m
+
+module _ {E S : Type 0} (names : ℕ → E → Bool) (legal : ℕ → List E → Type 0) (gains : ℕ → ℕ) (entries : QueueStep → ℕ → ℕ → List E) where
+  -- what the pass is at after the draw
+  pub drawn-number : (k : ℕ) (v u : View E S) → Saw names legal v (facts_after gains draws k k v.facts) (entries draws v.number k) u
+      → u.facts.doing ≡ doing.Drawn k
+  drawn-number k v u s = ap (λ (f : Facts). f.doing) s.facts_are
+
+  pub waited : (k : ℕ) (v u w : View E S) → Saw names legal v (facts_after gains draws k k v.facts) (entries draws v.number k) u
+      → Made names legal gains entries installs u w → Waited names legal gains entries k v w
+  waited k v u w s m =
+      let is : number_at u.facts.doing ≡ k = ap (λ (f : Facts). number_at f.doing) s.facts_are in
+      let pass : u.number ≡ v.number = s.same.number in
+      record {
+        called = subst (λ (es : List E). Called names legal v (entries draws v.number k ++ es) es w) (λ i. entries installs (pass i) (is i))
+            (called-then names legal v u w _ (entries draws v.number k) (entries draws v.number k) (entries installs u.number (number_at u.facts.doing)) (called-by names legal v u _ _ s) m.saw);
+        idle = ap (λ (f : Facts). f.doing) m.saw.facts_are;
+        held = ap (λ (f : Facts). f.held) m.saw.facts_are ∙ ap (λ (f : Facts). f.held) s.facts_are;
+        waits = ap (λ (f : Facts). f.waits) m.saw.facts_are ∙ (λ i. (s.facts_are i).waits ++ is i ∷ []);
+      }
+
+  pub waits-here : (k : ℕ) (v u w : View E S) → Saw names legal v (facts_after gains draws k k v.facts) (entries draws v.number k) u
+      → Made names legal gains entries installs u w → Has k w.facts.waits
+  waits-here k v u w s m = subst (Has k) (sym (waited k v u w s m).waits) (has_right k v.facts.waits (k ∷ []) (inl refl))
+
+  pub took-value : (k payload : ℕ) (v u t w : View E S) (cell : CellState) → Saw names legal v (facts_after gains draws k k v.facts) (entries draws v.number k) u
+      → Missed names legal gains entries installs u cell t → Took names legal gains entries t payload w → TookValue names legal gains entries k v w
+  took-value k payload v u t w cell s m took =
+      let drawn : number_at u.facts.doing ≡ k = ap (λ (f : Facts). number_at f.doing) s.facts_are in
+      let still : number_at t.facts.doing ≡ number_at u.facts.doing = ap (λ (f : Facts). number_at f.doing) m.saw.facts_are in
+      let is : number_at t.facts.doing ≡ k = still ∙ drawn in
+      let pass : t.number ≡ v.number = m.saw.same.number ∙ s.same.number in
+      let es = entries takes t.number (number_at t.facts.doing) in
+      record {
+        called = subst (λ (l : List E). Called names legal v (entries draws v.number k ++ l) l w) (λ i. entries takes (pass i) (is i))
+            (called-then names legal v u w took.facts (entries draws v.number k) (entries draws v.number k) es (called-by names legal v u _ _ s)
+            (saw-then names legal u t w _ took.facts es m.saw took.saw));
+        idle = ap (λ (f : Facts). f.doing) took.saw.facts_are ∙ took.idle;
+        held = ap (λ (f : Facts). f.held) took.saw.facts_are ∙ (took.held ∙ ap gains (ap (λ (f : Facts). f.held) m.saw.facts_are ∙ ap (λ (f : Facts). f.held) s.facts_are));
+        waits = ap (λ (f : Facts). f.waits) took.saw.facts_are ∙ (took.waits ∙ (ap (λ (f : Facts). f.waits) m.saw.facts_are ∙ ap (λ (f : Facts). f.waits) s.facts_are));
+      }
+
+  -- the second exchange finds the value that the first found
+  pub no-miss : (u t w : View E S) (cell other : CellState) → Missed names legal gains entries installs u cell t
+      → Missed names legal gains entries takes t other w → other ≢ shown.Value → ⊥
+  no-miss u t w cell other m n apart =
+      let value : m.glimpse.state ≡ state.Value = found-value m.glimpse.state m.may (m.other tt) in
+      let last : t.facts.last ≡ Some (record { state = state.Value; payload = m.glimpse.payload }) =
+      ap (λ (f : Facts). f.last) m.saw.facts_are ∙ (λ i. Some (record { state = value i; payload = m.glimpse.payload })) in
+      let still = still-value n.glimpse.state n.glimpse.payload m.glimpse.payload n.may
+      (subst (IsSince n.glimpse.state n.glimpse.payload) last n.since) in
+      apart (sym n.state ∙ ap shown_state still.0)
+
+  -- a step that makes none in between leaves what was seen
+  pub saw-at : (v u t : View E S) (f : Facts) (es : List E) → t ≡ u → Saw names legal v f es u → Saw names legal v f es t
+  saw-at v u t f es same s = subst (λ (z : View E S). Saw names legal v f es z) (sym same) s
+
+  pub waited-at : (j k : ℕ) (v w x : View E S) → j ≡ k → x ≡ w → Waited names legal gains entries k v w → Waited names legal gains entries j v x
+  waited-at j k v w x is same t = subst (λ (z : ℕ × View E S). Waited names legal gains entries z.0 v z.1) (λ i. (sym is i, sym same i)) t

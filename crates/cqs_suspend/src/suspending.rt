@@ -1,0 +1,39 @@
+//! The suspend.
+
+ghost use Rattle.std.specs.Prelude.{◌≡◌};
+ghost use Rattle.cqs_core.specs.declared.doings.Doing.TheVariants as doing;
+ghost use Rattle.cqs_rule.specs.Passes.{pass_view, IsOf};
+ghost use Rattle.cqs_suspend.specs.Suspends.{Suspends};
+
+use cqs_cell::{install, take_value};
+use cqs_find::{Found, find};
+use cqs_rule::{ClientWords, Draws, Pass, Queue, SUSPENDS_WORD, Wait};
+
+/// What became of a suspend.
+#[derive(Drop)]
+pub enum Suspended {
+    /// The cell was empty, and the caller waits.
+    Waits(Wait),
+    /// The resume of this number came first, and left this payload.
+    Took { payload: u32, number: u64 },
+}
+
+/// Draws a number for a pass at the door, and waits under it or takes the value that its resume left.
+pub fn suspend<C: ClientWords>(queue: &Queue<C>, pass: &mut Pass<C>) -> Suspended
+    requires belongs { IsOf queue.now pass.old }
+    requires door { (pass_view pass.old).facts.doing ≡ doing.Door }
+    ensures belongs { IsOf queue.now pass.new }
+    ensures suspends { Suspends C.names C.legal C.gains C.entries (pass_view pass.old) result (pass_view pass.new) }
+{
+    let number = queue.add_table::<Draws>(pass, SUSPENDS_WORD, 1);
+    let Found::At(at) = find(queue, pass, number) else {
+        unreachable!()
+    };
+    match install(queue, pass, at) {
+        Ok(()) => Suspended::Waits(queue.wait_of(pass, at)),
+        Err(_) => match take_value(queue, pass, at) {
+            Ok(payload) => Suspended::Took { payload, number },
+            Err(_) => unreachable!(),
+        },
+    }
+}

@@ -8,6 +8,8 @@ mod core_calls;
 #[cfg(test)]
 mod core_histories;
 #[cfg(test)]
+mod core_outcomes;
+#[cfg(test)]
 mod core_schedules;
 #[cfg(test)]
 mod core_sizes;

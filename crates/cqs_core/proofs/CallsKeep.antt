@@ -1,5 +1,5 @@
 -- Whole calls keep the core, since each of their events does; and the code's words can hold the numbers of a core.
-use Rattle.std.proofs.Common.{◌≡◌, ℕ, zero, suc, Option, Some, None, Result, Ok, Err, refl, sym, ap, subst}
+use Rattle.std.proofs.Common.{◌≡◌, ℕ, zero, suc, Option, Some, None, refl, sym, subst}
 use Rattle.cqs_core.specs.declared.calls.Call.{Call}
 use Rattle.cqs_core.specs.declared.calls.Call.TheVariants as call
 use Rattle.cqs_core.specs.declared.calls.Reply.{Reply}
@@ -9,7 +9,7 @@ use Rattle.cqs_core.specs.declared.outcomes.Outcome.{Outcome}
 use Rattle.cqs_core.specs.declared.outcomes.Outcome.TheVariants as outcome
 use Rattle.std.specs.Option.{option_and_then}
 use Rattle.cqs_core.specs.SemaphoreAnswers.{Room}
-use Rattle.cqs_core.specs.SemaphoreCalls.{Course, Landed, refused, replied, stuck, first, onward, after_install, after_draw, suspends_at, after_take, after_swap, swaps_at, after_load, after_meet, resumes_in, resumes_at, ahead, lands, after_give, after_look, after_settle, after_decide, cancels_at, after_leave, course, MakesCallReady}
+use Rattle.cqs_core.specs.SemaphoreCalls.{Course, Landed, refused, replied, stuck, first, onward, after_install, after_draw, after_take, after_swap, after_load, after_meet, resumes_in, resumes_at, ahead, lands, after_give, after_look, after_settle, after_decide, after_leave, course, MakesCallReady}
 use Rattle.cqs_core.specs.SemaphoreShown.{IsCore}
 use Rattle.cqs_core.specs.SemaphoreTable.{Shape, Stepped, step}
 use Rattle.cqs_core.specs.SemaphoreWords.{FitsWords}

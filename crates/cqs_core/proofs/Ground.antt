@@ -7,8 +7,6 @@ use Rattle.std.proofs.lemmas.Bool.{cases_lt, lt-leb}
 use Rattle.std.proofs.lemmas.Int.{ints}
 use Rattle.std.proofs.lemmas.List.Sums.{get_or-le-sum_by}
 use Rattle.std.proofs.lemmas.Option.{get_or_from_slice_get}
-use Rattle.cqs_core.specs.declared.cells.CoreCell.{CoreCell}
-use Rattle.cqs_core.specs.declared.doings.Doing.{Doing}
 use Rattle.cqs_core.specs.declared.doings.Doing.TheVariants as doing
 use Rattle.cqs_core.specs.Numbered.{picked, cons_option, count_at}
 use Rattle.cqs_core.specs.QueueState.{Queue}

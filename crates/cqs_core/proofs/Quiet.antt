@@ -1,6 +1,6 @@
 -- A core in which every pass is idle: nothing is on its way, no resume has passed a suspend, and each cell that no
 -- resume has reached waits or was cancelled.
-use Rattle.std.proofs.Common.{◌≡◌, ◌≢◌, ◌⊎◌, inl, inr, ℕ, zero, suc, ◌+◌, ◌<◌, ◌≤◌, max, nat_le, Bool, true, false, ◌||◌, List, [], ◌∷◌, Option, Some, None, length, slice_get, count_by, refl, ap, sym, ◌∙◌, subst, zero-add, arith}
+use Rattle.std.proofs.Common.{◌≡◌, ◌≢◌, ◌⊎◌, inl, inr, ℕ, zero, suc, ◌+◌, ◌<◌, ◌≤◌, Bool, true, false, List, [], ◌∷◌, Option, Some, None, length, slice_get, count_by, refl, ap, ◌∙◌, subst, zero-add, arith}
 use Rattle.std.specs.Option.{option_and_then}
 use Rattle.std.proofs.lemmas.Bool.{cases_lt, lt-leb, le-leb}
 use Rattle.cqs_core.specs.declared.cells.CoreCell.{CoreCell}
@@ -8,10 +8,10 @@ use Rattle.cqs_core.specs.declared.cells.CoreState.{CoreState}
 use Rattle.cqs_core.specs.declared.cells.CoreState.TheVariants as state
 use Rattle.cqs_core.specs.declared.doings.Doing.{Doing}
 use Rattle.cqs_core.specs.declared.doings.Doing.TheVariants as doing
-use Rattle.cqs_core.specs.Numbered.{EachAt, picked, count_at}
-use Rattle.cqs_core.specs.QueueState.{Queue, owner_doing, has_ticket, is_leaving}
+use Rattle.cqs_core.specs.Numbered.{picked, count_at}
+use Rattle.cqs_core.specs.QueueState.{Queue, owner_doing, has_ticket}
 use Rattle.cqs_core.specs.QueueLine.{door, line, going, ending, due, at_door, in_line, waiting_of, stays_in_line, is_resuming, is_told_refused, has_left, is_left, is_unmet, is_unmet_refusal}
-use Rattle.cqs_core.specs.QueueSound.{IsSound, IsSoundAt, IsEntered, IsUninstalled, IsLeft, IsAwaited}
+use Rattle.cqs_core.specs.QueueSound.{IsSound, IsSoundAt, IsUninstalled, IsLeft, IsAwaited}
 use Rattle.cqs_core.specs.Resting.{IsIdle, IsResting}
 use Rattle.cqs_core.specs.SemaphoreShown.{IsCore, short_of}
 use Rattle.cqs_core.specs.SemaphoreTable.{Shape}

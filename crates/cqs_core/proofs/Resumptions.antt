@@ -1,6 +1,6 @@
 -- A resumption that goes on at the next number: its cell is one that was there and is passed over, and what follows
 -- is what a resumption with fewer numbers ahead makes.
-use Rattle.std.proofs.Common.{◌≡◌, ◌≢◌, ◌⊎◌, inl, inr, ℕ, zero, suc, ◌+◌, ◌-◌, ◌<◌, ◌≤◌, List, [], ◌∷◌, ◌++◌, Bool, true, false, Option, Some, None, IsSome, is_some, length, slice_get, set, if◌then◌else◌, refl, ap, sym, ◌∙◌, subst, arith}
+use Rattle.std.proofs.Common.{◌≡◌, ◌≢◌, ◌⊎◌, inl, inr, ℕ, zero, suc, ◌+◌, ◌<◌, ◌≤◌, List, [], ◌∷◌, ◌++◌, Bool, true, false, Option, Some, None, IsSome, length, slice_get, if◌then◌else◌, refl, ap, sym, ◌∙◌, arith}
 use Rattle.std.specs.Prelude.{nat_lt}
 use Rattle.std.specs.Option.{option_and_then}
 use Rattle.std.proofs.lemmas.Bool.{cases_eq, cases_lt}
@@ -13,13 +13,13 @@ use Rattle.cqs_core.specs.declared.doings.Doing.TheVariants as doing
 use Rattle.cqs_core.specs.declared.events.Event.TheVariants as event
 use Rattle.cqs_core.specs.declared.outcomes.Outcome.{Outcome}
 use Rattle.cqs_core.specs.declared.outcomes.Outcome.TheVariants as outcome
-use Rattle.cqs_core.specs.QueueState.{Queue, fresh_cell}
+use Rattle.cqs_core.specs.QueueState.{fresh_cell}
 use Rattle.cqs_core.specs.QueueMoves as move
 use Rattle.cqs_core.specs.QueueMoves.{cells_reached}
 use Rattle.cqs_core.specs.SemaphoreTable.{Shape, Stepped, step, reach_row, meet_row, meet_at, moves, last_number}
 use Rattle.cqs_core.specs.SemaphoreAnswers.{Room, MakesReady}
 use Rattle.cqs_core.specs.SemaphoreCalls.{resumes_at, resumes_in, ahead, PassesOver}
-use Rattle.cqs_core.proofs.Places.{get-set_here, get-below, get-past, get-push_at}
+use Rattle.cqs_core.proofs.Places.{get-set_here, get-past, get-push_at}
 
 -- what an event made that was answered
 pub record IsMade (row : Option Stepped) (o : Outcome) (new : Shape) : Type 0 where

@@ -1,13 +1,11 @@
 -- A sole caller acquires, or tries to: a free permit is taken; else a number is drawn, whose cell is a new one.
-use Rattle.std.proofs.Common.{◌≡◌, ◌≢◌, ◌⊎◌, inl, inr, ℕ, ◌+◌, ◌<◌, ◌≤◌, Bool, true, false, nat_lt, pos, List, [], ◌∷◌, ◌++◌, Option, Some, None, length, slice_get, set, refl, ap, sym, ◌∙◌, subst, arith}
+use Rattle.std.proofs.Common.{◌≡◌, ◌≢◌, ◌⊎◌, inl, inr, ℕ, ◌<◌, Bool, true, false, pos, Some, None, length, slice_get, refl, ap, sym, ◌∙◌, arith}
 use Rattle.std.specs.Prelude.{int_lt, int_le, if◌then◌else◌}
-use Rattle.std.specs.Option.{option_and_then}
 use Rattle.std.proofs.lemmas.Bool.{lt-ltb}
 use Rattle.cqs_core.specs.declared.calls.Call.TheVariants as call
 use Rattle.cqs_core.specs.declared.calls.Reply.TheVariants as reply
 use Rattle.cqs_core.specs.declared.cells.CoreCell.{CoreCell}
 use Rattle.cqs_core.specs.declared.cells.CoreState.TheVariants as state
-use Rattle.cqs_core.specs.declared.doings.Doing.{Doing}
 use Rattle.cqs_core.specs.declared.doings.Doing.TheVariants as doing
 use Rattle.cqs_core.specs.declared.entries.Entry.TheVariants as entry
 use Rattle.cqs_core.specs.declared.events.Event.TheVariants as event
@@ -15,9 +13,9 @@ use Rattle.cqs_core.specs.declared.outcomes.Outcome.TheVariants as outcome
 use Rattle.cqs_core.specs.QueueMoves as move
 use Rattle.cqs_core.specs.QueueMoves.{at_state}
 use Rattle.cqs_core.specs.Resting.{IsResting}
-use Rattle.cqs_core.specs.SemaphoreCalls.{Course, replied, course, first, onward, suspends_at, swaps_at, after_take, after_draw, after_install, after_load, after_swap}
-use Rattle.cqs_core.specs.SemaphoreTable.{Shape, Stepped, step, take_row, try_load_row, gains, takes, records, moves, answers, lowest, last_number}
-use Rattle.cqs_core.specs.SoleCaller.{IsSoleCall, MayCall, NoneTaken}
+use Rattle.cqs_core.specs.SemaphoreCalls.{replied, first, onward, suspends_at, swaps_at, after_take, after_draw, after_install, after_load, after_swap}
+use Rattle.cqs_core.specs.SemaphoreTable.{Shape, step, take_row, try_load_row, gains, takes, records, moves, answers, lowest, last_number}
+use Rattle.cqs_core.specs.SoleCaller.{MayCall, NoneTaken}
 use Rattle.cqs_core.proofs.EachAtLemmas.{EachAt-write, EachAt-push}
 use Rattle.cqs_core.proofs.Places.{get-set_here, get-below, get-past, get-push_at}
 use Rattle.cqs_core.proofs.Quiet.{IsQuiet}

@@ -1,5 +1,5 @@
 -- The law of a sole caller, and that the calls of a core in which every pass is idle come to their ends.
-use Rattle.std.proofs.Common.{◌≡◌, ℕ, List, ◌++◌, Option, Some, None, slice_get, refl, ap, sym, ◌∙◌, arith}
+use Rattle.std.proofs.Common.{◌≡◌, ℕ, Option, Some, None, slice_get, ap, sym, ◌∙◌}
 use Rattle.std.specs.List.{fold}
 use Rattle.std.proofs.lemmas.List.Sums.{fold-append}
 use Rattle.std.specs.Prelude.{IfSome, IfNone, IsSomeAnd}
@@ -18,7 +18,7 @@ use Rattle.cqs_core.specs.SemaphoreTable.{Shape}
 use Rattle.cqs_core.specs.SoleCaller.{IsSoleCall, IsSoleRefusal, ShowsNext, TellsWait, NoneTaken, sole_call}
 use Rattle.cqs_core.proofs.CallsKeep.{call_ready-core}
 use Rattle.cqs_core.proofs.WaitCells.{IsOwnWait, wait-in_line, wait-served}
-use Rattle.cqs_core.proofs.Quiet.{IsQuiet, quiet-core}
+use Rattle.cqs_core.proofs.Quiet.{quiet-core}
 use Rattle.cqs_core.proofs.SoleStart.{IsSoleCourse}
 use Rattle.cqs_core.proofs.SoleAcquire.{sole-acquire, sole-try}
 use Rattle.cqs_core.proofs.SoleRelease.{sole-release}

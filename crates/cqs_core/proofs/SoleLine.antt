@@ -1,6 +1,6 @@
 -- The line of a core in which every pass is idle: its waits are the cells that wait, and its first one is the first of
 -- these that a resume comes to.
-use Rattle.std.proofs.Common.{◌≡◌, ◌≢◌, ◌⊎◌, inl, inr, ℕ, zero, suc, ◌+◌, ◌<◌, ◌≤◌, ◌==◌, Bool, true, false, List, [], ◌∷◌, Option, Some, None, length, slice_get, refl, ap, ap₂, sym, ◌∙◌, subst, zero-add, arith}
+use Rattle.std.proofs.Common.{◌≡◌, ◌≢◌, ◌⊎◌, inl, inr, ℕ, zero, suc, ◌+◌, ◌<◌, List, [], ◌∷◌, Option, Some, None, slice_get, refl, ap, ap₂, sym, ◌∙◌, subst, zero-add, arith}
 use Rattle.std.proofs.lemmas.Bool.{ne_eqb}
 use Rattle.cqs_core.specs.declared.cells.CoreCell.{CoreCell}
 use Rattle.cqs_core.specs.declared.cells.CoreState.{CoreState}
@@ -8,14 +8,13 @@ use Rattle.cqs_core.specs.declared.cells.CoreState.TheVariants as state
 use Rattle.cqs_core.specs.declared.doings.Doing.{Doing}
 use Rattle.cqs_core.specs.Numbered.{cons_option, picked}
 use Rattle.cqs_core.specs.QueueLine.{Waiting, line, in_line, waiting_of, stays_in_line}
-use Rattle.cqs_core.specs.QueueSound.{IsSound, IsSoundAt, IsEntered}
+use Rattle.cqs_core.specs.QueueSound.{IsSound, IsSoundAt}
 use Rattle.cqs_core.specs.QueueState.{Queue, owner_doing}
 use Rattle.cqs_core.specs.Resting.{IsIdle}
 use Rattle.cqs_core.specs.SemaphoreEntries.{find_wait, Waits}
 use Rattle.cqs_core.proofs.LineReads.{line-keyed}
 use Rattle.cqs_core.proofs.Waits.{found-waits}
 use Rattle.cqs_core.proofs.Picked.{picked-in}
-use Rattle.cqs_core.proofs.Places.{get-below}
 use Rattle.cqs_core.proofs.Quiet.{cases_waiter, not-in_line}
 
 -- the first that is read off a list: nothing is read off the elements before it

@@ -1,5 +1,5 @@
 -- A sole caller releases: its permit is free where nobody waits, and else goes to the first of the line.
-use Rattle.std.proofs.Common.{◌≡◌, ◌≢◌, ◌⊎◌, inl, inr, ℕ, suc, ◌+◌, ◌-◌, ◌<◌, ◌≤◌, Bool, true, false, nat_lt, pos, List, [], ◌∷◌, ◌++◌, Option, Some, None, length, slice_get, slice_index, set, refl, ap, sym, ◌∙◌, subst, arith}
+use Rattle.std.proofs.Common.{◌≡◌, ◌≢◌, ◌⊎◌, inl, inr, ℕ, ◌+◌, ◌-◌, ◌<◌, Bool, true, false, nat_lt, pos, List, [], ◌∷◌, Some, None, length, slice_get, slice_index, refl, ap, ◌∙◌, arith}
 use Rattle.std.specs.Prelude.{int_lt, if◌then◌else◌}
 use Rattle.std.proofs.lemmas.Bool.{lt-ltb, ltb-true}
 use Rattle.std.proofs.lemmas.List.{get_or_past}
@@ -7,7 +7,6 @@ use Rattle.cqs_core.specs.declared.calls.Call.TheVariants as call
 use Rattle.cqs_core.specs.declared.calls.Reply.TheVariants as reply
 use Rattle.cqs_core.specs.declared.cells.CoreCell.{CoreCell}
 use Rattle.cqs_core.specs.declared.cells.CoreState.TheVariants as state
-use Rattle.cqs_core.specs.declared.doings.Doing.{Doing}
 use Rattle.cqs_core.specs.declared.doings.Doing.TheVariants as doing
 use Rattle.cqs_core.specs.declared.entries.Entry.TheVariants as entry
 use Rattle.cqs_core.specs.declared.outcomes.Outcome.TheVariants as outcome
@@ -15,9 +14,9 @@ use Rattle.cqs_core.specs.QueueLine.{Waiting, line}
 use Rattle.cqs_core.specs.QueueMoves as move
 use Rattle.cqs_core.specs.QueueMoves.{at_state}
 use Rattle.cqs_core.specs.Resting.{IsResting}
-use Rattle.cqs_core.specs.SemaphoreCalls.{Course, Landed, replied, first, lands, ahead, resumes_at, after_give}
+use Rattle.cqs_core.specs.SemaphoreCalls.{first, lands, ahead, resumes_at, after_give}
 use Rattle.cqs_core.specs.SemaphoreShown.{IsCore, short_of}
-use Rattle.cqs_core.specs.SemaphoreTable.{Shape, give_row, loses, adds, records, moves, answers, last_number}
+use Rattle.cqs_core.specs.SemaphoreTable.{Shape, give_row, loses, adds, records, moves, answers}
 use Rattle.cqs_core.specs.SoleCaller.{IsSoleCall, NoneTaken}
 use Rattle.cqs_core.proofs.EachAtLemmas.{EachAt-write}
 use Rattle.cqs_core.proofs.Places.{get-set_here, get-there, get-none}

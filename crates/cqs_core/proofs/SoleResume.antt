@@ -1,6 +1,5 @@
 -- A sole caller's resumption: it passes over the cancelled cells, and serves the first one that waits.
-use Rattle.std.proofs.Common.{◌≡◌, ◌≢◌, ◌⊎◌, inl, inr, ℕ, zero, suc, ◌+◌, ◌-◌, ◌<◌, ◌≤◌, nat_lt, Bool, true, false, List, [], ◌∷◌, ◌++◌, Option, Some, None, length, slice_get, set, refl, ap, ap₂, sym, ◌∙◌, subst, arith}
-use Rattle.std.specs.Option.{option_and_then}
+use Rattle.std.proofs.Common.{◌≡◌, ℕ, zero, suc, ◌+◌, ◌<◌, ◌≤◌, List, [], ◌∷◌, ◌++◌, Some, slice_get, set, refl, ap, ap₂, ◌∙◌, arith}
 use Rattle.std.proofs.lemmas.Bool.{lt-ltb}
 use Rattle.std.proofs.lemmas.List.{set-set}
 use Rattle.cqs_core.specs.declared.cells.CoreCell.{CoreCell}
@@ -12,8 +11,8 @@ use Rattle.cqs_core.specs.declared.events.Event.TheVariants as event
 use Rattle.cqs_core.specs.declared.outcomes.Outcome.TheVariants as outcome
 use Rattle.cqs_core.specs.QueueMoves as move
 use Rattle.cqs_core.specs.QueueMoves.{moved, at_state}
-use Rattle.cqs_core.specs.SemaphoreCalls.{Landed, resumes_in, after_meet}
-use Rattle.cqs_core.specs.SemaphoreTable.{Shape, Stepped, step, records, moves, last_number, meet_at}
+use Rattle.cqs_core.specs.SemaphoreCalls.{resumes_in, after_meet}
+use Rattle.cqs_core.specs.SemaphoreTable.{Shape, Stepped, step, records, moves, last_number}
 use Rattle.cqs_core.proofs.Places.{get-set_here}
 
 -- the number that the pass reaches next has a cell

@@ -1,5 +1,5 @@
 -- A sole caller polls or cancels a wait: it stands in the line where its cell still waits, and else was served.
-use Rattle.std.proofs.Common.{◌≡◌, ◌≢◌, ◌⊎◌, inl, inr, ℕ, ◌+◌, ◌<◌, ◌≤◌, Bool, true, false, pos, List, [], ◌∷◌, ◌++◌, Option, Some, None, slice_get, set, refl, ap, sym, ◌∙◌, subst, arith}
+use Rattle.std.proofs.Common.{◌≡◌, ◌≢◌, ◌⊎◌, inl, inr, ℕ, ◌+◌, ◌≤◌, Bool, true, false, pos, [], ◌∷◌, ◌++◌, Option, Some, None, slice_get, set, refl, ap, sym, ◌∙◌, arith}
 use Rattle.std.specs.Prelude.{int_lt, if◌then◌else◌}
 use Rattle.std.specs.Option.{option_and_then}
 use Rattle.std.proofs.lemmas.List.{set-set}
@@ -8,7 +8,6 @@ use Rattle.cqs_core.specs.declared.calls.Reply.TheVariants as reply
 use Rattle.cqs_core.specs.declared.cells.CoreCell.{CoreCell}
 use Rattle.cqs_core.specs.declared.cells.CoreState.{CoreState}
 use Rattle.cqs_core.specs.declared.cells.CoreState.TheVariants as state
-use Rattle.cqs_core.specs.declared.doings.Doing.{Doing}
 use Rattle.cqs_core.specs.declared.doings.Doing.TheVariants as doing
 use Rattle.cqs_core.specs.declared.entries.Entry.TheVariants as entry
 use Rattle.cqs_core.specs.declared.events.Event.TheVariants as event
@@ -18,11 +17,11 @@ use Rattle.cqs_core.specs.QueueLine.{Waiting, line}
 use Rattle.cqs_core.specs.QueueMoves as move
 use Rattle.cqs_core.specs.QueueMoves.{at_state}
 use Rattle.cqs_core.specs.Resting.{IsResting}
-use Rattle.cqs_core.specs.SemaphoreCalls.{Course, replied, first, onward, cancels_at, after_look, after_leave, after_decide, after_settle}
+use Rattle.cqs_core.specs.SemaphoreCalls.{replied, first, onward, cancels_at, after_look, after_leave, after_decide, after_settle}
 use Rattle.cqs_core.specs.SemaphoreEntries.{find_wait}
 use Rattle.cqs_core.specs.SemaphoreShown.{IsCore, shown}
-use Rattle.cqs_core.specs.SemaphoreTable.{Shape, step, look_at, look_with, look_row, leave_at, leave_with, leave_row, gains, adds, records, moves, is_with}
-use Rattle.cqs_core.specs.SoleCaller.{IsSoleCall, HasWait, NoneTaken}
+use Rattle.cqs_core.specs.SemaphoreTable.{Shape, step, look_at, look_with, look_row, leave_at, leave_with, leave_row, adds, records, moves, is_with}
+use Rattle.cqs_core.specs.SoleCaller.{HasWait, NoneTaken}
 use Rattle.cqs_core.proofs.EachAtLemmas.{EachAt-write}
 use Rattle.cqs_core.proofs.Places.{get-set_here}
 use Rattle.cqs_core.proofs.SoleLine.{found-in_line, gone-from_line}

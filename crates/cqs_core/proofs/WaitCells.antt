@@ -1,24 +1,22 @@
 -- The cell of a pass's own wait, where every pass is idle: the wait stands in the line where its cell waits, and was
 -- served where it was resumed.
-use Rattle.std.proofs.Common.{◌≡◌, ◌≢◌, ◌⊎◌, inl, inr, ℕ, zero, suc, ◌+◌, ◌<◌, ◌==◌, ◌&&◌, Bool, true, false, not, List, [], ◌∷◌, Option, Some, None, length, slice_get, refl, ap, ap₂, sym, ◌∙◌, subst, zero-add, arith}
-use Rattle.std.specs.Prelude.{if◌then◌else◌}
+use Rattle.std.proofs.Common.{◌≡◌, ◌≢◌, ◌⊎◌, inl, inr, ℕ, zero, suc, ◌+◌, ◌<◌, Bool, true, false, List, [], ◌∷◌, Option, Some, None, length, slice_get, refl, ap, sym, ◌∙◌, subst, zero-add, arith}
 use Rattle.std.proofs.lemmas.Bool.{eq-eqb}
 use Rattle.cqs_core.specs.declared.cells.CoreCell.{CoreCell}
 use Rattle.cqs_core.specs.declared.cells.CoreState.{CoreState}
 use Rattle.cqs_core.specs.declared.cells.CoreState.TheVariants as state
 use Rattle.cqs_core.specs.declared.doings.Doing.{Doing}
-use Rattle.cqs_core.specs.Numbered.{cons_option, picked, IsIn}
+use Rattle.cqs_core.specs.Numbered.{cons_option, picked}
 use Rattle.cqs_core.specs.QueueLine.{Waiting, Service, line, served, in_line, is_served, waiting_of, stays_in_line, service_of}
-use Rattle.cqs_core.specs.QueueMoves.{Owns}
 use Rattle.cqs_core.specs.QueueSound.{IsSound, IsSoundAt, IsEntered}
 use Rattle.cqs_core.specs.QueueState.{Queue, owner_doing}
 use Rattle.cqs_core.specs.Resting.{IsIdle, IsResting}
 use Rattle.cqs_core.specs.SemaphoreEntries.{Waits, IsServed}
 use Rattle.cqs_core.specs.SemaphoreShown.{IsCore, shown}
-use Rattle.cqs_core.specs.SemaphoreTable.{Shape, is_owner, is_with}
+use Rattle.cqs_core.specs.SemaphoreTable.{Shape, is_with}
 use Rattle.cqs_core.specs.SoleCaller.{HasWait, NoneTaken}
 use Rattle.cqs_core.proofs.LineReads.{line-keyed, served-keyed}
-use Rattle.cqs_core.proofs.Picked.{IsKeyed, picked-in}
+use Rattle.cqs_core.proofs.Picked.{picked-in}
 use Rattle.cqs_core.proofs.Quiet.{cases_waiter, not-in_line}
 
 -- what is in a picked list was read off an element

@@ -1,5 +1,5 @@
 -- Lists in order of a key: a number that each element has.
-use Rattle.std.specs.Prelude.{ℕ, ◌==◌, nat_lt, Bool, cond, List, [], ◌∷◌, if◌then◌else◌}
+use Rattle.std.specs.Prelude.{ℕ, ◌==◌, nat_lt, List, [], ◌∷◌, if◌then◌else◌}
 
 -- x stands in order of its key, before the first element with a larger one
 abbrev pub placed : {X : Type 0} → (X → ℕ) → X → List X → List X

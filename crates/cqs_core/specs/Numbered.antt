@@ -1,5 +1,5 @@
 -- Lists whose elements have numbers: their places, counted from a first one.
-use Rattle.std.specs.Prelude.{◌≡◌, ℕ, suc, ◌+◌, Bool, true, false, cond, List, [], ◌∷◌, Option, Some, None, slice_get}
+use Rattle.std.specs.Prelude.{◌≡◌, ℕ, suc, ◌+◌, Bool, cond, List, [], ◌∷◌, Option, Some, None, slice_get}
 
 -- x goes first where there is one
 abbrev pub cons_option : {X : Type 0} → Option X → List X → List X

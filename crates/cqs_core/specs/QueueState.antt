@@ -1,5 +1,5 @@
 -- The queue part of a core: its cells, the two counters, and what each pass is doing. Nothing here knows of permits.
-use Rattle.std.specs.Prelude.{ℕ, Bool, true, false, ◌&&◌, ◌==◌, List, Option, Some, None, slice_get, false}
+use Rattle.std.specs.Prelude.{ℕ, Bool, true, false, ◌==◌, List, Option, Some, None, slice_get, false}
 use Rattle.std.specs.Option.{option_and_then}
 use Rattle.std.specs.List.{list_any}
 use Rattle.cqs_core.specs.declared.cells.CoreCell.{CoreCell}

@@ -1,5 +1,5 @@
 -- Runs of a core: events, and moves of held permits from one pass to another.
-use Rattle.std.specs.Prelude.{◌≡◌, ℕ, ◌+◌, ◌-◌, ◌<◌, ◌≤◌, nat_le, nat_lt, ◌&&◌, List, [], ◌∷◌, length, Option, Some, None, slice_index, slice_set, if◌then◌else◌}
+use Rattle.std.specs.Prelude.{◌≡◌, ℕ, ◌+◌, ◌-◌, nat_le, nat_lt, ◌&&◌, List, [], ◌∷◌, length, Option, Some, None, slice_index, slice_set, if◌then◌else◌}
 use Rattle.std.specs.Option.{option_and_then}
 use Rattle.cqs_core.specs.declared.events.Event.{Event}
 use Rattle.cqs_core.specs.SemaphoreTable.{Shape, Stepped, step}

@@ -1,15 +1,14 @@
 -- A core shows the fair semaphore: which plain object its words, cells and passes stand for. With it, all that holds of
 -- every core between any two events.
-use Rattle.std.specs.Prelude.{◌≡◌, ℕ, ◌+◌, ◌-◌, ◌<◌, ◌≤◌, List, [], length, ℤ, pos, negsuc, ◌<ℤ◌, ◌≤ℤ◌, ◌-ℤ◌, sum, replicate, Option, Some, slice_get}
+use Rattle.std.specs.Prelude.{◌≡◌, ℕ, ◌+◌, ◌-◌, ◌<◌, ◌≤◌, [], length, ℤ, pos, negsuc, ◌<ℤ◌, ◌≤ℤ◌, ◌-ℤ◌, sum, replicate}
 use Rattle.cqs_core.specs.declared.doings.Doing.{Doing}
 use Rattle.cqs_core.specs.declared.doings.Doing.TheVariants as doing
 use Rattle.cqs_core.specs.Numbered.{EachAt}
-use Rattle.cqs_core.specs.QueueState.{Queue}
 use Rattle.cqs_core.specs.QueueLine as queue
 use Rattle.cqs_core.specs.QueueSound.{IsSound}
 use Rattle.cqs_core.specs.QueueCover.{IsCovered}
 use Rattle.cqs_core.specs.SemaphoreObject.{Semaphore, due}
-use Rattle.cqs_core.specs.SemaphoreEntries.{object_after, IsLegal, IsBalanced}
+use Rattle.cqs_core.specs.SemaphoreEntries.{object_after, IsLegal}
 use Rattle.cqs_core.specs.SemaphoreTable.{Shape, lowest, last_number}
 
 -- the state word counts the free permits where it is above 0, and else the waiters for whom no permit is on its way

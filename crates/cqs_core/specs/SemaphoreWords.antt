@@ -1,5 +1,5 @@
 -- Which cores the code can work on: their numbers fit its words, and there is a place for each number.
-use Rattle.std.specs.Prelude.{◌≡◌, ℕ, ◌+◌, ◌^◌, ◌<◌, ◌≤◌, pos, ◌≤ℤ◌, length, slice_index}
+use Rattle.std.specs.Prelude.{◌≡◌, ℕ, ◌+◌, ◌^◌, ◌<◌, pos, ◌≤ℤ◌, length, slice_index}
 use Rattle.cqs_core.specs.SemaphoreTable.{Shape, lowest}
 
 -- One more may be held, and the state may rise or fall by one, without a word that overflows; and each pass has a count

@@ -1,4 +1,3 @@
-use Rattle.cqs_core.specs.SemaphoreShown.{IsCore}
 use Rattle.cqs_core.proofs.CoreFacts.{shows-object, balanced-object}
 use Rattle.cqs_core.proofs.runnable.Core.history.Goals as goal
 

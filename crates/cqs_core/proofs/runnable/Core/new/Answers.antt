@@ -1,6 +1,5 @@
-use Rattle.std.proofs.Common.{arith, subst, sym}
-use Rattle.cqs_core.specs.SemaphoreShown.{IsCore, IsSize}
-use Rattle.cqs_core.specs.SemaphoreTable.{Shape}
+use Rattle.std.proofs.Common.{arith}
+use Rattle.cqs_core.specs.SemaphoreShown.{IsSize}
 use Rattle.cqs_core.proofs.OpenedCore.{opened-core}
 use Rattle.cqs_core.proofs.runnable.Core.new.Goals as goal
 

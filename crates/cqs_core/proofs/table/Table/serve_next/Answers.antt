@@ -1,4 +1,4 @@
-use Rattle.std.proofs.Common.{◌+◌, ◌≤◌, arith}
+use Rattle.std.proofs.Common.{arith}
 use Rattle.cqs_core.proofs.Resumptions.{resumption-passed}
 use Rattle.cqs_core.proofs.table.Table.serve_next.Goals as goal
 

@@ -1,7 +1,5 @@
 -- The lists that a table and an array are seen as, beside the map and the vector that hold them.
-use Rattle.std.proofs.Common.{◌≡◌, ℕ, zero, suc, length, BTreeMap, Less, nat_cmp, arith, Bool, ◌&&◌, ◌||◌, List, [], ◌∷◌, map, String, Global, string_bytes, Bor, refl, ap, ◌∙◌}
-use Rattle.std.specs.BTreeMap.{IsOrdered}
-use Rattle.std.specs.Cmp.Lexicographic.{slice_cmp}
+use Rattle.std.proofs.Common.{◌≡◌, ℕ, zero, suc, Less, arith, ◌||◌, List, [], ◌∷◌, map, string_bytes, Bor, refl, ap}
 use Rattle.std.specs.List.{list_all, list_any, All, AllPairs, AllByRecursion}
 use Rattle.std.specs.List.Sorted.{IsStrictlySortedBy}
 use Rattle.std.specs.String.{string_cmp}

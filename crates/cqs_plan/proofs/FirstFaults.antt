@@ -1,5 +1,5 @@
 -- The first fault of lists of faults that stand one after the other.
-use Rattle.std.proofs.Common.{◌≡◌, ℕ, ◌+◌, ◌<◌, ◌≤◌, List, [], ◌∷◌, ◌++◌, false, nat_le, length, get_or, drop, take, map, Some, None, slice_get, sym, ap, ◌∙◌}
+use Rattle.std.proofs.Common.{◌≡◌, ℕ, ◌+◌, ◌<◌, ◌≤◌, List, [], ◌∷◌, ◌++◌, false, nat_le, length, get_or, drop, take, map, Some, slice_get, sym, ap, ◌∙◌}
 use Rattle.std.proofs.lemmas.Bool.{lt-leb}
 use Rattle.std.proofs.lemmas.List.{drop_more, drop_all, take_more, get_or-map, length-map}
 use Rattle.std.specs.List.{flat_map, enumerate_from}

@@ -1,5 +1,5 @@
 -- A plan that was read can be run: its resources are semaphores, and its steps can be made.
-use Rattle.std.proofs.Common.{◌≡◌, ℕ, zero, suc, ◌+◌, ◌<◌, ◌≤◌, Bool, true, false, List, [], ◌∷◌, ◌++◌, length, map, take, get_or, Option, Some, None, refl, sym, ap, ◌∙◌, subst, arith}
+use Rattle.std.proofs.Common.{◌≡◌, ℕ, zero, suc, Bool, List, [], ◌∷◌, ◌++◌, map, take, Option, Some, None, refl, sym, ap, ◌∙◌, subst, arith}
 use Rattle.std.specs.Prelude.{slice_get, slice_index_or, All, IsSomeAnd, IsTrue, IfOk, Result, Ok, Err, codes}
 use Rattle.std.specs.Option.{option_map}
 use Rattle.std.proofs.lemmas.Option.{slice_get-map}
@@ -18,7 +18,7 @@ use Rattle.cqs_plan.specs.Floor.{IsHoldable}
 use Rattle.cqs_plan.specs.Language.{can_hold, semaphores}
 use Rattle.cqs_plan.specs.Meaning.{resource_in, members_in, plan_in}
 use Rattle.cqs_plan.specs.PlanText.{IsPlanText}
-use Rattle.cqs_plan.specs.Runnable.{kinds_of, IsMakeable, AreMakeable, IsRunnable, IsSemaphore, AreSemaphores}
+use Rattle.cqs_plan.specs.Runnable.{kinds_of, IsMakeable, IsRunnable, IsSemaphore, AreSemaphores}
 use Rattle.cqs_plan.specs.Validity.{IsValid, IsKind, IsResource, IsJob, IsStep, HasKindAt, is_latch, is_barrier}
 
 -- an element is where its number says

@@ -1,9 +1,8 @@
 -- A job without a fault is what a job has to be.
-use Rattle.std.proofs.Common.{◌≡◌, ◌≢◌, ℕ, zero, suc, ◌+◌, ◌<◌, ◌≤◌, Bool, true, false, ◌&&◌, ◌||◌, not, cond, nat_le, List, [], ◌∷◌, ◌++◌, length, get_or, take, map, Option, Some, None, Result, Ok, Err, slice_get, refl, sym, ap, ◌∙◌, inl, inr, arith}
-use Rattle.std.specs.Prelude.{codes, IfSome, All, AllPairs, option_map, count_by}
-use Rattle.std.specs.List.{filter_map, list_any}
-use Rattle.std.specs.Str.{bytes_eq}
-use Rattle.std.proofs.lemmas.Bool.{and_parts, leb-true, ltb-true, not-true, or_parts}
+use Rattle.std.proofs.Common.{◌≡◌, ℕ, zero, suc, ◌<◌, ◌≤◌, Bool, true, false, not, nat_le, List, [], ◌∷◌, length, get_or, take, Option, Some, None, Result, Ok, Err, slice_get, refl, sym, ap, ◌∙◌, arith}
+use Rattle.std.specs.Prelude.{codes, IfSome, All, option_map}
+use Rattle.std.specs.List.{filter_map}
+use Rattle.std.proofs.lemmas.Bool.{and_parts, leb-true, ltb-true, not-true}
 use Rattle.std.proofs.lemmas.Option.{get_or_from_slice_get}
 use Rattle.toml.specs.Data.{Data, boolean, table, get, get_member, as_table, as_str, as_array, Members, Items}
 use Rattle.cqs_plan.specs.declared.plans.fault_kind.FaultKind.{FaultKind}
@@ -13,9 +12,9 @@ use Rattle.cqs_plan.specs.declared.plans.resource.Resource.{Resource}
 use Rattle.cqs_plan.specs.declared.plans.step.Step.{Step}
 use Rattle.cqs_plan.specs.declared.plans.step.Step.TheVariants.{Give}
 use Rattle.cqs_plan.specs.Language.{is_name}
-use Rattle.cqs_plan.specs.FaultRules.{Fault, has_only, optional, required, unless}
-use Rattle.cqs_plan.specs.Faults.{is_named, job_faults, job_keys, job_step_faults, name_faults, number_faults, read_step_faults, step_faults, steps_faults, steps_part_faults}
-use Rattle.cqs_plan.specs.Holding.{is_give, is_held, is_take}
+use Rattle.cqs_plan.specs.FaultRules.{has_only, optional, required, unless}
+use Rattle.cqs_plan.specs.Faults.{job_faults, job_keys, job_step_faults, name_faults, number_faults, read_step_faults, step_faults, steps_faults, steps_part_faults}
+use Rattle.cqs_plan.specs.Holding.{is_held}
 use Rattle.cqs_plan.specs.Places.{indexed, job_place, part_place}
 use Rattle.cqs_plan.specs.Meaning.{items_in, items_list, text_in, job_in, job_name, number_in, step_in, step_of, steps_in}
 use Rattle.cqs_plan.specs.Validity.{IsStep, IsJob, GivesWhatItTook}

@@ -1,12 +1,11 @@
 -- What a part of a document without a fault is.
-use Rattle.std.proofs.Common.{◌≡◌, ℕ, zero, suc, ◌+◌, ◌<◌, ◌≤◌, ℤ, pos, negsuc, Bool, true, false, ◌&&◌, not, cond, List, [], ◌∷◌, ◌++◌, length, get_or, Option, Some, None, refl, sym, ap, ◌∙◌, arith}
+use Rattle.std.proofs.Common.{◌≡◌, ℕ, zero, suc, ◌+◌, ◌<◌, ℤ, pos, negsuc, Bool, true, false, ◌&&◌, List, [], ◌∷◌, ◌++◌, length, get_or, Option, Some, None, refl, arith}
 use Rattle.std.specs.Prelude.{int_le}
 use Rattle.std.specs.Int.{IsInRange}
-use Rattle.std.specs.List.{flat_map, enumerate_from}
 use Rattle.std.proofs.lemmas.Bool.{and_parts, false≢true, leb-true}
 use Rattle.toml.specs.Data.{Data, as_integer}
 use Rattle.cqs_plan.specs.declared.plans.fault_kind.FaultKind.{FaultKind}
-use Rattle.cqs_plan.specs.FaultRules.{Fault, fault_at, optional, required, shaped, unless}
+use Rattle.cqs_plan.specs.FaultRules.{Fault, required, shaped, unless}
 use Rattle.cqs_plan.specs.Faults.{number_faults}
 use Rattle.cqs_plan.specs.Meaning.{count_in, number_in}
 use Rattle.cqs_plan.proofs.FirstFaults.{faults_from}

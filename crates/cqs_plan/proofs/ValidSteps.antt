@@ -1,18 +1,17 @@
 -- A step that was read names a resource that its verb works on.
-use Rattle.std.proofs.Common.{◌≡◌, ℕ, zero, suc, ◌+◌, ◌<◌, ◌≤◌, Bool, true, false, ◌&&◌, not, cond, nat_le, List, [], ◌∷◌, ◌++◌, length, get_or, take, Option, Some, None, Result, Ok, Err, slice_get, find, refl, sym, ap, ◌∙◌, inl, inr, arith}
+use Rattle.std.proofs.Common.{◌≡◌, ℕ, suc, ◌+◌, Bool, true, false, ◌&&◌, cond, nat_le, List, [], ◌∷◌, Option, Some, None, Result, Ok, Err, slice_get, refl, arith}
 use Rattle.std.specs.Prelude.{if◌then◌else◌, codes, IsSomeAnd, IsTrue}
-use Rattle.std.specs.Int.{IsInRange}
-use Rattle.std.specs.List.{position_from, filter_map, cons_option, before_first, after_first}
+use Rattle.std.specs.List.{position_from, before_first, after_first}
 use Rattle.std.specs.Option.{option_map_or}
 use Rattle.std.specs.Str.{bytes_eq}
-use Rattle.std.proofs.lemmas.Bool.{and_parts, cases_Bool, leb-true}
+use Rattle.std.proofs.lemmas.Bool.{and_parts, leb-true}
 use Rattle.cqs_plan.specs.declared.plans.fault_kind.FaultKind.{FaultKind}
 use Rattle.cqs_plan.specs.declared.plans.fault_kind.FaultKind.TheVariants as fault
 use Rattle.cqs_plan.specs.declared.plans.resource.Resource.{Resource}
 use Rattle.cqs_plan.specs.declared.plans.step.Step.{Step}
-use Rattle.cqs_plan.specs.declared.plans.step.Step.TheVariants.{Take, Give, Work}
+use Rattle.cqs_plan.specs.declared.plans.step.Step.TheVariants.{Work}
 use Rattle.cqs_plan.specs.Language.{Verb, take_verb, give_verb}
-use Rattle.cqs_plan.specs.Meaning.{has_one_space, is_space, is_decimal, decimal_value, step_at, step_of, verb_step, work_step}
+use Rattle.cqs_plan.specs.Meaning.{has_one_space, is_space, is_decimal, decimal_value, step_at, step_of, work_step}
 use Rattle.cqs_plan.specs.Validity.{HasKindAt, IsStep}
 
 -- an answer under a test that is `Ok` passed the test

@@ -1,5 +1,5 @@
 -- All faults of a document, in the order in which they are looked for: `faults_in`, at the end of this file.
-use Rattle.std.specs.Prelude.{ℕ, ◌+◌, ℤ, pos, Bool, ◌&&◌, not, nat_le, nat_lt, int_le, List, [], ◌∷◌, ◌++◌, map, take, length, Option, Result, Ok, Err, codes}
+use Rattle.std.specs.Prelude.{ℕ, ◌+◌, pos, Bool, ◌&&◌, not, nat_le, nat_lt, int_le, List, [], ◌∷◌, ◌++◌, map, take, length, Option, Result, Ok, Err, codes}
 use Rattle.std.specs.List.{list_any, flat_map}
 use Rattle.std.specs.Str.{bytes_eq}
 use Rattle.toml.specs.Data.{Data, Members, get_member, as_integer, as_str, as_array, as_table}
@@ -9,7 +9,7 @@ use Rattle.cqs_plan.specs.declared.plans.fault_kind.FaultKind.TheVariants as fau
 use Rattle.cqs_plan.specs.declared.plans.step.Step.{Step}
 use Rattle.cqs_plan.specs.FaultRules.{Fault, fault_at, unless, required, optional, shaped, each, has_only}
 use Rattle.cqs_plan.specs.Holding.{is_held}
-use Rattle.cqs_plan.specs.Language.{is_name, Number, ResourceKind, resource_kinds}
+use Rattle.cqs_plan.specs.Language.{is_name, ResourceKind, resource_kinds}
 use Rattle.cqs_plan.specs.Meaning.{items_list, members_list, members_in, resources_in, step_of, steps_in, job_name}
 use Rattle.cqs_plan.specs.Places.{dotted, indexed, job_place, part_place}
 

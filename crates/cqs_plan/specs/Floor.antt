@@ -1,6 +1,5 @@
 -- The plain floor: what contracts see of a floor. One caller makes all its calls, as pass 0.
-use Rattle.std.specs.Prelude.{◌≡◌, ℕ, ◌+◌, ◌-◌, ◌<◌, List, [], ◌∷◌, ◌++◌, Option, Some, None, IsSome, length, map, replicate, sum_by, count_by, find, ◌==◌, slice_get, slice_index, slice_index_or, slice_set}
-use Rattle.std.specs.Option.{option_and_then}
+use Rattle.std.specs.Prelude.{◌≡◌, ℕ, ◌-◌, ◌<◌, List, [], ◌∷◌, ◌++◌, Option, Some, None, IsSome, length, map, replicate, sum_by, count_by, find, ◌==◌, slice_get, slice_index, slice_index_or, slice_set}
 use Rattle.std.specs.List.{range_with_len}
 use Rattle.cqs_core.specs.declared.entries.Entry.{Entry}
 use Rattle.cqs_core.specs.Keyed.{without}

@@ -1,8 +1,8 @@
 -- What a job holds, by the steps that it has made.
 pub use Rattle.cqs_plan.specs.PlanSteps.{is_take, is_give}
-use Rattle.std.specs.Prelude.{ℕ, Bool, true, false, ◌==◌, nat_lt, List, count_by}
+use Rattle.std.specs.Prelude.{Bool, true, nat_lt, List, count_by}
 use Rattle.cqs_plan.specs.declared.plans.step.Step.{Step}
-use Rattle.cqs_plan.specs.declared.plans.step.Step.TheVariants.{Take, Give}
+use Rattle.cqs_plan.specs.declared.plans.step.Step.TheVariants.{Give}
 
 -- a `give` has more earlier takes of its resource than gives
 abbrev pub is_held : List Step → Step → Bool

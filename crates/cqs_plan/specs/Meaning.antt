@@ -1,6 +1,6 @@
 -- Which plan a document without a fault is.
-use Rattle.std.specs.Prelude.{ℕ, ◌+◌, ◌-◌, ◌*◌, ℤ, pos, negsuc, Bool, true, false, ◌&&◌, ◌||◌, not, ◌==◌, nat_le, nat_eq, if◌then◌else◌, List, [], ◌∷◌, map, take, Option, Some, None, unwrap_or, option_map, option_and_then, Result, Ok, Err, codes, fold, find, count_by}
-use Rattle.std.specs.List.{list_all, list_any, starts_with, flat_map, filter_map, position_from, before_first, after_first}
+use Rattle.std.specs.Prelude.{ℕ, ◌+◌, ◌-◌, ◌*◌, ℤ, pos, negsuc, Bool, ◌&&◌, not, ◌==◌, nat_le, nat_eq, if◌then◌else◌, List, [], ◌∷◌, map, Option, Some, unwrap_or, option_map, option_and_then, Result, Ok, Err, codes, fold, find, count_by}
+use Rattle.std.specs.List.{list_all, starts_with, flat_map, filter_map, position_from, before_first, after_first}
 use Rattle.std.specs.Option.{option_map_or}
 use Rattle.std.specs.Result.{result_ok}
 use Rattle.std.specs.Char.{is_ascii_digit}
@@ -13,7 +13,7 @@ use Rattle.cqs_plan.specs.declared.plans.fault_kind.FaultKind.{FaultKind}
 use Rattle.cqs_plan.specs.declared.plans.fault_kind.FaultKind.TheVariants as fault
 use Rattle.cqs_plan.specs.declared.plans.step.Step.{Step}
 use Rattle.cqs_plan.specs.declared.plans.step.Step.TheVariants.{Work}
-use Rattle.cqs_plan.specs.Language.{Number, ResourceKind, resource_kinds, Verb, verbs}
+use Rattle.cqs_plan.specs.Language.{ResourceKind, resource_kinds, Verb, verbs}
 
 -- the items of an array, and the members of a table with their keys, in order
 abbrev pub items_list : Items → List Data

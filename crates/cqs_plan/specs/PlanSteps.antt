@@ -1,5 +1,5 @@
 -- The steps of a plan's jobs on one resource.
-use Rattle.std.specs.Prelude.{ℕ, ◌==◌, Bool, true, false}
+use Rattle.std.specs.Prelude.{ℕ, ◌==◌, Bool, false}
 use Rattle.cqs_plan.specs.declared.plans.step.Step.{Step}
 use Rattle.cqs_plan.specs.declared.plans.step.Step.TheVariants.{Take, Give}
 

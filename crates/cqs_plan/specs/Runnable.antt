@@ -1,12 +1,11 @@
 -- What running a plan rests on: its steps name resources that are there, and give what was taken before.
-use Rattle.std.specs.Prelude.{ℕ, ◌<◌, ◌≤◌, List, take, length, count_by, map, Some, slice_get}
+use Rattle.std.specs.Prelude.{◌<◌, ◌≤◌, List, take, length, count_by, map, Some, slice_get}
 use Rattle.cqs_core.specs.Numbered.{EachAt}
 use Rattle.cqs_plan.specs.declared.plans.kind.Kind.{Kind}
 use Rattle.cqs_plan.specs.declared.plans.kind.Kind.TheVariants.{Semaphore}
 use Rattle.cqs_plan.specs.declared.plans.resource.Resource.{Resource}
 use Rattle.cqs_plan.specs.declared.plans.step.Step.{Step}
 use Rattle.cqs_plan.specs.declared.plans.step.Step.TheVariants.{Take, Give, Down, Await, Arrive, Work}
-use Rattle.cqs_plan.specs.declared.plans.job.Job.{Job}
 use Rattle.cqs_plan.specs.declared.plans.plan.Plan.{Plan}
 use Rattle.cqs_plan.specs.PlanSteps.{is_take, is_give}
 use Rattle.cqs_plan.specs.Floor.{IsHoldable}

@@ -4,7 +4,6 @@ use Rattle.std.proofs.lemmas.List.{take_all, length-map, map-append}
 use Rattle.std.proofs.lemmas.Result.{err_from_is_err_and}
 use Rattle.toml.specs.View.{view}
 use Rattle.cqs_plan.specs.Faults.{is_named, job_faults, listed_job_faults}
-use Rattle.cqs_plan.specs.Meaning.{job_in}
 use Rattle.cqs_plan.specs.Reading.{StopsAt}
 use Rattle.cqs_plan.proofs.FirstFaults.{Turn, take-turn, stops-here, goes-on, ends}
 use Rattle.cqs_plan.proofs.MeaningLemmas.{job_faults-same, is_named-push}

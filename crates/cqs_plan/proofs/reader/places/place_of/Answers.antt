@@ -1,4 +1,4 @@
-use Rattle.std.proofs.Common.{◌≡◌, sym, Equal, Less, Greater, nat_cmp, rules, true, false, get_or}
+use Rattle.std.proofs.Common.{◌≡◌, sym, nat_cmp, rules, true, false}
 use Rattle.std.specs.Cmp.Lexicographic.{slice_cmp}
 use Rattle.std.specs.List.Sorted.{IsBinarySearchResult}
 use Rattle.std.proofs.lemmas.Fn.{always_returns_same}

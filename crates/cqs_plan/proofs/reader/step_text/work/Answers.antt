@@ -1,4 +1,4 @@
-use Rattle.std.proofs.Common.{◌≡◌, ◌≤◌, ◌<◌, true, Ok, Err, sym, ◌∙◌, arith}
+use Rattle.std.proofs.Common.{◌≡◌, true, arith}
 use Rattle.std.proofs.lemmas.Bool.{le-leb, lt-leb}
 use Rattle.cqs_plan.specs.Meaning.{is_decimal, work_step}
 use Rattle.cqs_plan.proofs.WorkSteps.{turns_step, work_step-parsed}

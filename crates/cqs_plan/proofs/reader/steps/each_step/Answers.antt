@@ -6,7 +6,6 @@ use Rattle.toml.specs.View.{view}
 use Rattle.cqs_plan.specs.declared.plans.resource.Resource.{Resource}
 use Rattle.cqs_plan.specs.FaultRules.{Fault}
 use Rattle.cqs_plan.specs.Faults.{job_step_faults}
-use Rattle.cqs_plan.specs.Meaning.{steps_in}
 use Rattle.cqs_plan.specs.Places.{part_place}
 use Rattle.cqs_plan.specs.Reading.{StopsAt}
 use Rattle.cqs_plan.proofs.FirstFaults.{Turn, take-turn, stops-here, goes-on, ends}

@@ -15,11 +15,11 @@ use Rattle.cqs_core.specs.SoleCaller.{HasWait}
 use Rattle.cqs_core.proofs.Counts.{bit}
 use Rattle.cqs_plan.specs.declared.floors.answers.FloorGive.{FloorGive}
 use Rattle.cqs_plan.specs.declared.floors.answers.FloorGive.TheVariants.{Free, Sent}
-use Rattle.cqs_plan.specs.Floor.{PlainFloor, IsHoldable, IsJob, IsHolding, oldest, holds_of, permits_of, object_at}
+use Rattle.cqs_plan.specs.Floor.{PlainFloor, IsHoldable, IsJob, IsHolding, oldest, holds_of, object_at}
 use Rattle.cqs_plan.specs.FloorCalls as plain
 use Rattle.cqs_cli.specs.declared.floors.transfers.Transfer.TheVariants.{GaveBack}
 use Rattle.cqs_cli.specs.DeskCalls.{Answers, CanCall, give_of}
-use Rattle.cqs_cli.specs.Kept.{IsKept, IsFundedAt, HoldPermits, holds_in, waiting_at, held_at}
+use Rattle.cqs_cli.specs.Kept.{IsKept, IsFundedAt, HoldPermits, holds_in, held_at}
 use Rattle.cqs_cli.specs.Ledger.{Ledger, plain_floor, with_cores, with_transfer, after_transfer}
 use Rattle.cqs_cli.specs.SoleCore.{HasMade}
 use Rattle.cqs_cli.proofs.Came.{Came, came-freed, came-sent}

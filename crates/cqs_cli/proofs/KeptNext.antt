@@ -1,5 +1,5 @@
 -- What a ledger keeps after a call at one resource.
-use Rattle.std.proofs.Common.{◌≡◌, ◌≢◌, ◌⊎◌, inl, inr, ℕ, ◌+◌, ◌*◌, ◌≤◌, List, [], ◌++◌, Some, is_some, length, map, set, get_or, slice_get, sum, sum_by, count_by, ap, sym, ◌∙◌, subst, length-set}
+use Rattle.std.proofs.Common.{◌≡◌, ◌≢◌, ◌⊎◌, inl, inr, ℕ, ◌≤◌, List, [], ◌++◌, Some, length, map, set, get_or, slice_get, ap, sym, ◌∙◌, subst, length-set}
 use Rattle.std.specs.Prelude.{slice_index}
 use Rattle.std.proofs.lemmas.Bool.{cases_eq}
 use Rattle.std.proofs.lemmas.List.{map-set}
@@ -11,7 +11,6 @@ use Rattle.cqs_core.specs.SoleCaller.{HasWait}
 use Rattle.cqs_core.proofs.EachAtLemmas.{EachAt-write}
 use Rattle.cqs_core.proofs.Places.{get-set_here, get-set_else}
 use Rattle.cqs_plan.specs.declared.plans.kind.Kind.{Kind}
-use Rattle.cqs_plan.specs.Floor.{permits_of}
 use Rattle.cqs_cli.specs.declared.floors.waits.Wait.{Wait}
 use Rattle.cqs_cli.specs.Kept.{IsKept, IsFundedAt, StandsIn, AreApart, HoldPermits, holds_in, waiting_at, held_at, transfers_to_come}
 use Rattle.cqs_cli.specs.Ledger.{Ledger}

@@ -15,7 +15,7 @@ use Rattle.cqs_plan.specs.declared.floors.answers.FloorLook.{FloorLook}
 use Rattle.cqs_plan.specs.declared.floors.answers.FloorLook.TheVariants.{Pending, Granted}
 use Rattle.cqs_plan.specs.declared.floors.answers.FloorLeave.{FloorLeave}
 use Rattle.cqs_plan.specs.declared.floors.answers.FloorLeave.TheVariants.{Gone, Late}
-use Rattle.cqs_plan.specs.Floor.{PlainFloor, IsJob, wait_of, permits_of}
+use Rattle.cqs_plan.specs.Floor.{PlainFloor, IsJob, wait_of}
 use Rattle.cqs_plan.specs.FloorCalls as plain
 use Rattle.cqs_cli.specs.declared.floors.waits.Wait.{Wait}
 use Rattle.cqs_cli.specs.DeskCalls.{Answers, CanCall, CanLook, Looks, leave_of, left, is_wait_served}

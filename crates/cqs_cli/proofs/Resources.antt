@@ -1,6 +1,5 @@
 -- The resources of a ledger: each has its core, which shows the plain semaphore of the resource.
 use Rattle.std.proofs.Common.{◌≡◌, ◌≢◌, ℕ, zero, suc, ◌<◌, ◌==◌, List, [], ◌∷◌, Option, Some, None, length, map, get_or, slice_get, refl, ap, sym, ◌∙◌, eq-eqb, ne_eqb, arith}
-use Rattle.std.specs.Prelude.{slice_index}
 use Rattle.std.specs.Option.{option_map}
 use Rattle.std.proofs.lemmas.List.{length-map}
 use Rattle.cqs_core.specs.SemaphoreAnswers.{Room}

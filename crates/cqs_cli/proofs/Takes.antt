@@ -17,7 +17,7 @@ use Rattle.cqs_core.proofs.Counts.{bit}
 use Rattle.cqs_core.proofs.Places.{get-set_here, get-set_else, get-there}
 use Rattle.cqs_plan.specs.declared.floors.answers.FloorTake.{FloorTake}
 use Rattle.cqs_plan.specs.declared.floors.answers.FloorTake.TheVariants.{Now, Waits}
-use Rattle.cqs_plan.specs.Floor.{PlainFloor, IsHoldable, IsJob, IsIdle, permits_of, object_at, room_at}
+use Rattle.cqs_plan.specs.Floor.{PlainFloor, IsHoldable, IsJob, IsIdle, object_at, room_at}
 use Rattle.cqs_plan.specs.FloorCalls.{take_answer, after_take}
 use Rattle.cqs_cli.specs.declared.floors.transfers.Transfer.TheVariants.{Got}
 use Rattle.cqs_cli.specs.declared.floors.waits.Wait.{Wait}

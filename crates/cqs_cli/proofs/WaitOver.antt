@@ -13,7 +13,6 @@ use Rattle.cqs_core.specs.SemaphoreShown.{shown}
 use Rattle.cqs_core.specs.SoleCaller.{HasWait}
 use Rattle.cqs_core.proofs.Counts.{bit}
 use Rattle.cqs_core.proofs.Places.{get-set_here, get-set_else, get-below}
-use Rattle.cqs_plan.specs.Floor.{permits_of}
 use Rattle.cqs_cli.specs.declared.floors.transfers.Transfer.TheVariants.{Got}
 use Rattle.cqs_cli.specs.declared.floors.waits.Wait.{Wait}
 use Rattle.cqs_cli.specs.Kept.{IsKept, IsFundedAt, StandsIn, AreApart, HoldPermits, holds_in, waiting_at, held_at, is_wait_at}

@@ -7,7 +7,6 @@ use Rattle.cqs_core.specs.SemaphoreAnswers.{Room}
 use Rattle.cqs_core.specs.SemaphoreShown.{opened}
 use Rattle.cqs_plan.specs.declared.plans.job.Job.{Job}
 use Rattle.cqs_plan.specs.declared.plans.kind.Kind.{Kind}
-use Rattle.cqs_plan.specs.declared.plans.kind.Kind.TheVariants.{Semaphore}
 use Rattle.cqs_plan.specs.declared.plans.plan.Plan.{Plan}
 use Rattle.cqs_plan.specs.declared.plans.resource.Resource.{Resource}
 use Rattle.cqs_plan.specs.declared.plans.step.Step.{Step}

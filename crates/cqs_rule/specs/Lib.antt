@@ -10,6 +10,7 @@ pub mod Told
 pub mod Called
 pub mod Configured
 pub mod Semaphore
+pub mod SemaphoreSteps
 pub mod SemaphoreClient
 pub mod Passes
 pub mod Placed

@@ -65,6 +65,19 @@ abbrev pub held_then : (ℕ → ℕ) → QueueStep → ℕ → ℕ
 held_then gains takes held = gains held
 held_then gains _ held = held
 
+-- whether a pass that is at this owes something: a resumption, or the end of a cancellation that it began
+abbrev pub is_owing : Doing → Bool
+is_owing doing.Owes = true
+is_owing (doing.Ticket k) = true
+is_owing (doing.Leaving k) = true
+is_owing (doing.Decided k on) = true
+is_owing _ = false
+
+-- whether it owes after a step of the queue
+abbrev pub owes_then : QueueStep → Bool
+owes_then reaches = true
+owes_then _ = false
+
 -- an exchange on the cell of the number k was not made: the word n was found
 abbrev pub facts_missed : ℕ → ℕ → Glimpse → Facts → Facts
 facts_missed k n g f = record f { last = Some g; found = f.found ++ Cell k n ∷ [] }

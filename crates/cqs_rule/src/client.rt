@@ -81,6 +81,7 @@ pub trait Client: ClientWords<Slot: Send> {}
 pub trait Shown<C: ClientWords> {
     ghost use Rattle.std.specs.Prelude.{◌≡◌, ℕ, ◌<◌, ◌^◌, Bool, List};
     ghost use Rattle.cqs_core.specs.declared.doings.Doing.{Doing};
+    ghost use Rattle.cqs_rule.specs.Told.{is_owing};
 
     // The entries, by the pass, what it was doing and the word found.
     ghost entries: { ℕ → Doing → ℕ → List C.Entry };
@@ -99,4 +100,8 @@ pub trait Shown<C: ClientWords> {
     fn held_after(held: u32, found: u64, made: bool) -> u32
         requires { holds made held found < 2 ^ 32 }
         ensures { result ≡ holds made held found };
+
+    /// Whether the pass owes after the step, by whether it owed before.
+    fn owes_after(owes: bool, found: u64) -> bool
+        ensures { (doing : Doing) → is_owing doing ≡ owes → is_owing (after doing found) ≡ result };
 }

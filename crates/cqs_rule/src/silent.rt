@@ -19,4 +19,8 @@ impl<C: ClientWords> Shown<C> for Silent {
     fn held_after(held: u32, _found: u64, _made: bool) -> u32 {
         held
     }
+
+    fn owes_after(owes: bool, _found: u64) -> bool {
+        owes
+    }
 }

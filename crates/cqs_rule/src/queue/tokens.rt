@@ -4,6 +4,7 @@ ghost use Rattle.std.specs.Prelude.{◌≡◌};
 ghost use Rattle.cqs_rule.specs.Lists.{Has};
 ghost use Rattle.cqs_rule.specs.Passes.{pass_view, IsOf};
 ghost use Rattle.cqs_rule.specs.Placed.{IsPlace};
+ghost use Rattle.cqs_rule.specs.Told.{is_owing};
 ghost use Rattle.cqs_rule.specs.Waits.{place_of, pass_of};
 
 use crate::client::ClientWords;
@@ -71,5 +72,12 @@ impl<C: ClientWords> Pass<C> {
         ensures { result ≡ (pass_view self.now).facts.held }
     {
         self.held
+    }
+
+    /// Whether it owes: a resumption, or the end of a cancellation that it began.
+    pub fn owes(&self) -> bool
+        ensures { result ≡ is_owing (pass_view self.now).facts.doing }
+    {
+        self.owes
     }
 }

@@ -32,6 +32,7 @@ impl<C: ClientWords> Queue<C> {
             .shared
             .load::<Show<C, M>>(&mut pass.seat, place(word));
         pass.held = M::held_after(pass.held, found, true);
+        pass.owes = M::owes_after(pass.owes, found);
         found
     }
 
@@ -55,6 +56,7 @@ impl<C: ClientWords> Queue<C> {
                 .fetch_add::<Show<C, M>>(&mut pass.seat, place, amount)
         };
         pass.held = M::held_after(pass.held, found, true);
+        pass.owes = M::owes_after(pass.owes, found);
         found
     }
 
@@ -71,6 +73,7 @@ impl<C: ClientWords> Queue<C> {
             .shared
             .fetch_or::<Show<C, M>>(&mut pass.seat, place(word), bits);
         pass.held = M::held_after(pass.held, found, true);
+        pass.owes = M::owes_after(pass.owes, found);
         found
     }
 
@@ -87,6 +90,7 @@ impl<C: ClientWords> Queue<C> {
             .shared
             .compare_exchange::<ShowExchange<C, M>>(&mut pass.seat, place(word), saw, new);
         pass.held = M::held_after(pass.held, found, found == saw);
+        pass.owes = M::owes_after(pass.owes, found);
         found
     }
 }

@@ -20,6 +20,10 @@ impl<T: Drop> Shown<SemClient<T>> for Take {
     fn held_after(held: u32, found: u64, _made: bool) -> u32 {
         if found > 1 << 32 { held + 1 } else { held }
     }
+
+    fn owes_after(_owes: bool, _found: u64) -> bool {
+        false
+    }
 }
 
 /// A try loads the state: no permit is free, or the pass is about to exchange the state that it loaded.
@@ -38,6 +42,10 @@ impl<T: Drop> Shown<SemClient<T>> for TryLoad {
 
     fn held_after(held: u32, _found: u64, _made: bool) -> u32 {
         held
+    }
+
+    fn owes_after(_owes: bool, _found: u64) -> bool {
+        false
     }
 }
 
@@ -58,6 +66,10 @@ impl<T: Drop> Shown<SemClient<T>> for TrySwap {
     fn held_after(held: u32, _found: u64, made: bool) -> u32 {
         if made { held + 1 } else { held }
     }
+
+    fn owes_after(_owes: bool, _found: u64) -> bool {
+        false
+    }
 }
 
 /// A release adds one to the state: the permit is free, or the pass owes a resumption, whose payload is 0.
@@ -76,5 +88,9 @@ impl<T: Drop> Shown<SemClient<T>> for Give {
 
     fn held_after(held: u32, _found: u64, _made: bool) -> u32 {
         held.saturating_sub(1)
+    }
+
+    fn owes_after(_owes: bool, found: u64) -> bool {
+        found < 1 << 32
     }
 }

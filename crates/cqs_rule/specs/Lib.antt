@@ -15,3 +15,4 @@ pub mod SemaphoreClient
 pub mod Passes
 pub mod Placed
 pub mod Waits
+pub mod Owed

@@ -15,7 +15,7 @@ use crate::rule::{Key, Rule};
 use crate::view::View;
 use atomic_table::{Seat, Table};
 use std::alloc::Global;
-pub use tokens::Wait;
+pub use tokens::{Under, Wait};
 
 /// A queue on one table of words. Its steps are made through a shared reference, with a pass.
 #[derive(Drop)]

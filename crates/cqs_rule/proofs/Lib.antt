@@ -9,5 +9,6 @@ pub mod Counters
 pub mod Crosses
 pub mod Moves
 pub mod SemaphoreMoves
+pub mod Loads
 pub mod Calls
 pub mod Opens

@@ -10,7 +10,9 @@ pub mod Told
 pub mod Called
 pub mod Configured
 pub mod Semaphore
+pub mod SemaphoreSteps
 pub mod SemaphoreClient
 pub mod Passes
 pub mod Placed
 pub mod Waits
+pub mod Owed

@@ -1,5 +1,6 @@
 -- What each step tells the pass that makes it, and what a client owes for a step on a word of its own.
-use Rattle.std.specs.Prelude.{◌≡◌, ◌≢◌, ℕ, suc, ◌+◌, ◌-◌, ◌%◌, ◌^◌, ◌<◌, nat_lt, Bool, true, false, List, [], ◌∷◌, ◌++◌, slice_index, slice_set, slice_get, Option, Some, None, ℤ, pos, negsuc, if◌then◌else◌}
+use Rattle.std.specs.Prelude.{◌≡◌, ◌≢◌, ◌⊎◌, ℕ, suc, ◌+◌, ◌-◌, ◌%◌, ◌^◌, ◌<◌, ◌==◌, nat_lt, Bool, true, false, List, [], ◌∷◌, ◌++◌, slice_index, slice_set, slice_get, Option, Some, None, ℤ, pos, negsuc, if◌then◌else◌}
+use prog.Atomic.{either}
 use Rattle.atomic_table.specs.Table.{Me, Step}
 use Rattle.cqs_core.specs.declared.cells.CoreState.{CoreState}
 use Rattle.cqs_core.specs.declared.cells.CoreState.TheVariants as state
@@ -64,6 +65,19 @@ abbrev pub held_then : (ℕ → ℕ) → QueueStep → ℕ → ℕ
 held_then gains takes held = gains held
 held_then gains _ held = held
 
+-- whether a pass that is at this owes something: a resumption, or the end of a cancellation that it began
+abbrev pub is_owing : Doing → Bool
+is_owing doing.Owes = true
+is_owing (doing.Ticket k) = true
+is_owing (doing.Leaving k) = true
+is_owing (doing.Decided k on) = true
+is_owing _ = false
+
+-- whether it owes after a step of the queue
+abbrev pub owes_then : QueueStep → Bool
+owes_then reaches = true
+owes_then _ = false
+
 -- an exchange on the cell of the number k was not made: the word n was found
 abbrev pub facts_missed : ℕ → ℕ → Glimpse → Facts → Facts
 facts_missed k n g f = record f { last = Some g; found = f.found ++ Cell k n ∷ [] }
@@ -106,6 +120,14 @@ pub record IsCrossing (s : QueueStep) (facts : Facts) (word expected new : ℕ) 
   pub expects : expected ≡ word_of (number_at facts.doing) (state_before s) payload
   pub owes : payload_made s facts.payload < 2 ^ 20
   pub makes : new ≡ word_of (number_at facts.doing) (state_after s) (payload_made s facts.payload)
+
+-- whether a step on a client's word is made, by the word that it finds: a load or a sum in any case, and an exchange where it
+-- finds the word that it saw
+abbrev pub in_any_case : ℕ → Bool
+in_any_case n = true
+
+abbrev pub where_found : ℕ → ℕ → Bool
+where_found saw n = n == saw
 
 -- the word n is that of the cell of the number k, found so
 pub record FoundCell (k n : ℕ) (g : Glimpse) : Type 0 where
@@ -155,11 +177,20 @@ module _ {E : Type 0} (names : ℕ → E → Bool) (legal : ℕ → List E → T
     abbrev pub crossed : (ℕ → ℕ) → (QueueStep → ℕ → ℕ → List E) → QueueStep → Step (Option S) → Me (Option S) (View E S) → ℕ → Me (Option S) (View E S) → Type 0
     crossed gains entries s st me n me' = Crossed gains entries s st.first me.0 n me'.0 × (me'.1 ≡ me.1)
 
-    -- a step on a client's word, which shows the event of these entries
-    abbrev pub moved_by : (ℕ → Doing → ℕ → List E) → (Doing → ℕ → Doing) → (ℕ → ℕ → ℕ) → (ℕ → ℕ) → Step (Option S) → Me (Option S) (View E S) → ℕ → Me (Option S) (View E S) → Type 0
-    moved_by entries after holds payload st me n me' =
-        Saw me.0 (facts_moved (after me.0.facts.doing n) (holds me.0.facts.held n) (payload me.0.facts.payload) me.0.facts) (entries me.0.number me.0.facts.doing n) me'.0
-        × (me'.1 ≡ me.1)
+    module _ (entries : ℕ → Doing → ℕ → List E) (after : Doing → ℕ → Doing) (holds : Bool → ℕ → ℕ → ℕ) (payload : ℕ → ℕ) where
+      -- a step on a client's word found n, and showed the event of these entries; `made` tells by n whether it was made
+      abbrev pub Moved : (ℕ → Bool) → View E S → ℕ → View E S → Type 0
+      Moved made v n w =
+          Saw v (facts_moved (after v.facts.doing n) (holds (made n) v.facts.held n) (payload v.facts.payload) v.facts)
+          (entries v.number v.facts.doing n) w
+
+      -- a load, or a sum: it is made in any case
+      abbrev pub moved_by : Step (Option S) → Me (Option S) (View E S) → ℕ → Me (Option S) (View E S) → Type 0
+      moved_by st me n me' = Moved in_any_case me.0 n me'.0 × (me'.1 ≡ me.1)
+
+      -- an exchange, from its first operand
+      abbrev pub exchanged_by : Step (Option S) → Me (Option S) (View E S) → ℕ → Me (Option S) (View E S) → Type 0
+      exchanged_by st me n me' = Moved (where_found st.first) me.0 n me'.0 × (me'.1 ≡ me.1)
 
 -- a word with a signed number added, as it wraps
 abbrev pub raise : ℤ → ℕ
@@ -169,16 +200,21 @@ raise (negsuc k) = 2 ^ 64 - suc k
 abbrev pub added : ℤ → ℕ → ℕ
 added by n = (n + raise by) % 2 ^ 64
 
+-- a word after an exchange
+abbrev pub exchanged : ℕ → ℕ → ℕ → ℕ
+exchanged saw new n = either (where_found saw n) new n
+
 -- What a client owes for a step on its word i, by which n becomes f n: wherever the pass is at these facts, the client's words,
--- the entries and the pass's next facts go together again. A step that brings the pass to the door needs that it may draw.
-pub record Moves {E S : Type 0} (names : ℕ → E → Bool) (shows : Hidden → List ℕ → List E → List S → Type 0) (entries : ℕ → Doing → ℕ → List E) (after : Doing → ℕ → Doing) (holds : ℕ → ℕ → ℕ) (p : ℕ) (facts : Facts) (i : ℕ) (f : ℕ → ℕ) : Type 0 where
+-- the entries and the pass's next facts go together again. A step that brings the pass to the door needs that it may draw, unless
+-- it is there already.
+pub record Moves {E S : Type 0} (names : ℕ → E → Bool) (shows : Hidden → List ℕ → List E → List S → Type 0) (entries : ℕ → Doing → ℕ → List E) (after : Doing → ℕ → Doing) (holds : Bool → ℕ → ℕ → ℕ) (made : ℕ → Bool) (p : ℕ) (facts : Facts) (i : ℕ) (f : ℕ → ℕ) : Type 0 where
   pub step : (c : Hidden) (words : List ℕ) (log : List E) (handed : List S) → shows c words log handed
       → slice_get c.queue.doing p ≡ Some facts.doing → slice_get c.held p ≡ Some facts.held → c.queue.suspends < 4194304 → c.queue.resumes < 4194304
       → slice_index words i < 2 ^ 64
-      → shows (stands_at c p (after facts.doing (slice_index words i)) (holds facts.held (slice_index words i)))
+      → shows (stands_at c p (after facts.doing (slice_index words i)) (holds (made (slice_index words i)) facts.held (slice_index words i)))
       (slice_set words i (f (slice_index words i))) (log ++ entries p facts.doing (slice_index words i)) handed
   pub silent : (n : ℕ) → NamesOnly names p (entries p facts.doing n)
-  pub door : (n : ℕ) → after facts.doing n ≡ doing.Door → facts.may_draw ≡ true
+  pub door : (n : ℕ) → after facts.doing n ≡ doing.Door → (facts.doing ≡ doing.Door) ⊎ (facts.may_draw ≡ true)
 
 module _ {E S : Type 0} (names : ℕ → E → Bool) (legal : ℕ → List E → Type 0) (gains : ℕ → ℕ) (entries : QueueStep → ℕ → ℕ → List E) where
   -- an exchange on the cell of the pass's number was made

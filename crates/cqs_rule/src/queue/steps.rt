@@ -30,9 +30,12 @@ impl<C: ClientWords> Queue<C> {
         ensures belongs { IsOf self.now pass.new }
         ensures saw { Saw C.names C.legal (pass_view pass.old) (facts_after C.gains K.step result result (pass_view pass.old).facts) (C.entries K.step (pass_view pass.old).number result) (pass_view pass.new) }
     {
-        self.table
+        let found = self
+            .table
             .shared
-            .fetch_add::<Draw<C, K>>(&mut pass.seat, word as usize, by.unsigned_abs())
+            .fetch_add::<Draw<C, K>>(&mut pass.seat, word as usize, by.unsigned_abs());
+        pass.owes = K::owes_after();
+        found
     }
 
     /// Makes an exchange on the cell of the pass's number.
@@ -48,6 +51,7 @@ impl<C: ClientWords> Queue<C> {
             .compare_exchange::<Cross<C, K>>(&mut pass.seat, word as usize, saw, new);
         if found == saw {
             pass.held = K::held_after::<C>(pass.held);
+            pass.owes = K::owes_after();
         }
         found
     }

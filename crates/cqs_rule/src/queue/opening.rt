@@ -126,6 +126,7 @@ impl<C: ClientWords> Queue<C> {
                 seat,
                 number: 0,
                 held,
+                waits: 0,
             },
         ))
     }

@@ -1,6 +1,6 @@
 //! The token of a wait, and the readers of a pass.
 
-ghost use Rattle.std.specs.Prelude.{◌≡◌};
+ghost use Rattle.std.specs.Prelude.{◌≡◌, length};
 ghost use Rattle.cqs_rule.specs.Lists.{Has};
 ghost use Rattle.cqs_rule.specs.Passes.{pass_view, IsOf};
 ghost use Rattle.cqs_rule.specs.Placed.{IsPlace};
@@ -71,5 +71,12 @@ impl<C: ClientWords> Pass<C> {
         ensures { result ≡ (pass_view self.now).facts.held }
     {
         self.held
+    }
+
+    /// How many waits it has: those that it installed and hasn't closed.
+    pub fn waits(&self) -> u32
+        ensures { result ≡ length (pass_view self.now).facts.waits }
+    {
+        self.waits
     }
 }

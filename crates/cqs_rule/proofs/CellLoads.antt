@@ -1,24 +1,27 @@
 -- A load of a cell. Where it is that of a wait of the pass, the pass learns what became of the wait.
-use Rattle.std.proofs.Common.{◌≡◌, ℕ, ◌+◌, ◌-◌, ◌<◌, ◌≤◌, ◌^◌, Bool, true, false, List, [], ◌++◌, length, sym, refl, ap, ◌∙◌, subst, inl, arith, Option, Some, None, slice_get}
-use Rattle.std.specs.Prelude.{slice_index, count_by}
+use Rattle.std.proofs.Common.{◌≡◌, ℕ, ◌+◌, ◌-◌, ◌<◌, ◌^◌, Bool, true, false, List, [], ◌++◌, length, sym, refl, ap, ◌∙◌, subst, arith, Option, Some, None, slice_get}
+use Rattle.std.specs.Prelude.{slice_index}
 use Rattle.std.proofs.lemmas.Option.{same_Some}
 use mathlib.Core.Option.{some, none}
 use lib.ListN.{get_elem?}
 use Rattle.atomic_table.specs.Table.{State, Me, Act, keeps, step, stepped, carried_after, Valid, Allows}
-use Rattle.cqs_core.specs.declared.cells.CoreCell.{CoreCell}
 use Rattle.cqs_core.specs.declared.cells.CoreState.{CoreState}
 use Rattle.cqs_core.specs.declared.cells.CoreState.TheVariants as state
 use Rattle.cqs_core.specs.declared.doings.Doing.TheVariants as doing
+use Rattle.cqs_words.specs.declared.cell.CellWord.{CellWord}
+use Rattle.cqs_words.specs.Cell.{unpacked_cell}
+use Rattle.cqs_words.proofs.CellLaws.{unpacked_cell-packed_cell}
 use Rattle.cqs_rule.specs.declared.view.View.{View}
 use Rattle.cqs_rule.specs.declared.view.Facts.{Facts}
 use Rattle.cqs_rule.specs.declared.view.Glimpse.{Glimpse}
 use Rattle.cqs_rule.specs.Hidden.{Hidden, LookEvent, pends, grants, late, state_seen, QueueStep, looks, happened, state_in, state_at}
 use Rattle.cqs_rule.specs.Layout.{client_words}
-use Rattle.cqs_rule.specs.Lists.{Has}
+use Rattle.cqs_rule.specs.Lists.{Has, without}
+use Rattle.cqs_rule.specs.Inside.{IsInside}
 use Rattle.cqs_rule.specs.Views.{grown}
-use Rattle.cqs_rule.specs.Ruled.{Ruled, Stands, CellsShow, HasRoom, IsWaitOf, IsInstalled, IsPlain, IsBare, word_of}
+use Rattle.cqs_rule.specs.Ruled.{Ruled, Stands, CellsShow, IsWaitOf, IsInstalled, IsPlain, IsBare, shown_state, word_of}
 use Rattle.cqs_rule.specs.Client.{IsClient}
-use Rattle.cqs_rule.specs.Loads.{LoadStep, counts, watches, polls, cancels, event_of, IsOfWait, IsStanding, MayLook, MayLoad, Looked, loaded_by, facts_looked, look_entries}
+use Rattle.cqs_rule.specs.Loads.{LoadStep, counts, watches, polls, cancels, event_of, IsOfWait, IsStanding, is_resumed, is_served, closes, MayLook, MayLoad, Looked, Loaded, loaded_by, facts_looked, look_entries}
 use Rattle.cqs_rule.specs.Told.{Saw, FoundCell, facts_after}
 use Rattle.cqs_rule.proofs.Cells.{looked-suspends, looked-resumes, looked-doing, looked-state}
 use Rattle.cqs_rule.proofs.Crosses.{held-long}
@@ -216,3 +219,115 @@ module _ {E S : Type 0} (names : ℕ → E → Bool) (legal : ℕ → List E →
   loads slots id me watches word one may = loads-place slots id me watches word one may
   loads slots id me polls word one may = loads-place slots id me polls word one may
   loads slots id me cancels word one may = loads-place slots id me cancels word one may
+
+-- the cell that the word of a cell unpacks to
+pub unpacks : (k n : ℕ) (g : Glimpse) → FoundCell k n g
+    → unpacked_cell n ≡ Some (record { index = k; state = shown_state g.state; payload = g.payload })
+unpacks k n g found =
+    let cell : CellWord = record { index = k; state = shown_state g.state; payload = g.payload } in
+    ap unpacked_cell found.word ∙ unpacked_cell-packed_cell cell (record { index = found.number; payload = found.fits })
+
+-- the event closes its wait
+abbrev ends : Option LookEvent → Bool
+ends (Some grants) = true
+ends (Some late) = true
+ends _ = false
+
+resumed-polls : (x : CoreState) → is_resumed (shown_state x) ≡ ends (event_of polls x)
+resumed-polls state.Empty = refl
+resumed-polls state.Waiter = refl
+resumed-polls state.Value = refl
+resumed-polls state.Taken = refl
+resumed-polls state.Broken = refl
+resumed-polls state.Resumed = refl
+resumed-polls state.Cancelling = refl
+resumed-polls state.Delegated = refl
+resumed-polls state.Cancelled = refl
+resumed-polls state.Refused = refl
+
+resumed-cancels : (x : CoreState) → is_resumed (shown_state x) ≡ ends (event_of cancels x)
+resumed-cancels state.Empty = refl
+resumed-cancels state.Waiter = refl
+resumed-cancels state.Value = refl
+resumed-cancels state.Taken = refl
+resumed-cancels state.Broken = refl
+resumed-cancels state.Resumed = refl
+resumed-cancels state.Cancelling = refl
+resumed-cancels state.Delegated = refl
+resumed-cancels state.Cancelled = refl
+resumed-cancels state.Refused = refl
+
+-- the word tells whether the load closes the wait
+closes-ends : (load : LoadStep) (k n : ℕ) (g : Glimpse) → FoundCell k n g → closes load n ≡ ends (event_of load g.state)
+closes-ends counts k n g found = refl
+closes-ends watches k n g found = refl
+closes-ends polls k n g found = ap is_served (unpacks k n g found) ∙ resumed-polls g.state
+closes-ends cancels k n g found = ap is_served (unpacks k n g found) ∙ resumed-cancels g.state
+
+module _ (gains : ℕ → ℕ) (k n : ℕ) (f : Facts) where
+  facts-kept : (o : Option LookEvent) → ends o ≡ false → ((facts_looked gains o k n f).held ≡ f.held) × ((facts_looked gains o k n f).waits ≡ f.waits)
+  facts-kept None e = (refl, refl)
+  facts-kept (Some pends) e = (refl, refl)
+  facts-kept (Some grants) e = absurd (cc)
+  facts-kept (Some late) e = absurd (cc)
+
+  facts-ended : (o : Option LookEvent) → ends o ≡ true → ((facts_looked gains o k n f).held ≡ gains f.held) × ((facts_looked gains o k n f).waits ≡ without k f.waits)
+  facts-ended None e = absurd (cc)
+  facts-ended (Some pends) e = absurd (cc)
+  facts-ended (Some grants) e = (refl, refl)
+  facts-ended (Some late) e = (refl, refl)
+
+module _ {E S : Type 0} (names : ℕ → E → Bool) (legal : ℕ → List E → Type 0) (entries : QueueStep → ℕ → ℕ → List E) (gains : ℕ → ℕ) where
+  -- the load leaves what the pass holds, and the number of its waits
+  abbrev Keeps : View E S → View E S → Type 0
+  Keeps v w = (w.facts.held ≡ v.facts.held) × (length w.facts.waits ≡ length v.facts.waits)
+
+  -- the load closes a wait, and the pass gains by it
+  abbrev Ends : View E S → View E S → Type 0
+  Ends v w = (w.facts.held ≡ gains v.facts.held) × (length w.facts.waits + 1 ≡ length v.facts.waits)
+
+  looked-keeps : (load : LoadStep) (k n : ℕ) (v w : View E S) → Looked names legal gains entries load k v n w → closes load n ≡ false → Keeps v w
+  looked-keeps load k n v w l open_yet =
+      let kept = facts-kept gains k n v.facts (event_of load l.glimpse.state) (sym (closes-ends load k n l.glimpse l.cell) ∙ open_yet) in
+      (ap (λ (f : Facts). f.held) l.saw.facts_are ∙ kept.0, ap (λ (f : Facts). length f.waits) l.saw.facts_are ∙ ap length kept.1)
+
+  pub loaded-keeps : (load : LoadStep) (word n : ℕ) (v w : View E S) → Loaded names legal gains entries load word v n w → closes load n ≡ false → Keeps v w
+  loaded-keeps counts word n v w l open_yet = (ap (λ (f : Facts). f.held) l.facts_are, ap (λ (f : Facts). length f.waits) l.facts_are)
+  loaded-keeps watches word n v w l open_yet = looked-keeps watches (word - 112) n v w l open_yet
+  loaded-keeps polls word n v w l open_yet = looked-keeps polls (word - 112) n v w l open_yet
+  loaded-keeps cancels word n v w l open_yet = looked-keeps cancels (word - 112) n v w l open_yet
+
+  looked-ends : (load : LoadStep) (k n : ℕ) (v w : View E S) → IsInside v → Has k v.facts.waits → Looked names legal gains entries load k v n w → closes load n ≡ true
+      → Ends v w
+  looked-ends load k n v w inside has l closed =
+      let ended = facts-ended gains k n v.facts (event_of load l.glimpse.state) (sym (closes-ends load k n l.glimpse l.cell) ∙ closed) in (
+        ap (λ (f : Facts). f.held) l.saw.facts_are ∙ ended.0,
+        ap (λ (f : Facts). length f.waits + 1) l.saw.facts_are ∙ (ap (λ (l : List ℕ). length l + 1) ended.1 ∙ inside.once k has),
+      )
+
+  has-number : (v : View E S) (word : ℕ) → (k : ℕ) × (word ≡ k + 112) × ((v.facts.doing ≡ doing.Idle) × Has k v.facts.waits) → Has (word - 112) v.facts.waits
+  has-number v word may =
+      let place : word ≡ may.0 + 112 = may.1 in
+      let number : word - 112 ≡ may.0 = omega arith in
+      subst (λ z. Has z v.facts.waits) (sym number) may.2.1
+
+  pub loaded-ends : (load : LoadStep) (word n : ℕ) (v w : View E S) → IsInside v → MayLoad load v word → Loaded names legal gains entries load word v n w
+      → closes load n ≡ true → Ends v w
+  loaded-ends counts word n v w inside may l closed = absurd (cc)
+  loaded-ends watches word n v w inside may l closed = absurd (cc)
+  loaded-ends polls word n v w inside may l closed = looked-ends polls (word - 112) n v w inside (has-number v word may) l closed
+  loaded-ends cancels word n v w inside may l closed = looked-ends cancels (word - 112) n v w inside (has-number v word may) l closed
+
+  -- the pass holds no more than fits 32 bits
+  pub loaded-fits : (load : LoadStep) (word n : ℕ) (v w : View E S) → Loaded names legal gains entries load word v n w → w.facts.held < 2 ^ 32
+  loaded-fits counts word n v w l = l.held
+  loaded-fits watches word n v w l = l.saw.held
+  loaded-fits polls word n v w l = l.saw.held
+  loaded-fits cancels word n v w l = l.saw.held
+
+-- the word is one of the table's
+pub load-low : {E S : Type 0} (load : LoadStep) (v : View E S) (word : ℕ) → IsInside v → MayLoad load v word → word < v.cells + 112
+load-low counts v word inside may = let n = inside.number in let place : word ≡ 16 = may in omega arith
+load-low watches v word inside may = let place : word ≡ may.0 + 112 = may.1 in let low : may.0 < v.cells = may.2 in omega arith
+load-low polls v word inside may = let place : word ≡ may.0 + 112 = may.1 in let low = inside.waits may.0 may.2.1 in omega arith
+load-low cancels v word inside may = let place : word ≡ may.0 + 112 = may.1 in let low = inside.waits may.0 may.2.1 in omega arith

@@ -103,9 +103,10 @@ distinct_without k (x ∷ xs) d = dite (ℕ_discrete x k)
 
 pub distinct_append : (k : ℕ) (xs : List ℕ) → IsDistinct xs → (Has k xs → ⊥) → IsDistinct (xs ++ k ∷ [])
 distinct_append k [] d none = ((λ h. h), tt)
-distinct_append k (x ∷ xs) d none =
-    ((λ h. ⊎_elim d.0 (λ q. none (⊎_elim (λ (e : x ≡ k). inl (sym e)) (λ z. absurd z) q)) (has_append x xs (k ∷ []) h)),
-    distinct_append k xs d.1 (λ h. none (inr h)))
+distinct_append k (x ∷ xs) d none = (
+  (λ h. ⊎_elim d.0 (λ q. none (⊎_elim (λ (e : x ≡ k). inl (sym e)) (λ z. absurd z) q)) (has_append x xs (k ∷ []) h)),
+  distinct_append k xs d.1 (λ h. none (inr h)),
+)
 
 -- where k is in a list without doubles, the list without k is one shorter
 pub length_without : (k : ℕ) (xs : List ℕ) → IsDistinct xs → Has k xs → length (without k xs) + 1 ≡ length xs

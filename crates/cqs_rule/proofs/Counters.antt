@@ -15,7 +15,7 @@ use Rattle.cqs_core.specs.QueueLine as queue
 use Rattle.cqs_core.proofs.Places.{get-set_here, get-set_else}
 use Rattle.cqs_rule.specs.declared.view.View.{View}
 use Rattle.cqs_rule.specs.declared.view.Facts.{Facts}
-use Rattle.cqs_rule.specs.Hidden.{Hidden, QueueStep, draws, reaches, installs, leaves, takes, serves, happened}
+use Rattle.cqs_rule.specs.Hidden.{Hidden, QueueStep, draws, reaches, installs, leaves, takes, serves, looks, happened}
 use Rattle.cqs_rule.specs.Layout.{client_words}
 use Rattle.cqs_rule.specs.Views.{grown}
 use Rattle.cqs_rule.specs.Ruled.{Ruled}
@@ -160,6 +160,7 @@ module _ {E S : Type 0} (names : ℕ → E → Bool) (legal : ℕ → List E →
   count slots id me leaves word amount by one is c = absurd c
   count slots id me takes word amount by one is c = absurd c
   count slots id me serves word amount by one is c = absurd c
+  count slots id me (looks e) word amount by one is c = absurd c
 
 pub counter-low : (t : QueueStep) (facts : Facts) (word : ℕ) (by : ℤ) → IsCount t facts word by → word < 112
 counter-low draws facts word by c = let e = c.1 in omega arith
@@ -168,3 +169,4 @@ counter-low installs facts word by c = absurd c
 counter-low leaves facts word by c = absurd c
 counter-low takes facts word by c = absurd c
 counter-low serves facts word by c = absurd c
+counter-low (looks e) facts word by c = absurd c

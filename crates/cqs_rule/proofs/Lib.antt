@@ -7,6 +7,7 @@ pub mod Tells
 pub mod Looks
 pub mod Counters
 pub mod Crosses
+pub mod CellLoads
 pub mod Moves
 pub mod SemaphoreMoves
 pub mod Loads

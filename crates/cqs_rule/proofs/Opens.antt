@@ -131,6 +131,7 @@ module _ {E S : Type 0} (names : ℕ → E → Bool) (shows : Hidden → List �
         held = refl;
         may_draw = get-replicate passes 0 true any;
         waits = λ k n. absurd n;
+        once = tt;
         last = tt;
       }
 

@@ -7,6 +7,7 @@ pub mod Opened
 pub mod Client
 pub mod Inside
 pub mod Told
+pub mod Loads
 pub mod Called
 pub mod Configured
 pub mod Semaphore

@@ -17,7 +17,7 @@ use Rattle.cqs_rule.specs.declared.view.Facts.{Facts}
 use Rattle.cqs_rule.specs.declared.view.Glimpse.{Glimpse}
 use Rattle.cqs_rule.specs.Layout.{crew_place, suspends_place, resumes_place, cell_place, client_words}
 use Rattle.cqs_rule.specs.Hidden.{Hidden, state_at}
-use Rattle.cqs_rule.specs.Lists.{Has, total, IsPrefix, part}
+use Rattle.cqs_rule.specs.Lists.{Has, IsDistinct, total, IsPrefix, part}
 use Rattle.cqs_rule.specs.Views.{WasCrew, all_own, weight, Apart, Tip}
 
 -- the state as a cell's word says it
@@ -129,6 +129,7 @@ pub record Stands (c : Hidden) (p : ℕ) (facts : Facts) : Type 0 where
   pub held : slice_get c.held p ≡ Some facts.held
   pub may_draw : slice_get c.may_draw p ≡ Some facts.may_draw
   pub waits : (k : ℕ) → Has k facts.waits → IsWaitOf c.queue p k
+  pub once : IsDistinct facts.waits
   pub last : IsSince (state_at c.queue (number_at facts.doing)) (c.payloads (number_at facts.doing)) facts.last
 
 -- a pass at the door may draw

@@ -7,7 +7,7 @@ use Rattle.cqs_core.specs.declared.entries.Entry.{Entry}
 use Rattle.cqs_core.specs.declared.entries.Entry.TheVariants as entry
 use Rattle.cqs_core.specs.SemaphoreTable.{Shape}
 use Rattle.cqs_core.specs.SemaphoreShown.{IsCore}
-use Rattle.cqs_rule.specs.Hidden.{Hidden, QueueStep, draws, takes, serves}
+use Rattle.cqs_rule.specs.Hidden.{Hidden, QueueStep, draws, takes, serves, looks, pends, grants, late}
 
 -- the state that the word holds: it is raised by 2 ^ 32
 abbrev pub state_in_word : ℕ → ℤ
@@ -46,6 +46,9 @@ abbrev pub step_entries : QueueStep → ℕ → ℕ → List Entry
 step_entries draws p k = entry.Enter p k ∷ []
 step_entries takes p k = entry.Deliver k ∷ []
 step_entries serves p k = entry.Deliver k ∷ []
+step_entries (looks pends) p k = entry.LookPending p k ∷ []
+step_entries (looks grants) p k = entry.LookGranted p k ∷ []
+step_entries (looks late) p k = entry.Late p k ∷ []
 step_entries _ p k = []
 
 -- a pass that takes a value holds one permit more

@@ -11,8 +11,8 @@ use Rattle.cqs_rule.specs.declared.view.Facts.{Facts}
 use Rattle.cqs_rule.specs.declared.view.Glimpse.{Glimpse}
 use Rattle.cqs_rule.specs.declared.view.Sighting.TheVariants.{Cell, Resumes}
 use Rattle.cqs_rule.specs.Layout.{suspends_place, resumes_place, cell_place}
-use Rattle.cqs_rule.specs.Hidden.{Hidden, QueueStep, draws, reaches, installs, leaves, takes, serves, stands_at}
-use Rattle.cqs_rule.specs.Lists.{Has, IsPrefix, part, NamesOnly}
+use Rattle.cqs_rule.specs.Hidden.{Hidden, QueueStep, draws, reaches, installs, leaves, takes, serves, looks, grants, late, stands_at}
+use Rattle.cqs_rule.specs.Lists.{Has, IsPrefix, part, NamesOnly, without}
 use Rattle.cqs_words.specs.declared.cell.CellState.{CellState}
 use Rattle.cqs_rule.specs.Views.{IsSame}
 use Rattle.cqs_rule.specs.Inside.{IsInside}
@@ -26,6 +26,7 @@ works_at installs k = doing.Drawn k
 works_at takes k = doing.Drawn k
 works_at leaves k = doing.Ticket k
 works_at serves k = doing.Ticket k
+works_at (looks e) k = doing.Idle
 
 -- the state of the cell in which an exchange is made, and the one that it makes
 abbrev pub state_before : QueueStep → CoreState
@@ -44,6 +45,7 @@ state_after _ = state.Resumed
 abbrev pub IsExchange : QueueStep → Type 0
 IsExchange draws = ⊥
 IsExchange reaches = ⊥
+IsExchange (looks e) = ⊥
 IsExchange _ = Unit {0}
 
 -- what an exchange leaves in the cell: a resume leaves what it owes
@@ -52,17 +54,26 @@ payload_made leaves payload = payload
 payload_made serves payload = payload
 payload_made _ payload = 0
 
+-- the owner of the wait k found that it was served: it gains by it, and the wait is closed
+abbrev pub facts_closed : (ℕ → ℕ) → ℕ → ℕ → Facts → Facts
+facts_closed gains k n f =
+    record f { doing = doing.Idle; last = None; held = gains f.held; waits = without k f.waits; found = f.found ++ Cell k n ∷ [] }
+
 -- what a step of the queue at the number k leaves the pass at; it found the word n
 abbrev pub facts_after : (ℕ → ℕ) → QueueStep → ℕ → ℕ → Facts → Facts
 facts_after gains draws k n f = record f { doing = doing.Drawn k; may_draw = false; last = None }
 facts_after gains reaches k n f = record f { doing = doing.Ticket k; last = None; found = f.found ++ Resumes n ∷ [] }
 facts_after gains installs k n f = record f { doing = doing.Idle; last = None; waits = f.waits ++ k ∷ []; found = f.found ++ Cell k n ∷ [] }
 facts_after gains takes k n f = record f { doing = doing.Idle; last = None; held = gains f.held; found = f.found ++ Cell k n ∷ [] }
+facts_after gains (looks grants) k n f = facts_closed gains k n f
+facts_after gains (looks late) k n f = facts_closed gains k n f
 facts_after gains _ k n f = record f { doing = doing.Idle; last = None; found = f.found ++ Cell k n ∷ [] }
 
 -- what a pass that held this much holds after a step of the queue
 abbrev pub held_then : (ℕ → ℕ) → QueueStep → ℕ → ℕ
 held_then gains takes held = gains held
+held_then gains (looks grants) held = gains held
+held_then gains (looks late) held = gains held
 held_then gains _ held = held
 
 -- whether a pass that is at this owes something: a resumption, or the end of a cancellation that it began
@@ -77,6 +88,11 @@ is_owing _ = false
 abbrev pub owes_then : QueueStep → Bool
 owes_then reaches = true
 owes_then _ = false
+
+-- how many waits it has then that had so many
+abbrev pub waits_then : QueueStep → ℕ → ℕ
+waits_then installs waits = waits + 1
+waits_then _ waits = waits
 
 -- an exchange on the cell of the number k was not made: the word n was found
 abbrev pub facts_missed : ℕ → ℕ → Glimpse → Facts → Facts
@@ -161,14 +177,6 @@ module _ {E : Type 0} (names : ℕ → E → Bool) (legal : ℕ → List E → T
       pub since : IsSince found.state found.payload v.facts.last
       pub made : n ≡ expected → Saw v (facts_after gains s (number_at v.facts.doing) n v.facts) (entries s v.number (number_at v.facts.doing)) w
       pub missed : n ≢ expected → Saw v (facts_missed (number_at v.facts.doing) n found v.facts) [] w
-
-    -- a load of a client's word, or of a cell, that shows no event
-    abbrev pub looked : Step (Option S) → Me (Option S) (View E S) → ℕ → Me (Option S) (View E S) → Type 0
-    looked st me n me' = Saw me.0 me.0.facts [] me'.0 × (me'.1 ≡ me.1)
-
-    -- a load of the suspend counter
-    abbrev pub counted : Step (Option S) → Me (Option S) (View E S) → ℕ → Me (Option S) (View E S) → Type 0
-    counted st me n me' = Saw me.0 (facts_counted me.0.limit n me.0.facts) [] me'.0 × (me'.1 ≡ me.1)
 
     -- a number was drawn from a counter
     abbrev pub drew : (ℕ → ℕ) → (QueueStep → ℕ → ℕ → List E) → QueueStep → Step (Option S) → Me (Option S) (View E S) → ℕ → Me (Option S) (View E S) → Type 0

@@ -8,7 +8,7 @@ use crate::client::ClientWords;
 pub trait Kind {
     ghost use Rattle.std.specs.Prelude.{◌≡◌, ◌<◌, ◌^◌};
     ghost use Rattle.cqs_rule.specs.Hidden.{QueueStep};
-    ghost use Rattle.cqs_rule.specs.Told.{held_then, owes_then};
+    ghost use Rattle.cqs_rule.specs.Told.{held_then, owes_then, waits_then};
 
     ghost step: { QueueStep };
 
@@ -20,6 +20,11 @@ pub trait Kind {
     /// Whether it owes after the step.
     fn owes_after() -> bool
         ensures { result ≡ owes_then step };
+
+    /// How many waits a pass has after the step that had this many.
+    fn waits_after(waits: u32) -> u32
+        requires { waits < 2 ^ 31 }
+        ensures { result ≡ waits_then step waits };
 }
 
 /// A number is drawn to suspend at.
@@ -34,6 +39,10 @@ impl Kind for Draws {
 
     fn owes_after() -> bool {
         false
+    }
+
+    fn waits_after(waits: u32) -> u32 {
+        waits
     }
 }
 
@@ -50,6 +59,10 @@ impl Kind for Reaches {
     fn owes_after() -> bool {
         true
     }
+
+    fn waits_after(waits: u32) -> u32 {
+        waits
+    }
 }
 
 /// An empty cell gets a waiter.
@@ -64,6 +77,10 @@ impl Kind for Installs {
 
     fn owes_after() -> bool {
         false
+    }
+
+    fn waits_after(waits: u32) -> u32 {
+        waits + 1
     }
 }
 
@@ -80,6 +97,10 @@ impl Kind for Leaves {
     fn owes_after() -> bool {
         false
     }
+
+    fn waits_after(waits: u32) -> u32 {
+        waits
+    }
 }
 
 /// A suspend takes the value that a resume left.
@@ -95,6 +116,10 @@ impl Kind for Takes {
     fn owes_after() -> bool {
         false
     }
+
+    fn waits_after(waits: u32) -> u32 {
+        waits
+    }
 }
 
 /// A resume serves the waiter.
@@ -109,5 +134,9 @@ impl Kind for Serves {
 
     fn owes_after() -> bool {
         false
+    }
+
+    fn waits_after(waits: u32) -> u32 {
+        waits
     }
 }

@@ -8,6 +8,7 @@ mod client;
 mod config;
 mod kinds;
 mod layout;
+mod loads;
 mod plays;
 mod queue;
 mod rule;
@@ -20,6 +21,7 @@ pub use client::{Client, ClientWords, Shown};
 pub use config::{CancelMode, Config, MakeError, Place};
 pub use kinds::{Draws, Installs, Kind, Leaves, Reaches, Serves, Takes};
 pub use layout::{CELLS_WORD, CLIENT_WORD, CREW_WORD, RESUMES_WORD, SUSPENDS_WORD};
+pub use loads::{Cancels, Counts, Load, Polls, Watches};
 pub use queue::{Pass, Queue, Under, Wait};
 pub use rule::{Key, Rule};
 pub use semaphore::{

@@ -1,20 +1,22 @@
 //! What each step tells. These types are for the proofs alone.
 
-ghost use Rattle.cqs_rule.specs.Told.{counted, drew, crossed, moved_by, exchanged_by};
+ghost use Rattle.cqs_rule.specs.Loads.{loaded_by};
+ghost use Rattle.cqs_rule.specs.Told.{drew, crossed, moved_by, exchanged_by};
 
 use crate::client::{ClientWords, Shown};
 use crate::kinds::Kind;
+use crate::loads::Load;
 use crate::view::View;
 use atomic_table::Play;
 use std::marker::PhantomData;
 
-/// A load of the suspend counter.
-pub(crate) struct Count<C> {
-    of: PhantomData<C>,
+/// A load of the suspend counter or of a cell.
+pub(crate) struct Loading<C, L> {
+    of: PhantomData<(C, L)>,
 }
 
-impl<C: ClientWords> Play<Option<C::Slot>, View<C::Entry, C::Slot>> for Count<C> {
-    ghost then = { counted C.names C.legal };
+impl<C: ClientWords, L: Load> Play<Option<C::Slot>, View<C::Entry, C::Slot>> for Loading<C, L> {
+    ghost then = { loaded_by C.names C.legal C.gains C.entries L.load };
 }
 
 /// A number is drawn from a counter.

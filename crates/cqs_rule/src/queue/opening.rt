@@ -127,6 +127,7 @@ impl<C: ClientWords> Queue<C> {
                 number: 0,
                 held,
                 owes: false,
+                waits: 0,
             },
         ))
     }

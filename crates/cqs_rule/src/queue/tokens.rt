@@ -1,6 +1,6 @@
 //! The tokens of a wait and of a resumption, and the readers of a pass.
 
-ghost use Rattle.std.specs.Prelude.{◌≡◌};
+ghost use Rattle.std.specs.Prelude.{◌≡◌, length};
 ghost use Rattle.cqs_rule.specs.Lists.{Has};
 ghost use Rattle.cqs_rule.specs.Owed.{OwesWith, IsReached, under_payload, under_ticket, under_reached};
 ghost use Rattle.cqs_rule.specs.Passes.{pass_view, IsOf};
@@ -141,5 +141,12 @@ impl<C: ClientWords> Pass<C> {
         ensures { result ≡ is_owing (pass_view self.now).facts.doing }
     {
         self.owes
+    }
+
+    /// How many waits it has: those that it installed and hasn't closed.
+    pub fn waits(&self) -> u32
+        ensures { result ≡ length (pass_view self.now).facts.waits }
+    {
+        self.waits
     }
 }

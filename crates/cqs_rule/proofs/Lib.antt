@@ -10,6 +10,6 @@ pub mod Crosses
 pub mod CellLoads
 pub mod Moves
 pub mod SemaphoreMoves
-pub mod Loads
+pub mod StandStill
 pub mod Calls
 pub mod Opens

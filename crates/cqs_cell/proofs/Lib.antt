@@ -1,3 +1,4 @@
 pub mod Missing
 pub mod Crossing
+pub mod Making
 pub mod Taking

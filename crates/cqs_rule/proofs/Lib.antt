@@ -10,4 +10,5 @@ pub mod Crosses
 pub mod Moves
 pub mod SemaphoreMoves
 pub mod Calls
+pub mod Found
 pub mod Opens

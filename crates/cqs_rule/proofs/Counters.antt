@@ -23,7 +23,7 @@ use Rattle.cqs_rule.specs.Client.{IsClient}
 use Rattle.cqs_rule.specs.Told.{drew, facts_after, IsCount}
 use Rattle.cqs_rule.proofs.Lists.{fewer_draw}
 use Rattle.cqs_rule.proofs.Cells.{drawn-state, reached-state}
-use Rattle.cqs_rule.proofs.Words.{this-word, crew-else, cells-else, client-below, other-word}
+use Rattle.cqs_rule.proofs.Words.{this-word, crew-else, cells-else, client-below, idle-else, other-word}
 use Rattle.cqs_rule.proofs.Grow.{Turned}
 use Rattle.cqs_rule.proofs.Others.{others-drawn, others-reached, drawn-self, reached-self, door-keeps, may-else}
 use Rattle.cqs_rule.proofs.Tells.{steps, suspends-low, resumes-low}
@@ -79,6 +79,7 @@ module _ {E S : Type 0} (names : ℕ → E → Bool) (legal : ℕ → List E →
           resumes = other-word s.words 16 32 x (λ e. omega arith) ∙ r.counters.resumes;
         };
         cells = cells-else c d (limit + passes + values) s.words 16 x (omega arith) (λ j. drawn-state gains c p n f.payload found j refl) (λ j. refl) r.cells;
+        idle_words = idle-else s.words 16 x (λ j is. is.suspends) r.idle_words;
         room = record {
           few_passes = r.room.few_passes;
           low_limit = r.room.low_limit;
@@ -126,6 +127,7 @@ module _ {E S : Type 0} (names : ℕ → E → Bool) (legal : ℕ → List E →
           resumes = this-word s.words 32 x (omega arith) ∙ next;
         };
         cells = cells-else c d (limit + passes + values) s.words 32 x (omega arith) (λ j. reached-state gains c p n f.payload found j) (λ j. refl) r.cells;
+        idle_words = idle-else s.words 32 x (λ j is. is.resumes) r.idle_words;
         room = record {
           few_passes = r.room.few_passes;
           low_limit = r.room.low_limit;

@@ -31,7 +31,7 @@ use Rattle.cqs_rule.specs.Ruled.{Ruled, Stands, CellsShow, IsWaitOf, IsBare, IsP
 use Rattle.cqs_rule.specs.Client.{IsClient}
 use Rattle.cqs_rule.specs.Told.{crossed, facts_after, facts_missed, works_at, state_before, state_after, payload_made, IsExchange, IsCrossing, MayFind}
 use Rattle.cqs_rule.proofs.Cells.{changed_here, exchange-suspends, exchange-resumes, exchange-doing, exchange-here, exchange-else, new_cell}
-use Rattle.cqs_rule.proofs.Words.{this-word, other-word, crew-else, counters-else, client-above}
+use Rattle.cqs_rule.proofs.Words.{this-word, other-word, crew-else, counters-else, idle-else, client-above}
 use Rattle.cqs_rule.proofs.Grow.{Turned}
 use Rattle.cqs_rule.proofs.Others.{others-exchanged, exchanged-self, door-keeps, may-else, payload-else, same-or-not}
 use Rattle.cqs_rule.proofs.Tells.{steps, Steps, inside-of, suspends-low, resumes-low}
@@ -291,6 +291,7 @@ module _ {E S : Type 0} (names : ℕ → E → Bool) (legal : ℕ → List E →
         crew = crew-else s.words (k + 112) x (omega arith);
         counters = counters-else c.queue d.queue s.words (k + 112) x (omega arith) suspends resumes r.counters;
         cells = cells-crossed c (limit + passes + values) s.words t p k f.payload cell e there before fits (omega arith) r.cells;
+        idle_words = idle-else s.words (k + 112) x (λ j is q. let b = is.before in omega arith) r.idle_words;
         room = record {
           few_passes = r.room.few_passes;
           low_limit = r.room.low_limit;

@@ -13,7 +13,7 @@ use Rattle.cqs_rule.specs.Hidden.{Hidden}
 use Rattle.cqs_rule.specs.Layout.{client_words}
 use Rattle.cqs_rule.specs.Lists.{Has, IsDistinct, NamesOnly}
 use Rattle.cqs_rule.specs.Views.{all_own, weight, grown, Apart}
-use Rattle.cqs_rule.specs.Ruled.{Ruled, Knows, Sees, Stands, CountersShow, CellsShow, HasRoom, DoorMayDraw, number_at}
+use Rattle.cqs_rule.specs.Ruled.{Ruled, Knows, Sees, Stands, CountersShow, CellsShow, IdleWords, HasRoom, DoorMayDraw, number_at}
 use Rattle.cqs_rule.specs.Told.{Saw}
 use Rattle.cqs_rule.proofs.Lists.{set_there, set_all, total_set, two_of, nothing_more, longer, has_left, has_right, part_more, unnamed, few_below, length_without}
 
@@ -62,6 +62,7 @@ module _ {E S : Type 0} (names : ℕ → E → Bool) (shows : Hidden → List �
     pub crew : slice_index (slice_set s.words i x) 0 ≡ slice_index s.words 0
     pub counters : CountersShow d.queue (slice_set s.words i x)
     pub cells : CellsShow d (limit + passes + values) (slice_set s.words i x)
+    pub idle_words : IdleWords (slice_set s.words i x)
     pub room : HasRoom passes limit values d
     pub door : DoorMayDraw d
     pub shown : shows d (client_words (slice_set s.words i x)) (r.log ++ es) r.handed
@@ -111,6 +112,7 @@ module _ {E S : Type 0} (names : ℕ → E → Bool) (shows : Hidden → List �
         };
         counters = t.counters;
         cells = t.cells;
+        idle_words = t.idle_words;
         room = t.room;
         door = t.door;
         shown = t.shown;

@@ -12,4 +12,5 @@ pub mod Moves
 pub mod SemaphoreMoves
 pub mod StandStill
 pub mod Calls
+pub mod Found
 pub mod Opens

@@ -12,7 +12,7 @@ use Rattle.cqs_rule.specs.declared.view.Facts.{Facts}
 use Rattle.cqs_rule.specs.Hidden.{Hidden, QueueStep, now_may_draw}
 use Rattle.cqs_rule.specs.Layout.{client_words}
 use Rattle.cqs_rule.specs.Views.{grown}
-use Rattle.cqs_rule.specs.Ruled.{Ruled, Stands, CountersShow, CellsShow, HasRoom, DoorMayDraw}
+use Rattle.cqs_rule.specs.Ruled.{Ruled, Stands, CountersShow, CellsShow, IdleWords, HasRoom, DoorMayDraw}
 use Rattle.cqs_rule.specs.Client.{IsClient}
 use Rattle.cqs_rule.specs.Lists.{NamesOnly}
 use Rattle.cqs_rule.specs.Loads as load
@@ -38,6 +38,7 @@ module _ {E S : Type 0} (names : ℕ → E → Bool) (legal : ℕ → List E →
         crew = ap (λ l. slice_index l 0) same;
         counters = subst (CountersShow d.queue) (sym same) counters;
         cells = subst (CellsShow d (limit + passes + values)) (sym same) cells;
+        idle_words = subst IdleWords (sym same) r.idle_words;
         room = room;
         door = door;
         shown = subst (λ (l : List ℕ). shows d (client_words l) (r.log ++ es) r.handed) (sym same) shown;

@@ -15,7 +15,7 @@ use Rattle.cqs_rule.specs.Views.{grown}
 use Rattle.cqs_rule.specs.Ruled.{Ruled}
 use Rattle.cqs_rule.specs.Client.{IsClient}
 use Rattle.cqs_rule.specs.Told.{Moved, facts_moved, Moves, added}
-use Rattle.cqs_rule.proofs.Words.{crew-else, counters-else, cells-else, client-at, client-set}
+use Rattle.cqs_rule.proofs.Words.{crew-else, counters-else, cells-else, idle-else, client-at, client-set}
 use Rattle.cqs_rule.proofs.Grow.{Turned}
 use Rattle.cqs_rule.proofs.Others.{others-moved, door-keeps}
 use Rattle.cqs_rule.proofs.Tells.{steps, suspends-low, resumes-low}
@@ -45,6 +45,7 @@ module _ {E S : Type 0} (names : ℕ → E → Bool) (legal : ℕ → List E →
         crew = crew-else s.words word (f n) (omega arith);
         counters = counters-else c.queue d.queue s.words word (f n) (omega arith) refl refl r.counters;
         cells = cells-else c d (limit + passes + values) s.words word (f n) (omega arith) (λ k. refl) (λ k. refl) r.cells;
+        idle_words = idle-else s.words word (f n) (λ j is. is.client i few) r.idle_words;
         room = record {
           few_passes = r.room.few_passes;
           low_limit = r.room.low_limit;

@@ -15,7 +15,7 @@ use Rattle.cqs_words.specs.Cell.{cell_word, state_code}
 use Rattle.cqs_rule.specs.declared.view.View.{View}
 use Rattle.cqs_rule.specs.declared.view.Facts.{Facts}
 use Rattle.cqs_rule.specs.declared.view.Glimpse.{Glimpse}
-use Rattle.cqs_rule.specs.Layout.{crew_place, suspends_place, resumes_place, cell_place, client_words}
+use Rattle.cqs_rule.specs.Layout.{crew_place, suspends_place, resumes_place, cell_place, client_words, IsIdle}
 use Rattle.cqs_rule.specs.Hidden.{Hidden, state_at}
 use Rattle.cqs_rule.specs.Lists.{Has, IsDistinct, total, IsPrefix, part}
 use Rattle.cqs_rule.specs.Views.{WasCrew, all_own, weight, Apart, Tip}
@@ -72,6 +72,10 @@ pub record CellsShow (c : Hidden) (cells : ℕ) (words : List ℕ) : Type 0 wher
   pub fits : (k : ℕ) → c.payloads k < 2 ^ 20
   pub bare : (k : ℕ) → IsBare (state_at c.queue k) → c.payloads k ≡ 0
   pub plain : (k : ℕ) → IsPlain (state_at c.queue k)
+
+-- the words between hold nothing
+pub record IdleWords (words : List ℕ) : Type 0 where
+  pub none : (i : ℕ) → IsIdle i → slice_index words i ≡ 0
 
 -- each list has a place for each pass that may be made, and no counter can pass the cells: those who may draw and the
 -- numbers drawn are together fewer than the limit and the passes
@@ -175,6 +179,7 @@ module _ {E S : Type 0} (names : ℕ → E → Bool) where
     pub crew : CrewShows passes made live s.words s.views
     pub counters : CountersShow hidden.queue s.words
     pub cells : CellsShow hidden (limit + passes + values) s.words
+    pub idle_words : IdleWords s.words
     pub room : HasRoom passes limit values hidden
     pub door : DoorMayDraw hidden
     pub shown : shows hidden (client_words s.words) log handed

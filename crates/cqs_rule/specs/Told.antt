@@ -1,5 +1,5 @@
 -- What each step tells the pass that makes it, and what a client owes for a step on a word of its own.
-use Rattle.std.specs.Prelude.{◌≡◌, ◌≢◌, ◌⊎◌, ℕ, suc, ◌+◌, ◌-◌, ◌%◌, ◌^◌, ◌<◌, ◌==◌, nat_lt, Bool, true, false, List, [], ◌∷◌, ◌++◌, slice_index, slice_set, slice_get, Option, Some, None, ℤ, pos, negsuc, if◌then◌else◌}
+use Rattle.std.specs.Prelude.{◌≡◌, ◌≢◌, ◌⊎◌, ℕ, suc, ◌+◌, ◌-◌, ◌%◌, ◌^◌, ◌<◌, ◌≤◌, ◌==◌, nat_lt, Bool, true, false, List, [], ◌∷◌, ◌++◌, length, slice_index, slice_set, slice_get, Option, Some, None, ℤ, pos, negsuc, if◌then◌else◌}
 use prog.Atomic.{either}
 use Rattle.atomic_table.specs.Table.{Me, Step}
 use Rattle.cqs_core.specs.declared.cells.CoreState.{CoreState}
@@ -9,6 +9,7 @@ use Rattle.cqs_core.specs.declared.doings.Doing.TheVariants as doing
 use Rattle.cqs_rule.specs.declared.view.View.{View}
 use Rattle.cqs_rule.specs.declared.view.Facts.{Facts}
 use Rattle.cqs_rule.specs.declared.view.Glimpse.{Glimpse}
+use Rattle.cqs_rule.specs.declared.view.Sighting.{Sighting}
 use Rattle.cqs_rule.specs.declared.view.Sighting.TheVariants.{Cell, Resumes}
 use Rattle.cqs_rule.specs.Layout.{suspends_place, resumes_place, cell_place}
 use Rattle.cqs_rule.specs.Hidden.{Hidden, QueueStep, draws, reaches, installs, leaves, takes, serves, looks, grants, late, stands_at}
@@ -224,11 +225,20 @@ pub record Moves {E S : Type 0} (names : ℕ → E → Bool) (shows : Hidden →
   pub silent : (n : ℕ) → NamesOnly names p (entries p facts.doing n)
   pub door : (n : ℕ) → after facts.doing n ≡ doing.Door → (facts.doing ≡ doing.Door) ⊎ (facts.may_draw ≡ true)
 
-module _ {E S : Type 0} (names : ℕ → E → Bool) (legal : ℕ → List E → Type 0) (gains : ℕ → ℕ) (entries : QueueStep → ℕ → ℕ → List E) where
-  -- an exchange on the cell of the pass's number was made
-  pub record Made (s : QueueStep) (v w : View E S) : Type 0 where
+module _ {E S : Type 0} where
+  -- Since v the pass has found these words, and last that of the cell of the number k, with this in it.
+  pub record FoundLast (since : List Sighting) (k : ℕ) (g : Glimpse) (v w : View E S) : Type 0 where
     pub word : ℕ
-    pub saw : Saw names legal v (facts_after gains s (number_at v.facts.doing) word v.facts) (entries s v.number (number_at v.facts.doing)) w
+    pub cell : FoundCell k word g
+    pub found : w.facts.found ≡ v.facts.found ++ (since ++ Cell k word ∷ [])
+
+module _ {E S : Type 0} (names : ℕ → E → Bool) (legal : ℕ → List E → Type 0) (gains : ℕ → ℕ) (entries : QueueStep → ℕ → ℕ → List E) where
+  -- An exchange on the cell of the pass's number was made, the only step: the cell was found in the state that the step wants, with
+  -- this payload, and the word `new` was written, which has the payload that the pass owed.
+  pub record Made (s : QueueStep) (payload new : ℕ) (v w : View E S) : Type 0 where
+    pub found : FoundLast [] (number_at v.facts.doing) (record { state = state_before s; payload = payload }) v w
+    pub wrote : new ≡ word_of (number_at v.facts.doing) (state_after s) (payload_made s v.facts.payload)
+    pub saw : Saw names legal v (facts_after gains s (number_at v.facts.doing) found.word v.facts) (entries s v.number (number_at v.facts.doing)) w
 
   -- it wasn't, since the cell was found in this state
   pub record Missed (s : QueueStep) (v : View E S) (found : CellState) (w : View E S) : Type 0 where
@@ -241,10 +251,12 @@ module _ {E S : Type 0} (names : ℕ → E → Bool) (legal : ℕ → List E →
     pub since : IsSince glimpse.state glimpse.payload v.facts.last
     pub saw : Saw names legal v (facts_missed (number_at v.facts.doing) word glimpse v.facts) [] w
 
-  -- the value that a resume left was taken, perhaps after an exchange that found another payload than it expected
+  -- The value that a resume left was taken: it was found last, with this payload. Before that at most one exchange found another
+  -- payload than it expected.
   pub record Took (v : View E S) (payload : ℕ) (w : View E S) : Type 0 where
-    pub word : ℕ
-    pub cell : FoundCell (number_at v.facts.doing) word (record { state = state.Value; payload = payload })
+    pub since : List Sighting
+    pub few : length since ≤ 1
+    pub found : FoundLast since (number_at v.facts.doing) (record { state = state.Value; payload = payload }) v w
     pub facts : Facts
     pub saw : Saw names legal v facts (entries takes v.number (number_at v.facts.doing)) w
     pub idle : facts.doing ≡ doing.Idle

@@ -5,7 +5,7 @@ use Rattle.cqs_rule.specs.declared.view.Facts.{Facts}
 use Rattle.cqs_rule.specs.declared.view.Glimpse.{Glimpse}
 use Rattle.cqs_rule.specs.declared.view.Sighting.{Sighting}
 use Rattle.cqs_rule.specs.declared.view.Sighting.TheVariants.{Cell}
-use Rattle.cqs_rule.specs.Hidden.{QueueStep, draws, reaches, installs, leaves, takes, serves}
+use Rattle.cqs_rule.specs.Hidden.{QueueStep, draws, reaches, installs, leaves, takes, serves, looks}
 use Rattle.cqs_rule.specs.Told.{FoundLast, IsExchange, facts_after}
 
 -- an exchange that was made found one word
@@ -16,6 +16,7 @@ found-made gains installs k n f e = refl
 found-made gains leaves k n f e = refl
 found-made gains takes k n f e = refl
 found-made gains serves k n f e = refl
+found-made gains (looks event) k n f e = absurd e
 
 module _ {E S : Type 0} where
   -- the same, seen from further back

@@ -1,11 +1,13 @@
-//! The plain fold that the program is measured against: the same plan language, with ordinary data and nothing proved.
+//! The plain code that the program and the running queue are measured against, with ordinary data and nothing proved.
 //!
 //! `plain plan` writes the plan at the limits, and `plain large` a plan of one mebibyte. `plain run` runs the first from
 //! memory and prints the nanoseconds of the run and a sum over the report's bytes, by which the two reports are compared.
+//! `plain free` and `plain pairs` make the rounds of the running queue on atomic words; `ROUNDS` after them is how many.
 
 use std::collections::VecDeque;
 use std::fmt::Write as _;
 use std::io::Write as _;
+use std::sync::atomic::{AtomicU64, Ordering::SeqCst};
 use std::time::Instant;
 
 const TURNS: u32 = 40_000;
@@ -261,7 +263,142 @@ fn run(resources: &[(String, u32)], jobs: &[Job]) -> String {
     run.report
 }
 
+/// From this suspend counter on no caller draws a number.
+const LIMIT: u64 = 1 << 20;
+
+/// Words that change often stand 16 apart, and the cells stand after them, as in the running queue.
+const SUSPENDS: usize = 16;
+const RESUMES: usize = 32;
+const STATE: usize = 48;
+const CELLS: usize = 112;
+
+/// The state's word is raised by this much.
+const BIAS: u64 = 1 << 32;
+
+const EMPTY: u64 = 0;
+const WAITER: u64 = 1;
+const VALUE: u64 = 2;
+const TAKEN: u64 = 3;
+const RESUMED: u64 = 5;
+
+/// A cell's word: its number, its state, and 20 bits of what was left in it.
+fn cell(number: u64, state: u64, payload: u64) -> u64 {
+    number << 24 | state << 20 | payload
+}
+
+/// The semaphore on atomic words: the steps of the running queue, written plainly.
+struct Words {
+    words: Vec<AtomicU64>,
+}
+
+impl Words {
+    fn new(permits: u64) -> Words {
+        let word = |place| match place {
+            STATE => BIAS + permits,
+            CELLS.. => cell((place - CELLS) as u64, EMPTY, 0),
+            _ => 0,
+        };
+        Words { words: (0..CELLS + LIMIT as usize + 1).map(|place| AtomicU64::new(word(place))).collect() }
+    }
+
+    fn may_draw(&self) -> bool {
+        self.words[SUSPENDS].load(SeqCst) < LIMIT
+    }
+
+    fn exchange(&self, number: u64, from: u64, to: u64) -> bool {
+        let word = &self.words[CELLS + number as usize];
+        word.compare_exchange(cell(number, from, 0), cell(number, to, 0), SeqCst, SeqCst).is_ok()
+    }
+
+    /// The number of the wait, or none where a resume had left its value.
+    fn suspend(&self) -> Option<u64> {
+        let number = self.words[SUSPENDS].fetch_add(1, SeqCst);
+        if self.exchange(number, EMPTY, WAITER) {
+            return Some(number);
+        }
+        self.exchange(number, VALUE, TAKEN);
+        None
+    }
+
+    fn resume(&self) {
+        let number = self.words[RESUMES].fetch_add(1, SeqCst);
+        if !self.exchange(number, WAITER, RESUMED) && !self.exchange(number, EMPTY, VALUE) {
+            self.exchange(number, WAITER, RESUMED);
+        }
+    }
+
+    /// The number of the wait, or none where a permit came at once.
+    fn acquire(&self) -> Option<u64> {
+        if self.words[STATE].fetch_sub(1, SeqCst) > BIAS {
+            return None;
+        }
+        self.suspend()
+    }
+
+    fn release(&self) {
+        if self.words[STATE].fetch_add(1, SeqCst) < BIAS {
+            self.resume();
+        }
+    }
+
+    fn is_served(&self, number: u64) -> bool {
+        self.words[CELLS + number as usize].load(SeqCst) >> 20 & 15 == RESUMED
+    }
+}
+
+/// What a caller holds.
+struct Caller {
+    held: u32,
+}
+
+/// A permit is free: it is taken and given back.
+fn free_round(words: &Words, caller: &mut Caller) {
+    if words.may_draw() && words.acquire().is_none() {
+        caller.held += 1;
+        if caller.held > 0 {
+            caller.held -= 1;
+            words.release();
+        }
+    }
+}
+
+/// The caller that holds the one permit waits for it, gives it back, and is served.
+fn pair_round(words: &Words, caller: &mut Caller) {
+    if !words.may_draw() {
+        return;
+    }
+    let Some(number) = words.acquire() else {
+        caller.held += 1;
+        return;
+    };
+    if caller.held > 0 {
+        caller.held -= 1;
+        words.release();
+    }
+    if words.is_served(number) {
+        caller.held += 1;
+    }
+}
+
+/// Times rounds of one kind, and prints their nanoseconds, how many there were, and what the caller holds at the end.
+fn time_rounds(name: &str, rounds: u64, round: impl Fn(&Words, &mut Caller)) {
+    let words = Words::new(1);
+    let mut caller = Caller { held: 0 };
+    let start = Instant::now();
+    for _ in 0..rounds {
+        round(&words, &mut caller);
+    }
+    let nanoseconds = start.elapsed().as_nanos();
+    let _ = writeln!(std::io::stdout(), "{name} {nanoseconds} rounds {rounds} held {}", caller.held);
+}
+
 fn main() {
+    let rounds = std::env::args().nth(2).and_then(|text| text.parse().ok()).unwrap_or(LIMIT);
+    match std::env::args().nth(1).as_deref() {
+        Some("free") => return time_rounds("free", rounds, free_round),
+        Some("pairs") => return time_rounds("pairs", rounds, pair_round),
+        _ => {}
+    }
     let (resources, jobs) = plan();
     match std::env::args().nth(1).as_deref() {
         Some("plan") => print!("{}", write_plan(&resources, &jobs)),
@@ -275,7 +412,7 @@ fn main() {
             let _ = writeln!(std::io::stdout(), "run {nanoseconds} bytes {} sum {sum}", report.len());
         }
         _ => {
-            let _ = writeln!(std::io::stderr(), "usage: plain plan | plain large | plain report | plain run");
+            let _ = writeln!(std::io::stderr(), "usage: plain plan | plain large | plain report | plain run | plain free [ROUNDS] | plain pairs [ROUNDS]");
             std::process::exit(2);
         }
     }

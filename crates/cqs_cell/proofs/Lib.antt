@@ -1,3 +1,5 @@
 pub mod Missing
 pub mod Crossing
+pub mod Making
 pub mod Taking
+pub mod Looking

@@ -3,19 +3,11 @@ use Rattle.std.proofs.Common.{◌≡◌, ◌≢◌, ℕ, Bool, List, Some, sym, 
 use Rattle.std.proofs.lemmas.Option.{same_Some}
 use Rattle.cqs_words.specs.declared.cell.CellWord.{CellWord}
 use Rattle.cqs_words.specs.Cell.{unpacked_cell}
-use Rattle.cqs_words.proofs.CellLaws.{unpacked_cell-packed_cell}
 use Rattle.cqs_rule.specs.declared.view.View.{View}
-use Rattle.cqs_rule.specs.declared.view.Glimpse.{Glimpse}
 use Rattle.cqs_rule.specs.Hidden.{QueueStep}
-use Rattle.cqs_rule.specs.Ruled.{IsBare, number_at, shown_state, word_of}
-use Rattle.cqs_rule.specs.Told.{Crossed, IsCrossing, FoundCell, Missed, state_before}
-
--- the cell that the word of a cell unpacks to
-pub unpacks : (k n : ℕ) (g : Glimpse) → FoundCell k n g
-    → unpacked_cell n ≡ Some (record { index = k; state = shown_state g.state; payload = g.payload })
-unpacks k n g found =
-    let cell : CellWord = record { index = k; state = shown_state g.state; payload = g.payload } in
-    ap unpacked_cell found.word ∙ unpacked_cell-packed_cell cell (record { index = found.number; payload = found.fits })
+use Rattle.cqs_rule.specs.Ruled.{IsBare, number_at, word_of}
+use Rattle.cqs_rule.proofs.CellLoads.{unpacks}
+use Rattle.cqs_rule.specs.Told.{Crossed, IsCrossing, Missed, state_before}
 
 module _ {E S : Type 0} (names : ℕ → E → Bool) (legal : ℕ → List E → Type 0) (gains : ℕ → ℕ) (entries : QueueStep → ℕ → ℕ → List E) where
   pub missed-by : (s : QueueStep) (word expected new n : ℕ) (v w : View E S) (cell : CellWord) → IsCrossing s v.facts word expected new

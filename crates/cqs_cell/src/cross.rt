@@ -20,7 +20,7 @@ pub(crate) fn cross<C: ClientWords, K: Kind>(
     requires cell { IsCrossing K.step (pass_view pass.old).facts at.word expected new }
     requires bare { IsBare (state_before K.step) }
     ensures belongs { IsOf queue.now pass.new }
-    ensures made { IfOk result (λ _. Made C.names C.legal C.gains C.entries K.step (pass_view pass.old) (pass_view pass.new)) }
+    ensures made { IfOk result (λ _. Made C.names C.legal C.gains C.entries K.step 0 new (pass_view pass.old) (pass_view pass.new)) }
     ensures missed { IfErr result (λ found. Missed C.names C.legal C.gains C.entries K.step (pass_view pass.old) found (pass_view pass.new)) }
 {
     let found = queue.swap_table::<K>(pass, at.word, expected, new);

@@ -4,8 +4,10 @@
 #![tactic(auto)]
 
 mod cross;
+mod looks;
 mod transitions;
 mod values;
 
+pub use looks::look;
 pub use transitions::{install, leave_value, serve};
 pub use values::take_value;

@@ -1,10 +1,12 @@
 //! The transitions.
 
 ghost use Rattle.std.specs.Prelude.{◌≡◌, ◌<◌, ◌^◌, IfOk, IfErr};
+ghost use Rattle.cqs_core.specs.declared.cells.CoreState.TheVariants as state;
 ghost use Rattle.cqs_core.specs.declared.doings.Doing.TheVariants as doing;
 ghost use Rattle.cqs_rule.specs.Hidden.{installs, leaves, takes, serves};
 ghost use Rattle.cqs_rule.specs.Passes.{pass_view, IsOf};
 ghost use Rattle.cqs_rule.specs.Placed.{IsPlace};
+ghost use Rattle.cqs_rule.specs.Ruled.{word_of};
 ghost use Rattle.cqs_rule.specs.Told.{Made, Missed};
 
 use crate::cross::cross;
@@ -21,7 +23,7 @@ pub fn install<C: ClientWords>(
     requires drawn { (pass_view pass.old).facts.doing ≡ doing.Drawn at.index }
     requires place { IsPlace at }
     ensures belongs { IsOf queue.now pass.new }
-    ensures made { IfOk result (λ _. Made C.names C.legal C.gains C.entries installs (pass_view pass.old) (pass_view pass.new)) }
+    ensures made { IfOk result (λ _. Made C.names C.legal C.gains C.entries installs 0 (word_of at.index state.Waiter 0) (pass_view pass.old) (pass_view pass.new)) }
     ensures missed { IfErr result (λ found. Missed C.names C.legal C.gains C.entries installs (pass_view pass.old) found (pass_view pass.new)) }
 {
     let empty = CellWord::bare(at.index, CellState::Empty).pack();
@@ -42,7 +44,7 @@ pub fn leave_value<C: ClientWords>(
     requires owes { (pass_view pass.old).facts.payload ≡ payload }
     requires small { payload < 2 ^ 20 }
     ensures belongs { IsOf queue.now pass.new }
-    ensures made { IfOk result (λ _. Made C.names C.legal C.gains C.entries leaves (pass_view pass.old) (pass_view pass.new)) }
+    ensures made { IfOk result (λ _. Made C.names C.legal C.gains C.entries leaves 0 (word_of at.index state.Value payload) (pass_view pass.old) (pass_view pass.new)) }
     ensures missed { IfErr result (λ found. Missed C.names C.legal C.gains C.entries leaves (pass_view pass.old) found (pass_view pass.new)) }
 {
     let empty = CellWord::bare(at.index, CellState::Empty).pack();
@@ -67,7 +69,7 @@ pub fn serve<C: ClientWords>(
     requires owes { (pass_view pass.old).facts.payload ≡ payload }
     requires small { payload < 2 ^ 20 }
     ensures belongs { IsOf queue.now pass.new }
-    ensures made { IfOk result (λ _. Made C.names C.legal C.gains C.entries serves (pass_view pass.old) (pass_view pass.new)) }
+    ensures made { IfOk result (λ _. Made C.names C.legal C.gains C.entries serves 0 (word_of at.index state.Resumed payload) (pass_view pass.old) (pass_view pass.new)) }
     ensures missed { IfErr result (λ found. Missed C.names C.legal C.gains C.entries serves (pass_view pass.old) found (pass_view pass.new)) }
 {
     let waiter = CellWord::bare(at.index, CellState::Waiter).pack();

@@ -28,7 +28,7 @@ fn take_found<C: ClientWords>(
     requires word { found ≡ word_of at.index state.Value payload }
     requires last { (pass_view pass.old).facts.last ≡ Some (record { state = state.Value; payload = payload }) }
     ensures belongs { IsOf queue.now pass.new }
-    ensures made { Made C.names C.legal C.gains C.entries takes (pass_view pass.old) (pass_view pass.new) }
+    ensures made { Made C.names C.legal C.gains C.entries takes payload (word_of at.index state.Taken 0) (pass_view pass.old) (pass_view pass.new) }
 {
     let taken = CellWord::bare(at.index, CellState::Taken).pack();
     queue.swap_table::<Takes>(pass, at.word, found, taken);

@@ -1,16 +1,21 @@
 -- A resume is its steps: a number is drawn, and an exchange on its cell is made, perhaps after some that weren't.
-use Rattle.std.proofs.Common.{◌≡◌, ◌≢◌, ⊎_elim, ℕ, ◌<◌, Bool, List, ◌++◌, Some, sym, refl, ap, ◌∙◌, subst, arith}
+use Rattle.std.proofs.Common.{◌≡◌, ◌≢◌, ⊎_elim, ℕ, ◌<◌, Bool, List, [], ◌∷◌, ◌++◌, Some, sym, refl, ap, ◌∙◌, subst, append_assoc, arith}
+use Rattle.std.proofs.lemmas.List.{append-nil}
 use Rattle.cqs_core.specs.declared.cells.CoreState.{CoreState}
 use Rattle.cqs_core.specs.declared.cells.CoreState.TheVariants as state
 use Rattle.cqs_core.specs.declared.doings.Doing.TheVariants as doing
 use Rattle.cqs_words.specs.declared.cell.CellState.{CellState}
 use Rattle.cqs_rule.specs.declared.view.View.{View}
 use Rattle.cqs_rule.specs.declared.view.Facts.{Facts}
+use Rattle.cqs_rule.specs.declared.view.Glimpse.{Glimpse}
+use Rattle.cqs_rule.specs.declared.view.Sighting.{Sighting}
+use Rattle.cqs_rule.specs.declared.view.Sighting.TheVariants.{Cell, Resumes}
 use Rattle.cqs_rule.specs.Called.{Called}
 use Rattle.cqs_rule.specs.Hidden.{QueueStep, reaches, leaves, serves}
 use Rattle.cqs_rule.specs.Ruled.{IsSince, number_at, rank}
-use Rattle.cqs_rule.specs.Told.{Saw, Made, Missed, MayFind, facts_after}
+use Rattle.cqs_rule.specs.Told.{Saw, FoundLast, Made, Missed, MayFind, facts_after, state_before, payload_made}
 use Rattle.cqs_rule.proofs.Calls.{called-by, called-then, saw-then}
+use Rattle.cqs_rule.proofs.Found.{found-then}
 use Rattle.cqs_resume.specs.Resumes.{Ended}
 
 -- an exchange that wasn't made in an empty cell found a waiter
@@ -63,9 +68,11 @@ module _ {E S : Type 0} (names : ℕ → E → Bool) (legal : ℕ → List E →
     pub held : t.facts.held ≡ u.facts.held
     pub waits : t.facts.waits ≡ u.facts.waits
     pub number : t.number ≡ u.number
+    pub tries : List Sighting
+    pub found : t.facts.found ≡ u.facts.found ++ tries
 
   pub tried-none : (u t : View E S) → t ≡ u → Tried u t
-  tried-none u t same = subst (λ (z : View E S). Tried u z) (sym same) (record { saw = λ w g es s. s; doing = refl; held = refl; waits = refl; number = refl })
+  tried-none u t same = subst (λ (z : View E S). Tried u z) (sym same) (record { saw = λ w g es s. s; doing = refl; held = refl; waits = refl; number = refl; tries = []; found = sym (append-nil u.facts.found) })
 
   pub tried-miss : (u t x : View E S) (s : QueueStep) (cell : CellState) → Tried u t → Missed names legal gains entries s t cell x → Tried u x
   tried-miss u t x s cell tried m = record {
@@ -74,21 +81,31 @@ module _ {E S : Type 0} (names : ℕ → E → Bool) (legal : ℕ → List E →
     held = ap (λ (f : Facts). f.held) m.saw.facts_are ∙ tried.held;
     waits = ap (λ (f : Facts). f.waits) m.saw.facts_are ∙ tried.waits;
     number = m.saw.same.number ∙ tried.number;
+    tries = tried.tries ++ Cell (number_at t.facts.doing) m.word ∷ [];
+    found = ap (λ (f : Facts). f.found) m.saw.facts_are ∙ (ap (λ (l : List Sighting). l ++ Cell (number_at t.facts.doing) m.word ∷ []) tried.found
+        ∙ append_assoc u.facts.found tried.tries (Cell (number_at t.facts.doing) m.word ∷ []));
   }
 
-  pub ended : (s : QueueStep) (k : ℕ) (v u t w : View E S) → Ends gains s → Saw names legal v (facts_after gains reaches k k v.facts) (entries reaches v.number k) u
-      → Tried u t → Made names legal gains entries s t w → Ended names legal entries s k v w
-  ended s k v u t w ends first tried m =
+  pub ended : (s : QueueStep) (payload k new : ℕ) (v u t w : View E S) → Ends gains s → payload_made s v.facts.payload ≡ payload
+      → Saw names legal v (facts_after gains reaches k k v.facts) (entries reaches v.number k) u
+      → Tried u t → Made names legal gains entries s 0 new t w → Ended names legal entries s payload k v w
+  ended s payload k new v u t w ends owed first tried m =
       let is : number_at t.facts.doing ≡ k = ap number_at (tried.doing ∙ ap (λ (f : Facts). f.doing) first.facts_are) in
       let pass : t.number ≡ v.number = tried.number ∙ first.same.number in
       let es = entries s t.number (number_at t.facts.doing) in
-      let after = facts_after gains s (number_at t.facts.doing) m.word t.facts in
+      let after = facts_after gains s (number_at t.facts.doing) m.found.word t.facts in
+      let cell : Glimpse = record { state = state_before s; payload = 0 } in
+      let drawn : List Sighting = Resumes k ∷ [] in
       record {
         called = subst (λ (l : List E). Called names legal v (entries reaches v.number k ++ l) l w) (λ i. entries s (pass i) (is i))
             (called-then names legal v u w after (entries reaches v.number k) (entries reaches v.number k) es (called-by names legal v u _ _ first) (tried.saw w after es m.saw));
-        idle = ap (λ (f : Facts). f.doing) m.saw.facts_are ∙ ends.idle (number_at t.facts.doing) m.word t.facts;
-        held = ap (λ (f : Facts). f.held) m.saw.facts_are ∙ (ends.held (number_at t.facts.doing) m.word t.facts ∙ (tried.held ∙ ap (λ (f : Facts). f.held) first.facts_are));
-        waits = ap (λ (f : Facts). f.waits) m.saw.facts_are ∙ (ends.waits (number_at t.facts.doing) m.word t.facts ∙ (tried.waits ∙ ap (λ (f : Facts). f.waits) first.facts_are));
+        tried = tried.tries ++ [];
+        found = found-then (tried.tries ++ []) drawn k cell v u w (ap (λ (f : Facts). f.found) first.facts_are)
+            (found-then [] tried.tries k cell u t w tried.found (subst (λ z. FoundLast [] z cell t w) is m.found));
+        left = owed;
+        idle = ap (λ (f : Facts). f.doing) m.saw.facts_are ∙ ends.idle (number_at t.facts.doing) m.found.word t.facts;
+        held = ap (λ (f : Facts). f.held) m.saw.facts_are ∙ (ends.held (number_at t.facts.doing) m.found.word t.facts ∙ (tried.held ∙ ap (λ (f : Facts). f.held) first.facts_are));
+        waits = ap (λ (f : Facts). f.waits) m.saw.facts_are ∙ (ends.waits (number_at t.facts.doing) m.found.word t.facts ∙ (tried.waits ∙ ap (λ (f : Facts). f.waits) first.facts_are));
       }
 
   -- after a waiter was found there the next serve is made

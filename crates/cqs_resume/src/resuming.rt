@@ -25,7 +25,7 @@ pub fn resume<C: ClientWords>(queue: &Queue<C>, pass: &mut Pass<C>, payload: u32
     requires payload { (pass_view pass.old).facts.payload ≡ payload }
     requires small { payload < 2 ^ 20 }
     ensures belongs { IsOf queue.now pass.new }
-    ensures resumes { Resumes C.names C.legal C.entries (pass_view pass.old) result (pass_view pass.new) }
+    ensures resumes { Resumes C.names C.legal C.entries payload (pass_view pass.old) result (pass_view pass.new) }
 {
     let number = queue.add_table::<Reaches>(pass, RESUMES_WORD, 1);
     let Found::At(at) = find(queue, pass, number) else {

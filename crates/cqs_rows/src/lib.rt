@@ -34,6 +34,8 @@ mod names;
 #[cfg(test)]
 mod packed_words;
 #[cfg(test)]
+mod queue_rows;
+#[cfg(test)]
 mod ranges;
 #[cfg(test)]
 mod too_many;

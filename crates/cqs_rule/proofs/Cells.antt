@@ -10,7 +10,7 @@ use Rattle.cqs_core.specs.QueueState.{fresh_cell}
 use Rattle.cqs_core.specs.QueueMoves.{moved, at_state}
 use Rattle.cqs_core.proofs.Places.{get-set_here, get-set_else, get-append_left}
 use Rattle.cqs_rule.specs.declared.view.Glimpse.{Glimpse}
-use Rattle.cqs_rule.specs.Hidden.{Hidden, QueueStep, draws, reaches, installs, leaves, takes, serves, move_of, changed, happened, state_in, state_at}
+use Rattle.cqs_rule.specs.Hidden.{Hidden, LookEvent, pends, grants, late, QueueStep, draws, reaches, installs, leaves, takes, serves, looks, move_of, changed, happened, state_in, state_at}
 use Rattle.cqs_rule.specs.Ruled.{IsWaitOf, IsInstalled, IsSince, rank}
 use Rattle.cqs_rule.specs.Told.{state_before, state_after, IsExchange}
 use Rattle.std.proofs.lemmas.Option.{same_Some}
@@ -76,6 +76,7 @@ new_cell-state installs found e = refl
 new_cell-state leaves found e = refl
 new_cell-state takes found e = refl
 new_cell-state serves found e = refl
+new_cell-state (looks x) found e = absurd e
 
 new_cell-owner : (s : QueueStep) (found : CoreCell) → (new_cell s found).owner ≡ found.owner
 new_cell-owner draws found = refl
@@ -84,6 +85,7 @@ new_cell-owner installs found = refl
 new_cell-owner leaves found = refl
 new_cell-owner takes found = refl
 new_cell-owner serves found = refl
+new_cell-owner (looks x) found = refl
 
 pub rank-rises : (s : QueueStep) → IsExchange s → rank (state_before s) < rank (state_after s)
 rank-rises draws e = absurd e
@@ -92,6 +94,7 @@ rank-rises installs e = omega arith
 rank-rises leaves e = omega arith
 rank-rises takes e = omega arith
 rank-rises serves e = omega arith
+rank-rises (looks x) e = absurd e
 
 -- a waiter is served, and no other exchange is made where one stands
 serves-installed : (s : QueueStep) → IsExchange s → IsInstalled (state_before s) → s ≡ serves
@@ -101,6 +104,7 @@ serves-installed installs e h = absurd h
 serves-installed leaves e h = absurd h
 serves-installed takes e h = absurd h
 serves-installed serves e h = refl
+serves-installed (looks x) e h = absurd e
 
 module _ (gains : ℕ → ℕ) (c : Hidden) (p k payload : ℕ) where
   -- a number is drawn: each cell keeps its state
@@ -161,6 +165,7 @@ module _ (gains : ℕ → ℕ) (c : Hidden) (p k payload : ℕ) where
   exchange-cells leaves found e = refl
   exchange-cells takes found e = refl
   exchange-cells serves found e = refl
+  exchange-cells (looks x) found e = absurd e
 
   pub exchange-suspends : (s : QueueStep) (found : CoreCell) → IsExchange s
       → (happened gains c s p k (Some found) payload).queue.suspends ≡ c.queue.suspends
@@ -170,6 +175,7 @@ module _ (gains : ℕ → ℕ) (c : Hidden) (p k payload : ℕ) where
   exchange-suspends leaves found e = refl
   exchange-suspends takes found e = refl
   exchange-suspends serves found e = refl
+  exchange-suspends (looks x) found e = absurd e
 
   pub exchange-resumes : (s : QueueStep) (found : CoreCell) → IsExchange s
       → (happened gains c s p k (Some found) payload).queue.resumes ≡ c.queue.resumes
@@ -179,6 +185,7 @@ module _ (gains : ℕ → ℕ) (c : Hidden) (p k payload : ℕ) where
   exchange-resumes leaves found e = refl
   exchange-resumes takes found e = refl
   exchange-resumes serves found e = refl
+  exchange-resumes (looks x) found e = absurd e
 
   pub exchange-doing : (s : QueueStep) (found : CoreCell) → IsExchange s
       → (happened gains c s p k (Some found) payload).queue.doing ≡ set c.queue.doing p doing.Idle
@@ -188,6 +195,60 @@ module _ (gains : ℕ → ℕ) (c : Hidden) (p k payload : ℕ) where
   exchange-doing leaves found e = refl
   exchange-doing takes found e = refl
   exchange-doing serves found e = refl
+  exchange-doing (looks x) found e = absurd e
+
+  -- the owner of a wait looks at its cell: the counters stay, what the passes do, and the state of each cell
+  pub looked-suspends : (e : LookEvent) (found : CoreCell)
+      → (happened gains c (looks e) p k (Some found) payload).queue.suspends ≡ c.queue.suspends
+  looked-suspends pends found = refl
+  looked-suspends grants found = refl
+  looked-suspends late found = refl
+
+  pub looked-resumes : (e : LookEvent) (found : CoreCell)
+      → (happened gains c (looks e) p k (Some found) payload).queue.resumes ≡ c.queue.resumes
+  looked-resumes pends found = refl
+  looked-resumes grants found = refl
+  looked-resumes late found = refl
+
+  pub looked-doing : (e : LookEvent) (found : CoreCell)
+      → (happened gains c (looks e) p k (Some found) payload).queue.doing ≡ c.queue.doing
+  looked-doing pends found = refl
+  looked-doing grants found = refl
+  looked-doing late found = refl
+
+  pub looked-state : (e : LookEvent) (found : CoreCell) (j : ℕ) → slice_get c.queue.cells k ≡ Some found
+      → state_at (happened gains c (looks e) p k (Some found) payload).queue j ≡ state_at c.queue j
+  looked-state pends found j there = refl
+  looked-state grants found j there = written_same c.queue.cells k j found _ there refl
+  looked-state late found j there = written_same c.queue.cells k j found _ there refl
+
+  -- another wait is as it was
+  pub looked-wait : (e : LookEvent) (found : CoreCell) (n j : ℕ) → j ≢ k → IsWaitOf c.queue n j
+      → IsWaitOf (happened gains c (looks e) p k (Some found) payload).queue n j
+  looked-wait pends found n j apart w = w
+  looked-wait grants found n j apart w = record {
+    cell = w.cell;
+    there = get-set_else c.queue.cells k j _ (λ q. apart (sym q)) ∙ w.there;
+    owner = w.owner;
+    drawn = w.drawn;
+    uncollected = w.uncollected;
+    installed = w.installed;
+  }
+  looked-wait late found n j apart w = record {
+    cell = w.cell;
+    there = get-set_else c.queue.cells k j _ (λ q. apart (sym q)) ∙ w.there;
+    owner = w.owner;
+    drawn = w.drawn;
+    uncollected = w.uncollected;
+    installed = w.installed;
+  }
+
+  -- the wait of another pass is another
+  pub looked-apart : (found : CoreCell) (n j : ℕ) → slice_get c.queue.cells k ≡ Some found → found.owner ≡ Some p → n ≢ p
+      → IsWaitOf c.queue n j → j ≢ k
+  looked-apart found n j there owner apart w q =
+      let same : w.cell ≡ found = same_Some w.cell found (sym w.there ∙ (ap (slice_get c.queue.cells) q ∙ there)) in
+      apart (same_Some n p (sym w.owner ∙ (ap (λ (x : CoreCell). x.owner) same ∙ owner)))
 
   module _ (s : QueueStep) (found : CoreCell) (e : IsExchange s) (there : slice_get c.queue.cells k ≡ Some found)
       (before : found.state ≡ state_before s) where

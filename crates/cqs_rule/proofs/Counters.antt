@@ -15,7 +15,7 @@ use Rattle.cqs_core.specs.QueueLine as queue
 use Rattle.cqs_core.proofs.Places.{get-set_here, get-set_else}
 use Rattle.cqs_rule.specs.declared.view.View.{View}
 use Rattle.cqs_rule.specs.declared.view.Facts.{Facts}
-use Rattle.cqs_rule.specs.Hidden.{Hidden, QueueStep, draws, reaches, installs, leaves, takes, serves, happened}
+use Rattle.cqs_rule.specs.Hidden.{Hidden, QueueStep, draws, reaches, installs, leaves, takes, serves, looks, happened}
 use Rattle.cqs_rule.specs.Layout.{client_words}
 use Rattle.cqs_rule.specs.Views.{grown}
 use Rattle.cqs_rule.specs.Ruled.{Ruled}
@@ -23,7 +23,7 @@ use Rattle.cqs_rule.specs.Client.{IsClient}
 use Rattle.cqs_rule.specs.Told.{drew, facts_after, IsCount}
 use Rattle.cqs_rule.proofs.Lists.{fewer_draw}
 use Rattle.cqs_rule.proofs.Cells.{drawn-state, reached-state}
-use Rattle.cqs_rule.proofs.Words.{this-word, crew-else, cells-else, client-below, other-word}
+use Rattle.cqs_rule.proofs.Words.{this-word, crew-else, cells-else, client-below, idle-else, other-word}
 use Rattle.cqs_rule.proofs.Grow.{Turned}
 use Rattle.cqs_rule.proofs.Others.{others-drawn, others-reached, drawn-self, reached-self, door-keeps, may-else}
 use Rattle.cqs_rule.proofs.Tells.{steps, suspends-low, resumes-low}
@@ -79,6 +79,7 @@ module _ {E S : Type 0} (names : ℕ → E → Bool) (legal : ℕ → List E →
           resumes = other-word s.words 16 32 x (λ e. omega arith) ∙ r.counters.resumes;
         };
         cells = cells-else c d (limit + passes + values) s.words 16 x (omega arith) (λ j. drawn-state gains c p n f.payload found j refl) (λ j. refl) r.cells;
+        idle_words = idle-else s.words 16 x (λ j is. is.suspends) r.idle_words;
         room = record {
           few_passes = r.room.few_passes;
           low_limit = r.room.low_limit;
@@ -126,6 +127,7 @@ module _ {E S : Type 0} (names : ℕ → E → Bool) (legal : ℕ → List E →
           resumes = this-word s.words 32 x (omega arith) ∙ next;
         };
         cells = cells-else c d (limit + passes + values) s.words 32 x (omega arith) (λ j. reached-state gains c p n f.payload found j) (λ j. refl) r.cells;
+        idle_words = idle-else s.words 32 x (λ j is. is.resumes) r.idle_words;
         room = record {
           few_passes = r.room.few_passes;
           low_limit = r.room.low_limit;
@@ -160,6 +162,7 @@ module _ {E S : Type 0} (names : ℕ → E → Bool) (legal : ℕ → List E →
   count slots id me leaves word amount by one is c = absurd c
   count slots id me takes word amount by one is c = absurd c
   count slots id me serves word amount by one is c = absurd c
+  count slots id me (looks e) word amount by one is c = absurd c
 
 pub counter-low : (t : QueueStep) (facts : Facts) (word : ℕ) (by : ℤ) → IsCount t facts word by → word < 112
 counter-low draws facts word by c = let e = c.1 in omega arith
@@ -168,3 +171,4 @@ counter-low installs facts word by c = absurd c
 counter-low leaves facts word by c = absurd c
 counter-low takes facts word by c = absurd c
 counter-low serves facts word by c = absurd c
+counter-low (looks e) facts word by c = absurd c

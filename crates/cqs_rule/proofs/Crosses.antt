@@ -24,14 +24,14 @@ use Rattle.cqs_words.proofs.CellLaws.{state_code-below, state_code-injective, ce
 use Rattle.cqs_rule.specs.declared.view.View.{View}
 use Rattle.cqs_rule.specs.declared.view.Facts.{Facts}
 use Rattle.cqs_rule.specs.declared.view.Glimpse.{Glimpse}
-use Rattle.cqs_rule.specs.Hidden.{Hidden, QueueStep, draws, reaches, installs, leaves, takes, serves, IsOpenStep, happened, payloads_after, state_in, state_at}
+use Rattle.cqs_rule.specs.Hidden.{Hidden, pends, grants, late, QueueStep, draws, reaches, installs, leaves, takes, serves, looks, IsOpenStep, happened, payloads_after, state_in, state_at}
 use Rattle.cqs_rule.specs.Layout.{client_words}
 use Rattle.cqs_rule.specs.Views.{grown}
 use Rattle.cqs_rule.specs.Ruled.{Ruled, Stands, CellsShow, IsWaitOf, IsBare, IsPlain, number_at, shown_state, word_of}
 use Rattle.cqs_rule.specs.Client.{IsClient}
 use Rattle.cqs_rule.specs.Told.{crossed, facts_after, facts_missed, works_at, state_before, state_after, payload_made, IsExchange, IsCrossing, MayFind}
 use Rattle.cqs_rule.proofs.Cells.{changed_here, exchange-suspends, exchange-resumes, exchange-doing, exchange-here, exchange-else, new_cell}
-use Rattle.cqs_rule.proofs.Words.{this-word, other-word, crew-else, counters-else, client-above}
+use Rattle.cqs_rule.proofs.Words.{this-word, other-word, crew-else, counters-else, idle-else, client-above}
 use Rattle.cqs_rule.proofs.Grow.{Turned}
 use Rattle.cqs_rule.proofs.Others.{others-exchanged, exchanged-self, door-keeps, may-else, payload-else, same-or-not}
 use Rattle.cqs_rule.proofs.Tells.{steps, Steps, inside-of, suspends-low, resumes-low}
@@ -131,6 +131,7 @@ works-at : (q : Queue) (s : QueueStep) (p k : ℕ) → IsExchange s → IsSound 
     → ((j : ℕ) → IsPlain (state_at q j)) → Works-at q s k
 works-at q draws p k e sound does plain = absurd e
 works-at q reaches p k e sound does plain = absurd e
+works-at q (looks x) p k e sound does plain = absurd e
 works-at q installs p k e sound does plain =
     let own : IsOwn q p k IsUntaken = sound.passes.at p (doing.Drawn k) does in
     record { cell = own.cell; there = own.found; may = may-own-installs own.cell.state own.at }
@@ -153,6 +154,7 @@ opens-at q installs p k cell e does there before = record { does = does; finds =
 opens-at q leaves p k cell e does there before = record { does = does; finds = there; at = before }
 opens-at q takes p k cell e does there before = record { does = does; finds = there; at = before }
 opens-at q serves p k cell e does there before = record { does = does; finds = there; at = before }
+opens-at q (looks x) p k cell e does there before = absurd e
 
 -- what the step leaves in the cell
 payload-here : (payloads : ℕ → ℕ) (s : QueueStep) (k payload : ℕ) → IsExchange s → (s ≡ installs → payloads k ≡ 0)
@@ -163,6 +165,7 @@ payload-here payloads installs k payload e bare = bare refl
 payload-here payloads leaves k payload e bare = changed_here payloads k payload
 payload-here payloads takes k payload e bare = changed_here payloads k 0
 payload-here payloads serves k payload e bare = changed_here payloads k payload
+payload-here payloads (looks x) k payload e bare = absurd e
 
 made-bare : (s : QueueStep) (payload : ℕ) → IsExchange s → IsBare (state_after s) → payload_made s payload ≡ 0
 made-bare draws payload e bare = absurd e
@@ -171,6 +174,7 @@ made-bare installs payload e bare = refl
 made-bare leaves payload e bare = absurd bare
 made-bare takes payload e bare = refl
 made-bare serves payload e bare = absurd bare
+made-bare (looks x) payload e bare = absurd e
 
 made-plain : (s : QueueStep) → IsExchange s → IsPlain (state_after s)
 made-plain draws e = absurd e
@@ -179,14 +183,18 @@ made-plain installs e = tt
 made-plain leaves e = tt
 made-plain takes e = tt
 made-plain serves e = tt
+made-plain (looks x) e = absurd e
 
-held-long : (gains : ℕ → ℕ) (c : Hidden) (s : QueueStep) (p k payload : ℕ) (found : Option CoreCell) → length (happened gains c s p k found payload).held ≡ length c.held
+pub held-long : (gains : ℕ → ℕ) (c : Hidden) (s : QueueStep) (p k payload : ℕ) (found : Option CoreCell) → length (happened gains c s p k found payload).held ≡ length c.held
 held-long gains c takes p k payload found = length-set c.held p _
 held-long gains c draws p k payload found = refl
 held-long gains c reaches p k payload found = refl
 held-long gains c installs p k payload found = refl
 held-long gains c leaves p k payload found = refl
 held-long gains c serves p k payload found = refl
+held-long gains c (looks pends) p k payload found = refl
+held-long gains c (looks grants) p k payload found = length-set c.held p _
+held-long gains c (looks late) p k payload found = length-set c.held p _
 
 may-same : (gains : ℕ → ℕ) (c : Hidden) (s : QueueStep) (p k payload : ℕ) (found : Option CoreCell) → IsExchange s → (happened gains c s p k found payload).may_draw ≡ c.may_draw
 may-same gains c takes p k payload found e = refl
@@ -195,6 +203,7 @@ may-same gains c reaches p k payload found e = absurd e
 may-same gains c installs p k payload found e = refl
 may-same gains c leaves p k payload found e = refl
 may-same gains c serves p k payload found e = refl
+may-same gains c (looks x) p k payload found e = absurd e
 
 -- the wait that a pass has where it installed a waiter
 new-wait : (gains : ℕ → ℕ) (c : Hidden) (p k payload : ℕ) (cell : CoreCell) → IsSound c.queue → slice_get c.queue.doing p ≡ Some (doing.Drawn k)
@@ -282,6 +291,7 @@ module _ {E S : Type 0} (names : ℕ → E → Bool) (legal : ℕ → List E →
         crew = crew-else s.words (k + 112) x (omega arith);
         counters = counters-else c.queue d.queue s.words (k + 112) x (omega arith) suspends resumes r.counters;
         cells = cells-crossed c (limit + passes + values) s.words t p k f.payload cell e there before fits (omega arith) r.cells;
+        idle_words = idle-else s.words (k + 112) x (λ j is q. let b = is.before in omega arith) r.idle_words;
         room = record {
           few_passes = r.room.few_passes;
           low_limit = r.room.low_limit;
@@ -358,7 +368,7 @@ module _ {E S : Type 0} (names : ℕ → E → Bool) (legal : ℕ → List E →
           (λ a. subst T (sym (ne_eqb n expected a))
           (let facts = facts_missed k n g f in
           let done = looks-to names legal shows entries gains opened passes limit values size held client s r id me (k + 112) facts here one
-          (record { doing = at.doing; held = at.held; may_draw = at.may_draw; waits = at.waits; last = inl (refl, refl) }) in (
+          (record { doing = at.doing; held = at.held; may_draw = at.may_draw; waits = at.waits; once = at.once; last = inl (refl, refl) }) in (
             grown v facts (r.log ++ []) r.handed,
             keeps,
             tt,

@@ -1,6 +1,6 @@
 -- A step of a live pass: it sees the whole history, to which it adds entries of its own. What the rule says of all other passes
 -- stays, whatever kind of step it is; a kind has to show only what `Turned` asks.
-use Rattle.std.proofs.Common.{◌≡◌, ◌≢◌, ℕ, ◌+◌, ◌<◌, ◌^◌, Bool, true, List, [], ◌++◌, set, sym, refl, ap, ◌∙◌, subst, ⊎_elim, inl, arith, length-set, Option, slice_get}
+use Rattle.std.proofs.Common.{◌≡◌, ◌≢◌, ℕ, ◌+◌, ◌<◌, ◌≤◌, ◌^◌, Bool, true, List, [], ◌++◌, length, set, sym, refl, ap, ◌∙◌, subst, ⊎_elim, inl, arith, length-set, Option, slice_get}
 use Rattle.std.specs.Prelude.{slice_index, slice_set}
 use Rattle.std.proofs.lemmas.List.{append-nil}
 use mathlib.Core.Option.{some}
@@ -11,11 +11,11 @@ use Rattle.cqs_rule.specs.declared.view.View.{View}
 use Rattle.cqs_rule.specs.declared.view.Facts.{Facts}
 use Rattle.cqs_rule.specs.Hidden.{Hidden}
 use Rattle.cqs_rule.specs.Layout.{client_words}
-use Rattle.cqs_rule.specs.Lists.{Has, NamesOnly}
+use Rattle.cqs_rule.specs.Lists.{Has, IsDistinct, NamesOnly}
 use Rattle.cqs_rule.specs.Views.{all_own, weight, grown, Apart}
-use Rattle.cqs_rule.specs.Ruled.{Ruled, Knows, Sees, Stands, CountersShow, CellsShow, HasRoom, DoorMayDraw, number_at}
+use Rattle.cqs_rule.specs.Ruled.{Ruled, Knows, Sees, Stands, CountersShow, CellsShow, IdleWords, HasRoom, DoorMayDraw, number_at}
 use Rattle.cqs_rule.specs.Told.{Saw}
-use Rattle.cqs_rule.proofs.Lists.{set_there, set_all, total_set, two_of, nothing_more, longer, has_left, has_right, part_more, unnamed}
+use Rattle.cqs_rule.proofs.Lists.{set_there, set_all, total_set, two_of, nothing_more, longer, has_left, has_right, part_more, unnamed, few_below, length_without}
 
 -- what stays of every other pass than p
 pub record OthersStay (c d : Hidden) (p : ℕ) : Type 0 where
@@ -62,6 +62,7 @@ module _ {E S : Type 0} (names : ℕ → E → Bool) (shows : Hidden → List �
     pub crew : slice_index (slice_set s.words i x) 0 ≡ slice_index s.words 0
     pub counters : CountersShow d.queue (slice_set s.words i x)
     pub cells : CellsShow d (limit + passes + values) (slice_set s.words i x)
+    pub idle_words : IdleWords (slice_set s.words i x)
     pub room : HasRoom passes limit values d
     pub door : DoorMayDraw d
     pub shown : shows d (client_words (slice_set s.words i x)) (r.log ++ es) r.handed
@@ -111,6 +112,7 @@ module _ {E S : Type 0} (names : ℕ → E → Bool) (shows : Hidden → List �
         };
         counters = t.counters;
         cells = t.cells;
+        idle_words = t.idle_words;
         room = t.room;
         door = t.door;
         shown = t.shown;
@@ -148,9 +150,9 @@ module _ {E S : Type 0} (names : ℕ → E → Bool) (shows : Hidden → List �
   -- what the step tells the pass
   pub saw : (legal : ℕ → List E → Type 0) (s : State (Option S) (View E S)) (r : R s) (id : ℕ) (v : View E S) (es : List E) (facts : Facts)
       → get_elem? s.views id ≡ some v → v.weight ≡ 1 → legal size (r.log ++ es) → facts.held < 2 ^ 32 → number_at facts.doing < limit + passes + values
-      → ((n : ℕ) → Has n facts.waits → n < limit + passes + values)
+      → ((n : ℕ) → Has n facts.waits → n < limit + passes + values) → IsDistinct facts.waits
       → Saw names legal v facts es (grown v facts (r.log ++ es) r.handed)
-  saw legal s r id v es facts here one is_legal fits inside waits =
+  saw legal s r id v es facts here one is_legal fits inside waits once =
       let k = r.each_view id v here in record {
         between = k.sees.seen.0;
         seen = ap (λ l. l ++ es) k.sees.seen.1;
@@ -165,5 +167,7 @@ module _ {E S : Type 0} (names : ℕ → E → Bool) (shows : Hidden → List �
         inside = record {
           number = subst (λ z. number_at facts.doing < z) (sym k.cells_are) inside;
           waits = λ n h. subst (λ z. n < z) (sym k.cells_are) (waits n h);
+          once = λ n h. length_without n facts.waits once h;
+          few = subst (λ z. length facts.waits ≤ z) (sym k.cells_are) (few_below (limit + passes + values) facts.waits once waits);
         };
       }

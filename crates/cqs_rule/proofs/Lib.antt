@@ -7,7 +7,10 @@ pub mod Tells
 pub mod Looks
 pub mod Counters
 pub mod Crosses
+pub mod CellLoads
 pub mod Moves
 pub mod SemaphoreMoves
+pub mod StandStill
 pub mod Calls
+pub mod Found
 pub mod Opens

@@ -1,4 +1,4 @@
--- Steps that leave the word as it is: a load without an event, a load of the suspend counter, an exchange that isn't made.
+-- Steps that leave the word as it is: a load of the suspend counter, an exchange that isn't made.
 use Rattle.std.proofs.Common.{◌≡◌, ℕ, ◌+◌, ◌<◌, Bool, true, false, List, [], ◌++◌, set, sym, refl, ap, ◌∙◌, subst, arith, Option, Some, slice_get, nat_lt, ltb-true, if◌then◌else◌}
 use Rattle.std.proofs.lemmas.Option.{same_Some}
 use Rattle.std.specs.Prelude.{slice_index, slice_set, count_by}
@@ -12,9 +12,12 @@ use Rattle.cqs_rule.specs.declared.view.Facts.{Facts}
 use Rattle.cqs_rule.specs.Hidden.{Hidden, QueueStep, now_may_draw}
 use Rattle.cqs_rule.specs.Layout.{client_words}
 use Rattle.cqs_rule.specs.Views.{grown}
-use Rattle.cqs_rule.specs.Ruled.{Ruled, Stands, CountersShow, CellsShow, HasRoom, DoorMayDraw}
+use Rattle.cqs_rule.specs.Ruled.{Ruled, Stands, CountersShow, CellsShow, IdleWords, HasRoom, DoorMayDraw}
 use Rattle.cqs_rule.specs.Client.{IsClient}
-use Rattle.cqs_rule.specs.Told.{looked, counted, facts_counted}
+use Rattle.cqs_rule.specs.Lists.{NamesOnly}
+use Rattle.cqs_rule.specs.Loads as load
+use Rattle.cqs_rule.specs.Loads.{loaded_by}
+use Rattle.cqs_rule.specs.Told.{facts_counted}
 use Rattle.cqs_rule.proofs.Lists.{all_draw}
 use Rattle.cqs_rule.proofs.Grow.{Turned, OthersStay}
 use Rattle.cqs_rule.proofs.Others.{others-same, others-counted, door-keeps}
@@ -24,24 +27,34 @@ use Rattle.cqs_core.proofs.Places.{get-set_here, get-set_else, set-same}
 module _ {E S : Type 0} (names : ℕ → E → Bool) (legal : ℕ → List E → Type 0) (shows : Hidden → List ℕ → List E → List S → Type 0)
     (entries : QueueStep → ℕ → ℕ → List E) (gains : ℕ → ℕ) (opened : List ℕ) (passes limit values size held : ℕ)
     (client : IsClient names (legal size) shows entries gains opened values held) where
-  -- no word changes, and what is hidden becomes d
-  pub still : (s : State (Option S) (View E S)) (r : Ruled names shows passes limit values size s) (v : View E S) (i : ℕ) (d : Hidden) (facts : Facts)
+  -- no word changes, what is hidden becomes d, and the history grows by these entries
+  pub stays : (s : State (Option S) (View E S)) (r : Ruled names shows passes limit values size s) (v : View E S) (i : ℕ) (d : Hidden) (es : List E) (facts : Facts)
       → CountersShow d.queue s.words → CellsShow d (limit + passes + values) s.words → HasRoom passes limit values d → DoorMayDraw d
-      → shows d (client_words s.words) r.log r.handed → OthersStay r.hidden d v.number → Stands d v.number facts
-      → Turned names shows passes limit values size s r v i (slice_index s.words i) d [] facts
-  still s r v i d facts counters cells room door shown others self =
+      → shows d (client_words s.words) (r.log ++ es) r.handed → OthersStay r.hidden d v.number → Stands d v.number facts → NamesOnly names v.number es
+      → Turned names shows passes limit values size s r v i (slice_index s.words i) d es facts
+  stays s r v i d es facts counters cells room door shown others self silent =
       let same : slice_set s.words i (slice_index s.words i) ≡ s.words = set-get_or s.words i 0 in
       record {
         crew = ap (λ l. slice_index l 0) same;
         counters = subst (CountersShow d.queue) (sym same) counters;
         cells = subst (CellsShow d (limit + passes + values)) (sym same) cells;
+        idle_words = subst IdleWords (sym same) r.idle_words;
         room = room;
         door = door;
-        shown = subst (λ (l : List ℕ × List E). shows d (client_words l.0) l.1 r.handed) (λ j. (sym same j, sym (append-nil r.log) j)) shown;
+        shown = subst (λ (l : List ℕ). shows d (client_words l) (r.log ++ es) r.handed) (sym same) shown;
         others = others;
         self = self;
-        silent = λ n apart. refl;
+        silent = silent;
       }
+
+  -- the same with no entry
+  pub still : (s : State (Option S) (View E S)) (r : Ruled names shows passes limit values size s) (v : View E S) (i : ℕ) (d : Hidden) (facts : Facts)
+      → CountersShow d.queue s.words → CellsShow d (limit + passes + values) s.words → HasRoom passes limit values d → DoorMayDraw d
+      → shows d (client_words s.words) r.log r.handed → OthersStay r.hidden d v.number → Stands d v.number facts
+      → Turned names shows passes limit values size s r v i (slice_index s.words i) d [] facts
+  still s r v i d facts counters cells room door shown others self =
+      stays s r v i d [] facts counters cells room door
+      (subst (λ l. shows d (client_words s.words) l r.handed) (sym (append-nil r.log)) shown) others self (λ n apart. refl)
 
   -- nothing hidden changes, and the pass goes on to these facts
   pub looks-to : (s : State (Option S) (View E S)) (r : Ruled names shows passes limit values size s) (id : ℕ) (me : Me (Option S) (View E S)) (i : ℕ) (facts : Facts)
@@ -51,18 +64,10 @@ module _ {E S : Type 0} (names : ℕ → E → Bool) (legal : ℕ → List E →
       steps names legal shows entries gains opened passes limit values size held client s r id me i (slice_index s.words i) r.hidden [] facts here one
       (still s r me.0 i r.hidden facts r.counters r.cells r.room r.door r.shown (others-same r.hidden me.0.number) self)
 
-  -- a load that shows no event
-  pub looks : (slots id : ℕ) (me : Me (Option S) (View E S)) (i : ℕ) → me.0.weight ≡ 1
-      → Allows (Ruled names shows passes limit values size) slots id me i (λ n. n) (looked names legal (step slots i 0 0 none) me)
-  looks slots id me i one s r _ here small =
-      let k = r.each_view id me.0 here in
-      let t = looks-to s r id me i me.0.facts here one (k.stands (omega arith)) in
-      (grown me.0 me.0.facts (r.log ++ []) r.handed, keeps, tt, t.0, (t.1, refl))
-
   -- a load of the suspend counter
-  pub counts : (slots id : ℕ) (me : Me (Option S) (View E S)) → me.0.weight ≡ 1
-      → Allows (Ruled names shows passes limit values size) slots id me 16 (λ n. n) (counted names legal (step slots 16 0 0 none) me)
-  counts slots id me one s r _ here small =
+  pub counted : (slots id : ℕ) (me : Me (Option S) (View E S)) → me.0.weight ≡ 1
+      → Allows (Ruled names shows passes limit values size) slots id me 16 (λ n. n) (loaded_by names legal gains entries load.counts (step slots 16 0 0 none) me)
+  counted slots id me one s r _ here small =
       let k = r.each_view id me.0 here in
       let p = me.0.number in
       let n = slice_index s.words 16 in
@@ -78,7 +83,7 @@ module _ {E S : Type 0} (names : ℕ → E → Bool) (legal : ℕ → List E →
       (λ at_door. get-set_here r.hidden.may_draw p f.may_draw may at.may_draw ∙ ap Some (still-true (nat_lt n me.0.limit) f.may_draw (same_Some f.may_draw true (sym at.may_draw ∙ r.door p at_door)))))
       (client.counts r.hidden p may (client_words s.words) r.log r.handed r.shown)
       (others-counted r.hidden p may)
-      (record { doing = at.doing; held = at.held; may_draw = get-set_here r.hidden.may_draw p f.may_draw may at.may_draw; waits = at.waits; last = at.last })) in
+      (record { doing = at.doing; held = at.held; may_draw = get-set_here r.hidden.may_draw p f.may_draw may at.may_draw; waits = at.waits; once = at.once; last = at.last })) in
       (grown me.0 (facts_counted me.0.limit n f) (r.log ++ []) r.handed, keeps, tt, t.0, (t.1, refl))
     where
       still-true : (b may : Bool) → may ≡ true → (if b then true else may) ≡ true
@@ -106,7 +111,7 @@ module _ {E S : Type 0} (names : ℕ → E → Bool) (legal : ℕ → List E →
               let g = r.room.ground in
               subst (λ (l : List Bool). r.hidden.queue.suspends + count_by (λ b. b) l < limit + passes) (sym same) g
 
-  pub counts-at : (slots id : ℕ) (me : Me (Option S) (View E S)) (word : ℕ) → me.0.weight ≡ 1 → word ≡ 16
-      → Allows (Ruled names shows passes limit values size) slots id me word (λ n. n) (counted names legal (step slots word 0 0 none) me)
-  counts-at slots id me word one is =
-      subst (λ z. Allows (Ruled names shows passes limit values size) slots id me z (λ n. n) (counted names legal (step slots z 0 0 none) me)) (sym is) (counts slots id me one)
+  pub counted-at : (slots id : ℕ) (me : Me (Option S) (View E S)) (word : ℕ) → me.0.weight ≡ 1 → word ≡ 16
+      → Allows (Ruled names shows passes limit values size) slots id me word (λ n. n) (loaded_by names legal gains entries load.counts (step slots word 0 0 none) me)
+  counted-at slots id me word one is =
+      subst (λ z. Allows (Ruled names shows passes limit values size) slots id me z (λ n. n) (loaded_by names legal gains entries load.counts (step slots z 0 0 none) me)) (sym is) (counted slots id me one)

@@ -1,11 +1,10 @@
 -- A step on a word of the client.
-use Rattle.std.proofs.Common.{◌≡◌, ℕ, ◌+◌, ◌<◌, ◌^◌, Bool, List, ◌++◌, sym, refl, ap, ◌∙◌, subst, arith, Option, Some, ℤ, pos, negsuc, ◌<ℤ◌, ◌≤ℤ◌, ◌-◌, ◌%◌, unsigned_abs}
+use Rattle.std.proofs.Common.{◌≡◌, ℕ, ◌+◌, ◌<◌, ◌^◌, Bool, true, List, ⊎_elim, ◌++◌, sym, refl, ap, ◌∙◌, subst, arith, Option, Some, ℤ, pos, negsuc, ◌<ℤ◌, ◌≤ℤ◌, ◌-◌, ◌%◌, unsigned_abs}
 use Rattle.std.proofs.lemmas.Int.{ints}
 use Rattle.std.specs.Prelude.{slice_index, slice_set}
 use Rattle.std.proofs.lemmas.List.{length-set}
 use Rattle.std.proofs.lemmas.Option.{same_Some}
-use mathlib.Core.Option.{none}
-use Rattle.atomic_table.specs.Table.{Me, Step, step, keeps, Allows}
+use Rattle.atomic_table.specs.Table.{Me, keeps, Allows}
 use Rattle.cqs_core.specs.declared.doings.Doing.{Doing}
 use Rattle.cqs_core.specs.declared.doings.Doing.TheVariants as doing
 use Rattle.cqs_core.proofs.Places.{get-set_here, get-set_else}
@@ -15,8 +14,8 @@ use Rattle.cqs_rule.specs.Layout.{client_words, client_place}
 use Rattle.cqs_rule.specs.Views.{grown}
 use Rattle.cqs_rule.specs.Ruled.{Ruled}
 use Rattle.cqs_rule.specs.Client.{IsClient}
-use Rattle.cqs_rule.specs.Told.{moved_by, facts_moved, Moves, added}
-use Rattle.cqs_rule.proofs.Words.{crew-else, counters-else, cells-else, client-at, client-set}
+use Rattle.cqs_rule.specs.Told.{Moved, facts_moved, Moves, added}
+use Rattle.cqs_rule.proofs.Words.{crew-else, counters-else, cells-else, idle-else, client-at, client-set}
 use Rattle.cqs_rule.proofs.Grow.{Turned}
 use Rattle.cqs_rule.proofs.Others.{others-moved, door-keeps}
 use Rattle.cqs_rule.proofs.Tells.{steps, suspends-low, resumes-low}
@@ -24,16 +23,20 @@ use Rattle.cqs_rule.proofs.Tells.{steps, suspends-low, resumes-low}
 module _ {E S : Type 0} (names : ℕ → E → Bool) (legal : ℕ → List E → Type 0) (shows : Hidden → List ℕ → List E → List S → Type 0)
     (entries : QueueStep → ℕ → ℕ → List E) (gains : ℕ → ℕ) (opened : List ℕ) (passes limit values size held : ℕ)
     (client : IsClient names (legal size) shows entries gains opened values held) where
-  pub moves : (shown : ℕ → Doing → ℕ → List E) (goes : Doing → ℕ → Doing) (holds : ℕ → ℕ → ℕ) (payload : ℕ → ℕ) (slots id : ℕ) (me : Me (Option S) (View E S)) (i : ℕ) (f : ℕ → ℕ) (st : Step (Option S))
-      → me.0.weight ≡ 1 → i < 4 → Moves names shows shown goes holds me.0.number me.0.facts i f
-      → Allows (Ruled names shows passes limit values size) slots id me (client_place i) f (moved_by names legal shown goes holds payload st me)
-  moves shown goes holds payload slots id me i f st one few law s r _ here small =
+  -- what the step tells the pass
+  abbrev pub Tells : (ℕ → Doing → ℕ → List E) → (Doing → ℕ → Doing) → (Bool → ℕ → ℕ → ℕ) → (ℕ → ℕ) → (ℕ → Bool) → Me (Option S) (View E S) → ℕ → Me (Option S) (View E S) → Type 0
+  Tells shown goes holds payload made me n me' = Moved names legal shown goes holds payload made me.0 n me'.0 × (me'.1 ≡ me.1)
+
+  pub moves : (shown : ℕ → Doing → ℕ → List E) (goes : Doing → ℕ → Doing) (holds : Bool → ℕ → ℕ → ℕ) (payload : ℕ → ℕ) (made : ℕ → Bool) (slots id : ℕ) (me : Me (Option S) (View E S)) (i : ℕ) (f : ℕ → ℕ)
+      → me.0.weight ≡ 1 → i < 4 → Moves names shows shown goes holds made me.0.number me.0.facts i f
+      → Allows (Ruled names shows passes limit values size) slots id me (client_place i) f (Tells shown goes holds payload made me)
+  moves shown goes holds payload made slots id me i f one few law s r _ here small =
       let v = me.0 in let p = v.number in let facts = v.facts in let c = r.hidden in
       let at = (r.each_view id v here).stands (omega arith) in
       let word = client_place i in
       let n = slice_index s.words word in
       let now = goes facts.doing n in
-      let holding = holds facts.held n in
+      let holding = holds (made n) facts.held n in
       let d = stands_at c p now holding in
       let es = shown p facts.doing n in
       let wide = r.wide in
@@ -42,6 +45,7 @@ module _ {E S : Type 0} (names : ℕ → E → Bool) (legal : ℕ → List E →
         crew = crew-else s.words word (f n) (omega arith);
         counters = counters-else c.queue d.queue s.words word (f n) (omega arith) refl refl r.counters;
         cells = cells-else c d (limit + passes + values) s.words word (f n) (omega arith) (λ k. refl) (λ k. refl) r.cells;
+        idle_words = idle-else s.words word (f n) (λ j is. is.client i few) r.idle_words;
         room = record {
           few_passes = r.room.few_passes;
           low_limit = r.room.low_limit;
@@ -55,9 +59,12 @@ module _ {E S : Type 0} (names : ℕ → E → Bool) (legal : ℕ → List E →
         door = door-keeps c d p r.door (λ m a. get-set_else c.queue.doing p m now (λ e. a (sym e))) (λ m a. refl)
             (λ at_door. let mine = get-set_here c.queue.doing p facts.doing now at.doing in
             let door : now ≡ doing.Door = same_Some now doing.Door (sym mine ∙ at_door) in
-            at.may_draw ∙ ap Some (law.door n door));
+            ⊎_elim
+            (λ (there : facts.doing ≡ doing.Door). r.door p (at.doing ∙ ap Some there))
+            (λ (may : facts.may_draw ≡ true). at.may_draw ∙ ap Some may)
+            (law.door n door));
         shown = subst (λ (ws : List ℕ). shows d ws (r.log ++ es) r.handed) (sym (client-set s.words i (f n) few (omega arith)))
-            (subst (λ z. shows (stands_at c p (goes facts.doing z) (holds facts.held z)) (slice_set (client_words s.words) i (f z)) (r.log ++ shown p facts.doing z) r.handed) is
+            (subst (λ z. shows (stands_at c p (goes facts.doing z) (holds (made z) facts.held z)) (slice_set (client_words s.words) i (f z)) (r.log ++ shown p facts.doing z) r.handed) is
             (law.step c (client_words s.words) r.log r.handed r.shown at.doing at.held (suspends-low passes limit values c r.room) (resumes-low passes limit values c r.room) (subst (λ z. z < 2 ^ 64) (sym is) small)));
         others = others-moved c p now holding;
         self = record {
@@ -65,6 +72,7 @@ module _ {E S : Type 0} (names : ℕ → E → Bool) (legal : ℕ → List E →
           held = get-set_here c.held p facts.held holding at.held;
           may_draw = at.may_draw;
           waits = λ k h. let w = at.waits k h in record { cell = w.cell; there = w.there; owner = w.owner; drawn = w.drawn; uncollected = w.uncollected; installed = w.installed };
+          once = at.once;
           last = tt;
         };
         silent = law.silent n;
@@ -73,12 +81,12 @@ module _ {E S : Type 0} (names : ℕ → E → Bool) (legal : ℕ → List E →
       (grown v (facts_moved now holding (payload facts.payload) facts) (r.log ++ es) r.handed, keeps, tt, done.0, (done.1, refl))
 
   -- the same at a word's place, by what the step computes of the word found
-  pub moves-at : (shown : ℕ → Doing → ℕ → List E) (goes : Doing → ℕ → Doing) (holds : ℕ → ℕ → ℕ) (payload : ℕ → ℕ) (slots id : ℕ) (me : Me (Option S) (View E S)) (i place : ℕ) (f g : ℕ → ℕ)
-      → me.0.weight ≡ 1 → i < 4 → place ≡ client_place i → ((n : ℕ) → g n ≡ f n) → Moves names shows shown goes holds me.0.number me.0.facts i f
-      → Allows (Ruled names shows passes limit values size) slots id me place g (moved_by names legal shown goes holds payload (step slots place 0 0 none) me)
-  moves-at shown goes holds payload slots id me i place f g one few is same law =
-      subst (λ (z : ℕ × (ℕ → ℕ)). Allows (Ruled names shows passes limit values size) slots id me z.0 z.1 (moved_by names legal shown goes holds payload (step slots place 0 0 none) me))
-      (λ j. (sym is j, λ n. sym (same n) j)) (moves shown goes holds payload slots id me i f (step slots place 0 0 none) one few law)
+  pub moves-at : (shown : ℕ → Doing → ℕ → List E) (goes : Doing → ℕ → Doing) (holds : Bool → ℕ → ℕ → ℕ) (payload : ℕ → ℕ) (made : ℕ → Bool) (slots id : ℕ) (me : Me (Option S) (View E S)) (i place : ℕ) (f g : ℕ → ℕ)
+      → me.0.weight ≡ 1 → i < 4 → place ≡ client_place i → ((n : ℕ) → g n ≡ f n) → Moves names shows shown goes holds made me.0.number me.0.facts i f
+      → Allows (Ruled names shows passes limit values size) slots id me place g (Tells shown goes holds payload made me)
+  moves-at shown goes holds payload made slots id me i place f g one few is same law =
+      subst (λ (z : ℕ × (ℕ → ℕ)). Allows (Ruled names shows passes limit values size) slots id me z.0 z.1 (Tells shown goes holds payload made me))
+      (λ j. (sym is j, λ n. sym (same n) j)) (moves shown goes holds payload made slots id me i f one few law)
 
 -- what is added where the number is not negative, and where it is
 pub added-up : (by : ℤ) (amount n : ℕ) → amount ≡ unsigned_abs by → pos 0 ≤ℤ by → (n + amount) % 2 ^ 64 ≡ added by n

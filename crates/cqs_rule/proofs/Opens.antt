@@ -1,8 +1,8 @@
 -- The rule holds as a queue opens.
-use Rattle.std.proofs.Common.{◌≡◌, ◌⊎◌, ℕ, zero, suc, ◌+◌, ◌-◌, ◌<◌, ◌≤◌, Bool, true, false, List, [], ◌∷◌, ◌++◌, length, replicate, sym, refl, ap, ◌∙◌, subst, inl, inr, arith, Option, Some, slice_get, nat_lt, nat_le, lt-ltb, le-ltb, le-leb, leb-true, if◌then◌else◌}
+use Rattle.std.proofs.Common.{◌≡◌, ◌⊎◌, ℕ, zero, suc, ◌+◌, ◌-◌, ◌<◌, ◌≤◌, Bool, true, false, List, [], ◌∷◌, ◌++◌, length, replicate, sym, refl, ap, ◌∙◌, subst, inl, inr, arith, Option, Some, slice_get, nat_lt, nat_le, lt-ltb, le-ltb, le-leb, ne_eqb, leb-true, if◌then◌else◌}
 use Rattle.std.specs.Prelude.{slice_index}
 use Rattle.std.proofs.lemmas.List.{length-replicate, length_push, get_or_append_left, get_or_push}
-use Rattle.std.proofs.lemmas.Bool.{cases_lt, and_parts}
+use Rattle.std.proofs.lemmas.Bool.{cases_lt, and_parts, lt-leb}
 use mathlib.Core.Option.{some, some-injective, some-ne-none}
 use lib.ListN.{get_elem?}
 use Rattle.atomic_table.specs.Table.{opening}
@@ -14,7 +14,7 @@ use Rattle.cqs_rule.specs.Configured.{is_config}
 use Rattle.cqs_rule.specs.declared.view.View.{View}
 use Rattle.cqs_rule.specs.Hidden.{Hidden, state_in}
 use Rattle.cqs_rule.specs.Lists.{Has}
-use Rattle.cqs_rule.specs.Layout.{client_words}
+use Rattle.cqs_rule.specs.Layout.{client_words, IsIdle}
 use Rattle.cqs_rule.specs.Views.{first_view, all_own, first_facts}
 use Rattle.cqs_rule.specs.Ruled.{Ruled, Knows, IsBare, IsPlain, word_of, Stands}
 use Rattle.cqs_rule.specs.Opened.{value_cell, first_payload, first_hidden, four, first_word, first_cell, IsOpening}
@@ -54,6 +54,18 @@ first-cell-at values k words =
     let back : (k + 112) - 112 ≡ k = omega arith in
     rw is (ap (first_cell values) back)
 
+-- the words between open with nothing
+first-idle : (values i : ℕ) (words : List ℕ) → IsIdle i → first_word values words i ≡ 0
+first-idle values i words is =
+    let early : nat_le 112 i ≡ false = let b = is.before in lt-leb 112 i (omega arith) in
+    let crew = ne_eqb i 0 is.crew in
+    let resumes = ne_eqb i 32 is.resumes in
+    let a = ne_eqb i 48 (is.client 0 (omega arith)) in
+    let b = ne_eqb i 64 (is.client 1 (omega arith)) in
+    let c = ne_eqb i 80 (is.client 2 (omega arith)) in
+    let d = ne_eqb i 96 (is.client 3 (omega arith)) in
+    rw (early, crew, resumes, a, b, c, d) refl
+
 module _ {E S : Type 0} (names : ℕ → E → Bool) (shows : Hidden → List ℕ → List E → List S → Type 0) (passes limit values size held : ℕ) where
   abbrev pub first : View E S
   first = first_view limit (limit + passes + values) size held
@@ -85,6 +97,7 @@ module _ {E S : Type 0} (names : ℕ → E → Bool) (shows : Hidden → List �
       bare = λ k is. payload-bare k is (cases_lt k values);
       plain = λ k. is-plain k (cases_lt k values);
     };
+    idle_words = record { none = λ i is. o.at i (let b = is.before in omega arith) ∙ first-idle values i client is };
     room = record {
       few_passes = few;
       low_limit = low_limit;
@@ -131,6 +144,7 @@ module _ {E S : Type 0} (names : ℕ → E → Bool) (shows : Hidden → List �
         held = refl;
         may_draw = get-replicate passes 0 true any;
         waits = λ k n. absurd n;
+        once = tt;
         last = tt;
       }
 

@@ -9,12 +9,13 @@ use Rattle.cqs_core.specs.declared.doings.Doing.TheVariants as doing
 use Rattle.cqs_core.proofs.Places.{get-set_here, get-set_else}
 use Rattle.cqs_rule.specs.declared.view.Facts.{Facts}
 use Rattle.cqs_rule.specs.declared.view.Glimpse.{Glimpse}
-use Rattle.cqs_rule.specs.Hidden.{Hidden, QueueStep, draws, reaches, installs, leaves, takes, serves, happened, state_in, state_at, stands_at, now_may_draw, payloads_after}
-use Rattle.cqs_rule.specs.Lists.{Has}
-use Rattle.cqs_rule.specs.Ruled.{IsWaitOf, IsSince, Stands, number_at, rank, DoorMayDraw}
-use Rattle.cqs_rule.specs.Told.{state_before, IsExchange, facts_after}
-use Rattle.cqs_rule.proofs.Lists.{get_index, has_append}
-use Rattle.cqs_rule.proofs.Cells.{changed_else, GoesOn, since-goes_on, drawn-state, reached-state, drawn-wait, reached-wait, exchange-doing, exchange-here, exchange-else, exchange-wait, rank-rises}
+use Rattle.cqs_rule.specs.Hidden.{Hidden, LookEvent, pends, grants, late, QueueStep, draws, reaches, installs, leaves, takes, serves, looks, happened, state_in, state_at, stands_at, now_may_draw, payloads_after}
+use Rattle.std.proofs.lemmas.Option.{same_Some}
+use Rattle.cqs_rule.specs.Lists.{Has, IsDistinct}
+use Rattle.cqs_rule.specs.Ruled.{IsWaitOf, IsInstalled, IsSince, Stands, number_at, rank, DoorMayDraw}
+use Rattle.cqs_rule.specs.Told.{state_before, IsExchange, facts_after, facts_closed}
+use Rattle.cqs_rule.proofs.Lists.{get_index, has_append, has_without, distinct_append, distinct_without}
+use Rattle.cqs_rule.proofs.Cells.{changed_else, GoesOn, since-goes_on, drawn-state, reached-state, drawn-wait, reached-wait, exchange-doing, exchange-here, exchange-else, exchange-wait, rank-rises, looked-doing, looked-state, looked-wait, looked-apart}
 use Rattle.cqs_rule.proofs.Grow.{OthersStay}
 
 -- nothing hidden changes
@@ -30,6 +31,7 @@ others-counted c p may = record {
     held = is.held;
     may_draw = get-set_else c.may_draw p n may (λ e. apart (sym e)) ∙ is.may_draw;
     waits = is.waits;
+    once = is.once;
     last = is.last;
   };
 }
@@ -43,6 +45,7 @@ others-moved c p d held = record {
     held = get-set_else c.held p n held (λ e. apart (sym e)) ∙ is.held;
     may_draw = is.may_draw;
     waits = λ k h. wait-moved k n (is.waits k h);
+    once = is.once;
     last = is.last;
   };
 }
@@ -68,6 +71,7 @@ payload-else payloads installs k payload j apart = refl
 payload-else payloads leaves k payload j apart = changed_else payloads k payload j apart
 payload-else payloads takes k payload j apart = changed_else payloads k 0 j apart
 payload-else payloads serves k payload j apart = changed_else payloads k payload j apart
+payload-else payloads (looks e) k payload j apart = refl
 
 module _ (gains : ℕ → ℕ) (c : Hidden) (p k payload : ℕ) where
   -- what a step of the queue at the number k makes, where the cell was found so
@@ -81,6 +85,9 @@ module _ (gains : ℕ → ℕ) (c : Hidden) (p k payload : ℕ) where
   held-else installs found n apart = refl
   held-else leaves found n apart = refl
   held-else serves found n apart = refl
+  held-else (looks pends) found n apart = refl
+  held-else (looks grants) found n apart = get-set_else c.held p n _ (λ e. apart (sym e))
+  held-else (looks late) found n apart = get-set_else c.held p n _ (λ e. apart (sym e))
 
   pub may-else : (s : QueueStep) (found : Option CoreCell) (n : ℕ) → n ≢ p → slice_get (after s found).may_draw n ≡ slice_get c.may_draw n
   may-else draws found n apart = get-set_else c.may_draw p n false (λ e. apart (sym e))
@@ -89,6 +96,7 @@ module _ (gains : ℕ → ℕ) (c : Hidden) (p k payload : ℕ) where
   may-else installs found n apart = refl
   may-else leaves found n apart = refl
   may-else serves found n apart = refl
+  may-else (looks e) found n apart = refl
 
   pub others-drawn : (found : Option CoreCell) → slice_get c.queue.cells k ≡ found → k ≡ c.queue.suspends → OthersStay c (after draws found) p
   others-drawn found there next = record {
@@ -98,6 +106,7 @@ module _ (gains : ℕ → ℕ) (c : Hidden) (p k payload : ℕ) where
       held = is.held;
       may_draw = may-else draws found n apart ∙ is.may_draw;
       waits = λ j h. drawn-wait gains c p k payload found n j there next (is.waits j h);
+      once = is.once;
       last = let j = number_at facts.doing in
           since-goes_on c (after draws found) j facts.last (inl (drawn-state gains c p k payload found j there, refl)) is.last;
     };
@@ -111,6 +120,7 @@ module _ (gains : ℕ → ℕ) (c : Hidden) (p k payload : ℕ) where
       held = is.held;
       may_draw = is.may_draw;
       waits = λ j h. reached-wait gains c p k payload found n j (is.waits j h);
+      once = is.once;
       last = let j = number_at facts.doing in
           since-goes_on c (after reaches found) j facts.last (inl (reached-state gains c p k payload found j, refl)) is.last;
     };
@@ -123,6 +133,7 @@ module _ (gains : ℕ → ℕ) (c : Hidden) (p k payload : ℕ) where
     held = is.held;
     may_draw = get-set_here c.may_draw p f.may_draw false is.may_draw;
     waits = λ j h. drawn-wait gains c p k payload found p j there next (is.waits j h);
+    once = is.once;
     last = tt;
   }
 
@@ -133,6 +144,7 @@ module _ (gains : ℕ → ℕ) (c : Hidden) (p k payload : ℕ) where
     held = is.held;
     may_draw = is.may_draw;
     waits = λ j h. reached-wait gains c p k payload found p j (is.waits j h);
+    once = is.once;
     last = tt;
   }
 
@@ -157,6 +169,7 @@ module _ (gains : ℕ → ℕ) (c : Hidden) (p k payload : ℕ) where
         held = held-else s (Some found) n apart ∙ is.held;
         may_draw = may-else s (Some found) n apart ∙ is.may_draw;
         waits = λ j h. exchange-wait gains c p k payload s found e there before n j (is.waits j h);
+        once = is.once;
         last = let j = number_at facts.doing in since-goes_on c d j facts.last (exchange-goes_on j) is.last;
       };
     }
@@ -175,6 +188,7 @@ module _ (gains : ℕ → ℕ) (c : Hidden) (p k payload : ℕ) where
     held-self takes n f x is =
         get-set_here c.held p f.held _ is ∙ ap (λ z. Some (gains z)) (get_index c.held p f.held 0 is)
     held-self serves n f x is = is
+    held-self (looks y) n f x is = absurd x
 
     may-self : (t : QueueStep) (n : ℕ) (f : Facts) → IsExchange t → slice_get c.may_draw p ≡ Some f.may_draw
         → slice_get (after t (Some found)).may_draw p ≡ Some (facts_after gains t k n f).may_draw
@@ -184,6 +198,7 @@ module _ (gains : ℕ → ℕ) (c : Hidden) (p k payload : ℕ) where
     may-self leaves n f x is = is
     may-self takes n f x is = is
     may-self serves n f x is = is
+    may-self (looks y) n f x is = absurd x
 
     doing-self : (t : QueueStep) (n : ℕ) (f : Facts) → IsExchange t → (facts_after gains t k n f).doing ≡ doing.Idle
     doing-self draws n f x = absurd x
@@ -192,6 +207,7 @@ module _ (gains : ℕ → ℕ) (c : Hidden) (p k payload : ℕ) where
     doing-self leaves n f x = refl
     doing-self takes n f x = refl
     doing-self serves n f x = refl
+    doing-self (looks y) n f x = absurd x
 
     last-self : (t : QueueStep) (n : ℕ) (f : Facts) → (facts_after gains t k n f).last ≡ None
     last-self draws n f = refl
@@ -200,15 +216,36 @@ module _ (gains : ℕ → ℕ) (c : Hidden) (p k payload : ℕ) where
     last-self leaves n f = refl
     last-self takes n f = refl
     last-self serves n f = refl
+    last-self (looks pends) n f = refl
+    last-self (looks grants) n f = refl
+    last-self (looks late) n f = refl
 
     -- the waits of a pass: a new one where it installed a waiter
-    waits-self : (t : QueueStep) (n : ℕ) (f : Facts) (j : ℕ) → Has j (facts_after gains t k n f).waits → Has j f.waits ⊎ ((t ≡ installs) × (j ≡ k))
-    waits-self installs n f j h = ⊎_elim inl (λ q. inr (refl, ⊎_elim (λ z. z) (λ z. absurd z) q)) (has_append j f.waits (k ∷ []) h)
-    waits-self draws n f j h = inl h
-    waits-self reaches n f j h = inl h
-    waits-self leaves n f j h = inl h
-    waits-self takes n f j h = inl h
-    waits-self serves n f j h = inl h
+    waits-self : (t : QueueStep) (n : ℕ) (f : Facts) (j : ℕ) → IsExchange t → Has j (facts_after gains t k n f).waits → Has j f.waits ⊎ ((t ≡ installs) × (j ≡ k))
+    waits-self installs n f j x h = ⊎_elim inl (λ q. inr (refl, ⊎_elim (λ z. z) (λ z. absurd z) q)) (has_append j f.waits (k ∷ []) h)
+    waits-self draws n f j x h = inl h
+    waits-self reaches n f j x h = inl h
+    waits-self leaves n f j x h = inl h
+    waits-self takes n f j x h = inl h
+    waits-self serves n f j x h = inl h
+    waits-self (looks y) n f j x h = absurd x
+
+    once-self : (t : QueueStep) (n : ℕ) (f : Facts) → IsExchange t → IsDistinct f.waits → (t ≡ installs → Has k f.waits → ⊥)
+        → IsDistinct (facts_after gains t k n f).waits
+    once-self installs n f x once new = distinct_append k f.waits once (new refl)
+    once-self draws n f x once new = absurd x
+    once-self reaches n f x once new = absurd x
+    once-self leaves n f x once new = once
+    once-self takes n f x once new = once
+    once-self serves n f x once new = once
+    once-self (looks y) n f x once new = absurd x
+
+    -- a pass that installs a waiter hadn't one there
+    new-number : (f : Facts) → Stands c p f → s ≡ installs → Has k f.waits → ⊥
+    new-number f is q h =
+        let w = is.waits k h in
+        let same : w.cell ≡ found = same_Some w.cell found (sym w.there ∙ there) in
+        subst IsInstalled (ap (λ (x : CoreCell). x.state) same ∙ (before ∙ ap state_before q)) w.installed
 
     pub exchanged-self : (n : ℕ) (f : Facts) → Stands c p f → (s ≡ installs → IsWaitOf d.queue p k) → Stands d p (facts_after gains s k n f)
     exchanged-self n f is new = record {
@@ -217,10 +254,58 @@ module _ (gains : ℕ → ℕ) (c : Hidden) (p k payload : ℕ) where
       held = held-self s n f e is.held;
       may_draw = may-self s n f e is.may_draw;
       waits = λ j h. ⊎_elim (λ old. exchange-wait gains c p k payload s found e there before p j (is.waits j old))
-          (λ (t : (s ≡ installs) × (j ≡ k)). subst (λ z. IsWaitOf d.queue p z) (sym t.1) (new t.0)) (waits-self s n f j h);
+          (λ (t : (s ≡ installs) × (j ≡ k)). subst (λ z. IsWaitOf d.queue p z) (sym t.1) (new t.0)) (waits-self s n f j e h);
+      once = once-self s n f e is.once (new-number f is);
       last = subst (λ (z : Option Glimpse). IsSince (state_at d.queue (number_at (facts_after gains s k n f).doing)) (d.payloads (number_at (facts_after gains s k n f).doing)) z)
           (sym (last-self s n f)) tt;
     }
+
+-- the owner of the wait k loads its cell
+module _ (gains : ℕ → ℕ) (c : Hidden) (p k payload : ℕ) (found : CoreCell) (there : slice_get c.queue.cells k ≡ Some found)
+    (owner : found.owner ≡ Some p) where
+  abbrev pub then : LookEvent → Hidden
+  then e = happened gains c (looks e) p k (Some found) payload
+
+  pub others-looked : (e : LookEvent) → OthersStay c (then e) p
+  others-looked e = record {
+    doing = λ n apart. same-doing n;
+    stands = λ n facts apart is. record {
+      doing = same-doing n ∙ is.doing;
+      held = held-else gains c p k payload (looks e) (Some found) n apart ∙ is.held;
+      may_draw = is.may_draw;
+      waits = λ j h. let w = is.waits j h in looked-wait gains c p k payload e found n j (looked-apart gains c p k payload found n j there owner apart w) w;
+      once = is.once;
+      last = let j = number_at facts.doing in
+          since-goes_on c (then e) j facts.last (inl (looked-state gains c p k payload e found j there, refl)) is.last;
+    };
+  }
+    where
+      same-doing : (n : ℕ) → slice_get (then e).queue.doing n ≡ slice_get c.queue.doing n
+      same-doing n = ap (λ (l : List Doing). slice_get l n) (looked-doing gains c p k payload e found)
+
+  -- the wait is closed
+  closed-self : (n : ℕ) (f : Facts) → f.doing ≡ doing.Idle → Stands c p f → Stands (then grants) p (facts_closed gains k n f)
+  closed-self n f idle is = record {
+    doing = is.doing ∙ ap Some idle;
+    held = get-set_here c.held p f.held _ is.held ∙ ap (λ z. Some (gains z)) (get_index c.held p f.held 0 is.held);
+    may_draw = is.may_draw;
+    waits = λ j h. let t = has_without j k f.waits h in looked-wait gains c p k payload grants found p j t.0 (is.waits j t.1);
+    once = distinct_without k f.waits is.once;
+    last = tt;
+  }
+
+  pub looked-self : (e : LookEvent) (n : ℕ) (f : Facts) → f.doing ≡ doing.Idle → Stands c p f
+      → Stands (then e) p (facts_after gains (looks e) k n f)
+  looked-self pends n f idle is = record {
+    doing = is.doing ∙ ap Some idle;
+    held = is.held;
+    may_draw = is.may_draw;
+    waits = is.waits;
+    once = is.once;
+    last = tt;
+  }
+  looked-self grants n f idle is = closed-self n f idle is
+  looked-self late n f idle is = closed-self n f idle is
 
 -- a pass that isn't at the door leaves those that are
 pub door-keeps : (c d : Hidden) (p : ℕ) → DoorMayDraw c → ((n : ℕ) → n ≢ p → slice_get d.queue.doing n ≡ slice_get c.queue.doing n)

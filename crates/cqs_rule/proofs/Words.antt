@@ -2,9 +2,9 @@
 use Rattle.std.proofs.Common.{◌≡◌, ◌≢◌, ℕ, zero, suc, ◌+◌, ◌*◌, ◌<◌, ◌≤◌, List, [], ◌∷◌, length, set, sym, refl, ap, ◌∙◌, arith, get_or-set_other, get_or-set_same, length-set}
 use Rattle.std.specs.Prelude.{slice_index, slice_set}
 use Rattle.cqs_core.specs.QueueState.{Queue}
-use Rattle.cqs_rule.specs.Layout.{client_place, client_words}
+use Rattle.cqs_rule.specs.Layout.{client_place, client_words, IsIdle}
 use Rattle.cqs_rule.specs.Hidden.{Hidden, state_at}
-use Rattle.cqs_rule.specs.Ruled.{CountersShow, CellsShow, word_of, IsBare, IsPlain}
+use Rattle.cqs_rule.specs.Ruled.{CountersShow, CellsShow, IdleWords, word_of, IsBare, IsPlain}
 
 pub other-word : (words : List ℕ) (i j x : ℕ) → j ≢ i → slice_index (slice_set words i x) j ≡ slice_index words j
 other-word words i j x apart = get_or-set_other words i j x 0 apart
@@ -33,6 +33,10 @@ cells-else c d cells words i x low states payloads show = record {
   bare = λ k is. payloads k ∙ show.bare k (Rattle.std.proofs.Common.subst IsBare (states k) is);
   plain = λ k. Rattle.std.proofs.Common.subst IsPlain (sym (states k)) (show.plain k);
 }
+
+-- the word is none of those between
+pub idle-else : (words : List ℕ) (i x : ℕ) → ((j : ℕ) → IsIdle j → j ≢ i) → IdleWords words → IdleWords (slice_set words i x)
+idle-else words i x apart idle = record { none = λ j is. other-word words i j x (apart j is) ∙ idle.none j is }
 
 pub client-below : (words : List ℕ) (i x : ℕ) → i < 48 → client_words (slice_set words i x) ≡ client_words words
 client-below words i x low = λ j.

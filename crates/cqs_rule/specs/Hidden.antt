@@ -4,9 +4,10 @@ use Rattle.cqs_core.specs.declared.cells.CoreCell.{CoreCell}
 use Rattle.cqs_core.specs.declared.cells.CoreState.{CoreState}
 use Rattle.cqs_core.specs.declared.cells.CoreState.TheVariants as state
 use Rattle.cqs_core.specs.declared.doings.Doing.{Doing}
+use Rattle.cqs_core.specs.declared.doings.Doing.TheVariants as doing
 use Rattle.cqs_core.specs.QueueState.{Queue}
 use Rattle.cqs_core.specs.QueueMoves as move
-use Rattle.cqs_core.specs.QueueMoves.{Move, IsOpen, moved}
+use Rattle.cqs_core.specs.QueueMoves.{Move, IsOpen, Works, Owns, moved}
 
 -- the queue part of a core, what each pass holds, who may draw a number to suspend at, and what is left in the cells
 pub record Hidden : Type 0 where
@@ -15,8 +16,21 @@ pub record Hidden : Type 0 where
   pub may_draw : List Bool
   pub payloads : ℕ → ℕ
 
--- The steps of the queue itself: a number is drawn from one of the counters, or an exchange on the cell of that number
--- is made.
+-- What the owner of a wait learns at a load of its cell: the wait still stands; it was served; or it was served too early to be
+-- cancelled. The last two close the wait.
+pub data LookEvent : Type 0 where
+  pends : LookEvent
+  grants : LookEvent
+  late : LookEvent
+
+-- the state that the cell is found in
+abbrev pub state_seen : LookEvent → CoreState
+state_seen pends = state.Waiter
+state_seen grants = state.Resumed
+state_seen late = state.Resumed
+
+-- The steps of the queue itself: a number is drawn from one of the counters, an exchange on the cell of that number is made, or
+-- the owner of a wait loads its cell.
 pub data QueueStep : Type 0 where
   draws : QueueStep
   reaches : QueueStep
@@ -24,6 +38,13 @@ pub data QueueStep : Type 0 where
   leaves : QueueStep
   takes : QueueStep
   serves : QueueStep
+  looks : (event : LookEvent) → QueueStep
+
+-- the move that a look makes
+abbrev pub look_move : LookEvent → ℕ → ℕ → CoreCell → Move
+look_move pends p k found = move.stay
+look_move grants p k found = move.collect p k found
+look_move late p k found = move.collect p k found
 
 -- the move of the queue part that a step of the pass p at the number k makes, where the cell was found so
 abbrev pub move_of : QueueStep → ℕ → ℕ → Option CoreCell → Move
@@ -33,10 +54,12 @@ move_of installs p k (Some found) = move.install p k found
 move_of leaves p k (Some found) = move.leave_value p k found
 move_of takes p k (Some found) = move.take_value p k found
 move_of serves p k (Some found) = move.serve p k found
+move_of (looks e) p k (Some found) = look_move e p k found
 move_of installs p k None = move.stay
 move_of leaves p k None = move.stay
 move_of takes p k None = move.stay
 move_of serves p k None = move.stay
+move_of (looks e) p k None = move.stay
 
 -- where a step of the queue may be made
 abbrev pub IsOpenStep : Queue → QueueStep → ℕ → ℕ → Option CoreCell → Type 0
@@ -46,18 +69,22 @@ IsOpenStep q installs p k (Some found) = IsOpen q (move.install p k found)
 IsOpenStep q leaves p k (Some found) = IsOpen q (move.leave_value p k found)
 IsOpenStep q takes p k (Some found) = IsOpen q (move.take_value p k found)
 IsOpenStep q serves p k (Some found) = IsOpen q (move.serve p k found)
+IsOpenStep q (looks e) p k (Some found) = Works q p doing.Idle k found (state_seen e) × Owns p found
 IsOpenStep q installs p k None = ⊥
 IsOpenStep q leaves p k None = ⊥
 IsOpenStep q takes p k None = ⊥
 IsOpenStep q serves p k None = ⊥
+IsOpenStep q (looks e) p k None = ⊥
 
 -- f with one value changed
 abbrev pub changed : {A : Type 0} → (ℕ → A) → ℕ → A → ℕ → A
 changed f n x m = if m == n then x else f m
 
--- what the passes hold: a pass that takes a value gains by it
+-- what the passes hold: a pass that takes a value, or finds that it was served, gains by it
 abbrev pub held_after : (ℕ → ℕ) → List ℕ → QueueStep → ℕ → List ℕ
 held_after gains held takes p = slice_set held p (gains (slice_index held p))
+held_after gains held (looks grants) p = slice_set held p (gains (slice_index held p))
+held_after gains held (looks late) p = slice_set held p (gains (slice_index held p))
 held_after gains held _ p = held
 
 -- a pass that draws must see the counter again before it draws the next number

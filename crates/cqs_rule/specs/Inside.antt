@@ -1,10 +1,12 @@
--- The numbers of a pass are those of cells.
-use Rattle.std.specs.Prelude.{ℕ, ◌<◌}
+-- The numbers of a pass are those of cells, and each wait stands there once.
+use Rattle.std.specs.Prelude.{◌≡◌, ℕ, ◌+◌, ◌<◌, ◌≤◌, length}
 use Rattle.cqs_rule.specs.declared.view.View.{View}
-use Rattle.cqs_rule.specs.Lists.{Has}
+use Rattle.cqs_rule.specs.Lists.{Has, without}
 use Rattle.cqs_rule.specs.Ruled.{number_at}
 
 -- the number at which it works, and those of its waits
 pub record IsInside {E S : Type 0} (v : View E S) : Type 0 where
   pub number : number_at v.facts.doing < v.cells
   pub waits : (k : ℕ) → Has k v.facts.waits → k < v.cells
+  pub once : (k : ℕ) → Has k v.facts.waits → length (without k v.facts.waits) + 1 ≡ length v.facts.waits
+  pub few : length v.facts.waits ≤ v.cells

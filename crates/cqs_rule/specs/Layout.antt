@@ -1,5 +1,5 @@
 -- Which word of the table holds what. Words that change often stand 16 apart, so that no two share a cache line.
-use Rattle.std.specs.Prelude.{ℕ, ◌+◌, ◌*◌, List, [], ◌∷◌, slice_index}
+use Rattle.std.specs.Prelude.{◌≢◌, ℕ, ◌+◌, ◌*◌, ◌<◌, List, [], ◌∷◌, slice_index}
 
 -- the passes made and the passes live
 abbrev pub crew_place : ℕ
@@ -18,6 +18,14 @@ client_place i = 16 * i + 48
 -- the cell of a number
 abbrev pub cell_place : ℕ → ℕ
 cell_place k = k + 112
+
+-- a word between these, which nobody writes: it stands before the cells, and is none of the others
+pub record IsIdle (i : ℕ) : Type 0 where
+  pub before : i < cell_place 0
+  pub crew : i ≢ crew_place
+  pub suspends : i ≢ suspends_place
+  pub resumes : i ≢ resumes_place
+  pub client : (word : ℕ) → word < 4 → i ≢ client_place word
 
 abbrev pub client_words : List ℕ → List ℕ
 client_words words =

@@ -7,10 +7,13 @@ pub mod Opened
 pub mod Client
 pub mod Inside
 pub mod Told
+pub mod Loads
 pub mod Called
 pub mod Configured
 pub mod Semaphore
+pub mod SemaphoreSteps
 pub mod SemaphoreClient
 pub mod Passes
 pub mod Placed
 pub mod Waits
+pub mod Owed

@@ -1,7 +1,5 @@
 -- What contracts see of a queue and of a pass.
-use Rattle.std.specs.Prelude.{◌≡◌, ℕ, Bool, List}
-use Rattle.cqs_core.specs.declared.doings.Doing.{Doing}
-use Rattle.cqs_rule.specs.Told.{Saw, facts_moved}
+use Rattle.std.specs.Prelude.{◌≡◌, ℕ}
 use Rattle.cqs_rule.specs.declared.client.ClientWords.{Ghosts}
 use Rattle.cqs_rule.specs.declared.view.View.{View}
 use Rattle.cqs_rule.specs.declared.queue.Pass.{Pass}
@@ -29,9 +27,3 @@ module _ {C S E : Type 0} {g : Ghosts C S E} where
   pub record IsOf (q : Queue C S E) (p : Pass C S E g) : Type 0 where
     pub table : p.seat.table_id ≡ q.table.shared.table_id
     pub limit : p.seat.me.0.limit ≡ q.limit
-
-module _ {E S : Type 0} (names : ℕ → E → Bool) (legal : ℕ → List E → Type 0) where
-  -- a step on a client's word found n, and showed the event of these entries
-  abbrev pub Moved : (ℕ → Doing → ℕ → List E) → (Doing → ℕ → Doing) → (ℕ → ℕ → ℕ) → (ℕ → ℕ) → View E S → ℕ → View E S → Type 0
-  Moved entries after holds payload v n w =
-      Saw names legal v (facts_moved (after v.facts.doing n) (holds v.facts.held n) (payload v.facts.payload) v.facts) (entries v.number v.facts.doing n) w

@@ -15,9 +15,9 @@ use Rattle.cqs_words.specs.Cell.{cell_word, state_code}
 use Rattle.cqs_rule.specs.declared.view.View.{View}
 use Rattle.cqs_rule.specs.declared.view.Facts.{Facts}
 use Rattle.cqs_rule.specs.declared.view.Glimpse.{Glimpse}
-use Rattle.cqs_rule.specs.Layout.{crew_place, suspends_place, resumes_place, cell_place, client_words}
+use Rattle.cqs_rule.specs.Layout.{crew_place, suspends_place, resumes_place, cell_place, client_words, IsIdle}
 use Rattle.cqs_rule.specs.Hidden.{Hidden, state_at}
-use Rattle.cqs_rule.specs.Lists.{Has, total, IsPrefix, part}
+use Rattle.cqs_rule.specs.Lists.{Has, IsDistinct, total, IsPrefix, part}
 use Rattle.cqs_rule.specs.Views.{WasCrew, all_own, weight, Apart, Tip}
 
 -- the state as a cell's word says it
@@ -72,6 +72,10 @@ pub record CellsShow (c : Hidden) (cells : ℕ) (words : List ℕ) : Type 0 wher
   pub fits : (k : ℕ) → c.payloads k < 2 ^ 20
   pub bare : (k : ℕ) → IsBare (state_at c.queue k) → c.payloads k ≡ 0
   pub plain : (k : ℕ) → IsPlain (state_at c.queue k)
+
+-- the words between hold nothing
+pub record IdleWords (words : List ℕ) : Type 0 where
+  pub none : (i : ℕ) → IsIdle i → slice_index words i ≡ 0
 
 -- each list has a place for each pass that may be made, and no counter can pass the cells: those who may draw and the
 -- numbers drawn are together fewer than the limit and the passes
@@ -129,6 +133,7 @@ pub record Stands (c : Hidden) (p : ℕ) (facts : Facts) : Type 0 where
   pub held : slice_get c.held p ≡ Some facts.held
   pub may_draw : slice_get c.may_draw p ≡ Some facts.may_draw
   pub waits : (k : ℕ) → Has k facts.waits → IsWaitOf c.queue p k
+  pub once : IsDistinct facts.waits
   pub last : IsSince (state_at c.queue (number_at facts.doing)) (c.payloads (number_at facts.doing)) facts.last
 
 -- a pass at the door may draw
@@ -174,6 +179,7 @@ module _ {E S : Type 0} (names : ℕ → E → Bool) where
     pub crew : CrewShows passes made live s.words s.views
     pub counters : CountersShow hidden.queue s.words
     pub cells : CellsShow hidden (limit + passes + values) s.words
+    pub idle_words : IdleWords s.words
     pub room : HasRoom passes limit values hidden
     pub door : DoorMayDraw hidden
     pub shown : shows hidden (client_words s.words) log handed

@@ -1,12 +1,13 @@
 -- The semaphore as a client: its one word is the state of a core, whose history is the client's.
-use Rattle.std.specs.Prelude.{ℕ, ◌+◌, ◌==◌, nat_lt, Bool, false, List, [], ◌∷◌, slice_index, ℤ, pos, ◌-ℤ◌, if◌then◌else◌}
+use Rattle.std.specs.Prelude.{ℕ, ◌+◌, ◌-◌, ◌==◌, nat_lt, Bool, false, List, [], ◌∷◌, slice_index, ℤ, pos, ◌-ℤ◌, if◌then◌else◌}
+use Rattle.std.specs.Ordering.{int_eq}
 use Rattle.cqs_core.specs.declared.doings.Doing.{Doing}
 use Rattle.cqs_core.specs.declared.doings.Doing.TheVariants as doing
 use Rattle.cqs_core.specs.declared.entries.Entry.{Entry}
 use Rattle.cqs_core.specs.declared.entries.Entry.TheVariants as entry
 use Rattle.cqs_core.specs.SemaphoreTable.{Shape}
 use Rattle.cqs_core.specs.SemaphoreShown.{IsCore}
-use Rattle.cqs_rule.specs.Hidden.{Hidden, QueueStep, draws, takes, serves}
+use Rattle.cqs_rule.specs.Hidden.{Hidden, QueueStep, draws, takes, serves, looks, pends, grants, late}
 
 -- the state that the word holds: it is raised by 2 ^ 32
 abbrev pub state_in_word : ℕ → ℤ
@@ -45,6 +46,9 @@ abbrev pub step_entries : QueueStep → ℕ → ℕ → List Entry
 step_entries draws p k = entry.Enter p k ∷ []
 step_entries takes p k = entry.Deliver k ∷ []
 step_entries serves p k = entry.Deliver k ∷ []
+step_entries (looks pends) p k = entry.LookPending p k ∷ []
+step_entries (looks grants) p k = entry.LookGranted p k ∷ []
+step_entries (looks late) p k = entry.Late p k ∷ []
 step_entries _ p k = []
 
 -- a pass that takes a value holds one permit more
@@ -66,8 +70,30 @@ take_entries p d n = if is_free n then entry.TakeNow p ∷ [] else entry.TakeDoo
 abbrev pub take_after : Doing → ℕ → Doing
 take_after d n = if is_free n then doing.Idle else doing.Door
 
-abbrev pub take_holds : ℕ → ℕ → ℕ
-take_holds held n = if is_free n then held + 1 else held
+abbrev pub take_holds : Bool → ℕ → ℕ → ℕ
+take_holds made held n = if is_free n then held + 1 else held
+
+-- a try loads the state: it is told that none is free, or it is about to exchange the state
+abbrev pub try_load_entries : ℕ → Doing → ℕ → List Entry
+try_load_entries p d n = if is_free n then [] else entry.TryBusy p ∷ []
+
+abbrev pub try_load_after : Doing → ℕ → Doing
+try_load_after d n = if is_free n then doing.TryAt (state_in_word n) else doing.Idle
+
+-- the word is still the one that the try has loaded
+abbrev pub is_as_loaded : Doing → ℕ → Bool
+is_as_loaded (doing.TryAt v) n = int_eq (state_in_word n) v
+is_as_loaded _ n = false
+
+-- the try exchanges the state for one less: it has a permit where it made the exchange, and nothing where others were first
+abbrev pub try_swap_entries : ℕ → Doing → ℕ → List Entry
+try_swap_entries p d n = if is_as_loaded d n then entry.TryGot p ∷ [] else []
+
+abbrev pub try_swap_after : Doing → ℕ → Doing
+try_swap_after d n = doing.Idle
+
+abbrev pub try_swap_holds : Bool → ℕ → ℕ → ℕ
+try_swap_holds made held n = if made then held + 1 else held
 
 -- a release adds one to the state
 abbrev pub give_entries : ℕ → Doing → ℕ → List Entry
@@ -75,3 +101,6 @@ give_entries p d n = if is_short n then entry.GiveSent p ∷ [] else entry.GiveF
 
 abbrev pub give_after : Doing → ℕ → Doing
 give_after d n = if is_short n then doing.Owes else doing.Idle
+
+abbrev pub give_holds : Bool → ℕ → ℕ → ℕ
+give_holds made held n = held - 1

@@ -1,5 +1,5 @@
 -- The semaphore is a client: each step of the queue is an event of its core, by the law of the core.
-use Rattle.std.proofs.Common.{◌≡◌, ℕ, zero, suc, ◌+◌, ◌-◌, ◌<◌, ◌≤◌, true, List, [], ◌∷◌, ◌++◌, replicate, refl, ap, sym, ◌∙◌, subst, arith, Option, Some, None, slice_get, nat_lt, lt-ltb, ne_eqb, ℤ, pos}
+use Rattle.std.proofs.Common.{◌≡◌, ℕ, zero, suc, ◌+◌, ◌-◌, ◌<◌, ◌≤◌, true, List, [], ◌∷◌, ◌++◌, replicate, refl, ap, sym, ◌∙◌, subst, arith, Option, Some, None, slice_get, nat_lt, lt-ltb, eq-eqb, ne_eqb, ℤ, pos}
 use Rattle.std.proofs.lemmas.List.{append-nil}
 use Rattle.std.proofs.lemmas.Int.{ints}
 use Rattle.cqs_core.specs.declared.cells.CoreCell.{CoreCell}
@@ -10,15 +10,15 @@ use Rattle.cqs_core.specs.declared.events.Event.TheVariants as event
 use Rattle.cqs_core.specs.declared.outcomes.Outcome.{Outcome}
 use Rattle.cqs_core.specs.declared.outcomes.Outcome.TheVariants as outcome
 use Rattle.cqs_core.specs.declared.cells.CoreState.TheVariants as state
-use Rattle.cqs_core.specs.QueueMoves.{Works}
-use Rattle.cqs_core.specs.SemaphoreTable.{Shape, step}
+use Rattle.cqs_core.specs.QueueMoves.{Works, Owns}
+use Rattle.cqs_core.specs.SemaphoreTable.{Shape, step, is_with}
 use Rattle.cqs_core.specs.SemaphoreEntries.{IsLegal}
 use Rattle.cqs_core.specs.SemaphoreShown.{IsCore, opened}
 use Rattle.cqs_core.proofs.StepKeeps.{row-core}
 use Rattle.cqs_core.proofs.OpenedCore.{opened-core}
 use Rattle.cqs_core.proofs.Ground.{reached-few, held-small}
 use Rattle.cqs_rule.specs.Client.{IsClient}
-use Rattle.cqs_rule.specs.Hidden.{Hidden, QueueStep, draws, reaches, installs, leaves, takes, serves, IsOpenStep, happened}
+use Rattle.cqs_rule.specs.Hidden.{Hidden, LookEvent, pends, grants, late, state_seen, QueueStep, draws, reaches, installs, leaves, takes, serves, looks, IsOpenStep, happened}
 use Rattle.cqs_rule.specs.Lists.{NamesOnly}
 use Rattle.cqs_rule.specs.Opened.{first_hidden, four}
 use Rattle.cqs_rule.specs.Semaphore.{core_shown, shows_core, entry_names, step_entries, one_more, state_in_word}
@@ -30,6 +30,9 @@ silent-step installs p k n apart = refl
 silent-step leaves p k n apart = refl
 silent-step takes p k n apart = refl
 silent-step serves p k n apart = refl
+silent-step (looks pends) p k n apart = rw (ne_eqb p n (λ q. apart (sym q))) refl
+silent-step (looks grants) p k n apart = rw (ne_eqb p n (λ q. apart (sym q))) refl
+silent-step (looks late) p k n apart = rw (ne_eqb p n (λ q. apart (sym q))) refl
 
 module _ (permits : ℕ) (c : Hidden) (p k payload : ℕ) (words : List ℕ) (log : List Entry) (core : IsCore (core_shown permits c words log)) where
   abbrev s : Shape
@@ -52,6 +55,10 @@ module _ (permits : ℕ) (c : Hidden) (p k payload : ℕ) (words : List ℕ) (lo
   by-quiet-row e t j found o none is =
       subst (λ (l : List Entry). IsCore (core_shown permits (happened one_more c t p j found payload) words l)) (sym (ap (λ l. log ++ l) none ∙ append-nil log))
       (row-core s e (record { shape = core_shown permits (happened one_more c t p j found payload) words log; outcome = o }) core is)
+
+  -- the wait is the pass's
+  is-with : (cell : CoreCell) → Owns p cell → is_with p cell ≡ true
+  is-with cell o = rw (o.owner, eq-eqb p p refl, o.uncollected) refl
 
   step-draws : (found : Option CoreCell) → IsOpenStep c.queue draws p k found → c.queue.suspends < 1099511627775 → After draws found
   step-draws found open_there low =
@@ -87,6 +94,14 @@ module _ (permits : ℕ) (c : Hidden) (p k payload : ℕ) (words : List ℕ) (lo
   step-leaves cell w =
       by-quiet-row (event.Meet p) leaves k (Some cell) (outcome.Left k) refl (rw (w.does, w.finds, w.at) refl)
 
+  step-looks : (e : LookEvent) (cell : CoreCell) → Works c.queue p doing.Idle k cell (state_seen e) → Owns p cell → After (looks e) (Some cell)
+  step-looks pends cell w o =
+      by-row (event.Look p k) (looks pends) k (Some cell) outcome.Pending (rw (w.does, w.finds, is-with cell o, w.at) refl)
+  step-looks grants cell w o =
+      by-row (event.Look p k) (looks grants) k (Some cell) outcome.Granted (rw (w.does, w.finds, is-with cell o, w.at) refl)
+  step-looks late cell w o =
+      by-row (event.Leave p k) (looks late) k (Some cell) (outcome.TooLate k) (rw (w.does, w.finds, is-with cell o, w.at) refl)
+
   steps-core : (t : QueueStep) (found : Option CoreCell) → IsOpenStep c.queue t p k found → c.queue.suspends < 1099511627775
       → c.queue.resumes < 1099511627775 → After t found
   steps-core draws found o low low' = step-draws found o low
@@ -95,10 +110,12 @@ module _ (permits : ℕ) (c : Hidden) (p k payload : ℕ) (words : List ℕ) (lo
   steps-core leaves (Some cell) o low low' = step-leaves cell o
   steps-core takes (Some cell) o low low' = step-takes cell o
   steps-core serves (Some cell) o low low' = step-serves cell o
+  steps-core (looks e) (Some cell) o low low' = step-looks e cell o.0 o.1
   steps-core installs None o low low' = absurd o
   steps-core leaves None o low low' = absurd o
   steps-core takes None o low low' = absurd o
   steps-core serves None o low low' = absurd o
+  steps-core (looks e) None o low low' = absurd o
 
 -- what the passes hold as a semaphore opens: nothing
 none-held : (passes : ℕ) → 0 < passes → ◌≡◌ {A = List ℕ} (0 ∷ replicate (passes - 1) 0) (replicate passes 0)

@@ -79,8 +79,9 @@ pub trait Client: ClientWords<Slot: Send> {}
 
 /// The event that a step on a word of the client shows.
 pub trait Shown<C: ClientWords> {
-    ghost use Rattle.std.specs.Prelude.{◌≡◌, ℕ, ◌<◌, ◌^◌, List};
+    ghost use Rattle.std.specs.Prelude.{◌≡◌, ℕ, ◌<◌, ◌^◌, Bool, List};
     ghost use Rattle.cqs_core.specs.declared.doings.Doing.{Doing};
+    ghost use Rattle.cqs_rule.specs.Told.{is_owing};
 
     // The entries, by the pass, what it was doing and the word found.
     ghost entries: { ℕ → Doing → ℕ → List C.Entry };
@@ -88,14 +89,19 @@ pub trait Shown<C: ClientWords> {
     // What the pass is doing then.
     ghost after: { Doing → ℕ → Doing };
 
-    // What it holds then, by what it held and the word found.
-    ghost holds: { ℕ → ℕ → ℕ };
+    // What it holds then: by whether the word was changed as the step means to, what the pass held, and the word found. An exchange
+    // that finds another word changes nothing; every other step is made in any case.
+    ghost holds: { Bool → ℕ → ℕ → ℕ };
 
     // The payload that it owes then, if it owes, by the one before.
     ghost payload: { ℕ → ℕ };
 
     /// What the pass holds after the step.
-    fn held_after(held: u32, found: u64) -> u32
-        requires { holds held found < 2 ^ 32 }
-        ensures { result ≡ holds held found };
+    fn held_after(held: u32, found: u64, made: bool) -> u32
+        requires { holds made held found < 2 ^ 32 }
+        ensures { result ≡ holds made held found };
+
+    /// Whether the pass owes after the step, by whether it owed before.
+    fn owes_after(owes: bool, found: u64) -> bool
+        ensures { (doing : Doing) → is_owing doing ≡ owes → is_owing (after doing found) ≡ result };
 }

@@ -8,7 +8,7 @@ use crate::client::ClientWords;
 pub trait Kind {
     ghost use Rattle.std.specs.Prelude.{◌≡◌, ◌<◌, ◌^◌};
     ghost use Rattle.cqs_rule.specs.Hidden.{QueueStep};
-    ghost use Rattle.cqs_rule.specs.Told.{held_then};
+    ghost use Rattle.cqs_rule.specs.Told.{held_then, owes_then, waits_then};
 
     ghost step: { QueueStep };
 
@@ -16,6 +16,15 @@ pub trait Kind {
     fn held_after<C: ClientWords>(held: u32) -> u32
         requires { held_then C.gains step held < 2 ^ 32 }
         ensures { result ≡ held_then C.gains step held };
+
+    /// Whether it owes after the step.
+    fn owes_after() -> bool
+        ensures { result ≡ owes_then step };
+
+    /// How many waits a pass has after the step that had this many.
+    fn waits_after(waits: u32) -> u32
+        requires { waits < 2 ^ 31 }
+        ensures { result ≡ waits_then step waits };
 }
 
 /// A number is drawn to suspend at.
@@ -26,6 +35,14 @@ impl Kind for Draws {
 
     fn held_after<C: ClientWords>(held: u32) -> u32 {
         held
+    }
+
+    fn owes_after() -> bool {
+        false
+    }
+
+    fn waits_after(waits: u32) -> u32 {
+        waits
     }
 }
 
@@ -38,6 +55,14 @@ impl Kind for Reaches {
     fn held_after<C: ClientWords>(held: u32) -> u32 {
         held
     }
+
+    fn owes_after() -> bool {
+        true
+    }
+
+    fn waits_after(waits: u32) -> u32 {
+        waits
+    }
 }
 
 /// An empty cell gets a waiter.
@@ -48,6 +73,14 @@ impl Kind for Installs {
 
     fn held_after<C: ClientWords>(held: u32) -> u32 {
         held
+    }
+
+    fn owes_after() -> bool {
+        false
+    }
+
+    fn waits_after(waits: u32) -> u32 {
+        waits + 1
     }
 }
 
@@ -60,6 +93,14 @@ impl Kind for Leaves {
     fn held_after<C: ClientWords>(held: u32) -> u32 {
         held
     }
+
+    fn owes_after() -> bool {
+        false
+    }
+
+    fn waits_after(waits: u32) -> u32 {
+        waits
+    }
 }
 
 /// A suspend takes the value that a resume left.
@@ -71,6 +112,14 @@ impl Kind for Takes {
     fn held_after<C: ClientWords>(held: u32) -> u32 {
         C::held_after_take(held)
     }
+
+    fn owes_after() -> bool {
+        false
+    }
+
+    fn waits_after(waits: u32) -> u32 {
+        waits
+    }
 }
 
 /// A resume serves the waiter.
@@ -81,5 +130,13 @@ impl Kind for Serves {
 
     fn held_after<C: ClientWords>(held: u32) -> u32 {
         held
+    }
+
+    fn owes_after() -> bool {
+        false
+    }
+
+    fn waits_after(waits: u32) -> u32 {
+        waits
     }
 }

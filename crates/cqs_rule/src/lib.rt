@@ -8,10 +8,12 @@ mod client;
 mod config;
 mod kinds;
 mod layout;
+mod loads;
 mod plays;
 mod queue;
 mod rule;
 mod semaphore;
+mod silent;
 mod threads;
 mod view;
 
@@ -19,7 +21,12 @@ pub use client::{Client, ClientWords, Shown};
 pub use config::{CancelMode, Config, MakeError, Place};
 pub use kinds::{Draws, Installs, Kind, Leaves, Reaches, Serves, Takes};
 pub use layout::{CELLS_WORD, CLIENT_WORD, CREW_WORD, RESUMES_WORD, SUSPENDS_WORD};
-pub use queue::{Pass, Queue, Wait};
+pub use loads::{Cancels, Counts, Load, Polls, Watches};
+pub use queue::{Pass, Queue, Under, Wait};
 pub use rule::{Key, Rule};
-pub use semaphore::{Give, SemClient, Take};
+pub use semaphore::{
+    Give, SemClient, Take, TryLoad, TrySwap, give_permit, load_state, read_state, take_permit,
+    try_take,
+};
+pub use silent::Silent;
 pub use view::{Facts, Glimpse, Sighting, View};

@@ -1,20 +1,22 @@
 //! What each step tells. These types are for the proofs alone.
 
-ghost use Rattle.cqs_rule.specs.Told.{looked, counted, drew, crossed, moved_by};
+ghost use Rattle.cqs_rule.specs.Loads.{loaded_by};
+ghost use Rattle.cqs_rule.specs.Told.{drew, crossed, moved_by, exchanged_by};
 
 use crate::client::{ClientWords, Shown};
 use crate::kinds::Kind;
+use crate::loads::Load;
 use crate::view::View;
 use atomic_table::Play;
 use std::marker::PhantomData;
 
-/// A load of the suspend counter.
-pub(crate) struct Count<C> {
-    of: PhantomData<C>,
+/// A load of the suspend counter or of a cell.
+pub(crate) struct Loading<C, L> {
+    of: PhantomData<(C, L)>,
 }
 
-impl<C: ClientWords> Play<Option<C::Slot>, View<C::Entry, C::Slot>> for Count<C> {
-    ghost then = { counted C.names C.legal };
+impl<C: ClientWords, L: Load> Play<Option<C::Slot>, View<C::Entry, C::Slot>> for Loading<C, L> {
+    ghost then = { loaded_by C.names C.legal C.gains C.entries L.load };
 }
 
 /// A number is drawn from a counter.
@@ -35,11 +37,21 @@ impl<C: ClientWords, K: Kind> Play<Option<C::Slot>, View<C::Entry, C::Slot>> for
     ghost then = { crossed C.names C.legal C.gains C.entries K.step };
 }
 
-/// A step on a word of the client, by the event that it shows.
+/// A load of a word of the client, or a step that changes it in any case, by the event that it shows.
 pub(crate) struct Show<C, M> {
     of: PhantomData<(C, M)>,
 }
 
 impl<C: ClientWords, M: Shown<C>> Play<Option<C::Slot>, View<C::Entry, C::Slot>> for Show<C, M> {
     ghost then = { moved_by C.names C.legal M.entries M.after M.holds M.payload };
+}
+
+/// An exchange on a word of the client, by the event that it shows.
+pub(crate) struct ShowExchange<C, M> {
+    of: PhantomData<(C, M)>,
+}
+
+impl<C: ClientWords, M: Shown<C>> Play<Option<C::Slot>, View<C::Entry, C::Slot>>
+    for ShowExchange<C, M> {
+    ghost then = { exchanged_by C.names C.legal M.entries M.after M.holds M.payload };
 }

@@ -2,6 +2,7 @@
 
 ghost use Rattle.std.specs.Prelude.{◌≡◌, ◌+◌, ◌<◌, ◌^◌, length};
 ghost use Rattle.cqs_rule.specs.Inside.{IsInside};
+ghost use Rattle.cqs_rule.specs.Told.{is_owing};
 
 mod opening;
 mod steps;
@@ -14,7 +15,7 @@ use crate::rule::{Key, Rule};
 use crate::view::View;
 use atomic_table::{Seat, Table};
 use std::alloc::Global;
-pub use tokens::Wait;
+pub use tokens::{Under, Wait};
 
 /// A queue on one table of words. Its steps are made through a shared reference, with a pass.
 #[derive(Drop)]
@@ -31,9 +32,13 @@ pub struct Pass<C: ClientWords> {
     seat: Seat<Option<C::Slot>, View<C::Entry, C::Slot>>,
     number: u32,
     held: u32,
+    owes: bool,
+    waits: u32,
     pub ghost live: { (seat.me.0.weight ≡ 1) × (length seat.me.1 ≡ 0) },
     pub ghost number_is: { seat.me.0.number ≡ number },
     pub ghost held_is: { seat.me.0.facts.held ≡ held },
+    pub ghost owes_is: { is_owing seat.me.0.facts.doing ≡ owes },
+    pub ghost waits_are: { length seat.me.0.facts.waits ≡ waits },
     pub ghost cells_are: { seat.me.0.cells + 112 ≡ seat.table_id.words },
     pub ghost inside: { IsInside seat.me.0 },
     pub ghost few_cells: { seat.me.0.cells < 2 ^ 31 },

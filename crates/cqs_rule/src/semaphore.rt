@@ -3,10 +3,12 @@
 
 ghost use Rattle.std.specs.Prelude.{◌≡◌, ◌+◌, ◌<◌, ◌≤◌, [], ◌∷◌};
 
+mod calls;
 mod client;
 mod events;
 
-pub use events::{Give, Take};
+pub use calls::{give_permit, load_state, read_state, take_permit, try_take};
+pub use events::{Give, Take, TryLoad, TrySwap};
 use std::marker::PhantomData;
 
 /// A semaphore with values of `T` in its slots; a plain one has none.

@@ -2,15 +2,16 @@
 //! not cross would be refused.
 
 use crate::client::Client;
-use crate::queue::{Pass, Queue, Wait};
+use crate::queue::{Pass, Queue, Under, Wait};
 
 fn may_share<T: Send + Sync>(_value: &T) {}
 
 fn may_send<T: Send>(_value: &T) {}
 
 #[allow(dead_code)]
-fn crosses_threads<C: Client>(queue: &Queue<C>, pass: &Pass<C>, wait: &Wait) {
+fn crosses_threads<C: Client>(queue: &Queue<C>, pass: &Pass<C>, wait: &Wait, under: &Under) {
     may_share(queue);
     may_send(pass);
     may_send(wait);
+    may_send(under);
 }

@@ -7,12 +7,16 @@ use Rattle.cqs_words.specs.declared.cell.CellState.{CellState}
 use Rattle.cqs_words.specs.declared.cell.CellState.TheVariants as shown
 use Rattle.cqs_rule.specs.declared.view.View.{View}
 use Rattle.cqs_rule.specs.declared.view.Facts.{Facts}
+use Rattle.cqs_rule.specs.declared.view.Glimpse.{Glimpse}
+use Rattle.cqs_rule.specs.declared.view.Sighting.{Sighting}
+use Rattle.cqs_rule.specs.declared.view.Sighting.TheVariants.{Cell}
 use Rattle.cqs_rule.specs.Called.{Called}
 use Rattle.cqs_rule.specs.Hidden.{QueueStep, draws, installs, takes}
 use Rattle.cqs_rule.specs.Lists.{Has}
 use Rattle.cqs_rule.specs.Ruled.{IsSince, number_at, shown_state}
-use Rattle.cqs_rule.specs.Told.{Saw, Made, Missed, MayFind, Took, facts_after}
+use Rattle.cqs_rule.specs.Told.{Saw, FoundLast, Made, Missed, MayFind, Took, facts_after}
 use Rattle.cqs_rule.proofs.Calls.{called-by, called-then, saw-then}
+use Rattle.cqs_rule.proofs.Found.{found-here, found-then}
 use Rattle.cqs_rule.proofs.Lists.{has_right}
 use Rattle.cqs_cell.proofs.Taking.{still-value}
 use Rattle.cqs_suspend.specs.Suspends.{Waited, TookValue}
@@ -36,35 +40,42 @@ module _ {E S : Type 0} (names : ℕ → E → Bool) (legal : ℕ → List E →
       → u.facts.doing ≡ doing.Drawn k
   drawn-number k v u s = ap (λ (f : Facts). f.doing) s.facts_are
 
-  pub waited : (k : ℕ) (v u w : View E S) → Saw names legal v (facts_after gains draws k k v.facts) (entries draws v.number k) u
-      → Made names legal gains entries installs u w → Waited names legal gains entries k v w
-  waited k v u w s m =
+  pub waited : (k new : ℕ) (v u w : View E S) → Saw names legal v (facts_after gains draws k k v.facts) (entries draws v.number k) u
+      → Made names legal gains entries installs 0 new u w → Waited names legal gains entries k v w
+  waited k new v u w s m =
       let is : number_at u.facts.doing ≡ k = ap (λ (f : Facts). number_at f.doing) s.facts_are in
       let pass : u.number ≡ v.number = s.same.number in
       record {
         called = subst (λ (es : List E). Called names legal v (entries draws v.number k ++ es) es w) (λ i. entries installs (pass i) (is i))
             (called-then names legal v u w _ (entries draws v.number k) (entries draws v.number k) (entries installs u.number (number_at u.facts.doing)) (called-by names legal v u _ _ s) m.saw);
+        found = found-here [] (number_at u.facts.doing) k (record { state = state.Empty; payload = 0 }) v u w (ap (λ (f : Facts). f.found) s.facts_are) is m.found;
         idle = ap (λ (f : Facts). f.doing) m.saw.facts_are;
         held = ap (λ (f : Facts). f.held) m.saw.facts_are ∙ ap (λ (f : Facts). f.held) s.facts_are;
         waits = ap (λ (f : Facts). f.waits) m.saw.facts_are ∙ (λ i. (s.facts_are i).waits ++ is i ∷ []);
       }
 
-  pub waits-here : (k : ℕ) (v u w : View E S) → Saw names legal v (facts_after gains draws k k v.facts) (entries draws v.number k) u
-      → Made names legal gains entries installs u w → Has k w.facts.waits
-  waits-here k v u w s m = subst (Has k) (sym (waited k v u w s m).waits) (has_right k v.facts.waits (k ∷ []) (inl refl))
+  pub waits-here : (k new : ℕ) (v u w : View E S) → Saw names legal v (facts_after gains draws k k v.facts) (entries draws v.number k) u
+      → Made names legal gains entries installs 0 new u w → Has k w.facts.waits
+  waits-here k new v u w s m = subst (Has k) (sym (waited k new v u w s m).waits) (has_right k v.facts.waits (k ∷ []) (inl refl))
 
   pub took-value : (k payload : ℕ) (v u t w : View E S) (cell : CellState) → Saw names legal v (facts_after gains draws k k v.facts) (entries draws v.number k) u
-      → Missed names legal gains entries installs u cell t → Took names legal gains entries t payload w → TookValue names legal gains entries k v w
+      → Missed names legal gains entries installs u cell t → Took names legal gains entries t payload w → TookValue names legal gains entries payload k v w
   took-value k payload v u t w cell s m took =
       let drawn : number_at u.facts.doing ≡ k = ap (λ (f : Facts). number_at f.doing) s.facts_are in
       let still : number_at t.facts.doing ≡ number_at u.facts.doing = ap (λ (f : Facts). number_at f.doing) m.saw.facts_are in
       let is : number_at t.facts.doing ≡ k = still ∙ drawn in
       let pass : t.number ≡ v.number = m.saw.same.number ∙ s.same.number in
       let es = entries takes t.number (number_at t.facts.doing) in
+      let value : Glimpse = record { state = state.Value; payload = payload } in
+      let here : List Sighting = Cell (number_at u.facts.doing) m.word ∷ [] in
       record {
         called = subst (λ (l : List E). Called names legal v (entries draws v.number k ++ l) l w) (λ i. entries takes (pass i) (is i))
             (called-then names legal v u w took.facts (entries draws v.number k) (entries draws v.number k) es (called-by names legal v u _ _ s)
             (saw-then names legal u t w _ took.facts es m.saw took.saw));
+        since = here ++ took.since;
+        found = found-here (here ++ took.since) (number_at u.facts.doing) k value v u w (ap (λ (f : Facts). f.found) s.facts_are) drawn
+            (found-then took.since here (number_at u.facts.doing) value u t w (ap (λ (f : Facts). f.found) m.saw.facts_are)
+            (subst (λ z. FoundLast took.since z value t w) still took.found));
         idle = ap (λ (f : Facts). f.doing) took.saw.facts_are ∙ took.idle;
         held = ap (λ (f : Facts). f.held) took.saw.facts_are ∙ (took.held ∙ ap gains (ap (λ (f : Facts). f.held) m.saw.facts_are ∙ ap (λ (f : Facts). f.held) s.facts_are));
         waits = ap (λ (f : Facts). f.waits) took.saw.facts_are ∙ (took.waits ∙ (ap (λ (f : Facts). f.waits) m.saw.facts_are ∙ ap (λ (f : Facts). f.waits) s.facts_are));

@@ -126,6 +126,8 @@ impl<C: ClientWords> Queue<C> {
                 seat,
                 number: 0,
                 held,
+                owes: false,
+                waits: 0,
             },
         ))
     }

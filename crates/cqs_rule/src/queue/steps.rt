@@ -1,26 +1,33 @@
 //! Single steps on the words of the table: the counters and the cells.
 
-ghost use Rattle.std.specs.Prelude.{◌≡◌, []};
-ghost use Rattle.cqs_rule.specs.Layout.{suspends_place};
+ghost use Rattle.cqs_rule.specs.Loads.{MayLoad, Loaded};
 ghost use Rattle.cqs_rule.specs.Passes.{pass_view, IsOf};
-ghost use Rattle.cqs_rule.specs.Told.{Saw, Crossed, IsCrossing, IsCount, facts_after, facts_counted};
+ghost use Rattle.cqs_rule.specs.Told.{Saw, Crossed, IsCrossing, IsCount, facts_after};
 
 use crate::client::ClientWords;
 use crate::kinds::Kind;
-use crate::plays::{Count, Cross, Draw};
+use crate::loads::Load;
+use crate::plays::{Cross, Draw, Loading};
 use crate::queue::{Pass, Queue};
 
 impl<C: ClientWords> Queue<C> {
-    /// Loads the suspend counter. A pass that finds it below the limit may draw.
-    pub fn load_table(&self, pass: &mut Pass<C>, word: u32) -> u64
+    /// Loads the suspend counter or a cell. A pass that finds the counter below the limit may draw, and the owner of a wait learns
+    /// in its cell what became of it.
+    pub fn load_table<L: Load>(&self, pass: &mut Pass<C>, word: u32) -> u64
         requires belongs { IsOf self.now pass.old }
-        requires word { word ≡ suspends_place }
+        requires load { MayLoad L.load (pass_view pass.old) word }
         ensures belongs { IsOf self.now pass.new }
-        ensures saw { Saw C.names C.legal (pass_view pass.old) (facts_counted (pass_view pass.old).limit result (pass_view pass.old).facts) [] (pass_view pass.new) }
+        ensures saw { Loaded C.names C.legal C.gains C.entries L.load word (pass_view pass.old) result (pass_view pass.new) }
     {
-        self.table
+        let found = self
+            .table
             .shared
-            .load::<Count<C>>(&mut pass.seat, word as usize)
+            .load::<Loading<C, L>>(&mut pass.seat, word as usize);
+        if L::closes(found) {
+            pass.held = C::held_after_take(pass.held);
+            pass.waits -= 1;
+        }
+        found
     }
 
     /// Draws the next number from a counter.
@@ -30,9 +37,12 @@ impl<C: ClientWords> Queue<C> {
         ensures belongs { IsOf self.now pass.new }
         ensures saw { Saw C.names C.legal (pass_view pass.old) (facts_after C.gains K.step result result (pass_view pass.old).facts) (C.entries K.step (pass_view pass.old).number result) (pass_view pass.new) }
     {
-        self.table
+        let found = self
+            .table
             .shared
-            .fetch_add::<Draw<C, K>>(&mut pass.seat, word as usize, by.unsigned_abs())
+            .fetch_add::<Draw<C, K>>(&mut pass.seat, word as usize, by.unsigned_abs());
+        pass.owes = K::owes_after();
+        found
     }
 
     /// Makes an exchange on the cell of the pass's number.
@@ -48,6 +58,8 @@ impl<C: ClientWords> Queue<C> {
             .compare_exchange::<Cross<C, K>>(&mut pass.seat, word as usize, saw, new);
         if found == saw {
             pass.held = K::held_after::<C>(pass.held);
+            pass.owes = K::owes_after();
+            pass.waits = K::waits_after(pass.waits);
         }
         found
     }

@@ -1,9 +1,11 @@
-//! The token of a wait, and the readers of a pass.
+//! The tokens of a wait and of a resumption, and the readers of a pass.
 
-ghost use Rattle.std.specs.Prelude.{◌≡◌};
+ghost use Rattle.std.specs.Prelude.{◌≡◌, length};
 ghost use Rattle.cqs_rule.specs.Lists.{Has};
+ghost use Rattle.cqs_rule.specs.Owed.{OwesWith, IsReached, under_payload, under_ticket, under_reached};
 ghost use Rattle.cqs_rule.specs.Passes.{pass_view, IsOf};
 ghost use Rattle.cqs_rule.specs.Placed.{IsPlace};
+ghost use Rattle.cqs_rule.specs.Told.{is_owing};
 ghost use Rattle.cqs_rule.specs.Waits.{place_of, pass_of};
 
 use crate::client::ClientWords;
@@ -24,6 +26,24 @@ impl Wait {
         ensures { result ≡ (place_of self.now).index }
     {
         self.number
+    }
+}
+
+/// A resumption that its pass still owes. It is neither copied nor cloned.
+#[derive(Drop)]
+pub struct Under {
+    payload: u32,
+    ticket: Option<u64>,
+    reached: u64,
+}
+
+impl Under {
+    /// The last number that was drawn for the resumption, or 0 where none was. A loop that goes on with a resumption until it ends
+    /// can be measured by it.
+    pub fn reached(&self) -> u64
+        ensures { result ≡ under_reached self.now }
+    {
+        self.reached
     }
 }
 
@@ -58,6 +78,42 @@ impl<C: ClientWords> Queue<C> {
     }
 }
 
+impl<C: ClientWords> Queue<C> {
+    /// The token of a resumption that the pass owes: its payload, its ticket where one is open, and the last number that was drawn
+    /// for it. It makes no step.
+    pub fn under_of(
+        &self,
+        pass: &mut Pass<C>,
+        payload: u32,
+        ticket: Option<u64>,
+        reached: u64,
+    ) -> Under
+        requires belongs { IsOf self.now pass.old }
+        requires owes { OwesWith (pass_view pass.old).facts payload ticket }
+        requires reached { IsReached (pass_view pass.old).cells ticket reached }
+        ensures payload { under_payload result ≡ payload }
+        ensures ticket { under_ticket result ≡ ticket }
+        ensures reached { under_reached result ≡ reached }
+        ensures same { pass.new ≡ pass.old }
+    {
+        Under {
+            payload,
+            ticket,
+            reached,
+        }
+    }
+
+    /// Takes the token back, and gives its payload and its open ticket. It makes no step.
+    pub fn spend_under(&self, pass: &mut Pass<C>, under: Under) -> (u32, Option<u64>)
+        requires belongs { IsOf self.now pass.old }
+        ensures payload { result.0 ≡ under_payload under }
+        ensures ticket { result.1 ≡ under_ticket under }
+        ensures same { pass.new ≡ pass.old }
+    {
+        (under.payload, under.ticket)
+    }
+}
+
 impl<C: ClientWords> Pass<C> {
     /// The pass's number in its queue.
     pub fn number(&self) -> u32
@@ -71,5 +127,26 @@ impl<C: ClientWords> Pass<C> {
         ensures { result ≡ (pass_view self.now).facts.held }
     {
         self.held
+    }
+
+    /// How many slots for segments it has spare: none, as long as the table has no segments.
+    pub fn spares(&self) -> u32
+        ensures { result ≡ 0 }
+    {
+        0
+    }
+
+    /// Whether it owes: a resumption, or the end of a cancellation that it began.
+    pub fn owes(&self) -> bool
+        ensures { result ≡ is_owing (pass_view self.now).facts.doing }
+    {
+        self.owes
+    }
+
+    /// How many waits it has: those that it installed and hasn't closed.
+    pub fn waits(&self) -> u32
+        ensures { result ≡ length (pass_view self.now).facts.waits }
+    {
+        self.waits
     }
 }

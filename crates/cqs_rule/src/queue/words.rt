@@ -1,14 +1,13 @@
 //! Single steps on the words of the client.
 
-ghost use Rattle.std.specs.Prelude.{◌≡◌, ◌<◌, ◌==◌, bit_or};
-ghost use prog.Atomic.{either};
+ghost use Rattle.std.specs.Prelude.{◌≡◌, ◌<◌, bit_or};
 ghost use Rattle.cqs_rule.specs.Layout.{client_place};
-ghost use Rattle.cqs_rule.specs.Passes.{pass_view, client_of, IsOf, Moved};
-ghost use Rattle.cqs_rule.specs.Told.{Moves, added};
+ghost use Rattle.cqs_rule.specs.Passes.{pass_view, client_of, IsOf};
+ghost use Rattle.cqs_rule.specs.Told.{Moves, Moved, added, exchanged, in_any_case, where_found};
 
 use crate::client::{ClientWords, Shown};
 use crate::layout::CLIENT_WORD;
-use crate::plays::Show;
+use crate::plays::{Show, ShowExchange};
 use crate::queue::{Pass, Queue};
 
 // Where a word of the client stands.
@@ -24,15 +23,16 @@ impl<C: ClientWords> Queue<C> {
     pub fn load_word<M: Shown<C>>(&self, pass: &mut Pass<C>, word: u32) -> u64
         requires belongs { IsOf self.now pass.old }
         requires word { word < 4 }
-        requires law { Moves C.names (C.shows (client_of self.now)) M.entries M.after M.holds (pass_view pass.old).number (pass_view pass.old).facts word (λ n. n) }
+        requires law { Moves C.names (C.shows (client_of self.now)) M.entries M.after M.holds in_any_case (pass_view pass.old).number (pass_view pass.old).facts word (λ n. n) }
         ensures belongs { IsOf self.now pass.new }
-        ensures saw { Moved C.names C.legal M.entries M.after M.holds M.payload (pass_view pass.old) result (pass_view pass.new) }
+        ensures saw { Moved C.names C.legal M.entries M.after M.holds M.payload in_any_case (pass_view pass.old) result (pass_view pass.new) }
     {
         let found = self
             .table
             .shared
             .load::<Show<C, M>>(&mut pass.seat, place(word));
-        pass.held = M::held_after(pass.held, found);
+        pass.held = M::held_after(pass.held, found, true);
+        pass.owes = M::owes_after(pass.owes, found);
         found
     }
 
@@ -40,9 +40,9 @@ impl<C: ClientWords> Queue<C> {
     pub fn add_word<M: Shown<C>>(&self, pass: &mut Pass<C>, word: u32, by: i64) -> u64
         requires belongs { IsOf self.now pass.old }
         requires word { word < 4 }
-        requires law { Moves C.names (C.shows (client_of self.now)) M.entries M.after M.holds (pass_view pass.old).number (pass_view pass.old).facts word (added by) }
+        requires law { Moves C.names (C.shows (client_of self.now)) M.entries M.after M.holds in_any_case (pass_view pass.old).number (pass_view pass.old).facts word (added by) }
         ensures belongs { IsOf self.now pass.new }
-        ensures saw { Moved C.names C.legal M.entries M.after M.holds M.payload (pass_view pass.old) result (pass_view pass.new) }
+        ensures saw { Moved C.names C.legal M.entries M.after M.holds M.payload in_any_case (pass_view pass.old) result (pass_view pass.new) }
     {
         let place = place(word);
         let amount = by.unsigned_abs();
@@ -55,7 +55,8 @@ impl<C: ClientWords> Queue<C> {
                 .shared
                 .fetch_add::<Show<C, M>>(&mut pass.seat, place, amount)
         };
-        pass.held = M::held_after(pass.held, found);
+        pass.held = M::held_after(pass.held, found, true);
+        pass.owes = M::owes_after(pass.owes, found);
         found
     }
 
@@ -63,15 +64,16 @@ impl<C: ClientWords> Queue<C> {
     pub fn or_word<M: Shown<C>>(&self, pass: &mut Pass<C>, word: u32, bits: u64) -> u64
         requires belongs { IsOf self.now pass.old }
         requires word { word < 4 }
-        requires law { Moves C.names (C.shows (client_of self.now)) M.entries M.after M.holds (pass_view pass.old).number (pass_view pass.old).facts word (λ n. bit_or n bits) }
+        requires law { Moves C.names (C.shows (client_of self.now)) M.entries M.after M.holds in_any_case (pass_view pass.old).number (pass_view pass.old).facts word (λ n. bit_or n bits) }
         ensures belongs { IsOf self.now pass.new }
-        ensures saw { Moved C.names C.legal M.entries M.after M.holds M.payload (pass_view pass.old) result (pass_view pass.new) }
+        ensures saw { Moved C.names C.legal M.entries M.after M.holds M.payload in_any_case (pass_view pass.old) result (pass_view pass.new) }
     {
         let found = self
             .table
             .shared
             .fetch_or::<Show<C, M>>(&mut pass.seat, place(word), bits);
-        pass.held = M::held_after(pass.held, found);
+        pass.held = M::held_after(pass.held, found, true);
+        pass.owes = M::owes_after(pass.owes, found);
         found
     }
 
@@ -79,15 +81,16 @@ impl<C: ClientWords> Queue<C> {
     pub fn swap_word<M: Shown<C>>(&self, pass: &mut Pass<C>, word: u32, saw: u64, new: u64) -> u64
         requires belongs { IsOf self.now pass.old }
         requires word { word < 4 }
-        requires law { Moves C.names (C.shows (client_of self.now)) M.entries M.after M.holds (pass_view pass.old).number (pass_view pass.old).facts word (λ n. either (n == saw) new n) }
+        requires law { Moves C.names (C.shows (client_of self.now)) M.entries M.after M.holds (where_found saw) (pass_view pass.old).number (pass_view pass.old).facts word (exchanged saw new) }
         ensures belongs { IsOf self.now pass.new }
-        ensures saw { Moved C.names C.legal M.entries M.after M.holds M.payload (pass_view pass.old) result (pass_view pass.new) }
+        ensures saw { Moved C.names C.legal M.entries M.after M.holds M.payload (where_found saw) (pass_view pass.old) result (pass_view pass.new) }
     {
         let found = self
             .table
             .shared
-            .compare_exchange::<Show<C, M>>(&mut pass.seat, place(word), saw, new);
-        pass.held = M::held_after(pass.held, found);
+            .compare_exchange::<ShowExchange<C, M>>(&mut pass.seat, place(word), saw, new);
+        pass.held = M::held_after(pass.held, found, found == saw);
+        pass.owes = M::owes_after(pass.owes, found);
         found
     }
 }

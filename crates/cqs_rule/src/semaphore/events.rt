@@ -1,4 +1,4 @@
-//! The events of the state: what an acquire and a release show.
+//! The events of the state: what an acquire, a try and a release show.
 
 use crate::client::Shown;
 use crate::semaphore::SemClient;
@@ -17,8 +17,58 @@ impl<T: Drop> Shown<SemClient<T>> for Take {
 
     ghost payload = { λ payload. payload };
 
-    fn held_after(held: u32, found: u64) -> u32 {
+    fn held_after(held: u32, found: u64, _made: bool) -> u32 {
         if found > 1 << 32 { held + 1 } else { held }
+    }
+
+    fn owes_after(_owes: bool, _found: u64) -> bool {
+        false
+    }
+}
+
+/// A try loads the state: no permit is free, or the pass is about to exchange the state that it loaded.
+pub struct TryLoad;
+
+impl<T: Drop> Shown<SemClient<T>> for TryLoad {
+    ghost use Rattle.cqs_rule.specs.Semaphore.{try_load_entries, try_load_after};
+
+    ghost entries = { try_load_entries };
+
+    ghost after = { try_load_after };
+
+    ghost holds = { λ made held found. held };
+
+    ghost payload = { λ payload. payload };
+
+    fn held_after(held: u32, _found: u64, _made: bool) -> u32 {
+        held
+    }
+
+    fn owes_after(_owes: bool, _found: u64) -> bool {
+        false
+    }
+}
+
+/// A try exchanges the state that it loaded for one less: it has a permit, or another pass was first and it has nothing.
+pub struct TrySwap;
+
+impl<T: Drop> Shown<SemClient<T>> for TrySwap {
+    ghost use Rattle.cqs_rule.specs.Semaphore.{try_swap_entries, try_swap_after, try_swap_holds};
+
+    ghost entries = { try_swap_entries };
+
+    ghost after = { try_swap_after };
+
+    ghost holds = { try_swap_holds };
+
+    ghost payload = { λ payload. payload };
+
+    fn held_after(held: u32, _found: u64, made: bool) -> u32 {
+        if made { held + 1 } else { held }
+    }
+
+    fn owes_after(_owes: bool, _found: u64) -> bool {
+        false
     }
 }
 
@@ -26,18 +76,21 @@ impl<T: Drop> Shown<SemClient<T>> for Take {
 pub struct Give;
 
 impl<T: Drop> Shown<SemClient<T>> for Give {
-    ghost use Rattle.std.specs.Prelude.{◌-◌};
-    ghost use Rattle.cqs_rule.specs.Semaphore.{give_entries, give_after};
+    ghost use Rattle.cqs_rule.specs.Semaphore.{give_entries, give_after, give_holds};
 
     ghost entries = { give_entries };
 
     ghost after = { give_after };
 
-    ghost holds = { λ held found. held - 1 };
+    ghost holds = { give_holds };
 
     ghost payload = { λ payload. 0 };
 
-    fn held_after(held: u32, _found: u64) -> u32 {
+    fn held_after(held: u32, _found: u64, _made: bool) -> u32 {
         held.saturating_sub(1)
+    }
+
+    fn owes_after(_owes: bool, found: u64) -> bool {
+        found < 1 << 32
     }
 }

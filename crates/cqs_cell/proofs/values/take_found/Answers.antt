@@ -14,6 +14,7 @@ swap_table-requires-clause-cell g c =
 
 pub returns-clause-made : goal.returns-clause-made
 returns-clause-made g c =
-    sure g.C.ClientWords.names g.C.ClientWords.legal g.C.ClientWords.gains g.C.ClientWords.entries c.args.found c.swap_table.result
+    sure g.C.ClientWords.names g.C.ClientWords.legal g.C.ClientWords.gains g.C.ClientWords.entries c.args.found _ c.swap_table.result
     c.args.payload _ _ c.swap_table.ensures.crossed c.requires.last
-    (c.requires.word ∙ ap (λ z. word_of z state.Value c.args.payload) (sym (ap number_at c.requires.drawn)))
+    (c.requires.word ∙ ap (λ z. word_of z state.Value c.args.payload) (sym (ap number_at c.requires.drawn))) c.requires.small
+    (ap (λ z. word_of z state.Taken 0) (sym (ap number_at c.requires.drawn)))

@@ -11,7 +11,7 @@ wait_of-requires-clause-wait g c =
     let s = saw-at G.names G.legal G.gains G.entries (pass_view c.args.pass.now) (pass_view c.add_table-number.new.pass) u _ _
     (ap pass_view c.find.ensures.same) c.add_table-number.ensures.saw in
     subst (λ z. Has z (pass_view c.install.new.pass).facts.waits) (sym c.in-At.ensures.at.0)
-    (waits-here G.names G.legal G.gains G.entries c.add_table-number.result _ u _ s c.in-Ok.ensures.made)
+    (waits-here G.names G.legal G.gains G.entries c.add_table-number.result _ _ u _ s c.in-Ok.ensures.made)
 
 pub returns-in-Ok-clause-suspends : goal.returns-in-Ok-clause-suspends
 returns-in-Ok-clause-suspends g c =
@@ -23,7 +23,7 @@ returns-in-Ok-clause-suspends g c =
     let m = c.in-Ok.ensures.made in (
       waited-at G.names G.legal G.gains G.entries _ c.add_table-number.result _ w _
           (ap (λ p. p.index) c.wait_of.ensures.place ∙ c.in-At.ensures.at.0) (ap pass_view c.wait_of.ensures.same)
-          (waited G.names G.legal G.gains G.entries c.add_table-number.result _ u w s m),
+          (waited G.names G.legal G.gains G.entries c.add_table-number.result _ _ u w s m),
       search rules,
       c.wait_of.ensures.pass ∙ (m.saw.same.number ∙ s.same.number),
     )

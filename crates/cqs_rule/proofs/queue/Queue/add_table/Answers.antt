@@ -2,8 +2,8 @@ use Rattle.std.proofs.Common.{rules, ◌≡◌, unsigned_abs}
 use Rattle.cqs_rule.proofs.Counters.{count, counter-low}
 use Rattle.cqs_rule.proofs.queue.Queue.add_table.Goals as goal
 
-pub fetch_add-requires : goal.fetch_add-requires
-fetch_add-requires g c =
+pub fetch_add-found-requires : goal.fetch_add-found-requires
+fetch_add-found-requires g c =
     let low = counter-low _ _ _ _ c.requires.count in
     let is : c.unsigned_abs.result ≡ unsigned_abs c.args.by = search rules in (
       search rules,

@@ -1,4 +1,5 @@
 use Rattle.std.proofs.Common.{rules, ◌≡◌, pos, unsigned_abs, ◌<ℤ◌, ◌≤ℤ◌}
+use Rattle.cqs_rule.specs.Told.{in_any_case}
 use Rattle.cqs_rule.proofs.Moves.{moves-at, added-down, added-up}
 use Rattle.cqs_rule.proofs.queue.Queue.add_word.Goals as goal
 
@@ -9,7 +10,7 @@ fetch_sub-found-requires g c =
       search rules,
       search rules,
       moves-at _ _ _ _ _ _ _ _ _ _ _ (g.met.C.ClientWords.keeps c.args.self.now.table.shared.key.client) g.M.Shown.entries g.M.Shown.after
-          g.M.Shown.holds g.M.Shown.payload _ _ _ c.args.word _ _ _ c.args.pass.now.live.0 c.requires.word c.place-place.ensures
+          g.M.Shown.holds g.M.Shown.payload in_any_case _ _ _ c.args.word _ _ _ c.args.pass.now.live.0 c.requires.word c.place-place.ensures
           (λ n. added-down c.args.by _ n is side) c.requires.law,
     )
 
@@ -20,6 +21,6 @@ fetch_add-found-requires g c =
       search rules,
       search rules,
       moves-at _ _ _ _ _ _ _ _ _ _ _ (g.met.C.ClientWords.keeps c.args.self.now.table.shared.key.client) g.M.Shown.entries g.M.Shown.after
-          g.M.Shown.holds g.M.Shown.payload _ _ _ c.args.word _ _ _ c.args.pass.now.live.0 c.requires.word c.place-place.ensures
+          g.M.Shown.holds g.M.Shown.payload in_any_case _ _ _ c.args.word _ _ _ c.args.pass.now.live.0 c.requires.word c.place-place.ensures
           (λ n. added-up c.args.by _ n is side) c.requires.law,
     )

@@ -1,10 +1,23 @@
-use Rattle.std.proofs.Common.{rules}
-use Rattle.cqs_rule.proofs.Looks.{counts-at}
+use Rattle.std.proofs.Common.{rules, sym, ◌∙◌}
+use Rattle.cqs_rule.proofs.CellLoads.{loads, load-low, loaded-keeps}
 use Rattle.cqs_rule.proofs.queue.Queue.load_table.Goals as goal
 
-pub load-requires : goal.load-requires
-load-requires g c = (
-  search rules,
-  search rules,
-  counts-at _ _ _ _ _ _ _ _ _ _ _ (g.met.C.ClientWords.keeps c.args.self.now.table.shared.key.client) _ _ _ _ c.args.pass.now.live.0 c.requires.word,
-)
+pub load-found-requires : goal.load-found-requires
+load-found-requires g c =
+    let low = load-low g.L.Load.load _ c.args.word c.args.pass.now.inside c.requires.load in (
+      search rules,
+      search rules,
+      loads _ _ _ _ _ _ _ _ _ _ _ (g.met.C.ClientWords.keeps c.args.self.now.table.shared.key.client) _ _ _ g.L.Load.load _ c.args.pass.now.live.0 c.requires.load,
+    )
+
+pub invariant_of-pass-else-closes-clause-held_is : goal.invariant_of-pass-else-closes-clause-held_is
+invariant_of-pass-else-closes-clause-held_is g c =
+    let kept = loaded-keeps g.C.ClientWords.names g.C.ClientWords.legal g.C.ClientWords.entries g.C.ClientWords.gains g.L.Load.load c.args.word c.load-found.result
+    _ _ c.load-found.ensures.2.0 (sym c.closes.ensures ∙ c.if-closes.false) in
+    kept.0 ∙ c.args.pass.now.held_is
+
+pub invariant_of-pass-else-closes-clause-waits_are : goal.invariant_of-pass-else-closes-clause-waits_are
+invariant_of-pass-else-closes-clause-waits_are g c =
+    let kept = loaded-keeps g.C.ClientWords.names g.C.ClientWords.legal g.C.ClientWords.entries g.C.ClientWords.gains g.L.Load.load c.args.word c.load-found.result
+    _ _ c.load-found.ensures.2.0 (sym c.closes.ensures ∙ c.if-closes.false) in
+    kept.1 ∙ c.args.pass.now.waits_are

@@ -1,0 +1,31 @@
+-- What contracts see of a resumption that a pass owes, and of its token.
+use Rattle.std.specs.Prelude.{◌≡◌, ℕ, ◌<◌, Option, Some, None}
+use Rattle.cqs_core.specs.declared.doings.Doing.{Doing}
+use Rattle.cqs_core.specs.declared.doings.Doing.TheVariants as doing
+use Rattle.cqs_rule.specs.declared.queue.tokens.Under.{Under}
+use Rattle.cqs_rule.specs.declared.view.Facts.{Facts}
+
+-- what a pass is at that owes a resumption, with this ticket open or with none
+abbrev pub owes_at : Option ℕ → Doing
+owes_at None = doing.Owes
+owes_at (Some k) = doing.Ticket k
+
+-- the pass owes the resumption of this payload, with this ticket open or with none
+pub record OwesWith (facts : Facts) (payload : ℕ) (ticket : Option ℕ) : Type 0 where
+  pub doing : facts.doing ≡ owes_at ticket
+  pub owed : facts.payload ≡ payload
+
+-- the last number that was drawn for a resumption, or 0 where none was: it is that of the open ticket, and there is a cell for it
+pub record IsReached (cells : ℕ) (ticket : Option ℕ) (reached : ℕ) : Type 0 where
+  pub below : reached < cells
+  pub open_ticket : (k : ℕ) → ticket ≡ Some k → reached ≡ k
+
+-- the payload of a token, its open ticket, and the last number drawn for it
+abbrev pub under_payload : Under → ℕ
+under_payload u = u.payload
+
+abbrev pub under_ticket : Under → Option ℕ
+under_ticket u = u.ticket
+
+abbrev pub under_reached : Under → ℕ
+under_reached u = u.reached

@@ -9,6 +9,6 @@ pub mod Counters
 pub mod Crosses
 pub mod Moves
 pub mod SemaphoreMoves
-pub mod Loads
+pub mod StandStill
 pub mod Calls
 pub mod Opens

@@ -1,4 +1,4 @@
-use Rattle.cqs_rule.proofs.Loads.{silent-moves}
+use Rattle.cqs_rule.proofs.StandStill.{silent-moves}
 use Rattle.cqs_rule.proofs.semaphore.calls.read_state.Goals as goal
 
 pub load_word-requires-clause-law : goal.load_word-requires-clause-law

@@ -24,10 +24,12 @@ module _ {E S : Type 0} (names : ℕ → E → Bool) (legal : ℕ → List E →
     (entries : QueueStep → ℕ → ℕ → List E) (gains : ℕ → ℕ) (opened : List ℕ) (passes limit values size held : ℕ)
     (client : IsClient names (legal size) shows entries gains opened values held) where
   -- what the step tells the pass
-  abbrev pub Tells : (ℕ → Doing → ℕ → List E) → (Doing → ℕ → Doing) → (Bool → ℕ → ℕ → ℕ) → (ℕ → ℕ) → (ℕ → Bool) → Me (Option S) (View E S) → ℕ → Me (Option S) (View E S) → Type 0
+  abbrev pub Tells : (ℕ → Doing → ℕ → List E) → (Doing → ℕ → Doing) → (Bool → ℕ → ℕ → ℕ) → (ℕ → ℕ) → (ℕ → Bool)
+      → Me (Option S) (View E S) → ℕ → Me (Option S) (View E S) → Type 0
   Tells shown goes holds payload made me n me' = Moved names legal shown goes holds payload made me.0 n me'.0 × (me'.1 ≡ me.1)
 
-  pub moves : (shown : ℕ → Doing → ℕ → List E) (goes : Doing → ℕ → Doing) (holds : Bool → ℕ → ℕ → ℕ) (payload : ℕ → ℕ) (made : ℕ → Bool) (slots id : ℕ) (me : Me (Option S) (View E S)) (i : ℕ) (f : ℕ → ℕ)
+  pub moves : (shown : ℕ → Doing → ℕ → List E) (goes : Doing → ℕ → Doing) (holds : Bool → ℕ → ℕ → ℕ)
+      (payload : ℕ → ℕ) (made : ℕ → Bool) (slots id : ℕ) (me : Me (Option S) (View E S)) (i : ℕ) (f : ℕ → ℕ)
       → me.0.weight ≡ 1 → i < 4 → Moves names shows shown goes holds made me.0.number me.0.facts i f
       → Allows (Ruled names shows passes limit values size) slots id me (client_place i) f (Tells shown goes holds payload made me)
   moves shown goes holds payload made slots id me i f one few law s r _ here small =
@@ -81,8 +83,10 @@ module _ {E S : Type 0} (names : ℕ → E → Bool) (legal : ℕ → List E →
       (grown v (facts_moved now holding (payload facts.payload) facts) (r.log ++ es) r.handed, keeps, tt, done.0, (done.1, refl))
 
   -- the same at a word's place, by what the step computes of the word found
-  pub moves-at : (shown : ℕ → Doing → ℕ → List E) (goes : Doing → ℕ → Doing) (holds : Bool → ℕ → ℕ → ℕ) (payload : ℕ → ℕ) (made : ℕ → Bool) (slots id : ℕ) (me : Me (Option S) (View E S)) (i place : ℕ) (f g : ℕ → ℕ)
-      → me.0.weight ≡ 1 → i < 4 → place ≡ client_place i → ((n : ℕ) → g n ≡ f n) → Moves names shows shown goes holds made me.0.number me.0.facts i f
+  pub moves-at : (shown : ℕ → Doing → ℕ → List E) (goes : Doing → ℕ → Doing) (holds : Bool → ℕ → ℕ → ℕ)
+      (payload : ℕ → ℕ) (made : ℕ → Bool) (slots id : ℕ) (me : Me (Option S) (View E S)) (i place : ℕ) (f g : ℕ → ℕ)
+      → me.0.weight ≡ 1 → i < 4 → place ≡ client_place i → ((n : ℕ) → g n ≡ f n)
+      → Moves names shows shown goes holds made me.0.number me.0.facts i f
       → Allows (Ruled names shows passes limit values size) slots id me place g (Tells shown goes holds payload made me)
   moves-at shown goes holds payload made slots id me i place f g one few is same law =
       subst (λ (z : ℕ × (ℕ → ℕ)). Allows (Ruled names shows passes limit values size) slots id me z.0 z.1 (Tells shown goes holds payload made me))

@@ -171,14 +171,15 @@ module _ (permits p : ℕ) (facts : Facts) (c : Hidden) (words : List ℕ) (log 
       (cases_lt 4294967296 n)
 
   abbrev LoadsTo : Bool → Type 0
-  LoadsTo b = IsCore (core_shown permits (stands_at c p (if b then doing.TryAt (state_in_word n) else doing.Idle) facts.held) (slice_set words 0 n)
-      (log ++ (if b then [] else entry.TryBusy p ∷ [])))
+  LoadsTo b = IsCore (core_shown permits (stands_at c p (if b then doing.TryAt (state_in_word n) else doing.Idle) facts.held)
+      (slice_set words 0 n) (log ++ (if b then [] else entry.TryBusy p ∷ [])))
 
   pub try-load-core : facts.doing ≡ doing.Idle → LoadsTo (is_free n)
   try-load-core idle = ⊎_elim
       (λ (free : 4294967296 < n).
       subst LoadsTo (sym (lt-ltb 4294967296 n free))
-      (by-quiet-row (event.TryLoad p) (outcome.Loaded (state_in_word n)) (state_in_word n) _ c.held _ (set c.queue.doing p (doing.TryAt (state_in_word n))) _
+      (by-quiet-row (event.TryLoad p) (outcome.Loaded (state_in_word n)) (state_in_word n) _ c.held _
+      (set c.queue.doing p (doing.TryAt (state_in_word n))) _
       (rw (is-at doing.Idle idle, state-some n free) refl)
       (ap state_in_word (sym kept))
       (sym (set-same c.held p facts.held holds))
@@ -193,8 +194,8 @@ module _ (permits p : ℕ) (facts : Facts) (c : Hidden) (words : List ℕ) (log 
       (cases_lt 4294967296 n)
 
   abbrev SwapsTo : ℕ → Bool → Type 0
-  SwapsTo saw b = IsCore (core_shown permits (stands_at c p doing.Idle (if b then facts.held + 1 else facts.held)) (slice_set words 0 (either b (saw - 1) n))
-      (log ++ (if b then entry.TryGot p ∷ [] else [])))
+  SwapsTo saw b = IsCore (core_shown permits (stands_at c p doing.Idle (if b then facts.held + 1 else facts.held))
+      (slice_set words 0 (either b (saw - 1) n)) (log ++ (if b then entry.TryGot p ∷ [] else [])))
 
   pub try-swap-core : (saw : ℕ) → facts.doing ≡ doing.TryAt (state_in_word saw) → SwapsTo saw (n == saw)
   try-swap-core saw at =
@@ -203,14 +204,16 @@ module _ (permits p : ℕ) (facts : Facts) (c : Hidden) (words : List ℕ) (log 
       let long : n ≡ saw → 0 < length words = λ same. some-word words (omega arith) in ⊎_elim
       (λ (same : n ≡ saw).
       subst (SwapsTo saw) (sym (eq-eqb n saw same))
-      (by-row (event.TrySwap p) (log ++ entry.TryGot p ∷ []) outcome.Got (state_in_word n -ℤ pos 1) _ (set c.held p (get_or c.held p 0 + 1)) _ (set c.queue.doing p doing.Idle) _
+      (by-row (event.TrySwap p) (log ++ entry.TryGot p ∷ []) outcome.Got (state_in_word n -ℤ pos 1) _
+      (set c.held p (get_or c.held p 0 + 1)) _ (set c.queue.doing p doing.Idle) _
       (rw (is-at _ at, found-loaded n saw same) refl)
       (sym (state-less n (omega arith)) ∙ ap state_in_word (sym (written words (saw - 1) (long same) ∙ omega arith)))
       (ap (λ z. set c.held p (z + 1)) held-is)
       refl))
       (λ (other : n ≢ saw).
       subst (SwapsTo saw) (sym (ne_eqb n saw other))
-      (by-quiet-row (event.TrySwap p) (outcome.Contended (state_in_word saw) (state_in_word n)) (state_in_word n) _ c.held _ (set c.queue.doing p doing.Idle) _
+      (by-quiet-row (event.TrySwap p) (outcome.Contended (state_in_word saw) (state_in_word n)) (state_in_word n) _ c.held _
+      (set c.queue.doing p doing.Idle) _
       (rw (is-at _ at, found-other n saw other) refl)
       (ap state_in_word (sym kept))
       (sym (set-same c.held p facts.held holds))
@@ -221,7 +224,8 @@ module _ (permits p : ℕ) (facts : Facts) (c : Hidden) (words : List ℕ) (log 
   GivesTo b = IsCore (core_shown permits (stands_at c p (if b then doing.Owes else doing.Idle) (facts.held - 1)) (slice_set words 0 (added (pos 1) n))
       (log ++ (if b then entry.GiveSent p ∷ [] else entry.GiveFreed p ∷ [])))
 
-  pub give-core : facts.doing ≡ doing.Idle → 0 < facts.held → slice_index words 0 < 2 ^ 64 → n < 4294967296 + 4294967296 → GivesTo (is_short n)
+  pub give-core : facts.doing ≡ doing.Idle → 0 < facts.held → slice_index words 0 < 2 ^ 64 → n < 4294967296 + 4294967296
+      → GivesTo (is_short n)
   give-core idle some small low =
       let has : nat_lt 0 (get_or c.held p 0) ≡ true = lt-ltb 0 (get_or c.held p 0) (let e = held-is in omega arith) in
       ⊎_elim
@@ -283,16 +287,19 @@ try-swap-silent p d n m apart = by (is_as_loaded d n)
 pub take-moves : {T : Type 0} (permits p : ℕ) (facts : Facts) → facts.doing ≡ doing.Idle → facts.may_draw ≡ true
     → Moves {S = T} entry_names (shows_core {T = T} permits) take_entries take_after take_holds in_any_case p facts 0 (added (negsuc 0))
 take-moves permits p facts idle may = record {
-  step = λ c words log handed core does holds suspends resumes small. take-core permits p facts c words log core does holds suspends resumes idle small;
+  step = λ c words log handed core does holds suspends resumes small.
+      take-core permits p facts c words log core does holds suspends resumes idle small;
   silent = λ n. take-silent p facts.doing n;
   door = λ n q. inr may;
 }
 
 -- an idle pass may try: it loads the state
 pub try-load-moves : {T : Type 0} (permits p : ℕ) (facts : Facts) → facts.doing ≡ doing.Idle
-    → Moves {S = T} entry_names (shows_core {T = T} permits) try_load_entries try_load_after (λ made held n. held) in_any_case p facts 0 (λ n. n)
+    → Moves {S = T} entry_names (shows_core {T = T} permits) try_load_entries try_load_after (λ made held n. held) in_any_case
+    p facts 0 (λ n. n)
 try-load-moves permits p facts idle = record {
-  step = λ c words log handed core does holds suspends resumes small. try-load-core permits p facts c words log core does holds suspends resumes idle;
+  step = λ c words log handed core does holds suspends resumes small.
+      try-load-core permits p facts c words log core does holds suspends resumes idle;
   silent = λ n. try-load-silent p facts.doing n;
   door = λ n q. absurd (no-door (is_free n) (state_in_word n) q);
 }
@@ -303,12 +310,13 @@ try-load-moves permits p facts idle = record {
 
 -- and where it loaded a permit, it may exchange the state for one less
 pub try-swap-moves : {T : Type 0} (permits p : ℕ) (facts : Facts) (saw : ℕ) → facts.doing ≡ doing.TryAt (state_in_word saw)
-    → Moves {S = T} entry_names (shows_core {T = T} permits) try_swap_entries try_swap_after try_swap_holds (where_found saw) p facts 0 (exchanged saw (saw - 1))
+    → Moves {S = T} entry_names (shows_core {T = T} permits) try_swap_entries try_swap_after try_swap_holds (where_found saw)
+    p facts 0 (exchanged saw (saw - 1))
 try-swap-moves permits p facts saw at = record {
   step = λ c words log handed core does holds suspends resumes small.
       let n = slice_index words 0 in
-      subst (λ (b : Bool). IsCore (core_shown permits (stands_at c p doing.Idle (if n == saw then facts.held + 1 else facts.held)) (slice_set words 0 (exchanged saw (saw - 1) n))
-      (log ++ (if b then entry.TryGot p ∷ [] else []))))
+      subst (λ (b : Bool). IsCore (core_shown permits (stands_at c p doing.Idle (if n == saw then facts.held + 1 else facts.held))
+      (slice_set words 0 (exchanged saw (saw - 1) n)) (log ++ (if b then entry.TryGot p ∷ [] else []))))
       (sym (ap (λ (d : Doing). is_as_loaded d n) at ∙ as-loaded n saw))
       (try-swap-core permits p facts c words log core does holds suspends resumes saw at);
   silent = λ n. try-swap-silent p facts.doing n;
@@ -322,7 +330,8 @@ try-swap-moves permits p facts saw at = record {
 pub give-moves : {T : Type 0} (permits p : ℕ) (facts : Facts) → facts.doing ≡ doing.Idle → 0 < facts.held
     → Moves {S = T} entry_names (shows_core {T = T} permits) give_entries give_after give_holds in_any_case p facts 0 (added (pos 1))
 give-moves permits p facts idle some = record {
-  step = λ c words log handed core does holds suspends resumes small. give-core permits p facts c words log core does holds suspends resumes idle some small
+  step = λ c words log handed core does holds suspends resumes small.
+      give-core permits p facts c words log core does holds suspends resumes idle some small
       (word-below (slice_index words 0) (free-small (core_shown permits c words log) core));
   silent = λ n. give-silent p facts.doing n;
   door = λ n q. absurd (no-door (is_short n) q);

@@ -9,7 +9,8 @@ use Rattle.cqs_rule.specs.Hidden.{Hidden}
 use Rattle.cqs_rule.specs.Told.{Moves, in_any_case}
 
 -- any pass may load any word of its client
-pub silent-moves : {E S : Type 0} (names : ℕ → E → Bool) (shows : Hidden → List ℕ → List E → List S → Type 0) (p : ℕ) (facts : Facts) (i : ℕ)
+pub silent-moves : {E S : Type 0} (names : ℕ → E → Bool) (shows : Hidden → List ℕ → List E → List S → Type 0)
+    (p : ℕ) (facts : Facts) (i : ℕ)
     → Moves names shows (λ p d n. []) (λ d n. d) (λ made held n. held) in_any_case p facts i (λ n. n)
 silent-moves {E} {S} names shows p facts i = record {
   step = λ c words log handed shown does holds suspends resumes small.

@@ -186,7 +186,8 @@ module _ {E : Type 0} (names : ℕ → E → Bool) (legal : ℕ → List E → T
     abbrev pub crossed : (ℕ → ℕ) → (QueueStep → ℕ → ℕ → List E) → QueueStep → Step (Option S) → Me (Option S) (View E S) → ℕ → Me (Option S) (View E S) → Type 0
     crossed gains entries s st me n me' = Crossed gains entries s st.first me.0 n me'.0 × (me'.1 ≡ me.1)
 
-    module _ (entries : ℕ → Doing → ℕ → List E) (after : Doing → ℕ → Doing) (holds : Bool → ℕ → ℕ → ℕ) (payload : ℕ → ℕ) where
+    module _ (entries : ℕ → Doing → ℕ → List E) (after : Doing → ℕ → Doing) (holds : Bool → ℕ → ℕ → ℕ)
+        (payload : ℕ → ℕ) where
       -- a step on a client's word found n, and showed the event of these entries; `made` tells by n whether it was made
       abbrev pub Moved : (ℕ → Bool) → View E S → ℕ → View E S → Type 0
       Moved made v n w =
@@ -216,7 +217,9 @@ exchanged saw new n = either (where_found saw n) new n
 -- What a client owes for a step on its word i, by which n becomes f n: wherever the pass is at these facts, the client's words,
 -- the entries and the pass's next facts go together again. A step that brings the pass to the door needs that it may draw, unless
 -- it is there already.
-pub record Moves {E S : Type 0} (names : ℕ → E → Bool) (shows : Hidden → List ℕ → List E → List S → Type 0) (entries : ℕ → Doing → ℕ → List E) (after : Doing → ℕ → Doing) (holds : Bool → ℕ → ℕ → ℕ) (made : ℕ → Bool) (p : ℕ) (facts : Facts) (i : ℕ) (f : ℕ → ℕ) : Type 0 where
+pub record Moves {E S : Type 0} (names : ℕ → E → Bool) (shows : Hidden → List ℕ → List E → List S → Type 0)
+    (entries : ℕ → Doing → ℕ → List E) (after : Doing → ℕ → Doing) (holds : Bool → ℕ → ℕ → ℕ) (made : ℕ → Bool)
+    (p : ℕ) (facts : Facts) (i : ℕ) (f : ℕ → ℕ) : Type 0 where
   pub step : (c : Hidden) (words : List ℕ) (log : List E) (handed : List S) → shows c words log handed
       → slice_get c.queue.doing p ≡ Some facts.doing → slice_get c.held p ≡ Some facts.held → c.queue.suspends < 4194304 → c.queue.resumes < 4194304
       → slice_index words i < 2 ^ 64

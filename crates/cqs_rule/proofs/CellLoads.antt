@@ -191,7 +191,7 @@ module _ {E S : Type 0} (names : ℕ → E → Bool) (legal : ℕ → List E →
       by-event None is =
           let facts = facts_looked gains None k n f in
           let done = looks-to names legal shows entries gains opened passes limit values size held client s r id me (k + 112) facts here one
-          (record { doing = at.doing; held = at.held; may_draw = at.may_draw; waits = at.waits; once = at.once; last = at.last }) in
+          (record { doing = at.doing; held = at.held; may_draw = at.may_draw; waits = at.waits; all_waits = at.all_waits; once = at.once; last = at.last }) in
           (grown v facts (r.log ++ []) r.handed, keeps, tt, done.0, (told None _ is done.1, refl))
       by-event (Some e) is =
           let seen = event-seen load (state_at c.queue k) e (sym is) in

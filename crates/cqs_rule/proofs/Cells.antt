@@ -1,12 +1,13 @@
 -- How a step of the queue changes the cells, and what it leaves of what the other passes know.
-use Rattle.std.proofs.Common.{◌≡◌, ◌≢◌, ◌⊎◌, ℕ, zero, suc, ◌<◌, true, List, [], ◌∷◌, ◌++◌, set, sym, refl, ap, ◌∙◌, subst, inl, inr, arith, Option, Some, None, slice_get, eq-eqb, ne_eqb, if◌then◌else◌}
+use Rattle.std.proofs.Common.{◌≡◌, ◌≢◌, ◌⊎◌, ℕ, zero, suc, ◌<◌, true, false, List, [], ◌∷◌, ◌++◌, set, sym, refl, ap, ◌∙◌, subst, inl, inr, ⊎_elim, arith, Option, Some, None, slice_get, eq-eqb, ne_eqb, if◌then◌else◌}
 use mathlib.Core.Logic.{dite}
 use native.Mathlib.Decide.{ℕ_discrete}
 use Rattle.cqs_core.specs.declared.cells.CoreCell.{CoreCell}
 use Rattle.cqs_core.specs.declared.cells.CoreState.{CoreState}
 use Rattle.cqs_core.specs.declared.cells.CoreState.TheVariants as state
 use Rattle.cqs_core.specs.declared.doings.Doing.TheVariants as doing
-use Rattle.cqs_core.specs.QueueState.{fresh_cell}
+use Rattle.cqs_core.specs.QueueState.{Queue, fresh_cell}
+use Rattle.cqs_core.specs.QueueSound.{IsSound, IsSoundAt}
 use Rattle.cqs_core.specs.QueueMoves.{moved, at_state}
 use Rattle.cqs_core.proofs.Places.{get-set_here, get-set_else, get-append_left}
 use Rattle.cqs_rule.specs.declared.view.Glimpse.{Glimpse}
@@ -47,6 +48,27 @@ made_same [] new zero empty = empty
 made_same [] new (suc j) empty = refl
 made_same (x ∷ xs) new zero empty = refl
 made_same (x ∷ xs) new (suc j) empty = made_same xs new j empty
+
+-- what stands in a list with one more stood there before, or is the one
+pushed-back : (cells : List CoreCell) (new : CoreCell) (j : ℕ) (x : CoreCell) → slice_get (cells ++ new ∷ []) j ≡ Some x
+    → (slice_get cells j ≡ Some x) ⊎ (x ≡ new)
+pushed-back [] new zero x e = inr (sym (same_Some new x e))
+pushed-back [] new (suc j) x e = absurd (cc)
+pushed-back (y ∷ ys) new zero x e = inl e
+pushed-back (y ∷ ys) new (suc j) x e = pushed-back ys new j x e
+
+-- a waiter stands only in the cell of a number that was drawn to suspend at
+installed-drawn : (q : Queue) (k : ℕ) (cell : CoreCell) (x : CoreState) → IsSoundAt q k cell x → IsInstalled x → k < q.suspends
+installed-drawn q k cell state.Waiter s i = s.0.drawn
+installed-drawn q k cell state.Resumed s i = s.0.drawn
+installed-drawn q k cell state.Cancelling s i = s.0.entered.drawn
+installed-drawn q k cell state.Delegated s i = s.0.entered.drawn
+installed-drawn q k cell state.Empty s i = absurd i
+installed-drawn q k cell state.Value s i = absurd i
+installed-drawn q k cell state.Taken s i = absurd i
+installed-drawn q k cell state.Broken s i = absurd i
+installed-drawn q k cell state.Cancelled s i = absurd i
+installed-drawn q k cell state.Refused s i = absurd i
 
 -- a cell is as it was, or has gone on
 abbrev pub GoesOn : Hidden → Hidden → ℕ → Type 0
@@ -156,6 +178,85 @@ module _ (gains : ℕ → ℕ) (c : Hidden) (p k payload : ℕ) where
     uncollected = w.uncollected;
     installed = w.installed;
   }
+
+  -- a wait that stands after a number was drawn stood before
+  pub drawn-wait_back : (found : Option CoreCell) (n j : ℕ) → slice_get c.queue.cells k ≡ found → k ≡ c.queue.suspends → IsSound c.queue
+      → IsWaitOf (moved c.queue (move_of draws p k found)) n j → IsWaitOf c.queue n j
+  drawn-wait_back None n j e next sound w = ⊎_elim
+      (λ (old : slice_get c.queue.cells j ≡ Some w.cell). record {
+        cell = w.cell;
+        there = old;
+        owner = w.owner;
+        drawn = let d = w.drawn in let apart : j ≢ k = λ q. let both : None ≡ Some w.cell = sym e ∙ (ap (slice_get c.queue.cells) (sym q) ∙ old) in absurd (cc) in omega arith;
+        uncollected = w.uncollected;
+        installed = w.installed;
+      })
+      (λ (new : w.cell ≡ record { state = state.Empty; owner = Some p; collected = false }).
+      absurd (subst IsInstalled (ap (λ (x : CoreCell). x.state) new) w.installed))
+      (pushed-back c.queue.cells _ j w.cell w.there)
+  drawn-wait_back (Some found) n j e next sound w = dite (ℕ_discrete j k)
+      (λ (q : j ≡ k).
+      let new : CoreCell = record { state = found.state; owner = Some p; collected = found.collected } in
+      let here : slice_get (set c.queue.cells k new) j ≡ Some new = ap (slice_get (set c.queue.cells k new)) q ∙ get-set_here c.queue.cells k found new e in
+      let same : w.cell ≡ new = same_Some w.cell new (sym w.there ∙ here) in
+      let low = installed-drawn c.queue k found found.state (sound.cells.at k found e) (subst IsInstalled (ap (λ (x : CoreCell). x.state) same) w.installed) in
+      absurd (omega arith))
+      (λ (a : j ≢ k). record {
+        cell = w.cell;
+        there = sym (get-set_else c.queue.cells k j _ (λ q. a (sym q))) ∙ w.there;
+        owner = w.owner;
+        drawn = let d = w.drawn in omega arith;
+        uncollected = w.uncollected;
+        installed = w.installed;
+      })
+
+  pub reached-wait_back : (found : Option CoreCell) (n j : ℕ)
+      → IsWaitOf (moved c.queue (move_of reaches p k found)) n j → IsWaitOf c.queue n j
+  reached-wait_back None n j w = ⊎_elim
+      (λ (old : slice_get c.queue.cells j ≡ Some w.cell). record {
+        cell = w.cell;
+        there = old;
+        owner = w.owner;
+        drawn = w.drawn;
+        uncollected = w.uncollected;
+        installed = w.installed;
+      })
+      (λ (new : w.cell ≡ fresh_cell). absurd (subst IsInstalled (ap (λ (x : CoreCell). x.state) new) w.installed))
+      (pushed-back c.queue.cells fresh_cell j w.cell w.there)
+  reached-wait_back (Some found) n j w = record {
+    cell = w.cell;
+    there = w.there;
+    owner = w.owner;
+    drawn = w.drawn;
+    uncollected = w.uncollected;
+    installed = w.installed;
+  }
+
+  pub looked-closed_back : (found : CoreCell) (n j : ℕ) → slice_get c.queue.cells k ≡ Some found
+      → IsWaitOf (happened gains c (looks grants) p k (Some found) payload).queue n j → (j ≢ k) × IsWaitOf c.queue n j
+  looked-closed_back found n j there w =
+      let closed : CoreCell = record { state = found.state; owner = found.owner; collected = true } in
+      let apart : j ≢ k = λ q.
+      let here : slice_get (set c.queue.cells k closed) j ≡ Some closed = ap (slice_get (set c.queue.cells k closed)) q ∙ get-set_here c.queue.cells k found closed there in
+      let same : w.cell ≡ closed = same_Some w.cell closed (sym w.there ∙ here) in
+      let both : true ≡ false = sym (ap (λ (x : CoreCell). x.collected) same) ∙ w.uncollected in absurd (cc) in (
+        apart,
+        record {
+          cell = w.cell;
+          there = sym (get-set_else c.queue.cells k j _ (λ q. apart (sym q))) ∙ w.there;
+          owner = w.owner;
+          drawn = w.drawn;
+          uncollected = w.uncollected;
+          installed = w.installed;
+        },
+      )
+
+  -- a wait that stands after a look stood before, and where the look closed one, it is another
+  pub looked-wait_back : (e : LookEvent) (found : CoreCell) (n j : ℕ) → slice_get c.queue.cells k ≡ Some found
+      → IsWaitOf (happened gains c (looks e) p k (Some found) payload).queue n j → IsWaitOf c.queue n j
+  looked-wait_back pends found n j there w = w
+  looked-wait_back grants found n j there w = (looked-closed_back found n j there w).1
+  looked-wait_back late found n j there w = (looked-closed_back found n j there w).1
 
   pub exchange-cells : (s : QueueStep) (found : CoreCell) → IsExchange s
       → (happened gains c s p k (Some found) payload).queue.cells ≡ set c.queue.cells k (new_cell s found)
@@ -291,3 +392,42 @@ module _ (gains : ℕ → ℕ) (c : Hidden) (p k payload : ℕ) where
           uncollected = w.uncollected;
           installed = w.installed;
         })
+
+    -- the wait of the cell after the exchange: it stood before, or the exchange installed it
+    back-here : (t : QueueStep) (n : ℕ) → IsExchange t → found.state ≡ state_before t → (new_cell t found).owner ≡ Some n → (new_cell t found).collected ≡ false
+        → IsInstalled (new_cell t found).state → k < c.queue.suspends → IsWaitOf c.queue n k ⊎ ((t ≡ installs) × (found.owner ≡ Some n))
+    back-here draws n x was owner uncollected installed low = absurd x
+    back-here reaches n x was owner uncollected installed low = absurd x
+    back-here installs n x was owner uncollected installed low = inr (refl, owner)
+    back-here leaves n x was owner uncollected installed low = absurd installed
+    back-here takes n x was owner uncollected installed low = absurd installed
+    back-here serves n x was owner uncollected installed low = inl (record {
+      cell = found;
+      there = there;
+      owner = owner;
+      drawn = low;
+      uncollected = uncollected;
+      installed = subst IsInstalled (sym was) tt;
+    })
+    back-here (looks y) n x was owner uncollected installed low = absurd x
+
+    pub exchange-wait_back : (n j : ℕ) → IsWaitOf d.queue n j → IsWaitOf c.queue n j ⊎ ((s ≡ installs) × (j ≡ k) × (found.owner ≡ Some n))
+    exchange-wait_back n j w = dite (ℕ_discrete j k)
+        (λ (q : j ≡ k).
+        let here : slice_get d.queue.cells j ≡ Some (new_cell s found) = ap (λ (cells : List CoreCell). slice_get cells j) (exchange-cells s found e)
+        ∙ (ap (slice_get (set c.queue.cells k (new_cell s found))) q ∙ get-set_here c.queue.cells k found (new_cell s found) there) in
+        let same : w.cell ≡ new_cell s found = same_Some w.cell (new_cell s found) (sym w.there ∙ here) in
+        let low : k < c.queue.suspends = let u = exchange-suspends s found e in let v = w.drawn in omega arith in
+        ⊎_elim
+        (λ (old : IsWaitOf c.queue n k). inl (subst (λ z. IsWaitOf c.queue n z) (sym q) old))
+        (λ (new : (s ≡ installs) × (found.owner ≡ Some n)). inr (new.0, q, new.1))
+        (back-here s n e before (ap (λ (x : CoreCell). x.owner) (sym same) ∙ w.owner) (ap (λ (x : CoreCell). x.collected) (sym same) ∙ w.uncollected)
+        (subst IsInstalled (ap (λ (x : CoreCell). x.state) same) w.installed) low))
+        (λ (a : j ≢ k). inl (record {
+          cell = w.cell;
+          there = sym (ap (λ (cells : List CoreCell). slice_get cells j) (exchange-cells s found e) ∙ get-set_else c.queue.cells k j _ (λ q. a (sym q))) ∙ w.there;
+          owner = w.owner;
+          drawn = let u = exchange-suspends s found e in let v = w.drawn in omega arith;
+          uncollected = w.uncollected;
+          installed = w.installed;
+        }))

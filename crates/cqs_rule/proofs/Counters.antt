@@ -11,6 +11,7 @@ use Rattle.cqs_core.specs.declared.doings.Doing.{Doing}
 use Rattle.cqs_core.specs.declared.doings.Doing.TheVariants as doing
 use Rattle.cqs_core.specs.Numbered.{picked}
 use Rattle.cqs_core.specs.QueueLine.{at_door}
+use Rattle.cqs_core.specs.QueueSound.{IsSound}
 use Rattle.cqs_core.specs.QueueLine as queue
 use Rattle.cqs_core.proofs.Places.{get-set_here, get-set_else}
 use Rattle.cqs_rule.specs.declared.view.View.{View}
@@ -69,6 +70,7 @@ module _ {E S : Type 0} (names : ℕ → E → Bool) (legal : ℕ → List E →
       let does : slice_get c.queue.doing p ≡ Some doing.Door = at.doing ∙ ap Some door in
       let may : slice_get c.may_draw p ≡ Some true = r.door p does in
       let low = suspends-low passes limit values c r.room in
+      let sound : IsSound c.queue = client.sound c (client_words s.words) r.log r.handed r.shown in
       let next : x ≡ k + 1 = omega arith in
       let wide = r.wide in
       let d = happened gains c draws p n found f.payload in
@@ -94,8 +96,8 @@ module _ {E S : Type 0} (names : ℕ → E → Bool) (legal : ℕ → List E →
             (λ e. let mine = get-set_here c.queue.doing p f.doing (doing.Drawn n) at.doing in absurd (cc));
         shown = subst (λ (ws : List ℕ). shows d ws (r.log ++ entries draws p n) r.handed) (sym (client-below s.words 16 x (omega arith)))
             (client.steps c draws p n found f.payload (client_words s.words) r.log r.handed r.shown (does, is, refl) (omega arith) (let m = resumes-low passes limit values c r.room in omega arith));
-        others = others-drawn gains c p n f.payload found refl is;
-        self = drawn-self gains c p n f.payload found n f refl is at;
+        others = others-drawn gains c p n f.payload found refl is sound;
+        self = drawn-self gains c p n f.payload found n f refl is sound at;
         silent = client.silent draws p n;
       } in
       let done = steps names legal shows entries gains opened passes limit values size held client s r id me 16 x d (entries draws p n) (facts_after gains draws n n f) here one t in

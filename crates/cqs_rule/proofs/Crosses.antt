@@ -205,17 +205,24 @@ may-same gains c leaves p k payload found e = refl
 may-same gains c serves p k payload found e = refl
 may-same gains c (looks x) p k payload found e = absurd e
 
+-- the cell of the number that a pass drew to suspend at is its own
+own-cell : (q : Queue) (p k : ℕ) (cell : CoreCell) → IsSound q → slice_get q.doing p ≡ Some (doing.Drawn k) → slice_get q.cells k ≡ Some cell
+    → cell.owner ≡ Some p
+own-cell q p k cell sound does there =
+    let own : IsOwn q p k IsUntaken = sound.passes.at p (doing.Drawn k) does in
+    let same : own.cell ≡ cell = same_Some own.cell cell (sym own.found ∙ there) in
+    ap (λ (x : CoreCell). x.owner) (sym same) ∙ own.owner
+
 -- the wait that a pass has where it installed a waiter
 new-wait : (gains : ℕ → ℕ) (c : Hidden) (p k payload : ℕ) (cell : CoreCell) → IsSound c.queue → slice_get c.queue.doing p ≡ Some (doing.Drawn k)
     → slice_get c.queue.cells k ≡ Some cell → cell.state ≡ state.Empty → IsWaitOf (happened gains c installs p k (Some cell) payload).queue p k
 new-wait gains c p k payload cell sound does there empty =
     let own : IsOwn c.queue p k IsUntaken = sound.passes.at p (doing.Drawn k) does in
-    let same : own.cell ≡ cell = same_Some own.cell cell (sym own.found ∙ there) in
     let fresh : IsSoundAt c.queue k cell state.Empty = subst (IsSoundAt c.queue k cell) empty (sound.cells.at k cell there) in
     record {
       cell = new_cell installs cell;
       there = get-set_here c.queue.cells k cell (new_cell installs cell) there;
-      owner = ap (λ (x : CoreCell). x.owner) (sym same) ∙ own.owner;
+      owner = own-cell c.queue p k cell sound does there;
       drawn = own.drawn;
       uncollected = fresh.2;
       installed = tt;
@@ -284,9 +291,10 @@ module _ {E S : Type 0} (names : ℕ → E → Bool) (legal : ℕ → List E →
       let resumes = exchange-resumes gains c p k f.payload t cell e in
       let idle = exchange-doing gains c p k f.payload t cell e in
       let may = may-same gains c t p k f.payload (Some cell) e in
-      let others = others-exchanged gains c p k f.payload t cell e there before in
-      let open_there = opens-at c.queue t p k cell e does there before in
       let sound : IsSound c.queue = client.sound c (client_words s.words) r.log r.handed r.shown in
+      let owner : t ≡ installs → cell.owner ≡ Some p = λ q. own-cell c.queue p k cell sound (does ∙ ap (λ z. Some (works_at z k)) q) there in
+      let others = others-exchanged gains c p k f.payload t cell e there before owner in
+      let open_there = opens-at c.queue t p k cell e does there before in
       let turned : Turned names shows passes limit values size s r v (k + 112) x d (entries t p k) (facts_after gains t k n f) = record {
         crew = crew-else s.words (k + 112) x (omega arith);
         counters = counters-else c.queue d.queue s.words (k + 112) x (omega arith) suspends resumes r.counters;
@@ -368,7 +376,7 @@ module _ {E S : Type 0} (names : ℕ → E → Bool) (legal : ℕ → List E →
           (λ a. subst T (sym (ne_eqb n expected a))
           (let facts = facts_missed k n g f in
           let done = looks-to names legal shows entries gains opened passes limit values size held client s r id me (k + 112) facts here one
-          (record { doing = at.doing; held = at.held; may_draw = at.may_draw; waits = at.waits; once = at.once; last = inl (refl, refl) }) in (
+          (record { doing = at.doing; held = at.held; may_draw = at.may_draw; waits = at.waits; all_waits = at.all_waits; once = at.once; last = inl (refl, refl) }) in (
             grown v facts (r.log ++ []) r.handed,
             keeps,
             tt,

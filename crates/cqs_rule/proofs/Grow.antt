@@ -13,13 +13,14 @@ use Rattle.cqs_rule.specs.Hidden.{Hidden}
 use Rattle.cqs_rule.specs.Layout.{client_words}
 use Rattle.cqs_rule.specs.Lists.{Has, IsDistinct, NamesOnly}
 use Rattle.cqs_rule.specs.Views.{all_own, weight, grown, Apart}
-use Rattle.cqs_rule.specs.Ruled.{Ruled, Knows, Sees, Stands, CountersShow, CellsShow, IdleWords, HasRoom, DoorMayDraw, number_at}
+use Rattle.cqs_rule.specs.Ruled.{Ruled, Knows, Sees, Stands, IsWaitOf, CountersShow, CellsShow, IdleWords, HasRoom, DoorMayDraw, number_at}
 use Rattle.cqs_rule.specs.Told.{Saw}
 use Rattle.cqs_rule.proofs.Lists.{set_there, set_all, total_set, two_of, nothing_more, longer, has_left, has_right, part_more, unnamed, few_below, length_without}
 
 -- what stays of every other pass than p
 pub record OthersStay (c d : Hidden) (p : ℕ) : Type 0 where
   pub doing : (n : ℕ) → n ≢ p → slice_get d.queue.doing n ≡ slice_get c.queue.doing n
+  pub waits : (n k : ℕ) → n ≢ p → IsWaitOf d.queue n k → IsWaitOf c.queue n k
   pub stands : (n : ℕ) (facts : Facts) → n ≢ p → Stands c n facts → Stands d n facts
 
 module _ {E S : Type 0} (names : ℕ → E → Bool) where
@@ -143,7 +144,10 @@ module _ {E S : Type 0} (names : ℕ → E → Bool) (shows : Hidden → List �
             (r.each_view j u e));
         apart = still-apart s.views id v w here refl r.apart;
         unnamed = λ n above. part_more names n r.log es (t.silent n (λ same. absurd (omega arith))) ∙ r.unnamed n above;
-        unused = λ n above few. record { doing = t.others.doing n (λ same. absurd (omega arith)) ∙ (r.unused n above few).doing };
+        unused = λ n above few. record {
+          doing = t.others.doing n (λ same. absurd (omega arith)) ∙ (r.unused n above few).doing;
+          waits = λ k w. (r.unused n above few).waits k (t.others.waits n k (λ same. absurd (omega arith)) w);
+        };
         tip = record { place = id; view = w; there = set_there s.views id v w here; live = omega arith; sees = inl refl };
       }
 

@@ -88,6 +88,16 @@ has_without n k (x ∷ xs) h = dite (ℕ_discrete x k)
     (λ (g : Has n (without k xs)). let t = has_without n k xs g in (t.0, inr t.1))
     (subst (λ b. Has n (if b then without k xs else x ∷ without k xs)) (ne_eqb x k a) h))
 
+pub without_has : (n k : ℕ) (xs : List ℕ) → n ≢ k → Has n xs → Has n (without k xs)
+without_has n k [] apart h = absurd h
+without_has n k (x ∷ xs) apart h = dite (ℕ_discrete x k)
+    (λ (q : x ≡ k).
+    subst (λ b. Has n (if b then without k xs else x ∷ without k xs)) (sym (eq-eqb x k q))
+    (⊎_elim (λ (e : n ≡ x). absurd (apart (e ∙ q))) (λ g. without_has n k xs apart g) h))
+    (λ (a : x ≢ k).
+    subst (λ b. Has n (if b then without k xs else x ∷ without k xs)) (sym (ne_eqb x k a))
+    (⊎_elim (λ (e : n ≡ x). inl e) (λ g. inr (without_has n k xs apart g)) h))
+
 pub without_none : (k : ℕ) (xs : List ℕ) → (Has k xs → ⊥) → without k xs ≡ xs
 without_none k [] none = refl
 without_none k (x ∷ xs) none =

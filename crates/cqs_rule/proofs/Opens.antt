@@ -16,7 +16,8 @@ use Rattle.cqs_rule.specs.Hidden.{Hidden, state_in}
 use Rattle.cqs_rule.specs.Lists.{Has}
 use Rattle.cqs_rule.specs.Layout.{client_words, IsIdle}
 use Rattle.cqs_rule.specs.Views.{first_view, all_own, first_facts}
-use Rattle.cqs_rule.specs.Ruled.{Ruled, Knows, IsBare, IsPlain, word_of, Stands}
+use Rattle.cqs_core.specs.declared.cells.CoreCell.{CoreCell}
+use Rattle.cqs_rule.specs.Ruled.{Ruled, Knows, IsWaitOf, IsInstalled, IsBare, IsPlain, word_of, Stands}
 use Rattle.cqs_rule.specs.Opened.{value_cell, first_payload, first_hidden, four, first_word, first_cell, IsOpening}
 use Rattle.cqs_rule.proofs.Lists.{all_draw}
 
@@ -113,10 +114,15 @@ module _ {E S : Type 0} (names : ℕ → E → Bool) (shows : Hidden → List �
     each_view = λ j v e. let t = only-one first v j e in subst (Knows names h [] [] 1 1 limit (limit + passes + values) size) t.1 know;
     apart = λ a b v w n e f g k. (only-one first v a e).0 ∙ sym (only-one first w b f).0;
     unnamed = λ n above. refl;
-    unused = λ n above below. record { doing = get-replicate passes n doing.Idle below };
+    unused = λ n above below. record { doing = get-replicate passes n doing.Idle below; waits = λ k w. no-wait n k w };
     tip = record { place = 0; view = first; there = refl; live = omega arith; sees = inl refl };
   }
     where
+      -- nobody waits yet: where a cell is made, a value stands there
+      no-wait : (n k : ℕ) → IsWaitOf h.queue n k → ⊥
+      no-wait n k w =
+          subst IsInstalled (ap (λ (x : CoreCell). x.state) (get-replicate-is values k value_cell w.cell w.there)) w.installed
+
       cell-is : (k : ℕ) → (k < values) ⊎ (values ≤ k) → first_cell values k ≡ word_of k (state_in (slice_get h.queue.cells k)) (h.payloads k)
       cell-is k (inl low) = let t = cell-value values k low in t.2 ∙ sym (λ i. word_of k (t.0 i) (t.1 i))
       cell-is k (inr high) = let t = cell-empty values k high in t.2 ∙ sym (λ i. word_of k (t.0 i) (t.1 i))
@@ -144,6 +150,7 @@ module _ {E S : Type 0} (names : ℕ → E → Bool) (shows : Hidden → List �
         held = refl;
         may_draw = get-replicate passes 0 true any;
         waits = λ k n. absurd n;
+        all_waits = λ k w. no-wait 0 k w;
         once = tt;
         last = tt;
       }

@@ -6,6 +6,7 @@ use Rattle.cqs_core.specs.declared.cells.CoreCell.{CoreCell}
 use Rattle.cqs_core.specs.declared.cells.CoreState.{CoreState}
 use Rattle.cqs_core.specs.declared.doings.Doing.{Doing}
 use Rattle.cqs_core.specs.declared.doings.Doing.TheVariants as doing
+use Rattle.cqs_core.specs.QueueSound.{IsSound}
 use Rattle.cqs_core.proofs.Places.{get-set_here, get-set_else}
 use Rattle.cqs_rule.specs.declared.view.Facts.{Facts}
 use Rattle.cqs_rule.specs.declared.view.Glimpse.{Glimpse}
@@ -14,23 +15,25 @@ use Rattle.std.proofs.lemmas.Option.{same_Some}
 use Rattle.cqs_rule.specs.Lists.{Has, IsDistinct}
 use Rattle.cqs_rule.specs.Ruled.{IsWaitOf, IsInstalled, IsSince, Stands, number_at, rank, DoorMayDraw}
 use Rattle.cqs_rule.specs.Told.{state_before, IsExchange, facts_after, facts_closed}
-use Rattle.cqs_rule.proofs.Lists.{get_index, has_append, has_without, distinct_append, distinct_without}
-use Rattle.cqs_rule.proofs.Cells.{changed_else, GoesOn, since-goes_on, drawn-state, reached-state, drawn-wait, reached-wait, exchange-doing, exchange-here, exchange-else, exchange-wait, rank-rises, looked-doing, looked-state, looked-wait, looked-apart}
+use Rattle.cqs_rule.proofs.Lists.{get_index, has_append, has_left, has_right, has_without, without_has, distinct_append, distinct_without}
+use Rattle.cqs_rule.proofs.Cells.{changed_else, GoesOn, since-goes_on, drawn-state, reached-state, drawn-wait, drawn-wait_back, reached-wait, reached-wait_back, exchange-doing, exchange-here, exchange-else, exchange-wait, exchange-wait_back, rank-rises, looked-doing, looked-state, looked-wait, looked-wait_back, looked-closed_back, looked-apart}
 use Rattle.cqs_rule.proofs.Grow.{OthersStay}
 
 -- nothing hidden changes
 pub others-same : (c : Hidden) (p : ℕ) → OthersStay c c p
-others-same c p = record { doing = λ n apart. refl; stands = λ n facts apart is. is }
+others-same c p = record { doing = λ n apart. refl; waits = λ n k apart w. w; stands = λ n facts apart is. is }
 
 -- a pass has seen the counter below the limit
 pub others-counted : (c : Hidden) (p : ℕ) (may : Bool) → OthersStay c (now_may_draw c p may) p
 others-counted c p may = record {
   doing = λ n apart. refl;
+  waits = λ n k apart w. w;
   stands = λ n facts apart is. record {
     doing = is.doing;
     held = is.held;
     may_draw = get-set_else c.may_draw p n may (λ e. apart (sym e)) ∙ is.may_draw;
     waits = is.waits;
+    all_waits = is.all_waits;
     once = is.once;
     last = is.last;
   };
@@ -40,11 +43,13 @@ others-counted c p may = record {
 pub others-moved : (c : Hidden) (p : ℕ) (d : Doing) (held : ℕ) → OthersStay c (stands_at c p d held) p
 others-moved c p d held = record {
   doing = λ n apart. get-set_else c.queue.doing p n d (λ e. apart (sym e));
+  waits = λ n k apart w. wait-back k n w;
   stands = λ n facts apart is. record {
     doing = get-set_else c.queue.doing p n d (λ e. apart (sym e)) ∙ is.doing;
     held = get-set_else c.held p n held (λ e. apart (sym e)) ∙ is.held;
     may_draw = is.may_draw;
     waits = λ k h. wait-moved k n (is.waits k h);
+    all_waits = λ k w. is.all_waits k (wait-back k n w);
     once = is.once;
     last = is.last;
   };
@@ -52,6 +57,16 @@ others-moved c p d held = record {
   where
     wait-moved : (k n : ℕ) → IsWaitOf c.queue n k → IsWaitOf (stands_at c p d held).queue n k
     wait-moved k n w = record {
+      cell = w.cell;
+      there = w.there;
+      owner = w.owner;
+      drawn = w.drawn;
+      uncollected = w.uncollected;
+      installed = w.installed;
+    }
+
+    wait-back : (k n : ℕ) → IsWaitOf (stands_at c p d held).queue n k → IsWaitOf c.queue n k
+    wait-back k n w = record {
       cell = w.cell;
       there = w.there;
       owner = w.owner;
@@ -98,14 +113,17 @@ module _ (gains : ℕ → ℕ) (c : Hidden) (p k payload : ℕ) where
   may-else serves found n apart = refl
   may-else (looks e) found n apart = refl
 
-  pub others-drawn : (found : Option CoreCell) → slice_get c.queue.cells k ≡ found → k ≡ c.queue.suspends → OthersStay c (after draws found) p
-  others-drawn found there next = record {
+  pub others-drawn : (found : Option CoreCell) → slice_get c.queue.cells k ≡ found → k ≡ c.queue.suspends → IsSound c.queue
+      → OthersStay c (after draws found) p
+  others-drawn found there next sound = record {
     doing = λ n apart. get-set_else c.queue.doing p n (doing.Drawn k) (λ e. apart (sym e));
+    waits = λ n j apart w. drawn-wait_back gains c p k payload found n j there next sound w;
     stands = λ n facts apart is. record {
       doing = get-set_else c.queue.doing p n (doing.Drawn k) (λ e. apart (sym e)) ∙ is.doing;
       held = is.held;
       may_draw = may-else draws found n apart ∙ is.may_draw;
       waits = λ j h. drawn-wait gains c p k payload found n j there next (is.waits j h);
+      all_waits = λ j w. is.all_waits j (drawn-wait_back gains c p k payload found n j there next sound w);
       once = is.once;
       last = let j = number_at facts.doing in
           since-goes_on c (after draws found) j facts.last (inl (drawn-state gains c p k payload found j there, refl)) is.last;
@@ -115,24 +133,27 @@ module _ (gains : ℕ → ℕ) (c : Hidden) (p k payload : ℕ) where
   pub others-reached : (found : Option CoreCell) → OthersStay c (after reaches found) p
   others-reached found = record {
     doing = λ n apart. get-set_else c.queue.doing p n (doing.Ticket k) (λ e. apart (sym e));
+    waits = λ n j apart w. reached-wait_back gains c p k payload found n j w;
     stands = λ n facts apart is. record {
       doing = get-set_else c.queue.doing p n (doing.Ticket k) (λ e. apart (sym e)) ∙ is.doing;
       held = is.held;
       may_draw = is.may_draw;
       waits = λ j h. reached-wait gains c p k payload found n j (is.waits j h);
+      all_waits = λ j w. is.all_waits j (reached-wait_back gains c p k payload found n j w);
       once = is.once;
       last = let j = number_at facts.doing in
           since-goes_on c (after reaches found) j facts.last (inl (reached-state gains c p k payload found j, refl)) is.last;
     };
   }
 
-  pub drawn-self : (found : Option CoreCell) (n : ℕ) (f : Facts) → slice_get c.queue.cells k ≡ found → k ≡ c.queue.suspends → Stands c p f
+  pub drawn-self : (found : Option CoreCell) (n : ℕ) (f : Facts) → slice_get c.queue.cells k ≡ found → k ≡ c.queue.suspends → IsSound c.queue → Stands c p f
       → Stands (after draws found) p (facts_after gains draws k n f)
-  drawn-self found n f there next is = record {
+  drawn-self found n f there next sound is = record {
     doing = get-set_here c.queue.doing p f.doing (doing.Drawn k) is.doing;
     held = is.held;
     may_draw = get-set_here c.may_draw p f.may_draw false is.may_draw;
     waits = λ j h. drawn-wait gains c p k payload found p j there next (is.waits j h);
+    all_waits = λ j w. is.all_waits j (drawn-wait_back gains c p k payload found p j there next sound w);
     once = is.once;
     last = tt;
   }
@@ -144,6 +165,7 @@ module _ (gains : ℕ → ℕ) (c : Hidden) (p k payload : ℕ) where
     held = is.held;
     may_draw = is.may_draw;
     waits = λ j h. reached-wait gains c p k payload found p j (is.waits j h);
+    all_waits = λ j w. is.all_waits j (reached-wait_back gains c p k payload found p j w);
     once = is.once;
     last = tt;
   }
@@ -161,14 +183,16 @@ module _ (gains : ℕ → ℕ) (c : Hidden) (p k payload : ℕ) where
         (λ (a : j ≢ k). inl (exchange-else gains c p k payload s found e there before j a, payload-else c.payloads s k payload j a))
         (same-or-not j k)
 
-    pub others-exchanged : OthersStay c d p
-    others-exchanged = record {
+    pub others-exchanged : (s ≡ installs → found.owner ≡ Some p) → OthersStay c d p
+    others-exchanged owner = record {
       doing = λ n apart. same-doing n apart;
+      waits = λ n j apart w. wait-back n j apart w;
       stands = λ n facts apart is. record {
         doing = same-doing n apart ∙ is.doing;
         held = held-else s (Some found) n apart ∙ is.held;
         may_draw = may-else s (Some found) n apart ∙ is.may_draw;
         waits = λ j h. exchange-wait gains c p k payload s found e there before n j (is.waits j h);
+        all_waits = λ j w. is.all_waits j (wait-back n j apart w);
         once = is.once;
         last = let j = number_at facts.doing in since-goes_on c d j facts.last (exchange-goes_on j) is.last;
       };
@@ -177,6 +201,12 @@ module _ (gains : ℕ → ℕ) (c : Hidden) (p k payload : ℕ) where
         same-doing : (n : ℕ) → n ≢ p → slice_get d.queue.doing n ≡ slice_get c.queue.doing n
         same-doing n apart = ap (λ (l : List Doing). slice_get l n) (exchange-doing gains c p k payload s found e)
             ∙ get-set_else c.queue.doing p n doing.Idle (λ q. apart (sym q))
+
+        -- a waiter that was installed is this pass's
+        wait-back : (n j : ℕ) → n ≢ p → IsWaitOf d.queue n j → IsWaitOf c.queue n j
+        wait-back n j apart w = ⊎_elim (λ old. old)
+            (λ (new : (s ≡ installs) × (j ≡ k) × (found.owner ≡ Some n)). absurd (apart (same_Some n p (sym new.2 ∙ owner new.0))))
+            (exchange-wait_back gains c p k payload s found e there before n j w)
 
     -- what it holds then
     held-self : (t : QueueStep) (n : ℕ) (f : Facts) → IsExchange t → slice_get c.held p ≡ Some f.held
@@ -230,6 +260,19 @@ module _ (gains : ℕ → ℕ) (c : Hidden) (p k payload : ℕ) where
     waits-self serves n f j x h = inl h
     waits-self (looks y) n f j x h = absurd x
 
+    -- the waits that it had, and that of a waiter that it installs
+    waits-kept : (t : QueueStep) (n : ℕ) (f : Facts) (j : ℕ) → IsExchange t → Has j f.waits → Has j (facts_after gains t k n f).waits
+    waits-kept installs n f j x h = has_left j f.waits (k ∷ []) h
+    waits-kept draws n f j x h = absurd x
+    waits-kept reaches n f j x h = absurd x
+    waits-kept leaves n f j x h = h
+    waits-kept takes n f j x h = h
+    waits-kept serves n f j x h = h
+    waits-kept (looks y) n f j x h = absurd x
+
+    wait-new : (t : QueueStep) (n : ℕ) (f : Facts) (j : ℕ) → t ≡ installs → j ≡ k → Has j (facts_after gains t k n f).waits
+    wait-new t n f j q here = subst (λ z. Has j (facts_after gains z k n f).waits) (sym q) (has_right j f.waits (k ∷ []) (inl here))
+
     once-self : (t : QueueStep) (n : ℕ) (f : Facts) → IsExchange t → IsDistinct f.waits → (t ≡ installs → Has k f.waits → ⊥)
         → IsDistinct (facts_after gains t k n f).waits
     once-self installs n f x once new = distinct_append k f.waits once (new refl)
@@ -255,6 +298,9 @@ module _ (gains : ℕ → ℕ) (c : Hidden) (p k payload : ℕ) where
       may_draw = may-self s n f e is.may_draw;
       waits = λ j h. ⊎_elim (λ old. exchange-wait gains c p k payload s found e there before p j (is.waits j old))
           (λ (t : (s ≡ installs) × (j ≡ k)). subst (λ z. IsWaitOf d.queue p z) (sym t.1) (new t.0)) (waits-self s n f j e h);
+      all_waits = λ j w. ⊎_elim (λ old. waits-kept s n f j e (is.all_waits j old))
+          (λ (new : (s ≡ installs) × (j ≡ k) × (found.owner ≡ Some p)). wait-new s n f j new.0 new.1)
+          (exchange-wait_back gains c p k payload s found e there before p j w);
       once = once-self s n f e is.once (new-number f is);
       last = subst (λ (z : Option Glimpse). IsSince (state_at d.queue (number_at (facts_after gains s k n f).doing)) (d.payloads (number_at (facts_after gains s k n f).doing)) z)
           (sym (last-self s n f)) tt;
@@ -269,11 +315,13 @@ module _ (gains : ℕ → ℕ) (c : Hidden) (p k payload : ℕ) (found : CoreCel
   pub others-looked : (e : LookEvent) → OthersStay c (then e) p
   others-looked e = record {
     doing = λ n apart. same-doing n;
+    waits = λ n j apart w. looked-wait_back gains c p k payload e found n j there w;
     stands = λ n facts apart is. record {
       doing = same-doing n ∙ is.doing;
       held = held-else gains c p k payload (looks e) (Some found) n apart ∙ is.held;
       may_draw = is.may_draw;
       waits = λ j h. let w = is.waits j h in looked-wait gains c p k payload e found n j (looked-apart gains c p k payload found n j there owner apart w) w;
+      all_waits = λ j w. is.all_waits j (looked-wait_back gains c p k payload e found n j there w);
       once = is.once;
       last = let j = number_at facts.doing in
           since-goes_on c (then e) j facts.last (inl (looked-state gains c p k payload e found j there, refl)) is.last;
@@ -290,6 +338,7 @@ module _ (gains : ℕ → ℕ) (c : Hidden) (p k payload : ℕ) (found : CoreCel
     held = get-set_here c.held p f.held _ is.held ∙ ap (λ z. Some (gains z)) (get_index c.held p f.held 0 is.held);
     may_draw = is.may_draw;
     waits = λ j h. let t = has_without j k f.waits h in looked-wait gains c p k payload grants found p j t.0 (is.waits j t.1);
+    all_waits = λ j w. let t = looked-closed_back gains c p k payload found p j there w in without_has j k f.waits t.0 (is.all_waits j t.1);
     once = distinct_without k f.waits is.once;
     last = tt;
   }
@@ -301,6 +350,7 @@ module _ (gains : ℕ → ℕ) (c : Hidden) (p k payload : ℕ) (found : CoreCel
     held = is.held;
     may_draw = is.may_draw;
     waits = is.waits;
+    all_waits = is.all_waits;
     once = is.once;
     last = tt;
   }

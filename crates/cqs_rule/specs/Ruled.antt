@@ -133,6 +133,7 @@ pub record Stands (c : Hidden) (p : ℕ) (facts : Facts) : Type 0 where
   pub held : slice_get c.held p ≡ Some facts.held
   pub may_draw : slice_get c.may_draw p ≡ Some facts.may_draw
   pub waits : (k : ℕ) → Has k facts.waits → IsWaitOf c.queue p k
+  pub all_waits : (k : ℕ) → IsWaitOf c.queue p k → Has k facts.waits
   pub once : IsDistinct facts.waits
   pub last : IsSince (state_at c.queue (number_at facts.doing)) (c.payloads (number_at facts.doing)) facts.last
 
@@ -143,6 +144,7 @@ DoorMayDraw c = (p : ℕ) → slice_get c.queue.doing p ≡ Some doing.Door → 
 -- no pass has this number yet
 pub record IsUnused (c : Hidden) (p : ℕ) : Type 0 where
   pub doing : slice_get c.queue.doing p ≡ Some doing.Idle
+  pub waits : (k : ℕ) → IsWaitOf c.queue p k → ⊥
 
 module _ {E S : Type 0} (names : ℕ → E → Bool) where
   -- what a view has seen of the history: how it begins, and all of it that names the view's own passes

@@ -1,11 +1,17 @@
 -- A look answers the cell that it found.
-use Rattle.std.proofs.Common.{◌≡◌, ℕ, ◌+◌, ◌-◌, Bool, List, Some, sym, ap, ◌∙◌, subst, arith}
+use Rattle.std.proofs.Common.{◌≡◌, ◌⊎◌, ℕ, ◌+◌, ◌-◌, Bool, List, Some, inl, inr, sym, ap, ◌∙◌, subst, arith}
 use Rattle.std.proofs.lemmas.Option.{same_Some}
+use Rattle.cqs_core.specs.declared.cells.CoreState.{CoreState}
+use Rattle.cqs_core.specs.declared.cells.CoreState.TheVariants as state
+use Rattle.cqs_words.specs.declared.cell.CellState.TheVariants as shown
 use Rattle.cqs_words.specs.declared.cell.CellWord.{CellWord}
 use Rattle.cqs_words.specs.Cell.{unpacked_cell}
 use Rattle.cqs_rule.specs.declared.view.View.{View}
 use Rattle.cqs_rule.specs.Hidden.{QueueStep}
-use Rattle.cqs_rule.specs.Loads.{LoadStep, counts, watches, polls, cancels, MayLook, Looked, Loaded}
+use Rattle.cqs_rule.specs.Loads.{LoadStep, counts, watches, polls, cancels, event_of, IsOfWait, IsStanding, MayLook, Looked, Loaded, facts_looked, look_entries}
+use Rattle.cqs_rule.specs.Ruled.{shown_state}
+use Rattle.cqs_rule.specs.Told.{Saw}
+use Rattle.cqs_rule.proofs.Crosses.{shown-injective}
 use Rattle.cqs_rule.proofs.CellLoads.{unpacks}
 use Rattle.cqs_cell.specs.Looks.{LooksAt}
 
@@ -25,3 +31,42 @@ module _ {E S : Type 0} (names : ℕ → E → Bool) (legal : ℕ → List E →
       let found = looked-at load v w k word n place may l in
       let same = same_Some _ cell (sym (unpacks k n found.glimpse found.cell) ∙ is) in
       record { word = n; looked = found; state = ap (λ (c : CellWord). c.state) same; payload = ap (λ (c : CellWord). c.payload) same }
+
+  -- what a look told that answered this state: the event that it names for such a cell, or none
+  looked-so : (load : LoadStep) (k : ℕ) (v w : View E S) (cell : CellWord) (x : CoreState) (l : LooksAt names legal gains entries load k v cell w)
+      → cell.state ≡ shown_state x
+      → Saw names legal v (facts_looked gains (event_of load x) k l.word v.facts) (look_entries entries (event_of load x) v.number k) w
+  looked-so load k v w cell x l is =
+      subst (λ z. Saw names legal v (facts_looked gains (event_of load z) k l.word v.facts) (look_entries entries (event_of load z) v.number k) w)
+      (shown-injective l.looked.glimpse.state x (l.state ∙ is)) l.looked.saw
+
+  -- the wait still stands
+  pub looked-waiter : (load : LoadStep) (k : ℕ) (v w : View E S) (cell : CellWord) (l : LooksAt names legal gains entries load k v cell w)
+      → cell.state ≡ shown.Waiter
+      → Saw names legal v (facts_looked gains (event_of load state.Waiter) k l.word v.facts)
+      (look_entries entries (event_of load state.Waiter) v.number k) w
+  looked-waiter load k v w cell l is = looked-so load k v w cell state.Waiter l is
+
+  -- it was served
+  pub looked-resumed : (load : LoadStep) (k : ℕ) (v w : View E S) (cell : CellWord) (l : LooksAt names legal gains entries load k v cell w)
+      → cell.state ≡ shown.Resumed
+      → Saw names legal v (facts_looked gains (event_of load state.Resumed) k l.word v.facts)
+      (look_entries entries (event_of load state.Resumed) v.number k) w
+  looked-resumed load k v w cell l is = looked-so load k v w cell state.Resumed l is
+
+  -- at a wait of its own a pass finds one of the two
+  pub waiter-or-resumed : (load : LoadStep) (k : ℕ) (v w : View E S) (cell : CellWord) → IsOfWait load → LooksAt names legal gains entries load k v cell w
+      → (cell.state ≡ shown.Waiter) ⊎ (cell.state ≡ shown.Resumed)
+  waiter-or-resumed load k v w cell of l = one-of l.looked.glimpse.state (l.looked.standing of) (sym l.state)
+    where
+      one-of : (x : CoreState) → IsStanding x → cell.state ≡ shown_state x → (cell.state ≡ shown.Waiter) ⊎ (cell.state ≡ shown.Resumed)
+      one-of state.Waiter standing is = inl is
+      one-of state.Resumed standing is = inr is
+      one-of state.Empty standing is = absurd standing
+      one-of state.Value standing is = absurd standing
+      one-of state.Taken standing is = absurd standing
+      one-of state.Broken standing is = absurd standing
+      one-of state.Cancelling standing is = absurd standing
+      one-of state.Delegated standing is = absurd standing
+      one-of state.Cancelled standing is = absurd standing
+      one-of state.Refused standing is = absurd standing

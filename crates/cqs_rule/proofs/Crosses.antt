@@ -63,6 +63,10 @@ back-shown state.Delegated = refl
 back-shown state.Cancelled = refl
 back-shown state.Refused = refl
 
+-- a word's state is that of one state
+pub shown-injective : (s t : CoreState) → shown_state s ≡ shown_state t → s ≡ t
+shown-injective s t same = sym (back-shown s) ∙ (ap back_state same ∙ back-shown t)
+
 -- one word is that of one cell
 pub word_of-injective : (j k : ℕ) (s t : CoreState) (p q : ℕ) → p < 2 ^ 20 → q < 2 ^ 20 → word_of j s p ≡ word_of k t q
     → (j ≡ k) × (s ≡ t) × (p ≡ q)
@@ -71,7 +75,7 @@ word_of-injective j k s t p q p_fits q_fits same =
     let low' = state_code-below (shown_state t) in
     let parts = cell_word-injective j k (state_code (shown_state s)) (state_code (shown_state t)) p q (omega arith) (omega arith) p_fits q_fits same in
     let states : shown_state s ≡ shown_state t = state_code-injective (shown_state s) (shown_state t) parts.1 in
-    (parts.0, sym (back-shown s) ∙ (ap back_state states ∙ back-shown t), parts.2)
+    (parts.0, shown-injective s t states, parts.2)
 
 -- the cell at which a pass works: it is made, and in one of these states
 record Works-at (q : Queue) (s : QueueStep) (k : ℕ) : Type 0 where

@@ -2,14 +2,13 @@
 use Rattle.std.proofs.Common.{◌≡◌, ⊎_elim, ℕ, ◌<◌, ◌^◌, Bool, List, [], ◌∷◌, Some, sym, refl, ap, ◌∙◌, subst, arith}
 use Rattle.cqs_core.specs.declared.cells.CoreState.{CoreState}
 use Rattle.cqs_core.specs.declared.cells.CoreState.TheVariants as state
-use Rattle.cqs_words.specs.declared.cell.CellState.TheVariants as shown
 use Rattle.cqs_rule.specs.declared.view.View.{View}
 use Rattle.cqs_rule.specs.declared.view.Facts.{Facts}
 use Rattle.cqs_rule.specs.declared.view.Glimpse.{Glimpse}
 use Rattle.cqs_rule.specs.declared.view.Sighting.{Sighting}
 use Rattle.cqs_rule.specs.declared.view.Sighting.TheVariants.{Cell}
 use Rattle.cqs_rule.specs.Hidden.{QueueStep, takes}
-use Rattle.cqs_rule.specs.Ruled.{IsSince, number_at, rank, shown_state, word_of}
+use Rattle.cqs_rule.specs.Ruled.{IsSince, number_at, rank, word_of}
 use Rattle.cqs_rule.specs.Told.{Crossed, FoundLast, Made, MayFind, Saw, Took, facts_after, facts_missed}
 use Rattle.cqs_rule.proofs.Calls.{saw-then}
 use Rattle.cqs_rule.proofs.Found.{found-then}
@@ -31,19 +30,6 @@ still-value now payload p may since = ⊎_elim (λ (t : (now ≡ state.Value) ×
     none state.Delegated m r = m
     none state.Cancelled m r = m
     none state.Refused m r = m
-
--- only a cell at Value shows Value
-pub value-shown : (s : CoreState) → shown_state s ≡ shown.Value → s ≡ state.Value
-value-shown state.Value e = refl
-value-shown state.Empty e = absurd (cc)
-value-shown state.Waiter e = absurd (cc)
-value-shown state.Taken e = absurd (cc)
-value-shown state.Broken e = absurd (cc)
-value-shown state.Resumed e = absurd (cc)
-value-shown state.Cancelling e = absurd (cc)
-value-shown state.Delegated e = absurd (cc)
-value-shown state.Cancelled e = absurd (cc)
-value-shown state.Refused e = absurd (cc)
 
 module _ {E S : Type 0} (names : ℕ → E → Bool) (legal : ℕ → List E → Type 0) (gains : ℕ → ℕ) (entries : QueueStep → ℕ → ℕ → List E) where
   -- the exchange of a value that was found before is made

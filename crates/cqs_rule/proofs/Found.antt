@@ -9,7 +9,8 @@ use Rattle.cqs_rule.specs.Hidden.{QueueStep, draws, reaches, installs, leaves, t
 use Rattle.cqs_rule.specs.Told.{FoundLast, IsExchange, facts_after}
 
 -- an exchange that was made found one word
-pub found-made : (gains : ℕ → ℕ) (s : QueueStep) (k n : ℕ) (f : Facts) → IsExchange s → (facts_after gains s k n f).found ≡ f.found ++ Cell k n ∷ []
+pub found-made : (gains : ℕ → ℕ) (s : QueueStep) (k n : ℕ) (f : Facts) → IsExchange s
+    → (facts_after gains s k n f).found ≡ f.found ++ Cell k n ∷ []
 found-made gains draws k n f e = absurd e
 found-made gains reaches k n f e = absurd e
 found-made gains installs k n f e = refl
@@ -19,7 +20,7 @@ found-made gains serves k n f e = refl
 found-made gains (looks event) k n f e = absurd e
 
 module _ {E S : Type 0} where
-  -- the same, seen from further back
+  -- The pass came from v to u and found these words meanwhile: what it found last since u, it found last since v.
   pub found-then : (since more : List Sighting) (k : ℕ) (g : Glimpse) (v u w : View E S) → u.facts.found ≡ v.facts.found ++ more
       → FoundLast since k g u w → FoundLast (more ++ since) k g v w
   found-then since more k g v u w is f =
@@ -31,7 +32,7 @@ module _ {E S : Type 0} where
             ∙ (append_assoc v.facts.found more (since ++ here) ∙ ap (λ (l : List Sighting). v.facts.found ++ l) (sym (append_assoc more since here))));
       }
 
-  -- the same, where nothing was found before
+  -- the same, where it found nothing meanwhile
   pub found-here : (since : List Sighting) (j k : ℕ) (g : Glimpse) (v u w : View E S) → u.facts.found ≡ v.facts.found → j ≡ k
       → FoundLast since j g u w → FoundLast since k g v w
   found-here since j k g v u w is same f =

@@ -19,7 +19,7 @@ client_place i = 16 * i + 48
 abbrev pub cell_place : ℕ → ℕ
 cell_place k = k + 112
 
--- a word between these, which nobody writes: it stands before the cells, and is none of the others
+-- a word between these: it stands before the cells, and is none of the crew's, the counters' and the client's
 pub record IsIdle (i : ℕ) : Type 0 where
   pub before : i < cell_place 0
   pub crew : i ≢ crew_place

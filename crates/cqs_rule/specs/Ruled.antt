@@ -73,7 +73,7 @@ pub record CellsShow (c : Hidden) (cells : ℕ) (words : List ℕ) : Type 0 wher
   pub bare : (k : ℕ) → IsBare (state_at c.queue k) → c.payloads k ≡ 0
   pub plain : (k : ℕ) → IsPlain (state_at c.queue k)
 
--- the words between hold nothing
+-- nobody writes the words between: they hold 0 from the opening on
 pub record IdleWords (words : List ℕ) : Type 0 where
   pub none : (i : ℕ) → IsIdle i → slice_index words i ≡ 0
 

@@ -2,7 +2,6 @@
 use Rattle.std.proofs.Common.{◌≡◌, ◌≢◌, ℕ, Bool, List, [], ◌∷◌, ◌++◌, Some, sym, refl, ap, ◌∙◌, subst, inl}
 use Rattle.cqs_core.specs.declared.cells.CoreState.{CoreState}
 use Rattle.cqs_core.specs.declared.cells.CoreState.TheVariants as state
-use Rattle.cqs_core.specs.declared.doings.Doing.TheVariants as doing
 use Rattle.cqs_words.specs.declared.cell.CellState.{CellState}
 use Rattle.cqs_words.specs.declared.cell.CellState.TheVariants as shown
 use Rattle.cqs_rule.specs.declared.view.View.{View}
@@ -35,11 +34,6 @@ found-value state.Cancelled m other = absurd m
 found-value state.Refused m other = absurd m
 
 module _ {E S : Type 0} (names : ℕ → E → Bool) (legal : ℕ → List E → Type 0) (gains : ℕ → ℕ) (entries : QueueStep → ℕ → ℕ → List E) where
-  -- what the pass is at after the draw
-  pub drawn-number : (k : ℕ) (v u : View E S) → Saw names legal v (facts_after gains draws k k v.facts) (entries draws v.number k) u
-      → u.facts.doing ≡ doing.Drawn k
-  drawn-number k v u s = ap (λ (f : Facts). f.doing) s.facts_are
-
   pub waited : (k new : ℕ) (v u w : View E S) → Saw names legal v (facts_after gains draws k k v.facts) (entries draws v.number k) u
       → Made names legal gains entries installs 0 new u w → Waited names legal gains entries k v w
   waited k new v u w s m =

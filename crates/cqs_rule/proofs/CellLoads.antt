@@ -318,13 +318,6 @@ module _ {E S : Type 0} (names : ℕ → E → Bool) (legal : ℕ → List E →
   loaded-ends polls word n v w inside may l closed = looked-ends polls (word - 112) n v w inside (has-number v word may) l closed
   loaded-ends cancels word n v w inside may l closed = looked-ends cancels (word - 112) n v w inside (has-number v word may) l closed
 
-  -- the pass holds no more than fits 32 bits
-  pub loaded-fits : (load : LoadStep) (word n : ℕ) (v w : View E S) → Loaded names legal gains entries load word v n w → w.facts.held < 2 ^ 32
-  loaded-fits counts word n v w l = l.held
-  loaded-fits watches word n v w l = l.saw.held
-  loaded-fits polls word n v w l = l.saw.held
-  loaded-fits cancels word n v w l = l.saw.held
-
 -- the word is one of the table's
 pub load-low : {E S : Type 0} (load : LoadStep) (v : View E S) (word : ℕ) → IsInside v → MayLoad load v word → word < v.cells + 112
 load-low counts v word inside may = let n = inside.number in let place : word ≡ 16 = may in omega arith

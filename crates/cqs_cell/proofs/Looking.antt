@@ -74,3 +74,6 @@ module _ {E S : Type 0} (names : ℕ → E → Bool) (legal : ℕ → List E →
       one-of state.Delegated standing is = absurd standing
       one-of state.Cancelled standing is = absurd standing
       one-of state.Refused standing is = absurd standing
+
+-- what `look` is proved by
+pub ruleset looking = (looks-at)

@@ -17,13 +17,14 @@ use Rattle.cqs_core.proofs.Places.{get-set_here, get-set_else}
 use Rattle.cqs_rule.specs.declared.view.View.{View}
 use Rattle.cqs_rule.specs.declared.view.Facts.{Facts}
 use Rattle.cqs_rule.specs.Hidden.{Hidden, QueueStep, draws, reaches, installs, leaves, takes, serves, looks, happened}
-use Rattle.cqs_rule.specs.Layout.{client_words}
+use Rattle.cqs_rule.specs.Layout.{suspends_place, resumes_place, words_for, client_words}
 use Rattle.cqs_rule.specs.Views.{grown}
 use Rattle.cqs_rule.specs.Ruled.{Ruled}
 use Rattle.cqs_rule.specs.Client.{IsClient}
 use Rattle.cqs_rule.specs.Told.{drew, facts_after, IsCount}
 use Rattle.cqs_rule.proofs.Lists.{fewer_draw}
 use Rattle.cqs_rule.proofs.Cells.{drawn-state, reached-state}
+use Rattle.cqs_rule.proofs.CellPlaces.{behind-suspends, behind-resumes, front-inside}
 use Rattle.cqs_rule.proofs.Words.{this-word, crew-else, cells-else, client-below, idle-else, other-word}
 use Rattle.cqs_rule.proofs.Grow.{Turned}
 use Rattle.cqs_rule.proofs.Others.{others-drawn, others-reached, drawn-self, reached-self, door-keeps, may-else}
@@ -72,15 +73,14 @@ module _ {E S : Type 0} (names : ℕ → E → Bool) (legal : ℕ → List E →
       let low = suspends-low passes limit values c r.room in
       let sound : IsSound c.queue = client.sound c (client_words s.words) r.log r.handed r.shown in
       let next : x ≡ k + 1 = omega arith in
-      let wide = r.wide in
       let d = happened gains c draws p n found f.payload in
       let t : Turned names shows passes limit values size s r v 16 x d (entries draws p n) (facts_after gains draws n n f) = record {
         crew = crew-else s.words 16 x (omega arith);
         counters = record {
-          suspends = this-word s.words 16 x (omega arith) ∙ next;
+          suspends = this-word s.words 16 x (front-inside 16 (limit + passes + values) (length s.words) (behind-suspends 0) r.wide) ∙ next;
           resumes = other-word s.words 16 32 x (λ e. omega arith) ∙ r.counters.resumes;
         };
-        cells = cells-else c d (limit + passes + values) s.words 16 x (omega arith) (λ j. drawn-state gains c p n f.payload found j refl) (λ j. refl) r.cells;
+        cells = cells-else c d (limit + passes + values) s.words 16 x behind-suspends (λ j. drawn-state gains c p n f.payload found j refl) (λ j. refl) r.cells;
         idle_words = idle-else s.words 16 x (λ j is. is.suspends) r.idle_words;
         room = record {
           few_passes = r.room.few_passes;
@@ -120,15 +120,14 @@ module _ {E S : Type 0} (names : ℕ → E → Bool) (legal : ℕ → List E →
       let ground = r.room.ground in
       let low = resumes-low passes limit values c r.room in
       let next : x ≡ k + 1 = omega arith in
-      let wide = r.wide in
       let d = happened gains c reaches p n found f.payload in
       let t : Turned names shows passes limit values size s r v 32 x d (entries reaches p n) (facts_after gains reaches n n f) = record {
         crew = crew-else s.words 32 x (omega arith);
         counters = record {
           suspends = other-word s.words 32 16 x (λ e. omega arith) ∙ r.counters.suspends;
-          resumes = this-word s.words 32 x (omega arith) ∙ next;
+          resumes = this-word s.words 32 x (front-inside 32 (limit + passes + values) (length s.words) (behind-resumes 0) r.wide) ∙ next;
         };
-        cells = cells-else c d (limit + passes + values) s.words 32 x (omega arith) (λ j. reached-state gains c p n f.payload found j) (λ j. refl) r.cells;
+        cells = cells-else c d (limit + passes + values) s.words 32 x behind-resumes (λ j. reached-state gains c p n f.payload found j) (λ j. refl) r.cells;
         idle_words = idle-else s.words 32 x (λ j is. is.resumes) r.idle_words;
         room = record {
           few_passes = r.room.few_passes;
@@ -166,11 +165,15 @@ module _ {E S : Type 0} (names : ℕ → E → Bool) (legal : ℕ → List E →
   count slots id me serves word amount by one is c = absurd c
   count slots id me (looks e) word amount by one is c = absurd c
 
-pub counter-low : (t : QueueStep) (facts : Facts) (word : ℕ) (by : ℤ) → IsCount t facts word by → word < 112
-counter-low draws facts word by c = let e = c.1 in omega arith
-counter-low reaches facts word by c = let e = c.1 in omega arith
-counter-low installs facts word by c = absurd c
-counter-low leaves facts word by c = absurd c
-counter-low takes facts word by c = absurd c
-counter-low serves facts word by c = absurd c
-counter-low (looks e) facts word by c = absurd c
+-- the word of a counter is one of the table's
+pub counter-low : (t : QueueStep) (facts : Facts) (word : ℕ) (by : ℤ) → IsCount t facts word by
+    → (cells : ℕ) → word < words_for cells
+counter-low draws facts word by c cells =
+    subst (λ z. z < words_for cells) (sym c.1) (front-inside suspends_place cells (words_for cells) (behind-suspends 0) (omega arith))
+counter-low reaches facts word by c cells =
+    subst (λ z. z < words_for cells) (sym c.1) (front-inside resumes_place cells (words_for cells) (behind-resumes 0) (omega arith))
+counter-low installs facts word by c cells = absurd c
+counter-low leaves facts word by c cells = absurd c
+counter-low takes facts word by c cells = absurd c
+counter-low serves facts word by c cells = absurd c
+counter-low (looks e) facts word by c cells = absurd c

@@ -15,7 +15,7 @@ use Rattle.cqs_rule.specs.declared.view.View.{View}
 use Rattle.cqs_rule.specs.declared.view.Facts.{Facts}
 use Rattle.cqs_rule.specs.declared.view.Glimpse.{Glimpse}
 use Rattle.cqs_rule.specs.Hidden.{Hidden, LookEvent, pends, grants, late, state_seen, QueueStep, looks, happened, state_in, state_at}
-use Rattle.cqs_rule.specs.Layout.{suspends_place, cell_place, cell_number, words_for, client_words}
+use Rattle.cqs_rule.specs.Layout.{cell_place, cell_number, words_for, client_words}
 use Rattle.cqs_rule.specs.Lists.{Has, without}
 use Rattle.cqs_rule.specs.Inside.{IsInside}
 use Rattle.cqs_rule.specs.Views.{grown}
@@ -23,7 +23,7 @@ use Rattle.cqs_rule.specs.Ruled.{Ruled, Stands, CellsShow, IsWaitOf, IsInstalled
 use Rattle.cqs_rule.specs.Client.{IsClient}
 use Rattle.cqs_rule.specs.Loads.{LoadStep, counts, watches, polls, cancels, event_of, IsOfWait, IsStanding, is_resumed, is_served, closes, MayLook, MayLoad, Looked, Loaded, loaded_by, facts_looked, look_entries}
 use Rattle.cqs_rule.specs.Told.{Saw, FoundCell, facts_after}
-use Rattle.cqs_rule.proofs.CellPlaces.{number-at, behind-suspends, cell-inside, front-inside}
+use Rattle.cqs_rule.proofs.CellPlaces.{number-at, cell-inside, suspends-inside}
 use Rattle.cqs_rule.proofs.Cells.{looked-suspends, looked-resumes, looked-doing, looked-state}
 use Rattle.cqs_rule.proofs.Crosses.{held-long}
 use Rattle.cqs_rule.proofs.Others.{others-looked, looked-self, door-keeps}
@@ -330,14 +330,11 @@ module _ {E S : Type 0} (names : ℕ → E → Bool) (legal : ℕ → List E →
 
 module _ {E S : Type 0} (v : View E S) (word : ℕ) where
   cell-low : (k : ℕ) → word ≡ cell_place k → k < v.cells → word < words_for v.cells
-  cell-low k place below =
-      subst (λ z. z < words_for v.cells) (sym place) (cell-inside k v.cells (words_for v.cells) below (omega arith))
+  cell-low k place below = subst (λ z. z < words_for v.cells) (sym place) (cell-inside k v.cells below)
 
   -- the word is one of the table's
   pub load-low : (load : LoadStep) → IsInside v → MayLoad load v word → word < words_for v.cells
-  load-low counts inside place =
-      subst (λ z. z < words_for v.cells) (sym place)
-          (front-inside suspends_place v.cells (words_for v.cells) (behind-suspends 0) (omega arith))
+  load-low counts inside place = subst (λ z. z < words_for v.cells) (sym place) (suspends-inside v.cells)
   load-low watches inside may = cell-low may.0 may.1 may.2
   load-low polls inside may = cell-low may.0 may.1 (inside.waits may.0 may.2.1)
   load-low cancels inside may = cell-low may.0 may.1 (inside.waits may.0 may.2.1)

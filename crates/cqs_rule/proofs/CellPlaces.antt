@@ -1,5 +1,5 @@
--- Where the cells stand among the words of a table. Steps cite these lemmas: no other opens what a place is made of.
-use Rattle.std.proofs.Common.{◌≡◌, ◌≢◌, ℕ, ◌<◌, ◌≤◌, ap, ◌∙◌, arith}
+-- Where the cells stand among the words of a table. Steps cite these lemmas: but for them, only what opens a queue says what a place is.
+use Rattle.std.proofs.Common.{◌≡◌, ◌≢◌, ℕ, ◌<◌, ap, ◌∙◌, arith}
 use Rattle.cqs_rule.specs.Layout.{crew_place, suspends_place, resumes_place, client_place, cell_place, cell_number, words_for, IsIdle}
 
 -- the number of the cell that stands at the place of k is k
@@ -26,15 +26,18 @@ behind-resumes k = omega arith
 pub behind-client : (i k : ℕ) → i < 4 → client_place i < cell_place k
 behind-client i k few = omega arith
 
-pub behind-front : (i k : ℕ) → i < cell_place 0 → i < cell_place k
-behind-front i k front = omega arith
-
 pub idle-apart : (i k : ℕ) → IsIdle i → i ≢ cell_place k
 idle-apart i k is same = let before = is.before in omega arith
 
--- a cell below the count stands inside the table, and so does each word before the cells
-pub cell-inside : (k cells long : ℕ) → k < cells → words_for cells ≤ long → cell_place k < long
-cell-inside k cells long below wide = omega arith
+-- a cell below the count stands inside the table, and so does each other word
+pub cell-inside : (k cells : ℕ) → k < cells → cell_place k < words_for cells
+cell-inside k cells below = omega arith
 
-pub front-inside : (i cells long : ℕ) → i < cell_place 0 → words_for cells ≤ long → i < long
-front-inside i cells long front wide = omega arith
+pub suspends-inside : (cells : ℕ) → suspends_place < words_for cells
+suspends-inside cells = omega arith
+
+pub resumes-inside : (cells : ℕ) → resumes_place < words_for cells
+resumes-inside cells = omega arith
+
+pub client-inside : (i cells : ℕ) → i < 4 → client_place i < words_for cells
+client-inside i cells few = omega arith

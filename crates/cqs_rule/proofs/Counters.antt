@@ -17,14 +17,14 @@ use Rattle.cqs_core.proofs.Places.{get-set_here, get-set_else}
 use Rattle.cqs_rule.specs.declared.view.View.{View}
 use Rattle.cqs_rule.specs.declared.view.Facts.{Facts}
 use Rattle.cqs_rule.specs.Hidden.{Hidden, QueueStep, draws, reaches, installs, leaves, takes, serves, looks, happened}
-use Rattle.cqs_rule.specs.Layout.{suspends_place, resumes_place, words_for, client_words}
+use Rattle.cqs_rule.specs.Layout.{words_for, client_words}
 use Rattle.cqs_rule.specs.Views.{grown}
 use Rattle.cqs_rule.specs.Ruled.{Ruled}
 use Rattle.cqs_rule.specs.Client.{IsClient}
 use Rattle.cqs_rule.specs.Told.{drew, facts_after, IsCount}
 use Rattle.cqs_rule.proofs.Lists.{fewer_draw}
 use Rattle.cqs_rule.proofs.Cells.{drawn-state, reached-state}
-use Rattle.cqs_rule.proofs.CellPlaces.{behind-suspends, behind-resumes, front-inside}
+use Rattle.cqs_rule.proofs.CellPlaces.{behind-suspends, behind-resumes, suspends-inside, resumes-inside}
 use Rattle.cqs_rule.proofs.Words.{this-word, crew-else, cells-else, client-below, idle-else, other-word}
 use Rattle.cqs_rule.proofs.Grow.{Turned}
 use Rattle.cqs_rule.proofs.Others.{others-drawn, others-reached, drawn-self, reached-self, door-keeps, may-else}
@@ -73,11 +73,13 @@ module _ {E S : Type 0} (names : ℕ → E → Bool) (legal : ℕ → List E →
       let low = suspends-low passes limit values c r.room in
       let sound : IsSound c.queue = client.sound c (client_words s.words) r.log r.handed r.shown in
       let next : x ≡ k + 1 = omega arith in
+      let inside = suspends-inside (limit + passes + values) in
+      let wide = r.wide in
       let d = happened gains c draws p n found f.payload in
       let t : Turned names shows passes limit values size s r v 16 x d (entries draws p n) (facts_after gains draws n n f) = record {
         crew = crew-else s.words 16 x (omega arith);
         counters = record {
-          suspends = this-word s.words 16 x (front-inside 16 (limit + passes + values) (length s.words) (behind-suspends 0) r.wide) ∙ next;
+          suspends = this-word s.words 16 x (omega arith) ∙ next;
           resumes = other-word s.words 16 32 x (λ e. omega arith) ∙ r.counters.resumes;
         };
         cells = cells-else c d (limit + passes + values) s.words 16 x behind-suspends (λ j. drawn-state gains c p n f.payload found j refl) (λ j. refl) r.cells;
@@ -120,12 +122,14 @@ module _ {E S : Type 0} (names : ℕ → E → Bool) (legal : ℕ → List E →
       let ground = r.room.ground in
       let low = resumes-low passes limit values c r.room in
       let next : x ≡ k + 1 = omega arith in
+      let inside = resumes-inside (limit + passes + values) in
+      let wide = r.wide in
       let d = happened gains c reaches p n found f.payload in
       let t : Turned names shows passes limit values size s r v 32 x d (entries reaches p n) (facts_after gains reaches n n f) = record {
         crew = crew-else s.words 32 x (omega arith);
         counters = record {
           suspends = other-word s.words 32 16 x (λ e. omega arith) ∙ r.counters.suspends;
-          resumes = this-word s.words 32 x (front-inside 32 (limit + passes + values) (length s.words) (behind-resumes 0) r.wide) ∙ next;
+          resumes = this-word s.words 32 x (omega arith) ∙ next;
         };
         cells = cells-else c d (limit + passes + values) s.words 32 x behind-resumes (λ j. reached-state gains c p n f.payload found j) (λ j. refl) r.cells;
         idle_words = idle-else s.words 32 x (λ j is. is.resumes) r.idle_words;
@@ -169,9 +173,9 @@ module _ {E S : Type 0} (names : ℕ → E → Bool) (legal : ℕ → List E →
 pub counter-low : (t : QueueStep) (facts : Facts) (word : ℕ) (by : ℤ) → IsCount t facts word by
     → (cells : ℕ) → word < words_for cells
 counter-low draws facts word by c cells =
-    subst (λ z. z < words_for cells) (sym c.1) (front-inside suspends_place cells (words_for cells) (behind-suspends 0) (omega arith))
+    subst (λ z. z < words_for cells) (sym c.1) (suspends-inside cells)
 counter-low reaches facts word by c cells =
-    subst (λ z. z < words_for cells) (sym c.1) (front-inside resumes_place cells (words_for cells) (behind-resumes 0) (omega arith))
+    subst (λ z. z < words_for cells) (sym c.1) (resumes-inside cells)
 counter-low installs facts word by c cells = absurd c
 counter-low leaves facts word by c cells = absurd c
 counter-low takes facts word by c cells = absurd c

@@ -292,6 +292,8 @@ module _ {E S : Type 0} (names : ℕ → E → Bool) (legal : ℕ → List E →
       let n = slice_index s.words (cell_place k) in
       let x = word_of k (state_after t) (payload_made t f.payload) in
       let d = happened gains c t p k (Some cell) f.payload in
+      let inside = cell-inside k (limit + passes + values) below in
+      let wide = r.wide in
       let does : slice_get c.queue.doing p ≡ Some (works_at t k) = at.doing ∙ ap Some works in
       let suspends = exchange-suspends gains c p k f.payload t cell e in
       let resumes = exchange-resumes gains c p k f.payload t cell e in
@@ -304,7 +306,7 @@ module _ {E S : Type 0} (names : ℕ → E → Bool) (legal : ℕ → List E →
       let turned : Turned names shows passes limit values size s r v (cell_place k) x d (entries t p k) (facts_after gains t k n f) = record {
         crew = crew-else s.words (cell_place k) x (behind-crew k);
         counters = counters-else c.queue d.queue s.words (cell_place k) x (behind-resumes k) suspends resumes r.counters;
-        cells = cells-crossed c (limit + passes + values) s.words t p k f.payload cell e there before fits (cell-inside k (limit + passes + values) (length s.words) below r.wide) r.cells;
+        cells = cells-crossed c (limit + passes + values) s.words t p k f.payload cell e there before fits (omega arith) r.cells;
         idle_words = idle-else s.words (cell_place k) x (λ j is. idle-apart j k is) r.idle_words;
         room = record {
           few_passes = r.room.few_passes;

@@ -15,7 +15,7 @@ use Rattle.cqs_rule.specs.Views.{grown}
 use Rattle.cqs_rule.specs.Ruled.{Ruled}
 use Rattle.cqs_rule.specs.Client.{IsClient}
 use Rattle.cqs_rule.specs.Told.{Moved, facts_moved, Moves, added}
-use Rattle.cqs_rule.proofs.CellPlaces.{behind-client, front-inside}
+use Rattle.cqs_rule.proofs.CellPlaces.{behind-client, client-inside}
 use Rattle.cqs_rule.proofs.Words.{crew-else, counters-else, cells-else, idle-else, client-at, client-set}
 use Rattle.cqs_rule.proofs.Grow.{Turned}
 use Rattle.cqs_rule.proofs.Others.{others-moved, door-keeps}
@@ -43,6 +43,8 @@ module _ {E S : Type 0} (names : ℕ → E → Bool) (legal : ℕ → List E →
       let d = stands_at c p now holding in
       let es = shown p facts.doing n in
       let is : slice_index (client_words s.words) i ≡ n = client-at s.words i few in
+      let wide : (j : ℕ) → j < 4 → client_place j < length s.words =
+      λ j low. let inside = client-inside j (limit + passes + values) low in let long = r.wide in omega arith in
       let t : Turned names shows passes limit values size s r v word (f n) d es (facts_moved now holding (payload facts.payload) facts) = record {
         crew = crew-else s.words word (f n) (omega arith);
         counters = counters-else c.queue d.queue s.words word (f n) (omega arith) refl refl r.counters;
@@ -65,7 +67,7 @@ module _ {E S : Type 0} (names : ℕ → E → Bool) (legal : ℕ → List E →
             (λ (there : facts.doing ≡ doing.Door). r.door p (at.doing ∙ ap Some there))
             (λ (may : facts.may_draw ≡ true). at.may_draw ∙ ap Some may)
             (law.door n door));
-        shown = subst (λ (ws : List ℕ). shows d ws (r.log ++ es) r.handed) (sym (client-set s.words i (f n) few (λ j front. front-inside j (limit + passes + values) (length s.words) front r.wide)))
+        shown = subst (λ (ws : List ℕ). shows d ws (r.log ++ es) r.handed) (sym (client-set s.words i (f n) few wide))
             (subst (λ z. shows (stands_at c p (goes facts.doing z) (holds (made z) facts.held z)) (slice_set (client_words s.words) i (f z)) (r.log ++ shown p facts.doing z) r.handed) is
             (law.step c (client_words s.words) r.log r.handed r.shown at.doing at.held (suspends-low passes limit values c r.room) (resumes-low passes limit values c r.room) (subst (λ z. z < 2 ^ 64) (sym is) small)));
         others = others-moved c p now holding;

@@ -19,7 +19,7 @@ use Rattle.cqs_rule.specs.Views.{first_view, all_own, first_facts}
 use Rattle.cqs_core.specs.declared.cells.CoreCell.{CoreCell}
 use Rattle.cqs_rule.specs.Ruled.{Ruled, Knows, IsWaitOf, IsInstalled, IsBare, IsPlain, word_of, Stands}
 use Rattle.cqs_rule.specs.Opened.{value_cell, first_payload, first_hidden, four, first_word, first_cell, IsOpening}
-use Rattle.cqs_rule.proofs.CellPlaces.{number-place}
+use Rattle.cqs_rule.proofs.CellPlaces.{number-place, cell-inside}
 use Rattle.cqs_rule.proofs.Lists.{all_draw}
 
 module _ {A : Type 0} where
@@ -93,7 +93,7 @@ module _ {E S : Type 0} (names : ℕ → E → Bool) (shows : Hidden → List �
     };
     counters = record { suspends = o.at 16 (omega arith); resumes = o.at 32 (omega arith) };
     cells = record {
-      at = λ k below. o.at (cell_place k) (omega arith) ∙ (first-cell-at values k client ∙ cell-is k (cases_lt k values));
+      at = λ k below. o.at (cell_place k) (cell-inside k (limit + passes + values) below) ∙ (first-cell-at values k client ∙ cell-is k (cases_lt k values));
       fits = λ k. payload-fits k (cases_lt k values);
       bare = λ k is. payload-bare k is (cases_lt k values);
       plain = λ k. is-plain k (cases_lt k values);
@@ -224,7 +224,7 @@ opens-by names shows config passes values values' size held words items client h
     let b = config-bounds config good in
     let any : 0 < passes = let h = b.some_passes in omega arith in
     let low : passes ≤ 32 = let h = b.few_passes in omega arith in
-    let count : words_for (config.limit + config.passes + values') ≡ words_for (config.limit + passes + values) = omega arith in
+    let count : config.limit + config.passes + values' ≡ config.limit + passes + values = omega arith in
     let whole : IsOpening (words_for (config.limit + passes + values)) values client words =
-        subst (λ (t : ℕ × List ℕ). IsOpening t.0 values client t.1) (λ i. (count i, sym is_words i)) o in
+    subst (λ (t : ℕ × List ℕ). IsOpening (words_for t.0) values client t.1) (λ i. (count i, sym is_words i)) o in
     opens names shows passes config.limit values size held words client homes whole any low b.some_limit b.low_limit few (begins passes any low)

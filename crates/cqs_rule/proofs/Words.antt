@@ -15,7 +15,7 @@ this-word words i x below = get_or-set_same words i x 0 below
 -- the crew's word is another
 pub crew-else : (words : List ℕ) (i x : ℕ) → crew_place < i
     → slice_index (slice_set words i x) crew_place ≡ slice_index words crew_place
-crew-else words i x above = other-word words i 0 x (λ e. omega arith)
+crew-else words i x above = other-word words i crew_place x (λ e. omega arith)
 
 pub counters-else : (q r : Queue) (words : List ℕ) (i x : ℕ) → resumes_place < i → r.suspends ≡ q.suspends → r.resumes ≡ q.resumes
     → CountersShow q words → CountersShow r (slice_set words i x)
@@ -57,18 +57,18 @@ client-at words (suc (suc zero)) low = refl
 client-at words (suc (suc (suc zero))) low = refl
 client-at words (suc (suc (suc (suc i)))) low = absurd (omega arith)
 
-pub client-set : (words : List ℕ) (i x : ℕ) → i < 4 → ((j : ℕ) → j < cell_place 0 → j < length words)
+pub client-set : (words : List ℕ) (i x : ℕ) → i < 4 → ((j : ℕ) → j < 4 → client_place j < length words)
     → client_words (slice_set words (client_place i) x) ≡ slice_set (client_words words) i x
 client-set words zero x low long = λ j.
-    this-word words 48 x (long 48 (omega arith)) j ∷ other-word words 48 64 x (λ e. omega arith) j ∷ other-word words 48 80 x (λ e. omega arith) j
+    this-word words 48 x (long 0 (omega arith)) j ∷ other-word words 48 64 x (λ e. omega arith) j ∷ other-word words 48 80 x (λ e. omega arith) j
     ∷ other-word words 48 96 x (λ e. omega arith) j ∷ []
 client-set words (suc zero) x low long = λ j.
-    other-word words 64 48 x (λ e. omega arith) j ∷ this-word words 64 x (long 64 (omega arith)) j ∷ other-word words 64 80 x (λ e. omega arith) j
+    other-word words 64 48 x (λ e. omega arith) j ∷ this-word words 64 x (long 1 (omega arith)) j ∷ other-word words 64 80 x (λ e. omega arith) j
     ∷ other-word words 64 96 x (λ e. omega arith) j ∷ []
 client-set words (suc (suc zero)) x low long = λ j.
-    other-word words 80 48 x (λ e. omega arith) j ∷ other-word words 80 64 x (λ e. omega arith) j ∷ this-word words 80 x (long 80 (omega arith)) j
+    other-word words 80 48 x (λ e. omega arith) j ∷ other-word words 80 64 x (λ e. omega arith) j ∷ this-word words 80 x (long 2 (omega arith)) j
     ∷ other-word words 80 96 x (λ e. omega arith) j ∷ []
 client-set words (suc (suc (suc zero))) x low long = λ j.
     other-word words 96 48 x (λ e. omega arith) j ∷ other-word words 96 64 x (λ e. omega arith) j ∷ other-word words 96 80 x (λ e. omega arith) j
-    ∷ this-word words 96 x (long 96 (omega arith)) j ∷ []
+    ∷ this-word words 96 x (long 3 (omega arith)) j ∷ []
 client-set words (suc (suc (suc (suc i)))) x low long = absurd (omega arith)

@@ -99,11 +99,14 @@ module _ {E S : Type 0} (names : ℕ → E → Bool) (legal : ℕ → List E →
     (entries : QueueStep → ℕ → ℕ → List E) (gains : ℕ → ℕ) (opened : List ℕ) (passes limit values size held : ℕ)
     (client : IsClient names (legal size) shows entries gains opened values held) where
   -- the owner of the wait k learns what became of it
-  learns : (s : State (Option S) (View E S)) (r : Ruled names shows passes limit values size s) (id : ℕ) (me : Me (Option S) (View E S)) (e : LookEvent) (k : ℕ) (w : IsWaitOf r.hidden.queue me.0.number k)
+  learns : (s : State (Option S) (View E S)) (r : Ruled names shows passes limit values size s) (id : ℕ)
+      (me : Me (Option S) (View E S)) (e : LookEvent) (k : ℕ) (w : IsWaitOf r.hidden.queue me.0.number k)
       → get_elem? s.views id ≡ some me.0 → me.0.weight ≡ 1 → me.0.facts.doing ≡ doing.Idle → w.cell.state ≡ state_seen e
-      → Steps names legal shows entries gains opened passes limit values size held client s id me (cell_place k) (slice_index s.words (cell_place k))
+      → Steps names legal shows entries gains opened passes limit values size held client s id me (cell_place k)
+      (slice_index s.words (cell_place k))
       (entries (looks e) me.0.number k) (facts_after gains (looks e) k (slice_index s.words (cell_place k)) me.0.facts)
-      (grown me.0 (facts_after gains (looks e) k (slice_index s.words (cell_place k)) me.0.facts) (r.log ++ entries (looks e) me.0.number k) r.handed)
+      (grown me.0 (facts_after gains (looks e) k (slice_index s.words (cell_place k)) me.0.facts)
+      (r.log ++ entries (looks e) me.0.number k) r.handed)
   learns s r id me e k w here one idle is =
       let v = me.0 in let p = v.number in let f = v.facts in let c = r.hidden in
       let at = (r.each_view id v here).stands (omega arith) in
@@ -113,10 +116,13 @@ module _ {E S : Type 0} (names : ℕ → E → Bool) (legal : ℕ → List E →
       let resumes = looked-resumes gains c p k f.payload e w.cell in
       let doings = looked-doing gains c p k f.payload e w.cell in
       let others = others-looked gains c p k f.payload w.cell w.there w.owner e in
-      steps names legal shows entries gains opened passes limit values size held client s r id me (cell_place k) n d (entries (looks e) p k) (facts_after gains (looks e) k n f) here one
-      (stays names legal shows entries gains opened passes limit values size held client s r v (cell_place k) d (entries (looks e) p k) (facts_after gains (looks e) k n f)
+      steps names legal shows entries gains opened passes limit values size held client s r id me (cell_place k) n d
+      (entries (looks e) p k) (facts_after gains (looks e) k n f) here one
+      (stays names legal shows entries gains opened passes limit values size held client s r v (cell_place k) d
+      (entries (looks e) p k) (facts_after gains (looks e) k n f)
       (record { suspends = r.counters.suspends ∙ sym suspends; resumes = r.counters.resumes ∙ sym resumes })
-      (cells-same c d (limit + passes + values) s.words (λ j. looked-state gains c p k f.payload e w.cell j w.there) (λ j. refl) r.cells)
+      (cells-same c d (limit + passes + values) s.words (λ j. looked-state gains c p k f.payload e w.cell j w.there)
+      (λ j. refl) r.cells)
       (record {
         few_passes = r.room.few_passes;
         low_limit = r.room.low_limit;
@@ -131,7 +137,8 @@ module _ {E S : Type 0} (names : ℕ → E → Bool) (legal : ℕ → List E →
       (λ q. let mine : slice_get c.queue.doing p ≡ Some doing.Door = ap (λ l. slice_get l p) (sym doings) ∙ q in r.door p mine))
       (client.steps c (looks e) p k (Some w.cell) f.payload (client_words s.words) r.log r.handed r.shown
       (record { does = at.doing ∙ ap Some idle; finds = w.there; at = is }, record { owner = w.owner; uncollected = w.uncollected })
-      (let l = suspends-low passes limit values c r.room in omega arith) (let l = resumes-low passes limit values c r.room in omega arith))
+      (let l = suspends-low passes limit values c r.room in omega arith)
+      (let l = resumes-low passes limit values c r.room in omega arith))
       others (looked-self gains c p k f.payload w.cell w.there w.owner e n f idle at) (client.silent (looks e) p k))
 
   -- a load of the cell of the number k
@@ -165,7 +172,8 @@ module _ {E S : Type 0} (names : ℕ → E → Bool) (legal : ℕ → List E →
       cell : FoundCell k n g
       cell = record {
         word = r.cells.at k below;
-        number = let a = r.room.low_limit in let b = r.room.few_passes in let d = r.room.few_values in let low = below in omega arith;
+        number = let a = r.room.low_limit in let b = r.room.few_passes in let d = r.room.few_values in
+            let low = below in omega arith;
         fits = r.cells.fits k;
         bare = r.cells.bare k;
       }
@@ -189,11 +197,13 @@ module _ {E S : Type 0} (names : ℕ → E → Bool) (legal : ℕ → List E →
       }
 
       by-event : (o : Option LookEvent) → o ≡ event_of load (state_at r.hidden.queue k)
-          → (w : View E S) × (a : Act (Option S)) × Valid s.homes me.1 a × Ruled names shows passes limit values size (stepped s (cell_place k) n id me.1 w a)
+          → (w : View E S) × (a : Act (Option S)) × Valid s.homes me.1 a
+          × Ruled names shows passes limit values size (stepped s (cell_place k) n id me.1 w a)
           × (Looked names legal gains entries load k v n w × (carried_after me.1 a ≡ me.1))
       by-event None is =
           let facts = facts_looked gains None k n f in
-          let done = looks-to names legal shows entries gains opened passes limit values size held client s r id me (cell_place k) facts here one
+          let done = looks-to names legal shows entries gains opened passes limit values size held client s r id me
+          (cell_place k) facts here one
           (record { doing = at.doing; held = at.held; may_draw = at.may_draw; waits = at.waits; all_waits = at.all_waits; once = at.once; last = at.last }) in
           (grown v facts (r.log ++ []) r.handed, keeps, tt, done.0, (told None _ is done.1, refl))
       by-event (Some e) is =
@@ -219,7 +229,8 @@ module _ {E S : Type 0} (names : ℕ → E → Bool) (legal : ℕ → List E →
   -- a load of the suspend counter, or of a cell
   pub loads : (slots id : ℕ) (me : Me (Option S) (View E S)) (load : LoadStep) (word : ℕ) → me.0.weight ≡ 1
       → MayLoad load me.0 word
-      → Allows (Ruled names shows passes limit values size) slots id me word (λ n. n) (loaded_by names legal gains entries load (step slots word 0 0 none) me)
+      → Allows (Ruled names shows passes limit values size) slots id me word (λ n. n)
+      (loaded_by names legal gains entries load (step slots word 0 0 none) me)
   loads slots id me counts word one may = counted-at names legal shows entries gains opened passes limit values size held client slots id me word one may
   loads slots id me watches word one may = loads-place slots id me watches word one may
   loads slots id me polls word one may = loads-place slots id me polls word one may
@@ -284,7 +295,8 @@ module _ (gains : ℕ → ℕ) (k n : ℕ) (f : Facts) where
   facts-ended (Some grants) e = (refl, refl)
   facts-ended (Some late) e = (refl, refl)
 
-module _ {E S : Type 0} (names : ℕ → E → Bool) (legal : ℕ → List E → Type 0) (entries : QueueStep → ℕ → ℕ → List E) (gains : ℕ → ℕ) where
+module _ {E S : Type 0} (names : ℕ → E → Bool) (legal : ℕ → List E → Type 0) (entries : QueueStep → ℕ → ℕ → List E)
+    (gains : ℕ → ℕ) where
   -- the load leaves what the pass holds, and the number of its waits
   abbrev Keeps : View E S → View E S → Type 0
   Keeps v w = (w.facts.held ≡ v.facts.held) × (length w.facts.waits ≡ length v.facts.waits)
@@ -296,12 +308,14 @@ module _ {E S : Type 0} (names : ℕ → E → Bool) (legal : ℕ → List E →
   looked-keeps : (load : LoadStep) (k n : ℕ) (v w : View E S) → Looked names legal gains entries load k v n w
       → closes load n ≡ false → Keeps v w
   looked-keeps load k n v w l open_yet =
-      let kept = facts-kept gains k n v.facts (event_of load l.glimpse.state) (sym (closes-ends load k n l.glimpse l.cell) ∙ open_yet) in
+      let kept = facts-kept gains k n v.facts (event_of load l.glimpse.state)
+      (sym (closes-ends load k n l.glimpse l.cell) ∙ open_yet) in
       (ap (λ (f : Facts). f.held) l.saw.facts_are ∙ kept.0, ap (λ (f : Facts). length f.waits) l.saw.facts_are ∙ ap length kept.1)
 
   pub loaded-keeps : (load : LoadStep) (word n : ℕ) (v w : View E S) → Loaded names legal gains entries load word v n w
       → closes load n ≡ false → Keeps v w
-  loaded-keeps counts word n v w l open_yet = (ap (λ (f : Facts). f.held) l.facts_are, ap (λ (f : Facts). length f.waits) l.facts_are)
+  loaded-keeps counts word n v w l open_yet =
+      (ap (λ (f : Facts). f.held) l.facts_are, ap (λ (f : Facts). length f.waits) l.facts_are)
   loaded-keeps watches word n v w l open_yet = looked-keeps watches (cell_number word) n v w l open_yet
   loaded-keeps polls word n v w l open_yet = looked-keeps polls (cell_number word) n v w l open_yet
   loaded-keeps cancels word n v w l open_yet = looked-keeps cancels (cell_number word) n v w l open_yet
@@ -310,7 +324,8 @@ module _ {E S : Type 0} (names : ℕ → E → Bool) (legal : ℕ → List E →
       → Looked names legal gains entries load k v n w → closes load n ≡ true
       → Ends v w
   looked-ends load k n v w inside has l closed =
-      let ended = facts-ended gains k n v.facts (event_of load l.glimpse.state) (sym (closes-ends load k n l.glimpse l.cell) ∙ closed) in (
+      let ended = facts-ended gains k n v.facts (event_of load l.glimpse.state)
+      (sym (closes-ends load k n l.glimpse l.cell) ∙ closed) in (
         ap (λ (f : Facts). f.held) l.saw.facts_are ∙ ended.0,
         ap (λ (f : Facts). length f.waits + 1) l.saw.facts_are ∙ (ap (λ (l : List ℕ). length l + 1) ended.1 ∙ inside.once k has),
       )
@@ -325,8 +340,10 @@ module _ {E S : Type 0} (names : ℕ → E → Bool) (legal : ℕ → List E →
       → closes load n ≡ true → Ends v w
   loaded-ends counts word n v w inside may l closed = absurd (cc)
   loaded-ends watches word n v w inside may l closed = absurd (cc)
-  loaded-ends polls word n v w inside may l closed = looked-ends polls (cell_number word) n v w inside (has-number v word may) l closed
-  loaded-ends cancels word n v w inside may l closed = looked-ends cancels (cell_number word) n v w inside (has-number v word may) l closed
+  loaded-ends polls word n v w inside may l closed = looked-ends polls (cell_number word) n v w inside
+      (has-number v word may) l closed
+  loaded-ends cancels word n v w inside may l closed = looked-ends cancels (cell_number word) n v w inside
+      (has-number v word may) l closed
 
 module _ {E S : Type 0} (v : View E S) (word : ℕ) where
   cell-low : (k : ℕ) → word ≡ cell_place k → k < v.cells → word < words_for v.cells

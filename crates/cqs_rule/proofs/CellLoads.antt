@@ -204,7 +204,15 @@ module _ {E S : Type 0} (names : ℕ → E → Bool) (legal : ℕ → List E →
           let facts = facts_looked gains None k n f in
           let done = looks-to names legal shows entries gains opened passes limit values size held client s r id me
           (cell_place k) facts here one
-          (record { doing = at.doing; held = at.held; may_draw = at.may_draw; waits = at.waits; all_waits = at.all_waits; once = at.once; last = at.last }) in
+          (record {
+            doing = at.doing;
+            held = at.held;
+            may_draw = at.may_draw;
+            waits = at.waits;
+            all_waits = at.all_waits;
+            once = at.once;
+            last = at.last;
+          }) in
           (grown v facts (r.log ++ []) r.handed, keeps, tt, done.0, (told None _ is done.1, refl))
       by-event (Some e) is =
           let seen = event-seen load (state_at c.queue k) e (sym is) in
@@ -231,7 +239,8 @@ module _ {E S : Type 0} (names : ℕ → E → Bool) (legal : ℕ → List E →
       → MayLoad load me.0 word
       → Allows (Ruled names shows passes limit values size) slots id me word (λ n. n)
       (loaded_by names legal gains entries load (step slots word 0 0 none) me)
-  loads slots id me counts word one may = counted-at names legal shows entries gains opened passes limit values size held client slots id me word one may
+  loads slots id me counts word one may =
+      counted-at names legal shows entries gains opened passes limit values size held client slots id me word one may
   loads slots id me watches word one may = loads-place slots id me watches word one may
   loads slots id me polls word one may = loads-place slots id me polls word one may
   loads slots id me cancels word one may = loads-place slots id me cancels word one may

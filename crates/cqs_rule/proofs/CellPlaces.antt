@@ -1,4 +1,4 @@
--- Where the cells stand among the words of a table. Steps cite these lemmas: but for them, only what opens a queue says what a place is.
+-- Where the cells stand among the words of a table. Steps cite these lemmas; else only what opens a queue computes a place.
 use Rattle.std.proofs.Common.{◌≡◌, ◌≢◌, ℕ, ◌<◌, ap, ◌∙◌, arith}
 use Rattle.cqs_rule.specs.Layout.{crew_place, suspends_place, resumes_place, client_place, cell_place, cell_number, words_for, IsIdle}
 

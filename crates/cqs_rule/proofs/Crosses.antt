@@ -29,7 +29,7 @@ use Rattle.cqs_rule.specs.Layout.{cell_place, client_words}
 use Rattle.cqs_rule.specs.Views.{grown}
 use Rattle.cqs_rule.specs.Ruled.{Ruled, Stands, CellsShow, IsWaitOf, IsBare, IsPlain, number_at, shown_state, word_of}
 use Rattle.cqs_rule.specs.Client.{IsClient}
-use Rattle.cqs_rule.specs.Told.{crossed, facts_after, facts_missed, works_at, state_before, state_after, payload_made, IsExchange, IsCrossing, MayFind}
+use Rattle.cqs_rule.specs.Told.{FoundCell, crossed, facts_after, facts_missed, works_at, state_before, state_after, payload_made, IsExchange, IsCrossing, MayFind}
 use Rattle.cqs_rule.proofs.Cells.{changed_here, exchange-suspends, exchange-resumes, exchange-doing, exchange-here, exchange-else, new_cell}
 use Rattle.cqs_rule.proofs.CellPlaces.{cells-apart, behind-crew, behind-resumes, behind-client, idle-apart, cell-inside}
 use Rattle.cqs_rule.proofs.Words.{this-word, other-word, crew-else, counters-else, idle-else, client-above}
@@ -261,8 +261,8 @@ module _ {E S : Type 0} (names : ℕ → E → Bool) (legal : ℕ → List E →
       (slice_set words (cell_place k) (word_of k (state_after s) (payload_made s payload)))
   cells-crossed c cells words s p k payload cell e there before fits wide show = record {
     at = λ j below. ⊎_elim
-        (λ (q : j ≡ k). subst (λ z. slice_index (slice_set words (cell_place k) x) (cell_place z) ≡ word_of z (state_at d.queue z)
-        (d.payloads z)) (sym q)
+        (λ (q : j ≡ k). subst
+        (λ z. slice_index (slice_set words (cell_place k) x) (cell_place z) ≡ word_of z (state_at d.queue z) (d.payloads z)) (sym q)
         (this-word words (cell_place k) x wide ∙ sym (λ i. word_of k (now i) (left i))))
         (λ (a : j ≢ k). other-word words (cell_place k) (cell_place j) x (cells-apart j k a)
         ∙ (show.at j below ∙ sym (λ i. word_of j (exchange-else gains c p k payload s cell e there before j a i)
@@ -405,6 +405,8 @@ module _ {E S : Type 0} (names : ℕ → E → Bool) (legal : ℕ → List E →
           let d = r.room.few_values in omega arith in
           let g : Glimpse = record { state = state_at c.queue k; payload = c.payloads k } in
           let word : n ≡ word_of k (state_at c.queue k) (c.payloads k) = r.cells.at k below in
+          let cell : FoundCell k n g =
+          record { word = word; number = small_number; fits = r.cells.fits k; bare = r.cells.bare k } in
           let is : state_at c.queue k ≡ stood.cell.state = ap state_in stood.there in
           let may : MayFind t (state_at c.queue k) = subst (MayFind t) (sym is) stood.may in
           let T : Bool → Type 0 = λ b. (w : View E S) × (a : Act (Option S)) × Valid s.homes me.1 a
@@ -421,16 +423,24 @@ module _ {E S : Type 0} (names : ℕ → E → Bool) (legal : ℕ → List E →
             subst (λ z. Ruled names shows passes limit values size
                 (stepped s (cell_place k) z id me.1
                 (grown v (facts_after gains t k n f) (r.log ++ entries t v.number k) r.handed) keeps)) (sym x.makes) done.0,
-            (record { found = g; cell = record { word = word; number = small_number; fits = r.cells.fits k; bare = r.cells.bare k }; may = may; since = at.last; made = λ _. done.1; missed = λ a. absurd (a e) }, refl),
+            (record { found = g; cell = cell; may = may; since = at.last; made = λ _. done.1; missed = λ a. absurd (a e) }, refl),
           )))
           (λ a. subst T (sym (ne_eqb n expected a))
           (let facts = facts_missed k n g f in
           let done = looks-to names legal shows entries gains opened passes limit values size held client s r id me
           (cell_place k) facts here one
-          (record { doing = at.doing; held = at.held; may_draw = at.may_draw; waits = at.waits; all_waits = at.all_waits; once = at.once; last = inl (refl, refl) }) in (
+          (record {
+            doing = at.doing;
+            held = at.held;
+            may_draw = at.may_draw;
+            waits = at.waits;
+            all_waits = at.all_waits;
+            once = at.once;
+            last = inl (refl, refl);
+          }) in (
             grown v facts (r.log ++ []) r.handed,
             keeps,
             tt,
             done.0,
-            (record { found = g; cell = record { word = word; number = small_number; fits = r.cells.fits k; bare = r.cells.bare k }; may = may; since = at.last; made = λ e. absurd (a e); missed = λ _. done.1 }, refl),
+            (record { found = g; cell = cell; may = may; since = at.last; made = λ e. absurd (a e); missed = λ _. done.1 }, refl),
           )))

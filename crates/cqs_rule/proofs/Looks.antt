@@ -98,7 +98,15 @@ module _ {E S : Type 0} (names : ℕ → E → Bool) (legal : ℕ → List E →
       (same_Some f.may_draw true (sym at.may_draw ∙ r.door p at_door)))))
       (client.counts r.hidden p may (client_words s.words) r.log r.handed r.shown)
       (others-counted r.hidden p may)
-      (record { doing = at.doing; held = at.held; may_draw = get-set_here r.hidden.may_draw p f.may_draw may at.may_draw; waits = at.waits; all_waits = at.all_waits; once = at.once; last = at.last })) in
+      (record {
+        doing = at.doing;
+        held = at.held;
+        may_draw = get-set_here r.hidden.may_draw p f.may_draw may at.may_draw;
+        waits = at.waits;
+        all_waits = at.all_waits;
+        once = at.once;
+        last = at.last;
+      })) in
       (grown me.0 (facts_counted me.0.limit n f) (r.log ++ []) r.handed, keeps, tt, t.0, (t.1, refl))
     where
       still-true : (b may : Bool) → may ≡ true → (if b then true else may) ≡ true

@@ -80,9 +80,22 @@ module _ {E S : Type 0} (names : ℕ → E → Bool) (legal : ℕ → List E →
           doing = get-set_here c.queue.doing p facts.doing now at.doing;
           held = get-set_here c.held p facts.held holding at.held;
           may_draw = at.may_draw;
-          waits = λ k h. let w = at.waits k h in
-              record { cell = w.cell; there = w.there; owner = w.owner; drawn = w.drawn; uncollected = w.uncollected; installed = w.installed };
-          all_waits = λ k w. at.all_waits k (record { cell = w.cell; there = w.there; owner = w.owner; drawn = w.drawn; uncollected = w.uncollected; installed = w.installed });
+          waits = λ k h. let w = at.waits k h in record {
+            cell = w.cell;
+            there = w.there;
+            owner = w.owner;
+            drawn = w.drawn;
+            uncollected = w.uncollected;
+            installed = w.installed;
+          };
+          all_waits = λ k w. at.all_waits k (record {
+            cell = w.cell;
+            there = w.there;
+            owner = w.owner;
+            drawn = w.drawn;
+            uncollected = w.uncollected;
+            installed = w.installed;
+          });
           once = at.once;
           last = tt;
         };

@@ -135,8 +135,10 @@ module _ {E S : Type 0} (names : ℕ → E → Bool) (legal : ℕ → List E →
       })
       (door-keeps c d p r.door others.doing (λ m a. refl)
       (λ q. let mine : slice_get c.queue.doing p ≡ Some doing.Door = ap (λ l. slice_get l p) (sym doings) ∙ q in r.door p mine))
-      (client.steps c (looks e) p k (Some w.cell) f.payload (client_words s.words) r.log r.handed r.shown
-      (record { does = at.doing ∙ ap Some idle; finds = w.there; at = is }, record { owner = w.owner; uncollected = w.uncollected })
+      (client.steps c (looks e) p k (Some w.cell) f.payload (client_words s.words) r.log r.handed r.shown (
+        record { does = at.doing ∙ ap Some idle; finds = w.there; at = is },
+        record { owner = w.owner; uncollected = w.uncollected },
+      )
       (let l = suspends-low passes limit values c r.room in omega arith)
       (let l = resumes-low passes limit values c r.room in omega arith))
       others (looked-self gains c p k f.payload w.cell w.there w.owner e n f idle at) (client.silent (looks e) p k))

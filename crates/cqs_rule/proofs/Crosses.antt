@@ -262,7 +262,8 @@ module _ {E S : Type 0} (names : ℕ → E → Bool) (legal : ℕ → List E →
   cells-crossed c cells words s p k payload cell e there before fits wide show = record {
     at = λ j below. ⊎_elim
         (λ (q : j ≡ k). subst
-        (λ z. slice_index (slice_set words (cell_place k) x) (cell_place z) ≡ word_of z (state_at d.queue z) (d.payloads z)) (sym q)
+        (λ z. slice_index (slice_set words (cell_place k) x) (cell_place z) ≡ word_of z (state_at d.queue z) (d.payloads z))
+        (sym q)
         (this-word words (cell_place k) x wide ∙ sym (λ i. word_of k (now i) (left i))))
         (λ (a : j ≢ k). other-word words (cell_place k) (cell_place j) x (cells-apart j k a)
         ∙ (show.at j below ∙ sym (λ i. word_of j (exchange-else gains c p k payload s cell e there before j a i)

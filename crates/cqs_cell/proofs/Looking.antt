@@ -1,5 +1,5 @@
 -- A look answers the cell that it found.
-use Rattle.std.proofs.Common.{◌≡◌, ◌⊎◌, ℕ, ◌+◌, ◌-◌, Bool, List, Some, inl, inr, sym, ap, ◌∙◌, subst, arith}
+use Rattle.std.proofs.Common.{◌≡◌, ◌⊎◌, ℕ, Bool, List, Some, inl, inr, sym, ap, ◌∙◌, subst}
 use Rattle.std.proofs.lemmas.Option.{same_Some}
 use Rattle.cqs_core.specs.declared.cells.CoreState.{CoreState}
 use Rattle.cqs_core.specs.declared.cells.CoreState.TheVariants as state
@@ -8,25 +8,27 @@ use Rattle.cqs_words.specs.declared.cell.CellWord.{CellWord}
 use Rattle.cqs_words.specs.Cell.{unpacked_cell}
 use Rattle.cqs_rule.specs.declared.view.View.{View}
 use Rattle.cqs_rule.specs.Hidden.{QueueStep}
+use Rattle.cqs_rule.specs.Layout.{cell_place}
 use Rattle.cqs_rule.specs.Loads.{LoadStep, counts, watches, polls, cancels, event_of, IsOfWait, IsStanding, MayLook, Looked, Loaded, facts_looked, look_entries}
 use Rattle.cqs_rule.specs.Ruled.{shown_state}
 use Rattle.cqs_rule.specs.Told.{Saw}
 use Rattle.cqs_rule.proofs.Crosses.{shown-injective}
+use Rattle.cqs_rule.proofs.CellPlaces.{number-at}
 use Rattle.cqs_rule.proofs.CellLoads.{unpacks}
 use Rattle.cqs_cell.specs.Looks.{LooksAt}
 
 module _ {E S : Type 0} (names : ℕ → E → Bool) (legal : ℕ → List E → Type 0) (gains : ℕ → ℕ) (entries : QueueStep → ℕ → ℕ → List E) where
   -- the load of its word tells of the cell
-  looked-at : (load : LoadStep) (v w : View E S) (k word n : ℕ) → word ≡ k + 112 → MayLook load v k
+  looked-at : (load : LoadStep) (v w : View E S) (k word n : ℕ) → word ≡ cell_place k → MayLook load v k
       → Loaded names legal gains entries load word v n w
       → Looked names legal gains entries load k v n w
   looked-at counts v w k word n place may l = absurd may
-  looked-at watches v w k word n place may l = let number : word - 112 ≡ k = omega arith in subst (λ z. Looked names legal gains entries watches z v n w) number l
-  looked-at polls v w k word n place may l = let number : word - 112 ≡ k = omega arith in subst (λ z. Looked names legal gains entries polls z v n w) number l
-  looked-at cancels v w k word n place may l = let number : word - 112 ≡ k = omega arith in subst (λ z. Looked names legal gains entries cancels z v n w) number l
+  looked-at watches v w k word n place may l = subst (λ z. Looked names legal gains entries watches z v n w) (number-at word k place) l
+  looked-at polls v w k word n place may l = subst (λ z. Looked names legal gains entries polls z v n w) (number-at word k place) l
+  looked-at cancels v w k word n place may l = subst (λ z. Looked names legal gains entries cancels z v n w) (number-at word k place) l
 
   -- the cell that the word unpacks to is the one found
-  pub looks-at : (load : LoadStep) (v w : View E S) (k word n : ℕ) (cell : CellWord) → word ≡ k + 112 → MayLook load v k
+  pub looks-at : (load : LoadStep) (v w : View E S) (k word n : ℕ) (cell : CellWord) → word ≡ cell_place k → MayLook load v k
       → Loaded names legal gains entries load word v n w → unpacked_cell n ≡ Some cell
       → LooksAt names legal gains entries load k v cell w
   looks-at load v w k word n cell place may l is =

@@ -1,5 +1,5 @@
 -- A load of a cell. Where it is that of a wait of the pass, the pass learns what became of the wait.
-use Rattle.std.proofs.Common.{◌≡◌, ℕ, ◌+◌, ◌-◌, ◌<◌, ◌^◌, Bool, true, false, List, [], ◌++◌, length, sym, refl, ap, ◌∙◌, subst, arith, Option, Some, None, slice_get}
+use Rattle.std.proofs.Common.{◌≡◌, ℕ, ◌+◌, ◌<◌, Bool, true, false, List, [], ◌++◌, length, sym, refl, ap, ◌∙◌, subst, arith, Option, Some, None, slice_get}
 use Rattle.std.specs.Prelude.{slice_index}
 use Rattle.std.proofs.lemmas.Option.{same_Some}
 use mathlib.Core.Option.{some, none}
@@ -15,7 +15,7 @@ use Rattle.cqs_rule.specs.declared.view.View.{View}
 use Rattle.cqs_rule.specs.declared.view.Facts.{Facts}
 use Rattle.cqs_rule.specs.declared.view.Glimpse.{Glimpse}
 use Rattle.cqs_rule.specs.Hidden.{Hidden, LookEvent, pends, grants, late, state_seen, QueueStep, looks, happened, state_in, state_at}
-use Rattle.cqs_rule.specs.Layout.{client_words}
+use Rattle.cqs_rule.specs.Layout.{cell_place, cell_number, words_for, client_words}
 use Rattle.cqs_rule.specs.Lists.{Has, without}
 use Rattle.cqs_rule.specs.Inside.{IsInside}
 use Rattle.cqs_rule.specs.Views.{grown}
@@ -23,6 +23,7 @@ use Rattle.cqs_rule.specs.Ruled.{Ruled, Stands, CellsShow, IsWaitOf, IsInstalled
 use Rattle.cqs_rule.specs.Client.{IsClient}
 use Rattle.cqs_rule.specs.Loads.{LoadStep, counts, watches, polls, cancels, event_of, IsOfWait, IsStanding, is_resumed, is_served, closes, MayLook, MayLoad, Looked, Loaded, loaded_by, facts_looked, look_entries}
 use Rattle.cqs_rule.specs.Told.{Saw, FoundCell, facts_after}
+use Rattle.cqs_rule.proofs.CellPlaces.{number-at, cell-inside, suspends-inside}
 use Rattle.cqs_rule.proofs.Cells.{looked-suspends, looked-resumes, looked-doing, looked-state}
 use Rattle.cqs_rule.proofs.Crosses.{held-long}
 use Rattle.cqs_rule.proofs.Others.{others-looked, looked-self, door-keeps}
@@ -98,24 +99,30 @@ module _ {E S : Type 0} (names : ℕ → E → Bool) (legal : ℕ → List E →
     (entries : QueueStep → ℕ → ℕ → List E) (gains : ℕ → ℕ) (opened : List ℕ) (passes limit values size held : ℕ)
     (client : IsClient names (legal size) shows entries gains opened values held) where
   -- the owner of the wait k learns what became of it
-  learns : (s : State (Option S) (View E S)) (r : Ruled names shows passes limit values size s) (id : ℕ) (me : Me (Option S) (View E S)) (e : LookEvent) (k : ℕ) (w : IsWaitOf r.hidden.queue me.0.number k)
+  learns : (s : State (Option S) (View E S)) (r : Ruled names shows passes limit values size s) (id : ℕ)
+      (me : Me (Option S) (View E S)) (e : LookEvent) (k : ℕ) (w : IsWaitOf r.hidden.queue me.0.number k)
       → get_elem? s.views id ≡ some me.0 → me.0.weight ≡ 1 → me.0.facts.doing ≡ doing.Idle → w.cell.state ≡ state_seen e
-      → Steps names legal shows entries gains opened passes limit values size held client s id me (k + 112) (slice_index s.words (k + 112))
-      (entries (looks e) me.0.number k) (facts_after gains (looks e) k (slice_index s.words (k + 112)) me.0.facts)
-      (grown me.0 (facts_after gains (looks e) k (slice_index s.words (k + 112)) me.0.facts) (r.log ++ entries (looks e) me.0.number k) r.handed)
+      → Steps names legal shows entries gains opened passes limit values size held client s id me (cell_place k)
+      (slice_index s.words (cell_place k))
+      (entries (looks e) me.0.number k) (facts_after gains (looks e) k (slice_index s.words (cell_place k)) me.0.facts)
+      (grown me.0 (facts_after gains (looks e) k (slice_index s.words (cell_place k)) me.0.facts)
+      (r.log ++ entries (looks e) me.0.number k) r.handed)
   learns s r id me e k w here one idle is =
       let v = me.0 in let p = v.number in let f = v.facts in let c = r.hidden in
       let at = (r.each_view id v here).stands (omega arith) in
-      let n = slice_index s.words (k + 112) in
+      let n = slice_index s.words (cell_place k) in
       let d = happened gains c (looks e) p k (Some w.cell) f.payload in
       let suspends = looked-suspends gains c p k f.payload e w.cell in
       let resumes = looked-resumes gains c p k f.payload e w.cell in
       let doings = looked-doing gains c p k f.payload e w.cell in
       let others = others-looked gains c p k f.payload w.cell w.there w.owner e in
-      steps names legal shows entries gains opened passes limit values size held client s r id me (k + 112) n d (entries (looks e) p k) (facts_after gains (looks e) k n f) here one
-      (stays names legal shows entries gains opened passes limit values size held client s r v (k + 112) d (entries (looks e) p k) (facts_after gains (looks e) k n f)
+      steps names legal shows entries gains opened passes limit values size held client s r id me (cell_place k) n d
+      (entries (looks e) p k) (facts_after gains (looks e) k n f) here one
+      (stays names legal shows entries gains opened passes limit values size held client s r v (cell_place k) d
+      (entries (looks e) p k) (facts_after gains (looks e) k n f)
       (record { suspends = r.counters.suspends ∙ sym suspends; resumes = r.counters.resumes ∙ sym resumes })
-      (cells-same c d (limit + passes + values) s.words (λ j. looked-state gains c p k f.payload e w.cell j w.there) (λ j. refl) r.cells)
+      (cells-same c d (limit + passes + values) s.words (λ j. looked-state gains c p k f.payload e w.cell j w.there)
+      (λ j. refl) r.cells)
       (record {
         few_passes = r.room.few_passes;
         low_limit = r.room.low_limit;
@@ -128,14 +135,17 @@ module _ {E S : Type 0} (names : ℕ → E → Bool) (legal : ℕ → List E →
       })
       (door-keeps c d p r.door others.doing (λ m a. refl)
       (λ q. let mine : slice_get c.queue.doing p ≡ Some doing.Door = ap (λ l. slice_get l p) (sym doings) ∙ q in r.door p mine))
-      (client.steps c (looks e) p k (Some w.cell) f.payload (client_words s.words) r.log r.handed r.shown
-      (record { does = at.doing ∙ ap Some idle; finds = w.there; at = is }, record { owner = w.owner; uncollected = w.uncollected })
-      (let l = suspends-low passes limit values c r.room in omega arith) (let l = resumes-low passes limit values c r.room in omega arith))
+      (client.steps c (looks e) p k (Some w.cell) f.payload (client_words s.words) r.log r.handed r.shown (
+        record { does = at.doing ∙ ap Some idle; finds = w.there; at = is },
+        record { owner = w.owner; uncollected = w.uncollected },
+      )
+      (let l = suspends-low passes limit values c r.room in omega arith)
+      (let l = resumes-low passes limit values c r.room in omega arith))
       others (looked-self gains c p k f.payload w.cell w.there w.owner e n f idle at) (client.silent (looks e) p k))
 
   -- a load of the cell of the number k
   loads-cell : (slots id : ℕ) (me : Me (Option S) (View E S)) (load : LoadStep) (k : ℕ) → me.0.weight ≡ 1 → MayLook load me.0 k
-      → Allows (Ruled names shows passes limit values size) slots id me (k + 112) (λ n. n)
+      → Allows (Ruled names shows passes limit values size) slots id me (cell_place k) (λ n. n)
       (λ n me'. Looked names legal gains entries load k me.0 n me'.0 × (me'.1 ≡ me.1))
   loads-cell slots id me load k one may s r _ here small = by-event (event_of load (state_at r.hidden.queue k)) refl
     where
@@ -149,7 +159,7 @@ module _ {E S : Type 0} (names : ℕ → E → Bool) (legal : ℕ → List E →
       c = r.hidden
 
       n : ℕ
-      n = slice_index s.words (k + 112)
+      n = slice_index s.words (cell_place k)
 
       at : Stands r.hidden me.0.number me.0.facts
       at = (r.each_view id v here).stands (omega arith)
@@ -164,7 +174,8 @@ module _ {E S : Type 0} (names : ℕ → E → Bool) (legal : ℕ → List E →
       cell : FoundCell k n g
       cell = record {
         word = r.cells.at k below;
-        number = let a = r.room.low_limit in let b = r.room.few_passes in let d = r.room.few_values in let low = below in omega arith;
+        number = let a = r.room.low_limit in let b = r.room.few_passes in let d = r.room.few_values in
+            let low = below in omega arith;
         fits = r.cells.fits k;
         bare = r.cells.bare k;
       }
@@ -188,12 +199,22 @@ module _ {E S : Type 0} (names : ℕ → E → Bool) (legal : ℕ → List E →
       }
 
       by-event : (o : Option LookEvent) → o ≡ event_of load (state_at r.hidden.queue k)
-          → (w : View E S) × (a : Act (Option S)) × Valid s.homes me.1 a × Ruled names shows passes limit values size (stepped s (k + 112) n id me.1 w a)
+          → (w : View E S) × (a : Act (Option S)) × Valid s.homes me.1 a
+          × Ruled names shows passes limit values size (stepped s (cell_place k) n id me.1 w a)
           × (Looked names legal gains entries load k v n w × (carried_after me.1 a ≡ me.1))
       by-event None is =
           let facts = facts_looked gains None k n f in
-          let done = looks-to names legal shows entries gains opened passes limit values size held client s r id me (k + 112) facts here one
-          (record { doing = at.doing; held = at.held; may_draw = at.may_draw; waits = at.waits; all_waits = at.all_waits; once = at.once; last = at.last }) in
+          let done = looks-to names legal shows entries gains opened passes limit values size held client s r id me
+          (cell_place k) facts here one
+          (record {
+            doing = at.doing;
+            held = at.held;
+            may_draw = at.may_draw;
+            waits = at.waits;
+            all_waits = at.all_waits;
+            once = at.once;
+            last = at.last;
+          }) in
           (grown v facts (r.log ++ []) r.handed, keeps, tt, done.0, (told None _ is done.1, refl))
       by-event (Some e) is =
           let seen = event-seen load (state_at c.queue k) e (sym is) in
@@ -204,13 +225,13 @@ module _ {E S : Type 0} (names : ℕ → E → Bool) (legal : ℕ → List E →
 
   -- the same at its word
   loads-place : (slots id : ℕ) (me : Me (Option S) (View E S)) (load : LoadStep) (word : ℕ) → me.0.weight ≡ 1
-      → (k : ℕ) × (word ≡ k + 112) × MayLook load me.0 k
+      → (k : ℕ) × (word ≡ cell_place k) × MayLook load me.0 k
       → Allows (Ruled names shows passes limit values size) slots id me word (λ n. n)
-      (λ n me'. Looked names legal gains entries load (word - 112) me.0 n me'.0 × (me'.1 ≡ me.1))
+      (λ n me'. Looked names legal gains entries load (cell_number word) me.0 n me'.0 × (me'.1 ≡ me.1))
   loads-place slots id me load word one may =
       let k = may.0 in
-      let place : word ≡ k + 112 = may.1 in
-      let number : word - 112 ≡ k = omega arith in
+      let place : word ≡ cell_place k = may.1 in
+      let number = number-at word k place in
       subst (λ (z : ℕ × ℕ). Allows (Ruled names shows passes limit values size) slots id me z.0 (λ n. n)
       (λ n me'. Looked names legal gains entries load z.1 me.0 n me'.0 × (me'.1 ≡ me.1)))
       (λ i. (sym place i, sym number i)) (loads-cell slots id me load k one may.2)
@@ -218,8 +239,10 @@ module _ {E S : Type 0} (names : ℕ → E → Bool) (legal : ℕ → List E →
   -- a load of the suspend counter, or of a cell
   pub loads : (slots id : ℕ) (me : Me (Option S) (View E S)) (load : LoadStep) (word : ℕ) → me.0.weight ≡ 1
       → MayLoad load me.0 word
-      → Allows (Ruled names shows passes limit values size) slots id me word (λ n. n) (loaded_by names legal gains entries load (step slots word 0 0 none) me)
-  loads slots id me counts word one may = counted-at names legal shows entries gains opened passes limit values size held client slots id me word one may
+      → Allows (Ruled names shows passes limit values size) slots id me word (λ n. n)
+      (loaded_by names legal gains entries load (step slots word 0 0 none) me)
+  loads slots id me counts word one may =
+      counted-at names legal shows entries gains opened passes limit values size held client slots id me word one may
   loads slots id me watches word one may = loads-place slots id me watches word one may
   loads slots id me polls word one may = loads-place slots id me polls word one may
   loads slots id me cancels word one may = loads-place slots id me cancels word one may
@@ -283,7 +306,8 @@ module _ (gains : ℕ → ℕ) (k n : ℕ) (f : Facts) where
   facts-ended (Some grants) e = (refl, refl)
   facts-ended (Some late) e = (refl, refl)
 
-module _ {E S : Type 0} (names : ℕ → E → Bool) (legal : ℕ → List E → Type 0) (entries : QueueStep → ℕ → ℕ → List E) (gains : ℕ → ℕ) where
+module _ {E S : Type 0} (names : ℕ → E → Bool) (legal : ℕ → List E → Type 0) (entries : QueueStep → ℕ → ℕ → List E)
+    (gains : ℕ → ℕ) where
   -- the load leaves what the pass holds, and the number of its waits
   abbrev Keeps : View E S → View E S → Type 0
   Keeps v w = (w.facts.held ≡ v.facts.held) × (length w.facts.waits ≡ length v.facts.waits)
@@ -295,44 +319,50 @@ module _ {E S : Type 0} (names : ℕ → E → Bool) (legal : ℕ → List E →
   looked-keeps : (load : LoadStep) (k n : ℕ) (v w : View E S) → Looked names legal gains entries load k v n w
       → closes load n ≡ false → Keeps v w
   looked-keeps load k n v w l open_yet =
-      let kept = facts-kept gains k n v.facts (event_of load l.glimpse.state) (sym (closes-ends load k n l.glimpse l.cell) ∙ open_yet) in
+      let kept = facts-kept gains k n v.facts (event_of load l.glimpse.state)
+      (sym (closes-ends load k n l.glimpse l.cell) ∙ open_yet) in
       (ap (λ (f : Facts). f.held) l.saw.facts_are ∙ kept.0, ap (λ (f : Facts). length f.waits) l.saw.facts_are ∙ ap length kept.1)
 
   pub loaded-keeps : (load : LoadStep) (word n : ℕ) (v w : View E S) → Loaded names legal gains entries load word v n w
       → closes load n ≡ false → Keeps v w
-  loaded-keeps counts word n v w l open_yet = (ap (λ (f : Facts). f.held) l.facts_are, ap (λ (f : Facts). length f.waits) l.facts_are)
-  loaded-keeps watches word n v w l open_yet = looked-keeps watches (word - 112) n v w l open_yet
-  loaded-keeps polls word n v w l open_yet = looked-keeps polls (word - 112) n v w l open_yet
-  loaded-keeps cancels word n v w l open_yet = looked-keeps cancels (word - 112) n v w l open_yet
+  loaded-keeps counts word n v w l open_yet =
+      (ap (λ (f : Facts). f.held) l.facts_are, ap (λ (f : Facts). length f.waits) l.facts_are)
+  loaded-keeps watches word n v w l open_yet = looked-keeps watches (cell_number word) n v w l open_yet
+  loaded-keeps polls word n v w l open_yet = looked-keeps polls (cell_number word) n v w l open_yet
+  loaded-keeps cancels word n v w l open_yet = looked-keeps cancels (cell_number word) n v w l open_yet
 
   looked-ends : (load : LoadStep) (k n : ℕ) (v w : View E S) → IsInside v → Has k v.facts.waits
       → Looked names legal gains entries load k v n w → closes load n ≡ true
       → Ends v w
   looked-ends load k n v w inside has l closed =
-      let ended = facts-ended gains k n v.facts (event_of load l.glimpse.state) (sym (closes-ends load k n l.glimpse l.cell) ∙ closed) in (
+      let ended = facts-ended gains k n v.facts (event_of load l.glimpse.state)
+      (sym (closes-ends load k n l.glimpse l.cell) ∙ closed) in (
         ap (λ (f : Facts). f.held) l.saw.facts_are ∙ ended.0,
         ap (λ (f : Facts). length f.waits + 1) l.saw.facts_are ∙ (ap (λ (l : List ℕ). length l + 1) ended.1 ∙ inside.once k has),
       )
 
-  has-number : (v : View E S) (word : ℕ) → (k : ℕ) × (word ≡ k + 112) × ((v.facts.doing ≡ doing.Idle) × Has k v.facts.waits)
-      → Has (word - 112) v.facts.waits
+  has-number : (v : View E S) (word : ℕ) → (k : ℕ) × (word ≡ cell_place k) × ((v.facts.doing ≡ doing.Idle) × Has k v.facts.waits)
+      → Has (cell_number word) v.facts.waits
   has-number v word may =
-      let place : word ≡ may.0 + 112 = may.1 in
-      let number : word - 112 ≡ may.0 = omega arith in
-      subst (λ z. Has z v.facts.waits) (sym number) may.2.1
+      subst (λ z. Has z v.facts.waits) (sym (number-at word may.0 may.1)) may.2.1
 
   pub loaded-ends : (load : LoadStep) (word n : ℕ) (v w : View E S) → IsInside v → MayLoad load v word
       → Loaded names legal gains entries load word v n w
       → closes load n ≡ true → Ends v w
   loaded-ends counts word n v w inside may l closed = absurd (cc)
   loaded-ends watches word n v w inside may l closed = absurd (cc)
-  loaded-ends polls word n v w inside may l closed = looked-ends polls (word - 112) n v w inside (has-number v word may) l closed
-  loaded-ends cancels word n v w inside may l closed = looked-ends cancels (word - 112) n v w inside (has-number v word may) l closed
+  loaded-ends polls word n v w inside may l closed = looked-ends polls (cell_number word) n v w inside
+      (has-number v word may) l closed
+  loaded-ends cancels word n v w inside may l closed = looked-ends cancels (cell_number word) n v w inside
+      (has-number v word may) l closed
 
--- the word is one of the table's
-pub load-low : {E S : Type 0} (load : LoadStep) (v : View E S) (word : ℕ) → IsInside v → MayLoad load v word
-    → word < v.cells + 112
-load-low counts v word inside may = let n = inside.number in let place : word ≡ 16 = may in omega arith
-load-low watches v word inside may = let place : word ≡ may.0 + 112 = may.1 in let low : may.0 < v.cells = may.2 in omega arith
-load-low polls v word inside may = let place : word ≡ may.0 + 112 = may.1 in let low = inside.waits may.0 may.2.1 in omega arith
-load-low cancels v word inside may = let place : word ≡ may.0 + 112 = may.1 in let low = inside.waits may.0 may.2.1 in omega arith
+module _ {E S : Type 0} (v : View E S) (word : ℕ) where
+  cell-low : (k : ℕ) → word ≡ cell_place k → k < v.cells → word < words_for v.cells
+  cell-low k place below = subst (λ z. z < words_for v.cells) (sym place) (cell-inside k v.cells below)
+
+  -- the word is one of the table's
+  pub load-low : (load : LoadStep) → IsInside v → MayLoad load v word → word < words_for v.cells
+  load-low counts inside place = subst (λ z. z < words_for v.cells) (sym place) (suspends-inside v.cells)
+  load-low watches inside may = cell-low may.0 may.1 may.2
+  load-low polls inside may = cell-low may.0 may.1 (inside.waits may.0 may.2.1)
+  load-low cancels inside may = cell-low may.0 may.1 (inside.waits may.0 may.2.1)

@@ -25,12 +25,13 @@ use Rattle.cqs_rule.specs.declared.view.View.{View}
 use Rattle.cqs_rule.specs.declared.view.Facts.{Facts}
 use Rattle.cqs_rule.specs.declared.view.Glimpse.{Glimpse}
 use Rattle.cqs_rule.specs.Hidden.{Hidden, pends, grants, late, QueueStep, draws, reaches, installs, leaves, takes, serves, looks, IsOpenStep, happened, payloads_after, state_in, state_at}
-use Rattle.cqs_rule.specs.Layout.{client_words}
+use Rattle.cqs_rule.specs.Layout.{cell_place, client_words}
 use Rattle.cqs_rule.specs.Views.{grown}
 use Rattle.cqs_rule.specs.Ruled.{Ruled, Stands, CellsShow, IsWaitOf, IsBare, IsPlain, number_at, shown_state, word_of}
 use Rattle.cqs_rule.specs.Client.{IsClient}
-use Rattle.cqs_rule.specs.Told.{crossed, facts_after, facts_missed, works_at, state_before, state_after, payload_made, IsExchange, IsCrossing, MayFind}
+use Rattle.cqs_rule.specs.Told.{FoundCell, crossed, facts_after, facts_missed, works_at, state_before, state_after, payload_made, IsExchange, IsCrossing, MayFind}
 use Rattle.cqs_rule.proofs.Cells.{changed_here, exchange-suspends, exchange-resumes, exchange-doing, exchange-here, exchange-else, new_cell}
+use Rattle.cqs_rule.proofs.CellPlaces.{cells-apart, behind-crew, behind-resumes, behind-client, idle-apart, cell-inside}
 use Rattle.cqs_rule.proofs.Words.{this-word, other-word, crew-else, counters-else, idle-else, client-above}
 use Rattle.cqs_rule.proofs.Grow.{Turned}
 use Rattle.cqs_rule.proofs.Others.{others-exchanged, exchanged-self, door-keeps, may-else, payload-else, same-or-not}
@@ -73,7 +74,8 @@ pub word_of-injective : (j k : ℕ) (s t : CoreState) (p q : ℕ) → p < 2 ^ 20
 word_of-injective j k s t p q p_fits q_fits same =
     let low = state_code-below (shown_state s) in
     let low' = state_code-below (shown_state t) in
-    let parts = cell_word-injective j k (state_code (shown_state s)) (state_code (shown_state t)) p q (omega arith) (omega arith) p_fits q_fits same in
+    let parts = cell_word-injective j k (state_code (shown_state s)) (state_code (shown_state t)) p q (omega arith)
+    (omega arith) p_fits q_fits same in
     let states : shown_state s ≡ shown_state t = state_code-injective (shown_state s) (shown_state t) parts.1 in
     (parts.0, shown-injective s t states, parts.2)
 
@@ -144,10 +146,20 @@ works-at q takes p k e sound does plain =
     record { cell = own.cell; there = own.found; may = may-own-takes own.cell.state own.at }
 works-at q leaves p k e sound does plain =
     let ticket : IsTicket q k = sound.passes.at p (doing.Ticket k) does in
-    record { cell = ticket.cell; there = ticket.found; may = may-ticket-leaves ticket.cell.state ticket.unended (subst IsPlain (ap state_in ticket.found) (plain k)) }
+    record {
+      cell = ticket.cell;
+      there = ticket.found;
+      may = may-ticket-leaves ticket.cell.state ticket.unended
+          (subst IsPlain (ap state_in ticket.found) (plain k));
+    }
 works-at q serves p k e sound does plain =
     let ticket : IsTicket q k = sound.passes.at p (doing.Ticket k) does in
-    record { cell = ticket.cell; there = ticket.found; may = may-ticket-serves ticket.cell.state ticket.unended (subst IsPlain (ap state_in ticket.found) (plain k)) }
+    record {
+      cell = ticket.cell;
+      there = ticket.found;
+      may = may-ticket-serves ticket.cell.state ticket.unended
+          (subst IsPlain (ap state_in ticket.found) (plain k));
+    }
 
 -- where the cell is as the step wants it, the step is open
 opens-at : (q : Queue) (s : QueueStep) (p k : ℕ) (cell : CoreCell) → IsExchange s → slice_get q.doing p ≡ Some (works_at s k)
@@ -201,7 +213,8 @@ held-long gains c (looks pends) p k payload found = refl
 held-long gains c (looks grants) p k payload found = length-set c.held p _
 held-long gains c (looks late) p k payload found = length-set c.held p _
 
-may-same : (gains : ℕ → ℕ) (c : Hidden) (s : QueueStep) (p k payload : ℕ) (found : Option CoreCell) → IsExchange s → (happened gains c s p k found payload).may_draw ≡ c.may_draw
+may-same : (gains : ℕ → ℕ) (c : Hidden) (s : QueueStep) (p k payload : ℕ) (found : Option CoreCell) → IsExchange s
+    → (happened gains c s p k found payload).may_draw ≡ c.may_draw
 may-same gains c takes p k payload found e = refl
 may-same gains c draws p k payload found e = absurd e
 may-same gains c reaches p k payload found e = absurd e
@@ -220,8 +233,10 @@ own-cell q p k cell sound does there =
     ap (λ (x : CoreCell). x.owner) (sym same) ∙ own.owner
 
 -- the wait that a pass has where it installed a waiter
-new-wait : (gains : ℕ → ℕ) (c : Hidden) (p k payload : ℕ) (cell : CoreCell) → IsSound c.queue → slice_get c.queue.doing p ≡ Some (doing.Drawn k)
-    → slice_get c.queue.cells k ≡ Some cell → cell.state ≡ state.Empty → IsWaitOf (happened gains c installs p k (Some cell) payload).queue p k
+new-wait : (gains : ℕ → ℕ) (c : Hidden) (p k payload : ℕ) (cell : CoreCell) → IsSound c.queue
+    → slice_get c.queue.doing p ≡ Some (doing.Drawn k)
+    → slice_get c.queue.cells k ≡ Some cell → cell.state ≡ state.Empty
+    → IsWaitOf (happened gains c installs p k (Some cell) payload).queue p k
 new-wait gains c p k payload cell sound does there empty =
     let own : IsOwn c.queue p k IsUntaken = sound.passes.at p (doing.Drawn k) does in
     let fresh : IsSoundAt c.queue k cell state.Empty = subst (IsSoundAt c.queue k cell) empty (sound.cells.at k cell there) in
@@ -239,15 +254,20 @@ module _ {E S : Type 0} (names : ℕ → E → Bool) (legal : ℕ → List E →
     (client : IsClient names (legal size) shows entries gains opened values held) where
   -- the cells after an exchange
   cells-crossed : (c : Hidden) (cells : ℕ) (words : List ℕ) (s : QueueStep) (p k payload : ℕ) (cell : CoreCell) → IsExchange s
-      → slice_get c.queue.cells k ≡ Some cell → cell.state ≡ state_before s → payload_made s payload < 2 ^ 20 → k + 112 < length words
+      → slice_get c.queue.cells k ≡ Some cell → cell.state ≡ state_before s → payload_made s payload < 2 ^ 20
+      → cell_place k < length words
       → CellsShow c cells words
-      → CellsShow (happened gains c s p k (Some cell) payload) cells (slice_set words (k + 112) (word_of k (state_after s) (payload_made s payload)))
+      → CellsShow (happened gains c s p k (Some cell) payload) cells
+      (slice_set words (cell_place k) (word_of k (state_after s) (payload_made s payload)))
   cells-crossed c cells words s p k payload cell e there before fits wide show = record {
     at = λ j below. ⊎_elim
-        (λ (q : j ≡ k). subst (λ z. slice_index (slice_set words (k + 112) x) (z + 112) ≡ word_of z (state_at d.queue z) (d.payloads z)) (sym q)
-        (this-word words (k + 112) x wide ∙ sym (λ i. word_of k (now i) (left i))))
-        (λ (a : j ≢ k). other-word words (k + 112) (j + 112) x (λ q. a (omega arith))
-        ∙ (show.at j below ∙ sym (λ i. word_of j (exchange-else gains c p k payload s cell e there before j a i) (payload-else c.payloads s k payload j a i))))
+        (λ (q : j ≡ k). subst
+        (λ z. slice_index (slice_set words (cell_place k) x) (cell_place z) ≡ word_of z (state_at d.queue z) (d.payloads z))
+        (sym q)
+        (this-word words (cell_place k) x wide ∙ sym (λ i. word_of k (now i) (left i))))
+        (λ (a : j ≢ k). other-word words (cell_place k) (cell_place j) x (cells-apart j k a)
+        ∙ (show.at j below ∙ sym (λ i. word_of j (exchange-else gains c p k payload s cell e there before j a i)
+        (payload-else c.payloads s k payload j a i))))
         (same-or-not j k);
     fits = λ j. ⊎_elim
         (λ (q : j ≡ k). subst (λ z. d.payloads z < 2 ^ 20) (sym q) (subst (λ z. z < 2 ^ 20) (sym left) fits))
@@ -255,7 +275,8 @@ module _ {E S : Type 0} (names : ℕ → E → Bool) (legal : ℕ → List E →
         (same-or-not j k);
     bare = λ j is. ⊎_elim
         (λ (q : j ≡ k). ap d.payloads q ∙ (left ∙ made-bare s payload e (subst IsBare (ap (state_at d.queue) q ∙ now) is)))
-        (λ (a : j ≢ k). payload-else c.payloads s k payload j a ∙ show.bare j (subst IsBare (exchange-else gains c p k payload s cell e there before j a) is))
+        (λ (a : j ≢ k). payload-else c.payloads s k payload j a
+        ∙ show.bare j (subst IsBare (exchange-else gains c p k payload s cell e there before j a) is))
         (same-or-not j k);
     plain = λ j. ⊎_elim
         (λ (q : j ≡ k). subst IsPlain (sym (ap (state_at d.queue) q ∙ now)) (made-plain s e))
@@ -279,18 +300,23 @@ module _ {E S : Type 0} (names : ℕ → E → Bool) (legal : ℕ → List E →
       left = payload-here c.payloads s k payload e empty
 
   -- the exchange is made
-  made : (s : State (Option S) (View E S)) (r : Ruled names shows passes limit values size s) (id : ℕ) (me : Me (Option S) (View E S)) (t : QueueStep) (k : ℕ) (cell : CoreCell)
-      → get_elem? s.views id ≡ some me.0 → me.0.weight ≡ 1 → IsExchange t → me.0.facts.doing ≡ works_at t k → payload_made t me.0.facts.payload < 2 ^ 20
+  made : (s : State (Option S) (View E S)) (r : Ruled names shows passes limit values size s) (id : ℕ)
+      (me : Me (Option S) (View E S)) (t : QueueStep) (k : ℕ) (cell : CoreCell)
+      → get_elem? s.views id ≡ some me.0 → me.0.weight ≡ 1 → IsExchange t → me.0.facts.doing ≡ works_at t k
+      → payload_made t me.0.facts.payload < 2 ^ 20
       → slice_get r.hidden.queue.cells k ≡ Some cell → cell.state ≡ state_before t → k < limit + passes + values
-      → Steps names legal shows entries gains opened passes limit values size held client s id me (k + 112) (word_of k (state_after t) (payload_made t me.0.facts.payload))
-      (entries t me.0.number k) (facts_after gains t k (slice_index s.words (k + 112)) me.0.facts)
-      (grown me.0 (facts_after gains t k (slice_index s.words (k + 112)) me.0.facts) (r.log ++ entries t me.0.number k) r.handed)
+      → Steps names legal shows entries gains opened passes limit values size held client s id me (cell_place k)
+      (word_of k (state_after t) (payload_made t me.0.facts.payload))
+      (entries t me.0.number k) (facts_after gains t k (slice_index s.words (cell_place k)) me.0.facts)
+      (grown me.0 (facts_after gains t k (slice_index s.words (cell_place k)) me.0.facts)
+      (r.log ++ entries t me.0.number k) r.handed)
   made s r id me t k cell here one e works fits there before below =
       let v = me.0 in let p = v.number in let f = v.facts in let c = r.hidden in
       let at = (r.each_view id v here).stands (omega arith) in
-      let n = slice_index s.words (k + 112) in
+      let n = slice_index s.words (cell_place k) in
       let x = word_of k (state_after t) (payload_made t f.payload) in
       let d = happened gains c t p k (Some cell) f.payload in
+      let inside = cell-inside k (limit + passes + values) below in
       let wide = r.wide in
       let does : slice_get c.queue.doing p ≡ Some (works_at t k) = at.doing ∙ ap Some works in
       let suspends = exchange-suspends gains c p k f.payload t cell e in
@@ -298,14 +324,16 @@ module _ {E S : Type 0} (names : ℕ → E → Bool) (legal : ℕ → List E →
       let idle = exchange-doing gains c p k f.payload t cell e in
       let may = may-same gains c t p k f.payload (Some cell) e in
       let sound : IsSound c.queue = client.sound c (client_words s.words) r.log r.handed r.shown in
-      let owner : t ≡ installs → cell.owner ≡ Some p = λ q. own-cell c.queue p k cell sound (does ∙ ap (λ z. Some (works_at z k)) q) there in
+      let owner : t ≡ installs → cell.owner ≡ Some p = λ q. own-cell c.queue p k cell sound
+      (does ∙ ap (λ z. Some (works_at z k)) q) there in
       let others = others-exchanged gains c p k f.payload t cell e there before owner in
       let open_there = opens-at c.queue t p k cell e does there before in
-      let turned : Turned names shows passes limit values size s r v (k + 112) x d (entries t p k) (facts_after gains t k n f) = record {
-        crew = crew-else s.words (k + 112) x (omega arith);
-        counters = counters-else c.queue d.queue s.words (k + 112) x (omega arith) suspends resumes r.counters;
+      let turned : Turned names shows passes limit values size s r v (cell_place k) x d (entries t p k)
+      (facts_after gains t k n f) = record {
+        crew = crew-else s.words (cell_place k) x (behind-crew k);
+        counters = counters-else c.queue d.queue s.words (cell_place k) x (behind-resumes k) suspends resumes r.counters;
         cells = cells-crossed c (limit + passes + values) s.words t p k f.payload cell e there before fits (omega arith) r.cells;
-        idle_words = idle-else s.words (k + 112) x (λ j is q. let b = is.before in omega arith) r.idle_words;
+        idle_words = idle-else s.words (cell_place k) x (λ j is. idle-apart j k is) r.idle_words;
         room = record {
           few_passes = r.room.few_passes;
           low_limit = r.room.low_limit;
@@ -313,28 +341,39 @@ module _ {E S : Type 0} (names : ℕ → E → Bool) (legal : ℕ → List E →
           doing = ap length idle ∙ (length-set c.queue.doing p doing.Idle ∙ r.room.doing);
           held = held-long gains c t p k f.payload (Some cell) ∙ r.room.held;
           may_draw = ap length may ∙ r.room.may_draw;
-          ground = let count : count_by (λ b. b) d.may_draw ≡ count_by (λ b. b) c.may_draw = ap (count_by (λ b. b)) may in let g = r.room.ground in omega arith;
+          ground = let count : count_by (λ b. b) d.may_draw ≡ count_by (λ b. b) c.may_draw = ap (count_by (λ b. b)) may in
+              let g = r.room.ground in omega arith;
           resumes = let h = r.room.resumes in omega arith;
         };
         door = door-keeps c d p r.door others.doing (may-else gains c p k f.payload t (Some cell))
-            (λ q. let mine : slice_get d.queue.doing p ≡ Some doing.Idle = ap (λ (l : List Doing). slice_get l p) idle ∙ get-set_here c.queue.doing p f.doing doing.Idle at.doing in absurd (cc));
-        shown = subst (λ (ws : List ℕ). shows d ws (r.log ++ entries t p k) r.handed) (sym (client-above s.words (k + 112) x (omega arith)))
+            (λ q. let mine : slice_get d.queue.doing p ≡ Some doing.Idle = ap (λ (l : List Doing). slice_get l p) idle
+            ∙ get-set_here c.queue.doing p f.doing doing.Idle at.doing in absurd (cc));
+        shown = subst (λ (ws : List ℕ). shows d ws (r.log ++ entries t p k) r.handed)
+            (sym (client-above s.words (cell_place k) x (behind-client 3 k (omega arith))))
             (client.steps c t p k (Some cell) f.payload (client_words s.words) r.log r.handed r.shown open_there
-            (let l = suspends-low passes limit values c r.room in omega arith) (let l = resumes-low passes limit values c r.room in omega arith));
+            (let l = suspends-low passes limit values c r.room in omega arith)
+            (let l = resumes-low passes limit values c r.room in omega arith));
         others = others;
         self = exchanged-self gains c p k f.payload t cell e there before n f at
             (λ q. subst (λ z. IsWaitOf (happened gains c z p k (Some cell) f.payload).queue p k) (sym q)
-            (new-wait gains c p k f.payload cell sound (does ∙ ap (λ z. Some (works_at z k)) q) there (before ∙ ap state_before q)));
+            (new-wait gains c p k f.payload cell sound (does ∙ ap (λ z. Some (works_at z k)) q) there
+            (before ∙ ap state_before q)));
         silent = client.silent t p k;
       } in
-      steps names legal shows entries gains opened passes limit values size held client s r id me (k + 112) x d (entries t p k) (facts_after gains t k n f) here one turned
+      steps names legal shows entries gains opened passes limit values size held client s r id me (cell_place k) x d
+      (entries t p k) (facts_after gains t k n f) here one turned
 
   -- an exchange on the cell of the pass's number
-  pub cross : (slots id : ℕ) (me : Me (Option S) (View E S)) (t : QueueStep) (word expected new : ℕ) → me.0.weight ≡ 1 → IsCrossing t me.0.facts word expected new
-      → Allows (Ruled names shows passes limit values size) slots id me word (λ n. either (eqb n expected) new n) (crossed names legal gains entries t (step slots word expected new none) me)
+  pub cross : (slots id : ℕ) (me : Me (Option S) (View E S)) (t : QueueStep) (word expected new : ℕ) → me.0.weight ≡ 1
+      → IsCrossing t me.0.facts word expected new
+      → Allows (Ruled names shows passes limit values size) slots id me word (λ n. either (eqb n expected) new n)
+      (crossed names legal gains entries t (step slots word expected new none) me)
   cross slots id me t word expected new one x s r _ here small =
-      subst (λ (z : ℕ). (w : View E S) × (a : Act (Option S)) × Valid s.homes me.1 a × Ruled names shows passes limit values size (stepped s z (either (eqb (slice_index s.words z) expected) new (slice_index s.words z)) id me.1 w a)
-      × crossed names legal gains entries t (step slots z expected new none) me (slice_index s.words z) (w, carried_after me.1 a)) (sym x.place) here-at
+      subst (λ (z : ℕ). (w : View E S) × (a : Act (Option S)) × Valid s.homes me.1 a
+      × Ruled names shows passes limit values size
+      (stepped s z (either (eqb (slice_index s.words z) expected) new (slice_index s.words z)) id me.1 w a)
+      × crossed names legal gains entries t (step slots z expected new none) me (slice_index s.words z) (w, carried_after me.1 a))
+      (sym x.place) here-at
     where
       v : View E S
       v = me.0
@@ -355,37 +394,54 @@ module _ {E S : Type 0} (names : ℕ → E → Bool) (legal : ℕ → List E →
       sound = client.sound c (client_words s.words) r.log r.handed r.shown
 
       n : ℕ
-      n = slice_index s.words (number_at me.0.facts.doing + 112)
+      n = slice_index s.words (cell_place (number_at me.0.facts.doing))
 
-      here-at : (w : View E S) × (a : Act (Option S)) × Valid s.homes me.1 a × Ruled names shows passes limit values size (stepped s (k + 112) (either (eqb n expected) new n) id me.1 w a)
-          × crossed names legal gains entries t (step slots (k + 112) expected new none) me n (w, carried_after me.1 a)
+      here-at : (w : View E S) × (a : Act (Option S)) × Valid s.homes me.1 a
+          × Ruled names shows passes limit values size (stepped s (cell_place k) (either (eqb n expected) new n) id me.1 w a)
+          × crossed names legal gains entries t (step slots (cell_place k) expected new none) me n (w, carried_after me.1 a)
       here-at =
           let stood = works-at c.queue t v.number k x.exchange sound (at.doing ∙ ap Some x.works) r.cells.plain in
           let below : k < limit + passes + values = inside-of passes limit values c v.number f.doing r.room sound at.doing in
-          let small_number : k < 2 ^ 40 = let a = r.room.low_limit in let b = r.room.few_passes in let d = r.room.few_values in omega arith in
+          let small_number : k < 2 ^ 40 = let a = r.room.low_limit in let b = r.room.few_passes in
+          let d = r.room.few_values in omega arith in
           let g : Glimpse = record { state = state_at c.queue k; payload = c.payloads k } in
           let word : n ≡ word_of k (state_at c.queue k) (c.payloads k) = r.cells.at k below in
+          let cell : FoundCell k n g =
+          record { word = word; number = small_number; fits = r.cells.fits k; bare = r.cells.bare k } in
           let is : state_at c.queue k ≡ stood.cell.state = ap state_in stood.there in
           let may : MayFind t (state_at c.queue k) = subst (MayFind t) (sym is) stood.may in
-          let T : Bool → Type 0 = λ b. (w : View E S) × (a : Act (Option S)) × Valid s.homes me.1 a × Ruled names shows passes limit values size (stepped s (k + 112) (either b new n) id me.1 w a)
-          × crossed names legal gains entries t (step slots (k + 112) expected new none) me n (w, carried_after me.1 a) in
+          let T : Bool → Type 0 = λ b. (w : View E S) × (a : Act (Option S)) × Valid s.homes me.1 a
+          × Ruled names shows passes limit values size (stepped s (cell_place k) (either b new n) id me.1 w a)
+          × crossed names legal gains entries t (step slots (cell_place k) expected new none) me n (w, carried_after me.1 a) in
           dite (ℕ_discrete n expected)
           (λ e. subst T (sym (eq-eqb n expected e))
-          (let same = word_of-injective k k (state_at c.queue k) (state_before t) (c.payloads k) x.payload (r.cells.fits k) x.payload_fits (sym word ∙ (e ∙ x.expects)) in
+          (let same = word_of-injective k k (state_at c.queue k) (state_before t) (c.payloads k) x.payload
+          (r.cells.fits k) x.payload_fits (sym word ∙ (e ∙ x.expects)) in
           let done = made s r id me t k stood.cell here one x.exchange x.works x.owes stood.there (sym is ∙ same.1) below in (
             grown v (facts_after gains t k n f) (r.log ++ entries t v.number k) r.handed,
             keeps,
             tt,
-            subst (λ z. Ruled names shows passes limit values size (stepped s (k + 112) z id me.1 (grown v (facts_after gains t k n f) (r.log ++ entries t v.number k) r.handed) keeps)) (sym x.makes) done.0,
-            (record { found = g; cell = record { word = word; number = small_number; fits = r.cells.fits k; bare = r.cells.bare k }; may = may; since = at.last; made = λ _. done.1; missed = λ a. absurd (a e) }, refl),
+            subst (λ z. Ruled names shows passes limit values size
+                (stepped s (cell_place k) z id me.1
+                (grown v (facts_after gains t k n f) (r.log ++ entries t v.number k) r.handed) keeps)) (sym x.makes) done.0,
+            (record { found = g; cell = cell; may = may; since = at.last; made = λ _. done.1; missed = λ a. absurd (a e) }, refl),
           )))
           (λ a. subst T (sym (ne_eqb n expected a))
           (let facts = facts_missed k n g f in
-          let done = looks-to names legal shows entries gains opened passes limit values size held client s r id me (k + 112) facts here one
-          (record { doing = at.doing; held = at.held; may_draw = at.may_draw; waits = at.waits; all_waits = at.all_waits; once = at.once; last = inl (refl, refl) }) in (
+          let done = looks-to names legal shows entries gains opened passes limit values size held client s r id me
+          (cell_place k) facts here one
+          (record {
+            doing = at.doing;
+            held = at.held;
+            may_draw = at.may_draw;
+            waits = at.waits;
+            all_waits = at.all_waits;
+            once = at.once;
+            last = inl (refl, refl);
+          }) in (
             grown v facts (r.log ++ []) r.handed,
             keeps,
             tt,
             done.0,
-            (record { found = g; cell = record { word = word; number = small_number; fits = r.cells.fits k; bare = r.cells.bare k }; may = may; since = at.last; made = λ e. absurd (a e); missed = λ _. done.1 }, refl),
+            (record { found = g; cell = cell; may = may; since = at.last; made = λ e. absurd (a e); missed = λ _. done.1 }, refl),
           )))

@@ -1,5 +1,6 @@
 pub mod Lists
 pub mod Cells
+pub mod CellPlaces
 pub mod Words
 pub mod Grow
 pub mod Others

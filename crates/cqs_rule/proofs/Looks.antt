@@ -28,7 +28,8 @@ module _ {E S : Type 0} (names : ℕ → E → Bool) (legal : ℕ → List E →
     (entries : QueueStep → ℕ → ℕ → List E) (gains : ℕ → ℕ) (opened : List ℕ) (passes limit values size held : ℕ)
     (client : IsClient names (legal size) shows entries gains opened values held) where
   -- no word changes, what is hidden becomes d, and the history grows by these entries
-  pub stays : (s : State (Option S) (View E S)) (r : Ruled names shows passes limit values size s) (v : View E S) (i : ℕ) (d : Hidden) (es : List E) (facts : Facts)
+  pub stays : (s : State (Option S) (View E S)) (r : Ruled names shows passes limit values size s) (v : View E S) (i : ℕ)
+      (d : Hidden) (es : List E) (facts : Facts)
       → CountersShow d.queue s.words → CellsShow d (limit + passes + values) s.words → HasRoom passes limit values d
       → DoorMayDraw d
       → shows d (client_words s.words) (r.log ++ es) r.handed → OthersStay r.hidden d v.number → Stands d v.number facts
@@ -50,7 +51,8 @@ module _ {E S : Type 0} (names : ℕ → E → Bool) (legal : ℕ → List E →
       }
 
   -- the same with no entry
-  pub still : (s : State (Option S) (View E S)) (r : Ruled names shows passes limit values size s) (v : View E S) (i : ℕ) (d : Hidden) (facts : Facts)
+  pub still : (s : State (Option S) (View E S)) (r : Ruled names shows passes limit values size s) (v : View E S) (i : ℕ)
+      (d : Hidden) (facts : Facts)
       → CountersShow d.queue s.words → CellsShow d (limit + passes + values) s.words → HasRoom passes limit values d
       → DoorMayDraw d
       → shows d (client_words s.words) r.log r.handed → OthersStay r.hidden d v.number → Stands d v.number facts
@@ -60,16 +62,20 @@ module _ {E S : Type 0} (names : ℕ → E → Bool) (legal : ℕ → List E →
       (subst (λ l. shows d (client_words s.words) l r.handed) (sym (append-nil r.log)) shown) others self (λ n apart. refl)
 
   -- nothing hidden changes, and the pass goes on to these facts
-  pub looks-to : (s : State (Option S) (View E S)) (r : Ruled names shows passes limit values size s) (id : ℕ) (me : Me (Option S) (View E S)) (i : ℕ) (facts : Facts)
+  pub looks-to : (s : State (Option S) (View E S)) (r : Ruled names shows passes limit values size s) (id : ℕ)
+      (me : Me (Option S) (View E S)) (i : ℕ) (facts : Facts)
       → get_elem? s.views id ≡ some me.0 → me.0.weight ≡ 1 → Stands r.hidden me.0.number facts
-      → Steps names legal shows entries gains opened passes limit values size held client s id me i (slice_index s.words i) [] facts (grown me.0 facts (r.log ++ []) r.handed)
+      → Steps names legal shows entries gains opened passes limit values size held client s id me i
+      (slice_index s.words i) [] facts (grown me.0 facts (r.log ++ []) r.handed)
   looks-to s r id me i facts here one self =
-      steps names legal shows entries gains opened passes limit values size held client s r id me i (slice_index s.words i) r.hidden [] facts here one
+      steps names legal shows entries gains opened passes limit values size held client s r id me i
+      (slice_index s.words i) r.hidden [] facts here one
       (still s r me.0 i r.hidden facts r.counters r.cells r.room r.door r.shown (others-same r.hidden me.0.number) self)
 
   -- a load of the suspend counter
   pub counted : (slots id : ℕ) (me : Me (Option S) (View E S)) → me.0.weight ≡ 1
-      → Allows (Ruled names shows passes limit values size) slots id me 16 (λ n. n) (loaded_by names legal gains entries load.counts (step slots 16 0 0 none) me)
+      → Allows (Ruled names shows passes limit values size) slots id me 16 (λ n. n)
+      (loaded_by names legal gains entries load.counts (step slots 16 0 0 none) me)
   counted slots id me one s r _ here small =
       let k = r.each_view id me.0 here in
       let p = me.0.number in
@@ -78,23 +84,39 @@ module _ {E S : Type 0} (names : ℕ → E → Bool) (legal : ℕ → List E →
       let at = k.stands (omega arith) in
       let may : Bool = (facts_counted me.0.limit n f).may_draw in
       let d = now_may_draw r.hidden p may in
-      let t = steps names legal shows entries gains opened passes limit values size held client s r id me 16 n d [] (facts_counted me.0.limit n f) here one
-      (still s r me.0 16 d (facts_counted me.0.limit n f) (record { suspends = r.counters.suspends; resumes = r.counters.resumes })
+      let t = steps names legal shows entries gains opened passes limit values size held client s r id me 16 n d []
+      (facts_counted me.0.limit n f) here one
+      (still s r me.0 16 d (facts_counted me.0.limit n f)
+      (record { suspends = r.counters.suspends; resumes = r.counters.resumes })
       (record { at = r.cells.at; fits = r.cells.fits; bare = r.cells.bare; plain = r.cells.plain })
-      (room s r p may (nat_lt n me.0.limit) f.may_draw at.may_draw refl (λ below. let low : n < me.0.limit = ltb-true n me.0.limit below in let l = k.limit_is in let c = r.counters.suspends in omega arith))
+      (room s r p may (nat_lt n me.0.limit) f.may_draw at.may_draw refl
+      (λ below. let low : n < me.0.limit = ltb-true n me.0.limit below in let l = k.limit_is in
+      let c = r.counters.suspends in omega arith))
       (door-keeps r.hidden d p r.door (λ m apart. refl) (λ m apart. get-set_else r.hidden.may_draw p m may (λ e. apart (sym e)))
-      (λ at_door. get-set_here r.hidden.may_draw p f.may_draw may at.may_draw ∙ ap Some (still-true (nat_lt n me.0.limit) f.may_draw (same_Some f.may_draw true (sym at.may_draw ∙ r.door p at_door)))))
+      (λ at_door. get-set_here r.hidden.may_draw p f.may_draw may at.may_draw
+      ∙ ap Some (still-true (nat_lt n me.0.limit) f.may_draw
+      (same_Some f.may_draw true (sym at.may_draw ∙ r.door p at_door)))))
       (client.counts r.hidden p may (client_words s.words) r.log r.handed r.shown)
       (others-counted r.hidden p may)
-      (record { doing = at.doing; held = at.held; may_draw = get-set_here r.hidden.may_draw p f.may_draw may at.may_draw; waits = at.waits; all_waits = at.all_waits; once = at.once; last = at.last })) in
+      (record {
+        doing = at.doing;
+        held = at.held;
+        may_draw = get-set_here r.hidden.may_draw p f.may_draw may at.may_draw;
+        waits = at.waits;
+        all_waits = at.all_waits;
+        once = at.once;
+        last = at.last;
+      })) in
       (grown me.0 (facts_counted me.0.limit n f) (r.log ++ []) r.handed, keeps, tt, t.0, (t.1, refl))
     where
       still-true : (b may : Bool) → may ≡ true → (if b then true else may) ≡ true
       still-true true may is = refl
       still-true false may is = is
 
-      room : (s : State (Option S) (View E S)) (r : Ruled names shows passes limit values size s) (p : ℕ) (may below old : Bool) → slice_get r.hidden.may_draw p ≡ Some old
-          → may ≡ (if below then true else old) → (below ≡ true → r.hidden.queue.suspends < limit) → HasRoom passes limit values (now_may_draw r.hidden p may)
+      room : (s : State (Option S) (View E S)) (r : Ruled names shows passes limit values size s) (p : ℕ) (may below old : Bool)
+          → slice_get r.hidden.may_draw p ≡ Some old
+          → may ≡ (if below then true else old) → (below ≡ true → r.hidden.queue.suspends < limit)
+          → HasRoom passes limit values (now_may_draw r.hidden p may)
       room s r p may below old there is low = record {
         few_passes = r.room.few_passes;
         low_limit = r.room.low_limit;
@@ -108,13 +130,17 @@ module _ {E S : Type 0} (names : ℕ → E → Bool) (legal : ℕ → List E →
         where
           ground : (b : Bool) → may ≡ (if b then true else old) → (b ≡ true → r.hidden.queue.suspends < limit)
               → r.hidden.queue.suspends + count_by (λ b. b) (set r.hidden.may_draw p may) < limit + passes
-          ground true e low = let few = all_draw (set r.hidden.may_draw p may) in let long = length-set r.hidden.may_draw p may in let l = r.room.may_draw in let h = low refl in omega arith
+          ground true e low = let few = all_draw (set r.hidden.may_draw p may) in let long = length-set r.hidden.may_draw p may in
+              let l = r.room.may_draw in let h = low refl in omega arith
           ground false e low =
-              let same : set r.hidden.may_draw p may ≡ r.hidden.may_draw = ap (set r.hidden.may_draw p) e ∙ set-same r.hidden.may_draw p old there in
+              let same : set r.hidden.may_draw p may ≡ r.hidden.may_draw = ap (set r.hidden.may_draw p) e
+              ∙ set-same r.hidden.may_draw p old there in
               let g = r.room.ground in
               subst (λ (l : List Bool). r.hidden.queue.suspends + count_by (λ b. b) l < limit + passes) (sym same) g
 
   pub counted-at : (slots id : ℕ) (me : Me (Option S) (View E S)) (word : ℕ) → me.0.weight ≡ 1 → word ≡ 16
-      → Allows (Ruled names shows passes limit values size) slots id me word (λ n. n) (loaded_by names legal gains entries load.counts (step slots word 0 0 none) me)
+      → Allows (Ruled names shows passes limit values size) slots id me word (λ n. n)
+      (loaded_by names legal gains entries load.counts (step slots word 0 0 none) me)
   counted-at slots id me word one is =
-      subst (λ z. Allows (Ruled names shows passes limit values size) slots id me z (λ n. n) (loaded_by names legal gains entries load.counts (step slots z 0 0 none) me)) (sym is) (counted slots id me one)
+      subst (λ z. Allows (Ruled names shows passes limit values size) slots id me z (λ n. n)
+      (loaded_by names legal gains entries load.counts (step slots z 0 0 none) me)) (sym is) (counted slots id me one)

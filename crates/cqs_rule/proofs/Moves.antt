@@ -1,5 +1,5 @@
 -- A step on a word of the client.
-use Rattle.std.proofs.Common.{◌≡◌, ℕ, ◌+◌, ◌<◌, ◌^◌, Bool, true, List, ⊎_elim, ◌++◌, sym, refl, ap, ◌∙◌, subst, arith, Option, Some, ℤ, pos, negsuc, ◌<ℤ◌, ◌≤ℤ◌, ◌-◌, ◌%◌, unsigned_abs}
+use Rattle.std.proofs.Common.{◌≡◌, ℕ, ◌+◌, ◌<◌, ◌^◌, Bool, true, List, length, ⊎_elim, ◌++◌, sym, refl, ap, ◌∙◌, subst, arith, Option, Some, ℤ, pos, negsuc, ◌<ℤ◌, ◌≤ℤ◌, ◌-◌, ◌%◌, unsigned_abs}
 use Rattle.std.proofs.lemmas.Int.{ints}
 use Rattle.std.specs.Prelude.{slice_index, slice_set}
 use Rattle.std.proofs.lemmas.List.{length-set}
@@ -15,6 +15,7 @@ use Rattle.cqs_rule.specs.Views.{grown}
 use Rattle.cqs_rule.specs.Ruled.{Ruled}
 use Rattle.cqs_rule.specs.Client.{IsClient}
 use Rattle.cqs_rule.specs.Told.{Moved, facts_moved, Moves, added}
+use Rattle.cqs_rule.proofs.CellPlaces.{behind-client, client-inside}
 use Rattle.cqs_rule.proofs.Words.{crew-else, counters-else, cells-else, idle-else, client-at, client-set}
 use Rattle.cqs_rule.proofs.Grow.{Turned}
 use Rattle.cqs_rule.proofs.Others.{others-moved, door-keeps}
@@ -31,7 +32,8 @@ module _ {E S : Type 0} (names : ℕ → E → Bool) (legal : ℕ → List E →
   pub moves : (shown : ℕ → Doing → ℕ → List E) (goes : Doing → ℕ → Doing) (holds : Bool → ℕ → ℕ → ℕ)
       (payload : ℕ → ℕ) (made : ℕ → Bool) (slots id : ℕ) (me : Me (Option S) (View E S)) (i : ℕ) (f : ℕ → ℕ)
       → me.0.weight ≡ 1 → i < 4 → Moves names shows shown goes holds made me.0.number me.0.facts i f
-      → Allows (Ruled names shows passes limit values size) slots id me (client_place i) f (Tells shown goes holds payload made me)
+      → Allows (Ruled names shows passes limit values size) slots id me (client_place i) f
+      (Tells shown goes holds payload made me)
   moves shown goes holds payload made slots id me i f one few law s r _ here small =
       let v = me.0 in let p = v.number in let facts = v.facts in let c = r.hidden in
       let at = (r.each_view id v here).stands (omega arith) in
@@ -41,12 +43,15 @@ module _ {E S : Type 0} (names : ℕ → E → Bool) (legal : ℕ → List E →
       let holding = holds (made n) facts.held n in
       let d = stands_at c p now holding in
       let es = shown p facts.doing n in
-      let wide = r.wide in
       let is : slice_index (client_words s.words) i ≡ n = client-at s.words i few in
-      let t : Turned names shows passes limit values size s r v word (f n) d es (facts_moved now holding (payload facts.payload) facts) = record {
+      let wide : (j : ℕ) → j < 4 → client_place j < length s.words =
+      λ j low. let inside = client-inside j (limit + passes + values) low in let long = r.wide in omega arith in
+      let t : Turned names shows passes limit values size s r v word (f n) d es
+      (facts_moved now holding (payload facts.payload) facts) = record {
         crew = crew-else s.words word (f n) (omega arith);
         counters = counters-else c.queue d.queue s.words word (f n) (omega arith) refl refl r.counters;
-        cells = cells-else c d (limit + passes + values) s.words word (f n) (omega arith) (λ k. refl) (λ k. refl) r.cells;
+        cells = cells-else c d (limit + passes + values) s.words word (f n) (λ k. behind-client i k few) (λ k. refl)
+            (λ k. refl) r.cells;
         idle_words = idle-else s.words word (f n) (λ j is. is.client i few) r.idle_words;
         room = record {
           few_passes = r.room.few_passes;
@@ -65,22 +70,39 @@ module _ {E S : Type 0} (names : ℕ → E → Bool) (legal : ℕ → List E →
             (λ (there : facts.doing ≡ doing.Door). r.door p (at.doing ∙ ap Some there))
             (λ (may : facts.may_draw ≡ true). at.may_draw ∙ ap Some may)
             (law.door n door));
-        shown = subst (λ (ws : List ℕ). shows d ws (r.log ++ es) r.handed) (sym (client-set s.words i (f n) few (omega arith)))
-            (subst (λ z. shows (stands_at c p (goes facts.doing z) (holds (made z) facts.held z)) (slice_set (client_words s.words) i (f z)) (r.log ++ shown p facts.doing z) r.handed) is
-            (law.step c (client_words s.words) r.log r.handed r.shown at.doing at.held (suspends-low passes limit values c r.room) (resumes-low passes limit values c r.room) (subst (λ z. z < 2 ^ 64) (sym is) small)));
+        shown = subst (λ (ws : List ℕ). shows d ws (r.log ++ es) r.handed) (sym (client-set s.words i (f n) few wide))
+            (subst (λ z. shows (stands_at c p (goes facts.doing z) (holds (made z) facts.held z))
+            (slice_set (client_words s.words) i (f z)) (r.log ++ shown p facts.doing z) r.handed) is
+            (law.step c (client_words s.words) r.log r.handed r.shown at.doing at.held (suspends-low passes limit values c r.room)
+            (resumes-low passes limit values c r.room) (subst (λ z. z < 2 ^ 64) (sym is) small)));
         others = others-moved c p now holding;
         self = record {
           doing = get-set_here c.queue.doing p facts.doing now at.doing;
           held = get-set_here c.held p facts.held holding at.held;
           may_draw = at.may_draw;
-          waits = λ k h. let w = at.waits k h in record { cell = w.cell; there = w.there; owner = w.owner; drawn = w.drawn; uncollected = w.uncollected; installed = w.installed };
-          all_waits = λ k w. at.all_waits k (record { cell = w.cell; there = w.there; owner = w.owner; drawn = w.drawn; uncollected = w.uncollected; installed = w.installed });
+          waits = λ k h. let w = at.waits k h in record {
+            cell = w.cell;
+            there = w.there;
+            owner = w.owner;
+            drawn = w.drawn;
+            uncollected = w.uncollected;
+            installed = w.installed;
+          };
+          all_waits = λ k w. at.all_waits k (record {
+            cell = w.cell;
+            there = w.there;
+            owner = w.owner;
+            drawn = w.drawn;
+            uncollected = w.uncollected;
+            installed = w.installed;
+          });
           once = at.once;
           last = tt;
         };
         silent = law.silent n;
       } in
-      let done = steps names legal shows entries gains opened passes limit values size held client s r id me word (f n) d es (facts_moved now holding (payload facts.payload) facts) here one t in
+      let done = steps names legal shows entries gains opened passes limit values size held client s r id me word (f n) d es
+      (facts_moved now holding (payload facts.payload) facts) here one t in
       (grown v (facts_moved now holding (payload facts.payload) facts) (r.log ++ es) r.handed, keeps, tt, done.0, (done.1, refl))
 
   -- the same at a word's place, by what the step computes of the word found
@@ -90,7 +112,8 @@ module _ {E S : Type 0} (names : ℕ → E → Bool) (legal : ℕ → List E →
       → Moves names shows shown goes holds made me.0.number me.0.facts i f
       → Allows (Ruled names shows passes limit values size) slots id me place g (Tells shown goes holds payload made me)
   moves-at shown goes holds payload made slots id me i place f g one few is same law =
-      subst (λ (z : ℕ × (ℕ → ℕ)). Allows (Ruled names shows passes limit values size) slots id me z.0 z.1 (Tells shown goes holds payload made me))
+      subst (λ (z : ℕ × (ℕ → ℕ)). Allows (Ruled names shows passes limit values size) slots id me z.0 z.1
+      (Tells shown goes holds payload made me))
       (λ j. (sym is j, λ n. sym (same n) j)) (moves shown goes holds payload made slots id me i f one few law)
 
 -- what is added where the number is not negative, and where it is

@@ -14,11 +14,12 @@ use Rattle.cqs_rule.specs.Configured.{is_config}
 use Rattle.cqs_rule.specs.declared.view.View.{View}
 use Rattle.cqs_rule.specs.Hidden.{Hidden, state_in}
 use Rattle.cqs_rule.specs.Lists.{Has}
-use Rattle.cqs_rule.specs.Layout.{client_words, IsIdle}
+use Rattle.cqs_rule.specs.Layout.{client_words, cell_place, words_for, IsIdle}
 use Rattle.cqs_rule.specs.Views.{first_view, all_own, first_facts}
 use Rattle.cqs_core.specs.declared.cells.CoreCell.{CoreCell}
 use Rattle.cqs_rule.specs.Ruled.{Ruled, Knows, IsWaitOf, IsInstalled, IsBare, IsPlain, word_of, Stands}
 use Rattle.cqs_rule.specs.Opened.{value_cell, first_payload, first_hidden, four, first_word, first_cell, IsOpening}
+use Rattle.cqs_rule.proofs.CellPlaces.{number-place, cell-inside}
 use Rattle.cqs_rule.proofs.Lists.{all_draw}
 
 module _ {A : Type 0} where
@@ -49,16 +50,15 @@ cell-empty values k above =
     let long : length (replicate values value_cell) ≤ k = omega (arith, length-replicate values value_cell) in
     (ap state_in (get-past (replicate values value_cell) k long), ap (λ b. if b then k else 0) is, ap (λ b. if b then word_of k state.Value k else word_of k state.Empty 0) is)
 
-first-cell-at : (values k : ℕ) (words : List ℕ) → first_word values words (k + 112) ≡ first_cell values k
+first-cell-at : (values k : ℕ) (words : List ℕ) → first_word values words (cell_place k) ≡ first_cell values k
 first-cell-at values k words =
-    let is : nat_le 112 (k + 112) ≡ true = le-leb 112 (k + 112) (omega arith) in
-    let back : (k + 112) - 112 ≡ k = omega arith in
-    rw is (ap (first_cell values) back)
+    let is : nat_le (cell_place 0) (cell_place k) ≡ true = le-leb (cell_place 0) (cell_place k) (omega arith) in
+    rw is (ap (first_cell values) (number-place k))
 
 -- the words between open with nothing
 first-idle : (values i : ℕ) (words : List ℕ) → IsIdle i → first_word values words i ≡ 0
 first-idle values i words is =
-    let early : nat_le 112 i ≡ false = let b = is.before in lt-leb 112 i (omega arith) in
+    let early : nat_le (cell_place 0) i ≡ false = lt-leb (cell_place 0) i is.before in
     let crew = ne_eqb i 0 is.crew in
     let resumes = ne_eqb i 32 is.resumes in
     let a = ne_eqb i 48 (is.client 0 (omega arith)) in
@@ -74,7 +74,7 @@ module _ {E S : Type 0} (names : ℕ → E → Bool) (shows : Hidden → List �
   abbrev pub h : Hidden
   h = first_hidden passes values held
 
-  pub opens : (words client : List ℕ) (homes : List (Option S)) → IsOpening (limit + passes + values + 112) values client words
+  pub opens : (words client : List ℕ) (homes : List (Option S)) → IsOpening (words_for (limit + passes + values)) values client words
       → 0 < passes → passes ≤ 32 → 0 < limit → limit ≤ 1048576 → values ≤ 4096 → shows h (four client) [] []
       → Ruled names shows passes limit values size (opening words homes first)
   opens words client homes o any few any_limit low_limit few_values begins = record {
@@ -93,7 +93,7 @@ module _ {E S : Type 0} (names : ℕ → E → Bool) (shows : Hidden → List �
     };
     counters = record { suspends = o.at 16 (omega arith); resumes = o.at 32 (omega arith) };
     cells = record {
-      at = λ k below. o.at (k + 112) (omega arith) ∙ (first-cell-at values k client ∙ cell-is k (cases_lt k values));
+      at = λ k below. o.at (cell_place k) (cell-inside k (limit + passes + values) below) ∙ (first-cell-at values k client ∙ cell-is k (cases_lt k values));
       fits = λ k. payload-fits k (cases_lt k values);
       bare = λ k is. payload-bare k is (cases_lt k values);
       plain = λ k. is-plain k (cases_lt k values);
@@ -217,14 +217,14 @@ config-bounds c good =
 -- the same by what the code computes of a configuration
 pub opens-by : {E S : Type 0} (names : ℕ → E → Bool) (shows : Hidden → List ℕ → List E → List S → Type 0) (config : Config) (passes values values' size held : ℕ)
     (words items client : List ℕ) (homes : List (Option S)) → is_config config ≡ true → passes ≡ config.passes → values' ≡ values
-    → words ≡ items → IsOpening (config.limit + config.passes + values' + 112) values client items → values ≤ 4096
+    → words ≡ items → IsOpening (words_for (config.limit + config.passes + values')) values client items → values ≤ 4096
     → ((n : ℕ) → 0 < n → n ≤ 32 → shows (first_hidden n values held) (four client) [] [])
     → Ruled names shows passes config.limit values size (opening words homes (first_view config.limit (config.limit + passes + values) size held))
 opens-by names shows config passes values values' size held words items client homes good is_passes is_values is_words o few begins =
     let b = config-bounds config good in
     let any : 0 < passes = let h = b.some_passes in omega arith in
     let low : passes ≤ 32 = let h = b.few_passes in omega arith in
-    let count : config.limit + config.passes + values' + 112 ≡ config.limit + passes + values + 112 = omega arith in
-    let whole : IsOpening (config.limit + passes + values + 112) values client words =
-    subst (λ (t : ℕ × List ℕ). IsOpening t.0 values client t.1) (λ i. (count i, sym is_words i)) o in
+    let count : config.limit + config.passes + values' ≡ config.limit + passes + values = omega arith in
+    let whole : IsOpening (words_for (config.limit + passes + values)) values client words =
+    subst (λ (t : ℕ × List ℕ). IsOpening (words_for t.0) values client t.1) (λ i. (count i, sym is_words i)) o in
     opens names shows passes config.limit values size held words client homes whole any low b.some_limit b.low_limit few (begins passes any low)

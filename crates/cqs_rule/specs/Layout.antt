@@ -1,5 +1,5 @@
 -- Which word of the table holds what. Words that change often stand 16 apart, so that no two share a cache line.
-use Rattle.std.specs.Prelude.{◌≢◌, ℕ, ◌+◌, ◌*◌, ◌<◌, List, [], ◌∷◌, slice_index}
+use Rattle.std.specs.Prelude.{◌≢◌, ℕ, ◌+◌, ◌-◌, ◌*◌, ◌<◌, List, [], ◌∷◌, slice_index}
 
 -- the passes made and the passes live
 abbrev pub crew_place : ℕ
@@ -18,6 +18,14 @@ client_place i = 16 * i + 48
 -- the cell of a number
 abbrev pub cell_place : ℕ → ℕ
 cell_place k = k + 112
+
+-- the number whose cell stands at this word
+abbrev pub cell_number : ℕ → ℕ
+cell_number word = word - 112
+
+-- how many words a table of so many cells has: the first word behind them
+abbrev pub words_for : ℕ → ℕ
+words_for cells = cells + 112
 
 -- a word between these: it stands before the cells, and is none of the crew's, the counters' and the client's
 pub record IsIdle (i : ℕ) : Type 0 where

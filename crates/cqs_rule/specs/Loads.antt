@@ -1,5 +1,5 @@
 -- The loads of the table: of the suspend counter, and of a cell. The owner of a wait may name what it learns there.
-use Rattle.std.specs.Prelude.{◌≡◌, ℕ, ◌-◌, ◌<◌, Bool, true, false, List, [], ◌∷◌, ◌++◌, Option, Some, None}
+use Rattle.std.specs.Prelude.{◌≡◌, ℕ, ◌<◌, Bool, true, false, List, [], ◌∷◌, ◌++◌, Option, Some, None}
 use Rattle.atomic_table.specs.Table.{Me, Step}
 use Rattle.cqs_core.specs.declared.cells.CoreState.{CoreState}
 use Rattle.cqs_core.specs.declared.cells.CoreState.TheVariants as state
@@ -13,7 +13,7 @@ use Rattle.cqs_rule.specs.declared.view.Facts.{Facts}
 use Rattle.cqs_rule.specs.declared.view.Glimpse.{Glimpse}
 use Rattle.cqs_rule.specs.declared.view.Sighting.TheVariants.{Cell}
 use Rattle.cqs_rule.specs.Hidden.{LookEvent, pends, grants, late, QueueStep, looks}
-use Rattle.cqs_rule.specs.Layout.{suspends_place, cell_place}
+use Rattle.cqs_rule.specs.Layout.{suspends_place, cell_place, cell_number}
 use Rattle.cqs_rule.specs.Lists.{Has}
 use Rattle.cqs_rule.specs.Told.{Saw, FoundCell, facts_after, facts_counted}
 
@@ -95,7 +95,7 @@ module _ {E S : Type 0} (names : ℕ → E → Bool) (legal : ℕ → List E →
   -- a load of the word of this number found n
   abbrev pub Loaded : LoadStep → ℕ → View E S → ℕ → View E S → Type 0
   Loaded counts word v n w = Saw names legal v (facts_counted v.limit n v.facts) [] w
-  Loaded load word v n w = Looked load (word - 112) v n w
+  Loaded load word v n w = Looked load (cell_number word) v n w
 
   abbrev pub loaded_by : LoadStep → Step (Option S) → Me (Option S) (View E S) → ℕ → Me (Option S) (View E S) → Type 0
   loaded_by load st me n me' = Loaded load st.word me.0 n me'.0 × (me'.1 ≡ me.1)

@@ -5,6 +5,7 @@ use Rattle.cqs_core.specs.declared.cells.CoreState.TheVariants as state
 use Rattle.cqs_core.specs.declared.doings.Doing.TheVariants as doing
 use Rattle.cqs_words.specs.Cell.{cell_word}
 use Rattle.cqs_rule.specs.Hidden.{Hidden}
+use Rattle.cqs_rule.specs.Layout.{crew_place, resumes_place, client_place, cell_place, cell_number}
 
 -- a cell in which a value stands from the beginning
 abbrev pub value_cell : CoreCell
@@ -33,13 +34,13 @@ first_cell values k = if nat_lt k values then cell_word k 2 k else cell_word k 0
 -- the opening value of each word of the table
 abbrev pub first_word : ℕ → List ℕ → ℕ → ℕ
 first_word values words i =
-    if nat_le 112 i then first_cell values (i - 112)
-    else if i == 0 then 4294967297
-    else if i == 32 then values
-    else if i == 48 then slice_index words 0
-    else if i == 64 then slice_index words 1
-    else if i == 80 then slice_index words 2
-    else if i == 96 then slice_index words 3
+    if nat_le (cell_place 0) i then first_cell values (cell_number i)
+    else if i == crew_place then 4294967297
+    else if i == resumes_place then values
+    else if i == client_place 0 then slice_index words 0
+    else if i == client_place 1 then slice_index words 1
+    else if i == client_place 2 then slice_index words 2
+    else if i == client_place 3 then slice_index words 3
     else 0
 
 -- the words of a table as it opens

@@ -15,7 +15,7 @@ use Rattle.cqs_words.specs.Cell.{cell_word, state_code}
 use Rattle.cqs_rule.specs.declared.view.View.{View}
 use Rattle.cqs_rule.specs.declared.view.Facts.{Facts}
 use Rattle.cqs_rule.specs.declared.view.Glimpse.{Glimpse}
-use Rattle.cqs_rule.specs.Layout.{crew_place, suspends_place, resumes_place, cell_place, client_words, IsIdle}
+use Rattle.cqs_rule.specs.Layout.{crew_place, suspends_place, resumes_place, cell_place, words_for, client_words, IsIdle}
 use Rattle.cqs_rule.specs.Hidden.{Hidden, state_at}
 use Rattle.cqs_rule.specs.Lists.{Has, IsDistinct, total, IsPrefix, part}
 use Rattle.cqs_rule.specs.Views.{WasCrew, all_own, weight, Apart, Tip}
@@ -177,7 +177,7 @@ module _ {E S : Type 0} (names : ℕ → E → Bool) where
     pub handed : List S
     pub made : ℕ
     pub live : ℕ
-    pub wide : limit + passes + values + 112 ≤ length s.words
+    pub wide : words_for (limit + passes + values) ≤ length s.words
     pub crew : CrewShows passes made live s.words s.views
     pub counters : CountersShow hidden.queue s.words
     pub cells : CellsShow hidden (limit + passes + values) s.words

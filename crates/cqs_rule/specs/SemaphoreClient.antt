@@ -34,49 +34,57 @@ silent-step (looks pends) p k n apart = rw (ne_eqb p n (λ q. apart (sym q))) re
 silent-step (looks grants) p k n apart = rw (ne_eqb p n (λ q. apart (sym q))) refl
 silent-step (looks late) p k n apart = rw (ne_eqb p n (λ q. apart (sym q))) refl
 
-module _ (permits : ℕ) (c : Hidden) (p k payload : ℕ) (words : List ℕ) (log : List Entry) (core : IsCore (core_shown permits c words log)) where
+module _ (permits : ℕ) (c : Hidden) (p k payload : ℕ) (words : List ℕ) (log : List Entry)
+    (core : IsCore (core_shown permits c words log)) where
   abbrev s : Shape
   s = core_shown permits c words log
 
-  -- what the client shows after a step of the queue
+  -- what the client shows after a step of the queue at the number j, with this history
+  abbrev shape_after : QueueStep → ℕ → Option CoreCell → List Entry → Shape
+  shape_after t j found history = core_shown permits (happened one_more c t p j found payload) words history
+
+  abbrev IsAfter : QueueStep → ℕ → Option CoreCell → Type 0
+  IsAfter t j found = IsCore (shape_after t j found (log ++ step_entries t p j))
+
   abbrev After : QueueStep → Option CoreCell → Type 0
-  After t found = IsCore (core_shown permits (happened one_more c t p k found payload) words (log ++ step_entries t p k))
+  After t found = IsAfter t k found
 
   -- an event of the core that the table allows, and what the client shows after it
   by-row : (e : Event) (t : QueueStep) (j : ℕ) (found : Option CoreCell) (o : Outcome)
-      → step s e ≡ Some (record { shape = core_shown permits (happened one_more c t p j found payload) words (log ++ step_entries t p j); outcome = o })
-      → IsCore (core_shown permits (happened one_more c t p j found payload) words (log ++ step_entries t p j))
-  by-row e t j found o is = row-core s e (record { shape = core_shown permits (happened one_more c t p j found payload) words (log ++ step_entries t p j); outcome = o }) core is
+      → step s e ≡ Some (record { shape = shape_after t j found (log ++ step_entries t p j); outcome = o }) → IsAfter t j found
+  by-row e t j found o is =
+      row-core s e (record { shape = shape_after t j found (log ++ step_entries t p j); outcome = o }) core is
 
   -- the same for an event that appends nothing
   by-quiet-row : (e : Event) (t : QueueStep) (j : ℕ) (found : Option CoreCell) (o : Outcome) → step_entries t p j ≡ []
-      → step s e ≡ Some (record { shape = core_shown permits (happened one_more c t p j found payload) words log; outcome = o })
-      → IsCore (core_shown permits (happened one_more c t p j found payload) words (log ++ step_entries t p j))
+      → step s e ≡ Some (record { shape = shape_after t j found log; outcome = o }) → IsAfter t j found
   by-quiet-row e t j found o none is =
-      subst (λ (l : List Entry). IsCore (core_shown permits (happened one_more c t p j found payload) words l)) (sym (ap (λ l. log ++ l) none ∙ append-nil log))
-      (row-core s e (record { shape = core_shown permits (happened one_more c t p j found payload) words log; outcome = o }) core is)
+      subst (λ (l : List Entry). IsCore (shape_after t j found l)) (sym (ap (λ l. log ++ l) none ∙ append-nil log))
+      (row-core s e (record { shape = shape_after t j found log; outcome = o }) core is)
 
   -- the wait is the pass's
   is-with : (cell : CoreCell) → Owns p cell → is_with p cell ≡ true
   is-with cell o = rw (o.owner, eq-eqb p p refl, o.uncollected) refl
 
-  step-draws : (found : Option CoreCell) → IsOpenStep c.queue draws p k found → c.queue.suspends < 1099511627775 → After draws found
+  step-draws : (found : Option CoreCell) → IsOpenStep c.queue draws p k found → c.queue.suspends < 1099511627775
+      → After draws found
   step-draws found open_there low =
       let does : slice_get c.queue.doing p ≡ Some doing.Door = open_there.0 in
       let below : nat_lt c.queue.suspends 1099511627775 ≡ true = lt-ltb c.queue.suspends 1099511627775 low in
-      let here : slice_get c.queue.cells c.queue.suspends ≡ found = ap (slice_get c.queue.cells) (sym open_there.1) ∙ open_there.2 in
-      subst (λ (z : ℕ × Option CoreCell). IsCore (core_shown permits (happened one_more c draws p z.0 z.1 payload) words (log ++ step_entries draws p z.0)))
-      (λ i. (sym open_there.1 i, here i))
-      (by-row (event.Draw p) draws c.queue.suspends (slice_get c.queue.cells c.queue.suspends) (outcome.Drew c.queue.suspends) (rw (does, below) refl))
+      let there = slice_get c.queue.cells c.queue.suspends in
+      let here : there ≡ found = ap (slice_get c.queue.cells) (sym open_there.1) ∙ open_there.2 in
+      subst (λ (z : ℕ × Option CoreCell). IsAfter draws z.0 z.1) (λ i. (sym open_there.1 i, here i))
+      (by-row (event.Draw p) draws c.queue.suspends there (outcome.Drew c.queue.suspends) (rw (does, below) refl))
 
-  step-reaches : (found : Option CoreCell) → IsOpenStep c.queue reaches p k found → c.queue.resumes < 1099511627775 → After reaches found
+  step-reaches : (found : Option CoreCell) → IsOpenStep c.queue reaches p k found → c.queue.resumes < 1099511627775
+      → After reaches found
   step-reaches found open_there low =
       let does : slice_get c.queue.doing p ≡ Some doing.Owes = open_there.0 in
       let below : nat_lt c.queue.resumes 1099511627775 ≡ true = lt-ltb c.queue.resumes 1099511627775 low in
-      let here : slice_get c.queue.cells c.queue.resumes ≡ found = ap (slice_get c.queue.cells) (sym open_there.1) ∙ open_there.2 in
-      subst (λ (z : ℕ × Option CoreCell). IsCore (core_shown permits (happened one_more c reaches p z.0 z.1 payload) words (log ++ step_entries reaches p z.0)))
-      (λ i. (sym open_there.1 i, here i))
-      (by-quiet-row (event.Reach p) reaches c.queue.resumes (slice_get c.queue.cells c.queue.resumes) (outcome.Reached c.queue.resumes) refl (rw (does, below) refl))
+      let there = slice_get c.queue.cells c.queue.resumes in
+      let here : there ≡ found = ap (slice_get c.queue.cells) (sym open_there.1) ∙ open_there.2 in
+      subst (λ (z : ℕ × Option CoreCell). IsAfter reaches z.0 z.1) (λ i. (sym open_there.1 i, here i))
+      (by-quiet-row (event.Reach p) reaches c.queue.resumes there (outcome.Reached c.queue.resumes) refl (rw (does, below) refl))
 
   step-installs : (cell : CoreCell) → Works c.queue p (doing.Drawn k) k cell state.Empty → After installs (Some cell)
   step-installs cell w =
@@ -130,7 +138,8 @@ opens-state permits = grind (arith, ints)
 begins-core : (permits passes : ℕ) → 0 < permits → permits ≤ 1048576 → 0 < passes → passes ≤ 32
     → IsCore (core_shown permits (first_hidden passes 0 0) (four ((permits + 4294967296) ∷ [])) [])
 begins-core permits passes some low any few =
-    subst (λ (z : List ℕ × ℤ). IsCore (record { permits = permits; state = z.1; held = z.0; history = []; queue = (opened permits passes).queue }))
+    let queue = (opened permits passes).queue in
+    subst (λ (z : List ℕ × ℤ). IsCore (record { permits = permits; state = z.1; held = z.0; history = []; queue = queue }))
     (λ i. (sym (none-held passes any) i, sym (opens-state permits) i))
     (opened-core permits passes (record { some_permits = some; few_permits = low; some_passes = any; few_passes = few }))
 
@@ -139,11 +148,14 @@ pub semaphore-client : {T : Type 0} (permits : ℕ) → 0 < permits → permits 
     → IsClient entry_names (IsLegal permits) (shows_core {T = T} permits) step_entries one_more ((permits + 4294967296) ∷ []) 0 0
 semaphore-client permits some low = record {
   begins = λ passes any few. begins-core permits passes some low any few;
-  steps = λ c t p k found payload words log handed core o less less'. steps-core permits c p k payload words log core t found o less less';
+  steps = λ c t p k found payload words log handed core o less less'.
+      steps-core permits c p k payload words log core t found o less less';
   counts = λ c p may words log handed core. core;
   silent = silent-step;
   sound = λ c words log handed core. core.sound;
   legal_shown = λ c words log handed core. core.legal;
-  held_fits = λ c words log handed p n core there. let few = held-small (core_shown permits c words log) p n core there in omega arith;
-  reaches_few = λ c words log handed p core owes. let few = reached-few (core_shown permits c words log) p core owes in omega arith;
+  held_fits = λ c words log handed p n core there.
+      let few = held-small (core_shown permits c words log) p n core there in omega arith;
+  reaches_few = λ c words log handed p core owes.
+      let few = reached-few (core_shown permits c words log) p core owes in omega arith;
 }

@@ -2,6 +2,7 @@
 
 ghost use Rattle.std.specs.Prelude.{◌≡◌, ◌+◌, ◌<◌, ◌^◌, length};
 ghost use Rattle.cqs_rule.specs.Inside.{IsInside};
+ghost use Rattle.cqs_rule.specs.Layout.{words_for};
 ghost use Rattle.cqs_rule.specs.Told.{is_owing};
 
 mod opening;
@@ -39,7 +40,7 @@ pub struct Pass<C: ClientWords> {
     pub ghost held_is: { seat.me.0.facts.held ≡ held },
     pub ghost owes_is: { is_owing seat.me.0.facts.doing ≡ owes },
     pub ghost waits_are: { length seat.me.0.facts.waits ≡ waits },
-    pub ghost cells_are: { seat.me.0.cells + 112 ≡ seat.table_id.words },
+    pub ghost cells_are: { words_for seat.me.0.cells ≡ seat.table_id.words },
     pub ghost inside: { IsInside seat.me.0 },
     pub ghost few_cells: { seat.me.0.cells < 2 ^ 31 },
 }

@@ -63,10 +63,13 @@ fn word_at<C: ClientWords>(client: &C, place: usize) -> u64
         80 => client_word(client, 2),
         96 => client_word(client, 3),
         _ => {
-            if place < 112 {
+            if place < CELLS_WORD as usize {
                 0
             } else {
-                first_cell(u64::from(client.values()), place as u64 - 112)
+                first_cell(
+                    u64::from(client.values()),
+                    place as u64 - u64::from(CELLS_WORD),
+                )
             }
         }
     }

@@ -4,7 +4,7 @@ use Rattle.cqs_rule.proofs.queue.Queue.add_table.Goals as goal
 
 pub fetch_add-found-requires : goal.fetch_add-found-requires
 fetch_add-found-requires g c =
-    let low = counter-low _ _ _ _ c.requires.count in
+    let low = counter-low _ _ _ _ c.requires.count c.args.pass.now.seat.me.0.cells in
     let is : c.unsigned_abs.result ≡ unsigned_abs c.args.by = search rules in (
       search rules,
       search rules,

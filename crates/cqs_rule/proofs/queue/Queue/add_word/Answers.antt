@@ -1,10 +1,12 @@
 use Rattle.std.proofs.Common.{rules, ◌≡◌, pos, unsigned_abs, ◌<ℤ◌, ◌≤ℤ◌}
 use Rattle.cqs_rule.specs.Told.{in_any_case}
+use Rattle.cqs_rule.proofs.CellPlaces.{client-inside}
 use Rattle.cqs_rule.proofs.Moves.{moves-at, added-down, added-up}
 use Rattle.cqs_rule.proofs.queue.Queue.add_word.Goals as goal
 
 pub fetch_sub-found-requires : goal.fetch_sub-found-requires
 fetch_sub-found-requires g c =
+    let low = client-inside c.args.word c.args.pass.now.seat.me.0.cells c.requires.word in
     let side : c.args.by <ℤ pos 0 = search rules in
     let is : c.unsigned_abs-amount.result ≡ unsigned_abs c.args.by = search rules in (
       search rules,
@@ -16,6 +18,7 @@ fetch_sub-found-requires g c =
 
 pub fetch_add-found-requires : goal.fetch_add-found-requires
 fetch_add-found-requires g c =
+    let low = client-inside c.args.word c.args.pass.now.seat.me.0.cells c.requires.word in
     let side : pos 0 ≤ℤ c.args.by = search rules in
     let is : c.unsigned_abs-amount.result ≡ unsigned_abs c.args.by = search rules in (
       search rules,

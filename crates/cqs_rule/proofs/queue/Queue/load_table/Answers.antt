@@ -4,7 +4,7 @@ use Rattle.cqs_rule.proofs.queue.Queue.load_table.Goals as goal
 
 pub load-found-requires : goal.load-found-requires
 load-found-requires g c =
-    let low = load-low g.L.Load.load _ c.args.word c.args.pass.now.inside c.requires.load in (
+    let low = load-low _ c.args.word g.L.Load.load c.args.pass.now.inside c.requires.load in (
       search rules,
       search rules,
       loads _ _ _ _ _ _ _ _ _ _ _ (g.met.C.ClientWords.keeps c.args.self.now.table.shared.key.client) _ _ _ g.L.Load.load _ c.args.pass.now.live.0 c.requires.load,

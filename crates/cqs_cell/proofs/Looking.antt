@@ -17,7 +17,8 @@ use Rattle.cqs_cell.specs.Looks.{LooksAt}
 
 module _ {E S : Type 0} (names : ℕ → E → Bool) (legal : ℕ → List E → Type 0) (gains : ℕ → ℕ) (entries : QueueStep → ℕ → ℕ → List E) where
   -- the load of its word tells of the cell
-  looked-at : (load : LoadStep) (v w : View E S) (k word n : ℕ) → word ≡ k + 112 → MayLook load v k → Loaded names legal gains entries load word v n w
+  looked-at : (load : LoadStep) (v w : View E S) (k word n : ℕ) → word ≡ k + 112 → MayLook load v k
+      → Loaded names legal gains entries load word v n w
       → Looked names legal gains entries load k v n w
   looked-at counts v w k word n place may l = absurd may
   looked-at watches v w k word n place may l = let number : word - 112 ≡ k = omega arith in subst (λ z. Looked names legal gains entries watches z v n w) number l
@@ -26,7 +27,8 @@ module _ {E S : Type 0} (names : ℕ → E → Bool) (legal : ℕ → List E →
 
   -- the cell that the word unpacks to is the one found
   pub looks-at : (load : LoadStep) (v w : View E S) (k word n : ℕ) (cell : CellWord) → word ≡ k + 112 → MayLook load v k
-      → Loaded names legal gains entries load word v n w → unpacked_cell n ≡ Some cell → LooksAt names legal gains entries load k v cell w
+      → Loaded names legal gains entries load word v n w → unpacked_cell n ≡ Some cell
+      → LooksAt names legal gains entries load k v cell w
   looks-at load v w k word n cell place may l is =
       let found = looked-at load v w k word n place may l in
       let same = same_Some _ cell (sym (unpacks k n found.glimpse found.cell) ∙ is) in
@@ -55,11 +57,13 @@ module _ {E S : Type 0} (names : ℕ → E → Bool) (legal : ℕ → List E →
   looked-resumed load k v w cell l is = looked-so load k v w cell state.Resumed l is
 
   -- at a wait of its own a pass finds one of the two
-  pub waiter-or-resumed : (load : LoadStep) (k : ℕ) (v w : View E S) (cell : CellWord) → IsOfWait load → LooksAt names legal gains entries load k v cell w
+  pub waiter-or-resumed : (load : LoadStep) (k : ℕ) (v w : View E S) (cell : CellWord) → IsOfWait load
+      → LooksAt names legal gains entries load k v cell w
       → (cell.state ≡ shown.Waiter) ⊎ (cell.state ≡ shown.Resumed)
   waiter-or-resumed load k v w cell of l = one-of l.looked.glimpse.state (l.looked.standing of) (sym l.state)
     where
-      one-of : (x : CoreState) → IsStanding x → cell.state ≡ shown_state x → (cell.state ≡ shown.Waiter) ⊎ (cell.state ≡ shown.Resumed)
+      one-of : (x : CoreState) → IsStanding x → cell.state ≡ shown_state x
+          → (cell.state ≡ shown.Waiter) ⊎ (cell.state ≡ shown.Resumed)
       one-of state.Waiter standing is = inl is
       one-of state.Resumed standing is = inr is
       one-of state.Empty standing is = absurd standing
@@ -70,3 +74,6 @@ module _ {E S : Type 0} (names : ℕ → E → Bool) (legal : ℕ → List E →
       one-of state.Delegated standing is = absurd standing
       one-of state.Cancelled standing is = absurd standing
       one-of state.Refused standing is = absurd standing
+
+-- what `look` is proved by
+pub ruleset looking = (looks-at)

@@ -11,6 +11,7 @@ use cqs_words::CellWord;
 
 /// Loads the cell of a number, and answers it as it was found. By `L` the owner of a wait names what it wants to learn there:
 /// `Polls`, whether it was served, and `Cancels`, whether it is too late to cancel. `Watches` shows no event.
+#[tactic(auto, using(crate::proofs::Looking::looking))]
 pub fn look<C: ClientWords, L: Load>(queue: &Queue<C>, pass: &mut Pass<C>, at: Place) -> CellWord
     requires belongs { IsOf queue.now pass.old }
     requires place { IsPlace at }

@@ -76,14 +76,16 @@ module _ {E S : Type 0} where
   may-own polls v k of may = may
   may-own cancels v k of may = may
 
-  may-below : (load : LoadStep) (v : View E S) (k cells : ℕ) → MayLook load v k → v.cells ≡ cells → (Has k v.facts.waits → k < cells) → k < cells
+  may-below : (load : LoadStep) (v : View E S) (k cells : ℕ) → MayLook load v k → v.cells ≡ cells
+      → (Has k v.facts.waits → k < cells) → k < cells
   may-below counts v k cells may is waits = absurd may
   may-below watches v k cells may is waits = omega arith
   may-below polls v k cells may is waits = waits may.1
   may-below cancels v k cells may is waits = waits may.1
 
 -- the words show the cells as before
-cells-same : (c d : Hidden) (cells : ℕ) (words : List ℕ) → ((k : ℕ) → state_at d.queue k ≡ state_at c.queue k) → ((k : ℕ) → d.payloads k ≡ c.payloads k)
+cells-same : (c d : Hidden) (cells : ℕ) (words : List ℕ) → ((k : ℕ) → state_at d.queue k ≡ state_at c.queue k)
+    → ((k : ℕ) → d.payloads k ≡ c.payloads k)
     → CellsShow c cells words → CellsShow d cells words
 cells-same c d cells words states payloads show = record {
   at = λ k below. show.at k below ∙ sym (λ j. word_of k (states k j) (payloads k j));
@@ -201,7 +203,8 @@ module _ {E S : Type 0} (names : ℕ → E → Bool) (legal : ℕ → List E →
           (_, keeps, tt, done.0, (told (Some e) _ is done.1, refl))
 
   -- the same at its word
-  loads-place : (slots id : ℕ) (me : Me (Option S) (View E S)) (load : LoadStep) (word : ℕ) → me.0.weight ≡ 1 → (k : ℕ) × (word ≡ k + 112) × MayLook load me.0 k
+  loads-place : (slots id : ℕ) (me : Me (Option S) (View E S)) (load : LoadStep) (word : ℕ) → me.0.weight ≡ 1
+      → (k : ℕ) × (word ≡ k + 112) × MayLook load me.0 k
       → Allows (Ruled names shows passes limit values size) slots id me word (λ n. n)
       (λ n me'. Looked names legal gains entries load (word - 112) me.0 n me'.0 × (me'.1 ≡ me.1))
   loads-place slots id me load word one may =
@@ -213,7 +216,8 @@ module _ {E S : Type 0} (names : ℕ → E → Bool) (legal : ℕ → List E →
       (λ i. (sym place i, sym number i)) (loads-cell slots id me load k one may.2)
 
   -- a load of the suspend counter, or of a cell
-  pub loads : (slots id : ℕ) (me : Me (Option S) (View E S)) (load : LoadStep) (word : ℕ) → me.0.weight ≡ 1 → MayLoad load me.0 word
+  pub loads : (slots id : ℕ) (me : Me (Option S) (View E S)) (load : LoadStep) (word : ℕ) → me.0.weight ≡ 1
+      → MayLoad load me.0 word
       → Allows (Ruled names shows passes limit values size) slots id me word (λ n. n) (loaded_by names legal gains entries load (step slots word 0 0 none) me)
   loads slots id me counts word one may = counted-at names legal shows entries gains opened passes limit values size held client slots id me word one may
   loads slots id me watches word one may = loads-place slots id me watches word one may
@@ -265,13 +269,15 @@ closes-ends polls k n g found = ap is_served (unpacks k n g found) ∙ resumed-p
 closes-ends cancels k n g found = ap is_served (unpacks k n g found) ∙ resumed-cancels g.state
 
 module _ (gains : ℕ → ℕ) (k n : ℕ) (f : Facts) where
-  facts-kept : (o : Option LookEvent) → ends o ≡ false → ((facts_looked gains o k n f).held ≡ f.held) × ((facts_looked gains o k n f).waits ≡ f.waits)
+  facts-kept : (o : Option LookEvent) → ends o ≡ false
+      → ((facts_looked gains o k n f).held ≡ f.held) × ((facts_looked gains o k n f).waits ≡ f.waits)
   facts-kept None e = (refl, refl)
   facts-kept (Some pends) e = (refl, refl)
   facts-kept (Some grants) e = absurd (cc)
   facts-kept (Some late) e = absurd (cc)
 
-  facts-ended : (o : Option LookEvent) → ends o ≡ true → ((facts_looked gains o k n f).held ≡ gains f.held) × ((facts_looked gains o k n f).waits ≡ without k f.waits)
+  facts-ended : (o : Option LookEvent) → ends o ≡ true
+      → ((facts_looked gains o k n f).held ≡ gains f.held) × ((facts_looked gains o k n f).waits ≡ without k f.waits)
   facts-ended None e = absurd (cc)
   facts-ended (Some pends) e = absurd (cc)
   facts-ended (Some grants) e = (refl, refl)
@@ -286,18 +292,21 @@ module _ {E S : Type 0} (names : ℕ → E → Bool) (legal : ℕ → List E →
   abbrev Ends : View E S → View E S → Type 0
   Ends v w = (w.facts.held ≡ gains v.facts.held) × (length w.facts.waits + 1 ≡ length v.facts.waits)
 
-  looked-keeps : (load : LoadStep) (k n : ℕ) (v w : View E S) → Looked names legal gains entries load k v n w → closes load n ≡ false → Keeps v w
+  looked-keeps : (load : LoadStep) (k n : ℕ) (v w : View E S) → Looked names legal gains entries load k v n w
+      → closes load n ≡ false → Keeps v w
   looked-keeps load k n v w l open_yet =
       let kept = facts-kept gains k n v.facts (event_of load l.glimpse.state) (sym (closes-ends load k n l.glimpse l.cell) ∙ open_yet) in
       (ap (λ (f : Facts). f.held) l.saw.facts_are ∙ kept.0, ap (λ (f : Facts). length f.waits) l.saw.facts_are ∙ ap length kept.1)
 
-  pub loaded-keeps : (load : LoadStep) (word n : ℕ) (v w : View E S) → Loaded names legal gains entries load word v n w → closes load n ≡ false → Keeps v w
+  pub loaded-keeps : (load : LoadStep) (word n : ℕ) (v w : View E S) → Loaded names legal gains entries load word v n w
+      → closes load n ≡ false → Keeps v w
   loaded-keeps counts word n v w l open_yet = (ap (λ (f : Facts). f.held) l.facts_are, ap (λ (f : Facts). length f.waits) l.facts_are)
   loaded-keeps watches word n v w l open_yet = looked-keeps watches (word - 112) n v w l open_yet
   loaded-keeps polls word n v w l open_yet = looked-keeps polls (word - 112) n v w l open_yet
   loaded-keeps cancels word n v w l open_yet = looked-keeps cancels (word - 112) n v w l open_yet
 
-  looked-ends : (load : LoadStep) (k n : ℕ) (v w : View E S) → IsInside v → Has k v.facts.waits → Looked names legal gains entries load k v n w → closes load n ≡ true
+  looked-ends : (load : LoadStep) (k n : ℕ) (v w : View E S) → IsInside v → Has k v.facts.waits
+      → Looked names legal gains entries load k v n w → closes load n ≡ true
       → Ends v w
   looked-ends load k n v w inside has l closed =
       let ended = facts-ended gains k n v.facts (event_of load l.glimpse.state) (sym (closes-ends load k n l.glimpse l.cell) ∙ closed) in (
@@ -305,28 +314,24 @@ module _ {E S : Type 0} (names : ℕ → E → Bool) (legal : ℕ → List E →
         ap (λ (f : Facts). length f.waits + 1) l.saw.facts_are ∙ (ap (λ (l : List ℕ). length l + 1) ended.1 ∙ inside.once k has),
       )
 
-  has-number : (v : View E S) (word : ℕ) → (k : ℕ) × (word ≡ k + 112) × ((v.facts.doing ≡ doing.Idle) × Has k v.facts.waits) → Has (word - 112) v.facts.waits
+  has-number : (v : View E S) (word : ℕ) → (k : ℕ) × (word ≡ k + 112) × ((v.facts.doing ≡ doing.Idle) × Has k v.facts.waits)
+      → Has (word - 112) v.facts.waits
   has-number v word may =
       let place : word ≡ may.0 + 112 = may.1 in
       let number : word - 112 ≡ may.0 = omega arith in
       subst (λ z. Has z v.facts.waits) (sym number) may.2.1
 
-  pub loaded-ends : (load : LoadStep) (word n : ℕ) (v w : View E S) → IsInside v → MayLoad load v word → Loaded names legal gains entries load word v n w
+  pub loaded-ends : (load : LoadStep) (word n : ℕ) (v w : View E S) → IsInside v → MayLoad load v word
+      → Loaded names legal gains entries load word v n w
       → closes load n ≡ true → Ends v w
   loaded-ends counts word n v w inside may l closed = absurd (cc)
   loaded-ends watches word n v w inside may l closed = absurd (cc)
   loaded-ends polls word n v w inside may l closed = looked-ends polls (word - 112) n v w inside (has-number v word may) l closed
   loaded-ends cancels word n v w inside may l closed = looked-ends cancels (word - 112) n v w inside (has-number v word may) l closed
 
-  -- the pass holds no more than fits 32 bits
-  pub loaded-fits : (load : LoadStep) (word n : ℕ) (v w : View E S) → Loaded names legal gains entries load word v n w → w.facts.held < 2 ^ 32
-  loaded-fits counts word n v w l = l.held
-  loaded-fits watches word n v w l = l.saw.held
-  loaded-fits polls word n v w l = l.saw.held
-  loaded-fits cancels word n v w l = l.saw.held
-
 -- the word is one of the table's
-pub load-low : {E S : Type 0} (load : LoadStep) (v : View E S) (word : ℕ) → IsInside v → MayLoad load v word → word < v.cells + 112
+pub load-low : {E S : Type 0} (load : LoadStep) (v : View E S) (word : ℕ) → IsInside v → MayLoad load v word
+    → word < v.cells + 112
 load-low counts v word inside may = let n = inside.number in let place : word ≡ 16 = may in omega arith
 load-low watches v word inside may = let place : word ≡ may.0 + 112 = may.1 in let low : may.0 < v.cells = may.2 in omega arith
 load-low polls v word inside may = let place : word ≡ may.0 + 112 = may.1 in let low = inside.waits may.0 may.2.1 in omega arith

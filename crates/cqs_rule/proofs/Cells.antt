@@ -180,7 +180,8 @@ module _ (gains : ℕ → ℕ) (c : Hidden) (p k payload : ℕ) where
   }
 
   -- a wait that stands after a number was drawn stood before
-  pub drawn-wait_back : (found : Option CoreCell) (n j : ℕ) → slice_get c.queue.cells k ≡ found → k ≡ c.queue.suspends → IsSound c.queue
+  pub drawn-wait_back : (found : Option CoreCell) (n j : ℕ) → slice_get c.queue.cells k ≡ found → k ≡ c.queue.suspends
+      → IsSound c.queue
       → IsWaitOf (moved c.queue (move_of draws p k found)) n j → IsWaitOf c.queue n j
   drawn-wait_back None n j e next sound w = ⊎_elim
       (λ (old : slice_get c.queue.cells j ≡ Some w.cell). record {
@@ -394,8 +395,10 @@ module _ (gains : ℕ → ℕ) (c : Hidden) (p k payload : ℕ) where
         })
 
     -- the wait of the cell after the exchange: it stood before, or the exchange installed it
-    back-here : (t : QueueStep) (n : ℕ) → IsExchange t → found.state ≡ state_before t → (new_cell t found).owner ≡ Some n → (new_cell t found).collected ≡ false
-        → IsInstalled (new_cell t found).state → k < c.queue.suspends → IsWaitOf c.queue n k ⊎ ((t ≡ installs) × (found.owner ≡ Some n))
+    back-here : (t : QueueStep) (n : ℕ) → IsExchange t → found.state ≡ state_before t → (new_cell t found).owner ≡ Some n
+        → (new_cell t found).collected ≡ false
+        → IsInstalled (new_cell t found).state → k < c.queue.suspends
+        → IsWaitOf c.queue n k ⊎ ((t ≡ installs) × (found.owner ≡ Some n))
     back-here draws n x was owner uncollected installed low = absurd x
     back-here reaches n x was owner uncollected installed low = absurd x
     back-here installs n x was owner uncollected installed low = inr (refl, owner)
@@ -411,7 +414,8 @@ module _ (gains : ℕ → ℕ) (c : Hidden) (p k payload : ℕ) where
     })
     back-here (looks y) n x was owner uncollected installed low = absurd x
 
-    pub exchange-wait_back : (n j : ℕ) → IsWaitOf d.queue n j → IsWaitOf c.queue n j ⊎ ((s ≡ installs) × (j ≡ k) × (found.owner ≡ Some n))
+    pub exchange-wait_back : (n j : ℕ) → IsWaitOf d.queue n j
+        → IsWaitOf c.queue n j ⊎ ((s ≡ installs) × (j ≡ k) × (found.owner ≡ Some n))
     exchange-wait_back n j w = dite (ℕ_discrete j k)
         (λ (q : j ≡ k).
         let here : slice_get d.queue.cells j ≡ Some (new_cell s found) = ap (λ (cells : List CoreCell). slice_get cells j) (exchange-cells s found e)

@@ -189,7 +189,8 @@ made-plain takes e = tt
 made-plain serves e = tt
 made-plain (looks x) e = absurd e
 
-pub held-long : (gains : ℕ → ℕ) (c : Hidden) (s : QueueStep) (p k payload : ℕ) (found : Option CoreCell) → length (happened gains c s p k found payload).held ≡ length c.held
+pub held-long : (gains : ℕ → ℕ) (c : Hidden) (s : QueueStep) (p k payload : ℕ) (found : Option CoreCell)
+    → length (happened gains c s p k found payload).held ≡ length c.held
 held-long gains c takes p k payload found = length-set c.held p _
 held-long gains c draws p k payload found = refl
 held-long gains c reaches p k payload found = refl
@@ -210,7 +211,8 @@ may-same gains c serves p k payload found e = refl
 may-same gains c (looks x) p k payload found e = absurd e
 
 -- the cell of the number that a pass drew to suspend at is its own
-own-cell : (q : Queue) (p k : ℕ) (cell : CoreCell) → IsSound q → slice_get q.doing p ≡ Some (doing.Drawn k) → slice_get q.cells k ≡ Some cell
+own-cell : (q : Queue) (p k : ℕ) (cell : CoreCell) → IsSound q → slice_get q.doing p ≡ Some (doing.Drawn k)
+    → slice_get q.cells k ≡ Some cell
     → cell.owner ≡ Some p
 own-cell q p k cell sound does there =
     let own : IsOwn q p k IsUntaken = sound.passes.at p (doing.Drawn k) does in

@@ -29,8 +29,10 @@ module _ {E S : Type 0} (names : ℕ → E → Bool) (legal : ℕ → List E →
     (client : IsClient names (legal size) shows entries gains opened values held) where
   -- no word changes, what is hidden becomes d, and the history grows by these entries
   pub stays : (s : State (Option S) (View E S)) (r : Ruled names shows passes limit values size s) (v : View E S) (i : ℕ) (d : Hidden) (es : List E) (facts : Facts)
-      → CountersShow d.queue s.words → CellsShow d (limit + passes + values) s.words → HasRoom passes limit values d → DoorMayDraw d
-      → shows d (client_words s.words) (r.log ++ es) r.handed → OthersStay r.hidden d v.number → Stands d v.number facts → NamesOnly names v.number es
+      → CountersShow d.queue s.words → CellsShow d (limit + passes + values) s.words → HasRoom passes limit values d
+      → DoorMayDraw d
+      → shows d (client_words s.words) (r.log ++ es) r.handed → OthersStay r.hidden d v.number → Stands d v.number facts
+      → NamesOnly names v.number es
       → Turned names shows passes limit values size s r v i (slice_index s.words i) d es facts
   stays s r v i d es facts counters cells room door shown others self silent =
       let same : slice_set s.words i (slice_index s.words i) ≡ s.words = set-get_or s.words i 0 in
@@ -49,7 +51,8 @@ module _ {E S : Type 0} (names : ℕ → E → Bool) (legal : ℕ → List E →
 
   -- the same with no entry
   pub still : (s : State (Option S) (View E S)) (r : Ruled names shows passes limit values size s) (v : View E S) (i : ℕ) (d : Hidden) (facts : Facts)
-      → CountersShow d.queue s.words → CellsShow d (limit + passes + values) s.words → HasRoom passes limit values d → DoorMayDraw d
+      → CountersShow d.queue s.words → CellsShow d (limit + passes + values) s.words → HasRoom passes limit values d
+      → DoorMayDraw d
       → shows d (client_words s.words) r.log r.handed → OthersStay r.hidden d v.number → Stands d v.number facts
       → Turned names shows passes limit values size s r v i (slice_index s.words i) d [] facts
   still s r v i d facts counters cells room door shown others self =

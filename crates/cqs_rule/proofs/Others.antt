@@ -146,7 +146,8 @@ module _ (gains : ℕ → ℕ) (c : Hidden) (p k payload : ℕ) where
     };
   }
 
-  pub drawn-self : (found : Option CoreCell) (n : ℕ) (f : Facts) → slice_get c.queue.cells k ≡ found → k ≡ c.queue.suspends → IsSound c.queue → Stands c p f
+  pub drawn-self : (found : Option CoreCell) (n : ℕ) (f : Facts) → slice_get c.queue.cells k ≡ found → k ≡ c.queue.suspends
+      → IsSound c.queue → Stands c p f
       → Stands (after draws found) p (facts_after gains draws k n f)
   drawn-self found n f there next sound is = record {
     doing = get-set_here c.queue.doing p f.doing (doing.Drawn k) is.doing;
@@ -251,7 +252,8 @@ module _ (gains : ℕ → ℕ) (c : Hidden) (p k payload : ℕ) where
     last-self (looks late) n f = refl
 
     -- the waits of a pass: a new one where it installed a waiter
-    waits-self : (t : QueueStep) (n : ℕ) (f : Facts) (j : ℕ) → IsExchange t → Has j (facts_after gains t k n f).waits → Has j f.waits ⊎ ((t ≡ installs) × (j ≡ k))
+    waits-self : (t : QueueStep) (n : ℕ) (f : Facts) (j : ℕ) → IsExchange t → Has j (facts_after gains t k n f).waits
+        → Has j f.waits ⊎ ((t ≡ installs) × (j ≡ k))
     waits-self installs n f j x h = ⊎_elim inl (λ q. inr (refl, ⊎_elim (λ z. z) (λ z. absurd z) q)) (has_append j f.waits (k ∷ []) h)
     waits-self draws n f j x h = inl h
     waits-self reaches n f j x h = inl h
@@ -261,7 +263,8 @@ module _ (gains : ℕ → ℕ) (c : Hidden) (p k payload : ℕ) where
     waits-self (looks y) n f j x h = absurd x
 
     -- the waits that it had, and that of a waiter that it installs
-    waits-kept : (t : QueueStep) (n : ℕ) (f : Facts) (j : ℕ) → IsExchange t → Has j f.waits → Has j (facts_after gains t k n f).waits
+    waits-kept : (t : QueueStep) (n : ℕ) (f : Facts) (j : ℕ) → IsExchange t → Has j f.waits
+        → Has j (facts_after gains t k n f).waits
     waits-kept installs n f j x h = has_left j f.waits (k ∷ []) h
     waits-kept draws n f j x h = absurd x
     waits-kept reaches n f j x h = absurd x

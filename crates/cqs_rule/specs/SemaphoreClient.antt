@@ -94,7 +94,8 @@ module _ (permits : ℕ) (c : Hidden) (p k payload : ℕ) (words : List ℕ) (lo
   step-leaves cell w =
       by-quiet-row (event.Meet p) leaves k (Some cell) (outcome.Left k) refl (rw (w.does, w.finds, w.at) refl)
 
-  step-looks : (e : LookEvent) (cell : CoreCell) → Works c.queue p doing.Idle k cell (state_seen e) → Owns p cell → After (looks e) (Some cell)
+  step-looks : (e : LookEvent) (cell : CoreCell) → Works c.queue p doing.Idle k cell (state_seen e) → Owns p cell
+      → After (looks e) (Some cell)
   step-looks pends cell w o =
       by-row (event.Look p k) (looks pends) k (Some cell) outcome.Pending (rw (w.does, w.finds, is-with cell o, w.at) refl)
   step-looks grants cell w o =

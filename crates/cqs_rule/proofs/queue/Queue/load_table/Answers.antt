@@ -1,5 +1,5 @@
-use Rattle.std.proofs.Common.{rules, sym, ◌∙◌}
-use Rattle.cqs_rule.proofs.CellLoads.{loads, load-low, loaded-keeps}
+use Rattle.std.proofs.Common.{rules, sym, ap, ◌∙◌, arith}
+use Rattle.cqs_rule.proofs.CellLoads.{loads, load-low, loaded-keeps, loaded-ends}
 use Rattle.cqs_rule.proofs.queue.Queue.load_table.Goals as goal
 
 pub load-found-requires : goal.load-found-requires
@@ -9,6 +9,19 @@ load-found-requires g c =
       search rules,
       loads _ _ _ _ _ _ _ _ _ _ _ (g.met.C.ClientWords.keeps c.args.self.now.table.shared.key.client) _ _ _ g.L.Load.load _ c.args.pass.now.live.0 c.requires.load,
     )
+
+pub invariant_of-pass-clause-held_is : goal.invariant_of-pass-clause-held_is
+invariant_of-pass-clause-held_is g c =
+    let ended = loaded-ends g.C.ClientWords.names g.C.ClientWords.legal g.C.ClientWords.entries g.C.ClientWords.gains g.L.Load.load c.args.word c.load-found.result
+    _ _ c.args.pass.now.inside c.requires.load c.load-found.ensures.2.0 (sym c.closes.ensures ∙ c.if-closes.true) in
+    ended.0 ∙ (ap g.C.ClientWords.gains c.args.pass.now.held_is ∙ sym c.held_after_take-pass.ensures)
+
+pub invariant_of-pass-clause-waits_are : goal.invariant_of-pass-clause-waits_are
+invariant_of-pass-clause-waits_are g c =
+    let ended = loaded-ends g.C.ClientWords.names g.C.ClientWords.legal g.C.ClientWords.entries g.C.ClientWords.gains g.L.Load.load c.args.word c.load-found.result
+    _ _ c.args.pass.now.inside c.requires.load c.load-found.ensures.2.0 (sym c.closes.ensures ∙ c.if-closes.true) in
+    let one_fewer = ended.1 in
+    let were = c.args.pass.now.waits_are in omega arith
 
 pub invariant_of-pass-else-closes-clause-held_is : goal.invariant_of-pass-else-closes-clause-held_is
 invariant_of-pass-else-closes-clause-held_is g c =

@@ -9,9 +9,9 @@ use cqs_cell::{install, leave_value, look, serve, take_value};
 use cqs_find::{Found, find};
 use cqs_resume::{Resumed, resume};
 use cqs_rule::{
-    CELLS_WORD, CancelMode, Cancels, Config, Counts, Draws, Place, Polls, Queue, RESUMES_WORD,
-    Reaches, SUSPENDS_WORD, SemClient, Silent, TrySwap, Watches, give_permit, load_state,
-    read_state, take_permit, try_take,
+    CELLS_WORD, CancelMode, Cancels, Config, Counts, Draws, Installs, Place, Polls, Queue,
+    RESUMES_WORD, Reaches, SUSPENDS_WORD, SemClient, Silent, TrySwap, Watches, give_permit,
+    load_state, read_state, take_permit, try_take,
 };
 use cqs_suspend::{Suspended, suspend};
 use cqs_words::{CellState, CellWord};
@@ -64,6 +64,9 @@ fn looks_at_a_wait(rt: HostRuntime) -> Result<(), Fail> {
         panic!(rt; "no value was left for the first number");
     };
     let at = queue.spend_wait(&mut pass, wait);
+    let again = queue.wait_of(&mut pass, at);
+    assert_eq!(rt; again.number(), 0);
+    assert_eq!(rt; queue.spend_wait(&mut pass, again), at);
     assert_eq!(rt; find(&queue, &mut pass, at.index), Found::At(at));
     assert_eq!(rt; at.word, CELLS_WORD);
     let waiter = CellWord::bare(0, CellState::Waiter);
@@ -122,6 +125,21 @@ fn single_steps_of_a_suspend(rt: HostRuntime) -> Result<(), Fail> {
     assert_eq!(rt; take_value(&queue, &mut pass, at), Err(CellState::Empty));
     assert_eq!(rt; install(&queue, &mut pass, at), Ok(()));
     assert_eq!(rt; pass.waits(), 1);
+    Ok(())
+}
+
+#[test]
+fn an_exchange_on_a_cell(rt: HostRuntime) -> Result<(), Fail> {
+    let client = SemClient::new(1);
+    let (queue, mut pass) = Queue::new(rt.alloc(), CONFIG, CancelMode::Smart, client)?;
+    assert_eq!(rt; take_permit(&queue, &mut pass), 4_294_967_297);
+    let found = take_permit(&queue, &mut pass);
+    assert_eq!(rt; found, 4_294_967_296);
+    let number = queue.add_table::<Draws>(&mut pass, SUSPENDS_WORD, 1);
+    assert_eq!(rt; number, 0);
+    let found = queue.swap_table::<Installs>(&mut pass, CELLS_WORD, 0, 1_048_576);
+    assert_eq!(rt; found, 0);
+    assert_eq!(rt; (pass.held(), pass.waits()), (1, 1));
     Ok(())
 }
 

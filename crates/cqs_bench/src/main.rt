@@ -1,18 +1,24 @@
-//! Times what the program does with a plan on standard input: the parse of its document, the reading of the plan, or its run.
+//! Times what the program does with a plan on standard input: the parse of its document, the reading of the plan, or its run. And
+//! times rounds of the running queue.
 //!
 //! Each part prints one line, which starts with its word and its nanoseconds.
 #![tactic(auto)]
 
+mod rounds;
+
 use cqs_cli::CoreFloor;
 use cqs_plan::read_plan;
+use cqs_rule::{CancelMode, Config, Queue, SemClient};
 use cqs_turns::{Report, run_plan};
+use rounds::{LIMIT, free_rounds, pair_rounds};
 use std::env;
 use std::io::{self, Read};
 use std::process::ExitCode;
 use std::rt::Clock;
 use std::time::Instant;
 
-const USAGE: &str = "usage: cqs_bench toml | plan | run, with a plan on standard input";
+const USAGE: &str =
+    "usage: cqs_bench toml | plan | run, with a plan on standard input; or free | pairs [ROUNDS]";
 
 const BAD_COMMAND: u8 = 2;
 
@@ -71,6 +77,32 @@ fn time_run(rt: &(impl Clock + Print + AllocGlobal), bytes: &[u8]) -> anyhow::Re
     Ok(())
 }
 
+/// Rounds of the running queue on a table of its own, which was made before.
+fn time_rounds(
+    rt: &(impl Clock + Print + AllocGlobal),
+    word: &str,
+    count: u64,
+) -> anyhow::Result<()> {
+    let config = Config {
+        passes: 1,
+        limit: LIMIT,
+        slots: 4,
+    };
+    let client = SemClient::new(1);
+    let Ok((queue, mut pass)) = Queue::new(rt.alloc(), config, CancelMode::Smart, client) else {
+        anyhow::bail!("no memory for the queue");
+    };
+    let start = Instant::now(rt)?;
+    if word == "pairs" {
+        pair_rounds(&queue, &mut pass, count);
+    } else {
+        free_rounds(&queue, &mut pass, count);
+    }
+    let nanoseconds = start.elapsed(rt)?.as_nanos();
+    println!(rt; "{word} {nanoseconds} rounds {count} held {}", pass.held())?;
+    Ok(())
+}
+
 fn usage(rt: &impl Print) -> io::Result<ExitCode> {
     println!(rt; "{USAGE}")?;
     Ok(ExitCode::from(BAD_COMMAND))
@@ -80,6 +112,11 @@ fn main(rt: HostRuntime) -> anyhow::Result<ExitCode> {
     let Some(word) = env::args(&rt)?.nth(1) else {
         return Ok(usage(&rt)?);
     };
+    if word.as_str() == "free" || word.as_str() == "pairs" {
+        let wanted = env::args(&rt)?.nth(2).and_then(|text| text.parse().ok());
+        time_rounds(&rt, word.as_str(), wanted.unwrap_or(LIMIT))?;
+        return Ok(ExitCode::SUCCESS);
+    }
     let mut bytes = Vec::new(rt.alloc());
     rt.stdin().read_to_end(&mut bytes)?;
     match word.as_str() {

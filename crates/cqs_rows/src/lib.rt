@@ -34,6 +34,8 @@ mod names;
 #[cfg(test)]
 mod packed_words;
 #[cfg(test)]
+mod queue_calls;
+#[cfg(test)]
 mod queue_rows;
 #[cfg(test)]
 mod ranges;

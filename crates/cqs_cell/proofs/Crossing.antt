@@ -11,9 +11,9 @@ use Rattle.cqs_rule.specs.Told.{IsCrossing, IsExchange, works_at, state_before, 
 -- the exchange at the place of the pass's number
 pub crossing-at : (s : QueueStep) (f : Facts) (at : Place) (payload expected new : ℕ) → IsExchange s → f.doing ≡ works_at s at.index
     → number_at (works_at s at.index) ≡ at.index → IsPlace at → payload < 2 ^ 20 → (IsBare (state_before s) → payload ≡ 0)
-    → payload_made s f.payload < 2 ^ 20 → expected ≡ word_of at.index (state_before s) payload → new ≡ word_of at.index (state_after s) (payload_made s f.payload)
+    → expected ≡ word_of at.index (state_before s) payload → new ≡ word_of at.index (state_after s) (payload_made s f.payload)
     → IsCrossing s f at.word expected new
-crossing-at s f at payload expected new e works number place fits bare owes expects makes =
+crossing-at s f at payload expected new e works number place fits bare expects makes =
     let is : number_at f.doing ≡ at.index = ap number_at works ∙ number in
     record {
       exchange = e;
@@ -23,6 +23,5 @@ crossing-at s f at payload expected new e works number place fits bare owes expe
       payload_fits = fits;
       bare = bare;
       expects = expects ∙ ap (λ z. word_of z (state_before s) payload) (sym is);
-      owes = owes;
       makes = makes ∙ ap (λ z. word_of z (state_after s) (payload_made s f.payload)) (sym is);
     }

@@ -42,7 +42,6 @@ pub fn leave_value<C: ClientWords>(
     requires ticket { (pass_view pass.old).facts.doing ≡ doing.Ticket at.index }
     requires place { IsPlace at }
     requires owes { (pass_view pass.old).facts.payload ≡ payload }
-    requires small { payload < 2 ^ 20 }
     ensures belongs { IsOf queue.now pass.new }
     ensures made { IfOk result (λ _. Made C.names C.legal C.gains C.entries leaves 0 (word_of at.index state.Value payload) (pass_view pass.old) (pass_view pass.new)) }
     ensures missed { IfErr result (λ found. Missed C.names C.legal C.gains C.entries leaves (pass_view pass.old) found (pass_view pass.new)) }
@@ -67,7 +66,6 @@ pub fn serve<C: ClientWords>(
     requires ticket { (pass_view pass.old).facts.doing ≡ doing.Ticket at.index }
     requires place { IsPlace at }
     requires owes { (pass_view pass.old).facts.payload ≡ payload }
-    requires small { payload < 2 ^ 20 }
     ensures belongs { IsOf queue.now pass.new }
     ensures made { IfOk result (λ _. Made C.names C.legal C.gains C.entries serves 0 (word_of at.index state.Resumed payload) (pass_view pass.old) (pass_view pass.new)) }
     ensures missed { IfErr result (λ found. Missed C.names C.legal C.gains C.entries serves (pass_view pass.old) found (pass_view pass.new)) }

@@ -23,7 +23,6 @@ pub fn resume<C: ClientWords>(queue: &Queue<C>, pass: &mut Pass<C>, payload: u32
     requires belongs { IsOf queue.now pass.old }
     requires owes { (pass_view pass.old).facts.doing ≡ doing.Owes }
     requires payload { (pass_view pass.old).facts.payload ≡ payload }
-    requires small { payload < 2 ^ 20 }
     ensures belongs { IsOf queue.now pass.new }
     ensures resumes { Resumes C.names C.legal C.entries payload (pass_view pass.old) result (pass_view pass.new) }
 {

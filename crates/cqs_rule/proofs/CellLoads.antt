@@ -1,5 +1,5 @@
 -- A load of a cell. Where it is that of a wait of the pass, the pass learns what became of the wait.
-use Rattle.std.proofs.Common.{◌≡◌, ℕ, ◌+◌, ◌<◌, Bool, true, false, List, [], ◌++◌, length, sym, refl, ap, ◌∙◌, subst, arith, Option, Some, None, slice_get}
+use Rattle.std.proofs.Common.{◌≡◌, ℕ, ◌+◌, ◌<◌, ◌^◌, Bool, true, false, List, [], ◌++◌, length, sym, refl, ap, ◌∙◌, subst, arith, Option, Some, None, slice_get}
 use Rattle.std.specs.Prelude.{slice_index}
 use Rattle.std.proofs.lemmas.Option.{same_Some}
 use mathlib.Core.Option.{some, none}
@@ -25,7 +25,7 @@ use Rattle.cqs_rule.specs.Loads.{LoadStep, counts, watches, polls, cancels, even
 use Rattle.cqs_rule.specs.Told.{Saw, FoundCell, facts_after}
 use Rattle.cqs_rule.proofs.CellPlaces.{number-at, cell-inside, suspends-inside}
 use Rattle.cqs_rule.proofs.Cells.{looked-suspends, looked-resumes, looked-doing, looked-state}
-use Rattle.cqs_rule.proofs.Crosses.{held-long}
+use Rattle.cqs_rule.proofs.Crosses.{held-long, payload-kept}
 use Rattle.cqs_rule.proofs.Others.{others-looked, looked-self, door-keeps}
 use Rattle.cqs_rule.proofs.Tells.{steps, Steps, suspends-low, resumes-low}
 use Rattle.cqs_rule.proofs.Looks.{stays, looks-to, counted-at}
@@ -141,7 +141,8 @@ module _ {E S : Type 0} (names : ℕ → E → Bool) (legal : ℕ → List E →
       )
       (let l = suspends-low passes limit values c r.room in omega arith)
       (let l = resumes-low passes limit values c r.room in omega arith))
-      others (looked-self gains c p k f.payload w.cell w.there w.owner e n f idle at) (client.silent (looks e) p k))
+      others (looked-self gains c p k f.payload w.cell w.there w.owner e n f idle at) (client.silent (looks e) p k)
+      (subst (λ z. z < 2 ^ 20) (sym (payload-kept gains (looks e) k n f)) (r.each_view id v here).payload_fits))
 
   -- a load of the cell of the number k
   loads-cell : (slots id : ℕ) (me : Me (Option S) (View E S)) (load : LoadStep) (k : ℕ) → me.0.weight ≡ 1 → MayLook load me.0 k
@@ -214,7 +215,8 @@ module _ {E S : Type 0} (names : ℕ → E → Bool) (legal : ℕ → List E →
             all_waits = at.all_waits;
             once = at.once;
             last = at.last;
-          }) in
+          })
+          (r.each_view id v here).payload_fits in
           (grown v facts (r.log ++ []) r.handed, keeps, tt, done.0, (told None _ is done.1, refl))
       by-event (Some e) is =
           let seen = event-seen load (state_at c.queue k) e (sym is) in

@@ -107,6 +107,7 @@ module _ {E S : Type 0} (names : ℕ → E → Bool) (legal : ℕ → List E →
         others = others-drawn gains c p n f.payload found refl is sound;
         self = drawn-self gains c p n f.payload found n f refl is sound at;
         silent = client.silent draws p n;
+        payload_fits = (r.each_view id v here).payload_fits;
       } in
       let done = steps names legal shows entries gains opened passes limit values size held client s r id me 16 x d
       (entries draws p n) (facts_after gains draws n n f) here one t in
@@ -164,6 +165,7 @@ module _ {E S : Type 0} (names : ℕ → E → Bool) (legal : ℕ → List E →
         others = others-reached gains c p n f.payload found;
         self = reached-self gains c p n f.payload found n f at;
         silent = client.silent reaches p n;
+        payload_fits = (r.each_view id v here).payload_fits;
       } in
       let done = steps names legal shows entries gains opened passes limit values size held client s r id me 32 x d
       (entries reaches p n) (facts_after gains reaches n n f) here one t in

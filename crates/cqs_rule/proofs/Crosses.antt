@@ -192,6 +192,28 @@ made-bare takes payload e bare = refl
 made-bare serves payload e bare = absurd bare
 made-bare (looks x) payload e bare = absurd e
 
+-- what a resume owes fits a cell, and so does what any exchange leaves there
+made-fits : (s : QueueStep) (payload : ℕ) → payload < 2 ^ 20 → payload_made s payload < 2 ^ 20
+made-fits draws payload fits = omega arith
+made-fits reaches payload fits = omega arith
+made-fits installs payload fits = omega arith
+made-fits leaves payload fits = fits
+made-fits takes payload fits = omega arith
+made-fits serves payload fits = fits
+made-fits (looks x) payload fits = omega arith
+
+-- no step of the queue changes what its pass owes
+pub payload-kept : (gains : ℕ → ℕ) (s : QueueStep) (k n : ℕ) (f : Facts) → (facts_after gains s k n f).payload ≡ f.payload
+payload-kept gains draws k n f = refl
+payload-kept gains reaches k n f = refl
+payload-kept gains installs k n f = refl
+payload-kept gains leaves k n f = refl
+payload-kept gains takes k n f = refl
+payload-kept gains serves k n f = refl
+payload-kept gains (looks pends) k n f = refl
+payload-kept gains (looks grants) k n f = refl
+payload-kept gains (looks late) k n f = refl
+
 made-plain : (s : QueueStep) → IsExchange s → IsPlain (state_after s)
 made-plain draws e = absurd e
 made-plain reaches e = absurd e
@@ -303,16 +325,17 @@ module _ {E S : Type 0} (names : ℕ → E → Bool) (legal : ℕ → List E →
   made : (s : State (Option S) (View E S)) (r : Ruled names shows passes limit values size s) (id : ℕ)
       (me : Me (Option S) (View E S)) (t : QueueStep) (k : ℕ) (cell : CoreCell)
       → get_elem? s.views id ≡ some me.0 → me.0.weight ≡ 1 → IsExchange t → me.0.facts.doing ≡ works_at t k
-      → payload_made t me.0.facts.payload < 2 ^ 20
       → slice_get r.hidden.queue.cells k ≡ Some cell → cell.state ≡ state_before t → k < limit + passes + values
       → Steps names legal shows entries gains opened passes limit values size held client s id me (cell_place k)
       (word_of k (state_after t) (payload_made t me.0.facts.payload))
       (entries t me.0.number k) (facts_after gains t k (slice_index s.words (cell_place k)) me.0.facts)
       (grown me.0 (facts_after gains t k (slice_index s.words (cell_place k)) me.0.facts)
       (r.log ++ entries t me.0.number k) r.handed)
-  made s r id me t k cell here one e works fits there before below =
+  made s r id me t k cell here one e works there before below =
       let v = me.0 in let p = v.number in let f = v.facts in let c = r.hidden in
       let at = (r.each_view id v here).stands (omega arith) in
+      let owed = (r.each_view id v here).payload_fits in
+      let fits : payload_made t f.payload < 2 ^ 20 = made-fits t f.payload owed in
       let n = slice_index s.words (cell_place k) in
       let x = word_of k (state_after t) (payload_made t f.payload) in
       let d = happened gains c t p k (Some cell) f.payload in
@@ -359,6 +382,7 @@ module _ {E S : Type 0} (names : ℕ → E → Bool) (legal : ℕ → List E →
             (new-wait gains c p k f.payload cell sound (does ∙ ap (λ z. Some (works_at z k)) q) there
             (before ∙ ap state_before q)));
         silent = client.silent t p k;
+        payload_fits = subst (λ z. z < 2 ^ 20) (sym (payload-kept gains t k n f)) owed;
       } in
       steps names legal shows entries gains opened passes limit values size held client s r id me (cell_place k) x d
       (entries t p k) (facts_after gains t k n f) here one turned
@@ -417,7 +441,7 @@ module _ {E S : Type 0} (names : ℕ → E → Bool) (legal : ℕ → List E →
           (λ e. subst T (sym (eq-eqb n expected e))
           (let same = word_of-injective k k (state_at c.queue k) (state_before t) (c.payloads k) x.payload
           (r.cells.fits k) x.payload_fits (sym word ∙ (e ∙ x.expects)) in
-          let done = made s r id me t k stood.cell here one x.exchange x.works x.owes stood.there (sym is ∙ same.1) below in (
+          let done = made s r id me t k stood.cell here one x.exchange x.works stood.there (sym is ∙ same.1) below in (
             grown v (facts_after gains t k n f) (r.log ++ entries t v.number k) r.handed,
             keeps,
             tt,
@@ -438,7 +462,8 @@ module _ {E S : Type 0} (names : ℕ → E → Bool) (legal : ℕ → List E →
             all_waits = at.all_waits;
             once = at.once;
             last = inl (refl, refl);
-          }) in (
+          })
+          (r.each_view id v here).payload_fits in (
             grown v facts (r.log ++ []) r.handed,
             keeps,
             tt,

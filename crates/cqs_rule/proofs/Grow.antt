@@ -52,6 +52,7 @@ module _ {E S : Type 0} (names : ℕ → E → Bool) where
     limit_is = k.limit_is;
     cells_are = k.cells_are;
     size_is = k.size_is;
+    payload_fits = k.payload_fits;
   }
 
 module _ {E S : Type 0} (names : ℕ → E → Bool) (shows : Hidden → List ℕ → List E → List S → Type 0) (passes limit values size : ℕ) where
@@ -70,6 +71,7 @@ module _ {E S : Type 0} (names : ℕ → E → Bool) (shows : Hidden → List �
     pub others : OthersStay r.hidden d v.number
     pub self : Stands d v.number facts
     pub silent : NamesOnly names v.number es
+    pub payload_fits : facts.payload < 2 ^ 20
 
   -- a view that keeps its numbers is set
   still-own : (views : List (View E S)) (id : ℕ) (v w : View E S) → get_elem? views id ≡ some v → all_own w ≡ all_own v
@@ -137,6 +139,7 @@ module _ {E S : Type 0} (names : ℕ → E → Bool) (shows : Hidden → List �
               limit_is = k.limit_is;
               cells_are = k.cells_are;
               size_is = k.size_is;
+              payload_fits = t.payload_fits;
             }
             (λ j u apart e. others-know names r.hidden d r.log es r.handed r.made r.live limit (limit + passes + values) size v.number u t.others t.silent
             (λ n h same. apart (r.apart j id u v v.number e here (subst (λ m. Has m (all_own u)) same h) mine))
@@ -154,9 +157,9 @@ module _ {E S : Type 0} (names : ℕ → E → Bool) (shows : Hidden → List �
   -- what the step tells the pass
   pub saw : (legal : ℕ → List E → Type 0) (s : State (Option S) (View E S)) (r : R s) (id : ℕ) (v : View E S) (es : List E) (facts : Facts)
       → get_elem? s.views id ≡ some v → v.weight ≡ 1 → legal size (r.log ++ es) → facts.held < 2 ^ 32 → number_at facts.doing < limit + passes + values
-      → ((n : ℕ) → Has n facts.waits → n < limit + passes + values) → IsDistinct facts.waits
+      → ((n : ℕ) → Has n facts.waits → n < limit + passes + values) → IsDistinct facts.waits → facts.payload < 2 ^ 20
       → Saw names legal v facts es (grown v facts (r.log ++ es) r.handed)
-  saw legal s r id v es facts here one is_legal fits inside waits once =
+  saw legal s r id v es facts here one is_legal fits inside waits once owed =
       let k = r.each_view id v here in record {
         between = k.sees.seen.0;
         seen = ap (λ l. l ++ es) k.sees.seen.1;
@@ -173,5 +176,6 @@ module _ {E S : Type 0} (names : ℕ → E → Bool) (shows : Hidden → List �
           waits = λ n h. subst (λ z. n < z) (sym k.cells_are) (waits n h);
           once = λ n h. length_without n facts.waits once h;
           few = subst (λ z. length facts.waits ≤ z) (sym k.cells_are) (few_below (limit + passes + values) facts.waits once waits);
+          payload = owed;
         };
       }

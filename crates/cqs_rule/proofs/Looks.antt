@@ -1,5 +1,5 @@
 -- Steps that leave the word as it is: a load of the suspend counter, an exchange that isn't made.
-use Rattle.std.proofs.Common.{◌≡◌, ℕ, ◌+◌, ◌<◌, Bool, true, false, List, [], ◌++◌, set, sym, refl, ap, ◌∙◌, subst, arith, Option, Some, slice_get, nat_lt, ltb-true, if◌then◌else◌}
+use Rattle.std.proofs.Common.{◌≡◌, ℕ, ◌+◌, ◌<◌, ◌^◌, Bool, true, false, List, [], ◌++◌, set, sym, refl, ap, ◌∙◌, subst, arith, Option, Some, slice_get, nat_lt, ltb-true, if◌then◌else◌}
 use Rattle.std.proofs.lemmas.Option.{same_Some}
 use Rattle.std.specs.Prelude.{slice_index, slice_set, count_by}
 use Rattle.std.proofs.lemmas.List.{append-nil, length-set}
@@ -33,9 +33,9 @@ module _ {E S : Type 0} (names : ℕ → E → Bool) (legal : ℕ → List E →
       → CountersShow d.queue s.words → CellsShow d (limit + passes + values) s.words → HasRoom passes limit values d
       → DoorMayDraw d
       → shows d (client_words s.words) (r.log ++ es) r.handed → OthersStay r.hidden d v.number → Stands d v.number facts
-      → NamesOnly names v.number es
+      → NamesOnly names v.number es → facts.payload < 2 ^ 20
       → Turned names shows passes limit values size s r v i (slice_index s.words i) d es facts
-  stays s r v i d es facts counters cells room door shown others self silent =
+  stays s r v i d es facts counters cells room door shown others self silent owed =
       let same : slice_set s.words i (slice_index s.words i) ≡ s.words = set-get_or s.words i 0 in
       record {
         crew = ap (λ l. slice_index l 0) same;
@@ -48,6 +48,7 @@ module _ {E S : Type 0} (names : ℕ → E → Bool) (legal : ℕ → List E →
         others = others;
         self = self;
         silent = silent;
+        payload_fits = owed;
       }
 
   -- the same with no entry
@@ -56,21 +57,22 @@ module _ {E S : Type 0} (names : ℕ → E → Bool) (legal : ℕ → List E →
       → CountersShow d.queue s.words → CellsShow d (limit + passes + values) s.words → HasRoom passes limit values d
       → DoorMayDraw d
       → shows d (client_words s.words) r.log r.handed → OthersStay r.hidden d v.number → Stands d v.number facts
+      → facts.payload < 2 ^ 20
       → Turned names shows passes limit values size s r v i (slice_index s.words i) d [] facts
-  still s r v i d facts counters cells room door shown others self =
+  still s r v i d facts counters cells room door shown others self owed =
       stays s r v i d [] facts counters cells room door
-      (subst (λ l. shows d (client_words s.words) l r.handed) (sym (append-nil r.log)) shown) others self (λ n apart. refl)
+      (subst (λ l. shows d (client_words s.words) l r.handed) (sym (append-nil r.log)) shown) others self (λ n apart. refl) owed
 
   -- nothing hidden changes, and the pass goes on to these facts
   pub looks-to : (s : State (Option S) (View E S)) (r : Ruled names shows passes limit values size s) (id : ℕ)
       (me : Me (Option S) (View E S)) (i : ℕ) (facts : Facts)
-      → get_elem? s.views id ≡ some me.0 → me.0.weight ≡ 1 → Stands r.hidden me.0.number facts
+      → get_elem? s.views id ≡ some me.0 → me.0.weight ≡ 1 → Stands r.hidden me.0.number facts → facts.payload < 2 ^ 20
       → Steps names legal shows entries gains opened passes limit values size held client s id me i
       (slice_index s.words i) [] facts (grown me.0 facts (r.log ++ []) r.handed)
-  looks-to s r id me i facts here one self =
+  looks-to s r id me i facts here one self owed =
       steps names legal shows entries gains opened passes limit values size held client s r id me i
       (slice_index s.words i) r.hidden [] facts here one
-      (still s r me.0 i r.hidden facts r.counters r.cells r.room r.door r.shown (others-same r.hidden me.0.number) self)
+      (still s r me.0 i r.hidden facts r.counters r.cells r.room r.door r.shown (others-same r.hidden me.0.number) self owed)
 
   -- a load of the suspend counter
   pub counted : (slots id : ℕ) (me : Me (Option S) (View E S)) → me.0.weight ≡ 1
@@ -106,7 +108,8 @@ module _ {E S : Type 0} (names : ℕ → E → Bool) (legal : ℕ → List E →
         all_waits = at.all_waits;
         once = at.once;
         last = at.last;
-      })) in
+      })
+      k.payload_fits) in
       (grown me.0 (facts_counted me.0.limit n f) (r.log ++ []) r.handed, keeps, tt, t.0, (t.1, refl))
     where
       still-true : (b may : Bool) → may ≡ true → (if b then true else may) ≡ true

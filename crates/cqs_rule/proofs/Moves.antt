@@ -31,10 +31,11 @@ module _ {E S : Type 0} (names : ℕ → E → Bool) (legal : ℕ → List E →
 
   pub moves : (shown : ℕ → Doing → ℕ → List E) (goes : Doing → ℕ → Doing) (holds : Bool → ℕ → ℕ → ℕ)
       (payload : ℕ → ℕ) (made : ℕ → Bool) (slots id : ℕ) (me : Me (Option S) (View E S)) (i : ℕ) (f : ℕ → ℕ)
-      → me.0.weight ≡ 1 → i < 4 → Moves names shows shown goes holds made me.0.number me.0.facts i f
+      → me.0.weight ≡ 1 → i < 4 → ((m : ℕ) → m < 2 ^ 20 → payload m < 2 ^ 20)
+      → Moves names shows shown goes holds made me.0.number me.0.facts i f
       → Allows (Ruled names shows passes limit values size) slots id me (client_place i) f
       (Tells shown goes holds payload made me)
-  moves shown goes holds payload made slots id me i f one few law s r _ here small =
+  moves shown goes holds payload made slots id me i f one few owed law s r _ here small =
       let v = me.0 in let p = v.number in let facts = v.facts in let c = r.hidden in
       let at = (r.each_view id v here).stands (omega arith) in
       let word = client_place i in
@@ -100,6 +101,7 @@ module _ {E S : Type 0} (names : ℕ → E → Bool) (legal : ℕ → List E →
           last = tt;
         };
         silent = law.silent n;
+        payload_fits = owed facts.payload (r.each_view id v here).payload_fits;
       } in
       let done = steps names legal shows entries gains opened passes limit values size held client s r id me word (f n) d es
       (facts_moved now holding (payload facts.payload) facts) here one t in
@@ -109,12 +111,13 @@ module _ {E S : Type 0} (names : ℕ → E → Bool) (legal : ℕ → List E →
   pub moves-at : (shown : ℕ → Doing → ℕ → List E) (goes : Doing → ℕ → Doing) (holds : Bool → ℕ → ℕ → ℕ)
       (payload : ℕ → ℕ) (made : ℕ → Bool) (slots id : ℕ) (me : Me (Option S) (View E S)) (i place : ℕ) (f g : ℕ → ℕ)
       → me.0.weight ≡ 1 → i < 4 → place ≡ client_place i → ((n : ℕ) → g n ≡ f n)
+      → ((m : ℕ) → m < 2 ^ 20 → payload m < 2 ^ 20)
       → Moves names shows shown goes holds made me.0.number me.0.facts i f
       → Allows (Ruled names shows passes limit values size) slots id me place g (Tells shown goes holds payload made me)
-  moves-at shown goes holds payload made slots id me i place f g one few is same law =
+  moves-at shown goes holds payload made slots id me i place f g one few is same owed law =
       subst (λ (z : ℕ × (ℕ → ℕ)). Allows (Ruled names shows passes limit values size) slots id me z.0 z.1
       (Tells shown goes holds payload made me))
-      (λ j. (sym is j, λ n. sym (same n) j)) (moves shown goes holds payload made slots id me i f one few law)
+      (λ j. (sym is j, λ n. sym (same n) j)) (moves shown goes holds payload made slots id me i f one few owed law)
 
 -- what is added where the number is not negative, and where it is
 pub added-up : (by : ℤ) (amount n : ℕ) → amount ≡ unsigned_abs by → pos 0 ≤ℤ by → (n + amount) % 2 ^ 64 ≡ added by n

@@ -169,6 +169,7 @@ module _ {E S : Type 0} (names : ℕ → E → Bool) (shows : Hidden → List �
         limit_is = refl;
         cells_are = refl;
         size_is = refl;
+        payload_fits = omega arith;
       }
         where
           is-zero : (n : ℕ) → Has n (all_own first) → n ≡ 0

@@ -69,5 +69,6 @@ module _ {E S : Type 0} (names : ℕ → E → Bool) (legal : ℕ → List E →
             (client.held_fits d words log r.handed me.0.number facts.held t.shown t.self.held)
             (inside-of passes limit values d me.0.number facts.doing t.room (client.sound d words log r.handed t.shown) t.self.doing)
             (λ n h. let drawn = (t.self.waits n h).drawn in let g = t.room.ground in omega arith)
-            t.self.once,
+            t.self.once
+            t.payload_fits,
       )

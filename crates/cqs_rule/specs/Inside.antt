@@ -1,12 +1,13 @@
--- The numbers of a pass are those of cells, and each wait stands there once.
-use Rattle.std.specs.Prelude.{◌≡◌, ℕ, ◌+◌, ◌<◌, ◌≤◌, length}
+-- The numbers of a pass are those of cells, each wait stands there once, and a payload fits a cell.
+use Rattle.std.specs.Prelude.{◌≡◌, ℕ, ◌+◌, ◌<◌, ◌≤◌, ◌^◌, length}
 use Rattle.cqs_rule.specs.declared.view.View.{View}
 use Rattle.cqs_rule.specs.Lists.{Has, without}
 use Rattle.cqs_rule.specs.Ruled.{number_at}
 
--- the number at which it works, and those of its waits
+-- the number at which it works, those of its waits, and the payload that it owes if it owes
 pub record IsInside {E S : Type 0} (v : View E S) : Type 0 where
   pub number : number_at v.facts.doing < v.cells
   pub waits : (k : ℕ) → Has k v.facts.waits → k < v.cells
   pub once : (k : ℕ) → Has k v.facts.waits → length (without k v.facts.waits) + 1 ≡ length v.facts.waits
   pub few : length v.facts.waits ≤ v.cells
+  pub payload : v.facts.payload < 2 ^ 20

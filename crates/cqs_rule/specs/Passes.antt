@@ -1,6 +1,7 @@
 -- What contracts see of a queue and of a pass.
 use Rattle.std.specs.Prelude.{◌≡◌, ℕ}
 use Rattle.cqs_rule.specs.declared.client.ClientWords.{Ghosts}
+use Rattle.cqs_rule.specs.declared.config.CancelMode.{CancelMode}
 use Rattle.cqs_rule.specs.declared.view.View.{View}
 use Rattle.cqs_rule.specs.declared.queue.Pass.{Pass}
 use Rattle.cqs_rule.specs.declared.queue.Queue.{Queue}
@@ -13,6 +14,10 @@ module _ {C S E : Type 0} where
   -- how many passes may be made in all
   abbrev pub passes_of : Queue C S E → ℕ
   passes_of q = q.table.shared.key.passes
+
+  -- what a resume does with a cell whose waiter has left
+  abbrev pub mode_of : Queue C S E → CancelMode
+  mode_of q = q.mode
 
   -- the suspend counter stays below this but for those that have seen it there
   abbrev pub limit_of : Queue C S E → ℕ

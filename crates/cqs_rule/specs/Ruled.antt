@@ -169,6 +169,7 @@ module _ {E S : Type 0} (names : ℕ → E → Bool) where
     pub limit_is : v.limit ≡ limit
     pub cells_are : v.cells ≡ cells
     pub size_is : v.size ≡ size
+    pub payload_fits : v.facts.payload < 2 ^ 20
 
   -- The rule. `shows` is the client's: its words, the history and the values handed in go with what is hidden.
   pub record Ruled (shows : Hidden → List ℕ → List E → List S → Type 0) (passes limit values size : ℕ) (s : State (Option S) (View E S)) : Type 0 where

@@ -1,5 +1,5 @@
 -- The semaphore is a client: each step of the queue is an event of its core, by the law of the core.
-use Rattle.std.proofs.Common.{◌≡◌, ℕ, zero, suc, ◌+◌, ◌-◌, ◌<◌, ◌≤◌, true, List, [], ◌∷◌, ◌++◌, replicate, refl, ap, sym, ◌∙◌, subst, arith, Option, Some, None, slice_get, nat_lt, lt-ltb, eq-eqb, ne_eqb, ℤ, pos}
+use Rattle.std.proofs.Common.{◌≡◌, ℕ, zero, suc, ◌+◌, ◌-◌, ◌<◌, ◌≤◌, ◌^◌, true, List, [], ◌∷◌, ◌++◌, replicate, refl, ap, sym, ◌∙◌, subst, arith, Option, Some, None, slice_get, nat_lt, lt-ltb, eq-eqb, ne_eqb, ℤ, pos}
 use Rattle.std.proofs.lemmas.List.{append-nil}
 use Rattle.std.proofs.lemmas.Int.{ints}
 use Rattle.cqs_core.specs.declared.cells.CoreCell.{CoreCell}
@@ -159,3 +159,7 @@ semaphore-client permits some low = record {
   reaches_few = λ c words log handed p core owes.
       let few = reached-few (core_shown permits c words log) p core owes in omega arith;
 }
+
+-- a release owes the payload 0
+pub none-owed : (owed : ℕ) → owed < 2 ^ 20 → 0 < 2 ^ 20
+none-owed owed fits = omega arith

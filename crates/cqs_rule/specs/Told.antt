@@ -135,7 +135,6 @@ pub record IsCrossing (s : QueueStep) (facts : Facts) (word expected new : ℕ) 
   pub payload_fits : payload < 2 ^ 20
   pub bare : IsBare (state_before s) → payload ≡ 0
   pub expects : expected ≡ word_of (number_at facts.doing) (state_before s) payload
-  pub owes : payload_made s facts.payload < 2 ^ 20
   pub makes : new ≡ word_of (number_at facts.doing) (state_after s) (payload_made s facts.payload)
 
 -- whether a step on a client's word is made, by the word that it finds: a load or a sum in any case, and an exchange where it

@@ -104,4 +104,7 @@ pub trait Shown<C: ClientWords> {
     /// Whether the pass owes after the step, by whether it owed before.
     fn owes_after(owes: bool, found: u64) -> bool
         ensures { (doing : Doing) → is_owing doing ≡ owes → is_owing (after doing found) ≡ result };
+
+    // It owes nothing that doesn't fit a cell.
+    ghost payload_fits: { (owed : ℕ) → owed < 2 ^ 20 → payload owed < 2 ^ 20 };
 }

@@ -23,4 +23,6 @@ impl<C: ClientWords> Shown<C> for Silent {
     fn owes_after(owes: bool, _found: u64) -> bool {
         owes
     }
+
+    ghost payload_fits = { λ owed fits. fits };
 }

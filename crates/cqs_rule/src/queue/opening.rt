@@ -4,7 +4,7 @@ ghost use Rattle.std.specs.Prelude.{◌≡◌, ℕ, ◌+◌, ◌*◌, ◌<◌, �
 ghost use mathlib.Core.Logic.{◌↔◌};
 ghost use Rattle.cqs_rule.specs.Configured.{is_config};
 ghost use Rattle.cqs_rule.specs.Opened.{first_word, IsOpening};
-ghost use Rattle.cqs_rule.specs.Passes.{pass_view, client_of, passes_of, IsOf};
+ghost use Rattle.cqs_rule.specs.Passes.{pass_view, client_of, passes_of, limit_of, mode_of, IsOf};
 ghost use Rattle.cqs_rule.specs.Views.{first_view};
 
 use crate::client::ClientWords;
@@ -102,6 +102,7 @@ impl<C: ClientWords> Queue<C> {
         requires few { C.first_values client ≤ 4096 }
         ensures bad_config { IsErrOf result MakeError.BadConfig ↔ (is_config config ≡ false) }
         ensures client { IfOk result (λ made. (client_of made.0 ≡ client) × (passes_of made.0 ≡ config.passes)) }
+        ensures mode { IfOk result (λ made. (limit_of made.0 ≡ config.limit) × (mode_of made.0 ≡ mode)) }
         ensures belongs { IfOk result (λ made. IsOf made.0 made.1) }
         ensures pass { IfOk result (λ made. pass_view made.1 ≡ first_view config.limit (config.limit + config.passes + C.first_values client) (C.size client) (C.first_held client)) }
     {

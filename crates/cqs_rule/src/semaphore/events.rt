@@ -24,6 +24,8 @@ impl<T: Drop> Shown<SemClient<T>> for Take {
     fn owes_after(_owes: bool, _found: u64) -> bool {
         false
     }
+
+    ghost payload_fits = { λ owed fits. fits };
 }
 
 /// A try loads the state: no permit is free, or the pass is about to exchange the state that it loaded.
@@ -47,6 +49,8 @@ impl<T: Drop> Shown<SemClient<T>> for TryLoad {
     fn owes_after(_owes: bool, _found: u64) -> bool {
         false
     }
+
+    ghost payload_fits = { λ owed fits. fits };
 }
 
 /// A try exchanges the state that it loaded for one less: it has a permit, or another pass was first and it has nothing.
@@ -70,6 +74,8 @@ impl<T: Drop> Shown<SemClient<T>> for TrySwap {
     fn owes_after(_owes: bool, _found: u64) -> bool {
         false
     }
+
+    ghost payload_fits = { λ owed fits. fits };
 }
 
 /// A release adds one to the state: the permit is free, or the pass owes a resumption, whose payload is 0.
@@ -77,6 +83,7 @@ pub struct Give;
 
 impl<T: Drop> Shown<SemClient<T>> for Give {
     ghost use Rattle.cqs_rule.specs.Semaphore.{give_entries, give_after, give_holds};
+    ghost use Rattle.cqs_rule.specs.SemaphoreClient.{none-owed};
 
     ghost entries = { give_entries };
 
@@ -93,4 +100,6 @@ impl<T: Drop> Shown<SemClient<T>> for Give {
     fn owes_after(_owes: bool, found: u64) -> bool {
         found < 1 << 32
     }
+
+    ghost payload_fits = { none-owed };
 }

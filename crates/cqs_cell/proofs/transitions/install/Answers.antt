@@ -6,5 +6,5 @@ use Rattle.cqs_cell.proofs.transitions.install.Goals as goal
 
 pub cross-requires-clause-cell : goal.cross-requires-clause-cell
 cross-requires-clause-cell g c =
-    crossing-at installs _ c.args.at 0 _ _ tt c.requires.drawn refl c.requires.place (omega arith) (λ _. refl) (omega arith)
+    crossing-at installs _ c.args.at 0 _ _ tt c.requires.drawn refl c.requires.place (omega arith) (λ _. refl)
     (c.pack-empty.ensures.value ∙ ap packed_cell c.bare.ensures) (c.pack-waiter.ensures.value ∙ ap packed_cell c.bare-2.ensures)

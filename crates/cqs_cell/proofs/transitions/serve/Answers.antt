@@ -9,7 +9,6 @@ use Rattle.cqs_cell.proofs.transitions.serve.Goals as goal
 pub cross-requires-clause-cell : goal.cross-requires-clause-cell
 cross-requires-clause-cell g c =
     let owes = c.requires.owes in
-    let small = c.requires.small in
-    crossing-at serves _ c.args.at 0 _ _ tt c.requires.ticket refl c.requires.place (omega arith) (λ _. refl) (omega arith)
+    crossing-at serves _ c.args.at 0 _ _ tt c.requires.ticket refl c.requires.place (omega arith) (λ _. refl)
     (c.pack-waiter.ensures.value ∙ ap packed_cell c.bare.ensures)
     (c.pack.ensures.value ∙ ap (λ z. word_of c.args.at.index state.Resumed z) (sym owes))

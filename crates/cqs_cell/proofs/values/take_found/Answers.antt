@@ -1,4 +1,4 @@
-use Rattle.std.proofs.Common.{refl, ap, sym, ◌∙◌, arith}
+use Rattle.std.proofs.Common.{refl, ap, sym, ◌∙◌}
 use Rattle.cqs_core.specs.declared.cells.CoreState.TheVariants as state
 use Rattle.cqs_words.specs.Cell.{packed_cell}
 use Rattle.cqs_rule.specs.Hidden.{takes}
@@ -10,7 +10,7 @@ use Rattle.cqs_cell.proofs.values.take_found.Goals as goal
 pub swap_table-requires-clause-cell : goal.swap_table-requires-clause-cell
 swap_table-requires-clause-cell g c =
     crossing-at takes _ c.args.at c.args.payload _ _ tt c.requires.drawn refl c.requires.place c.requires.small (λ b. absurd b)
-    (omega arith) c.requires.word (c.pack-taken.ensures.value ∙ ap packed_cell c.bare.ensures)
+    c.requires.word (c.pack-taken.ensures.value ∙ ap packed_cell c.bare.ensures)
 
 pub returns-clause-made : goal.returns-clause-made
 returns-clause-made g c =

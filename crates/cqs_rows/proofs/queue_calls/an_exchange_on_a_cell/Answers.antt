@@ -8,4 +8,4 @@ use Rattle.cqs_rows.proofs.queue_calls.an_exchange_on_a_cell.Goals as goal
 pub swap_table-found-requires-clause-cell : goal.swap_table-found-requires-clause-cell
 swap_table-found-requires-clause-cell g c =
     crossing-at installs (pass_view c.add_table-number.new.pass).facts (record { word = 112; index = 0 }) 0 0 1048576 tt
-    (search rules) refl refl (omega arith) (λ b. refl) (omega arith) refl refl
+    (search rules) refl refl (omega arith) (λ b. refl) refl refl

@@ -13,7 +13,7 @@ fetch_sub-found-requires g c =
       search rules,
       moves-at _ _ _ _ _ _ _ _ _ _ _ (g.met.C.ClientWords.keeps c.args.self.now.table.shared.key.client) g.M.Shown.entries g.M.Shown.after
           g.M.Shown.holds g.M.Shown.payload in_any_case _ _ _ c.args.word _ _ _ c.args.pass.now.live.0 c.requires.word c.place-place.ensures
-          (λ n. added-down c.args.by _ n is side) c.requires.law,
+          (λ n. added-down c.args.by _ n is side) g.met.M.Shown.payload_fits c.requires.law,
     )
 
 pub fetch_add-found-requires : goal.fetch_add-found-requires
@@ -25,5 +25,5 @@ fetch_add-found-requires g c =
       search rules,
       moves-at _ _ _ _ _ _ _ _ _ _ _ (g.met.C.ClientWords.keeps c.args.self.now.table.shared.key.client) g.M.Shown.entries g.M.Shown.after
           g.M.Shown.holds g.M.Shown.payload in_any_case _ _ _ c.args.word _ _ _ c.args.pass.now.live.0 c.requires.word c.place-place.ensures
-          (λ n. added-up c.args.by _ n is side) c.requires.law,
+          (λ n. added-up c.args.by _ n is side) g.met.M.Shown.payload_fits c.requires.law,
     )

@@ -10,5 +10,5 @@ load-found-requires g c =
       search rules,
       search rules,
       moves-at _ _ _ _ _ _ _ _ _ _ _ (g.met.C.ClientWords.keeps c.args.self.now.table.shared.key.client) g.M.Shown.entries g.M.Shown.after
-          g.M.Shown.holds g.M.Shown.payload in_any_case _ _ _ c.args.word _ _ _ c.args.pass.now.live.0 c.requires.word c.place.ensures (λ n. refl) c.requires.law,
+          g.M.Shown.holds g.M.Shown.payload in_any_case _ _ _ c.args.word _ _ _ c.args.pass.now.live.0 c.requires.word c.place.ensures (λ n. refl) g.met.M.Shown.payload_fits c.requires.law,
     )

@@ -10,5 +10,5 @@ compare_exchange-found-requires g c =
       search rules,
       search rules,
       moves-at _ _ _ _ _ _ _ _ _ _ _ (g.met.C.ClientWords.keeps c.args.self.now.table.shared.key.client) g.M.Shown.entries g.M.Shown.after
-          g.M.Shown.holds g.M.Shown.payload (where_found c.args.saw) _ _ _ c.args.word _ _ _ c.args.pass.now.live.0 c.requires.word c.place.ensures (λ n. refl) c.requires.law,
+          g.M.Shown.holds g.M.Shown.payload (where_found c.args.saw) _ _ _ c.args.word _ _ _ c.args.pass.now.live.0 c.requires.word c.place.ensures (λ n. refl) g.met.M.Shown.payload_fits c.requires.law,
     )

@@ -13,6 +13,7 @@ pub mod Configured
 pub mod Semaphore
 pub mod SemaphoreSteps
 pub mod SemaphoreClient
+pub mod SemaphorePermits
 pub mod Passes
 pub mod Placed
 pub mod Waits

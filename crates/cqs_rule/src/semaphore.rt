@@ -21,11 +21,13 @@ pub struct SemClient<T = ()> {
 }
 
 impl SemClient {
+    ghost use Rattle.cqs_rule.specs.SemaphorePermits.{permits_of};
+
     /// A semaphore that opens with this many permits.
     pub fn new(permits: u32) -> SemClient
         requires some { 0 < permits }
         requires few { permits ≤ 1048576 }
-        ensures { result.permits ≡ permits }
+        ensures { permits_of result ≡ permits }
     {
         SemClient {
             permits,

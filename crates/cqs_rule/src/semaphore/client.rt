@@ -10,16 +10,17 @@ impl<T: Drop> ClientWords for SemClient<T> {
     ghost use Rattle.cqs_core.specs.SemaphoreEntries.{IsLegal};
     ghost use Rattle.cqs_rule.specs.Semaphore.{shows_core, entry_names, step_entries, one_more};
     ghost use Rattle.cqs_rule.specs.SemaphoreClient.{semaphore-client};
+    ghost use Rattle.cqs_rule.specs.SemaphorePermits.{permits_of};
 
     type Slot = T;
 
     type Entry = Entry;
 
-    ghost shows = { λ x. shows_core x.permits };
+    ghost shows = { λ x. shows_core (permits_of x) };
 
     ghost legal = { IsLegal };
 
-    ghost size = { λ x. x.permits };
+    ghost size = { permits_of };
 
     ghost names = { entry_names };
 
@@ -27,7 +28,7 @@ impl<T: Drop> ClientWords for SemClient<T> {
 
     ghost gains = { one_more };
 
-    ghost opened = { λ x. (x.permits + 4294967296) ∷ [] };
+    ghost opened = { λ x. (permits_of x + 4294967296) ∷ [] };
 
     ghost value_slots = { λ x. 0 };
 
@@ -62,7 +63,7 @@ impl<T: Drop> ClientWords for SemClient<T> {
         held + 1
     }
 
-    ghost keeps = { λ x. semaphore-client x.permits x.some x.few };
+    ghost keeps = { λ x. semaphore-client (permits_of x) x.some x.few };
 }
 
 impl<T: Send + Drop> Client for SemClient<T> {}

@@ -14,6 +14,7 @@ pub mod Semaphore
 pub mod SemaphoreSteps
 pub mod SemaphoreClient
 pub mod Passes
+pub mod Steps
 pub mod Placed
 pub mod Waits
 pub mod Owed

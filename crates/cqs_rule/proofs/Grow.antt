@@ -57,8 +57,9 @@ module _ {E S : Type 0} (names : ℕ → E → Bool) where
 
 module _ {E S : Type 0} (names : ℕ → E → Bool) (shows : Hidden → List ℕ → List E → List S → Type 0)
     (passes limit values size : ℕ) where
-  abbrev pub cells : ℕ
-  cells = limit + passes + values
+  -- the number of the cells
+  abbrev pub cell_count : ℕ
+  cell_count = limit + passes + values
 
   abbrev pub R : State (Option S) (View E S) → Type 0
   R = Ruled names shows passes limit values size
@@ -68,7 +69,7 @@ module _ {E S : Type 0} (names : ℕ → E → Bool) (shows : Hidden → List �
       (es : List E) (facts : Facts) : Type 0 where
     pub crew : slice_index (slice_set s.words i x) 0 ≡ slice_index s.words 0
     pub counters : CountersShow d.queue (slice_set s.words i x)
-    pub cells : CellsShow d (limit + passes + values) (slice_set s.words i x)
+    pub cells : CellsShow d cell_count (slice_set s.words i x)
     pub idle_words : IdleWords (slice_set s.words i x)
     pub room : HasRoom passes limit values d
     pub door : DoorMayDraw d
@@ -104,7 +105,7 @@ module _ {E S : Type 0} (names : ℕ → E → Bool) (shows : Hidden → List �
       let own : Has v.number v.own = k.own (omega arith) in
       let mine : Has v.number (all_own v) = has_left v.number v.own v.others own in
       let low : v.number < r.made = k.below v.number mine in
-      let P : ℕ → View E S → Type 0 = λ j u. Knows names d (r.log ++ es) r.handed r.made r.live limit cells size u in
+      let P : ℕ → View E S → Type 0 = λ j u. Knows names d (r.log ++ es) r.handed r.made r.live limit cell_count size u in
       record {
         hidden = d;
         log = r.log ++ es;
@@ -149,7 +150,7 @@ module _ {E S : Type 0} (names : ℕ → E → Bool) (shows : Hidden → List �
             }
             (λ j u apart e.
             let knew = r.each_view j u e in
-            others-know names r.hidden d r.log es r.handed r.made r.live limit cells size v.number u t.others t.silent
+            others-know names r.hidden d r.log es r.handed r.made r.live limit cell_count size v.number u t.others t.silent
             (λ n h same. apart (r.apart j id u v v.number e here (subst (λ m. Has m (all_own u)) same h) mine))
             (λ a.
             let single = knew.alone a in
@@ -169,7 +170,7 @@ module _ {E S : Type 0} (names : ℕ → E → Bool) (shows : Hidden → List �
   pub saw : (legal : ℕ → List E → Type 0) (s : State (Option S) (View E S)) (r : R s) (id : ℕ) (v : View E S)
       (es : List E) (facts : Facts)
       → get_elem? s.views id ≡ some v → v.weight ≡ 1 → legal size (r.log ++ es)
-      → facts.held < 2 ^ 32 → number_at facts.doing < cells → ((n : ℕ) → Has n facts.waits → n < cells)
+      → facts.held < 2 ^ 32 → number_at facts.doing < cell_count → ((n : ℕ) → Has n facts.waits → n < cell_count)
       → IsDistinct facts.waits → facts.payload < 2 ^ 20
       → Saw names legal v facts es (grown v facts (r.log ++ es) r.handed)
   saw legal s r id v es facts here one is_legal fits inside waits once owed =
@@ -197,7 +198,7 @@ module _ {E S : Type 0} (names : ℕ → E → Bool) (shows : Hidden → List �
           number = subst (λ z. number_at facts.doing < z) (sym k.cells_are) inside;
           waits = λ n h. subst (λ z. n < z) (sym k.cells_are) (waits n h);
           once = λ n h. length_without n facts.waits once h;
-          few = subst (λ z. length facts.waits ≤ z) (sym k.cells_are) (few_below cells facts.waits once waits);
+          few = subst (λ z. length facts.waits ≤ z) (sym k.cells_are) (few_below cell_count facts.waits once waits);
           payload = owed;
         };
       }

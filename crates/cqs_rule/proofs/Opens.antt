@@ -81,16 +81,17 @@ first-idle values i words is =
 
 module _ {E S : Type 0} (names : ℕ → E → Bool) (shows : Hidden → List ℕ → List E → List S → Type 0)
     (passes limit values size held : ℕ) where
-  abbrev pub cells : ℕ
-  cells = limit + passes + values
+  -- the number of the cells
+  abbrev pub cell_count : ℕ
+  cell_count = limit + passes + values
 
   abbrev pub first : View E S
-  first = first_view limit cells size held
+  first = first_view limit cell_count size held
 
   abbrev pub h : Hidden
   h = first_hidden passes values held
 
-  pub opens : (words client : List ℕ) (homes : List (Option S)) → IsOpening (words_for cells) values client words
+  pub opens : (words client : List ℕ) (homes : List (Option S)) → IsOpening (words_for cell_count) values client words
       → 0 < passes → passes ≤ 32 → 0 < limit → limit ≤ 1048576 → values ≤ 4096 → shows h (four client) [] []
       → Ruled names shows passes limit values size (opening words homes first)
   opens words client homes o any few any_limit low_limit few_values begins = record {
@@ -109,7 +110,7 @@ module _ {E S : Type 0} (names : ℕ → E → Bool) (shows : Hidden → List �
     };
     counters = record { suspends = o.at 16 (omega arith); resumes = o.at 32 (omega arith) };
     cells = record {
-      at = λ k below. o.at (cell_place k) (cell-inside k cells below)
+      at = λ k below. o.at (cell_place k) (cell-inside k cell_count below)
           ∙ (first-cell-at values k client ∙ cell-is k (cases_lt k values));
       fits = λ k. payload-fits k (cases_lt k values);
       bare = λ k is. payload-bare k is (cases_lt k values);
@@ -128,7 +129,7 @@ module _ {E S : Type 0} (names : ℕ → E → Bool) (shows : Hidden → List �
     };
     door = λ p e. let is = get-replicate-is passes p doing.Idle doing.Door e in absurd (cc);
     shown = subst (λ (ws : List ℕ). shows h ws [] []) (sym client-is) begins;
-    each_view = λ j v e. let t = only-one first v j e in subst (Knows names h [] [] 1 1 limit cells size) t.1 know;
+    each_view = λ j v e. let t = only-one first v j e in subst (Knows names h [] [] 1 1 limit cell_count size) t.1 know;
     apart = λ a b v w n e f g k. (only-one first v a e).0 ∙ sym (only-one first w b f).0;
     unnamed = λ n above. refl;
     unused = λ n above below. record { doing = get-replicate passes n doing.Idle below; waits = λ k w. no-wait n k w };
@@ -176,7 +177,7 @@ module _ {E S : Type 0} (names : ℕ → E → Bool) (shows : Hidden → List �
         last = tt;
       }
 
-      know : Knows names h [] [] 1 1 limit cells size first
+      know : Knows names h [] [] 1 1 limit cell_count size first
       know = record {
         sees = record {
           seen = ([], refl);

@@ -9,7 +9,8 @@ use Rattle.cqs_rule.specs.Ruled.{IsBare, number_at, word_of}
 use Rattle.cqs_rule.specs.Told.{IsCrossing, IsExchange, works_at, state_before, state_after, payload_made}
 
 -- the exchange at the place of the pass's number
-pub crossing-at : (s : QueueStep) (f : Facts) (at : Place) (payload expected new : ℕ) → IsExchange s → f.doing ≡ works_at s at.index
+pub crossing-at : (s : QueueStep) (f : Facts) (at : Place) (payload expected new : ℕ)
+    → IsExchange s → f.doing ≡ works_at s at.index
     → number_at (works_at s at.index) ≡ at.index → IsPlace at → payload < 2 ^ 20 → (IsBare (state_before s) → payload ≡ 0)
     → expected ≡ word_of at.index (state_before s) payload → new ≡ word_of at.index (state_after s) (payload_made s f.payload)
     → IsCrossing s f at.word expected new

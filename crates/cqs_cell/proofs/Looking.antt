@@ -17,15 +17,19 @@ use Rattle.cqs_rule.proofs.CellPlaces.{number-at}
 use Rattle.cqs_rule.proofs.CellLoads.{unpacks}
 use Rattle.cqs_cell.specs.Looks.{LooksAt}
 
-module _ {E S : Type 0} (names : ℕ → E → Bool) (legal : ℕ → List E → Type 0) (gains : ℕ → ℕ) (entries : QueueStep → ℕ → ℕ → List E) where
+module _ {E S : Type 0} (names : ℕ → E → Bool) (legal : ℕ → List E → Type 0)
+    (gains : ℕ → ℕ) (entries : QueueStep → ℕ → ℕ → List E) where
   -- the load of its word tells of the cell
   looked-at : (load : LoadStep) (v w : View E S) (k word n : ℕ) → word ≡ cell_place k → MayLook load v k
       → Loaded names legal gains entries load word v n w
       → Looked names legal gains entries load k v n w
   looked-at counts v w k word n place may l = absurd may
-  looked-at watches v w k word n place may l = subst (λ z. Looked names legal gains entries watches z v n w) (number-at word k place) l
-  looked-at polls v w k word n place may l = subst (λ z. Looked names legal gains entries polls z v n w) (number-at word k place) l
-  looked-at cancels v w k word n place may l = subst (λ z. Looked names legal gains entries cancels z v n w) (number-at word k place) l
+  looked-at watches v w k word n place may l =
+      subst (λ z. Looked names legal gains entries watches z v n w) (number-at word k place) l
+  looked-at polls v w k word n place may l =
+      subst (λ z. Looked names legal gains entries polls z v n w) (number-at word k place) l
+  looked-at cancels v w k word n place may l =
+      subst (λ z. Looked names legal gains entries cancels z v n w) (number-at word k place) l
 
   -- the cell that the word unpacks to is the one found
   pub looks-at : (load : LoadStep) (v w : View E S) (k word n : ℕ) (cell : CellWord) → word ≡ cell_place k → MayLook load v k
@@ -34,25 +38,37 @@ module _ {E S : Type 0} (names : ℕ → E → Bool) (legal : ℕ → List E →
   looks-at load v w k word n cell place may l is =
       let found = looked-at load v w k word n place may l in
       let same = same_Some _ cell (sym (unpacks k n found.glimpse found.cell) ∙ is) in
-      record { word = n; looked = found; state = ap (λ (c : CellWord). c.state) same; payload = ap (λ (c : CellWord). c.payload) same }
+      record {
+        word = n;
+        looked = found;
+        state = ap (λ (c : CellWord). c.state) same;
+        payload = ap (λ (c : CellWord). c.payload) same;
+      }
 
-  -- what a look told that answered this state: the event that it names for such a cell, or none
-  looked-so : (load : LoadStep) (k : ℕ) (v w : View E S) (cell : CellWord) (x : CoreState) (l : LooksAt names legal gains entries load k v cell w)
-      → cell.state ≡ shown_state x
-      → Saw names legal v (facts_looked gains (event_of load x) k l.word v.facts) (look_entries entries (event_of load x) v.number k) w
+  -- the pass saw the event that such a load names for a cell in the state x, or none; it found the word n there
+  abbrev SawEvent : LoadStep → ℕ → CoreState → ℕ → View E S → View E S → Type 0
+  SawEvent load k x n v w =
+      Saw names legal v (facts_looked gains (event_of load x) k n v.facts) (look_entries entries (event_of load x) v.number k) w
+
+  -- what a look told that answered this state
+  looked-so : (load : LoadStep) (k : ℕ) (v w : View E S) (cell : CellWord) (x : CoreState)
+      (l : LooksAt names legal gains entries load k v cell w)
+      → cell.state ≡ shown_state x → SawEvent load k x l.word v w
   looked-so load k v w cell x l is =
-      subst (λ z. Saw names legal v (facts_looked gains (event_of load z) k l.word v.facts) (look_entries entries (event_of load z) v.number k) w)
+      subst (λ z. SawEvent load k z l.word v w)
       (shown-injective l.looked.glimpse.state x (l.state ∙ is)) l.looked.saw
 
   -- the wait still stands
-  pub looked-waiter : (load : LoadStep) (k : ℕ) (v w : View E S) (cell : CellWord) (l : LooksAt names legal gains entries load k v cell w)
+  pub looked-waiter : (load : LoadStep) (k : ℕ) (v w : View E S) (cell : CellWord)
+      (l : LooksAt names legal gains entries load k v cell w)
       → cell.state ≡ shown.Waiter
       → Saw names legal v (facts_looked gains (event_of load state.Waiter) k l.word v.facts)
       (look_entries entries (event_of load state.Waiter) v.number k) w
   looked-waiter load k v w cell l is = looked-so load k v w cell state.Waiter l is
 
   -- it was served
-  pub looked-resumed : (load : LoadStep) (k : ℕ) (v w : View E S) (cell : CellWord) (l : LooksAt names legal gains entries load k v cell w)
+  pub looked-resumed : (load : LoadStep) (k : ℕ) (v w : View E S) (cell : CellWord)
+      (l : LooksAt names legal gains entries load k v cell w)
       → cell.state ≡ shown.Resumed
       → Saw names legal v (facts_looked gains (event_of load state.Resumed) k l.word v.facts)
       (look_entries entries (event_of load state.Resumed) v.number k) w

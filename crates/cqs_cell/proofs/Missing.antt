@@ -9,9 +9,11 @@ use Rattle.cqs_rule.specs.Ruled.{IsBare, number_at, word_of}
 use Rattle.cqs_rule.proofs.CellLoads.{unpacks}
 use Rattle.cqs_rule.specs.Told.{Crossed, IsCrossing, Missed, state_before}
 
-module _ {E S : Type 0} (names : ℕ → E → Bool) (legal : ℕ → List E → Type 0) (gains : ℕ → ℕ) (entries : QueueStep → ℕ → ℕ → List E) where
-  pub missed-by : (s : QueueStep) (word expected new n : ℕ) (v w : View E S) (cell : CellWord) → IsCrossing s v.facts word expected new
-      → Crossed names legal gains entries s expected v n w → n ≢ expected → unpacked_cell n ≡ Some cell
+module _ {E S : Type 0} (names : ℕ → E → Bool) (legal : ℕ → List E → Type 0)
+    (gains : ℕ → ℕ) (entries : QueueStep → ℕ → ℕ → List E) where
+  pub missed-by : (s : QueueStep) (word expected new n : ℕ) (v w : View E S) (cell : CellWord)
+      → IsCrossing s v.facts word expected new → Crossed names legal gains entries s expected v n w
+      → n ≢ expected → unpacked_cell n ≡ Some cell
       → Missed names legal gains entries s v cell.state w
   missed-by s word expected new n v w cell x crossed apart is =
       let k = number_at v.facts.doing in

@@ -15,9 +15,13 @@ use Rattle.cqs_rule.proofs.Found.{found-then}
 use Rattle.cqs_cell.proofs.Making.{made-at}
 
 -- a value that was found there before is there still
-pub still-value : (now : CoreState) (payload p : ℕ) → MayFind takes now → IsSince now payload (Some (record { state = state.Value; payload = p }))
+pub still-value : (now : CoreState) (payload p : ℕ) → MayFind takes now
+    → IsSince now payload (Some (record { state = state.Value; payload = p }))
     → (now ≡ state.Value) × (payload ≡ p)
-still-value now payload p may since = ⊎_elim (λ (t : (now ≡ state.Value) × (payload ≡ p)). t) (λ (r : 1 < rank now). absurd (none now may r)) since
+still-value now payload p may since = ⊎_elim
+    (λ (t : (now ≡ state.Value) × (payload ≡ p)). t)
+    (λ (r : 1 < rank now). absurd (none now may r))
+    since
   where
     none : (x : CoreState) → MayFind takes x → 1 < rank x → ⊥
     none state.Empty m r = omega arith
@@ -31,11 +35,13 @@ still-value now payload p may since = ⊎_elim (λ (t : (now ≡ state.Value) ×
     none state.Cancelled m r = m
     none state.Refused m r = m
 
-module _ {E S : Type 0} (names : ℕ → E → Bool) (legal : ℕ → List E → Type 0) (gains : ℕ → ℕ) (entries : QueueStep → ℕ → ℕ → List E) where
+module _ {E S : Type 0} (names : ℕ → E → Bool) (legal : ℕ → List E → Type 0)
+    (gains : ℕ → ℕ) (entries : QueueStep → ℕ → ℕ → List E) where
   -- the exchange of a value that was found before is made
   pub sure : (expected new n p : ℕ) (v w : View E S) → Crossed names legal gains entries takes expected v n w
-      → v.facts.last ≡ Some (record { state = state.Value; payload = p }) → expected ≡ word_of (number_at v.facts.doing) state.Value p
-      → p < 2 ^ 20 → new ≡ word_of (number_at v.facts.doing) state.Taken 0 → Made names legal gains entries takes p new v w
+      → v.facts.last ≡ Some (record { state = state.Value; payload = p })
+      → expected ≡ word_of (number_at v.facts.doing) state.Value p → p < 2 ^ 20
+      → new ≡ word_of (number_at v.facts.doing) state.Taken 0 → Made names legal gains entries takes p new v w
   sure expected new n p v w c last expects fits wrote =
       let k = number_at v.facts.doing in
       let is = still-value c.found.state c.found.payload p c.may (subst (IsSince c.found.state c.found.payload) last c.since) in
@@ -61,7 +67,8 @@ module _ {E S : Type 0} (names : ℕ → E → Bool) (legal : ℕ → List E →
       }
 
   -- it found a value with another payload, and the second was made
-  pub took-second : (v u w : View E S) (p new word : ℕ) (g : Glimpse) → Saw names legal v (facts_missed (number_at v.facts.doing) word g v.facts) [] u
+  pub took-second : (v u w : View E S) (p new word : ℕ) (g : Glimpse)
+      → Saw names legal v (facts_missed (number_at v.facts.doing) word g v.facts) [] u
       → Made names legal gains entries takes p new u w → Took names legal gains entries v p w
   took-second v u w p new word g miss made =
       let k = number_at v.facts.doing in
@@ -77,7 +84,8 @@ module _ {E S : Type 0} (names : ℕ → E → Bool) (legal : ℕ → List E →
             (subst (λ z. FoundLast [] z value u w) number made.found);
         facts = after;
         saw = subst (λ (z : ℕ × ℕ). Saw names legal v after (entries takes z.0 z.1) w) (λ i. (pass i, number i))
-            (saw-then names legal v u w (facts_missed k word g v.facts) after (entries takes u.number (number_at u.facts.doing)) miss made.saw);
+            (saw-then names legal v u w (facts_missed k word g v.facts) after
+            (entries takes u.number (number_at u.facts.doing)) miss made.saw);
         idle = refl;
         held = ap (λ (f : Facts). gains f.held) miss.facts_are;
         waits = ap (λ (f : Facts). f.waits) miss.facts_are;

@@ -6,7 +6,8 @@ use Rattle.cqs_rule.specs.Hidden.{QueueStep}
 use Rattle.cqs_rule.specs.Loads.{LoadStep, Looked}
 use Rattle.cqs_rule.specs.Ruled.{shown_state}
 
-module _ {E S : Type 0} (names : ℕ → E → Bool) (legal : ℕ → List E → Type 0) (gains : ℕ → ℕ) (entries : QueueStep → ℕ → ℕ → List E) where
+module _ {E S : Type 0} (names : ℕ → E → Bool) (legal : ℕ → List E → Type 0)
+    (gains : ℕ → ℕ) (entries : QueueStep → ℕ → ℕ → List E) where
   -- the cell of the number k was loaded so, and this state and payload were found there
   pub record LooksAt (load : LoadStep) (k : ℕ) (v : View E S) (cell : CellWord) (w : View E S) : Type 0 where
     pub word : ℕ

@@ -3,7 +3,8 @@
 ghost use Rattle.std.specs.Prelude.{IfOk, IfErr};
 ghost use Rattle.cqs_rule.specs.Passes.{pass_view, IsOf};
 ghost use Rattle.cqs_rule.specs.Ruled.{IsBare};
-ghost use Rattle.cqs_rule.specs.Told.{IsCrossing, Made, Missed, state_before};
+ghost use Rattle.cqs_rule.specs.Steps.{HasMade, HasMissed};
+ghost use Rattle.cqs_rule.specs.Told.{IsCrossing, state_before};
 
 use cqs_rule::{ClientWords, Kind, Pass, Place, Queue};
 use cqs_words::{CellState, CellWord};
@@ -20,8 +21,8 @@ pub(crate) fn cross<C: ClientWords, K: Kind>(
     requires cell { IsCrossing K.step (pass_view pass.old).facts at.word expected new }
     requires bare { IsBare (state_before K.step) }
     ensures belongs { IsOf queue.now pass.new }
-    ensures made { IfOk result (λ _. Made C.names C.legal C.gains C.entries K.step 0 new (pass_view pass.old) (pass_view pass.new)) }
-    ensures missed { IfErr result (λ found. Missed C.names C.legal C.gains C.entries K.step (pass_view pass.old) found (pass_view pass.new)) }
+    ensures made { IfOk result (λ _. HasMade K.step 0 new pass.old pass.new) }
+    ensures missed { IfErr result (λ found. HasMissed K.step found pass.old pass.new) }
 {
     let found = queue.swap_table::<K>(pass, at.word, expected, new);
     if found == expected {

@@ -7,7 +7,7 @@ ghost use Rattle.cqs_rule.specs.Hidden.{installs, leaves, takes, serves};
 ghost use Rattle.cqs_rule.specs.Passes.{pass_view, IsOf};
 ghost use Rattle.cqs_rule.specs.Placed.{IsPlace};
 ghost use Rattle.cqs_rule.specs.Ruled.{word_of};
-ghost use Rattle.cqs_rule.specs.Told.{Made, Missed};
+ghost use Rattle.cqs_rule.specs.Steps.{HasMade, HasMissed};
 
 use crate::cross::cross;
 use cqs_rule::{ClientWords, Installs, Leaves, Pass, Place, Queue, Serves};
@@ -23,8 +23,8 @@ pub fn install<C: ClientWords>(
     requires drawn { (pass_view pass.old).facts.doing ≡ doing.Drawn at.index }
     requires place { IsPlace at }
     ensures belongs { IsOf queue.now pass.new }
-    ensures made { IfOk result (λ _. Made C.names C.legal C.gains C.entries installs 0 (word_of at.index state.Waiter 0) (pass_view pass.old) (pass_view pass.new)) }
-    ensures missed { IfErr result (λ found. Missed C.names C.legal C.gains C.entries installs (pass_view pass.old) found (pass_view pass.new)) }
+    ensures made { IfOk result (λ _. HasMade installs 0 (word_of at.index state.Waiter 0) pass.old pass.new) }
+    ensures missed { IfErr result (λ found. HasMissed installs found pass.old pass.new) }
 {
     let empty = CellWord::bare(at.index, CellState::Empty).pack();
     let waiter = CellWord::bare(at.index, CellState::Waiter).pack();
@@ -43,8 +43,8 @@ pub fn leave_value<C: ClientWords>(
     requires place { IsPlace at }
     requires owes { (pass_view pass.old).facts.payload ≡ payload }
     ensures belongs { IsOf queue.now pass.new }
-    ensures made { IfOk result (λ _. Made C.names C.legal C.gains C.entries leaves 0 (word_of at.index state.Value payload) (pass_view pass.old) (pass_view pass.new)) }
-    ensures missed { IfErr result (λ found. Missed C.names C.legal C.gains C.entries leaves (pass_view pass.old) found (pass_view pass.new)) }
+    ensures made { IfOk result (λ _. HasMade leaves 0 (word_of at.index state.Value payload) pass.old pass.new) }
+    ensures missed { IfErr result (λ found. HasMissed leaves found pass.old pass.new) }
 {
     let empty = CellWord::bare(at.index, CellState::Empty).pack();
     let value = CellWord {
@@ -67,8 +67,8 @@ pub fn serve<C: ClientWords>(
     requires place { IsPlace at }
     requires owes { (pass_view pass.old).facts.payload ≡ payload }
     ensures belongs { IsOf queue.now pass.new }
-    ensures made { IfOk result (λ _. Made C.names C.legal C.gains C.entries serves 0 (word_of at.index state.Resumed payload) (pass_view pass.old) (pass_view pass.new)) }
-    ensures missed { IfErr result (λ found. Missed C.names C.legal C.gains C.entries serves (pass_view pass.old) found (pass_view pass.new)) }
+    ensures made { IfOk result (λ _. HasMade serves 0 (word_of at.index state.Resumed payload) pass.old pass.new) }
+    ensures missed { IfErr result (λ found. HasMissed serves found pass.old pass.new) }
 {
     let waiter = CellWord::bare(at.index, CellState::Waiter).pack();
     let resumed = CellWord {

@@ -7,7 +7,7 @@ ghost use Rattle.cqs_rule.specs.Hidden.{takes};
 ghost use Rattle.cqs_rule.specs.Passes.{pass_view, IsOf};
 ghost use Rattle.cqs_rule.specs.Placed.{IsPlace};
 ghost use Rattle.cqs_rule.specs.Ruled.{word_of};
-ghost use Rattle.cqs_rule.specs.Told.{Made, Missed, Took};
+ghost use Rattle.cqs_rule.specs.Steps.{HasMade, HasMissed, HasTaken};
 ghost use Rattle.cqs_words.specs.declared.cell.CellState.TheVariants as shown;
 
 use cqs_rule::{ClientWords, Pass, Place, Queue, Takes};
@@ -28,7 +28,7 @@ fn take_found<C: ClientWords>(
     requires word { found ≡ word_of at.index state.Value payload }
     requires last { (pass_view pass.old).facts.last ≡ Some (record { state = state.Value; payload = payload }) }
     ensures belongs { IsOf queue.now pass.new }
-    ensures made { Made C.names C.legal C.gains C.entries takes payload (word_of at.index state.Taken 0) (pass_view pass.old) (pass_view pass.new) }
+    ensures made { HasMade takes payload (word_of at.index state.Taken 0) pass.old pass.new }
 {
     let taken = CellWord::bare(at.index, CellState::Taken).pack();
     queue.swap_table::<Takes>(pass, at.word, found, taken);
@@ -44,8 +44,8 @@ pub fn take_value<C: ClientWords>(
     requires drawn { (pass_view pass.old).facts.doing ≡ doing.Drawn at.index }
     requires place { IsPlace at }
     ensures belongs { IsOf queue.now pass.new }
-    ensures took { IfOk result (λ payload. Took C.names C.legal C.gains C.entries (pass_view pass.old) payload (pass_view pass.new)) }
-    ensures missed { IfErr result (λ found. Missed C.names C.legal C.gains C.entries takes (pass_view pass.old) found (pass_view pass.new) × (found ≢ shown.Value)) }
+    ensures took { IfOk result (λ payload. HasTaken payload pass.old pass.new) }
+    ensures missed { IfErr result (λ found. HasMissed takes found pass.old pass.new × (found ≢ shown.Value)) }
 {
     let guess = CellWord::bare(at.index, CellState::Value).pack();
     let taken = CellWord::bare(at.index, CellState::Taken).pack();

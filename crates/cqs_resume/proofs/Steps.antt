@@ -32,9 +32,13 @@ found-waiter state.Cancelled m other = absurd m
 found-waiter state.Refused m other = absurd m
 
 -- a waiter that was found there before is there still
-still-waiter : (now : CoreState) (payload p : ℕ) → MayFind serves now → IsSince now payload (Some (record { state = state.Waiter; payload = p }))
+still-waiter : (now : CoreState) (payload p : ℕ) → MayFind serves now
+    → IsSince now payload (Some (record { state = state.Waiter; payload = p }))
     → now ≡ state.Waiter
-still-waiter now payload p may since = ⊎_elim (λ (t : (now ≡ state.Waiter) × (payload ≡ p)). t.0) (λ (r : 1 < rank now). absurd (none now may r)) since
+still-waiter now payload p may since = ⊎_elim
+    (λ (t : (now ≡ state.Waiter) × (payload ≡ p)). t.0)
+    (λ (r : 1 < rank now). absurd (none now may r))
+    since
   where
     none : (x : CoreState) → MayFind serves x → 1 < rank x → ⊥
     none state.Empty m r = omega arith
@@ -60,7 +64,8 @@ ends-serves gains = record { idle = λ k n f. refl; held = λ k n f. refl; waits
 pub ends-leaves : (gains : ℕ → ℕ) → Ends gains leaves
 ends-leaves gains = record { idle = λ k n f. refl; held = λ k n f. refl; waits = λ k n f. refl }
 
-module _ {E S : Type 0} (names : ℕ → E → Bool) (legal : ℕ → List E → Type 0) (gains : ℕ → ℕ) (entries : QueueStep → ℕ → ℕ → List E) where
+module _ {E S : Type 0} (names : ℕ → E → Bool) (legal : ℕ → List E → Type 0)
+    (gains : ℕ → ℕ) (entries : QueueStep → ℕ → ℕ → List E) where
   -- from the view u the pass has come to t by exchanges that weren't made: a step from t tells as much as one from u
   pub record Tried (u t : View E S) : Type 0 where
     pub saw : (w : View E S) (g : Facts) (es : List E) → Saw names legal t g es w → Saw names legal u g es w
@@ -72,9 +77,18 @@ module _ {E S : Type 0} (names : ℕ → E → Bool) (legal : ℕ → List E →
     pub found : t.facts.found ≡ u.facts.found ++ tries
 
   pub tried-none : (u t : View E S) → t ≡ u → Tried u t
-  tried-none u t same = subst (λ (z : View E S). Tried u z) (sym same) (record { saw = λ w g es s. s; doing = refl; held = refl; waits = refl; number = refl; tries = []; found = sym (append-nil u.facts.found) })
+  tried-none u t same = subst (λ (z : View E S). Tried u z) (sym same) (record {
+    saw = λ w g es s. s;
+    doing = refl;
+    held = refl;
+    waits = refl;
+    number = refl;
+    tries = [];
+    found = sym (append-nil u.facts.found);
+  })
 
-  pub tried-miss : (u t x : View E S) (s : QueueStep) (cell : CellState) → Tried u t → Missed names legal gains entries s t cell x → Tried u x
+  pub tried-miss : (u t x : View E S) (s : QueueStep) (cell : CellState)
+      → Tried u t → Missed names legal gains entries s t cell x → Tried u x
   tried-miss u t x s cell tried m = record {
     saw = λ w g es step. tried.saw w g es (saw-then names legal t x w _ g es m.saw step);
     doing = ap (λ (f : Facts). f.doing) m.saw.facts_are ∙ tried.doing;
@@ -82,8 +96,10 @@ module _ {E S : Type 0} (names : ℕ → E → Bool) (legal : ℕ → List E →
     waits = ap (λ (f : Facts). f.waits) m.saw.facts_are ∙ tried.waits;
     number = m.saw.same.number ∙ tried.number;
     tries = tried.tries ++ Cell (number_at t.facts.doing) m.word ∷ [];
-    found = ap (λ (f : Facts). f.found) m.saw.facts_are ∙ (ap (λ (l : List Sighting). l ++ Cell (number_at t.facts.doing) m.word ∷ []) tried.found
-        ∙ append_assoc u.facts.found tried.tries (Cell (number_at t.facts.doing) m.word ∷ []));
+    found =
+        let here : List Sighting = Cell (number_at t.facts.doing) m.word ∷ [] in
+        ap (λ (f : Facts). f.found) m.saw.facts_are
+        ∙ (ap (λ (l : List Sighting). l ++ here) tried.found ∙ append_assoc u.facts.found tried.tries here);
   }
 
   pub ended : (s : QueueStep) (payload k new : ℕ) (v u t w : View E S) → Ends gains s → payload_made s v.facts.payload ≡ payload
@@ -92,20 +108,25 @@ module _ {E S : Type 0} (names : ℕ → E → Bool) (legal : ℕ → List E →
   ended s payload k new v u t w ends owed first tried m =
       let is : number_at t.facts.doing ≡ k = ap number_at (tried.doing ∙ ap (λ (f : Facts). f.doing) first.facts_are) in
       let pass : t.number ≡ v.number = tried.number ∙ first.same.number in
-      let es = entries s t.number (number_at t.facts.doing) in
-      let after = facts_after gains s (number_at t.facts.doing) m.found.word t.facts in
+      let at : ℕ = number_at t.facts.doing in
+      let after : Facts = facts_after gains s at m.found.word t.facts in
+      let draw : List E = entries reaches v.number k in
+      let last : List E = entries s t.number at in
+      let told : Called names legal v (draw ++ last) last w =
+      called-then names legal v u w after draw draw last (called-by names legal v u _ _ first) (tried.saw w after last m.saw) in
+      let held : t.facts.held ≡ v.facts.held = tried.held ∙ ap (λ (f : Facts). f.held) first.facts_are in
+      let waits : t.facts.waits ≡ v.facts.waits = tried.waits ∙ ap (λ (f : Facts). f.waits) first.facts_are in
       let cell : Glimpse = record { state = state_before s; payload = 0 } in
       let drawn : List Sighting = Resumes k ∷ [] in
       record {
-        called = subst (λ (l : List E). Called names legal v (entries reaches v.number k ++ l) l w) (λ i. entries s (pass i) (is i))
-            (called-then names legal v u w after (entries reaches v.number k) (entries reaches v.number k) es (called-by names legal v u _ _ first) (tried.saw w after es m.saw));
+        called = subst (λ (es : List E). Called names legal v (draw ++ es) es w) (λ i. entries s (pass i) (is i)) told;
         tried = tried.tries ++ [];
         found = found-then (tried.tries ++ []) drawn k cell v u w (ap (λ (f : Facts). f.found) first.facts_are)
             (found-then [] tried.tries k cell u t w tried.found (subst (λ z. FoundLast [] z cell t w) is m.found));
         left = owed;
-        idle = ap (λ (f : Facts). f.doing) m.saw.facts_are ∙ ends.idle (number_at t.facts.doing) m.found.word t.facts;
-        held = ap (λ (f : Facts). f.held) m.saw.facts_are ∙ (ends.held (number_at t.facts.doing) m.found.word t.facts ∙ (tried.held ∙ ap (λ (f : Facts). f.held) first.facts_are));
-        waits = ap (λ (f : Facts). f.waits) m.saw.facts_are ∙ (ends.waits (number_at t.facts.doing) m.found.word t.facts ∙ (tried.waits ∙ ap (λ (f : Facts). f.waits) first.facts_are));
+        idle = ap (λ (f : Facts). f.doing) m.saw.facts_are ∙ ends.idle at m.found.word t.facts;
+        held = ap (λ (f : Facts). f.held) m.saw.facts_are ∙ (ends.held at m.found.word t.facts ∙ held);
+        waits = ap (λ (f : Facts). f.waits) m.saw.facts_are ∙ (ends.waits at m.found.word t.facts ∙ waits);
       }
 
   -- after a waiter was found there the next serve is made
@@ -115,4 +136,5 @@ module _ {E S : Type 0} (names : ℕ → E → Bool) (legal : ℕ → List E →
       let waiter : m.glimpse.state ≡ state.Waiter = found-waiter m.glimpse.state m.may (m.other tt) in
       let last : x.facts.last ≡ Some (record { state = state.Waiter; payload = m.glimpse.payload }) =
       ap (λ (f : Facts). f.last) m.saw.facts_are ∙ (λ i. Some (record { state = waiter i; payload = m.glimpse.payload })) in
-      n.other tt (still-waiter n.glimpse.state n.glimpse.payload m.glimpse.payload n.may (subst (IsSince n.glimpse.state n.glimpse.payload) last n.since))
+      n.other tt (still-waiter n.glimpse.state n.glimpse.payload m.glimpse.payload n.may
+      (subst (IsSince n.glimpse.state n.glimpse.payload) last n.since))

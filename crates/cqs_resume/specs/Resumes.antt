@@ -11,8 +11,8 @@ use Rattle.cqs_resume.specs.declared.resuming.Resumed.{Resumed}
 use Rattle.cqs_resume.specs.declared.resuming.Resumed.TheVariants.{Served, Left}
 
 module _ {E S : Type 0} (names : ℕ → E → Bool) (legal : ℕ → List E → Type 0) (entries : QueueStep → ℕ → ℕ → List E) where
-  -- The resume drew the number k, and ended there by this exchange: it found the cell last in the state that the exchange wants, and
-  -- left there the payload that it owed. What the pass holds and waits for is as before.
+  -- The resume drew the number k, and ended there by this exchange: it found the cell last in the state that the exchange
+  -- wants, and left there the payload that it owed. What the pass holds and waits for is as before.
   pub record Ended (s : QueueStep) (payload k : ℕ) (v w : View E S) : Type 0 where
     pub called : Called names legal v (entries reaches v.number k ++ entries s v.number k) (entries s v.number k) w
     pub tried : List Sighting

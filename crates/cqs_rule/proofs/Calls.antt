@@ -46,13 +46,16 @@ module _ {E S : Type 0} (names : ℕ → E → Bool) (legal : ℕ → List E →
   }
 
   -- a step more
-  pub called-then : (v u w : View E S) (f : Facts) (es last fs : List E) → Called names legal v es last u → Saw names legal u f fs w
-      → Called names legal v (es ++ fs) fs w
+  pub called-then : (v u w : View E S) (f : Facts) (es last fs : List E)
+      → Called names legal v es last u → Saw names legal u f fs w → Called names legal v (es ++ fs) fs w
   called-then v u w f es last fs c s = record {
     more = c.more ++ (s.between ++ fs);
-    seen = s.seen ∙ (append_assoc u.seen s.between fs ∙ (ap (λ l. l ++ (s.between ++ fs)) c.seen ∙ append_assoc v.seen c.more (s.between ++ fs)));
-    mine = λ n h. filter-append (names n) c.more (s.between ++ fs)
-        ∙ ((λ i. c.mine n h i ++ part-step names n s.between fs (s.silent n (subst (Has n) (sym c.same.own) h)) i) ∙ sym (filter-append (names n) es fs));
+    seen = s.seen ∙ (append_assoc u.seen s.between fs
+        ∙ (ap (λ l. l ++ (s.between ++ fs)) c.seen ∙ append_assoc v.seen c.more (s.between ++ fs)));
+    mine = λ n h.
+        let silent : part names n s.between ≡ [] = s.silent n (subst (Has n) (sym c.same.own) h) in
+        filter-append (names n) c.more (s.between ++ fs)
+        ∙ ((λ i. c.mine n h i ++ part-step names n s.between fs silent i) ∙ sym (filter-append (names n) es fs));
     before = u.seen ++ s.between;
     ends = s.seen;
     same = same-then v u w c.same s.same;
@@ -62,10 +65,12 @@ module _ {E S : Type 0} (names : ℕ → E → Bool) (legal : ℕ → List E →
   }
 
   -- a step without an event, and then one with these entries, tell as much as the second alone
-  pub saw-then : (v u w : View E S) (f g : Facts) (es : List E) → Saw names legal v f [] u → Saw names legal u g es w → Saw names legal v g es w
+  pub saw-then : (v u w : View E S) (f g : Facts) (es : List E)
+      → Saw names legal v f [] u → Saw names legal u g es w → Saw names legal v g es w
   saw-then v u w f g es p q = record {
     between = p.between ++ q.between;
-    seen = q.seen ∙ ap (λ l. l ++ es) (ap (λ l. l ++ q.between) (p.seen ∙ append-nil _) ∙ append_assoc v.seen p.between q.between);
+    seen = q.seen
+        ∙ ap (λ l. l ++ es) (ap (λ l. l ++ q.between) (p.seen ∙ append-nil _) ∙ append_assoc v.seen p.between q.between);
     silent = λ n h. filter-append (names n) p.between q.between
         ∙ ((λ i. p.silent n h i ++ q.silent n (subst (Has n) (sym p.same.own) h) i));
     facts_are = q.facts_are;

@@ -72,7 +72,8 @@ installed-drawn q k cell state.Refused s i = absurd i
 
 -- a cell is as it was, or has gone on
 abbrev pub GoesOn : Hidden → Hidden → ℕ → Type 0
-GoesOn c d j = ((state_at d.queue j ≡ state_at c.queue j) × (d.payloads j ≡ c.payloads j)) ⊎ (rank (state_at c.queue j) < rank (state_at d.queue j))
+GoesOn c d j = ((state_at d.queue j ≡ state_at c.queue j) × (d.payloads j ≡ c.payloads j))
+    ⊎ (rank (state_at c.queue j) < rank (state_at d.queue j))
 
 pub since-goes_on : (c d : Hidden) (j : ℕ) (last : Option Glimpse) → GoesOn c d j
     → IsSince (state_at c.queue j) (c.payloads j) last → IsSince (state_at d.queue j) (d.payloads j) last
@@ -184,11 +185,14 @@ module _ (gains : ℕ → ℕ) (c : Hidden) (p k payload : ℕ) where
       → IsSound c.queue
       → IsWaitOf (moved c.queue (move_of draws p k found)) n j → IsWaitOf c.queue n j
   drawn-wait_back None n j e next sound w = ⊎_elim
-      (λ (old : slice_get c.queue.cells j ≡ Some w.cell). record {
+      (λ (old : slice_get c.queue.cells j ≡ Some w.cell).
+      let apart : j ≢ k = λ q.
+      let both : None ≡ Some w.cell = sym e ∙ (ap (slice_get c.queue.cells) (sym q) ∙ old) in absurd (cc) in
+      record {
         cell = w.cell;
         there = old;
         owner = w.owner;
-        drawn = let d = w.drawn in let apart : j ≢ k = λ q. let both : None ≡ Some w.cell = sym e ∙ (ap (slice_get c.queue.cells) (sym q) ∙ old) in absurd (cc) in omega arith;
+        drawn = let d = w.drawn in omega arith;
         uncollected = w.uncollected;
         installed = w.installed;
       })
@@ -198,9 +202,11 @@ module _ (gains : ℕ → ℕ) (c : Hidden) (p k payload : ℕ) where
   drawn-wait_back (Some found) n j e next sound w = dite (ℕ_discrete j k)
       (λ (q : j ≡ k).
       let new : CoreCell = record { state = found.state; owner = Some p; collected = found.collected } in
-      let here : slice_get (set c.queue.cells k new) j ≡ Some new = ap (slice_get (set c.queue.cells k new)) q ∙ get-set_here c.queue.cells k found new e in
+      let here : slice_get (set c.queue.cells k new) j ≡ Some new =
+      ap (slice_get (set c.queue.cells k new)) q ∙ get-set_here c.queue.cells k found new e in
       let same : w.cell ≡ new = same_Some w.cell new (sym w.there ∙ here) in
-      let low = installed-drawn c.queue k found found.state (sound.cells.at k found e) (subst IsInstalled (ap (λ (x : CoreCell). x.state) same) w.installed) in
+      let stood : IsInstalled found.state = subst IsInstalled (ap (λ (x : CoreCell). x.state) same) w.installed in
+      let low = installed-drawn c.queue k found found.state (sound.cells.at k found e) stood in
       absurd (omega arith))
       (λ (a : j ≢ k). record {
         cell = w.cell;
@@ -238,7 +244,8 @@ module _ (gains : ℕ → ℕ) (c : Hidden) (p k payload : ℕ) where
   looked-closed_back found n j there w =
       let closed : CoreCell = record { state = found.state; owner = found.owner; collected = true } in
       let apart : j ≢ k = λ q.
-      let here : slice_get (set c.queue.cells k closed) j ≡ Some closed = ap (slice_get (set c.queue.cells k closed)) q ∙ get-set_here c.queue.cells k found closed there in
+      let here : slice_get (set c.queue.cells k closed) j ≡ Some closed =
+      ap (slice_get (set c.queue.cells k closed)) q ∙ get-set_here c.queue.cells k found closed there in
       let same : w.cell ≡ closed = same_Some w.cell closed (sym w.there ∙ here) in
       let both : true ≡ false = sym (ap (λ (x : CoreCell). x.collected) same) ∙ w.uncollected in absurd (cc) in (
         apart,
@@ -370,6 +377,18 @@ module _ (gains : ℕ → ℕ) (c : Hidden) (p k payload : ℕ) where
     state-before : state_at c.queue k ≡ state_before s
     state-before = ap state_in there ∙ before
 
+    -- the cell of the number, and each other, after the exchange
+    cell-here : (j : ℕ) → j ≡ k → slice_get d.queue.cells j ≡ Some (new_cell s found)
+    cell-here j q =
+        ap (λ (cells : List CoreCell). slice_get cells j) (exchange-cells s found e)
+        ∙ (ap (slice_get (set c.queue.cells k (new_cell s found))) q
+        ∙ get-set_here c.queue.cells k found (new_cell s found) there)
+
+    cell-else : (j : ℕ) → j ≢ k → slice_get d.queue.cells j ≡ slice_get c.queue.cells j
+    cell-else j apart =
+        ap (λ (cells : List CoreCell). slice_get cells j) (exchange-cells s found e)
+        ∙ get-set_else c.queue.cells k j _ (λ q. apart (sym q))
+
     pub exchange-wait : (n j : ℕ) → IsWaitOf c.queue n j → IsWaitOf d.queue n j
     exchange-wait n j w = dite (ℕ_discrete j k)
         (λ (q : j ≡ k).
@@ -378,16 +397,16 @@ module _ (gains : ℕ → ℕ) (c : Hidden) (p k payload : ℕ) where
         let served : s ≡ serves = serves-installed s e stood in
         record {
           cell = new_cell s found;
-          there = ap (λ (cells : List CoreCell). slice_get cells j) (exchange-cells s found e)
-              ∙ (ap (slice_get (set c.queue.cells k (new_cell s found))) q ∙ get-set_here c.queue.cells k found (new_cell s found) there);
+          there = cell-here j q;
           owner = new_cell-owner s found ∙ (ap (λ (x : CoreCell). x.owner) (sym same) ∙ w.owner);
           drawn = let u = exchange-suspends s found e in let v = w.drawn in omega arith;
-          uncollected = ap (λ (z : QueueStep). (new_cell z found).collected) served ∙ (ap (λ (x : CoreCell). x.collected) (sym same) ∙ w.uncollected);
+          uncollected = ap (λ (z : QueueStep). (new_cell z found).collected) served
+              ∙ (ap (λ (x : CoreCell). x.collected) (sym same) ∙ w.uncollected);
           installed = subst (λ (z : QueueStep). IsInstalled (new_cell z found).state) (sym served) tt;
         })
         (λ (a : j ≢ k). record {
           cell = w.cell;
-          there = ap (λ (cells : List CoreCell). slice_get cells j) (exchange-cells s found e) ∙ (get-set_else c.queue.cells k j _ (λ q. a (sym q)) ∙ w.there);
+          there = cell-else j a ∙ w.there;
           owner = w.owner;
           drawn = let u = exchange-suspends s found e in let v = w.drawn in omega arith;
           uncollected = w.uncollected;
@@ -418,18 +437,18 @@ module _ (gains : ℕ → ℕ) (c : Hidden) (p k payload : ℕ) where
         → IsWaitOf c.queue n j ⊎ ((s ≡ installs) × (j ≡ k) × (found.owner ≡ Some n))
     exchange-wait_back n j w = dite (ℕ_discrete j k)
         (λ (q : j ≡ k).
-        let here : slice_get d.queue.cells j ≡ Some (new_cell s found) = ap (λ (cells : List CoreCell). slice_get cells j) (exchange-cells s found e)
-        ∙ (ap (slice_get (set c.queue.cells k (new_cell s found))) q ∙ get-set_here c.queue.cells k found (new_cell s found) there) in
-        let same : w.cell ≡ new_cell s found = same_Some w.cell (new_cell s found) (sym w.there ∙ here) in
+        let same : w.cell ≡ new_cell s found = same_Some w.cell (new_cell s found) (sym w.there ∙ cell-here j q) in
         let low : k < c.queue.suspends = let u = exchange-suspends s found e in let v = w.drawn in omega arith in
         ⊎_elim
         (λ (old : IsWaitOf c.queue n k). inl (subst (λ z. IsWaitOf c.queue n z) (sym q) old))
         (λ (new : (s ≡ installs) × (found.owner ≡ Some n)). inr (new.0, q, new.1))
-        (back-here s n e before (ap (λ (x : CoreCell). x.owner) (sym same) ∙ w.owner) (ap (λ (x : CoreCell). x.collected) (sym same) ∙ w.uncollected)
+        (back-here s n e before
+        (ap (λ (x : CoreCell). x.owner) (sym same) ∙ w.owner)
+        (ap (λ (x : CoreCell). x.collected) (sym same) ∙ w.uncollected)
         (subst IsInstalled (ap (λ (x : CoreCell). x.state) same) w.installed) low))
         (λ (a : j ≢ k). inl (record {
           cell = w.cell;
-          there = sym (ap (λ (cells : List CoreCell). slice_get cells j) (exchange-cells s found e) ∙ get-set_else c.queue.cells k j _ (λ q. a (sym q))) ∙ w.there;
+          there = sym (cell-else j a) ∙ w.there;
           owner = w.owner;
           drawn = let u = exchange-suspends s found e in let v = w.drawn in omega arith;
           uncollected = w.uncollected;

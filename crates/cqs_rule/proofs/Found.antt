@@ -29,7 +29,8 @@ module _ {E S : Type 0} where
         word = f.word;
         cell = f.cell;
         found = f.found ∙ (ap (λ (l : List Sighting). l ++ (since ++ here)) is
-            ∙ (append_assoc v.facts.found more (since ++ here) ∙ ap (λ (l : List Sighting). v.facts.found ++ l) (sym (append_assoc more since here))));
+            ∙ (append_assoc v.facts.found more (since ++ here)
+            ∙ ap (λ (l : List Sighting). v.facts.found ++ l) (sym (append_assoc more since here))));
       }
 
   -- the same, where it found nothing meanwhile

@@ -55,15 +55,21 @@ module _ {E S : Type 0} (names : ℕ → E → Bool) where
     payload_fits = k.payload_fits;
   }
 
-module _ {E S : Type 0} (names : ℕ → E → Bool) (shows : Hidden → List ℕ → List E → List S → Type 0) (passes limit values size : ℕ) where
+module _ {E S : Type 0} (names : ℕ → E → Bool) (shows : Hidden → List ℕ → List E → List S → Type 0)
+    (passes limit values size : ℕ) where
+  -- the number of the cells
+  abbrev pub cell_count : ℕ
+  cell_count = limit + passes + values
+
   abbrev pub R : State (Option S) (View E S) → Type 0
   R = Ruled names shows passes limit values size
 
   -- what a step of the view v has to show: the word i becomes x, what is hidden becomes d, the history grows by the entries
-  pub record Turned (s : State (Option S) (View E S)) (r : R s) (v : View E S) (i x : ℕ) (d : Hidden) (es : List E) (facts : Facts) : Type 0 where
+  pub record Turned (s : State (Option S) (View E S)) (r : R s) (v : View E S) (i x : ℕ) (d : Hidden)
+      (es : List E) (facts : Facts) : Type 0 where
     pub crew : slice_index (slice_set s.words i x) 0 ≡ slice_index s.words 0
     pub counters : CountersShow d.queue (slice_set s.words i x)
-    pub cells : CellsShow d (limit + passes + values) (slice_set s.words i x)
+    pub cells : CellsShow d cell_count (slice_set s.words i x)
     pub idle_words : IdleWords (slice_set s.words i x)
     pub room : HasRoom passes limit values d
     pub door : DoorMayDraw d
@@ -89,7 +95,8 @@ module _ {E S : Type 0} (names : ℕ → E → Bool) (shows : Hidden → List �
       let q = still-own views id v w here same b u f in
       old a b p.0 q.0 n p.1 q.1 (subst (Has n) p.2 g) (subst (Has n) q.2 h)
 
-  pub advance : (s : State (Option S) (View E S)) (r : R s) (id : ℕ) (cs : List (ℕ × Option S)) (v : View E S) (i x : ℕ) (d : Hidden) (es : List E) (facts : Facts)
+  pub advance : (s : State (Option S) (View E S)) (r : R s) (id : ℕ) (cs : List (ℕ × Option S)) (v : View E S) (i x : ℕ)
+      (d : Hidden) (es : List E) (facts : Facts)
       → get_elem? s.views id ≡ some v → v.weight ≡ 1 → Turned s r v i x d es facts
       → R (stepped s i x id cs (grown v facts (r.log ++ es) r.handed) keeps)
   advance s r id cs v i x d es facts here one t =
@@ -98,7 +105,7 @@ module _ {E S : Type 0} (names : ℕ → E → Bool) (shows : Hidden → List �
       let own : Has v.number v.own = k.own (omega arith) in
       let mine : Has v.number (all_own v) = has_left v.number v.own v.others own in
       let low : v.number < r.made = k.below v.number mine in
-      let P : ℕ → View E S → Type 0 = λ j u. Knows names d (r.log ++ es) r.handed r.made r.live limit (limit + passes + values) size u in
+      let P : ℕ → View E S → Type 0 = λ j u. Knows names d (r.log ++ es) r.handed r.made r.live limit cell_count size u in
       record {
         hidden = d;
         log = r.log ++ es;
@@ -141,10 +148,15 @@ module _ {E S : Type 0} (names : ℕ → E → Bool) (shows : Hidden → List �
               size_is = k.size_is;
               payload_fits = t.payload_fits;
             }
-            (λ j u apart e. others-know names r.hidden d r.log es r.handed r.made r.live limit (limit + passes + values) size v.number u t.others t.silent
+            (λ j u apart e.
+            let knew = r.each_view j u e in
+            others-know names r.hidden d r.log es r.handed r.made r.live limit cell_count size v.number u t.others t.silent
             (λ n h same. apart (r.apart j id u v v.number e here (subst (λ m. Has m (all_own u)) same h) mine))
-            (λ a. let q = (r.each_view j u e).alone a in let b = two_of weight s.views j id u v apart e here in let l = r.crew.live_is in absurd (omega arith))
-            (r.each_view j u e));
+            (λ a.
+            let single = knew.alone a in
+            let two = two_of weight s.views j id u v apart e here in
+            let l = r.crew.live_is in absurd (omega arith))
+            knew);
         apart = still-apart s.views id v w here refl r.apart;
         unnamed = λ n above. part_more names n r.log es (t.silent n (λ same. absurd (omega arith))) ∙ r.unnamed n above;
         unused = λ n above few. record {
@@ -155,9 +167,11 @@ module _ {E S : Type 0} (names : ℕ → E → Bool) (shows : Hidden → List �
       }
 
   -- what the step tells the pass
-  pub saw : (legal : ℕ → List E → Type 0) (s : State (Option S) (View E S)) (r : R s) (id : ℕ) (v : View E S) (es : List E) (facts : Facts)
-      → get_elem? s.views id ≡ some v → v.weight ≡ 1 → legal size (r.log ++ es) → facts.held < 2 ^ 32 → number_at facts.doing < limit + passes + values
-      → ((n : ℕ) → Has n facts.waits → n < limit + passes + values) → IsDistinct facts.waits → facts.payload < 2 ^ 20
+  pub saw : (legal : ℕ → List E → Type 0) (s : State (Option S) (View E S)) (r : R s) (id : ℕ) (v : View E S)
+      (es : List E) (facts : Facts)
+      → get_elem? s.views id ≡ some v → v.weight ≡ 1 → legal size (r.log ++ es)
+      → facts.held < 2 ^ 32 → number_at facts.doing < cell_count → ((n : ℕ) → Has n facts.waits → n < cell_count)
+      → IsDistinct facts.waits → facts.payload < 2 ^ 20
       → Saw names legal v facts es (grown v facts (r.log ++ es) r.handed)
   saw legal s r id v es facts here one is_legal fits inside waits once owed =
       let k = r.each_view id v here in record {
@@ -165,7 +179,16 @@ module _ {E S : Type 0} (names : ℕ → E → Bool) (shows : Hidden → List �
         seen = ap (λ l. l ++ es) k.sees.seen.1;
         silent = λ n h. unnamed names n v.seen k.sees.seen.0 r.log k.sees.seen.1 (k.sees.mine n h);
         facts_are = refl;
-        same = record { number = refl; weight = refl; own = refl; crew = refl; alone = refl; limit = refl; cells = refl; size = refl };
+        same = record {
+          number = refl;
+          weight = refl;
+          own = refl;
+          crew = refl;
+          alone = refl;
+          limit = refl;
+          cells = refl;
+          size = refl;
+        };
         own = k.own (omega arith);
         handed = k.sees.handed_in;
         sole = λ a. nothing_more v.seen k.sees.seen.0 ((k.alone a).2 ∙ k.sees.seen.1);
@@ -175,7 +198,7 @@ module _ {E S : Type 0} (names : ℕ → E → Bool) (shows : Hidden → List �
           number = subst (λ z. number_at facts.doing < z) (sym k.cells_are) inside;
           waits = λ n h. subst (λ z. n < z) (sym k.cells_are) (waits n h);
           once = λ n h. length_without n facts.waits once h;
-          few = subst (λ z. length facts.waits ≤ z) (sym k.cells_are) (few_below (limit + passes + values) facts.waits once waits);
+          few = subst (λ z. length facts.waits ≤ z) (sym k.cells_are) (few_below cell_count facts.waits once waits);
           payload = owed;
         };
       }

@@ -82,7 +82,10 @@ has_right n (x ∷ xs) b h = inr (has_right n xs b h)
 pub has_without : (n k : ℕ) (xs : List ℕ) → Has n (without k xs) → (n ≢ k) × Has n xs
 has_without n k [] h = absurd h
 has_without n k (x ∷ xs) h = dite (ℕ_discrete x k)
-    (λ (q : x ≡ k). let t = has_without n k xs (subst (λ b. Has n (if b then without k xs else x ∷ without k xs)) (eq-eqb x k q) h) in (t.0, inr t.1))
+    (λ (q : x ≡ k).
+    let later : Has n (without k xs) =
+    subst (λ b. Has n (if b then without k xs else x ∷ without k xs)) (eq-eqb x k q) h in
+    let t = has_without n k xs later in (t.0, inr t.1))
     (λ (a : x ≢ k). ⊎_elim
     (λ (e : n ≡ x). ((λ (q : n ≡ k). a (sym e ∙ q)), inl e))
     (λ (g : Has n (without k xs)). let t = has_without n k xs g in (t.0, inr t.1))
@@ -102,13 +105,17 @@ pub without_none : (k : ℕ) (xs : List ℕ) → (Has k xs → ⊥) → without 
 without_none k [] none = refl
 without_none k (x ∷ xs) none =
     let apart : x ≢ k = λ q. none (inl (sym q)) in
-    ap (λ b. if b then without k xs else x ∷ without k xs) (ne_eqb x k apart) ∙ ap (λ l. x ∷ l) (without_none k xs (λ h. none (inr h)))
+    ap (λ b. if b then without k xs else x ∷ without k xs) (ne_eqb x k apart)
+    ∙ ap (λ l. x ∷ l) (without_none k xs (λ h. none (inr h)))
 
 pub distinct_without : (k : ℕ) (xs : List ℕ) → IsDistinct xs → IsDistinct (without k xs)
 distinct_without k [] d = tt
 distinct_without k (x ∷ xs) d = dite (ℕ_discrete x k)
-    (λ (q : x ≡ k). subst (λ b. IsDistinct (if b then without k xs else x ∷ without k xs)) (sym (eq-eqb x k q)) (distinct_without k xs d.1))
-    (λ (a : x ≢ k). subst (λ b. IsDistinct (if b then without k xs else x ∷ without k xs)) (sym (ne_eqb x k a))
+    (λ (q : x ≡ k).
+    subst (λ b. IsDistinct (if b then without k xs else x ∷ without k xs)) (sym (eq-eqb x k q))
+    (distinct_without k xs d.1))
+    (λ (a : x ≢ k).
+    subst (λ b. IsDistinct (if b then without k xs else x ∷ without k xs)) (sym (ne_eqb x k a))
     ((λ h. d.0 (has_without x k xs h).1), distinct_without k xs d.1))
 
 pub distinct_append : (k : ℕ) (xs : List ℕ) → IsDistinct xs → (Has k xs → ⊥) → IsDistinct (xs ++ k ∷ [])

@@ -6,6 +6,7 @@ use Rattle.std.proofs.lemmas.Bool.{cases_lt, and_parts, lt-leb}
 use mathlib.Core.Option.{some, some-injective, some-ne-none}
 use lib.ListN.{get_elem?}
 use Rattle.atomic_table.specs.Table.{opening}
+use Rattle.cqs_core.specs.declared.cells.CoreState.{CoreState}
 use Rattle.cqs_core.specs.declared.cells.CoreState.TheVariants as state
 use Rattle.cqs_core.specs.declared.doings.Doing.TheVariants as doing
 use Rattle.cqs_core.proofs.Places.{get-past}
@@ -38,17 +39,28 @@ module _ {A : Type 0} where
   only-one a b zero e = (refl, some-injective a b e)
   only-one a b (suc j) e = absurd (some-ne-none b (sym e))
 
--- a cell that opens with a value, and one that opens empty
-cell-value : (values k : ℕ) → k < values → (state_in (slice_get (replicate values value_cell) k) ≡ state.Value) × (first_payload values k ≡ k) × (first_cell values k ≡ word_of k state.Value k)
-cell-value values k below =
-    let is : nat_lt k values ≡ true = lt-ltb k values below in
-    (ap state_in (get-replicate values k value_cell below), ap (λ b. if b then k else 0) is, ap (λ b. if b then word_of k state.Value k else word_of k state.Empty 0) is)
+-- the cell k opens in this state, with this payload
+abbrev OpensAs : ℕ → ℕ → CoreState → ℕ → Type 0
+OpensAs values k s payload = (state_in (slice_get (replicate values value_cell) k) ≡ s)
+    × (first_payload values k ≡ payload) × (first_cell values k ≡ word_of k s payload)
 
-cell-empty : (values k : ℕ) → values ≤ k → (state_in (slice_get (replicate values value_cell) k) ≡ state.Empty) × (first_payload values k ≡ 0) × (first_cell values k ≡ word_of k state.Empty 0)
+-- a cell that opens with a value, and one that opens empty
+cell-value : (values k : ℕ) → k < values → OpensAs values k state.Value k
+cell-value values k below =
+    let is : nat_lt k values ≡ true = lt-ltb k values below in (
+      ap state_in (get-replicate values k value_cell below),
+      ap (λ b. if b then k else 0) is,
+      ap (λ b. if b then word_of k state.Value k else word_of k state.Empty 0) is,
+    )
+
+cell-empty : (values k : ℕ) → values ≤ k → OpensAs values k state.Empty 0
 cell-empty values k above =
     let is : nat_lt k values ≡ false = le-ltb k values above in
-    let long : length (replicate values value_cell) ≤ k = omega (arith, length-replicate values value_cell) in
-    (ap state_in (get-past (replicate values value_cell) k long), ap (λ b. if b then k else 0) is, ap (λ b. if b then word_of k state.Value k else word_of k state.Empty 0) is)
+    let long : length (replicate values value_cell) ≤ k = omega (arith, length-replicate values value_cell) in (
+      ap state_in (get-past (replicate values value_cell) k long),
+      ap (λ b. if b then k else 0) is,
+      ap (λ b. if b then word_of k state.Value k else word_of k state.Empty 0) is,
+    )
 
 first-cell-at : (values k : ℕ) (words : List ℕ) → first_word values words (cell_place k) ≡ first_cell values k
 first-cell-at values k words =
@@ -67,14 +79,19 @@ first-idle values i words is =
     let d = ne_eqb i 96 (is.client 3 (omega arith)) in
     rw (early, crew, resumes, a, b, c, d) refl
 
-module _ {E S : Type 0} (names : ℕ → E → Bool) (shows : Hidden → List ℕ → List E → List S → Type 0) (passes limit values size held : ℕ) where
+module _ {E S : Type 0} (names : ℕ → E → Bool) (shows : Hidden → List ℕ → List E → List S → Type 0)
+    (passes limit values size held : ℕ) where
+  -- the number of the cells
+  abbrev pub cell_count : ℕ
+  cell_count = limit + passes + values
+
   abbrev pub first : View E S
-  first = first_view limit (limit + passes + values) size held
+  first = first_view limit cell_count size held
 
   abbrev pub h : Hidden
   h = first_hidden passes values held
 
-  pub opens : (words client : List ℕ) (homes : List (Option S)) → IsOpening (words_for (limit + passes + values)) values client words
+  pub opens : (words client : List ℕ) (homes : List (Option S)) → IsOpening (words_for cell_count) values client words
       → 0 < passes → passes ≤ 32 → 0 < limit → limit ≤ 1048576 → values ≤ 4096 → shows h (four client) [] []
       → Ruled names shows passes limit values size (opening words homes first)
   opens words client homes o any few any_limit low_limit few_values begins = record {
@@ -93,7 +110,8 @@ module _ {E S : Type 0} (names : ℕ → E → Bool) (shows : Hidden → List �
     };
     counters = record { suspends = o.at 16 (omega arith); resumes = o.at 32 (omega arith) };
     cells = record {
-      at = λ k below. o.at (cell_place k) (cell-inside k (limit + passes + values) below) ∙ (first-cell-at values k client ∙ cell-is k (cases_lt k values));
+      at = λ k below. o.at (cell_place k) (cell-inside k cell_count below)
+          ∙ (first-cell-at values k client ∙ cell-is k (cases_lt k values));
       fits = λ k. payload-fits k (cases_lt k values);
       bare = λ k is. payload-bare k is (cases_lt k values);
       plain = λ k. is-plain k (cases_lt k values);
@@ -111,7 +129,7 @@ module _ {E S : Type 0} (names : ℕ → E → Bool) (shows : Hidden → List �
     };
     door = λ p e. let is = get-replicate-is passes p doing.Idle doing.Door e in absurd (cc);
     shown = subst (λ (ws : List ℕ). shows h ws [] []) (sym client-is) begins;
-    each_view = λ j v e. let t = only-one first v j e in subst (Knows names h [] [] 1 1 limit (limit + passes + values) size) t.1 know;
+    each_view = λ j v e. let t = only-one first v j e in subst (Knows names h [] [] 1 1 limit cell_count size) t.1 know;
     apart = λ a b v w n e f g k. (only-one first v a e).0 ∙ sym (only-one first w b f).0;
     unnamed = λ n above. refl;
     unused = λ n above below. record { doing = get-replicate passes n doing.Idle below; waits = λ k w. no-wait n k w };
@@ -123,7 +141,8 @@ module _ {E S : Type 0} (names : ℕ → E → Bool) (shows : Hidden → List �
       no-wait n k w =
           subst IsInstalled (ap (λ (x : CoreCell). x.state) (get-replicate-is values k value_cell w.cell w.there)) w.installed
 
-      cell-is : (k : ℕ) → (k < values) ⊎ (values ≤ k) → first_cell values k ≡ word_of k (state_in (slice_get h.queue.cells k)) (h.payloads k)
+      cell-is : (k : ℕ) → (k < values) ⊎ (values ≤ k)
+          → first_cell values k ≡ word_of k (state_in (slice_get h.queue.cells k)) (h.payloads k)
       cell-is k (inl low) = let t = cell-value values k low in t.2 ∙ sym (λ i. word_of k (t.0 i) (t.1 i))
       cell-is k (inr high) = let t = cell-empty values k high in t.2 ∙ sym (λ i. word_of k (t.0 i) (t.1 i))
 
@@ -141,7 +160,10 @@ module _ {E S : Type 0} (names : ℕ → E → Bool) (shows : Hidden → List �
 
       client-is : client_words words ≡ four client
       client-is =
-          let a = o.at 48 (omega arith) in let b = o.at 64 (omega arith) in let c = o.at 80 (omega arith) in let d = o.at 96 (omega arith) in
+          let a = o.at 48 (omega arith) in
+          let b = o.at 64 (omega arith) in
+          let c = o.at 80 (omega arith) in
+          let d = o.at 96 (omega arith) in
           (λ i. a i ∷ b i ∷ c i ∷ d i ∷ [])
 
       stand : Stands h 0 (first_facts held)
@@ -155,9 +177,15 @@ module _ {E S : Type 0} (names : ℕ → E → Bool) (shows : Hidden → List �
         last = tt;
       }
 
-      know : Knows names h [] [] 1 1 limit (limit + passes + values) size first
+      know : Knows names h [] [] 1 1 limit cell_count size first
       know = record {
-        sees = record { seen = ([], refl); other = ([], refl); handed_in = ([], refl); mine = λ n has. refl; theirs = λ n has. refl };
+        sees = record {
+          seen = ([], refl);
+          other = ([], refl);
+          handed_in = ([], refl);
+          mine = λ n has. refl;
+          theirs = λ n has. refl;
+        };
         below = λ n has. only-zero n has;
         light = λ _. refl;
         parted = λ n has other. other;
@@ -187,7 +215,8 @@ opening-push place values client items word is o = record {
   at = λ i below. at-push i (cases_lt i place) below;
 }
   where
-    at-push : (i : ℕ) → (i < place) ⊎ (place ≤ i) → i < place + 1 → slice_index (items ++ word ∷ []) i ≡ first_word values client i
+    at-push : (i : ℕ) → (i < place) ⊎ (place ≤ i) → i < place + 1
+        → slice_index (items ++ word ∷ []) i ≡ first_word values client i
     at-push i (inl low) below = get_or_append_left items (word ∷ []) 0 i (let long = o.long in omega arith) ∙ o.at i low
     at-push i (inr high) below =
         let here : i ≡ place = omega arith in
@@ -216,16 +245,20 @@ config-bounds c good =
     record { some_passes = omega arith; few_passes = b; some_limit = omega arith; low_limit = e }
 
 -- the same by what the code computes of a configuration
-pub opens-by : {E S : Type 0} (names : ℕ → E → Bool) (shows : Hidden → List ℕ → List E → List S → Type 0) (config : Config) (passes values values' size held : ℕ)
-    (words items client : List ℕ) (homes : List (Option S)) → is_config config ≡ true → passes ≡ config.passes → values' ≡ values
-    → words ≡ items → IsOpening (words_for (config.limit + config.passes + values')) values client items → values ≤ 4096
+pub opens-by : {E S : Type 0} (names : ℕ → E → Bool) (shows : Hidden → List ℕ → List E → List S → Type 0)
+    (config : Config) (passes values values' size held : ℕ) (words items client : List ℕ) (homes : List (Option S))
+    → is_config config ≡ true → passes ≡ config.passes → values' ≡ values → words ≡ items
+    → IsOpening (words_for (config.limit + config.passes + values')) values client items → values ≤ 4096
     → ((n : ℕ) → 0 < n → n ≤ 32 → shows (first_hidden n values held) (four client) [] [])
-    → Ruled names shows passes config.limit values size (opening words homes (first_view config.limit (config.limit + passes + values) size held))
-opens-by names shows config passes values values' size held words items client homes good is_passes is_values is_words o few begins =
+    → Ruled names shows passes config.limit values size
+    (opening words homes (first_view config.limit (config.limit + passes + values) size held))
+opens-by names shows config passes values values' size held words items client homes
+    good is_passes is_values is_words o few begins =
     let b = config-bounds config good in
     let any : 0 < passes = let h = b.some_passes in omega arith in
     let low : passes ≤ 32 = let h = b.few_passes in omega arith in
     let count : config.limit + config.passes + values' ≡ config.limit + passes + values = omega arith in
     let whole : IsOpening (words_for (config.limit + passes + values)) values client words =
     subst (λ (t : ℕ × List ℕ). IsOpening (words_for t.0) values client t.1) (λ i. (count i, sym is_words i)) o in
-    opens names shows passes config.limit values size held words client homes whole any low b.some_limit b.low_limit few (begins passes any low)
+    opens names shows passes config.limit values size held words client homes whole any low
+    b.some_limit b.low_limit few (begins passes any low)

@@ -14,7 +14,7 @@ use Rattle.cqs_rule.specs.Hidden.{Hidden, LookEvent, pends, grants, late, QueueS
 use Rattle.std.proofs.lemmas.Option.{same_Some}
 use Rattle.cqs_rule.specs.Lists.{Has, IsDistinct}
 use Rattle.cqs_rule.specs.Ruled.{IsWaitOf, IsInstalled, IsSince, Stands, number_at, rank, DoorMayDraw}
-use Rattle.cqs_rule.specs.Told.{state_before, IsExchange, facts_after, facts_closed}
+use Rattle.cqs_rule.specs.Told.{state_before, state_after, IsExchange, facts_after, facts_closed}
 use Rattle.cqs_rule.proofs.Lists.{get_index, has_append, has_left, has_right, has_without, without_has, distinct_append, distinct_without}
 use Rattle.cqs_rule.proofs.Cells.{changed_else, GoesOn, since-goes_on, drawn-state, reached-state, drawn-wait, drawn-wait_back, reached-wait, reached-wait_back, exchange-doing, exchange-here, exchange-else, exchange-wait, exchange-wait_back, rank-rises, looked-doing, looked-state, looked-wait, looked-wait_back, looked-closed_back, looked-apart}
 use Rattle.cqs_rule.proofs.Grow.{OthersStay}
@@ -79,7 +79,8 @@ pub same-or-not : (m n : ℕ) → (m ≡ n) ⊎ (m ≢ n)
 same-or-not m n = dite (ℕ_discrete m n) (λ e. inl e) (λ a. inr a)
 
 -- a cell other than that of the number keeps its payload
-pub payload-else : (payloads : ℕ → ℕ) (s : QueueStep) (k payload j : ℕ) → j ≢ k → payloads_after payloads s k payload j ≡ payloads j
+pub payload-else : (payloads : ℕ → ℕ) (s : QueueStep) (k payload j : ℕ) → j ≢ k
+    → payloads_after payloads s k payload j ≡ payloads j
 payload-else payloads draws k payload j apart = refl
 payload-else payloads reaches k payload j apart = refl
 payload-else payloads installs k payload j apart = refl
@@ -104,7 +105,8 @@ module _ (gains : ℕ → ℕ) (c : Hidden) (p k payload : ℕ) where
   held-else (looks grants) found n apart = get-set_else c.held p n _ (λ e. apart (sym e))
   held-else (looks late) found n apart = get-set_else c.held p n _ (λ e. apart (sym e))
 
-  pub may-else : (s : QueueStep) (found : Option CoreCell) (n : ℕ) → n ≢ p → slice_get (after s found).may_draw n ≡ slice_get c.may_draw n
+  pub may-else : (s : QueueStep) (found : Option CoreCell) (n : ℕ) → n ≢ p
+      → slice_get (after s found).may_draw n ≡ slice_get c.may_draw n
   may-else draws found n apart = get-set_else c.may_draw p n false (λ e. apart (sym e))
   may-else takes found n apart = refl
   may-else reaches found n apart = refl
@@ -178,10 +180,15 @@ module _ (gains : ℕ → ℕ) (c : Hidden) (p k payload : ℕ) where
 
     pub exchange-goes_on : (j : ℕ) → GoesOn c d j
     exchange-goes_on j = ⊎_elim
-        (λ (q : j ≡ k). inr (subst (λ (t : CoreState × CoreState). rank t.0 < rank t.1)
-        (λ i. (sym (ap (state_at c.queue) q ∙ (ap state_in there ∙ before)) i, sym (ap (state_at d.queue) q ∙ exchange-here gains c p k payload s found e there before) i))
-        (rank-rises s e)))
-        (λ (a : j ≢ k). inl (exchange-else gains c p k payload s found e there before j a, payload-else c.payloads s k payload j a))
+        (λ (q : j ≡ k).
+        let was : state_at c.queue j ≡ state_before s = ap (state_at c.queue) q ∙ (ap state_in there ∙ before) in
+        let is : state_at d.queue j ≡ state_after s =
+        ap (state_at d.queue) q ∙ exchange-here gains c p k payload s found e there before in
+        inr (subst (λ (t : CoreState × CoreState). rank t.0 < rank t.1) (λ i. (sym was i, sym is i)) (rank-rises s e)))
+        (λ (a : j ≢ k). inl (
+          exchange-else gains c p k payload s found e there before j a,
+          payload-else c.payloads s k payload j a,
+        ))
         (same-or-not j k)
 
     pub others-exchanged : (s ≡ installs → found.owner ≡ Some p) → OthersStay c d p
@@ -206,7 +213,8 @@ module _ (gains : ℕ → ℕ) (c : Hidden) (p k payload : ℕ) where
         -- a waiter that was installed is this pass's
         wait-back : (n j : ℕ) → n ≢ p → IsWaitOf d.queue n j → IsWaitOf c.queue n j
         wait-back n j apart w = ⊎_elim (λ old. old)
-            (λ (new : (s ≡ installs) × (j ≡ k) × (found.owner ≡ Some n)). absurd (apart (same_Some n p (sym new.2 ∙ owner new.0))))
+            (λ (new : (s ≡ installs) × (j ≡ k) × (found.owner ≡ Some n)).
+            absurd (apart (same_Some n p (sym new.2 ∙ owner new.0))))
             (exchange-wait_back gains c p k payload s found e there before n j w)
 
     -- what it holds then
@@ -254,7 +262,8 @@ module _ (gains : ℕ → ℕ) (c : Hidden) (p k payload : ℕ) where
     -- the waits of a pass: a new one where it installed a waiter
     waits-self : (t : QueueStep) (n : ℕ) (f : Facts) (j : ℕ) → IsExchange t → Has j (facts_after gains t k n f).waits
         → Has j f.waits ⊎ ((t ≡ installs) × (j ≡ k))
-    waits-self installs n f j x h = ⊎_elim inl (λ q. inr (refl, ⊎_elim (λ z. z) (λ z. absurd z) q)) (has_append j f.waits (k ∷ []) h)
+    waits-self installs n f j x h =
+        ⊎_elim inl (λ q. inr (refl, ⊎_elim (λ z. z) (λ z. absurd z) q)) (has_append j f.waits (k ∷ []) h)
     waits-self draws n f j x h = inl h
     waits-self reaches n f j x h = inl h
     waits-self leaves n f j x h = inl h
@@ -274,7 +283,8 @@ module _ (gains : ℕ → ℕ) (c : Hidden) (p k payload : ℕ) where
     waits-kept (looks y) n f j x h = absurd x
 
     wait-new : (t : QueueStep) (n : ℕ) (f : Facts) (j : ℕ) → t ≡ installs → j ≡ k → Has j (facts_after gains t k n f).waits
-    wait-new t n f j q here = subst (λ z. Has j (facts_after gains z k n f).waits) (sym q) (has_right j f.waits (k ∷ []) (inl here))
+    wait-new t n f j q here =
+        subst (λ z. Has j (facts_after gains z k n f).waits) (sym q) (has_right j f.waits (k ∷ []) (inl here))
 
     once-self : (t : QueueStep) (n : ℕ) (f : Facts) → IsExchange t → IsDistinct f.waits → (t ≡ installs → Has k f.waits → ⊥)
         → IsDistinct (facts_after gains t k n f).waits
@@ -293,7 +303,8 @@ module _ (gains : ℕ → ℕ) (c : Hidden) (p k payload : ℕ) where
         let same : w.cell ≡ found = same_Some w.cell found (sym w.there ∙ there) in
         subst IsInstalled (ap (λ (x : CoreCell). x.state) same ∙ (before ∙ ap state_before q)) w.installed
 
-    pub exchanged-self : (n : ℕ) (f : Facts) → Stands c p f → (s ≡ installs → IsWaitOf d.queue p k) → Stands d p (facts_after gains s k n f)
+    pub exchanged-self : (n : ℕ) (f : Facts) → Stands c p f → (s ≡ installs → IsWaitOf d.queue p k)
+        → Stands d p (facts_after gains s k n f)
     exchanged-self n f is new = record {
       doing = ap (λ (l : List Doing). slice_get l p) (exchange-doing gains c p k payload s found e)
           ∙ (get-set_here c.queue.doing p f.doing doing.Idle is.doing ∙ ap Some (sym (doing-self s n f e)));
@@ -305,8 +316,9 @@ module _ (gains : ℕ → ℕ) (c : Hidden) (p k payload : ℕ) where
           (λ (new : (s ≡ installs) × (j ≡ k) × (found.owner ≡ Some p)). wait-new s n f j new.0 new.1)
           (exchange-wait_back gains c p k payload s found e there before p j w);
       once = once-self s n f e is.once (new-number f is);
-      last = subst (λ (z : Option Glimpse). IsSince (state_at d.queue (number_at (facts_after gains s k n f).doing)) (d.payloads (number_at (facts_after gains s k n f).doing)) z)
-          (sym (last-self s n f)) tt;
+      last =
+          let j : ℕ = number_at (facts_after gains s k n f).doing in
+          subst (λ (z : Option Glimpse). IsSince (state_at d.queue j) (d.payloads j) z) (sym (last-self s n f)) tt;
     }
 
 -- the owner of the wait k loads its cell
@@ -323,7 +335,10 @@ module _ (gains : ℕ → ℕ) (c : Hidden) (p k payload : ℕ) (found : CoreCel
       doing = same-doing n ∙ is.doing;
       held = held-else gains c p k payload (looks e) (Some found) n apart ∙ is.held;
       may_draw = is.may_draw;
-      waits = λ j h. let w = is.waits j h in looked-wait gains c p k payload e found n j (looked-apart gains c p k payload found n j there owner apart w) w;
+      waits = λ j h.
+          let w = is.waits j h in
+          let other : j ≢ k = looked-apart gains c p k payload found n j there owner apart w in
+          looked-wait gains c p k payload e found n j other w;
       all_waits = λ j w. is.all_waits j (looked-wait_back gains c p k payload e found n j there w);
       once = is.once;
       last = let j = number_at facts.doing in
@@ -341,7 +356,9 @@ module _ (gains : ℕ → ℕ) (c : Hidden) (p k payload : ℕ) (found : CoreCel
     held = get-set_here c.held p f.held _ is.held ∙ ap (λ z. Some (gains z)) (get_index c.held p f.held 0 is.held);
     may_draw = is.may_draw;
     waits = λ j h. let t = has_without j k f.waits h in looked-wait gains c p k payload grants found p j t.0 (is.waits j t.1);
-    all_waits = λ j w. let t = looked-closed_back gains c p k payload found p j there w in without_has j k f.waits t.0 (is.all_waits j t.1);
+    all_waits = λ j w.
+        let t = looked-closed_back gains c p k payload found p j there w in
+        without_has j k f.waits t.0 (is.all_waits j t.1);
     once = distinct_without k f.waits is.once;
     last = tt;
   }
@@ -361,7 +378,8 @@ module _ (gains : ℕ → ℕ) (c : Hidden) (p k payload : ℕ) (found : CoreCel
   looked-self late n f idle is = closed-self n f idle is
 
 -- a pass that isn't at the door leaves those that are
-pub door-keeps : (c d : Hidden) (p : ℕ) → DoorMayDraw c → ((n : ℕ) → n ≢ p → slice_get d.queue.doing n ≡ slice_get c.queue.doing n)
+pub door-keeps : (c d : Hidden) (p : ℕ) → DoorMayDraw c
+    → ((n : ℕ) → n ≢ p → slice_get d.queue.doing n ≡ slice_get c.queue.doing n)
     → ((n : ℕ) → n ≢ p → slice_get d.may_draw n ≡ slice_get c.may_draw n)
     → (slice_get d.queue.doing p ≡ Some doing.Door → slice_get d.may_draw p ≡ Some true) → DoorMayDraw d
 door-keeps c d p door doings may self n at = ⊎_elim

@@ -1,4 +1,5 @@
--- What a semaphore's acquire, try and release owe for their steps on the state: each is an event of the core, by the law of the core.
+-- What a semaphore's acquire, try and release owe for their steps on the state: each is an event of the core, by the law of
+-- the core.
 use Rattle.std.proofs.Common.{◌≡◌, ◌≢◌, ℕ, ◌+◌, ◌-◌, ◌<◌, ◌≤◌, ◌^◌, Bool, true, false, List, [], ◌∷◌, ◌++◌, length, set, refl, ap, sym, ◌∙◌, subst, inr, ⊎_elim, arith, Some, slice_get, slice_index, slice_set, get_or, nat_lt, lt-ltb, le-ltb, ne_eqb, ◌==◌, ℤ, pos, negsuc, ◌-ℤ◌, ◌+ℤ◌, ◌<ℤ◌, int_lt, int_le, filter, if◌then◌else◌}
 use Rattle.std.proofs.lemmas.Bool.{cases_lt, cases_eq, cases_Bool, eq-eqb}
 use Rattle.std.proofs.lemmas.Bool.Decides.{Decides-int_eq}
@@ -91,7 +92,8 @@ written [] x some = absurd (omega arith)
 written (w ∷ words) x some = refl
 
 module _ (permits p : ℕ) (facts : Facts) (c : Hidden) (words : List ℕ) (log : List Entry)
-    (core : IsCore (core_shown permits c words log)) (does : slice_get c.queue.doing p ≡ Some facts.doing) (holds : slice_get c.held p ≡ Some facts.held)
+    (core : IsCore (core_shown permits c words log))
+    (does : slice_get c.queue.doing p ≡ Some facts.doing) (holds : slice_get c.held p ≡ Some facts.held)
     (suspends : c.queue.suspends < 4194304) (resumes : c.queue.resumes < 4194304) where
   abbrev s : Shape
   s = core_shown permits c words log
@@ -143,27 +145,32 @@ module _ (permits p : ℕ) (facts : Facts) (c : Hidden) (words : List ℕ) (log 
       let some = word-above n above in
       written words (added (negsuc 0) n) (some-word words (omega arith)) ∙ omega arith
 
-  raised : slice_index words 0 < 2 ^ 64 → n < 4294967296 + 4294967296 → slice_index (slice_set words 0 (added (pos 1) n)) 0 ≡ n + 1
+  raised : slice_index words 0 < 2 ^ 64 → n < 4294967296 + 4294967296
+      → slice_index (slice_set words 0 (added (pos 1) n)) 0 ≡ n + 1
   raised small low =
       let some = word-above n above in
       written words (added (pos 1) n) (some-word words (omega arith)) ∙ omega arith
 
   abbrev TakesTo : Bool → Type 0
-  TakesTo b = IsCore (core_shown permits (stands_at c p (if b then doing.Idle else doing.Door) (if b then facts.held + 1 else facts.held)) (slice_set words 0 (added (negsuc 0) n))
+  TakesTo b = IsCore (core_shown permits
+      (stands_at c p (if b then doing.Idle else doing.Door) (if b then facts.held + 1 else facts.held))
+      (slice_set words 0 (added (negsuc 0) n))
       (log ++ (if b then entry.TakeNow p ∷ [] else entry.TakeDoor p ∷ [])))
 
   pub take-core : facts.doing ≡ doing.Idle → slice_index words 0 < 2 ^ 64 → TakesTo (is_free n)
   take-core idle small = ⊎_elim
       (λ (free : 4294967296 < n).
       subst TakesTo (sym (lt-ltb 4294967296 n free))
-      (by-row (event.Take p) (log ++ entry.TakeNow p ∷ []) outcome.Now (state_in_word n -ℤ pos 1) _ (set c.held p (get_or c.held p 0 + 1)) _ c.queue.doing _
+      (by-row (event.Take p) (log ++ entry.TakeNow p ∷ []) outcome.Now (state_in_word n -ℤ pos 1) _
+      (set c.held p (get_or c.held p 0 + 1)) _ c.queue.doing _
       (rw (is-at doing.Idle idle, above-lowest (state_in_word n) above, state-free n free) refl)
       (sym (state-less n (omega arith)) ∙ ap state_in_word (sym (lowered small)))
       (ap (λ z. set c.held p (z + 1)) held-is)
       (sym (set-same c.queue.doing p doing.Idle (is-at doing.Idle idle)))))
       (λ (none : n ≤ 4294967296).
       subst TakesTo (sym (le-ltb 4294967296 n none))
-      (by-row (event.Take p) (log ++ entry.TakeDoor p ∷ []) outcome.Door (state_in_word n -ℤ pos 1) _ c.held _ (set c.queue.doing p doing.Door) _
+      (by-row (event.Take p) (log ++ entry.TakeDoor p ∷ []) outcome.Door (state_in_word n -ℤ pos 1) _
+      c.held _ (set c.queue.doing p doing.Door) _
       (rw (is-at doing.Idle idle, above-lowest (state_in_word n) above, state-none n none) refl)
       (sym (state-less n (let some = word-above n above in omega arith)) ∙ ap state_in_word (sym (lowered small)))
       (sym (set-same c.held p facts.held holds))
@@ -221,7 +228,9 @@ module _ (permits p : ℕ) (facts : Facts) (c : Hidden) (words : List ℕ) (log 
       (cases_eq n saw)
 
   abbrev GivesTo : Bool → Type 0
-  GivesTo b = IsCore (core_shown permits (stands_at c p (if b then doing.Owes else doing.Idle) (facts.held - 1)) (slice_set words 0 (added (pos 1) n))
+  GivesTo b = IsCore (core_shown permits
+      (stands_at c p (if b then doing.Owes else doing.Idle) (facts.held - 1))
+      (slice_set words 0 (added (pos 1) n))
       (log ++ (if b then entry.GiveSent p ∷ [] else entry.GiveFreed p ∷ [])))
 
   pub give-core : facts.doing ≡ doing.Idle → 0 < facts.held → slice_index words 0 < 2 ^ 64 → n < 4294967296 + 4294967296
@@ -231,14 +240,16 @@ module _ (permits p : ℕ) (facts : Facts) (c : Hidden) (words : List ℕ) (log 
       ⊎_elim
       (λ (short : n < 4294967296).
       subst GivesTo (sym (lt-ltb n 4294967296 short))
-      (by-row (event.Give p) (log ++ entry.GiveSent p ∷ []) outcome.Owes (state_in_word n +ℤ pos 1) _ (set c.held p (get_or c.held p 0 - 1)) _ (set c.queue.doing p doing.Owes) _
+      (by-row (event.Give p) (log ++ entry.GiveSent p ∷ []) outcome.Owes (state_in_word n +ℤ pos 1) _
+      (set c.held p (get_or c.held p 0 - 1)) _ (set c.queue.doing p doing.Owes) _
       (rw (is-at doing.Idle idle, has, state-short n short) refl)
       (sym (state-more n) ∙ ap state_in_word (sym (raised small low)))
       (ap (λ z. set c.held p (z - 1)) held-is)
       refl))
       (λ (enough : 4294967296 ≤ n).
       subst GivesTo (sym (le-ltb n 4294967296 enough))
-      (by-row (event.Give p) (log ++ entry.GiveFreed p ∷ []) outcome.Freed (state_in_word n +ℤ pos 1) _ (set c.held p (get_or c.held p 0 - 1)) _ c.queue.doing _
+      (by-row (event.Give p) (log ++ entry.GiveFreed p ∷ []) outcome.Freed (state_in_word n +ℤ pos 1) _
+      (set c.held p (get_or c.held p 0 - 1)) _ c.queue.doing _
       (rw (is-at doing.Idle idle, has, state-enough n enough) refl)
       (sym (state-more n) ∙ ap state_in_word (sym (raised small low)))
       (ap (λ z. set c.held p (z - 1)) held-is)
@@ -285,7 +296,8 @@ try-swap-silent p d n m apart = by (is_as_loaded d n)
 
 -- an idle pass that may draw may acquire: it takes one from the state
 pub take-moves : {T : Type 0} (permits p : ℕ) (facts : Facts) → facts.doing ≡ doing.Idle → facts.may_draw ≡ true
-    → Moves {S = T} entry_names (shows_core {T = T} permits) take_entries take_after take_holds in_any_case p facts 0 (added (negsuc 0))
+    → Moves {S = T} entry_names (shows_core {T = T} permits) take_entries take_after take_holds in_any_case
+    p facts 0 (added (negsuc 0))
 take-moves permits p facts idle may = record {
   step = λ c words log handed core does holds suspends resumes small.
       take-core permits p facts c words log core does holds suspends resumes idle small;
@@ -328,7 +340,8 @@ try-swap-moves permits p facts saw at = record {
 
 -- an idle pass that holds a permit may release it: it adds one to the state
 pub give-moves : {T : Type 0} (permits p : ℕ) (facts : Facts) → facts.doing ≡ doing.Idle → 0 < facts.held
-    → Moves {S = T} entry_names (shows_core {T = T} permits) give_entries give_after give_holds in_any_case p facts 0 (added (pos 1))
+    → Moves {S = T} entry_names (shows_core {T = T} permits) give_entries give_after give_holds in_any_case
+    p facts 0 (added (pos 1))
 give-moves permits p facts idle some = record {
   step = λ c words log handed core does holds suspends resumes small.
       give-core permits p facts c words log core does holds suspends resumes idle some small

@@ -57,7 +57,8 @@ module _ {E S : Type 0} (names : ℕ → E → Bool) (legal : ℕ → List E →
   abbrev pub Steps : State (Option S) (View E S) → ℕ → Me (Option S) (View E S) → ℕ → ℕ → List E → Facts → View E S → Type 0
   Steps s id me i x es facts w = R (stepped s i x id me.1 w keeps) × Saw names legal me.0 facts es w
 
-  pub steps : (s : State (Option S) (View E S)) (r : R s) (id : ℕ) (me : Me (Option S) (View E S)) (i x : ℕ) (d : Hidden) (es : List E) (facts : Facts)
+  pub steps : (s : State (Option S) (View E S)) (r : R s) (id : ℕ) (me : Me (Option S) (View E S)) (i x : ℕ)
+      (d : Hidden) (es : List E) (facts : Facts)
       → get_elem? s.views id ≡ some me.0 → me.0.weight ≡ 1 → Turned names shows passes limit values size s r me.0 i x d es facts
       → Steps s id me i x es facts (grown me.0 facts (r.log ++ es) r.handed)
   steps s r id me i x d es facts here one t =
@@ -67,7 +68,8 @@ module _ {E S : Type 0} (names : ℕ → E → Bool) (legal : ℕ → List E →
         saw names shows passes limit values size legal s r id me.0 es facts here one
             (client.legal_shown d words log r.handed t.shown)
             (client.held_fits d words log r.handed me.0.number facts.held t.shown t.self.held)
-            (inside-of passes limit values d me.0.number facts.doing t.room (client.sound d words log r.handed t.shown) t.self.doing)
+            (inside-of passes limit values d me.0.number facts.doing t.room
+            (client.sound d words log r.handed t.shown) t.self.doing)
             (λ n h. let drawn = (t.self.waits n h).drawn in let g = t.room.ground in omega arith)
             t.self.once
             t.payload_fits,

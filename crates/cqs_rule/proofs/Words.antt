@@ -42,12 +42,16 @@ idle-else words i x apart idle = record { none = λ j is. other-word words i j x
 
 pub client-below : (words : List ℕ) (i x : ℕ) → i < client_place 0 → client_words (slice_set words i x) ≡ client_words words
 client-below words i x low = λ j.
-    other-word words i 48 x (λ e. omega arith) j ∷ other-word words i 64 x (λ e. omega arith) j ∷ other-word words i 80 x (λ e. omega arith) j
+    other-word words i 48 x (λ e. omega arith) j
+    ∷ other-word words i 64 x (λ e. omega arith) j
+    ∷ other-word words i 80 x (λ e. omega arith) j
     ∷ other-word words i 96 x (λ e. omega arith) j ∷ []
 
 pub client-above : (words : List ℕ) (i x : ℕ) → client_place 3 < i → client_words (slice_set words i x) ≡ client_words words
 client-above words i x high = λ j.
-    other-word words i 48 x (λ e. omega arith) j ∷ other-word words i 64 x (λ e. omega arith) j ∷ other-word words i 80 x (λ e. omega arith) j
+    other-word words i 48 x (λ e. omega arith) j
+    ∷ other-word words i 64 x (λ e. omega arith) j
+    ∷ other-word words i 80 x (λ e. omega arith) j
     ∷ other-word words i 96 x (λ e. omega arith) j ∷ []
 
 pub client-at : (words : List ℕ) (i : ℕ) → i < 4 → slice_index (client_words words) i ≡ slice_index words (client_place i)
@@ -60,15 +64,23 @@ client-at words (suc (suc (suc (suc i)))) low = absurd (omega arith)
 pub client-set : (words : List ℕ) (i x : ℕ) → i < 4 → ((j : ℕ) → j < 4 → client_place j < length words)
     → client_words (slice_set words (client_place i) x) ≡ slice_set (client_words words) i x
 client-set words zero x low long = λ j.
-    this-word words 48 x (long 0 (omega arith)) j ∷ other-word words 48 64 x (λ e. omega arith) j ∷ other-word words 48 80 x (λ e. omega arith) j
+    this-word words 48 x (long 0 (omega arith)) j
+    ∷ other-word words 48 64 x (λ e. omega arith) j
+    ∷ other-word words 48 80 x (λ e. omega arith) j
     ∷ other-word words 48 96 x (λ e. omega arith) j ∷ []
 client-set words (suc zero) x low long = λ j.
-    other-word words 64 48 x (λ e. omega arith) j ∷ this-word words 64 x (long 1 (omega arith)) j ∷ other-word words 64 80 x (λ e. omega arith) j
+    other-word words 64 48 x (λ e. omega arith) j
+    ∷ this-word words 64 x (long 1 (omega arith)) j
+    ∷ other-word words 64 80 x (λ e. omega arith) j
     ∷ other-word words 64 96 x (λ e. omega arith) j ∷ []
 client-set words (suc (suc zero)) x low long = λ j.
-    other-word words 80 48 x (λ e. omega arith) j ∷ other-word words 80 64 x (λ e. omega arith) j ∷ this-word words 80 x (long 2 (omega arith)) j
+    other-word words 80 48 x (λ e. omega arith) j
+    ∷ other-word words 80 64 x (λ e. omega arith) j
+    ∷ this-word words 80 x (long 2 (omega arith)) j
     ∷ other-word words 80 96 x (λ e. omega arith) j ∷ []
 client-set words (suc (suc (suc zero))) x low long = λ j.
-    other-word words 96 48 x (λ e. omega arith) j ∷ other-word words 96 64 x (λ e. omega arith) j ∷ other-word words 96 80 x (λ e. omega arith) j
+    other-word words 96 48 x (λ e. omega arith) j
+    ∷ other-word words 96 64 x (λ e. omega arith) j
+    ∷ other-word words 96 80 x (λ e. omega arith) j
     ∷ this-word words 96 x (long 3 (omega arith)) j ∷ []
 client-set words (suc (suc (suc (suc i)))) x low long = absurd (omega arith)

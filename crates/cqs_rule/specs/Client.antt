@@ -19,7 +19,8 @@ module _ {E S : Type 0} (names : ℕ → E → Bool) (legal : List E → Type 0)
     -- its words as they open go with a queue as it opens
     pub begins : (passes : ℕ) → 0 < passes → passes ≤ 32 → shows (first_hidden passes values held) (four opened) [] []
     -- each step of the queue that is open there appends its entries
-    pub steps : (c : Hidden) (s : QueueStep) (p k : ℕ) (found : Option CoreCell) (payload : ℕ) (words : List ℕ) (log : List E) (handed : List S)
+    pub steps : (c : Hidden) (s : QueueStep) (p k : ℕ) (found : Option CoreCell) (payload : ℕ)
+        (words : List ℕ) (log : List E) (handed : List S)
         → shows c words log handed → IsOpenStep c.queue s p k found → c.queue.suspends < no_number → c.queue.resumes < no_number
         → shows (happened gains c s p k found payload) words (log ++ entries s p k) handed
     -- who may draw is no part of what it shows
@@ -33,8 +34,8 @@ module _ {E S : Type 0} (names : ℕ → E → Bool) (legal : List E → Type 0)
     -- what a pass holds fits 32 bits
     pub held_fits : (c : Hidden) (words : List ℕ) (log : List E) (handed : List S) (p n : ℕ)
         → shows c words log handed → slice_get c.held p ≡ Some n → n < 2 ^ 32
-    -- where a resumption is owed, fewer numbers were drawn to resume at than were drawn to suspend at, wait at the door, or opened
-    -- with a value
+    -- where a resumption is owed, fewer numbers were drawn to resume at than were drawn to suspend at, wait at the door, or
+    -- opened with a value
     pub reaches_few : (c : Hidden) (words : List ℕ) (log : List E) (handed : List S) (p : ℕ)
         → shows c words log handed → slice_get c.queue.doing p ≡ Some doing.Owes
         → c.queue.resumes < c.queue.suspends + length (door c.queue) + values

@@ -111,7 +111,12 @@ happened gains c s p k found payload = record {
 -- a pass is now at this, and holds this much
 abbrev pub stands_at : Hidden → ℕ → Doing → ℕ → Hidden
 stands_at c p d held = record {
-  queue = record { suspends = c.queue.suspends; resumes = c.queue.resumes; cells = c.queue.cells; doing = slice_set c.queue.doing p d };
+  queue = record {
+    suspends = c.queue.suspends;
+    resumes = c.queue.resumes;
+    cells = c.queue.cells;
+    doing = slice_set c.queue.doing p d;
+  };
   held = slice_set c.held p held;
   may_draw = c.may_draw;
   payloads = c.payloads;

@@ -15,6 +15,7 @@ pub mod SemaphoreSteps
 pub mod SemaphoreClient
 pub mod SemaphorePermits
 pub mod Passes
+pub mod Steps
 pub mod Placed
 pub mod Waits
 pub mod Owed

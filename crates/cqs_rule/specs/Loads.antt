@@ -83,7 +83,8 @@ module _ {E : Type 0} (entries : QueueStep → ℕ → ℕ → List E) where
   look_entries None p k = []
   look_entries (Some e) p k = entries (looks e) p k
 
-module _ {E S : Type 0} (names : ℕ → E → Bool) (legal : ℕ → List E → Type 0) (gains : ℕ → ℕ) (entries : QueueStep → ℕ → ℕ → List E) where
+module _ {E S : Type 0} (names : ℕ → E → Bool) (legal : ℕ → List E → Type 0)
+    (gains : ℕ → ℕ) (entries : QueueStep → ℕ → ℕ → List E) where
   -- a load of the cell of the number k found the word n
   pub record Looked (load : LoadStep) (k : ℕ) (v : View E S) (n : ℕ) (w : View E S) : Type 0 where
     pub glimpse : Glimpse

@@ -172,7 +172,8 @@ module _ {E S : Type 0} (names : ℕ → E → Bool) where
     pub payload_fits : v.facts.payload < 2 ^ 20
 
   -- The rule. `shows` is the client's: its words, the history and the values handed in go with what is hidden.
-  pub record Ruled (shows : Hidden → List ℕ → List E → List S → Type 0) (passes limit values size : ℕ) (s : State (Option S) (View E S)) : Type 0 where
+  pub record Ruled (shows : Hidden → List ℕ → List E → List S → Type 0) (passes limit values size : ℕ)
+      (s : State (Option S) (View E S)) : Type 0 where
     pub hidden : Hidden
     pub log : List E
     pub handed : List S
@@ -186,7 +187,8 @@ module _ {E S : Type 0} (names : ℕ → E → Bool) where
     pub room : HasRoom passes limit values hidden
     pub door : DoorMayDraw hidden
     pub shown : shows hidden (client_words s.words) log handed
-    pub each_view : (j : ℕ) (v : View E S) → get_elem? s.views j ≡ some v → Knows hidden log handed made live limit (limit + passes + values) size v
+    pub each_view : (j : ℕ) (v : View E S) → get_elem? s.views j ≡ some v
+        → Knows hidden log handed made live limit (limit + passes + values) size v
     pub apart : Apart s.views
     pub unnamed : (n : ℕ) → made ≤ n → part names n log ≡ []
     pub unused : (n : ℕ) → made ≤ n → n < passes → IsUnused hidden n

@@ -64,8 +64,10 @@ facts_closed gains k n f =
 abbrev pub facts_after : (ℕ → ℕ) → QueueStep → ℕ → ℕ → Facts → Facts
 facts_after gains draws k n f = record f { doing = doing.Drawn k; may_draw = false; last = None }
 facts_after gains reaches k n f = record f { doing = doing.Ticket k; last = None; found = f.found ++ Resumes n ∷ [] }
-facts_after gains installs k n f = record f { doing = doing.Idle; last = None; waits = f.waits ++ k ∷ []; found = f.found ++ Cell k n ∷ [] }
-facts_after gains takes k n f = record f { doing = doing.Idle; last = None; held = gains f.held; found = f.found ++ Cell k n ∷ [] }
+facts_after gains installs k n f =
+    record f { doing = doing.Idle; last = None; waits = f.waits ++ k ∷ []; found = f.found ++ Cell k n ∷ [] }
+facts_after gains takes k n f =
+    record f { doing = doing.Idle; last = None; held = gains f.held; found = f.found ++ Cell k n ∷ [] }
 facts_after gains (looks grants) k n f = facts_closed gains k n f
 facts_after gains (looks late) k n f = facts_closed gains k n f
 facts_after gains _ k n f = record f { doing = doing.Idle; last = None; found = f.found ++ Cell k n ∷ [] }
@@ -170,19 +172,24 @@ module _ {E : Type 0} (names : ℕ → E → Bool) (legal : ℕ → List E → T
       pub inside : IsInside w
 
     -- an exchange on the cell of the pass's number: it was made, or the cell was found otherwise
-    pub record Crossed (gains : ℕ → ℕ) (entries : QueueStep → ℕ → ℕ → List E) (s : QueueStep) (expected : ℕ) (v : View E S) (n : ℕ) (w : View E S) : Type 0 where
+    pub record Crossed (gains : ℕ → ℕ) (entries : QueueStep → ℕ → ℕ → List E) (s : QueueStep) (expected : ℕ)
+        (v : View E S) (n : ℕ) (w : View E S) : Type 0 where
       pub found : Glimpse
       pub cell : FoundCell (number_at v.facts.doing) n found
       pub may : MayFind s found.state
       pub since : IsSince found.state found.payload v.facts.last
-      pub made : n ≡ expected → Saw v (facts_after gains s (number_at v.facts.doing) n v.facts) (entries s v.number (number_at v.facts.doing)) w
+      pub made : n ≡ expected
+          → Saw v (facts_after gains s (number_at v.facts.doing) n v.facts) (entries s v.number (number_at v.facts.doing)) w
       pub missed : n ≢ expected → Saw v (facts_missed (number_at v.facts.doing) n found v.facts) [] w
 
     -- a number was drawn from a counter
-    abbrev pub drew : (ℕ → ℕ) → (QueueStep → ℕ → ℕ → List E) → QueueStep → Step (Option S) → Me (Option S) (View E S) → ℕ → Me (Option S) (View E S) → Type 0
-    drew gains entries s st me n me' = Saw me.0 (facts_after gains s n n me.0.facts) (entries s me.0.number n) me'.0 × (me'.1 ≡ me.1)
+    abbrev pub drew : (ℕ → ℕ) → (QueueStep → ℕ → ℕ → List E) → QueueStep
+        → Step (Option S) → Me (Option S) (View E S) → ℕ → Me (Option S) (View E S) → Type 0
+    drew gains entries s st me n me' =
+        Saw me.0 (facts_after gains s n n me.0.facts) (entries s me.0.number n) me'.0 × (me'.1 ≡ me.1)
 
-    abbrev pub crossed : (ℕ → ℕ) → (QueueStep → ℕ → ℕ → List E) → QueueStep → Step (Option S) → Me (Option S) (View E S) → ℕ → Me (Option S) (View E S) → Type 0
+    abbrev pub crossed : (ℕ → ℕ) → (QueueStep → ℕ → ℕ → List E) → QueueStep
+        → Step (Option S) → Me (Option S) (View E S) → ℕ → Me (Option S) (View E S) → Type 0
     crossed gains entries s st me n me' = Crossed gains entries s st.first me.0 n me'.0 × (me'.1 ≡ me.1)
 
     module _ (entries : ℕ → Doing → ℕ → List E) (after : Doing → ℕ → Doing) (holds : Bool → ℕ → ℕ → ℕ)
@@ -213,6 +220,10 @@ added by n = (n + raise by) % 2 ^ 64
 abbrev pub exchanged : ℕ → ℕ → ℕ → ℕ
 exchanged saw new n = either (where_found saw n) new n
 
+-- a pass that was at these facts, after a step on a client's word that found n
+abbrev pub stands_then : (Doing → ℕ → Doing) → (Bool → ℕ → ℕ → ℕ) → (ℕ → Bool) → Hidden → ℕ → Facts → ℕ → Hidden
+stands_then after holds made c p facts n = stands_at c p (after facts.doing n) (holds (made n) facts.held n)
+
 -- What a client owes for a step on its word i, by which n becomes f n: wherever the pass is at these facts, the client's words,
 -- the entries and the pass's next facts go together again. A step that brings the pass to the door needs that it may draw, unless
 -- it is there already.
@@ -220,10 +231,10 @@ pub record Moves {E S : Type 0} (names : ℕ → E → Bool) (shows : Hidden →
     (entries : ℕ → Doing → ℕ → List E) (after : Doing → ℕ → Doing) (holds : Bool → ℕ → ℕ → ℕ) (made : ℕ → Bool)
     (p : ℕ) (facts : Facts) (i : ℕ) (f : ℕ → ℕ) : Type 0 where
   pub step : (c : Hidden) (words : List ℕ) (log : List E) (handed : List S) → shows c words log handed
-      → slice_get c.queue.doing p ≡ Some facts.doing → slice_get c.held p ≡ Some facts.held → c.queue.suspends < 4194304 → c.queue.resumes < 4194304
-      → slice_index words i < 2 ^ 64
-      → shows (stands_at c p (after facts.doing (slice_index words i)) (holds (made (slice_index words i)) facts.held (slice_index words i)))
-      (slice_set words i (f (slice_index words i))) (log ++ entries p facts.doing (slice_index words i)) handed
+      → slice_get c.queue.doing p ≡ Some facts.doing → slice_get c.held p ≡ Some facts.held
+      → c.queue.suspends < 4194304 → c.queue.resumes < 4194304 → slice_index words i < 2 ^ 64
+      → shows (stands_then after holds made c p facts (slice_index words i)) (slice_set words i (f (slice_index words i)))
+      (log ++ entries p facts.doing (slice_index words i)) handed
   pub silent : (n : ℕ) → NamesOnly names p (entries p facts.doing n)
   pub door : (n : ℕ) → after facts.doing n ≡ doing.Door → (facts.doing ≡ doing.Door) ⊎ (facts.may_draw ≡ true)
 
@@ -234,13 +245,15 @@ module _ {E S : Type 0} where
     pub cell : FoundCell k word g
     pub found : w.facts.found ≡ v.facts.found ++ (since ++ Cell k word ∷ [])
 
-module _ {E S : Type 0} (names : ℕ → E → Bool) (legal : ℕ → List E → Type 0) (gains : ℕ → ℕ) (entries : QueueStep → ℕ → ℕ → List E) where
-  -- An exchange on the cell of the pass's number was made, the only step: the cell was found in the state that the step wants, with
-  -- this payload, and the word `new` was written, which has the payload that the pass owed.
+module _ {E S : Type 0} (names : ℕ → E → Bool) (legal : ℕ → List E → Type 0)
+    (gains : ℕ → ℕ) (entries : QueueStep → ℕ → ℕ → List E) where
+  -- An exchange on the cell of the pass's number was made, the only step: the cell was found in the state that the step wants,
+  -- with this payload, and the word `new` was written, which has the payload that the pass owed.
   pub record Made (s : QueueStep) (payload new : ℕ) (v w : View E S) : Type 0 where
     pub found : FoundLast [] (number_at v.facts.doing) (record { state = state_before s; payload = payload }) v w
     pub wrote : new ≡ word_of (number_at v.facts.doing) (state_after s) (payload_made s v.facts.payload)
-    pub saw : Saw names legal v (facts_after gains s (number_at v.facts.doing) found.word v.facts) (entries s v.number (number_at v.facts.doing)) w
+    pub saw : Saw names legal v (facts_after gains s (number_at v.facts.doing) found.word v.facts)
+        (entries s v.number (number_at v.facts.doing)) w
 
   -- it wasn't, since the cell was found in this state
   pub record Missed (s : QueueStep) (v : View E S) (found : CellState) (w : View E S) : Type 0 where

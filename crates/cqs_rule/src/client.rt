@@ -71,7 +71,8 @@ pub trait ClientWords: Sized + Drop {
         requires { gains held < 2 ^ 32 }
         ensures { result ≡ gains held };
 
-    ghost keeps: { (x : Self) → IsClient names (legal (size x)) (shows x) entries gains (opened x) (first_values x) (first_held x) };
+    ghost keeps: { (x : Self)
+        → IsClient names (legal (size x)) (shows x) entries gains (opened x) (first_values x) (first_held x) };
 }
 
 /// A primitive, with what the queue calls back.
@@ -89,8 +90,8 @@ pub trait Shown<C: ClientWords> {
     // What the pass is doing then.
     ghost after: { Doing → ℕ → Doing };
 
-    // What it holds then: by whether the word was changed as the step means to, what the pass held, and the word found. An exchange
-    // that finds another word changes nothing; every other step is made in any case.
+    // What it holds then: by whether the word was changed as the step means to, what the pass held, and the word found. An
+    // exchange that finds another word changes nothing; every other step is made in any case.
     ghost holds: { Bool → ℕ → ℕ → ℕ };
 
     // The payload that it owes then, if it owes, by the one before.

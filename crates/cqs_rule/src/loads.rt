@@ -61,8 +61,8 @@ impl Load for Polls {
     }
 }
 
-/// The cell of a wait, by its owner who is about to cancel it: it was served, so it is too late; where the wait still stands, this is
-/// no event.
+/// The cell of a wait, by its owner who is about to cancel it: it was served, so it is too late; where the wait still stands,
+/// this is no event.
 pub struct Cancels;
 
 impl Load for Cancels {

@@ -23,7 +23,9 @@ impl<C: ClientWords> TableRule<Option<C::Slot>, View<C::Entry, C::Slot>, Key<C>>
     ghost use Rattle.cqs_rule.specs.Ruled.{Ruled};
     ghost use Rattle.cqs_rule.specs.Views.{first_view};
 
-    ghost holds = { λ key. Ruled C.names (C.shows key.client) key.passes key.limit (C.first_values key.client) (C.size key.client) };
+    ghost holds = { λ key. Ruled C.names (C.shows key.client) key.passes key.limit
+        (C.first_values key.client) (C.size key.client) };
 
-    ghost first = { λ key. first_view key.limit (key.limit + key.passes + C.first_values key.client) (C.size key.client) (C.first_held key.client) };
+    ghost first = { λ key. first_view key.limit (key.limit + key.passes + C.first_values key.client)
+        (C.size key.client) (C.first_held key.client) };
 }

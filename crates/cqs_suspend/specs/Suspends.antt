@@ -12,7 +12,8 @@ use Rattle.cqs_rule.specs.Waits.{place_of, pass_of}
 use Rattle.cqs_suspend.specs.declared.suspending.Suspended.{Suspended}
 use Rattle.cqs_suspend.specs.declared.suspending.Suspended.TheVariants.{Waits, Took}
 
-module _ {E S : Type 0} (names : ℕ → E → Bool) (legal : ℕ → List E → Type 0) (gains : ℕ → ℕ) (entries : QueueStep → ℕ → ℕ → List E) where
+module _ {E S : Type 0} (names : ℕ → E → Bool) (legal : ℕ → List E → Type 0)
+    (gains : ℕ → ℕ) (entries : QueueStep → ℕ → ℕ → List E) where
   -- The cell of the number was found empty, at the only exchange: the pass waits under it, and holds what it held.
   pub record Waited (k : ℕ) (v w : View E S) : Type 0 where
     pub called : Called names legal v (entries draws v.number k ++ entries installs v.number k) (entries installs v.number k) w

@@ -104,7 +104,9 @@ impl<C: ClientWords> Queue<C> {
         ensures client { IfOk result (λ made. (client_of made.0 ≡ client) × (passes_of made.0 ≡ config.passes)) }
         ensures mode { IfOk result (λ made. (limit_of made.0 ≡ config.limit) × (mode_of made.0 ≡ mode)) }
         ensures belongs { IfOk result (λ made. IsOf made.0 made.1) }
-        ensures pass { IfOk result (λ made. pass_view made.1 ≡ first_view config.limit (config.limit + config.passes + C.first_values client) (C.size client) (C.first_held client)) }
+        ensures pass { IfOk result (λ made. pass_view made.1
+            ≡ first_view config.limit (config.limit + config.passes + C.first_values client)
+            (C.size client) (C.first_held client)) }
     {
         if !config.is_in_range() {
             return Err(MakeError::BadConfig);

@@ -2,7 +2,8 @@
 
 ghost use Rattle.cqs_rule.specs.Loads.{MayLoad, Loaded};
 ghost use Rattle.cqs_rule.specs.Passes.{pass_view, IsOf};
-ghost use Rattle.cqs_rule.specs.Told.{Saw, Crossed, IsCrossing, IsCount, facts_after};
+ghost use Rattle.cqs_rule.specs.Steps.{HasDrawn};
+ghost use Rattle.cqs_rule.specs.Told.{Crossed, IsCrossing, IsCount};
 
 use crate::client::ClientWords;
 use crate::kinds::Kind;
@@ -11,8 +12,8 @@ use crate::plays::{Cross, Draw, Loading};
 use crate::queue::{Pass, Queue};
 
 impl<C: ClientWords> Queue<C> {
-    /// Loads the suspend counter or a cell. A pass that finds the counter below the limit may draw, and the owner of a wait learns
-    /// in its cell what became of it.
+    /// Loads the suspend counter or a cell. A pass that finds the counter below the limit may draw, and the owner of a wait
+    /// learns in its cell what became of it.
     pub fn load_table<L: Load>(&self, pass: &mut Pass<C>, word: u32) -> u64
         requires belongs { IsOf self.now pass.old }
         requires load { MayLoad L.load (pass_view pass.old) word }
@@ -35,7 +36,7 @@ impl<C: ClientWords> Queue<C> {
         requires belongs { IsOf self.now pass.old }
         requires count { IsCount K.step (pass_view pass.old).facts word by }
         ensures belongs { IsOf self.now pass.new }
-        ensures saw { Saw C.names C.legal (pass_view pass.old) (facts_after C.gains K.step result result (pass_view pass.old).facts) (C.entries K.step (pass_view pass.old).number result) (pass_view pass.new) }
+        ensures saw { HasDrawn K.step result pass.old pass.new }
     {
         let found = self
             .table

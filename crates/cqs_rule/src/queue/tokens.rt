@@ -38,8 +38,8 @@ pub struct Under {
 }
 
 impl Under {
-    /// The last number that was drawn for the resumption, or 0 where none was. A loop that goes on with a resumption until it ends
-    /// can be measured by it.
+    /// The last number that was drawn for the resumption, or 0 where none was. A loop that goes on with a resumption until it
+    /// ends can be measured by it.
     pub fn reached(&self) -> u64
         ensures { result ≡ under_reached self.now }
     {
@@ -79,8 +79,8 @@ impl<C: ClientWords> Queue<C> {
 }
 
 impl<C: ClientWords> Queue<C> {
-    /// The token of a resumption that the pass owes: its payload, its ticket where one is open, and the last number that was drawn
-    /// for it. It makes no step.
+    /// The token of a resumption that the pass owes: its payload, its ticket where one is open, and the last number that was
+    /// drawn for it. It makes no step.
     pub fn under_of(
         &self,
         pass: &mut Pass<C>,

@@ -2,8 +2,9 @@
 
 ghost use Rattle.std.specs.Prelude.{◌≡◌, ◌<◌, bit_or};
 ghost use Rattle.cqs_rule.specs.Layout.{client_place};
-ghost use Rattle.cqs_rule.specs.Passes.{pass_view, client_of, IsOf};
-ghost use Rattle.cqs_rule.specs.Told.{Moves, Moved, added, exchanged, in_any_case, where_found};
+ghost use Rattle.cqs_rule.specs.Passes.{IsOf};
+ghost use Rattle.cqs_rule.specs.Steps.{MayMove, HasMoved};
+ghost use Rattle.cqs_rule.specs.Told.{added, exchanged, in_any_case, where_found};
 
 use crate::client::{ClientWords, Shown};
 use crate::layout::CLIENT_WORD;
@@ -23,9 +24,9 @@ impl<C: ClientWords> Queue<C> {
     pub fn load_word<M: Shown<C>>(&self, pass: &mut Pass<C>, word: u32) -> u64
         requires belongs { IsOf self.now pass.old }
         requires word { word < 4 }
-        requires law { Moves C.names (C.shows (client_of self.now)) M.entries M.after M.holds in_any_case (pass_view pass.old).number (pass_view pass.old).facts word (λ n. n) }
+        requires law { MayMove self.now pass.old M.entries M.after M.holds in_any_case word (λ n. n) }
         ensures belongs { IsOf self.now pass.new }
-        ensures saw { Moved C.names C.legal M.entries M.after M.holds M.payload in_any_case (pass_view pass.old) result (pass_view pass.new) }
+        ensures saw { HasMoved M.entries M.after M.holds M.payload in_any_case result pass.old pass.new }
     {
         let found = self
             .table
@@ -40,9 +41,9 @@ impl<C: ClientWords> Queue<C> {
     pub fn add_word<M: Shown<C>>(&self, pass: &mut Pass<C>, word: u32, by: i64) -> u64
         requires belongs { IsOf self.now pass.old }
         requires word { word < 4 }
-        requires law { Moves C.names (C.shows (client_of self.now)) M.entries M.after M.holds in_any_case (pass_view pass.old).number (pass_view pass.old).facts word (added by) }
+        requires law { MayMove self.now pass.old M.entries M.after M.holds in_any_case word (added by) }
         ensures belongs { IsOf self.now pass.new }
-        ensures saw { Moved C.names C.legal M.entries M.after M.holds M.payload in_any_case (pass_view pass.old) result (pass_view pass.new) }
+        ensures saw { HasMoved M.entries M.after M.holds M.payload in_any_case result pass.old pass.new }
     {
         let place = place(word);
         let amount = by.unsigned_abs();
@@ -64,9 +65,9 @@ impl<C: ClientWords> Queue<C> {
     pub fn or_word<M: Shown<C>>(&self, pass: &mut Pass<C>, word: u32, bits: u64) -> u64
         requires belongs { IsOf self.now pass.old }
         requires word { word < 4 }
-        requires law { Moves C.names (C.shows (client_of self.now)) M.entries M.after M.holds in_any_case (pass_view pass.old).number (pass_view pass.old).facts word (λ n. bit_or n bits) }
+        requires law { MayMove self.now pass.old M.entries M.after M.holds in_any_case word (λ n. bit_or n bits) }
         ensures belongs { IsOf self.now pass.new }
-        ensures saw { Moved C.names C.legal M.entries M.after M.holds M.payload in_any_case (pass_view pass.old) result (pass_view pass.new) }
+        ensures saw { HasMoved M.entries M.after M.holds M.payload in_any_case result pass.old pass.new }
     {
         let found = self
             .table
@@ -81,9 +82,9 @@ impl<C: ClientWords> Queue<C> {
     pub fn swap_word<M: Shown<C>>(&self, pass: &mut Pass<C>, word: u32, saw: u64, new: u64) -> u64
         requires belongs { IsOf self.now pass.old }
         requires word { word < 4 }
-        requires law { Moves C.names (C.shows (client_of self.now)) M.entries M.after M.holds (where_found saw) (pass_view pass.old).number (pass_view pass.old).facts word (exchanged saw new) }
+        requires law { MayMove self.now pass.old M.entries M.after M.holds (where_found saw) word (exchanged saw new) }
         ensures belongs { IsOf self.now pass.new }
-        ensures saw { Moved C.names C.legal M.entries M.after M.holds M.payload (where_found saw) (pass_view pass.old) result (pass_view pass.new) }
+        ensures saw { HasMoved M.entries M.after M.holds M.payload (where_found saw) result pass.old pass.new }
     {
         let found = self
             .table

@@ -6,9 +6,11 @@ use Rattle.cqs_rule.proofs.queue.Queue.or_word.Goals as goal
 
 pub fetch_or-found-requires : goal.fetch_or-found-requires
 fetch_or-found-requires g c =
-    let low = client-inside c.args.word c.args.pass.now.seat.me.0.cells c.requires.word in (
+    let low = client-inside c.args.word c.args.pass.now.seat.me.0.cells c.requires.word in
+    let client = g.met.C.ClientWords.keeps c.args.self.now.table.shared.key.client in (
       search rules,
       search rules,
-      moves-at _ _ _ _ _ _ _ _ _ _ _ (g.met.C.ClientWords.keeps c.args.self.now.table.shared.key.client) g.M.Shown.entries g.M.Shown.after
-          g.M.Shown.holds g.M.Shown.payload in_any_case _ _ _ c.args.word _ _ _ c.args.pass.now.live.0 c.requires.word c.place.ensures (λ n. refl) g.met.M.Shown.payload_fits c.requires.law,
+      moves-at _ _ _ _ _ _ _ _ _ _ _ client
+          g.M.Shown.entries g.M.Shown.after g.M.Shown.holds g.M.Shown.payload in_any_case _ _ _ c.args.word _ _ _
+          c.args.pass.now.live.0 c.requires.word c.place.ensures (λ n. refl) g.met.M.Shown.payload_fits c.requires.law,
     )

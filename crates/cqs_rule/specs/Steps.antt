@@ -7,7 +7,7 @@ use Rattle.cqs_rule.specs.declared.queue.Pass.{Pass}
 use Rattle.cqs_rule.specs.declared.queue.Queue.{Queue}
 use Rattle.cqs_rule.specs.Hidden.{QueueStep}
 use Rattle.cqs_rule.specs.Passes.{pass_view, client_of}
-use Rattle.cqs_rule.specs.Told.{Saw, Made, Missed, Took, Moves, Moved, facts_after}
+use Rattle.cqs_rule.specs.Told.{Saw, Made, Missed, Took, Moves, Moved, WordWas, WasFound, facts_after}
 
 module _ {C S E : Type 0} {g : Ghosts C S E} where
   -- a step on the client's word i, by which n becomes f n, may be made by the pass as it is now
@@ -21,6 +21,10 @@ module _ {C S E : Type 0} {g : Ghosts C S E} where
       → (ℕ → Bool) → ℕ → Pass C S E g → Pass C S E g → Type 0
   HasMoved entries after holds payload made n p p' =
       Moved g.names g.legal entries after holds payload made (pass_view p) n (pass_view p')
+
+  -- It found n in the client's word i: the word was so at the end of what the pass has seen before its own entries.
+  abbrev pub HasFound : (ℕ → Doing → ℕ → List E) → ℕ → ℕ → Pass C S E g → Pass C S E g → Type 0
+  HasFound entries i n p p' = WasFound (WordWas g.shows g.size) entries i (pass_view p) n (pass_view p')
 
   -- the number k was drawn from a counter
   abbrev pub HasDrawn : QueueStep → ℕ → Pass C S E g → Pass C S E g → Type 0

@@ -11,7 +11,7 @@ use Rattle.cqs_rule.specs.declared.view.Facts.{Facts}
 use Rattle.cqs_rule.specs.declared.view.Glimpse.{Glimpse}
 use Rattle.cqs_rule.specs.declared.view.Sighting.{Sighting}
 use Rattle.cqs_rule.specs.declared.view.Sighting.TheVariants.{Cell, Resumes}
-use Rattle.cqs_rule.specs.Layout.{suspends_place, resumes_place, cell_place}
+use Rattle.cqs_rule.specs.Layout.{suspends_place, resumes_place, client_place, cell_place}
 use Rattle.cqs_rule.specs.Hidden.{Hidden, QueueStep, draws, reaches, installs, leaves, takes, serves, looks, grants, late, stands_at}
 use Rattle.cqs_rule.specs.Lists.{Has, IsPrefix, part, NamesOnly, without}
 use Rattle.cqs_words.specs.declared.cell.CellState.{CellState}
@@ -154,6 +154,29 @@ pub record FoundCell (k n : ℕ) (g : Glimpse) : Type 0 where
   pub fits : g.payload < 2 ^ 20
   pub bare : IsBare g.state → g.payload ≡ 0
 
+-- The client's word i was n where the history was this: the client, which opened with the number s, showed that history by words
+-- of which this is one.
+pub record WordWas {C E S : Type 0} (shows : C → Hidden → List ℕ → List E → List S → Type 0) (size : C → ℕ)
+    (s i n : ℕ) (history : List E) : Type 0 where
+  pub client : C
+  pub size_is : size client ≡ s
+  pub hidden : Hidden
+  pub words : List ℕ
+  pub handed : List S
+  pub shown : shows client hidden words history handed
+  pub word : slice_index words i ≡ n
+
+module _ {E S : Type 0} (told : ℕ → ℕ → ℕ → List E → Type 0) (entries : ℕ → Doing → ℕ → List E) where
+  -- a step found n in the client's word i, which was so at the end of all that the pass has seen before its own entries
+  pub record WasFound (i : ℕ) (v : View E S) (n : ℕ) (w : View E S) : Type 0 where
+    pub before : List E
+    pub seen : w.seen ≡ before ++ entries v.number v.facts.doing n
+    pub was : told w.size i n before
+
+  -- the same of the word at this place
+  abbrev pub FoundAt : ℕ → View E S → ℕ → View E S → Type 0
+  FoundAt place v n w = (i : ℕ) → place ≡ client_place i → WasFound i v n w
+
 module _ {E : Type 0} (names : ℕ → E → Bool) (legal : ℕ → List E → Type 0) where
   module _ {S : Type 0} where
     -- The pass has seen more of the history: what others did meanwhile, which names none of its numbers, and then these
@@ -201,12 +224,15 @@ module _ {E : Type 0} (names : ℕ → E → Bool) (legal : ℕ → List E → T
           (entries v.number v.facts.doing n) w
 
       -- a load, or a sum: it is made in any case
-      abbrev pub moved_by : Step (Option S) → Me (Option S) (View E S) → ℕ → Me (Option S) (View E S) → Type 0
-      moved_by st me n me' = Moved in_any_case me.0 n me'.0 × (me'.1 ≡ me.1)
+      abbrev pub moved_by : (ℕ → ℕ → ℕ → List E → Type 0) → Step (Option S) → Me (Option S) (View E S) → ℕ
+          → Me (Option S) (View E S) → Type 0
+      moved_by told st me n me' = Moved in_any_case me.0 n me'.0 × (me'.1 ≡ me.1) × FoundAt told entries st.word me.0 n me'.0
 
       -- an exchange, from its first operand
-      abbrev pub exchanged_by : Step (Option S) → Me (Option S) (View E S) → ℕ → Me (Option S) (View E S) → Type 0
-      exchanged_by st me n me' = Moved (where_found st.first) me.0 n me'.0 × (me'.1 ≡ me.1)
+      abbrev pub exchanged_by : (ℕ → ℕ → ℕ → List E → Type 0) → Step (Option S) → Me (Option S) (View E S) → ℕ
+          → Me (Option S) (View E S) → Type 0
+      exchanged_by told st me n me' =
+          Moved (where_found st.first) me.0 n me'.0 × (me'.1 ≡ me.1) × FoundAt told entries st.word me.0 n me'.0
 
 -- a word with a signed number added, as it wraps
 abbrev pub raise : ℤ → ℕ

@@ -1,7 +1,7 @@
 //! What each step tells. These types are for the proofs alone.
 
 ghost use Rattle.cqs_rule.specs.Loads.{loaded_by};
-ghost use Rattle.cqs_rule.specs.Told.{drew, crossed, moved_by, exchanged_by};
+ghost use Rattle.cqs_rule.specs.Told.{WordWas, drew, crossed, moved_by, exchanged_by};
 
 use crate::client::{ClientWords, Shown};
 use crate::kinds::Kind;
@@ -43,7 +43,7 @@ pub(crate) struct Show<C, M> {
 }
 
 impl<C: ClientWords, M: Shown<C>> Play<Option<C::Slot>, View<C::Entry, C::Slot>> for Show<C, M> {
-    ghost then = { moved_by C.names C.legal M.entries M.after M.holds M.payload };
+    ghost then = { moved_by C.names C.legal M.entries M.after M.holds M.payload (WordWas C.shows C.size) };
 }
 
 /// An exchange on a word of the client, by the event that it shows.
@@ -53,5 +53,5 @@ pub(crate) struct ShowExchange<C, M> {
 
 impl<C: ClientWords, M: Shown<C>> Play<Option<C::Slot>, View<C::Entry, C::Slot>>
     for ShowExchange<C, M> {
-    ghost then = { exchanged_by C.names C.legal M.entries M.after M.holds M.payload };
+    ghost then = { exchanged_by C.names C.legal M.entries M.after M.holds M.payload (WordWas C.shows C.size) };
 }

@@ -3,7 +3,7 @@
 ghost use Rattle.std.specs.Prelude.{◌≡◌, ◌<◌, bit_or};
 ghost use Rattle.cqs_rule.specs.Layout.{client_place};
 ghost use Rattle.cqs_rule.specs.Passes.{IsOf};
-ghost use Rattle.cqs_rule.specs.Steps.{MayMove, HasMoved};
+ghost use Rattle.cqs_rule.specs.Steps.{MayMove, HasMoved, HasFound};
 ghost use Rattle.cqs_rule.specs.Told.{added, exchanged, in_any_case, where_found};
 
 use crate::client::{ClientWords, Shown};
@@ -27,6 +27,7 @@ impl<C: ClientWords> Queue<C> {
         requires law { MayMove self.now pass.old M.entries M.after M.holds in_any_case word (λ n. n) }
         ensures belongs { IsOf self.now pass.new }
         ensures saw { HasMoved M.entries M.after M.holds M.payload in_any_case result pass.old pass.new }
+        ensures found { HasFound M.entries word result pass.old pass.new }
     {
         let found = self
             .table
@@ -44,6 +45,7 @@ impl<C: ClientWords> Queue<C> {
         requires law { MayMove self.now pass.old M.entries M.after M.holds in_any_case word (added by) }
         ensures belongs { IsOf self.now pass.new }
         ensures saw { HasMoved M.entries M.after M.holds M.payload in_any_case result pass.old pass.new }
+        ensures found { HasFound M.entries word result pass.old pass.new }
     {
         let place = place(word);
         let amount = by.unsigned_abs();
@@ -68,6 +70,7 @@ impl<C: ClientWords> Queue<C> {
         requires law { MayMove self.now pass.old M.entries M.after M.holds in_any_case word (λ n. bit_or n bits) }
         ensures belongs { IsOf self.now pass.new }
         ensures saw { HasMoved M.entries M.after M.holds M.payload in_any_case result pass.old pass.new }
+        ensures found { HasFound M.entries word result pass.old pass.new }
     {
         let found = self
             .table
@@ -85,6 +88,7 @@ impl<C: ClientWords> Queue<C> {
         requires law { MayMove self.now pass.old M.entries M.after M.holds (where_found saw) word (exchanged saw new) }
         ensures belongs { IsOf self.now pass.new }
         ensures saw { HasMoved M.entries M.after M.holds M.payload (where_found saw) result pass.old pass.new }
+        ensures found { HasFound M.entries word result pass.old pass.new }
     {
         let found = self
             .table

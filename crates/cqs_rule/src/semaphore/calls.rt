@@ -1,9 +1,17 @@
 //! The steps of a semaphore on its state, each under the conditions in which its event may be shown.
 
-ghost use Rattle.std.specs.Prelude.{◌≡◌, ◌<◌, true};
+ghost use Rattle.std.specs.Prelude.{◌≡◌, ◌<◌, true, []};
 ghost use Rattle.cqs_core.specs.declared.doings.Doing.TheVariants.{Idle, TryAt};
 ghost use Rattle.cqs_rule.specs.Passes.{pass_view, IsOf};
-ghost use Rattle.cqs_rule.specs.Semaphore.{state_in_word, is_free};
+ghost use Rattle.cqs_rule.specs.Semaphore.{
+  state_in_word,
+  is_free,
+  take_entries,
+  try_load_entries,
+  try_swap_entries,
+  give_entries,
+};
+ghost use Rattle.cqs_rule.specs.Steps.{HasFound};
 ghost use Rattle.cqs_rule.specs.SemaphoreSteps.{TookOne, TryLoaded, TrySwapped, GaveOne, LookedAt};
 
 use crate::queue::{Pass, Queue};
@@ -20,6 +28,7 @@ pub fn take_permit<T: Drop>(queue: &Queue<SemClient<T>>, pass: &mut Pass<SemClie
     requires may_draw { (pass_view pass.old).facts.may_draw ≡ true }
     ensures belongs { IsOf queue.now pass.new }
     ensures saw { TookOne (pass_view pass.old) result (pass_view pass.new) }
+    ensures found { HasFound take_entries 0 result pass.old pass.new }
 {
     queue.add_word::<Take>(pass, STATE, -1)
 }
@@ -30,6 +39,7 @@ pub fn load_state<T: Drop>(queue: &Queue<SemClient<T>>, pass: &mut Pass<SemClien
     requires idle { (pass_view pass.old).facts.doing ≡ Idle }
     ensures belongs { IsOf queue.now pass.new }
     ensures saw { TryLoaded (pass_view pass.old) result (pass_view pass.new) }
+    ensures found { HasFound try_load_entries 0 result pass.old pass.new }
 {
     queue.load_word::<TryLoad>(pass, STATE)
 }
@@ -45,6 +55,7 @@ pub fn try_take<T: Drop>(
     requires free { is_free saw ≡ true }
     ensures belongs { IsOf queue.now pass.new }
     ensures saw { TrySwapped saw (pass_view pass.old) result (pass_view pass.new) }
+    ensures found { HasFound try_swap_entries 0 result pass.old pass.new }
 {
     queue.swap_word::<TrySwap>(pass, STATE, saw, saw - 1)
 }
@@ -56,6 +67,7 @@ pub fn give_permit<T: Drop>(queue: &Queue<SemClient<T>>, pass: &mut Pass<SemClie
     requires holds { 0 < (pass_view pass.old).facts.held }
     ensures belongs { IsOf queue.now pass.new }
     ensures saw { GaveOne (pass_view pass.old) result (pass_view pass.new) }
+    ensures found { HasFound give_entries 0 result pass.old pass.new }
 {
     queue.add_word::<Give>(pass, STATE, 1)
 }
@@ -65,6 +77,7 @@ pub fn read_state<T: Drop>(queue: &Queue<SemClient<T>>, pass: &mut Pass<SemClien
     requires belongs { IsOf queue.now pass.old }
     ensures belongs { IsOf queue.now pass.new }
     ensures saw { LookedAt (pass_view pass.old) result (pass_view pass.new) }
+    ensures found { HasFound (λ pass doing found. []) 0 result pass.old pass.new }
 {
     queue.load_word::<Silent>(pass, STATE)
 }

@@ -21,14 +21,14 @@ use Rattle.cqs_rule.specs.Inside.{IsInside}
 use Rattle.cqs_rule.specs.Views.{grown}
 use Rattle.cqs_rule.specs.Ruled.{Ruled, Stands, CellsShow, IsWaitOf, IsInstalled, IsPlain, IsBare, shown_state, word_of}
 use Rattle.cqs_rule.specs.Client.{IsClient}
-use Rattle.cqs_rule.specs.Loads.{LoadStep, counts, watches, polls, cancels, event_of, IsOfWait, IsStanding, is_resumed, is_served, closes, MayLook, MayLoad, Looked, Loaded, loaded_by, facts_looked, look_entries}
+use Rattle.cqs_rule.specs.Loads.{CounterWas, LoadStep, counts, watches, polls, cancels, event_of, IsOfWait, IsStanding, is_resumed, is_served, closes, MayLook, MayLoad, Looked, Loaded, loaded_by, facts_looked, look_entries}
 use Rattle.cqs_rule.specs.Told.{Saw, FoundCell, facts_after}
 use Rattle.cqs_rule.proofs.CellPlaces.{number-at, cell-inside, suspends-inside}
 use Rattle.cqs_rule.proofs.Cells.{looked-suspends, looked-resumes, looked-doing, looked-state}
 use Rattle.cqs_rule.proofs.Crosses.{held-long, payload-kept}
 use Rattle.cqs_rule.proofs.Others.{others-looked, looked-self, door-keeps}
 use Rattle.cqs_rule.proofs.Tells.{steps, Steps, suspends-low, resumes-low}
-use Rattle.cqs_rule.proofs.Looks.{stays, looks-to, counted-at}
+use Rattle.cqs_rule.proofs.Looks.{stays, looks-to, CountsOf, counted-at}
 
 -- a wait that isn't closed stands in the line or was served, until cells are cancelled
 installed-standing : (x : CoreState) → IsInstalled x → IsPlain x → IsStanding x
@@ -147,7 +147,7 @@ module _ {E S : Type 0} (names : ℕ → E → Bool) (legal : ℕ → List E →
   -- a load of the cell of the number k
   loads-cell : (slots id : ℕ) (me : Me (Option S) (View E S)) (load : LoadStep) (k : ℕ) → me.0.weight ≡ 1 → MayLook load me.0 k
       → Allows (Ruled names shows passes limit values size) slots id me (cell_place k) (λ n. n)
-      (λ n me'. Looked names legal gains entries load k me.0 n me'.0 × (me'.1 ≡ me.1))
+      (λ n me'. Looked names legal gains entries load k me.0 n me'.0 × (me'.1 ≡ me.1) × Unit {0})
   loads-cell slots id me load k one may s r _ here small = by-event (event_of load (state_at r.hidden.queue k)) refl
     where
       v : View E S
@@ -202,7 +202,7 @@ module _ {E S : Type 0} (names : ℕ → E → Bool) (legal : ℕ → List E →
       by-event : (o : Option LookEvent) → o ≡ event_of load (state_at r.hidden.queue k)
           → (w : View E S) × (a : Act (Option S)) × Valid s.homes me.1 a
           × Ruled names shows passes limit values size (stepped s (cell_place k) n id me.1 w a)
-          × (Looked names legal gains entries load k v n w × (carried_after me.1 a ≡ me.1))
+          × (Looked names legal gains entries load k v n w × (carried_after me.1 a ≡ me.1) × Unit {0})
       by-event None is =
           let facts = facts_looked gains None k n f in
           let done = looks-to names legal shows entries gains opened passes limit values size held client s r id me
@@ -217,37 +217,51 @@ module _ {E S : Type 0} (names : ℕ → E → Bool) (legal : ℕ → List E →
             last = at.last;
           })
           (r.each_view id v here).payload_fits in
-          (grown v facts (r.log ++ []) r.handed, keeps, tt, done.0, (told None _ is done.1, refl))
+          (grown v facts (r.log ++ []) r.handed, keeps, tt, done.0, (told None _ is done.1, refl, tt))
       by-event (Some e) is =
           let seen = event-seen load (state_at c.queue k) e (sym is) in
           let own = may-own load v k seen.1 may in
           let w = at.waits k own.1 in
           let done = learns s r id me e k w here one own.0 (sym (state-is w) ∙ seen.0) in
-          (_, keeps, tt, done.0, (told (Some e) _ is done.1, refl))
+          (_, keeps, tt, done.0, (told (Some e) _ is done.1, refl, tt))
 
   -- the same at its word
   loads-place : (slots id : ℕ) (me : Me (Option S) (View E S)) (load : LoadStep) (word : ℕ) → me.0.weight ≡ 1
       → (k : ℕ) × (word ≡ cell_place k) × MayLook load me.0 k
       → Allows (Ruled names shows passes limit values size) slots id me word (λ n. n)
-      (λ n me'. Looked names legal gains entries load (cell_number word) me.0 n me'.0 × (me'.1 ≡ me.1))
+      (λ n me'. Looked names legal gains entries load (cell_number word) me.0 n me'.0 × (me'.1 ≡ me.1) × Unit {0})
   loads-place slots id me load word one may =
       let k = may.0 in
       let place : word ≡ cell_place k = may.1 in
       let number = number-at word k place in
       subst (λ (z : ℕ × ℕ). Allows (Ruled names shows passes limit values size) slots id me z.0 (λ n. n)
-      (λ n me'. Looked names legal gains entries load z.1 me.0 n me'.0 × (me'.1 ≡ me.1)))
+      (λ n me'. Looked names legal gains entries load z.1 me.0 n me'.0 × (me'.1 ≡ me.1) × Unit {0}))
       (λ i. (sym place i, sym number i)) (loads-cell slots id me load k one may.2)
 
   -- a load of the suspend counter, or of a cell
-  pub loads : (slots id : ℕ) (me : Me (Option S) (View E S)) (load : LoadStep) (word : ℕ) → me.0.weight ≡ 1
-      → MayLoad load me.0 word
+  pub loads : (counter : ℕ → ℕ → List E → Type 0) (slots id : ℕ) (me : Me (Option S) (View E S)) (load : LoadStep) (word : ℕ) → me.0.weight ≡ 1
+      → CountsOf names legal shows entries gains opened passes limit values size held client counter → MayLoad load me.0 word
       → Allows (Ruled names shows passes limit values size) slots id me word (λ n. n)
-      (loaded_by names legal gains entries load (step slots word 0 0 none) me)
-  loads slots id me counts word one may =
-      counted-at names legal shows entries gains opened passes limit values size held client slots id me word one may
-  loads slots id me watches word one may = loads-place slots id me watches word one may
-  loads slots id me polls word one may = loads-place slots id me polls word one may
-  loads slots id me cancels word one may = loads-place slots id me cancels word one may
+      (loaded_by names legal gains entries counter load (step slots word 0 0 none) me)
+  loads counter slots id me counts word one tells may =
+      counted-at names legal shows entries gains opened passes limit values size held client counter slots id me word one tells may
+  loads counter slots id me watches word one tells may = loads-place slots id me watches word one may
+  loads counter slots id me polls word one tells may = loads-place slots id me polls word one may
+  loads counter slots id me cancels word one tells may = loads-place slots id me cancels word one may
+
+-- what a client shows tells of the suspend counter
+pub counter-was : {C E S : Type 0} (shows : C → Hidden → List ℕ → List E → List S → Type 0) (size : C → ℕ) (x : C) (c : Hidden)
+    (words : List ℕ) (log : List E) (handed : List S) → shows x c words log handed
+    → CounterWas shows size (size x) c.queue.suspends log
+counter-was shows size x c words log handed is = record {
+  client = x;
+  size_is = refl;
+  hidden = c;
+  words = words;
+  handed = handed;
+  shown = is;
+  counter = refl;
+}
 
 -- the cell that the word of a cell unpacks to
 pub unpacks : (k n : ℕ) (g : Glimpse) → FoundCell k n g

@@ -74,11 +74,16 @@ module _ {E S : Type 0} (names : ℕ → E → Bool) (legal : ℕ → List E →
       (slice_index s.words i) r.hidden [] facts here one
       (still s r me.0 i r.hidden facts r.counters r.cells r.room r.door r.shown (others-same r.hidden me.0.number) self owed)
 
+  -- what is told of the suspend counter follows from what the client shows
+  abbrev pub CountsOf : (ℕ → ℕ → List E → Type 0) → Type 0
+  CountsOf told = (c : Hidden) (words : List ℕ) (log : List E) (handed : List S) → shows c words log handed
+      → told size c.queue.suspends log
+
   -- a load of the suspend counter
-  pub counted : (slots id : ℕ) (me : Me (Option S) (View E S)) → me.0.weight ≡ 1
+  pub counted : (told : ℕ → ℕ → List E → Type 0) (slots id : ℕ) (me : Me (Option S) (View E S)) → me.0.weight ≡ 1 → CountsOf told
       → Allows (Ruled names shows passes limit values size) slots id me 16 (λ n. n)
-      (loaded_by names legal gains entries load.counts (step slots 16 0 0 none) me)
-  counted slots id me one s r _ here small =
+      (loaded_by names legal gains entries told load.counts (step slots 16 0 0 none) me)
+  counted told slots id me one tells s r _ here small =
       let k = r.each_view id me.0 here in
       let p = me.0.number in
       let n = slice_index s.words 16 in
@@ -109,8 +114,18 @@ module _ {E S : Type 0} (names : ℕ → E → Bool) (legal : ℕ → List E →
         once = at.once;
         last = at.last;
       })
-      k.payload_fits) in
-      (grown me.0 (facts_counted me.0.limit n f) (r.log ++ []) r.handed, keeps, tt, t.0, (t.1, refl))
+      k.payload_fits) in (
+        grown me.0 (facts_counted me.0.limit n f) (r.log ++ []) r.handed,
+        keeps,
+        tt,
+        t.0,
+        (
+          t.1,
+          refl,
+          subst (λ (z : ℕ × ℕ × List E). told z.0 z.1 z.2) (λ j. (sym k.size_is j, sym r.counters.suspends j, sym (append-nil r.log) j))
+              (tells r.hidden (client_words s.words) r.log r.handed r.shown),
+        ),
+      )
     where
       still-true : (b may : Bool) → may ≡ true → (if b then true else may) ≡ true
       still-true true may is = refl
@@ -141,9 +156,11 @@ module _ {E S : Type 0} (names : ℕ → E → Bool) (legal : ℕ → List E →
               let g = r.room.ground in
               subst (λ (l : List Bool). r.hidden.queue.suspends + count_by (λ b. b) l < limit + passes) (sym same) g
 
-  pub counted-at : (slots id : ℕ) (me : Me (Option S) (View E S)) (word : ℕ) → me.0.weight ≡ 1 → word ≡ 16
+  pub counted-at : (told : ℕ → ℕ → List E → Type 0) (slots id : ℕ) (me : Me (Option S) (View E S)) (word : ℕ) → me.0.weight ≡ 1
+      → CountsOf told → word ≡ 16
       → Allows (Ruled names shows passes limit values size) slots id me word (λ n. n)
-      (loaded_by names legal gains entries load.counts (step slots word 0 0 none) me)
-  counted-at slots id me word one is =
+      (loaded_by names legal gains entries told load.counts (step slots word 0 0 none) me)
+  counted-at told slots id me word one tells is =
       subst (λ z. Allows (Ruled names shows passes limit values size) slots id me z (λ n. n)
-      (loaded_by names legal gains entries load.counts (step slots z 0 0 none) me)) (sym is) (counted slots id me one)
+      (loaded_by names legal gains entries told load.counts (step slots z 0 0 none) me)) (sym is)
+      (counted told slots id me one tells)

@@ -12,7 +12,7 @@ use Rattle.cqs_rule.specs.declared.view.View.{View}
 use Rattle.cqs_rule.specs.declared.view.Facts.{Facts}
 use Rattle.cqs_rule.specs.declared.view.Glimpse.{Glimpse}
 use Rattle.cqs_rule.specs.declared.view.Sighting.TheVariants.{Cell}
-use Rattle.cqs_rule.specs.Hidden.{LookEvent, pends, grants, late, QueueStep, looks}
+use Rattle.cqs_rule.specs.Hidden.{Hidden, LookEvent, pends, grants, late, QueueStep, looks}
 use Rattle.cqs_rule.specs.Layout.{suspends_place, cell_place, cell_number}
 use Rattle.cqs_rule.specs.Lists.{Has}
 use Rattle.cqs_rule.specs.Told.{Saw, FoundCell, facts_after, facts_counted}
@@ -83,6 +83,26 @@ module _ {E : Type 0} (entries : QueueStep → ℕ → ℕ → List E) where
   look_entries None p k = []
   look_entries (Some e) p k = entries (looks e) p k
 
+-- So many numbers, n, were drawn to suspend at where the history was this: the client, which opened with the number s, showed that
+-- history by a queue whose suspend counter was n.
+pub record CounterWas {C E S : Type 0} (shows : C → Hidden → List ℕ → List E → List S → Type 0) (size : C → ℕ)
+    (s n : ℕ) (history : List E) : Type 0 where
+  pub client : C
+  pub size_is : size client ≡ s
+  pub hidden : Hidden
+  pub words : List ℕ
+  pub handed : List S
+  pub shown : shows client hidden words history handed
+  pub counter : hidden.queue.suspends ≡ n
+
+module _ {E S : Type 0} (told : ℕ → ℕ → List E → Type 0) where
+  -- a load of the suspend counter that found n: it was so at the end of all that the pass has seen
+  abbrev pub CountWas : LoadStep → ℕ → View E S → Type 0
+  CountWas counts n w = told w.size n w.seen
+  CountWas watches n w = Unit {0}
+  CountWas polls n w = Unit {0}
+  CountWas cancels n w = Unit {0}
+
 module _ {E S : Type 0} (names : ℕ → E → Bool) (legal : ℕ → List E → Type 0)
     (gains : ℕ → ℕ) (entries : QueueStep → ℕ → ℕ → List E) where
   -- a load of the cell of the number k found the word n
@@ -98,5 +118,6 @@ module _ {E S : Type 0} (names : ℕ → E → Bool) (legal : ℕ → List E →
   Loaded counts word v n w = Saw names legal v (facts_counted v.limit n v.facts) [] w
   Loaded load word v n w = Looked load (cell_number word) v n w
 
-  abbrev pub loaded_by : LoadStep → Step (Option S) → Me (Option S) (View E S) → ℕ → Me (Option S) (View E S) → Type 0
-  loaded_by load st me n me' = Loaded load st.word me.0 n me'.0 × (me'.1 ≡ me.1)
+  abbrev pub loaded_by : (ℕ → ℕ → List E → Type 0) → LoadStep → Step (Option S) → Me (Option S) (View E S) → ℕ
+      → Me (Option S) (View E S) → Type 0
+  loaded_by told load st me n me' = Loaded load st.word me.0 n me'.0 × (me'.1 ≡ me.1) × CountWas told load n me'.0

@@ -6,6 +6,7 @@ use Rattle.cqs_rule.specs.declared.client.ClientWords.{Ghosts}
 use Rattle.cqs_rule.specs.declared.queue.Pass.{Pass}
 use Rattle.cqs_rule.specs.declared.queue.Queue.{Queue}
 use Rattle.cqs_rule.specs.Hidden.{QueueStep}
+use Rattle.cqs_rule.specs.Loads.{LoadStep, CounterWas, CountWas}
 use Rattle.cqs_rule.specs.Passes.{pass_view, client_of}
 use Rattle.cqs_rule.specs.Told.{Saw, Made, Missed, Took, Moves, Moved, WordWas, WasFound, facts_after}
 
@@ -25,6 +26,10 @@ module _ {C S E : Type 0} {g : Ghosts C S E} where
   -- It found n in the client's word i: the word was so at the end of what the pass has seen before its own entries.
   abbrev pub HasFound : (ℕ → Doing → ℕ → List E) → ℕ → ℕ → Pass C S E g → Pass C S E g → Type 0
   HasFound entries i n p p' = WasFound (WordWas g.shows g.size) entries i (pass_view p) n (pass_view p')
+
+  -- a load that found n: of the suspend counter, so many numbers were drawn at the end of what the pass has seen
+  abbrev pub HasCounted : LoadStep → ℕ → Pass C S E g → Type 0
+  HasCounted load n p' = CountWas (CounterWas g.shows g.size) load n (pass_view p')
 
   -- the number k was drawn from a counter
   abbrev pub HasDrawn : QueueStep → ℕ → Pass C S E g → Pass C S E g → Type 0

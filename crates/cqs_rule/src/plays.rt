@@ -1,6 +1,6 @@
 //! What each step tells. These types are for the proofs alone.
 
-ghost use Rattle.cqs_rule.specs.Loads.{loaded_by};
+ghost use Rattle.cqs_rule.specs.Loads.{CounterWas, loaded_by};
 ghost use Rattle.cqs_rule.specs.Told.{WordWas, drew, crossed, moved_by, exchanged_by};
 
 use crate::client::{ClientWords, Shown};
@@ -16,7 +16,7 @@ pub(crate) struct Loading<C, L> {
 }
 
 impl<C: ClientWords, L: Load> Play<Option<C::Slot>, View<C::Entry, C::Slot>> for Loading<C, L> {
-    ghost then = { loaded_by C.names C.legal C.gains C.entries L.load };
+    ghost then = { loaded_by C.names C.legal C.gains C.entries (CounterWas C.shows C.size) L.load };
 }
 
 /// A number is drawn from a counter.

@@ -2,7 +2,7 @@
 
 ghost use Rattle.cqs_rule.specs.Loads.{MayLoad, Loaded};
 ghost use Rattle.cqs_rule.specs.Passes.{pass_view, IsOf};
-ghost use Rattle.cqs_rule.specs.Steps.{HasDrawn};
+ghost use Rattle.cqs_rule.specs.Steps.{HasCounted, HasDrawn};
 ghost use Rattle.cqs_rule.specs.Told.{Crossed, IsCrossing, IsCount};
 
 use crate::client::ClientWords;
@@ -19,6 +19,7 @@ impl<C: ClientWords> Queue<C> {
         requires load { MayLoad L.load (pass_view pass.old) word }
         ensures belongs { IsOf self.now pass.new }
         ensures saw { Loaded C.names C.legal C.gains C.entries L.load word (pass_view pass.old) result (pass_view pass.new) }
+        ensures counted { HasCounted L.load result pass.new }
     {
         let found = self
             .table

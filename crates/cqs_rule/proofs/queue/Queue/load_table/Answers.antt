@@ -1,14 +1,18 @@
 use Rattle.std.proofs.Common.{rules, sym, ap, ◌∙◌, arith}
-use Rattle.cqs_rule.proofs.CellLoads.{loads, load-low, loaded-keeps, loaded-ends}
+use Rattle.cqs_rule.specs.Loads.{CounterWas}
+use Rattle.cqs_rule.proofs.CellLoads.{counter-was, loads, load-low, loaded-keeps, loaded-ends}
 use Rattle.cqs_rule.proofs.queue.Queue.load_table.Goals as goal
 
 pub load-found-requires : goal.load-found-requires
 load-found-requires g c =
     let low = load-low _ c.args.word g.L.Load.load c.args.pass.now.inside c.requires.load in
-    let client = g.met.C.ClientWords.keeps c.args.self.now.table.shared.key.client in (
+    let C = g.C.ClientWords in
+    let x = c.args.self.now.table.shared.key.client in
+    let client = g.met.C.ClientWords.keeps x in (
       search rules,
       search rules,
-      loads _ _ _ _ _ _ _ _ _ _ _ client _ _ _ g.L.Load.load _ c.args.pass.now.live.0 c.requires.load,
+      loads _ _ _ _ _ _ _ _ _ _ _ client (CounterWas C.shows C.size) _ _ _ g.L.Load.load _ c.args.pass.now.live.0
+          (counter-was C.shows C.size x) c.requires.load,
     )
 
 pub invariant_of-pass-clause-held_is : goal.invariant_of-pass-clause-held_is

@@ -11,7 +11,7 @@ use cqs_resume::{Resumed, resume};
 use cqs_rule::{
     CELLS_WORD, CancelMode, Cancels, Config, Counts, Draws, Installs, Place, Polls, Queue,
     RESUMES_WORD, Reaches, SUSPENDS_WORD, SemClient, Silent, TrySwap, Watches, give_permit,
-    load_state, read_state, take_permit, try_take,
+    load_state, next_wait, read_state, take_permit, try_take,
 };
 use cqs_suspend::{Suspended, suspend};
 use cqs_words::{CellState, CellWord};
@@ -36,6 +36,7 @@ fn tries_on_the_state(rt: HostRuntime) -> Result<(), Fail> {
     assert_eq!(rt; busy, 4_294_967_296);
     assert_eq!(rt; give_permit(&queue, &mut pass), 4_294_967_296);
     assert_eq!(rt; pass.held(), 0);
+    assert_eq!(rt; next_wait(&queue, &mut pass), 0);
     Ok(())
 }
 

@@ -15,3 +15,4 @@ pub mod StandStill
 pub mod Calls
 pub mod Found
 pub mod Opens
+pub mod StateFound

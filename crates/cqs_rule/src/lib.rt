@@ -25,8 +25,8 @@ pub use loads::{Cancels, Counts, Load, Polls, Watches};
 pub use queue::{Pass, Queue, Under, Wait};
 pub use rule::{Key, Rule};
 pub use semaphore::{
-    Give, SemClient, Take, TryLoad, TrySwap, give_permit, load_state, read_state, take_permit,
-    try_take,
+    Give, SemClient, Take, TryLoad, TrySwap, give_permit, load_state, next_wait, read_state,
+    take_permit, try_take,
 };
 pub use silent::Silent;
 pub use view::{Facts, Glimpse, Sighting, View};

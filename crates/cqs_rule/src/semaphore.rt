@@ -7,7 +7,7 @@ mod calls;
 mod client;
 mod events;
 
-pub use calls::{give_permit, load_state, read_state, take_permit, try_take};
+pub use calls::{give_permit, load_state, next_wait, read_state, take_permit, try_take};
 pub use events::{Give, Take, TryLoad, TrySwap};
 use std::marker::PhantomData;
 

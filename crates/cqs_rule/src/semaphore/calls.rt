@@ -11,9 +11,19 @@ ghost use Rattle.cqs_rule.specs.Semaphore.{
   try_swap_entries,
   give_entries,
 };
-ghost use Rattle.cqs_rule.specs.Steps.{HasFound};
-ghost use Rattle.cqs_rule.specs.SemaphoreSteps.{TookOne, TryLoaded, TrySwapped, GaveOne, LookedAt};
+ghost use Rattle.cqs_rule.specs.SemaphoreSteps.{
+  TookOne,
+  TryLoaded,
+  TrySwapped,
+  GaveOne,
+  LookedAt,
+  StateWas,
+  Counted,
+  next_number,
+};
 
+use crate::layout::SUSPENDS_WORD;
+use crate::loads::Counts;
 use crate::queue::{Pass, Queue};
 use crate::semaphore::{Give, SemClient, Take, TryLoad, TrySwap};
 use crate::silent::Silent;
@@ -28,7 +38,7 @@ pub fn take_permit<T: Drop>(queue: &Queue<SemClient<T>>, pass: &mut Pass<SemClie
     requires may_draw { (pass_view pass.old).facts.may_draw ≡ true }
     ensures belongs { IsOf queue.now pass.new }
     ensures saw { TookOne (pass_view pass.old) result (pass_view pass.new) }
-    ensures found { HasFound take_entries 0 result pass.old pass.new }
+    ensures found { StateWas take_entries (pass_view pass.old) result (pass_view pass.new) }
 {
     queue.add_word::<Take>(pass, STATE, -1)
 }
@@ -39,7 +49,7 @@ pub fn load_state<T: Drop>(queue: &Queue<SemClient<T>>, pass: &mut Pass<SemClien
     requires idle { (pass_view pass.old).facts.doing ≡ Idle }
     ensures belongs { IsOf queue.now pass.new }
     ensures saw { TryLoaded (pass_view pass.old) result (pass_view pass.new) }
-    ensures found { HasFound try_load_entries 0 result pass.old pass.new }
+    ensures found { StateWas try_load_entries (pass_view pass.old) result (pass_view pass.new) }
 {
     queue.load_word::<TryLoad>(pass, STATE)
 }
@@ -55,7 +65,7 @@ pub fn try_take<T: Drop>(
     requires free { is_free saw ≡ true }
     ensures belongs { IsOf queue.now pass.new }
     ensures saw { TrySwapped saw (pass_view pass.old) result (pass_view pass.new) }
-    ensures found { HasFound try_swap_entries 0 result pass.old pass.new }
+    ensures found { StateWas try_swap_entries (pass_view pass.old) result (pass_view pass.new) }
 {
     queue.swap_word::<TrySwap>(pass, STATE, saw, saw - 1)
 }
@@ -67,7 +77,7 @@ pub fn give_permit<T: Drop>(queue: &Queue<SemClient<T>>, pass: &mut Pass<SemClie
     requires holds { 0 < (pass_view pass.old).facts.held }
     ensures belongs { IsOf queue.now pass.new }
     ensures saw { GaveOne (pass_view pass.old) result (pass_view pass.new) }
-    ensures found { HasFound give_entries 0 result pass.old pass.new }
+    ensures found { StateWas give_entries (pass_view pass.old) result (pass_view pass.new) }
 {
     queue.add_word::<Give>(pass, STATE, 1)
 }
@@ -77,7 +87,17 @@ pub fn read_state<T: Drop>(queue: &Queue<SemClient<T>>, pass: &mut Pass<SemClien
     requires belongs { IsOf queue.now pass.old }
     ensures belongs { IsOf queue.now pass.new }
     ensures saw { LookedAt (pass_view pass.old) result (pass_view pass.new) }
-    ensures found { HasFound (λ pass doing found. []) 0 result pass.old pass.new }
+    ensures found { StateWas (λ pass doing found. []) (pass_view pass.old) result (pass_view pass.new) }
 {
     queue.load_word::<Silent>(pass, STATE)
+}
+
+/// Loads the suspend counter: the number that the next wait will have. A pass that finds it below the limit may draw.
+pub fn next_wait<T: Drop>(queue: &Queue<SemClient<T>>, pass: &mut Pass<SemClient<T>>) -> u64
+    requires belongs { IsOf queue.now pass.old }
+    ensures belongs { IsOf queue.now pass.new }
+    ensures saw { Counted (pass_view pass.old) result (pass_view pass.new) }
+    ensures next { next_number (pass_view pass.new) ≡ result }
+{
+    queue.load_table::<Counts>(pass, SUSPENDS_WORD)
 }

@@ -8,6 +8,8 @@ pub mod SoundMeets
 pub mod SoundDraws
 pub mod SoundReach
 pub mod Sound
+pub mod QueueStepMoves
+pub mod QueueUniform
 pub mod Exchange
 pub mod CellReads
 pub mod Letters

@@ -105,7 +105,7 @@ balanced-opening permits = record { conserved = omega arith; wanted = omega arit
 pub every-history-balanced : EveryLegalHistoryIsBalanced
 every-history-balanced permits history legal =
     let whole : IsBalanced permits (object_before permits history (length history)) =
-    walk-all permits history (λ o. IsBalanced permits o) legal
+    walk-all IsAllowed after_entry (opening permits) history (λ o. IsBalanced permits o) legal
     (λ o e allowed b. balanced-entry permits o e allowed b)
     (balanced-opening permits) (length history) (omega arith) in
     subst (λ h. IsBalanced permits (object_after permits h)) (take_all (length history) history (omega arith))

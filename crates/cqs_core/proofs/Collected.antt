@@ -6,7 +6,7 @@ use Rattle.cqs_core.specs.declared.entries.Entry.TheVariants as entry
 use Rattle.cqs_core.specs.Numbered.{IsIn}
 use Rattle.cqs_core.specs.Keyed.{placed, without}
 use Rattle.cqs_core.specs.QueueLine.{Service}
-use Rattle.cqs_core.specs.SemaphoreObject.{Semaphore, due}
+use Rattle.cqs_core.specs.SemaphoreObject.{Semaphore, opening, due}
 use Rattle.cqs_core.specs.SemaphoreEntries.{IsAllowed, after_entry, find_wait, with_service, turned_back, closed, IsLegal}
 use Rattle.cqs_core.specs.SemaphoreLaws.{object_before, EndsWait, Collects, EveryCollectionFollowsItsDelivery, EveryWaitIsCollectedOnce}
 use Rattle.cqs_core.proofs.Places.{get-below, get-append_left, get-push_at}
@@ -136,7 +136,7 @@ collects-open o (entry.LookPending c j) k allowed is = absurd is
 pub every-collection-follows : EveryCollectionFollowsItsDelivery
 every-collection-follows permits history k n e legal got collects =
     let all : AreDelivered (take n history) (object_before permits history n) =
-    walk permits history (λ i o. AreDelivered (take i history) o) legal
+    walk IsAllowed after_entry (opening permits) history (λ i o. AreDelivered (take i history) o) legal
     (λ i f gets allowed before. rw (take-next history i f gets)
     (delivered-next (take i history) (object_before permits history i) f allowed before))
     zero (λ s stands. absurd (in-none s stands)) n n (omega arith) within in
@@ -214,10 +214,10 @@ module _ (permits : ℕ) (history : List Entry) (legal : IsLegal permits history
       let apart : AreWaitsApart (object_before permits history m) =
       waits-apart permits history legal m (omega arith) in
       let start : IsClosed (object_before permits history (suc m)) k =
-      rw (object-next permits history m d gets_d)
+      rw (object-next IsAllowed after_entry (opening permits) history m d gets_d)
       (closed-collected (object_before permits history m) d k apart (legal.at m d gets_d) collects_d) in
       let still : IsClosed (object_before permits history n) k =
-      walk permits history (λ i o. IsClosed o k) legal
+      walk IsAllowed after_entry (opening permits) history (λ i o. IsClosed o k) legal
       (λ i f got allowed c. closed-entry (object_before permits history i) f k allowed c)
       (suc m) start (n - suc m) n (omega arith) (omega arith) in
       closed-collects_not (object_before permits history n) e k (legal.at n e gets_e) collects_e still

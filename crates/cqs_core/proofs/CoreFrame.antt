@@ -11,12 +11,12 @@ use Rattle.cqs_core.specs.QueueLine as queue
 use Rattle.cqs_core.specs.QueueMoves as move
 use Rattle.cqs_core.specs.QueueMoves.{Move, IsOpen, moved}
 use Rattle.cqs_core.specs.QueueCover.{IsFair}
-use Rattle.cqs_core.specs.SemaphoreObject.{Semaphore}
+use Rattle.cqs_core.specs.SemaphoreObject.{Semaphore, opening}
 use Rattle.cqs_core.specs.SemaphoreEntries.{IsAllowed, after_entry, object_after, IsLegal}
 use Rattle.cqs_core.specs.SemaphoreTable.{Shape, lowest, last_number}
 use Rattle.cqs_core.specs.SemaphoreShown.{IsCore, HasLoaded, shown, free_of, short_of}
 use Rattle.cqs_core.proofs.EachAtLemmas.{EachAt-write}
-use Rattle.cqs_core.proofs.HistoryPush.{object-push, legal-push}
+use Rattle.cqs_core.proofs.Histories.{object-push, legal-push}
 use Rattle.cqs_core.proofs.Sound.{sound-moved}
 use Rattle.cqs_core.proofs.CoveredMoved.{covered-moved}
 
@@ -129,8 +129,8 @@ core-push s m z held e core opens fair words short conserved allowed shows =
     let may_come : IsAllowed (object_after s.permits s.history) e =
     subst (λ (o : Semaphore). IsAllowed o e) (sym object) allowed in
     core-step s m z held (s.history ++ e ∷ []) core opens fair words short conserved
-    (legal-push s.permits s.history e may_come core.legal)
-    (object-push s.permits s.history e ∙ ap (λ o. after_entry o e) object ∙ shows)
+    (legal-push IsAllowed after_entry (opening s.permits) s.history e may_come core.legal)
+    (object-push IsAllowed after_entry (opening s.permits) s.history e ∙ ap (λ o. after_entry o e) object ∙ shows)
 
 -- a step without one
 pub core-quiet : (s : Shape) (m : Move) (z : ℤ) (held : List ℕ)

@@ -5,15 +5,18 @@ use Rattle.cqs_core.specs.declared.doings.Doing.{Doing}
 use Rattle.cqs_core.specs.declared.entries.Entry.{Entry}
 use Rattle.cqs_core.specs.declared.entries.Entry.TheVariants as entry
 use Rattle.cqs_core.specs.Numbered.{EachAt}
-use Rattle.cqs_core.specs.QueueLine.{door, line, served, way, ready}
+use Rattle.cqs_core.specs.QueueLine.{door, line, way, ready}
 use Rattle.cqs_core.specs.QueueMoves.{Move, IsOpen, moved}
 use Rattle.cqs_core.specs.QueueCover.{IsFair}
 use Rattle.cqs_core.specs.SemaphoreObject.{Semaphore}
-use Rattle.cqs_core.specs.SemaphoreEntries.{IsAllowed, after_entry, find_wait, with_service, closed}
+use Rattle.cqs_core.specs.SemaphoreEntries.{IsAllowed, after_entry, closed}
 use Rattle.cqs_core.specs.SemaphoreTable.{Shape, moves, last_number}
 use Rattle.cqs_core.specs.SemaphoreShown.{IsCore, HasLoaded, shown, free_of, short_of}
 use Rattle.cqs_core.proofs.CoreFrame.{WordsFit, TellsShort, Conserves, seen, altered, same-semaphore, core-push, core-quiet}
 use Rattle.cqs_core.proofs.DeliveryMoves.{Delivers, Closes}
+use Rattle.cqs_core.proofs.QueueServes.{Serves}
+use Rattle.cqs_core.specs.QueueWaiters.{waiters, is_reached}
+use Rattle.cqs_core.specs.QueueState.{Queue}
 use Rattle.cqs_core.proofs.HiddenMoves.{LooksSame}
 use Rattle.cqs_core.proofs.Places.{get-below}
 use Rattle.cqs_core.proofs.Sound.{sound-moved}
@@ -110,24 +113,24 @@ pub delivered-core : (s : Shape) (m : Move) (held : List ℕ) (k c : ℕ)
     → length held ≡ length s.held → sum held + ready (moved s.queue m) ≡ sum s.held + ready s.queue + 1
     → IsCore (altered s s.state held (s.history ++ entry.Deliver k ∷ []) (moved s.queue m))
 delivered-core s m held k c core opens fair delivers resumes loaded holders more =
+    let q : Queue = s.queue in
+    let r : Queue = moved s.queue m in
+    let serves : Serves q r k c = delivers.serves in
     let words : WordsFit s m s.state held = record {
       state = core.range.state;
-      suspends = rw delivers.suspends core.range.suspends;
+      suspends = rw (ap (λ w. w.next) serves.waiters) core.range.suspends;
       resumes = resumes;
       loaded = loaded;
       holders = holders;
     } in
-    let doors : length (door (moved s.queue m)) ≡ length (door s.queue) = ap length delivers.door in
-    let short : TellsShort s.state (moved s.queue m) =
-    omega (arith, delivers.shorter, delivers.going, delivers.ending, core.short) in
-    let conserved : Conserves s.permits s.state held (moved s.queue m) =
-    omega (arith, more, delivers.going, delivers.ending, core.conserved) in
-    let one_fewer : way s.queue - 1 ≡ way (moved s.queue m) = omega (arith, delivers.going, delivers.ending) in
-    let served_too : with_service (find_wait k (line s.queue)) (served s.queue) ≡ served (moved s.queue m) =
-    ap (λ w. with_service w (served s.queue)) delivers.found ∙ sym delivers.served in
-    let shows : after_entry (shown s) (entry.Deliver k) ≡ seen s.state held (moved s.queue m) =
-    same-semaphore refl one_fewer (sym delivers.door) (sym delivers.line) (sym delivers.suspends) served_too
-    (sym more) in
+    let short : TellsShort s.state r = omega (arith, serves.due, serves.going, serves.ending, core.short) in
+    let conserved : Conserves s.permits s.state held r =
+    omega (arith, more, serves.going, serves.ending, core.conserved) in
+    let one_fewer : way q - 1 ≡ way r = omega (arith, serves.going, serves.ending) in
+    let after : is_reached (waiters q) k ≡ waiters r = sym serves.waiters in
+    let shows : after_entry (shown s) (entry.Deliver k) ≡ seen s.state held r =
+    same-semaphore refl one_fewer (ap (λ w. w.door) after) (ap (λ w. w.line) after) (ap (λ w. w.next) after)
+    (ap (λ w. w.served) after) (sym more) in
     core-push s m s.state held (entry.Deliver k) core opens fair words short conserved (c, delivers.first) shows
 
 -- The permit of wait k, which was served, is looked at: it is the pass's.

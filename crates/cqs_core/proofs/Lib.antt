@@ -40,9 +40,9 @@ pub mod StateWord
 pub mod WaysChange
 pub mod HiddenMoves
 pub mod DrawMoves
+pub mod QueueServes
 pub mod DeliveryMoves
 pub mod LineMoves
-pub mod HistoryPush
 pub mod RowsKeep
 pub mod CoreFrame
 pub mod CoreSteps

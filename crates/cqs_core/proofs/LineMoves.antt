@@ -13,7 +13,7 @@ use Rattle.cqs_core.specs.QueueMoves as move
 use Rattle.cqs_core.specs.QueueMoves.{IsCancelling, moved}
 use Rattle.cqs_core.specs.QueueSound.{IsSound, IsOwn}
 use Rattle.cqs_core.proofs.Counts.{bit}
-use Rattle.cqs_core.proofs.DeliveryMoves.{waiting}
+use Rattle.cqs_core.proofs.QueueServes.{waiting}
 use Rattle.cqs_core.proofs.HiddenMoves.{stays-not}
 use Rattle.cqs_core.proofs.Keys.{Around, around-kept, around-came, around-went, around-shorter, length-placed}
 use Rattle.cqs_core.proofs.LineReads.{caller, wait_of, line-turn, line-around, door-around}

@@ -11,7 +11,8 @@ use Rattle.cqs_core.specs.QueueLine.{in_line}
 use Rattle.cqs_core.specs.SemaphoreTable.{Shape, gains, records, moves}
 use Rattle.cqs_core.specs.SemaphoreShown.{IsCore}
 use Rattle.cqs_core.proofs.CoreSteps.{gains-sum, holds-there, hidden-push, closed-core}
-use Rattle.cqs_core.proofs.DeliveryMoves.{waiting, closes-collect}
+use Rattle.cqs_core.proofs.QueueServes.{waiting}
+use Rattle.cqs_core.proofs.DeliveryMoves.{closes-collect}
 use Rattle.cqs_core.proofs.HiddenMoves.{looks-same}
 use Rattle.cqs_core.proofs.Picked.{picked-in}
 

@@ -14,7 +14,8 @@ use Rattle.cqs_core.specs.SemaphoreTable.{Shape, gains, records, moves, last_num
 use Rattle.cqs_core.specs.SemaphoreShown.{IsCore, shown}
 use Rattle.cqs_core.proofs.CoreFrame.{WordsFit, TellsShort, Conserves, seen, same-semaphore, core-push, loaded-turn}
 use Rattle.cqs_core.proofs.CoreSteps.{gains-sum, holds-there, hidden-quiet, delivered-core}
-use Rattle.cqs_core.proofs.DeliveryMoves.{waiting, delivers-take_value, take_value-ready}
+use Rattle.cqs_core.proofs.QueueServes.{waiting}
+use Rattle.cqs_core.proofs.DeliveryMoves.{delivers-take_value, take_value-ready}
 use Rattle.cqs_core.proofs.DrawMoves.{enters-draw}
 use Rattle.cqs_core.proofs.HiddenMoves.{same-install}
 use Rattle.cqs_core.proofs.Picked.{picked-in}

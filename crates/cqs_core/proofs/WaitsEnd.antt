@@ -5,7 +5,7 @@ use Rattle.cqs_core.specs.declared.entries.Entry.{Entry}
 use Rattle.cqs_core.specs.declared.entries.Entry.TheVariants as entry
 use Rattle.cqs_core.specs.Keyed.{without}
 use Rattle.cqs_core.specs.QueueLine.{Waiting}
-use Rattle.cqs_core.specs.SemaphoreObject.{Semaphore, due}
+use Rattle.cqs_core.specs.SemaphoreObject.{Semaphore, opening, due}
 use Rattle.cqs_core.specs.SemaphoreEntries.{IsAllowed, Waits, after_entry, turned_back, IsLegal, IsFirst}
 use Rattle.cqs_core.specs.SemaphoreLaws.{object_before, EndsWait, EveryWaitEndsOnce, ServiceIsInOrder}
 use Rattle.cqs_core.proofs.Places.{get-below}
@@ -17,7 +17,7 @@ use Rattle.cqs_core.proofs.Waits.{waiting_key, IsGone, AreWaitsApart, gone-entry
 module _ (permits : ℕ) (history : List Entry) (legal : IsLegal permits history) where
   pub waits-apart : (n : ℕ) → n ≤ length history → AreWaitsApart (object_before permits history n)
   waits-apart n within =
-      walk-all permits history AreWaitsApart legal (λ o e allowed a. apart-entry o e allowed a)
+      walk-all IsAllowed after_entry (opening permits) history AreWaitsApart legal (λ o e allowed a. apart-entry o e allowed a)
       (apart-opening permits) n within
 
   -- two entries that each would be the last of their kind for wait k: the second can't come
@@ -26,11 +26,11 @@ module _ (permits : ℕ) (history : List Entry) (legal : IsLegal permits history
   ends-not_later k m n d e gets_d gets_e ends_d ends_e later =
       let within : n < length history = get-below history n e gets_e in
       let gone : IsGone (object_before permits history (suc m)) k =
-      rw (object-next permits history m d gets_d)
+      rw (object-next IsAllowed after_entry (opening permits) history m d gets_d)
       (gone-ended (object_before permits history m) d k
       (waits-apart m (omega arith)) (legal.at m d gets_d) ends_d) in
       let still : IsGone (object_before permits history n) k =
-      walk permits history (λ i o. IsGone o k) legal
+      walk IsAllowed after_entry (opening permits) history (λ i o. IsGone o k) legal
       (λ i f got allowed g. gone-entry (object_before permits history i) f k allowed g)
       (suc m) gone (n - suc m) n (omega arith) (omega arith) in
       gone-ends_not (object_before permits history n) e k (legal.at n e gets_e) ends_e still
@@ -93,11 +93,11 @@ service-in-order permits history m n j k legal single gets_j gets_k later =
     let apart : AreWaitsApart (object_before permits history m) =
     waits-apart permits history legal m (omega arith) in
     let start : AreNumberedFrom (j + 1) (object_before permits history (suc m)) =
-    rw (object-next permits history m (entry.Deliver j) gets_j)
+    rw (object-next IsAllowed after_entry (opening permits) history m (entry.Deliver j) gets_j)
     (behind-first j (object_before permits history m).next (object_before permits history m).line
     first apart.line) in
     let still : AreNumberedFrom (j + 1) (object_before permits history n) =
-    walk permits history (λ i o. AreNumberedFrom (j + 1) o) legal
+    walk IsAllowed after_entry (opening permits) history (λ i o. AreNumberedFrom (j + 1) o) legal
     (λ i f got allowed from. numbered-entry (j + 1) (object_before permits history i) f allowed from)
     (suc m) start (n - suc m) n (omega arith) (omega arith) in
     go (object_before permits history n) still (legal.at n (entry.Deliver k) gets_k)

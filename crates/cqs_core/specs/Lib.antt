@@ -1,8 +1,10 @@
 pub mod Numbered
 pub mod Keyed
 pub mod Parts
+pub mod Histories
 pub mod QueueState
 pub mod QueueLine
+pub mod QueueWaiters
 pub mod QueueMoves
 pub mod QueueSound
 pub mod QueueCells

@@ -1,21 +1,15 @@
 -- The entries of the fair semaphore: where each may come, and what it changes. A history is legal where each of its
 -- entries may come after those before it.
-use Rattle.std.specs.Prelude.{◌≡◌, ◌⊎◌, ℕ, ◌+◌, ◌-◌, ◌<◌, ◌==◌, nat_lt, true, false, List, [], ◌∷◌, ◌++◌, Option, Some, None, take, slice_get, if◌then◌else◌}
+use Rattle.std.specs.Prelude.{◌≡◌, ◌⊎◌, ℕ, ◌+◌, ◌-◌, ◌<◌, nat_lt, false, List, [], ◌∷◌, ◌++◌, take, if◌then◌else◌}
 use Rattle.std.specs.List.{fold}
 use Rattle.cqs_core.specs.declared.entries.Entry.{Entry}
 use Rattle.cqs_core.specs.declared.entries.Entry.TheVariants as entry
+use Rattle.cqs_core.specs.Histories.{IsLegalFrom}
 use Rattle.cqs_core.specs.Numbered.{IsIn}
 use Rattle.cqs_core.specs.Keyed.{placed, without, changed}
-use Rattle.cqs_core.specs.QueueLine.{Waiting, Service}
+use Rattle.cqs_core.specs.QueueLine.{Waiting}
+pub use Rattle.cqs_core.specs.QueueWaiters.{Waits, IsServed, find_wait, with_service}
 use Rattle.cqs_core.specs.SemaphoreObject.{Semaphore, opening, due}
-
--- the caller of wait k is in this list
-abbrev pub Waits : ℕ → ℕ → List Waiting → Type 0
-Waits k c waits = IsIn (record { wait = k; pass = c }) waits
-
--- wait k was served for c, and its permit hasn't been looked at
-abbrev pub IsServed : ℕ → ℕ → List Service → Type 0
-IsServed k c served = IsIn (record { wait = k; pass = c; is_open = true }) served
 
 -- where an entry may come
 abbrev pub IsAllowed : Semaphore → Entry → Type 0
@@ -42,15 +36,6 @@ at_door o c = record o { door = placed (λ d. d) c o.door }
 abbrev pub entered : Semaphore → ℕ → ℕ → Semaphore
 entered o c k =
     record o { door = without (λ d. d) c o.door; line = o.line ++ record { wait = k; pass = c } ∷ []; next = o.next + 1 }
-
--- who waits under number k
-abbrev pub find_wait : ℕ → List Waiting → Option Waiting
-find_wait k [] = None
-find_wait k (w ∷ waits) = if k == w.wait then Some w else find_wait k waits
-
-abbrev pub with_service : Option Waiting → List Service → List Service
-with_service None served = served
-with_service (Some w) served = placed (λ s. s.wait) (record { wait = w.wait; pass = w.pass; is_open = true }) served
 
 -- a permit on its way reaches wait k
 abbrev pub delivered : Semaphore → ℕ → Semaphore
@@ -94,8 +79,8 @@ abbrev pub object_after : ℕ → List Entry → Semaphore
 object_after permits history = fold after_entry (opening permits) history
 
 -- each entry may come after those before it
-pub record IsLegal (permits : ℕ) (history : List Entry) : Type 0 where
-  pub at : (n : ℕ) (e : Entry) → slice_get history n ≡ Some e → IsAllowed (object_after permits (take n history)) e
+abbrev pub IsLegal : ℕ → List Entry → Type 0
+IsLegal permits history = IsLegalFrom IsAllowed after_entry (opening permits) history
 
 -- The laws of the semaphore. No permit is lost; no more are on their way than wait; and none is free while some wait
 -- for whom none is on its way.

@@ -17,7 +17,7 @@ use Rattle.cqs_core.proofs.DeliveryMoves.{Delivers, Closes}
 use Rattle.cqs_core.proofs.QueueServes.{Serves}
 use Rattle.cqs_core.specs.QueueWaiters.{waiters, is_reached}
 use Rattle.cqs_core.specs.QueueState.{Queue}
-use Rattle.cqs_core.proofs.HiddenMoves.{LooksSame}
+use Rattle.cqs_core.proofs.HiddenMoves.{Keeps, keeps-due}
 use Rattle.cqs_core.proofs.Places.{get-below}
 use Rattle.cqs_core.proofs.Sound.{sound-moved}
 use Rattle.cqs_core.proofs.CoveredMoved.{covered-moved}
@@ -48,63 +48,63 @@ holds-there s p d core does = let there = get-below s.queue.doing p d does in om
 abbrev pub with_permits : Semaphore → ℕ → ℕ → Semaphore
 with_permits o free held = record o { free = free; held = held }
 
-way-same : (s : Shape) (m : Move) → IsCore s → IsOpen s.queue m → IsFair s.queue m
-    → LooksSame s.queue (moved s.queue m) → way s.queue ≡ way (moved s.queue m)
-way-same s m core opens fair same =
+way-same : (s : Shape) (m : Move) (n : ℕ) → IsCore s → IsOpen s.queue m → IsFair s.queue m
+    → Keeps s.queue (moved s.queue m) n → way s.queue ≡ way (moved s.queue m)
+way-same s m n core opens fair keeps =
     let sound_after = sound-moved s.queue m core.sound opens in
     let covered_after = covered-moved s.queue m core.sound core.covered opens fair in
     let within = ending-within s.queue core.sound core.covered in
     let within_after = ending-within (moved s.queue m) sound_after covered_after in
-    omega (arith, same.way, within, within_after)
+    omega (arith, keeps.going, keeps.ending, within, within_after)
 
-hidden-short : (s : Shape) (m : Move) (z : ℤ) → IsCore s → LooksSame s.queue (moved s.queue m)
+hidden-short : (s : Shape) (m : Move) (n : ℕ) (z : ℤ) → IsCore s → Keeps s.queue (moved s.queue m) n
     → short_of z ≡ short_of s.state → TellsShort z (moved s.queue m)
-hidden-short s m z core same short_same =
-    let doors : length (door (moved s.queue m)) ≡ length (door s.queue) = ap length same.door in
-    let lines : length (line (moved s.queue m)) ≡ length (line s.queue) = ap length same.line in
-    omega (arith, same.way, core.short)
+hidden-short s m n z core keeps short_same =
+    omega (arith, keeps.going, keeps.ending, keeps-due s.queue (moved s.queue m) n keeps, core.short)
 
-hidden-conserved : (s : Shape) (m : Move) (z : ℤ) (held : List ℕ) → IsCore s
-    → LooksSame s.queue (moved s.queue m)
+hidden-conserved : (s : Shape) (m : Move) (n : ℕ) (z : ℤ) (held : List ℕ) → IsCore s
+    → Keeps s.queue (moved s.queue m) n
     → sum held + free_of z ≡ sum s.held + free_of s.state → Conserves s.permits z held (moved s.queue m)
-hidden-conserved s m z held core same permits_same = omega (arith, same.ready, same.way, core.conserved)
+hidden-conserved s m n z held core keeps permits_same =
+    omega (arith, keeps.ready, keeps.going, keeps.ending, core.conserved)
 
-hidden-shows : (s : Shape) (m : Move) (z : ℤ) (held : List ℕ) → way s.queue ≡ way (moved s.queue m)
-    → LooksSame s.queue (moved s.queue m)
+hidden-shows : (s : Shape) (m : Move) (n : ℕ) (z : ℤ) (held : List ℕ) → way s.queue ≡ way (moved s.queue m)
+    → Keeps s.queue (moved s.queue m) n
     → with_permits (shown s) (free_of z) (sum held + ready s.queue) ≡ seen z held (moved s.queue m)
-hidden-shows s m z held ways same =
-    same-semaphore refl ways (sym same.door) (sym same.line) (sym same.suspends) (sym same.served)
-    (ap (λ n. sum held + n) (sym same.ready))
+hidden-shows s m n z held ways keeps =
+    let after : waiters s.queue ≡ waiters (moved s.queue m) = sym keeps.waiters in
+    same-semaphore refl ways (ap (λ w. w.door) after) (ap (λ w. w.line) after) (ap (λ w. w.next) after)
+    (ap (λ w. w.served) after) (ap (λ n. sum held + n) (sym keeps.ready))
 
-pub hidden-push : (s : Shape) (m : Move) (z : ℤ) (held : List ℕ) (e : Entry)
-    → IsCore s → IsOpen s.queue m → IsFair s.queue m → LooksSame s.queue (moved s.queue m) → WordsFit s m z held
+pub hidden-push : {n : ℕ} (s : Shape) (m : Move) (z : ℤ) (held : List ℕ) (e : Entry)
+    → IsCore s → IsOpen s.queue m → IsFair s.queue m → Keeps s.queue (moved s.queue m) n → WordsFit s m z held
     → short_of z ≡ short_of s.state → sum held + free_of z ≡ sum s.held + free_of s.state
     → IsAllowed (shown s) e
     → after_entry (shown s) e ≡ with_permits (shown s) (free_of z) (sum held + ready s.queue)
     → IsCore (altered s z held (s.history ++ e ∷ []) (moved s.queue m))
-hidden-push s m z held e core opens fair same words short_same permits_same allowed changes =
+hidden-push {n} s m z held e core opens fair keeps words short_same permits_same allowed changes =
     core-push s m z held e core opens fair words
-    (hidden-short s m z core same short_same)
-    (hidden-conserved s m z held core same permits_same)
+    (hidden-short s m n z core keeps short_same)
+    (hidden-conserved s m n z held core keeps permits_same)
     allowed
-    (changes ∙ hidden-shows s m z held (way-same s m core opens fair same) same)
+    (changes ∙ hidden-shows s m n z held (way-same s m n core opens fair keeps) keeps)
 
-pub hidden-quiet : (s : Shape) (m : Move)
-    → IsCore s → IsOpen s.queue m → IsFair s.queue m → LooksSame s.queue (moved s.queue m)
+pub hidden-quiet : {n : ℕ} (s : Shape) (m : Move)
+    → IsCore s → IsOpen s.queue m → IsFair s.queue m → Keeps s.queue (moved s.queue m) n
     → (moved s.queue m).resumes ≤ last_number → EachAt HasLoaded (moved s.queue m).doing
     → IsCore (moves s m)
-hidden-quiet s m core opens fair same resumes loaded =
+hidden-quiet {n} s m core opens fair keeps resumes loaded =
     let words : WordsFit s m s.state s.held = record {
       state = core.range.state;
-      suspends = rw same.suspends core.range.suspends;
+      suspends = rw (ap (λ w. w.next) keeps.waiters) core.range.suspends;
       resumes = resumes;
       loaded = loaded;
       holders = refl;
     } in
     core-quiet s m s.state s.held core opens fair words
-    (hidden-short s m s.state core same refl)
-    (hidden-conserved s m s.state s.held core same refl)
-    (hidden-shows s m s.state s.held (way-same s m core opens fair same) same)
+    (hidden-short s m n s.state core keeps refl)
+    (hidden-conserved s m n s.state s.held core keeps refl)
+    (hidden-shows s m n s.state s.held (way-same s m n core opens fair keeps) keeps)
 
 -- A permit on its way reaches wait k of pass c.
 pub delivered-core : (s : Shape) (m : Move) (held : List ℕ) (k c : ℕ)

@@ -15,7 +15,7 @@ use Rattle.cqs_core.specs.QueueMoves as move
 use Rattle.cqs_core.specs.QueueMoves.{moved, cells_drawn, cells_reached}
 use Rattle.cqs_core.specs.QueueSound.{IsSound, IsSoundAt, IsUninstalled, IsUntaken}
 use Rattle.cqs_core.proofs.Counts.{bit, count_at-same, count_at-push, count_at-write, count_by-write, count_by-push}
-use Rattle.cqs_core.proofs.HiddenMoves.{LooksSame}
+use Rattle.cqs_core.proofs.HiddenMoves.{Keeps, same-waiters}
 use Rattle.cqs_core.proofs.Keys.{AllBelow, around-kept, around-came, around-went, around-shorter, placed-last}
 use Rattle.cqs_core.proofs.LineReads.{caller, wait_of, service_wait, line-keyed, line-turn, served-around, door-around}
 use Rattle.cqs_core.proofs.Picked.{picked-push, picked-low, picked-around}
@@ -24,7 +24,7 @@ use Rattle.cqs_core.proofs.Tickets.{is_ticket-other, has_ticket-frame, has_ticke
 use Rattle.cqs_core.proofs.WaysChange.{unmet-frame}
 
 -- a cell that a draw makes adds nothing that it doesn't show
-picked-reached : {Y : Type 0} (f : ℕ → CoreCell → Option Y) → ((n : ℕ) → f n fresh_cell ≡ None)
+pub picked-reached : {Y : Type 0} (f : ℕ → CoreCell → Option Y) → ((n : ℕ) → f n fresh_cell ≡ None)
     → (cells : List CoreCell) (found : Option CoreCell)
     → picked f 0 (cells_reached cells found) ≡ picked f 0 cells
 picked-reached f none cells (Some found) = refl
@@ -33,7 +33,7 @@ picked-reached f none cells None =
     ∙ ap (λ o. picked f 0 cells ++ cons_option o []) (none (length cells))
     ∙ append-nil (picked f 0 cells)
 
-count_by-reached : (p : CoreCell → Bool) → p fresh_cell ≡ false
+pub count_by-reached : (p : CoreCell → Bool) → p fresh_cell ≡ false
     → (cells : List CoreCell) (found : Option CoreCell)
     → count_by p (cells_reached cells found) ≡ count_by p cells
 count_by-reached p none cells (Some found) = refl
@@ -42,7 +42,7 @@ count_by-reached p none cells None =
     let nothing : bit (p fresh_cell) ≡ 0 = ap bit none in
     omega arith
 
-count_at-reached : (p : ℕ → CoreCell → Bool) → ((n : ℕ) → p n fresh_cell ≡ false)
+pub count_at-reached : (p : ℕ → CoreCell → Bool) → ((n : ℕ) → p n fresh_cell ≡ false)
     → (cells : List CoreCell) (found : Option CoreCell)
     → count_at p 0 (cells_reached cells found) ≡ count_at p 0 cells
 count_at-reached p none cells (Some found) = refl
@@ -52,7 +52,7 @@ count_at-reached p none cells None =
     omega arith
 
 -- the counter passes a refused cell, and its ticket opens: it stays unmet
-unmet-reached : (q : Queue) (p j : ℕ) (s : CoreState) → slice_get q.doing p ≡ Some doing.Owes
+pub unmet-reached : (q : Queue) (p j : ℕ) (s : CoreState) → slice_get q.doing p ≡ Some doing.Owes
     → is_unmet_refusal q.resumes q.doing j s
     ≡ is_unmet_refusal (q.resumes + 1) (set q.doing p (doing.Ticket q.resumes)) j s
 unmet-reached q p j state.Refused does = go (cases_eq j q.resumes)
@@ -78,9 +78,9 @@ unmet-reached q p j state.Refused does = go (cases_eq j q.resumes)
         counter (inr past) = le-leb q.resumes j past ∙ sym (le-leb (q.resumes + 1) j (omega arith))
 unmet-reached q p j _ does = refl
 
-pub same-reach : (q : Queue) (p : ℕ) (found : Option CoreCell) → slice_get q.doing p ≡ Some doing.Owes
-    → LooksSame q (moved q (move.reach p q.resumes found))
-same-reach q p found does =
+pub keeps-reach : (q : Queue) (p : ℕ) (found : Option CoreCell) → slice_get q.doing p ≡ Some doing.Owes
+    → Keeps q (moved q (move.reach p q.resumes found)) 0
+keeps-reach q p found does =
     let ticket : Doing = doing.Ticket q.resumes in
     let after : List Doing = set q.doing p ticket in
     let resuming = count_by-write is_resuming q.doing p doing.Owes ticket does in
@@ -91,13 +91,14 @@ same-reach q p found does =
     count_at-same (is_unmet q.resumes q.doing) (is_unmet (q.resumes + 1) after) q.cells q.cells refl others
     in
     record {
-      suspends = refl;
-      door = around-kept caller p _ _ _ _ (door-around q.doing p doing.Owes ticket does) refl;
-      line = picked-reached (in_line after) (λ n. refl) q.cells found
-          ∙ line-turn q.doing q.cells p doing.Owes ticket does (λ k. refl);
-      served = picked-reached is_served (λ n. refl) q.cells found;
+      waiters =
+          same-waiters (around-kept caller p _ _ _ _ (door-around q.doing p doing.Owes ticket does) refl)
+          (picked-reached (in_line after) (λ n. refl) q.cells found
+          ∙ line-turn q.doing q.cells p doing.Owes ticket does (λ k. refl)) refl
+          (picked-reached is_served (λ n. refl) q.cells found);
       ready = count_by-reached has_ready refl q.cells found;
-      way = omega arith;
+      going = omega arith;
+      ending = omega arith;
     }
   where
     others : (j : ℕ) (x y : CoreCell) → slice_get q.cells j ≡ Some x → slice_get q.cells j ≡ Some y

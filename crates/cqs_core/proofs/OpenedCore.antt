@@ -19,19 +19,19 @@ use Rattle.cqs_core.proofs.Counts.{count_by-none}
 use Rattle.cqs_core.proofs.StepKeeps.{row-core}
 
 module _ {X : Type 0} where
-  get-replicate : (n i : ℕ) (x y : X) → slice_get (replicate n x) i ≡ Some y → y ≡ x
+  pub get-replicate : (n i : ℕ) (x y : X) → slice_get (replicate n x) i ≡ Some y → y ≡ x
   get-replicate zero i x y got = absurd (cc)
   get-replicate (suc n) zero x y got = cc
   get-replicate (suc n) (suc i) x y got = get-replicate n i x y got
 
-sum-replicate : (n : ℕ) → sum (replicate n 0) ≡ 0
+pub sum-replicate : (n : ℕ) → sum (replicate n 0) ≡ 0
 sum-replicate zero = refl
 sum-replicate (suc n) =
     let more = sum_by-cons (λ x. x) 0 (replicate n 0) in
     let rest = sum-replicate n in
     omega arith
 
-nobody-at_door : (n k : ℕ) → picked at_door k (replicate n doing.Idle) ≡ []
+pub nobody-at_door : (n k : ℕ) → picked at_door k (replicate n doing.Idle) ≡ []
 nobody-at_door zero k = refl
 nobody-at_door (suc n) k = nobody-at_door n (suc k)
 
@@ -39,7 +39,7 @@ nobody-at_door (suc n) k = nobody-at_door n (suc k)
 idle : ℕ → ℕ → Doing → Type 0
 idle n p d = d ≡ doing.Idle
 
-opened-sound : (passes : ℕ) → IsSound (opened 1 passes).queue
+pub opened-sound : (passes : ℕ) → IsSound (opened 1 passes).queue
 opened-sound passes =
     record {
       made = refl;

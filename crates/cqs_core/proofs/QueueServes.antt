@@ -13,9 +13,9 @@ use Rattle.cqs_core.specs.QueueLine.{Waiting, Service, at_door, door, in_line, w
 use Rattle.cqs_core.specs.QueueMoves as move
 use Rattle.cqs_core.specs.QueueMoves.{Works, moved, now_doing, with_cell, at_state}
 use Rattle.cqs_core.specs.QueueSound.{IsSound, IsSoundAt, IsOwn, IsUntaken, IsTicket}
-use Rattle.cqs_core.specs.QueueWaiters.{find_wait, with_service, Waiters, waiters, is_reached}
+use Rattle.cqs_core.specs.QueueWaiters.{find_wait, with_service, waiters, is_reached}
 use Rattle.cqs_core.proofs.Counts.{bit}
-use Rattle.cqs_core.proofs.HiddenMoves.{Writes, no-other-ticket}
+use Rattle.cqs_core.proofs.HiddenMoves.{Writes, same-waiters, no-other-ticket}
 use Rattle.cqs_core.proofs.Keys.{AllBelow, Around, around-kept, around-came, around-went, around-shorter}
 use Rattle.cqs_core.proofs.LineReads.{caller, wait_of, service_wait, line-around, served-around, door-around}
 use Rattle.cqs_core.proofs.Picked.{picked-in}
@@ -41,10 +41,6 @@ waiting k c = record { wait = k; pass = c }
 
 abbrev pub service : ℕ → ℕ → Bool → Service
 service k c b = record { wait = k; pass = c; is_open = b }
-
-pub same-waiters : {a b : Waiters} → a.door ≡ b.door → a.line ≡ b.line → a.next ≡ b.next → a.served ≡ b.served → a ≡ b
-same-waiters door line next served = λ i.
-    record { door = door i; line = line i; next = next i; served = served i }
 
 -- A resumption reaches the wait k of pass c, whose cell was found so: it stood in the line, and goes to those that were
 -- served; one resumption fewer goes on, and one wait fewer is due.

@@ -13,7 +13,7 @@ use Rattle.cqs_core.specs.SemaphoreShown.{IsCore}
 use Rattle.cqs_core.proofs.CoreFrame.{loaded-turn}
 use Rattle.cqs_core.proofs.CoreSteps.{gains-sum, holds-there, hidden-quiet, closed-core}
 use Rattle.cqs_core.proofs.DeliveryMoves.{closes-collect}
-use Rattle.cqs_core.proofs.HiddenMoves.{same-begin_cancel, same-cancel, same-cancel_owing, same-refuse, same-refuse_left}
+use Rattle.cqs_core.proofs.HiddenMoves.{keeps-begin_cancel, keeps-cancel, keeps-cancel_owing, keeps-refuse, keeps-refuse_left}
 
 -- Leave, the wait stands
 pub leave-waiter : (s : Shape) (p k : ℕ) (found : CoreCell) → IsCore s
@@ -21,7 +21,7 @@ pub leave-waiter : (s : Shape) (p k : ℕ) (found : CoreCell) → IsCore s
     → IsCore (moves s (move.begin_cancel p k found))
 leave-waiter s p k found core works owns =
     hidden-quiet s (move.begin_cancel p k found) core (works, owns) tt
-    (same-begin_cancel s.queue p k found works owns)
+    (keeps-begin_cancel s.queue p k found works owns)
     core.range.resumes (loaded-turn s.queue.doing p doing.Idle (doing.Leaving k) works.does tt core.loaded)
 
 -- Leave, the wait was served before
@@ -41,7 +41,7 @@ leave-late s p k found core works owns =
 pub settle-cancelled : (s : Shape) (p k : ℕ) (found : CoreCell) → IsCore s
     → Works s.queue p (doing.Decided k true) k found state.Cancelling → IsCore (moves s (move.cancel p k found))
 settle-cancelled s p k found core works =
-    hidden-quiet s (move.cancel p k found) core works tt (same-cancel s.queue p k found core.sound works)
+    hidden-quiet s (move.cancel p k found) core works tt (keeps-cancel s.queue p k found core.sound works)
     core.range.resumes
     (loaded-turn s.queue.doing p (doing.Decided k true) doing.Idle works.does tt core.loaded)
 
@@ -51,7 +51,7 @@ pub settle-owing : (s : Shape) (p k : ℕ) (found : CoreCell) → IsCore s
     → IsCore (moves s (move.cancel_owing p k found))
 settle-owing s p k found core works =
     hidden-quiet s (move.cancel_owing p k found) core works tt
-    (same-cancel_owing s.queue p k found core.sound works) core.range.resumes
+    (keeps-cancel_owing s.queue p k found core.sound works) core.range.resumes
     (loaded-turn s.queue.doing p (doing.Decided k true) doing.Owes works.does tt core.loaded)
 
 -- Settle, the cell is refused and no resume has met it
@@ -61,7 +61,7 @@ pub settle-refused : (s : Shape) (p k : ℕ) (found : CoreCell) → IsCore s
 settle-refused s p k found core works =
     let cancelling : IsCancelling found.state = rw works.at tt in
     hidden-quiet s (move.refuse p k found) core (works.does, works.finds, cancelling) tt
-    (same-refuse s.queue p k found core.sound works) core.range.resumes
+    (keeps-refuse s.queue p k found core.sound works) core.range.resumes
     (loaded-turn s.queue.doing p (doing.Decided k false) doing.Idle works.does tt core.loaded)
 
 -- Settle, the cell is refused and ends the resumption that left its value there
@@ -70,5 +70,5 @@ pub settle-ended : (s : Shape) (p k : ℕ) (found : CoreCell) → IsCore s
 settle-ended s p k found core works =
     let cancelling : IsCancelling found.state = rw works.at tt in
     hidden-quiet s (move.refuse p k found) core (works.does, works.finds, cancelling) tt
-    (same-refuse_left s.queue p k found core.sound works) core.range.resumes
+    (keeps-refuse_left s.queue p k found core.sound works) core.range.resumes
     (loaded-turn s.queue.doing p (doing.Decided k false) doing.Idle works.does tt core.loaded)

@@ -13,7 +13,7 @@ use Rattle.cqs_core.specs.SemaphoreShown.{IsCore}
 use Rattle.cqs_core.proofs.CoreSteps.{gains-sum, holds-there, hidden-push, closed-core}
 use Rattle.cqs_core.proofs.QueueServes.{waiting}
 use Rattle.cqs_core.proofs.DeliveryMoves.{closes-collect}
-use Rattle.cqs_core.proofs.HiddenMoves.{looks-same}
+use Rattle.cqs_core.proofs.HiddenMoves.{keeps-same}
 use Rattle.cqs_core.proofs.Picked.{picked-in}
 
 -- Look, the wait stands
@@ -22,7 +22,7 @@ pub look-pending : (s : Shape) (p k : ℕ) (found : CoreCell) → IsCore s
     → IsCore (records s (entry.LookPending p k))
 look-pending s p k found core works owns =
     let waits : in_line s.queue.doing k found ≡ Some (waiting k p) = rw (works.at, owns.owner) refl in
-    hidden-push s move.stay s.state s.held (entry.LookPending p k) core tt tt (looks-same s.queue)
+    hidden-push s move.stay s.state s.held (entry.LookPending p k) core tt tt (keeps-same s.queue)
     (record {
       state = core.range.state;
       suspends = core.range.suspends;

@@ -14,8 +14,8 @@ use Rattle.cqs_core.specs.SemaphoreShown.{IsCore, shown, free_of, short_of}
 use Rattle.cqs_core.proofs.CoreFrame.{WordsFit, TellsShort, Conserves, seen, same-semaphore, core-push, loaded-turn}
 use Rattle.cqs_core.proofs.CoreSteps.{loses-sum, held-within, holds-there, with_permits, hidden-push, hidden-quiet, delivered-core}
 use Rattle.cqs_core.proofs.DeliveryMoves.{delivers-serve, serve-ready}
-use Rattle.cqs_core.proofs.DrawMoves.{same-reach}
-use Rattle.cqs_core.proofs.HiddenMoves.{looks-same, same-leave_value, same-delegate, same-pass_over, same-meet_refused}
+use Rattle.cqs_core.proofs.DrawMoves.{keeps-reach}
+use Rattle.cqs_core.proofs.HiddenMoves.{keeps-same, keeps-leave_value, keeps-delegate, keeps-pass_over, keeps-meet_refused}
 use Rattle.cqs_core.proofs.LineMoves.{turn-owes}
 use Rattle.cqs_core.proofs.FirstOfWay.{ending-within}
 use Rattle.cqs_core.proofs.StateWord.{short-above, free-below, short-below, add-short, add-short_free, add-free, add-free_short, add-range, below-within}
@@ -80,7 +80,7 @@ give-freed s p core does holds above =
       loaded = core.loaded;
       holders = length-set s.held p (slice_index s.held p - 1);
     } in
-    hidden-push s move.stay z held (entry.GiveFreed p) core tt tt (looks-same s.queue) words
+    hidden-push s move.stay z held (entry.GiveFreed p) core tt tt (keeps-same s.queue) words
     (add-free_short s.state above ∙ sym none_short)
     (omega arith)
     (some-held s p there holds, as_many)
@@ -93,7 +93,7 @@ pub reach-number : (s : Shape) (p : ℕ) → IsCore s → slice_get s.queue.doin
 reach-number s p core does below =
     let k : ℕ = s.queue.resumes in
     hidden-quiet s (move.reach p k (slice_get s.queue.cells k)) core (does, refl, refl) tt
-    (same-reach s.queue p (slice_get s.queue.cells k) does)
+    (keeps-reach s.queue p (slice_get s.queue.cells k) does)
     (omega arith)
     (loaded-turn s.queue.doing p doing.Owes (doing.Ticket k) does tt core.loaded)
 
@@ -113,7 +113,7 @@ meet-waiter s p k found core works =
 pub meet-empty : (s : Shape) (p k : ℕ) (found : CoreCell) → IsCore s
     → Works s.queue p (doing.Ticket k) k found state.Empty → IsCore (moves s (move.leave_value p k found))
 meet-empty s p k found core works =
-    hidden-quiet s (move.leave_value p k found) core works tt (same-leave_value s.queue p k found works)
+    hidden-quiet s (move.leave_value p k found) core works tt (keeps-leave_value s.queue p k found works)
     core.range.resumes
     (loaded-turn s.queue.doing p (doing.Ticket k) doing.Idle works.does tt core.loaded)
 
@@ -121,7 +121,7 @@ meet-empty s p k found core works =
 pub meet-cancelling : (s : Shape) (p k : ℕ) (found : CoreCell) → IsCore s
     → Works s.queue p (doing.Ticket k) k found state.Cancelling → IsCore (moves s (move.delegate p k found))
 meet-cancelling s p k found core works =
-    hidden-quiet s (move.delegate p k found) core works tt (same-delegate s.queue p k found works)
+    hidden-quiet s (move.delegate p k found) core works tt (keeps-delegate s.queue p k found works)
     core.range.resumes
     (loaded-turn s.queue.doing p (doing.Ticket k) doing.Idle works.does tt core.loaded)
 
@@ -129,7 +129,7 @@ meet-cancelling s p k found core works =
 pub meet-cancelled : (s : Shape) (p k : ℕ) (found : CoreCell) → IsCore s
     → Works s.queue p (doing.Ticket k) k found state.Cancelled → IsCore (moves s (move.pass_over p k found))
 meet-cancelled s p k found core works =
-    hidden-quiet s (move.pass_over p k found) core works tt (same-pass_over s.queue p k found works)
+    hidden-quiet s (move.pass_over p k found) core works tt (keeps-pass_over s.queue p k found works)
     core.range.resumes
     (loaded-turn s.queue.doing p (doing.Ticket k) doing.Owes works.does tt core.loaded)
 
@@ -138,5 +138,5 @@ pub meet-refused : (s : Shape) (p k : ℕ) (found : CoreCell) → IsCore s
     → Works s.queue p (doing.Ticket k) k found state.Refused → IsCore (moves s (move.meet_refused p k found))
 meet-refused s p k found core works =
     hidden-quiet s (move.meet_refused p k found) core works tt
-    (same-meet_refused s.queue p k found core.sound works) core.range.resumes
+    (keeps-meet_refused s.queue p k found core.sound works) core.range.resumes
     (loaded-turn s.queue.doing p (doing.Ticket k) doing.Idle works.does tt core.loaded)

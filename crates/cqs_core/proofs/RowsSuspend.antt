@@ -17,7 +17,7 @@ use Rattle.cqs_core.proofs.CoreSteps.{gains-sum, holds-there, hidden-quiet, deli
 use Rattle.cqs_core.proofs.QueueServes.{waiting}
 use Rattle.cqs_core.proofs.DeliveryMoves.{delivers-take_value, take_value-ready}
 use Rattle.cqs_core.proofs.DrawMoves.{enters-draw}
-use Rattle.cqs_core.proofs.HiddenMoves.{same-install}
+use Rattle.cqs_core.proofs.HiddenMoves.{keeps-install}
 use Rattle.cqs_core.proofs.Picked.{picked-in}
 
 -- Draw
@@ -56,7 +56,7 @@ draw-number s p core does below =
 pub install-waiter : (s : Shape) (p k : ℕ) (found : CoreCell) → IsCore s
     → Works s.queue p (doing.Drawn k) k found state.Empty → IsCore (moves s (move.install p k found))
 install-waiter s p k found core works =
-    hidden-quiet s (move.install p k found) core works tt (same-install s.queue p k found works)
+    hidden-quiet s (move.install p k found) core works tt (keeps-install s.queue p k found works)
     core.range.resumes
     (loaded-turn s.queue.doing p (doing.Drawn k) doing.Idle works.does tt core.loaded)
 

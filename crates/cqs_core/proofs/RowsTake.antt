@@ -11,7 +11,7 @@ use Rattle.cqs_core.specs.SemaphoreTable.{Shape, gains, takes, records, moves, l
 use Rattle.cqs_core.specs.SemaphoreShown.{IsCore, shown, free_of, short_of}
 use Rattle.cqs_core.proofs.CoreFrame.{WordsFit, TellsShort, Conserves, seen, same-semaphore, core-push, loaded-turn}
 use Rattle.cqs_core.proofs.CoreSteps.{gains-sum, holds-there, with_permits, hidden-push, hidden-quiet}
-use Rattle.cqs_core.proofs.HiddenMoves.{looks-same, same-turn}
+use Rattle.cqs_core.proofs.HiddenMoves.{keeps-same, keeps-turn}
 use Rattle.cqs_core.proofs.LineMoves.{turn-door}
 use Rattle.cqs_core.proofs.StateWord.{free-above, short-above, free-below, take-free, take-free_short, take-short, take-short_free, take-range, above-within, lowest-below}
 
@@ -31,7 +31,7 @@ take-now s p core does above free =
       loaded = core.loaded;
       holders = length-set s.held p (slice_index s.held p + 1);
     } in
-    hidden-push s move.stay z held (entry.TakeNow p) core tt tt (looks-same s.queue) words
+    hidden-push s move.stay z held (entry.TakeNow p) core tt tt (keeps-same s.queue) words
     (take-free_short s.state free ∙ sym (short-above s.state (above-within s.state free)))
     (omega arith)
     (free-above s.state free)
@@ -68,7 +68,7 @@ take-door s p core does above none =
 -- TryLoad, none is free
 pub try-busy : (s : Shape) (p : ℕ) → IsCore s → s.state ≤ℤ pos 0 → IsCore (records s (entry.TryBusy p))
 try-busy s p core none =
-    hidden-push s move.stay s.state s.held (entry.TryBusy p) core tt tt (looks-same s.queue)
+    hidden-push s move.stay s.state s.held (entry.TryBusy p) core tt tt (keeps-same s.queue)
     (record {
       state = core.range.state;
       suspends = core.range.suspends;
@@ -83,7 +83,7 @@ pub try-loaded : (s : Shape) (p : ℕ) → IsCore s → slice_get s.queue.doing 
     → IsCore (moves s (move.turn p doing.Idle (doing.TryAt s.state)))
 try-loaded s p core does free =
     hidden-quiet s (move.turn p doing.Idle (doing.TryAt s.state)) core (does, tt, tt) tt
-    (same-turn s.queue p doing.Idle (doing.TryAt s.state) does refl (λ m. refl) (λ m. refl) refl refl)
+    (keeps-turn s.queue p doing.Idle (doing.TryAt s.state) does refl (λ m. refl) (λ m. refl) refl refl)
     core.range.resumes
     (loaded-turn s.queue.doing p doing.Idle (doing.TryAt s.state) does free core.loaded)
 
@@ -108,7 +108,7 @@ try-got s p v core does same =
       holders = length-set s.held p (slice_index s.held p + 1);
     } in
     hidden-push s m z held (entry.TryGot p) core (does, tt, tt) tt
-    (same-turn s.queue p (doing.TryAt v) doing.Idle does refl (λ k. refl) (λ k. refl) refl refl) words
+    (keeps-turn s.queue p (doing.TryAt v) doing.Idle does refl (λ k. refl) (λ k. refl) refl refl) words
     (take-free_short s.state free ∙ sym (short-above s.state (above-within s.state free)))
     (omega arith)
     (free-above s.state free)
@@ -119,6 +119,6 @@ pub try-contended : (s : Shape) (p : ℕ) (v : ℤ) → IsCore s → slice_get s
     → IsCore (moves s (move.turn p (doing.TryAt v) doing.Idle))
 try-contended s p v core does =
     hidden-quiet s (move.turn p (doing.TryAt v) doing.Idle) core (does, tt, tt) tt
-    (same-turn s.queue p (doing.TryAt v) doing.Idle does refl (λ m. refl) (λ m. refl) refl refl)
+    (keeps-turn s.queue p (doing.TryAt v) doing.Idle does refl (λ m. refl) (λ m. refl) refl refl)
     core.range.resumes
     (loaded-turn s.queue.doing p (doing.TryAt v) doing.Idle does tt core.loaded)

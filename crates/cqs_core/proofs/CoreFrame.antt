@@ -11,6 +11,7 @@ use Rattle.cqs_core.specs.QueueLine as queue
 use Rattle.cqs_core.specs.QueueMoves as move
 use Rattle.cqs_core.specs.QueueMoves.{Move, IsOpen, moved}
 use Rattle.cqs_core.specs.QueueCover.{IsFair}
+use Rattle.cqs_core.specs.QueueWaiters.{Waiters}
 use Rattle.cqs_core.specs.SemaphoreObject.{Semaphore, opening}
 use Rattle.cqs_core.specs.SemaphoreEntries.{IsAllowed, after_entry, object_after, IsLegal}
 use Rattle.cqs_core.specs.SemaphoreTable.{Shape, lowest, last_number}
@@ -31,6 +32,16 @@ same-semaphore free way door line next served held = λ i. record {
   served = served i;
   held = held i;
 }
+
+-- the waiters of a semaphore
+abbrev pub waiters_of : Semaphore → Waiters
+waiters_of o = record { door = o.door; line = o.line; next = o.next; served = o.served }
+
+pub same-by_waiters : {a b : Semaphore} → a.free ≡ b.free → a.way ≡ b.way → waiters_of a ≡ waiters_of b → a.held ≡ b.held
+    → a ≡ b
+same-by_waiters free way waiters held =
+    same-semaphore free way (ap (λ w. w.door) waiters) (ap (λ w. w.line) waiters) (ap (λ w. w.next) waiters)
+    (ap (λ w. w.served) waiters) held
 
 -- the semaphore that these words and this queue show
 abbrev pub seen : ℤ → List ℕ → Queue → Semaphore

@@ -5,17 +5,17 @@ use Rattle.cqs_core.specs.declared.doings.Doing.{Doing}
 use Rattle.cqs_core.specs.declared.entries.Entry.{Entry}
 use Rattle.cqs_core.specs.declared.entries.Entry.TheVariants as entry
 use Rattle.cqs_core.specs.Numbered.{EachAt}
-use Rattle.cqs_core.specs.QueueLine.{door, line, way, ready}
+use Rattle.cqs_core.specs.QueueLine.{due, way, ready}
 use Rattle.cqs_core.specs.QueueMoves.{Move, IsOpen, moved}
 use Rattle.cqs_core.specs.QueueCover.{IsFair}
 use Rattle.cqs_core.specs.SemaphoreObject.{Semaphore}
 use Rattle.cqs_core.specs.SemaphoreEntries.{IsAllowed, after_entry, closed}
 use Rattle.cqs_core.specs.SemaphoreTable.{Shape, moves, last_number}
 use Rattle.cqs_core.specs.SemaphoreShown.{IsCore, HasLoaded, shown, free_of, short_of}
-use Rattle.cqs_core.proofs.CoreFrame.{WordsFit, TellsShort, Conserves, seen, altered, same-semaphore, core-push, core-quiet}
+use Rattle.cqs_core.proofs.CoreFrame.{WordsFit, TellsShort, Conserves, seen, altered, same-by_waiters, core-push, core-quiet}
 use Rattle.cqs_core.proofs.DeliveryMoves.{Delivers, Closes}
 use Rattle.cqs_core.proofs.QueueServes.{Serves}
-use Rattle.cqs_core.specs.QueueWaiters.{waiters, is_reached}
+use Rattle.cqs_core.specs.QueueWaiters.{due_of}
 use Rattle.cqs_core.specs.QueueState.{Queue}
 use Rattle.cqs_core.proofs.HiddenMoves.{Keeps, keeps-due}
 use Rattle.cqs_core.proofs.Places.{get-below}
@@ -72,9 +72,7 @@ hidden-shows : (s : Shape) (m : Move) (n : ℕ) (z : ℤ) (held : List ℕ) → 
     → Keeps s.queue (moved s.queue m) n
     → with_permits (shown s) (free_of z) (sum held + ready s.queue) ≡ seen z held (moved s.queue m)
 hidden-shows s m n z held ways keeps =
-    let after : waiters s.queue ≡ waiters (moved s.queue m) = sym keeps.waiters in
-    same-semaphore refl ways (ap (λ w. w.door) after) (ap (λ w. w.line) after) (ap (λ w. w.next) after)
-    (ap (λ w. w.served) after) (ap (λ n. sum held + n) (sym keeps.ready))
+    same-by_waiters refl ways (sym keeps.waiters) (ap (λ n. sum held + n) (sym keeps.ready))
 
 pub hidden-push : {n : ℕ} (s : Shape) (m : Move) (z : ℤ) (held : List ℕ) (e : Entry)
     → IsCore s → IsOpen s.queue m → IsFair s.queue m → Keeps s.queue (moved s.queue m) n → WordsFit s m z held
@@ -127,10 +125,8 @@ delivered-core s m held k c core opens fair delivers resumes loaded holders more
     let conserved : Conserves s.permits s.state held r =
     omega (arith, more, serves.going, serves.ending, core.conserved) in
     let one_fewer : way q - 1 ≡ way r = omega (arith, serves.going, serves.ending) in
-    let after : is_reached (waiters q) k ≡ waiters r = sym serves.waiters in
     let shows : after_entry (shown s) (entry.Deliver k) ≡ seen s.state held r =
-    same-semaphore refl one_fewer (ap (λ w. w.door) after) (ap (λ w. w.line) after) (ap (λ w. w.next) after)
-    (ap (λ w. w.served) after) (sym more) in
+    same-by_waiters refl one_fewer (sym serves.waiters) (sym more) in
     core-push s m s.state held (entry.Deliver k) core opens fair words short conserved (c, delivers.first) shows
 
 -- The permit of wait k, which was served, is looked at: it is the pass's.
@@ -143,13 +139,12 @@ pub closed-core : (s : Shape) (m : Move) (held : List ℕ) (e : Entry) (k c : �
 closed-core s m held e k c core opens fair closes resumes loaded holders more allowed changes =
     let words : WordsFit s m s.state held = record {
       state = core.range.state;
-      suspends = rw closes.suspends core.range.suspends;
+      suspends = rw (ap (λ w. w.next) closes.waiters) core.range.suspends;
       resumes = resumes;
       loaded = loaded;
       holders = holders;
     } in
-    let doors : length (door (moved s.queue m)) ≡ length (door s.queue) = ap length closes.door in
-    let lines : length (line (moved s.queue m)) ≡ length (line s.queue) = ap length closes.line in
+    let as_due : due (moved s.queue m) ≡ due s.queue = ap due_of closes.waiters in
     let short : TellsShort s.state (moved s.queue m) = omega (arith, closes.going, closes.ending, core.short) in
     let conserved : Conserves s.permits s.state held (moved s.queue m) =
     omega (arith, more, closes.ready, closes.going, closes.ending, core.conserved) in
@@ -157,6 +152,5 @@ closed-core s m held e k c core opens fair closes resumes loaded holders more al
     let held_same : sum s.held + ready s.queue ≡ sum held + ready (moved s.queue m) =
     omega (arith, closes.ready) in
     let shows : closed (shown s) k ≡ seen s.state held (moved s.queue m) =
-    same-semaphore refl as_many (sym closes.door) (sym closes.line) (sym closes.suspends) (sym closes.served)
-    held_same in
+    same-by_waiters refl as_many (sym closes.waiters) held_same in
     core-push s m s.state held e core opens fair words short conserved allowed (changes ∙ shows)

@@ -5,9 +5,9 @@ use Rattle.cqs_core.specs.declared.cells.CoreState.{CoreState}
 use Rattle.cqs_core.specs.declared.cells.CoreState.TheVariants as state
 use Rattle.cqs_core.specs.declared.doings.Doing.TheVariants as doing
 use Rattle.cqs_core.specs.Numbered.{IsIn}
-use Rattle.cqs_core.specs.Keyed.{changed}
 use Rattle.cqs_core.specs.QueueState.{Queue}
-use Rattle.cqs_core.specs.QueueLine.{door, in_line, line, is_served, served, has_left, is_unmet, has_ready, ready, going, ending, way}
+use Rattle.cqs_core.specs.QueueLine.{in_line, line, is_served, served, has_left, is_unmet, has_ready, ready, going, ending, way}
+use Rattle.cqs_core.specs.QueueWaiters.{waiters, closes}
 use Rattle.cqs_core.specs.QueueMoves as move
 use Rattle.cqs_core.specs.QueueMoves.{Works, Owns, moved, now_doing, with_cell, at_state}
 use Rattle.cqs_core.specs.QueueSound.{IsSound, IsSoundAt}
@@ -17,6 +17,7 @@ use Rattle.cqs_core.proofs.Keys.{around-kept, around-changed}
 use Rattle.cqs_core.proofs.LineReads.{wait_of, service_wait, served-around, line-keyed}
 use Rattle.cqs_core.proofs.Picked.{picked-in, picked-around}
 use Rattle.cqs_core.proofs.FirstOfWay.{first-of-way}
+use Rattle.cqs_core.proofs.HiddenMoves.{same-waiters}
 use Rattle.cqs_core.proofs.QueueServes.{waiting, service, Serves, serves-take_value, serves-serve}
 
 -- A permit on its way reaches the wait k of pass c, which is among the first of the line.
@@ -64,14 +65,10 @@ serve-ready q p k found sound works =
     let one : bit (has_ready new) ≡ 1 = ap (λ b. bit (not b)) cell.2 in
     omega arith
 
--- The permit of wait k, which is pass c's, is looked at.
+-- What came for wait k, which is pass c's, is looked at: for any client.
 pub record Closes (q r : Queue) (k c : ℕ) : Type 0 where
   pub served_open : IsIn (service k c true) (served q)
-  pub suspends : r.suspends ≡ q.suspends
-  pub door : door r ≡ door q
-  pub line : line r ≡ line q
-  pub served : served r ≡ changed service_wait k
-      (λ s. record { wait = s.wait; pass = s.pass; is_open = false }) (served q)
+  pub waiters : waiters r ≡ closes (waiters q) k
   pub ready : ready r + 1 ≡ ready q
   pub going : going r ≡ going q
   pub ending : ending r ≡ ending q
@@ -96,13 +93,11 @@ closes-collect q p k found works owns =
     record {
       served_open =
           picked-in is_served 0 q.cells k k found (service k p true) (omega arith) works.finds was_open;
-      suspends = refl;
-      door = refl;
-      line = around-kept wait_of k _ _ _ _ kept refl;
-      served =
-          around-changed service_wait k _ _ _ _ (served-around q.cells k found new works.finds)
+      waiters =
+          same-waiters refl (around-kept wait_of k _ _ _ _ kept refl) refl
+          (around-changed service_wait k _ _ _ _ (served-around q.cells k found new works.finds)
           (service k p true)
-          (λ s. record { wait = s.wait; pass = s.pass; is_open = false }) was_open is_closed refl;
+          (λ s. record { wait = s.wait; pass = s.pass; is_open = false }) was_open is_closed refl);
       ready = omega arith;
       going = omega arith;
       ending = omega arith;

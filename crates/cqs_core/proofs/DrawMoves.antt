@@ -1,6 +1,7 @@
 -- The moves that draw a number: one to resume at is hidden from the fair semaphore, one to suspend at enters
 -- the line.
 use Rattle.std.proofs.Common.{◌≡◌, ◌≢◌, ◌⊎◌, inl, inr, ℕ, ◌+◌, ◌<◌, ◌≤◌, Bool, true, false, ◌||◌, nat_le, List, [], ◌∷◌, ◌++◌, Option, Some, None, length, set, slice_get, count_by, refl, ap, ap₂, sym, ◌∙◌, arith, append-nil, le-leb}
+use Rattle.std.proofs.lemmas.List.{length_push}
 use Rattle.std.proofs.lemmas.Bool.{cases_eq, cases_lt, lt-leb, or_left, or_right}
 use Rattle.cqs_core.specs.declared.cells.CoreCell.{CoreCell}
 use Rattle.cqs_core.specs.declared.cells.CoreState.{CoreState}
@@ -8,9 +9,9 @@ use Rattle.cqs_core.specs.declared.cells.CoreState.TheVariants as state
 use Rattle.cqs_core.specs.declared.doings.Doing.{Doing}
 use Rattle.cqs_core.specs.declared.doings.Doing.TheVariants as doing
 use Rattle.cqs_core.specs.Numbered.{cons_option, picked, count_at}
-use Rattle.cqs_core.specs.Keyed.{without}
 use Rattle.cqs_core.specs.QueueState.{Queue, fresh_cell, owner_doing, has_ticket}
-use Rattle.cqs_core.specs.QueueLine.{Waiting, door, in_line, stays_in_line, waiting_of, line, service_of, is_served, served, is_resuming, is_told_refused, has_left, is_unmet, is_unmet_refusal, going, ending, has_ready, ready}
+use Rattle.cqs_core.specs.QueueLine.{Waiting, in_line, stays_in_line, waiting_of, line, service_of, is_served, is_resuming, is_told_refused, has_left, is_unmet, is_unmet_refusal, going, ending, due, has_ready, ready}
+use Rattle.cqs_core.specs.QueueWaiters.{waiters, enters}
 use Rattle.cqs_core.specs.QueueMoves as move
 use Rattle.cqs_core.specs.QueueMoves.{moved, cells_drawn, cells_reached}
 use Rattle.cqs_core.specs.QueueSound.{IsSound, IsSoundAt, IsUninstalled, IsUntaken}
@@ -139,11 +140,8 @@ undrawn q k found sound finds past =
 
 -- A pass at the door draws the next number: it leaves the door and is the last of the line.
 pub record Enters (q r : Queue) (p k : ℕ) : Type 0 where
-  pub suspends : r.suspends ≡ q.suspends + 1
-  pub shorter : length (door r) + 1 ≡ length (door q)
-  pub door : door r ≡ without caller p (door q)
-  pub line : line r ≡ line q ++ record { wait = k; pass = p } ∷ []
-  pub served : served r ≡ served q
+  pub waiters : waiters r ≡ enters (waiters q) p k
+  pub due : due r ≡ due q
   pub ready : ready r ≡ ready q
   pub going : going r ≡ going q
   pub ending : ending r ≡ ending q
@@ -261,14 +259,15 @@ enters-draw q p found sound does finds =
     let unmets = drawn.unmet q.resumes in
     let kept =
     count_at-same (is_unmet q.resumes q.doing) (is_unmet q.resumes after) q.cells q.cells refl others in
+    let lines : line (moved q (move.draw p q.suspends found))
+    ≡ line q ++ record { wait = q.suspends; pass = p } ∷ [] =
+    drawn.line
+    ∙ ap (λ waits. waits ++ record { wait = q.suspends; pass = p } ∷ [])
+    (line-turn q.doing q.cells p doing.Door to does (λ k. refl)) in
+    let fewer = around-shorter caller p _ _ _ _ went p refl refl in
     record {
-      suspends = refl;
-      door = around-went caller p _ _ _ _ went p refl refl refl;
-      shorter = around-shorter caller p _ _ _ _ went p refl refl;
-      line = drawn.line
-          ∙ ap (λ waits. waits ++ record { wait = q.suspends; pass = p } ∷ [])
-          (line-turn q.doing q.cells p doing.Door to does (λ k. refl));
-      served = drawn.served;
+      waiters = same-waiters (around-went caller p _ _ _ _ went p refl refl refl) lines refl drawn.served;
+      due = omega (arith, fewer, ap length lines, length_push (line q) (record { wait = q.suspends; pass = p }));
       ready = drawn.ready;
       going = omega arith;
       ending = omega arith;

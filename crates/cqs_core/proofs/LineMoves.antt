@@ -1,20 +1,21 @@
 -- The moves by which a pass comes to the door, a resumption begins, and a wait leaves the line.
-use Rattle.std.proofs.Common.{◌≡◌, ◌≢◌, ℕ, ◌+◌, Bool, true, false, List, Option, Some, None, length, set, slice_get, refl, ap, ap₂, sym, ◌∙◌, subst, arith, eq-eqb, ne_eqb}
+use Rattle.std.proofs.Common.{◌≡◌, ◌≢◌, ℕ, ◌+◌, Bool, true, false, List, Option, Some, None, length, set, slice_get, refl, ap, ap₂, sym, subst, arith, eq-eqb, ne_eqb}
 use Rattle.cqs_core.specs.declared.cells.CoreCell.{CoreCell}
 use Rattle.cqs_core.specs.declared.cells.CoreState.{CoreState}
 use Rattle.cqs_core.specs.declared.cells.CoreState.TheVariants as state
 use Rattle.cqs_core.specs.declared.doings.Doing.{Doing}
 use Rattle.cqs_core.specs.declared.doings.Doing.TheVariants as doing
 use Rattle.cqs_core.specs.Numbered.{picked, IsIn}
-use Rattle.cqs_core.specs.Keyed.{placed, without}
+use Rattle.cqs_core.specs.Keyed.{placed}
 use Rattle.cqs_core.specs.QueueState.{Queue, owner_doing, is_leaving}
-use Rattle.cqs_core.specs.QueueLine.{at_door, door, in_line, stays_in_line, waiting_of, line, going, ending, is_resuming, is_told_refused}
+use Rattle.cqs_core.specs.QueueLine.{at_door, door, in_line, stays_in_line, waiting_of, line, going, ending, due, is_resuming, is_told_refused}
+use Rattle.cqs_core.specs.QueueWaiters.{waiters, comes, goes}
 use Rattle.cqs_core.specs.QueueMoves as move
 use Rattle.cqs_core.specs.QueueMoves.{IsCancelling, moved}
 use Rattle.cqs_core.specs.QueueSound.{IsSound, IsOwn}
 use Rattle.cqs_core.proofs.Counts.{bit}
 use Rattle.cqs_core.proofs.QueueServes.{waiting}
-use Rattle.cqs_core.proofs.HiddenMoves.{stays-not}
+use Rattle.cqs_core.proofs.HiddenMoves.{same-waiters, stays-not}
 use Rattle.cqs_core.proofs.Keys.{Around, around-kept, around-came, around-went, around-shorter, length-placed}
 use Rattle.cqs_core.proofs.LineReads.{caller, wait_of, line-turn, line-around, door-around}
 use Rattle.cqs_core.proofs.Picked.{picked-in}
@@ -23,9 +24,8 @@ use Rattle.cqs_core.proofs.WaysChange.{ways-turn, set-same}
 
 -- A pass comes to the door.
 pub record ComesToDoor (q r : Queue) (p : ℕ) : Type 0 where
-  pub longer : length (door r) ≡ length (door q) + 1
-  pub door : door r ≡ placed caller p (door q)
-  pub line : line r ≡ line q
+  pub waiters : waiters r ≡ comes (waiters q) p
+  pub due : due r ≡ due q + 1
   pub going : going r ≡ going q
   pub ending : ending r ≡ ending q
 
@@ -35,18 +35,18 @@ turn-door q p does =
     let ways = ways-turn q p doing.Idle doing.Door does (λ m. refl) in
     let came : door (moved q (move.turn p doing.Idle doing.Door)) ≡ placed caller p (door q) =
     around-came caller p _ _ _ _ (door-around q.doing p doing.Idle doing.Door does) p refl refl refl in
+    let lines : line (moved q (move.turn p doing.Idle doing.Door)) ≡ line q =
+    line-turn q.doing q.cells p doing.Idle doing.Door does (λ k. refl) in
     record {
-      longer = ap length came ∙ length-placed caller p (door q);
-      door = came;
-      line = line-turn q.doing q.cells p doing.Idle doing.Door does (λ k. refl);
+      waiters = same-waiters came lines refl refl;
+      due = omega (arith, ap length came, ap length lines, length-placed caller p (door q));
       going = omega (arith, ways.goes);
       ending = omega (arith, ways.ends);
     }
 
 -- A pass owes a resumption: one more is on its way.
 pub record BeginsResume (q r : Queue) : Type 0 where
-  pub door : door r ≡ door q
-  pub line : line r ≡ line q
+  pub waiters : waiters r ≡ waiters q
   pub going : going r ≡ going q + 1
   pub ending : ending r ≡ ending q
 
@@ -55,8 +55,9 @@ pub turn-owes : (q : Queue) (p : ℕ) → slice_get q.doing p ≡ Some doing.Idl
 turn-owes q p does =
     let ways = ways-turn q p doing.Idle doing.Owes does (λ m. refl) in
     record {
-      door = around-kept caller p _ _ _ _ (door-around q.doing p doing.Idle doing.Owes does) refl;
-      line = line-turn q.doing q.cells p doing.Idle doing.Owes does (λ k. refl);
+      waiters =
+          same-waiters (around-kept caller p _ _ _ _ (door-around q.doing p doing.Idle doing.Owes does) refl)
+          (line-turn q.doing q.cells p doing.Idle doing.Owes does (λ k. refl)) refl refl;
       going = omega (arith, ways.goes);
       ending = omega (arith, ways.ends);
     }
@@ -64,9 +65,8 @@ turn-owes q p does =
 -- The wait k of pass p leaves the line; as many more resumptions as `more` will end at a refused cell.
 pub record LeavesLine (q r : Queue) (k p more : ℕ) : Type 0 where
   pub waits : IsIn (waiting k p) (line q)
-  pub shorter : length (line r) + 1 ≡ length (line q)
-  pub door : door r ≡ door q
-  pub line : line r ≡ without wait_of k (line q)
+  pub waiters : waiters r ≡ goes (waiters q) k
+  pub due : due r + 1 ≡ due q
   pub going : going r ≡ going q
   pub ending : ending r ≡ ending q + more
 
@@ -103,12 +103,13 @@ decide-leaves q p k on sound does =
     (set-same q.cells k cell own.found)
     (line-around q.doing q.cells p (doing.Leaving k) to k cell cell does own.found
     (λ m other. decided-other k m on other)) in
+    let doors : door (moved q (move.decide p k on)) ≡ door q =
+    around-kept caller p _ _ _ _ (door-around q.doing p (doing.Leaving k) to does) (decided-door p k on) in
+    let fewer = around-shorter wait_of k _ _ _ _ went (waiting k p) waits gone in
     record {
       waits = picked-in (in_line q.doing) 0 q.cells k k cell (waiting k p) (omega arith) own.found waits;
-      shorter = around-shorter wait_of k _ _ _ _ went (waiting k p) waits gone;
-      door =
-          around-kept caller p _ _ _ _ (door-around q.doing p (doing.Leaving k) to does) (decided-door p k on);
-      line = around-went wait_of k _ _ _ _ went (waiting k p) waits gone refl;
+      waiters = same-waiters doors (around-went wait_of k _ _ _ _ went (waiting k p) waits gone refl) refl refl;
+      due = omega (arith, fewer, ap length doors);
       going = omega (arith, ways.goes, resuming);
       ending = omega (arith, ways.ends);
     }

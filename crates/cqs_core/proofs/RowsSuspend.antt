@@ -1,6 +1,6 @@
 -- The steps of a suspend keep the core: the caller draws a number, and installs its waiter or takes the value.
-use Rattle.std.proofs.Common.{◌≡◌, ℕ, ◌+◌, ◌<◌, Some, length, set, sum, slice_get, slice_index, refl, sym, ap, ◌∙◌, arith}
-use Rattle.std.proofs.lemmas.List.{length-set, length_push}
+use Rattle.std.proofs.Common.{◌≡◌, ℕ, ◌+◌, ◌<◌, Some, length, set, sum, slice_get, slice_index, refl, sym, ap, arith}
+use Rattle.std.proofs.lemmas.List.{length-set}
 use Rattle.cqs_core.specs.declared.cells.CoreCell.{CoreCell}
 use Rattle.cqs_core.specs.declared.cells.CoreState.TheVariants as state
 use Rattle.cqs_core.specs.declared.doings.Doing.TheVariants as doing
@@ -8,13 +8,12 @@ use Rattle.cqs_core.specs.declared.entries.Entry.TheVariants as entry
 use Rattle.cqs_core.specs.Numbered.{IsIn}
 use Rattle.cqs_core.specs.QueueMoves as move
 use Rattle.cqs_core.specs.QueueMoves.{Move, moved, Works}
-use Rattle.cqs_core.specs.QueueLine.{at_door, door, line, way}
+use Rattle.cqs_core.specs.QueueLine.{at_door, door, way}
 use Rattle.cqs_core.specs.SemaphoreEntries.{after_entry}
 use Rattle.cqs_core.specs.SemaphoreTable.{Shape, gains, records, moves, last_number}
 use Rattle.cqs_core.specs.SemaphoreShown.{IsCore, shown}
-use Rattle.cqs_core.proofs.CoreFrame.{WordsFit, TellsShort, Conserves, seen, same-semaphore, core-push, loaded-turn}
+use Rattle.cqs_core.proofs.CoreFrame.{WordsFit, TellsShort, Conserves, seen, same-by_waiters, core-push, loaded-turn}
 use Rattle.cqs_core.proofs.CoreSteps.{gains-sum, holds-there, hidden-quiet, delivered-core}
-use Rattle.cqs_core.proofs.QueueServes.{waiting}
 use Rattle.cqs_core.proofs.DeliveryMoves.{delivers-take_value, take_value-ready}
 use Rattle.cqs_core.proofs.DrawMoves.{enters-draw}
 use Rattle.cqs_core.proofs.HiddenMoves.{keeps-install}
@@ -29,8 +28,6 @@ draw-number s p core does below =
     let k : ℕ = s.queue.suspends in
     let m : Move = move.draw p k (slice_get s.queue.cells k) in
     let enters = enters-draw s.queue p (slice_get s.queue.cells k) core.sound does refl in
-    let longer : length (line (moved s.queue m)) ≡ length (line s.queue) + 1 =
-    ap length enters.line ∙ length_push (line s.queue) (waiting k p) in
     let words : WordsFit s m s.state s.held = record {
       state = core.range.state;
       suspends = omega arith;
@@ -39,15 +36,14 @@ draw-number s p core does below =
       holders = refl;
     } in
     let short : TellsShort s.state (moved s.queue m) =
-    omega (arith, enters.shorter, enters.going, enters.ending, core.short) in
+    omega (arith, enters.due, enters.going, enters.ending, core.short) in
     let conserved : Conserves s.permits s.state s.held (moved s.queue m) =
     omega (arith, enters.ready, enters.going, enters.ending, core.conserved) in
     let ways : way s.queue ≡ way (moved s.queue m) = omega (arith, enters.going, enters.ending) in
     let stands : IsIn p (door s.queue) =
     picked-in at_door 0 s.queue.doing p p doing.Door p (omega arith) does refl in
     let shows : after_entry (shown s) (entry.Enter p k) ≡ seen s.state s.held (moved s.queue m) =
-    same-semaphore refl ways (sym enters.door) (sym enters.line) refl (sym enters.served)
-    (ap (λ n. sum s.held + n) (sym enters.ready)) in
+    same-by_waiters refl ways (sym enters.waiters) (ap (λ n. sum s.held + n) (sym enters.ready)) in
     core-push s m s.state s.held (entry.Enter p k) core (does, refl, refl) tt words short conserved
     (stands, refl)
     shows

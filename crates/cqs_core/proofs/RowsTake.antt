@@ -1,15 +1,15 @@
 -- Take and try keep the core: a free permit goes to the caller, or the caller goes to the door.
-use Rattle.std.proofs.Common.{◌≡◌, ℕ, ◌+◌, ◌<◌, ℤ, pos, ◌≤ℤ◌, ◌<ℤ◌, ◌-ℤ◌, List, Some, length, set, sum, slice_get, slice_index, refl, sym, ap, ap₂, ◌∙◌, arith}
+use Rattle.std.proofs.Common.{◌≡◌, ℕ, ◌+◌, ◌<◌, ℤ, pos, ◌≤ℤ◌, ◌<ℤ◌, ◌-ℤ◌, List, Some, length, set, sum, slice_get, slice_index, refl, sym, ap₂, ◌∙◌, arith}
 use Rattle.std.proofs.lemmas.List.{length-set}
 use Rattle.cqs_core.specs.declared.doings.Doing.TheVariants as doing
 use Rattle.cqs_core.specs.declared.entries.Entry.TheVariants as entry
 use Rattle.cqs_core.specs.QueueMoves as move
 use Rattle.cqs_core.specs.QueueMoves.{Move, moved}
-use Rattle.cqs_core.specs.QueueLine.{line, way}
+use Rattle.cqs_core.specs.QueueLine.{way}
 use Rattle.cqs_core.specs.SemaphoreEntries.{after_entry}
 use Rattle.cqs_core.specs.SemaphoreTable.{Shape, gains, takes, records, moves, lowest}
 use Rattle.cqs_core.specs.SemaphoreShown.{IsCore, shown, free_of, short_of}
-use Rattle.cqs_core.proofs.CoreFrame.{WordsFit, TellsShort, Conserves, seen, same-semaphore, core-push, loaded-turn}
+use Rattle.cqs_core.proofs.CoreFrame.{WordsFit, TellsShort, Conserves, seen, same-by_waiters, core-push, loaded-turn}
 use Rattle.cqs_core.proofs.CoreSteps.{gains-sum, holds-there, with_permits, hidden-push, hidden-quiet}
 use Rattle.cqs_core.proofs.HiddenMoves.{keeps-same, keeps-turn}
 use Rattle.cqs_core.proofs.LineMoves.{turn-door}
@@ -45,7 +45,6 @@ take-door s p core does above none =
     let m : Move = move.turn p doing.Idle doing.Door in
     let z : ℤ = s.state -ℤ pos 1 in
     let comes = turn-door s.queue p does in
-    let lines : length (line (moved s.queue m)) ≡ length (line s.queue) = ap length comes.line in
     let not_free : free_of s.state ≡ 0 = free-below s.state none in
     let not_free_after : free_of z ≡ 0 = take-short_free s.state none in
     let one_shorter : short_of z ≡ short_of s.state + 1 = take-short s.state none in
@@ -57,12 +56,12 @@ take-door s p core does above none =
       holders = refl;
     } in
     let short : TellsShort z (moved s.queue m) =
-    omega (arith, comes.longer, comes.going, comes.ending, core.short) in
+    omega (arith, comes.due, comes.going, comes.ending, core.short) in
     let conserved : Conserves s.permits z s.held (moved s.queue m) =
     omega (arith, comes.going, comes.ending, core.conserved) in
     let ways : way s.queue ≡ way (moved s.queue m) = omega (arith, comes.going, comes.ending) in
     let shows : after_entry (shown s) (entry.TakeDoor p) ≡ seen z s.held (moved s.queue m) =
-    same-semaphore (not_free ∙ sym not_free_after) ways (sym comes.door) (sym comes.line) refl refl refl in
+    same-by_waiters (not_free ∙ sym not_free_after) ways (sym comes.waiters) refl in
     core-push s m z s.held (entry.TakeDoor p) core (does, tt, tt) tt words short conserved not_free shows
 
 -- TryLoad, none is free

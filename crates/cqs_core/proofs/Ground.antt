@@ -1,34 +1,19 @@
 -- How far the counters and the state word can come. A resumption that is owed has a wait to go to, or a caller at the door, so fewer
 -- numbers were drawn to resume at than were drawn to suspend at and wait at the door. And the state word lies no further below 0
 -- than there are callers who wait.
-use Rattle.std.proofs.Common.{sum, get_or, ◌≡◌, ℕ, zero, suc, ◌+◌, ◌<◌, ◌≤◌, max, nat_le, le-leb, Bool, true, false, ◌&&◌, List, [], ◌∷◌, Option, Some, None, length, slice_get, refl, ap, sym, ◌∙◌, arith, ⊎_elim, ℤ, pos, negsuc, ◌<ℤ◌}
-use Rattle.std.specs.List.{count_by}
-use Rattle.std.proofs.lemmas.Bool.{cases_lt, lt-leb}
+use Rattle.std.proofs.Common.{sum, get_or, ◌≡◌, ℕ, suc, ◌+◌, ◌<◌, ◌≤◌, max, List, [], ◌∷◌, Option, Some, None, length, slice_get, arith, ℤ, pos, negsuc, ◌<ℤ◌}
 use Rattle.std.proofs.lemmas.Int.{ints}
 use Rattle.std.proofs.lemmas.List.Sums.{get_or-le-sum_by}
 use Rattle.std.proofs.lemmas.Option.{get_or_from_slice_get}
 use Rattle.cqs_core.specs.declared.doings.Doing.TheVariants as doing
-use Rattle.cqs_core.specs.Numbered.{picked, cons_option, count_at}
+use Rattle.cqs_core.specs.Numbered.{picked, cons_option}
 use Rattle.cqs_core.specs.QueueState.{Queue}
 use Rattle.cqs_core.specs.QueueLine.{door, line, going, ending, due}
-use Rattle.cqs_core.specs.QueueCover.{roaming, is_owing, takes_one}
 use Rattle.cqs_core.specs.SemaphoreTable.{Shape, lowest}
 use Rattle.cqs_core.specs.SemaphoreShown.{IsCore, short_of, free_of}
-use Rattle.cqs_core.proofs.Counts.{count_at-none, count_by-write}
-use Rattle.cqs_core.proofs.Equations.{HasFlow, flow, takers, early}
 use Rattle.cqs_core.proofs.FirstOfWay.{ending-within}
-use Rattle.cqs_core.proofs.Letters.{will_take}
 use Rattle.cqs_core.proofs.Places.{get-below}
-
--- as many elements at least stand from a number on as lie behind it
-tail-long : {X : Type 0} (s k : ℕ) (xs : List X) → k + length xs ≤ max s k + count_at (λ n x. nat_le s n) k xs
-tail-long s k [] = omega arith
-tail-long s k (x ∷ xs) =
-    let rest = tail-long s (suc k) xs in
-    ⊎_elim
-    (λ (low : k < s). let is : nat_le s k ≡ false = lt-leb s k low in rw is (omega arith))
-    (λ (high : s ≤ k). let is : nat_le s k ≡ true = le-leb s k high in rw is (omega arith))
-    (cases_lt k s)
+use Rattle.cqs_core.proofs.QueueReaches.{reaches-few}
 
 picked-short : {X Y : Type 0} (f : ℕ → X → Option Y) (k : ℕ) (xs : List X) → length (picked f k xs) ≤ length xs
 picked-short f k [] = omega arith
@@ -38,36 +23,11 @@ picked-short {X} {Y} f k (x ∷ xs) = one (f k x) (picked f (suc k) xs) (picked-
     one None ys few = omega arith
     one (Some y) ys few = omega arith
 
--- where the resumes are ahead, no cell is still to be reached
-no-takers : (q : Queue) → length q.cells ≤ q.resumes → takers q ≡ 0
-no-takers q ahead = count_at-none (will_take q) q.cells (λ k cell there.
-    let below : k < length q.cells = get-below q.cells k cell there in
-    let reached : nat_le q.resumes k ≡ false = lt-leb q.resumes k (omega arith) in
-    ap (λ b. b && takes_one q.doing k cell) reached)
-
-some-owes : (q : Queue) (p : ℕ) → slice_get q.doing p ≡ Some doing.Owes → 0 < roaming q
-some-owes q p owes =
-    let less : count_by is_owing (Rattle.std.proofs.Common.set q.doing p doing.Idle) + 1 ≡ count_by is_owing q.doing + 0 = count_by-write is_owing q.doing p doing.Owes doing.Idle owes in
-    omega arith
-
 -- a resumption that is owed draws a number below those of the line and of the door
 pub reached-few : (s : Shape) (p : ℕ) → IsCore s → slice_get s.queue.doing p ≡ Some doing.Owes
     → s.queue.resumes < s.queue.suspends + length (door s.queue)
-reached-few s p core owes = ⊎_elim
-    (λ (behind : q.resumes < q.suspends). omega arith)
-    (λ (ahead : q.suspends ≤ q.resumes).
-    let flows : HasFlow q = flow q core.sound in
-    let made : length q.cells ≡ max q.suspends q.resumes = core.sound.made in
-    let whole : going q + takers q ≡ ending q + length (line q) + roaming q + early q = flows.whole in
-    let none : takers q ≡ 0 = no-takers q (omega arith) in
-    let long : 0 + length q.cells ≤ max q.suspends 0 + early q = tail-long q.suspends 0 q.cells in
-    let owed : 0 < roaming q = some-owes q p owes in
-    let short : going q + short_of s.state ≡ due q + ending q = core.short in
-    omega arith)
-    (cases_lt q.resumes q.suspends)
-  where
-    q : Queue
-    q = s.queue
+reached-few s p core owes =
+    let few = reaches-few s.queue p 0 core.sound (omega (arith, core.short)) owes in omega arith
 
 -- the state word is far above the lowest that it can hold
 pub state-above : (s : Shape) → IsCore s → s.queue.suspends < 4194304 → s.queue.resumes < 4194304 → lowest <ℤ s.state

@@ -43,6 +43,9 @@ pub mod DrawMoves
 pub mod QueueServes
 pub mod DeliveryMoves
 pub mod LineMoves
+pub mod QueueOpens
+pub mod QueueReaches
+pub mod QueueBegins
 pub mod RowsKeep
 pub mod CoreFrame
 pub mod CoreSteps

@@ -1,73 +1,28 @@
 -- A core as it is made is one, and so is each that steps lead to.
-use Rattle.std.proofs.Common.{◌≡◌, ℕ, zero, suc, ◌+◌, ◌-◌, ◌<◌, ◌≤◌, Bool, true, false, ◌&&◌, nat_lt, nat_le, List, [], ◌∷◌, length, set, sum, get_or, replicate, Option, Some, None, slice_get, slice_index, option_and_then, if◌then◌else◌, count_by, refl, sym, ap, ap₂, ◌∙◌, subst, arith, ltb-true, leb-true}
+use Rattle.std.proofs.Common.{◌≡◌, ℕ, ◌+◌, ◌-◌, ◌<◌, ◌≤◌, Bool, true, false, ◌&&◌, nat_lt, nat_le, List, [], ◌∷◌, length, set, sum, get_or, replicate, Option, Some, None, slice_index, option_and_then, if◌then◌else◌, refl, sym, ap, ap₂, ◌∙◌, subst, arith, ltb-true, leb-true}
 use Rattle.std.proofs.lemmas.Bool.{and_parts}
 use Rattle.std.proofs.lemmas.Int.{ints}
 use Rattle.std.proofs.lemmas.List.{length-set, length-replicate}
-use Rattle.std.proofs.lemmas.List.Sums.{sum_by-set, sum_by-cons}
-use Rattle.cqs_core.specs.declared.doings.Doing.{Doing}
+use Rattle.std.proofs.lemmas.List.Sums.{sum_by-set}
 use Rattle.cqs_core.specs.declared.doings.Doing.TheVariants as doing
 use Rattle.cqs_core.specs.declared.events.Event.{Event}
-use Rattle.cqs_core.specs.Numbered.{picked}
 use Rattle.cqs_core.specs.QueueState.{Queue}
-use Rattle.cqs_core.specs.QueueLine.{at_door, door, is_resuming, is_told_refused, going, ending, ready}
-use Rattle.cqs_core.specs.QueueSound.{IsSound}
+use Rattle.cqs_core.specs.QueueLine.{going, ending, ready}
 use Rattle.cqs_core.specs.SemaphoreTable.{Shape, Stepped, step}
 use Rattle.cqs_core.specs.SemaphoreShown.{IsCore, IsSize, opened, shown}
 use Rattle.cqs_core.specs.SemaphoreRuns.{Step, makes, hands_over, handed, hand_over, shape_of, run_step, run, EveryRunIsLegal}
-use Rattle.cqs_core.proofs.CoreFrame.{same-semaphore}
-use Rattle.cqs_core.proofs.Counts.{count_by-none}
+use Rattle.cqs_core.specs.QueueWaiters.{waiters, no_waiters}
+use Rattle.cqs_core.proofs.CoreFrame.{same-by_waiters}
+use Rattle.cqs_core.proofs.QueueOpens.{get-replicate, sum-replicate, opened-sound, opened-waiters, opened-due, opened-going, opened-ending}
 use Rattle.cqs_core.proofs.StepKeeps.{row-core}
-
-module _ {X : Type 0} where
-  pub get-replicate : (n i : ℕ) (x y : X) → slice_get (replicate n x) i ≡ Some y → y ≡ x
-  get-replicate zero i x y got = absurd (cc)
-  get-replicate (suc n) zero x y got = cc
-  get-replicate (suc n) (suc i) x y got = get-replicate n i x y got
-
-pub sum-replicate : (n : ℕ) → sum (replicate n 0) ≡ 0
-sum-replicate zero = refl
-sum-replicate (suc n) =
-    let more = sum_by-cons (λ x. x) 0 (replicate n 0) in
-    let rest = sum-replicate n in
-    omega arith
-
-pub nobody-at_door : (n k : ℕ) → picked at_door k (replicate n doing.Idle) ≡ []
-nobody-at_door zero k = refl
-nobody-at_door (suc n) k = nobody-at_door n (suc k)
-
--- nobody does anything as a core is made
-idle : ℕ → ℕ → Doing → Type 0
-idle n p d = d ≡ doing.Idle
-
-pub opened-sound : (passes : ℕ) → IsSound (opened 1 passes).queue
-opened-sound passes =
-    record {
-      made = refl;
-      cells = record { at = λ k cell got. absurd (cc) };
-      passes =
-          record {
-            at = λ p d got. let is : d ≡ doing.Idle = get-replicate passes p doing.Idle d got in rw is
-                tt;
-          };
-      apart = record {
-        same = λ p r k has too.
-            let is : doing.Ticket k ≡ doing.Idle =
-            get-replicate passes p doing.Idle (doing.Ticket k) has in absurd (cc);
-      };
-    }
 
 pub opened-core : (permits passes : ℕ) → IsSize permits passes → IsCore (opened permits passes)
 opened-core permits passes size =
     let q : Queue = (opened permits passes).queue in
-    let nobody : door q ≡ [] = nobody-at_door passes 0 in
-    let none_resume : count_by is_resuming q.doing ≡ 0 =
-    count_by-none is_resuming q.doing (λ p d got. ap is_resuming (get-replicate passes p doing.Idle d got)) in
-    let none_told : count_by is_told_refused q.doing ≡ 0 =
-    count_by-none is_told_refused q.doing
-    (λ p d got. ap is_told_refused (get-replicate passes p doing.Idle d got)) in
+    let nobody : waiters q ≡ no_waiters = opened-waiters 0 passes in
     let none_held : sum (replicate passes 0) ≡ 0 = sum-replicate passes in
-    let going_none : going q ≡ 0 = omega arith in
-    let ending_none : ending q ≡ 0 = omega arith in
+    let going_none : going q ≡ 0 = opened-going 0 passes in
+    let ending_none : ending q ≡ 0 = opened-ending 0 passes in
     let few : length (replicate passes doing.Idle) ≤ 32 =
     rw (length-replicate passes doing.Idle) size.few_passes in
     record {
@@ -79,7 +34,7 @@ opened-core permits passes size =
         suspends = omega arith;
         resumes = omega arith;
       };
-      sound = opened-sound passes;
+      sound = opened-sound 0 passes;
       covered = record { at = λ j cell got declined past. absurd (cc) };
       loaded =
           record {
@@ -88,9 +43,8 @@ opened-core permits passes size =
           };
       holders = length-replicate passes 0 ∙ sym (length-replicate passes doing.Idle);
       legal = record { at = λ n e got. absurd (cc) };
-      object = same-semaphore refl (sym (ap₂ (λ g e. g - e) going_none ending_none)) (sym nobody) refl refl
-          refl (omega arith);
-      short = rw (going_none, ending_none, nobody) refl;
+      object = same-by_waiters refl (sym (ap₂ (λ g e. g - e) going_none ending_none)) (sym nobody) (omega arith);
+      short = omega (arith, opened-due 0 passes);
       conserved = omega arith;
     }
 

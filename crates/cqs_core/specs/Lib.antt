@@ -7,6 +7,7 @@ pub mod QueueLine
 pub mod QueueWaiters
 pub mod QueueMoves
 pub mod QueueSound
+pub mod QueueOpening
 pub mod QueueCells
 pub mod QueueStages
 pub mod QueueSteps

@@ -44,6 +44,10 @@ pub mod QueueServes
 pub mod DeliveryMoves
 pub mod LineMoves
 pub mod QueueOpens
+pub mod QueueSettling
+pub mod QueueFrozen
+pub mod UnmadeCounts
+pub mod QueueUnmade
 pub mod QueueReaches
 pub mod QueueBegins
 pub mod RowsKeep

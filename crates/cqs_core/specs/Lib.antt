@@ -8,6 +8,8 @@ pub mod QueueWaiters
 pub mod QueueMoves
 pub mod QueueSound
 pub mod QueueOpening
+pub mod QueueSettled
+pub mod QueueUnmade
 pub mod QueueCells
 pub mod QueueStages
 pub mod QueueSteps

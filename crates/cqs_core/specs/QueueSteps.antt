@@ -8,6 +8,7 @@ use Rattle.cqs_core.specs.Keyed.{without}
 use Rattle.cqs_core.specs.QueueState.{Queue}
 use Rattle.cqs_core.specs.QueueMoves as move
 use Rattle.cqs_core.specs.QueueMoves.{Works, moved}
+use Rattle.cqs_core.specs.QueueSound.{IsSound}
 use Rattle.cqs_core.specs.QueueStages as stage
 use Rattle.cqs_core.specs.QueueStages.{Stage, doing_at, MayWork}
 
@@ -259,3 +260,8 @@ abbrev pub waits_after : WaitChange → ℕ → List ℕ → List ℕ
 waits_after wait_stays k waits = waits
 waits_after wait_opens k waits = waits ++ k ∷ []
 waits_after wait_closes k waits = without (λ j. j) k waits
+
+abbrev pub EveryStepKeepsSound : Type 0
+EveryStepKeepsSound =
+    (q : Queue) (s : QueueStep) (p k : ℕ) (found : Option CoreCell) → IsSound q → IsOpenStep q s p k found
+    → IsSound (queue_after s q p k found)

@@ -10,6 +10,7 @@ mod events;
 mod law;
 mod laws;
 mod outcomes;
+mod queue_laws;
 mod runnable;
 mod shortage;
 mod table;
@@ -27,5 +28,9 @@ pub use laws::{
     service_is_in_order, waits_end_once,
 };
 pub use outcomes::Outcome;
+pub use queue_laws::{
+    drawn_numbers_are_near, moves_leave_unmade_cells_empty, moves_settle, settled_cells_stay,
+    steps_keep_the_queue_sound,
+};
 pub use runnable::Core;
 pub use shortage::Memory;

@@ -8,6 +8,7 @@ use Rattle.std.proofs.lemmas.Option.{get_or_from_slice_get}
 use Rattle.cqs_core.specs.declared.doings.Doing.TheVariants as doing
 use Rattle.cqs_core.specs.Numbered.{picked, cons_option}
 use Rattle.cqs_core.specs.QueueState.{Queue}
+use Rattle.cqs_core.specs.QueueSound.{IsSound}
 use Rattle.cqs_core.specs.QueueLine.{door, line, going, ending, due}
 use Rattle.cqs_core.specs.SemaphoreTable.{Shape, lowest}
 use Rattle.cqs_core.specs.SemaphoreShown.{IsCore, short_of, free_of}
@@ -29,14 +30,19 @@ pub reached-few : (s : Shape) (p : ℕ) → IsCore s → slice_get s.queue.doing
 reached-few s p core owes =
     let few = reaches-few s.queue p 0 core.sound (omega (arith, core.short)) owes in omega arith
 
--- the state word is far above the lowest that it can hold
-pub state-above : (s : Shape) → IsCore s → s.queue.suspends < 4194304 → s.queue.resumes < 4194304 → lowest <ℤ s.state
-state-above s core suspends resumes =
+-- where the counters are low the line is short
+pub line-short : (q : Queue) (most : ℕ) → IsSound q → q.suspends < most → q.resumes < most → length (line q) < most
+line-short q most sound suspends resumes =
+    let made : length q.cells ≡ max q.suspends q.resumes = sound.made in
+    let waits : length (line q) ≤ length q.cells = picked-short _ 0 q.cells in
+    omega arith
+
+-- The state word is far above the lowest that it can hold where the line is short, however far the counters are.
+pub state-above_line : (s : Shape) → IsCore s → length (line s.queue) < 4194304 → lowest <ℤ s.state
+state-above_line s core few_wait =
     let few : ending q ≤ going q = ending-within q core.sound core.covered in
     let short : going q + short_of s.state ≡ due q + ending q = core.short in
-    let made : length q.cells ≡ max q.suspends q.resumes = core.sound.made in
     let doors : length (door q) ≤ length q.doing = picked-short _ 0 q.doing in
-    let waits : length (line q) ≤ length q.cells = picked-short _ 0 q.cells in
     let passes : length q.doing ≤ 32 = core.range.passes in
     above s.state (omega arith)
   where
@@ -46,6 +52,10 @@ state-above s core suspends resumes =
     above : (z : ℤ) → short_of z < 4294967295 → lowest <ℤ z
     above (pos n) low = grind (arith, ints)
     above (negsuc n) low = grind (arith, ints)
+
+pub state-above : (s : Shape) → IsCore s → s.queue.suspends < 4194304 → s.queue.resumes < 4194304 → lowest <ℤ s.state
+state-above s core suspends resumes =
+    state-above_line s core (line-short s.queue 4194304 core.sound suspends resumes)
 
 -- no pass holds more than there is
 pub held-small : (s : Shape) (p n : ℕ) → IsCore s → slice_get s.held p ≡ Some n → n ≤ 1048576

@@ -17,7 +17,8 @@ use Rattle.cqs_core.proofs.Counts.{bit, count_by-write}
 use Rattle.cqs_core.proofs.Keys.{around-kept}
 use Rattle.cqs_core.proofs.LineReads.{caller, wait_of, service_wait, line-turn, line-around, served-around, door-around}
 use Rattle.cqs_core.proofs.Tickets.{is_ticket-other, has_ticket-from, has_ticket-closes, has_ticket-frame, owner_doing-frame, owner_doing-here, has_ticket-none}
-use Rattle.cqs_core.proofs.WaysChange.{ways-cell, ways-turn, set-same}
+use Rattle.cqs_core.proofs.Places.{set-same}
+use Rattle.cqs_core.proofs.WaysChange.{ways-cell, ways-turn}
 
 pub same-waiters : {a b : Waiters} → a.door ≡ b.door → a.line ≡ b.line → a.next ≡ b.next → a.served ≡ b.served → a ≡ b
 same-waiters door line next served = λ i.

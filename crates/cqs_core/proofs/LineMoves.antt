@@ -20,7 +20,8 @@ use Rattle.cqs_core.proofs.Keys.{Around, around-kept, around-came, around-went, 
 use Rattle.cqs_core.proofs.LineReads.{caller, wait_of, line-turn, line-around, door-around}
 use Rattle.cqs_core.proofs.Picked.{picked-in}
 use Rattle.cqs_core.proofs.Tickets.{owner_doing-here}
-use Rattle.cqs_core.proofs.WaysChange.{ways-turn, set-same}
+use Rattle.cqs_core.proofs.Places.{set-same}
+use Rattle.cqs_core.proofs.WaysChange.{ways-turn}
 
 -- A pass comes to the door.
 pub record ComesToDoor (q r : Queue) (p : ℕ) : Type 0 where

@@ -11,7 +11,8 @@ use Rattle.cqs_core.specs.QueueMoves.{Works, Owns, IsCancelling, IsOpen, moved, 
 use Rattle.cqs_core.specs.QueueSound.{IsEntered, IsLeft, IsSoundAt, IsCell, IsUnended, IsUntaken, IsTicket, IsOwn, IsPass, IsSound}
 use Rattle.cqs_core.proofs.Tickets.{owner_doing-here}
 use Rattle.cqs_core.proofs.SoundStep.{IsOnly, named}
-use Rattle.cqs_core.proofs.SoundWrite.{set-same, written, at-state, from-state, kept-own, kept-ticket, uninstalled-entered, own-owner, cancelling-left, entered-written, awaited-written, uninstalled-written, left-written, own-written, sound-written, sound-stays}
+use Rattle.cqs_core.proofs.Places.{set-same}
+use Rattle.cqs_core.proofs.SoundWrite.{written, at-state, from-state, kept-own, kept-ticket, uninstalled-entered, own-owner, cancelling-left, entered-written, awaited-written, uninstalled-written, left-written, own-written, sound-written, sound-stays}
 
 -- a pass that names no number, and one that names k
 pub only-none : (k : ℕ) (d : Doing) → named d ≡ None → IsOnly k d

@@ -34,19 +34,33 @@ IsLight doing.Idle = Unit {0}
 IsLight (doing.TryAt v) = Unit {0}
 IsLight doing.Door = Unit {0}
 IsLight doing.Owes = Unit {0}
-IsLight _ = ⊥
+IsLight (doing.Drawn j) = ⊥
+IsLight (doing.Ticket j) = ⊥
+IsLight (doing.Leaving j) = ⊥
+IsLight (doing.Decided j on) = ⊥
 
 -- the pass names no cell and owes nothing: it is between two calls, tries, or stands at the door
 abbrev pub IsClear : Doing → Type 0
 IsClear doing.Idle = Unit {0}
 IsClear (doing.TryAt v) = Unit {0}
 IsClear doing.Door = Unit {0}
-IsClear _ = ⊥
+IsClear (doing.Drawn j) = ⊥
+IsClear doing.Owes = ⊥
+IsClear (doing.Ticket j) = ⊥
+IsClear (doing.Leaving j) = ⊥
+IsClear (doing.Decided j on) = ⊥
 
 abbrev pub IsCancelling : CoreState → Type 0
 IsCancelling state.Cancelling = Unit {0}
 IsCancelling state.Delegated = Unit {0}
-IsCancelling _ = ⊥
+IsCancelling state.Empty = ⊥
+IsCancelling state.Waiter = ⊥
+IsCancelling state.Value = ⊥
+IsCancelling state.Taken = ⊥
+IsCancelling state.Broken = ⊥
+IsCancelling state.Resumed = ⊥
+IsCancelling state.Cancelled = ⊥
+IsCancelling state.Refused = ⊥
 
 -- the pass does this, and the cell of the number was found so
 pub record Works (q : Queue) (p : ℕ) (d : Doing) (k : ℕ) (found : CoreCell) (s : CoreState) : Type 0 where

@@ -56,13 +56,24 @@ IsUnended state.Waiter = Unit {0}
 IsUnended state.Cancelling = Unit {0}
 IsUnended state.Cancelled = Unit {0}
 IsUnended state.Refused = Unit {0}
-IsUnended _ = ⊥
+IsUnended state.Value = ⊥
+IsUnended state.Taken = ⊥
+IsUnended state.Broken = ⊥
+IsUnended state.Resumed = ⊥
+IsUnended state.Delegated = ⊥
 
 -- a cell whose suspend is still to install
 abbrev pub IsUntaken : CoreState → Type 0
 IsUntaken state.Empty = Unit {0}
 IsUntaken state.Value = Unit {0}
-IsUntaken _ = ⊥
+IsUntaken state.Waiter = ⊥
+IsUntaken state.Taken = ⊥
+IsUntaken state.Broken = ⊥
+IsUntaken state.Resumed = ⊥
+IsUntaken state.Cancelling = ⊥
+IsUntaken state.Delegated = ⊥
+IsUntaken state.Cancelled = ⊥
+IsUntaken state.Refused = ⊥
 
 -- the number was reached by a resume, and its cell is one in which a ticket may be open
 pub record IsTicket (q : Queue) (k : ℕ) : Type 0 where
@@ -85,7 +96,10 @@ IsPass q p (doing.Ticket k) = IsTicket q k
 IsPass q p (doing.Drawn k) = IsOwn q p k IsUntaken
 IsPass q p (doing.Leaving k) = IsOwn q p k IsCancelling
 IsPass q p (doing.Decided k on) = IsOwn q p k IsCancelling
-IsPass q p _ = Unit {0}
+IsPass q p doing.Idle = Unit {0}
+IsPass q p (doing.TryAt v) = Unit {0}
+IsPass q p doing.Door = Unit {0}
+IsPass q p doing.Owes = Unit {0}
 
 -- no two passes have drawn one number to resume at
 pub record AreApart (passes : List Doing) : Type 0 where

@@ -49,7 +49,13 @@ pub record Shows (s : Shape) (o : Semaphore) : Type 0 where
 -- a pass that tries has loaded a state above 0
 abbrev pub HasLoaded : ℕ → Doing → Type 0
 HasLoaded p (doing.TryAt v) = pos 0 <ℤ v
-HasLoaded p _ = Unit {0}
+HasLoaded p doing.Idle = Unit {0}
+HasLoaded p doing.Door = Unit {0}
+HasLoaded p (doing.Drawn j) = Unit {0}
+HasLoaded p doing.Owes = Unit {0}
+HasLoaded p (doing.Ticket j) = Unit {0}
+HasLoaded p (doing.Leaving j) = Unit {0}
+HasLoaded p (doing.Decided j on) = Unit {0}
 
 -- the numbers of a core are in their ranges
 pub record IsInRange (s : Shape) : Type 0 where

@@ -1,6 +1,6 @@
 //! The runnable core: every core that is made and changed here shows a fair semaphore.
 
-ghost use Rattle.std.specs.Prelude.{◌≡◌, ◌+◌, ◌≤◌, Err, IfNone, IfOk, IfSome, OnOk, OnErr, slice_get};
+ghost use Rattle.std.specs.Prelude.{◌≡◌, ◌+◌, ◌<◌, ◌≤◌, Err, IfNone, IfOk, IfSome, IsErrOf, OnOk, OnErr, slice_get};
 ghost use Rattle.cqs_core.specs.SemaphoreAnswers.{Makes, MakesReady, Opens};
 ghost use Rattle.cqs_core.specs.SemaphoreCalls.{MakesCall, MakesCallReady, course};
 ghost use Rattle.cqs_core.specs.SemaphoreEntries.{object_after, IsBalanced, IsLegal};
@@ -63,7 +63,11 @@ impl Core {
 
     /// Makes one event, where the table of events allows it.
     pub fn step(&mut self, event: Event) -> Result<Outcome, CoreError>
-        ensures { Makes (step self.old.shape event) result self.old.shape self.new.shape }
+        ensures made { Makes (step self.old.shape event) result self.old.shape self.new.shape }
+
+        // Memory is wanting only where there was no room for one entry and one cell, and the step uses no more than that.
+        ensures memory { IsErrOf result CoreError.Memory → self.old.spare < 1 }
+        ensures spare { self.old.spare ≤ self.new.spare + 1 }
     {
         self.reserve(1)?;
         match self.step_ready(event) {
@@ -88,6 +92,10 @@ impl Core {
         ensures made { MakesCall result (course self.old.shape call) self.old.shape self.new.shape }
         ensures sole { IfOk result (λ answer. IsSoleCall self.old.shape call answer self.new.shape) }
         ensures shown { IfOk result (λ _. ShowsNext self.old.shape call self.new.shape) }
+
+        // Memory is wanting only where there was no room for three entries and cells, and the call uses no more than that.
+        ensures memory { IsErrOf result CoreError.Memory → self.old.spare < 3 }
+        ensures spare { self.old.spare ≤ self.new.spare + 3 }
     {
         self.reserve(3)?;
         match self.run_ready(call) {
@@ -96,10 +104,11 @@ impl Core {
         }
     }
 
-    /// Makes room for so many further entries and cells. Its only error is `Memory`.
+    /// Makes room for so many further entries and cells. Its only error is `Memory`, where that room wasn't there.
     pub fn reserve(&mut self, more: u32) -> Result<(), CoreError>
         ensures ok { OnOk result (more ≤ self.new.spare) }
         ensures err { OnErr result (result ≡ Err CoreError.Memory) }
+        ensures full { OnErr result (self.old.spare < more) }
         ensures same { self.new.shape ≡ self.old.shape }
         ensures kept { self.old.spare ≤ self.new.spare }
     {

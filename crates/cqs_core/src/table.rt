@@ -125,6 +125,7 @@ impl Table {
     /// Makes room for so many further entries and cells.
     pub fn reserve(&mut self, more: u32) -> Result<(), AllocError>
         ensures ok { OnOk result (more ≤ self.new.spare) }
+        ensures full { OnErr result (self.old.spare < more) }
         ensures same { self.new.shape ≡ self.old.shape }
         ensures kept { self.old.spare ≤ self.new.spare }
     {

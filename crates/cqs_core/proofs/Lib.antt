@@ -60,6 +60,7 @@ pub mod RowsCancel
 pub mod RowsDecide
 pub mod RowsLook
 pub mod StepKeeps
+pub mod SemaphoreSteps
 pub mod CoreFacts
 pub mod OpenedCore
 pub mod CallsKeep

@@ -21,6 +21,7 @@ pub mod SemaphoreNames
 pub mod SemaphoreTable
 pub mod SemaphoreAnswers
 pub mod SemaphoreShown
+pub mod SemaphoreSteps
 pub mod SemaphoreRuns
 pub mod SemaphoreWords
 pub mod SemaphoreCalls

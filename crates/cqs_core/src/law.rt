@@ -1,6 +1,7 @@
-//! The law of the core, as a function whose contract says it and whose body is empty.
+//! The laws of the core, each as a function whose contract says it and whose body is empty.
 
 ghost use Rattle.cqs_core.specs.SemaphoreRuns.{EveryRunIsLegal};
+ghost use Rattle.cqs_core.specs.SemaphoreSteps.{EveryStepKeepsTheCore};
 
 /// On every run, however its events and passes mix, the core shows a fair semaphore.
 ///
@@ -10,4 +11,9 @@ ghost use Rattle.cqs_core.specs.SemaphoreRuns.{EveryRunIsLegal};
 /// linearizable, without naming any schedule.
 pub fn every_run_is_legal()
     ensures { EveryRunIsLegal }
+{}
+
+/// Each step of the queue that a semaphore makes, wherever it may be made, leads from core to core, and appends its entries.
+pub fn semaphore_steps_keep_the_core()
+    ensures { EveryStepKeepsTheCore }
 {}

@@ -22,7 +22,7 @@ pub use doings::Doing;
 pub use entries::Entry;
 pub use errors::CoreError;
 pub use events::Event;
-pub use law::every_run_is_legal;
+pub use law::{every_run_is_legal, semaphore_steps_keep_the_core};
 pub use laws::{
     one_permit_goes_to_the_first, permits_are_collected_once, permits_are_conserved,
     service_is_in_order, waits_end_once,

@@ -37,7 +37,8 @@ same-semaphore free way door line next served held = λ i. record {
 abbrev pub waiters_of : Semaphore → Waiters
 waiters_of o = record { door = o.door; line = o.line; next = o.next; served = o.served }
 
-pub same-by_waiters : {a b : Semaphore} → a.free ≡ b.free → a.way ≡ b.way → waiters_of a ≡ waiters_of b → a.held ≡ b.held
+pub same-by_waiters : {a b : Semaphore} → a.free ≡ b.free → a.way ≡ b.way → waiters_of a ≡ waiters_of b
+    → a.held ≡ b.held
     → a ≡ b
 same-by_waiters free way waiters held =
     same-semaphore free way (ap (λ w. w.door) waiters) (ap (λ w. w.line) waiters) (ap (λ w. w.next) waiters)

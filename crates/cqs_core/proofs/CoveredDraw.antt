@@ -1,5 +1,5 @@
--- A draw keeps cover: the line grows at its end, and no cell is declined there. The suspend finds a cell that a resume made
--- before, Empty or with its value, or makes the last cell itself.
+-- A draw keeps cover: the line grows at its end, and no cell is declined there. The suspend finds a cell that a
+-- resume made before, Empty or with its value, or makes the last cell itself.
 use Rattle.std.proofs.Common.{◌≡◌, ◌≢◌, ◌⊎◌, inl, inr, ℕ, ◌+◌, ◌≤◌, ◌<◌, nat_le, true, false, Option, Some, None, List, [], ◌∷◌, length, take, set, slice_get, refl, ap, sym, ◌∙◌, subst, arith}
 use Rattle.std.proofs.lemmas.Bool.{cases_lt, and_parts, both_ways}
 use Rattle.std.proofs.lemmas.List.{length_push, take-append-le}
@@ -123,7 +123,8 @@ module _ (q : Queue) (sound : IsSound q) (covers : Covers q) (p k : ℕ) where
       apart j low same = absurd (omega (arith, last))
 
       gone_same : (j : ℕ) (x : CoreCell) → j < length q.cells → is_gone after j x ≡ is_gone q.doing j x
-      gone_same j x low = gone-else q p k doing.Door (doing.Drawn k) does (names-door k) (names-drawn k) j x (apart j low)
+      gone_same j x low =
+          gone-else q p k doing.Door (doing.Drawn k) does (names-door k) (names-drawn k) j x (apart j low)
 
       declined_same : (j : ℕ) (x : CoreCell) → j < length q.cells → is_declined after j x ≡ is_declined q.doing j x
       declined_same j x low =

@@ -1,6 +1,6 @@
--- A reach keeps cover. The first cell ahead is reached: where it takes the resumption, one taker fewer is ahead and one
--- resumption fewer roams; where it is gone, the resumption stands there to pass by, and still roams. Where no cell is ahead,
--- the resume makes one, and still none is.
+-- A reach keeps cover. The first cell ahead is reached: where it takes the resumption, one taker fewer is ahead and
+-- one resumption fewer roams; where it is gone, the resumption stands there to pass by, and still roams. Where no
+-- cell is ahead, the resume makes one, and still none is.
 use Rattle.std.proofs.Common.{◌≡◌, ◌≢◌, ◌⊎◌, inl, inr, ℕ, ◌+◌, ◌≤◌, ◌<◌, nat_le, ◌&&◌, not, Bool, true, false, Option, Some, None, List, [], ◌∷◌, ◌++◌, length, take, set, slice_get, refl, ap, sym, ◌∙◌, arith}
 use Rattle.std.proofs.lemmas.Bool.{cases_lt, and_parts, and_from, and_right, le-leb, lt-leb, leb-true}
 use Rattle.std.proofs.lemmas.List.{length_push}

@@ -1,6 +1,6 @@
--- How far the counters and the state word can come. A resumption that is owed has a wait to go to, or a caller at the door, so fewer
--- numbers were drawn to resume at than were drawn to suspend at and wait at the door. And the state word lies no further below 0
--- than there are callers who wait.
+-- How far the counters and the state word can come. A resumption that is owed has a wait to go to, or a caller at
+-- the door, so fewer numbers were drawn to resume at than were drawn to suspend at and wait at the door. And the
+-- state word lies no further below 0 than there are callers who wait.
 use Rattle.std.proofs.Common.{sum, get_or, ◌≡◌, ℕ, suc, ◌+◌, ◌<◌, ◌≤◌, max, List, [], ◌∷◌, Option, Some, None, length, slice_get, arith, ℤ, pos, negsuc, ◌<ℤ◌}
 use Rattle.std.proofs.lemmas.Int.{ints}
 use Rattle.std.proofs.lemmas.List.Sums.{get_or-le-sum_by}

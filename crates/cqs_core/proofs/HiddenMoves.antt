@@ -1,5 +1,5 @@
--- Moves that nobody sees, whatever the client: the door, the line and the served waits stay, and so do the resumptions that
--- go on, but for one that ends at a refused cell. It is told as two numbers, and with no cover.
+-- Moves that nobody sees, whatever the client: the door, the line and the served waits stay, and so do the
+-- resumptions that go on, but for one that ends at a refused cell. It is told as two numbers, and with no cover.
 use Rattle.std.proofs.Common.{◌≡◌, ◌≢◌, ◌⊎◌, inl, inr, ℕ, ◌+◌, ◌<◌, ◌≤◌, Bool, true, false, ◌||◌, nat_le, List, Option, Some, None, set, slice_get, refl, ap, ap₂, sym, ◌∙◌, subst, arith, ne_eqb, eq-eqb, le-leb}
 use Rattle.std.proofs.lemmas.Bool.{cases_lt, lt-leb, or_left, or_right, or_from}
 use Rattle.cqs_core.specs.declared.cells.CoreCell.{CoreCell}

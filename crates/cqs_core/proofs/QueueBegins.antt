@@ -1,5 +1,5 @@
--- A resumption that an idle pass begins by drawing its number; and what a client counts whose passes owe several, of which
--- each has begun one at most: those that go on and those that are owed, in one sum.
+-- A resumption that an idle pass begins by drawing its number; and what a client counts whose passes owe several, of
+-- which each has begun one at most: those that go on and those that are owed, in one sum.
 use Rattle.std.proofs.Common.{◌≡◌, ℕ, ◌+◌, ◌-◌, ◌<◌, true, List, Option, Some, None, length, set, slice_get, get_or, sum, refl, ap, ◌∙◌, subst, arith}
 use Rattle.std.specs.List.{count_by}
 use Rattle.std.proofs.lemmas.List.{set-set}
@@ -107,7 +107,8 @@ delivered-serves q r owed k c serves = record {
 -- a pass in the middle of a resumption shows that one goes on
 pub some-going : (q : Queue) (p : ℕ) (d : Doing) → slice_get q.doing p ≡ Some d → is_resuming d ≡ true → 0 < going q
 some-going q p d does is =
-    let less : count_by is_resuming (set q.doing p doing.Idle) + bit (is_resuming d) ≡ count_by is_resuming q.doing + 0 =
+    let less : count_by is_resuming (set q.doing p doing.Idle) + bit (is_resuming d)
+    ≡ count_by is_resuming q.doing + 0 =
     count_by-write is_resuming q.doing p d doing.Idle does in
     let one : bit (is_resuming d) ≡ 1 = rw is refl in
     omega arith

@@ -24,7 +24,8 @@ pushes : (q : Queue) (new : CoreCell) (j : ℕ) → IsSettled q j → slice_get 
 pushes q new j s = get-append_below q.cells (new ∷ []) j (get-below q.cells j s.cell s.there)
 
 -- a settled cell was drawn by a suspend
-drawn-at : (q : Queue) (k : ℕ) (cell : CoreCell) (x : CoreState) → IsSoundAt q k cell x → IsSettledAt q k cell x → k < q.suspends
+drawn-at : (q : Queue) (k : ℕ) (cell : CoreCell) (x : CoreState) → IsSoundAt q k cell x → IsSettledAt q k cell x
+    → k < q.suspends
 drawn-at q k cell state.Taken sound s = sound.0.drawn
 drawn-at q k cell state.Resumed sound s = sound.0.drawn
 drawn-at q k cell state.Cancelled sound s = sound.0.drawn
@@ -66,13 +67,16 @@ frozen q (move.decide p k on) sound opens j s = refl
 frozen q (move.collect p k found) sound opens j s =
     writes q k found _ state.Resumed opens.0.finds opens.0.at
     (λ z. let u = opens.1.uncollected in let both : true ≡ false = sym z ∙ u in absurd (cc)) j s
-frozen q (move.begin_cancel p k found) sound opens j s = writes q k found _ state.Waiter opens.0.finds opens.0.at (λ z. z) j s
+frozen q (move.begin_cancel p k found) sound opens j s =
+    writes q k found _ state.Waiter opens.0.finds opens.0.at (λ z. z) j s
 frozen q (move.refuse p k found) sound opens j s =
     writes q k found _ found.state opens.1 refl (refusing q k found found.state opens.2) j s
 frozen q (move.install p k found) sound opens j s = writes q k found _ state.Empty opens.finds opens.at (λ z. z) j s
 frozen q (move.leave_value p k found) sound opens j s = writes q k found _ state.Empty opens.finds opens.at (λ z. z) j s
 frozen q (move.take_value p k found) sound opens j s = writes q k found _ state.Value opens.finds opens.at (λ z. z) j s
 frozen q (move.serve p k found) sound opens j s = writes q k found _ state.Waiter opens.finds opens.at (λ z. z) j s
-frozen q (move.delegate p k found) sound opens j s = writes q k found _ state.Cancelling opens.finds opens.at (λ z. z) j s
+frozen q (move.delegate p k found) sound opens j s =
+    writes q k found _ state.Cancelling opens.finds opens.at (λ z. z) j s
 frozen q (move.cancel p k found) sound opens j s = writes q k found _ state.Cancelling opens.finds opens.at (λ z. z) j s
-frozen q (move.cancel_owing p k found) sound opens j s = writes q k found _ state.Delegated opens.finds opens.at (λ z. z) j s
+frozen q (move.cancel_owing p k found) sound opens j s =
+    writes q k found _ state.Delegated opens.finds opens.at (λ z. z) j s

@@ -1,4 +1,5 @@
--- A queue as it opens is sound: nobody waits, and the values that stand in its first cells are the resumptions that go on.
+-- A queue as it opens is sound: nobody waits, and the values that stand in its first cells are the resumptions that
+-- go on.
 use Rattle.std.proofs.Common.{◌≡◌, inr, ℕ, zero, suc, ◌<◌, Bool, false, [], replicate, sum, Option, Some, None, slice_get, refl, ap, ◌∙◌, arith}
 use Rattle.std.specs.List.{count_by}
 use Rattle.std.proofs.lemmas.List.{length-replicate}

@@ -1,5 +1,5 @@
--- Where a resumption is owed, a number is left for it: for any client whose resumptions under way are no more than those who
--- wait, than will end at refused cells, and than the values that it opened with.
+-- Where a resumption is owed, a number is left for it: for any client whose resumptions under way are no more than
+-- those who wait, than will end at refused cells, and than the values that it opened with.
 use Rattle.std.proofs.Common.{◌≡◌, ℕ, suc, ◌+◌, ◌<◌, ◌≤◌, max, nat_le, le-leb, true, false, ◌&&◌, List, [], ◌∷◌, Some, length, set, slice_get, ap, arith, ⊎_elim}
 use Rattle.std.specs.List.{count_by}
 use Rattle.std.proofs.lemmas.Bool.{cases_lt, lt-leb}

@@ -1,5 +1,5 @@
--- The two moves by which a resumption reaches a wait, for any client; and who the wait is of. Whether the resumption may
--- reach this one is the client's to say.
+-- The two moves by which a resumption reaches a wait, for any client; and who the wait is of. Whether the resumption
+-- may reach this one is the client's to say.
 use Rattle.std.proofs.Common.{◌≡◌, ◌≢◌, ℕ, ◌+◌, ◌<◌, Bool, true, false, List, [], ◌∷◌, ◌++◌, Option, Some, None, length, set, slice_get, refl, ap, ap₂, sym, ◌∙◌, subst, arith, eq-eqb, ne_eqb}
 use Rattle.cqs_core.specs.declared.cells.CoreCell.{CoreCell}
 use Rattle.cqs_core.specs.declared.cells.CoreState.{CoreState}

@@ -14,7 +14,8 @@ use Rattle.cqs_core.specs.QueueUnmade.{first_unmade, UnmadeEmpty, IsMadeAt}
 
 -- the cell of k is written, and k isn't the number of an unmade segment's cell
 written : (q : Queue) (m : Move) (tail k : ℕ) (found new : CoreCell) → slice_get q.cells k ≡ Some found
-    → (moved q m).cells ≡ set q.cells k new → (first_unmade tail ≤ k → ⊥) → UnmadeEmpty q tail → UnmadeEmpty (moved q m) tail
+    → (moved q m).cells ≡ set q.cells k new → (first_unmade tail ≤ k → ⊥) → UnmadeEmpty q tail
+    → UnmadeEmpty (moved q m) tail
 written q m tail k found new there is made u = record {
   empty = λ j cell high e. dite (ℕ_discrete j k)
       (λ (same : j ≡ k). absurd (made (let h = high in omega arith)))
@@ -23,15 +24,19 @@ written q m tail k found new there is made u = record {
 }
 
 -- the cell was found in another state than empty, so its segment was made
-found-made : (q : Queue) (tail k : ℕ) (found : CoreCell) (x : CoreState) → slice_get q.cells k ≡ Some found → found.state ≡ x
+found-made : (q : Queue) (tail k : ℕ) (found : CoreCell) (x : CoreState) → slice_get q.cells k ≡ Some found
+    → found.state ≡ x
     → (x ≡ state.Empty → ⊥) → UnmadeEmpty q tail → first_unmade tail ≤ k → ⊥
 found-made q tail k found x there is other u high = other (sym is ∙ u.empty k found high there)
 
 -- the cells are as they were
-same : (q : Queue) (m : Move) (tail : ℕ) → (moved q m).cells ≡ q.cells → UnmadeEmpty q tail → UnmadeEmpty (moved q m) tail
-same q m tail is u = record { empty = λ j cell high e. u.empty j cell high (sym (ap (λ (l : List CoreCell). slice_get l j) is) ∙ e) }
+same : (q : Queue) (m : Move) (tail : ℕ) → (moved q m).cells ≡ q.cells → UnmadeEmpty q tail
+    → UnmadeEmpty (moved q m) tail
+same q m tail is u =
+    record { empty = λ j cell high e. u.empty j cell high (sym (ap (λ (l : List CoreCell). slice_get l j) is) ∙ e) }
 
-pushed : (q : Queue) (m : Move) (tail : ℕ) (new : CoreCell) → (moved q m).cells ≡ q.cells ++ new ∷ [] → new.state ≡ state.Empty
+pushed : (q : Queue) (m : Move) (tail : ℕ) (new : CoreCell) → (moved q m).cells ≡ q.cells ++ new ∷ []
+    → new.state ≡ state.Empty
     → UnmadeEmpty q tail → UnmadeEmpty (moved q m) tail
 pushed q m tail new is empty u = record {
   empty = λ j cell high e. ⊎_elim
@@ -52,7 +57,8 @@ cancelling-other state.Resumed c e = c
 cancelling-other state.Cancelled c e = c
 cancelling-other state.Refused c e = c
 
-pub unmade : (q : Queue) (m : Move) (tail : ℕ) → IsOpen q m → IsMadeAt tail m → UnmadeEmpty q tail → UnmadeEmpty (moved q m) tail
+pub unmade : (q : Queue) (m : Move) (tail : ℕ) → IsOpen q m → IsMadeAt tail m → UnmadeEmpty q tail
+    → UnmadeEmpty (moved q m) tail
 unmade q move.stay tail opens made u = u
 unmade q (move.turn p from to) tail opens made u = same q (move.turn p from to) tail refl u
 unmade q (move.draw p k None) tail opens made u =
@@ -61,7 +67,8 @@ unmade q (move.draw p k (Some found)) tail opens made u = record {
   empty = λ j cell high e. dite (ℕ_discrete j k)
       (λ (is : j ≡ k).
       let new : CoreCell = record { state = found.state; owner = Some p; collected = found.collected } in
-      let here : slice_get (set q.cells k new) j ≡ Some new = ap (slice_get (set q.cells k new)) is ∙ get-set_here q.cells k found new opens.2 in
+      let here : slice_get (set q.cells k new) j ≡ Some new =
+      ap (slice_get (set q.cells k new)) is ∙ get-set_here q.cells k found new opens.2 in
       let one : cell ≡ new = same_Some cell new (sym e ∙ here) in
       ap (λ (c : CoreCell). c.state) one ∙ u.empty k found (let h = high in omega arith) opens.2)
       (λ (a : j ≢ k). u.empty j cell high (sym (get-set_else q.cells k j _ (λ z. a (sym z))) ∙ e));

@@ -141,7 +141,8 @@ module _ (q : Queue) (sound : IsSound q) (idle : IsIdle q.doing) where
   waiting_of-nobody k owner stays nobody = rw nobody refl
 
   -- a cell in which nobody waits is not in the line
-  line-state : (k : ℕ) (cell : CoreCell) (s : CoreState) (owner : Option Doing) → IsQuietAt q k cell s → s ≢ state.Waiter
+  line-state : (k : ℕ) (cell : CoreCell) (s : CoreState) (owner : Option Doing) → IsQuietAt q k cell s
+      → s ≢ state.Waiter
       → waiting_of k cell.owner (stays_in_line k s owner) ≡ None
   line-state k cell state.Waiter owner at other = absurd (other refl)
   line-state k cell state.Value owner at other = waiting_of-nobody k cell.owner true at.2
@@ -216,7 +217,8 @@ module _ (q : Queue) (sound : IsSound q) (idle : IsIdle q.doing) where
       go (inl past) = absurd (not-overtaken short balance past)
       go (inr within) = within
 
-  right-state : (k : ℕ) (cell : CoreCell) (s : CoreState) → IsQuietAt q k cell s → q.resumes ≤ q.suspends → is_left s ≡ false
+  right-state : (k : ℕ) (cell : CoreCell) (s : CoreState) → IsQuietAt q k cell s → q.resumes ≤ q.suspends
+      → is_left s ≡ false
   right-state k cell state.Value at within = absurd (omega arith)
   right-state k cell state.Waiter at within = refl
   right-state k cell state.Empty at within = absurd at
@@ -236,7 +238,8 @@ module _ (q : Queue) (sound : IsSound q) (idle : IsIdle q.doing) where
       (λ k cell found. right-state k cell cell.state (quiet-cell k cell found) within) in
       omega (arith, none-resume)
 
-  ahead-state : (k : ℕ) (cell : CoreCell) (s : CoreState) → IsQuietAt q k cell s → q.resumes ≤ q.suspends → q.resumes ≤ k
+  ahead-state : (k : ℕ) (cell : CoreCell) (s : CoreState) → IsQuietAt q k cell s → q.resumes ≤ q.suspends
+      → q.resumes ≤ k
       → is_unmet_refusal q.resumes q.doing k s ≡ false → (s ≡ state.Waiter) ⊎ (s ≡ state.Cancelled)
   ahead-state k cell state.Waiter at within past met = inl refl
   ahead-state k cell state.Cancelled at within past met = inr refl
@@ -274,7 +277,8 @@ pub record IsQuiet (s : Shape) : Type 0 where
 
 pub quiet-core : (s : Shape) → IsCore s → IsResting s → IsQuiet s
 quiet-core s core rests =
-    let within : s.queue.resumes ≤ s.queue.suspends = behind s.queue core.sound rests.idle (short_of s.state) core.short in
+    let within : s.queue.resumes ≤ s.queue.suspends =
+    behind s.queue core.sound rests.idle (short_of s.state) core.short in
     let still : going s.queue ≡ 0 = none-going s.queue core.sound rests.idle within in
     let few : ending s.queue ≤ going s.queue = ending-within s.queue core.sound core.covered in
     let none : ending s.queue ≡ 0 = omega (arith, few, still) in

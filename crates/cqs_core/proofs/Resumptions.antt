@@ -28,7 +28,8 @@ pub record IsMade (row : Option Stepped) (o : Outcome) (new : Shape) : Type 0 wh
   pub outcome_is : o ≡ made.outcome
   pub shape_is : new ≡ made.shape
 
-pub made-row : (row : Option Stepped) (o : Outcome) (old new : Room) → MakesReady row (Some o) old new → IsMade row o new.shape
+pub made-row : (row : Option Stepped) (o : Outcome) (old new : Room) → MakesReady row (Some o) old new
+    → IsMade row o new.shape
 made-row None o old new h = absurd h
 made-row (Some t) o old new h = record { made = t; row_is = refl; outcome_is = h.0; shape_is = h.1 }
 
@@ -44,7 +45,8 @@ record IsReached (s : Shape) (p : ℕ) (does : Option Doing) (new : Shape) : Typ
   owed : does ≡ Some doing.Owes
   new_is : new ≡ moves s (move.reach p s.queue.resumes (slice_get s.queue.cells s.queue.resumes))
 
-reached-row : (s : Shape) (p : ℕ) (does : Option Doing) (t : Stepped) → reach_row s p does ≡ Some t → IsReached s p does t.shape
+reached-row : (s : Shape) (p : ℕ) (does : Option Doing) (t : Stepped) → reach_row s p does ≡ Some t
+    → IsReached s p does t.shape
 reached-row s p None t h = absurd (cc)
 reached-row s p (Some doing.Idle) t h = absurd (cc)
 reached-row s p (Some (doing.TryAt v)) t h = absurd (cc)
@@ -54,7 +56,8 @@ reached-row s p (Some (doing.Ticket k)) t h = absurd (cc)
 reached-row s p (Some (doing.Leaving k)) t h = absurd (cc)
 reached-row s p (Some (doing.Decided k on)) t h = absurd (cc)
 reached-row s p (Some doing.Owes) t h =
-    let made = made-if (nat_lt s.queue.resumes last_number) _ t h in record { owed = refl; new_is = ap (λ x. x.shape) (sym made) }
+    let made =
+    made-if (nat_lt s.queue.resumes last_number) _ t h in record { owed = refl; new_is = ap (λ x. x.shape) (sym made) }
 
 -- a cell was passed over: the pass had its ticket, and owes on
 record IsPassed (s : Shape) (p : ℕ) (does : Option Doing) (new : Shape) : Type 0 where
@@ -91,7 +94,8 @@ passed-row s p k (Some (doing.Decided j on)) t h passed = absurd (cc)
 passed-row s p k (Some (doing.Ticket j)) t h passed = found (slice_get s.queue.cells j) refl h
   where
     found : (c : Option CoreCell) → slice_get s.queue.cells j ≡ c
-        → option_and_then (λ cell. meet_at s p j cell cell.state) c ≡ Some t → IsPassed s p (Some (doing.Ticket j)) t.shape
+        → option_and_then (λ cell. meet_at s p j cell cell.state) c ≡ Some t
+        → IsPassed s p (Some (doing.Ticket j)) t.shape
     found None there made = absurd (cc)
     found (Some cell) there made =
         let at = passed-at s p j k cell cell.state t made passed in
@@ -103,7 +107,8 @@ state_at (Some cell) = cell.state
 
 -- the number that was reached has a cell: one that is made by the reach is fresh, and not passed over
 reached-there : (cells : List CoreCell) (k : ℕ) (cell : CoreCell)
-    → slice_get (cells_reached cells (slice_get cells k)) k ≡ Some cell → cell.state ≡ state.Cancelled → k < length cells
+    → slice_get (cells_reached cells (slice_get cells k)) k ≡ Some cell → cell.state ≡ state.Cancelled
+    → k < length cells
 reached-there cells k cell found cancelled = go (cases_lt k (length cells))
   where
     go : (k < length cells) ⊎ (length cells ≤ k) → k < length cells
@@ -141,7 +146,8 @@ number-passed s p k reached met reaches meets passed =
     ap (λ x. slice_get x.queue.doing p) here.new_is
     ∙ get-set_here s.queue.doing p doing.Owes (doing.Ticket s.queue.resumes) here.owed in
     let number : over.number ≡ s.queue.resumes = cc (over.ticket, ticket) in
-    let found : slice_get (cells_reached s.queue.cells (slice_get s.queue.cells s.queue.resumes)) s.queue.resumes ≡ Some over.cell =
+    let found : slice_get (cells_reached s.queue.cells (slice_get s.queue.cells s.queue.resumes)) s.queue.resumes
+    ≡ Some over.cell =
     ap (λ x. slice_get x.queue.cells s.queue.resumes) (sym here.new_is)
     ∙ ap (slice_get reached.shape.queue.cells) (sym number) ∙ over.found in
     record {
@@ -160,7 +166,8 @@ resumption-goes_on : (s : Shape) (p k : ℕ) (reached met : Stepped) → step s 
     → IsSome (resumes_at p s) → PassesOver p s met.shape × (s.queue.resumes < length s.queue.cells)
 resumption-goes_on s p k reached met reaches meets passed ends =
     let next = number-passed s p k reached met reaches meets passed in
-    let course : resumes_at p s ≡ resumes_in (ahead s) p met.shape = resumes_in-next (ahead s) p k s reached met reaches meets passed in
+    let course : resumes_at p s ≡ resumes_in (ahead s) p met.shape =
+    resumes_in-next (ahead s) p k s reached met reaches meets passed in
     let more : 0 < ahead s = some-tries (ahead s) p met.shape (rw course at ends) in
     let fewer : ahead s ≡ suc (ahead met.shape) = rw (next.suspends, next.resumes) (omega arith) in
     (record { course = course ∙ ap (λ n. resumes_in n p met.shape) fewer; fewer = omega arith }, next.there)
@@ -173,6 +180,8 @@ pub resumption-passed : (p k : ℕ) (reached met : Outcome) (old mid new : Room)
 resumption-passed p k reached met old mid new reaches meets passed ends =
     let first = made-row (step old.shape (event.Reach p)) reached old mid reaches in
     let second = made-row (step mid.shape (event.Meet p)) met mid new meets in
-    let meets_there : step first.made.shape (event.Meet p) ≡ Some second.made = ap (λ x. step x (event.Meet p)) (sym first.shape_is) ∙ second.row_is in
+    let meets_there : step first.made.shape (event.Meet p) ≡ Some second.made =
+    ap (λ x. step x (event.Meet p)) (sym first.shape_is) ∙ second.row_is in
     rw second.shape_is
-    (resumption-goes_on old.shape p k first.made second.made first.row_is meets_there (sym second.outcome_is ∙ passed) ends)
+    (resumption-goes_on old.shape p k first.made second.made first.row_is meets_there (sym second.outcome_is ∙ passed)
+    ends)

@@ -1,4 +1,5 @@
--- Each step of the queue that a semaphore makes keeps its core: a row of the table of events, by the row of the table of steps.
+-- Each step of the queue that a semaphore makes keeps its core: a row of the table of events, by the row of the
+-- table of steps.
 use Rattle.std.proofs.Common.{◌≡◌, ℕ, ◌<◌, List, [], ◌++◌, Option, Some, None, slice_get, refl, sym, ap, ◌∙◌, subst}
 use Rattle.std.proofs.lemmas.List.{append-nil}
 use Rattle.cqs_core.specs.declared.cells.CoreCell.{CoreCell}

@@ -39,8 +39,10 @@ draws-new : (s : Shape) (p : ℕ) → slice_get s.queue.doing p ≡ Some doing.D
 draws-new s p door below made =
     rw (door, lt-ltb s.queue.suspends last_number below, get-past s.queue.cells s.queue.suspends (omega arith)) refl
 
-installs-new : (s : Shape) (p : ℕ) → slice_get s.queue.doing p ≡ Some doing.Door → length s.queue.cells ≡ s.queue.suspends
-    → step (drawn s p) (event.Install p) ≡ Some (record { shape = installed s p; outcome = outcome.Waits s.queue.suspends })
+installs-new : (s : Shape) (p : ℕ) → slice_get s.queue.doing p ≡ Some doing.Door
+    → length s.queue.cells ≡ s.queue.suspends
+    → step (drawn s p) (event.Install p)
+    ≡ Some (record { shape = installed s p; outcome = outcome.Waits s.queue.suspends })
 installs-new s p door made =
     rw (
       get-set_here s.queue.doing p doing.Door (doing.Drawn s.queue.suspends) door,
@@ -76,7 +78,8 @@ untaken-new s p made none =
     (λ e. absurd (cc)) (λ k x got is. is) none)
 
 sole-later : (s : Shape) (p : ℕ) → IsResting s → IsQuiet s → slice_get s.queue.doing p ≡ Some doing.Idle
-    → int_lt lowest s.state ≡ true → int_lt (pos 0) s.state ≡ false → IsSoleCourse s (call.Acquire p) (suspends_at p (at_door s p))
+    → int_lt lowest s.state ≡ true → int_lt (pos 0) s.state ≡ false
+    → IsSoleCourse s (call.Acquire p) (suspends_at p (at_door s p))
 sole-later s p rests quiet does low none =
     sole-along s (call.Acquire p) _ _
     (suspends-new (at_door s p) p (get-set_here s.queue.doing p doing.Idle doing.Door does) rests.numbers quiet.made)
@@ -92,7 +95,8 @@ sole-later s p rests quiet does low none =
           (idle-again s.queue.doing p doing.Idle does rests.idle);
     })
 
-sole-take : (s : Shape) (p : ℕ) → IsResting s → IsQuiet s → slice_get s.queue.doing p ≡ Some doing.Idle → (low some : Bool)
+sole-take : (s : Shape) (p : ℕ) → IsResting s → IsQuiet s → slice_get s.queue.doing p ≡ Some doing.Idle
+    → (low some : Bool)
     → int_lt lowest s.state ≡ low → int_lt (pos 0) s.state ≡ some
     → IsSoleCourse s (call.Acquire p)
     (first

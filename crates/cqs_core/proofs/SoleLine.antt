@@ -66,7 +66,8 @@ waits-read k p owner s does mine waits = rw (mine, waits) refl
 
 -- a cell that waits is in the line
 pub in_line-waiter : (q : Queue) (k : ℕ) (cell : CoreCell) → IsSound q → slice_get q.cells k ≡ Some cell
-    → cell.state ≡ state.Waiter → (p : ℕ) × (cell.owner ≡ Some p) × (in_line q.doing k cell ≡ Some (record { wait = k; pass = p }))
+    → cell.state ≡ state.Waiter
+    → (p : ℕ) × (cell.owner ≡ Some p) × (in_line q.doing k cell ≡ Some (record { wait = k; pass = p }))
 in_line-waiter q k cell sound found waits =
     let is : IsSoundAt q k cell state.Waiter =
     subst (λ (x : CoreState). IsSoundAt q k cell x) waits (sound.cells.at k cell found) in
@@ -83,7 +84,8 @@ pub head-of_line : (q : Queue) (w : Waiting) (rest : List Waiting) → IsSound q
     → IsHead q w.wait
 head-of_line q w rest sound idle is =
     let first = first-read (in_line q.doing) 0 q.cells w rest is in
-    let reads : in_line q.doing first.place first.element ≡ Some w = first.reads first.place (sym (zero-add first.place)) in
+    let reads : in_line q.doing first.place first.element ≡ Some w =
+    first.reads first.place (sym (zero-add first.place)) in
     let number : w.wait ≡ first.place = (line-keyed q.doing).at first.place first.element w reads in
     let waits : first.element.state ≡ state.Waiter = must-wait first.place first.element w first.found reads in
     record {
@@ -94,7 +96,8 @@ head-of_line q w rest sound idle is =
           (first.before j j c (sym (zero-add j)) (omega arith) got);
     }
   where
-    must-wait : (k : ℕ) (cell : CoreCell) (w : Waiting) → slice_get q.cells k ≡ Some cell → in_line q.doing k cell ≡ Some w
+    must-wait : (k : ℕ) (cell : CoreCell) (w : Waiting) → slice_get q.cells k ≡ Some cell
+        → in_line q.doing k cell ≡ Some w
         → cell.state ≡ state.Waiter
     must-wait k cell w found reads = go (cases_waiter cell.state)
       where
@@ -102,7 +105,8 @@ head-of_line q w rest sound idle is =
         go (inl waits) = waits
         go (inr other) = absurd (cc (not-in_line q sound idle k cell found other, reads))
 
-    nobody : (j : ℕ) (c : CoreCell) → slice_get q.cells j ≡ Some c → c.state ≡ state.Waiter → in_line q.doing j c ≡ None → ⊥
+    nobody : (j : ℕ) (c : CoreCell) → slice_get q.cells j ≡ Some c → c.state ≡ state.Waiter
+        → in_line q.doing j c ≡ None → ⊥
     nobody j c got waits none = let there = in_line-waiter q j c sound got waits in absurd (cc (there.2, none))
 
 -- who waits in a cell is found in the line
@@ -111,7 +115,8 @@ pub found-in_line : (q : Queue) (k : ℕ) (cell : CoreCell) → IsSound q → sl
 found-in_line q k cell sound found waits =
     let there = in_line-waiter q k cell sound found waits in
     let stands : Waits k there.0 (line q) =
-    picked-in (in_line q.doing) 0 q.cells k k cell (record { wait = k; pass = there.0 }) (sym (zero-add k)) found there.2 in
+    picked-in (in_line q.doing) 0 q.cells k k cell (record { wait = k; pass = there.0 }) (sym (zero-add k)) found
+    there.2 in
     let is = found-waits k there.0 (line q) stands in
     (is.wait, is.is)
 
@@ -136,7 +141,8 @@ find-nobody passes m k (c ∷ cells) none =
         rw (ne_eqb k w.wait other) rest
 
 -- a cell in which nobody waits is not found in the line
-pub gone-from_line : (q : Queue) (k : ℕ) (cell : CoreCell) → IsSound q → IsIdle q.doing → slice_get q.cells k ≡ Some cell
+pub gone-from_line : (q : Queue) (k : ℕ) (cell : CoreCell) → IsSound q → IsIdle q.doing
+    → slice_get q.cells k ≡ Some cell
     → cell.state ≢ state.Waiter → find_wait k (line q) ≡ None
 gone-from_line q k cell sound idle found other =
     find-nobody q.doing 0 k q.cells (λ i c at got.

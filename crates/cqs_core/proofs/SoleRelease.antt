@@ -63,8 +63,10 @@ sole-sent s p w rest core rests quiet holds does is =
     let head : IsHead s.queue w.wait = head-of_line s.queue w rest core.sound rests.idle is in
     let past = waits-ahead s.queue core.sound rests.idle w.wait head.cell head.found head.waits in
     let finds = finds-head s p w.wait head core rests quiet does in
-    let lands_there : resumes_at p (sent s p) ≡ Some (record { shape = served_at (sent s p) p w.wait head.cell; wait = w.wait }) =
-    resumes-first (ahead s) (w.wait - s.queue.resumes) p w.wait (sent s p) head.cell (omega arith) (omega arith) finds in
+    let lands_there : resumes_at p (sent s p)
+    ≡ Some (record { shape = served_at (sent s p) p w.wait head.cell; wait = w.wait }) =
+    resumes-first (ahead s) (w.wait - s.queue.resumes) p w.wait (sent s p) head.cell (omega arith) (omega arith)
+    finds in
     sole-along s (call.Release p) _ _ (ap (λ o. lands (λ k. reply.Sent k) o) lands_there)
     (record {
       held = refl;

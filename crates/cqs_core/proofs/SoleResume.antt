@@ -72,10 +72,12 @@ pub record FindsWaiter (s : Shape) (p k : ℕ) (cell : CoreCell) : Type 0 where
   pub found : slice_get s.queue.cells k ≡ Some cell
   pub waits : cell.state ≡ state.Waiter
   pub few : k < last_number
-  pub before : (j : ℕ) (c : CoreCell) → s.queue.resumes ≤ j → j < k → slice_get s.queue.cells j ≡ Some c → c.state ≡ state.Cancelled
+  pub before : (j : ℕ) (c : CoreCell) → s.queue.resumes ≤ j → j < k → slice_get s.queue.cells j ≡ Some c
+      → c.state ≡ state.Cancelled
   pub there : (j : ℕ) → j < k → (c : CoreCell) × (slice_get s.queue.cells j ≡ Some c)
 
-tries-one : (n p : ℕ) (s : Shape) (r m : Stepped) → step s (event.Reach p) ≡ Some r → step r.shape (event.Meet p) ≡ Some m
+tries-one : (n p : ℕ) (s : Shape) (r m : Stepped) → step s (event.Reach p) ≡ Some r
+    → step r.shape (event.Meet p) ≡ Some m
     → resumes_in (suc n) p s ≡ after_meet (λ next. resumes_in n p next) m.shape m.outcome
 tries-one n p s r m reaches meets = rw (reaches, meets) refl
 
@@ -95,9 +97,12 @@ passed_over s p c = moves (reached s p c) (move.pass_over p s.queue.resumes c)
 serves-later : (s : Shape) (p k : ℕ) (c cell : CoreCell) → served_at (passed_over s p c) p k cell ≡ served_at s p k cell
 serves-later s p k c cell = rw (last-write s.queue.doing p (doing.Ticket s.queue.resumes) doing.Owes doing.Idle) refl
 
-finds-later : (s : Shape) (p k : ℕ) (c cell : CoreCell) → FindsWaiter s p k cell → FindsWaiter (passed_over s p c) p k cell
+finds-later : (s : Shape) (p k : ℕ) (c cell : CoreCell) → FindsWaiter s p k cell
+    → FindsWaiter (passed_over s p c) p k cell
 finds-later s p k c cell finds = record {
-  owes = get-set_here (reached s p c).queue.doing p (doing.Ticket s.queue.resumes) doing.Owes (has-ticket s p c finds.owes);
+  owes =
+      get-set_here (reached s p c).queue.doing p (doing.Ticket s.queue.resumes) doing.Owes
+      (has-ticket s p c finds.owes);
   found = finds.found;
   waits = finds.waits;
   few = finds.few;
@@ -105,13 +110,15 @@ finds-later s p k c cell finds = record {
   there = finds.there;
 }
 
-pub resumes-first : (n d p k : ℕ) (s : Shape) (cell : CoreCell) → s.queue.resumes + d ≡ k → d ≤ n → FindsWaiter s p k cell
+pub resumes-first : (n d p k : ℕ) (s : Shape) (cell : CoreCell) → s.queue.resumes + d ≡ k → d ≤ n
+    → FindsWaiter s p k cell
     → resumes_in (suc n) p s ≡ Some (record { shape = served_at s p k cell; wait = k })
 resumes-first n zero p k s cell at few finds =
     let here : s.queue.resumes ≡ k = omega arith in
     let found : slice_get s.queue.cells s.queue.resumes ≡ Some cell = ap (slice_get s.queue.cells) here ∙ finds.found in
     let below : s.queue.resumes < last_number = let small = finds.few in omega arith in
-    tries-one n p s _ _ (reaches-cell s p cell finds.owes below found) (meets-waiter s p cell finds.owes found finds.waits)
+    tries-one n p s _ _ (reaches-cell s p cell finds.owes below found)
+    (meets-waiter s p cell finds.owes found finds.waits)
     ∙ ap₂ (λ (x : Shape) (w : ℕ). Some (record { shape = x; wait = w })) (serves-here s p k cell here) here
 resumes-first zero (suc d) p k s cell at few finds = absurd (omega arith)
 resumes-first (suc n) (suc d) p k s cell at few finds =
@@ -121,5 +128,6 @@ resumes-first (suc n) (suc d) p k s cell at few finds =
     finds.before s.queue.resumes there.0 (omega arith) (omega arith) there.1 in
     tries-one (suc n) p s _ _ (reaches-cell s p there.0 finds.owes below there.1)
     (meets-cancelled s p there.0 finds.owes there.1 cancelled)
-    ∙ resumes-first n d p k (passed_over s p there.0) cell (omega arith) (omega arith) (finds-later s p k there.0 cell finds)
+    ∙ resumes-first n d p k (passed_over s p there.0) cell (omega arith) (omega arith)
+    (finds-later s p k there.0 cell finds)
     ∙ ap (λ (x : Shape). Some (record { shape = x; wait = k })) (serves-later s p k there.0 cell)

@@ -94,13 +94,15 @@ neither-own s p k cell core rests found waits served untaken may = go (has-wait 
     go (inr own) = served (stands state.Resumed own)
 
 -- a write that closes a wait takes no value
-untaken-write : (s : Shape) (k : ℕ) (old new : CoreCell) → slice_get s.queue.cells k ≡ Some old → new.state ≢ state.Taken
+untaken-write : (s : Shape) (k : ℕ) (old new : CoreCell) → slice_get s.queue.cells k ≡ Some old
+    → new.state ≢ state.Taken
     → NoneTaken s → EachAt (λ j c. c.state ≢ state.Taken) (set s.queue.cells k new)
 untaken-write s k old new found fresh none =
     EachAt-write (λ j c. c.state ≢ state.Taken) (λ j c. c.state ≢ state.Taken) s.queue.cells k old new found fresh
     (λ j x got other is. is) none
 
-untaken-collected : (s : Shape) (k : ℕ) (cell : CoreCell) → slice_get s.queue.cells k ≡ Some cell → state.Resumed ≡ cell.state
+untaken-collected : (s : Shape) (k : ℕ) (cell : CoreCell) → slice_get s.queue.cells k ≡ Some cell
+    → state.Resumed ≡ cell.state
     → NoneTaken s
     → EachAt (λ j c. c.state ≢ state.Taken)
     (set s.queue.cells k (record { state = cell.state; owner = cell.owner; collected = true }))

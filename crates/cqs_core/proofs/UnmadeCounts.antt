@@ -23,7 +23,8 @@ module _ {A : Type 0} where
   total-le f g (x ∷ xs) le = let a = le x in let b = total-le f g xs le in omega arith
 
   -- one member more is counted
-  total-more : (f g : A → ℕ) (l : List A) (p : ℕ) (d : A) → slice_get l p ≡ Some d → ((x : A) → f x ≤ g x) → f d + 1 ≤ g d
+  total-more : (f g : A → ℕ) (l : List A) (p : ℕ) (d : A) → slice_get l p ≡ Some d → ((x : A) → f x ≤ g x)
+      → f d + 1 ≤ g d
       → total f l + 1 ≤ total g l
   total-more f g [] p d there le more = absurd (cc)
   total-more f g (x ∷ xs) zero d there le more =
@@ -59,8 +60,10 @@ within-le : (lo n k : ℕ) → within lo n k ≤ within lo (suc n) k
 within-le lo n k = ⊎_elim
     (λ (low : k < lo). let e : within lo n k ≡ 0 = λ i. one_if (lt-leb lo k low i && nat_lt k (lo + n)) in omega arith)
     (λ (high : lo ≤ k). ⊎_elim
-    (λ (in_n : k < lo + n). let a = within-yes lo n k high in_n in let b = within-yes lo (suc n) k high (omega arith) in omega arith)
-    (λ (out : lo + n ≤ k). let e : within lo n k ≡ 0 = (λ i. one_if (nat_le lo k && le-ltb k (lo + n) out i)) ∙ no-and (nat_le lo k) in omega arith)
+    (λ (in_n : k < lo + n). let a = within-yes lo n k high in_n in
+    let b = within-yes lo (suc n) k high (omega arith) in omega arith)
+    (λ (out : lo + n ≤ k). let e : within lo n k ≡ 0 = (λ i. one_if (nat_le lo k && le-ltb k (lo + n) out i))
+    ∙ no-and (nat_le lo k) in omega arith)
     (cases_lt k (lo + n)))
     (cases_lt k lo)
   where
@@ -70,7 +73,8 @@ within-le lo n k = ⊎_elim
 
 within-new : (lo n : ℕ) → within lo n (lo + n) + 1 ≤ within lo (suc n) (lo + n)
 within-new lo n =
-    let e : within lo n (lo + n) ≡ 0 = (λ i. one_if (nat_le lo (lo + n) && le-ltb (lo + n) (lo + n) (omega arith) i)) ∙ no-and (nat_le lo (lo + n)) in
+    let e : within lo n (lo + n) ≡ 0 =
+    (λ i. one_if (nat_le lo (lo + n) && le-ltb (lo + n) (lo + n) (omega arith) i)) ∙ no-and (nat_le lo (lo + n)) in
     let b = within-yes lo (suc n) (lo + n) (omega arith) (omega arith) in omega arith
   where
     no-and : (b : Bool) → one_if (b && false) ≡ 0
@@ -97,7 +101,8 @@ module _ (reads : Doing → Option ℕ) where
     there : slice_get l place ≡ Some member
     is : reads member ≡ Some k
 
-  counted : (l : List Doing) (lo n : ℕ) → ((k : ℕ) → lo ≤ k → k < lo + n → At l k) → n ≤ total (λ d. counts lo n (reads d)) l
+  counted : (l : List Doing) (lo n : ℕ) → ((k : ℕ) → lo ≤ k → k < lo + n → At l k)
+      → n ≤ total (λ d. counts lo n (reads d)) l
   counted l lo zero has = omega arith
   counted l lo (suc n) has =
       let rest = counted l lo n (λ k a b. has k a (omega arith)) in
@@ -133,7 +138,8 @@ ticket_of (doing.Leaving k) = None
 ticket_of (doing.Decided k on) = None
 
 -- from lo on all numbers below top are of one member each
-few-from : (reads : Doing → Option ℕ) (l : List Doing) (lo top : ℕ) → ((k : ℕ) → lo ≤ k → k < top → At reads l k) → top ≤ lo + length l
+few-from : (reads : Doing → Option ℕ) (l : List Doing) (lo top : ℕ) → ((k : ℕ) → lo ≤ k → k < top → At reads l k)
+    → top ≤ lo + length l
 few-from reads l lo top has =
     let few = few-members reads l lo (top - lo) (λ k a b. has k a (omega arith)) in omega arith
 

@@ -98,7 +98,8 @@ wait-in_line q p k sound idle waits =
     let reads : in_line q.doing k read.element ≡ Some w = read.reads k (number ∙ sym (zero-add read.place)) in
     at read.element (ap (slice_get q.cells) number ∙ read.found) reads (cases_waiter read.element.state)
   where
-    at : (cell : CoreCell) → slice_get q.cells k ≡ Some cell → in_line q.doing k cell ≡ Some (record { wait = k; pass = p })
+    at : (cell : CoreCell) → slice_get q.cells k ≡ Some cell
+        → in_line q.doing k cell ≡ Some (record { wait = k; pass = p })
         → (cell.state ≡ state.Waiter) ⊎ (cell.state ≢ state.Waiter) → IsOwnWait q p k state.Waiter
     at cell found reads (inr other) = absurd (cc (not-in_line q sound idle k cell found other, reads))
     at cell found reads (inl waits) =
@@ -151,7 +152,8 @@ wait-served q p k sound untaken serves =
     let reads : is_served k read.element ≡ Some v = read.reads k (number ∙ sym (zero-add read.place)) in
     let own = service_of-own k p read.element.state read.element.owner read.element.collected reads
     (untaken k read.element found) in
-    let is : IsSoundAt q k read.element state.Resumed = sound-at q k read.element state.Resumed sound found own.resumed in
+    let is : IsSoundAt q k read.element state.Resumed =
+    sound-at q k read.element state.Resumed sound found own.resumed in
     record {
       cell = read.element;
       found = found;
@@ -184,6 +186,7 @@ resumed-served q p k cell found mine uncollected resumed =
     picked-in is_served 0 q.cells k k cell (record { wait = k; pass = p; is_open = true }) (sym (zero-add k)) found
     (read cell.state cell.owner cell.collected resumed mine uncollected)
   where
-    read : (s : CoreState) (owner : Option ℕ) (collected : Bool) → s ≡ state.Resumed → owner ≡ Some p → collected ≡ false
+    read : (s : CoreState) (owner : Option ℕ) (collected : Bool) → s ≡ state.Resumed → owner ≡ Some p
+        → collected ≡ false
         → service_of k s owner collected ≡ Some (record { wait = k; pass = p; is_open = true })
     read s owner collected resumed mine uncollected = rw (resumed, mine, uncollected) refl

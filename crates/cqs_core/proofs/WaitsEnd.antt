@@ -17,7 +17,8 @@ use Rattle.cqs_core.proofs.Waits.{waiting_key, IsGone, AreWaitsApart, gone-entry
 module _ (permits : ℕ) (history : List Entry) (legal : IsLegal permits history) where
   pub waits-apart : (n : ℕ) → n ≤ length history → AreWaitsApart (object_before permits history n)
   waits-apart n within =
-      walk-all IsAllowed after_entry (opening permits) history AreWaitsApart legal (λ o e allowed a. apart-entry o e allowed a)
+      walk-all IsAllowed after_entry (opening permits) history AreWaitsApart legal
+      (λ o e allowed a. apart-entry o e allowed a)
       (apart-opening permits) n within
 
   -- two entries that each would be the last of their kind for wait k: the second can't come

@@ -81,10 +81,12 @@ takes_one passes k cell = not (is_gone passes k cell)
 -- for each declined cell that no resume has reached, the cells up to it that take a resumption each, from the next one
 -- on, are no more than the resumptions that are still to draw a number
 pub record IsCovered (q : Queue) : Type 0 where
-  pub at : (j : ℕ) (cell : CoreCell) → slice_get q.cells j ≡ Some cell → is_declined q.doing j cell ≡ true → q.resumes ≤ j
+  pub at : (j : ℕ) (cell : CoreCell) → slice_get q.cells j ≡ Some cell → is_declined q.doing j cell ≡ true
+      → q.resumes ≤ j
       → count_at (takes_one q.doing) q.resumes (drop q.resumes (take (j + 1) q.cells)) ≤ roaming q
 
--- A cell may be declined only where as many resumptions are under way as must be resumed; the primitive's answer says so.
+-- A cell may be declined only where as many resumptions are under way as must be resumed; the primitive's answer
+-- says so.
 abbrev pub IsFair : Queue → Move → Type 0
 IsFair q (move.decide p k false) = going q ≡ due q + ending q
 IsFair q move.stay = Unit {0}

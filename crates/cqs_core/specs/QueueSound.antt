@@ -103,7 +103,8 @@ IsPass q p doing.Owes = Unit {0}
 
 -- no two passes have drawn one number to resume at
 pub record AreApart (passes : List Doing) : Type 0 where
-  pub same : (p r k : ℕ) → slice_get passes p ≡ Some (doing.Ticket k) → slice_get passes r ≡ Some (doing.Ticket k) → p ≡ r
+  pub same : (p r k : ℕ) → slice_get passes p ≡ Some (doing.Ticket k) → slice_get passes r ≡ Some (doing.Ticket k)
+      → p ≡ r
 
 -- the ticket invariant, with what makes it one that every move keeps
 pub record IsSound (q : Queue) : Type 0 where

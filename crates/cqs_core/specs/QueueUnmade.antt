@@ -1,5 +1,5 @@
--- Which numbers are drawn whose segment isn't made. Segment s has the cells 32 * s to 32 * s + 31, and `tail` is the last one
--- that is made.
+-- Which numbers are drawn whose segment isn't made. Segment s has the cells 32 * s to 32 * s + 31, and `tail` is the
+-- last one that is made.
 use Rattle.std.specs.Prelude.{◌≡◌, ◌⊎◌, ℕ, ◌+◌, ◌*◌, ◌/◌, ◌<◌, ◌≤◌, Some, slice_get, length}
 use Rattle.cqs_core.specs.declared.cells.CoreCell.{CoreCell}
 use Rattle.cqs_core.specs.declared.cells.CoreState.TheVariants as state

@@ -1,5 +1,5 @@
--- What the plain object of every client has of its waiters: those at the door, the line, the next number, and those that
--- were served; and the changes of them. A semaphore, a latch and a barrier share it.
+-- What the plain object of every client has of its waiters: those at the door, the line, the next number, and those
+-- that were served; and the changes of them. A semaphore, a latch and a barrier share it.
 use Rattle.std.specs.Prelude.{ℕ, ◌+◌, ◌==◌, true, false, List, [], ◌∷◌, ◌++◌, Option, Some, None, length, if◌then◌else◌}
 use Rattle.cqs_core.specs.Numbered.{IsIn}
 use Rattle.cqs_core.specs.Keyed.{placed, without, changed}

@@ -35,7 +35,11 @@ at_door o c = record o { door = placed (λ d. d) c o.door }
 
 abbrev pub entered : Semaphore → ℕ → ℕ → Semaphore
 entered o c k =
-    record o { door = without (λ d. d) c o.door; line = o.line ++ record { wait = k; pass = c } ∷ []; next = o.next + 1 }
+    record o {
+      door = without (λ d. d) c o.door;
+      line = o.line ++ record { wait = k; pass = c } ∷ [];
+      next = o.next + 1;
+    }
 
 -- a permit on its way reaches wait k
 abbrev pub delivered : Semaphore → ℕ → Semaphore
@@ -57,7 +61,9 @@ left o k = turned_back (record o { line = without (λ w. w.wait) k o.line })
 -- the permit of wait k has been looked at
 abbrev pub closed : Semaphore → ℕ → Semaphore
 closed o k =
-    record o { served = changed (λ s. s.wait) k (λ s. record { wait = s.wait; pass = s.pass; is_open = false }) o.served }
+    record o {
+      served = changed (λ s. s.wait) k (λ s. record { wait = s.wait; pass = s.pass; is_open = false }) o.served;
+    }
 
 -- what an entry changes
 abbrev pub after_entry : Semaphore → Entry → Semaphore

@@ -18,7 +18,8 @@ object_before permits history n = object_after permits (take n history)
 -- where just one permit is on its way, the first of the line gets it
 abbrev pub OnePermitGoesToTheFirst : Type 0
 OnePermitGoesToTheFirst =
-    (permits : ℕ) (history : List Entry) (n k : ℕ) → IsLegal permits history → slice_get history n ≡ Some (entry.Deliver k)
+    (permits : ℕ) (history : List Entry) (n k : ℕ) → IsLegal permits history
+    → slice_get history n ≡ Some (entry.Deliver k)
     → (object_before permits history n).way ≡ 1 → IsFirst k (object_before permits history n).line
 
 -- the entry ends wait k in the line: it is served, or it leaves

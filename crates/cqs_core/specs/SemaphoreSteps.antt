@@ -7,7 +7,8 @@ use Rattle.cqs_core.specs.QueueSteps.{pends, grants, late, QueueStep, draws, ent
 use Rattle.cqs_core.specs.SemaphoreShown.{IsCore}
 use Rattle.cqs_core.specs.SemaphoreTable.{Shape, last_number}
 
--- Its passes come to the door and owe one resumption by steps on its state; a wait leaves as the state's old value answers.
+-- Its passes come to the door and owe one resumption by steps on its state; a wait leaves as the state's old value
+-- answers.
 abbrev pub IsSemaphoreStep : QueueStep → Type 0
 IsSemaphoreStep draws = Unit {0}
 IsSemaphoreStep enters = ⊥

@@ -81,7 +81,8 @@ try_load_row s p _ = None
 abbrev pub try_swap_row : Shape → ℕ → Option Doing → Option Stepped
 try_swap_row s p (Some (doing.TryAt v)) =
     if int_eq s.state v
-    then answers (records (gains (moves (takes s) (move.turn p (doing.TryAt v) doing.Idle)) p) (entry.TryGot p)) outcome.Got
+    then answers (records (gains (moves (takes s) (move.turn p (doing.TryAt v) doing.Idle)) p) (entry.TryGot p))
+    outcome.Got
     else answers (moves s (move.turn p (doing.TryAt v) doing.Idle)) (outcome.Contended v s.state)
 try_swap_row s p _ = None
 
@@ -110,7 +111,8 @@ abbrev pub give_row : Shape → ℕ → Option Doing → Option Stepped
 give_row s p (Some doing.Idle) =
     if nat_lt 0 (slice_index s.held p) then
     (if int_lt s.state (pos 0)
-    then answers (records (moves (loses (adds s) p) (move.turn p doing.Idle doing.Owes)) (entry.GiveSent p)) outcome.Owes
+    then answers (records (moves (loses (adds s) p) (move.turn p doing.Idle doing.Owes)) (entry.GiveSent p))
+    outcome.Owes
     else answers (records (loses (adds s) p) (entry.GiveFreed p)) outcome.Freed)
     else None
 give_row s p _ = None

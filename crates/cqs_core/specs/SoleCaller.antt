@@ -68,8 +68,8 @@ MayCall s (call.Release p) = 0 < slice_index s.held p
 MayCall s (call.Poll p k) = HasWait k p (shown s)
 MayCall s (call.Cancel p k) = HasWait k p (shown s)
 
--- No suspend found its value before it came. It never does where a sole caller made all the calls; a wait of such a cell
--- is closed from the start, though the plain semaphore counts it among those that were served.
+-- No suspend found its value before it came. It never does where a sole caller made all the calls; a wait of such a
+-- cell is closed from the start, though the plain semaphore counts it among those that were served.
 abbrev pub NoneTaken : Shape → Type 0
 NoneTaken s = EachAt (λ k cell. cell.state ≢ state.Taken) s.queue.cells
 

@@ -4,9 +4,10 @@
 //! `reserve` makes room before. What makes a table a core of a fair semaphore is told in `runnable`.
 
 ghost use Rattle.std.specs.Prelude.{◌≡◌, ◌+◌, ◌-◌, ◌≤◌, ◌<◌, OnOk, OnErr, Err, slice_get, length, vec_len, vec_capacity, replicate, IfOk, IfSome, pos};
+ghost use Rattle.cqs_core.specs.declared.events.Event.TheVariants as event;
 ghost use Rattle.cqs_core.specs.QueueMoves.{cells_drawn, cells_reached};
 ghost use Rattle.cqs_core.specs.SemaphoreAnswers.{MakesReady, HasPassed};
-ghost use Rattle.cqs_core.specs.SemaphoreTable.{take_row, try_load_row, try_swap_row, draw_row, install_row, give_row, reach_row, meet_row, leave_row, decide_row, settle_row, look_row, step, is_with as wait_is_with};
+ghost use Rattle.cqs_core.specs.SemaphoreTable.{step, is_with as wait_is_with};
 ghost use Rattle.cqs_core.specs.SemaphoreShown.{opened};
 ghost use Rattle.cqs_core.specs.SemaphoreWords.{FitsWords};
 
@@ -138,7 +139,7 @@ impl Table {
     pub fn take(&mut self, pass: u32) -> Option<Outcome>
         requires fits { FitsWords self.old.shape }
         requires room { 1 ≤ self.old.spare }
-        ensures { MakesReady (take_row self.old.shape pass (slice_get self.old.shape.queue.doing pass)) result self.old self.new }
+        ensures { MakesReady (step self.old.shape (event.Take pass)) result self.old self.new }
     {
         let at = pass as usize;
         let Some(Doing::Idle) = self.doing(pass) else {
@@ -163,7 +164,7 @@ impl Table {
     /// Try to acquire: the state is loaded.
     pub fn try_load(&mut self, pass: u32) -> Option<Outcome>
         requires room { 1 ≤ self.old.spare }
-        ensures { MakesReady (try_load_row self.old.shape pass (slice_get self.old.shape.queue.doing pass)) result self.old self.new }
+        ensures { MakesReady (step self.old.shape (event.TryLoad pass)) result self.old self.new }
     {
         let at = pass as usize;
         let Some(Doing::Idle) = self.doing(pass) else {
@@ -182,7 +183,7 @@ impl Table {
     pub fn try_swap(&mut self, pass: u32) -> Option<Outcome>
         requires fits { FitsWords self.old.shape }
         requires room { 1 ≤ self.old.spare }
-        ensures { MakesReady (try_swap_row self.old.shape pass (slice_get self.old.shape.queue.doing pass)) result self.old self.new }
+        ensures { MakesReady (step self.old.shape (event.TrySwap pass)) result self.old self.new }
     {
         let at = pass as usize;
         let Some(Doing::TryAt(saw)) = self.doing(pass) else {
@@ -204,7 +205,7 @@ impl Table {
     /// Suspend: the next number is drawn.
     pub fn draw(&mut self, pass: u32) -> Option<Outcome>
         requires room { 1 ≤ self.old.spare }
-        ensures { MakesReady (draw_row self.old.shape pass (slice_get self.old.shape.queue.doing pass)) result self.old self.new }
+        ensures { MakesReady (step self.old.shape (event.Draw pass)) result self.old self.new }
     {
         let at = pass as usize;
         let Some(Doing::Door) = self.doing(pass) else {
@@ -226,7 +227,7 @@ impl Table {
     pub fn install(&mut self, pass: u32) -> Option<Outcome>
         requires fits { FitsWords self.old.shape }
         requires room { 1 ≤ self.old.spare }
-        ensures { MakesReady (install_row self.old.shape pass (slice_get self.old.shape.queue.doing pass)) result self.old self.new }
+        ensures { MakesReady (step self.old.shape (event.Install pass)) result self.old self.new }
     {
         let at = pass as usize;
         let Some(Doing::Drawn(number)) = self.doing(pass) else {
@@ -258,7 +259,7 @@ impl Table {
     pub fn give(&mut self, pass: u32) -> Option<Outcome>
         requires fits { FitsWords self.old.shape }
         requires room { 1 ≤ self.old.spare }
-        ensures { MakesReady (give_row self.old.shape pass (slice_get self.old.shape.queue.doing pass)) result self.old self.new }
+        ensures { MakesReady (step self.old.shape (event.Give pass)) result self.old self.new }
     {
         let at = pass as usize;
         let Some(Doing::Idle) = self.doing(pass) else {
@@ -283,7 +284,7 @@ impl Table {
     /// Resume: the next number is drawn.
     pub fn reach(&mut self, pass: u32) -> Option<Outcome>
         requires room { 1 ≤ self.old.spare }
-        ensures made { MakesReady (reach_row self.old.shape pass (slice_get self.old.shape.queue.doing pass)) result self.old self.new }
+        ensures made { MakesReady (step self.old.shape (event.Reach pass)) result self.old self.new }
         ensures spare { self.old.shape.queue.resumes < length self.old.shape.queue.cells → self.old.spare ≤ self.new.spare }
     {
         let at = pass as usize;
@@ -303,7 +304,7 @@ impl Table {
     /// Resume: the drawn cell is served, gets the value, is passed over, or ends the resumption.
     pub fn meet(&mut self, pass: u32) -> Option<Outcome>
         requires room { 1 ≤ self.old.spare }
-        ensures made { MakesReady (meet_row self.old.shape pass (slice_get self.old.shape.queue.doing pass)) result self.old self.new }
+        ensures made { MakesReady (step self.old.shape (event.Meet pass)) result self.old self.new }
         ensures spare { IfSome result HasPassed → self.old.spare ≤ self.new.spare }
     {
         let at = pass as usize;
@@ -344,7 +345,7 @@ impl Table {
     pub fn leave(&mut self, pass: u32, wait: u64) -> Option<Outcome>
         requires fits { FitsWords self.old.shape }
         requires room { 1 ≤ self.old.spare }
-        ensures { MakesReady (leave_row self.old.shape pass wait (slice_get self.old.shape.queue.doing pass)) result self.old self.new }
+        ensures { MakesReady (step self.old.shape (event.Leave pass wait)) result self.old self.new }
     {
         let at = pass as usize;
         let Some(Doing::Idle) = self.doing(pass) else {
@@ -374,7 +375,7 @@ impl Table {
     pub fn decide(&mut self, pass: u32) -> Option<Outcome>
         requires fits { FitsWords self.old.shape }
         requires room { 1 ≤ self.old.spare }
-        ensures { MakesReady (decide_row self.old.shape pass (slice_get self.old.shape.queue.doing pass)) result self.old self.new }
+        ensures { MakesReady (step self.old.shape (event.Decide pass)) result self.old self.new }
     {
         let at = pass as usize;
         let Some(Doing::Leaving(wait)) = self.doing(pass) else {
@@ -389,7 +390,7 @@ impl Table {
 
     /// Cancel: the cell gets its last state.
     pub fn settle(&mut self, pass: u32) -> Option<Outcome>
-        ensures made { MakesReady (settle_row self.old.shape pass (slice_get self.old.shape.queue.doing pass)) result self.old self.new }
+        ensures made { MakesReady (step self.old.shape (event.Settle pass)) result self.old self.new }
         ensures spare { self.old.spare ≤ self.new.spare }
     {
         let at = pass as usize;
@@ -421,7 +422,7 @@ impl Table {
     pub fn look(&mut self, pass: u32, wait: u64) -> Option<Outcome>
         requires fits { FitsWords self.old.shape }
         requires room { 1 ≤ self.old.spare }
-        ensures { MakesReady (look_row self.old.shape pass wait (slice_get self.old.shape.queue.doing pass)) result self.old self.new }
+        ensures { MakesReady (step self.old.shape (event.Look pass wait)) result self.old self.new }
     {
         let at = pass as usize;
         let Some(Doing::Idle) = self.doing(pass) else {

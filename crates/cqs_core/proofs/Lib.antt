@@ -46,6 +46,7 @@ pub mod LineMoves
 pub mod QueueOpens
 pub mod QueueSettling
 pub mod QueueFrozen
+pub mod QueueStepSettled
 pub mod UnmadeCounts
 pub mod QueueUnmade
 pub mod QueueReaches

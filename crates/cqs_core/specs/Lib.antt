@@ -9,6 +9,7 @@ pub mod QueueMoves
 pub mod QueueSound
 pub mod QueueOpening
 pub mod QueueSettled
+pub mod QueueStepSettled
 pub mod QueueUnmade
 pub mod QueueCells
 pub mod QueueStages

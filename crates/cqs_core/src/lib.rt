@@ -30,7 +30,7 @@ pub use laws::{
 pub use outcomes::Outcome;
 pub use queue_laws::{
     drawn_numbers_are_near, moves_leave_unmade_cells_empty, moves_settle, settled_cells_stay,
-    steps_keep_the_queue_sound,
+    steps_keep_the_queue_sound, steps_settle,
 };
 pub use runnable::Core;
 pub use shortage::Memory;

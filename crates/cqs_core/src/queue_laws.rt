@@ -4,6 +4,7 @@
 //! Each function does nothing: a law is proved where the contract of a function says it.
 
 ghost use Rattle.cqs_core.specs.QueueSettled.{EveryMoveSettles, SettledCellsStay, SettledNumbersAreDrawn};
+ghost use Rattle.cqs_core.specs.QueueStepSettled.{EveryStepSettles};
 ghost use Rattle.cqs_core.specs.QueueSteps.{EveryStepKeepsSound};
 ghost use Rattle.cqs_core.specs.QueueUnmade.{CountersAreNear, DrawnNumbersAreNear, MovesLeaveUnmadeEmpty};
 
@@ -15,6 +16,12 @@ pub fn steps_keep_the_queue_sound()
 /// A move makes no settled cell unsettled, and where it settles one its pass is the one that is to count it.
 pub fn moves_settle()
     ensures { EveryMoveSettles }
+{}
+
+/// The same of the steps of the table, for a client whose resumes pass over cancelled cells: a step settles at most the cell of
+/// its own number, and once; and it leaves every settled cell as it is.
+pub fn steps_settle()
+    ensures { EveryStepSettles }
 {}
 
 /// A settled cell stays as it is, and its number was drawn by a suspend.

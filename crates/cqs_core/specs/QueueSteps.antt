@@ -52,7 +52,7 @@ pub data QueueStep : Type 0 where
   -- the owner of the wait loads its cell
   looks : (event : LookEvent) → QueueStep
 
--- what becomes of the pass's wait of the number
+-- What becomes of the pass's wait of the number: it stays, or there is none; a waiter was installed; or it is over.
 pub data WaitChange : Type 0 where
   wait_stays : WaitChange
   wait_opens : WaitChange
@@ -80,14 +80,15 @@ pub record CounterRow : Type 0 where
   pub counter : Counter
   pub cost : Cost
 
--- A step at the cell of a number: what the pass works at and goes on to; the state that the cell is found in, and
--- the one that is written there, or none where it is only loaded; whether what the pass resumes with is left
--- there; and what comes of it.
+-- a step at the cell of a number
 pub record CellRow : Type 0 where
+  -- what the pass is at before and after it
   pub works_at : Stage
   pub goes_to : Stage
+  -- the state that the cell is found in, and the one that is written there; none where the cell is only loaded
   pub finds : CoreState
   pub makes : Option CoreState
+  -- what the pass resumes with is left in the cell; else the cell keeps its payload
   pub brings : Bool
   pub wait : WaitChange
   pub gain : Gain
@@ -100,7 +101,7 @@ pub data StepRow : Type 0 where
 abbrev pub counts : Stage → Counter → Cost → StepRow
 counts works_at counter cost = at_counter (record { works_at = works_at; counter = counter; cost = cost })
 
--- a suspend's exchange
+-- a suspend's exchange: the state found, the state made, the wait, the gain
 abbrev pub suspend_row : CoreState → CoreState → WaitChange → Gain → StepRow
 suspend_row finds makes wait gain = at_cell (record {
   works_at = stage.drawn;
@@ -112,7 +113,7 @@ suspend_row finds makes wait gain = at_cell (record {
   gain = gain;
 })
 
--- a resume's exchange, by which it leaves what it brings
+-- a resume's exchange, by which it leaves what it brings: the state found, the state made
 abbrev pub resume_row : CoreState → CoreState → StepRow
 resume_row finds makes = at_cell (record {
   works_at = stage.ticket;
@@ -124,7 +125,7 @@ resume_row finds makes = at_cell (record {
   gain = nothing;
 })
 
--- a resume's load of a cell that is settled
+-- a resume's load of a cancelled or refused cell: the state found, and what the pass is at then
 abbrev pub meet_row : CoreState → Stage → StepRow
 meet_row finds goes_to = at_cell (record {
   works_at = stage.ticket;
@@ -136,7 +137,7 @@ meet_row finds goes_to = at_cell (record {
   gain = nothing;
 })
 
--- a canceller's exchange
+-- a canceller's exchange: what it is at, the state found, the state made, what it is at then, the wait, the gain
 abbrev pub cancel_row : Stage → CoreState → CoreState → Stage → WaitChange → Gain → StepRow
 cancel_row works_at finds makes goes_to wait gain = at_cell (record {
   works_at = works_at;
@@ -148,7 +149,7 @@ cancel_row works_at finds makes goes_to wait gain = at_cell (record {
   gain = gain;
 })
 
--- an owner's load
+-- an owner's load: the state found, the wait, the gain
 abbrev pub look_row : CoreState → WaitChange → Gain → StepRow
 look_row finds wait gain = at_cell (record {
   works_at = stage.idle;

@@ -7,7 +7,7 @@ use Rattle.cqs_core.specs.declared.outcomes.Outcome.TheVariants as outcome
 use Rattle.cqs_core.specs.SemaphoreTable.{Shape, Stepped}
 use Rattle.cqs_core.specs.SemaphoreShown.{IsSize, opened}
 
--- An allowed event is made, and one that isn't is refused; want of memory alone may refuse an allowed one.
+-- An allowed event is made, and one that isn't is refused; being out of memory alone may refuse an allowed one.
 -- Every refusal leaves the core unchanged.
 abbrev pub Makes : Option Stepped → Result Outcome CoreError → Shape → Shape → Type 0
 Makes (Some row) (Ok o) old new = (o ≡ row.outcome) × (new ≡ row.shape)
@@ -36,8 +36,8 @@ abbrev pub HasPassed : Outcome → Type 0
 HasPassed (outcome.Passed k) = Unit {0}
 HasPassed _ = ⊥
 
--- A core is made where its numbers are in their ranges, and refused elsewhere; want of memory alone may refuse one of
--- these numbers.
+-- A core is made where its numbers are in their ranges, and refused elsewhere; being out of memory alone may refuse
+-- one of these numbers.
 abbrev pub Opens : ℕ → ℕ → Result Room CoreError → Type 0
 Opens permits passes (Ok core) = IsSize permits passes × (core.shape ≡ opened permits passes)
 Opens permits passes (Err Memory) = IsSize permits passes

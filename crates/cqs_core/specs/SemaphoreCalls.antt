@@ -156,8 +156,8 @@ MakesCallReady (replied s given) (Some answer) old new =
 MakesCallReady refused None old new = new ≡ old
 MakesCallReady _ _ old new = ⊥
 
--- A call is made where its first event is allowed, and refused elsewhere; want of memory alone may refuse an allowed
--- one. Every refusal leaves the core unchanged.
+-- A call is made where its first event is allowed, and refused elsewhere; being out of memory alone may refuse an
+-- allowed one. Every refusal leaves the core unchanged.
 abbrev pub MakesCall : Result Reply CoreError → Course → Shape → Shape → Type 0
 MakesCall (Ok answer) (replied s given) old new = (answer ≡ given) × (new ≡ s)
 MakesCall (Err Memory) found old new = new ≡ old

@@ -65,7 +65,7 @@ impl Core {
     pub fn step(&mut self, event: Event) -> Result<Outcome, CoreError>
         ensures made { Makes (step self.old.shape event) result self.old.shape self.new.shape }
 
-        // Memory is wanting only where there was no room for one entry and one cell, and the step uses no more than that.
+        // It is out of memory only where there was no room for one entry and one cell, and it uses no more than that.
         ensures memory { IsErrOf result CoreError.Memory → self.old.spare < 1 }
         ensures spare { self.old.spare ≤ self.new.spare + 1 }
     {
@@ -93,7 +93,7 @@ impl Core {
         ensures sole { IfOk result (λ answer. IsSoleCall self.old.shape call answer self.new.shape) }
         ensures shown { IfOk result (λ _. ShowsNext self.old.shape call self.new.shape) }
 
-        // Memory is wanting only where there was no room for three entries and cells, and the call uses no more than that.
+        // It is out of memory only where there was no room for three entries and cells, and it uses no more than that.
         ensures memory { IsErrOf result CoreError.Memory → self.old.spare < 3 }
         ensures spare { self.old.spare ≤ self.new.spare + 3 }
     {

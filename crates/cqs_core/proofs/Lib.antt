@@ -51,6 +51,7 @@ pub mod UnmadeCounts
 pub mod QueueUnmade
 pub mod QueueReaches
 pub mod QueueBegins
+pub mod QueueAsRefused
 pub mod RowsKeep
 pub mod CoreFrame
 pub mod CoreSteps

@@ -11,7 +11,7 @@ use Rattle.cqs_turns.specs.declared.lines.Told.{Told}
 use Rattle.cqs_turns.specs.declared.lines.Told.TheVariants as told
 use Rattle.cqs_turns.specs.declared.states.End.TheVariants.{Done, GaveUp, Late}
 use Rattle.cqs_turns.specs.declared.states.Progress.{Progress}
-use Rattle.cqs_turns.specs.declared.states.Progress.TheVariants.{Ended}
+use Rattle.cqs_turns.specs.declared.states.Progress.TheVariants.{Stepping, Working, Waiting, Ended}
 
 -- the name of the resource at a place
 abbrev pub name_at : List Resource → ℕ → List ℕ
@@ -64,8 +64,10 @@ is_late (Ended Late) = true
 is_late _ = false
 
 abbrev pub is_unfinished : Progress → Bool
+is_unfinished (Stepping next) = true
+is_unfinished (Working next until) = true
+is_unfinished (Waiting next at number) = true
 is_unfinished (Ended end) = false
-is_unfinished _ = true
 
 -- how many jobs came to each end, and how many to none
 abbrev pub total_text : List Progress → List ℕ

@@ -12,6 +12,8 @@ pub enum End {
     GaveUp,
     /// Its wait was served, but it looked only at its deadline.
     Late,
+    /// A call of it was turned away. A floor of this crate's machine turns nobody away.
+    Crowded,
 }
 
 /// How far a job is. `next` is the place of the step that it makes next.

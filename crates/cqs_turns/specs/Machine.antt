@@ -1,5 +1,5 @@
 -- The turn machine, over any world: what the jobs of a plan do, turn by turn, whatever answers their calls.
-use Rattle.std.specs.Prelude.{ℕ, zero, suc, ◌+◌, nat_lt, nat_le, Bool, false, List, [], ◌∷◌, Option, Some, None, length, drop, replicate, slice_index_or, slice_set, if◌then◌else◌}
+use Rattle.std.specs.Prelude.{ℕ, zero, suc, ◌+◌, nat_lt, nat_le, Bool, true, false, List, [], ◌∷◌, Option, Some, None, length, drop, replicate, slice_index_or, slice_set, if◌then◌else◌}
 use Rattle.std.specs.Option.{option_map_or}
 use Rattle.cqs_plan.specs.declared.plans.resource.Resource.{Resource}
 use Rattle.cqs_plan.specs.declared.plans.step.Step.{Step}
@@ -60,6 +60,13 @@ pub record MachineIn (S : Type 0) : Type 0 where
 -- the deadline has come
 abbrev pub is_due : Option ℕ → ℕ → Bool
 is_due deadline turn = option_map_or (λ d. nat_le d turn) deadline false
+
+-- a job that has ended, or still works, does nothing in its turn
+abbrev pub rests : ℕ → Progress → Bool
+rests turn (Stepping next) = false
+rests turn (Working next until) = nat_lt turn until
+rests turn (Waiting next at number) = false
+rests turn (Ended end) = true
 
 -- how a job ends that cancelled its wait
 abbrev pub end_of : FloorLeave → End

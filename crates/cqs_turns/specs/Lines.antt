@@ -9,7 +9,7 @@ use Rattle.cqs_plan.specs.Floor.{PlainFloor}
 use Rattle.cqs_plan.specs.FloorCalls.{end_answer}
 use Rattle.cqs_turns.specs.declared.lines.Told.{Told}
 use Rattle.cqs_turns.specs.declared.lines.Told.TheVariants as told
-use Rattle.cqs_turns.specs.declared.states.End.TheVariants.{Done, GaveUp, Late}
+use Rattle.cqs_turns.specs.declared.states.End.TheVariants.{Done, GaveUp, Late, Crowded}
 use Rattle.cqs_turns.specs.declared.states.Progress.{Progress}
 use Rattle.cqs_turns.specs.declared.states.Progress.TheVariants.{Stepping, Working, Waiting, Ended}
 
@@ -62,6 +62,11 @@ has_given_up _ = false
 abbrev pub is_late : Progress → Bool
 is_late (Ended Late) = true
 is_late _ = false
+
+-- a call of the job was turned away, which the plain floor never does
+abbrev pub is_crowded : Progress → Bool
+is_crowded (Ended Crowded) = true
+is_crowded _ = false
 
 abbrev pub is_unfinished : Progress → Bool
 is_unfinished (Stepping next) = true

@@ -116,7 +116,7 @@ none-opening zero = refl
 none-opening (suc n) = none-both (Stepping 0) (replicate n (Stepping 0)) refl (none-opening n)
 
 -- no job of a run is crowded, after any number of turns
-pub none-crowded : (plan : Plan) (turns : ℕ) → crowded (machine_after plan turns).progress ≡ 0
+pub none-crowded : (plan : Plan) (turns : ℕ) → count_by is_crowded (machine_after plan turns).progress ≡ 0
 none-crowded plan zero = none-opening (length plan.jobs)
 none-crowded plan (suc turns) =
     each_job-stays plan.resources turns 0 plan.jobs (machine_after plan turns) (none-crowded plan turns)

@@ -33,8 +33,12 @@ fn number_at(table: &Table, key: &str) -> Option<u32> {
     u32::try_from(table.get(key)?.as_integer()?).ok()
 }
 
+/// The resources stand in byte order of their names, as the parser's table does.
 fn place_of(resources: &[(String, u32)], name: &str) -> Option<usize> {
-    resources.iter().position(|resource| resource.0.as_str() == name)
+    let bytes = name.as_bytes();
+    resources
+        .binary_search_by(|resource| resource.0.as_bytes().cmp(&bytes))
+        .ok()
 }
 
 fn step_of(resources: &[(String, u32)], text: &str) -> Option<Step> {
@@ -66,7 +70,9 @@ fn read(alloc: Global, bytes: &[u8]) -> Option<Plan> {
     let mut resources = Vec::new(alloc);
     for (name, semaphore) in table.get("semaphore")?.as_table()?.iter() {
         let size = number_at(semaphore.as_table()?, "size")?;
-        resources.push((String::from_str(alloc, name.as_str()).ok()?, size)).ok()?;
+        resources
+            .push((String::from_str(alloc, name.as_str()).ok()?, size))
+            .ok()?;
     }
     let values = table.get("job")?.as_array()?;
     let mut jobs = Vec::with_capacity(alloc, values.len()).ok()?;
@@ -222,7 +228,13 @@ fn is_due(actor: Actor<'_>) -> bool {
 }
 
 /// The job gives its wait up, and gives back all that it holds.
-fn give_up(run: &mut Run, actor: Actor<'_>, state: &mut State, r: usize, number: usize) -> Option<()> {
+fn give_up(
+    run: &mut Run,
+    actor: Actor<'_>,
+    state: &mut State,
+    r: usize,
+    number: usize,
+) -> Option<()> {
     if run.semaphores.get(r)?.is_served(number) {
         tell_number(run, actor, "late", r, number)?;
         state.holds.push(r).ok()?;
@@ -300,13 +312,21 @@ fn tell_ends(run: &mut Run, plan: &Plan) -> Option<()> {
         let free = semaphore.free;
         let held = resource.1.saturating_sub(free);
         let line = semaphore.inside;
-        write!(run.report, "end {} free {free} held {held} line {line}\n", resource.0).ok()?;
+        write!(
+            run.report,
+            "end {} free {free} held {held} line {line}\n",
+            resource.0
+        )
+        .ok()?;
     }
     Some(())
 }
 
 fn count(states: &[State], progress: Progress) -> usize {
-    states.iter().filter(|state| state.progress == progress).count()
+    states
+        .iter()
+        .filter(|state| state.progress == progress)
+        .count()
 }
 
 /// The report of the plan that these bytes say.
@@ -321,7 +341,12 @@ pub fn report_of(alloc: Global, bytes: &[u8]) -> Option<String> {
     }
     let mut states = Vec::with_capacity(alloc, plan.jobs.len()).ok()?;
     for _ in plan.jobs.iter() {
-        states.push(State { progress: Progress::Ready(0), holds: Vec::new(alloc) }).ok()?;
+        states
+            .push(State {
+                progress: Progress::Ready(0),
+                holds: Vec::new(alloc),
+            })
+            .ok()?;
     }
     for turn in 0..plan.turns {
         one_turn(&mut run, &plan, turn, &mut states)?;
@@ -330,7 +355,15 @@ pub fn report_of(alloc: Global, bytes: &[u8]) -> Option<String> {
     let done = count(states.as_slice(), Progress::Done);
     let gaveup = count(states.as_slice(), Progress::GaveUp);
     let late = count(states.as_slice(), Progress::Late);
-    let unfinished = states.len().saturating_sub(done).saturating_sub(gaveup).saturating_sub(late);
-    write!(run.report, "total done {done} gaveup {gaveup} late {late} unfinished {unfinished}\n").ok()?;
+    let unfinished = states
+        .len()
+        .saturating_sub(done)
+        .saturating_sub(gaveup)
+        .saturating_sub(late);
+    write!(
+        run.report,
+        "total done {done} gaveup {gaveup} late {late} unfinished {unfinished}\n"
+    )
+    .ok()?;
     Some(run.report)
 }

@@ -76,8 +76,12 @@ none-first p progress none = first (is_crowded p) refl
     first : (b : Bool) → is_crowded p ≡ b → is_crowded p ≡ false
     first false same = same
     first true same =
-        absurd (omega (arith, none, sum_by-cons (λ q. cond (is_crowded q) 1 0) p progress,
-        ap {B = ℕ} (λ b. cond b 1 0) same))
+        absurd (omega (
+          arith,
+          none,
+          sum_by-cons (λ q. cond (is_crowded q) 1 0) p progress,
+          ap {B = ℕ} (λ b. cond b 1 0) same,
+        ))
 
 none-rest : (p : Progress) (progress : List Progress) → crowded (p ∷ progress) ≡ 0 → crowded progress ≡ 0
 none-rest p progress none = omega (arith, none, sum_by-cons (λ q. cond (is_crowded q) 1 0) p progress)

@@ -1,7 +1,6 @@
 -- The plain floor turns no take away, so no job of a run ends as crowded.
-use Rattle.std.proofs.Common.{◌≡◌, ◌≢◌, ◌⊎◌, inl, inr, ℕ, zero, suc, ◌+◌, List, [], ◌∷◌, Bool, true, false, nat_lt, cond, Option, Some, None, length, drop, replicate, slice_get, slice_index_or, count_by, set, refl, sym, ap, ◌∙◌, arith}
+use Rattle.std.proofs.Common.{◌≡◌, ℕ, zero, suc, ◌+◌, List, [], ◌∷◌, Bool, true, false, nat_lt, cond, length, drop, replicate, slice_index_or, count_by, set, refl, ap, arith}
 use Rattle.std.specs.Bool.{if◌then◌else◌}
-use Rattle.std.proofs.lemmas.Bool.{cases_eq}
 use Rattle.std.proofs.lemmas.List.Sums.{sum_by-cons}
 use Rattle.cqs_plan.specs.declared.plans.job.Job.{Job}
 use Rattle.cqs_plan.specs.declared.plans.resource.Resource.{Resource}
@@ -19,7 +18,7 @@ use Rattle.cqs_turns.specs.declared.states.End.TheVariants as end
 use Rattle.cqs_turns.specs.declared.states.Progress.{Progress}
 use Rattle.cqs_turns.specs.declared.states.Progress.TheVariants.{Stepping, Working, Waiting, Ended}
 use Rattle.cqs_turns.specs.Lines.{is_crowded}
-use Rattle.cqs_turns.specs.Turns.{Role, Scene, Made, Acted, Machine, made, took, stop_or, stepped, go_on, left_at, gave_up, looked, acted, is_due, one_job, each_job, machine_after}
+use Rattle.cqs_turns.specs.Turns.{Role, Scene, Acted, Machine, made, took, stop_or, stepped, go_on, left_at, gave_up, looked, acted, is_due, one_job, each_job, machine_after}
 
 stepped-stays : (r : Role) (steps : List Step) (next : ℕ) (s : Scene)
     → is_crowded (stepped r steps next s).progress ≡ false

@@ -1,7 +1,9 @@
 //! The plain code that the program and the running queue are measured against, with ordinary data and nothing proved.
 //!
-//! `plain plan` writes the plan at the limits, and `plain large` a plan of one mebibyte. `plain run` runs the first from
-//! memory and prints the nanoseconds of the run and a sum over the report's bytes, by which the two reports are compared.
+//! `plain plan NAME` writes the plan of this name, and `plain large` a plan of one mebibyte. `plain run NAME` runs the named plan from
+//! memory and prints the nanoseconds of the run and a sum over the report's bytes, by which the two reports are compared; `plain
+//! report NAME` prints the report, and `plain make NAME` makes the plan alone. The names are those of `named_plan`; a number after
+//! a name is how many turns the plan has.
 //! `plain free` and `plain pairs` make the rounds of the running queue on atomic words; `ROUNDS` after them is how many.
 
 use std::collections::VecDeque;
@@ -10,7 +12,7 @@ use std::io::Write as _;
 use std::sync::atomic::{AtomicU64, Ordering::SeqCst};
 use std::time::Instant;
 
-const TURNS: u32 = 40_000;
+const MOST_TURNS: u32 = 40_000;
 const JOBS: u32 = 4_096;
 const RESOURCES: u32 = 64;
 const MOST_STEPS: usize = 64;
@@ -29,26 +31,90 @@ struct Job {
     deadline: Option<u32>,
 }
 
-/// The plan at the limits: each resource is wanted by 64 jobs, every other job has a deadline, and most of the jobs wait
-/// through most of the turns.
-fn plan() -> (Vec<(String, u32)>, Vec<Job>) {
-    let resources = (0..RESOURCES).map(|r| (format!("r{r:02}"), 2)).collect();
-    let jobs = (0..JOBS)
-        .map(|j| {
-            let first = (j % RESOURCES) as usize;
-            let second = ((j / RESOURCES + j) % RESOURCES) as usize;
-            let mut steps = vec![Step::Work(1 + j % 7), Step::Take(first), Step::Work(400 + j % 600), Step::Give(first)];
-            if second != first {
-                steps.extend([Step::Take(second), Step::Work(1 + j % 90)]);
-            }
-            Job { name: format!("j{j}"), steps, deadline: (j % 2 == 1).then_some(1_000 + 9 * j) }
-        })
-        .collect();
-    (resources, jobs)
+struct Plan {
+    turns: u32,
+    resources: Vec<(String, u32)>,
+    jobs: Vec<Job>,
 }
 
-fn write_plan(resources: &[(String, u32)], jobs: &[Job]) -> String {
-    let mut text = format!("version = 1\nturns = {TURNS}\n");
+/// A plan with as many jobs and resources as a plan may have; `job` tells the steps of each job, and its deadline.
+fn plan(turns: u32, size: u32, job: impl Fn(u32) -> (Vec<Step>, Option<u32>)) -> Plan {
+    let resources = (0..RESOURCES).map(|r| (format!("r{r:02}"), size)).collect();
+    let jobs = (0..JOBS)
+        .map(|j| {
+            let (steps, deadline) = job(j);
+            Job { name: format!("j{j}"), steps, deadline }
+        })
+        .collect();
+    Plan { turns, resources, jobs }
+}
+
+fn resource_of(j: u32) -> usize {
+    (j % RESOURCES) as usize
+}
+
+/// Each resource is wanted by 64 jobs, every other job has a deadline, and most of the jobs wait through most of the turns.
+fn limits() -> Plan {
+    plan(MOST_TURNS, 2, |j| {
+        let first = resource_of(j);
+        let second = resource_of(j / RESOURCES + j);
+        let mut steps = vec![Step::Work(1 + j % 7), Step::Take(first), Step::Work(400 + j % 600), Step::Give(first)];
+        if second != first {
+            steps.extend([Step::Take(second), Step::Work(1 + j % 90)]);
+        }
+        (steps, (j % 2 == 1).then_some(1_000 + 9 * j))
+    })
+}
+
+/// One job for each resource holds its permit and works through all turns; the others wait for it, until their deadline.
+fn held(deadline: Option<u32>) -> Plan {
+    plan(MOST_TURNS, 1, |j| {
+        let mut steps = vec![Step::Take(resource_of(j))];
+        if j < RESOURCES {
+            steps.extend([Step::Work(1_000); 40]);
+            return (steps, None);
+        }
+        (steps, deadline)
+    })
+}
+
+/// All jobs work through all turns, which are as many as fit the bytes of a plan.
+fn work() -> Plan {
+    plan(16_000, 1, |_| (vec![Step::Work(1_000); 16], None))
+}
+
+/// All jobs make all their steps in turn 0.
+fn ended() -> Plan {
+    plan(MOST_TURNS, 1, |j| (vec![Step::Take(resource_of(j)), Step::Give(resource_of(j))], None))
+}
+
+/// In each turn each permit goes to the next of 64 jobs, of which each takes it six times.
+fn moving() -> Plan {
+    let cycle = |r| [Step::Take(r), Step::Work(1), Step::Give(r)];
+    plan(380, 1, |j| (cycle(resource_of(j)).repeat(6), None))
+}
+
+/// Many events in three turns, so that the reading of the plan and the making of the report are the most of a run.
+fn events() -> Plan {
+    plan(3, 1, |j| ([Step::Take(resource_of(j)), Step::Give(resource_of(j))].repeat(7), Some(3)))
+}
+
+fn named_plan(name: &str) -> Option<Plan> {
+    match name {
+        "limits" => Some(limits()),
+        "wait" => Some(held(None)),
+        "work" => Some(work()),
+        "ended" => Some(ended()),
+        "gaveup" => Some(held(Some(10))),
+        "moving" => Some(moving()),
+        "events" => Some(events()),
+        _ => None,
+    }
+}
+
+fn write_plan(plan: &Plan) -> String {
+    let Plan { turns, resources, jobs } = plan;
+    let mut text = format!("version = 1\nturns = {turns}\n");
     for (name, size) in resources {
         let _ = write!(text, "[semaphore.{name}]\nsize = {size}\n");
     }
@@ -236,7 +302,8 @@ impl Run<'_> {
     }
 }
 
-fn run(resources: &[(String, u32)], jobs: &[Job]) -> String {
+fn run(plan: &Plan) -> String {
+    let Plan { turns, resources, jobs } = plan;
     let semaphores = resources
         .iter()
         .map(|(_, size)| Semaphore { free: *size, line: VecDeque::new(), waits: Vec::new(), inside: 0, ready: 0 })
@@ -244,7 +311,7 @@ fn run(resources: &[(String, u32)], jobs: &[Job]) -> String {
     let mut run = Run { resources, semaphores, report: String::new() };
     let mut progress = vec![Progress::Ready(0); jobs.len()];
     let mut holds: Vec<Vec<usize>> = vec![Vec::new(); jobs.len()];
-    for turn in 0..TURNS {
+    for turn in 0..*turns {
         for (i, job) in jobs.iter().enumerate() {
             run.turn(turn, job, &mut progress[i], &mut holds[i]);
         }
@@ -392,28 +459,55 @@ fn time_rounds(name: &str, rounds: u64, round: impl Fn(&Words, &mut Caller)) {
     let _ = writeln!(std::io::stdout(), "{name} {nanoseconds} rounds {rounds} held {}", caller.held);
 }
 
-fn main() {
-    let rounds = std::env::args().nth(2).and_then(|text| text.parse().ok()).unwrap_or(LIMIT);
-    match std::env::args().nth(1).as_deref() {
-        Some("free") => return time_rounds("free", rounds, free_round),
-        Some("pairs") => return time_rounds("pairs", rounds, pair_round),
-        _ => {}
+/// Times a run, and prints its nanoseconds and a sum over the report.
+fn time_run(plan: &Plan) {
+    let start = Instant::now();
+    let report = run(plan);
+    let nanoseconds = start.elapsed().as_nanos();
+    let sum: u64 = report.bytes().fold(0, |sum, byte| sum.wrapping_mul(31).wrapping_add(u64::from(byte)));
+    let _ = writeln!(std::io::stdout(), "run {nanoseconds} bytes {} sum {sum}", report.len());
+}
+
+/// Does what a command with a plan's name says; tells whether there are such a command and such a plan.
+fn with_plan(command: &str, name: &str, turns: Option<u32>) -> bool {
+    let Some(mut plan) = named_plan(name) else {
+        return false;
+    };
+    plan.turns = turns.unwrap_or(plan.turns);
+    match command {
+        "plan" => print!("{}", write_plan(&plan)),
+        "report" => print!("{}", run(&plan)),
+        "run" => time_run(&plan),
+        "make" => println!("made {}", plan.jobs.len()),
+        _ => return false,
     }
-    let (resources, jobs) = plan();
-    match std::env::args().nth(1).as_deref() {
-        Some("plan") => print!("{}", write_plan(&resources, &jobs)),
-        Some("large") => print!("{}", large_plan()),
-        Some("report") => print!("{}", run(&resources, &jobs)),
-        Some("run") => {
-            let start = Instant::now();
-            let report = run(&resources, &jobs);
-            let nanoseconds = start.elapsed().as_nanos();
-            let sum: u64 = report.bytes().fold(0, |sum, byte| sum.wrapping_mul(31).wrapping_add(u64::from(byte)));
-            let _ = writeln!(std::io::stdout(), "run {nanoseconds} bytes {} sum {sum}", report.len());
+    true
+}
+
+fn main() {
+    let words: Vec<String> = std::env::args().skip(1).collect();
+    let words: Vec<&str> = words.iter().map(String::as_str).collect();
+    let rounds = || words.get(1).and_then(|text| text.parse().ok()).unwrap_or(LIMIT);
+    let known = match words[..] {
+        ["large"] => {
+            print!("{}", large_plan());
+            true
         }
-        _ => {
-            let _ = writeln!(std::io::stderr(), "usage: plain plan | plain large | plain report | plain run | plain free [ROUNDS] | plain pairs [ROUNDS]");
-            std::process::exit(2);
+        ["free", ..] => {
+            time_rounds("free", rounds(), free_round);
+            true
         }
+        ["pairs", ..] => {
+            time_rounds("pairs", rounds(), pair_round);
+            true
+        }
+        [command, name] => with_plan(command, name, None),
+        [command, name, turns] => with_plan(command, name, turns.parse().ok()),
+        _ => false,
+    };
+    if !known {
+        let usage = "usage: plain plan | make | run | report NAME [TURNS]; or plain large | free [ROUNDS] | pairs [ROUNDS]";
+        let _ = writeln!(std::io::stderr(), "{usage}");
+        std::process::exit(2);
     }
 }

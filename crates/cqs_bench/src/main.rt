@@ -1,16 +1,21 @@
-//! Times what the program does with a plan on standard input: the parse of its document, the reading of the plan, or its run. And
-//! times rounds of the running queue.
+//! Times what the program does with a plan on standard input: the parse of its document, the reading of the plan, its run, or the
+//! reading and the run together, beside a plain fold over the same parse. And times rounds of the running queue.
 //!
 //! Each part prints one line, which starts with its word and its nanoseconds.
 #![tactic(auto)]
 
+mod fold;
 mod rounds;
 
+ghost use Rattle.cqs_cli.specs.Opening.{AreSemaphores};
+ghost use Rattle.cqs_plan.specs.Runnable.{IsRunnable};
+
 use cqs_cli::CoreFloor;
-use cqs_plan::read_plan;
+use cqs_plan::{Plan, read_plan};
 use cqs_rule::{CancelMode, Config, Queue, SemClient};
 use cqs_turns::{Report, run_plan};
 use rounds::{LIMIT, free_rounds, pair_rounds};
+use std::alloc::Global;
 use std::env;
 use std::io::{self, Read};
 use std::process::ExitCode;
@@ -18,7 +23,7 @@ use std::rt::Clock;
 use std::time::Instant;
 
 const USAGE: &str =
-    "usage: cqs_bench toml | plan | run, with a plan on standard input; or free | pairs [ROUNDS]";
+    "usage: cqs_bench toml | plan | run | whole | fold, with a plan on standard input; or free | pairs [ROUNDS]";
 
 const BAD_COMMAND: u8 = 2;
 
@@ -53,6 +58,41 @@ fn sum_of(text: &[u8]) -> u64 {
     })
 }
 
+/// Prints the nanoseconds since the start, and what compares a report with another.
+fn tell_report(
+    rt: &(impl Clock + Print),
+    word: &str,
+    start: Instant,
+    text: &[u8],
+) -> anyhow::Result<()> {
+    let nanoseconds = start.elapsed(rt)?.as_nanos();
+    let sum = sum_of(text);
+    println!(rt; "{word} {nanoseconds} bytes {} sum {sum}", text.len())?;
+    Ok(())
+}
+
+/// The run of a plan, with the making of its floor.
+fn run(alloc: Global, plan: &Plan) -> anyhow::Result<Report>
+    requires runnable { IsRunnable plan.now }
+    requires semaphores { AreSemaphores plan.now.resources }
+{
+    let Ok(mut floor) = CoreFloor::new(alloc, plan) else {
+        anyhow::bail!("no memory for the floor");
+    };
+    let mut report = Report::new(alloc);
+    if run_plan(alloc, plan, &mut floor, &mut report).is_err() {
+        anyhow::bail!("no memory for the report");
+    }
+    Ok(report)
+}
+
+fn read_and_run(alloc: Global, bytes: &[u8]) -> anyhow::Result<Report> {
+    let Ok(plan) = read_plan(alloc, bytes) else {
+        anyhow::bail!("the input is no plan");
+    };
+    run(alloc, &plan)
+}
+
 /// The run of a plan that was read before, with the making of its floor.
 fn time_run(rt: &(impl Clock + Print + AllocGlobal), bytes: &[u8]) -> anyhow::Result<()> {
     let alloc = rt.alloc();
@@ -60,21 +100,24 @@ fn time_run(rt: &(impl Clock + Print + AllocGlobal), bytes: &[u8]) -> anyhow::Re
         anyhow::bail!("the input is no plan");
     };
     let start = Instant::now(rt)?;
-    let Ok(mut floor) = CoreFloor::new(alloc, &plan) else {
-        anyhow::bail!("no memory for the floor");
+    let report = run(alloc, &plan)?;
+    tell_report(rt, "run", start, report.text())
+}
+
+/// The reading of a plan and its run, from its bytes to the report, and the freeing of the plan.
+fn time_whole(rt: &(impl Clock + Print + AllocGlobal), bytes: &[u8]) -> anyhow::Result<()> {
+    let start = Instant::now(rt)?;
+    let report = read_and_run(rt.alloc(), bytes)?;
+    tell_report(rt, "whole", start, report.text())
+}
+
+/// The same by the plain fold.
+fn time_fold(rt: &(impl Clock + Print + AllocGlobal), bytes: &[u8]) -> anyhow::Result<()> {
+    let start = Instant::now(rt)?;
+    let Some(report) = fold::report_of(rt.alloc(), bytes) else {
+        anyhow::bail!("the input is no plan of semaphores");
     };
-    let mut report = Report::new(alloc);
-    if run_plan(alloc, &plan, &mut floor, &mut report).is_err() {
-        anyhow::bail!("no memory for the report");
-    }
-    let nanoseconds = start.elapsed(rt)?.as_nanos();
-    let text = report.text();
-    println!(rt;
-        "run {nanoseconds} bytes {} sum {}",
-        text.len(),
-        sum_of(text)
-    )?;
-    Ok(())
+    tell_report(rt, "fold", start, report.as_bytes())
 }
 
 /// Rounds of the running queue on a table of its own, which was made before.
@@ -123,6 +166,8 @@ fn main(rt: HostRuntime) -> anyhow::Result<ExitCode> {
         "toml" => time_parse(&rt, &bytes)?,
         "plan" => time_reading(&rt, &bytes)?,
         "run" => time_run(&rt, &bytes)?,
+        "whole" => time_whole(&rt, &bytes)?,
+        "fold" => time_fold(&rt, &bytes)?,
         _ => return Ok(usage(&rt)?),
     }
     Ok(ExitCode::SUCCESS)

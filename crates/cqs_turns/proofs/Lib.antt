@@ -12,3 +12,4 @@ pub mod Jobs
 pub mod Turning
 pub mod Ends
 pub mod Mapped
+pub mod NoneTurnedAway

@@ -1,4 +1,5 @@
 pub mod Lines
+pub mod Machine
 pub mod Turns
 pub mod Report
 pub mod Ready

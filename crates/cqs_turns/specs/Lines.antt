@@ -9,9 +9,9 @@ use Rattle.cqs_plan.specs.Floor.{PlainFloor}
 use Rattle.cqs_plan.specs.FloorCalls.{end_answer}
 use Rattle.cqs_turns.specs.declared.lines.Told.{Told}
 use Rattle.cqs_turns.specs.declared.lines.Told.TheVariants as told
-use Rattle.cqs_turns.specs.declared.states.End.TheVariants.{Done, GaveUp, Late}
+use Rattle.cqs_turns.specs.declared.states.End.TheVariants.{Done, GaveUp, Late, Crowded}
 use Rattle.cqs_turns.specs.declared.states.Progress.{Progress}
-use Rattle.cqs_turns.specs.declared.states.Progress.TheVariants.{Ended}
+use Rattle.cqs_turns.specs.declared.states.Progress.TheVariants.{Stepping, Working, Waiting, Ended}
 
 -- the name of the resource at a place
 abbrev pub name_at : List Resource → ℕ → List ℕ
@@ -63,9 +63,16 @@ abbrev pub is_late : Progress → Bool
 is_late (Ended Late) = true
 is_late _ = false
 
+-- a call of the job was turned away, which the plain floor never does
+abbrev pub is_crowded : Progress → Bool
+is_crowded (Ended Crowded) = true
+is_crowded _ = false
+
 abbrev pub is_unfinished : Progress → Bool
+is_unfinished (Stepping next) = true
+is_unfinished (Working next until) = true
+is_unfinished (Waiting next at number) = true
 is_unfinished (Ended end) = false
-is_unfinished _ = true
 
 -- how many jobs came to each end, and how many to none
 abbrev pub total_text : List Progress → List ℕ

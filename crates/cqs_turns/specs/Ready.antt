@@ -20,8 +20,10 @@ steps_left steps (Ended end) = []
 
 -- the wait of a job
 abbrev pub wait_in : Progress → Option JobWait
+wait_in (Stepping next) = None
+wait_in (Working next until) = None
 wait_in (Waiting next at number) = Some (record { at = at; number = number })
-wait_in _ = None
+wait_in (Ended end) = None
 
 -- what the job holds once its wait is served
 abbrev pub coming : List ℕ → Option JobWait → List ℕ

@@ -1,10 +1,11 @@
 //! What a job does in its turn.
 
-ghost use Rattle.std.specs.Prelude.{◌≡◌, ◌≤◌, ◌<◌, ◌∷◌, ◌++◌, [], None, Some, drop, slice_get, length, ◌==◌, IfSome, OnOk, OnErr, IfOk};
+ghost use Rattle.std.specs.Prelude.{◌≡◌, ◌≤◌, ◌<◌, ◌∷◌, ◌++◌, [], None, Some, drop, slice_get, length, ◌==◌, false, IfSome, OnOk, OnErr, IfOk};
 ghost use Rattle.std.specs.List.{position_from};
 ghost use Rattle.cqs_core.specs.Keyed.{without};
 ghost use Rattle.cqs_plan.specs.Floor.{IsJob, IsHolding, IsHoldable};
 ghost use Rattle.cqs_plan.specs.FloorCalls.{take_answer, leave_answer, look_answer};
+ghost use Rattle.cqs_turns.specs.Machine.{rests};
 ghost use Rattle.cqs_turns.specs.Turns.{acted, given, given_back, took, made, event, left_at, finished, go_on, cancelled, gave_up, end_of, looked, places_held};
 ghost use Rattle.cqs_turns.specs.Ready.{IsReady, HasRoom, steps_left};
 ghost use Rattle.cqs_turns.specs.Report.{IsFrontOf};
@@ -335,13 +336,14 @@ fn look<F: Floor>(
     }
 }
 
-/// The job has its turn.
+/// The job acts in its turn, since it doesn't rest.
 pub fn act<F: Floor>(
     floor: &mut F,
     report: &mut Report,
     actor: &Actor<'_>,
     state: &mut JobState,
 ) -> Result<(), Memory>
+    requires acts { rests actor.now.turn state.old.progress ≡ false }
     requires ready { IsSet (F.plain floor.old) (role actor.now) state.old }
     requires room { HasRoom (F.plain floor.old) (steps_left actor.now.job.now.steps state.old.progress) }
     requires few_steps { length actor.now.job.now.steps ≤ 64 }
@@ -353,8 +355,7 @@ pub fn act<F: Floor>(
         (acted (role actor.now) state.old.progress (scene (F.plain floor.old) report.old)).scene.text report.new) }
 {
     match state.progress {
-        Progress::Ended(_) => {}
-        Progress::Working { until, .. } if actor.turn < until => {}
+        Progress::Ended(_) => unreachable!(),
         Progress::Stepping(next) | Progress::Working { next, .. } => {
             state.progress = make_steps(floor, report, actor, &mut state.held, next)?;
         }

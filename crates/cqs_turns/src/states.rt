@@ -2,6 +2,7 @@
 
 ghost use Rattle.std.specs.Prelude.{◌≡◌};
 ghost use Rattle.cqs_turns.specs.Lines.{is_done, has_given_up, is_late, is_unfinished};
+ghost use Rattle.cqs_turns.specs.Machine.{rests};
 
 /// How a job ended.
 #[derive(Clone, Copy, Debug, PartialEq, Eq)]
@@ -12,6 +13,8 @@ pub enum End {
     GaveUp,
     /// Its wait was served, but it looked only at its deadline.
     Late,
+    /// A call of it was turned away. A floor of this crate's machine turns nobody away.
+    Crowded,
 }
 
 /// How far a job is. `next` is the place of the step that it makes next.
@@ -35,6 +38,17 @@ pub struct JobState {
 }
 
 impl Progress {
+    /// The job does nothing in this turn: it has ended, or it still works.
+    pub fn rests(&self, turn: u32) -> bool
+        ensures { result ≡ rests turn self.now }
+    {
+        match self {
+            Progress::Ended(_) => true,
+            Progress::Working { until, .. } => turn < *until,
+            Progress::Stepping(_) | Progress::Waiting { .. } => false,
+        }
+    }
+
     pub fn is_done(self) -> bool
         ensures { result ≡ is_done self }
     {

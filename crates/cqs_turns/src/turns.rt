@@ -51,6 +51,10 @@ fn one_job<F: Floor>(
     ensures err { OnErr result (IsFrontOf
         (turn_at plan.now turn place (machine_of (F.plain floor.old) report.old states.old)).scene.text report.new) }
 {
+    // In most turns most jobs rest, and this look is all that those turns cost.
+    if states[place as usize].progress.rests(turn) {
+        return Ok(());
+    }
     let actor = actor_at(plan, turn, place);
     act(floor, report, &actor, &mut states[place as usize])
 }

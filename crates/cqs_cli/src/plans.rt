@@ -1,6 +1,8 @@
-ghost use Rattle.std.specs.Prelude.{◌≡◌, IfOk};
+ghost use Rattle.std.specs.Prelude.{◌≡◌, IfOk, OnOk};
+ghost use Rattle.cqs_plan.specs.LegalFloor.{IsLegalFloor};
 ghost use Rattle.cqs_plan.specs.Runnable.{AreSemaphores, IsRunnable};
 ghost use Rattle.cqs_turns.specs.Report.{report_of};
+ghost use Rattle.cqs_cli.specs.Plans.{floor_after};
 ghost use Rattle.cqs_cli.specs.Verdicts.{IsVerdictOn};
 
 use crate::floors::core_floor::CoreFloor;
@@ -40,7 +42,8 @@ fn answer(alloc: Global, bytes: &[u8]) -> Result<Verdict, Memory>
 fn report_of(alloc: Global, plan: &Plan) -> Result<Vec<u8>, Memory>
     requires runnable { IsRunnable plan.now }
     requires built { AreSemaphores plan.now.resources }
-    ensures { IfOk result (λ text. text.items ≡ report_of plan.now) }
+    ensures reported { IfOk result (λ text. text.items ≡ report_of plan.now) }
+    ensures legal { OnOk result (IsLegalFloor (floor_after plan.now)) }
 {
     let mut floor = CoreFloor::new(alloc, plan)?;
     let mut told = Report::new(alloc);

@@ -7,4 +7,5 @@ pub mod sink;
 pub mod source;
 pub mod sure_sink;
 pub mod sure_source;
+pub mod tally;
 pub mod writing;

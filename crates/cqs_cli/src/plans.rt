@@ -1,3 +1,5 @@
+//! What an input comes to: the report of a plan, or the line that says what is wrong.
+
 ghost use Rattle.std.specs.Prelude.{◌≡◌, IfOk, OnOk};
 ghost use Rattle.cqs_plan.specs.LegalFloor.{IsLegalFloor};
 ghost use Rattle.cqs_plan.specs.Runnable.{AreSemaphores, IsRunnable};
@@ -27,12 +29,12 @@ fn answer(alloc: Global, bytes: &[u8]) -> Result<Verdict, Memory>
 {
     match read_plan(alloc, bytes) {
         Ok(plan) => Ok(Verdict::Report(report_of(alloc, &plan)?)),
-        Err(PlanError::NotToml) => Ok(Verdict::BadPlan(Vec::from_slice(
+        Err(PlanError::NotToml) => Ok(Verdict::NoPlan(Vec::from_slice(
             alloc,
             b"bad plan: not a TOML document\n",
         )?)),
         Err(PlanError::Fault { place, kind }) => {
-            Ok(Verdict::BadPlan(fault_line(alloc, &place, kind)?))
+            Ok(Verdict::NoPlan(fault_line(alloc, &place, kind)?))
         }
         Err(PlanError::Memory) => Ok(Verdict::NoMemory),
     }

@@ -15,7 +15,7 @@ pub record HasCounted (bytes : List ℕ) (before after : Tally) : Type 0 where
   pub given : after.given ≡ raised before.given (length bytes)
   pub unstopped : before.stops ≡ 0 → after.stops ≡ 0
 
--- the sink took just the front of the text, and no fault came
+-- the sink took just this prefix of the text, and no fault came
 pub record HasWritten (text : List ℕ) (done : ℕ) (held now : Option (List ℕ)) (before after : ℕ) : Type 0 where
   pub within : done ≤ length text
   pub taken : Gains (take done text) held now

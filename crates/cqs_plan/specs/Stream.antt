@@ -26,6 +26,6 @@ Gains bytes held None = Unit {0}
 Gains bytes None (Some after) = ⊥
 Gains bytes (Some held) (Some after) = after ≡ held ++ bytes
 
--- a sink took a front of these bytes
-abbrev pub GainsFront : List ℕ → Option (List ℕ) → Option (List ℕ) → Type 0
-GainsFront bytes held after = (count : ℕ) × (count ≤ length bytes) × Gains (take count bytes) held after
+-- a sink took a prefix of these bytes
+abbrev pub GainsPrefix : List ℕ → Option (List ℕ) → Option (List ℕ) → Type 0
+GainsPrefix bytes held after = (count : ℕ) × (count ≤ length bytes) × Gains (take count bytes) held after

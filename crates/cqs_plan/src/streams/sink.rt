@@ -20,7 +20,7 @@ pub trait Sink {
 
     ghost flushes: { Self → Bool → Self → Type 0 } = { λ _ _ _. Unit {0} };
 
-    /// Takes a front of `piece` and says how many bytes it is. To take nothing of a piece is a failure.
+    /// Takes a prefix of `piece` and says how many bytes it is. To take nothing of a piece is a failure.
     fn write(&mut self, piece: &[u8]) -> Result<usize, Failed>
         ensures within { IfOk result (λ count. count ≤ length piece.now) }
         ensures some { IfOk result (λ count. 0 < length piece.now → 0 < count) }

@@ -20,7 +20,7 @@ pub trait Source {
 
     ghost reads: { Self → List ℕ → Result ℕ Failure → Self → Type 0 } = { λ _ _ _ _. Unit {0} };
 
-    /// Puts the next bytes into the front of `buffer` and says how many they are.
+    /// Puts the next bytes at the start of `buffer` and says how many they are.
     ///
     /// 0 comes exactly at the end: by `next` nothing else can come where nothing is left.
     fn read(&mut self, buffer: &mut [u8]) -> Result<usize, Failed>

@@ -1,7 +1,7 @@
 //! What an input comes to: the report of a plan, or the line that says what is wrong.
 
 ghost use Rattle.std.specs.Prelude.{◌≡◌, IfOk, OnOk};
-ghost use Rattle.cqs_plan.specs.LegalFloor.{IsLegalFloor};
+ghost use Rattle.cqs_plan.specs.LegalFloor.{IsLegalFor};
 ghost use Rattle.cqs_plan.specs.Runnable.{AreSemaphores, IsRunnable};
 ghost use Rattle.cqs_turns.specs.Report.{report_of};
 ghost use Rattle.cqs_cli.specs.Plans.{floor_after};
@@ -45,7 +45,7 @@ fn report_of(alloc: Global, plan: &Plan) -> Result<Vec<u8>, Memory>
     requires runnable { IsRunnable plan.now }
     requires built { AreSemaphores plan.now.resources }
     ensures reported { IfOk result (λ text. text.items ≡ report_of plan.now) }
-    ensures legal { OnOk result (IsLegalFloor (floor_after plan.now)) }
+    ensures legal { OnOk result (IsLegalFor plan.now (floor_after plan.now)) }
 {
     let mut floor = CoreFloor::new(alloc, plan)?;
     let mut told = Report::new(alloc);

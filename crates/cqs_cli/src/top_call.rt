@@ -58,7 +58,7 @@ pub fn top<S: Source, K: Sink>(alloc: Global, words: &[String], source: &mut S, 
         × GivesCount (LONGEST_INPUT + 1) (S.left source.old) (S.left source.new)
         × (sink.new ≡ sink.old) }
 
-    // Exactly then one byte more than an input may have was read, by the source's tally, unless memory ran out.
+    // By the source's tally that many bytes were read then; and where so many were, this status comes, unless memory ran out.
     ensures too_many { result ≡ TOO_LONG →
         (S.tally source.new).given ≡ raised (S.tally source.old).given (LONGEST_INPUT + 1) }
     ensures many_bytes { (S.tally source.old).given + LONGEST_INPUT < (S.tally source.new).given
@@ -69,7 +69,7 @@ pub fn top<S: Source, K: Sink>(alloc: Global, words: &[String], source: &mut S, 
     ensures given { (S.tally source.new).given ≤ (S.tally source.old).given + (LONGEST_INPUT + 1) }
     ensures stops { (S.tally source.old).stops ≡ 0 → (S.tally source.new).stops ≤ 1 }
 
-    // A plan, and what is none, was read until the source answered that nothing is left.
+    // A plan, and what is none, was read until a read stopped; no fault came, so it stopped at the end.
     ensures ended { (result ≡ DONE) ⊎ (result ≡ NO_PLAN)
         → (S.tally source.old).stops ≡ 0 → (S.tally source.new).stops ≡ 1 }
 

@@ -46,8 +46,8 @@ pub record PlainSink : Type 0 where
   pub is_over : Bool
 
 -- what it holds, which it no longer tells once more came than it has room for
-abbrev pub told : PlainSink → Option (List ℕ)
-told sink = if sink.is_over then None else Some sink.kept
+abbrev pub content : PlainSink → Option (List ℕ)
+content sink = if sink.is_over then None else Some sink.kept
 
 -- it takes every piece whole, and keeps as much as there is room for
 abbrev pub WritesSurely : PlainSink → List ℕ → Result ℕ Failed → PlainSink → Type 0

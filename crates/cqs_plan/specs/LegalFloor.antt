@@ -5,7 +5,9 @@ use Rattle.cqs_core.specs.declared.entries.Entry.{Entry}
 use Rattle.cqs_core.specs.SemaphoreEntries.{IsLegal}
 use Rattle.cqs_plan.specs.declared.plans.kind.Kind.{Kind}
 use Rattle.cqs_plan.specs.declared.plans.kind.Kind.TheVariants as kind
+use Rattle.cqs_plan.specs.declared.plans.plan.Plan.{Plan}
 use Rattle.cqs_plan.specs.Floor.{PlainFloor, entries_at}
+use Rattle.cqs_plan.specs.Runnable.{kinds_of}
 
 -- these entries are a legal history of a resource of this kind, from its size on; the last four kinds aren't built
 abbrev pub IsHistory : Kind → List Entry → Type 0
@@ -18,3 +20,8 @@ IsHistory (kind.Rounds parties rounds) entries = ⊥
 -- the entries of each resource are a legal history of it
 pub record IsLegalFloor (f : PlainFloor) : Type 0 where
   pub at : (at : ℕ) (k : Kind) → slice_get f.kinds at ≡ Some k → IsHistory k (entries_at f at)
+
+-- the floor has the resources of the plan, and the entries of each are a legal history of it
+pub record IsLegalFor (plan : Plan) (f : PlainFloor) : Type 0 where
+  pub kinds : f.kinds ≡ kinds_of plan.resources
+  pub legal : IsLegalFloor f

@@ -1,3 +1,5 @@
+//! Sources and sinks, the loops over them, and those in memory.
+
 pub mod bytes_sink;
 pub mod bytes_source;
 pub mod failed;

@@ -2,7 +2,7 @@
 
 ghost use Rattle.std.specs.Prelude.{◌≡◌, ◌++◌, [], length, vec_len, IfOk, OnOk, OnErr};
 ghost use Rattle.cqs_plan.specs.Floor.{opening_floor};
-ghost use Rattle.cqs_plan.specs.LegalFloor.{IsLegalFloor};
+ghost use Rattle.cqs_plan.specs.LegalFloor.{IsLegalFloor, IsLegalFor};
 ghost use Rattle.cqs_plan.specs.Runnable.{IsRunnable, kinds_of};
 ghost use Rattle.cqs_turns.specs.Lines.{ends_text};
 ghost use Rattle.cqs_turns.specs.Report.{IsFrontOf, report_of};
@@ -97,8 +97,8 @@ pub fn run_plan<F: Floor>(
     requires empty { report.old ≡ [] }
     ensures floor { OnOk result (F.plain floor.new ≡ (machine_after plan.now plan.now.turns).scene.floor) }
 
-    // The entries of each resource are a legal history of it.
-    ensures legal { OnOk result (IsLegalFloor (F.plain floor.new)) }
+    // The entries of each of the plan's resources are a legal history of it.
+    ensures legal { OnOk result (IsLegalFor plan.now (F.plain floor.new)) }
     ensures report { OnOk result (report.new ≡ report_of plan.now) }
     ensures err { OnErr result (IsFrontOf (report_of plan.now) report.new) }
 {

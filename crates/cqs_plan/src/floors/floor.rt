@@ -1,3 +1,5 @@
+//! The trait of floors.
+
 ghost use Rattle.std.specs.Prelude.{◌≡◌, ◌<◌, slice_index, slice_get};
 ghost use Rattle.cqs_plan.specs.Floor.{PlainFloor, IsJob, IsHolding, IsWaiting, IsIdle, IsHoldable, room_at};
 ghost use Rattle.cqs_plan.specs.FloorCalls.{

@@ -1,3 +1,5 @@
+//! A source in memory that fails where it is told to.
+
 use crate::streams::script::Script;
 use crate::{Failed, Memory, Source, SureSource};
 use std::alloc::Global;

@@ -1,3 +1,5 @@
+//! The loop that reads an input.
+
 ghost use Rattle.std.specs.Prelude.{◌≡◌, ◌+◌, ◌≤◌, [], vec_len, IfOk, OnOk, IsErrOf};
 ghost use Rattle.cqs_plan.specs.Stops.{stops_of};
 ghost use Rattle.cqs_plan.specs.Counts.{raised};

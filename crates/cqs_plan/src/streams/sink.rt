@@ -1,3 +1,5 @@
+//! The trait of sinks.
+
 ghost use Rattle.std.specs.Prelude.{◌≡◌, ℕ, ◌<◌, ◌≤◌, Bool, List, length, take, Option, Result, IsTrue, is_ok, IfOk, OnOk, OnErr};
 ghost use Rattle.cqs_plan.specs.Stream.{Gains, Rises};
 ghost use Rattle.cqs_plan.specs.declared.streams.failed.Failed.{Failed as Failure};

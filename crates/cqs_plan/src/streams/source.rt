@@ -1,3 +1,5 @@
+//! The trait of sources.
+
 ghost use Rattle.std.specs.Prelude.{◌≡◌, ℕ, ◌<◌, ◌≤◌, List, [], length, take, Option, Result, IfOk, OnOk, OnErr};
 ghost use Rattle.cqs_plan.specs.Stream.{Gives, IsAll, Rises};
 ghost use Rattle.cqs_plan.specs.Tally.{after_read, bytes_of};

@@ -1,3 +1,5 @@
+//! A source in memory that never fails.
+
 use crate::{Failed, Memory, Source, Tally};
 use std::alloc::Global;
 use std::marker::Model;

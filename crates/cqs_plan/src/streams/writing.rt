@@ -1,3 +1,5 @@
+//! The loop that writes a text.
+
 ghost use Rattle.std.specs.Prelude.{◌≡◌, IsTrue, OnOk, OnErr};
 ghost use Rattle.cqs_plan.specs.Stream.{Gains, GainsPrefix, Rises};
 

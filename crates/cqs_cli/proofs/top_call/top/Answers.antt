@@ -1,11 +1,12 @@
 -- Each answer has what follows from the verdict and its telling, and leaves the rest to `search`: so a body that gives
 -- another status is refused by the clause.
 use Rattle.std.proofs.Common.{rules}
-use Rattle.cqs_cli.proofs.MeaningLemmas.{answers_fault, answers_plan, broke_off, is_status}
+use Rattle.cqs_cli.proofs.MeaningLemmas.{all_statuses, answers_fault, answers_plan, broke_off, is_status}
 use Rattle.cqs_cli.proofs.top_call.top.Goals as goal
 
 pub returns-clause-statuses : goal.returns-clause-statuses
 returns-clause-statuses g c =
+    let there = all_statuses in
     let known =
     is_status g.S.Source.left g.S.Source.faults g.K.Sink.held g.K.Sink.is_flushed g.K.Sink.faults _ _ _ _ _
     c.judge-verdict.result c.tell.result (c.judge-verdict.ensures.right, c.tell.ensures) in

@@ -14,9 +14,15 @@ use Rattle.cqs_cli.specs.declared.verdict.Verdict.TheVariants as verdict
 
 -- each status is one of those that there are
 pub all_statuses : IsStatus 0 × IsStatus 2 × IsStatus 3 × IsStatus 4 × IsStatus 5 × IsStatus 6 × IsStatus 7
-all_statuses =
-    ((0, lit< tt, refl), (1, lit< tt, refl), (2, lit< tt, refl), (3, lit< tt, refl), (4, lit< tt, refl), (5, lit< tt, refl),
-    (6, lit< tt, refl))
+all_statuses = (
+  (0, lit< tt, refl),
+  (1, lit< tt, refl),
+  (2, lit< tt, refl),
+  (3, lit< tt, refl),
+  (4, lit< tt, refl),
+  (5, lit< tt, refl),
+  (6, lit< tt, refl),
+)
 
 -- the input is what the source told before
 input_told : (bytes told : List ℕ) (left after : Option (List ℕ)) → IsInput bytes left after → left ≡ Some told → told ≡ bytes

@@ -2,9 +2,7 @@
 
 ghost use Rattle.cqs_cli.specs.Tellings.{Says, Tells};
 
-use crate::statuses::{
-    DONE, NO_COMMAND, NO_MEMORY, NO_PLAN, SINK_FAILED, SOURCE_FAILED, TOO_LONG,
-};
+use crate::statuses::{DONE, NO_COMMAND, NO_MEMORY, NO_PLAN, SINK_FAILED, SOURCE_FAILED, TOO_LONG};
 use crate::verdict::Verdict;
 use crate::words::USAGE;
 use cqs_plan::{Sink, write_all};

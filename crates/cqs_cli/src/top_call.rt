@@ -8,9 +8,7 @@ ghost use Rattle.cqs_cli.specs.Plans.{IsPlan};
 ghost use Rattle.cqs_cli.specs.Words.{IsCommand, IsRun, usage};
 
 use crate::judging::judge;
-use crate::statuses::{
-    DONE, NO_COMMAND, NO_MEMORY, NO_PLAN, SINK_FAILED, SOURCE_FAILED, TOO_LONG,
-};
+use crate::statuses::{DONE, NO_COMMAND, NO_MEMORY, NO_PLAN, SINK_FAILED, SOURCE_FAILED, TOO_LONG};
 use crate::telling::tell;
 use cqs_plan::{LONGEST_INPUT, Sink, Source};
 use std::alloc::Global;

@@ -47,7 +47,8 @@ impl Source for StdinSource {
     ghost faults = { λ source. source.faults };
 
     fn read(&mut self, buffer: &mut [u8]) -> Result<usize, Failed> {
-        let answer = counted(read_uninterrupted(&mut self.stdin, buffer), &mut self.faults);
+        let answer = read_uninterrupted(&mut self.stdin, buffer);
+        let answer = counted(answer, &mut self.faults);
         self.tally.count(answer.unwrap_or(0));
         answer
     }

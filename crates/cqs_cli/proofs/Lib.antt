@@ -15,5 +15,6 @@ pub mod Gives
 pub mod WaitOver
 pub mod Looks
 pub mod Ends
+pub mod LegalFloors
 pub mod Counting
 pub mod Opened

@@ -18,9 +18,9 @@ use Rattle.cqs_plan.specs.declared.floors.answers.FloorLeave.TheVariants.{Gone, 
 use Rattle.cqs_plan.specs.Floor.{PlainFloor, IsJob, wait_of}
 use Rattle.cqs_plan.specs.FloorCalls as plain
 use Rattle.cqs_cli.specs.declared.floors.waits.Wait.{Wait}
-use Rattle.cqs_cli.specs.DeskCalls.{Answers, CanCall, CanLook, Looks, leave_of, left, is_wait_served}
+use Rattle.cqs_cli.specs.DeskCalls.{Answers, CanCall, CanLook, Looks, leave_of, with_leave, is_wait_served}
 use Rattle.cqs_cli.specs.Kept.{IsKept, IsFundedAt, StandsIn}
-use Rattle.cqs_cli.specs.Ledger.{Ledger, plain_floor, with_cores, granted, job_wait}
+use Rattle.cqs_cli.specs.Ledger.{Ledger, plain_floor, with_cores, with_grant, job_wait}
 use Rattle.cqs_cli.specs.SoleCore.{IsSole}
 use Rattle.cqs_cli.proofs.Came.{Came, came-granted, came-left, came-late}
 use Rattle.cqs_cli.proofs.Funded.{funded-rests, funded-ready}
@@ -172,8 +172,8 @@ look-well l n job wait (Granted element) kept is_job slot (none, reads, (answer,
         (slice_index core.shape.held 0 + 1)
     came = came-granted core after answer sole wait.number calls.made (none-found _ missing)
 
-    same : n ≡ with_cores (granted l job wait) (set l.cores wait.at after)
-    same = written ∙ ap (with_cores (granted l job wait)) calls.cores
+    same : n ≡ with_cores (with_grant l job wait) (set l.cores wait.at after)
+    same = written ∙ ap (with_cores (with_grant l job wait)) calls.cores
 
 -- what a leave comes to
 pub record LeavesWell (f : PlainFloor) (job : ℕ) (answer : FloorLeave) (n : Ledger) : Type 0 where
@@ -184,7 +184,7 @@ pub record LeavesWell (f : PlainFloor) (job : ℕ) (answer : FloorLeave) (n : Le
 leave-well : (l n : Ledger) (job : ℕ) (wait : Wait) (answer : FloorLeave) → IsKept l
     → IsJob (plain_floor l) job → get_or l.waits job None ≡ Some wait
     → Answers leave_of (call.Cancel 0 wait.number) l.cores wait.at n.cores answer
-    → n ≡ with_cores (left l job wait answer) n.cores → LeavesWell (plain_floor l) job answer n
+    → n ≡ with_cores (with_leave l job wait answer) n.cores → LeavesWell (plain_floor l) job answer n
 leave-well l n job wait answer kept is_job slot a written =
     go (is_some (find_wait wait.number (shown core.shape).line)) refl
   where
@@ -208,10 +208,10 @@ leave-well l n job wait answer kept is_job slot a written =
     in_line = line-reads l job wait kept slot core a.calls.there
 
     same : (told : FloorLeave) → answer ≡ told
-        → n ≡ with_cores (left l job wait told) (set l.cores wait.at after)
+        → n ≡ with_cores (with_leave l job wait told) (set l.cores wait.at after)
     same told is =
-        written ∙ ap (λ g. with_cores (left l job wait g) n.cores) is
-        ∙ ap (with_cores (left l job wait told)) a.calls.cores
+        written ∙ ap (λ g. with_cores (with_leave l job wait g) n.cores) is
+        ∙ ap (with_cores (with_leave l job wait told)) a.calls.cores
 
     go : (b : Bool) → is_some (find_wait wait.number (shown core.shape).line) ≡ b
         → LeavesWell (plain_floor l) job answer n
@@ -261,9 +261,9 @@ look-floor l n f job wait answer view kept =
 pub leave-floor : (l n : Ledger) (f : PlainFloor) (job : ℕ) (wait : Wait) (answer : FloorLeave)
     → plain_floor l ≡ f → IsKept l → IsJob f job → get_or l.waits job None ≡ Some wait
     → Answers leave_of (call.Cancel 0 wait.number) l.cores wait.at n.cores answer
-    → n ≡ with_cores (left l job wait answer) n.cores → LeavesWell f job answer n
+    → n ≡ with_cores (with_leave l job wait answer) n.cores → LeavesWell f job answer n
 leave-floor l n f job wait answer view kept =
     let Comes : PlainFloor → Type 0 = λ g. IsJob g job → get_or l.waits job None ≡ Some wait
     → Answers leave_of (call.Cancel 0 wait.number) l.cores wait.at n.cores answer
-    → n ≡ with_cores (left l job wait answer) n.cores → LeavesWell g job answer n in
+    → n ≡ with_cores (with_leave l job wait answer) n.cores → LeavesWell g job answer n in
     subst Comes view (leave-well l n job wait answer kept)

@@ -1,7 +1,7 @@
 -- From a verdict that is right and was told to what the status means.
 use Rattle.std.proofs.Common.{◌≡◌, ℕ, ◌≤◌, inl, inr, Bool, List, length, Option, Some, None, ap, sym, ◌∙◌, subst, arith, refl, length-append, lit<}
-use Rattle.cqs_plan.specs.Stream.{GivesCount, IsAll, Rises}
-use Rattle.cqs_cli.specs.Ending.{status_of}
+use Rattle.cqs_plan.specs.Counts.{Rises}
+use Rattle.cqs_plan.specs.Stream.{GivesCount, IsAll}
 use Rattle.cqs_cli.specs.Input.{IsInput}
 use Rattle.cqs_cli.specs.Meanings.{BrokeOff, IsStatus, MustEnd}
 use Rattle.cqs_cli.specs.Plans.{IsPlan}
@@ -9,30 +9,20 @@ use Rattle.cqs_cli.proofs.PlanLemmas.{plan_has_no_fault}
 use Rattle.cqs_cli.specs.Tellings.{Tells}
 use Rattle.cqs_cli.specs.Verdicts.{IsVerdict}
 use Rattle.cqs_cli.specs.Words.{IsRun, usage}
-use Rattle.cqs_cli.specs.declared.ending.Ending.{Ending}
-use Rattle.cqs_cli.specs.declared.ending.Ending.TheVariants as ending
 use Rattle.cqs_cli.specs.declared.verdict.Verdict.{Verdict}
 use Rattle.cqs_cli.specs.declared.verdict.Verdict.TheVariants as verdict
 
--- each ending has one of the statuses
-pub is_status : (end : Ending) → IsStatus (status_of end)
-is_status ending.Done = (0, lit< tt, refl)
-is_status ending.NoCommand = (1, lit< tt, refl)
-is_status ending.NoPlan = (2, lit< tt, refl)
-is_status ending.SourceFailed = (3, lit< tt, refl)
-is_status ending.SinkFailed = (4, lit< tt, refl)
-is_status ending.NoMemory = (5, lit< tt, refl)
-is_status ending.TooLong = (6, lit< tt, refl)
-
--- only a sink that failed has its status
-sink_failed_alone : (end : Ending) → status_of end ≡ 5 → end ≡ ending.SinkFailed
-sink_failed_alone ending.Done same = absurd (omega arith)
-sink_failed_alone ending.NoCommand same = absurd (omega arith)
-sink_failed_alone ending.NoPlan same = absurd (omega arith)
-sink_failed_alone ending.SourceFailed same = absurd (omega arith)
-sink_failed_alone ending.SinkFailed same = refl
-sink_failed_alone ending.NoMemory same = absurd (omega arith)
-sink_failed_alone ending.TooLong same = absurd (omega arith)
+-- each status is one of those that there are
+pub all_statuses : IsStatus 0 × IsStatus 2 × IsStatus 3 × IsStatus 4 × IsStatus 5 × IsStatus 6 × IsStatus 7
+all_statuses = (
+  (0, lit< tt, refl),
+  (1, lit< tt, refl),
+  (2, lit< tt, refl),
+  (3, lit< tt, refl),
+  (4, lit< tt, refl),
+  (5, lit< tt, refl),
+  (6, lit< tt, refl),
+)
 
 -- the input is what the source told before
 input_told : (bytes told : List ℕ) (left after : Option (List ℕ)) → IsInput bytes left after → left ≡ Some told → told ≡ bytes
@@ -49,71 +39,89 @@ gave_as_many count told (Some all) after (bytes, many, (rest, whole, _)) tells =
 module _ {S K : Type 0} (left : S → Option (List ℕ)) (source_faults : S → ℕ)
     (held : K → Option (List ℕ)) (is_flushed : K → Bool) (sink_faults : K → ℕ)
     (words : List (List ℕ)) (source source_after : S) (sink sink_after : K) where
-  -- a verdict that is right, and was told with this end
-  abbrev Ends : Verdict → Ending → Type 0
-  Ends given end =
+  -- a verdict that is right, and was told with this status
+  abbrev Ends : Verdict → ℕ → Type 0
+  Ends given status =
       IsVerdict left source_faults words given source source_after
-      × Tells held is_flushed sink_faults given end sink sink_after
+      × Tells held is_flushed sink_faults given status sink sink_after
 
-  broke_off_by : (given : Verdict) (end : Ending) → Ends given end → end ≡ ending.SinkFailed
+  -- the status of a verdict that was told is one of those that there are
+  pub is_status : (given : Verdict) (status : ℕ) → Ends given status → IsStatus status
+  is_status verdict.NoCommand status (judged, inl (is, wrote)) = subst IsStatus (sym is) (1, lit< tt, refl)
+  is_status verdict.NoCommand status (judged, inr (is, broke)) = subst IsStatus (sym is) (4, lit< tt, refl)
+  is_status (verdict.Report text) status (judged, inl (is, wrote)) = subst IsStatus (sym is) (0, lit< tt, refl)
+  is_status (verdict.Report text) status (judged, inr (is, broke)) = subst IsStatus (sym is) (4, lit< tt, refl)
+  is_status (verdict.NoPlan line) status (judged, inl (is, wrote)) = subst IsStatus (sym is) (2, lit< tt, refl)
+  is_status (verdict.NoPlan line) status (judged, inr (is, broke)) = subst IsStatus (sym is) (4, lit< tt, refl)
+  is_status verdict.SourceFailed status (judged, (is, untouched)) = subst IsStatus (sym is) (3, lit< tt, refl)
+  is_status verdict.NoMemory status (judged, (is, untouched)) = subst IsStatus (sym is) (5, lit< tt, refl)
+  is_status verdict.TooLong status (judged, (is, untouched)) = subst IsStatus (sym is) (6, lit< tt, refl)
+
+  -- a sink that failed took a prefix of the text that was due
+  pub broke_off : (given : Verdict) (status : ℕ) → Ends given status → status ≡ 5
       → Rises (sink_faults sink) (sink_faults sink_after)
       × BrokeOff words (left source) (left source_after) (held sink) (held sink_after)
-  broke_off_by verdict.NoCommand end (judged, inl (is, wrote)) failed = absurd (cc)
-  broke_off_by verdict.NoCommand end ((wrong, untouched), inr (is, broke)) failed =
-      (broke.cause, record { text = usage; due = inl (wrong, refl); front = broke.front })
-  broke_off_by (verdict.Report text) end (judged, inl (is, wrote)) failed = absurd (cc)
-  broke_off_by (verdict.Report text) end ((run, calm, read), inr (is, broke)) failed = (
+  broke_off verdict.NoCommand status (judged, inl (is, wrote)) five = absurd (omega (arith, is, five))
+  broke_off verdict.NoCommand status ((wrong, untouched), inr (is, broke)) five =
+      (broke.cause, record { text = usage; due = inl (wrong, refl); prefix = broke.prefix })
+  broke_off (verdict.Report text) status (judged, inl (is, wrote)) five = absurd (omega (arith, is, five))
+  broke_off (verdict.Report text) status ((run, calm, read), inr (is, broke)) five = (
     broke.cause,
     record {
       text = text.items;
       due = inr (run, (read.bytes, read.input, inl read.right));
-      front = broke.front;
+      prefix = broke.prefix;
     },
   )
-  broke_off_by (verdict.BadPlan line) end (judged, inl (is, wrote)) failed = absurd (cc)
-  broke_off_by (verdict.BadPlan line) end ((run, calm, read), inr (is, broke)) failed = (
+  broke_off (verdict.NoPlan line) status (judged, inl (is, wrote)) five = absurd (omega (arith, is, five))
+  broke_off (verdict.NoPlan line) status ((run, calm, read), inr (is, broke)) five = (
     broke.cause,
     record {
       text = line.items;
       due = inr (run, (read.bytes, read.input, inr read.right));
-      front = broke.front;
+      prefix = broke.prefix;
     },
   )
-  broke_off_by verdict.SourceFailed end (judged, (is, untouched)) failed = absurd (cc)
-  broke_off_by verdict.NoMemory end (judged, (is, untouched)) failed = absurd (cc)
-  broke_off_by verdict.TooLong end (judged, (is, untouched)) failed = absurd (cc)
+  broke_off verdict.SourceFailed status (judged, (is, untouched)) five = absurd (omega (arith, is, five))
+  broke_off verdict.NoMemory status (judged, (is, untouched)) five = absurd (omega (arith, is, five))
+  broke_off verdict.TooLong status (judged, (is, untouched)) five = absurd (omega (arith, is, five))
 
-  -- a sink that failed took a front of the text that was due
-  pub broke_off : (given : Verdict) (end : Ending) → Ends given end → status_of end ≡ 5
-      → Rises (sink_faults sink) (sink_faults sink_after)
-      × BrokeOff words (left source) (left source_after) (held sink) (held sink_after)
-  broke_off given end ends five = broke_off_by given end ends (sink_failed_alone end five)
+  -- no fault came in this call
+  abbrev Calm : ℕ → ℕ → Type 0
+  Calm before after = ¬ Rises before after
 
-  -- what must come of an input that the source told, where no fault came
-  module _ (run : IsRun words) (bytes : List ℕ) (tells : left source ≡ Some bytes)
-      (source_calm : ¬ Rises (source_faults source) (source_faults source_after))
-      (sink_calm : ¬ Rises (sink_faults sink) (sink_faults sink_after)) (few : length bytes ≤ 1048576) where
-    pub answers_fault : (given : Verdict) (end : Ending) → Ends given end → ¬ IsPlan bytes → MustEnd 3 (status_of end)
-    answers_fault verdict.NoCommand end ((wrong, untouched), told) no_plan = absurd (wrong run)
-    answers_fault (verdict.Report text) end ((_, calm, read), told) no_plan =
-        absurd (no_plan (subst IsPlan (sym (input_told read.bytes bytes _ _ read.input tells)) (read.right.plan, read.right.says)))
-    answers_fault (verdict.BadPlan line) end (judged, inl (is, wrote)) no_plan = inl (ap status_of is)
-    answers_fault (verdict.BadPlan line) end (judged, inr (is, broke)) no_plan = absurd (sink_calm broke.cause)
-    answers_fault verdict.SourceFailed end ((_, rises), told) no_plan = absurd (source_calm rises)
-    answers_fault verdict.NoMemory end (judged, (is, untouched)) no_plan = inr (ap status_of is)
-    answers_fault verdict.TooLong end ((_, calm, many), told) no_plan =
-        let as_many : 1048577 ≤ length bytes = gave_as_many 1048577 bytes _ _ many tells in
-        absurd (omega arith)
+  -- what must come of an input that the source told and that is no plan, where no fault came
+  pub answers_fault : (given : Verdict) (status : ℕ) → Ends given status → IsRun words → (bytes : List ℕ)
+      → left source ≡ Some bytes → length bytes ≤ 1048576 → ¬ IsPlan bytes
+      → Calm (source_faults source) (source_faults source_after) → Calm (sink_faults sink) (sink_faults sink_after)
+      → MustEnd 3 status
+  answers_fault verdict.NoCommand status ((wrong, untouched), told) run bytes tells few no_plan calm quiet =
+      absurd (wrong run)
+  answers_fault (verdict.Report text) status ((_, _, read), told) run bytes tells few no_plan calm quiet =
+      absurd (no_plan (subst IsPlan (sym (input_told read.bytes bytes _ _ read.input tells)) (read.right.plan, read.right.says)))
+  answers_fault (verdict.NoPlan line) status (judged, inl (is, wrote)) run bytes tells few no_plan calm quiet = inl is
+  answers_fault (verdict.NoPlan line) status (judged, inr (is, broke)) run bytes tells few no_plan calm quiet =
+      absurd (quiet broke.cause)
+  answers_fault verdict.SourceFailed status ((_, rises), told) run bytes tells few no_plan calm quiet = absurd (calm rises)
+  answers_fault verdict.NoMemory status (judged, (is, untouched)) run bytes tells few no_plan calm quiet = inr is
+  answers_fault verdict.TooLong status ((_, _, many), told) run bytes tells few no_plan calm quiet =
+      let as_many : 1048577 ≤ length bytes = gave_as_many 1048577 bytes _ _ many tells in
+      absurd (omega (arith, few, as_many))
 
-    pub answers_plan : (given : Verdict) (end : Ending) → Ends given end → IsPlan bytes → MustEnd 0 (status_of end)
-    answers_plan verdict.NoCommand end ((wrong, untouched), told) plan = absurd (wrong run)
-    answers_plan (verdict.Report text) end (judged, inl (is, wrote)) plan = inl (ap status_of is)
-    answers_plan (verdict.Report text) end (judged, inr (is, broke)) plan = absurd (sink_calm broke.cause)
-    answers_plan (verdict.BadPlan line) end ((_, calm, read), told) plan =
-        absurd (plan_has_no_fault read.bytes line.items
-        (subst IsPlan (input_told read.bytes bytes _ _ read.input tells) plan) read.right)
-    answers_plan verdict.SourceFailed end ((_, rises), told) plan = absurd (source_calm rises)
-    answers_plan verdict.NoMemory end (judged, (is, untouched)) plan = inr (ap status_of is)
-    answers_plan verdict.TooLong end ((_, calm, many), told) plan =
-        let as_many : 1048577 ≤ length bytes = gave_as_many 1048577 bytes _ _ many tells in
-        absurd (omega arith)
+  -- what must come of a plan that the source told, where no fault came
+  pub answers_plan : (given : Verdict) (status : ℕ) → Ends given status → IsRun words → (bytes : List ℕ)
+      → left source ≡ Some bytes → length bytes ≤ 1048576 → IsPlan bytes
+      → Calm (source_faults source) (source_faults source_after) → Calm (sink_faults sink) (sink_faults sink_after)
+      → MustEnd 0 status
+  answers_plan verdict.NoCommand status ((wrong, untouched), told) run bytes tells few plan calm quiet = absurd (wrong run)
+  answers_plan (verdict.Report text) status (judged, inl (is, wrote)) run bytes tells few plan calm quiet = inl is
+  answers_plan (verdict.Report text) status (judged, inr (is, broke)) run bytes tells few plan calm quiet =
+      absurd (quiet broke.cause)
+  answers_plan (verdict.NoPlan line) status ((_, _, read), told) run bytes tells few plan calm quiet =
+      absurd (plan_has_no_fault read.bytes line.items
+      (subst IsPlan (input_told read.bytes bytes _ _ read.input tells) plan) read.right)
+  answers_plan verdict.SourceFailed status ((_, rises), told) run bytes tells few plan calm quiet = absurd (calm rises)
+  answers_plan verdict.NoMemory status (judged, (is, untouched)) run bytes tells few plan calm quiet = inr is
+  answers_plan verdict.TooLong status ((_, _, many), told) run bytes tells few plan calm quiet =
+      let as_many : 1048577 ≤ length bytes = gave_as_many 1048577 bytes _ _ many tells in
+      absurd (omega (arith, few, as_many))

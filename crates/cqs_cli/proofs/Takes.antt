@@ -23,7 +23,7 @@ use Rattle.cqs_cli.specs.declared.floors.transfers.Transfer.TheVariants.{Got}
 use Rattle.cqs_cli.specs.declared.floors.waits.Wait.{Wait}
 use Rattle.cqs_cli.specs.DeskCalls.{Answers, CanCall, take_of}
 use Rattle.cqs_cli.specs.Kept.{IsKept, IsFundedAt, StandsIn, HoldPermits, holds_in, waiting_at, held_at, is_wait_at}
-use Rattle.cqs_cli.specs.Ledger.{Ledger, plain_floor, taken, with_cores, job_wait, holds_after, after_transfer}
+use Rattle.cqs_cli.specs.Ledger.{Ledger, plain_floor, with_take, with_cores, job_wait, holds_after, after_transfer}
 use Rattle.cqs_cli.specs.SoleCore.{HasMade}
 use Rattle.cqs_cli.proofs.Came.{Came, came-now, came-later}
 use Rattle.cqs_cli.proofs.Funded.{funded-next, funded-rests, funded-ready}
@@ -69,7 +69,7 @@ module _ (l : Ledger) (at job : ℕ) (kept : IsKept l) (place : at < length l.ro
 
     -- the job has a permit
     abbrev now : Ledger
-    now = with_cores (taken l at job (Now 0)) (set l.cores at after)
+    now = with_cores (with_take l at job (Now 0)) (set l.cores at after)
 
     follows-now : nat_lt 0 (shown core.shape).free ≡ true → Follows l at core after now
     follows-now some = record {
@@ -121,7 +121,7 @@ module _ (l : Ledger) (at job : ℕ) (kept : IsKept l) (place : at < length l.ro
     wait = record { at = at; number = (shown core.shape).next }
 
     abbrev later : Ledger
-    later = with_cores (taken l at job (Waits (shown core.shape).next)) (set l.cores at after)
+    later = with_cores (with_take l at job (Waits (shown core.shape).next)) (set l.cores at after)
 
     same-holds : holds_in later ≡ holds_in l
     same-holds = ap (λ n. holds_after n l.transfers) (length-set l.waits job (Some wait))
@@ -241,7 +241,7 @@ pub record TakesWell (f : PlainFloor) (at job : ℕ) (answer : FloorTake) (n : L
 
 take-well : (l n : Ledger) (at job : ℕ) (answer : FloorTake) → IsKept l → IsHoldable (slice_get l.kinds at)
     → IsJob (plain_floor l) job → IsIdle (plain_floor l) job → 0 < slice_index l.room at
-    → Answers take_of (call.Acquire 0) l.cores at n.cores answer → n ≡ with_cores (taken l at job answer) n.cores
+    → Answers take_of (call.Acquire 0) l.cores at n.cores answer → n ≡ with_cores (with_take l at job answer) n.cores
     → TakesWell (plain_floor l) at job answer n
 take-well l n at job answer kept holdable is_job idle room a written =
     go (nat_lt 0 (shown core.shape).free) refl
@@ -255,13 +255,13 @@ take-well l n at job answer kept holdable is_job idle room a written =
     -- what holds of one answer, at the ledger that it makes
     at-answer : (given : FloorTake) → answer ≡ given
         → take_answer (plain_floor l) at job ≡ given
-        → plain_floor (with_cores (taken l at job given) (set l.cores at a.calls.after)) ≡ after_take (plain_floor l) at job given
-        → IsKept (with_cores (taken l at job given) (set l.cores at a.calls.after))
+        → plain_floor (with_cores (with_take l at job given) (set l.cores at a.calls.after)) ≡ after_take (plain_floor l) at job given
+        → IsKept (with_cores (with_take l at job given) (set l.cores at a.calls.after))
         → TakesWell (plain_floor l) at job answer n
     at-answer given is answers leaves holds =
-        let same : n ≡ with_cores (taken l at job given) (set l.cores at a.calls.after) =
-        written ∙ ap (λ g. with_cores (taken l at job g) n.cores) is
-        ∙ ap (with_cores (taken l at job given)) a.calls.cores in
+        let same : n ≡ with_cores (with_take l at job given) (set l.cores at a.calls.after) =
+        written ∙ ap (λ g. with_cores (with_take l at job g) n.cores) is
+        ∙ ap (with_cores (with_take l at job given)) a.calls.cores in
         record {
           answers = is ∙ sym answers;
           leaves = ap plain_floor same ∙ leaves ∙ ap (after_take (plain_floor l) at job) (sym is);
@@ -297,10 +297,10 @@ take-well l n at job answer kept holdable is_job idle room a written =
 -- the same where the floor is seen as its plain floor
 pub take-floor : (l n : Ledger) (f : PlainFloor) (at job : ℕ) (answer : FloorTake) → plain_floor l ≡ f → IsKept l
     → IsHoldable (slice_get f.kinds at) → IsJob f job → IsIdle f job → 0 < room_at f at
-    → Answers take_of (call.Acquire 0) l.cores at n.cores answer → n ≡ with_cores (taken l at job answer) n.cores
+    → Answers take_of (call.Acquire 0) l.cores at n.cores answer → n ≡ with_cores (with_take l at job answer) n.cores
     → TakesWell f at job answer n
 take-floor l n f at job answer view kept =
     let Comes : PlainFloor → Type 0 = λ g. IsHoldable (slice_get g.kinds at) → IsJob g job → IsIdle g job → 0 < room_at g at
-    → Answers take_of (call.Acquire 0) l.cores at n.cores answer → n ≡ with_cores (taken l at job answer) n.cores
+    → Answers take_of (call.Acquire 0) l.cores at n.cores answer → n ≡ with_cores (with_take l at job answer) n.cores
     → TakesWell g at job answer n in
     subst Comes view (take-well l n at job answer kept)

@@ -16,7 +16,7 @@ use Rattle.cqs_core.proofs.Places.{get-set_here, get-set_else, get-below}
 use Rattle.cqs_cli.specs.declared.floors.transfers.Transfer.TheVariants.{Got}
 use Rattle.cqs_cli.specs.declared.floors.waits.Wait.{Wait}
 use Rattle.cqs_cli.specs.Kept.{IsKept, IsFundedAt, StandsIn, AreApart, HoldPermits, holds_in, waiting_at, held_at, is_wait_at}
-use Rattle.cqs_cli.specs.Ledger.{Ledger, plain_floor, with_cores, with_wait, granted, after_transfer, holds_after, job_wait}
+use Rattle.cqs_cli.specs.Ledger.{Ledger, plain_floor, with_cores, with_wait, with_grant, after_transfer, holds_after, job_wait}
 use Rattle.cqs_cli.specs.SoleCore.{HasMade}
 use Rattle.cqs_cli.proofs.Came.{Came}
 use Rattle.cqs_cli.proofs.Funded.{funded-next}
@@ -128,7 +128,7 @@ module _ (l : Ledger) (job : ℕ) (wait : Wait) (kept : IsKept l) (has : slice_g
 
     -- the job has what came
     abbrev pub came_to : Ledger
-    came_to = with_cores (granted l job wait) (set l.cores wait.at after)
+    came_to = with_cores (with_grant l job wait) (set l.cores wait.at after)
 
     came-holds : holds_in came_to ≡ after_transfer (holds_in l) (Got job wait.at)
     came-holds =

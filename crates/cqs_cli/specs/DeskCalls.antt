@@ -18,7 +18,7 @@ use Rattle.cqs_plan.specs.declared.floors.answers.FloorEnd.{FloorEnd}
 use Rattle.cqs_plan.specs.declared.floors.answers.FloorEnd.TheVariants.{Permits}
 use Rattle.cqs_plan.specs.declared.plans.kind.Kind.TheVariants as kind
 use Rattle.cqs_cli.specs.declared.floors.waits.Wait.{Wait}
-use Rattle.cqs_cli.specs.Ledger.{Ledger, granted, with_cores, with_wait}
+use Rattle.cqs_cli.specs.Ledger.{Ledger, with_cores, with_grant, with_wait}
 use Rattle.cqs_cli.specs.SoleCore.{HasMade, IsReady, is_served_at}
 
 -- the core at a place can make this call
@@ -80,12 +80,12 @@ Looks old job wait (Granted element) new =
     (element ≡ 0)
     × Reads old.cores wait true
     × ((reply : Reply) × Calls old.cores wait.at (call.Poll 0 wait.number) reply new.cores)
-    × (new ≡ with_cores (granted old job wait) new.cores)
+    × (new ≡ with_cores (with_grant old job wait) new.cores)
 
 -- what a leave writes down
-abbrev pub left : Ledger → ℕ → Wait → FloorLeave → Ledger
-left l job wait Gone = with_wait l job None
-left l job wait (Late element) = granted l job wait
+abbrev pub with_leave : Ledger → ℕ → Wait → FloorLeave → Ledger
+with_leave l job wait Gone = with_wait l job None
+with_leave l job wait (Late element) = with_grant l job wait
 
 -- how a resource with so many permits stands, by its core's state word
 abbrev pub end_of : ℕ → ℤ → FloorEnd

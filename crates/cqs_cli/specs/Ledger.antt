@@ -69,11 +69,11 @@ abbrev pub with_less_room : Ledger → ℕ → Ledger
 with_less_room l at = record l { room = slice_set l.room at (slice_index l.room at - 1) }
 
 -- what a take writes down
-abbrev pub taken : Ledger → ℕ → ℕ → FloorTake → Ledger
-taken l at job (Now element) = with_transfer (with_less_room l at) (Got job at)
-taken l at job (Waits number) =
+abbrev pub with_take : Ledger → ℕ → ℕ → FloorTake → Ledger
+with_take l at job (Now element) = with_transfer (with_less_room l at) (Got job at)
+with_take l at job (Waits number) =
     with_wait (with_less_room l at) job (Some (record { at = at; number = number }))
 
 -- the wait of a job is over, and it has what came
-abbrev pub granted : Ledger → ℕ → Wait → Ledger
-granted l job wait = with_transfer (with_wait l job None) (Got job wait.at)
+abbrev pub with_grant : Ledger → ℕ → Wait → Ledger
+with_grant l job wait = with_transfer (with_wait l job None) (Got job wait.at)

@@ -1,4 +1,3 @@
-pub mod Ending
 pub mod Meanings
 pub mod Input
 pub mod Plans

@@ -1,10 +1,10 @@
 -- What the statuses of the program mean.
 use Rattle.std.specs.Prelude.{◌≡◌, ℕ, ◌⊎◌, List, [], ◌∷◌, Option, Contains}
-use Rattle.cqs_plan.specs.Stream.{Gains, GainsFront}
+use Rattle.cqs_plan.specs.Stream.{Gains, GainsPrefix}
 use Rattle.cqs_cli.specs.Input.{IsInput}
 use Rattle.cqs_cli.specs.Plans.{IsFaultLine, IsReport}
 use Rattle.cqs_cli.specs.Words.{IsCommand, IsRun, usage}
-use Rattle.cqs_cli.specs.declared.ending.TheConstants.{DONE, NO_COMMAND, NO_MEMORY, NO_PLAN, SINK_FAILED, SOURCE_FAILED, TOO_LONG}
+use Rattle.cqs_cli.specs.declared.statuses.TheConstants.{DONE, NO_COMMAND, NO_MEMORY, NO_PLAN, SINK_FAILED, SOURCE_FAILED, TOO_LONG}
 
 -- the input was a plan, and the sink took its whole report
 pub record Reported (left after held now : Option (List ℕ)) : Type 0 where
@@ -32,11 +32,11 @@ IsDue words left after text =
     ((¬ IsCommand words) × (text ≡ usage))
     ⊎ (IsRun words × ((bytes : List ℕ) × IsInput bytes left after × IsAnswer bytes text))
 
--- the sink took a front of the text that the words and the input call for
+-- the sink took a prefix of the text that the words and the input call for
 pub record BrokeOff (words : List (List ℕ)) (left after held now : Option (List ℕ)) : Type 0 where
   pub text : List ℕ
   pub due : IsDue words left after text
-  pub front : GainsFront text held now
+  pub prefix : GainsPrefix text held now
 
 -- the statuses that there are
 abbrev pub IsStatus : ℕ → Type 0

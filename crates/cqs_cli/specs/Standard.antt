@@ -1,7 +1,21 @@
--- What is known of standard output.
-use Rattle.std.specs.Prelude.{ℕ, Bool}
+-- What is known of the standard streams.
+use Rattle.std.specs.Prelude.{◌≡◌, ℕ, Bool, Result, Ok, Err}
+use Rattle.cqs_plan.specs.Counts.{Rises}
+use Rattle.cqs_plan.specs.declared.streams.tally.Tally.{Tally}
 
--- whether all that it took was flushed on, and how often it failed
+-- what standard input counted: its reads, and how often it failed
+pub record StandardInput : Type 0 where
+  pub tally : Tally
+  pub faults : ℕ
+
+-- whether all that standard output took was flushed on, and how often it failed
 pub record StandardOutput : Type 0 where
   pub is_flushed : Bool
   pub faults : ℕ
+
+-- the answer of a call is handed on as it is, and the count of faults rose exactly where it is a failure
+abbrev pub IsCounted : {T E F : Type 0} → Result T E → Result T F → ℕ → ℕ → Type 0
+IsCounted (Ok value) (Ok given) before after = (given ≡ value) × (after ≡ before)
+IsCounted (Ok value) (Err failed) before after = ⊥
+IsCounted (Err error) (Ok given) before after = ⊥
+IsCounted (Err error) (Err failed) before after = Rises before after

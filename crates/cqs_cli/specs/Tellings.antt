@@ -1,9 +1,8 @@
--- What telling a verdict does to the sink, and how it ends.
+-- What telling a verdict does to the sink, and the status that it gives.
 use Rattle.std.specs.Prelude.{◌≡◌, ℕ, ◌⊎◌, Bool, List, Option, IsTrue}
-use Rattle.cqs_plan.specs.Stream.{Gains, GainsFront, Rises}
+use Rattle.cqs_plan.specs.Stream.{Gains, GainsPrefix, Rises}
 use Rattle.cqs_cli.specs.Words.{usage}
-use Rattle.cqs_cli.specs.declared.ending.Ending.{Ending}
-use Rattle.cqs_cli.specs.declared.ending.Ending.TheVariants as ending
+use Rattle.cqs_cli.specs.declared.statuses.TheConstants.{DONE, NO_COMMAND, NO_MEMORY, NO_PLAN, SINK_FAILED, SOURCE_FAILED, TOO_LONG}
 use Rattle.cqs_cli.specs.declared.verdict.Verdict.{Verdict}
 use Rattle.cqs_cli.specs.declared.verdict.Verdict.TheVariants as verdict
 
@@ -14,21 +13,21 @@ module _ {K : Type 0} (held : K → Option (List ℕ)) (is_flushed : K → Bool)
     pub flushed : IsTrue (is_flushed new)
     pub calm : faults new ≡ faults old
 
-  -- the sink failed after a front of the text
+  -- the sink failed after a prefix of the text
   pub record Broke (text : List ℕ) (old new : K) : Type 0 where
-    pub front : GainsFront text (held old) (held new)
+    pub prefix : GainsPrefix text (held old) (held new)
     pub cause : Rises (faults old) (faults new)
 
-  -- the text was written and the ending is the one given with it, or the sink failed
-  abbrev pub Says : List ℕ → Ending → Ending → K → K → Type 0
+  -- the text was written and the status is the one given with it, or the sink failed
+  abbrev pub Says : List ℕ → ℕ → ℕ → K → K → Type 0
   Says text given result old new =
-      ((result ≡ given) × Wrote text old new) ⊎ ((result ≡ ending.SinkFailed) × Broke text old new)
+      ((result ≡ given) × Wrote text old new) ⊎ ((result ≡ SINK_FAILED) × Broke text old new)
 
   -- a verdict with a text says it; the others leave the sink alone
-  abbrev pub Tells : Verdict → Ending → K → K → Type 0
-  Tells verdict.NoCommand result old new = Says usage ending.NoCommand result old new
-  Tells (verdict.Report text) result old new = Says text.items ending.Done result old new
-  Tells (verdict.BadPlan line) result old new = Says line.items ending.NoPlan result old new
-  Tells verdict.SourceFailed result old new = (result ≡ ending.SourceFailed) × (new ≡ old)
-  Tells verdict.NoMemory result old new = (result ≡ ending.NoMemory) × (new ≡ old)
-  Tells verdict.TooLong result old new = (result ≡ ending.TooLong) × (new ≡ old)
+  abbrev pub Tells : Verdict → ℕ → K → K → Type 0
+  Tells verdict.NoCommand result old new = Says usage NO_COMMAND result old new
+  Tells (verdict.Report text) result old new = Says text.items DONE result old new
+  Tells (verdict.NoPlan line) result old new = Says line.items NO_PLAN result old new
+  Tells verdict.SourceFailed result old new = (result ≡ SOURCE_FAILED) × (new ≡ old)
+  Tells verdict.NoMemory result old new = (result ≡ NO_MEMORY) × (new ≡ old)
+  Tells verdict.TooLong result old new = (result ≡ TOO_LONG) × (new ≡ old)

@@ -1,7 +1,9 @@
 -- Which verdict is right for words and an input.
-use Rattle.std.specs.Prelude.{◌≡◌, ℕ, ◌+◌, List, Option}
-use Rattle.cqs_plan.specs.Stream.{GivesCount, Rises}
+use Rattle.std.specs.Prelude.{◌≡◌, ℕ, ◌+◌, ◌≤◌, List, Option}
+use Rattle.cqs_plan.specs.Counts.{raised, Rises}
+use Rattle.cqs_plan.specs.Stream.{GivesCount}
 use Rattle.cqs_plan.specs.declared.streams.reading.TheConstants.{LONGEST_INPUT}
+use Rattle.cqs_plan.specs.declared.streams.tally.Tally.{Tally}
 use Rattle.cqs_cli.specs.Input.{IsInput}
 use Rattle.cqs_cli.specs.Plans.{IsFaultLine, IsReport}
 use Rattle.cqs_cli.specs.Words.{IsCommand, IsRun}
@@ -11,9 +13,11 @@ use Rattle.cqs_cli.specs.declared.verdict.Verdict.TheVariants as verdict
 -- the verdict on the bytes of an input
 abbrev pub IsVerdictOn : List ℕ → Verdict → Type 0
 IsVerdictOn bytes (verdict.Report text) = IsReport bytes text.items
-IsVerdictOn bytes (verdict.BadPlan line) = IsFaultLine bytes line.items
+IsVerdictOn bytes (verdict.NoPlan line) = IsFaultLine bytes line.items
 IsVerdictOn bytes verdict.NoMemory = Unit {0}
-IsVerdictOn bytes _ = ⊥
+IsVerdictOn bytes verdict.NoCommand = ⊥
+IsVerdictOn bytes verdict.SourceFailed = ⊥
+IsVerdictOn bytes verdict.TooLong = ⊥
 
 -- an input was read, and the verdict is right for it
 pub record IsJudged (given : Verdict) (left after : Option (List ℕ)) : Type 0 where
@@ -28,5 +32,23 @@ IsVerdict left faults words verdict.SourceFailed old new = IsRun words × Rises 
 IsVerdict left faults words verdict.TooLong old new =
     IsRun words × (faults new ≡ faults old) × GivesCount (LONGEST_INPUT + 1) (left old) (left new)
 IsVerdict left faults words verdict.NoMemory old new = IsRun words × (faults new ≡ faults old)
-IsVerdict left faults words given old new =
-    IsRun words × (faults new ≡ faults old) × IsJudged given (left old) (left new)
+IsVerdict left faults words (verdict.Report text) old new =
+    IsRun words × (faults new ≡ faults old) × IsJudged (verdict.Report text) (left old) (left new)
+IsVerdict left faults words (verdict.NoPlan line) old new =
+    IsRun words × (faults new ≡ faults old) × IsJudged (verdict.NoPlan line) (left old) (left new)
+
+-- at most so many bytes were given, and the last read stopped, if none did before
+pub record StopsWithin (most : ℕ) (old new : Tally) : Type 0 where
+  pub few : new.given ≤ old.given + most
+  pub stops : old.stops ≡ 0 → new.stops ≡ 1
+
+-- what the reads for a verdict gave, and whether the last of them stopped
+abbrev pub HasTaken : Verdict → Tally → Tally → Type 0
+HasTaken verdict.NoCommand old new = new ≡ old
+HasTaken (verdict.Report text) old new = StopsWithin LONGEST_INPUT old new
+HasTaken (verdict.NoPlan line) old new = StopsWithin LONGEST_INPUT old new
+HasTaken verdict.SourceFailed old new = StopsWithin LONGEST_INPUT old new
+HasTaken verdict.NoMemory old new =
+    (new.given ≤ old.given + (LONGEST_INPUT + 1)) × (old.stops ≡ 0 → new.stops ≤ 1)
+HasTaken verdict.TooLong old new =
+    (new.given ≡ raised old.given (LONGEST_INPUT + 1)) × (old.stops ≡ 0 → new.stops ≡ 0)

@@ -1,15 +1,20 @@
-ghost use Rattle.std.specs.Prelude.{map, string_bytes};
-ghost use Rattle.cqs_cli.specs.Verdicts.{IsVerdict};
+//! The judging of the words and the source: it knows no sink.
+
+ghost use Rattle.std.specs.Prelude.{◌+◌, map, string_bytes};
+ghost use Rattle.cqs_plan.specs.Stream.{GivesAtMost};
+ghost use Rattle.cqs_cli.specs.Verdicts.{HasTaken, IsVerdict};
 
 use crate::plans::judge_input;
 use crate::verdict::Verdict;
 use crate::words::is_run;
-use cqs_plan::{ReadError, Source, read_input};
+use cqs_plan::{LONGEST_INPUT, ReadError, Source, read_input};
 use std::alloc::Global;
 
 /// What the words and the source come to. Everything that is to be written is made here.
 pub fn judge<S: Source>(alloc: Global, words: &[String], source: &mut S) -> Verdict
-    ensures { IsVerdict S.left S.faults (map string_bytes words.now) result source.old source.new }
+    ensures right { IsVerdict S.left S.faults (map string_bytes words.now) result source.old source.new }
+    ensures taken { GivesAtMost (LONGEST_INPUT + 1) (S.left source.old) (S.left source.new) }
+    ensures counted { HasTaken result (S.tally source.old) (S.tally source.new) }
 {
     if !is_run(words) {
         return Verdict::NoCommand;

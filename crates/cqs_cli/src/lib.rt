@@ -6,17 +6,17 @@
 //! the trusted edge.
 #![tactic(auto)]
 
-mod ending;
 mod floors;
 mod judging;
 mod plans;
 mod standard;
+mod statuses;
 mod telling;
 mod top_call;
 mod verdict;
 mod words;
 
-pub use ending::{DONE, NO_COMMAND, NO_MEMORY, NO_PLAN, SINK_FAILED, SOURCE_FAILED, TOO_LONG};
 pub use floors::core_floor::CoreFloor;
 pub use standard::{StdinSource, StdoutSink, words_after_name};
+pub use statuses::{DONE, NO_COMMAND, NO_MEMORY, NO_PLAN, SINK_FAILED, SOURCE_FAILED, TOO_LONG};
 pub use top_call::top;

@@ -1,6 +1,10 @@
-ghost use Rattle.std.specs.Prelude.{◌≡◌, IfOk};
+//! What an input comes to: the report of a plan, or the line that says what is wrong.
+
+ghost use Rattle.std.specs.Prelude.{◌≡◌, IfOk, OnOk};
+ghost use Rattle.cqs_plan.specs.LegalFloor.{IsLegalFor};
 ghost use Rattle.cqs_plan.specs.Runnable.{AreSemaphores, IsRunnable};
 ghost use Rattle.cqs_turns.specs.Report.{report_of};
+ghost use Rattle.cqs_cli.specs.Plans.{floor_after};
 ghost use Rattle.cqs_cli.specs.Verdicts.{IsVerdictOn};
 
 use crate::floors::core_floor::CoreFloor;
@@ -25,12 +29,12 @@ fn answer(alloc: Global, bytes: &[u8]) -> Result<Verdict, Memory>
 {
     match read_plan(alloc, bytes) {
         Ok(plan) => Ok(Verdict::Report(report_of(alloc, &plan)?)),
-        Err(PlanError::NotToml) => Ok(Verdict::BadPlan(Vec::from_slice(
+        Err(PlanError::NotToml) => Ok(Verdict::NoPlan(Vec::from_slice(
             alloc,
             b"bad plan: not a TOML document\n",
         )?)),
         Err(PlanError::Fault { place, kind }) => {
-            Ok(Verdict::BadPlan(fault_line(alloc, &place, kind)?))
+            Ok(Verdict::NoPlan(fault_line(alloc, &place, kind)?))
         }
         Err(PlanError::Memory) => Ok(Verdict::NoMemory),
     }
@@ -40,7 +44,8 @@ fn answer(alloc: Global, bytes: &[u8]) -> Result<Verdict, Memory>
 fn report_of(alloc: Global, plan: &Plan) -> Result<Vec<u8>, Memory>
     requires runnable { IsRunnable plan.now }
     requires built { AreSemaphores plan.now.resources }
-    ensures { IfOk result (λ text. text.items ≡ report_of plan.now) }
+    ensures reported { IfOk result (λ text. text.items ≡ report_of plan.now) }
+    ensures legal { OnOk result (IsLegalFor plan.now (floor_after plan.now)) }
 {
     let mut floor = CoreFloor::new(alloc, plan)?;
     let mut told = Report::new(alloc);

@@ -1,30 +1,32 @@
+//! The telling of a verdict: it knows the sink alone.
+
 ghost use Rattle.cqs_cli.specs.Tellings.{Says, Tells};
 
-use crate::ending::Ending;
+use crate::statuses::{DONE, NO_COMMAND, NO_MEMORY, NO_PLAN, SINK_FAILED, SOURCE_FAILED, TOO_LONG};
 use crate::verdict::Verdict;
 use crate::words::USAGE;
 use cqs_plan::{Sink, write_all};
 
-/// Writes what a verdict has to say, and gives the ending.
-pub fn tell<K: Sink>(sink: &mut K, verdict: &Verdict) -> Ending
+/// Writes what a verdict has to say, and gives the status that the call ends with.
+pub fn tell<K: Sink>(sink: &mut K, verdict: &Verdict) -> u8
     ensures { Tells K.held K.is_flushed K.faults verdict.now result sink.old sink.new }
 {
     match verdict {
-        Verdict::NoCommand => say(sink, USAGE.as_bytes(), Ending::NoCommand),
-        Verdict::Report(text) => say(sink, text.as_slice(), Ending::Done),
-        Verdict::BadPlan(line) => say(sink, line.as_slice(), Ending::NoPlan),
-        Verdict::SourceFailed => Ending::SourceFailed,
-        Verdict::NoMemory => Ending::NoMemory,
-        Verdict::TooLong => Ending::TooLong,
+        Verdict::NoCommand => say(sink, USAGE.as_bytes(), NO_COMMAND),
+        Verdict::Report(text) => say(sink, text.as_slice(), DONE),
+        Verdict::NoPlan(line) => say(sink, line.as_slice(), NO_PLAN),
+        Verdict::SourceFailed => SOURCE_FAILED,
+        Verdict::NoMemory => NO_MEMORY,
+        Verdict::TooLong => TOO_LONG,
     }
 }
 
-/// Writes a text that ends a call so, unless the sink fails.
-fn say<K: Sink>(sink: &mut K, text: &[u8], ending: Ending) -> Ending
-    ensures { Says K.held K.is_flushed K.faults text.now ending result sink.old sink.new }
+/// Writes a text after which a call ends with this status, unless the sink fails.
+fn say<K: Sink>(sink: &mut K, text: &[u8], status: u8) -> u8
+    ensures { Says K.held K.is_flushed K.faults text.now status result sink.old sink.new }
 {
     match write_all(sink, text) {
-        Ok(()) => ending,
-        Err(_) => Ending::SinkFailed,
+        Ok(()) => status,
+        Err(_) => SINK_FAILED,
     }
 }

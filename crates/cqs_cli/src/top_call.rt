@@ -1,28 +1,30 @@
-ghost use Rattle.std.specs.Prelude.{◌≡◌, ◌≢◌, ℕ, ◌+◌, ◌<◌, ◌≤◌, List, length, map, string_bytes, IsTrue, Some};
-ghost use Rattle.cqs_plan.specs.Stream.{Gains, GivesCount, Rises};
+//! The one call of the program, and what each of its statuses means.
+
+ghost use Rattle.std.specs.Prelude.{◌≡◌, ◌≢◌, ◌⊎◌, ℕ, ◌+◌, ◌<◌, ◌≤◌, List, length, map, string_bytes, IsTrue, Some};
+ghost use Rattle.cqs_plan.specs.Counts.{raised, Rises};
+ghost use Rattle.cqs_plan.specs.Stream.{Gains, GivesAtMost, GivesCount};
 ghost use Rattle.cqs_cli.specs.Meanings.{BrokeOff, IsStatus, MustEnd, NamedFault, Reported};
 ghost use Rattle.cqs_cli.specs.Plans.{IsPlan};
 ghost use Rattle.cqs_cli.specs.Words.{IsCommand, IsRun, usage};
 
-use crate::ending::{DONE, NO_COMMAND, NO_MEMORY, NO_PLAN, SINK_FAILED, SOURCE_FAILED, TOO_LONG};
 use crate::judging::judge;
+use crate::statuses::{DONE, NO_COMMAND, NO_MEMORY, NO_PLAN, SINK_FAILED, SOURCE_FAILED, TOO_LONG};
 use crate::telling::tell;
 use cqs_plan::{LONGEST_INPUT, Sink, Source};
 use std::alloc::Global;
 
 /// One call of the program: does what the words say and gives the status that the process ends with.
 ///
-/// The first clauses say what each status means, each by itself. The last four say which status must
-/// come where no fault does, want of memory aside; what was then written stands at that status. What a
-/// clause says of content holds where the source and the sink tell it.
+/// The first clauses say what each status means, each by itself; then come those on what was read,
+/// whatever the status. The last four say which status must come where no fault does, unless memory runs
+/// out; what was then written stands at that status. What a clause says of content holds where the
+/// source and the sink tell it; what it says of the source's tally holds of every source.
 pub fn top<S: Source, K: Sink>(alloc: Global, words: &[String], source: &mut S, sink: &mut K) -> u8
-    // The input was a plan, and its whole report was written and flushed.
-    ensures done { result ≡ DONE → IsRun (map string_bytes words.now)
+    // Status 0 means: the bytes read are a plan, and the text written, whole and flushed, is the report of the turn machine
+    // on it, over plain semaphores with legal histories.
+    ensures headline { result ≡ DONE → IsRun (map string_bytes words.now)
         × Reported (S.left source.old) (S.left source.new) (K.held sink.old) (K.held sink.new)
         × IsTrue (K.is_flushed sink.new) }
-
-    // Status 0 means that the bytes read are a plan, and that the text written is the report of the turn machine on it.
-    ensures headline { result ≡ DONE → Reported (S.left source.old) (S.left source.new) (K.held sink.old) (K.held sink.new) }
 
     // The words are no command, nothing was read, and the usage text was written and flushed.
     ensures no_command { result ≡ NO_COMMAND → (¬ IsCommand (map string_bytes words.now))
@@ -40,19 +42,34 @@ pub fn top<S: Source, K: Sink>(alloc: Global, words: &[String], source: &mut S, 
         × Rises (S.faults source.old) (S.faults source.new)
         × (sink.new ≡ sink.old) }
 
-    // The sink failed, after a front of the text that was to be written.
+    // The sink failed, after a prefix of the text that was to be written.
     ensures sink_failed { result ≡ SINK_FAILED →
         Rises (K.faults sink.old) (K.faults sink.new)
         × BrokeOff (map string_bytes words.now)
         (S.left source.old) (S.left source.new) (K.held sink.old) (K.held sink.new) }
 
-    // Memory was wanting, and nothing was written.
+    // Memory ran out, and nothing was written.
     ensures no_memory { result ≡ NO_MEMORY → IsRun (map string_bytes words.now) × (sink.new ≡ sink.old) }
 
     // One byte more than an input may have was read, and nothing was written.
     ensures too_long { result ≡ TOO_LONG → IsRun (map string_bytes words.now)
         × GivesCount (LONGEST_INPUT + 1) (S.left source.old) (S.left source.new)
         × (sink.new ≡ sink.old) }
+
+    // By the source's tally that many bytes were read then; and where so many were, this status comes, unless memory ran out.
+    ensures too_many { result ≡ TOO_LONG →
+        (S.tally source.new).given ≡ raised (S.tally source.old).given (LONGEST_INPUT + 1) }
+    ensures many_bytes { (S.tally source.old).given + LONGEST_INPUT < (S.tally source.new).given
+        → MustEnd TOO_LONG result }
+
+    // Never are more bytes taken, and nothing is read after the end of the source or a fault of it.
+    ensures taken { GivesAtMost (LONGEST_INPUT + 1) (S.left source.old) (S.left source.new) }
+    ensures given { (S.tally source.new).given ≤ (S.tally source.old).given + (LONGEST_INPUT + 1) }
+    ensures stops { (S.tally source.old).stops ≡ 0 → (S.tally source.new).stops ≤ 1 }
+
+    // A plan, and what is none, was read until a read stopped; no fault came, so it stopped at the end.
+    ensures ended { (result ≡ DONE) ⊎ (result ≡ NO_PLAN)
+        → (S.tally source.old).stops ≡ 0 → (S.tally source.new).stops ≡ 1 }
 
     // There is no other status, and a fault is never hidden behind one.
     ensures statuses { IsStatus result }
@@ -82,5 +99,5 @@ pub fn top<S: Source, K: Sink>(alloc: Global, words: &[String], source: &mut S, 
         → MustEnd DONE result }
 {
     let verdict = judge(alloc, words, source);
-    tell(sink, &verdict).status()
+    tell(sink, &verdict)
 }

@@ -1,4 +1,6 @@
-/// What a call of the program comes to, before anything is written.
+//! What a call of the program comes to.
+
+/// What a call comes to, before anything is written.
 #[derive(Drop)]
 pub enum Verdict {
     /// The words are no command. The usage text is to be written.
@@ -6,7 +8,7 @@ pub enum Verdict {
     /// The input is a plan with this report.
     Report(Vec<u8>),
     /// The input is no plan, and this line says what is wrong with it.
-    BadPlan(Vec<u8>),
+    NoPlan(Vec<u8>),
     /// The source failed. Nothing is to be written.
     SourceFailed,
     /// There was no memory. Nothing is to be written.

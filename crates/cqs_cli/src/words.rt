@@ -1,3 +1,5 @@
+//! The words of a command, and the text for those that are none.
+
 ghost use Rattle.std.specs.Prelude.{◌↔◌, IsTrue, map, string_bytes};
 ghost use Rattle.cqs_cli.specs.Words.{IsRun};
 

@@ -35,7 +35,7 @@ still_at_end bytes (Some left) (Some after) none (rest, whole, told) ended =
     let empty : length after ≡ 0 = omega (arith, ap length (sym whole ∙ ended), length-append bytes rest, ap length rest_is) in
     nil_from_length after empty
 
--- a front, and a front of what comes after it, are a longer front
+-- a prefix, and a prefix of what comes after it, are a longer prefix
 pub take_on : (text : List ℕ) (done count : ℕ)
     → take done text ++ take count (take (length text - done) (drop done text)) ≡ take (done + count) text
 take_on text done count =
@@ -43,7 +43,7 @@ take_on text done count =
     ap (λ n. take n (drop done text)) (sym (length-drop done text)) ∙ take-length (drop done text) in
     rw rest (sym (take-add done count text))
 
--- what is left after a place is its front and what is left after that
+-- what is left after a place is a prefix of it and what is left after that
 pub left_splits : (bytes : List ℕ) (place count : ℕ)
     → drop place bytes ≡ take count (drop place bytes) ++ drop (place + count) bytes
 left_splits bytes place count =

@@ -1,19 +1,26 @@
 -- Sources and sinks in memory: what they are, and exactly what one call does.
 use Rattle.std.specs.Prelude.{◌≡◌, ℕ, ◌+◌, ◌-◌, ◌<◌, ◌⊎◌, min, Bool, true, false, ◌||◌, nat_lt, List, ◌++◌, length, take, drop, Option, Some, None, Result, Ok, Err, if◌then◌else◌}
 use Rattle.cqs_plan.specs.Script.{Script, IsFailing, after_call, after_fault}
+use Rattle.cqs_plan.specs.Tally.{after_read}
 use Rattle.cqs_plan.specs.declared.streams.failed.Failed.{Failed}
+use Rattle.cqs_plan.specs.declared.streams.tally.Tally.{Tally}
 
--- a source that never fails: the bytes that are left, and the most that one read gives
+-- a source that never fails: the bytes that are left, the most that one read gives, and what it counted
 pub record PlainSource : Type 0 where
   pub left : List ℕ
   pub chunk : ℕ
+  pub tally : Tally
+
+-- a read is counted that gave so many bytes
+abbrev pub with_read : PlainSource → ℕ → PlainSource
+with_read source bytes = record source { tally = after_read source.tally bytes }
 
 -- a read gives what is next, as much as there is and fits the buffer and one chunk
 abbrev pub ReadsNext : PlainSource → List ℕ → ℕ → PlainSource → Type 0
 ReadsNext old buffer count new =
     (count ≡ min (length buffer) (min old.chunk (length old.left)))
     × (take count buffer ≡ take count old.left)
-    × (new ≡ record old { left = drop count old.left })
+    × (new ≡ with_read (record old { left = drop count old.left }) count)
 
 -- it answers every read
 abbrev pub ReadsSurely : PlainSource → List ℕ → Result ℕ Failed → PlainSource → Type 0
@@ -30,7 +37,7 @@ abbrev pub ReadsByScript : ScriptedSource → List ℕ → Result ℕ Failed →
 ReadsByScript old buffer (Ok count) new =
     (¬ IsFailing old.script) × ReadsNext old.plain buffer count new.plain × (new.script ≡ after_call old.script)
 ReadsByScript old buffer (Err failed) new =
-    IsFailing old.script × (new ≡ record old { script = after_fault old.script })
+    IsFailing old.script × (new ≡ record old { plain = with_read old.plain 0; script = after_fault old.script })
 
 -- a sink that never fails: what it keeps, for how much it has room, and whether more came than that
 pub record PlainSink : Type 0 where
@@ -39,8 +46,8 @@ pub record PlainSink : Type 0 where
   pub is_over : Bool
 
 -- what it holds, which it no longer tells once more came than it has room for
-abbrev pub told : PlainSink → Option (List ℕ)
-told sink = if sink.is_over then None else Some sink.kept
+abbrev pub content : PlainSink → Option (List ℕ)
+content sink = if sink.is_over then None else Some sink.kept
 
 -- it takes every piece whole, and keeps as much as there is room for
 abbrev pub WritesSurely : PlainSink → List ℕ → Result ℕ Failed → PlainSink → Type 0

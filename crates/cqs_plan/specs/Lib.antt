@@ -1,9 +1,13 @@
 pub mod PlanSteps
 pub mod InMemory
+pub mod Counts
 pub mod Script
 pub mod Stream
+pub mod Tally
+pub mod Stops
 pub mod Floor
 pub mod FloorCalls
+pub mod LegalFloor
 pub mod Runnable
 pub mod Language
 pub mod Order

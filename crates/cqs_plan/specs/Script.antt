@@ -1,6 +1,6 @@
 -- The faults that a stream in memory is told to make, for tests: which calls fail.
-use Rattle.std.specs.Prelude.{ℕ, ◌+◌, min, List, Contains}
-use Rattle.cqs_plan.specs.Stream.{last_count}
+use Rattle.std.specs.Prelude.{ℕ, List, Contains}
+use Rattle.cqs_plan.specs.Counts.{raised}
 
 -- the numbers of the calls that fail, from 1; how many calls were made; how many of them failed
 pub record Script : Type 0 where
@@ -8,18 +8,14 @@ pub record Script : Type 0 where
   pub calls : ℕ
   pub faults : ℕ
 
--- one more, as far as a count of 64 bits goes
-abbrev pub counted : ℕ → ℕ
-counted count = min (count + 1) last_count
-
 -- the next call is one that fails
 abbrev pub IsFailing : Script → Type 0
-IsFailing script = Contains script.failing (counted script.calls)
+IsFailing script = Contains script.failing (raised script.calls 1)
 
 -- after a call that went well
 abbrev pub after_call : Script → Script
-after_call script = record script { calls = counted script.calls }
+after_call script = record script { calls = raised script.calls 1 }
 
 -- after a call that failed
 abbrev pub after_fault : Script → Script
-after_fault script = record script { calls = counted script.calls; faults = counted script.faults }
+after_fault script = record script { calls = raised script.calls 1; faults = raised script.faults 1 }

@@ -1,13 +1,6 @@
--- What a stream tells of its bytes, which is Some of them or None, and how its count of faults grows.
-use Rattle.std.specs.Prelude.{◌≡◌, ℕ, ◌-◌, ◌^◌, ◌<◌, ◌≤◌, ◌⊎◌, List, ◌++◌, length, take, Option, Some, None}
-
--- where a count of 64 bits ends, and then stands still
-abbrev pub last_count : ℕ
-last_count = 2 ^ 64 - 1
-
--- the count rose, or it stands at its end
-abbrev pub Rises : ℕ → ℕ → Type 0
-Rises before after = (before < after) ⊎ ((before ≡ last_count) × (after ≡ last_count))
+-- What a stream tells of its bytes, which is Some of them or None.
+pub use Rattle.cqs_plan.specs.Counts.{last_count, Rises}
+use Rattle.std.specs.Prelude.{◌≡◌, ℕ, ◌≤◌, List, ◌++◌, length, take, Option, Some, None}
 
 -- these bytes are all that is left, if the source tells
 abbrev pub IsAll : List ℕ → Option (List ℕ) → Type 0
@@ -33,6 +26,6 @@ Gains bytes held None = Unit {0}
 Gains bytes None (Some after) = ⊥
 Gains bytes (Some held) (Some after) = after ≡ held ++ bytes
 
--- a sink took a front of these bytes
-abbrev pub GainsFront : List ℕ → Option (List ℕ) → Option (List ℕ) → Type 0
-GainsFront bytes held after = (count : ℕ) × (count ≤ length bytes) × Gains (take count bytes) held after
+-- a sink took a prefix of these bytes
+abbrev pub GainsPrefix : List ℕ → Option (List ℕ) → Option (List ℕ) → Type 0
+GainsPrefix bytes held after = (count : ℕ) × (count ≤ length bytes) × Gains (take count bytes) held after

@@ -36,4 +36,5 @@ pub use streams::sink::Sink;
 pub use streams::source::Source;
 pub use streams::sure_sink::SureSink;
 pub use streams::sure_source::SureSource;
+pub use streams::tally::Tally;
 pub use streams::writing::write_all;

@@ -1,3 +1,5 @@
+//! The line that names a fault.
+
 ghost use Rattle.std.specs.Prelude.{◌≡◌, IfOk};
 ghost use Rattle.cqs_plan.specs.FaultLine.{line_of};
 

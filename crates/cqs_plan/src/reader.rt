@@ -77,7 +77,7 @@ fn read(alloc: Global, bytes: &[u8]) -> Result<Plan, PlanError>
 }
 
 /// Reads a plan. An error says why the bytes are none: they are no document, or what the first
-/// fault of the document is and where. Only want of memory says nothing of them.
+/// fault of the document is and where. Only that memory ran out says nothing of them.
 pub fn read_plan(alloc: Global, bytes: &[u8]) -> Result<Plan, PlanError>
     ensures plan { IfOk result (IsPlanText bytes.now) }
     ensures valid { IfOk result IsValid }

@@ -1,3 +1,5 @@
+//! Sources and sinks, the loops over them, and those in memory.
+
 pub mod bytes_sink;
 pub mod bytes_source;
 pub mod failed;
@@ -7,4 +9,5 @@ pub mod sink;
 pub mod source;
 pub mod sure_sink;
 pub mod sure_source;
+pub mod tally;
 pub mod writing;

@@ -2,6 +2,7 @@
 
 ghost use Rattle.std.specs.Prelude.{◌≡◌, ◌++◌, [], length, vec_len, IfOk, OnOk, OnErr};
 ghost use Rattle.cqs_plan.specs.Floor.{opening_floor};
+ghost use Rattle.cqs_plan.specs.LegalFloor.{IsLegalFloor, IsLegalFor};
 ghost use Rattle.cqs_plan.specs.Runnable.{IsRunnable, kinds_of};
 ghost use Rattle.cqs_turns.specs.Lines.{ends_text};
 ghost use Rattle.cqs_turns.specs.Report.{IsFrontOf, report_of};
@@ -70,6 +71,7 @@ fn tell_ends<F: Floor>(floor: &mut F, report: &mut Report, plan: &Plan) -> Resul
     requires runnable { IsRunnable plan.now }
     requires kinds { (F.plain floor.old).kinds ≡ kinds_of plan.now.resources }
     ensures same { F.plain floor.new ≡ F.plain floor.old }
+    ensures legal { OnOk result (IsLegalFloor (F.plain floor.new)) }
     ensures ok { OnOk result (report.new ≡ report.old ++ ends_text plan.now.resources 0 (F.plain floor.old)) }
     ensures err { OnErr result (IsFrontOf
         (report.old ++ ends_text plan.now.resources 0 (F.plain floor.old)) report.new) }
@@ -94,6 +96,9 @@ pub fn run_plan<F: Floor>(
     requires opening { F.plain floor.old ≡ opening_floor plan.now }
     requires empty { report.old ≡ [] }
     ensures floor { OnOk result (F.plain floor.new ≡ (machine_after plan.now plan.now.turns).scene.floor) }
+
+    // The entries of each of the plan's resources are a legal history of it.
+    ensures legal { OnOk result (IsLegalFor plan.now (F.plain floor.new)) }
     ensures report { OnOk result (report.new ≡ report_of plan.now) }
     ensures err { OnErr result (IsFrontOf (report_of plan.now) report.new) }
 {

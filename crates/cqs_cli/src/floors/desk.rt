@@ -7,8 +7,8 @@ ghost use Rattle.std.specs.Prelude.{◌≡◌, ◌<◌, ◌≤ℤ◌, pos, negsu
 ghost use Rattle.cqs_core.specs.declared.calls.Call.TheVariants as call;
 ghost use Rattle.cqs_plan.specs.declared.plans.kind.Kind.TheVariants as kind;
 ghost use Rattle.cqs_cli.specs.declared.floors.transfers.Transfer.TheVariants.{Got, GaveBack};
-ghost use Rattle.cqs_cli.specs.Ledger.{granted, taken, wait_at, with_cores, with_transfer};
-ghost use Rattle.cqs_cli.specs.DeskCalls.{Answers, CanCall, CanEnd, CanLook, Ends, Looks, end_of, give_of, leave_of, left, take_of};
+ghost use Rattle.cqs_cli.specs.Ledger.{with_grant, with_take, wait_at, with_cores, with_transfer};
+ghost use Rattle.cqs_cli.specs.DeskCalls.{Answers, CanCall, CanEnd, CanLook, Ends, Looks, end_of, give_of, leave_of, with_leave, take_of};
 
 use super::calls::{call_core, is_served};
 use super::transfers::Transfer;
@@ -63,7 +63,7 @@ impl Desk {
         requires job { job < length self.old.waits }
         requires spare { 0 < self.old.spare }
         ensures answer { Answers take_of (call.Acquire 0) self.old.cores at self.new.cores result }
-        ensures written { self.new ≡ with_cores (taken self.old at job result) self.new.cores }
+        ensures written { self.new ≡ with_cores (with_take self.old at job result) self.new.cores }
     {
         self.room[at as usize] -= 1;
         match call_core(&mut self.cores[at as usize], Call::Acquire { pass: 0 }) {
@@ -119,7 +119,7 @@ impl Desk {
         requires job { job < length self.old.waits }
         requires spare { 0 < self.old.spare }
         ensures answer { Answers leave_of (call.Cancel 0 wait.number) self.old.cores wait.at self.new.cores result }
-        ensures written { self.new ≡ with_cores (left self.old job wait result) self.new.cores }
+        ensures written { self.new ≡ with_cores (with_leave self.old job wait result) self.new.cores }
     {
         let cancel = Call::Cancel {
             pass: 0,
@@ -142,7 +142,7 @@ impl Desk {
     fn grant(&mut self, job: u32, wait: Wait)
         requires job { job < length self.old.waits }
         requires spare { 0 < self.old.spare }
-        ensures { self.new ≡ granted self.old job wait }
+        ensures { self.new ≡ with_grant self.old job wait }
     {
         self.waits[job as usize] = None;
         self.transfers

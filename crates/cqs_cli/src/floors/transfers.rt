@@ -1,3 +1,5 @@
+//! What a job got, and what it gave back.
+
 /// What a job got, and what it gave back.
 #[derive(Clone, Copy, PartialEq, Eq, Debug)]
 pub enum Transfer {

@@ -1,3 +1,5 @@
+//! The trait of floors.
+
 ghost use Rattle.std.specs.Prelude.{◌≡◌, ◌<◌, slice_index, slice_get};
 ghost use Rattle.cqs_plan.specs.Floor.{PlainFloor, IsJob, IsHolding, IsWaiting, IsIdle, IsHoldable, room_at};
 ghost use Rattle.cqs_plan.specs.FloorCalls.{
@@ -11,14 +13,16 @@ ghost use Rattle.cqs_plan.specs.FloorCalls.{
   after_leave,
   end_answer,
 };
+ghost use Rattle.cqs_plan.specs.LegalFloor.{IsLegalFloor};
 
 use super::answers::{FloorEnd, FloorGive, FloorLeave, FloorLook, FloorTake};
 
 /// What carries out the steps of a plan's jobs, for one caller that makes them one after the other.
 ///
 /// Contracts see a floor as its plain floor: what happened to each resource so far, and what each job
-/// waits for and holds. A floor takes all its memory when it is made, so its calls can't fail. `at` is
-/// the place of a resource among the plan's resources, and `job` that of a job among its jobs.
+/// waits for and holds. Whatever was called, the entries of each resource are a legal history of it.
+/// A floor takes all its memory when it is made, so its calls can't fail. `at` is the place of a
+/// resource among the plan's resources, and `job` that of a job among its jobs.
 pub trait Floor {
     ghost plain: { Self → PlainFloor };
 
@@ -29,7 +33,8 @@ pub trait Floor {
         requires idle { IsIdle (plain self.old) job }
         requires room { 0 < room_at (plain self.old) at }
         ensures answer { result ≡ take_answer (plain self.old) at job }
-        ensures after { plain self.new ≡ after_take (plain self.old) at job result };
+        ensures after { plain self.new ≡ after_take (plain self.old) at job result }
+        ensures legal { IsLegalFloor (plain self.new) };
 
     /// The job gives back the oldest that it holds of this resource, to the first of the line.
     fn give(&mut self, at: u32, job: u32) -> FloorGive
@@ -37,25 +42,29 @@ pub trait Floor {
         requires job { IsJob (plain self.old) job }
         requires holds { IsHolding (plain self.old) at job }
         ensures answer { result ≡ give_answer (plain self.old) at job }
-        ensures after { plain self.new ≡ after_give (plain self.old) at job result };
+        ensures after { plain self.new ≡ after_give (plain self.old) at job result }
+        ensures legal { IsLegalFloor (plain self.new) };
 
     /// The job looks at its wait. What came is then its newest, and the wait is over.
     fn look(&mut self, job: u32) -> FloorLook
         requires job { IsJob (plain self.old) job }
         requires waits { IsWaiting (plain self.old) job }
         ensures answer { result ≡ look_answer (plain self.old) job }
-        ensures after { plain self.new ≡ after_look (plain self.old) job result };
+        ensures after { plain self.new ≡ after_look (plain self.old) job result }
+        ensures legal { IsLegalFloor (plain self.new) };
 
     /// The job gives its wait up. A wait that was served before is late: what came is the job's newest.
     fn leave(&mut self, job: u32) -> FloorLeave
         requires job { IsJob (plain self.old) job }
         requires waits { IsWaiting (plain self.old) job }
         ensures answer { result ≡ leave_answer (plain self.old) job }
-        ensures after { plain self.new ≡ after_leave (plain self.old) job result };
+        ensures after { plain self.new ≡ after_leave (plain self.old) job result }
+        ensures legal { IsLegalFloor (plain self.new) };
 
     /// How the resource stands. Nothing changes.
     fn end(&mut self, at: u32) -> FloorEnd
         requires { IsHoldable (slice_get (plain self.old).kinds at) }
         ensures answer { result ≡ end_answer (plain self.old) at }
-        ensures same { plain self.new ≡ plain self.old };
+        ensures same { plain self.new ≡ plain self.old }
+        ensures legal { IsLegalFloor (plain self.new) };
 }

@@ -1,3 +1,5 @@
+//! Why bytes could not be read as a plan.
+
 ghost use Rattle.std.specs.Prelude.{◌≡◌};
 ghost use Rattle.cqs_plan.specs.declared.plans.error.PlanError.TheVariants.{Memory};
 

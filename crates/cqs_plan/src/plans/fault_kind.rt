@@ -1,3 +1,5 @@
+//! What can be wrong at a place of a document.
+
 ghost use Rattle.std.specs.Prelude.{◌≡◌};
 
 /// What is wrong at one place of a plan.

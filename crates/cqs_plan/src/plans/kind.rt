@@ -1,3 +1,5 @@
+//! The kinds of resource.
+
 /// What a resource is, with its numbers.
 #[derive(Clone, Copy, Debug, PartialEq, Eq)]
 pub enum Kind {

@@ -1,3 +1,5 @@
+//! A name: of a resource, a job, or the place of a fault.
+
 ghost use Rattle.std.specs.Prelude.{◌≡◌, List, ℕ};
 
 use std::marker::Model;

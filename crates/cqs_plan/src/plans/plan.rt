@@ -1,3 +1,5 @@
+//! A plan.
+
 use super::job::Jobs;
 use super::resource::Resources;
 

@@ -1,3 +1,5 @@
+//! A resource of a plan, and the list of them.
+
 ghost use Rattle.std.specs.Prelude.{◌≡◌};
 
 use super::kind::Kind;

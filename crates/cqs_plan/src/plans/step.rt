@@ -1,3 +1,5 @@
+//! A step of a job, and the list of them.
+
 ghost use Rattle.std.specs.Prelude.{◌≡◌};
 
 use std::marker::Model;

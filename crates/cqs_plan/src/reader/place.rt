@@ -1,3 +1,5 @@
+//! The places of a document, by which a fault is named.
+
 ghost use Rattle.std.specs.Prelude.{codes, ◌++◌, Some};
 ghost use Rattle.cqs_plan.specs.FaultRules.{fault_at};
 ghost use Rattle.cqs_plan.specs.Places.{place_text};

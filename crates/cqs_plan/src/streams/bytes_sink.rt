@@ -1,3 +1,5 @@
+//! A sink in memory that fails where it is told to.
+
 use crate::streams::script::Script;
 use crate::{Failed, Memory, Sink};
 use std::alloc::Global;

@@ -1,3 +1,5 @@
+//! A source in memory that fails where it is told to.
+
 use crate::streams::script::Script;
 use crate::{Failed, Memory, Source, SureSource};
 use std::alloc::Global;
@@ -22,6 +24,7 @@ impl Model for BytesSource {
 
 impl BytesSource {
     ghost use Rattle.std.specs.Prelude.{◌≡◌, ◌≤◌, IfOk};
+    ghost use Rattle.cqs_plan.specs.Tally.{untouched};
 
     /// A source of a copy of these bytes, before its first read.
     pub fn new(
@@ -31,7 +34,7 @@ impl BytesSource {
         failing: &[u32],
     ) -> Result<BytesSource, Memory>
         requires { 1 ≤ chunk }
-        ensures bytes { IfOk result (λ source. source.plain ≡ record { left = bytes.now; chunk = chunk }) }
+        ensures bytes { IfOk result (λ source. source.plain ≡ record { left = bytes.now; chunk = chunk; tally = untouched }) }
         ensures faults { IfOk result (λ source. source.script ≡ record { failing = failing.now; calls = 0; faults = 0 }) }
     {
         Ok(BytesSource {
@@ -47,12 +50,15 @@ impl Source for BytesSource {
 
     ghost left = { λ source. Some source.plain.left };
 
+    ghost tally = { λ source. source.plain.tally };
+
     ghost faults = { λ source. source.script.faults };
 
     ghost reads = { ReadsByScript };
 
     fn read(&mut self, buffer: &mut [u8]) -> Result<usize, Failed> {
         if self.script.is_failing() {
+            self.source.count_failed();
             return Err(self.script.fail());
         }
         self.script.pass();

@@ -1,4 +1,8 @@
+//! The loop that reads an input.
+
 ghost use Rattle.std.specs.Prelude.{◌≡◌, ◌+◌, ◌≤◌, [], vec_len, IfOk, OnOk, IsErrOf};
+ghost use Rattle.cqs_plan.specs.Stops.{stops_of};
+ghost use Rattle.cqs_plan.specs.Counts.{raised};
 ghost use Rattle.cqs_plan.specs.Stream.{Gives, GivesAtMost, GivesCount, IsAll, Rises};
 ghost use Rattle.cqs_plan.specs.declared.streams.reading.ReadError.TheVariants.{Memory as OutOfMemory, Failed as ReadFailed};
 
@@ -48,6 +52,17 @@ pub fn read_input<S: Source>(alloc: Global, source: &mut S) -> Result<Vec<u8>, R
     ensures failed { IsErrOf result ReadError.Failed → Rises (S.faults source.old) (S.faults source.new) }
     ensures fine { ¬ IsErrOf result ReadError.Failed → S.faults source.new ≡ S.faults source.old }
     ensures taken { GivesAtMost (LONGEST_INPUT + 1) (S.left source.old) (S.left source.new) }
+
+    // How many bytes were taken is known of every source.
+    ensures given { IfOk result (λ bytes. (S.tally source.new).given ≡ raised (S.tally source.old).given (vec_len bytes)) }
+    ensures given_too_long { IsErrOf result ReadError.TooLong →
+        (S.tally source.new).given ≡ raised (S.tally source.old).given (LONGEST_INPUT + 1) }
+    ensures given_failed { IsErrOf result ReadError.Failed →
+        (S.tally source.new).given ≤ (S.tally source.old).given + LONGEST_INPUT }
+    ensures given_most { (S.tally source.new).given ≤ (S.tally source.old).given + (LONGEST_INPUT + 1) }
+
+    // Nothing is read after the end or a fault.
+    ensures stops { (S.tally source.old).stops ≡ 0 → (S.tally source.new).stops ≡ stops_of result }
 {
     let mut bytes = Vec::new(alloc);
     let mut piece = [0u8; PIECE];

@@ -1,3 +1,5 @@
+//! Which calls of a stream in memory fail.
+
 use crate::Failed;
 use std::alloc::{AllocError, Global};
 use std::marker::Model;

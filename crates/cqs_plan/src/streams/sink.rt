@@ -1,3 +1,5 @@
+//! The trait of sinks.
+
 ghost use Rattle.std.specs.Prelude.{◌≡◌, ℕ, ◌<◌, ◌≤◌, Bool, List, length, take, Option, Result, IsTrue, is_ok, IfOk, OnOk, OnErr};
 ghost use Rattle.cqs_plan.specs.Stream.{Gains, Rises};
 ghost use Rattle.cqs_plan.specs.declared.streams.failed.Failed.{Failed as Failure};
@@ -20,7 +22,7 @@ pub trait Sink {
 
     ghost flushes: { Self → Bool → Self → Type 0 } = { λ _ _ _. Unit {0} };
 
-    /// Takes a front of `piece` and says how many bytes it is. To take nothing of a piece is a failure.
+    /// Takes a prefix of `piece` and says how many bytes it is. To take nothing of a piece is a failure.
     fn write(&mut self, piece: &[u8]) -> Result<usize, Failed>
         ensures within { IfOk result (λ count. count ≤ length piece.now) }
         ensures some { IfOk result (λ count. 0 < length piece.now → 0 < count) }

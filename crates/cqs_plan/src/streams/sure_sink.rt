@@ -1,3 +1,5 @@
+//! A sink in memory that never fails.
+
 use crate::{Failed, Memory, Sink};
 use std::alloc::Global;
 use std::marker::Model;
@@ -25,7 +27,7 @@ impl Model for SureSink {
 
 impl SureSink {
     ghost use Rattle.std.specs.Prelude.{◌≡◌, [], false, IfOk, option_copied};
-    ghost use Rattle.cqs_plan.specs.InMemory.{told};
+    ghost use Rattle.cqs_plan.specs.InMemory.{content};
 
     /// An empty sink. All its memory is taken here.
     pub fn new(alloc: Global, room: u32) -> Result<SureSink, Memory>
@@ -40,7 +42,7 @@ impl SureSink {
 
     /// What it holds, or `None` where more came than it has room for.
     pub fn bytes(&self) -> Option<&[u8]>
-        ensures { option_copied result ≡ told self.now }
+        ensures { option_copied result ≡ content self.now }
     {
         if self.is_over {
             return None;
@@ -51,9 +53,9 @@ impl SureSink {
 
 impl Sink for SureSink {
     ghost use Rattle.std.specs.Prelude.{true};
-    ghost use Rattle.cqs_plan.specs.InMemory.{told, WritesSurely};
+    ghost use Rattle.cqs_plan.specs.InMemory.{content, WritesSurely};
 
-    ghost held = { told };
+    ghost held = { content };
 
     ghost is_flushed = { λ _. true };
 

@@ -1,5 +1,7 @@
+//! The loop that writes a text.
+
 ghost use Rattle.std.specs.Prelude.{◌≡◌, IsTrue, OnOk, OnErr};
-ghost use Rattle.cqs_plan.specs.Stream.{Gains, GainsFront, Rises};
+ghost use Rattle.cqs_plan.specs.Stream.{Gains, GainsPrefix, Rises};
 
 use crate::{Failed, Sink};
 
@@ -9,7 +11,7 @@ pub fn write_all<K: Sink>(sink: &mut K, text: &[u8]) -> Result<(), Failed>
     ensures flushed { OnOk result (IsTrue (K.is_flushed sink.new)) }
     ensures fine { OnOk result (K.faults sink.new ≡ K.faults sink.old) }
 
-    ensures front { OnErr result (GainsFront text.now (K.held sink.old) (K.held sink.new)) }
+    ensures prefix { OnErr result (GainsPrefix text.now (K.held sink.old) (K.held sink.new)) }
     ensures cause { OnErr result (Rises (K.faults sink.old) (K.faults sink.new)) }
 {
     let mut done = 0;

@@ -20,8 +20,10 @@ pub returns-in-Ok : goal.returns-in-Ok
 returns-in-Ok c =
     let found = rw c.in-Ok.is at (searched (goal.at.returns-in-Ok c).After-binary_search_by) in
     let serves : can_hold c.index-resources-place.result.kind ≡ true = cc in
+    let there =
     sym (place-found c.args.resources.now c.args.name.now c.in-Ok.place true c.index-resources-place.result
-    c.requires c.in-Ok.ensures.bound found c.index-resources-place.is serves)
+    c.requires c.in-Ok.ensures.bound found c.index-resources-place.is serves) in
+    search rules
 
 pub returns-in_default : goal.returns-in_default
 returns-in_default c =

@@ -14,4 +14,4 @@ returns-in_err-extend_from_slice-clause-taken g c =
     let piece = take c.in_ok-count.count c.read-in-read.new.buffer in
     let few : length (bytes ++ piece) ≤ 1048577 =
     omega (arith, length-append bytes piece, length-take {A = ℕ}, c.in_ok-count.ensures.within) in
-    (bytes ++ piece, few, Gives_more _ _ _ _ _ c.read.invariant.given c.in_ok-count.ensures.next)
+    (bytes ++ piece, few, Gives_more _ _ _ _ _ c.read.invariant.read.given c.in_ok-count.ensures.next)

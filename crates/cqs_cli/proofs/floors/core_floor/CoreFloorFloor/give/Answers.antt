@@ -1,4 +1,6 @@
+use Rattle.std.proofs.Common.{refl}
 use Rattle.cqs_cli.proofs.Gives.{give-can, give-floor}
+use Rattle.cqs_cli.proofs.LegalFloors.{legal-floor}
 use Rattle.cqs_cli.proofs.floors.core_floor.CoreFloorFloor.give.Goals as goal
 
 pub give-requires-clause-core : goal.give-requires-clause-core
@@ -19,3 +21,9 @@ pub returns-clause-after : goal.returns-clause-after
 returns-clause-after c =
     (give-floor _ _ _ _ _ _ c.self.view_is c.self.invariant c.requires.job c.requires.holds
     c.give.ensures.answer c.give.ensures.written).leaves
+
+pub returns-clause-legal : goal.returns-clause-legal
+returns-clause-legal c =
+    legal-floor _ _ refl
+    (give-floor _ _ _ _ _ _ c.self.view_is c.self.invariant c.requires.job c.requires.holds
+    c.give.ensures.answer c.give.ensures.written).kept

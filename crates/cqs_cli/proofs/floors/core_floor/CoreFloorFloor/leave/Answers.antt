@@ -1,4 +1,6 @@
+use Rattle.std.proofs.Common.{refl}
 use Rattle.cqs_cli.proofs.Looks.{can-leave, some-spare, leave-floor}
+use Rattle.cqs_cli.proofs.LegalFloors.{legal-floor}
 use Rattle.cqs_cli.proofs.floors.core_floor.CoreFloorFloor.leave.Goals as goal
 
 pub leave-requires-clause-core : goal.leave-requires-clause-core
@@ -21,3 +23,9 @@ pub returns-clause-after : goal.returns-clause-after
 returns-clause-after c =
     (leave-floor _ _ _ _ _ _ c.self.view_is c.self.invariant c.requires.job c.wait-wait.ensures
     c.leave.ensures.answer c.leave.ensures.written).leaves
+
+pub returns-clause-legal : goal.returns-clause-legal
+returns-clause-legal c =
+    legal-floor _ _ refl
+    (leave-floor _ _ _ _ _ _ c.self.view_is c.self.invariant c.requires.job c.wait-wait.ensures
+    c.leave.ensures.answer c.leave.ensures.written).kept

@@ -1,4 +1,6 @@
+use Rattle.std.proofs.Common.{refl}
 use Rattle.cqs_cli.proofs.Looks.{can-look, some-spare, look-floor}
+use Rattle.cqs_cli.proofs.LegalFloors.{legal-floor}
 use Rattle.cqs_cli.proofs.floors.core_floor.CoreFloorFloor.look.Goals as goal
 
 pub look-requires-clause-core : goal.look-requires-clause-core
@@ -18,3 +20,8 @@ returns-clause-answer c =
 pub returns-clause-after : goal.returns-clause-after
 returns-clause-after c =
     (look-floor _ _ _ _ _ _ c.self.view_is c.self.invariant c.requires.job c.wait-wait.ensures c.look.ensures).leaves
+
+pub returns-clause-legal : goal.returns-clause-legal
+returns-clause-legal c =
+    legal-floor _ _ refl
+    (look-floor _ _ _ _ _ _ c.self.view_is c.self.invariant c.requires.job c.wait-wait.ensures c.look.ensures).kept

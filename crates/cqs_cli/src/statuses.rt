@@ -1,0 +1,22 @@
+//! The statuses that a process ends with.
+
+/// The input was a plan, and its whole report was written.
+pub const DONE: u8 = 0;
+
+/// The words are no command, and the usage text was written.
+pub const NO_COMMAND: u8 = 2;
+
+/// The input was no plan, and the line that says why was written.
+pub const NO_PLAN: u8 = 3;
+
+/// The source failed.
+pub const SOURCE_FAILED: u8 = 4;
+
+/// The sink failed.
+pub const SINK_FAILED: u8 = 5;
+
+/// There was no memory.
+pub const NO_MEMORY: u8 = 6;
+
+/// The input is too long.
+pub const TOO_LONG: u8 = 7;

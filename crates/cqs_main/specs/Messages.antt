@@ -3,7 +3,7 @@ use Rattle.std.specs.Prelude.{ℕ, ◌≤◌, List, [], length, take, codes, Opt
 use Rattle.std.specs.Io.KnownBytes.{Appends}
 use Rattle.cqs_cli.specs.declared.ending.TheConstants.{NO_COMMAND, NO_MEMORY, SINK_FAILED, SOURCE_FAILED, TOO_LONG}
 
--- the line that tells the cause of a status; there is none where standard output has a report or a fault line
+-- the line that tells the cause of a status; none where standard output has a report or a fault line
 abbrev pub message : ℕ → List ℕ
 message status =
     if status == NO_COMMAND
@@ -16,4 +16,5 @@ message status =
 
 -- a writer, if it tells what it holds, took a prefix of these bytes behind it
 abbrev pub TakesPrefix : List ℕ → Option (List ℕ) → Option (List ℕ) → Type 0
-TakesPrefix bytes held after = (count : ℕ) × (count ≤ length bytes) × Appends held after (take count bytes)
+TakesPrefix bytes held after =
+    (count : ℕ) × (count ≤ length bytes) × Appends held after (take count bytes)

@@ -6,7 +6,7 @@ use std::process::ExitCode;
 
 /// All that `main` does.
 ///
-/// It has no clause: nothing names what the system gives it. It hands that to `run` and does no more.
+/// It has no clause: nothing names what the system gives it. It hands that to `run`, and no more.
 pub fn program(rt: &HostRuntime) -> ExitCode {
     let mut source = StdinSource::new(rt.stdin());
     let mut sink = StdoutSink::new(rt.stdout());

@@ -1,5 +1,5 @@
 //! One run of the program, over any streams.
-ghost use Rattle.std.specs.Prelude.{◌≡◌, ℕ, ◌+◌, ◌<◌, ◌≤◌, List, length, IsTrue, Some};
+ghost use Rattle.std.specs.Prelude.{◌≡◌, ◌≢◌, ℕ, ◌+◌, ◌<◌, ◌≤◌, List, length, IsTrue, Some};
 ghost use Rattle.std.specs.Process.{exit_status};
 ghost use Rattle.cqs_plan.specs.Stream.{Gains, GivesCount, Rises};
 ghost use Rattle.cqs_cli.specs.Meanings.{BrokeOff, IsStatus, MustEnd, NamedFault, Reported};
@@ -63,27 +63,38 @@ pub fn run<S: Source, K: Sink, W: Write>(
     ensures too_long { exit_status result ≡ TOO_LONG → IsRun (words_of arguments)
         × GivesCount (LONGEST_INPUT + 1) (S.left source.old) (S.left source.new)
         × (sink.new ≡ sink.old) }
+
+    // There is no other status, and a fault is never hidden behind one.
     ensures statuses { IsStatus (exit_status result) }
+    ensures source_calm { exit_status result ≢ SOURCE_FAILED
+        → S.faults source.new ≡ S.faults source.old }
+    ensures sink_calm { exit_status result ≢ SINK_FAILED
+        → K.faults sink.new ≡ K.faults sink.old }
 
     // Where no fault comes, there is the status that the words and the input call for.
     ensures wrong_words { ¬ IsCommand (words_of arguments)
         → ¬ Rises (K.faults sink.old) (K.faults sink.new)
         → MustEnd NO_COMMAND (exit_status result) }
-    ensures wrong_input { IsRun (words_of arguments) → (bytes : List ℕ) → S.left source.old ≡ Some bytes
+    ensures wrong_input { IsRun (words_of arguments)
+        → (bytes : List ℕ) → S.left source.old ≡ Some bytes
         → length bytes ≤ LONGEST_INPUT → ¬ IsPlan bytes
-        → ¬ Rises (S.faults source.old) (S.faults source.new) → ¬ Rises (K.faults sink.old) (K.faults sink.new)
+        → ¬ Rises (S.faults source.old) (S.faults source.new)
+        → ¬ Rises (K.faults sink.old) (K.faults sink.new)
         → MustEnd NO_PLAN (exit_status result) }
-    ensures long_input { IsRun (words_of arguments) → (bytes : List ℕ) → S.left source.old ≡ Some bytes
-        → LONGEST_INPUT < length bytes
+    ensures long_input { IsRun (words_of arguments)
+        → (bytes : List ℕ) → S.left source.old ≡ Some bytes → LONGEST_INPUT < length bytes
         → ¬ Rises (S.faults source.old) (S.faults source.new)
         → MustEnd TOO_LONG (exit_status result) }
-    ensures complete { IsRun (words_of arguments) → (bytes : List ℕ) → S.left source.old ≡ Some bytes
+    ensures complete { IsRun (words_of arguments)
+        → (bytes : List ℕ) → S.left source.old ≡ Some bytes
         → length bytes ≤ LONGEST_INPUT → IsPlan bytes
-        → ¬ Rises (S.faults source.old) (S.faults source.new) → ¬ Rises (K.faults sink.old) (K.faults sink.new)
+        → ¬ Rises (S.faults source.old) (S.faults source.new)
+        → ¬ Rises (K.faults sink.old) (K.faults sink.new)
         → MustEnd DONE (exit_status result) }
 
     // Standard error gets the message of the status, or a prefix of it.
-    ensures message { TakesPrefix (message (exit_status result)) (W.contents errors.old) (W.contents errors.new) }
+    ensures message { TakesPrefix (message (exit_status result))
+        (W.contents errors.old) (W.contents errors.new) }
 {
     let status = match words_after_name(alloc, arguments) {
         Ok(words) => top(alloc, &words, source, sink),

@@ -1,0 +1,104 @@
+//! One run of the program, over any streams.
+ghost use Rattle.std.specs.Prelude.{◌≡◌, ◌≢◌, ℕ, ◌+◌, ◌<◌, ◌≤◌, List, length, IsTrue, Some};
+ghost use Rattle.std.specs.Process.{exit_status};
+ghost use Rattle.cqs_plan.specs.Stream.{Gains, GivesCount, Rises};
+ghost use Rattle.cqs_cli.specs.Meanings.{BrokeOff, IsStatus, MustEnd, NamedFault, Reported};
+ghost use Rattle.cqs_cli.specs.Plans.{IsPlan};
+ghost use Rattle.cqs_cli.specs.Words.{IsCommand, IsRun, usage};
+ghost use Rattle.cqs_main.specs.Arguments.{words_of};
+ghost use Rattle.cqs_main.specs.Messages.{TakesPrefix, message};
+
+use crate::messages::finish;
+use crate::words::words_after_name;
+use cqs_cli::{DONE, NO_COMMAND, NO_MEMORY, NO_PLAN, SINK_FAILED, SOURCE_FAILED, TOO_LONG, top};
+use cqs_plan::{LONGEST_INPUT, Sink, Source};
+use std::alloc::Global;
+use std::env::Args;
+use std::io;
+use std::io::Write;
+use std::process::ExitCode;
+
+/// One run of the program: the words, the call of `top`, the line on standard error, the status.
+///
+/// The clauses are those of `top`, said of the command line and of the status that the process ends
+/// with. Out of memory may come already while the words are read.
+pub fn run<S: Source, K: Sink, W: Write>(
+    alloc: Global,
+    arguments: io::Result<Args>,
+    source: &mut S,
+    sink: &mut K,
+    errors: &mut W,
+) -> ExitCode
+    // The input was a plan, and its whole report was written and flushed.
+    ensures done { exit_status result ≡ DONE → IsRun (words_of arguments)
+        × Reported (S.left source.old) (S.left source.new) (K.held sink.old) (K.held sink.new)
+        × IsTrue (K.is_flushed sink.new) }
+
+    // The words are no command, nothing was read, and the usage text was written and flushed.
+    ensures no_command { exit_status result ≡ NO_COMMAND → (¬ IsCommand (words_of arguments))
+        × (source.new ≡ source.old)
+        × Gains usage (K.held sink.old) (K.held sink.new)
+        × IsTrue (K.is_flushed sink.new) }
+
+    // The input was no plan, and the line that says why was written and flushed.
+    ensures no_plan { exit_status result ≡ NO_PLAN → IsRun (words_of arguments)
+        × NamedFault (S.left source.old) (S.left source.new) (K.held sink.old) (K.held sink.new)
+        × IsTrue (K.is_flushed sink.new) }
+
+    // The source failed, and nothing was written.
+    ensures source_failed { exit_status result ≡ SOURCE_FAILED → IsRun (words_of arguments)
+        × Rises (S.faults source.old) (S.faults source.new)
+        × (sink.new ≡ sink.old) }
+
+    // The sink failed, after a prefix of the text that was to be written.
+    ensures sink_failed { exit_status result ≡ SINK_FAILED →
+        Rises (K.faults sink.old) (K.faults sink.new)
+        × BrokeOff (words_of arguments)
+        (S.left source.old) (S.left source.new) (K.held sink.old) (K.held sink.new) }
+
+    // There was no memory, and nothing was written.
+    ensures no_memory { exit_status result ≡ NO_MEMORY → sink.new ≡ sink.old }
+
+    // One byte more than an input may have was read, and nothing was written.
+    ensures too_long { exit_status result ≡ TOO_LONG → IsRun (words_of arguments)
+        × GivesCount (LONGEST_INPUT + 1) (S.left source.old) (S.left source.new)
+        × (sink.new ≡ sink.old) }
+
+    // There is no other status, and a fault is never hidden behind one.
+    ensures statuses { IsStatus (exit_status result) }
+    ensures source_calm { exit_status result ≢ SOURCE_FAILED
+        → S.faults source.new ≡ S.faults source.old }
+    ensures sink_calm { exit_status result ≢ SINK_FAILED
+        → K.faults sink.new ≡ K.faults sink.old }
+
+    // Where no fault comes, there is the status that the words and the input call for.
+    ensures wrong_words { ¬ IsCommand (words_of arguments)
+        → ¬ Rises (K.faults sink.old) (K.faults sink.new)
+        → MustEnd NO_COMMAND (exit_status result) }
+    ensures wrong_input { IsRun (words_of arguments)
+        → (bytes : List ℕ) → S.left source.old ≡ Some bytes
+        → length bytes ≤ LONGEST_INPUT → ¬ IsPlan bytes
+        → ¬ Rises (S.faults source.old) (S.faults source.new)
+        → ¬ Rises (K.faults sink.old) (K.faults sink.new)
+        → MustEnd NO_PLAN (exit_status result) }
+    ensures long_input { IsRun (words_of arguments)
+        → (bytes : List ℕ) → S.left source.old ≡ Some bytes → LONGEST_INPUT < length bytes
+        → ¬ Rises (S.faults source.old) (S.faults source.new)
+        → MustEnd TOO_LONG (exit_status result) }
+    ensures complete { IsRun (words_of arguments)
+        → (bytes : List ℕ) → S.left source.old ≡ Some bytes
+        → length bytes ≤ LONGEST_INPUT → IsPlan bytes
+        → ¬ Rises (S.faults source.old) (S.faults source.new)
+        → ¬ Rises (K.faults sink.old) (K.faults sink.new)
+        → MustEnd DONE (exit_status result) }
+
+    // Standard error gets the message of the status, or a prefix of it.
+    ensures message { TakesPrefix (message (exit_status result))
+        (W.contents errors.old) (W.contents errors.new) }
+{
+    let status = match words_after_name(alloc, arguments) {
+        Ok(words) => top(alloc, &words, source, sink),
+        Err(_) => NO_MEMORY,
+    };
+    finish(errors, status)
+}

@@ -1,0 +1,9 @@
+//! The program `cqs`, started with words that are no command.
+#![tactic(auto)]
+
+use cqs_main::program;
+use std::process::ExitCode;
+
+fn main(rt: HostRuntime) -> ExitCode {
+    program(&rt)
+}

@@ -1,0 +1,5 @@
+mod Everywhere
+mod OwnTurn
+mod Counted
+mod Emptied
+mod Kept

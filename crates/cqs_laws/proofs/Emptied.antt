@@ -1,10 +1,6 @@
 -- A job that ends gives back all that it holds, and nobody else's turn gives it anything.
-use Rattle.std.proofs.Common.{◌≡◌, ◌≢◌, ◌⊎◌, inl, inr, ℕ, zero, suc, ◌+◌, List, [], ◌∷◌, Bool, true, false, nat_lt, Option, Some, None, map, drop, slice_get, replicate, refl, sym, ap, ◌∙◌, arith}
+use Rattle.std.proofs.Common.{◌≡◌, ◌≢◌, ℕ, ◌+◌, List, [], ◌∷◌, Bool, true, false, nat_lt, Option, Some, None, drop, refl, ap}
 use Rattle.std.specs.Bool.{if◌then◌else◌}
-use Rattle.std.proofs.lemmas.Bool.{cases_eq}
-use Rattle.cqs_core.proofs.Places.{get-set_here, get-set_else}
-use Rattle.cqs_plan.specs.declared.plans.job.Job.{Job}
-use Rattle.cqs_plan.specs.declared.plans.plan.Plan.{Plan}
 use Rattle.cqs_plan.specs.declared.plans.step.Step.{Step}
 use Rattle.cqs_plan.specs.declared.plans.step.Step.TheVariants.{Take, Give, Down, Await, Arrive, Work}
 use Rattle.cqs_plan.specs.declared.floors.answers.FloorTake.{FloorTake}
@@ -12,30 +8,19 @@ use Rattle.cqs_plan.specs.declared.floors.answers.FloorTake.TheVariants.{Now, Wa
 use Rattle.cqs_plan.specs.declared.floors.answers.FloorLook.{FloorLook}
 use Rattle.cqs_plan.specs.declared.floors.answers.FloorLook.TheVariants.{Pending, Granted}
 use Rattle.cqs_plan.specs.declared.floors.answers.FloorLeave.{FloorLeave}
-use Rattle.cqs_plan.specs.Floor.{PlainFloor, Holding, wait_of, holds_of}
 use Rattle.cqs_plan.specs.FloorCalls.{take_answer, give_answer, look_answer, leave_answer, after_look}
-use Rattle.cqs_plan.specs.Runnable.{IsRunnable}
 use Rattle.cqs_turns.specs.declared.lines.Told.TheVariants as told
 use Rattle.cqs_turns.specs.declared.states.End.{End}
-use Rattle.cqs_turns.specs.declared.states.End.TheVariants as end
 use Rattle.cqs_turns.specs.declared.states.Progress.{Progress}
 use Rattle.cqs_turns.specs.declared.states.Progress.TheVariants.{Stepping, Working, Waiting, Ended}
-use Rattle.cqs_turns.specs.Ready.{IsReady, HasRoom, wait_in, steps_left}
+use Rattle.cqs_turns.specs.Ready.{IsReady, wait_in, steps_left}
 use Rattle.cqs_turns.specs.Roles.{wait_at}
-use Rattle.cqs_turns.specs.Running.{IsRunning}
-use Rattle.cqs_turns.specs.Turns.{Role, Scene, Made, Acted, Machine, event, given, given_back, made, took, stop_or, stepped, finished, cancelled, gave_up, looked, acted, is_due, one_job, opening_machine, machine_after, places_held, left_at, go_on}
-use Rattle.cqs_turns.proofs.Opened.{opening-running}
+use Rattle.cqs_turns.specs.Turns.{Role, Scene, Made, Acted, event, given, given_back, made, took, stop_or, stepped, finished, cancelled, gave_up, looked, acted, is_due, places_held, left_at, go_on}
 use Rattle.cqs_turns.proofs.Readied.{first-given, first-ready, leave-ready, looked-ready}
-use Rattle.cqs_turns.proofs.Moved.{room-after, looked-moves, Moves}
-use Rattle.cqs_turns.proofs.RunningLemmas.{room-of, running-on}
-use Rattle.cqs_turns.proofs.Stepping.{made-ready, made-moves}
-use Rattle.cqs_turns.proofs.Turned.{Turned, acted-turned}
-use Rattle.cqs_laws.specs.Endings.{EndedJobsHaveNothing}
-use Rattle.cqs_laws.proofs.Everywhere.{always}
-use Rattle.cqs_laws.proofs.OwnTurn.{role_of, own-turn}
+use Rattle.cqs_turns.proofs.Stepping.{made-ready}
 
 -- where the job has ended, it holds nothing
-abbrev IsEmptied : Role → Acted → Type 0
+abbrev pub IsEmptied : Role → Acted → Type 0
 IsEmptied r a = (e : End) → a.progress ≡ Ended e → places_held a.scene.floor r.place ≡ []
 
 given_back-empties : (r : Role) (places : List ℕ) (s : Scene) → IsReady s.floor r.place None []
@@ -90,12 +75,12 @@ looked-empties : (r : Role) (next at number : ℕ) (answer : FloorLook) (s : Sce
     → IsReady s.floor r.place (Some (wait_at at number)) (drop next r.job.steps)
     → IsEmptied r (looked r next at number answer s)
 looked-empties r next at number Pending s ready e ended = absurd (cc)
-looked-empties r next at number (Granted element) s ready =
+looked-empties r next at number (Granted element) s ready e ended =
     stepped-empties r (drop next r.job.steps) next
     (event r s (after_look s.floor r.place (Granted element)) (told.Served at number))
-    (looked-ready s.floor r.place (wait_at at number) element (drop next r.job.steps) ready)
+    (looked-ready s.floor r.place (wait_at at number) element (drop next r.job.steps) ready) e ended
 
-acted-empties : (r : Role) (p : Progress) (s : Scene) → IsReady s.floor r.place (wait_in p) (steps_left r.job.steps p)
+pub acted-empties : (r : Role) (p : Progress) (s : Scene) → IsReady s.floor r.place (wait_in p) (steps_left r.job.steps p)
     → IsEmptied r (left_at s p) → IsEmptied r (acted r p s)
 acted-empties r (Stepping next) s ready before = stepped-empties r (drop next r.job.steps) next s ready
 acted-empties r (Working next until) s ready before =

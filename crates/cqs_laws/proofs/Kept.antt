@@ -1,5 +1,5 @@
 -- The machine of a runnable plan: it keeps running, and the jobs that have ended hold nothing.
-use Rattle.std.proofs.Common.{◌≡◌, ◌≢◌, ◌⊎◌, inl, inr, ℕ, zero, suc, ◌<◌, List, [], ◌∷◌, Some, None, length, map, set, slice_get, replicate, sym, ap, subst, ◌∙◌, arith}
+use Rattle.std.proofs.Common.{◌≡◌, ◌≢◌, ◌⊎◌, inl, inr, ℕ, zero, suc, ◌<◌, List, [], ◌∷◌, Some, None, length, map, set, slice_get, replicate, refl, sym, ap, subst, ◌∙◌, arith}
 use Rattle.std.proofs.lemmas.Bool.{cases_eq}
 use Rattle.std.proofs.lemmas.Option.{get_or_from_slice_get}
 use Rattle.cqs_core.proofs.Places.{get-set_here, get-set_else, get-below, get-there}
@@ -14,7 +14,7 @@ use Rattle.cqs_turns.specs.declared.states.Progress.{Progress}
 use Rattle.cqs_turns.specs.declared.states.Progress.TheVariants.{Stepping, Ended}
 use Rattle.cqs_turns.specs.Ready.{IsReady, wait_in, steps_left}
 use Rattle.cqs_turns.specs.Running.{IsRunning}
-use Rattle.cqs_turns.specs.Turns.{Role, Acted, Machine, acted, left_at, one_job, opening_machine, machine_after, places_held}
+use Rattle.cqs_turns.specs.Turns.{Role, Acted, Machine, acted, one_job, opening_machine, machine_after, places_held}
 use Rattle.cqs_turns.proofs.Opened.{opening-running}
 use Rattle.cqs_turns.proofs.RunningLemmas.{room-of, running-on}
 use Rattle.cqs_turns.proofs.Turned.{Turned, acted-turned}
@@ -24,9 +24,9 @@ use Rattle.cqs_laws.proofs.OwnTurn.{role_of}
 use Rattle.cqs_laws.proofs.Emptied.{acted-empties}
 
 -- the machine runs, and the jobs that have ended hold nothing
-record IsKept (plan : Plan) (m : Machine) : Type 0 where
-  running : IsRunning plan m
-  emptied : (place : ℕ) (e : End) → slice_get m.progress place ≡ Some (Ended e) → places_held m.scene.floor place ≡ []
+pub record IsKept (plan : Plan) (m : Machine) : Type 0 where
+  pub running : IsRunning plan m
+  pub emptied : (place : ℕ) (e : End) → slice_get m.progress place ≡ Some (Ended e) → places_held m.scene.floor place ≡ []
 
 -- the machine after the job at a place acted
 abbrev with_acted : Machine → ℕ → Acted → Machine
@@ -95,7 +95,7 @@ pub always-kept : (plan : Plan) (turns : ℕ) → IsRunnable plan → IsKept pla
 always-kept plan turns runnable = always plan (IsKept plan) (opening-kept plan runnable) (one-job-keeps plan) turns
 
 nothing-held : (holds : List Holding) → map (λ h. h.at) holds ≡ [] → holds ≡ []
-nothing-held [] none = none
+nothing-held [] none = refl
 nothing-held (h ∷ holds) none = absurd (cc)
 
 pub ended-jobs-have-nothing : EndedJobsHaveNothing

@@ -1,5 +1,5 @@
 -- What a turn makes of one job: its own turn decides, and the turns of the others leave it as it is.
-use Rattle.std.proofs.Common.{◌≡◌, ◌≢◌, ◌⊎◌, inl, inr, ℕ, zero, suc, ◌+◌, ◌<◌, ◌≤◌, List, [], ◌∷◌, Bool, true, false, Option, Some, slice_get, refl, sym, ap, ◌∙◌, arith, le-leb}
+use Rattle.std.proofs.Common.{◌≡◌, ◌⊎◌, inl, inr, ℕ, zero, suc, ◌+◌, ◌<◌, ◌≤◌, List, [], ◌∷◌, Bool, true, false, Option, Some, slice_get, refl, ap, ◌∙◌, arith, le-leb}
 use Rattle.std.specs.Bool.{if◌then◌else◌}
 use Rattle.std.proofs.lemmas.Option.{get_or_from_slice_get}
 use Rattle.cqs_core.proofs.Places.{get-set_here, get-set_else}
@@ -44,9 +44,11 @@ its-turn : (resources : List Resource) (turn place first i : ℕ) (jobs : List J
 its-turn resources turn place first i [] m job p at there got = absurd (cc)
 its-turn resources turn place first zero (j ∷ jobs) m job p at there got =
     let here : first ≡ place = omega (arith, at) in
-    let same : j ≡ job = cc in
-    (m.scene, rw (here, same) (others-turns resources turn place (place + 1) jobs
-    (one_job resources turn place job m) (omega arith) ∙ own-turn resources turn place job m p got))
+    let same : j ≡ job = cc in (
+      m.scene,
+      rw (here, same) (others-turns resources turn place (place + 1) jobs
+          (one_job resources turn place job m) (omega arith) ∙ own-turn resources turn place job m p got),
+    )
 its-turn resources turn place first (suc i) (j ∷ jobs) m job p at there got =
     let before : slice_get (one_job resources turn first j m).progress place ≡ Some p
     = get-set_else m.progress first place _ (λ same. absurd (omega (arith, at, same))) ∙ got in

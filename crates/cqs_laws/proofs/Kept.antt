@@ -29,10 +29,10 @@ pub record IsKept (plan : Plan) (m : Machine) : Type 0 where
   pub emptied : (place : ℕ) (e : End) → slice_get m.progress place ≡ Some (Ended e) → places_held m.scene.floor place ≡ []
 
 -- the machine after the job at a place acted
-abbrev with_acted : Machine → ℕ → Acted → Machine
+abbrev pub with_acted : Machine → ℕ → Acted → Machine
 with_acted m place a = record { scene = a.scene; progress = set m.progress place a.progress }
 
-one-job-is : (resources : List Resource) (turn place : ℕ) (job : Job) (m : Machine) (p : Progress)
+pub one-job-is : (resources : List Resource) (turn place : ℕ) (job : Job) (m : Machine) (p : Progress)
     → slice_get m.progress place ≡ Some p
     → one_job resources turn place job m ≡ with_acted m place (acted (role_of resources turn place job) p m.scene)
 one-job-is resources turn place job m p got =

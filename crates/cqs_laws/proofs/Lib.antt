@@ -3,3 +3,8 @@ mod OwnTurn
 mod Counted
 mod Emptied
 mod Kept
+mod Lifting
+mod Objects
+mod LineLemmas
+mod Lined
+mod Telling

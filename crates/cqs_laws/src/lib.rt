@@ -4,6 +4,7 @@
 #![tactic(auto)]
 
 ghost use Rattle.cqs_laws.specs.Totals.{TotalsAddUp};
+ghost use Rattle.cqs_laws.specs.Events.{EveryReportHasItsLines};
 ghost use Rattle.cqs_laws.specs.Endings.{EndedJobsHaveNothing, NoWaitOutlivesItsDeadline};
 
 /// The four totals of a report add up to the number of the plan's jobs.
@@ -19,4 +20,11 @@ pub fn ended_jobs_have_nothing()
 /// A job that waits when a turn at or after its deadline begins has ended when that turn is over.
 pub fn no_wait_outlives_its_deadline()
     ensures { NoWaitOutlivesItsDeadline }
+{}
+
+/// The events of a run are lines, one after the other, whose texts are the report so far. The waits of each resource are numbered
+/// 0, 1, 2 and so on, in order of the lines where they begin; and a wait is served, or is late, only after a line that sent it a
+/// permit.
+pub fn every_report_has_its_lines()
+    ensures { EveryReportHasItsLines }
 {}

@@ -135,12 +135,12 @@ fn replay(plain: &mut Plain, entry: Entry) -> Result<(), Fail> {
 }
 
 /// The next number of a small generator.
-pub fn after(number: u64) -> u64 {
+fn after(number: u64) -> u64 {
     number.wrapping_mul(1_103_515_245).wrapping_add(12_345) % 2_147_483_648
 }
 
 /// One of the events, by a number.
-pub fn event_of(number: u64) -> Event {
+fn event_of(number: u64) -> Event {
     let pass = ((number / 64) % 3) as u32;
     let wait = (number / 256) % 8;
     match (number / 4096) % 12 {

@@ -1,4 +1,4 @@
-//! Tests that cross crates: calls of the core and of the running queue, schedules, histories and packed words. Their expected
+//! Tests that cross crates: calls of the core and of the running queue, histories of the core, and packed words. Their expected
 //! values were worked out by hand.
 #![tactic(auto)]
 
@@ -6,12 +6,6 @@
 mod core_calls;
 #[cfg(test)]
 mod core_histories;
-#[cfg(test)]
-mod core_outcomes;
-#[cfg(test)]
-mod core_schedules;
-#[cfg(test)]
-mod core_sizes;
 #[cfg(test)]
 mod packed_words;
 #[cfg(test)]

@@ -8,3 +8,7 @@ mod Objects
 mod LineLemmas
 mod Lined
 mod Telling
+mod Claims
+mod Funds
+mod Funding
+mod Balancing

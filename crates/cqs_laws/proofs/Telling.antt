@@ -64,7 +64,7 @@ module _ (plan : Plan) (r : Role) (actor : IsActor plan r) (s : Scene) (tells : 
     lined = calm-lined s.floor g tells.lines (line_of r t) calm tells.lined;
   }
 
-  there-of : (at : ℕ) → at < length s.floor.kinds → at < length s.floor.entries
+  pub there-of : (at : ℕ) → at < length s.floor.kinds → at < length s.floor.entries
   there-of at below = omega (arith, below, tells.lined.sized)
 
   -- a job takes at once
@@ -325,7 +325,7 @@ module _ (plan : Plan) (r : Role) (actor : IsActor plan r) (s : Scene) (tells : 
         stays = λ j w has stands. inl stands;
       }) (λ q. refl) tt
 
-kept-by-events : (plan : Plan) → IsKeptByEvents plan (IsTelling plan)
+pub kept-by-events : (plan : Plan) → IsKeptByEvents plan (IsTelling plan)
 kept-by-events plan = record {
   takes = λ r at s actor can tells. takes-if plan r actor s tells at _
       (there-of plan r actor s tells at (holdable-below s.floor.kinds at can.kind)) can.job.waits;
@@ -339,7 +339,7 @@ kept-by-events plan = record {
 }
 
 -- a list of one value has it everywhere, also past its end
-one-value : {X : Type 0} (n i : ℕ) (x : X) → get_or (replicate n x) i x ≡ x
+pub one-value : {X : Type 0} (n i : ℕ) (x : X) → get_or (replicate n x) i x ≡ x
 one-value zero i x = refl
 one-value (suc n) zero x = refl
 one-value (suc n) (suc i) x = one-value n i x
@@ -354,7 +354,7 @@ opening-next plan at =
     ap (λ entries. (object_after permits entries).next) (one-value (length plan.resources) at [])
 
 -- a machine that opens has told nothing, and nobody waits
-opening-tells : (plan : Plan) → IsTelling plan (opening_machine plan).scene
+pub opening-tells : (plan : Plan) → IsTelling plan (opening_machine plan).scene
 opening-tells plan = record {
   lines = [];
   text = refl;

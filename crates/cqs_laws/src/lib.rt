@@ -3,6 +3,7 @@
 //! Each function does nothing: a law is proved where the contract of a function says it.
 #![tactic(auto)]
 
+ghost use Rattle.cqs_laws.specs.Balances.{EveryResourceBalances};
 ghost use Rattle.cqs_laws.specs.Totals.{TotalsAddUp};
 ghost use Rattle.cqs_laws.specs.Events.{EveryReportHasItsLines};
 ghost use Rattle.cqs_laws.specs.Endings.{EndedJobsHaveNothing, NoWaitOutlivesItsDeadline};
@@ -27,4 +28,10 @@ pub fn no_wait_outlives_its_deadline()
 /// permit.
 pub fn every_report_has_its_lines()
     ensures { EveryReportHasItsLines }
+{}
+
+/// Of each resource, free and held permits are together those that the plan gives it, and nobody waits in line while one is free.
+/// So it is between any two turns, and in the `end` lines.
+pub fn every_resource_balances()
+    ensures { EveryResourceBalances }
 {}

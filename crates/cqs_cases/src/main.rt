@@ -1,7 +1,7 @@
 //! Runs the cases of data/ by the program's own call, and counts those that don't end as they should.
 //!
-//! A file of cases is a text of lines. A line that begins with `== ` tells what to do; the lines after it, up to the next such
-//! line, belong to it. A line that begins with `=== ` is a heading, for the reader alone.
+//! A file of cases is a text of lines. A line that begins with `== ` tells what to do; the lines after it, up to
+//! the next such line, belong to it. A line that begins with `=== ` is a heading, for the reader alone.
 //!
 //! | line | what it does |
 //! |---|---|
@@ -12,11 +12,11 @@
 //! | `== byte 255` | this byte is the one value |
 //! | `== first 10` | no more than the first bytes of the input are tried |
 //! | `== words "run" "run"` | the words of the command line, in place of `run` |
-//! | `== chunk 16`, `== room 170` | how many bytes a read or write moves at most, how many the sink takes in all |
+//! | `== chunk 16`, `== room 170` | how many bytes a call moves at most, and the sink takes in all |
 //! | `== read 4`, `== write 3` | this call of the source or of the sink fails; no call has the number 0 |
 //! | `== text` | the lines that follow are what must be written; a value stands for `@` |
-//! | `== ends 0`, `== ends 5 20` | runs what was set: it must end with this status, having written the text, or its first bytes |
-//! | `== fault job: many` | runs what was set: it is no plan, and this is its first fault |
+//! | `== ends 0`, `== ends 5 20` | runs it: it must end with this status, having written the text, or its first bytes |
+//! | `== fault job: many` | runs it: it is no plan, and this is its first fault |
 //!
 //! In a value and in a text of `each` the sign `|` stands for the end of a line.
 #![tactic(auto)]

@@ -41,7 +41,8 @@ held_of-without at i (h ∷ hs) some = go (h.at == at) refl (held_of-without at 
     all = sum_by-cons (λ (x : Holding). bit (x.at == i)) h hs
 
     go : (b : Bool) → h.at == at ≡ b
-        → (is_held at (map (λ h. h.at) hs) ≡ true → held_of i (without (λ h. h.at) at hs) + bit (at == i) ≡ held_of i hs)
+        → (is_held at (map (λ h. h.at) hs) ≡ true
+        → held_of i (without (λ h. h.at) at hs) + bit (at == i) ≡ held_of i hs)
         → held_of i (without (λ h. h.at) at (h ∷ hs)) + bit (at == i) ≡ held_of i (h ∷ hs)
     go true same later =
         let here : h.at ≡ at = eqb-true h.at at same in
@@ -63,7 +64,8 @@ held-gave holds job at i below some =
     let fewer = held_of-without at i (get_or holds job []) some in
     omega (arith, written, fewer)
 
-pub count-set : {X : Type 0} (p : X → Bool) (xs : List X) (i : ℕ) (old new d : X) → i < length xs → get_or xs i d ≡ old
+pub count-set : {X : Type 0} (p : X → Bool) (xs : List X) (i : ℕ) (old new d : X) → i < length xs
+    → get_or xs i d ≡ old
     → count_by p (set xs i new) + bit (p old) ≡ count_by p xs + bit (p new)
 count-set p xs i old new d below was = rw (← was) (sum_by-set (λ x. bit (p x)) xs i new d below)
 
@@ -103,7 +105,8 @@ count-one-more p q (x ∷ xs) one =
     all_p : count_by p (x ∷ xs) ≡ bit (p x) + count_by p xs
     all_p = sum_by-cons (λ y. bit (p y)) x xs
 
-    none : q x ≡ true → p x ≡ false → (i : ℕ) (y : _) → slice_get xs i ≡ Some y → q y ≡ true → (b : Bool) → p y ≡ b → p y ≡ true
+    none : q x ≡ true → p x ≡ false → (i : ℕ) (y : _) → slice_get xs i ≡ Some y → q y ≡ true → (b : Bool)
+        → p y ≡ b → p y ≡ true
     none qx px i y got qy true py = py
     none qx px i y got qy false py =
         let same : 0 ≡ suc i = one 0 (suc i) x y refl got qx px qy py in absurd (omega (arith, same))
@@ -116,7 +119,8 @@ count-one-more p q (x ∷ xs) one =
         omega (arith, all_q, all_p, bq, bp, later)
     go true false qx px later =
         let bq : bit (q x) ≡ 1 = ap bit qx in
-        let fewer : count_by q xs ≤ count_by p xs = count-le p q xs (λ i y got qy. none qx px i y got qy (p y) refl) in
+        let fewer : count_by q xs ≤ count_by p xs = count-le p q xs (λ i y got qy. none qx px i y got qy
+        (p y) refl) in
         omega (arith, all_q, all_p, bq, fewer)
     go false b qx px later =
         let bq : bit (q x) ≡ 0 = ap bit qx in
@@ -156,7 +160,12 @@ claim-here at number line away = rw (away, eq-eqb at at refl) refl
 -- nothing is held at first, and there are no claims
 pub held-none : (n at : ℕ) → held_in at (replicate n []) ≡ 0
 held-none zero at = refl
-held-none (suc n) at = omega (arith, sum_by-cons (λ (hs : List Holding). held_of at hs) [] (replicate n []), held-none n at)
+held-none (suc n) at = omega (
+  arith,
+  sum_by-cons (λ (hs : List Holding). held_of at hs) []
+      (replicate n []),
+  held-none n at,
+)
 
 pub claims-none : (n at : ℕ) (line : List Waiting) → claims_in at line (replicate n None) ≡ 0
 claims-none zero at line = refl

@@ -34,7 +34,8 @@ finished-empties : (r : Role) (s : Scene) → IsReady s.floor r.place None [] �
 finished-empties r s ready e ended = given_back-empties r (places_held s.floor r.place) s ready refl
 
 -- a step never ends a job
-stops-unended : (r : Role) (next : ℕ) (step : Step) (s : Scene) (e : End) → (made r next step s).stops ≢ Some (Ended e)
+stops-unended : (r : Role) (next : ℕ) (step : Step) (s : Scene) (e : End)
+    → (made r next step s).stops ≢ Some (Ended e)
 stops-unended r next (Work turns) s e same = absurd (cc)
 stops-unended r next (Take at) s e same = took-unended (take_answer s.floor at r.place) same
   where
@@ -80,7 +81,8 @@ looked-empties r next at number (Granted element) s ready e ended =
     (event r s (after_look s.floor r.place (Granted element)) (told.Served at number))
     (looked-ready s.floor r.place (wait_at at number) element (drop next r.job.steps) ready) e ended
 
-pub acted-empties : (r : Role) (p : Progress) (s : Scene) → IsReady s.floor r.place (wait_in p) (steps_left r.job.steps p)
+pub acted-empties : (r : Role) (p : Progress) (s : Scene)
+    → IsReady s.floor r.place (wait_in p) (steps_left r.job.steps p)
     → IsEmptied r (left_at s p) → IsEmptied r (acted r p s)
 acted-empties r (Stepping next) s ready before = stepped-empties r (drop next r.job.steps) next s ready
 acted-empties r (Working next until) s ready before =

@@ -34,9 +34,17 @@ pub record AreFunded (f : PlainFloor) : Type 0 where
   pub at : (q : ℕ) → AreFunds (permits_of (slice_get f.kinds q)) (object_at f q) (held_at f q) (claims_at f q)
 
 -- the floor after these entries at a resource, with these holdings and waits
-abbrev pub changed_floor : PlainFloor → ℕ → List Entry → List ℕ → List (Option JobWait) → List (List Holding) → PlainFloor
+abbrev pub changed_floor : PlainFloor → ℕ → List Entry → List ℕ → List (Option JobWait) → List (List Holding)
+    → PlainFloor
 changed_floor f at entries room waits holds =
-    record { kinds = f.kinds; entries = (with_entries f at entries).entries; room = room; waits = waits; holds = holds }
+    record {
+      kinds = f.kinds;
+      entries =
+          (with_entries f at entries).entries;
+      room = room;
+      waits = waits;
+      holds = holds;
+    }
 
 -- the resource at which something happens keeps its funds by what it becomes, and the others by what they are
 pub funded-on : (f : PlainFloor) (at : ℕ) (entries : List Entry) (room : List ℕ) (waits : List (Option JobWait))
@@ -85,7 +93,8 @@ module _ (f : PlainFloor) (funded : AreFunded f) (at : ℕ) (there : at < length
       (funds-taken size o (held_at f at) (claims_at f at) _ some (omega (arith, got at, here-one at)) (funded.at at))
       (λ q other. omega (arith, got q, other-none at q other)) (λ q other. omega arith) funded
 
-  pub takes-later-funded : (job : ℕ) → job < length f.waits → o.free ≡ 0 → AreFunded (after_take f at job (Waits o.next))
+  pub takes-later-funded : (job : ℕ) → job < length f.waits → o.free ≡ 0
+      → AreFunded (after_take f at job (Waits o.next))
   takes-later-funded job below none =
       let new : Option JobWait = Some (wait_at at o.next) in
       let joined : List Waiting = o.line ++ record { wait = o.next; pass = 0 } ∷ [] in
@@ -109,13 +118,15 @@ module _ (f : PlainFloor) (funded : AreFunded f) (at : ℕ) (there : at < length
       funded
 
   module _ (job : ℕ) (can : CanGive f job at) where
-    gave : (q : ℕ) → held_in q (set f.holds job (without (λ h. h.at) at (holds_of f job))) + bit (at == q) ≡ held_at f q
+    gave : (q : ℕ) → held_in q (set f.holds job (without (λ h. h.at) at (holds_of f job))) + bit (at == q)
+        ≡ held_at f q
     gave q = held-gave f.holds job at q can.job.holds can.held
 
     pub gives-free-funded : (element : ℕ) → o.line ≡ [] → AreFunded (after_give f at job (Free element))
     gives-free-funded element empty =
         funded-on f at (entry.GiveFreed 0 ∷ []) f.room f.waits _ there
-        (funds-freed size o (held_at f at) (claims_at f at) _ empty (omega (arith, gave at, here-one at)) (funded.at at))
+        (funds-freed size o (held_at f at) (claims_at f at) _ empty (omega (arith, gave at, here-one at))
+        (funded.at at))
         (λ q other. omega (arith, gave q, other-none at q other)) (λ q other. omega arith) funded
 
     pub gives-sent-funded : (element number : ℕ) (lines : List Line) → AreLined f lines → o.line ≢ []
@@ -135,12 +146,14 @@ module _ (f : PlainFloor) (funded : AreFunded f) (at : ℕ) (there : at < length
         new-claim None now before = absurd (cc)
         new-claim (Some w) now before = go (cases_eq w.at at) (cases_eq w.number number)
           where
-            go : (w.at ≡ at) ⊎ (w.at ≢ at) → (w.number ≡ number) ⊎ (w.number ≢ number) → Some w ≡ Some (wait_at at number)
+            go : (w.at ≡ at) ⊎ (w.at ≢ at) → (w.number ≡ number) ⊎ (w.number ≢ number)
+                → Some w ≡ Some (wait_at at number)
             go (inl here) (inl same) = rw (← here, ← same) refl
             go (inl here) (inr other) =
                 let was : is_claim at o.line (Some w) ≡ true
                 = claim-before at o.line (without (λ w. w.wait) number o.line) (Some w)
-                (λ v is stands. let same : v ≡ w = cc in rw same (line-fewer w.number number o.line other (rw same at stands)))
+                (λ v is stands. let same : v
+                ≡ w = cc in rw same (line-fewer w.number number o.line other (rw same at stands)))
                 now in
                 absurd (cc)
             go (inr away) either =
@@ -161,7 +174,8 @@ module _ (f : PlainFloor) (funded : AreFunded f) (at : ℕ) (there : at < length
     over : (q : ℕ) (line : List Waiting)
         → claims_in q line (set f.waits job None) + bit (is_claim q line (Some (wait_at at number)))
         ≡ claims_in q line f.waits + 0
-    over q line = count-set (λ w. is_claim q line w) f.waits job (Some (wait_at at number)) None None has.job.waits has.waits
+    over q line = count-set (λ w. is_claim q line w) f.waits job (Some
+        (wait_at at number)) None None has.job.waits has.waits
 
     over-else : (q : ℕ) → q ≢ at → claims_in q (object_at f q).line (set f.waits job None) ≤ claims_at f q
     over-else q other =
@@ -177,7 +191,8 @@ module _ (f : PlainFloor) (funded : AreFunded f) (at : ℕ) (there : at < length
         let newest : Holding = record { at = at; element = element } in
         let got : (q : ℕ) → held_in q (set f.holds job (holds_of f job ++ newest ∷ [])) ≡ held_at f q + bit (at == q)
         = λ q. held-got f.holds job newest q has.job.holds in
-        let one : bit (is_claim at o.line (Some (wait_at at number))) ≡ 1 = ap bit (claim-here at number o.line away) in
+        let one : bit (is_claim at o.line (Some (wait_at at number)))
+        ≡ 1 = ap bit (claim-here at number o.line away) in
         let less : claims_in at (after_entry o e).line (set f.waits job None) + 1 ≡ claims_at f at
         = rw line (omega (arith, over at o.line, one)) in
         funded-on f at (e ∷ []) f.room _ _ there
@@ -192,7 +207,8 @@ module _ (f : PlainFloor) (funded : AreFunded f) (at : ℕ) (there : at < length
         = count-le (λ w. is_claim at o.line w) (λ w. is_claim at line w) (set f.waits job None)
         (λ i w got claims. stays i w got claims) in
         funded-on f at (entry.Leave 0 number ∷ []) f.room _ f.holds there
-        (funds-left size o (held_at f at) (claims_at f at) _ number (omega (arith, fewer, over at o.line)) (funded.at at))
+        (funds-left size o (held_at f at) (claims_at f at) _ number (omega (arith, fewer, over at o.line))
+        (funded.at at))
         (λ q other. refl) over-else funded
       where
         other-number : (i : ℕ) (v : JobWait) → (i ≢ job) × (wait_of f i ≡ Some v) → v.at ≡ at → v.number ≢ number

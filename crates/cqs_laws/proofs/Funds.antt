@@ -85,7 +85,8 @@ stays-away o none = go (nat_lt (due o) o.way) refl
     go false same = rw same refl
     go true same = let below : due o < o.way = ltb-true (due o) o.way same in absurd (omega (arith, below, none))
 
-pub funds-left : (size : ℕ) (o : Semaphore) (h c c' k : ℕ) → c' ≤ c → AreFunds size o h c → AreFunds size (left o k) h c'
+pub funds-left : (size : ℕ) (o : Semaphore) (h c c' k : ℕ) → c' ≤ c → AreFunds size o h c
+    → AreFunds size (left o k) h c'
 funds-left size o h c c' k fewer funds =
     rw (stays-away (record o { line = without (λ w. w.wait) k o.line }) funds.way) (record {
       way = funds.way;

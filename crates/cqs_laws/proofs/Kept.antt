@@ -26,7 +26,8 @@ use Rattle.cqs_laws.proofs.Emptied.{acted-empties}
 -- the machine runs, and the jobs that have ended hold nothing
 pub record IsKept (plan : Plan) (m : Machine) : Type 0 where
   pub running : IsRunning plan m
-  pub emptied : (place : ℕ) (e : End) → slice_get m.progress place ≡ Some (Ended e) → places_held m.scene.floor place ≡ []
+  pub emptied : (place : ℕ) (e : End) → slice_get m.progress place ≡ Some (Ended e)
+      → places_held m.scene.floor place ≡ []
 
 -- the machine after the job at a place acted
 abbrev pub with_acted : Machine → ℕ → Acted → Machine
@@ -102,7 +103,12 @@ pub ended-jobs-have-nothing : EndedJobsHaveNothing
 ended-jobs-have-nothing plan turns place end runnable ended =
     let m : Machine = machine_after plan turns in
     let kept : IsKept plan m = always-kept plan turns runnable in
-    let below : place < length plan.jobs = omega (arith, kept.running.jobs, get-below m.progress place (Ended end) ended) in
+    let below : place < length plan.jobs = omega (
+      arith,
+      kept.running.jobs,
+      get-below m.progress place
+          (Ended end) ended,
+    ) in
     let own : (job : Job) × (slice_get plan.jobs place ≡ Some job) = get-there plan.jobs place below in
     let ready : IsReady m.scene.floor place None [] = kept.running.ready place own.0 (Ended end) own.1 ended in
     (ready.waits, nothing-held (holds_of m.scene.floor place) (kept.emptied place end ended))

@@ -92,7 +92,8 @@ module _ (plan : Plan) (P : Scene → Type 0) (kept : IsKeptByEvents plan P) whe
     finished-keeps s ready holds =
         kept.ends r _ actor (given_back-keeps (places_held s.floor r.place) s ready refl holds)
 
-    took-keeps : (next at : ℕ) (answer : FloorTake) (s : Scene) → P (taken r at answer s) → P (took r next at answer s).scene
+    took-keeps : (next at : ℕ) (answer : FloorTake) (s : Scene) → P (taken r at answer s)
+        → P (took r next at answer s).scene
     took-keeps next at (Now element) s holds = holds
     took-keeps next at (Waits number) s holds = holds
 
@@ -127,7 +128,8 @@ module _ (plan : Plan) (P : Scene → Type 0) (kept : IsKeptByEvents plan P) whe
     if-keeps true a c here there = here
     if-keeps false a c here there = there
 
-    waits-so : (s : Scene) (at number : ℕ) (steps : List Step) → IsReady s.floor r.place (Some (wait_at at number)) steps
+    waits-so : (s : Scene) (at number : ℕ) (steps : List Step)
+        → IsReady s.floor r.place (Some (wait_at at number)) steps
         → HasWait s.floor r.place at number
     waits-so s at number steps ready = record {
       job = ready.job;
@@ -186,6 +188,8 @@ module _ (plan : Plan) (P : Scene → Type 0) (kept : IsKeptByEvents plan P) whe
         holds = acted-keeps r (record { resources = refl; job = there }) p m.scene ready h.holds;
       })
 
-  pub always-holds : (turns : ℕ) → IsRunnable plan → P (opening_machine plan).scene → P (machine_after plan turns).scene
+  pub always-holds : (turns : ℕ) → IsRunnable plan → P (opening_machine plan).scene
+      → P (machine_after plan turns).scene
   always-holds turns runnable opens =
-      (always plan Holds (record { running = opening-running plan runnable; holds = opens }) one-job-holds turns).holds
+      (always plan Holds (record { running = opening-running plan runnable; holds = opens }) one-job-holds
+      turns).holds

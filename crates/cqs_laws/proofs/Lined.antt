@@ -73,7 +73,8 @@ module _ (f : PlainFloor) (at : ℕ) (entries : List Entry) (there : at < length
       go : (w.at ≡ at) ⊎ (w.at ≢ at) → is_in_line g w ≡ true
       go (inl here) =
           let before : in_line w.number o.line ≡ true = rw here at stands in
-          rw here (ap (λ (q : Semaphore). in_line w.number q.line) (object-here f at entries there) ∙ keeps here before)
+          rw here (ap (λ (q : Semaphore). in_line w.number q.line) (object-here f at entries there)
+          ∙ keeps here before)
       go (inr other) = ap (λ (q : Semaphore). in_line w.number q.line) (object-else f at w.at entries other) ∙ stands
 
 pub sized-after : (f : PlainFloor) (at : ℕ) (entries : List Entry) → length f.entries ≡ length f.kinds

@@ -60,7 +60,8 @@ or-last true = refl
 or-last false = refl
 
 -- who stands in the line still does when another joins it
-pub line-longer : (k : ℕ) (line : List Waiting) (w : Waiting) → in_line k line ≡ true → in_line k (line ++ w ∷ []) ≡ true
+pub line-longer : (k : ℕ) (line : List Waiting) (w : Waiting) → in_line k line ≡ true
+    → in_line k (line ++ w ∷ []) ≡ true
 line-longer k line w there = list_any-append (λ v. v.wait == k) line (w ∷ []) ∙ or-true (in_line k line) _ there
 
 -- who joins it stands in the line
@@ -72,7 +73,8 @@ line-joined k line w same =
 line-fewer_by : (k n : ℕ) (w : Waiting) (line : List Waiting) (b : Bool) → n == w.wait ≡ b → k ≢ n
     → (in_line k line ≡ true → in_line k (without (λ w. w.wait) n line) ≡ true)
     → in_line k (w ∷ line) ≡ true → in_line k (without (λ w. w.wait) n (w ∷ line)) ≡ true
-line-fewer_by k n w line true same other later there = rw same (or-right (w.wait == k) (in_line k line) (gone (cases_eq w.wait k)) there)
+line-fewer_by k n w line true same other later there = rw same (or-right (w.wait == k) (in_line k line) (gone
+    (cases_eq w.wait k)) there)
   where
     gone : (w.wait ≡ k) ⊎ (w.wait ≢ k) → w.wait == k ≡ false
     gone (inl here) = absurd (other (sym here ∙ sym (eqb-true n w.wait same)))

@@ -37,7 +37,8 @@ others-turns resources turn place first (job ∷ jobs) m past =
     ∙ get-set_else m.progress first place _ (λ same. absurd (omega (arith, past, same)))
 
 -- among these jobs, the first of which is at `first`, a job has its own turn on some scene
-its-turn : (resources : List Resource) (turn place first i : ℕ) (jobs : List Job) (m : Machine) (job : Job) (p : Progress)
+its-turn : (resources : List Resource) (turn place first i : ℕ) (jobs : List Job) (m : Machine) (job : Job)
+    (p : Progress)
     → place ≡ first + i → slice_get jobs i ≡ Some job → slice_get m.progress place ≡ Some p
     → (s : Scene) × (slice_get (each_job resources turn first jobs m).progress place
     ≡ Some (acted (role_of resources turn place job) p s).progress)
@@ -52,7 +53,8 @@ its-turn resources turn place first zero (j ∷ jobs) m job p at there got =
 its-turn resources turn place first (suc i) (j ∷ jobs) m job p at there got =
     let before : slice_get (one_job resources turn first j m).progress place ≡ Some p
     = get-set_else m.progress first place _ (λ same. absurd (omega (arith, at, same))) ∙ got in
-    its-turn resources turn place (first + 1) i jobs (one_job resources turn first j m) job p (omega (arith, at)) there before
+    its-turn resources turn place (first + 1) i jobs (one_job resources turn first j m) job p (omega
+    (arith, at)) there before
 
 -- what a turn makes of a job
 pub after-turn : (plan : Plan) (turn place : ℕ) (job : Job) (p : Progress) → slice_get plan.jobs place ≡ Some job
@@ -61,7 +63,8 @@ pub after-turn : (plan : Plan) (turn place : ℕ) (job : Job) (p : Progress) →
     ≡ Some (acted (role_of plan.resources turn place job) p s).progress)
 after-turn plan turn place job p there got =
     let next : suc turn ≡ turn + 1 = omega arith in
-    rw (← next) (its-turn plan.resources turn place 0 place plan.jobs (machine_after plan turn) job p (omega arith) there got)
+    rw (← next) (its-turn plan.resources turn place 0 place plan.jobs (machine_after plan turn) job p
+    (omega arith) there got)
 
 if-true : {X : Type 0} (b : Bool) (x y : X) → b ≡ true → (if b then x else y) ≡ x
 if-true true x y same = refl

@@ -75,7 +75,8 @@ module _ (plan : Plan) (r : Role) (actor : IsActor plan r) (s : Scene) (tells : 
         next = next-same (with_less_room s.floor at) at (entry.TakeNow 0 ∷ []) there refl;
         waits = λ j w has. has;
         stays = λ j w has stands.
-            inl (in-line-after (with_less_room s.floor at) at (entry.TakeNow 0 ∷ []) there w (λ here before. before) stands);
+            inl (in-line-after (with_less_room s.floor at) at (entry.TakeNow 0 ∷ []) there w
+            (λ here before. before) stands);
       }) (λ q. refl) tt
 
   -- nobody waits for what is given back
@@ -104,13 +105,15 @@ module _ (plan : Plan) (r : Role) (actor : IsActor plan r) (s : Scene) (tells : 
       entries = entry.GiveSent 0 ∷ entry.Deliver number ∷ []
 
       other-place : (w : JobWait) → is_in_line s.floor w ≡ true → (w.at ≡ at) ⊎ (w.at ≢ at) → w.number ≡ number
-          → (is_in_line (with_entries s.floor at entries) w ≡ true) ⊎ (told.GivesSent at number ≡ told.GivesSent w.at w.number)
+          → (is_in_line (with_entries s.floor at entries) w ≡ true)
+          ⊎ (told.GivesSent at number ≡ told.GivesSent w.at w.number)
       other-place w stands (inl here) same = inr (rw (here, same) refl)
       other-place w stands (inr away) same =
           inl (in-line-after s.floor at entries there w (λ here before. absurd (away here)) stands)
 
       stays : (w : JobWait) → is_in_line s.floor w ≡ true → (w.number ≡ number) ⊎ (w.number ≢ number)
-          → (is_in_line (with_entries s.floor at entries) w ≡ true) ⊎ (told.GivesSent at number ≡ told.GivesSent w.at w.number)
+          → (is_in_line (with_entries s.floor at entries) w ≡ true)
+          ⊎ (told.GivesSent at number ≡ told.GivesSent w.at w.number)
       stays w stands (inl same) = other-place w stands (cases_eq w.at at) same
       stays w stands (inr other) =
           inl (in-line-after s.floor at entries there w
@@ -119,8 +122,10 @@ module _ (plan : Plan) (r : Role) (actor : IsActor plan r) (s : Scene) (tells : 
   -- the wait of the job is over, and what came is its own
   granted : (at number element : ℕ) (entry_of : JobWait → Entry) (t : Told) → HasWait s.floor r.place at number
       → at < length s.floor.entries
-      → (fold after_entry (object_at s.floor at) (entry_of (wait_at at number) ∷ [])).next ≡ (object_at s.floor at).next
-      → (fold after_entry (object_at s.floor at) (entry_of (wait_at at number) ∷ [])).line ≡ (object_at s.floor at).line
+      → (fold after_entry (object_at s.floor at) (entry_of (wait_at at number) ∷ [])).next
+      ≡ (object_at s.floor at).next
+      → (fold after_entry (object_at s.floor at) (entry_of (wait_at at number) ∷ [])).line
+      ≡ (object_at s.floor at).line
       → ((q : ℕ) → new_wait q t ≡ None) → MayTell tells.lines t
       → IsTelling plan (event r s (with_granted s.floor r.place entry_of (wait_of s.floor r.place) element) t)
   granted at number element entry_of t has there next line none may =
@@ -140,7 +145,8 @@ module _ (plan : Plan) (r : Role) (actor : IsActor plan r) (s : Scene) (tells : 
   gone : (at number : ℕ) → HasWait s.floor r.place at number → at < length s.floor.entries
       → IsTelling plan (event r s (with_left s.floor r.place (wait_of s.floor r.place)) (told.GaveUp at number))
   gone at number has there =
-      let Goes : Option JobWait → Type 0 = λ o. IsTelling plan (event r s (with_left s.floor r.place o) (told.GaveUp at number)) in
+      let Goes : Option JobWait
+      → Type 0 = λ o. IsTelling plan (event r s (with_left s.floor r.place o) (told.GaveUp at number)) in
       subst Goes (sym has.waits) (calm-on _ (told.GaveUp at number) (record {
         sized = sized-after s.floor at entries tells.lined.sized;
         next = next-same s.floor at entries there (turned-next _);
@@ -218,7 +224,8 @@ module _ (plan : Plan) (r : Role) (actor : IsActor plan r) (s : Scene) (tells : 
     expects-old : (w : JobWait) → Expects s.floor tells.lines w → Expects g (tells.lines ++ line ∷ []) w
     expects-old w (inl stands) =
         inl (in-line-after f at joins there w
-        (λ here before. line-longer w.number (object_at s.floor at).line (record { wait = k; pass = 0 }) before) stands)
+        (λ here before. line-longer w.number (object_at s.floor at).line
+        (record { wait = k; pass = 0 }) before) stands)
     expects-old w (inr sent) = inr (sent-longer w.at w.number tells.lines line sent)
 
     expects-on : (j : ℕ) (w : JobWait)
@@ -313,7 +320,8 @@ module _ (plan : Plan) (r : Role) (actor : IsActor plan r) (s : Scene) (tells : 
           rw gone_answer (gone at number has there)
       go false away =
           let late_answer : leave_answer s.floor r.place ≡ leave.Late 0 = rw (has.waits, away) refl in
-          rw late_answer (granted at number 0 (λ wait. entry.Late 0 wait.number) (told.Late at number) has there refl refl
+          rw late_answer (granted at number 0 (λ wait. entry.Late 0 wait.number)
+          (told.Late at number) has there refl refl
           (λ q. refl) (sent-so at number has away))
 
   ends-so : IsTelling plan (event r s s.floor told.Done)
@@ -375,7 +383,11 @@ every-report-has-its-lines plan turns runnable =
       tells.lines,
       record {
         text = tells.text;
-        numbered = λ at. record { count = (object_at (machine_after plan turns).scene.floor at).next; all = tells.numbered at };
+        numbered = λ at. record {
+          count = (object_at
+              (machine_after plan turns).scene.floor at).next;
+          all = tells.numbered at;
+        };
         sent = tells.sent;
       },
     )

@@ -27,4 +27,5 @@ NoWaitOutlivesItsDeadline =
     (plan : Plan) (turn place deadline next at number : ℕ) (job : Job)
     → slice_get plan.jobs place ≡ Some job → job.deadline ≡ Some deadline → deadline ≤ turn
     → progress_of plan turn place ≡ Some (Waiting next at number)
-    → (progress_of plan (turn + 1) place ≡ Some (Ended GaveUp)) ⊎ (progress_of plan (turn + 1) place ≡ Some (Ended Late))
+    → (progress_of plan (turn + 1) place ≡ Some (Ended GaveUp))
+    ⊎ (progress_of plan (turn + 1) place ≡ Some (Ended Late))

@@ -53,7 +53,8 @@ MayTell earlier (told.Served at number) = WasSent at number earlier
 MayTell earlier (told.Late at number) = WasSent at number earlier
 MayTell earlier _ = Unit {0}
 
--- the report so far is the text of these lines; the waits of each resource are numbered in order; what comes to a wait was sent to it
+-- the report so far is the text of these lines; the waits of each resource are numbered in order; and what comes to a
+-- wait was sent to it before
 pub record AreLines (plan : Plan) (report : List ℕ) (lines : List Line) : Type 0 where
   pub text : report ≡ lines_text plan lines
   pub numbered : (at : ℕ) → CountUp (wait_numbers at lines)

@@ -1,13 +1,14 @@
 //! Makes the events of data/ on a core, and counts those that don't answer as they should.
 //!
-//! A file of schedules is a text of lines, each of which asks and says what is to be answered: `take 0: Now`. A line that begins with
-//! `=== ` is a heading, for the reader alone. Answers are written as `{:?}` writes them; an event that may not come now answers
-//! NotEnabled.
+//! A file of schedules is a text of lines, each of which asks, and says what is to be answered: `take 0: Now`. A
+//! line that begins with `=== ` is a heading, for the reader alone. Answers are written as `{:?}` writes them; an
+//! event that may not come now answers NotEnabled.
 //!
 //! | line | what it asks |
 //! |---|---|
 //! | `core 2 3: Ok` | a new core of 2 permits and 3 passes, on which the next lines are made |
-//! | `take 0`, `try_load 0`, `try_swap 0`, `draw 0`, `install 0`, `give 0`, `reach 0`, `meet 0`, `decide 0`, `settle 0` | this event of pass 0 |
+//! | `take 0`, `try_load 0`, `try_swap 0`, `draw 0`, `install 0` | this event of pass 0 |
+//! | `give 0`, `reach 0`, `meet 0`, `decide 0`, `settle 0` | this event of pass 0 |
 //! | `leave 0 5`, `look 0 5` | this event of pass 0 at its wait 5 |
 //! | `state`, `suspends`, `resumes` | the state word, the counters |
 //! | `cell 5`, `doing 0`, `held 0` | the state of a cell; what a pass does, and what it holds |
@@ -24,7 +25,7 @@ use std::rt::Files;
 /// The files of schedules, each of which ends with `.schedules`.
 const FILES: [&str; 3] = ["sizes", "schedules", "random"];
 
-/// Asks what a file asks, and prints how many lines there are, and the place of each that isn't answered as it should be.
+/// Asks what a file asks. Prints how many lines there are, and the place of each that isn't answered as it should be.
 fn run_file<R: Files + Print + AllocGlobal>(rt: &R, name: &str) -> anyhow::Result<()> {
     let alloc = rt.alloc();
     let text = fs::read_to_string(rt, format!(in alloc; "{name}.schedules")?)?;

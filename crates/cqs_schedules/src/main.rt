@@ -23,7 +23,7 @@ use std::fs;
 use std::rt::Files;
 
 /// The files of schedules, each of which ends with `.schedules`.
-const FILES: [&str; 3] = ["sizes", "schedules", "random"];
+const FILES: [&str; 4] = ["sizes", "schedules", "random", "histories"];
 
 /// Asks what a file asks. Prints how many lines there are, and the place of each that isn't answered as it should be.
 fn run_file<R: Files + Print + AllocGlobal>(rt: &R, name: &str) -> anyhow::Result<()> {

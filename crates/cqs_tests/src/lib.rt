@@ -1,11 +1,9 @@
-//! Tests that cross crates: calls of the core and of the running queue, histories of the core, and packed words. Their expected
+//! Tests that cross crates: calls of the core and of the running queue, and packed words. Their expected
 //! values were worked out by hand.
 #![tactic(auto)]
 
 #[cfg(test)]
 mod core_calls;
-#[cfg(test)]
-mod core_histories;
 #[cfg(test)]
 mod packed_words;
 #[cfg(test)]

@@ -31,8 +31,8 @@ module _ (f : PlainFloor) (funded : AreFunded f) (at : ℕ) (there : at < length
     (lined : AreLined f lines) where
   takes-if : (job : ℕ) (b : Bool) → CanTake f job at → nat_lt 0 (object_at f at).free ≡ b
       → AreFunded (after_take f at job (if b then Now 0 else Waits (object_at f at).next))
-  takes-if job true can free = takes-now-funded f funded at there job 0 can.job.holds (ltb-true 0
-      (object_at f at).free free)
+  takes-if job true can free =
+      takes-now-funded f funded at there job 0 can.job.holds (ltb-true 0 (object_at f at).free free)
   takes-if job false can none =
       let empty : (object_at f at).free ≤ 0 = ltb-false 0 (object_at f at).free none in
       takes-later-funded f funded at there job can.job.waits (omega (arith, empty))
@@ -40,19 +40,17 @@ module _ (f : PlainFloor) (funded : AreFunded f) (at : ℕ) (there : at < length
   gives-by : (job : ℕ) (line : List Waiting) → CanGive f job at → (object_at f at).line ≡ line
       → AreFunded (after_give f at job (give_of line (oldest at (holds_of f job))))
   gives-by job [] can empty =
-      gives-free-funded f funded at there job can (option_map_or (λ h. h.element) (oldest at
-      (holds_of f job)) 0) empty
+      let element : ℕ = option_map_or (λ h. h.element) (oldest at (holds_of f job)) 0 in
+      gives-free-funded f funded at there job can element empty
   gives-by job (first ∷ line) can some =
-      gives-sent-funded f funded at there job can (option_map_or (λ h. h.element) (oldest at
-      (holds_of f job)) 0) first.wait
-      lines lined (λ empty. absurd (cc))
+      let element : ℕ = option_map_or (λ h. h.element) (oldest at (holds_of f job)) 0 in
+      gives-sent-funded f funded at there job can element first.wait lines lined (λ empty. absurd (cc))
 
   closes : (number h c : ℕ) → h ≡ held_at f at + 1 → c + 1 ≡ claims_at f at
       → AreFunds (permits_of (slice_get f.kinds at)) (closed (object_at f at) number) h c
   closes number h c more less =
-      funds-closed (permits_of (slice_get f.kinds at)) (object_at f at) (held_at f at)
-      (claims_at f at) h c number more less
-      (funded.at at)
+      funds-closed (permits_of (slice_get f.kinds at)) (object_at f at) (held_at f at) (claims_at f at) h c number
+      more less (funded.at at)
 
   serves-so : (job number element : ℕ) → HasWait f job at number → look_answer f job ≡ Granted element
       → AreFunded (after_look f job (Granted element))
@@ -77,8 +75,8 @@ module _ (f : PlainFloor) (funded : AreFunded f) (at : ℕ) (there : at < length
           rw gone_answer (subst Goes (sym has.waits) (gone-funded f funded at there job number has lines lined))
       go false away =
           let late_answer : leave_answer f job ≡ leave.Late 0 = rw (has.waits, away) refl in
-          let Goes : Option JobWait
-          → Type 0 = λ o. AreFunded (with_granted f job (λ wait. entry.Late 0 wait.number) o 0) in
+          let Goes : Option JobWait → Type 0
+          = λ o. AreFunded (with_granted f job (λ wait. entry.Late 0 wait.number) o 0) in
           rw late_answer (subst Goes (sym has.waits)
           (granted-funded f funded at there job number has 0 (entry.Late 0 number) away (closes number) refl))
 
@@ -138,11 +136,8 @@ opening-funded plan = record { at = λ q. go q }
           total = omega arith;
           backed = omega arith;
         }) in
-        rw (
-          held-none (length plan.jobs) q,
-          claims-none (length plan.jobs) q (object_at
-              (opening_floor plan) q).line,
-        ) opens
+        let line : List Waiting = (object_at (opening_floor plan) q).line in
+        rw (held-none (length plan.jobs) q, claims-none (length plan.jobs) q line) opens
 
 balances : (size : ℕ) (o : Semaphore) (h c : ℕ) → AreFunds size o h c
     → (o.free + o.held ≡ size) × ((o.free ≡ 0) ⊎ (length o.line ≡ 0))

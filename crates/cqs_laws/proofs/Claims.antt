@@ -119,8 +119,8 @@ count-one-more p q (x ∷ xs) one =
         omega (arith, all_q, all_p, bq, bp, later)
     go true false qx px later =
         let bq : bit (q x) ≡ 1 = ap bit qx in
-        let fewer : count_by q xs ≤ count_by p xs = count-le p q xs (λ i y got qy. none qx px i y got qy
-        (p y) refl) in
+        let fewer : count_by q xs ≤ count_by p xs
+        = count-le p q xs (λ i y got qy. none qx px i y got qy (p y) refl) in
         omega (arith, all_q, all_p, bq, fewer)
     go false b qx px later =
         let bq : bit (q x) ≡ 0 = ap bit qx in
@@ -160,12 +160,9 @@ claim-here at number line away = rw (away, eq-eqb at at refl) refl
 -- nothing is held at first, and there are no claims
 pub held-none : (n at : ℕ) → held_in at (replicate n []) ≡ 0
 held-none zero at = refl
-held-none (suc n) at = omega (
-  arith,
-  sum_by-cons (λ (hs : List Holding). held_of at hs) []
-      (replicate n []),
-  held-none n at,
-)
+held-none (suc n) at =
+    let all = sum_by-cons (λ (hs : List Holding). held_of at hs) [] (replicate n []) in
+    omega (arith, all, held-none n at)
 
 pub claims-none : (n at : ℕ) (line : List Waiting) → claims_in at line (replicate n None) ≡ 0
 claims-none zero at line = refl

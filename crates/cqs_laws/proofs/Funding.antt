@@ -152,9 +152,8 @@ module _ (f : PlainFloor) (funded : AreFunded f) (at : ℕ) (there : at < length
             go (inl here) (inr other) =
                 let was : is_claim at o.line (Some w) ≡ true
                 = claim-before at o.line (without (λ w. w.wait) number o.line) (Some w)
-                (λ v is stands. let same : v
-                ≡ w = cc in rw same (line-fewer w.number number o.line other (rw same at stands)))
-                now in
+                (λ v is stands.
+                let same : v ≡ w = cc in rw same (line-fewer w.number number o.line other (rw same at stands))) now in
                 absurd (cc)
             go (inr away) either =
                 let never : is_claim at (without (λ w. w.wait) number o.line) (Some w) ≡ false
@@ -174,8 +173,8 @@ module _ (f : PlainFloor) (funded : AreFunded f) (at : ℕ) (there : at < length
     over : (q : ℕ) (line : List Waiting)
         → claims_in q line (set f.waits job None) + bit (is_claim q line (Some (wait_at at number)))
         ≡ claims_in q line f.waits + 0
-    over q line = count-set (λ w. is_claim q line w) f.waits job (Some
-        (wait_at at number)) None None has.job.waits has.waits
+    over q line =
+        count-set (λ w. is_claim q line w) f.waits job (Some (wait_at at number)) None None has.job.waits has.waits
 
     over-else : (q : ℕ) → q ≢ at → claims_in q (object_at f q).line (set f.waits job None) ≤ claims_at f q
     over-else q other =
@@ -191,8 +190,8 @@ module _ (f : PlainFloor) (funded : AreFunded f) (at : ℕ) (there : at < length
         let newest : Holding = record { at = at; element = element } in
         let got : (q : ℕ) → held_in q (set f.holds job (holds_of f job ++ newest ∷ [])) ≡ held_at f q + bit (at == q)
         = λ q. held-got f.holds job newest q has.job.holds in
-        let one : bit (is_claim at o.line (Some (wait_at at number)))
-        ≡ 1 = ap bit (claim-here at number o.line away) in
+        let one : bit (is_claim at o.line (Some (wait_at at number))) ≡ 1
+        = ap bit (claim-here at number o.line away) in
         let less : claims_in at (after_entry o e).line (set f.waits job None) + 1 ≡ claims_at f at
         = rw line (omega (arith, over at o.line, one)) in
         funded-on f at (e ∷ []) f.room _ _ there

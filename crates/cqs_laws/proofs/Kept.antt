@@ -103,12 +103,8 @@ pub ended-jobs-have-nothing : EndedJobsHaveNothing
 ended-jobs-have-nothing plan turns place end runnable ended =
     let m : Machine = machine_after plan turns in
     let kept : IsKept plan m = always-kept plan turns runnable in
-    let below : place < length plan.jobs = omega (
-      arith,
-      kept.running.jobs,
-      get-below m.progress place
-          (Ended end) ended,
-    ) in
-    let own : (job : Job) × (slice_get plan.jobs place ≡ Some job) = get-there plan.jobs place below in
-    let ready : IsReady m.scene.floor place None [] = kept.running.ready place own.0 (Ended end) own.1 ended in
+    let own : place < length m.progress = get-below m.progress place (Ended end) ended in
+    let below : place < length plan.jobs = omega (arith, kept.running.jobs, own) in
+    let job : (job : Job) × (slice_get plan.jobs place ≡ Some job) = get-there plan.jobs place below in
+    let ready : IsReady m.scene.floor place None [] = kept.running.ready place job.0 (Ended end) job.1 ended in
     (ready.waits, nothing-held (holds_of m.scene.floor place) (kept.emptied place end ended))

@@ -73,8 +73,8 @@ line-joined k line w same =
 line-fewer_by : (k n : ℕ) (w : Waiting) (line : List Waiting) (b : Bool) → n == w.wait ≡ b → k ≢ n
     → (in_line k line ≡ true → in_line k (without (λ w. w.wait) n line) ≡ true)
     → in_line k (w ∷ line) ≡ true → in_line k (without (λ w. w.wait) n (w ∷ line)) ≡ true
-line-fewer_by k n w line true same other later there = rw same (or-right (w.wait == k) (in_line k line) (gone
-    (cases_eq w.wait k)) there)
+line-fewer_by k n w line true same other later there =
+    rw same (or-right (w.wait == k) (in_line k line) (gone (cases_eq w.wait k)) there)
   where
     gone : (w.wait ≡ k) ⊎ (w.wait ≢ k) → w.wait == k ≡ false
     gone (inl here) = absurd (other (sym here ∙ sym (eqb-true n w.wait same)))

@@ -53,8 +53,8 @@ its-turn resources turn place first zero (j ∷ jobs) m job p at there got =
 its-turn resources turn place first (suc i) (j ∷ jobs) m job p at there got =
     let before : slice_get (one_job resources turn first j m).progress place ≡ Some p
     = get-set_else m.progress first place _ (λ same. absurd (omega (arith, at, same))) ∙ got in
-    its-turn resources turn place (first + 1) i jobs (one_job resources turn first j m) job p (omega
-    (arith, at)) there before
+    its-turn resources turn place (first + 1) i jobs (one_job resources turn first j m) job p
+    (omega (arith, at)) there before
 
 -- what a turn makes of a job
 pub after-turn : (plan : Plan) (turn place : ℕ) (job : Job) (p : Progress) → slice_get plan.jobs place ≡ Some job

@@ -145,8 +145,8 @@ module _ (plan : Plan) (r : Role) (actor : IsActor plan r) (s : Scene) (tells : 
   gone : (at number : ℕ) → HasWait s.floor r.place at number → at < length s.floor.entries
       → IsTelling plan (event r s (with_left s.floor r.place (wait_of s.floor r.place)) (told.GaveUp at number))
   gone at number has there =
-      let Goes : Option JobWait
-      → Type 0 = λ o. IsTelling plan (event r s (with_left s.floor r.place o) (told.GaveUp at number)) in
+      let Goes : Option JobWait → Type 0 =
+      λ o. IsTelling plan (event r s (with_left s.floor r.place o) (told.GaveUp at number)) in
       subst Goes (sym has.waits) (calm-on _ (told.GaveUp at number) (record {
         sized = sized-after s.floor at entries tells.lined.sized;
         next = next-same s.floor at entries there (turned-next _);

@@ -29,7 +29,13 @@ lines_text plan (line ∷ lines) =
 -- the number of a wait that begins at the resource
 abbrev pub new_wait : ℕ → Told → Option ℕ
 new_wait at (told.Waits place number) = if place == at then Some number else None
-new_wait at _ = None
+new_wait at (told.Takes place) = None
+new_wait at (told.Served place number) = None
+new_wait at (told.GivesFree place) = None
+new_wait at (told.GivesSent place number) = None
+new_wait at (told.GaveUp place number) = None
+new_wait at (told.Late place number) = None
+new_wait at told.Done = None
 
 -- the numbers of the waits at a resource, in order of their lines
 abbrev pub wait_numbers : ℕ → List Line → List ℕ
@@ -51,7 +57,12 @@ pub record WasSent (at number : ℕ) (lines : List Line) : Type 0 where
 abbrev pub MayTell : List Line → Told → Type 0
 MayTell earlier (told.Served at number) = WasSent at number earlier
 MayTell earlier (told.Late at number) = WasSent at number earlier
-MayTell earlier _ = Unit {0}
+MayTell earlier (told.Takes at) = Unit {0}
+MayTell earlier (told.Waits at number) = Unit {0}
+MayTell earlier (told.GivesFree at) = Unit {0}
+MayTell earlier (told.GivesSent at number) = Unit {0}
+MayTell earlier (told.GaveUp at number) = Unit {0}
+MayTell earlier told.Done = Unit {0}
 
 -- the report so far is the text of these lines; the waits of each resource are numbered in order; and what comes to a
 -- wait was sent to it before

@@ -1,0 +1,78 @@
+//! One case: what the program is run on.
+
+use cqs_cli::top;
+use cqs_plan::{BytesSink, BytesSource};
+use std::alloc::{AllocError, Global};
+
+/// What the lines of a table have set so far.
+#[derive(Drop)]
+pub struct Case {
+    pub words: Vec<String>,
+    /// The input, in which `@` stands for a value.
+    pub input: Vec<u8>,
+    /// No more of the input is tried.
+    pub first: usize,
+    pub chunk: u32,
+    pub room: u32,
+    /// The number of the call of the source that fails, from 1 on.
+    pub read: u32,
+    /// The number of the call of the sink that fails, from 1 on.
+    pub write: u32,
+    /// What must be written.
+    pub text: Vec<u8>,
+}
+
+impl Case {
+    /// The command `run` on an input of no bytes, over streams that don't fail.
+    pub fn new(alloc: Global) -> Result<Case, AllocError> {
+        Ok(Case {
+            words: vec![in alloc; String::from_str(alloc, "run")?]?,
+            input: Vec::new(alloc),
+            first: usize::MAX,
+            chunk: 4096,
+            room: 65_536,
+            read: 0,
+            write: 0,
+            text: Vec::new(alloc),
+        })
+    }
+
+    /// Runs the program with this value in the place of `@`, and tells whether it ends with this status, having
+    /// written as many bytes of the text.
+    pub fn ends(
+        &self,
+        alloc: Global,
+        value: &[u8],
+        status: u8,
+        most: usize,
+    ) -> anyhow::Result<bool> {
+        anyhow::ensure!(self.chunk > 0, "no bytes at a time");
+        let mut input = filled(alloc, &self.input, value)?;
+        input.truncate(self.first);
+        let mut text = filled(alloc, &self.text, value)?;
+        text.truncate(most);
+        let Ok(mut source) = BytesSource::new(alloc, &input, self.chunk, &[self.read]) else {
+            anyhow::bail!("no memory for the source");
+        };
+        let Ok(mut sink) = BytesSink::new(alloc, self.room, self.chunk, &[self.write]) else {
+            anyhow::bail!("no memory for the sink");
+        };
+        Ok(
+            top(alloc, &self.words, &mut source, &mut sink) == status
+                && sink.bytes() == text.as_slice(),
+        )
+    }
+}
+
+/// The bytes with the value in the place of each `@`.
+pub fn filled(alloc: Global, bytes: &[u8], value: &[u8]) -> Result<Vec<u8>, AllocError> {
+    let mut filled = Vec::new(alloc);
+    for byte in bytes {
+        if *byte == b'@' {
+            filled.extend_from_slice(value)?;
+        } else {
+            filled.push(*byte)?;
+        }
+    }
+    Ok(filled)
+}

@@ -1,0 +1,33 @@
+-- What the turn of each job keeps holds of the machine between any two turns.
+use Rattle.std.proofs.Common.{◌≡◌, ℕ, zero, suc, ◌+◌, List, [], ◌∷◌, Some, length, slice_get, refl, subst, ◌∙◌, arith}
+use Rattle.std.proofs.lemmas.List.{length-set, length-replicate}
+use Rattle.cqs_plan.specs.declared.plans.job.Job.{Job}
+use Rattle.cqs_plan.specs.declared.plans.plan.Plan.{Plan}
+use Rattle.cqs_turns.specs.declared.states.Progress.TheVariants.{Stepping}
+use Rattle.cqs_turns.specs.Turns.{Machine, one_job, each_job, opening_machine, machine_after}
+
+module _ (plan : Plan) (P : Machine → Type 0) (opens : P (opening_machine plan))
+    (keeps : (turn place : ℕ) (job : Job) (m : Machine) → slice_get plan.jobs place ≡ Some job → P m
+    → P (one_job plan.resources turn place job m)) where
+  each-job-keeps : (turn place : ℕ) (jobs : List Job) (m : Machine)
+      → ((i : ℕ) (job : Job) → slice_get jobs i ≡ Some job → slice_get plan.jobs (place + i) ≡ Some job)
+      → P m → P (each_job plan.resources turn place jobs m)
+  each-job-keeps turn place [] m there holds = holds
+  each-job-keeps turn place (job ∷ jobs) m there holds =
+      let here : place + 0 ≡ place = omega arith in
+      let later : (i : ℕ) (j : Job) → slice_get jobs i ≡ Some j → slice_get plan.jobs ((place + 1) + i) ≡ Some j
+      = λ i j got. subst (λ n. slice_get plan.jobs n ≡ Some j) (omega arith) (there (suc i) j got) in
+      each-job-keeps turn (place + 1) jobs (one_job plan.resources turn place job m) later
+      (keeps turn place job m (subst (λ n. slice_get plan.jobs n ≡ Some job) here (there 0 job refl)) holds)
+
+  pub always : (turns : ℕ) → P (machine_after plan turns)
+  always zero = opens
+  always (suc turns) =
+      each-job-keeps turns 0 plan.jobs (machine_after plan turns)
+      (λ i job got. subst (λ n. slice_get plan.jobs n ≡ Some job) (omega arith) got) (always turns)
+
+-- there is a progress for each job
+pub all-jobs : (plan : Plan) (turns : ℕ) → length (machine_after plan turns).progress ≡ length plan.jobs
+all-jobs plan turns =
+    always plan (λ m. length m.progress ≡ length plan.jobs) (length-replicate (length plan.jobs) (Stepping 0))
+    (λ turn place job m there same. length-set m.progress place _ ∙ same) turns

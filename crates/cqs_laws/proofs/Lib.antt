@@ -1,0 +1,14 @@
+mod Everywhere
+mod OwnTurn
+mod Counted
+mod Emptied
+mod Kept
+mod Lifting
+mod Objects
+mod LineLemmas
+mod Lined
+mod Telling
+mod Claims
+mod Funds
+mod Funding
+mod Balancing

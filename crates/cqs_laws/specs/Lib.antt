@@ -1,0 +1,4 @@
+pub mod Totals
+pub mod Endings
+pub mod Events
+pub mod Balances

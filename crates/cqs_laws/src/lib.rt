@@ -1,0 +1,37 @@
+//! The laws of the turn machine: what holds of every plan's run, whatever the code of the machine looks like.
+//!
+//! Each function does nothing: a law is proved where the contract of a function says it.
+#![tactic(auto)]
+
+ghost use Rattle.cqs_laws.specs.Balances.{EveryResourceBalances};
+ghost use Rattle.cqs_laws.specs.Totals.{TotalsAddUp};
+ghost use Rattle.cqs_laws.specs.Events.{EveryReportHasItsLines};
+ghost use Rattle.cqs_laws.specs.Endings.{EndedJobsHaveNothing, NoWaitOutlivesItsDeadline};
+
+/// The four totals of a report add up to the number of the plan's jobs.
+pub fn totals_add_up()
+    ensures { TotalsAddUp }
+{}
+
+/// A job that has ended, however it did, waits for nothing and has given back all that it held.
+pub fn ended_jobs_have_nothing()
+    ensures { EndedJobsHaveNothing }
+{}
+
+/// A job that waits when a turn at or after its deadline begins has ended when that turn is over.
+pub fn no_wait_outlives_its_deadline()
+    ensures { NoWaitOutlivesItsDeadline }
+{}
+
+/// The events of a run are lines, one after the other, whose texts are the report so far. The waits of each
+/// resource are numbered 0, 1, 2 and so on, in order of the lines where they begin; and a wait is served, or is
+/// late, only after a line that sent it a permit.
+pub fn every_report_has_its_lines()
+    ensures { EveryReportHasItsLines }
+{}
+
+/// Of each resource, free and held permits are together those that the plan gives it, and nobody waits in line
+/// while one is free. So it is between any two turns, and in the `end` lines.
+pub fn every_resource_balances()
+    ensures { EveryResourceBalances }
+{}

@@ -1,0 +1,262 @@
+#!/usr/bin/env python3
+"""Writes data/random.schedules and data/histories.schedules.
+
+It has the table of events on plain lists, and a semaphore with its line as anybody would write it down, and knows
+nothing of the crates. Each entry that the table appends is replayed on the semaphore, which must allow it, and must
+then have the state word of the table.
+"""
+from pathlib import Path
+
+DATA = Path(__file__).parent / "data"
+VERBS = "take try_load try_swap draw install give reach meet leave decide settle look".split()
+IDLE = ("Idle",)
+
+
+class Table:
+    """The table of events. A step answers its outcome and its entries, or None where the event may not come now."""
+
+    def __init__(self, permits):
+        self.state = permits
+        self.suspends = 0
+        self.resumes = 0
+        self.cells = []  # each has a state, its owner, and whether its permit was collected
+        self.doing = [IDLE] * 3
+        self.held = [0] * 3
+
+    def cell(self, number):
+        if len(self.cells) <= number:
+            self.cells.append({"state": "Empty", "owner": None, "collected": False})
+        return self.cells[number]
+
+    def own_wait(self, p, wait):
+        """The cell of the pass's own wait, where the pass is idle and the wait isn't closed."""
+        if wait < len(self.cells) and self.doing[p] == IDLE:
+            cell = self.cells[wait]
+            if cell["owner"] == p and not cell["collected"]:
+                return cell
+        return None
+
+    def collect(self, p, cell):
+        cell["collected"] = True
+        self.held[p] += 1
+
+    def step(self, verb, p, wait):
+        doing = self.doing[p]
+        if verb in ("leave", "look"):
+            return getattr(self, verb)(p, wait)
+        wanted = {
+            "try_swap": "TryAt", "draw": "Door", "install": "Drawn", "reach": "Owes", "meet": "Ticket",
+            "decide": "Leaving", "settle": "Decided",
+        }.get(verb, "Idle")
+        return getattr(self, verb)(p, *doing[1:]) if doing[0] == wanted else None
+
+    def take(self, p):
+        free = self.state > 0
+        self.state -= 1
+        if free:
+            self.held[p] += 1
+            return "Now", [("TakeNow", p)]
+        self.doing[p] = ("Door",)
+        return "Door", [("TakeDoor", p)]
+
+    def try_load(self, p):
+        if self.state <= 0:
+            return "Busy", [("TryBusy", p)]
+        self.doing[p] = ("TryAt", self.state)
+        return f"Loaded({self.state})", []
+
+    def try_swap(self, p, saw):
+        self.doing[p] = IDLE
+        if self.state != saw:
+            return f"Contended {{ saw: {saw}, found: {self.state} }}", []
+        self.state -= 1
+        self.held[p] += 1
+        return "Got", [("TryGot", p)]
+
+    def draw(self, p):
+        number = self.suspends
+        self.suspends += 1
+        self.cell(number)["owner"] = p
+        self.doing[p] = ("Drawn", number)
+        return f"Drew({number})", [("Enter", p, number)]
+
+    def install(self, p, number):
+        self.doing[p] = IDLE
+        cell = self.cell(number)
+        if cell["state"] == "Empty":
+            cell["state"] = "Waiter"
+            return f"Waits({number})", []
+        cell["state"] = "Taken"
+        self.collect(p, cell)
+        return f"Took({number})", [("Deliver", None, number)]
+
+    def give(self, p):
+        if self.held[p] == 0:
+            return None
+        somebody_waits = self.state < 0
+        self.held[p] -= 1
+        self.state += 1
+        if somebody_waits:
+            self.doing[p] = ("Owes",)
+            return "Owes", [("GiveSent", p)]
+        return "Freed", [("GiveFreed", p)]
+
+    def reach(self, p):
+        number = self.resumes
+        self.resumes += 1
+        self.cell(number)
+        self.doing[p] = ("Ticket", number)
+        return f"Reached({number})", []
+
+    def meet(self, p, number):
+        self.doing[p] = IDLE
+        cell = self.cell(number)
+        if cell["state"] == "Waiter":
+            cell["state"] = "Resumed"
+            return f"Served({number})", [("Deliver", None, number)]
+        if cell["state"] in ("Empty", "Cancelling"):
+            cell["state"] = {"Empty": "Value", "Cancelling": "Delegated"}[cell["state"]]
+            return f"Left({number})", []
+        if cell["state"] == "Cancelled":
+            self.doing[p] = ("Owes",)
+            return f"Passed({number})", []
+        return f"Void({number})", []
+
+    def leave(self, p, wait):
+        cell = self.own_wait(p, wait)
+        if cell and cell["state"] == "Waiter":
+            cell["state"] = "Cancelling"
+            self.doing[p] = ("Leaving", wait)
+            return f"Cancelling({wait})", []
+        if cell and cell["state"] == "Resumed":
+            self.collect(p, cell)
+            return f"TooLate({wait})", [("Late", p, wait)]
+        return None
+
+    def decide(self, p, wait):
+        passes_on = self.state < 0
+        self.state += 1
+        self.doing[p] = ("Decided", wait, passes_on)
+        return f"Decided({str(passes_on).lower()})", [("Leave", p, wait)]
+
+    def settle(self, p, wait, passes_on):
+        self.doing[p] = IDLE
+        cell = self.cell(wait)
+        if not passes_on:
+            cell["state"] = "Refused"
+            return f"Refused({wait})", []
+        was_left = cell["state"] == "Delegated"
+        cell["state"] = "Cancelled"
+        if was_left:
+            self.doing[p] = ("Owes",)
+            return f"OwesOn({wait})", []
+        return f"Cancelled({wait})", []
+
+    def look(self, p, wait):
+        cell = self.own_wait(p, wait)
+        if cell and cell["state"] == "Waiter":
+            return "Pending", [("LookPending", p, wait)]
+        if cell and cell["state"] == "Resumed":
+            self.collect(p, cell)
+            return "Granted", [("LookGranted", p, wait)]
+        return None
+
+
+class Semaphore:
+    """A semaphore with its line. An entry that may not come stops the script."""
+
+    def __init__(self, permits):
+        self.free, self.way, self.held, self.next = permits, 0, 0, 0
+        self.door, self.line, self.served = [], [], []
+
+    def due(self):
+        return len(self.door) + len(self.line)
+
+    def state(self):
+        return self.free - (self.due() - self.way)
+
+    def replay(self, verb, p, wait=None):
+        if verb in ("TakeNow", "TryGot"):
+            assert self.free > 0
+            self.free, self.held = self.free - 1, self.held + 1
+        elif verb == "TakeDoor":
+            assert self.free == 0
+            self.door.append(p)
+        elif verb == "TryBusy":
+            assert self.free == 0
+        elif verb == "Enter":
+            assert wait == self.next
+            self.door.remove(p)
+            self.line.append((wait, p))
+            self.next += 1
+        elif verb == "GiveFreed":
+            assert self.held > 0 and self.way == self.due()
+            self.held, self.free = self.held - 1, self.free + 1
+        elif verb == "GiveSent":
+            assert self.held > 0 and self.way < self.due()
+            self.held, self.way = self.held - 1, self.way + 1
+        elif verb == "Deliver":
+            place = [w for w, _ in self.line].index(wait)
+            assert place < self.way
+            self.served.append(self.line.pop(place))
+            self.way, self.held = self.way - 1, self.held + 1
+        elif verb == "Leave":
+            self.line.remove((wait, p))
+            if self.way > self.due():
+                self.way, self.free = self.way - 1, self.free + 1
+        elif verb in ("Late", "LookGranted"):
+            self.served.remove((wait, p))
+        else:
+            assert verb == "LookPending" and (wait, p) in self.line
+
+
+def events(seed, count):
+    """So many events of a small generator: a verb, a pass and a wait."""
+    number = seed
+    for _ in range(count):
+        number = (number * 1_103_515_245 + 12_345) % 2_147_483_648
+        yield VERBS[number // 4096 % 12], number // 64 % 3, number // 256 % 8
+
+
+def asked(verb, p, wait):
+    return f"{verb} {p} {wait}" if verb in ("leave", "look") else f"{verb} {p}"
+
+
+def told(verb, p, wait=None):
+    fields = [f"pass: {p}"] * (p is not None) + [f"wait: {wait}"] * (wait is not None)
+    return f"{verb} {{ {', '.join(fields)} }}"
+
+
+def random_schedules():
+    for seed, permits, count in [(1, 1, 60), (2, 1, 400), (3, 2, 60), (4, 2, 400), (5, 3, 400), (6, 1, 900)]:
+        table = Table(permits)
+        yield f"=== Seed {seed}: {count} events."
+        yield f"core {permits} 3: Ok"
+        for event in events(seed, count):
+            outcome = (table.step(*event) or ("NotEnabled",))[0]
+            yield f"{asked(*event)}: {outcome}"
+        yield f"state: {table.state}"
+
+
+def histories():
+    for seed in range(1, 13):
+        permits = seed % 3 + 1
+        table, semaphore, history = Table(permits), Semaphore(permits), []
+        yield f"=== Seed {seed}, with {permits} permit{'s' * (permits > 1)}."
+        yield f"core {permits} 3: Ok"
+        for event in events(seed, 2000):
+            made = table.step(*event)
+            if made is not None:
+                for entry in made[1]:
+                    semaphore.replay(*entry)
+                    history.append(entry)
+                assert semaphore.state() == table.state
+                yield f"{asked(*event)}: {made[0]}"
+                yield f"state: {semaphore.state()}"
+        yield f"entries: {len(history)}"
+        for place, entry in enumerate(history):
+            yield f"entry {place}: {told(*entry)}"
+
+
+(DATA / "random.schedules").write_text("\n".join(random_schedules()) + "\n")
+(DATA / "histories.schedules").write_text("\n".join(histories()) + "\n")

@@ -17,6 +17,6 @@ mod verdict;
 mod words;
 
 pub use floors::core_floor::CoreFloor;
-pub use standard::{StdinSource, StdoutSink, words_after_name};
+pub use standard::{StdinSource, StdoutSink};
 pub use statuses::{DONE, NO_COMMAND, NO_MEMORY, NO_PLAN, SINK_FAILED, SOURCE_FAILED, TOO_LONG};
 pub use top_call::top;

@@ -1,7 +1,7 @@
 -- What is told on standard error.
 use Rattle.std.specs.Prelude.{ℕ, ◌≤◌, List, [], length, take, codes, Option, ◌==◌, if◌then◌else◌}
 use Rattle.std.specs.Io.KnownBytes.{Appends}
-use Rattle.cqs_cli.specs.declared.ending.TheConstants.{NO_COMMAND, NO_MEMORY, SINK_FAILED, SOURCE_FAILED, TOO_LONG}
+use Rattle.cqs_cli.specs.declared.statuses.TheConstants.{NO_COMMAND, NO_MEMORY, SINK_FAILED, SOURCE_FAILED, TOO_LONG}
 
 -- the line that tells the cause of a status; none where standard output has a report or a fault line
 abbrev pub message : ℕ → List ℕ

@@ -1,7 +1,8 @@
 //! One run of the program, over any streams.
-ghost use Rattle.std.specs.Prelude.{◌≡◌, ◌≢◌, ℕ, ◌+◌, ◌<◌, ◌≤◌, List, length, IsTrue, Some};
+ghost use Rattle.std.specs.Prelude.{◌≡◌, ◌≢◌, ◌⊎◌, ℕ, ◌+◌, ◌<◌, ◌≤◌, List, length, IsTrue, Some};
 ghost use Rattle.std.specs.Process.{exit_status};
-ghost use Rattle.cqs_plan.specs.Stream.{Gains, GivesCount, Rises};
+ghost use Rattle.cqs_plan.specs.Counts.{raised, Rises};
+ghost use Rattle.cqs_plan.specs.Stream.{Gains, GivesAtMost, GivesCount};
 ghost use Rattle.cqs_cli.specs.Meanings.{BrokeOff, IsStatus, MustEnd, NamedFault, Reported};
 ghost use Rattle.cqs_cli.specs.Plans.{IsPlan};
 ghost use Rattle.cqs_cli.specs.Words.{IsCommand, IsRun, usage};
@@ -29,8 +30,9 @@ pub fn run<S: Source, K: Sink, W: Write>(
     sink: &mut K,
     errors: &mut W,
 ) -> ExitCode
-    // The input was a plan, and its whole report was written and flushed.
-    ensures done { exit_status result ≡ DONE → IsRun (words_of arguments)
+    // Status 0 means: the input was a plan, and the report of the turn machine on it, over plain
+    // semaphores with legal histories, was written whole and flushed.
+    ensures headline { exit_status result ≡ DONE → IsRun (words_of arguments)
         × Reported (S.left source.old) (S.left source.new) (K.held sink.old) (K.held sink.new)
         × IsTrue (K.is_flushed sink.new) }
 
@@ -63,6 +65,21 @@ pub fn run<S: Source, K: Sink, W: Write>(
     ensures too_long { exit_status result ≡ TOO_LONG → IsRun (words_of arguments)
         × GivesCount (LONGEST_INPUT + 1) (S.left source.old) (S.left source.new)
         × (sink.new ≡ sink.old) }
+
+    // By the source's tally that many bytes were read then; and where so many were, this status comes.
+    ensures too_many { exit_status result ≡ TOO_LONG →
+        (S.tally source.new).given ≡ raised (S.tally source.old).given (LONGEST_INPUT + 1) }
+    ensures many_bytes { (S.tally source.old).given + LONGEST_INPUT < (S.tally source.new).given
+        → MustEnd TOO_LONG (exit_status result) }
+
+    // Never are more bytes taken, and nothing is read after the end of the source or a fault of it.
+    ensures taken { GivesAtMost (LONGEST_INPUT + 1) (S.left source.old) (S.left source.new) }
+    ensures given { (S.tally source.new).given ≤ (S.tally source.old).given + (LONGEST_INPUT + 1) }
+    ensures stops { (S.tally source.old).stops ≡ 0 → (S.tally source.new).stops ≤ 1 }
+
+    // A plan, and what is none, was read until a read stopped; no fault came, so it was at the end.
+    ensures ended { (exit_status result ≡ DONE) ⊎ (exit_status result ≡ NO_PLAN)
+        → (S.tally source.old).stops ≡ 0 → (S.tally source.new).stops ≡ 1 }
 
     // There is no other status, and a fault is never hidden behind one.
     ensures statuses { IsStatus (exit_status result) }

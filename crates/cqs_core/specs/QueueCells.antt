@@ -30,6 +30,19 @@ IsInstalled state.Broken = ⊥
 IsInstalled state.Cancelled = ⊥
 IsInstalled state.Refused = ⊥
 
+-- of these, the states in which nobody is leaving
+abbrev pub IsStanding : CoreState → Type 0
+IsStanding state.Waiter = Unit {0}
+IsStanding state.Resumed = Unit {0}
+IsStanding state.Cancelling = ⊥
+IsStanding state.Delegated = ⊥
+IsStanding state.Empty = ⊥
+IsStanding state.Value = ⊥
+IsStanding state.Taken = ⊥
+IsStanding state.Broken = ⊥
+IsStanding state.Cancelled = ⊥
+IsStanding state.Refused = ⊥
+
 -- no resume has left anything in the cell: its word has no payload
 abbrev pub IsBare : CoreState → Type 0
 IsBare state.Empty = Unit {0}

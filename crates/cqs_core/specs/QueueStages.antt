@@ -4,7 +4,7 @@ use Rattle.cqs_core.specs.declared.cells.CoreCell.{CoreCell}
 use Rattle.cqs_core.specs.declared.cells.CoreState.{CoreState}
 use Rattle.cqs_core.specs.declared.doings.Doing.{Doing}
 use Rattle.cqs_core.specs.declared.doings.Doing.TheVariants as doing
-use Rattle.cqs_core.specs.QueueCells.{IsInstalled}
+use Rattle.cqs_core.specs.QueueCells.{IsStanding}
 use Rattle.cqs_core.specs.QueueMoves.{IsCancelling, Owns}
 use Rattle.cqs_core.specs.QueueSound.{IsUnended, IsUntaken}
 
@@ -28,7 +28,7 @@ doing_at (decided on) k = doing.Decided k on
 
 -- the states of a cell at which a pass is at work so; an idle pass, of a wait of its own
 abbrev pub MayFind : Stage → CoreState → Type 0
-MayFind idle s = IsInstalled s
+MayFind idle s = IsStanding s
 MayFind door s = ⊥
 MayFind owes s = ⊥
 MayFind drawn s = IsUntaken s

@@ -4,7 +4,7 @@ use Rattle.std.proofs.lemmas.Option.{same_Some}
 use Rattle.cqs_words.specs.declared.cell.CellState.{CellState}
 use Rattle.cqs_words.specs.declared.cell.CellState.TheVariants.{Empty, Waiter, Value, Taken, Broken, Resumed, Cancelling, Delegated, Cancelled, Refused}
 use Rattle.cqs_words.specs.declared.cell.CellWord.{CellWord}
-use Rattle.cqs_words.specs.Cell.{state_code, state_of, cell_word, CellFits, packed_cell, unpacked_cell}
+use Rattle.cqs_words.specs.Cell.{state_code, state_of, cell_word, index_in, CellFits, packed_cell, unpacked_cell}
 use Rattle.cqs_words.specs.Packing.{IsPacking}
 use Rattle.cqs_words.proofs.PackingLaws.{number_of-injective}
 
@@ -43,6 +43,9 @@ state_code-injective s t same =
 module _ (index code payload : ℕ) (code_fits : code < 2 ^ 4) (payload_fits : payload < 2 ^ 20) where
   pub index_of-cell_word : cell_word index code payload / 2 ^ 24 ≡ index
   index_of-cell_word = omega arith
+
+  pub index_in-cell_word : index_in (cell_word index code payload) ≡ index
+  index_in-cell_word = index_of-cell_word
 
   pub code_of-cell_word : cell_word index code payload / 2 ^ 20 % 2 ^ 4 ≡ code
   code_of-cell_word = omega arith

@@ -1,5 +1,6 @@
 pub mod PackingLaws
 pub mod CellLaws
 pub mod StateLaws
+pub mod CrewLaws
 pub mod HeadLaws
 pub mod SegmentLaws

@@ -1,10 +1,10 @@
 -- The laws of a signed count's word.
-use Rattle.std.proofs.Common.{◌≡◌, ℕ, ◌^◌, ◌<◌, ℤ, pos, negsuc, ◌+ℤ◌, Some, arith, rules}
+use Rattle.std.proofs.Common.{◌≡◌, ℕ, ◌^◌, ◌<◌, ℤ, pos, negsuc, ◌+ℤ◌, Some, refl, arith, rules}
 use Rattle.std.specs.Prelude.{unsigned_abs}
 use Rattle.std.proofs.lemmas.Int.{ints}
 use Rattle.cqs_words.specs.declared.state.StateWord.{StateWord}
 use Rattle.cqs_words.specs.Packing.{IsPacking}
-use Rattle.cqs_words.specs.State.{state_word, StateFits, packed_state, unpacked_state}
+use Rattle.cqs_words.specs.State.{state_word, StateFits, packed_state, unpacked_state, count_in}
 use Rattle.cqs_words.proofs.PackingLaws.{number_of-injective}
 
 -- the number is the count, raised by 2 ^ 32
@@ -34,6 +34,15 @@ unpacked_state-packed_state w fits = search rules
 pub IsPacking-unpacked_state : (n : ℕ) (w : StateWord)
     → unpacked_state n ≡ Some w → IsPacking StateFits packed_state n w
 IsPacking-unpacked_state n w is = search rules
+
+-- a number whose count fits is the packing of it
+pub packed_state-count_in : (n : ℕ) → StateFits (record { value = count_in n })
+    → packed_state (record { value = count_in n }) ≡ n
+packed_state-count_in n fits = by (count_in n) refl fits.value
+  where
+    by : (z : ℤ) → count_in n ≡ z → unsigned_abs z < 2 ^ 32 → state_word z ≡ n
+    by (pos k) is few = omega (arith, ints)
+    by (negsuc k) is few = omega (arith, ints)
 
 pub packed_state-injective : (v w : StateWord) → StateFits v → StateFits w
     → packed_state v ≡ packed_state w → v ≡ w

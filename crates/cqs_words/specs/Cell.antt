@@ -43,6 +43,10 @@ packed_cell w = cell_word w.index (state_code w.state) w.payload
 abbrev pub cell_in : ℕ → CellState → CellWord
 cell_in n state = record { index = n / 2 ^ 24; state = state; payload = n % 2 ^ 20 }
 
+-- the index of the cell that a number stands for, if it stands for one
+abbrev pub index_in : ℕ → ℕ
+index_in n = n / 2 ^ 24
+
 -- the cell that a number is the packing of, if there is one
 abbrev pub unpacked_cell : ℕ → Option CellWord
 unpacked_cell n = if nat_lt n (2 ^ 64) then option_map (cell_in n) (state_of (n / 2 ^ 20 % 2 ^ 4)) else None

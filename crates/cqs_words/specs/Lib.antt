@@ -1,5 +1,6 @@
 pub mod Packing
 pub mod Cell
 pub mod State
+pub mod Crew
 pub mod Head
 pub mod Segment

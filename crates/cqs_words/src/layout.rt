@@ -15,6 +15,9 @@ pub(crate) const SLOT_BITS: u32 = 16;
 
 pub(crate) const IDS: u64 = 1 << 36;
 
+// A crew has the passes that are live in the lowest bits, and those that were made above them.
+pub(crate) const LIVE_BITS: u32 = 32;
+
 // A signed count is raised by this much, so that an addition to the number is one to the count.
 pub(crate) const BIAS: i64 = 1 << 32;
 

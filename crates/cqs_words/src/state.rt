@@ -1,6 +1,6 @@
-ghost use Rattle.std.specs.Prelude.{◌≡◌, Option, Some, IfSome, IfNone};
+ghost use Rattle.std.specs.Prelude.{◌≡◌, ◌-◌, ◌-ℤ◌, pos, true, Option, Some, IfSome, IfNone};
 ghost use Rattle.cqs_words.specs.Packing.{IsPacking, IsNoPacking};
-ghost use Rattle.cqs_words.specs.State.{StateFits, packed_state, unpacked_state};
+ghost use Rattle.cqs_words.specs.State.{StateFits, packed_state, unpacked_state, count_in, is_above_zero, is_below_zero};
 
 use crate::layout::BIAS;
 
@@ -32,8 +32,79 @@ impl StateWord {
         if word == 0 || word >= 2 * BIAS as u64 {
             return None;
         }
-        Some(StateWord {
+        Some(StateWord::read(word))
+    }
+
+    /// The count that the number stands for, where it is known to stand for one.
+    #[inline]
+    pub fn read(word: u64) -> Self
+        requires { StateFits (record { value = count_in word }) }
+        ensures value { result ≡ record { value = count_in word } }
+        ensures packing { IsPacking StateFits packed_state word result }
+    {
+        StateWord {
             value: word as i64 - BIAS,
-        })
+        }
+    }
+
+    /// Whether the count that the number stands for is above 0.
+    #[inline]
+    pub fn is_above_zero(word: u64) -> bool
+        ensures { result ≡ is_above_zero word }
+    {
+        word > BIAS as u64
+    }
+
+    /// Whether the count that the number stands for is below 0.
+    #[inline]
+    pub fn is_below_zero(word: u64) -> bool
+        ensures { result ≡ is_below_zero word }
+    {
+        word < BIAS as u64
+    }
+}
+
+/// The word of a state as a step found it. Only this crate takes it apart.
+#[derive(Clone, Copy, Debug, PartialEq, Eq)]
+pub struct PackedState {
+    /// The number that stands for the count, as [StateWord::pack] gives it.
+    pub word: u64,
+}
+
+impl PackedState {
+    /// Whether the count is above 0.
+    #[inline]
+    pub fn is_above_zero(self) -> bool
+        ensures { result ≡ is_above_zero self.word }
+    {
+        StateWord::is_above_zero(self.word)
+    }
+
+    /// Whether the count is below 0.
+    #[inline]
+    pub fn is_below_zero(self) -> bool
+        ensures { result ≡ is_below_zero self.word }
+    {
+        StateWord::is_below_zero(self.word)
+    }
+
+    /// The count, where the number stands for one.
+    #[inline]
+    pub fn unpack(self) -> Option<StateWord>
+        ensures { result ≡ unpacked_state self.word }
+    {
+        StateWord::unpack(self.word)
+    }
+
+    /// The word of the state that is one less.
+    #[inline]
+    pub fn one_less(self) -> Self
+        requires { is_above_zero self.word ≡ true }
+        ensures word { result.word ≡ self.word - 1 }
+        ensures count { count_in result.word ≡ count_in self.word -ℤ pos 1 }
+    {
+        PackedState {
+            word: self.word - 1,
+        }
     }
 }

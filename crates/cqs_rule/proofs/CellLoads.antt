@@ -1,5 +1,6 @@
--- A load of a cell. Where it is that of a wait of the pass, the pass learns what became of the wait.
-use Rattle.std.proofs.Common.{◌≡◌, ℕ, ◌+◌, ◌<◌, ◌^◌, Bool, true, false, List, [], ◌++◌, length, sym, refl, ap, ◌∙◌, subst, arith, Option, Some, None, slice_get}
+-- A load of a cell. What it shows, if it shows a step of the queue, is a row of its table: the owner of a wait learns what became of
+-- it, and a resume meets a cell that is settled.
+use Rattle.std.proofs.Common.{◌≡◌, ℕ, ◌<◌, ◌^◌, false, [], ◌++◌, sym, refl, ap, ◌∙◌, subst, arith, Option, Some, None}
 use Rattle.std.specs.Prelude.{slice_index}
 use Rattle.std.proofs.lemmas.Option.{same_Some}
 use mathlib.Core.Option.{some, none}
@@ -7,378 +8,606 @@ use lib.ListN.{get_elem?}
 use Rattle.atomic_table.specs.Table.{State, Me, Act, keeps, step, stepped, carried_after, Valid, Allows}
 use Rattle.cqs_core.specs.declared.cells.CoreState.{CoreState}
 use Rattle.cqs_core.specs.declared.cells.CoreState.TheVariants as state
-use Rattle.cqs_core.specs.declared.doings.Doing.TheVariants as doing
-use Rattle.cqs_words.specs.declared.cell.CellWord.{CellWord}
+use Rattle.cqs_core.specs.QueueSound.{IsSound}
+use Rattle.cqs_core.specs.QueueStages as stage
+use Rattle.cqs_core.specs.QueueStages.{Stage, doing_at, MayFind, MayWork}
+use Rattle.cqs_core.specs.QueueSteps.{wait_stays, wait_closes, nothing, its_own, QueueStep, looks, pends, grants, late, passes_over, ends_refused, ends_missed, row_of, CellRow, at_cell, payload_told, IsOpenRow}
+use Rattle.cqs_core.proofs.QueueUniform.{IsCellRow, row-of, IsAtCell}
+use Rattle.cqs_words.specs.declared.cell.CellState.{CellState}
 use Rattle.cqs_words.specs.Cell.{unpacked_cell}
 use Rattle.cqs_words.proofs.CellLaws.{unpacked_cell-packed_cell}
+use Rattle.cqs_rule.specs.declared.loads.Learned.{Learned}
+use Rattle.cqs_rule.specs.declared.loads.Learned.TheVariants.{Nothing}
 use Rattle.cqs_rule.specs.declared.view.View.{View}
 use Rattle.cqs_rule.specs.declared.view.Facts.{Facts}
 use Rattle.cqs_rule.specs.declared.view.Glimpse.{Glimpse}
-use Rattle.cqs_rule.specs.Hidden.{Hidden, LookEvent, pends, grants, late, state_seen, QueueStep, looks, happened, state_in, state_at}
-use Rattle.cqs_rule.specs.Layout.{cell_place, cell_number, words_for, client_words}
-use Rattle.cqs_rule.specs.Lists.{Has, without}
-use Rattle.cqs_rule.specs.Inside.{IsInside}
-use Rattle.cqs_rule.specs.Views.{grown}
-use Rattle.cqs_rule.specs.Ruled.{Ruled, Stands, CellsShow, IsWaitOf, IsInstalled, IsPlain, IsBare, shown_state, word_of}
 use Rattle.cqs_rule.specs.Client.{IsClient}
-use Rattle.cqs_rule.specs.Loads.{CounterWas, LoadStep, counts, watches, polls, cancels, event_of, IsOfWait, IsStanding, is_resumed, is_served, closes, MayLook, MayLoad, Looked, Loaded, loaded_by, facts_looked, look_entries}
-use Rattle.cqs_rule.specs.Told.{Saw, FoundCell, facts_after}
-use Rattle.cqs_rule.proofs.CellPlaces.{number-at, cell-inside, suspends-inside}
-use Rattle.cqs_rule.proofs.Cells.{looked-suspends, looked-resumes, looked-doing, looked-state}
-use Rattle.cqs_rule.proofs.Crosses.{held-long, payload-kept}
-use Rattle.cqs_rule.proofs.Others.{others-looked, looked-self, door-keeps}
-use Rattle.cqs_rule.proofs.Tells.{steps, Steps, suspends-low, resumes-low}
-use Rattle.cqs_rule.proofs.Looks.{stays, looks-to, CountsOf, counted-at}
+use Rattle.cqs_rule.specs.Exchanges.{IsOwnWait, FoundCell, HasCell}
+use Rattle.cqs_rule.specs.Facts.{facts_after, facts_worked, facts_watched, is_owing}
+use Rattle.cqs_rule.specs.Hidden.{Hidden, Gains, state_in, state_at}
+use Rattle.cqs_rule.specs.Inside.{IsInside}
+use Rattle.cqs_rule.specs.Layout.{client_words, words_for}
+use Rattle.cqs_rule.specs.Lists.{IsDistinct}
+use Rattle.cqs_rule.specs.Loads.{LoadStep, counts, watches, polls, cancels, meets, misses, event_of, LoadSuits, served_in, refused_in, cancelled_in, learned_of, learned, MayStand, IsNumber, told_at, facts_looked, MayLook, MayLoad, CarriesLearned, look_entries, Looked, LoadedCell, loaded_by}
+use Rattle.cqs_rule.specs.Manner.{Manner, Suits}
+use Rattle.cqs_rule.specs.Object.{Object, Primitive}
+use Rattle.cqs_rule.specs.Placed.{KnowsPlace, place_at}
+use Rattle.cqs_rule.specs.Ruled.{Ruled, Knows, Stands, cell_count, number_at, shown_state, word_of}
+use Rattle.cqs_rule.specs.Saw.{Saw, IsLive, WasFound}
+use Rattle.cqs_rule.specs.Views.{grown, IsSame}
+use Rattle.cqs_rule.proofs.CellPlaces.{suspends-inside}
+use Rattle.cqs_rule.proofs.CellsStand.{CellAt, cell-at, one-number, place-low}
+use Rattle.cqs_rule.proofs.CellSteps.{WorksAt, works-at, works, since-last, closes-own}
+use Rattle.cqs_rule.proofs.Lists.{length_without}
+use Rattle.cqs_rule.proofs.Looks.{looks-to, found-so, counted-at}
+use Rattle.cqs_rule.proofs.Worked.{loaded-same}
 
--- a wait that isn't closed stands in the line or was served, until cells are cancelled
-installed-standing : (x : CoreState) → IsInstalled x → IsPlain x → IsStanding x
-installed-standing state.Waiter i p = tt
-installed-standing state.Resumed i p = tt
-installed-standing state.Empty i p = absurd i
-installed-standing state.Value i p = absurd i
-installed-standing state.Taken i p = absurd i
-installed-standing state.Broken i p = absurd i
-installed-standing state.Cancelling i p = absurd p
-installed-standing state.Delegated i p = absurd p
-installed-standing state.Cancelled i p = absurd i
-installed-standing state.Refused i p = absurd i
+-- at what a pass loads so
+abbrev stage_of : LoadStep → Stage
+stage_of counts = stage.door
+stage_of watches = stage.door
+stage_of polls = stage.idle
+stage_of cancels = stage.idle
+stage_of meets = stage.ticket
+stage_of misses = stage.ticket
 
--- the event that a load shows is of a wait, whose cell it found in its state
-event-seen : (load : LoadStep) (x : CoreState) (e : LookEvent) → event_of load x ≡ Some e → (x ≡ state_seen e) × IsOfWait load
-event-seen counts x e is = absurd (cc)
-event-seen watches x e is = absurd (cc)
-event-seen polls state.Waiter e is = (ap state_seen (same_Some pends e is), tt)
-event-seen polls state.Resumed e is = (ap state_seen (same_Some grants e is), tt)
-event-seen polls state.Empty e is = absurd (cc)
-event-seen polls state.Value e is = absurd (cc)
-event-seen polls state.Taken e is = absurd (cc)
-event-seen polls state.Broken e is = absurd (cc)
-event-seen polls state.Cancelling e is = absurd (cc)
-event-seen polls state.Delegated e is = absurd (cc)
-event-seen polls state.Cancelled e is = absurd (cc)
-event-seen polls state.Refused e is = absurd (cc)
-event-seen cancels state.Resumed e is = (ap state_seen (same_Some late e is), tt)
-event-seen cancels state.Waiter e is = absurd (cc)
-event-seen cancels state.Empty e is = absurd (cc)
-event-seen cancels state.Value e is = absurd (cc)
-event-seen cancels state.Taken e is = absurd (cc)
-event-seen cancels state.Broken e is = absurd (cc)
-event-seen cancels state.Cancelling e is = absurd (cc)
-event-seen cancels state.Delegated e is = absurd (cc)
-event-seen cancels state.Cancelled e is = absurd (cc)
-event-seen cancels state.Refused e is = absurd (cc)
+-- what a load that finds the state learns
+abbrev learned_at : LoadStep → CoreState → Learned
+learned_at counts x = Nothing
+learned_at watches x = Nothing
+learned_at polls x = served_in (shown_state x)
+learned_at cancels x = served_in (shown_state x)
+learned_at meets x = refused_in (shown_state x)
+learned_at misses x = cancelled_in (shown_state x)
 
-module _ {E S : Type 0} where
-  -- what the pass needs for a load of a wait
-  pub may-own : (load : LoadStep) (v : View E S) (k : ℕ) → IsOfWait load → MayLook load v k
-      → (v.facts.doing ≡ doing.Idle) × Has k v.facts.waits
-  may-own counts v k of may = absurd of
-  may-own watches v k of may = absurd of
-  may-own polls v k of may = may
-  may-own cancels v k of may = may
+word-learned : (by : CellState → Learned) (k : ℕ) (x : CoreState) (payload : ℕ) → k < 2 ^ 40 → payload < 2 ^ 20
+    → learned_of by (unpacked_cell (word_of k x payload)) ≡ by (shown_state x)
+word-learned by k x payload low fits =
+    ap (learned_of by) (unpacked_cell-packed_cell (record { index = k; state = shown_state x; payload = payload })
+    (record { index = low; payload = fits }))
 
-  may-below : (load : LoadStep) (v : View E S) (k cells : ℕ) → MayLook load v k → v.cells ≡ cells
-      → (Has k v.facts.waits → k < cells) → k < cells
-  may-below counts v k cells may is waits = absurd may
-  may-below watches v k cells may is waits = omega arith
-  may-below polls v k cells may is waits = waits may.1
-  may-below cancels v k cells may is waits = waits may.1
+learned-is : (load : LoadStep) (k : ℕ) (x : CoreState) (payload : ℕ) → k < 2 ^ 40 → payload < 2 ^ 20
+    → learned load (word_of k x payload) ≡ learned_at load x
+learned-is counts k x payload low fits = refl
+learned-is watches k x payload low fits = refl
+learned-is polls k x payload low fits = word-learned served_in k x payload low fits
+learned-is cancels k x payload low fits = word-learned served_in k x payload low fits
+learned-is meets k x payload low fits = word-learned refused_in k x payload low fits
+learned-is misses k x payload low fits = word-learned cancelled_in k x payload low fits
 
--- the words show the cells as before
-cells-same : (c d : Hidden) (cells : ℕ) (words : List ℕ) → ((k : ℕ) → state_at d.queue k ≡ state_at c.queue k)
-    → ((k : ℕ) → d.payloads k ≡ c.payloads k)
-    → CellsShow c cells words → CellsShow d cells words
-cells-same c d cells words states payloads show = record {
-  at = λ k below. show.at k below ∙ sym (λ j. word_of k (states k j) (payloads k j));
-  fits = λ k. let f = show.fits k in let e = payloads k in omega arith;
-  bare = λ k is. payloads k ∙ show.bare k (subst IsBare (states k) is);
-  plain = λ k. subst IsPlain (sym (states k)) (show.plain k);
+-- The step of the queue that a load shows: it loads the cell at which its pass works, found in this state.
+record ShowsStep (load : LoadStep) (x : CoreState) (s : QueueStep) : Type 0 where
+  row : CellRow
+  is : row_of s ≡ at_cell row
+  loads : row.makes ≡ None
+  finds : x ≡ row.finds
+  at : stage_of load ≡ row.works_at
+  suits : (m : Manner) → LoadSuits m load → Suits m s
+  carries : (gains : Gains) (k n payload : ℕ) (f : Facts) → f.doing ≡ doing_at row.works_at k → IsDistinct f.waits
+      → IsOwnWait row.works_at k f → CarriesLearned gains.held (learned_at load x) f
+      (facts_worked gains row k n payload f)
+
+-- where it shows none, the pass counts what it did
+quiet : (load : LoadStep) (x : CoreState) → event_of load x ≡ None → learned_at load x ≡ Nothing
+quiet counts x e = refl
+quiet watches x e = refl
+quiet polls state.Empty e = refl
+quiet polls state.Waiter e = absurd (cc)
+quiet polls state.Value e = refl
+quiet polls state.Taken e = refl
+quiet polls state.Broken e = refl
+quiet polls state.Resumed e = absurd (cc)
+quiet polls state.Cancelling e = refl
+quiet polls state.Delegated e = refl
+quiet polls state.Cancelled e = refl
+quiet polls state.Refused e = refl
+quiet cancels state.Empty e = refl
+quiet cancels state.Waiter e = refl
+quiet cancels state.Value e = refl
+quiet cancels state.Taken e = refl
+quiet cancels state.Broken e = refl
+quiet cancels state.Resumed e = absurd (cc)
+quiet cancels state.Cancelling e = refl
+quiet cancels state.Delegated e = refl
+quiet cancels state.Cancelled e = refl
+quiet cancels state.Refused e = refl
+quiet meets state.Empty e = refl
+quiet meets state.Waiter e = refl
+quiet meets state.Value e = refl
+quiet meets state.Taken e = refl
+quiet meets state.Broken e = refl
+quiet meets state.Resumed e = refl
+quiet meets state.Cancelling e = refl
+quiet meets state.Delegated e = refl
+quiet meets state.Cancelled e = absurd (cc)
+quiet meets state.Refused e = absurd (cc)
+quiet misses state.Empty e = refl
+quiet misses state.Waiter e = refl
+quiet misses state.Value e = refl
+quiet misses state.Taken e = refl
+quiet misses state.Broken e = refl
+quiet misses state.Resumed e = refl
+quiet misses state.Cancelling e = refl
+quiet misses state.Delegated e = refl
+quiet misses state.Cancelled e = absurd (cc)
+quiet misses state.Refused e = refl
+
+kept : (gains : ℕ → ℕ) (k n : ℕ) (f : Facts) → CarriesLearned gains Nothing f (facts_watched k n f)
+kept gains k n f = record { held = refl; owes = refl; waits = omega arith }
+
+polls-waiter : ShowsStep polls state.Waiter (looks pends)
+polls-waiter = record {
+  row = record {
+    works_at = stage.idle;
+    goes_to = stage.idle;
+    finds = state.Waiter;
+    makes = None;
+    brings = false;
+    wait = wait_stays;
+    gain = nothing;
+  };
+  is = refl;
+  loads = refl;
+  finds = refl;
+  at = refl;
+  suits = λ m fit. tt;
+  carries = λ gains k n payload f does once own. record {
+    held = refl;
+    owes = ap is_owing (sym does);
+    waits = omega arith;
+  };
 }
 
-module _ {E S : Type 0} (names : ℕ → E → Bool) (legal : ℕ → List E → Type 0) (shows : Hidden → List ℕ → List E → List S → Type 0)
-    (entries : QueueStep → ℕ → ℕ → List E) (gains : ℕ → ℕ) (opened : List ℕ) (passes limit values size held : ℕ)
-    (client : IsClient names (legal size) shows entries gains opened values held) where
-  -- the owner of the wait k learns what became of it
-  learns : (s : State (Option S) (View E S)) (r : Ruled names shows passes limit values size s) (id : ℕ)
-      (me : Me (Option S) (View E S)) (e : LookEvent) (k : ℕ) (w : IsWaitOf r.hidden.queue me.0.number k)
-      → get_elem? s.views id ≡ some me.0 → me.0.weight ≡ 1 → me.0.facts.doing ≡ doing.Idle → w.cell.state ≡ state_seen e
-      → Steps names legal shows entries gains opened passes limit values size held client s id me (cell_place k)
-      (slice_index s.words (cell_place k))
-      (entries (looks e) me.0.number k) (facts_after gains (looks e) k (slice_index s.words (cell_place k)) me.0.facts)
-      (grown me.0 (facts_after gains (looks e) k (slice_index s.words (cell_place k)) me.0.facts)
-      (r.log ++ entries (looks e) me.0.number k) r.handed)
-  learns s r id me e k w here one idle is =
-      let v = me.0 in let p = v.number in let f = v.facts in let c = r.hidden in
-      let at = (r.each_view id v here).stands (omega arith) in
-      let n = slice_index s.words (cell_place k) in
-      let d = happened gains c (looks e) p k (Some w.cell) f.payload in
-      let suspends = looked-suspends gains c p k f.payload e w.cell in
-      let resumes = looked-resumes gains c p k f.payload e w.cell in
-      let doings = looked-doing gains c p k f.payload e w.cell in
-      let others = others-looked gains c p k f.payload w.cell w.there w.owner e in
-      steps names legal shows entries gains opened passes limit values size held client s r id me (cell_place k) n d
-      (entries (looks e) p k) (facts_after gains (looks e) k n f) here one
-      (stays names legal shows entries gains opened passes limit values size held client s r v (cell_place k) d
-      (entries (looks e) p k) (facts_after gains (looks e) k n f)
-      (record { suspends = r.counters.suspends ∙ sym suspends; resumes = r.counters.resumes ∙ sym resumes })
-      (cells-same c d (limit + passes + values) s.words (λ j. looked-state gains c p k f.payload e w.cell j w.there)
-      (λ j. refl) r.cells)
-      (record {
-        few_passes = r.room.few_passes;
-        low_limit = r.room.low_limit;
-        few_values = r.room.few_values;
-        doing = ap length doings ∙ r.room.doing;
-        held = held-long gains c (looks e) p k f.payload (Some w.cell) ∙ r.room.held;
-        may_draw = r.room.may_draw;
-        ground = let g = r.room.ground in omega arith;
-        resumes = let h = r.room.resumes in omega arith;
-      })
-      (door-keeps c d p r.door others.doing (λ m a. refl)
-      (λ q. let mine : slice_get c.queue.doing p ≡ Some doing.Door = ap (λ l. slice_get l p) (sym doings) ∙ q in r.door p mine))
-      (client.steps c (looks e) p k (Some w.cell) f.payload (client_words s.words) r.log r.handed r.shown (
-        record { does = at.doing ∙ ap Some idle; finds = w.there; at = is },
-        record { owner = w.owner; uncollected = w.uncollected },
-      )
-      (let l = suspends-low passes limit values c r.room in omega arith)
-      (let l = resumes-low passes limit values c r.room in omega arith))
-      others (looked-self gains c p k f.payload w.cell w.there w.owner e n f idle at) (client.silent (looks e) p k)
-      (subst (λ z. z < 2 ^ 20) (sym (payload-kept gains (looks e) k n f)) (r.each_view id v here).payload_fits))
+polls-resumed : ShowsStep polls state.Resumed (looks grants)
+polls-resumed = record {
+  row = record {
+    works_at = stage.idle;
+    goes_to = stage.idle;
+    finds = state.Resumed;
+    makes = None;
+    brings = false;
+    wait = wait_closes;
+    gain = its_own;
+  };
+  is = refl;
+  loads = refl;
+  finds = refl;
+  at = refl;
+  suits = λ m fit. tt;
+  carries = λ gains k n payload f does once own. record {
+    held = refl;
+    owes = ap is_owing (sym does);
+    waits = length_without k f.waits once own;
+  };
+}
 
-  -- a load of the cell of the number k
-  loads-cell : (slots id : ℕ) (me : Me (Option S) (View E S)) (load : LoadStep) (k : ℕ) → me.0.weight ≡ 1 → MayLook load me.0 k
-      → Allows (Ruled names shows passes limit values size) slots id me (cell_place k) (λ n. n)
-      (λ n me'. Looked names legal gains entries load k me.0 n me'.0 × (me'.1 ≡ me.1) × Unit {0})
-  loads-cell slots id me load k one may s r _ here small = by-event (event_of load (state_at r.hidden.queue k)) refl
+cancels-resumed : ShowsStep cancels state.Resumed (looks late)
+cancels-resumed = record {
+  row = record {
+    works_at = stage.idle;
+    goes_to = stage.idle;
+    finds = state.Resumed;
+    makes = None;
+    brings = false;
+    wait = wait_closes;
+    gain = its_own;
+  };
+  is = refl;
+  loads = refl;
+  finds = refl;
+  at = refl;
+  suits = λ m fit. tt;
+  carries = λ gains k n payload f does once own. record {
+    held = refl;
+    owes = ap is_owing (sym does);
+    waits = length_without k f.waits once own;
+  };
+}
+
+meets-cancelled : ShowsStep meets state.Cancelled passes_over
+meets-cancelled = record {
+  row = record {
+    works_at = stage.ticket;
+    goes_to = stage.owes;
+    finds = state.Cancelled;
+    makes = None;
+    brings = false;
+    wait = wait_stays;
+    gain = nothing;
+  };
+  is = refl;
+  loads = refl;
+  finds = refl;
+  at = refl;
+  suits = λ m fit. fit;
+  carries = λ gains k n payload f does once own. record {
+    held = refl;
+    owes = ap is_owing (sym does);
+    waits = omega arith;
+  };
+}
+
+meets-refused : ShowsStep meets state.Refused ends_refused
+meets-refused = record {
+  row = record {
+    works_at = stage.ticket;
+    goes_to = stage.idle;
+    finds = state.Refused;
+    makes = None;
+    brings = false;
+    wait = wait_stays;
+    gain = nothing;
+  };
+  is = refl;
+  loads = refl;
+  finds = refl;
+  at = refl;
+  suits = λ m fit. fit;
+  carries = λ gains k n payload f does once own. record { held = refl; owes = refl; waits = omega arith };
+}
+
+misses-cancelled : ShowsStep misses state.Cancelled ends_missed
+misses-cancelled = record {
+  row = record {
+    works_at = stage.ticket;
+    goes_to = stage.idle;
+    finds = state.Cancelled;
+    makes = None;
+    brings = false;
+    wait = wait_stays;
+    gain = nothing;
+  };
+  is = refl;
+  loads = refl;
+  finds = refl;
+  at = refl;
+  suits = λ m fit. fit;
+  carries = λ gains k n payload f does once own. record { held = refl; owes = refl; waits = omega arith };
+}
+
+-- the step that a load shows
+shows-step : (load : LoadStep) (x : CoreState) (s : QueueStep) → event_of load x ≡ Some s → ShowsStep load x s
+shows-step counts x s e = absurd (cc)
+shows-step watches x s e = absurd (cc)
+shows-step polls state.Empty s e = absurd (cc)
+shows-step polls state.Waiter s e = subst (ShowsStep polls state.Waiter) (same_Some (looks pends) s e) polls-waiter
+shows-step polls state.Value s e = absurd (cc)
+shows-step polls state.Taken s e = absurd (cc)
+shows-step polls state.Broken s e = absurd (cc)
+shows-step polls state.Resumed s e = subst (ShowsStep polls state.Resumed) (same_Some (looks grants) s e) polls-resumed
+shows-step polls state.Cancelling s e = absurd (cc)
+shows-step polls state.Delegated s e = absurd (cc)
+shows-step polls state.Cancelled s e = absurd (cc)
+shows-step polls state.Refused s e = absurd (cc)
+shows-step cancels state.Empty s e = absurd (cc)
+shows-step cancels state.Waiter s e = absurd (cc)
+shows-step cancels state.Value s e = absurd (cc)
+shows-step cancels state.Taken s e = absurd (cc)
+shows-step cancels state.Broken s e = absurd (cc)
+shows-step cancels state.Resumed s e = subst (ShowsStep cancels state.Resumed)
+    (same_Some (looks late) s e) cancels-resumed
+shows-step cancels state.Cancelling s e = absurd (cc)
+shows-step cancels state.Delegated s e = absurd (cc)
+shows-step cancels state.Cancelled s e = absurd (cc)
+shows-step cancels state.Refused s e = absurd (cc)
+shows-step meets state.Empty s e = absurd (cc)
+shows-step meets state.Waiter s e = absurd (cc)
+shows-step meets state.Value s e = absurd (cc)
+shows-step meets state.Taken s e = absurd (cc)
+shows-step meets state.Broken s e = absurd (cc)
+shows-step meets state.Resumed s e = absurd (cc)
+shows-step meets state.Cancelling s e = absurd (cc)
+shows-step meets state.Delegated s e = absurd (cc)
+shows-step meets state.Cancelled s e = subst (ShowsStep meets state.Cancelled)
+    (same_Some passes_over s e) meets-cancelled
+shows-step meets state.Refused s e = subst (ShowsStep meets state.Refused) (same_Some ends_refused s e) meets-refused
+shows-step misses state.Empty s e = absurd (cc)
+shows-step misses state.Waiter s e = absurd (cc)
+shows-step misses state.Value s e = absurd (cc)
+shows-step misses state.Taken s e = absurd (cc)
+shows-step misses state.Broken s e = absurd (cc)
+shows-step misses state.Resumed s e = absurd (cc)
+shows-step misses state.Cancelling s e = absurd (cc)
+shows-step misses state.Delegated s e = absurd (cc)
+shows-step misses state.Cancelled s e = subst (ShowsStep misses state.Cancelled)
+    (same_Some ends_missed s e) misses-cancelled
+shows-step misses state.Refused s e = absurd (cc)
+
+-- the load is one at which the pass works
+abbrev IsWork : LoadStep → Type 0
+IsWork counts = ⊥
+IsWork watches = ⊥
+IsWork polls = Unit {0}
+IsWork cancels = Unit {0}
+IsWork meets = Unit {0}
+IsWork misses = Unit {0}
+
+-- a pass that may load so works at the cell, and may find it in these states
+record Working {E S : Type 0} (load : LoadStep) (v : View E S) (k : ℕ) : Type 0 where
+  does : v.facts.doing ≡ doing_at (stage_of load) k
+  own : IsOwnWait (stage_of load) k v.facts
+  at : IsAtCell (stage_of load)
+  stand : (x : CoreState) → MayFind (stage_of load) x → MayStand load x
+
+working : {E S : Type 0} (load : LoadStep) (v : View E S) (k : ℕ) → IsWork load → MayLook load v k → Working load v k
+working counts v k is may = absurd is
+working watches v k is may = absurd is
+working polls v k is may = record { does = may.0; own = may.1; at = tt; stand = λ x m. m }
+working cancels v k is may = record { does = may.0; own = may.1; at = tt; stand = λ x m. m }
+working meets v k is may = record { does = may; own = tt; at = tt; stand = λ x m. m }
+working misses v k is may = record { does = may; own = tt; at = tt; stand = λ x m. m }
+
+same-number : (load : LoadStep) (k : ℕ) → IsWork load → IsNumber load k k
+same-number counts k is = absurd is
+same-number watches k is = absurd is
+same-number polls k is = refl
+same-number cancels k is = refl
+same-number meets k is = refl
+same-number misses k is = refl
+
+module _ {E S : Type 0} (object : Object E) (primitive : Primitive E S) (passes limit : ℕ)
+    (client : IsClient object primitive) where
+  -- what a load of the cell of the number k tells, where it is made
+  abbrev Learns : {C : Type 0} → (C → Primitive E S) → LoadStep → (s : State (Option S) (View E S)) → ℕ
+      → Me (Option S) (View E S) → ℕ → ℕ → Type 0
+  Learns all load s id me k word =
+      (w : View E S) × (a : Act (Option S)) × Valid s.homes me.1 a
+      × Ruled object primitive passes limit (stepped s word (slice_index s.words word) id me.1 w a)
+      × (Looked object all load k me.0 (slice_index s.words word) w × (carried_after me.1 a ≡ me.1) × IsLive object w
+      × CarriesLearned object.gains.held (learned load (slice_index s.words word)) me.0.facts w.facts × IsSame me.0 w)
+
+  -- a load of the cell of the number k, which stands at this word
+  learns : {C : Type 0} (all : C → Primitive E S) (y : C) → all y ≡ primitive → (load : LoadStep)
+      (s : State (Option S) (View E S)) (r : Ruled object primitive passes limit s) (id : ℕ)
+      (me : Me (Option S) (View E S))
+      (k word : ℕ) → get_elem? s.views id ≡ some me.0 → me.0.weight ≡ 1 → LoadSuits primitive.manner load → IsWork load
+      → MayLook load me.0 k → KnowsPlace me.0 (place_at word k) → Learns all load s id me k word
+  learns all y all_is load s r id me k word here one suits is may place = by (event_of load x) refl
     where
       v : View E S
       v = me.0
 
       f : Facts
-      f = me.0.facts
+      f = v.facts
 
       c : Hidden
       c = r.hidden
 
       n : ℕ
-      n = slice_index s.words (cell_place k)
+      n = slice_index s.words word
 
-      at : Stands r.hidden me.0.number me.0.facts
-      at = (r.each_view id v here).stands (omega arith)
+      x : CoreState
+      x = state_at c.queue k
 
-      below : k < limit + passes + values
-      below = may-below load v k (limit + passes + values) may (r.each_view id v here).cells_are
-          (λ h. let drawn = (at.waits k h).drawn in let g = r.room.ground in omega arith)
+      known : Knows object c r.log r.handed r.made r.live passes limit
+          (cell_count passes limit primitive.values) primitive.opening v
+      known = r.each_view id v here (omega arith)
+
+      at : Stands c v.number f
+      at = known.stands
+
+      sound : IsSound c.queue
+      sound = client.sound c (client_words s.words) r.log r.handed r.shown
+
+      job : Working load v k
+      job = working load v k is may
+
+      stood : WorksAt c (cell_count passes limit primitive.values) v.number k (stage_of load)
+      stood = works-at c passes limit primitive.values v.number k
+          (stage_of load) f r.room sound at job.does job.own job.at
+
+      stands : CellAt c s.words k word
+      stands = cell-at c (cell_count passes limit primitive.values) s.words v k word r.cells r.wide stood.below place
 
       g : Glimpse
-      g = record { state = state_at r.hidden.queue k; payload = r.hidden.payloads k }
+      g = record { number = k; state = x; payload = c.payloads k }
 
-      cell : FoundCell k n g
-      cell = record {
-        word = r.cells.at k below;
-        number = let a = r.room.low_limit in let b = r.room.few_passes in let d = r.room.few_values in
-            let low = below in omega arith;
-        fits = r.cells.fits k;
-        bare = r.cells.bare k;
-      }
+      low : k < 2 ^ 40
+      low = let b = stood.below in let l = r.room.low_limit in let q = r.room.few_passes in let u =
+          r.room.few_values in omega arith
 
-      state-is : (w : IsWaitOf r.hidden.queue me.0.number k) → state_at r.hidden.queue k ≡ w.cell.state
-      state-is w = ap state_in w.there
+      cell : FoundCell n g
+      cell = record { word = stands.shows; number = low; fits = r.cells.fits k; bare = r.cells.bare k }
 
-      standing : IsOfWait load → IsStanding (state_at r.hidden.queue k)
-      standing of =
-          let w = at.waits k (may-own load v k of may).1 in
-          installed-standing (state_at c.queue k) (subst IsInstalled (sym (state-is w)) w.installed) (r.cells.plain k)
+      stand : MayStand load x
+      stand = job.stand x (subst (MayFind (stage_of load)) (ap state_in (sym stood.there)) stood.may)
 
-      told : (o : Option LookEvent) (w : View E S) → o ≡ event_of load (state_at r.hidden.queue k)
-          → Saw names legal v (facts_looked gains o k n f) (look_entries entries o v.number k) w
-          → Looked names legal gains entries load k v n w
-      told o w is saw = record {
-        glimpse = g;
-        cell = cell;
-        standing = standing;
-        saw = subst (λ z. Saw names legal v (facts_looked gains z k n f) (look_entries entries z v.number k) w) is saw;
-      }
+      number : IsNumber load k k
+      number = same-number load k is
 
-      by-event : (o : Option LookEvent) → o ≡ event_of load (state_at r.hidden.queue k)
-          → (w : View E S) × (a : Act (Option S)) × Valid s.homes me.1 a
-          × Ruled names shows passes limit values size (stepped s (cell_place k) n id me.1 w a)
-          × (Looked names legal gains entries load k v n w × (carried_after me.1 a ≡ me.1) × Unit {0})
-      by-event None is =
-          let facts = facts_looked gains None k n f in
-          let done = looks-to names legal shows entries gains opened passes limit values size held client s r id me
-          (cell_place k) facts here one
+      tells : learned load n ≡ learned_at load x
+      tells = ap (learned load) stands.shows ∙ learned-is load k x (c.payloads k) low (r.cells.fits k)
+
+      by : (o : Option QueueStep) → event_of load x ≡ o → Learns all load s id me k word
+      by None e =
+          let facts = facts_watched k n f in
+          let done = looks-to object primitive passes limit client s r id me word facts here one
           (record {
             doing = at.doing;
-            held = at.held;
+            has = at.has;
             may_draw = at.may_draw;
             waits = at.waits;
             all_waits = at.all_waits;
             once = at.once;
             last = at.last;
-          })
-          (r.each_view id v here).payload_fits in
-          (grown v facts (r.log ++ []) r.handed, keeps, tt, done.0, (told None _ is done.1, refl, tt))
-      by-event (Some e) is =
-          let seen = event-seen load (state_at c.queue k) e (sym is) in
-          let own = may-own load v k seen.1 may in
-          let w = at.waits k own.1 in
-          let done = learns s r id me e k w here one own.0 (sym (state-is w) ∙ seen.0) in
-          (_, keeps, tt, done.0, (told (Some e) _ is done.1, refl, tt))
+            behind = record { reached = at.behind.reached; passed = at.behind.passed };
+          }) known.payload_fits in
+          let w : View E S = grown v facts (r.log ++ []) r.handed in (
+            w,
+            keeps,
+            tt,
+            done.0,
+            (
+              record {
+                glimpse = g;
+                number = number;
+                cell = cell;
+                may = stand;
+                since = since-last c k f.last at.last;
+                saw = subst (λ (z : Option QueueStep). Saw object v (facts_looked object.gains z n g f)
+                    (look_entries object all z v.number g f) w)
+                    (sym e) done.1;
+                was = subst (λ (z : Option QueueStep). WasFound all (HasCell g)
+                    (look_entries object all z v.number g f) w) (sym e)
+                    (found-so object primitive passes limit client all y all_is s r w (HasCell g)
+                    [] known.opening_is refl (refl, refl));
+              },
+              refl,
+              done.2,
+              subst (λ z. CarriesLearned object.gains.held z f facts) (sym (tells ∙ quiet load x e))
+                  (kept object.gains.held k n f),
+              done.1.same,
+            ),
+          )
+      by (Some st) e =
+          let show = shows-step load x st e in
+          let row = show.row in
+          let pay = payload_told row.gain (c.payloads k) f.has.payload in
+          let facts = facts_worked object.gains row k n pay f in
+          let es = object.entries st v.number k pay in
+          let row_is : IsCellRow row = row-of st row show.is in
+          let at_is : stood.cell.state ≡ row.finds = ap state_in (sym stood.there) ∙ show.finds in
+          let opens : IsOpenRow c.queue (at_cell row) v.number k (Some stood.cell) = (
+            record {
+              does = at.doing ∙ ap Some (job.does ∙ ap (λ z. doing_at z k) show.at);
+              finds = stood.there;
+              at = at_is;
+            },
+            subst (λ z. MayWork z v.number stood.cell) show.at stood.works,
+          ) in
+          let same = loaded-same object.gains c v.number k row stood.cell f.has pay row_is sound opens show.loads in
+          let done = works object primitive passes limit client s r id me st row k word n pay stood.cell show.is here
+          one (show.suits primitive.manner suits) opens stands refl
+          (stands.shows ∙ (λ i. word_of k (sym same.0 i) (sym same.1 i))) in
+          let w : View E S = grown v facts (r.log ++ es) r.handed in (
+            w,
+            keeps,
+            tt,
+            done.0,
+            (
+              record {
+                glimpse = g;
+                number = number;
+                cell = cell;
+                may = stand;
+                since = since-last c k f.last at.last;
+                saw = subst (λ (z : Option QueueStep). Saw object v (facts_looked object.gains z n g f)
+                    (look_entries object all z v.number g f) w)
+                    (sym e) (subst (λ z. Saw object v (facts_after object.gains z k n (told_at z (c.payloads k) f) f)
+                    (object.entries st v.number k (told_at z (c.payloads k) f)) w) (sym show.is) done.1);
+                was = subst (λ (z : Option QueueStep). WasFound all (HasCell g)
+                    (look_entries object all z v.number g f) w) (sym e)
+                    (subst (λ z. WasFound all (HasCell g) (object.entries st v.number k (told_at z (c.payloads k) f)) w)
+                    (sym show.is)
+                    (found-so object primitive passes limit client all y all_is s r w
+                    (HasCell g) es known.opening_is refl (refl, refl)));
+              },
+              refl,
+              done.2,
+              subst (λ z. CarriesLearned object.gains.held z f facts) (sym tells)
+                  (show.carries object.gains k n pay f (job.does ∙ ap (λ z. doing_at z k) show.at) at.once
+                  (subst (λ z. IsOwnWait z k f) show.at job.own)),
+              done.1.same,
+            ),
+          )
 
-  -- the same at its word
-  loads-place : (slots id : ℕ) (me : Me (Option S) (View E S)) (load : LoadStep) (word : ℕ) → me.0.weight ≡ 1
-      → (k : ℕ) × (word ≡ cell_place k) × MayLook load me.0 k
-      → Allows (Ruled names shows passes limit values size) slots id me word (λ n. n)
-      (λ n me'. Looked names legal gains entries load (cell_number word) me.0 n me'.0 × (me'.1 ≡ me.1) × Unit {0})
-  loads-place slots id me load word one may =
-      let k = may.0 in
-      let place : word ≡ cell_place k = may.1 in
-      let number = number-at word k place in
-      subst (λ (z : ℕ × ℕ). Allows (Ruled names shows passes limit values size) slots id me z.0 (λ n. n)
-      (λ n me'. Looked names legal gains entries load z.1 me.0 n me'.0 × (me'.1 ≡ me.1) × Unit {0}))
-      (λ i. (sym place i, sym number i)) (loads-cell slots id me load k one may.2)
-
-  -- a load of the suspend counter, or of a cell
-  pub loads : (counter : ℕ → ℕ → List E → Type 0) (slots id : ℕ) (me : Me (Option S) (View E S)) (load : LoadStep) (word : ℕ) → me.0.weight ≡ 1
-      → CountsOf names legal shows entries gains opened passes limit values size held client counter → MayLoad load me.0 word
-      → Allows (Ruled names shows passes limit values size) slots id me word (λ n. n)
-      (loaded_by names legal gains entries counter load (step slots word 0 0 none) me)
-  loads counter slots id me counts word one tells may =
-      counted-at names legal shows entries gains opened passes limit values size held client counter slots id me word one tells may
-  loads counter slots id me watches word one tells may = loads-place slots id me watches word one may
-  loads counter slots id me polls word one tells may = loads-place slots id me polls word one may
-  loads counter slots id me cancels word one tells may = loads-place slots id me cancels word one may
-
--- what a client shows tells of the suspend counter
-pub counter-was : {C E S : Type 0} (shows : C → Hidden → List ℕ → List E → List S → Type 0) (size : C → ℕ) (x : C) (c : Hidden)
-    (words : List ℕ) (log : List E) (handed : List S) → shows x c words log handed
-    → CounterWas shows size (size x) c.queue.suspends log
-counter-was shows size x c words log handed is = record {
-  client = x;
-  size_is = refl;
-  hidden = c;
-  words = words;
-  handed = handed;
-  shown = is;
-  counter = refl;
-}
-
--- the cell that the word of a cell unpacks to
-pub unpacks : (k n : ℕ) (g : Glimpse) → FoundCell k n g
-    → unpacked_cell n ≡ Some (record { index = k; state = shown_state g.state; payload = g.payload })
-unpacks k n g found =
-    let cell : CellWord = record { index = k; state = shown_state g.state; payload = g.payload } in
-    ap unpacked_cell found.word ∙ unpacked_cell-packed_cell cell (record { index = found.number; payload = found.fits })
-
--- the event closes its wait
-abbrev ends : Option LookEvent → Bool
-ends (Some grants) = true
-ends (Some late) = true
-ends _ = false
-
-resumed-polls : (x : CoreState) → is_resumed (shown_state x) ≡ ends (event_of polls x)
-resumed-polls state.Empty = refl
-resumed-polls state.Waiter = refl
-resumed-polls state.Value = refl
-resumed-polls state.Taken = refl
-resumed-polls state.Broken = refl
-resumed-polls state.Resumed = refl
-resumed-polls state.Cancelling = refl
-resumed-polls state.Delegated = refl
-resumed-polls state.Cancelled = refl
-resumed-polls state.Refused = refl
-
-resumed-cancels : (x : CoreState) → is_resumed (shown_state x) ≡ ends (event_of cancels x)
-resumed-cancels state.Empty = refl
-resumed-cancels state.Waiter = refl
-resumed-cancels state.Value = refl
-resumed-cancels state.Taken = refl
-resumed-cancels state.Broken = refl
-resumed-cancels state.Resumed = refl
-resumed-cancels state.Cancelling = refl
-resumed-cancels state.Delegated = refl
-resumed-cancels state.Cancelled = refl
-resumed-cancels state.Refused = refl
-
--- the word tells whether the load closes the wait
-closes-ends : (load : LoadStep) (k n : ℕ) (g : Glimpse) → FoundCell k n g → closes load n ≡ ends (event_of load g.state)
-closes-ends counts k n g found = refl
-closes-ends watches k n g found = refl
-closes-ends polls k n g found = ap is_served (unpacks k n g found) ∙ resumed-polls g.state
-closes-ends cancels k n g found = ap is_served (unpacks k n g found) ∙ resumed-cancels g.state
-
-module _ (gains : ℕ → ℕ) (k n : ℕ) (f : Facts) where
-  facts-kept : (o : Option LookEvent) → ends o ≡ false
-      → ((facts_looked gains o k n f).held ≡ f.held) × ((facts_looked gains o k n f).waits ≡ f.waits)
-  facts-kept None e = (refl, refl)
-  facts-kept (Some pends) e = (refl, refl)
-  facts-kept (Some grants) e = absurd (cc)
-  facts-kept (Some late) e = absurd (cc)
-
-  facts-ended : (o : Option LookEvent) → ends o ≡ true
-      → ((facts_looked gains o k n f).held ≡ gains f.held) × ((facts_looked gains o k n f).waits ≡ without k f.waits)
-  facts-ended None e = absurd (cc)
-  facts-ended (Some pends) e = absurd (cc)
-  facts-ended (Some grants) e = (refl, refl)
-  facts-ended (Some late) e = (refl, refl)
-
-module _ {E S : Type 0} (names : ℕ → E → Bool) (legal : ℕ → List E → Type 0) (entries : QueueStep → ℕ → ℕ → List E)
-    (gains : ℕ → ℕ) where
-  -- the load leaves what the pass holds, and the number of its waits
-  abbrev Keeps : View E S → View E S → Type 0
-  Keeps v w = (w.facts.held ≡ v.facts.held) × (length w.facts.waits ≡ length v.facts.waits)
-
-  -- the load closes a wait, and the pass gains by it
-  abbrev Ends : View E S → View E S → Type 0
-  Ends v w = (w.facts.held ≡ gains v.facts.held) × (length w.facts.waits + 1 ≡ length v.facts.waits)
-
-  looked-keeps : (load : LoadStep) (k n : ℕ) (v w : View E S) → Looked names legal gains entries load k v n w
-      → closes load n ≡ false → Keeps v w
-  looked-keeps load k n v w l open_yet =
-      let kept = facts-kept gains k n v.facts (event_of load l.glimpse.state)
-      (sym (closes-ends load k n l.glimpse l.cell) ∙ open_yet) in
-      (ap (λ (f : Facts). f.held) l.saw.facts_are ∙ kept.0, ap (λ (f : Facts). length f.waits) l.saw.facts_are ∙ ap length kept.1)
-
-  pub loaded-keeps : (load : LoadStep) (word n : ℕ) (v w : View E S) → Loaded names legal gains entries load word v n w
-      → closes load n ≡ false → Keeps v w
-  loaded-keeps counts word n v w l open_yet =
-      (ap (λ (f : Facts). f.held) l.facts_are, ap (λ (f : Facts). length f.waits) l.facts_are)
-  loaded-keeps watches word n v w l open_yet = looked-keeps watches (cell_number word) n v w l open_yet
-  loaded-keeps polls word n v w l open_yet = looked-keeps polls (cell_number word) n v w l open_yet
-  loaded-keeps cancels word n v w l open_yet = looked-keeps cancels (cell_number word) n v w l open_yet
-
-  looked-ends : (load : LoadStep) (k n : ℕ) (v w : View E S) → IsInside v → Has k v.facts.waits
-      → Looked names legal gains entries load k v n w → closes load n ≡ true
-      → Ends v w
-  looked-ends load k n v w inside has l closed =
-      let ended = facts-ended gains k n v.facts (event_of load l.glimpse.state)
-      (sym (closes-ends load k n l.glimpse l.cell) ∙ closed) in (
-        ap (λ (f : Facts). f.held) l.saw.facts_are ∙ ended.0,
-        ap (λ (f : Facts). length f.waits + 1) l.saw.facts_are ∙ (ap (λ (l : List ℕ). length l + 1) ended.1 ∙ inside.once k has),
+  -- a load of a cell with no event
+  watches-cell : {C : Type 0} (all : C → Primitive E S) (y : C) → all y ≡ primitive
+      → (s : State (Option S) (View E S)) (r : Ruled object primitive passes limit s) (id : ℕ)
+      (me : Me (Option S) (View E S))
+      (k word : ℕ) → get_elem? s.views id ≡ some me.0 → me.0.weight ≡ 1 → k < me.0.cells
+      → KnowsPlace me.0 (place_at word k)
+      → Learns all watches s id me k word
+  watches-cell all y all_is s r id me k word here one below place =
+      let v = me.0 in let f = v.facts in let c = r.hidden in
+      let n = slice_index s.words word in
+      let known = r.each_view id v here (omega arith) in
+      let at = known.stands in
+      let cells_are = known.cells_are in
+      let stands = cell-at c (cell_count passes limit primitive.values) s.words v k word r.cells r.wide
+      (omega arith) place in
+      let g : Glimpse = record { number = k; state = state_at c.queue k; payload = c.payloads k } in
+      let facts = facts_watched k n f in
+      let done = looks-to object primitive passes limit client s r id me word facts here one
+      (record {
+        doing = at.doing;
+        has = at.has;
+        may_draw = at.may_draw;
+        waits = at.waits;
+        all_waits = at.all_waits;
+        once = at.once;
+        last = at.last;
+        behind = record { reached = at.behind.reached; passed = at.behind.passed };
+      }) known.payload_fits in
+      let w : View E S = grown v facts (r.log ++ []) r.handed in (
+        w,
+        keeps,
+        tt,
+        done.0,
+        (
+          record {
+            glimpse = g;
+            number = omega arith;
+            cell = record {
+              word = stands.shows;
+              number = let l = r.room.low_limit in let q = r.room.few_passes in let u =
+                  r.room.few_values in omega arith;
+              fits = r.cells.fits k;
+              bare = r.cells.bare k;
+            };
+            may = tt;
+            since = since-last c k f.last at.last;
+            saw = done.1;
+            was = found-so object primitive passes limit client all y all_is s r w (HasCell g) [] known.opening_is refl
+                (refl, refl);
+          },
+          refl,
+          done.2,
+          kept object.gains.held k n f,
+          done.1.same,
+        ),
       )
 
-  has-number : (v : View E S) (word : ℕ) → (k : ℕ) × (word ≡ cell_place k) × ((v.facts.doing ≡ doing.Idle) × Has k v.facts.waits)
-      → Has (cell_number word) v.facts.waits
-  has-number v word may =
-      subst (λ z. Has z v.facts.waits) (sym (number-at word may.0 may.1)) may.2.1
+  -- the load of a cell that the pass knows to stand at the word, whichever it is
+  any-cell : {C : Type 0} (all : C → Primitive E S) (load : LoadStep) (s : State (Option S) (View E S)) (id : ℕ)
+      (me : Me (Option S) (View E S)) (k word : ℕ) → KnowsPlace me.0 (place_at word k) → (w : View E S)
+      → Looked object all load k me.0 (slice_index s.words word) w
+      → LoadedCell object all load word me.0 (slice_index s.words word) w
+  any-cell all load s id me k word place w looked = λ j there may.
+      subst (λ z. Looked object all load z me.0 (slice_index s.words word) w)
+      (one-number me.0 word k j place there) looked
 
-  pub loaded-ends : (load : LoadStep) (word n : ℕ) (v w : View E S) → IsInside v → MayLoad load v word
-      → Loaded names legal gains entries load word v n w
-      → closes load n ≡ true → Ends v w
-  loaded-ends counts word n v w inside may l closed = absurd (cc)
-  loaded-ends watches word n v w inside may l closed = absurd (cc)
-  loaded-ends polls word n v w inside may l closed = looked-ends polls (cell_number word) n v w inside
-      (has-number v word may) l closed
-  loaded-ends cancels word n v w inside may l closed = looked-ends cancels (cell_number word) n v w inside
-      (has-number v word may) l closed
+  -- a load of the table
+  pub loads : {C : Type 0} (all : C → Primitive E S) (y : C) → all y ≡ primitive → (slots id : ℕ)
+      (me : Me (Option S) (View E S)) (load : LoadStep) (word : ℕ) → me.0.weight ≡ 1 → LoadSuits primitive.manner load
+      → MayLoad load me.0 word
+      → Allows (Ruled object primitive passes limit) slots id me word (λ n. n)
+      (loaded_by object all load (step slots word 0 0 none) me)
+  loads all y all_is slots id me counts word one suits may s r homes here small =
+      counted-at object primitive passes limit client all y all_is slots id me word one may s r homes here small
+  loads all y all_is slots id me watches word one suits may s r _ here small =
+      let t = watches-cell all y all_is s r id me may.0 word here one may.2 may.1 in
+      (t.0, t.1, t.2, t.3, (any-cell all watches s id me may.0 word may.1 t.0 t.4.0, t.4.1, t.4.2, t.4.3, t.4.4))
+  loads all y all_is slots id me polls word one suits may s r _ here small =
+      let t = learns all y all_is polls s r id me may.0 word here one suits tt may.2 may.1 in
+      (t.0, t.1, t.2, t.3, (any-cell all polls s id me may.0 word may.1 t.0 t.4.0, t.4.1, t.4.2, t.4.3, t.4.4))
+  loads all y all_is slots id me cancels word one suits may s r _ here small =
+      let t = learns all y all_is cancels s r id me may.0 word here one suits tt may.2 may.1 in
+      (t.0, t.1, t.2, t.3, (any-cell all cancels s id me may.0 word may.1 t.0 t.4.0, t.4.1, t.4.2, t.4.3, t.4.4))
+  loads all y all_is slots id me meets word one suits may s r _ here small =
+      let t = learns all y all_is meets s r id me may.0 word here one suits tt may.2 may.1 in
+      (t.0, t.1, t.2, t.3, (any-cell all meets s id me may.0 word may.1 t.0 t.4.0, t.4.1, t.4.2, t.4.3, t.4.4))
+  loads all y all_is slots id me misses word one suits may s r _ here small =
+      let t = learns all y all_is misses s r id me may.0 word here one suits tt may.2 may.1 in
+      (t.0, t.1, t.2, t.3, (any-cell all misses s id me may.0 word may.1 t.0 t.4.0, t.4.1, t.4.2, t.4.3, t.4.4))
 
-module _ {E S : Type 0} (v : View E S) (word : ℕ) where
-  cell-low : (k : ℕ) → word ≡ cell_place k → k < v.cells → word < words_for v.cells
-  cell-low k place below = subst (λ z. z < words_for v.cells) (sym place) (cell-inside k v.cells below)
-
-  -- the word is one of the table's
-  pub load-low : (load : LoadStep) → IsInside v → MayLoad load v word → word < words_for v.cells
-  load-low counts inside place = subst (λ z. z < words_for v.cells) (sym place) (suspends-inside v.cells)
-  load-low watches inside may = cell-low may.0 may.1 may.2
-  load-low polls inside may = cell-low may.0 may.1 (inside.waits may.0 may.2.1)
-  load-low cancels inside may = cell-low may.0 may.1 (inside.waits may.0 may.2.1)
+-- the word of a load is one of the table's
+pub load-low : {E S : Type 0} (v : View E S) (word : ℕ) (load : LoadStep) → IsInside v → MayLoad load v word
+    → word < words_for v.cells
+load-low v word counts inside may = subst (λ z. z < words_for v.cells) (sym may) (suspends-inside v.cells)
+load-low v word watches inside may = place-low v may.0 word may.1 may.2
+load-low v word polls inside may = place-low v may.0 word may.1 (inside.waits may.0 may.2.1)
+load-low v word cancels inside may = place-low v may.0 word may.1 (inside.waits may.0 may.2.1)
+load-low v word meets inside may = place-low v may.0 word may.1 (subst (λ d. number_at d < v.cells) may.2 inside.number)
+load-low v word misses inside may = place-low v may.0 word may.1
+    (subst (λ d. number_at d < v.cells) may.2 inside.number)

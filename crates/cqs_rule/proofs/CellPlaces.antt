@@ -1,13 +1,14 @@
 -- Where the cells stand among the words of a table. Steps cite these lemmas; else only what opens a queue computes a place.
-use Rattle.std.proofs.Common.{◌≡◌, ◌≢◌, ℕ, ◌<◌, ap, ◌∙◌, arith}
+use Rattle.std.proofs.Common.{◌≡◌, ◌≢◌, ℕ, ◌<◌, arith}
 use Rattle.cqs_rule.specs.Layout.{crew_place, suspends_place, resumes_place, client_place, cell_place, cell_number, words_for, IsIdle}
 
 -- the number of the cell that stands at the place of k is k
 pub number-place : (k : ℕ) → cell_number (cell_place k) ≡ k
 number-place k = omega arith
 
-pub number-at : (word k : ℕ) → word ≡ cell_place k → cell_number word ≡ k
-number-at word k is = ap cell_number is ∙ number-place k
+-- one word is the place of one cell
+pub same-number : (word k j : ℕ) → word ≡ cell_place k → word ≡ cell_place j → k ≡ j
+same-number word k j is same = omega arith
 
 -- no two cells share a word
 pub cells-apart : (j k : ℕ) → j ≢ k → cell_place j ≢ cell_place k

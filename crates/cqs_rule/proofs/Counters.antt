@@ -1,34 +1,50 @@
 -- The steps that draw a number from a counter. No counter comes past the cells: those at the door may draw, and the numbers drawn
 -- with those who may draw stay below the limit and the passes.
-use Rattle.std.proofs.Common.{◌≡◌, ℕ, suc, ◌+◌, ◌%◌, ◌<◌, ◌≤◌, ◌^◌, Bool, true, false, List, [], ◌∷◌, ◌++◌, length, sym, refl, ap, ◌∙◌, subst, arith, Option, Some, slice_get, cond, ℤ, pos, unsigned_abs}
+use Rattle.std.proofs.Common.{◌≡◌, ◌≢◌, ◌⊎◌, ℕ, suc, ◌+◌, ◌%◌, ◌<◌, ◌≤◌, ◌^◌, Bool, true, false, List, [], ◌∷◌, ◌++◌, length, set, sym, refl, ap, ◌∙◌, subst, inl, inr, ⊎_elim, arith, Option, Some, None, slice_get, cond, ℤ, pos, unsigned_abs}
 use Rattle.std.specs.Prelude.{slice_index, count_by}
 use Rattle.std.proofs.lemmas.List.{length-set}
 use Rattle.std.proofs.lemmas.List.Sums.{sum_by-cons}
 use Rattle.std.proofs.lemmas.Option.{same_Some}
+use mathlib.Core.Logic.{dite}
 use mathlib.Core.Option.{none}
-use Rattle.atomic_table.specs.Table.{State, Me, keeps, step, Allows}
+use native.Mathlib.Decide.{ℕ_discrete}
+use Rattle.atomic_table.specs.Table.{Me, keeps, step, Allows}
+use Rattle.cqs_core.specs.declared.cells.CoreCell.{CoreCell}
+use Rattle.cqs_core.specs.declared.cells.CoreState.TheVariants as state
 use Rattle.cqs_core.specs.declared.doings.Doing.{Doing}
 use Rattle.cqs_core.specs.declared.doings.Doing.TheVariants as doing
 use Rattle.cqs_core.specs.Numbered.{picked}
+use Rattle.cqs_core.specs.QueueCells.{IsInstalled}
 use Rattle.cqs_core.specs.QueueLine.{at_door}
-use Rattle.cqs_core.specs.QueueSound.{IsSound}
 use Rattle.cqs_core.specs.QueueLine as queue
-use Rattle.cqs_core.proofs.Places.{get-set_here, get-set_else}
+use Rattle.cqs_core.specs.QueueSound.{IsSound}
+use Rattle.cqs_core.specs.QueueStages as stage
+use Rattle.cqs_core.specs.QueueStages.{Stage, doing_at}
+use Rattle.cqs_core.specs.QueueState.{fresh_cell}
+use Rattle.cqs_core.specs.QueueSteps.{QueueStep, draws, enters, reaches, begins, puts, installs, takes, serves, leaves, delegates, passes_over, ends_refused, ends_missed, starts_leaving, leaves_line, leaves_at_once, settles, settles_owing, refuses, refuses_value, looks, pends, grants, late, row_of, CounterRow, at_counter, to_suspend, to_resume, Cost, no_cost, one_owed, one_element, counted, IsOpenRow}
+use Rattle.cqs_core.proofs.Places.{get-set_here, get-set_else, get-append_left}
 use Rattle.cqs_rule.specs.declared.view.View.{View}
 use Rattle.cqs_rule.specs.declared.view.Facts.{Facts}
-use Rattle.cqs_rule.specs.Hidden.{Hidden, QueueStep, draws, reaches, installs, leaves, takes, serves, looks, happened}
+use Rattle.cqs_rule.specs.declared.view.Has.{Has}
+use Rattle.cqs_rule.specs.Client.{IsClient, IsPaid, IsPayload}
+use Rattle.cqs_rule.specs.Counts.{IsCount, payload_paid, DrewBy, drew, IsDrawnBy}
+use Rattle.cqs_rule.specs.Facts.{facts_counted_by, IsBehind}
+use Rattle.cqs_rule.specs.Hidden.{Hidden, Gains, has_paid, happened_by, state_at}
+use Rattle.cqs_rule.specs.Kinds.{Carries}
 use Rattle.cqs_rule.specs.Layout.{words_for, client_words}
+use Rattle.cqs_rule.specs.Manner.{Suits}
+use Rattle.cqs_rule.specs.Object.{Object, Primitive}
+use Rattle.cqs_rule.specs.Ruled.{Ruled, IsWaitOf, Stands, cell_count}
+use Rattle.cqs_rule.specs.Saw.{Saw, IsLive}
 use Rattle.cqs_rule.specs.Views.{grown}
-use Rattle.cqs_rule.specs.Ruled.{Ruled}
-use Rattle.cqs_rule.specs.Client.{IsClient}
-use Rattle.cqs_rule.specs.Told.{drew, facts_after, IsCount}
-use Rattle.cqs_rule.proofs.Lists.{fewer_draw}
-use Rattle.cqs_rule.proofs.Cells.{drawn-state, reached-state}
 use Rattle.cqs_rule.proofs.CellPlaces.{behind-suspends, behind-resumes, suspends-inside, resumes-inside}
-use Rattle.cqs_rule.proofs.Words.{this-word, crew-else, cells-else, client-below, idle-else, other-word}
-use Rattle.cqs_rule.proofs.Grow.{Turned}
-use Rattle.cqs_rule.proofs.Others.{others-drawn, others-reached, drawn-self, reached-self, door-keeps, may-else}
+use Rattle.cqs_rule.proofs.Cells.{written_same, made_same, pushed-back, installed-drawn, since-on}
+use Rattle.cqs_rule.proofs.Grow.{Turned, OthersStay}
+use Rattle.cqs_rule.proofs.Lists.{fewer_draw}
+use Rattle.cqs_rule.proofs.Others.{door-keeps}
+use Rattle.cqs_rule.proofs.Segments.{later-same}
 use Rattle.cqs_rule.proofs.Tells.{steps, suspends-low, resumes-low}
+use Rattle.cqs_rule.proofs.Words.{this-word, crew-else, cells-else, client-below, idle-else, other-word}
 
 -- the passes at the door are among those who may draw
 doors-draw : (doings : List Doing) (may : List Bool) (k : ℕ)
@@ -39,7 +55,8 @@ doors-draw (doing.Door ∷ ds) [] k door = let e = door 0 refl in absurd (cc)
 doors-draw (doing.Door ∷ ds) (m ∷ may) k door =
     let rest = doors-draw ds may (suc k) (λ p at. door (suc p) at) in
     let is : m ≡ true = same_Some m true (door 0 refl) in
-    let more : count_by (λ b. b) (m ∷ may) ≡ 1 + count_by (λ b. b) may = rw is (sum_by-cons (λ b. cond b 1 0) true may) in
+    let more : count_by (λ b. b) (m ∷ may) ≡ 1 + count_by (λ b. b) may =
+    rw is (sum_by-cons (λ b. cond b 1 0) true may) in
     omega arith
 doors-draw (d ∷ ds) [] k door = let rest = doors-draw ds [] (suc k) (λ p at. let e = door (suc p) at in absurd (cc)) in
     rest
@@ -51,154 +68,478 @@ doors-draw (d ∷ ds) (m ∷ may) k door =
 one-more : (amount : ℕ) (by : ℤ) → amount ≡ unsigned_abs by → by ≡ pos 1 → amount ≡ 1
 one-more amount by is up = is ∙ ap unsigned_abs up
 
-module _ {E S : Type 0} (names : ℕ → E → Bool) (legal : ℕ → List E → Type 0) (shows : Hidden → List ℕ → List E → List S → Type 0)
-    (entries : QueueStep → ℕ → ℕ → List E) (gains : ℕ → ℕ) (opened : List ℕ) (passes limit values size held : ℕ)
-    (client : IsClient names (legal size) shows entries gains opened values held) where
-  abbrev Rule : State (Option S) (View E S) → Type 0
-  Rule = Ruled names shows passes limit values size
+-- what paid for a number to resume at owes no more than before, or the element
+paid-fits : (cost : Cost) (payload : ℕ) (h : Has) → payload < 2 ^ 20 → h.payload < 2 ^ 20
+    → (has_paid cost payload h).payload < 2 ^ 20
+paid-fits no_cost payload h new old = old
+paid-fits one_owed payload h new old = old
+paid-fits one_element payload h new old = new
 
+paid-held : (cost : Cost) (payload : ℕ) (h : Has) → (has_paid cost payload h).held ≡ h.held
+paid-held no_cost payload h = refl
+paid-held one_owed payload h = refl
+paid-held one_element payload h = refl
+
+module _ (c : Hidden) (p k : ℕ) where
+  -- a number is drawn: each cell keeps its state
+  pub drawn-state : (found : Option CoreCell) (j : ℕ) → slice_get c.queue.cells k ≡ found
+      → state_at (counted to_suspend c.queue p k found) j ≡ state_at c.queue j
+  drawn-state None j e = made_same c.queue.cells _ j refl
+  drawn-state (Some found) j e = written_same c.queue.cells k j found _ e refl
+
+  pub reached-state : (found : Option CoreCell) (j : ℕ)
+      → state_at (counted to_resume c.queue p k found) j ≡ state_at c.queue j
+  reached-state None j = made_same c.queue.cells fresh_cell j refl
+  reached-state (Some found) j = refl
+
+  -- a wait is of a number that was drawn before
+  pub drawn-wait : (found : Option CoreCell) (n j : ℕ) → slice_get c.queue.cells k ≡ found → k ≡ c.queue.suspends
+      → IsWaitOf c.queue n j → IsWaitOf (counted to_suspend c.queue p k found) n j
+  drawn-wait None n j e next w = record {
+    cell = w.cell;
+    there = get-append_left c.queue.cells _ j w.cell w.there;
+    owner = w.owner;
+    drawn = let d = w.drawn in omega arith;
+    uncollected = w.uncollected;
+    installed = w.installed;
+  }
+  drawn-wait (Some found) n j e next w = record {
+    cell = w.cell;
+    there = let d = w.drawn in get-set_else c.queue.cells k j _ (λ q. omega arith) ∙ w.there;
+    owner = w.owner;
+    drawn = let d = w.drawn in omega arith;
+    uncollected = w.uncollected;
+    installed = w.installed;
+  }
+
+  pub reached-wait : (found : Option CoreCell) (n j : ℕ)
+      → IsWaitOf c.queue n j → IsWaitOf (counted to_resume c.queue p k found) n j
+  reached-wait None n j w = record {
+    cell = w.cell;
+    there = get-append_left c.queue.cells _ j w.cell w.there;
+    owner = w.owner;
+    drawn = w.drawn;
+    uncollected = w.uncollected;
+    installed = w.installed;
+  }
+  reached-wait (Some found) n j w = record {
+    cell = w.cell;
+    there = w.there;
+    owner = w.owner;
+    drawn = w.drawn;
+    uncollected = w.uncollected;
+    installed = w.installed;
+  }
+
+  -- a wait that stands after a number was drawn stood before
+  pub drawn-wait_back : (found : Option CoreCell) (n j : ℕ) → slice_get c.queue.cells k ≡ found → k ≡ c.queue.suspends
+      → IsSound c.queue
+      → IsWaitOf (counted to_suspend c.queue p k found) n j → IsWaitOf c.queue n j
+  drawn-wait_back None n j e next sound w = ⊎_elim
+      (λ (old : slice_get c.queue.cells j ≡ Some w.cell).
+      let apart : j ≢ k = λ q.
+      let both : None ≡ Some w.cell = sym e ∙ (ap (slice_get c.queue.cells) (sym q) ∙ old) in absurd (cc) in
+      record {
+        cell = w.cell;
+        there = old;
+        owner = w.owner;
+        drawn = let d = w.drawn in omega arith;
+        uncollected = w.uncollected;
+        installed = w.installed;
+      })
+      (λ (new : w.cell ≡ record { state = state.Empty; owner = Some p; collected = false }).
+      absurd (subst IsInstalled (ap (λ (x : CoreCell). x.state) new) w.installed))
+      (pushed-back c.queue.cells _ j w.cell w.there)
+  drawn-wait_back (Some found) n j e next sound w = dite (ℕ_discrete j k)
+      (λ (q : j ≡ k).
+      let new : CoreCell = record { state = found.state; owner = Some p; collected = found.collected } in
+      let here : slice_get (set c.queue.cells k new) j ≡ Some new =
+      ap (slice_get (set c.queue.cells k new)) q ∙ get-set_here c.queue.cells k found new e in
+      let same : w.cell ≡ new = same_Some w.cell new (sym w.there ∙ here) in
+      let stood : IsInstalled found.state = subst IsInstalled (ap (λ (x : CoreCell). x.state) same) w.installed in
+      let low = installed-drawn c.queue k found found.state (sound.cells.at k found e) stood in
+      absurd (omega arith))
+      (λ (a : j ≢ k). record {
+        cell = w.cell;
+        there = sym (get-set_else c.queue.cells k j _ (λ q. a (sym q))) ∙ w.there;
+        owner = w.owner;
+        drawn = let d = w.drawn in omega arith;
+        uncollected = w.uncollected;
+        installed = w.installed;
+      })
+
+  pub reached-wait_back : (found : Option CoreCell) (n j : ℕ)
+      → IsWaitOf (counted to_resume c.queue p k found) n j → IsWaitOf c.queue n j
+  reached-wait_back None n j w = ⊎_elim
+      (λ (old : slice_get c.queue.cells j ≡ Some w.cell). record {
+        cell = w.cell;
+        there = old;
+        owner = w.owner;
+        drawn = w.drawn;
+        uncollected = w.uncollected;
+        installed = w.installed;
+      })
+      (λ (new : w.cell ≡ fresh_cell). absurd (subst IsInstalled (ap (λ (x : CoreCell). x.state) new) w.installed))
+      (pushed-back c.queue.cells fresh_cell j w.cell w.there)
+  reached-wait_back (Some found) n j w = record {
+    cell = w.cell;
+    there = w.there;
+    owner = w.owner;
+    drawn = w.drawn;
+    uncollected = w.uncollected;
+    installed = w.installed;
+  }
+
+-- the counter goes on
+behind-more : (n : ℕ) (f : Facts) → IsBehind n f → IsBehind (n + 1) f
+behind-more n f behind = record {
+  reached = let b = behind.reached in omega arith;
+  passed = λ k h. let b = behind.passed k h in omega arith;
+}
+
+module _ (gains : Gains) (c : Hidden) (p k : ℕ) (at : Stage) (cost : Cost) (found : Option CoreCell) (has : Has)
+    (payload : ℕ) where
+  -- a number is drawn to suspend at, and to resume at
+  abbrev pub suspend_row : CounterRow
+  suspend_row = record { works_at = at; counter = to_suspend; cost = cost }
+
+  abbrev pub resume_row : CounterRow
+  resume_row = record { works_at = at; counter = to_resume; cost = cost }
+
+  abbrev pub drawn : Hidden
+  drawn = happened_by gains c (at_counter suspend_row) p k found has payload
+
+  abbrev pub reached : Hidden
+  reached = happened_by gains c (at_counter resume_row) p k found has payload
+
+  others-drawn : slice_get c.queue.cells k ≡ found → k ≡ c.queue.suspends → IsSound c.queue → OthersStay c drawn p
+  others-drawn there next sound = record {
+    doing = λ n apart. get-set_else c.queue.doing p n (doing.Drawn k) (λ e. apart (sym e));
+    waits = λ n j apart w. drawn-wait_back c p k found n j there next sound w;
+    stands = λ n facts apart is. record {
+      doing = get-set_else c.queue.doing p n (doing.Drawn k) (λ e. apart (sym e)) ∙ is.doing;
+      has = get-set_else c.has p n (has_paid cost payload has) (λ e. apart (sym e)) ∙ is.has;
+      may_draw = get-set_else c.may_draw p n false (λ e. apart (sym e)) ∙ is.may_draw;
+      waits = λ j h. drawn-wait c p k found n j there next (is.waits j h);
+      all_waits = λ j w. is.all_waits j (drawn-wait_back c p k found n j there next sound w);
+      once = is.once;
+      last = since-on c drawn facts.last (λ j. inl (drawn-state c p k found j there, refl)) is.last;
+      behind = is.behind;
+    };
+  }
+
+  others-reached : OthersStay c reached p
+  others-reached = record {
+    doing = λ n apart. get-set_else c.queue.doing p n (doing.Ticket k) (λ e. apart (sym e));
+    waits = λ n j apart w. reached-wait_back c p k found n j w;
+    stands = λ n facts apart is. record {
+      doing = get-set_else c.queue.doing p n (doing.Ticket k) (λ e. apart (sym e)) ∙ is.doing;
+      has = get-set_else c.has p n (has_paid cost payload has) (λ e. apart (sym e)) ∙ is.has;
+      may_draw = is.may_draw;
+      waits = λ j h. reached-wait c p k found n j (is.waits j h);
+      all_waits = λ j w. is.all_waits j (reached-wait_back c p k found n j w);
+      once = is.once;
+      last = since-on c reached facts.last (λ j. inl (reached-state c p k found j, refl)) is.last;
+      behind = behind-more c.queue.resumes facts is.behind;
+    };
+  }
+
+  drawn-self : (n : ℕ) (f : Facts) → f.has ≡ has → n ≡ k → slice_get c.queue.cells k ≡ found → k ≡ c.queue.suspends
+      → IsSound c.queue → Stands c p f → Stands drawn p (facts_counted_by suspend_row n payload f)
+  drawn-self n f same here there next sound is = record {
+    doing = get-set_here c.queue.doing p f.doing (doing.Drawn k) is.doing ∙ ap (λ z. Some (doing.Drawn z)) (sym here);
+    has = get-set_here c.has p f.has (has_paid cost payload has) is.has
+        ∙ ap (λ (z : Has). Some (has_paid cost payload z)) (sym same);
+    may_draw = get-set_here c.may_draw p f.may_draw false is.may_draw;
+    waits = λ j h. drawn-wait c p k found p j there next (is.waits j h);
+    all_waits = λ j w. is.all_waits j (drawn-wait_back c p k found p j there next sound w);
+    once = is.once;
+    last = tt;
+    behind = record { reached = is.behind.reached; passed = is.behind.passed };
+  }
+
+  reached-self : (n : ℕ) (f : Facts) → f.has ≡ has → n ≡ k → n ≡ c.queue.resumes → Stands c p f
+      → Stands reached p (facts_counted_by resume_row n payload f)
+  reached-self n f same here next is = record {
+    doing = get-set_here c.queue.doing p f.doing (doing.Ticket k) is.doing ∙ ap (λ z. Some (doing.Ticket z)) (sym here);
+    has = get-set_here c.has p f.has (has_paid cost payload has) is.has
+        ∙ ap (λ (z : Has). Some (has_paid cost payload z)) (sym same);
+    may_draw = is.may_draw;
+    waits = λ j h. reached-wait c p k found p j (is.waits j h);
+    all_waits = λ j w. is.all_waits j (reached-wait_back c p k found p j w);
+    once = is.once;
+    last = tt;
+    behind = record { reached = omega arith; passed = (behind-more c.queue.resumes f is.behind).passed };
+  }
+
+module _ {E S : Type 0} (object : Object E) (primitive : Primitive E S) (passes limit : ℕ)
+    (client : IsClient object primitive) where
   -- a number is drawn to suspend at
-  pub draw : (slots id : ℕ) (me : Me (Option S) (View E S)) → me.0.weight ≡ 1 → me.0.facts.doing ≡ doing.Door
-      → Allows (Ruled names shows passes limit values size) slots id me 16 (λ n. (n + 1) % 2 ^ 64)
-      (drew names legal gains entries draws (step slots 16 1 0 none) me)
-  draw slots id me one door s r _ here small =
+  draw : (slots id : ℕ) (me : Me (Option S) (View E S)) (st : QueueStep) (at : Stage) (cost : Cost) (payload : ℕ)
+      → row_of st ≡ at_counter (record { works_at = at; counter = to_suspend; cost = cost }) → me.0.weight ≡ 1
+      → Suits primitive.manner st → me.0.facts.doing ≡ doing_at at 0 → ((k : ℕ) → doing_at at 0 ≡ doing_at at k)
+      → (me.0.facts.doing ≡ doing.Door ⊎ me.0.facts.may_draw ≡ true) → IsPaid cost me.0.facts.has payload
+      → payload < 2 ^ 20
+      → payload ≡ payload_paid cost me.0.facts.has
+      → Allows (Ruled object primitive passes limit) slots id me 16 (λ n. (n + 1) % 2 ^ 64)
+      (λ n me'. DrewBy object st (at_counter (record { works_at = at; counter = to_suspend; cost = cost })) me.0 n me'.0
+      × (me'.1 ≡ me.1) × IsLive object me'.0
+      × Carries object.gains.held (at_counter (record { works_at = at; counter = to_suspend; cost = cost })) me.0.facts
+      me'.0.facts
+      × IsDrawnBy (at_counter (record { works_at = at; counter = to_suspend; cost = cost })) me.0.facts n)
+  draw slots id me st at cost payload is one suits works steady may paid fits first s r _ here small =
       let v = me.0 in let p = v.number in let f = v.facts in let c = r.hidden in
-      let at = (r.each_view id v here).stands (omega arith) in
+      let known = r.each_view id v here (omega arith) in
+      let stands = known.stands in
       let n = slice_index s.words 16 in
       let k = c.queue.suspends in
-      let is : n ≡ k = r.counters.suspends in
+      let next : n ≡ k = r.counters.suspends in
       let x = (n + 1) % 2 ^ 64 in
       let found = slice_get c.queue.cells n in
-      let does : slice_get c.queue.doing p ≡ Some doing.Door = at.doing ∙ ap Some door in
-      let may : slice_get c.may_draw p ≡ Some true = r.door p does in
-      let low = suspends-low passes limit values c r.room in
+      let does : slice_get c.queue.doing p ≡ Some (doing_at at n) = stands.doing ∙ ap Some (works ∙ steady n) in
+      let open_room : slice_get c.may_draw p ≡ Some true = ⊎_elim
+      (λ (d : f.doing ≡ doing.Door). r.door p (stands.doing ∙ ap Some d))
+      (λ (m : f.may_draw ≡ true). stands.may_draw ∙ ap Some m) may in
+      let low = suspends-low passes limit primitive.values c r.room in
       let sound : IsSound c.queue = client.sound c (client_words s.words) r.log r.handed r.shown in
-      let next : x ≡ k + 1 = omega arith in
-      let inside = suspends-inside (limit + passes + values) in
+      let after : x ≡ k + 1 = omega arith in
+      let inside = suspends-inside (cell_count passes limit primitive.values) in
       let wide = r.wide in
-      let d = happened gains c draws p n found f.payload in
-      let t : Turned names shows passes limit values size s r v 16 x d (entries draws p n)
-      (facts_after gains draws n n f) = record {
+      let d = drawn object.gains c p n at cost found f.has payload in
+      let row = suspend_row object.gains c p n at cost found f.has payload in
+      let es = object.entries st p n payload in
+      let facts = facts_counted_by row n payload f in
+      let by : primitive.shows (happened_by object.gains c (row_of st) p n found f.has payload) (client_words s.words)
+      (r.log ++ es) r.handed =
+      client.steps c st p n found f.has payload (client_words s.words) r.log r.handed r.shown
+      (subst (λ z. IsOpenRow c.queue z p n found) (sym is) (does, next, refl)) stands.has
+      (subst (λ z. IsPayload z f.has (c.payloads n) payload) (sym is) paid) suits (omega arith)
+      (let m = resumes-low passes limit primitive.values c r.room in omega arith) in
+      let now : primitive.shows d (client_words s.words) (r.log ++ es) r.handed =
+      subst (λ z. primitive.shows (happened_by object.gains c z p n found f.has payload) (client_words s.words)
+      (r.log ++ es) r.handed) is by in
+      let t : Turned object primitive passes limit s r v 16 x d es facts = record {
         crew = crew-else s.words 16 x (omega arith);
         counters = record {
-          suspends = this-word s.words 16 x (omega arith) ∙ next;
+          suspends = this-word s.words 16 x (omega arith) ∙ after;
           resumes = other-word s.words 16 32 x (λ e. omega arith) ∙ r.counters.resumes;
         };
-        cells = cells-else c d (limit + passes + values) s.words 16 x behind-suspends
-            (λ j. drawn-state gains c p n f.payload found j refl) (λ j. refl) r.cells;
+        cells = cells-else c d (cell_count passes limit primitive.values) s.words 16 x behind-suspends
+            (λ j. drawn-state c p n found j refl) (λ j. refl) r.cells;
         idle_words = idle-else s.words 16 x (λ j is. is.suspends) r.idle_words;
         room = record {
           few_passes = r.room.few_passes;
           low_limit = r.room.low_limit;
           few_values = r.room.few_values;
           doing = length-set c.queue.doing p (doing.Drawn n) ∙ r.room.doing;
-          held = r.room.held;
+          has = length-set c.has p _ ∙ r.room.has;
           may_draw = length-set c.may_draw p false ∙ r.room.may_draw;
-          ground = let fewer = fewer_draw c.may_draw p may in let g = r.room.ground in omega arith;
+          ground = let fewer = fewer_draw c.may_draw p open_room in let g = r.room.ground in omega arith;
           resumes = r.room.resumes;
         };
         door = door-keeps c d p r.door (λ m a. get-set_else c.queue.doing p m (doing.Drawn n) (λ e. a (sym e)))
-            (may-else gains c p n f.payload draws found)
-            (λ e. let mine = get-set_here c.queue.doing p f.doing (doing.Drawn n) at.doing in absurd (cc));
-        shown = subst (λ (ws : List ℕ). shows d ws (r.log ++ entries draws p n) r.handed)
-            (sym (client-below s.words 16 x (omega arith)))
-            (client.steps c draws p n found f.payload (client_words s.words) r.log r.handed r.shown (does, is, refl) (omega arith)
-            (let m = resumes-low passes limit values c r.room in omega arith));
-        others = others-drawn gains c p n f.payload found refl is sound;
-        self = drawn-self gains c p n f.payload found n f refl is sound at;
-        silent = client.silent draws p n;
-        payload_fits = (r.each_view id v here).payload_fits;
+            (λ m a. get-set_else c.may_draw p m false (λ e. a (sym e)))
+            (λ e. let mine = get-set_here c.queue.doing p f.doing (doing.Drawn n) stands.doing in absurd (cc));
+        shown = subst (λ (ws : List ℕ). primitive.shows d ws (r.log ++ es) r.handed)
+            (sym (client-below s.words 16 x (omega arith))) now;
+        others = others-drawn object.gains c p n at cost found f.has payload refl next sound;
+        self = drawn-self object.gains c p n at cost found f.has payload n f refl refl refl next sound stands;
+        silent = client.silent st p n payload;
+        payload_fits = paid-fits cost payload f.has fits known.payload_fits;
+        now = r.segments;
+        later = later-same r.segments;
       } in
-      let done = steps names legal shows entries gains opened passes limit values size held client s r id me 16 x d
-      (entries draws p n) (facts_after gains draws n n f) here one t in
-      (grown v (facts_after gains draws n n f) (r.log ++ entries draws p n) r.handed, keeps, tt, done.0, (done.1, refl))
+      let done = steps object primitive passes limit client s r id me 16 x d es facts here one t in (
+        grown v facts (r.log ++ es) r.handed,
+        keeps,
+        tt,
+        done.0,
+        (
+          subst (λ z. Saw object v (facts_counted_by row n z f) (object.entries st p n z)
+              (grown v facts (r.log ++ es) r.handed)) first done.1,
+          refl,
+          done.2,
+          record { held = paid-held cost payload f.has; owes = refl; waits = refl },
+          tt,
+        ),
+      )
 
   -- a number is drawn to resume at
-  pub reach : (slots id : ℕ) (me : Me (Option S) (View E S)) → me.0.weight ≡ 1 → me.0.facts.doing ≡ doing.Owes
-      → Allows (Ruled names shows passes limit values size) slots id me 32 (λ n. (n + 1) % 2 ^ 64)
-      (drew names legal gains entries reaches (step slots 32 1 0 none) me)
-  reach slots id me one owes s r _ here small =
+  reach : (slots id : ℕ) (me : Me (Option S) (View E S)) (st : QueueStep) (at : Stage) (cost : Cost) (payload : ℕ)
+      → row_of st ≡ at_counter (record { works_at = at; counter = to_resume; cost = cost }) → me.0.weight ≡ 1
+      → Suits primitive.manner st → me.0.facts.doing ≡ doing_at at 0 → ((k : ℕ) → doing_at at 0 ≡ doing_at at k)
+      → IsPaid cost me.0.facts.has payload → payload < 2 ^ 20 → payload ≡ payload_paid cost me.0.facts.has
+      → ((c : Hidden) (words : List ℕ) (log : List E) (handed : List S) → primitive.shows c words log handed
+      → slice_get c.queue.doing me.0.number ≡ Some me.0.facts.doing → slice_get c.has me.0.number ≡ Some me.0.facts.has
+      → c.queue.resumes < c.queue.suspends + length (queue.door c.queue) + primitive.values)
+      → Allows (Ruled object primitive passes limit) slots id me 32 (λ n. (n + 1) % 2 ^ 64)
+      (λ n me'. DrewBy object st (at_counter (record { works_at = at; counter = to_resume; cost = cost })) me.0 n me'.0
+      × (me'.1 ≡ me.1) × IsLive object me'.0
+      × Carries object.gains.held (at_counter (record { works_at = at; counter = to_resume; cost = cost })) me.0.facts
+      me'.0.facts
+      × IsDrawnBy (at_counter (record { works_at = at; counter = to_resume; cost = cost })) me.0.facts n)
+  reach slots id me st at cost payload is one suits works steady paid fits first few_left s r _ here small =
       let v = me.0 in let p = v.number in let f = v.facts in let c = r.hidden in
-      let at = (r.each_view id v here).stands (omega arith) in
+      let known = r.each_view id v here (omega arith) in
+      let stands = known.stands in
       let n = slice_index s.words 32 in
       let k = c.queue.resumes in
-      let is : n ≡ k = r.counters.resumes in
+      let next : n ≡ k = r.counters.resumes in
       let x = (n + 1) % 2 ^ 64 in
       let found = slice_get c.queue.cells n in
-      let does : slice_get c.queue.doing p ≡ Some doing.Owes = at.doing ∙ ap Some owes in
-      let few : k < c.queue.suspends + length (queue.door c.queue) + values = client.reaches_few c
-      (client_words s.words) r.log r.handed p r.shown does in
-      let doors : length (queue.door c.queue) ≤ count_by (λ b. b) c.may_draw = doors-draw c.queue.doing c.may_draw 0 r.door in
+      let does : slice_get c.queue.doing p ≡ Some (doing_at at n) = stands.doing ∙ ap Some (works ∙ steady n) in
+      let few : k < c.queue.suspends + length (queue.door c.queue) + primitive.values =
+      few_left c (client_words s.words) r.log r.handed r.shown stands.doing stands.has in
+      let doors : length (queue.door c.queue) ≤ count_by (λ b. b) c.may_draw =
+      doors-draw c.queue.doing c.may_draw 0 r.door in
       let ground = r.room.ground in
-      let low = resumes-low passes limit values c r.room in
-      let next : x ≡ k + 1 = omega arith in
-      let inside = resumes-inside (limit + passes + values) in
+      let low = resumes-low passes limit primitive.values c r.room in
+      let after : x ≡ k + 1 = omega arith in
+      let inside = resumes-inside (cell_count passes limit primitive.values) in
       let wide = r.wide in
-      let d = happened gains c reaches p n found f.payload in
-      let t : Turned names shows passes limit values size s r v 32 x d (entries reaches p n)
-      (facts_after gains reaches n n f) = record {
+      let d = reached object.gains c p n at cost found f.has payload in
+      let row = resume_row object.gains c p n at cost found f.has payload in
+      let es = object.entries st p n payload in
+      let facts = facts_counted_by row n payload f in
+      let by : primitive.shows (happened_by object.gains c (row_of st) p n found f.has payload) (client_words s.words)
+      (r.log ++ es) r.handed =
+      client.steps c st p n found f.has payload (client_words s.words) r.log r.handed r.shown
+      (subst (λ z. IsOpenRow c.queue z p n found) (sym is) (does, next, refl)) stands.has
+      (subst (λ z. IsPayload z f.has (c.payloads n) payload) (sym is) paid) suits
+      (let l = suspends-low passes limit primitive.values c r.room in omega arith) (omega arith) in
+      let now : primitive.shows d (client_words s.words) (r.log ++ es) r.handed =
+      subst (λ z. primitive.shows (happened_by object.gains c z p n found f.has payload) (client_words s.words)
+      (r.log ++ es) r.handed) is by in
+      let t : Turned object primitive passes limit s r v 32 x d es facts = record {
         crew = crew-else s.words 32 x (omega arith);
         counters = record {
           suspends = other-word s.words 32 16 x (λ e. omega arith) ∙ r.counters.suspends;
-          resumes = this-word s.words 32 x (omega arith) ∙ next;
+          resumes = this-word s.words 32 x (omega arith) ∙ after;
         };
-        cells = cells-else c d (limit + passes + values) s.words 32 x behind-resumes
-            (λ j. reached-state gains c p n f.payload found j) (λ j. refl) r.cells;
+        cells = cells-else c d (cell_count passes limit primitive.values) s.words 32 x behind-resumes
+            (λ j. reached-state c p n found j) (λ j. refl) r.cells;
         idle_words = idle-else s.words 32 x (λ j is. is.resumes) r.idle_words;
         room = record {
           few_passes = r.room.few_passes;
           low_limit = r.room.low_limit;
           few_values = r.room.few_values;
           doing = length-set c.queue.doing p (doing.Ticket n) ∙ r.room.doing;
-          held = r.room.held;
+          has = length-set c.has p _ ∙ r.room.has;
           may_draw = r.room.may_draw;
           ground = r.room.ground;
           resumes = omega arith;
         };
         door = door-keeps c d p r.door (λ m a. get-set_else c.queue.doing p m (doing.Ticket n) (λ e. a (sym e)))
-            (may-else gains c p n f.payload reaches found)
-            (λ e. let mine = get-set_here c.queue.doing p f.doing (doing.Ticket n) at.doing in absurd (cc));
-        shown = subst (λ (ws : List ℕ). shows d ws (r.log ++ entries reaches p n) r.handed)
-            (sym (client-below s.words 32 x (omega arith)))
-            (client.steps c reaches p n found f.payload (client_words s.words) r.log r.handed r.shown (does, is, refl)
-            (let l = suspends-low passes limit values c r.room in omega arith) (omega arith));
-        others = others-reached gains c p n f.payload found;
-        self = reached-self gains c p n f.payload found n f at;
-        silent = client.silent reaches p n;
-        payload_fits = (r.each_view id v here).payload_fits;
+            (λ m a. refl)
+            (λ e. let mine = get-set_here c.queue.doing p f.doing (doing.Ticket n) stands.doing in absurd (cc));
+        shown = subst (λ (ws : List ℕ). primitive.shows d ws (r.log ++ es) r.handed)
+            (sym (client-below s.words 32 x (omega arith))) now;
+        others = others-reached object.gains c p n at cost found f.has payload;
+        self = reached-self object.gains c p n at cost found f.has payload n f refl refl next stands;
+        silent = client.silent st p n payload;
+        payload_fits = paid-fits cost payload f.has fits known.payload_fits;
+        now = r.segments;
+        later = later-same r.segments;
       } in
-      let done = steps names legal shows entries gains opened passes limit values size held client s r id me 32 x d
-      (entries reaches p n) (facts_after gains reaches n n f) here one t in
-      (grown v (facts_after gains reaches n n f) (r.log ++ entries reaches p n) r.handed, keeps, tt, done.0, (done.1, refl))
+      let done = steps object primitive passes limit client s r id me 32 x d es facts here one t in (
+        grown v facts (r.log ++ es) r.handed,
+        keeps,
+        tt,
+        done.0,
+        (
+          subst (λ z. Saw object v (facts_counted_by row n z f) (object.entries st p n z)
+              (grown v facts (r.log ++ es) r.handed)) first done.1,
+          refl,
+          done.2,
+          record { held = paid-held cost payload f.has; owes = refl; waits = refl },
+          subst (λ z. IsBehind z f) (sym next) stands.behind,
+        ),
+      )
 
   -- a number is drawn from the counter that the step names
-  pub count : (slots id : ℕ) (me : Me (Option S) (View E S)) (t : QueueStep) (word amount : ℕ) (by : ℤ) → me.0.weight ≡ 1
-      → amount ≡ unsigned_abs by → IsCount t me.0.facts word by
-      → Allows (Ruled names shows passes limit values size) slots id me word (λ n. (n + amount) % 2 ^ 64)
-      (drew names legal gains entries t (step slots word amount 0 none) me)
-  count slots id me draws word amount by one is c =
-      subst (λ (z : ℕ × ℕ). Allows (Ruled names shows passes limit values size) slots id me z.0 (λ n. (n + z.1) % 2 ^ 64)
-      (drew names legal gains entries draws (step slots z.0 z.1 0 none) me))
-      (λ i. (sym c.1 i, sym (one-more amount by is c.2) i)) (draw slots id me one c.0)
-  count slots id me reaches word amount by one is c =
-      subst (λ (z : ℕ × ℕ). Allows (Ruled names shows passes limit values size) slots id me z.0 (λ n. (n + z.1) % 2 ^ 64)
-      (drew names legal gains entries reaches (step slots z.0 z.1 0 none) me))
-      (λ i. (sym c.1 i, sym (one-more amount by is c.2) i)) (reach slots id me one c.0)
-  count slots id me installs word amount by one is c = absurd c
-  count slots id me leaves word amount by one is c = absurd c
-  count slots id me takes word amount by one is c = absurd c
-  count slots id me serves word amount by one is c = absurd c
-  count slots id me (looks e) word amount by one is c = absurd c
+  pub count : (slots id : ℕ) (me : Me (Option S) (View E S)) (t : QueueStep) (word amount : ℕ) (by : ℤ)
+      → me.0.weight ≡ 1
+      → amount ≡ unsigned_abs by → Suits primitive.manner t → IsCount t me.0.facts word by
+      → Allows (Ruled object primitive passes limit) slots id me word (λ n. (n + amount) % 2 ^ 64)
+      (drew object t (step slots word amount 0 none) me)
+  count slots id me draws word amount by one is suits c =
+      subst (λ (z : ℕ × ℕ). Allows (Ruled object primitive passes limit) slots id me z.0 (λ n. (n + z.1) % 2 ^ 64)
+      (drew object draws (step slots z.0 z.1 0 none) me))
+      (λ i. (sym c.word_is i, sym (one-more amount by is c.one) i))
+      (draw slots id me draws stage.door no_cost me.0.facts.has.payload refl one suits c.works (λ k. refl)
+      (inl c.works) c.paid c.fits refl)
+  count slots id me enters word amount by one is suits c =
+      subst (λ (z : ℕ × ℕ). Allows (Ruled object primitive passes limit) slots id me z.0 (λ n. (n + z.1) % 2 ^ 64)
+      (drew object enters (step slots z.0 z.1 0 none) me))
+      (λ i. (sym c.word_is i, sym (one-more amount by is c.one) i))
+      (draw slots id me enters stage.idle no_cost me.0.facts.has.payload refl one suits c.works (λ k. refl)
+      (inr c.may) c.paid c.fits refl)
+  count slots id me reaches word amount by one is suits c =
+      subst (λ (z : ℕ × ℕ). Allows (Ruled object primitive passes limit) slots id me z.0 (λ n. (n + z.1) % 2 ^ 64)
+      (drew object reaches (step slots z.0 z.1 0 none) me))
+      (λ i. (sym c.word_is i, sym (one-more amount by is c.one) i))
+      (reach slots id me reaches stage.owes no_cost me.0.facts.has.payload refl one suits c.works
+      (λ k. refl) c.paid c.fits refl
+      (λ h words log handed shown does has. client.reaches_few h words log handed me.0.number shown (does
+      ∙ ap Some c.works)))
+  count slots id me begins word amount by one is suits c =
+      subst (λ (z : ℕ × ℕ). Allows (Ruled object primitive passes limit) slots id me z.0 (λ n. (n + z.1) % 2 ^ 64)
+      (drew object begins (step slots z.0 z.1 0 none) me))
+      (λ i. (sym c.word_is i, sym (one-more amount by is c.one) i))
+      (reach slots id me begins stage.idle one_owed me.0.facts.has.payload refl one suits c.works
+      (λ k. refl) c.paid c.fits refl
+      (λ h words log handed shown does has. client.begins_few h words log handed me.0.number me.0.facts.has one_owed
+      me.0.facts.has.payload shown (does ∙ ap Some c.works) has c.paid tt suits))
+  count slots id me puts word amount by one is suits c =
+      subst (λ (z : ℕ × ℕ). Allows (Ruled object primitive passes limit) slots id me z.0 (λ n. (n + z.1) % 2 ^ 64)
+      (drew object puts (step slots z.0 z.1 0 none) me))
+      (λ i. (sym c.word_is i, sym (one-more amount by is c.one) i))
+      (reach slots id me puts stage.idle one_element (payload_paid one_element me.0.facts.has) refl one suits c.works
+      (λ k. refl) c.paid c.fits refl
+      (λ h words log handed shown does has. client.begins_few h words log handed me.0.number me.0.facts.has one_element
+      (payload_paid one_element me.0.facts.has) shown (does ∙ ap Some c.works) has c.paid tt suits))
+  count slots id me installs word amount by one is suits c = absurd c
+  count slots id me takes word amount by one is suits c = absurd c
+  count slots id me serves word amount by one is suits c = absurd c
+  count slots id me leaves word amount by one is suits c = absurd c
+  count slots id me delegates word amount by one is suits c = absurd c
+  count slots id me passes_over word amount by one is suits c = absurd c
+  count slots id me ends_refused word amount by one is suits c = absurd c
+  count slots id me ends_missed word amount by one is suits c = absurd c
+  count slots id me starts_leaving word amount by one is suits c = absurd c
+  count slots id me leaves_line word amount by one is suits c = absurd c
+  count slots id me leaves_at_once word amount by one is suits c = absurd c
+  count slots id me settles word amount by one is suits c = absurd c
+  count slots id me settles_owing word amount by one is suits c = absurd c
+  count slots id me refuses word amount by one is suits c = absurd c
+  count slots id me refuses_value word amount by one is suits c = absurd c
+  count slots id me (looks pends) word amount by one is suits c = absurd c
+  count slots id me (looks grants) word amount by one is suits c = absurd c
+  count slots id me (looks late) word amount by one is suits c = absurd c
 
 -- the word of a counter is one of the table's
 pub counter-low : (t : QueueStep) (facts : Facts) (word : ℕ) (by : ℤ) → IsCount t facts word by
     → (cells : ℕ) → word < words_for cells
-counter-low draws facts word by c cells =
-    subst (λ z. z < words_for cells) (sym c.1) (suspends-inside cells)
-counter-low reaches facts word by c cells =
-    subst (λ z. z < words_for cells) (sym c.1) (resumes-inside cells)
+counter-low draws facts word by c cells = subst (λ z. z < words_for cells) (sym c.word_is) (suspends-inside cells)
+counter-low enters facts word by c cells = subst (λ z. z < words_for cells) (sym c.word_is) (suspends-inside cells)
+counter-low reaches facts word by c cells = subst (λ z. z < words_for cells) (sym c.word_is) (resumes-inside cells)
+counter-low begins facts word by c cells = subst (λ z. z < words_for cells) (sym c.word_is) (resumes-inside cells)
+counter-low puts facts word by c cells = subst (λ z. z < words_for cells) (sym c.word_is) (resumes-inside cells)
 counter-low installs facts word by c cells = absurd c
-counter-low leaves facts word by c cells = absurd c
 counter-low takes facts word by c cells = absurd c
 counter-low serves facts word by c cells = absurd c
-counter-low (looks e) facts word by c cells = absurd c
+counter-low leaves facts word by c cells = absurd c
+counter-low delegates facts word by c cells = absurd c
+counter-low passes_over facts word by c cells = absurd c
+counter-low ends_refused facts word by c cells = absurd c
+counter-low ends_missed facts word by c cells = absurd c
+counter-low starts_leaving facts word by c cells = absurd c
+counter-low leaves_line facts word by c cells = absurd c
+counter-low leaves_at_once facts word by c cells = absurd c
+counter-low settles facts word by c cells = absurd c
+counter-low settles_owing facts word by c cells = absurd c
+counter-low refuses facts word by c cells = absurd c
+counter-low refuses_value facts word by c cells = absurd c
+counter-low (looks pends) facts word by c cells = absurd c
+counter-low (looks grants) facts word by c cells = absurd c
+counter-low (looks late) facts word by c cells = absurd c

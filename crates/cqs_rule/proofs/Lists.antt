@@ -37,6 +37,18 @@ module _ {A : Type 0} where
   total_set f (x ∷ xs) zero v w e = let q : f x ≡ f v = ap f (some-injective x v e) in omega arith
   total_set f (x ∷ xs) (suc i) v w e = let q = total_set f xs i v w e in omega arith
 
+  pub total_last : (f : A → ℕ) (l : List A) (w : A) → total f (l ++ w ∷ []) ≡ total f l + f w
+  total_last f [] w = omega arith
+  total_last f (x ∷ xs) w = let q = total_last f xs w in omega arith
+
+  -- what stands in a list with one more stood there before, or is the one at the end
+  pub at_end : (l : List A) (a b : A) (j : ℕ) → get_elem? (l ++ a ∷ []) j ≡ some b
+      → (get_elem? l j ≡ some b) ⊎ ((j ≡ length l) × (a ≡ b))
+  at_end [] a b zero e = inr (refl, some-injective a b e)
+  at_end [] a b (suc j) e = absurd (some-ne-none b (sym e))
+  at_end (x ∷ xs) a b zero e = inl e
+  at_end (x ∷ xs) a b (suc j) e = ⊎_elim inl (λ t. inr (ap suc t.0, t.1)) (at_end xs a b j e)
+
   pub one_of : (f : A → ℕ) (l : List A) (i : ℕ) (v : A) → get_elem? l i ≡ some v → f v ≤ total f l
   one_of f [] i v e = absurd (some-ne-none v (sym e))
   one_of f (x ∷ xs) zero v e = let q : f x ≡ f v = ap f (some-injective x v e) in omega arith
@@ -136,7 +148,8 @@ length_without k (x ∷ xs) d h = dite (ℕ_discrete x k)
     (λ (a : x ≢ k).
     let has : Has k xs = ⊎_elim (λ (e : k ≡ x). absurd (a (sym e))) (λ z. z) h in
     let less = length_without k xs d.1 has in
-    let is : without k (x ∷ xs) ≡ x ∷ without k xs = ap (λ b. if b then without k xs else x ∷ without k xs) (ne_eqb x k a) in
+    let is : without k (x ∷ xs) ≡ x ∷ without k xs =
+    ap (λ b. if b then without k xs else x ∷ without k xs) (ne_eqb x k a) in
     let long : length (without k (x ∷ xs)) ≡ length (without k xs) + 1 = ap length is ∙ omega arith in omega arith)
 
 length_without-least : (k : ℕ) (xs : List ℕ) → IsDistinct xs → length xs ≤ length (without k xs) + 1
@@ -148,7 +161,8 @@ length_without-least k (x ∷ xs) d = dite (ℕ_discrete x k)
     let long = ap length is in omega arith)
     (λ (a : x ≢ k).
     let less = length_without-least k xs d.1 in
-    let is : without k (x ∷ xs) ≡ x ∷ without k xs = ap (λ b. if b then without k xs else x ∷ without k xs) (ne_eqb x k a) in
+    let is : without k (x ∷ xs) ≡ x ∷ without k xs =
+    ap (λ b. if b then without k xs else x ∷ without k xs) (ne_eqb x k a) in
     let long : length (without k (x ∷ xs)) ≡ length (without k xs) + 1 = ap length is ∙ omega arith in omega arith)
 
 -- so many numbers are below m at most
@@ -181,4 +195,5 @@ module _ {E : Type 0} (names : ℕ → E → Bool) where
   pub unnamed : (n : ℕ) (seen rest log : List E) → log ≡ seen ++ rest → part names n seen ≡ part names n log
       → part names n rest ≡ []
   unnamed n seen rest log e same =
-      nothing_more (part names n seen) (part names n rest) (same ∙ (ap (part names n) e ∙ filter-append (names n) seen rest))
+      nothing_more (part names n seen) (part names n rest) (same
+      ∙ (ap (part names n) e ∙ filter-append (names n) seen rest))

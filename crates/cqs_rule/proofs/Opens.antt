@@ -1,5 +1,5 @@
 -- The rule holds as a queue opens.
-use Rattle.std.proofs.Common.{◌≡◌, ◌⊎◌, ℕ, zero, suc, ◌+◌, ◌-◌, ◌<◌, ◌≤◌, Bool, true, false, List, [], ◌∷◌, ◌++◌, length, replicate, sym, refl, ap, ◌∙◌, subst, inl, inr, arith, Option, Some, slice_get, nat_lt, nat_le, lt-ltb, le-ltb, le-leb, ne_eqb, leb-true, if◌then◌else◌}
+use Rattle.std.proofs.Common.{◌≡◌, ◌⊎◌, ℕ, zero, suc, ◌+◌, ◌-◌, ◌<◌, ◌≤◌, true, false, List, [], ◌∷◌, ◌++◌, length, replicate, sym, refl, ap, ◌∙◌, subst, inl, inr, arith, Option, Some, slice_get, nat_lt, nat_le, lt-ltb, le-ltb, le-leb, ne_eqb, leb-true, if◌then◌else◌}
 use Rattle.std.specs.Prelude.{slice_index}
 use Rattle.std.proofs.lemmas.List.{length-replicate, length_push, get_or_append_left, get_or_push}
 use Rattle.std.proofs.lemmas.Bool.{cases_lt, and_parts, lt-leb}
@@ -13,12 +13,17 @@ use Rattle.cqs_core.proofs.Places.{get-past}
 use Rattle.cqs_rule.specs.declared.config.Config.{Config}
 use Rattle.cqs_rule.specs.Configured.{is_config}
 use Rattle.cqs_rule.specs.declared.view.View.{View}
+use Rattle.cqs_rule.specs.Client.{IsClient}
 use Rattle.cqs_rule.specs.Hidden.{Hidden, state_in}
+use Rattle.cqs_rule.specs.Object.{Object, Primitive}
+use Rattle.cqs_rule.specs.Saw.{IsLive}
 use Rattle.cqs_rule.specs.Lists.{Has}
 use Rattle.cqs_rule.specs.Layout.{client_words, cell_place, words_for, IsIdle}
-use Rattle.cqs_rule.specs.Views.{first_view, all_own, first_facts}
+use Rattle.cqs_rule.specs.Views.{first_view, all_own, first_facts, first_has}
 use Rattle.cqs_core.specs.declared.cells.CoreCell.{CoreCell}
-use Rattle.cqs_rule.specs.Ruled.{Ruled, Knows, IsWaitOf, IsInstalled, IsBare, IsPlain, word_of, Stands}
+use Rattle.cqs_core.specs.QueueCells.{IsInstalled, IsBare}
+use Rattle.cqs_rule.specs.Segments.{KnowsSegments}
+use Rattle.cqs_rule.specs.Ruled.{Ruled, Knows, IsWaitOf, word_of, Stands, cell_count}
 use Rattle.cqs_rule.specs.Opened.{value_cell, first_payload, first_hidden, four, first_word, first_cell, IsOpening}
 use Rattle.cqs_rule.proofs.CellPlaces.{number-place, cell-inside}
 use Rattle.cqs_rule.proofs.Lists.{all_draw}
@@ -79,22 +84,25 @@ first-idle values i words is =
     let d = ne_eqb i 96 (is.client 3 (omega arith)) in
     rw (early, crew, resumes, a, b, c, d) refl
 
-module _ {E S : Type 0} (names : ℕ → E → Bool) (shows : Hidden → List ℕ → List E → List S → Type 0)
-    (passes limit values size held : ℕ) where
+module _ {E S : Type 0} (object : Object E) (primitive : Primitive E S) (passes limit : ℕ) where
+  abbrev pub values : ℕ
+  values = primitive.values
+
   -- the number of the cells
-  abbrev pub cell_count : ℕ
-  cell_count = limit + passes + values
+  abbrev pub cells_of : ℕ
+  cells_of = cell_count passes limit primitive.values
 
   abbrev pub first : View E S
-  first = first_view limit cell_count size held
+  first = first_view passes limit cells_of primitive.opening primitive.held
 
   abbrev pub h : Hidden
-  h = first_hidden passes values held
+  h = first_hidden passes primitive.values primitive.held
 
-  pub opens : (words client : List ℕ) (homes : List (Option S)) → IsOpening (words_for cell_count) values client words
-      → 0 < passes → passes ≤ 32 → 0 < limit → limit ≤ 1048576 → values ≤ 4096 → shows h (four client) [] []
-      → Ruled names shows passes limit values size (opening words homes first)
-  opens words client homes o any few any_limit low_limit few_values begins = record {
+  pub opens : IsClient object primitive → (words : List ℕ) (homes : List (Option S))
+      → IsOpening (words_for cells_of) primitive.values primitive.words words
+      → 0 < passes → passes ≤ 32 → 0 < limit → limit ≤ 1048576 → primitive.values ≤ 4096
+      → Ruled object primitive passes limit (opening words homes first)
+  opens client words homes o any few any_limit low_limit few_values = record {
     hidden = h;
     log = [];
     handed = [];
@@ -110,36 +118,59 @@ module _ {E S : Type 0} (names : ℕ → E → Bool) (shows : Hidden → List �
     };
     counters = record { suspends = o.at 16 (omega arith); resumes = o.at 32 (omega arith) };
     cells = record {
-      at = λ k below. o.at (cell_place k) (cell-inside k cell_count below)
-          ∙ (first-cell-at values k client ∙ cell-is k (cases_lt k values));
+      at = λ k below. o.at (cell_place k) (cell-inside k cells_of below)
+          ∙ (first-cell-at values k primitive.words ∙ cell-is k (cases_lt k values));
       fits = λ k. payload-fits k (cases_lt k values);
       bare = λ k is. payload-bare k is (cases_lt k values);
-      plain = λ k. is-plain k (cases_lt k values);
     };
-    idle_words = record { none = λ i is. o.at i (let b = is.before in omega arith) ∙ first-idle values i client is };
+    idle_words = record {
+      none = λ i is. o.at i (let b = is.before in omega arith) ∙ first-idle values i primitive.words is;
+    };
     room = record {
       few_passes = few;
       low_limit = low_limit;
       few_values = few_values;
       doing = length-replicate passes doing.Idle;
-      held = omega (arith, length-replicate {A = ℕ} (passes - 1) 0);
+      has = omega (arith, length-replicate (passes - 1) (first_has 0));
       may_draw = length-replicate passes true;
       ground = let all = all_draw (replicate passes true) in let long = length-replicate passes true in omega arith;
       resumes = omega arith;
     };
     door = λ p e. let is = get-replicate-is passes p doing.Idle doing.Door e in absurd (cc);
-    shown = subst (λ (ws : List ℕ). shows h ws [] []) (sym client-is) begins;
-    each_view = λ j v e. let t = only-one first v j e in subst (Knows names h [] [] 1 1 limit cell_count size) t.1 know;
+    shown = subst (λ (ws : List ℕ). primitive.shows h ws [] []) (sym client-is) (client.begins passes any few);
+    each_view = λ j v e live.
+        let t = only-one first v j e in
+        subst (Knows object h [] [] 1 1 passes limit cells_of primitive.opening) t.1 know;
     apart = λ a b v w n e f g k. (only-one first v a e).0 ∙ sym (only-one first w b f).0;
+    spent = λ j v e none. let w = only-one first v j e in
+        let one : first.weight ≡ v.weight = ap (λ (x : View E S). x.weight) w.1 in absurd (omega arith);
     unnamed = λ n above. refl;
-    unused = λ n above below. record { doing = get-replicate passes n doing.Idle below; waits = λ k w. no-wait n k w };
+    unused = λ n above below. record {
+      doing = get-replicate passes n doing.Idle below;
+      has = none-held n above below;
+      may_draw = get-replicate passes n true below;
+      waits = λ k n. absurd n;
+      all_waits = λ k w. no-wait n k w;
+      once = tt;
+      last = tt;
+      behind = record { reached = omega arith; passed = λ k n. absurd n };
+    };
+    kept = λ n low. record { place = 0; view = first; there = refl; live = omega arith; has = inl (omega arith) };
     tip = record { place = 0; view = first; there = refl; live = omega arith; sees = inl refl };
+    segments = record { homes = [] };
+    each_segment = λ j v e. subst (KnowsSegments (record { homes = [] })) (only-one first v j e).1
+        (record { homes = ([], refl) });
   }
     where
+      none-held : (n : ℕ) → 1 ≤ n → n < passes → slice_get h.has n ≡ Some (first_has 0)
+      none-held zero above below = absurd (omega arith)
+      none-held (suc n) above below = get-replicate (passes - 1) n (first_has 0) (omega arith)
+
       -- nobody waits yet: where a cell is made, a value stands there
       no-wait : (n k : ℕ) → IsWaitOf h.queue n k → ⊥
       no-wait n k w =
-          subst IsInstalled (ap (λ (x : CoreCell). x.state) (get-replicate-is values k value_cell w.cell w.there)) w.installed
+          subst IsInstalled (ap (λ (x : CoreCell). x.state)
+          (get-replicate-is values k value_cell w.cell w.there)) w.installed
 
       cell-is : (k : ℕ) → (k < values) ⊎ (values ≤ k)
           → first_cell values k ≡ word_of k (state_in (slice_get h.queue.cells k)) (h.payloads k)
@@ -150,15 +181,12 @@ module _ {E S : Type 0} (names : ℕ → E → Bool) (shows : Hidden → List �
       payload-fits k (inl low) = let t = (cell-value values k low).1 in omega arith
       payload-fits k (inr high) = let t = (cell-empty values k high).1 in omega arith
 
-      payload-bare : (k : ℕ) → IsBare (state_in (slice_get h.queue.cells k)) → (k < values) ⊎ (values ≤ k) → h.payloads k ≡ 0
+      payload-bare : (k : ℕ) → IsBare (state_in (slice_get h.queue.cells k)) → (k < values) ⊎ (values ≤ k)
+          → h.payloads k ≡ 0
       payload-bare k is (inl low) = absurd (subst IsBare (cell-value values k low).0 is)
       payload-bare k is (inr high) = (cell-empty values k high).1
 
-      is-plain : (k : ℕ) → (k < values) ⊎ (values ≤ k) → IsPlain (state_in (slice_get h.queue.cells k))
-      is-plain k (inl low) = subst IsPlain (sym (cell-value values k low).0) tt
-      is-plain k (inr high) = subst IsPlain (sym (cell-empty values k high).0) tt
-
-      client-is : client_words words ≡ four client
+      client-is : client_words words ≡ four primitive.words
       client-is =
           let a = o.at 48 (omega arith) in
           let b = o.at 64 (omega arith) in
@@ -166,37 +194,41 @@ module _ {E S : Type 0} (names : ℕ → E → Bool) (shows : Hidden → List �
           let d = o.at 96 (omega arith) in
           (λ i. a i ∷ b i ∷ c i ∷ d i ∷ [])
 
-      stand : Stands h 0 (first_facts held)
+      stand : Stands h 0 (first_facts primitive.held)
       stand = record {
         doing = get-replicate passes 0 doing.Idle any;
-        held = refl;
+        has = refl;
         may_draw = get-replicate passes 0 true any;
         waits = λ k n. absurd n;
         all_waits = λ k w. no-wait 0 k w;
         once = tt;
         last = tt;
+        behind = record { reached = omega arith; passed = λ k n. absurd n };
       }
 
-      know : Knows names h [] [] 1 1 limit cell_count size first
+      know : Knows object h [] [] 1 1 passes limit cells_of primitive.opening first
       know = record {
         sees = record {
           seen = ([], refl);
           other = ([], refl);
           handed_in = ([], refl);
+          other_handed_in = ([], refl);
           mine = λ n has. refl;
           theirs = λ n has. refl;
         };
         below = λ n has. only-zero n has;
         light = λ _. refl;
         parted = λ n has other. other;
-        own = λ _. inl refl;
-        stands = λ _. stand;
+        own = inl refl;
+        stands = stand;
         resting = λ n has other. absurd (other (is-zero n has));
+        second = λ two. absurd (omega arith);
         crew = inl (omega arith);
         alone = λ _. (refl, refl, refl);
         limit_is = refl;
         cells_are = refl;
-        size_is = refl;
+        passes_are = refl;
+        opening_is = refl;
         payload_fits = omega arith;
       }
         where
@@ -206,6 +238,25 @@ module _ {E S : Type 0} (names : ℕ → E → Bool) (shows : Hidden → List �
 
           only-zero : (n : ℕ) → Has n (all_own first) → n < 1
           only-zero n has = let e = is-zero n has in omega arith
+
+  -- what holds of each live pass's view holds of the first one
+  pub first-live : IsClient object primitive → 0 < passes → passes ≤ 32 → IsLive object first
+  first-live client any few = record {
+    legal = client.legal_shown h (four primitive.words) [] [] shown;
+    unnamed = λ n above. refl;
+    own = inl refl;
+    held = client.held_fits h (four primitive.words) [] [] 0 (first_has primitive.held) shown refl;
+    inside = record {
+      number = omega arith;
+      waits = λ k has. absurd has;
+      once = λ k has. absurd has;
+      few = omega arith;
+      payload = omega arith;
+    };
+  }
+    where
+      shown : primitive.shows h (four primitive.words) [] []
+      shown = client.begins passes any few
 
 -- one word more
 pub opening-push : (place values : ℕ) (client items : List ℕ) (word : ℕ) → word ≡ first_word values client place
@@ -245,20 +296,30 @@ config-bounds c good =
     record { some_passes = omega arith; few_passes = b; some_limit = omega arith; low_limit = e }
 
 -- the same by what the code computes of a configuration
-pub opens-by : {E S : Type 0} (names : ℕ → E → Bool) (shows : Hidden → List ℕ → List E → List S → Type 0)
-    (config : Config) (passes values values' size held : ℕ) (words items client : List ℕ) (homes : List (Option S))
-    → is_config config ≡ true → passes ≡ config.passes → values' ≡ values → words ≡ items
-    → IsOpening (words_for (config.limit + config.passes + values')) values client items → values ≤ 4096
-    → ((n : ℕ) → 0 < n → n ≤ 32 → shows (first_hidden n values held) (four client) [] [])
-    → Ruled names shows passes config.limit values size
-    (opening words homes (first_view config.limit (config.limit + passes + values) size held))
-opens-by names shows config passes values values' size held words items client homes
-    good is_passes is_values is_words o few begins =
+pub opens-by : {E S : Type 0} (object : Object E) (primitive : Primitive E S) → IsClient object primitive
+    → (config : Config) (passes values : ℕ) (words items : List ℕ) (homes : List (Option S))
+    → is_config config ≡ true → passes ≡ config.passes → values ≡ primitive.values → words ≡ items
+    → IsOpening (words_for (config.limit + config.passes + values)) primitive.values primitive.words items
+    → primitive.values ≤ 4096
+    → Ruled object primitive passes config.limit
+    (opening words homes
+    (first_view passes config.limit (cell_count passes config.limit primitive.values) primitive.opening primitive.held))
+opens-by object primitive client config passes values words items homes good is_passes is_values is_words o few =
     let b = config-bounds config good in
     let any : 0 < passes = let h = b.some_passes in omega arith in
     let low : passes ≤ 32 = let h = b.few_passes in omega arith in
-    let count : config.limit + config.passes + values' ≡ config.limit + passes + values = omega arith in
-    let whole : IsOpening (words_for (config.limit + passes + values)) values client words =
-    subst (λ (t : ℕ × List ℕ). IsOpening (words_for t.0) values client t.1) (λ i. (count i, sym is_words i)) o in
-    opens names shows passes config.limit values size held words client homes whole any low
-    b.some_limit b.low_limit few (begins passes any low)
+    let count : config.limit + config.passes + values ≡ cell_count passes config.limit primitive.values = omega arith in
+    let whole :
+    IsOpening (words_for (cell_count passes config.limit primitive.values)) primitive.values primitive.words words =
+    subst (λ (t : ℕ × List ℕ). IsOpening (words_for t.0) primitive.values primitive.words t.1)
+    (λ i. (count i, sym is_words i)) o in
+    opens object primitive passes config.limit client words homes whole any low b.some_limit b.low_limit few
+
+pub first-live-by : {E S : Type 0} (object : Object E) (primitive : Primitive E S) → IsClient object primitive
+    → (config : Config) → is_config config ≡ true
+    → IsLive {S = S} object (first_view config.passes config.limit
+    (cell_count config.passes config.limit primitive.values)
+    primitive.opening primitive.held)
+first-live-by object primitive client config good =
+    let b = config-bounds config good in
+    first-live object primitive config.passes config.limit client b.some_passes b.few_passes

@@ -1,35 +1,55 @@
 -- What the words of a semaphore were is what the plain semaphore was.
-use Rattle.std.proofs.Common.{◌≡◌, ℕ, List, sym, ap, ◌∙◌}
-use Rattle.cqs_core.specs.declared.doings.Doing.{Doing}
+use Rattle.std.proofs.Common.{◌≡◌, ℕ, Bool, List, refl, sym, ap, ◌∙◌}
+use Rattle.std.proofs.lemmas.List.{append-nil}
 use Rattle.cqs_core.specs.declared.entries.Entry.{Entry}
 use Rattle.cqs_core.specs.SemaphoreEntries.{object_after}
 use Rattle.cqs_core.specs.SemaphoreShown.{state_of}
 use Rattle.cqs_core.proofs.CoreFacts.{shows-object}
 use Rattle.cqs_rule.specs.declared.semaphore.SemClient.{SemClient}
 use Rattle.cqs_rule.specs.declared.view.View.{View}
-use Rattle.cqs_rule.specs.Loads.{CounterWas}
-use Rattle.cqs_rule.specs.Semaphore.{core_shown, shows_core, state_in_word}
+use Rattle.cqs_rule.specs.declared.view.Opening.{Opening}
+use Rattle.cqs_rule.specs.Events.{Event, Moved, HasWord}
+use Rattle.cqs_rule.specs.Layout.{client_place}
+use Rattle.cqs_rule.specs.Loads.{CountLoaded}
+use Rattle.cqs_rule.specs.Object.{Primitive}
+use Rattle.cqs_rule.specs.Saw.{WasShown}
+use Rattle.cqs_rule.specs.Semaphore.{core_shown, semaphore_object, semaphore_primitive}
 use Rattle.cqs_rule.specs.SemaphorePermits.{permits_of}
-use Rattle.cqs_rule.specs.SemaphoreSteps.{StateWas}
-use Rattle.cqs_rule.specs.Told.{WordWas, WasFound}
+use Rattle.cqs_rule.specs.SemaphoreSteps.{OnState, NextIs}
+use Rattle.cqs_words.specs.State.{count_in}
 
 module _ {T : Type 0} where
+  abbrev primitive_of : SemClient T → Primitive Entry T
+  primitive_of x = semaphore_primitive (permits_of x)
+
+  state-at : (opening : Opening) (n : ℕ) (history : List Entry)
+      → WasShown primitive_of opening (HasWord 0 n) history → count_in n ≡ state_of (object_after opening.size history)
+  state-at opening n history was =
+      let shows = shows-object (core_shown (permits_of was.client) was.hidden was.words history) was.shown in
+      ap count_in (sym was.holds)
+      ∙ (shows.state ∙ ap (λ (o : Opening). state_of (object_after o.size history)) was.opening_is)
+
   -- the state
-  pub state-was : (entries : ℕ → Doing → ℕ → List Entry) (v w : View Entry T) (n : ℕ)
-      → WasFound (WordWas {S = T} (λ (x : SemClient T). shows_core (permits_of x)) permits_of) entries 0 v n w → StateWas entries v n w
-  state-was entries v w n found =
-      let was = found.was in
-      let shows = shows-object (core_shown (permits_of was.client) was.hidden was.words found.before) was.shown in
+  pub on_state : (event : Event Entry) (made : ℕ → Bool) (v w : View Entry T) (n : ℕ)
+      → Moved semaphore_object primitive_of event made (client_place 0) v n w → OnState event made v n w
+  on_state event made v w n moved =
+      let found = moved.was 0 refl in
       record {
+        saw = moved.saw;
         before = found.before;
         seen = found.seen;
-        state = ap state_in_word (sym was.word)
-            ∙ (shows.state ∙ ap (λ z. state_of (object_after z found.before)) was.size_is);
+        state = state-at w.opening n found.before found.was;
       }
 
   -- the next number
-  pub next-was : (s n : ℕ) (history : List Entry)
-      → CounterWas {S = T} (λ (x : SemClient T). shows_core (permits_of x)) permits_of s n history → (object_after s history).next ≡ n
-  next-was s n history was =
-      let shows = shows-object (core_shown (permits_of was.client) was.hidden was.words history) was.shown in
-      ap (λ z. (object_after z history).next) (sym was.size_is) ∙ (shows.next ∙ was.counter)
+  pub next_is : (v w : View Entry T) (n : ℕ) → CountLoaded semaphore_object primitive_of v n w → NextIs v n w
+  next_is v w n loaded =
+      let found = loaded.was in
+      let was = found.was in
+      let shows = shows-object (core_shown (permits_of was.client) was.hidden was.words found.before) was.shown in
+      record {
+        saw = loaded.saw;
+        next = ap (λ h. (object_after w.opening.size h).next) (found.seen ∙ append-nil found.before)
+            ∙ (ap (λ (o : Opening). (object_after o.size found.before).next) (sym was.opening_is)
+            ∙ (shows.next ∙ was.holds));
+      }

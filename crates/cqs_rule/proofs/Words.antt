@@ -1,10 +1,11 @@
 -- How the words of a table go on where one of them is written.
 use Rattle.std.proofs.Common.{◌≡◌, ◌≢◌, ℕ, zero, suc, ◌+◌, ◌*◌, ◌<◌, ◌≤◌, List, [], ◌∷◌, length, sym, refl, ◌∙◌, arith, get_or-set_other, get_or-set_same, length-set}
 use Rattle.std.specs.Prelude.{slice_index, slice_set}
+use Rattle.cqs_core.specs.QueueCells.{IsBare}
 use Rattle.cqs_core.specs.QueueState.{Queue}
 use Rattle.cqs_rule.specs.Layout.{crew_place, resumes_place, client_place, cell_place, client_words, IsIdle}
 use Rattle.cqs_rule.specs.Hidden.{Hidden, state_at}
-use Rattle.cqs_rule.specs.Ruled.{CountersShow, CellsShow, IdleWords, word_of, IsBare, IsPlain}
+use Rattle.cqs_rule.specs.Ruled.{CountersShow, CellsShow, IdleWords, word_of}
 
 pub other-word : (words : List ℕ) (i j x : ℕ) → j ≢ i → slice_index (slice_set words i x) j ≡ slice_index words j
 other-word words i j x apart = get_or-set_other words i j x 0 apart
@@ -17,7 +18,8 @@ pub crew-else : (words : List ℕ) (i x : ℕ) → crew_place < i
     → slice_index (slice_set words i x) crew_place ≡ slice_index words crew_place
 crew-else words i x above = other-word words i crew_place x (λ e. omega arith)
 
-pub counters-else : (q r : Queue) (words : List ℕ) (i x : ℕ) → resumes_place < i → r.suspends ≡ q.suspends → r.resumes ≡ q.resumes
+pub counters-else : (q r : Queue) (words : List ℕ) (i x : ℕ) → resumes_place < i → r.suspends ≡ q.suspends
+    → r.resumes ≡ q.resumes
     → CountersShow q words → CountersShow r (slice_set words i x)
 counters-else q r words i x above suspends resumes show = record {
   suspends = other-word words i 16 x (λ e. omega arith) ∙ (show.suspends ∙ sym suspends);
@@ -33,28 +35,31 @@ cells-else c d cells words i x front states payloads show = record {
       ∙ (show.at k below ∙ sym (λ j. word_of k (states k j) (payloads k j)));
   fits = λ k. let f = show.fits k in let e = payloads k in omega arith;
   bare = λ k is. payloads k ∙ show.bare k (Rattle.std.proofs.Common.subst IsBare (states k) is);
-  plain = λ k. Rattle.std.proofs.Common.subst IsPlain (sym (states k)) (show.plain k);
 }
 
 -- the word is none of those between
-pub idle-else : (words : List ℕ) (i x : ℕ) → ((j : ℕ) → IsIdle j → j ≢ i) → IdleWords words → IdleWords (slice_set words i x)
+pub idle-else : (words : List ℕ) (i x : ℕ) → ((j : ℕ) → IsIdle j → j ≢ i) → IdleWords words
+    → IdleWords (slice_set words i x)
 idle-else words i x apart idle = record { none = λ j is. other-word words i j x (apart j is) ∙ idle.none j is }
 
-pub client-below : (words : List ℕ) (i x : ℕ) → i < client_place 0 → client_words (slice_set words i x) ≡ client_words words
+pub client-below : (words : List ℕ) (i x : ℕ) → i < client_place 0
+    → client_words (slice_set words i x) ≡ client_words words
 client-below words i x low = λ j.
     other-word words i 48 x (λ e. omega arith) j
     ∷ other-word words i 64 x (λ e. omega arith) j
     ∷ other-word words i 80 x (λ e. omega arith) j
     ∷ other-word words i 96 x (λ e. omega arith) j ∷ []
 
-pub client-above : (words : List ℕ) (i x : ℕ) → client_place 3 < i → client_words (slice_set words i x) ≡ client_words words
+pub client-above : (words : List ℕ) (i x : ℕ) → client_place 3 < i
+    → client_words (slice_set words i x) ≡ client_words words
 client-above words i x high = λ j.
     other-word words i 48 x (λ e. omega arith) j
     ∷ other-word words i 64 x (λ e. omega arith) j
     ∷ other-word words i 80 x (λ e. omega arith) j
     ∷ other-word words i 96 x (λ e. omega arith) j ∷ []
 
-pub client-at : (words : List ℕ) (i : ℕ) → i < 4 → slice_index (client_words words) i ≡ slice_index words (client_place i)
+pub client-at : (words : List ℕ) (i : ℕ) → i < 4
+    → slice_index (client_words words) i ≡ slice_index words (client_place i)
 client-at words zero low = refl
 client-at words (suc zero) low = refl
 client-at words (suc (suc zero)) low = refl

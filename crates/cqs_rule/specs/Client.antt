@@ -1,41 +1,86 @@
 -- What a client owes: that its words, its history and the values handed in go with what is hidden, from the opening on and at
 -- each step of the queue.
-use Rattle.std.specs.Prelude.{◌≡◌, ℕ, ◌+◌, ◌<◌, ◌≤◌, ◌^◌, Bool, List, [], ◌++◌, length, slice_get, Option, Some}
+use Rattle.std.specs.Prelude.{◌≡◌, ◌≢◌, ℕ, ◌+◌, ◌-◌, ◌<◌, ◌≤◌, ◌^◌, Bool, List, [], ◌++◌, length, slice_get, Option, Some}
 use Rattle.cqs_core.specs.declared.cells.CoreCell.{CoreCell}
 use Rattle.cqs_core.specs.declared.doings.Doing.TheVariants as doing
 use Rattle.cqs_core.specs.QueueLine.{door}
 use Rattle.cqs_core.specs.QueueSound.{IsSound}
-use Rattle.cqs_rule.specs.Hidden.{Hidden, QueueStep, IsOpenStep, happened, now_may_draw}
+use Rattle.cqs_core.specs.QueueSteps.{QueueStep, reaches, begins, puts, row_of, StepRow, at_counter, at_cell, Cost, no_cost, one_owed, one_element, payload_told, IsOpenStep}
+use Rattle.cqs_rule.specs.declared.view.Has.{Has}
+use Rattle.cqs_rule.specs.Hidden.{Hidden, happened, now_may_draw, gathered, emptied, hands_over}
 use Rattle.cqs_rule.specs.Lists.{NamesOnly}
+use Rattle.cqs_rule.specs.Lists as lists
+use Rattle.cqs_rule.specs.Manner.{Suits}
+use Rattle.cqs_rule.specs.Object.{Object, Primitive}
 use Rattle.cqs_rule.specs.Opened.{first_hidden, four}
 
 -- no counter comes as far as this number
 abbrev pub no_number : ℕ
 no_number = 1099511627775
 
-module _ {E S : Type 0} (names : ℕ → E → Bool) (legal : List E → Type 0) (shows : Hidden → List ℕ → List E → List S → Type 0)
-    (entries : QueueStep → ℕ → ℕ → List E) (gains : ℕ → ℕ) (opened : List ℕ) (values held : ℕ) where
+-- what the pass has pays for the number that it draws to resume at
+abbrev pub IsPaid : Cost → Has → ℕ → Type 0
+IsPaid no_cost has payload = payload ≡ has.payload
+IsPaid one_owed has payload = (0 < has.further) × (payload ≡ has.payload)
+IsPaid one_element has payload = lists.Has payload has.slots
+
+-- the payload of a step of the queue: what comes from the cell, and else what the pass resumes with
+abbrev pub IsPayload : StepRow → Has → ℕ → ℕ → Type 0
+IsPayload (at_counter row) has left payload = IsPaid row.cost has payload
+IsPayload (at_cell row) has left payload = payload ≡ payload_told row.gain left has.payload
+
+-- a resumption that an idle pass begins with the number that it draws is paid for
+abbrev pub IsBegun : Cost → Type 0
+IsBegun no_cost = ⊥
+IsBegun one_owed = Unit {0}
+IsBegun one_element = Unit {0}
+
+-- the step that draws the number so
+abbrev pub begun_by : Cost → QueueStep
+begun_by no_cost = reaches
+begun_by one_owed = begins
+begun_by one_element = puts
+
+module _ {E S : Type 0} (object : Object E) (primitive : Primitive E S) where
   pub record IsClient : Type 0 where
     -- its words as they open go with a queue as it opens
-    pub begins : (passes : ℕ) → 0 < passes → passes ≤ 32 → shows (first_hidden passes values held) (four opened) [] []
-    -- each step of the queue that is open there appends its entries
-    pub steps : (c : Hidden) (s : QueueStep) (p k : ℕ) (found : Option CoreCell) (payload : ℕ)
+    pub begins : (passes : ℕ) → 0 < passes → passes ≤ 32
+        → primitive.shows (first_hidden passes primitive.values primitive.held) (four primitive.words) [] []
+    -- each step of the queue that suits it and is open there appends its entries
+    pub steps : (c : Hidden) (s : QueueStep) (p k : ℕ) (found : Option CoreCell) (has : Has) (payload : ℕ)
         (words : List ℕ) (log : List E) (handed : List S)
-        → shows c words log handed → IsOpenStep c.queue s p k found → c.queue.suspends < no_number → c.queue.resumes < no_number
-        → shows (happened gains c s p k found payload) words (log ++ entries s p k) handed
+        → primitive.shows c words log handed → IsOpenStep c.queue s p k found → slice_get c.has p ≡ Some has
+        → IsPayload (row_of s) has (c.payloads k) payload → Suits primitive.manner s
+        → c.queue.suspends < no_number → c.queue.resumes < no_number
+        → primitive.shows (happened object.gains c s p k found has payload) words
+        (log ++ object.entries s p k payload) handed
     -- who may draw is no part of what it shows
     pub counts : (c : Hidden) (p : ℕ) (may : Bool) (words : List ℕ) (log : List E) (handed : List S)
-        → shows c words log handed → shows (now_may_draw c p may) words log handed
+        → primitive.shows c words log handed → primitive.shows (now_may_draw c p may) words log handed
+    -- what one idle pass holds and has in hand may become that of another
+    pub hands : (c : Hidden) (from to : ℕ) (mine theirs : Has) (words : List ℕ) (log : List E) (handed : List S)
+        → primitive.shows c words log handed → from ≢ to
+        → slice_get c.queue.doing from ≡ Some doing.Idle → slice_get c.queue.doing to ≡ Some doing.Idle
+        → slice_get c.has from ≡ Some mine → slice_get c.has to ≡ Some theirs
+        → primitive.shows (hands_over c from (emptied mine) to (gathered theirs mine)) words log handed
     -- a step of the queue appends no entry that names another pass
-    pub silent : (s : QueueStep) (p k : ℕ) → NamesOnly names p (entries s p k)
+    pub silent : (s : QueueStep) (p k payload : ℕ) → NamesOnly object.names p (object.entries s p k payload)
     -- the queue part is sound, and the history legal
-    pub sound : (c : Hidden) (words : List ℕ) (log : List E) (handed : List S) → shows c words log handed → IsSound c.queue
-    pub legal_shown : (c : Hidden) (words : List ℕ) (log : List E) (handed : List S) → shows c words log handed → legal log
+    pub sound : (c : Hidden) (words : List ℕ) (log : List E) (handed : List S) → primitive.shows c words log handed
+        → IsSound c.queue
+    pub legal_shown : (c : Hidden) (words : List ℕ) (log : List E) (handed : List S)
+        → primitive.shows c words log handed → object.legal primitive.opening log
     -- what a pass holds fits 32 bits
-    pub held_fits : (c : Hidden) (words : List ℕ) (log : List E) (handed : List S) (p n : ℕ)
-        → shows c words log handed → slice_get c.held p ≡ Some n → n < 2 ^ 32
+    pub held_fits : (c : Hidden) (words : List ℕ) (log : List E) (handed : List S) (p : ℕ) (has : Has)
+        → primitive.shows c words log handed → slice_get c.has p ≡ Some has → has.held < 2 ^ 32
     -- where a resumption is owed, fewer numbers were drawn to resume at than were drawn to suspend at, wait at the door, or
-    -- opened with a value
+    -- opened with a value; and so where one more is begun
     pub reaches_few : (c : Hidden) (words : List ℕ) (log : List E) (handed : List S) (p : ℕ)
-        → shows c words log handed → slice_get c.queue.doing p ≡ Some doing.Owes
-        → c.queue.resumes < c.queue.suspends + length (door c.queue) + values
+        → primitive.shows c words log handed → slice_get c.queue.doing p ≡ Some doing.Owes
+        → c.queue.resumes < c.queue.suspends + length (door c.queue) + primitive.values
+    pub begins_few : (c : Hidden) (words : List ℕ) (log : List E) (handed : List S) (p : ℕ) (has : Has) (cost : Cost)
+        (payload : ℕ)
+        → primitive.shows c words log handed → slice_get c.queue.doing p ≡ Some doing.Idle
+        → slice_get c.has p ≡ Some has
+        → IsPaid cost has payload → IsBegun cost → Suits primitive.manner (begun_by cost)
+        → c.queue.resumes < c.queue.suspends + length (door c.queue) + primitive.values

@@ -10,4 +10,4 @@ pub record IsInside {E S : Type 0} (v : View E S) : Type 0 where
   pub waits : (k : ℕ) → Has k v.facts.waits → k < v.cells
   pub once : (k : ℕ) → Has k v.facts.waits → length (without k v.facts.waits) + 1 ≡ length v.facts.waits
   pub few : length v.facts.waits ≤ v.cells
-  pub payload : v.facts.payload < 2 ^ 20
+  pub payload : v.facts.has.payload < 2 ^ 20

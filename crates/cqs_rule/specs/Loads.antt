@@ -1,9 +1,13 @@
--- The loads of the table: of the suspend counter, and of a cell. The owner of a wait may name what it learns there.
-use Rattle.std.specs.Prelude.{◌≡◌, ℕ, ◌<◌, Bool, true, false, List, [], ◌∷◌, ◌++◌, Option, Some, None}
+-- The loads of the table: of the suspend counter, and of a cell. A load of a cell may be an event: the owner of a wait learns what
+-- became of it, and a resume meets a cell that is settled.
+use Rattle.std.specs.Prelude.{◌≡◌, ℕ, ◌+◌, ◌<◌, ◌≤◌, Bool, false, List, [], length, Option, Some, None}
 use Rattle.atomic_table.specs.Table.{Me, Step}
 use Rattle.cqs_core.specs.declared.cells.CoreState.{CoreState}
 use Rattle.cqs_core.specs.declared.cells.CoreState.TheVariants as state
 use Rattle.cqs_core.specs.declared.doings.Doing.TheVariants as doing
+use Rattle.cqs_core.specs.QueueStages as stage
+use Rattle.cqs_core.specs.QueueStages.{MayFind}
+use Rattle.cqs_core.specs.QueueSteps.{QueueStep, looks, pends, grants, late, passes_over, ends_refused, ends_missed, row_of, StepRow, at_counter, at_cell, payload_told}
 use Rattle.cqs_words.specs.declared.cell.CellState.{CellState}
 use Rattle.cqs_words.specs.declared.cell.CellState.TheVariants as shown
 use Rattle.cqs_words.specs.declared.cell.CellWord.{CellWord}
@@ -11,58 +15,188 @@ use Rattle.cqs_words.specs.Cell.{unpacked_cell}
 use Rattle.cqs_rule.specs.declared.view.View.{View}
 use Rattle.cqs_rule.specs.declared.view.Facts.{Facts}
 use Rattle.cqs_rule.specs.declared.view.Glimpse.{Glimpse}
-use Rattle.cqs_rule.specs.declared.view.Sighting.TheVariants.{Cell}
-use Rattle.cqs_rule.specs.Hidden.{Hidden, LookEvent, pends, grants, late, QueueStep, looks}
-use Rattle.cqs_rule.specs.Layout.{suspends_place, cell_place, cell_number}
+use Rattle.cqs_rule.specs.declared.loads.Learned.{Learned}
+use Rattle.cqs_rule.specs.declared.loads.Learned.TheVariants.{Nothing, Granted, Ended}
+use Rattle.cqs_rule.specs.Exchanges.{FoundCell, SinceLast, HasCell}
+use Rattle.cqs_rule.specs.Facts.{facts_after, facts_watched, facts_counted, is_owing}
+use Rattle.cqs_rule.specs.Hidden.{Hidden, Gains}
+use Rattle.cqs_rule.specs.Layout.{suspends_place}
 use Rattle.cqs_rule.specs.Lists.{Has}
-use Rattle.cqs_rule.specs.Told.{Saw, FoundCell, facts_after, facts_counted}
+use Rattle.cqs_rule.specs.Manner.{Manner, IsSmart, IsAtOnce}
+use Rattle.cqs_rule.specs.Object.{Object, Primitive}
+use Rattle.cqs_rule.specs.Placed.{KnowsPlace, place_at}
+use Rattle.cqs_rule.specs.Saw.{Saw, IsLive, WasFound}
+use Rattle.cqs_rule.specs.Views.{IsSame}
 
 -- A load of the suspend counter; of a cell, with no event; of a cell by the owner of its wait, which asks whether it was served,
--- or whether it is too late to cancel.
+-- or whether it is too late to cancel; of a cell by the resume of its number, in smart and in simple mode.
 pub data LoadStep : Type 0 where
   counts : LoadStep
   watches : LoadStep
   polls : LoadStep
   cancels : LoadStep
+  meets : LoadStep
+  misses : LoadStep
 
 -- the event that a load of a cell in this state shows
-abbrev pub event_of : LoadStep → CoreState → Option LookEvent
-event_of polls state.Waiter = Some pends
-event_of polls state.Resumed = Some grants
-event_of cancels state.Resumed = Some late
-event_of _ _ = None
+abbrev pub polled : CoreState → Option QueueStep
+polled state.Waiter = Some (looks pends)
+polled state.Resumed = Some (looks grants)
+polled state.Empty = None
+polled state.Value = None
+polled state.Taken = None
+polled state.Broken = None
+polled state.Cancelling = None
+polled state.Delegated = None
+polled state.Cancelled = None
+polled state.Refused = None
 
--- the load is of a wait of the pass
-abbrev pub IsOfWait : LoadStep → Type 0
-IsOfWait polls = Unit {0}
-IsOfWait cancels = Unit {0}
-IsOfWait _ = ⊥
+abbrev pub found_late : CoreState → Option QueueStep
+found_late state.Resumed = Some (looks late)
+found_late state.Waiter = None
+found_late state.Empty = None
+found_late state.Value = None
+found_late state.Taken = None
+found_late state.Broken = None
+found_late state.Cancelling = None
+found_late state.Delegated = None
+found_late state.Cancelled = None
+found_late state.Refused = None
 
--- the wait stands in the line, or was served
-abbrev pub IsStanding : CoreState → Type 0
-IsStanding state.Waiter = Unit {0}
-IsStanding state.Resumed = Unit {0}
-IsStanding _ = ⊥
+abbrev pub met : CoreState → Option QueueStep
+met state.Cancelled = Some passes_over
+met state.Refused = Some ends_refused
+met state.Empty = None
+met state.Waiter = None
+met state.Value = None
+met state.Taken = None
+met state.Broken = None
+met state.Resumed = None
+met state.Cancelling = None
+met state.Delegated = None
 
--- the word is that of a cell whose waiter was served
-abbrev pub is_resumed : CellState → Bool
-is_resumed shown.Resumed = true
-is_resumed _ = false
+abbrev pub missed : CoreState → Option QueueStep
+missed state.Cancelled = Some ends_missed
+missed state.Refused = None
+missed state.Empty = None
+missed state.Waiter = None
+missed state.Value = None
+missed state.Taken = None
+missed state.Broken = None
+missed state.Resumed = None
+missed state.Cancelling = None
+missed state.Delegated = None
 
-abbrev pub is_served : Option CellWord → Bool
-is_served None = false
-is_served (Some cell) = is_resumed cell.state
+abbrev pub event_of : LoadStep → CoreState → Option QueueStep
+event_of counts s = None
+event_of watches s = None
+event_of polls s = polled s
+event_of cancels s = found_late s
+event_of meets s = met s
+event_of misses s = missed s
 
--- a load that found the word n closes the wait
-abbrev pub closes : LoadStep → ℕ → Bool
-closes polls n = is_served (unpacked_cell n)
-closes cancels n = is_served (unpacked_cell n)
-closes _ n = false
+-- the loads that a client of this manner makes
+abbrev pub LoadSuits : Manner → LoadStep → Type 0
+LoadSuits m counts = Unit {0}
+LoadSuits m watches = Unit {0}
+LoadSuits m polls = Unit {0}
+LoadSuits m cancels = Unit {0}
+LoadSuits m meets = IsSmart m.leaving
+LoadSuits m misses = IsAtOnce m.leaving
 
--- what a load of the cell of the number k leaves the pass at, by the event that it shows; it found the word n
-abbrev pub facts_looked : (ℕ → ℕ) → Option LookEvent → ℕ → ℕ → Facts → Facts
-facts_looked gains None k n f = record f { found = f.found ++ Cell k n ∷ [] }
-facts_looked gains (Some e) k n f = facts_after gains (looks e) k n f
+-- what the pass learns from the state of the word that it found: that a wait of its own was served, or that its resumption ended
+abbrev pub served_in : CellState → Learned
+served_in shown.Resumed = Granted
+served_in shown.Empty = Nothing
+served_in shown.Waiter = Nothing
+served_in shown.Value = Nothing
+served_in shown.Taken = Nothing
+served_in shown.Broken = Nothing
+served_in shown.Cancelling = Nothing
+served_in shown.Delegated = Nothing
+served_in shown.Cancelled = Nothing
+served_in shown.Refused = Nothing
+
+abbrev pub refused_in : CellState → Learned
+refused_in shown.Refused = Ended
+refused_in shown.Empty = Nothing
+refused_in shown.Waiter = Nothing
+refused_in shown.Value = Nothing
+refused_in shown.Taken = Nothing
+refused_in shown.Broken = Nothing
+refused_in shown.Resumed = Nothing
+refused_in shown.Cancelling = Nothing
+refused_in shown.Delegated = Nothing
+refused_in shown.Cancelled = Nothing
+
+abbrev pub cancelled_in : CellState → Learned
+cancelled_in shown.Cancelled = Ended
+cancelled_in shown.Empty = Nothing
+cancelled_in shown.Waiter = Nothing
+cancelled_in shown.Value = Nothing
+cancelled_in shown.Taken = Nothing
+cancelled_in shown.Broken = Nothing
+cancelled_in shown.Resumed = Nothing
+cancelled_in shown.Cancelling = Nothing
+cancelled_in shown.Delegated = Nothing
+cancelled_in shown.Refused = Nothing
+
+abbrev pub learned_of : (CellState → Learned) → Option CellWord → Learned
+learned_of by None = Nothing
+learned_of by (Some cell) = by cell.state
+
+-- a load that found the word n
+abbrev pub learned : LoadStep → ℕ → Learned
+learned counts n = Nothing
+learned watches n = Nothing
+learned polls n = learned_of served_in (unpacked_cell n)
+learned cancels n = learned_of served_in (unpacked_cell n)
+learned meets n = learned_of refused_in (unpacked_cell n)
+learned misses n = learned_of cancelled_in (unpacked_cell n)
+
+-- the states in which the cell of a wait that isn't closed may be found, and that of an open ticket
+abbrev pub MayStand : LoadStep → CoreState → Type 0
+MayStand counts s = ⊥
+MayStand watches s = Unit {0}
+MayStand polls s = MayFind stage.idle s
+MayStand cancels s = MayFind stage.idle s
+MayStand meets s = MayFind stage.ticket s
+MayStand misses s = MayFind stage.ticket s
+
+-- What is watched may have become the cell of a later number.
+abbrev pub IsNumber : LoadStep → ℕ → ℕ → Type 0
+IsNumber counts k found = ⊥
+IsNumber watches k found = k ≤ found
+IsNumber polls k found = found ≡ k
+IsNumber cancels k found = found ≡ k
+IsNumber meets k found = found ≡ k
+IsNumber misses k found = found ≡ k
+
+-- the payload of a step at a cell that has this one, by a pass at these facts
+abbrev pub told_at : StepRow → ℕ → Facts → ℕ
+told_at (at_counter row) left f = f.has.payload
+told_at (at_cell row) left f = payload_told row.gain left f.has.payload
+
+-- what a load leaves the pass to count: what it holds, whether it owes, and how many waits were closed
+abbrev pub held_learned : (ℕ → ℕ) → Learned → ℕ → ℕ
+held_learned gains Nothing held = held
+held_learned gains Granted held = gains held
+held_learned gains Ended held = held
+
+abbrev pub owes_learned : Learned → Bool → Bool
+owes_learned Nothing owes = owes
+owes_learned Granted owes = owes
+owes_learned Ended owes = false
+
+abbrev pub closed_learned : Learned → ℕ
+closed_learned Nothing = 0
+closed_learned Granted = 1
+closed_learned Ended = 0
+
+-- what a load of the cell of the number k leaves the pass at, by the event that it shows
+abbrev pub facts_looked : Gains → Option QueueStep → ℕ → Glimpse → Facts → Facts
+facts_looked gains None n g f = facts_watched g.number n f
+facts_looked gains (Some s) n g f = facts_after gains (row_of s) g.number n (told_at (row_of s) g.payload f) f
 
 module _ {E S : Type 0} where
   -- where a pass may load the cell of the number k so
@@ -71,53 +205,64 @@ module _ {E S : Type 0} where
   MayLook watches v k = k < v.cells
   MayLook polls v k = (v.facts.doing ≡ doing.Idle) × Has k v.facts.waits
   MayLook cancels v k = (v.facts.doing ≡ doing.Idle) × Has k v.facts.waits
+  MayLook meets v k = v.facts.doing ≡ doing.Ticket k
+  MayLook misses v k = v.facts.doing ≡ doing.Ticket k
 
   -- where it may load the word so
   abbrev pub MayLoad : LoadStep → View E S → ℕ → Type 0
   MayLoad counts v word = word ≡ suspends_place
-  MayLoad load v word = (k : ℕ) × (word ≡ cell_place k) × MayLook load v k
+  MayLoad watches v word = (k : ℕ) × KnowsPlace v (place_at word k) × MayLook watches v k
+  MayLoad polls v word = (k : ℕ) × KnowsPlace v (place_at word k) × MayLook polls v k
+  MayLoad cancels v word = (k : ℕ) × KnowsPlace v (place_at word k) × MayLook cancels v k
+  MayLoad meets v word = (k : ℕ) × KnowsPlace v (place_at word k) × MayLook meets v k
+  MayLoad misses v word = (k : ℕ) × KnowsPlace v (place_at word k) × MayLook misses v k
 
-module _ {E : Type 0} (entries : QueueStep → ℕ → ℕ → List E) where
+-- what the pass counts where the program runs, after a load by which it learned this
+pub record CarriesLearned (gains : ℕ → ℕ) (learned : Learned) (f g : Facts) : Type 0 where
+  pub held : g.has.held ≡ held_learned gains learned f.has.held
+  pub owes : is_owing g.doing ≡ owes_learned learned (is_owing f.doing)
+  pub waits : length g.waits + closed_learned learned ≡ length f.waits
+
+-- the suspend counter is n
+abbrev pub IsDrawn : ℕ → Hidden → List ℕ → Type 0
+IsDrawn n c words = c.queue.suspends ≡ n
+
+module _ {C E S : Type 0} (object : Object E) (primitive : C → Primitive E S) where
   -- the entries of the event that a load shows
-  abbrev pub look_entries : Option LookEvent → ℕ → ℕ → List E
-  look_entries None p k = []
-  look_entries (Some e) p k = entries (looks e) p k
+  abbrev pub look_entries : Option QueueStep → ℕ → Glimpse → Facts → List E
+  look_entries None p g f = []
+  look_entries (Some s) p g f = object.entries s p g.number (told_at (row_of s) g.payload f)
 
--- So many numbers, n, were drawn to suspend at where the history was this: the client, which opened with the number s, showed that
--- history by a queue whose suspend counter was n.
-pub record CounterWas {C E S : Type 0} (shows : C → Hidden → List ℕ → List E → List S → Type 0) (size : C → ℕ)
-    (s n : ℕ) (history : List E) : Type 0 where
-  pub client : C
-  pub size_is : size client ≡ s
-  pub hidden : Hidden
-  pub words : List ℕ
-  pub handed : List S
-  pub shown : shows client hidden words history handed
-  pub counter : hidden.queue.suspends ≡ n
-
-module _ {E S : Type 0} (told : ℕ → ℕ → List E → Type 0) where
-  -- a load of the suspend counter that found n: it was so at the end of all that the pass has seen
-  abbrev pub CountWas : LoadStep → ℕ → View E S → Type 0
-  CountWas counts n w = told w.size n w.seen
-  CountWas watches n w = Unit {0}
-  CountWas polls n w = Unit {0}
-  CountWas cancels n w = Unit {0}
-
-module _ {E S : Type 0} (names : ℕ → E → Bool) (legal : ℕ → List E → Type 0)
-    (gains : ℕ → ℕ) (entries : QueueStep → ℕ → ℕ → List E) where
   -- a load of the cell of the number k found the word n
   pub record Looked (load : LoadStep) (k : ℕ) (v : View E S) (n : ℕ) (w : View E S) : Type 0 where
     pub glimpse : Glimpse
-    pub cell : FoundCell k n glimpse
-    pub standing : IsOfWait load → IsStanding glimpse.state
-    pub saw : Saw names legal v (facts_looked gains (event_of load glimpse.state) k n v.facts)
-        (look_entries entries (event_of load glimpse.state) v.number k) w
+    pub number : IsNumber load k glimpse.number
+    pub cell : FoundCell n glimpse
+    pub may : MayStand load glimpse.state
+    pub since : SinceLast glimpse v.facts.last
+    pub saw : Saw object v (facts_looked object.gains (event_of load glimpse.state) n glimpse v.facts)
+        (look_entries (event_of load glimpse.state) v.number glimpse v.facts) w
+    pub was : WasFound primitive (HasCell glimpse)
+        (look_entries (event_of load glimpse.state) v.number glimpse v.facts) w
 
-  -- a load of the word of this number found n
+  -- a load of the suspend counter found n
+  pub record CountLoaded (v : View E S) (n : ℕ) (w : View E S) : Type 0 where
+    pub saw : Saw object v (facts_counted v.limit n v.facts) [] w
+    pub was : WasFound primitive (IsDrawn n) [] w
+
+  -- a load of the word of this number found n: of a cell, whichever it is that the pass knows to stand there and may load so
+  abbrev pub LoadedCell : LoadStep → ℕ → View E S → ℕ → View E S → Type 0
+  LoadedCell load word v n w = (k : ℕ) → KnowsPlace v (place_at word k) → MayLook load v k → Looked load k v n w
+
   abbrev pub Loaded : LoadStep → ℕ → View E S → ℕ → View E S → Type 0
-  Loaded counts word v n w = Saw names legal v (facts_counted v.limit n v.facts) [] w
-  Loaded load word v n w = Looked load (cell_number word) v n w
+  Loaded counts word v n w = CountLoaded v n w
+  Loaded watches word v n w = LoadedCell watches word v n w
+  Loaded polls word v n w = LoadedCell polls word v n w
+  Loaded cancels word v n w = LoadedCell cancels word v n w
+  Loaded meets word v n w = LoadedCell meets word v n w
+  Loaded misses word v n w = LoadedCell misses word v n w
 
-  abbrev pub loaded_by : (ℕ → ℕ → List E → Type 0) → LoadStep → Step (Option S) → Me (Option S) (View E S) → ℕ
-      → Me (Option S) (View E S) → Type 0
-  loaded_by told load st me n me' = Loaded load st.word me.0 n me'.0 × (me'.1 ≡ me.1) × CountWas told load n me'.0
+  abbrev pub loaded_by : LoadStep → Step (Option S) → Me (Option S) (View E S) → ℕ → Me (Option S) (View E S) → Type 0
+  loaded_by load st me n me' =
+      Loaded load st.word me.0 n me'.0 × (me'.1 ≡ me.1) × IsLive object me'.0
+      × CarriesLearned object.gains.held (learned load n) me.0.facts me'.0.facts × IsSame me.0 me'.0

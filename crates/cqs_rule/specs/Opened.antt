@@ -4,7 +4,9 @@ use Rattle.cqs_core.specs.declared.cells.CoreCell.{CoreCell}
 use Rattle.cqs_core.specs.declared.cells.CoreState.TheVariants as state
 use Rattle.cqs_core.specs.declared.doings.Doing.TheVariants as doing
 use Rattle.cqs_words.specs.Cell.{cell_word}
+use Rattle.cqs_words.specs.Crew.{crew_word}
 use Rattle.cqs_rule.specs.Hidden.{Hidden}
+use Rattle.cqs_rule.specs.Views.{first_has}
 use Rattle.cqs_rule.specs.Layout.{crew_place, resumes_place, client_place, cell_place, cell_number}
 
 -- a cell in which a value stands from the beginning
@@ -18,8 +20,13 @@ first_payload values k = if nat_lt k values then k else 0
 -- what a table stands for as it opens: so many passes, so many values in cells, and what the first pass holds
 abbrev pub first_hidden : ℕ → ℕ → ℕ → Hidden
 first_hidden passes values held = record {
-  queue = record { suspends = 0; resumes = values; cells = replicate values value_cell; doing = replicate passes doing.Idle };
-  held = held ∷ replicate (passes - 1) 0;
+  queue = record {
+    suspends = 0;
+    resumes = values;
+    cells = replicate values value_cell;
+    doing = replicate passes doing.Idle;
+  };
+  has = first_has held ∷ replicate (passes - 1) (first_has 0);
   may_draw = replicate passes true;
   payloads = first_payload values;
 }
@@ -35,7 +42,7 @@ first_cell values k = if nat_lt k values then cell_word k 2 k else cell_word k 0
 abbrev pub first_word : ℕ → List ℕ → ℕ → ℕ
 first_word values words i =
     if nat_le (cell_place 0) i then first_cell values (cell_number i)
-    else if i == crew_place then 4294967297
+    else if i == crew_place then crew_word 1 1
     else if i == resumes_place then values
     else if i == client_place 0 then slice_index words 0
     else if i == client_place 1 then slice_index words 1

@@ -13,12 +13,12 @@ owes_at (Some k) = doing.Ticket k
 -- the pass owes the resumption of this payload, with this ticket open or with none
 pub record OwesWith (facts : Facts) (payload : ℕ) (ticket : Option ℕ) : Type 0 where
   pub doing : facts.doing ≡ owes_at ticket
-  pub owed : facts.payload ≡ payload
+  pub owed : facts.has.payload ≡ payload
 
--- the last number that was drawn for a resumption, or 0 where none was: it is that of the open ticket, and there is a cell for it
-pub record IsReached (cells : ℕ) (ticket : Option ℕ) (reached : ℕ) : Type 0 where
+-- this is the last number that was drawn for the resumption, or 0 where none was, and there is a cell for it
+pub record IsReached (cells : ℕ) (facts : Facts) (reached : ℕ) : Type 0 where
   pub below : reached < cells
-  pub open_ticket : (k : ℕ) → ticket ≡ Some k → reached ≡ k
+  pub drawn : reached ≡ facts.reached
 
 -- the payload of a token, its open ticket, and the last number drawn for it
 abbrev pub under_payload : Under → ℕ
@@ -29,3 +29,8 @@ under_ticket u = u.ticket
 
 abbrev pub under_reached : Under → ℕ
 under_reached u = u.reached
+
+-- the token is that of the resumption which the pass owes
+pub record HasUnder (facts : Facts) (under : Under) : Type 0 where
+  pub owes : OwesWith facts under.payload under.ticket
+  pub reached : under.reached ≡ facts.reached

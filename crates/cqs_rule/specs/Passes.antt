@@ -3,6 +3,8 @@ use Rattle.std.specs.Prelude.{◌≡◌, ℕ}
 use Rattle.cqs_rule.specs.declared.client.ClientWords.{Ghosts}
 use Rattle.cqs_rule.specs.declared.config.CancelMode.{CancelMode}
 use Rattle.cqs_rule.specs.declared.view.View.{View}
+use Rattle.cqs_rule.specs.Ruled.{cell_count}
+use Rattle.cqs_rule.specs.Saw.{IsLive}
 use Rattle.cqs_rule.specs.declared.queue.Pass.{Pass}
 use Rattle.cqs_rule.specs.declared.queue.Queue.{Queue}
 
@@ -19,6 +21,10 @@ module _ {C S E : Type 0} where
   abbrev pub mode_of : Queue C S E → CancelMode
   mode_of q = q.mode
 
+  -- how many value slots its table has
+  abbrev pub slots_of : Queue C S E → ℕ
+  slots_of q = q.table.shared.table_id.slots
+
   -- the suspend counter stays below this but for those that have seen it there
   abbrev pub limit_of : Queue C S E → ℕ
   limit_of q = q.limit
@@ -31,4 +37,10 @@ module _ {C S E : Type 0} {g : Ghosts C S E} where
   -- the pass is one of this queue
   pub record IsOf (q : Queue C S E) (p : Pass C S E g) : Type 0 where
     pub table : p.seat.table_id ≡ q.table.shared.table_id
+    pub passes : p.seat.me.0.passes ≡ q.table.shared.key.passes
     pub limit : p.seat.me.0.limit ≡ q.limit
+    pub cells : p.seat.me.0.cells ≡ cell_count q.table.shared.key.passes q.limit
+        (g.primitive q.table.shared.key.client).values
+    pub mode : (g.primitive q.table.shared.key.client).opening.mode ≡ q.mode
+    pub live : IsLive g.object p.seat.me.0
+    pub opening : p.seat.me.0.opening ≡ (g.primitive q.table.shared.key.client).opening

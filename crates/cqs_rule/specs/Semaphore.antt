@@ -1,24 +1,33 @@
 -- The semaphore as a client: its one word is the state of a core, whose history is the client's.
-use Rattle.std.specs.Prelude.{ℕ, ◌+◌, ◌-◌, ◌==◌, nat_lt, Bool, false, List, [], ◌∷◌, slice_index, ℤ, pos, ◌-ℤ◌, if◌then◌else◌}
-use Rattle.std.specs.Ordering.{int_eq}
+use Rattle.std.specs.Prelude.{ℕ, ◌+◌, ◌-◌, map, Bool, true, List, [], ◌∷◌, slice_index, pos, if◌then◌else◌}
 use Rattle.cqs_core.specs.declared.doings.Doing.{Doing}
 use Rattle.cqs_core.specs.declared.doings.Doing.TheVariants as doing
 use Rattle.cqs_core.specs.declared.entries.Entry.{Entry}
 use Rattle.cqs_core.specs.declared.entries.Entry.TheVariants as entry
+use Rattle.cqs_core.specs.SemaphoreEntries.{IsLegal}
 use Rattle.cqs_core.specs.SemaphoreTable.{Shape}
+use Rattle.cqs_core.specs.SemaphoreNames.{entry_names}
 use Rattle.cqs_core.specs.SemaphoreShown.{IsCore}
-use Rattle.cqs_rule.specs.Hidden.{Hidden, QueueStep, draws, takes, serves, looks, pends, grants, late}
+use Rattle.cqs_core.specs.SemaphoreSteps.{step_entries}
+use Rattle.cqs_rule.specs.declared.view.Has.{Has}
+use Rattle.cqs_rule.specs.declared.config.CancelMode.TheVariants.{Smart}
+use Rattle.cqs_rule.specs.Events.{Moment, Event}
+use Rattle.cqs_rule.specs.Hidden.{Hidden, Gains}
+use Rattle.cqs_rule.specs.Manner.{Manner, asks, owed}
+use Rattle.cqs_words.specs.State.{state_word, count_in, is_above_zero, is_below_zero}
+use Rattle.cqs_rule.specs.Object.{Object, Primitive}
+use Rattle.cqs_rule.specs.Ruled.{number_at}
 
--- the state that the word holds: it is raised by 2 ^ 32
-abbrev pub state_in_word : ℕ → ℤ
-state_in_word n = pos n -ℤ pos 4294967296
+-- how much each pass holds
+abbrev pub held_of : List Has → List ℕ
+held_of l = map (λ (h : Has). h.held) l
 
 -- the core that the table of a semaphore shows
 abbrev pub core_shown : ℕ → Hidden → List ℕ → List Entry → Shape
 core_shown permits c words log = record {
   permits = permits;
-  state = state_in_word (slice_index words 0);
-  held = c.held;
+  state = count_in (slice_index words 0);
+  held = held_of c.has;
   history = log;
   queue = c.queue;
 }
@@ -26,81 +35,79 @@ core_shown permits c words log = record {
 abbrev pub shows_core : {T : Type 0} → ℕ → Hidden → List ℕ → List Entry → List T → Type 0
 shows_core permits c words log handed = IsCore (core_shown permits c words log)
 
--- does the entry name this caller? A permit that is delivered names none
-abbrev pub entry_names : ℕ → Entry → Bool
-entry_names n (entry.TakeNow c) = c == n
-entry_names n (entry.TakeDoor c) = c == n
-entry_names n (entry.Enter c k) = c == n
-entry_names n (entry.TryGot c) = c == n
-entry_names n (entry.TryBusy c) = c == n
-entry_names n (entry.GiveFreed c) = c == n
-entry_names n (entry.GiveSent c) = c == n
-entry_names n (entry.Deliver k) = false
-entry_names n (entry.Leave c k) = c == n
-entry_names n (entry.Late c k) = c == n
-entry_names n (entry.LookGranted c k) = c == n
-entry_names n (entry.LookPending c k) = c == n
+-- a pass that has what it waited for holds one permit more
+abbrev pub one_more : Gains
+one_more = record { held = λ held. held + 1; slots = λ payload. [] }
 
--- the entries of the queue's steps
-abbrev pub step_entries : QueueStep → ℕ → ℕ → List Entry
-step_entries draws p k = entry.Enter p k ∷ []
-step_entries takes p k = entry.Deliver k ∷ []
-step_entries serves p k = entry.Deliver k ∷ []
-step_entries (looks pends) p k = entry.LookPending p k ∷ []
-step_entries (looks grants) p k = entry.LookGranted p k ∷ []
-step_entries (looks late) p k = entry.Late p k ∷ []
-step_entries _ p k = []
+abbrev pub semaphore_object : Object Entry
+semaphore_object = record {
+  names = entry_names;
+  legal = λ opening. IsLegal opening.size;
+  entries = λ step p k payload. step_entries step p k;
+  gains = one_more;
+}
 
--- a pass that takes a value holds one permit more
-abbrev pub one_more : ℕ → ℕ
-one_more held = held + 1
+-- a semaphore asks where a wait leaves, its passes come to a door, and it owes one resumption at a time
+abbrev pub semaphore_manner : Manner
+semaphore_manner = record { leaving = asks; has_door = true; source = owed }
 
--- the word is above the state 0: a permit is free
-abbrev pub is_free : ℕ → Bool
-is_free n = nat_lt 4294967296 n
+abbrev pub semaphore_primitive : {T : Type 0} → ℕ → Primitive Entry T
+semaphore_primitive permits = record {
+  opening = record { size = permits; mode = Smart };
+  shows = shows_core permits;
+  manner = semaphore_manner;
+  words = state_word (pos permits) ∷ [];
+  values = 0;
+  held = 0;
+}
 
--- the word is below the state 0: somebody waits
-abbrev pub is_short : ℕ → Bool
-is_short n = nat_lt n 4294967296
+-- an event that changes nothing of what the pass owes or has in hand
+abbrev pub event_of : (Moment → List Entry) → (Moment → Doing) → (Bool → ℕ → ℕ → ℕ) → Event Entry
+event_of entries doing holds = record {
+  entries = entries;
+  doing = doing;
+  holds = holds;
+  payload = λ m. m.facts.has.payload;
+  further = λ m. m.facts.has.further;
+  slots = λ m. m.facts.has.slots;
+}
 
 -- an acquire takes one from the state
-abbrev pub take_entries : ℕ → Doing → ℕ → List Entry
-take_entries p d n = if is_free n then entry.TakeNow p ∷ [] else entry.TakeDoor p ∷ []
-
-abbrev pub take_after : Doing → ℕ → Doing
-take_after d n = if is_free n then doing.Idle else doing.Door
-
-abbrev pub take_holds : Bool → ℕ → ℕ → ℕ
-take_holds made held n = if is_free n then held + 1 else held
+abbrev pub takes_one : Event Entry
+takes_one = event_of
+    (λ m. if is_above_zero m.found then entry.TakeNow m.pass ∷ [] else entry.TakeDoor m.pass ∷ [])
+    (λ m. if is_above_zero m.found then doing.Idle else doing.Door)
+    (λ made held n. if is_above_zero n then held + 1 else held)
 
 -- a try loads the state: it is told that none is free, or it is about to exchange the state
-abbrev pub try_load_entries : ℕ → Doing → ℕ → List Entry
-try_load_entries p d n = if is_free n then [] else entry.TryBusy p ∷ []
-
-abbrev pub try_load_after : Doing → ℕ → Doing
-try_load_after d n = if is_free n then doing.TryAt (state_in_word n) else doing.Idle
-
--- the word is still the one that the try has loaded
-abbrev pub is_as_loaded : Doing → ℕ → Bool
-is_as_loaded (doing.TryAt v) n = int_eq (state_in_word n) v
-is_as_loaded _ n = false
+abbrev pub loads_to_try : Event Entry
+loads_to_try = event_of
+    (λ m. if is_above_zero m.found then [] else entry.TryBusy m.pass ∷ [])
+    (λ m. if is_above_zero m.found then doing.TryAt (count_in m.found) else doing.Idle)
+    (λ made held n. held)
 
 -- the try exchanges the state for one less: it has a permit where it made the exchange, and nothing where others were first
-abbrev pub try_swap_entries : ℕ → Doing → ℕ → List Entry
-try_swap_entries p d n = if is_as_loaded d n then entry.TryGot p ∷ [] else []
-
-abbrev pub try_swap_after : Doing → ℕ → Doing
-try_swap_after d n = doing.Idle
-
-abbrev pub try_swap_holds : Bool → ℕ → ℕ → ℕ
-try_swap_holds made held n = if made then held + 1 else held
+abbrev pub tries : Event Entry
+tries = event_of
+    (λ m. if m.made then entry.TryGot m.pass ∷ [] else [])
+    (λ m. doing.Idle)
+    (λ made held n. if made then held + 1 else held)
 
 -- a release adds one to the state
-abbrev pub give_entries : ℕ → Doing → ℕ → List Entry
-give_entries p d n = if is_short n then entry.GiveSent p ∷ [] else entry.GiveFreed p ∷ []
+abbrev pub gives_one : Event Entry
+gives_one = record {
+  entries = λ m. if is_below_zero m.found then entry.GiveSent m.pass ∷ [] else entry.GiveFreed m.pass ∷ [];
+  doing = λ m. if is_below_zero m.found then doing.Owes else doing.Idle;
+  holds = λ made held n. held - 1;
+  payload = λ m. 0;
+  further = λ m. m.facts.has.further;
+  slots = λ m. m.facts.has.slots;
+}
 
-abbrev pub give_after : Doing → ℕ → Doing
-give_after d n = if is_short n then doing.Owes else doing.Idle
-
-abbrev pub give_holds : Bool → ℕ → ℕ → ℕ
-give_holds made held n = held - 1
+-- A canceller adds one to the state: below 0 its waiter has left the line. Else it is refused, and the permit that was
+-- on its way to it is free by this step.
+abbrev pub decides : Event Entry
+decides = event_of
+    (λ m. entry.Leave m.pass (number_at m.facts.doing) ∷ [])
+    (λ m. doing.Decided (number_at m.facts.doing) (is_below_zero m.found))
+    (λ made held n. held)

@@ -1,165 +1,208 @@
--- The semaphore is a client: each step of the queue is an event of its core, by the law of the core.
-use Rattle.std.proofs.Common.{◌≡◌, ℕ, zero, suc, ◌+◌, ◌-◌, ◌<◌, ◌≤◌, ◌^◌, true, List, [], ◌∷◌, ◌++◌, replicate, refl, ap, sym, ◌∙◌, subst, arith, Option, Some, None, slice_get, nat_lt, lt-ltb, eq-eqb, ne_eqb, ℤ, pos}
-use Rattle.std.proofs.lemmas.List.{append-nil}
+-- The semaphore is a client: each step of the queue that suits it is an event of its core, by the law of the core. This
+-- file is a proof: nothing of it has to be read to know what is promised, and nothing in it is taken on trust.
+use Rattle.std.proofs.Common.{◌≡◌, ◌≢◌, ℕ, zero, suc, ◌+◌, ◌-◌, ◌<◌, ◌≤◌, true, false, List, [], ◌∷◌, ◌++◌, replicate, refl, ap, sym, ◌∙◌, subst, arith, Option, Some, slice_get, nat_lt, lt-ltb, ne_eqb, ℤ, pos, le-leb, length, get_or, set, nat_le}
+use Rattle.std.proofs.lemmas.Option.{slice_get-map, get_or_from_slice_get}
+use Rattle.std.proofs.lemmas.List.{map-set}
+use Rattle.std.specs.Prelude.{slice_index, slice_set}
+use Rattle.std.specs.Option.{option_map}
 use Rattle.std.proofs.lemmas.Int.{ints}
 use Rattle.cqs_core.specs.declared.cells.CoreCell.{CoreCell}
-use Rattle.cqs_core.specs.declared.doings.Doing.TheVariants as doing
 use Rattle.cqs_core.specs.declared.entries.Entry.{Entry}
-use Rattle.cqs_core.specs.declared.events.Event.{Event}
-use Rattle.cqs_core.specs.declared.events.Event.TheVariants as event
-use Rattle.cqs_core.specs.declared.outcomes.Outcome.{Outcome}
-use Rattle.cqs_core.specs.declared.outcomes.Outcome.TheVariants as outcome
-use Rattle.cqs_core.specs.declared.cells.CoreState.TheVariants as state
-use Rattle.cqs_core.specs.QueueMoves.{Works, Owns}
-use Rattle.cqs_core.specs.SemaphoreTable.{Shape, step, is_with}
-use Rattle.cqs_core.specs.SemaphoreEntries.{IsLegal}
+use Rattle.cqs_core.specs.QueueSteps.{QueueStep, draws, enters, reaches, begins, puts, installs, takes, serves, leaves, delegates, passes_over, ends_refused, ends_missed, starts_leaving, leaves_line, leaves_at_once, settles, settles_owing, refuses, refuses_value, looks, pends, grants, late, row_of, StepRow, at_counter, at_cell, Gain, nothing, its_own, a_debt, Cost, no_cost, one_owed, one_element, IsOpenStep}
+use Rattle.cqs_core.specs.SemaphoreNames.{entry_names}
+use Rattle.cqs_core.specs.SemaphoreSteps.{IsSemaphoreStep, step_entries, stepped, held_by, gain_of}
+use Rattle.cqs_core.proofs.SemaphoreSteps.{step-core}
+use Rattle.cqs_core.specs.SemaphoreTable.{Shape}
 use Rattle.cqs_core.specs.SemaphoreShown.{IsCore, opened}
-use Rattle.cqs_core.proofs.StepKeeps.{row-core}
-use Rattle.cqs_core.proofs.OpenedCore.{opened-core}
+use Rattle.cqs_core.specs.SemaphoreRuns.{handed}
+use Rattle.cqs_core.proofs.OpenedCore.{opened-core, hand_over-core}
+use Rattle.cqs_core.proofs.Places.{get-below, get-set_else, set-same}
 use Rattle.cqs_core.proofs.Ground.{reached-few, held-small}
-use Rattle.cqs_rule.specs.Client.{IsClient}
-use Rattle.cqs_rule.specs.Hidden.{Hidden, LookEvent, pends, grants, late, state_seen, QueueStep, draws, reaches, installs, leaves, takes, serves, looks, IsOpenStep, happened}
+use Rattle.cqs_rule.specs.declared.view.Has.{Has}
+use Rattle.cqs_rule.specs.Client.{IsClient, IsBegun, begun_by, no_number}
+use Rattle.cqs_rule.specs.Hidden.{Hidden, happened, has_after, has_gained, has_paid, gathered, emptied, hands_over}
 use Rattle.cqs_rule.specs.Lists.{NamesOnly}
+use Rattle.cqs_rule.specs.Manner.{Suits}
 use Rattle.cqs_rule.specs.Opened.{first_hidden, four}
-use Rattle.cqs_rule.specs.Semaphore.{core_shown, shows_core, entry_names, step_entries, one_more, state_in_word}
+use Rattle.cqs_rule.specs.Semaphore.{core_shown, held_of, one_more, semaphore_manner, semaphore_object, semaphore_primitive}
+use Rattle.cqs_rule.specs.Views.{first_has}
+use Rattle.cqs_words.specs.State.{state_word, count_in}
 
-silent-step : (s : QueueStep) (p k : ℕ) → NamesOnly entry_names p (step_entries s p k)
-silent-step draws p k n apart = rw (ne_eqb p n (λ q. apart (sym q))) refl
-silent-step reaches p k n apart = refl
-silent-step installs p k n apart = refl
-silent-step leaves p k n apart = refl
-silent-step takes p k n apart = refl
-silent-step serves p k n apart = refl
-silent-step (looks pends) p k n apart = rw (ne_eqb p n (λ q. apart (sym q))) refl
-silent-step (looks grants) p k n apart = rw (ne_eqb p n (λ q. apart (sym q))) refl
-silent-step (looks late) p k n apart = rw (ne_eqb p n (λ q. apart (sym q))) refl
+silent-step : (s : QueueStep) (p k payload : ℕ) → NamesOnly entry_names p (step_entries s p k)
+silent-step draws p k payload n apart = rw (ne_eqb p n (λ q. apart (sym q))) refl
+silent-step enters p k payload n apart = refl
+silent-step reaches p k payload n apart = refl
+silent-step begins p k payload n apart = refl
+silent-step puts p k payload n apart = refl
+silent-step installs p k payload n apart = refl
+silent-step takes p k payload n apart = refl
+silent-step serves p k payload n apart = refl
+silent-step leaves p k payload n apart = refl
+silent-step delegates p k payload n apart = refl
+silent-step passes_over p k payload n apart = refl
+silent-step ends_refused p k payload n apart = refl
+silent-step ends_missed p k payload n apart = refl
+silent-step starts_leaving p k payload n apart = refl
+silent-step leaves_line p k payload n apart = refl
+silent-step leaves_at_once p k payload n apart = refl
+silent-step settles p k payload n apart = refl
+silent-step settles_owing p k payload n apart = refl
+silent-step refuses p k payload n apart = refl
+silent-step refuses_value p k payload n apart = refl
+silent-step (looks pends) p k payload n apart = rw (ne_eqb p n (λ q. apart (sym q))) refl
+silent-step (looks grants) p k payload n apart = rw (ne_eqb p n (λ q. apart (sym q))) refl
+silent-step (looks late) p k payload n apart = rw (ne_eqb p n (λ q. apart (sym q))) refl
 
-module _ (permits : ℕ) (c : Hidden) (p k payload : ℕ) (words : List ℕ) (log : List Entry)
-    (core : IsCore (core_shown permits c words log)) where
-  abbrev s : Shape
-  s = core_shown permits c words log
+-- how much the pass holds that has this
+pub held-at : (l : List Has) (p : ℕ) (has : Has) → slice_get l p ≡ Some has → slice_get (held_of l) p ≡ Some has.held
+held-at l p has there = slice_get-map (λ (h : Has). h.held) l p ∙ ap (option_map (λ (h : Has). h.held)) there
 
-  -- what the client shows after a step of the queue at the number j, with this history
-  abbrev shape_after : QueueStep → ℕ → Option CoreCell → List Entry → Shape
-  shape_after t j found history = core_shown permits (happened one_more c t p j found payload) words history
+pub held-is : (l : List Has) (p : ℕ) (has : Has) → slice_get l p ≡ Some has → get_or (held_of l) p 0 ≡ has.held
+held-is l p has there = get_or_from_slice_get (held_of l) p has.held 0 (held-at l p has there)
 
-  abbrev IsAfter : QueueStep → ℕ → Option CoreCell → Type 0
-  IsAfter t j found = IsCore (shape_after t j found (log ++ step_entries t p j))
+-- what all hold where the pass has this now: the pass holds so much, or what it held
+pub held-set : (l : List Has) (p : ℕ) (h : Has) (n : ℕ) → h.held ≡ n → set (held_of l) p n ≡ held_of (slice_set l p h)
+held-set l p h n is = sym (map-set (λ (x : Has). x.held) l p h ∙ ap (λ m. set (held_of l) p m) is)
 
-  abbrev After : QueueStep → Option CoreCell → Type 0
-  After t found = IsAfter t k found
+pub held-kept : (l : List Has) (p : ℕ) (has h : Has) → slice_get l p ≡ Some has → h.held ≡ has.held
+    → held_of l ≡ held_of (slice_set l p h)
+held-kept l p has h there same =
+    sym (set-same (held_of l) p has.held (held-at l p has there)) ∙ held-set l p h has.held same
 
-  -- an event of the core that the table allows, and what the client shows after it
-  by-row : (e : Event) (t : QueueStep) (j : ℕ) (found : Option CoreCell) (o : Outcome)
-      → step s e ≡ Some (record { shape = shape_after t j found (log ++ step_entries t p j); outcome = o }) → IsAfter t j found
-  by-row e t j found o is =
-      row-core s e (record { shape = shape_after t j found (log ++ step_entries t p j); outcome = o }) core is
+-- what all hold after a step of this row
+held-after : (row : StepRow) (l : List Has) (p payload : ℕ) (has : Has) → slice_get l p ≡ Some has
+    → held_by (gain_of row) (held_of l) p ≡ held_of (slice_set l p (has_after one_more row payload has))
+held-after (at_counter row) l p payload has there = paid row.cost
+  where
+    paid : (cost : Cost) → held_of l ≡ held_of (slice_set l p (has_paid cost payload has))
+    paid no_cost = held-kept l p has has there refl
+    paid one_owed = held-kept l p has (has_paid one_owed payload has) there refl
+    paid one_element = held-kept l p has (has_paid one_element payload has) there refl
+held-after (at_cell row) l p payload has there = gained row.gain
+  where
+    gained : (gain : Gain)
+        → held_by gain (held_of l) p ≡ held_of (slice_set l p (has_gained one_more gain payload has))
+    gained nothing = held-kept l p has has there refl
+    gained its_own = held-set l p (has_gained one_more its_own payload has) (get_or (held_of l) p 0 + 1)
+        (ap (λ n. n + 1) (sym (held-is l p has there)))
+    gained a_debt = held-kept l p has (has_gained one_more a_debt payload has) there refl
 
-  -- the same for an event that appends nothing
-  by-quiet-row : (e : Event) (t : QueueStep) (j : ℕ) (found : Option CoreCell) (o : Outcome) → step_entries t p j ≡ []
-      → step s e ≡ Some (record { shape = shape_after t j found log; outcome = o }) → IsAfter t j found
-  by-quiet-row e t j found o none is =
-      subst (λ (l : List Entry). IsCore (shape_after t j found l)) (sym (ap (λ l. log ++ l) none ∙ append-nil log))
-      (row-core s e (record { shape = shape_after t j found log; outcome = o }) core is)
+-- the steps that suit a semaphore are those that keep its core
+suiting : (t : QueueStep) → Suits semaphore_manner t → IsSemaphoreStep t
+suiting draws suits = tt
+suiting enters suits = absurd (door-drawn suits)
+  where
+    door-drawn : true ≡ false → ⊥
+    door-drawn q = cc
+suiting reaches suits = tt
+suiting begins suits = suits
+suiting puts suits = suits
+suiting installs suits = tt
+suiting takes suits = tt
+suiting serves suits = tt
+suiting leaves suits = tt
+suiting delegates suits = tt
+suiting passes_over suits = tt
+suiting ends_refused suits = tt
+suiting ends_missed suits = suits
+suiting starts_leaving suits = tt
+suiting leaves_line suits = suits
+suiting leaves_at_once suits = suits
+suiting settles suits = tt
+suiting settles_owing suits = tt
+suiting refuses suits = tt
+suiting refuses_value suits = tt
+suiting (looks e) suits = tt
 
-  -- the wait is the pass's
-  is-with : (cell : CoreCell) → Owns p cell → is_with p cell ≡ true
-  is-with cell o = rw (o.owner, eq-eqb p p refl, o.uncollected) refl
-
-  step-draws : (found : Option CoreCell) → IsOpenStep c.queue draws p k found → c.queue.suspends < 1099511627775
-      → After draws found
-  step-draws found open_there low =
-      let does : slice_get c.queue.doing p ≡ Some doing.Door = open_there.0 in
-      let below : nat_lt c.queue.suspends 1099511627775 ≡ true = lt-ltb c.queue.suspends 1099511627775 low in
-      let there = slice_get c.queue.cells c.queue.suspends in
-      let here : there ≡ found = ap (slice_get c.queue.cells) (sym open_there.1) ∙ open_there.2 in
-      subst (λ (z : ℕ × Option CoreCell). IsAfter draws z.0 z.1) (λ i. (sym open_there.1 i, here i))
-      (by-row (event.Draw p) draws c.queue.suspends there (outcome.Drew c.queue.suspends) (rw (does, below) refl))
-
-  step-reaches : (found : Option CoreCell) → IsOpenStep c.queue reaches p k found → c.queue.resumes < 1099511627775
-      → After reaches found
-  step-reaches found open_there low =
-      let does : slice_get c.queue.doing p ≡ Some doing.Owes = open_there.0 in
-      let below : nat_lt c.queue.resumes 1099511627775 ≡ true = lt-ltb c.queue.resumes 1099511627775 low in
-      let there = slice_get c.queue.cells c.queue.resumes in
-      let here : there ≡ found = ap (slice_get c.queue.cells) (sym open_there.1) ∙ open_there.2 in
-      subst (λ (z : ℕ × Option CoreCell). IsAfter reaches z.0 z.1) (λ i. (sym open_there.1 i, here i))
-      (by-quiet-row (event.Reach p) reaches c.queue.resumes there (outcome.Reached c.queue.resumes) refl (rw (does, below) refl))
-
-  step-installs : (cell : CoreCell) → Works c.queue p (doing.Drawn k) k cell state.Empty → After installs (Some cell)
-  step-installs cell w =
-      by-quiet-row (event.Install p) installs k (Some cell) (outcome.Waits k) refl (rw (w.does, w.finds, w.at) refl)
-
-  step-takes : (cell : CoreCell) → Works c.queue p (doing.Drawn k) k cell state.Value → After takes (Some cell)
-  step-takes cell w =
-      by-row (event.Install p) takes k (Some cell) (outcome.Took k) (rw (w.does, w.finds, w.at) refl)
-
-  step-serves : (cell : CoreCell) → Works c.queue p (doing.Ticket k) k cell state.Waiter → After serves (Some cell)
-  step-serves cell w =
-      by-row (event.Meet p) serves k (Some cell) (outcome.Served k) (rw (w.does, w.finds, w.at) refl)
-
-  step-leaves : (cell : CoreCell) → Works c.queue p (doing.Ticket k) k cell state.Empty → After leaves (Some cell)
-  step-leaves cell w =
-      by-quiet-row (event.Meet p) leaves k (Some cell) (outcome.Left k) refl (rw (w.does, w.finds, w.at) refl)
-
-  step-looks : (e : LookEvent) (cell : CoreCell) → Works c.queue p doing.Idle k cell (state_seen e) → Owns p cell
-      → After (looks e) (Some cell)
-  step-looks pends cell w o =
-      by-row (event.Look p k) (looks pends) k (Some cell) outcome.Pending (rw (w.does, w.finds, is-with cell o, w.at) refl)
-  step-looks grants cell w o =
-      by-row (event.Look p k) (looks grants) k (Some cell) outcome.Granted (rw (w.does, w.finds, is-with cell o, w.at) refl)
-  step-looks late cell w o =
-      by-row (event.Leave p k) (looks late) k (Some cell) (outcome.TooLate k) (rw (w.does, w.finds, is-with cell o, w.at) refl)
-
-  steps-core : (t : QueueStep) (found : Option CoreCell) → IsOpenStep c.queue t p k found → c.queue.suspends < 1099511627775
-      → c.queue.resumes < 1099511627775 → After t found
-  steps-core draws found o low low' = step-draws found o low
-  steps-core reaches found o low low' = step-reaches found o low'
-  steps-core installs (Some cell) o low low' = step-installs cell o
-  steps-core leaves (Some cell) o low low' = step-leaves cell o
-  steps-core takes (Some cell) o low low' = step-takes cell o
-  steps-core serves (Some cell) o low low' = step-serves cell o
-  steps-core (looks e) (Some cell) o low low' = step-looks e cell o.0 o.1
-  steps-core installs None o low low' = absurd o
-  steps-core leaves None o low low' = absurd o
-  steps-core takes None o low low' = absurd o
-  steps-core serves None o low low' = absurd o
-  steps-core (looks e) None o low low' = absurd o
+-- each of them is an event of the core, or none
+steps-core : (permits : ℕ) (c : Hidden) (t : QueueStep) (p k : ℕ) (found : Option CoreCell) (has : Has) (payload : ℕ)
+    (words : List ℕ) (log : List Entry)
+    → IsCore (core_shown permits c words log) → IsOpenStep c.queue t p k found → slice_get c.has p ≡ Some has
+    → Suits semaphore_manner t → c.queue.suspends < no_number → c.queue.resumes < no_number
+    → IsCore (core_shown permits (happened one_more c t p k found has payload) words (log ++ step_entries t p k))
+steps-core permits c t p k found has payload words log core opens there suits low low' =
+    let s = core_shown permits c words log in
+    let after : Shape = stepped s t p k found in
+    subst (λ l. IsCore (record after { held = l }))
+    (held-after (row_of t) c.has p payload has there)
+    (step-core s t p k found core (suiting t suits) opens low low')
 
 -- what the passes hold as a semaphore opens: nothing
-none-held : (passes : ℕ) → 0 < passes → ◌≡◌ {A = List ℕ} (0 ∷ replicate (passes - 1) 0) (replicate passes 0)
-none-held zero any = absurd (omega arith)
-none-held (suc n) any = let less : suc n - 1 ≡ n = omega arith in rw less refl
+none-held : (passes : ℕ) → held_of (replicate passes (first_has 0)) ≡ replicate passes 0
+none-held zero = refl
+none-held (suc n) = ap (λ (l : List ℕ). 0 ∷ l) (none-held n)
+
+first-held : (passes : ℕ) → 0 < passes
+    → held_of (first_has 0 ∷ replicate (passes - 1) (first_has 0)) ≡ replicate passes 0
+first-held zero any = absurd (omega arith)
+first-held (suc n) any = let less : suc n - 1 ≡ n = omega arith in rw less (none-held (suc n))
 
 -- the state that a semaphore's word opens with
-opens-state : (permits : ℕ) → state_in_word (permits + 4294967296) ≡ pos permits
+opens-state : (permits : ℕ) → count_in (state_word (pos permits)) ≡ pos permits
 opens-state permits = grind (arith, ints)
 
 begins-core : (permits passes : ℕ) → 0 < permits → permits ≤ 1048576 → 0 < passes → passes ≤ 32
-    → IsCore (core_shown permits (first_hidden passes 0 0) (four ((permits + 4294967296) ∷ [])) [])
+    → IsCore (core_shown permits (first_hidden passes 0 0) (four (state_word (pos permits) ∷ [])) [])
 begins-core permits passes some low any few =
     let queue = (opened permits passes).queue in
-    subst (λ (z : List ℕ × ℤ). IsCore (record { permits = permits; state = z.1; held = z.0; history = []; queue = queue }))
-    (λ i. (sym (none-held passes any) i, sym (opens-state permits) i))
-    (opened-core permits passes (record { some_permits = some; few_permits = low; some_passes = any; few_passes = few }))
+    subst (λ (z : List ℕ × ℤ).
+    IsCore (record { permits = permits; state = z.1; held = z.0; history = []; queue = queue }))
+    (λ i. (sym (first-held passes any) i, sym (opens-state permits) i))
+    (opened-core permits passes
+    (record { some_permits = some; few_permits = low; some_passes = any; few_passes = few }))
+
+-- permits that one pass hands to another are all still held
+hands-permits : (permits : ℕ) (c : Hidden) (from to : ℕ) (mine theirs : Has) (words : List ℕ) (log : List Entry)
+    → IsCore (core_shown permits c words log) → from ≢ to → slice_get c.has from ≡ Some mine
+    → slice_get c.has to ≡ Some theirs
+    → IsCore (core_shown permits (hands_over c from (emptied mine) to (gathered theirs mine)) words log)
+hands-permits permits c from to mine theirs words log core apart has there =
+    let s = core_shown permits c words log in
+    let held = held_of c.has in
+    let many = mine.held in
+    let gave : Has = emptied mine in
+    let got : Has = gathered theirs mine in
+    let from_has : slice_get held from ≡ Some mine.held = held-at c.has from mine has in
+    let to_has : slice_get held to ≡ Some theirs.held = held-at c.has to theirs there in
+    let first : nat_lt from (length held) ≡ true = lt-ltb from (length held) (get-below held from mine.held from_has) in
+    let second : nat_lt to (length held) ≡ true = lt-ltb to (length held) (get-below held to theirs.held to_has) in
+    let holds : slice_index held from ≡ mine.held = held-is c.has from mine has in
+    let few : nat_le many (slice_index held from) ≡ true = le-leb many (slice_index held from) (omega arith) in
+    let rest = slice_set held from (slice_index held from - many) in
+    let lies : slice_index rest to ≡ theirs.held =
+    get_or_from_slice_get rest to theirs.held 0
+    (get-set_else held from to (slice_index held from - many) apart ∙ to_has) in
+    let none : gave.held ≡ mine.held - many = omega arith in
+    let is : handed held from to many ≡ held_of (slice_set (slice_set c.has from gave) to got) =
+    (λ i. slice_set (slice_set held from (holds i - many)) to (lies i + many))
+    ∙ (ap (λ l. set l to got.held) (held-set c.has from gave (mine.held - many) none)
+    ∙ held-set (slice_set c.has from gave) to got got.held refl) in
+    subst (λ l. IsCore (record s { held = l })) is
+    (hand_over-core s (record s { held = handed held from to many }) from to many core (rw (first, second, few) refl))
+
+-- a semaphore begins no resumption but by a release
+none-begun : (cost : Cost) → IsBegun cost → Suits semaphore_manner (begun_by cost) → ⊥
+none-begun no_cost begun suits = begun
+none-begun one_owed begun suits = suits
+none-begun one_element begun suits = suits
 
 -- a semaphore with permits from 1 to 1,048,576
 pub semaphore-client : {T : Type 0} (permits : ℕ) → 0 < permits → permits ≤ 1048576
-    → IsClient entry_names (IsLegal permits) (shows_core {T = T} permits) step_entries one_more ((permits + 4294967296) ∷ []) 0 0
+    → IsClient semaphore_object (semaphore_primitive {T = T} permits)
 semaphore-client permits some low = record {
   begins = λ passes any few. begins-core permits passes some low any few;
-  steps = λ c t p k found payload words log handed core o less less'.
-      steps-core permits c p k payload words log core t found o less less';
+  steps = λ c t p k found has payload words log handed core opens there paid suits low low'.
+      steps-core permits c t p k found has payload words log core opens there suits low low';
   counts = λ c p may words log handed core. core;
+  hands = λ c from to mine theirs words log handed core apart idle idle' has there.
+      hands-permits permits c from to mine theirs words log core apart has there;
   silent = silent-step;
   sound = λ c words log handed core. core.sound;
   legal_shown = λ c words log handed core. core.legal;
-  held_fits = λ c words log handed p n core there.
-      let few = held-small (core_shown permits c words log) p n core there in omega arith;
+  held_fits = λ c words log handed p has core there.
+      let few = held-small (core_shown permits c words log) p has.held core (held-at c.has p has there) in omega arith;
   reaches_few = λ c words log handed p core owes.
       let few = reached-few (core_shown permits c words log) p core owes in omega arith;
+  begins_few = λ c words log handed p has cost payload core idle there paid begun suits.
+      absurd (none-begun cost begun suits);
 }
-
--- a release owes the payload 0
-pub none-owed : (owed : ℕ) → owed < 2 ^ 20 → 0 < 2 ^ 20
-none-owed owed fits = omega arith

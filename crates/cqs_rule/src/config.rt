@@ -48,6 +48,17 @@ pub enum MakeError {
     BadConfig,
 }
 
+/// As many passes were made as the queue allows.
+#[derive(Clone, Copy, Debug, PartialEq, Eq)]
+pub struct Crowd;
+
+/// Why two passes did not meet.
+#[derive(Clone, Copy, Debug, PartialEq, Eq)]
+pub enum MeetError {
+    /// The given pass has a wait, or owes something.
+    Busy,
+}
+
 /// Where the cell of a number stands in the table.
 #[derive(Clone, Copy, Debug, PartialEq, Eq)]
 pub struct Place {

@@ -1,21 +1,39 @@
-//! The steps of the queue itself, as type parameters of the calls that make them.
+//! The steps of the queue itself that draw a number or make an exchange, as type parameters of the calls that make them.
 
-ghost use Rattle.cqs_rule.specs.Hidden.{draws, reaches, installs, leaves, takes, serves};
+ghost use Rattle.cqs_core.specs.QueueSteps.{
+  draws,
+  enters,
+  reaches,
+  begins,
+  puts,
+  installs,
+  takes,
+  serves,
+  leaves,
+  delegates,
+  starts_leaving,
+  leaves_line,
+  leaves_at_once,
+  settles,
+  settles_owing,
+  refuses,
+  refuses_value,
+};
 
 use crate::client::ClientWords;
 
 /// Which step of the queue a call makes.
 pub trait Kind {
-    ghost use Rattle.std.specs.Prelude.{◌≡◌, ◌<◌, ◌^◌};
-    ghost use Rattle.cqs_rule.specs.Hidden.{QueueStep};
-    ghost use Rattle.cqs_rule.specs.Told.{held_then, owes_then, waits_then};
+    ghost use Rattle.std.specs.Prelude.{◌≡◌, ◌+◌, ◌<◌, ◌≤◌, ◌^◌};
+    ghost use Rattle.cqs_core.specs.QueueSteps.{QueueStep};
+    ghost use Rattle.cqs_rule.specs.Kinds.{held_then, owes_then, opens_wait, closes_wait};
 
     ghost step: { QueueStep };
 
     /// What a pass that held this much holds after the step.
     fn held_after<C: ClientWords>(held: u32) -> u32
-        requires { held_then C.gains step held < 2 ^ 32 }
-        ensures { result ≡ held_then C.gains step held };
+        requires { held_then C.object.gains.held step held < 2 ^ 32 }
+        ensures { result ≡ held_then C.object.gains.held step held };
 
     /// Whether it owes after the step.
     fn owes_after() -> bool
@@ -23,11 +41,12 @@ pub trait Kind {
 
     /// How many waits a pass has after the step that had this many.
     fn waits_after(waits: u32) -> u32
-        requires { waits < 2 ^ 31 }
-        ensures { result ≡ waits_then step waits };
+        requires few { waits < 2 ^ 31 }
+        requires some { closes_wait step ≤ waits + opens_wait step }
+        ensures { result + closes_wait step ≡ waits + opens_wait step };
 }
 
-/// A number is drawn to suspend at.
+/// A number is drawn to suspend at, by a pass at the door.
 pub struct Draws;
 
 impl Kind for Draws {
@@ -46,11 +65,68 @@ impl Kind for Draws {
     }
 }
 
-/// A number is drawn to resume at.
+/// A number is drawn to suspend at, by an idle pass that comes to the door with the same step.
+pub struct Enters;
+
+impl Kind for Enters {
+    ghost step = { enters };
+
+    fn held_after<C: ClientWords>(held: u32) -> u32 {
+        held
+    }
+
+    fn owes_after() -> bool {
+        false
+    }
+
+    fn waits_after(waits: u32) -> u32 {
+        waits
+    }
+}
+
+/// A number is drawn to resume at, by a pass that owes a resumption.
 pub struct Reaches;
 
 impl Kind for Reaches {
     ghost step = { reaches };
+
+    fn held_after<C: ClientWords>(held: u32) -> u32 {
+        held
+    }
+
+    fn owes_after() -> bool {
+        true
+    }
+
+    fn waits_after(waits: u32) -> u32 {
+        waits
+    }
+}
+
+/// A number is drawn to resume at, by an idle pass that begins the next of the resumptions that it owes.
+pub struct Begins;
+
+impl Kind for Begins {
+    ghost step = { begins };
+
+    fn held_after<C: ClientWords>(held: u32) -> u32 {
+        held
+    }
+
+    fn owes_after() -> bool {
+        true
+    }
+
+    fn waits_after(waits: u32) -> u32 {
+        waits
+    }
+}
+
+/// A number is drawn to resume at, by an idle pass that puts the first of the elements that it has in hand.
+pub struct Puts;
+
+impl Kind for Puts {
+    ghost step = { puts };
 
     fn held_after<C: ClientWords>(held: u32) -> u32 {
         held
@@ -81,25 +157,6 @@ impl Kind for Installs {
 
     fn waits_after(waits: u32) -> u32 {
         waits + 1
-    }
-}
-
-/// An empty cell gets the value of a resume.
-pub struct Leaves;
-
-impl Kind for Leaves {
-    ghost step = { leaves };
-
-    fn held_after<C: ClientWords>(held: u32) -> u32 {
-        held
-    }
-
-    fn owes_after() -> bool {
-        false
-    }
-
-    fn waits_after(waits: u32) -> u32 {
-        waits
     }
 }
 
@@ -138,5 +195,176 @@ impl Kind for Serves {
 
     fn waits_after(waits: u32) -> u32 {
         waits
+    }
+}
+
+/// An empty cell gets the value of a resume.
+pub struct Leaves;
+
+impl Kind for Leaves {
+    ghost step = { leaves };
+
+    fn held_after<C: ClientWords>(held: u32) -> u32 {
+        held
+    }
+
+    fn owes_after() -> bool {
+        false
+    }
+
+    fn waits_after(waits: u32) -> u32 {
+        waits
+    }
+}
+
+/// A resume leaves its value to the canceller of the wait.
+pub struct Delegates;
+
+impl Kind for Delegates {
+    ghost step = { delegates };
+
+    fn held_after<C: ClientWords>(held: u32) -> u32 {
+        held
+    }
+
+    fn owes_after() -> bool {
+        false
+    }
+
+    fn waits_after(waits: u32) -> u32 {
+        waits
+    }
+}
+
+/// A waiter begins to leave; its client is to be asked.
+pub struct StartsLeaving;
+
+impl Kind for StartsLeaving {
+    ghost step = { starts_leaving };
+
+    fn held_after<C: ClientWords>(held: u32) -> u32 {
+        held
+    }
+
+    fn owes_after() -> bool {
+        true
+    }
+
+    fn waits_after(waits: u32) -> u32 {
+        waits
+    }
+}
+
+/// A waiter leaves the line, and resumes will pass over its cell.
+pub struct LeavesLine;
+
+impl Kind for LeavesLine {
+    ghost step = { leaves_line };
+
+    fn held_after<C: ClientWords>(held: u32) -> u32 {
+        held
+    }
+
+    fn owes_after() -> bool {
+        true
+    }
+
+    fn waits_after(waits: u32) -> u32 {
+        waits
+    }
+}
+
+/// A waiter leaves at once, and a resume will end at its cell.
+pub struct LeavesAtOnce;
+
+impl Kind for LeavesAtOnce {
+    ghost step = { leaves_at_once };
+
+    fn held_after<C: ClientWords>(held: u32) -> u32 {
+        held
+    }
+
+    fn owes_after() -> bool {
+        false
+    }
+
+    fn waits_after(waits: u32) -> u32 {
+        waits - 1
+    }
+}
+
+/// A canceller ends its leaving: resumes pass over the cell.
+pub struct Settles;
+
+impl Kind for Settles {
+    ghost step = { settles };
+
+    fn held_after<C: ClientWords>(held: u32) -> u32 {
+        held
+    }
+
+    fn owes_after() -> bool {
+        false
+    }
+
+    fn waits_after(waits: u32) -> u32 {
+        waits - 1
+    }
+}
+
+/// A canceller ends its leaving, and owes the resumption whose value was left to it.
+pub struct SettlesOwing;
+
+impl Kind for SettlesOwing {
+    ghost step = { settles_owing };
+
+    fn held_after<C: ClientWords>(held: u32) -> u32 {
+        held
+    }
+
+    fn owes_after() -> bool {
+        true
+    }
+
+    fn waits_after(waits: u32) -> u32 {
+        waits - 1
+    }
+}
+
+/// A canceller was refused: the resume that comes ends at the cell.
+pub struct Refuses;
+
+impl Kind for Refuses {
+    ghost step = { refuses };
+
+    fn held_after<C: ClientWords>(held: u32) -> u32 {
+        held
+    }
+
+    fn owes_after() -> bool {
+        false
+    }
+
+    fn waits_after(waits: u32) -> u32 {
+        waits - 1
+    }
+}
+
+/// A canceller was refused, and the value that was left to it ends there.
+pub struct RefusesValue;
+
+impl Kind for RefusesValue {
+    ghost step = { refuses_value };
+
+    fn held_after<C: ClientWords>(held: u32) -> u32 {
+        held
+    }
+
+    fn owes_after() -> bool {
+        false
+    }
+
+    fn waits_after(waits: u32) -> u32 {
+        waits - 1
     }
 }

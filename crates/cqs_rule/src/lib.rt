@@ -4,6 +4,7 @@
 //! answers the word that it found, and tells what the pass has seen since: first what others did, and then its own entries.
 #![tactic(auto)]
 
+mod callbacks;
 mod client;
 mod config;
 mod kinds;
@@ -17,16 +18,20 @@ mod silent;
 mod threads;
 mod view;
 
-pub use client::{Client, ClientWords, Shown};
-pub use config::{CancelMode, Config, MakeError, Place};
-pub use kinds::{Draws, Installs, Kind, Leaves, Reaches, Serves, Takes};
+pub use callbacks::Client;
+pub use client::{ClientWords, Shown};
+pub use config::{CancelMode, Config, Crowd, MakeError, MeetError, Place};
+pub use kinds::{
+    Begins, Delegates, Draws, Enters, Installs, Kind, Leaves, LeavesAtOnce, LeavesLine, Puts,
+    Reaches, Refuses, RefusesValue, Serves, Settles, SettlesOwing, StartsLeaving, Takes,
+};
 pub use layout::{CELLS_WORD, CLIENT_WORD, CREW_WORD, RESUMES_WORD, SUSPENDS_WORD};
-pub use loads::{Cancels, Counts, Load, Polls, Watches};
+pub use loads::{Cancels, Counts, Learned, Load, Meets, Misses, Polls, Watches};
 pub use queue::{Pass, Queue, Under, Wait};
 pub use rule::{Key, Rule};
 pub use semaphore::{
-    Give, SemClient, Take, TryLoad, TrySwap, give_permit, load_state, next_wait, read_state,
-    take_permit, try_take,
+    Decide, Give, SemClient, Take, TryLoad, TrySwap, give_permit, load_state, next_wait,
+    read_state, take_permit, try_take,
 };
 pub use silent::Silent;
-pub use view::{Facts, Glimpse, Sighting, View};
+pub use view::{Facts, Glimpse, Has, Opening, Sighting, View};

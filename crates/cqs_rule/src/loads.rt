@@ -1,30 +1,49 @@
 //! The loads of the table, as type parameters of the call that makes them.
 
 ghost use Rattle.std.specs.Prelude.{◌≡◌};
-ghost use Rattle.cqs_rule.specs.Loads.{counts, watches, polls, cancels, is_served};
+ghost use Rattle.cqs_rule.specs.Loads.{
+  counts,
+  watches,
+  polls,
+  cancels,
+  meets,
+  misses,
+  learned_of,
+  served_in,
+};
 ghost use Rattle.cqs_words.specs.Cell.{unpacked_cell};
 
 use cqs_words::{CellState, CellWord};
 
+/// What a pass learns by a load.
+pub enum Learned {
+    /// Nothing that it has or owes changes.
+    Nothing,
+    /// Its wait was served: what it waited for is its own, and the wait is closed.
+    Granted,
+    /// The resumption that it owed ended at this cell.
+    Ended,
+}
+
 /// What a call loads, and the event that its load names.
 pub trait Load {
     ghost use Rattle.std.specs.Prelude.{◌≡◌};
-    ghost use Rattle.cqs_rule.specs.Loads.{LoadStep, closes};
+    ghost use Rattle.cqs_rule.specs.Loads.{LoadStep, learned};
 
     ghost load: { LoadStep };
 
-    /// Whether a load that found this word closes the wait of its pass.
-    fn closes(found: u64) -> bool
-        ensures { result ≡ closes load found };
+    /// What a load that found this word tells its pass.
+    fn learned(found: u64) -> Learned
+        ensures { result ≡ learned load found };
 }
 
-// Whether the word is that of a cell whose waiter was served.
-fn is_served(found: u64) -> bool
-    ensures { result ≡ is_served (unpacked_cell found) }
+// What the owner of a wait learns from the word of its cell.
+fn served(found: u64) -> Learned
+    ensures { result ≡ learned_of served_in (unpacked_cell found) }
 {
     match CellWord::unpack(found) {
-        Some(cell) => cell.state == CellState::Resumed,
-        None => false,
+        Some(cell) if cell.state == CellState::Resumed => Learned::Granted,
+        _ => Learned::Nothing,
     }
 }
 
@@ -34,8 +53,8 @@ pub struct Counts;
 impl Load for Counts {
     ghost load = { counts };
 
-    fn closes(_found: u64) -> bool {
-        false
+    fn learned(_found: u64) -> Learned {
+        Learned::Nothing
     }
 }
 
@@ -45,8 +64,8 @@ pub struct Watches;
 impl Load for Watches {
     ghost load = { watches };
 
-    fn closes(_found: u64) -> bool {
-        false
+    fn learned(_found: u64) -> Learned {
+        Learned::Nothing
     }
 }
 
@@ -56,8 +75,8 @@ pub struct Polls;
 impl Load for Polls {
     ghost load = { polls };
 
-    fn closes(found: u64) -> bool {
-        is_served(found)
+    fn learned(found: u64) -> Learned {
+        served(found)
     }
 }
 
@@ -68,7 +87,35 @@ pub struct Cancels;
 impl Load for Cancels {
     ghost load = { cancels };
 
-    fn closes(found: u64) -> bool {
-        is_served(found)
+    fn learned(found: u64) -> Learned {
+        served(found)
+    }
+}
+
+/// The cell of a ticket, by its resume, in smart mode: it passes over a cancelled cell, and ends at a refused one.
+pub struct Meets;
+
+impl Load for Meets {
+    ghost load = { meets };
+
+    fn learned(found: u64) -> Learned {
+        match CellWord::unpack(found) {
+            Some(cell) if cell.state == CellState::Refused => Learned::Ended,
+            _ => Learned::Nothing,
+        }
+    }
+}
+
+/// The cell of a ticket, by its resume, in simple mode: it ends at a cancelled cell.
+pub struct Misses;
+
+impl Load for Misses {
+    ghost load = { misses };
+
+    fn learned(found: u64) -> Learned {
+        match CellWord::unpack(found) {
+            Some(cell) if cell.state == CellState::Cancelled => Learned::Ended,
+            _ => Learned::Nothing,
+        }
     }
 }

@@ -1,13 +1,16 @@
 //! What each step tells. These types are for the proofs alone.
 
-ghost use Rattle.cqs_rule.specs.Loads.{CounterWas, loaded_by};
-ghost use Rattle.cqs_rule.specs.Told.{WordWas, drew, crossed, moved_by, exchanged_by};
+ghost use Rattle.cqs_rule.specs.Crew.{IsSole, counted_by, tried_by, met_by};
+ghost use Rattle.cqs_rule.specs.Counts.{drew};
+ghost use Rattle.cqs_rule.specs.Events.{moved_by, exchanged_by};
+ghost use Rattle.cqs_rule.specs.Exchanges.{crossed};
+ghost use Rattle.cqs_rule.specs.Loads.{loaded_by};
 
 use crate::client::{ClientWords, Shown};
 use crate::kinds::Kind;
 use crate::loads::Load;
 use crate::view::View;
-use atomic_table::Play;
+use atomic_table::{Join, Play, Split};
 use std::marker::PhantomData;
 
 /// A load of the suspend counter or of a cell.
@@ -16,7 +19,7 @@ pub(crate) struct Loading<C, L> {
 }
 
 impl<C: ClientWords, L: Load> Play<Option<C::Slot>, View<C::Entry, C::Slot>> for Loading<C, L> {
-    ghost then = { loaded_by C.names C.legal C.gains C.entries (CounterWas C.shows C.size) L.load };
+    ghost then = { loaded_by C.object C.primitive L.load };
 }
 
 /// A number is drawn from a counter.
@@ -25,7 +28,7 @@ pub(crate) struct Draw<C, K> {
 }
 
 impl<C: ClientWords, K: Kind> Play<Option<C::Slot>, View<C::Entry, C::Slot>> for Draw<C, K> {
-    ghost then = { drew C.names C.legal C.gains C.entries K.step };
+    ghost then = { drew C.object K.step };
 }
 
 /// An exchange on a cell.
@@ -34,7 +37,7 @@ pub(crate) struct Cross<C, K> {
 }
 
 impl<C: ClientWords, K: Kind> Play<Option<C::Slot>, View<C::Entry, C::Slot>> for Cross<C, K> {
-    ghost then = { crossed C.names C.legal C.gains C.entries K.step };
+    ghost then = { crossed C.object C.primitive K.step };
 }
 
 /// A load of a word of the client, or a step that changes it in any case, by the event that it shows.
@@ -43,7 +46,7 @@ pub(crate) struct Show<C, M> {
 }
 
 impl<C: ClientWords, M: Shown<C>> Play<Option<C::Slot>, View<C::Entry, C::Slot>> for Show<C, M> {
-    ghost then = { moved_by C.names C.legal M.entries M.after M.holds M.payload (WordWas C.shows C.size) };
+    ghost then = { moved_by C.object C.primitive M.event };
 }
 
 /// An exchange on a word of the client, by the event that it shows.
@@ -53,5 +56,54 @@ pub(crate) struct ShowExchange<C, M> {
 
 impl<C: ClientWords, M: Shown<C>> Play<Option<C::Slot>, View<C::Entry, C::Slot>>
     for ShowExchange<C, M> {
-    ghost then = { exchanged_by C.names C.legal M.entries M.after M.holds M.payload (WordWas C.shows C.size) };
+    ghost then = { exchanged_by C.object C.primitive M.event };
+}
+
+/// A load of the crew's word.
+pub(crate) struct Count<C> {
+    of: PhantomData<C>,
+}
+
+impl<C: ClientWords> Play<Option<C::Slot>, View<C::Entry, C::Slot>> for Count<C> {
+    ghost then = { counted_by C.object (IsSole C.primitive) };
+}
+
+/// The exchange on the crew's word by which a pass is made.
+pub(crate) struct Make<C> {
+    of: PhantomData<C>,
+}
+
+impl<C: ClientWords> Play<Option<C::Slot>, View<C::Entry, C::Slot>> for Make<C> {
+    ghost then = { tried_by C.object };
+}
+
+/// The step on the crew's word by which a pass that was joined away is counted out.
+pub(crate) struct Meet<C> {
+    of: PhantomData<C>,
+}
+
+impl<C: ClientWords> Play<Option<C::Slot>, View<C::Entry, C::Slot>> for Meet<C> {
+    ghost then = { met_by C.object };
+}
+
+/// A view that counts for two is cut in two.
+pub(crate) struct Cut;
+
+impl<E, S> Split<View<E, S>> for Cut {
+    ghost use Rattle.cqs_rule.specs.Views.{single, cut_off};
+
+    ghost left = { single };
+
+    ghost right = { cut_off };
+}
+
+/// A view takes in that of another pass.
+pub(crate) struct Gather;
+
+impl<E, S> Join<View<E, S>> for Gather {
+    ghost use Rattle.cqs_rule.specs.Views.{joined, spent};
+
+    ghost both = { joined };
+
+    ghost spent = { spent };
 }

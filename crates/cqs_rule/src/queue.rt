@@ -1,11 +1,12 @@
 //! The queue, and the passes that callers make its steps with.
 
-ghost use Rattle.std.specs.Prelude.{◌≡◌, ◌+◌, ◌<◌, ◌^◌, length};
+ghost use Rattle.std.specs.Prelude.{◌≡◌, ◌+◌, ◌<◌, ◌≤◌, ◌^◌, length};
 ghost use Rattle.cqs_rule.specs.Inside.{IsInside};
 ghost use Rattle.cqs_rule.specs.Layout.{words_for};
-ghost use Rattle.cqs_rule.specs.Told.{is_owing};
+ghost use Rattle.cqs_rule.specs.Facts.{is_owing};
 
 mod opening;
+mod seats;
 mod steps;
 mod tokens;
 mod words;
@@ -22,8 +23,11 @@ pub use tokens::{Under, Wait};
 #[derive(Drop)]
 pub struct Queue<C: ClientWords> {
     table: Table<Option<C::Slot>, View<C::Entry, C::Slot>, Key<C>, Rule<C>, Global>,
+    passes: u32,
     limit: u64,
     mode: CancelMode,
+    ghost passes_are: { table.shared.key.passes ≡ passes },
+    ghost few_passes: { passes ≤ 32 },
     ghost limit_is: { table.shared.key.limit ≡ limit },
 }
 
@@ -37,7 +41,7 @@ pub struct Pass<C: ClientWords> {
     waits: u32,
     pub ghost live: { (seat.me.0.weight ≡ 1) × (length seat.me.1 ≡ 0) },
     pub ghost number_is: { seat.me.0.number ≡ number },
-    pub ghost held_is: { seat.me.0.facts.held ≡ held },
+    pub ghost held_is: { seat.me.0.facts.has.held ≡ held },
     pub ghost owes_is: { is_owing seat.me.0.facts.doing ≡ owes },
     pub ghost waits_are: { length seat.me.0.facts.waits ≡ waits },
     pub ghost cells_are: { words_for seat.me.0.cells ≡ seat.table_id.words },

@@ -19,13 +19,12 @@ pub struct Rule<C> {
 }
 
 impl<C: ClientWords> TableRule<Option<C::Slot>, View<C::Entry, C::Slot>, Key<C>> for Rule<C> {
-    ghost use Rattle.std.specs.Prelude.{◌+◌};
-    ghost use Rattle.cqs_rule.specs.Ruled.{Ruled};
+    ghost use Rattle.cqs_rule.specs.Ruled.{Ruled, cell_count};
     ghost use Rattle.cqs_rule.specs.Views.{first_view};
 
-    ghost holds = { λ key. Ruled C.names (C.shows key.client) key.passes key.limit
-        (C.first_values key.client) (C.size key.client) };
+    ghost holds = { λ key. Ruled C.object (C.primitive key.client) key.passes key.limit };
 
-    ghost first = { λ key. first_view key.limit (key.limit + key.passes + C.first_values key.client)
-        (C.size key.client) (C.first_held key.client) };
+    ghost first = { λ key. first_view key.passes key.limit
+        (cell_count key.passes key.limit (C.primitive key.client).values)
+        (C.primitive key.client).opening (C.primitive key.client).held };
 }

@@ -3,12 +3,13 @@
 
 ghost use Rattle.std.specs.Prelude.{◌≡◌, ◌+◌, ◌<◌, ◌≤◌, [], ◌∷◌};
 
+mod callbacks;
 mod calls;
 mod client;
 mod events;
 
 pub use calls::{give_permit, load_state, next_wait, read_state, take_permit, try_take};
-pub use events::{Give, Take, TryLoad, TrySwap};
+pub use events::{Decide, Give, Take, TryLoad, TrySwap};
 use std::marker::PhantomData;
 
 /// A semaphore with values of `T` in its slots; a plain one has none.

@@ -6,23 +6,15 @@ use crate::client::{ClientWords, Shown};
 pub struct Silent;
 
 impl<C: ClientWords> Shown<C> for Silent {
-    ghost use Rattle.std.specs.Prelude.{[]};
+    ghost use Rattle.cqs_rule.specs.Silent.{silent};
 
-    ghost entries = { λ pass doing found. [] };
-
-    ghost after = { λ doing found. doing };
-
-    ghost holds = { λ made held found. held };
-
-    ghost payload = { λ payload. payload };
+    ghost event = { silent };
 
     fn held_after(held: u32, _found: u64, _made: bool) -> u32 {
         held
     }
 
-    fn owes_after(owes: bool, _found: u64) -> bool {
+    fn owes_after(owes: bool, _found: u64, _made: bool) -> bool {
         owes
     }
-
-    ghost payload_fits = { λ owed fits. fits };
 }

@@ -1,7 +1,7 @@
 //! A queue is shared between threads, and a pass is handed from one to another. This is shown here, where a field that could
 //! not cross would be refused.
 
-use crate::client::Client;
+use crate::callbacks::Client;
 use crate::queue::{Pass, Queue, Under, Wait};
 
 fn may_share<T: Send + Sync>(_value: &T) {}

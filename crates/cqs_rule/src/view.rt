@@ -1,41 +1,62 @@
 //! What a pass knows of its queue, as the rule and contracts see it. No value of these types is made.
 
+use crate::config::CancelMode;
 use cqs_core::{CoreState, Doing};
 use std::collections::LinkedList;
+
+/// What a client's object opens with.
+pub struct Opening {
+    /// Its number, as the permits of a semaphore.
+    pub size: u64,
+    /// What a resume does with a cell whose waiter has left.
+    pub mode: CancelMode,
+}
 
 /// What a pass found at a step of its own, in order.
 pub enum Sighting {
     /// This word, in the cell of this number.
     Cell { number: u64, word: u64 },
-    /// This word, in the resume counter.
-    Resumes(u64),
+    /// This word, at this place of the table: a counter, or a word of the client.
+    Word { place: u64, word: u64 },
 }
 
-/// What a failed exchange found a cell to be.
+/// What an exchange that wasn't made found a cell to be.
 pub struct Glimpse {
+    pub number: u64,
     pub state: CoreState,
     pub payload: u64,
+}
+
+/// What a pass has of its own, beside what it is in the middle of.
+pub struct Has {
+    /// What it holds: permits of a semaphore, parties of a barrier.
+    pub held: u64,
+    /// The payload that it owes, where it owes a resumption.
+    pub payload: u64,
+    /// How many resumptions it owes beside the one that it is at.
+    pub further: u64,
+    /// The value slots that it has in hand.
+    pub slots: LinkedList<u64>,
 }
 
 /// The facts of a pass that its own steps alone change.
 pub struct Facts {
     /// What it is in the middle of.
     pub doing: Doing,
-    /// What it holds: permits of a semaphore, parties of a barrier.
-    pub held: u64,
-    /// The payload that it owes, where it owes a resumption.
-    pub payload: u64,
+    pub has: Has,
     /// Whether it has seen the suspend counter below the limit since it last drew a number there.
     pub may_draw: bool,
-    /// What its last failed exchange on the cell of its number found.
+    /// What its last exchange on a cell found, where that wasn't made.
     pub last: Option<Glimpse>,
     /// The numbers of its waits, which it has installed and not yet closed.
     pub waits: LinkedList<u64>,
+    /// The last number that it drew for the resumption that it owes, or 0 where it drew none for it yet.
+    pub reached: u64,
     /// The numbers that it drew to resume at and passed over.
     pub passed: LinkedList<u64>,
     /// The slots and head words that it found.
     pub heads: LinkedList<(u64, u64)>,
-    /// What it found in cells and in the resume counter.
+    /// What each of its steps on counters, cells and the client's words found.
     pub found: LinkedList<Sighting>,
 }
 
@@ -53,16 +74,26 @@ pub struct View<E, S> {
     pub own: LinkedList<u64>,
     /// At weight 2: what the second pass has seen.
     pub other: LinkedList<E>,
+    /// At weight 2: the values handed in that the second pass has seen.
+    pub other_handed: LinkedList<S>,
     /// At weight 2: the numbers of the second pass.
     pub others: LinkedList<u64>,
+    /// At weight 2: the number of the second pass.
+    pub second_number: u64,
+    /// At weight 2: the facts of the second pass.
+    pub second: Facts,
     /// What its last step on the crew's word found.
     pub crew: u64,
     /// Whether no other pass is there.
     pub alone: bool,
+    /// How many passes may be made in all.
+    pub passes: u64,
     /// The limit of the suspend counter.
     pub limit: u64,
     /// How many cells the table has.
     pub cells: u64,
-    /// The number that the client's object opens with, as its permits.
-    pub size: u64,
+    /// What the client's object opened with.
+    pub opening: Opening,
+    /// The home slots of the segments, as far as the pass has seen them made.
+    pub homes: LinkedList<u64>,
 }

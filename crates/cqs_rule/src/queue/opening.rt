@@ -4,7 +4,9 @@ ghost use Rattle.std.specs.Prelude.{◌≡◌, ℕ, ◌+◌, ◌*◌, ◌<◌, �
 ghost use mathlib.Core.Logic.{◌↔◌};
 ghost use Rattle.cqs_rule.specs.Configured.{is_config};
 ghost use Rattle.cqs_rule.specs.Opened.{first_word, IsOpening};
-ghost use Rattle.cqs_rule.specs.Passes.{pass_view, client_of, passes_of, limit_of, mode_of, IsOf};
+ghost use Rattle.cqs_rule.specs.Manner.{mode_for};
+ghost use Rattle.cqs_rule.specs.Passes.{pass_view, client_of, passes_of, limit_of, mode_of, slots_of, IsOf};
+ghost use Rattle.cqs_rule.specs.Ruled.{cell_count};
 ghost use Rattle.cqs_rule.specs.Views.{first_view};
 
 use crate::client::ClientWords;
@@ -13,11 +15,8 @@ use crate::layout::{CELLS_WORD, CLIENT_WORD, CREW_WORD, RESUMES_WORD};
 use crate::queue::{Pass, Queue};
 use crate::rule::Key;
 use atomic_table::Table;
-use cqs_words::{CellState, CellWord};
+use cqs_words::{CellState, CellWord, CrewWord};
 use std::alloc::{AllocError, Global};
-
-// One pass was made, and one is live.
-const FIRST_CREW: u64 = (1 << 32) + 1;
 
 // What a cell opens as: each value's cell has the value of its own number.
 fn first_cell(values: u64, index: u64) -> u64
@@ -40,7 +39,7 @@ fn first_cell(values: u64, index: u64) -> u64
 
 // The opening value of the client's word, where it has one.
 fn client_word<C: ClientWords>(client: &C, word: u32) -> u64
-    ensures { result ≡ Rattle.std.specs.Prelude.slice_index (C.opened client.now) word }
+    ensures { result ≡ Rattle.std.specs.Prelude.slice_index ((C.primitive client.now).words) word }
 {
     if word < client.words() {
         client.opening(word)
@@ -51,12 +50,13 @@ fn client_word<C: ClientWords>(client: &C, word: u32) -> u64
 
 // The opening value of a word of the table.
 fn word_at<C: ClientWords>(client: &C, place: usize) -> u64
-    requires few { C.first_values client.now ≤ 4096 }
+    requires few { (C.primitive client.now).values ≤ 4096 }
     requires small { place < 2 ^ 40 }
-    ensures { result ≡ first_word (C.first_values client.now) (C.opened client.now) place }
+    ensures { result ≡ first_word ((C.primitive client.now).values)
+        ((C.primitive client.now).words) place }
 {
     match place {
-        0 => FIRST_CREW,
+        0 => CrewWord { made: 1, live: 1 }.pack(),
         32 => u64::from(client.values()),
         48 => client_word(client, 0),
         64 => client_word(client, 1),
@@ -80,9 +80,10 @@ fn opening_words<C: ClientWords>(
     count: usize,
     client: &C,
 ) -> Result<Vec<u64>, AllocError>
-    requires few { C.first_values client.now ≤ 4096 }
+    requires few { (C.primitive client.now).values ≤ 4096 }
     requires small { count < 2 ^ 40 }
-    ensures { IfOk result (λ words. IsOpening count (C.first_values client.now) (C.opened client.now) words.items) }
+    ensures { IfOk result (λ words. IsOpening count ((C.primitive client.now).values)
+        ((C.primitive client.now).words) words.items) }
 {
     let mut words = Vec::with_capacity(alloc, count)?;
     for place in 0..count {
@@ -99,14 +100,20 @@ impl<C: ClientWords> Queue<C> {
         mode: CancelMode,
         client: C,
     ) -> Result<(Queue<C>, Pass<C>), MakeError>
-        requires few { C.first_values client ≤ 4096 }
+        requires few { (C.primitive client).values ≤ 4096 }
+        requires mode { (C.primitive client).opening.mode ≡ mode }
+        requires manner { mode_for (C.primitive client).manner.leaving ≡ mode }
         ensures bad_config { IsErrOf result MakeError.BadConfig ↔ (is_config config ≡ false) }
-        ensures client { IfOk result (λ made. (client_of made.0 ≡ client) × (passes_of made.0 ≡ config.passes)) }
-        ensures mode { IfOk result (λ made. (limit_of made.0 ≡ config.limit) × (mode_of made.0 ≡ mode)) }
+        ensures client { IfOk result
+            (λ made. (client_of made.0 ≡ client) × (passes_of made.0 ≡ config.passes)) }
+        ensures mode { IfOk result
+            (λ made. (limit_of made.0 ≡ config.limit) × (mode_of made.0 ≡ mode)) }
         ensures belongs { IfOk result (λ made. IsOf made.0 made.1) }
         ensures pass { IfOk result (λ made. pass_view made.1
-            ≡ first_view config.limit (config.limit + config.passes + C.first_values client)
-            (C.size client) (C.first_held client)) }
+            ≡ first_view config.passes config.limit
+            (cell_count config.passes config.limit (C.primitive client).values)
+            (C.primitive client).opening (C.primitive client).held) }
+        ensures slots { IfOk result (λ made. slots_of made.0 ≡ C.value_slots client) }
     {
         if !config.is_in_range() {
             return Err(MakeError::BadConfig);
@@ -123,6 +130,7 @@ impl<C: ClientWords> Queue<C> {
         let (table, seat) = Table::vacant(alloc, words.as_slice(), slots, &key)?;
         let queue = Queue {
             table,
+            passes: config.passes,
             limit: config.limit,
             mode,
         };

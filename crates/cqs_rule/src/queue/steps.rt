@@ -1,33 +1,39 @@
 //! Single steps on the words of the table: the counters and the cells.
 
-ghost use Rattle.cqs_rule.specs.Loads.{MayLoad, Loaded};
-ghost use Rattle.cqs_rule.specs.Passes.{pass_view, IsOf};
-ghost use Rattle.cqs_rule.specs.Steps.{HasCounted, HasDrawn};
-ghost use Rattle.cqs_rule.specs.Told.{Crossed, IsCrossing, IsCount};
+ghost use Rattle.cqs_rule.specs.Counts.{IsCount, IsDrawnAt};
+ghost use Rattle.cqs_rule.specs.Exchanges.{IsCrossing};
+ghost use Rattle.cqs_rule.specs.Loads.{LoadSuits, MayLoad};
+ghost use Rattle.cqs_rule.specs.Manner.{Suits};
+ghost use Rattle.cqs_rule.specs.Passes.{pass_view, client_of, IsOf};
+ghost use Rattle.cqs_rule.specs.Steps.{HasLoaded, HasDrawn, HasCrossed};
 
 use crate::client::ClientWords;
 use crate::kinds::Kind;
-use crate::loads::Load;
+use crate::loads::{Learned, Load};
 use crate::plays::{Cross, Draw, Loading};
 use crate::queue::{Pass, Queue};
 
 impl<C: ClientWords> Queue<C> {
-    /// Loads the suspend counter or a cell. A pass that finds the counter below the limit may draw, and the owner of a wait
-    /// learns in its cell what became of it.
+    /// Loads the suspend counter or a cell. A pass that finds the counter below the limit may draw, the owner of a wait learns in its
+    /// cell what became of it, and a resume meets the cell of its number.
     pub fn load_table<L: Load>(&self, pass: &mut Pass<C>, word: u32) -> u64
         requires belongs { IsOf self.now pass.old }
+        requires suits { LoadSuits (C.primitive (client_of self.now)).manner L.load }
         requires load { MayLoad L.load (pass_view pass.old) word }
         ensures belongs { IsOf self.now pass.new }
-        ensures saw { Loaded C.names C.legal C.gains C.entries L.load word (pass_view pass.old) result (pass_view pass.new) }
-        ensures counted { HasCounted L.load result pass.new }
+        ensures saw { HasLoaded L.load word result pass.old pass.new }
     {
         let found = self
             .table
             .shared
             .load::<Loading<C, L>>(&mut pass.seat, word as usize);
-        if L::closes(found) {
-            pass.held = C::held_after_take(pass.held);
-            pass.waits -= 1;
+        match L::learned(found) {
+            Learned::Nothing => {}
+            Learned::Granted => {
+                pass.held = C::held_after_take(pass.held);
+                pass.waits -= 1;
+            }
+            Learned::Ended => pass.owes = false,
         }
         found
     }
@@ -35,9 +41,11 @@ impl<C: ClientWords> Queue<C> {
     /// Draws the next number from a counter.
     pub fn add_table<K: Kind>(&self, pass: &mut Pass<C>, word: u32, by: i64) -> u64
         requires belongs { IsOf self.now pass.old }
+        requires suits { Suits (C.primitive (client_of self.now)).manner K.step }
         requires count { IsCount K.step (pass_view pass.old).facts word by }
         ensures belongs { IsOf self.now pass.new }
         ensures saw { HasDrawn K.step result pass.old pass.new }
+        ensures after { IsDrawnAt K.step (pass_view pass.old).facts result }
     {
         let found = self
             .table
@@ -47,12 +55,13 @@ impl<C: ClientWords> Queue<C> {
         found
     }
 
-    /// Makes an exchange on the cell of the pass's number.
+    /// Makes an exchange on a cell: that of the number which the pass is at, or that of a wait of its own.
     pub fn swap_table<K: Kind>(&self, pass: &mut Pass<C>, word: u32, saw: u64, new: u64) -> u64
         requires belongs { IsOf self.now pass.old }
-        requires cell { IsCrossing K.step (pass_view pass.old).facts word saw new }
+        requires suits { Suits (C.primitive (client_of self.now)).manner K.step }
+        requires cell { IsCrossing K.step (pass_view pass.old) word saw new }
         ensures belongs { IsOf self.now pass.new }
-        ensures crossed { Crossed C.names C.legal C.gains C.entries K.step saw (pass_view pass.old) result (pass_view pass.new) }
+        ensures crossed { HasCrossed K.step saw result pass.old pass.new }
     {
         let found = self
             .table

@@ -2,11 +2,11 @@
 
 ghost use Rattle.std.specs.Prelude.{◌≡◌, length};
 ghost use Rattle.cqs_rule.specs.Lists.{Has};
-ghost use Rattle.cqs_rule.specs.Owed.{OwesWith, IsReached, under_payload, under_ticket, under_reached};
+ghost use Rattle.cqs_rule.specs.Owed.{OwesWith, IsReached, HasUnder, under_payload, under_ticket, under_reached};
 ghost use Rattle.cqs_rule.specs.Passes.{pass_view, IsOf};
-ghost use Rattle.cqs_rule.specs.Placed.{IsPlace};
-ghost use Rattle.cqs_rule.specs.Told.{is_owing};
-ghost use Rattle.cqs_rule.specs.Waits.{place_of, pass_of};
+ghost use Rattle.cqs_rule.specs.Placed.{KnowsPlace};
+ghost use Rattle.cqs_rule.specs.Facts.{is_owing};
+ghost use Rattle.cqs_rule.specs.Waits.{place_of, pass_of, HasWait};
 
 use crate::client::ClientWords;
 use crate::config::Place;
@@ -15,9 +15,9 @@ use crate::queue::{Pass, Queue};
 /// A wait in the line, for as long as its pass hasn't had its answer. It is neither copied nor cloned.
 #[derive(Drop)]
 pub struct Wait {
-    number: u64,
+    pub(super) number: u64,
     pass: u32,
-    word: u32,
+    pub(super) word: u32,
 }
 
 impl Wait {
@@ -52,9 +52,10 @@ impl<C: ClientWords> Queue<C> {
     pub fn wait_of(&self, pass: &mut Pass<C>, at: Place) -> Wait
         requires belongs { IsOf self.now pass.old }
         requires wait { Has at.index (pass_view pass.old).facts.waits }
-        requires place { IsPlace at }
+        requires place { KnowsPlace (pass_view pass.old) at }
         ensures place { place_of result ≡ at }
         ensures pass { pass_of result ≡ (pass_view pass.old).number }
+        ensures has { HasWait (pass_view pass.new) result }
         ensures same { pass.new ≡ pass.old }
     {
         Wait {
@@ -67,7 +68,7 @@ impl<C: ClientWords> Queue<C> {
     /// Takes the token back, and says where its cell stands. It makes no step.
     pub fn spend_wait(&self, pass: &mut Pass<C>, wait: Wait) -> Place
         requires belongs { IsOf self.now pass.old }
-        requires pass { pass_of wait ≡ (pass_view pass.old).number }
+        requires has { HasWait (pass_view pass.old) wait }
         ensures place { result ≡ place_of wait }
         ensures same { pass.new ≡ pass.old }
     {
@@ -90,10 +91,11 @@ impl<C: ClientWords> Queue<C> {
     ) -> Under
         requires belongs { IsOf self.now pass.old }
         requires owes { OwesWith (pass_view pass.old).facts payload ticket }
-        requires reached { IsReached (pass_view pass.old).cells ticket reached }
+        requires reached { IsReached (pass_view pass.old).cells (pass_view pass.old).facts reached }
         ensures payload { under_payload result ≡ payload }
         ensures ticket { under_ticket result ≡ ticket }
         ensures reached { under_reached result ≡ reached }
+        ensures owes { HasUnder (pass_view pass.new).facts result }
         ensures same { pass.new ≡ pass.old }
     {
         Under {
@@ -106,6 +108,7 @@ impl<C: ClientWords> Queue<C> {
     /// Takes the token back, and gives its payload and its open ticket. It makes no step.
     pub fn spend_under(&self, pass: &mut Pass<C>, under: Under) -> (u32, Option<u64>)
         requires belongs { IsOf self.now pass.old }
+        requires owes { HasUnder (pass_view pass.old).facts under }
         ensures payload { result.0 ≡ under_payload under }
         ensures ticket { result.1 ≡ under_ticket under }
         ensures same { pass.new ≡ pass.old }
@@ -124,7 +127,7 @@ impl<C: ClientWords> Pass<C> {
 
     /// What it holds: permits of a semaphore, parties of a barrier.
     pub fn held(&self) -> u32
-        ensures { result ≡ (pass_view self.now).facts.held }
+        ensures { result ≡ (pass_view self.now).facts.has.held }
     {
         self.held
     }

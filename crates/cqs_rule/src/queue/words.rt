@@ -3,8 +3,8 @@
 ghost use Rattle.std.specs.Prelude.{◌≡◌, ◌<◌, bit_or};
 ghost use Rattle.cqs_rule.specs.Layout.{client_place};
 ghost use Rattle.cqs_rule.specs.Passes.{IsOf};
-ghost use Rattle.cqs_rule.specs.Steps.{MayMove, HasMoved, HasFound};
-ghost use Rattle.cqs_rule.specs.Told.{added, exchanged, in_any_case, where_found};
+ghost use Rattle.cqs_rule.specs.Events.{added, exchanged, in_any_case, where_found};
+ghost use Rattle.cqs_rule.specs.Steps.{MayMove, HasMoved};
 
 use crate::client::{ClientWords, Shown};
 use crate::layout::CLIENT_WORD;
@@ -24,17 +24,16 @@ impl<C: ClientWords> Queue<C> {
     pub fn load_word<M: Shown<C>>(&self, pass: &mut Pass<C>, word: u32) -> u64
         requires belongs { IsOf self.now pass.old }
         requires word { word < 4 }
-        requires law { MayMove self.now pass.old M.entries M.after M.holds in_any_case word (λ n. n) }
+        requires law { MayMove self.now pass.old M.event in_any_case word (λ n. n) }
         ensures belongs { IsOf self.now pass.new }
-        ensures saw { HasMoved M.entries M.after M.holds M.payload in_any_case result pass.old pass.new }
-        ensures found { HasFound M.entries word result pass.old pass.new }
+        ensures saw { HasMoved M.event in_any_case word result pass.old pass.new }
     {
         let found = self
             .table
             .shared
             .load::<Show<C, M>>(&mut pass.seat, place(word));
         pass.held = M::held_after(pass.held, found, true);
-        pass.owes = M::owes_after(pass.owes, found);
+        pass.owes = M::owes_after(pass.owes, found, true);
         found
     }
 
@@ -42,10 +41,9 @@ impl<C: ClientWords> Queue<C> {
     pub fn add_word<M: Shown<C>>(&self, pass: &mut Pass<C>, word: u32, by: i64) -> u64
         requires belongs { IsOf self.now pass.old }
         requires word { word < 4 }
-        requires law { MayMove self.now pass.old M.entries M.after M.holds in_any_case word (added by) }
+        requires law { MayMove self.now pass.old M.event in_any_case word (added by) }
         ensures belongs { IsOf self.now pass.new }
-        ensures saw { HasMoved M.entries M.after M.holds M.payload in_any_case result pass.old pass.new }
-        ensures found { HasFound M.entries word result pass.old pass.new }
+        ensures saw { HasMoved M.event in_any_case word result pass.old pass.new }
     {
         let place = place(word);
         let amount = by.unsigned_abs();
@@ -59,7 +57,7 @@ impl<C: ClientWords> Queue<C> {
                 .fetch_add::<Show<C, M>>(&mut pass.seat, place, amount)
         };
         pass.held = M::held_after(pass.held, found, true);
-        pass.owes = M::owes_after(pass.owes, found);
+        pass.owes = M::owes_after(pass.owes, found, true);
         found
     }
 
@@ -67,17 +65,16 @@ impl<C: ClientWords> Queue<C> {
     pub fn or_word<M: Shown<C>>(&self, pass: &mut Pass<C>, word: u32, bits: u64) -> u64
         requires belongs { IsOf self.now pass.old }
         requires word { word < 4 }
-        requires law { MayMove self.now pass.old M.entries M.after M.holds in_any_case word (λ n. bit_or n bits) }
+        requires law { MayMove self.now pass.old M.event in_any_case word (λ n. bit_or n bits) }
         ensures belongs { IsOf self.now pass.new }
-        ensures saw { HasMoved M.entries M.after M.holds M.payload in_any_case result pass.old pass.new }
-        ensures found { HasFound M.entries word result pass.old pass.new }
+        ensures saw { HasMoved M.event in_any_case word result pass.old pass.new }
     {
         let found = self
             .table
             .shared
             .fetch_or::<Show<C, M>>(&mut pass.seat, place(word), bits);
         pass.held = M::held_after(pass.held, found, true);
-        pass.owes = M::owes_after(pass.owes, found);
+        pass.owes = M::owes_after(pass.owes, found, true);
         found
     }
 
@@ -85,17 +82,17 @@ impl<C: ClientWords> Queue<C> {
     pub fn swap_word<M: Shown<C>>(&self, pass: &mut Pass<C>, word: u32, saw: u64, new: u64) -> u64
         requires belongs { IsOf self.now pass.old }
         requires word { word < 4 }
-        requires law { MayMove self.now pass.old M.entries M.after M.holds (where_found saw) word (exchanged saw new) }
+        requires law { MayMove self.now pass.old M.event (where_found saw) word
+            (exchanged saw new) }
         ensures belongs { IsOf self.now pass.new }
-        ensures saw { HasMoved M.entries M.after M.holds M.payload (where_found saw) result pass.old pass.new }
-        ensures found { HasFound M.entries word result pass.old pass.new }
+        ensures saw { HasMoved M.event (where_found saw) word result pass.old pass.new }
     {
         let found = self
             .table
             .shared
             .compare_exchange::<ShowExchange<C, M>>(&mut pass.seat, place(word), saw, new);
         pass.held = M::held_after(pass.held, found, found == saw);
-        pass.owes = M::owes_after(pass.owes, found);
+        pass.owes = M::owes_after(pass.owes, found, found == saw);
         found
     }
 }

@@ -1,14 +1,12 @@
 //! What the semaphore tells the queue.
 
-use crate::client::{Client, ClientWords};
+use crate::client::ClientWords;
 use crate::semaphore::SemClient;
 use cqs_core::Entry;
 use cqs_words::StateWord;
 
 impl<T: Drop> ClientWords for SemClient<T> {
-    ghost use Rattle.std.specs.Prelude.{◌+◌, [], ◌∷◌};
-    ghost use Rattle.cqs_core.specs.SemaphoreEntries.{IsLegal};
-    ghost use Rattle.cqs_rule.specs.Semaphore.{shows_core, entry_names, step_entries, one_more};
+    ghost use Rattle.cqs_rule.specs.Semaphore.{semaphore_object, semaphore_primitive};
     ghost use Rattle.cqs_rule.specs.SemaphoreClient.{semaphore-client};
     ghost use Rattle.cqs_rule.specs.SemaphorePermits.{permits_of};
 
@@ -16,25 +14,11 @@ impl<T: Drop> ClientWords for SemClient<T> {
 
     type Entry = Entry;
 
-    ghost shows = { λ x. shows_core (permits_of x) };
+    ghost object = { semaphore_object };
 
-    ghost legal = { IsLegal };
-
-    ghost size = { permits_of };
-
-    ghost names = { entry_names };
-
-    ghost entries = { step_entries };
-
-    ghost gains = { one_more };
-
-    ghost opened = { λ x. (permits_of x + 4294967296) ∷ [] };
+    ghost primitive = { λ x. semaphore_primitive (permits_of x) };
 
     ghost value_slots = { λ x. 0 };
-
-    ghost first_values = { λ x. 0 };
-
-    ghost first_held = { λ x. 0 };
 
     fn words(&self) -> u32 {
         1
@@ -65,5 +49,3 @@ impl<T: Drop> ClientWords for SemClient<T> {
 
     ghost keeps = { λ x. semaphore-client (permits_of x) x.some x.few };
 }
-
-impl<T: Send + Drop> Client for SemClient<T> {}

@@ -9,5 +9,5 @@ fetch_add-found-requires g c =
     let is : c.unsigned_abs.result ≡ unsigned_abs c.args.by = search rules in (
       search rules,
       search rules,
-      count _ _ _ _ _ _ _ _ _ _ _ client _ _ _ _ _ _ c.args.by c.args.pass.now.live.0 is c.requires.count,
+      count _ _ _ _ client _ _ _ _ _ _ c.args.by c.args.pass.now.live.0 is c.requires.suits c.requires.count,
     )

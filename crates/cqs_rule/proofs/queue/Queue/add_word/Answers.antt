@@ -1,7 +1,7 @@
 use Rattle.std.proofs.Common.{rules, ◌≡◌, pos, unsigned_abs, ◌<ℤ◌, ◌≤ℤ◌}
-use Rattle.cqs_rule.specs.Told.{WordWas, in_any_case}
+use Rattle.cqs_rule.specs.Events.{in_any_case}
 use Rattle.cqs_rule.proofs.CellPlaces.{client-inside}
-use Rattle.cqs_rule.proofs.Moves.{moves-at, word-was, added-down, added-up}
+use Rattle.cqs_rule.proofs.Moves.{moves-at, added-down, added-up}
 use Rattle.cqs_rule.proofs.queue.Queue.add_word.Goals as goal
 
 pub fetch_sub-found-requires : goal.fetch_sub-found-requires
@@ -9,15 +9,14 @@ fetch_sub-found-requires g c =
     let low = client-inside c.args.word c.args.pass.now.seat.me.0.cells c.requires.word in
     let C = g.C.ClientWords in
     let x = c.args.self.now.table.shared.key.client in
-    let client = g.met.C.ClientWords.keeps x in
     let side : c.args.by <ℤ pos 0 = search rules in
     let is : c.unsigned_abs-amount.result ≡ unsigned_abs c.args.by = search rules in (
       search rules,
       search rules,
-      moves-at _ _ _ _ _ _ _ _ _ _ _ client
-          g.M.Shown.entries g.M.Shown.after g.M.Shown.holds g.M.Shown.payload in_any_case (WordWas C.shows C.size) _ _ _ c.args.word _ _ _
+      moves-at C.object C.primitive _ _ x
+          (g.met.C.ClientWords.keeps x) g.M.Shown.event in_any_case _ _ _ c.args.word _ _ _
           c.args.pass.now.live.0 c.requires.word c.place-place.ensures
-          (λ n. added-down c.args.by _ n is side) g.met.M.Shown.payload_fits (word-was C.shows C.size x) c.requires.law,
+          (λ n. added-down c.args.by _ n is side) c.requires.law,
     )
 
 pub fetch_add-found-requires : goal.fetch_add-found-requires
@@ -25,13 +24,12 @@ fetch_add-found-requires g c =
     let low = client-inside c.args.word c.args.pass.now.seat.me.0.cells c.requires.word in
     let C = g.C.ClientWords in
     let x = c.args.self.now.table.shared.key.client in
-    let client = g.met.C.ClientWords.keeps x in
     let side : pos 0 ≤ℤ c.args.by = search rules in
     let is : c.unsigned_abs-amount.result ≡ unsigned_abs c.args.by = search rules in (
       search rules,
       search rules,
-      moves-at _ _ _ _ _ _ _ _ _ _ _ client
-          g.M.Shown.entries g.M.Shown.after g.M.Shown.holds g.M.Shown.payload in_any_case (WordWas C.shows C.size) _ _ _ c.args.word _ _ _
+      moves-at C.object C.primitive _ _ x
+          (g.met.C.ClientWords.keeps x) g.M.Shown.event in_any_case _ _ _ c.args.word _ _ _
           c.args.pass.now.live.0 c.requires.word c.place-place.ensures
-          (λ n. added-up c.args.by _ n is side) g.met.M.Shown.payload_fits (word-was C.shows C.size x) c.requires.law,
+          (λ n. added-up c.args.by _ n is side) c.requires.law,
     )

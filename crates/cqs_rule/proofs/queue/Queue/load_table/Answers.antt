@@ -1,6 +1,5 @@
-use Rattle.std.proofs.Common.{rules, sym, ap, ◌∙◌, arith}
-use Rattle.cqs_rule.specs.Loads.{CounterWas}
-use Rattle.cqs_rule.proofs.CellLoads.{counter-was, loads, load-low, loaded-keeps, loaded-ends}
+use Rattle.std.proofs.Common.{rules, refl}
+use Rattle.cqs_rule.proofs.CellLoads.{loads, load-low}
 use Rattle.cqs_rule.proofs.queue.Queue.load_table.Goals as goal
 
 pub load-found-requires : goal.load-found-requires
@@ -11,35 +10,7 @@ load-found-requires g c =
     let client = g.met.C.ClientWords.keeps x in (
       search rules,
       search rules,
-      loads _ _ _ _ _ _ _ _ _ _ _ client (CounterWas C.shows C.size) _ _ _ g.L.Load.load _ c.args.pass.now.live.0
-          (counter-was C.shows C.size x) c.requires.load,
+      loads C.object (C.primitive x) _ _ client C.primitive x refl _ _ _ g.L.Load.load _ c.args.pass.now.live.0
+          c.requires.suits
+          c.requires.load,
     )
-
-pub invariant_of-pass-clause-held_is : goal.invariant_of-pass-clause-held_is
-invariant_of-pass-clause-held_is g c =
-    let C = g.C.ClientWords in
-    let ended = loaded-ends C.names C.legal C.entries C.gains g.L.Load.load c.args.word c.load-found.result
-    _ _ c.args.pass.now.inside c.requires.load c.load-found.ensures.2.0 (sym c.closes.ensures ∙ c.if-closes.true) in
-    ended.0 ∙ (ap g.C.ClientWords.gains c.args.pass.now.held_is ∙ sym c.held_after_take-pass.ensures)
-
-pub invariant_of-pass-clause-waits_are : goal.invariant_of-pass-clause-waits_are
-invariant_of-pass-clause-waits_are g c =
-    let C = g.C.ClientWords in
-    let ended = loaded-ends C.names C.legal C.entries C.gains g.L.Load.load c.args.word c.load-found.result
-    _ _ c.args.pass.now.inside c.requires.load c.load-found.ensures.2.0 (sym c.closes.ensures ∙ c.if-closes.true) in
-    let one_fewer = ended.1 in
-    let were = c.args.pass.now.waits_are in omega arith
-
-pub invariant_of-pass-else-closes-clause-held_is : goal.invariant_of-pass-else-closes-clause-held_is
-invariant_of-pass-else-closes-clause-held_is g c =
-    let C = g.C.ClientWords in
-    let kept = loaded-keeps C.names C.legal C.entries C.gains g.L.Load.load c.args.word c.load-found.result
-    _ _ c.load-found.ensures.2.0 (sym c.closes.ensures ∙ c.if-closes.false) in
-    kept.0 ∙ c.args.pass.now.held_is
-
-pub invariant_of-pass-else-closes-clause-waits_are : goal.invariant_of-pass-else-closes-clause-waits_are
-invariant_of-pass-else-closes-clause-waits_are g c =
-    let C = g.C.ClientWords in
-    let kept = loaded-keeps C.names C.legal C.entries C.gains g.L.Load.load c.args.word c.load-found.result
-    _ _ c.load-found.ensures.2.0 (sym c.closes.ensures ∙ c.if-closes.false) in
-    kept.1 ∙ c.args.pass.now.waits_are

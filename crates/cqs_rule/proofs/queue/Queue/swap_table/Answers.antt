@@ -1,14 +1,43 @@
-use Rattle.std.proofs.Common.{rules}
-use Rattle.cqs_rule.proofs.CellPlaces.{cell-inside}
-use Rattle.cqs_rule.proofs.Crosses.{cross}
+use Rattle.std.proofs.Common.{rules, refl, ◌<◌, ◌^◌, ap, sym, ◌∙◌, subst, arith}
+use Rattle.cqs_rule.proofs.CellSteps.{cross, crossing-low}
 use Rattle.cqs_rule.proofs.queue.Queue.swap_table.Goals as goal
 
 pub compare_exchange-found-requires : goal.compare_exchange-found-requires
 compare_exchange-found-requires g c =
-    let low = cell-inside _ c.args.pass.now.seat.me.0.cells c.args.pass.now.inside.number in
-    let place = c.requires.cell.place in
-    let client = g.met.C.ClientWords.keeps c.args.self.now.table.shared.key.client in (
+    let C = g.C.ClientWords in
+    let x = c.args.self.now.table.shared.key.client in
+    let low = crossing-low _ _ _ _ _ c.args.pass.now.inside c.requires.cell in
+    let client = g.met.C.ClientWords.keeps x in (
       search rules,
       search rules,
-      cross _ _ _ _ _ _ _ _ _ _ _ client _ _ _ _ _ _ _ c.args.pass.now.live.0 c.requires.cell,
+      cross C.object (C.primitive x) _ _ client C.primitive x refl _ _ _ _ _ _ _ c.args.pass.now.live.0 c.requires.suits
+          c.requires.cell,
     )
+
+pub held_after-pass-requires : goal.held_after-pass-requires
+held_after-pass-requires g c =
+    let e = c.compare_exchange-found.ensures in
+    let carries = e.2.3 c.if-found-saw.true in
+    subst (λ z. z < 2 ^ 32) (carries.held ∙ ap
+    (Rattle.cqs_rule.specs.Kinds.held_then g.C.ClientWords.object.gains.held g.K.Kind.step) c.args.pass.now.held_is)
+    e.2.2.held
+
+pub waits_after-pass-requires-clause-some : goal.waits_after-pass-requires-clause-some
+waits_after-pass-requires-clause-some g c =
+    let carries = c.compare_exchange-found.ensures.2.3 c.if-found-saw.true in
+    let waits = carries.waits in
+    let were = c.args.pass.now.waits_are in omega arith
+
+pub invariant_of-pass-clause-held_is : goal.invariant_of-pass-clause-held_is
+invariant_of-pass-clause-held_is g c =
+    let carries = c.compare_exchange-found.ensures.2.3 c.if-found-saw.true in
+    carries.held ∙ (ap (Rattle.cqs_rule.specs.Kinds.held_then g.C.ClientWords.object.gains.held g.K.Kind.step)
+    c.args.pass.now.held_is
+    ∙ sym c.held_after-pass.ensures)
+
+pub invariant_of-pass-clause-waits_are : goal.invariant_of-pass-clause-waits_are
+invariant_of-pass-clause-waits_are g c =
+    let carries = c.compare_exchange-found.ensures.2.3 c.if-found-saw.true in
+    let waits = carries.waits in
+    let were = c.args.pass.now.waits_are in
+    let now = c.waits_after-pass.ensures in omega arith

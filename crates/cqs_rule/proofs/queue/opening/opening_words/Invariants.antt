@@ -3,4 +3,5 @@ use Rattle.cqs_rule.proofs.queue.opening.opening_words.Given as goal
 
 abbrev pub invariant-loop-place : goal.invariant-loop-place
 invariant-loop-place g l =
-    IsOpening l.place (g.C.ClientWords.first_values l.client) (g.C.ClientWords.opened l.client) l.words.items
+    IsOpening l.place (g.C.ClientWords.primitive l.client).values
+    (g.C.ClientWords.primitive l.client).words l.words.items

@@ -1,9 +1,5 @@
 use Rattle.cqs_rule.proofs.SemaphoreMoves.{take-moves}
-use Rattle.cqs_rule.proofs.StateFound.{state-was}
 use Rattle.cqs_rule.proofs.semaphore.calls.take_permit.Goals as goal
 
 pub add_word-requires-clause-law : goal.add_word-requires-clause-law
 add_word-requires-clause-law g c = take-moves _ _ _ c.requires.idle c.requires.may_draw
-
-pub returns-clause-found : goal.returns-clause-found
-returns-clause-found g c = state-was _ _ _ _ c.add_word.ensures.found

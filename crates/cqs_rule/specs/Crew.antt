@@ -1,0 +1,103 @@
+-- What the steps on the crew's word tell: a load of it, the exchange by which a pass is made, and the step by which one that was
+-- joined away is counted out.
+use Rattle.std.specs.Prelude.{◌≡◌, ◌≢◌, ◌⊎◌, ℕ, ◌<◌, ◌==◌, true, false, List, [], ◌∷◌, ◌++◌, length, Option}
+use Rattle.atomic_table.specs.Table.{Me, Step}
+use Rattle.cqs_core.specs.declared.doings.Doing.TheVariants as doing
+use Rattle.cqs_rule.specs.declared.view.View.{View}
+use Rattle.cqs_rule.specs.declared.view.Facts.{Facts}
+use Rattle.cqs_rule.specs.Hidden.{Hidden}
+use Rattle.cqs_rule.specs.Lists.{Has, IsPrefix, part}
+use Rattle.cqs_rule.specs.Ruled.{Stands, Rests}
+use Rattle.cqs_rule.specs.Facts.{is_owing}
+use Rattle.cqs_rule.specs.Object.{Object, Primitive}
+use Rattle.cqs_rule.specs.Saw.{Saw, IsLive}
+use Rattle.cqs_rule.specs.Views.{made_in, live_in, crew_turn, first_facts, as_before}
+
+-- A pass between two calls is idle, or owes something: it isn't in the middle of a call that owes nothing.
+abbrev pub IsBetween : Facts → Type 0
+IsBetween f = ((f.doing ≡ doing.Idle) × (f.has.further ≡ 0)) ⊎ (is_owing f.doing ≡ true)
+
+-- The pass of this view is alone: what the client shows goes with all that it has seen, the pass stands there at its facts, and
+-- every other number is in the middle of nothing, holds nothing, has nothing in hand and owes nothing.
+pub record IsSole {C E S : Type 0} (primitive : C → Primitive E S) (v : View E S) : Type 0 where
+  pub client : C
+  pub opening_is : (primitive client).opening ≡ v.opening
+  pub hidden : Hidden
+  pub words : List ℕ
+  pub shown : (primitive client).shows hidden words v.seen v.handed
+  pub stands : Stands hidden v.number v.facts
+  pub others : (n : ℕ) → n ≢ v.number → n < v.passes → Rests hidden n
+
+-- The view counts for two: its pass, and the one that it made when it found n at the crew's word.
+pub record IsDoubled {E S : Type 0} (n : ℕ) (w : View E S) : Type 0 where
+  pub weight : w.weight ≡ 2
+  pub number : w.second_number ≡ made_in n
+  pub facts : w.second ≡ first_facts 0
+  pub own : w.others ≡ made_in n ∷ []
+  pub seen : w.other ≡ w.seen
+  pub handed : w.other_handed ≡ w.handed
+  pub more : w.alone ≡ false
+
+module _ {E : Type 0} (object : Object E) where
+  module _ {S : Type 0} where
+    -- a load of the crew's word found n
+    pub record Counted (v : View E S) (n : ℕ) (w : View E S) : Type 0 where
+      pub crew : w.crew ≡ n
+      pub weight : w.weight ≡ 1
+      pub alone : w.alone ≡ (live_in n == 1)
+      pub kept : v.alone ≡ true → w.alone ≡ true
+      pub saw : Saw object v v.facts [] (as_before v w)
+
+    -- The exchange by which a pass is made, where `first` stands at the crew's word, found n. Where it was not made, the turn of
+    -- the crew has risen.
+    pub record Tried (first : ℕ) (v : View E S) (n : ℕ) (w : View E S) : Type 0 where
+      pub crew : w.crew ≡ n
+      pub saw : Saw object v v.facts [] (as_before v w)
+      pub missed : n ≢ first → (w.weight ≡ 1) × (w.alone ≡ v.alone)
+      pub later : n ≢ first → v.crew ≡ first → crew_turn first < crew_turn n
+      pub made : n ≡ first → IsDoubled n w
+      pub unnamed : n ≡ first → part object.names (made_in n) w.seen ≡ []
+
+    -- The view v has taken in what another pass, with these numbers, had seen, and stands at these facts now. The entries of each
+    -- number are those that the pass which had it had seen.
+    pub record Met (v : View E S) (facts : Facts) (seen : List E) (handed : List S) (own : List ℕ)
+        (w : View E S) : Type 0 where
+      pub number : w.number ≡ v.number
+      pub weight : w.weight ≡ 1
+      pub facts_are : w.facts ≡ facts
+      pub own_is : w.own ≡ v.own ++ own
+      pub prefix : IsPrefix v.seen w.seen
+      pub prefix_other : IsPrefix seen w.seen
+      pub handed_in : IsPrefix v.handed w.handed
+      pub handed_in_other : IsPrefix handed w.handed
+      pub mine : (n : ℕ) → Has n v.own → part object.names n w.seen ≡ part object.names n v.seen
+      pub theirs : (n : ℕ) → Has n own → part object.names n w.seen ≡ part object.names n seen
+      pub limit : w.limit ≡ v.limit
+      pub cells : w.cells ≡ v.cells
+      pub passes : w.passes ≡ v.passes
+      pub opening : w.opening ≡ v.opening
+
+    abbrev pub counted_by : (View E S → Type 0) → Step (Option S) → Me (Option S) (View E S) → ℕ
+        → Me (Option S) (View E S) → Type 0
+    counted_by told st me n me' = Counted me.0 n me'.0 × (me'.1 ≡ me.1) × IsLive object me'.0
+        × (me'.0.alone ≡ true → told me'.0)
+
+    abbrev pub tried_by : Step (Option S) → Me (Option S) (View E S) → ℕ → Me (Option S) (View E S) → Type 0
+    tried_by st me n me' = Tried st.first me.0 n me'.0 × (me'.1 ≡ me.1) × IsLive object me'.0
+
+    abbrev pub met_by : Step (Option S) → Me (Option S) (View E S) → ℕ → Me (Option S) (View E S) → Type 0
+    met_by st me n me' =
+        Met me.0 me.0.facts me.0.other me.0.other_handed me.0.others me'.0 × (me'.0.crew ≡ n) × (me'.1 ≡ me.1)
+        × IsLive object me'.0
+
+module _ {E S : Type 0} (object : Object E) where
+  -- the new pass: it has seen and holds what this says, has a number of its own, and no entry names it
+  pub record Came (v w : View E S) : Type 0 where
+    pub number : w.number ≡ made_in v.crew
+    pub own : w.own ≡ w.number ∷ []
+    pub facts : w.facts ≡ first_facts 0
+    pub seen : w.seen ≡ v.seen
+    pub handed : w.handed ≡ v.handed
+    pub unnamed : part object.names w.number w.seen ≡ []
+    pub passes : w.passes ≡ v.passes
+    pub opening : w.opening ≡ v.opening

@@ -1,0 +1,27 @@
+-- What a split and a meet leave, by the passes before and after.
+use Rattle.std.specs.Prelude.{◌≡◌, ◌⊎◌, ◌<◌, true, [], length}
+use Rattle.cqs_rule.specs.declared.client.ClientWords.{Ghosts}
+use Rattle.cqs_rule.specs.declared.queue.Pass.{Pass}
+use Rattle.cqs_rule.specs.declared.view.Facts.{Facts}
+use Rattle.cqs_rule.specs.Crew.{Met}
+use Rattle.cqs_rule.specs.Passes.{pass_view}
+use Rattle.cqs_rule.specs.Facts.{is_owing}
+use Rattle.cqs_rule.specs.Saw.{Saw}
+use Rattle.cqs_rule.specs.Views.{as_before, gathered}
+
+-- a pass that can't be met away: it owes something, or has a wait
+abbrev pub IsBusy : Facts → Type 0
+IsBusy f = (is_owing f.doing ≡ true) ⊎ (0 < length f.waits)
+
+module _ {C S E : Type 0} {g : Ghosts C S E} where
+  -- the pass has seen more, appended nothing, and is at what it was
+  abbrev pub HasLookedOn : Pass C S E g → Pass C S E g → Type 0
+  HasLookedOn p p' =
+      Saw g.object (pass_view p) (pass_view p).facts [] (as_before (pass_view p) (pass_view p'))
+
+  -- the pass has taken in what the given one had seen, and holds what both held
+  abbrev pub HasMet : Pass C S E g → Pass C S E g → Pass C S E g → Type 0
+  HasMet p given p' =
+      Met g.object (pass_view p)
+      (record (pass_view p).facts { has = gathered (pass_view p).facts.has (pass_view given).facts.has })
+      (pass_view given).seen (pass_view given).handed (pass_view given).own (pass_view p')

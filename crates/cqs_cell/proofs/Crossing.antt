@@ -1,28 +1,43 @@
--- The exchanges that a pass may make on the cell of its number.
-use Rattle.std.proofs.Common.{◌≡◌, ℕ, ◌<◌, ◌^◌, sym, ap, ◌∙◌}
+-- An exchange at a place is one of the cell whose number its word holds.
+use Rattle.std.proofs.Common.{◌≡◌, ℕ, ◌<◌, ◌^◌, sym, ap, ◌∙◌, subst, arith}
+use Rattle.cqs_core.specs.QueueSteps.{QueueStep, row_of, CellRow, StepRow, at_counter, at_cell}
+use Rattle.cqs_words.specs.Cell.{index_in, state_code}
+use Rattle.cqs_words.proofs.CellLaws.{state_code-below, index_in-cell_word}
 use Rattle.cqs_rule.specs.declared.config.Place.{Place}
-use Rattle.cqs_rule.specs.declared.view.Facts.{Facts}
-use Rattle.cqs_rule.specs.Hidden.{QueueStep}
-use Rattle.cqs_rule.specs.Layout.{cell_place}
-use Rattle.cqs_rule.specs.Placed.{IsPlace}
-use Rattle.cqs_rule.specs.Ruled.{IsBare, number_at, word_of}
-use Rattle.cqs_rule.specs.Told.{IsCrossing, IsExchange, works_at, state_before, state_after, payload_made}
+use Rattle.cqs_rule.specs.declared.view.View.{View}
+use Rattle.cqs_rule.specs.Exchanges.{Exchanges, MayExchange, IsCrossing}
+use Rattle.cqs_rule.specs.Placed.{KnowsPlace, place_at}
+use Rattle.cqs_rule.specs.Ruled.{shown_state}
+use Rattle.cqs_cell.specs.Crossings.{CrossesRow, CrossesBy, Crosses}
 
--- the exchange at the place of the pass's number
-pub crossing-at : (s : QueueStep) (f : Facts) (at : Place) (payload expected new : ℕ)
-    → IsExchange s → f.doing ≡ works_at s at.index
-    → number_at (works_at s at.index) ≡ at.index → IsPlace at → payload < 2 ^ 20 → (IsBare (state_before s) → payload ≡ 0)
-    → expected ≡ word_of at.index (state_before s) payload → new ≡ word_of at.index (state_after s) (payload_made s f.payload)
-    → IsCrossing s f at.word expected new
-crossing-at s f at payload expected new e works number place fits bare expects makes =
-    let is : number_at f.doing ≡ at.index = ap number_at works ∙ number in
-    record {
-      exchange = e;
-      works = works ∙ ap (works_at s) (sym is);
-      place = place ∙ ap cell_place (sym is);
-      payload = payload;
-      payload_fits = fits;
-      bare = bare;
-      expects = expects ∙ ap (λ z. word_of z (state_before s) payload) (sym is);
-      makes = makes ∙ ap (λ z. word_of z (state_after s) (payload_made s f.payload)) (sym is);
-    }
+module _ {E S : Type 0} (v : View E S) (at : Place) (payload expected new : ℕ) where
+  pub row-index : (row : CellRow) → CrossesRow row v at payload expected new → index_in expected ≡ at.index
+  row-index row x =
+      let low = state_code-below (shown_state row.finds) in
+      ap index_in x.expects ∙ index_in-cell_word at.index (state_code (shown_state row.finds)) payload
+      (omega arith) x.payload_fits
+
+  row-crossing : (row : CellRow) → CrossesRow row v at payload expected new
+      → Exchanges row v at.index at.word expected new
+  row-crossing row x = record {
+    works = x.works;
+    own = x.own;
+    place = x.place;
+    payload = payload;
+    payload_fits = x.payload_fits;
+    bare = x.bare;
+    expects = x.expects;
+    state = x.state;
+    makes = x.makes;
+    writes = x.writes;
+  }
+
+  -- the exchange may be made
+  pub crossing-of : (s : QueueStep) → Crosses s v at payload expected new → IsCrossing s v at.word expected new
+  crossing-of s x = by (row_of s) x
+    where
+      by : (row : StepRow) → CrossesBy row v at payload expected new
+          → MayExchange row v (index_in expected) at.word expected new
+      by (at_counter row) x = absurd x
+      by (at_cell row) x =
+          subst (λ k. Exchanges row v k at.word expected new) (sym (row-index row x)) (row-crossing row x)

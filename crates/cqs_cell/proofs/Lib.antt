@@ -1,5 +1,3 @@
-pub mod Missing
 pub mod Crossing
-pub mod Making
-pub mod Taking
+pub mod Made
 pub mod Looking

@@ -1,1 +1,3 @@
+pub mod Transitions
+pub mod Crossings
 pub mod Looks

@@ -1,13 +1,28 @@
 //! The cells of the queue: each call tries one transition on the cell of a number.
 //!
-//! A call makes its transition, or answers the state that it found at a step of its own.
+//! A call makes its transition, or answers the state that it found at a step of its own. A cell changes at most four times:
+//!
+//! | from | to | by | entry |
+//! |---|---|---|---|
+//! | Empty | Waiter | `install`: the suspend of the number | |
+//! | Empty | Value | `leave_value`: its resume | |
+//! | Value | Taken | `take_value`: its suspend | delivered |
+//! | Waiter | Resumed | `serve`: its resume | delivered |
+//! | Waiter | Cancelling | `begin_cancel`: the owner of the wait | |
+//! | Cancelling | Delegated | `delegate`: the resume | |
+//! | Cancelling, Delegated | Cancelled | `settle`: the owner, where resumes are to pass over | |
+//! | Cancelling, Delegated | Refused | `settle`: the owner, where the resume is to end there | |
+//!
+//! The entries are those of a client whose object has one for a delivery; when a wait leaves is for its client to say.
 #![tactic(auto)]
 
+mod cancelling;
 mod cross;
 mod looks;
 mod transitions;
 mod values;
 
+pub use cancelling::{begin_cancel, settle};
 pub use looks::look;
-pub use transitions::{install, leave_value, serve};
+pub use transitions::{delegate, install, leave_value, serve};
 pub use values::take_value;

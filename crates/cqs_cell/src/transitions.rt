@@ -1,16 +1,15 @@
-//! The transitions.
+//! The transitions of a suspend and of a resume.
 
-ghost use Rattle.std.specs.Prelude.{◌≡◌, ◌<◌, ◌^◌, IfOk, IfErr};
-ghost use Rattle.cqs_core.specs.declared.cells.CoreState.TheVariants as state;
+ghost use Rattle.std.specs.Prelude.{◌≡◌, IfOk, IfErr};
 ghost use Rattle.cqs_core.specs.declared.doings.Doing.TheVariants as doing;
-ghost use Rattle.cqs_rule.specs.Hidden.{installs, leaves, takes, serves};
-ghost use Rattle.cqs_rule.specs.Passes.{pass_view, IsOf};
-ghost use Rattle.cqs_rule.specs.Placed.{IsPlace};
-ghost use Rattle.cqs_rule.specs.Ruled.{word_of};
-ghost use Rattle.cqs_rule.specs.Steps.{HasMade, HasMissed};
+ghost use Rattle.cqs_core.specs.QueueSteps.{installs, leaves, serves, delegates};
+ghost use Rattle.cqs_rule.specs.Manner.{Suits};
+ghost use Rattle.cqs_rule.specs.Passes.{pass_view, client_of, IsOf};
+ghost use Rattle.cqs_rule.specs.Placed.{KnowsPlace};
+ghost use Rattle.cqs_cell.specs.Transitions.{HasMade, HasMissed};
 
 use crate::cross::cross;
-use cqs_rule::{ClientWords, Installs, Leaves, Pass, Place, Queue, Serves};
+use cqs_rule::{ClientWords, Delegates, Installs, Leaves, Pass, Place, Queue, Serves};
 use cqs_words::{CellState, CellWord};
 
 /// An empty cell gets a waiter, by the suspend of its number.
@@ -21,14 +20,17 @@ pub fn install<C: ClientWords>(
 ) -> Result<(), CellState>
     requires belongs { IsOf queue.now pass.old }
     requires drawn { (pass_view pass.old).facts.doing ≡ doing.Drawn at.index }
-    requires place { IsPlace at }
+    requires place { KnowsPlace (pass_view pass.old) at }
     ensures belongs { IsOf queue.now pass.new }
-    ensures made { IfOk result (λ _. HasMade installs 0 (word_of at.index state.Waiter 0) pass.old pass.new) }
-    ensures missed { IfErr result (λ found. HasMissed installs found pass.old pass.new) }
+    ensures made { IfOk result (λ _. HasMade installs at.index 0 pass.old pass.new) }
+    ensures missed { IfErr result (λ found. HasMissed installs at.index found pass.old pass.new) }
 {
     let empty = CellWord::bare(at.index, CellState::Empty).pack();
     let waiter = CellWord::bare(at.index, CellState::Waiter).pack();
-    cross::<C, Installs>(queue, pass, at, empty, waiter)
+    match cross::<C, Installs>(queue, pass, at, 0, empty, waiter) {
+        Ok(()) => Ok(()),
+        Err(cell) => Err(cell.state),
+    }
 }
 
 /// An empty cell gets what its resume owes.
@@ -40,11 +42,11 @@ pub fn leave_value<C: ClientWords>(
 ) -> Result<(), CellState>
     requires belongs { IsOf queue.now pass.old }
     requires ticket { (pass_view pass.old).facts.doing ≡ doing.Ticket at.index }
-    requires place { IsPlace at }
-    requires owes { (pass_view pass.old).facts.payload ≡ payload }
+    requires place { KnowsPlace (pass_view pass.old) at }
+    requires owes { (pass_view pass.old).facts.has.payload ≡ payload }
     ensures belongs { IsOf queue.now pass.new }
-    ensures made { IfOk result (λ _. HasMade leaves 0 (word_of at.index state.Value payload) pass.old pass.new) }
-    ensures missed { IfErr result (λ found. HasMissed leaves found pass.old pass.new) }
+    ensures made { IfOk result (λ _. HasMade leaves at.index 0 pass.old pass.new) }
+    ensures missed { IfErr result (λ found. HasMissed leaves at.index found pass.old pass.new) }
 {
     let empty = CellWord::bare(at.index, CellState::Empty).pack();
     let value = CellWord {
@@ -52,7 +54,10 @@ pub fn leave_value<C: ClientWords>(
         state: CellState::Value,
         payload,
     };
-    cross::<C, Leaves>(queue, pass, at, empty, value.pack())
+    match cross::<C, Leaves>(queue, pass, at, 0, empty, value.pack()) {
+        Ok(()) => Ok(()),
+        Err(cell) => Err(cell.state),
+    }
 }
 
 /// The waiter in a cell is served, by the resume of its number.
@@ -64,11 +69,11 @@ pub fn serve<C: ClientWords>(
 ) -> Result<(), CellState>
     requires belongs { IsOf queue.now pass.old }
     requires ticket { (pass_view pass.old).facts.doing ≡ doing.Ticket at.index }
-    requires place { IsPlace at }
-    requires owes { (pass_view pass.old).facts.payload ≡ payload }
+    requires place { KnowsPlace (pass_view pass.old) at }
+    requires owes { (pass_view pass.old).facts.has.payload ≡ payload }
     ensures belongs { IsOf queue.now pass.new }
-    ensures made { IfOk result (λ _. HasMade serves 0 (word_of at.index state.Resumed payload) pass.old pass.new) }
-    ensures missed { IfErr result (λ found. HasMissed serves found pass.old pass.new) }
+    ensures made { IfOk result (λ _. HasMade serves at.index 0 pass.old pass.new) }
+    ensures missed { IfErr result (λ found. HasMissed serves at.index found pass.old pass.new) }
 {
     let waiter = CellWord::bare(at.index, CellState::Waiter).pack();
     let resumed = CellWord {
@@ -76,5 +81,36 @@ pub fn serve<C: ClientWords>(
         state: CellState::Resumed,
         payload,
     };
-    cross::<C, Serves>(queue, pass, at, waiter, resumed.pack())
+    match cross::<C, Serves>(queue, pass, at, 0, waiter, resumed.pack()) {
+        Ok(()) => Ok(()),
+        Err(cell) => Err(cell.state),
+    }
+}
+
+/// The canceller of a wait gets what the resume of its number owes, and is to go on with it.
+pub fn delegate<C: ClientWords>(
+    queue: &Queue<C>,
+    pass: &mut Pass<C>,
+    at: Place,
+    payload: u32,
+) -> Result<(), CellState>
+    requires belongs { IsOf queue.now pass.old }
+    requires suits { Suits (C.primitive (client_of queue.now)).manner delegates }
+    requires ticket { (pass_view pass.old).facts.doing ≡ doing.Ticket at.index }
+    requires place { KnowsPlace (pass_view pass.old) at }
+    requires owes { (pass_view pass.old).facts.has.payload ≡ payload }
+    ensures belongs { IsOf queue.now pass.new }
+    ensures made { IfOk result (λ _. HasMade delegates at.index 0 pass.old pass.new) }
+    ensures missed { IfErr result (λ found. HasMissed delegates at.index found pass.old pass.new) }
+{
+    let cancelling = CellWord::bare(at.index, CellState::Cancelling).pack();
+    let delegated = CellWord {
+        index: at.index,
+        state: CellState::Delegated,
+        payload,
+    };
+    match cross::<C, Delegates>(queue, pass, at, 0, cancelling, delegated.pack()) {
+        Ok(()) => Ok(()),
+        Err(cell) => Err(cell.state),
+    }
 }

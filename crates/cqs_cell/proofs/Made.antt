@@ -1,0 +1,260 @@
+-- What an exchange on a cell tells: it was made, or the cell was found otherwise.
+use Rattle.std.proofs.Common.{◌≡◌, ◌≢◌, ◌⊎◌, ℕ, ◌+◌, ◌<◌, ◌≤◌, ◌^◌, List, [], ◌∷◌, ◌++◌, length, Option, Some, None, sym, refl, ap, ◌∙◌, subst, ⊎_elim, arith}
+use Rattle.std.proofs.lemmas.List.{append-nil}
+use Rattle.std.proofs.lemmas.Option.{same_Some}
+use Rattle.cqs_core.specs.declared.cells.CoreState.{CoreState}
+use Rattle.cqs_core.specs.declared.cells.CoreState.TheVariants as state
+use Rattle.cqs_core.specs.QueueCells.{rank, IsBare}
+use Rattle.cqs_core.specs.QueueMoves.{IsCancelling}
+use Rattle.cqs_core.specs.QueueSound.{IsUntaken}
+use Rattle.cqs_core.specs.QueueStages.{MayFind}
+use Rattle.cqs_core.specs.QueueSteps.{QueueStep, row_of, CellRow, StepRow, at_counter, at_cell, payload_told}
+use Rattle.cqs_words.specs.declared.cell.CellState.{CellState}
+use Rattle.cqs_words.specs.declared.cell.CellWord.{CellWord}
+use Rattle.cqs_words.specs.Cell.{unpacked_cell, index_in}
+use Rattle.cqs_words.proofs.CellLaws.{unpacked_cell-packed_cell}
+use Rattle.cqs_rule.specs.declared.config.Place.{Place}
+use Rattle.cqs_rule.specs.declared.view.Facts.{Facts}
+use Rattle.cqs_rule.specs.declared.view.Glimpse.{Glimpse}
+use Rattle.cqs_rule.specs.declared.view.Sighting.{Sighting}
+use Rattle.cqs_rule.specs.declared.view.Sighting.TheVariants.{Cell}
+use Rattle.cqs_rule.specs.declared.view.View.{View}
+use Rattle.cqs_rule.specs.Exchanges.{FoundCell, SinceLast, IsFoundSince, HasCell, Crossed, CrossedBy}
+use Rattle.cqs_rule.specs.Facts.{facts_worked, facts_missed}
+use Rattle.cqs_rule.specs.Manner.{Leaving, asks, passes_on, at_once, Asks, IsSmart}
+use Rattle.cqs_rule.specs.Placed.{KnowsPlace}
+use Rattle.cqs_rule.specs.Object.{Object, Primitive}
+use Rattle.cqs_rule.specs.Ruled.{shown_state, word_of}
+use Rattle.cqs_rule.specs.Saw.{Saw, WasFound}
+use Rattle.cqs_rule.proofs.Calls.{saw-then}
+use Rattle.cqs_rule.proofs.CellSteps.{word_of-injective}
+use Rattle.cqs_rule.proofs.Places.{knows-saw}
+use Rattle.cqs_cell.specs.Crossings.{CrossesRow, CrossesBy, Crosses, IsSureBy, IsLastBy}
+use Rattle.cqs_cell.specs.Transitions.{facts_since, Made, Missed, MissedCell, MissedCellBy, MadeBy}
+use Rattle.cqs_cell.proofs.Crossing.{row-index}
+
+-- the cell that the word of a cell unpacks to
+pub unpacks : (n : ℕ) (g : Glimpse) → FoundCell n g
+    → unpacked_cell n ≡ Some (record { index = g.number; state = shown_state g.state; payload = g.payload })
+unpacks n g found =
+    let cell : CellWord = record { index = g.number; state = shown_state g.state; payload = g.payload } in
+    ap unpacked_cell found.word ∙ unpacked_cell-packed_cell cell (record { index = found.number; payload = found.fits })
+
+module _ {C E S : Type 0} (object : Object E) (primitive : C → Primitive E S) where
+  -- an exchange that was made
+  made-row : (s : QueueStep) (row : CellRow) (at : Place) (payload expected new n : ℕ) (v w : View E S)
+      → CrossesRow row v at payload expected new → Crossed object primitive s row at.index expected v n w → n ≡ expected
+      → Made object primitive s row 0 at.index payload v w
+  made-row s row at payload expected new n v w x c same =
+      let is = word_of-injective c.found.number at.index c.found.state row.finds c.found.payload payload c.cell.fits
+      x.payload_fits
+      (sym c.cell.word ∙ (same ∙ x.expects)) in
+      let told = payload_told row.gain payload v.facts.has.payload in
+      let m = c.made same in
+      let g : c.found ≡ record { number = at.index; state = row.finds; payload = payload } =
+      λ i. record { number = is.0 i; state = is.1 i; payload = is.2 i } in
+      let entries_are : c.entries ≡ object.entries s v.number at.index told =
+      m.1 ∙ ap (λ z. object.entries s v.number at.index (payload_told row.gain z v.facts.has.payload)) is.2 in
+      record {
+        word = n;
+        cell = subst (FoundCell n) g c.cell;
+        before = v.facts;
+        found = [];
+        few = omega arith;
+        last = v.facts.last;
+        before_is = λ i. record v.facts { found = sym (append-nil v.facts.found) i };
+        saw = subst (λ (z : ℕ × List E). Saw object v
+            (facts_worked object.gains row at.index n (payload_told row.gain z.0 v.facts.has.payload) v.facts) z.1 w)
+            (λ i. (is.2 i, entries_are i)) m.0;
+        was = subst (λ (z : Glimpse × List E). WasFound primitive (HasCell z.0) z.1 w)
+            (λ i. (g i, entries_are i)) c.was;
+      }
+
+  -- one that wasn't
+  missed-row : (s : QueueStep) (row : CellRow) (at : Place) (payload expected new n : ℕ) (v w : View E S)
+      (cell : CellWord)
+      → CrossesRow row v at payload expected new → Crossed object primitive s row at.index expected v n w → n ≢ expected
+      → unpacked_cell n ≡ Some cell → MissedCell object primitive row at.index payload v cell w
+  missed-row s row at payload expected new n v w cell x c apart is =
+      let g = c.found in
+      let same = same_Some _ cell (sym (unpacks n g c.cell) ∙ is) in
+      let m = c.missed apart in
+      record {
+        missed = record {
+          word = n;
+          glimpse = g;
+          number = c.number;
+          cell = c.cell;
+          state_is = ap (λ (c : CellWord). c.state) same;
+          other = λ bare stands. apart (c.cell.word
+              ∙ ((λ i. word_of (c.number i) (stands i) (payload_is bare stands i)) ∙ sym x.expects));
+          may = c.may;
+          since = c.since;
+          saw = subst (λ z. Saw object v (facts_missed n g v.facts) z w) m.1 m.0;
+          was = subst (λ z. WasFound primitive (HasCell g) z w) m.1 c.was;
+        };
+        payload_is = ap (λ (c : CellWord). c.payload) same;
+        other = λ stands left. apart (c.cell.word ∙ ((λ i. word_of (c.number i) (stands i) (left i)) ∙ sym x.expects));
+      }
+    where
+      payload_is : IsBare row.finds → c.found.state ≡ row.finds → c.found.payload ≡ payload
+      payload_is bare stands = c.cell.bare (subst IsBare (sym stands) bare) ∙ sym (x.bare bare)
+
+  -- the same of a step by its name
+  pub made-by : (s : QueueStep) (at : Place) (payload expected new n : ℕ) (v w : View E S)
+      → Crosses s v at payload expected new → CrossedBy object primitive s (row_of s) (index_in expected) expected v n w
+      → n ≡ expected
+      → MadeBy object primitive s (row_of s) 0 at.index payload v w
+  made-by s at payload expected new n v w x c same = by (row_of s) x c
+    where
+      by : (row : StepRow) → CrossesBy row v at payload expected new
+          → CrossedBy object primitive s row (index_in expected) expected v n w
+          → MadeBy object primitive s row 0 at.index payload v w
+      by (at_counter row) x c = absurd x
+      by (at_cell row) x c =
+          made-row s row at payload expected new n v w x
+          (subst (λ k. Crossed object primitive s row k expected v n w) (row-index v at payload expected new row x) c)
+          same
+
+  pub missed-by : (s : QueueStep) (at : Place) (payload expected new n : ℕ) (v w : View E S) (cell : CellWord)
+      → Crosses s v at payload expected new → CrossedBy object primitive s (row_of s) (index_in expected) expected v n w
+      → n ≢ expected
+      → unpacked_cell n ≡ Some cell → MissedCellBy object primitive (row_of s) at.index payload v cell w
+  missed-by s at payload expected new n v w cell x c apart is = by (row_of s) x c
+    where
+      by : (row : StepRow) → CrossesBy row v at payload expected new
+          → CrossedBy object primitive s row (index_in expected) expected v n w
+          → MissedCellBy object primitive row at.index payload v cell w
+      by (at_counter row) x c = absurd x
+      by (at_cell row) x c =
+          missed-row s row at payload expected new n v w cell x
+          (subst (λ k. Crossed object primitive s row k expected v n w) (row-index v at payload expected new row x) c)
+          apart is
+
+  -- the word of an exchange is that of a cell
+  pub crossed-some : (s : QueueStep) (k expected n : ℕ) (v w : View E S)
+      → CrossedBy object primitive s (row_of s) k expected v n w
+      → unpacked_cell n ≡ None → ⊥
+  crossed-some s k expected n v w c none = by (row_of s) c
+    where
+      by : (row : StepRow) → CrossedBy object primitive s row k expected v n w → ⊥
+      by (at_counter row) c = c
+      by (at_cell row) c = let both = sym none ∙ unpacks n c.found c.cell in absurd (cc)
+
+  -- an exchange of a cell that was found so, and from which nobody else goes on, doesn't miss
+  pub sure-by : (s : QueueStep) (at : Place) (payload : ℕ) (v w : View E S) (cell : CellWord) → IsSureBy (row_of s)
+      → IsLastBy (row_of s) at.index payload v.facts.last
+      → MissedCellBy object primitive (row_of s) at.index payload v cell w → ⊥
+  sure-by s at payload v w cell sure last missed = by (row_of s) sure last missed
+    where
+      by : (row : StepRow) → IsSureBy row → IsLastBy row at.index payload v.facts.last
+          → MissedCellBy object primitive row at.index payload v cell w → ⊥
+      by (at_counter row) sure last m = m
+      by (at_cell row) sure last m =
+          let since = subst (SinceLast m.missed.glimpse) last m.missed.since in
+          ⊎_elim
+          (λ (t : (m.missed.glimpse.state ≡ row.finds) × (m.missed.glimpse.payload ≡ payload)). m.other t.0 t.1)
+          (λ (t : rank row.finds < rank m.missed.glimpse.state). sure m.missed.glimpse.state m.missed.may t)
+          (since.since m.missed.number)
+
+  -- a step that was made after one that missed
+  pub made-after : (row row' : CellRow) (s : QueueStep) (k payload : ℕ) (state : CellState) (v u w : View E S)
+      → Missed object primitive row k v state u → Made object primitive s row' 0 k payload u w
+      → Made object primitive s row' 1 k payload v w
+  made-after row row' s k payload state v u w m d =
+      let first = facts_missed m.word m.glimpse v.facts in
+      let none : d.found ≡ [] = no-more d.found d.few in
+      let before_is : d.before ≡ facts_since (v.facts.found ++ Cell m.glimpse.number m.word ∷ []) d.last v.facts =
+      d.before_is ∙ (λ i. facts_since ((ap (λ (f : Facts). f.found) m.saw.facts_are i) ++ none i) d.last
+      (m.saw.facts_are i)
+      ) ∙ (λ i. facts_since (append-nil (v.facts.found ++ Cell m.glimpse.number m.word ∷ []) i) d.last v.facts) in
+      let entries_are : object.entries s u.number k (payload_told row'.gain payload u.facts.has.payload)
+      ≡ object.entries s v.number k (payload_told row'.gain payload v.facts.has.payload) =
+      λ i. object.entries s (m.saw.same.number i) k
+      (payload_told row'.gain payload (ap (λ (f : Facts). f.has.payload) m.saw.facts_are i)) in
+      record {
+        word = d.word;
+        cell = d.cell;
+        before = d.before;
+        found = Cell m.glimpse.number m.word ∷ [];
+        few = omega arith;
+        last = d.last;
+        before_is = before_is;
+        saw = saw-then object v u w first _ _ m.saw
+            (subst (λ (z : ℕ × List E). Saw object u
+            (facts_worked object.gains row' k d.word (payload_told row'.gain payload z.0) d.before) z.1 w)
+            (λ i. (ap (λ (f : Facts). f.has.payload) m.saw.facts_are i, entries_are i)) d.saw);
+        was = subst (λ z. WasFound primitive (HasCell (record { number = k; state = row'.finds; payload = payload })) z
+            w) entries_are d.was;
+      }
+    where
+      no-more : {A : Type 0} (l : List A) → length l ≤ 0 → l ≡ []
+      no-more [] e = refl
+      no-more (x ∷ xs) e = absurd (omega arith)
+
+-- What an exchange that missed leaves: the pass knows what it found, and is where it was.
+pub record After {E S : Type 0} (k left : ℕ) (s : CoreState) (v u : View E S) : Type 0 where
+  pub doing : u.facts.doing ≡ v.facts.doing
+  pub has : u.facts.has ≡ v.facts.has
+  pub waits : u.facts.waits ≡ v.facts.waits
+  pub last : u.facts.last ≡ Some (record { number = k; state = s; payload = left })
+  pub fits : left < 2 ^ 20
+  pub place : (at : Place) → KnowsPlace v at → KnowsPlace u at
+
+pub after-miss : {C E S : Type 0} (object : Object E) (primitive : C → Primitive E S) (row : CellRow) (k payload : ℕ)
+    (s : CoreState) (v u : View E S) (cell : CellWord) → (m : MissedCell object primitive row k payload v cell u)
+    → m.missed.glimpse.state ≡ s → After k cell.payload s v u
+after-miss object primitive row k payload s v u cell m is =
+    let saw = m.missed.saw in record {
+      doing = ap (λ (f : Facts). f.doing) saw.facts_are;
+      has = ap (λ (f : Facts). f.has) saw.facts_are;
+      waits = ap (λ (f : Facts). f.waits) saw.facts_are;
+      last = ap (λ (f : Facts). f.last) saw.facts_are
+          ∙ (λ i. Some (record { number = m.missed.number i; state = is i; payload = m.payload_is i }));
+      fits = subst (λ z. z < 2 ^ 20) m.payload_is m.missed.cell.fits;
+      place = λ at knows. knows-saw object v u _ _ at saw knows;
+    }
+
+-- a wait that its owner is leaving was left a value, where it isn't as it was
+pub delegated-left : (x : CoreState) → IsCancelling x → x ≢ state.Cancelling → x ≡ state.Delegated
+delegated-left state.Delegated is other = refl
+delegated-left state.Cancelling is other = absurd (other refl)
+delegated-left state.Empty is other = absurd is
+delegated-left state.Waiter is other = absurd is
+delegated-left state.Value is other = absurd is
+delegated-left state.Taken is other = absurd is
+delegated-left state.Broken is other = absurd is
+delegated-left state.Resumed is other = absurd is
+delegated-left state.Cancelled is other = absurd is
+delegated-left state.Refused is other = absurd is
+
+-- nobody takes a value but its suspend
+pub none-takes : (x : CoreState) → IsUntaken x → 1 < rank x → ⊥
+none-takes state.Empty is more = omega arith
+none-takes state.Value is more = omega arith
+none-takes state.Waiter is more = is
+none-takes state.Taken is more = is
+none-takes state.Broken is more = is
+none-takes state.Resumed is more = is
+none-takes state.Cancelling is more = is
+none-takes state.Delegated is more = is
+none-takes state.Cancelled is more = is
+none-takes state.Refused is more = is
+
+-- nobody goes on with a value that was left to a canceller, but the canceller
+pub none-settles : (x : CoreState) → IsCancelling x → 3 < rank x → ⊥
+none-settles state.Cancelling is more = omega arith
+none-settles state.Delegated is more = omega arith
+none-settles state.Empty is more = is
+none-settles state.Waiter is more = is
+none-settles state.Value is more = is
+none-settles state.Taken is more = is
+none-settles state.Broken is more = is
+none-settles state.Resumed is more = is
+none-settles state.Cancelled is more = is
+none-settles state.Refused is more = is
+
+pub asks-smart : (leaving : Leaving) → Asks leaving → IsSmart leaving
+asks-smart asks is = tt
+asks-smart passes_on is = tt
+asks-smart at_once is = absurd is

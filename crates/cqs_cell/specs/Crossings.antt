@@ -1,0 +1,49 @@
+-- The exchanges of a step on the cell that stands at a place.
+use Rattle.std.specs.Prelude.{◌≡◌, ℕ, ◌<◌, ◌^◌, Option, Some}
+use Rattle.cqs_core.specs.declared.cells.CoreState.{CoreState}
+use Rattle.cqs_core.specs.QueueCells.{rank, IsBare}
+use Rattle.cqs_core.specs.QueueStages.{doing_at, MayFind}
+use Rattle.cqs_core.specs.QueueSteps.{QueueStep, row_of, CellRow, StepRow, at_counter, at_cell, payload_told}
+use Rattle.cqs_rule.specs.declared.config.Place.{Place}
+use Rattle.cqs_rule.specs.declared.view.Glimpse.{Glimpse}
+use Rattle.cqs_rule.specs.declared.view.View.{View}
+use Rattle.cqs_rule.specs.Exchanges.{IsOwnWait, payload_left}
+use Rattle.cqs_rule.specs.Placed.{KnowsPlace}
+use Rattle.cqs_rule.specs.Ruled.{word_of}
+
+module _ {E S : Type 0} where
+  -- The pass may make the exchange of this row at the place, from the word of a cell with this payload to the word of the one made.
+  pub record CrossesRow (row : CellRow) (v : View E S) (at : Place) (payload expected new : ℕ) : Type 0 where
+    pub works : v.facts.doing ≡ doing_at row.works_at at.index
+    pub own : IsOwnWait row.works_at at.index v.facts
+    pub place : KnowsPlace v at
+    pub payload_fits : payload < 2 ^ 20
+    pub bare : IsBare row.finds → payload ≡ 0
+    pub expects : expected ≡ word_of at.index row.finds payload
+    pub state : CoreState
+    pub makes : row.makes ≡ Some state
+    pub writes : new ≡ word_of at.index state
+        (payload_left row.brings (payload_told row.gain payload v.facts.has.payload) payload)
+
+  abbrev pub CrossesBy : StepRow → View E S → Place → ℕ → ℕ → ℕ → Type 0
+  CrossesBy (at_counter row) v at payload expected new = ⊥
+  CrossesBy (at_cell row) v at payload expected new = CrossesRow row v at payload expected new
+
+  abbrev pub Crosses : QueueStep → View E S → Place → ℕ → ℕ → ℕ → Type 0
+  Crosses s v at payload expected new = CrossesBy (row_of s) v at payload expected new
+
+-- nobody else goes on from the state that the step finds
+abbrev pub IsSureBy : StepRow → Type 0
+IsSureBy (at_counter row) = ⊥
+IsSureBy (at_cell row) = (x : CoreState) → MayFind row.works_at x → rank row.finds < rank x → ⊥
+
+abbrev pub IsSure : QueueStep → Type 0
+IsSure s = IsSureBy (row_of s)
+
+-- the cell of the number was found so last, in the state that the step finds, with this payload
+abbrev pub IsLastBy : StepRow → ℕ → ℕ → Option Glimpse → Type 0
+IsLastBy (at_counter row) k payload last = ⊥
+IsLastBy (at_cell row) k payload last = last ≡ Some (record { number = k; state = row.finds; payload = payload })
+
+abbrev pub IsLast : QueueStep → ℕ → ℕ → Option Glimpse → Type 0
+IsLast s k payload last = IsLastBy (row_of s) k payload last

@@ -1,0 +1,97 @@
+-- What a transition of a cell tells the pass that tried it.
+use Rattle.std.specs.Prelude.{◌≡◌, ◌≢◌, ◌⊎◌, ℕ, ◌+◌, ◌≤◌, Bool, true, false, List, [], ◌++◌, length, Option, Some, None}
+use Rattle.cqs_core.specs.declared.cells.CoreState.{CoreState}
+use Rattle.cqs_core.specs.QueueCells.{rank, IsBare}
+use Rattle.cqs_core.specs.QueueStages.{MayFind}
+use Rattle.cqs_core.specs.QueueSteps.{QueueStep, row_of, CellRow, StepRow, at_counter, at_cell, payload_told, settles, settles_owing, refuses, refuses_value}
+use Rattle.cqs_words.specs.declared.cell.CellState.{CellState}
+use Rattle.cqs_words.specs.declared.cell.CellWord.{CellWord}
+use Rattle.cqs_rule.specs.declared.client.ClientWords.{Ghosts}
+use Rattle.cqs_rule.specs.declared.queue.Pass.{Pass}
+use Rattle.cqs_rule.specs.declared.view.Facts.{Facts}
+use Rattle.cqs_rule.specs.declared.view.Glimpse.{Glimpse}
+use Rattle.cqs_rule.specs.declared.view.Sighting.{Sighting}
+use Rattle.cqs_rule.specs.declared.view.View.{View}
+use Rattle.cqs_rule.specs.Exchanges.{FoundCell, SinceLast, HasCell}
+use Rattle.cqs_rule.specs.Facts.{facts_worked, facts_missed}
+use Rattle.cqs_rule.specs.Object.{Object, Primitive}
+use Rattle.cqs_rule.specs.Passes.{pass_view}
+use Rattle.cqs_rule.specs.Ruled.{shown_state}
+use Rattle.cqs_rule.specs.Saw.{Saw, WasFound}
+
+-- a pass at these facts, with these found besides, and another glimpse
+abbrev pub facts_since : List Sighting → Option Glimpse → Facts → Facts
+facts_since found last f = record f { last = last; found = found }
+
+module _ {C E S : Type 0} (object : Object E) (primitive : C → Primitive E S) where
+  -- A step of this row was made at the cell of the number k: it found the cell in the state that the row wants, with this payload. The
+  -- step's entries are the only ones, and the pass is where the row leads. Before the step it may have tried in vain, and found these.
+  pub record Made (s : QueueStep) (row : CellRow) (tried : ℕ) (k payload : ℕ) (v w : View E S) : Type 0 where
+    pub word : ℕ
+    pub cell : FoundCell word (record { number = k; state = row.finds; payload = payload })
+    pub before : Facts
+    pub found : List Sighting
+    pub few : length found ≤ tried
+    pub last : Option Glimpse
+    pub before_is : before ≡ facts_since (v.facts.found ++ found) last v.facts
+    pub saw : Saw object v
+        (facts_worked object.gains row k word (payload_told row.gain payload v.facts.has.payload) before)
+        (object.entries s v.number k (payload_told row.gain payload v.facts.has.payload)) w
+    pub was : WasFound primitive (HasCell (record { number = k; state = row.finds; payload = payload }))
+        (object.entries s v.number k (payload_told row.gain payload v.facts.has.payload)) w
+
+  -- It wasn't made, since the cell of the number k was found in this state, by the only step.
+  pub record Missed (row : CellRow) (k : ℕ) (v : View E S) (state : CellState) (w : View E S) : Type 0 where
+    pub word : ℕ
+    pub glimpse : Glimpse
+    pub number : glimpse.number ≡ k
+    pub cell : FoundCell word glimpse
+    pub state_is : shown_state glimpse.state ≡ state
+    pub other : IsBare row.finds → glimpse.state ≢ row.finds
+    pub may : MayFind row.works_at glimpse.state
+    pub since : SinceLast glimpse v.facts.last
+    pub saw : Saw object v (facts_missed word glimpse v.facts) [] w
+    pub was : WasFound primitive (HasCell glimpse) [] w
+
+  -- the same of an exchange that wanted this payload there, with the one that was found
+  pub record MissedCell (row : CellRow) (k payload : ℕ) (v : View E S) (cell : CellWord) (w : View E S) : Type 0 where
+    pub missed : Missed row k v cell.state w
+    pub payload_is : missed.glimpse.payload ≡ cell.payload
+    pub other : missed.glimpse.state ≡ row.finds → missed.glimpse.payload ≢ payload
+
+  abbrev pub MissedCellBy : StepRow → ℕ → ℕ → View E S → CellWord → View E S → Type 0
+  MissedCellBy (at_counter row) k payload v cell w = ⊥
+  MissedCellBy (at_cell row) k payload v cell w = MissedCell row k payload v cell w
+
+  abbrev pub MadeBy : QueueStep → StepRow → ℕ → ℕ → ℕ → View E S → View E S → Type 0
+  MadeBy s (at_counter row) tried k payload v w = ⊥
+  MadeBy s (at_cell row) tried k payload v w = Made s row tried k payload v w
+
+  abbrev pub MissedBy : StepRow → ℕ → View E S → CellState → View E S → Type 0
+  MissedBy (at_counter row) k v found w = ⊥
+  MissedBy (at_cell row) k v found w = Missed row k v found w
+
+module _ {C S E : Type 0} {g : Ghosts C S E} where
+  -- the step was made at the cell of the number k, which had this payload, as the first and only try
+  abbrev pub HasMade : QueueStep → ℕ → ℕ → Pass C S E g → Pass C S E g → Type 0
+  HasMade s k payload p p' = MadeBy g.object g.primitive s (row_of s) 0 k payload (pass_view p) (pass_view p')
+
+  -- the same, after at most one try that found another payload or state
+  abbrev pub HasMadeAfter : QueueStep → ℕ → ℕ → Pass C S E g → Pass C S E g → Type 0
+  HasMadeAfter s k payload p p' = MadeBy g.object g.primitive s (row_of s) 1 k payload (pass_view p) (pass_view p')
+
+  -- it wasn't: the cell of the number k was found in this state
+  abbrev pub HasMissed : QueueStep → ℕ → CellState → Pass C S E g → Pass C S E g → Type 0
+  HasMissed s k found p p' = MissedBy g.object g.primitive (row_of s) k (pass_view p) found (pass_view p')
+
+  -- the same of an exchange that wanted this payload there, with the one that was found
+  abbrev pub HasMissedCell : QueueStep → ℕ → ℕ → CellWord → Pass C S E g → Pass C S E g → Type 0
+  HasMissedCell s k payload cell p p' = MissedCellBy g.object g.primitive (row_of s) k payload (pass_view p) cell
+      (pass_view p')
+
+  -- How a canceller ended its leaving: by what was decided, and with the payload that a resume had left there or none.
+  abbrev pub HasSettled : Bool → ℕ → Option ℕ → Pass C S E g → Pass C S E g → Type 0
+  HasSettled true k None p p' = HasMade settles k 0 p p'
+  HasSettled true k (Some payload) p p' = HasMadeAfter settles_owing k payload p p'
+  HasSettled false k None p p' = HasMade refuses k 0 p p'
+  HasSettled false k (Some payload) p p' = HasMadeAfter refuses_value k payload p p'

@@ -4,7 +4,7 @@
 #![tactic(auto)]
 
 ghost use Rattle.std.specs.Prelude.{◌≡◌, ◌⊎◌};
-ghost use Rattle.cqs_find.specs.Finds.{IsFoundAt};
+ghost use Rattle.cqs_find.specs.Finds.{IsFoundAt, HasSearched};
 ghost use Rattle.cqs_rule.specs.Lists.{Has};
 ghost use Rattle.cqs_rule.specs.Passes.{pass_view, IsOf};
 ghost use Rattle.cqs_rule.specs.Ruled.{number_at};
@@ -23,9 +23,11 @@ pub enum Found {
 /// The place of the cell of a number, which the pass has drawn or waits under.
 pub fn find<C: ClientWords>(queue: &Queue<C>, pass: &mut Pass<C>, index: u64) -> Found
     requires belongs { IsOf queue.now pass.old }
-    requires number { (number_at (pass_view pass.old).facts.doing ≡ index) ⊎ Has index (pass_view pass.old).facts.waits }
-    ensures at { IsFoundAt index result }
-    ensures same { pass.new ≡ pass.old }
+    requires number { (number_at (pass_view pass.old).facts.doing ≡ index)
+        ⊎ Has index (pass_view pass.old).facts.waits }
+    ensures belongs { IsOf queue.now pass.new }
+    ensures at { IsFoundAt index (pass_view pass.new) result }
+    ensures searched { HasSearched pass.old pass.new }
 {
     Found::At(Place {
         word: index as u32 + CELLS_WORD,

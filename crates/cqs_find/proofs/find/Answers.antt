@@ -1,6 +1,8 @@
-use Rattle.std.proofs.Common.{arith}
+use Rattle.std.proofs.Common.{arith, refl, rules}
+use Rattle.cqs_rule.specs.Placed.{place_known}
 use Rattle.cqs_rule.specs.Passes.{pass_view}
 use Rattle.cqs_find.proofs.Numbers.{below-cells}
+use Rattle.cqs_find.proofs.Searches.{searched-none}
 use Rattle.cqs_find.proofs.find.Goals as goal
 
 pub overflow_cast-result : goal.overflow_cast-result
@@ -14,3 +16,9 @@ overflow_add-result g c =
     let low = below-cells (pass_view c.args.pass.now) c.args.index c.args.pass.now.inside c.requires.number in
     let few = c.args.pass.now.few_cells in
     record { fits = omega arith }
+
+pub returns-clause-at : goal.returns-clause-at
+returns-clause-at g c = (refl, place_known _ _ (omega arith))
+
+pub returns-clause-searched : goal.returns-clause-searched
+returns-clause-searched g c = search (rules, searched-none)

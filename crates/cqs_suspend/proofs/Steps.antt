@@ -1,114 +1,141 @@
--- A suspend is its steps: a number is drawn, and an exchange on its cell is made.
-use Rattle.std.proofs.Common.{◌≡◌, ◌≢◌, ℕ, Bool, List, [], ◌∷◌, ◌++◌, Some, sym, refl, ap, ◌∙◌, subst, inl}
-use Rattle.cqs_core.specs.declared.cells.CoreState.{CoreState}
-use Rattle.cqs_core.specs.declared.cells.CoreState.TheVariants as state
+-- A suspend is its steps: a number is drawn, its cell is looked for, and an exchange there is made, perhaps after some
+-- that missed.
+use Rattle.std.proofs.Common.{◌≡◌, ℕ, suc, ◌+◌, ◌≤◌, List, [], ◌∷◌, ◌++◌, length, Option, Some, None, sym, refl, ap, ◌∙◌, subst, inl, append_assoc, length-append, arith}
+use Rattle.cqs_core.specs.QueueSteps.{QueueStep, row_of, CellRow, StepRow, at_counter, at_cell, payload_told, installs}
 use Rattle.cqs_words.specs.declared.cell.CellState.{CellState}
-use Rattle.cqs_words.specs.declared.cell.CellState.TheVariants as shown
-use Rattle.cqs_rule.specs.declared.view.View.{View}
 use Rattle.cqs_rule.specs.declared.view.Facts.{Facts}
 use Rattle.cqs_rule.specs.declared.view.Glimpse.{Glimpse}
 use Rattle.cqs_rule.specs.declared.view.Sighting.{Sighting}
 use Rattle.cqs_rule.specs.declared.view.Sighting.TheVariants.{Cell}
-use Rattle.cqs_rule.specs.Called.{Called}
-use Rattle.cqs_rule.specs.Hidden.{QueueStep, draws, installs, takes}
+use Rattle.cqs_rule.specs.declared.view.View.{View}
+use Rattle.cqs_rule.specs.Exchanges.{HasCell}
+use Rattle.cqs_rule.specs.Facts.{facts_worked, facts_missed}
 use Rattle.cqs_rule.specs.Lists.{Has}
-use Rattle.cqs_rule.specs.Ruled.{IsSince, number_at, shown_state}
-use Rattle.cqs_rule.specs.Told.{Saw, FoundLast, Made, Missed, MayFind, Took, facts_after}
+use Rattle.cqs_rule.specs.Object.{Object, Primitive}
+use Rattle.cqs_rule.specs.Saw.{Saw, WasFound}
 use Rattle.cqs_rule.proofs.Calls.{called-by, called-then, saw-then}
-use Rattle.cqs_rule.proofs.Found.{found-here, found-then}
 use Rattle.cqs_rule.proofs.Lists.{has_right}
-use Rattle.cqs_cell.proofs.Taking.{still-value}
-use Rattle.cqs_suspend.specs.Suspends.{Waited, TookValue}
+use Rattle.cqs_cell.specs.Transitions.{facts_since, Made, MadeBy, Missed, MissedBy}
+use Rattle.cqs_find.specs.Finds.{longest_search, facts_searched, Searched}
+use Rattle.cqs_suspend.specs.Suspends.{facts_drawn, cell_found, told_by, draw_entries, end_entries, Ended, EndedBy, EndsBy}
 
--- an exchange that wasn't made in an empty cell found a value
-found-value : (s : CoreState) → MayFind installs s → s ≢ state.Empty → s ≡ state.Value
-found-value state.Empty m other = absurd (other refl)
-found-value state.Value m other = refl
-found-value state.Waiter m other = absurd m
-found-value state.Taken m other = absurd m
-found-value state.Broken m other = absurd m
-found-value state.Resumed m other = absurd m
-found-value state.Cancelling m other = absurd m
-found-value state.Delegated m other = absurd m
-found-value state.Cancelled m other = absurd m
-found-value state.Refused m other = absurd m
+-- a pass at these facts that found these words and heads besides, and another glimpse
+abbrev pub facts_on_way : List Sighting → List (ℕ × ℕ) → Option Glimpse → Facts → Facts
+facts_on_way found heads last f = record (facts_searched found heads f) { last = last }
 
-module _ {E S : Type 0} (names : ℕ → E → Bool) (legal : ℕ → List E → Type 0)
-    (gains : ℕ → ℕ) (entries : QueueStep → ℕ → ℕ → List E) where
-  -- the number k was drawn
-  abbrev pub Drew : ℕ → View E S → View E S → Type 0
-  Drew k v u = Saw names legal v (facts_after gains draws k k v.facts) (entries draws v.number k) u
+module _ {C E S : Type 0} (object : Object E) (primitive : C → Primitive E S) where
+  -- The pass has drawn the number k, and is on its way to the exchange that will be made: so many missed.
+  pub record OnWay (tries k : ℕ) (v u : View E S) : Type 0 where
+    pub drawn : View E S
+    pub drew : Saw object v (facts_drawn object.gains k v.facts) (draw_entries object k v) drawn
+    pub found : List Sighting
+    pub heads : List (ℕ × ℕ)
+    pub last : Option Glimpse
+    pub few : length found + length heads ≤ longest_search + tries
+    pub few_heads : length heads ≤ longest_search
+    pub saw : Saw object drawn (facts_on_way found heads last (facts_drawn object.gains k v.facts)) [] u
 
-  pub waited : (k new : ℕ) (v u w : View E S) → Drew k v u
-      → Made names legal gains entries installs 0 new u w → Waited names legal gains entries k v w
-  waited k new v u w s m =
-      let is : number_at u.facts.doing ≡ k = ap (λ (f : Facts). number_at f.doing) s.facts_are in
-      let pass : u.number ≡ v.number = s.same.number in
-      let first : List E = entries draws v.number k in
-      let last : List E = entries installs u.number (number_at u.facts.doing) in
-      let told : Called names legal v (first ++ last) last w =
-      called-then names legal v u w _ first first last (called-by names legal v u _ _ s) m.saw in
-      let empty : Glimpse = record { state = state.Empty; payload = 0 } in
+  pub way-searched : (k : ℕ) (v t u : View E S)
+      → Saw object v (facts_drawn object.gains k v.facts) (draw_entries object k v) t
+      → Searched object t u → OnWay 0 k v u
+  way-searched k v t u d s = record {
+    drawn = t;
+    drew = d;
+    found = s.found;
+    heads = s.heads;
+    last = None;
+    few = let few = s.few in omega arith;
+    few_heads = let few = s.few in omega arith;
+    saw = subst (λ (f : Facts). Saw object t (facts_searched s.found s.heads f) [] u) d.facts_are s.saw;
+  }
+
+  -- an exchange missed
+  way-missed : (row : CellRow) (tries k : ℕ) (state : CellState) (v u w : View E S) → OnWay tries k v u
+      → Missed object primitive row k u state w → OnWay (suc tries) k v w
+  way-missed row tries k state v u w way m =
+      let here : List Sighting = Cell m.glimpse.number m.word ∷ [] in
+      let f : Facts = facts_drawn object.gains k v.facts in
+      let last : Option Glimpse = Some m.glimpse in
+      let is : facts_missed m.word m.glimpse u.facts ≡ facts_on_way (way.found ++ here) way.heads last f =
+      ap (facts_missed m.word m.glimpse) way.saw.facts_are
+      ∙ (λ i. record (facts_on_way way.found way.heads last f) { found = append_assoc f.found way.found here i }) in
+      let few = way.few in
+      let more : length (way.found ++ here) ≡ length way.found + 1 = length-append way.found here in
       record {
-        called = subst (λ (es : List E). Called names legal v (first ++ es) es w) (λ i. entries installs (pass i) (is i)) told;
-        found = found-here [] (number_at u.facts.doing) k empty v u w (ap (λ (f : Facts). f.found) s.facts_are) is m.found;
-        idle = ap (λ (f : Facts). f.doing) m.saw.facts_are;
-        held = ap (λ (f : Facts). f.held) m.saw.facts_are ∙ ap (λ (f : Facts). f.held) s.facts_are;
-        waits = ap (λ (f : Facts). f.waits) m.saw.facts_are ∙ (λ i. (s.facts_are i).waits ++ is i ∷ []);
+        drawn = way.drawn;
+        drew = way.drew;
+        found = way.found ++ here;
+        heads = way.heads;
+        last = last;
+        few = omega (arith, more, few);
+        few_heads = way.few_heads;
+        saw = subst (λ (z : Facts). Saw object way.drawn z [] w) is
+            (saw-then object way.drawn u w _ _ [] way.saw m.saw);
       }
 
-  pub waits-here : (k new : ℕ) (v u w : View E S) → Drew k v u
-      → Made names legal gains entries installs 0 new u w → Has k w.facts.waits
-  waits-here k new v u w s m =
-      subst (Has k) (sym (waited k new v u w s m).waits) (has_right k v.facts.waits (k ∷ []) (inl refl))
+  pub way-missed-by : (s : QueueStep) (tries k j : ℕ) (state : CellState) (v u w : View E S) → OnWay tries k v u → j ≡ k
+      → MissedBy object primitive (row_of s) j u state w → OnWay (suc tries) k v w
+  way-missed-by s tries k j state v u w way is m = by (row_of s) m
+    where
+      by : (row : StepRow) → MissedBy object primitive row j u state w → OnWay (suc tries) k v w
+      by (at_counter row) m = absurd m
+      by (at_cell row) m =
+          way-missed row tries k state v u w way (subst (λ z. Missed object primitive row z u state w) is m)
 
-  pub took-value : (k payload : ℕ) (v u t w : View E S) (cell : CellState) → Drew k v u
-      → Missed names legal gains entries installs u cell t → Took names legal gains entries t payload w
-      → TookValue names legal gains entries payload k v w
-  took-value k payload v u t w cell s m took =
-      let drawn : number_at u.facts.doing ≡ k = ap (λ (f : Facts). number_at f.doing) s.facts_are in
-      let still : number_at t.facts.doing ≡ number_at u.facts.doing = ap (λ (f : Facts). number_at f.doing) m.saw.facts_are in
-      let is : number_at t.facts.doing ≡ k = still ∙ drawn in
-      let pass : t.number ≡ v.number = m.saw.same.number ∙ s.same.number in
-      let first : List E = entries draws v.number k in
-      let last : List E = entries takes t.number (number_at t.facts.doing) in
-      let told : Called names legal v (first ++ last) last w =
-      called-then names legal v u w took.facts first first last (called-by names legal v u _ _ s)
-      (saw-then names legal u t w _ took.facts last m.saw took.saw) in
-      let held : t.facts.held ≡ v.facts.held =
-      ap (λ (f : Facts). f.held) m.saw.facts_are ∙ ap (λ (f : Facts). f.held) s.facts_are in
-      let waits : t.facts.waits ≡ v.facts.waits =
-      ap (λ (f : Facts). f.waits) m.saw.facts_are ∙ ap (λ (f : Facts). f.waits) s.facts_are in
-      let value : Glimpse = record { state = state.Value; payload = payload } in
-      let here : List Sighting = Cell (number_at u.facts.doing) m.word ∷ [] in
+  -- the exchange that was made
+  ended : (s : QueueStep) (row : CellRow) (tries more k payload : ℕ) (v u w : View E S) → OnWay tries k v u
+      → Made object primitive s row more k payload u w → Ended object primitive s row (tries + more) k payload v w
+  ended s row tries more k payload v u w way m =
+      let f : Facts = facts_drawn object.gains k v.facts in
+      let t : View E S = way.drawn in
+      let way_is : u.facts ≡ facts_on_way way.found way.heads way.last f = way.saw.facts_are in
+      let told : u.facts.has.payload ≡ v.facts.has.payload = ap (λ (f : Facts). f.has.payload) way_is in
+      let number : u.number ≡ v.number = way.saw.same.number ∙ way.drew.same.number in
+      let first : List E = draw_entries object k v in
+      let entries_are : end_entries object k u s row payload ≡ end_entries object k v s row payload =
+      λ i. object.entries s (number i) k (payload_told row.gain payload (told i)) in
+      let saw : Saw object t w.facts (end_entries object k v s row payload) w =
+      subst (λ (es : List E). Saw object t w.facts es w) entries_are
+      (subst (λ (z : Facts). Saw object t z (end_entries object k u s row payload) w) (sym m.saw.facts_are)
+      (saw-then object t u w _ _ _ way.saw m.saw)) in
+      let few = way.few in
+      let few_more = m.few in
+      let both : length (way.found ++ m.found) ≡ length way.found + length m.found = length-append way.found m.found in
       record {
-        called = subst (λ (es : List E). Called names legal v (first ++ es) es w) (λ i. entries takes (pass i) (is i)) told;
-        since = here ++ took.since;
-        found = found-here (here ++ took.since) (number_at u.facts.doing) k value v u w
-            (ap (λ (f : Facts). f.found) s.facts_are) drawn
-            (found-then took.since here (number_at u.facts.doing) value u t w (ap (λ (f : Facts). f.found) m.saw.facts_are)
-            (subst (λ z. FoundLast took.since z value t w) still took.found));
-        idle = ap (λ (f : Facts). f.doing) took.saw.facts_are ∙ took.idle;
-        held = ap (λ (f : Facts). f.held) took.saw.facts_are ∙ (took.held ∙ ap gains held);
-        waits = ap (λ (f : Facts). f.waits) took.saw.facts_are ∙ (took.waits ∙ waits);
+        called = called-then object v t w _ first first _ (called-by object v t _ first way.drew) saw;
+        word = m.word;
+        cell = m.cell;
+        was = subst (λ (es : List E). WasFound primitive (HasCell (cell_found row k payload)) es w) entries_are m.was;
+        found = way.found ++ m.found;
+        heads = way.heads;
+        few = omega (arith, both, few, few_more);
+        few_heads = way.few_heads;
+        facts_are = m.saw.facts_are
+            ∙ ((λ i. facts_worked object.gains row k m.word (payload_told row.gain payload (told i)) (m.before_is i))
+            ∙ ((λ i. facts_worked object.gains row k m.word (told_by row payload v.facts)
+            (facts_since ((way_is i).found ++ m.found) m.last (way_is i)))
+            ∙ (λ i. facts_worked object.gains row k m.word (told_by row payload v.facts)
+            (record (facts_searched way.found way.heads f) { found = append_assoc f.found way.found m.found i }))));
       }
 
-  -- the second exchange finds the value that the first found
-  pub no-miss : (u t w : View E S) (cell other : CellState) → Missed names legal gains entries installs u cell t
-      → Missed names legal gains entries takes t other w → other ≢ shown.Value → ⊥
-  no-miss u t w cell other m n apart =
-      let value : m.glimpse.state ≡ state.Value = found-value m.glimpse.state m.may (m.other tt) in
-      let last : t.facts.last ≡ Some (record { state = state.Value; payload = m.glimpse.payload }) =
-      ap (λ (f : Facts). f.last) m.saw.facts_are ∙ (λ i. Some (record { state = value i; payload = m.glimpse.payload })) in
-      let still = still-value n.glimpse.state n.glimpse.payload m.glimpse.payload n.may
-      (subst (IsSince n.glimpse.state n.glimpse.payload) last n.since) in
-      apart (sym n.state ∙ ap shown_state still.0)
+  pub ends-by : (s : QueueStep) (tries more k j payload : ℕ) (v u w : View E S) → OnWay tries k v u → j ≡ k
+      → MadeBy object primitive s (row_of s) more j payload u w → EndsBy object primitive s (tries + more) k payload v w
+  ends-by s tries more k j payload v u w way is m = by (row_of s) m
+    where
+      by : (row : StepRow) → MadeBy object primitive s row more j payload u w
+          → EndedBy object primitive s row (tries + more) k payload v w
+      by (at_counter row) m = absurd m
+      by (at_cell row) m =
+          ended s row tries more k payload v u w way (subst (λ z. Made object primitive s row more z payload u w) is m)
 
-  -- a step that makes none in between leaves what was seen
-  pub saw-at : (v u t : View E S) (f : Facts) (es : List E) → t ≡ u → Saw names legal v f es u → Saw names legal v f es t
-  saw-at v u t f es same s = subst (λ (z : View E S). Saw names legal v f es z) (sym same) s
+  -- the same told of another view and another number, which are the same
+  pub ends-at : (s : QueueStep) (tries k j payload : ℕ) (v w x : View E S) → j ≡ k → x ≡ w
+      → EndsBy object primitive s tries k payload v w → EndsBy object primitive s tries j payload v x
+  ends-at s tries k j payload v w x is same e =
+      subst (λ (z : ℕ × View E S). EndsBy object primitive s tries z.0 payload v z.1) (λ i. (sym is i, sym same i)) e
 
-  pub waited-at : (j k : ℕ) (v w x : View E S) → j ≡ k → x ≡ w
-      → Waited names legal gains entries k v w → Waited names legal gains entries j v x
-  waited-at j k v w x is same t =
-      subst (λ (z : ℕ × View E S). Waited names legal gains entries z.0 v z.1) (λ i. (sym is i, sym same i)) t
+  -- the wait that was installed is one of the pass's
+  pub waits-here : (tries k payload : ℕ) (v w : View E S) → EndsBy object primitive installs tries k payload v w
+      → Has k w.facts.waits
+  waits-here tries k payload v w e =
+      subst (Has k) (sym (ap (λ (f : Facts). f.waits) e.facts_are)) (has_right k v.facts.waits (k ∷ []) (inl refl))

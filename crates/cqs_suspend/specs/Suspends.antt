@@ -1,36 +1,76 @@
--- What a suspend answers: exactly the state in which its cell was found.
-use Rattle.std.specs.Prelude.{◌≡◌, ℕ, Bool, List, [], ◌∷◌, ◌++◌}
-use Rattle.cqs_core.specs.declared.cells.CoreState.TheVariants as state
-use Rattle.cqs_core.specs.declared.doings.Doing.TheVariants as doing
+-- What a suspend answers: exactly the state in which its cell was found, at the last of its steps.
+use Rattle.std.specs.Prelude.{◌≡◌, ℕ, ◌+◌, ◌≤◌, List, ◌++◌, length}
+use Rattle.cqs_core.specs.QueueSteps.{QueueStep, row_of, CellRow, StepRow, at_counter, at_cell, payload_told, draws, installs, takes}
+use Rattle.cqs_rule.specs.declared.client.ClientWords.{Ghosts}
+use Rattle.cqs_rule.specs.declared.queue.Pass.{Pass}
+use Rattle.cqs_rule.specs.declared.view.Facts.{Facts}
+use Rattle.cqs_rule.specs.declared.view.Glimpse.{Glimpse}
 use Rattle.cqs_rule.specs.declared.view.Sighting.{Sighting}
 use Rattle.cqs_rule.specs.declared.view.View.{View}
 use Rattle.cqs_rule.specs.Called.{Called}
-use Rattle.cqs_rule.specs.Hidden.{QueueStep, draws, installs, takes}
-use Rattle.cqs_rule.specs.Placed.{IsPlace}
-use Rattle.cqs_rule.specs.Told.{FoundLast}
-use Rattle.cqs_rule.specs.Waits.{place_of, pass_of}
+use Rattle.cqs_rule.specs.Exchanges.{FoundCell, HasCell}
+use Rattle.cqs_rule.specs.Facts.{facts_after, facts_worked}
+use Rattle.cqs_rule.specs.Hidden.{Gains}
+use Rattle.cqs_rule.specs.Object.{Object, Primitive}
+use Rattle.cqs_rule.specs.Passes.{pass_view}
+use Rattle.cqs_rule.specs.Saw.{WasFound}
+use Rattle.cqs_rule.specs.Waits.{place_of, HasWait}
+use Rattle.cqs_find.specs.Finds.{longest_search, facts_searched}
 use Rattle.cqs_suspend.specs.declared.suspending.Suspended.{Suspended}
 use Rattle.cqs_suspend.specs.declared.suspending.Suspended.TheVariants.{Waits, Took}
 
-module _ {E S : Type 0} (names : ℕ → E → Bool) (legal : ℕ → List E → Type 0)
-    (gains : ℕ → ℕ) (entries : QueueStep → ℕ → ℕ → List E) where
-  -- The cell of the number was found empty, at the only exchange: the pass waits under it, and holds what it held.
-  pub record Waited (k : ℕ) (v w : View E S) : Type 0 where
-    pub called : Called names legal v (entries draws v.number k ++ entries installs v.number k) (entries installs v.number k) w
-    pub found : FoundLast [] k (record { state = state.Empty; payload = 0 }) v w
-    pub idle : w.facts.doing ≡ doing.Idle
-    pub held : w.facts.held ≡ v.facts.held
-    pub waits : w.facts.waits ≡ v.facts.waits ++ k ∷ []
+-- a pass at these facts that drew the number k to suspend at
+abbrev pub facts_drawn : Gains → ℕ → Facts → Facts
+facts_drawn gains k f = facts_after gains (row_of draws) k k f.has.payload f
 
-  -- It was found to hold a value with this payload: the pass has gained by it, and waits no more than before.
-  pub record TookValue (payload k : ℕ) (v w : View E S) : Type 0 where
-    pub called : Called names legal v (entries draws v.number k ++ entries takes v.number k) (entries takes v.number k) w
-    pub since : List Sighting
-    pub found : FoundLast since k (record { state = state.Value; payload = payload }) v w
-    pub idle : w.facts.doing ≡ doing.Idle
-    pub held : w.facts.held ≡ gains v.facts.held
-    pub waits : w.facts.waits ≡ v.facts.waits
+-- the cell of the number k, as a step of this row finds it, with this payload
+abbrev pub cell_found : CellRow → ℕ → ℕ → Glimpse
+cell_found row k payload = record { number = k; state = row.finds; payload = payload }
 
-  abbrev pub Suspends : View E S → Suspended → View E S → Type 0
-  Suspends v (Waits wait) w = Waited (place_of wait).index v w × IsPlace (place_of wait) × (pass_of wait ≡ v.number)
-  Suspends v (Took payload k) w = TookValue payload k v w
+-- the payload that such a step tells, of a pass at these facts
+abbrev pub told_by : CellRow → ℕ → Facts → ℕ
+told_by row payload f = payload_told row.gain payload f.has.payload
+
+module _ {E S : Type 0} (object : Object E) (k : ℕ) (v : View E S) where
+  -- the entries of the draw of the number k, and of the step of this row that is made at its cell
+  abbrev pub draw_entries : List E
+  draw_entries = object.entries draws v.number k v.facts.has.payload
+
+  abbrev pub end_entries : QueueStep → CellRow → ℕ → List E
+  end_entries s row payload = object.entries s v.number k (told_by row payload v.facts)
+
+module _ {C E S : Type 0} (object : Object E) (primitive : C → Primitive E S) where
+  -- The number k was drawn, and the call's last step, of this row, was made at its cell: the cell was found in the state
+  -- that the row wants, with this payload, at the end of all that the pass has seen before the step's entries. The call's
+  -- entries are those of the two steps, in order, and the pass is where they lead. In between it found these, by its search
+  -- for the cell and by so many tries in vain.
+  pub record Ended (s : QueueStep) (row : CellRow) (tries k payload : ℕ) (v w : View E S) : Type 0 where
+    pub called : Called object v
+        (draw_entries object k v ++ end_entries object k v s row payload) (end_entries object k v s row payload) w
+    pub word : ℕ
+    pub cell : FoundCell word (cell_found row k payload)
+    pub was : WasFound primitive (HasCell (cell_found row k payload)) (end_entries object k v s row payload) w
+    pub found : List Sighting
+    pub heads : List (ℕ × ℕ)
+    pub few : length found + length heads ≤ longest_search + tries
+    pub few_heads : length heads ≤ longest_search
+    pub facts_are : w.facts
+        ≡ facts_worked object.gains row k word (told_by row payload v.facts)
+        (facts_searched found heads (facts_drawn object.gains k v.facts))
+
+  abbrev pub EndedBy : QueueStep → StepRow → ℕ → ℕ → ℕ → View E S → View E S → Type 0
+  EndedBy s (at_counter row) tries k payload v w = ⊥
+  EndedBy s (at_cell row) tries k payload v w = Ended s row tries k payload v w
+
+  -- the call ended with this step
+  abbrev pub EndsBy : QueueStep → ℕ → ℕ → ℕ → View E S → View E S → Type 0
+  EndsBy s tries k payload v w = EndedBy s (row_of s) tries k payload v w
+
+module _ {C S E : Type 0} {g : Ghosts C S E} where
+  -- An empty cell got its waiter, by the only exchange. Or the value was taken that the resume of the number left: the first
+  -- exchange found that the cell wasn't empty, and a second one may have found another payload than it wanted.
+  abbrev pub Suspends : Pass C S E g → Suspended → Pass C S E g → Type 0
+  Suspends p (Waits wait) p' =
+      EndsBy g.object g.primitive installs 0 (place_of wait).index 0 (pass_view p) (pass_view p')
+      × HasWait (pass_view p') wait
+  Suspends p (Took payload k) p' = EndsBy g.object g.primitive takes 2 k payload (pass_view p) (pass_view p')

@@ -23,7 +23,7 @@ pub fn suspend<C: ClientWords>(queue: &Queue<C>, pass: &mut Pass<C>) -> Suspende
     requires belongs { IsOf queue.now pass.old }
     requires door { (pass_view pass.old).facts.doing ≡ doing.Door }
     ensures belongs { IsOf queue.now pass.new }
-    ensures suspends { Suspends C.names C.legal C.gains C.entries (pass_view pass.old) result (pass_view pass.new) }
+    ensures suspends { Suspends pass.old result pass.new }
 {
     let number = queue.add_table::<Draws>(pass, SUSPENDS_WORD, 1);
     let Found::At(at) = find(queue, pass, number) else {

@@ -1,27 +1,96 @@
--- What a resume answers: exactly the state in which its cell was found.
-use Rattle.std.specs.Prelude.{◌≡◌, ℕ, Bool, List, ◌∷◌, ◌++◌}
+-- What a resume answers: exactly the state in which its last cell was found.
+use Rattle.std.specs.Prelude.{◌≡◌, ◌⊎◌, ℕ, ◌<◌, List, [], ◌∷◌, ◌++◌, Option, None}
+use Rattle.cqs_core.specs.declared.cells.CoreState.{CoreState}
+use Rattle.cqs_core.specs.declared.cells.CoreState.TheVariants as state
 use Rattle.cqs_core.specs.declared.doings.Doing.TheVariants as doing
-use Rattle.cqs_rule.specs.declared.view.Sighting.{Sighting}
-use Rattle.cqs_rule.specs.declared.view.Sighting.TheVariants as sighting
+use Rattle.cqs_core.specs.QueueSteps.{QueueStep, serves, leaves, delegates, passes_over, ends_refused}
+use Rattle.cqs_rule.specs.declared.client.ClientWords.{Ghosts}
+use Rattle.cqs_rule.specs.declared.queue.Pass.{Pass}
+use Rattle.cqs_rule.specs.declared.queue.tokens.Under as token
 use Rattle.cqs_rule.specs.declared.view.View.{View}
 use Rattle.cqs_rule.specs.Called.{Called}
-use Rattle.cqs_rule.specs.Hidden.{QueueStep, reaches, leaves, serves}
-use Rattle.cqs_rule.specs.Told.{FoundLast, state_before, payload_made}
-use Rattle.cqs_resume.specs.declared.resuming.Resumed.{Resumed}
-use Rattle.cqs_resume.specs.declared.resuming.Resumed.TheVariants.{Served, Left}
+use Rattle.cqs_rule.specs.Exchanges.{HasCell}
+use Rattle.cqs_rule.specs.Facts.{IsBehind}
+use Rattle.cqs_rule.specs.Hidden.{Hidden}
+use Rattle.cqs_rule.specs.Lists.{IsPrefix}
+use Rattle.cqs_rule.specs.Object.{Object, Primitive}
+use Rattle.cqs_rule.specs.Owed.{HasUnder, under_payload, under_ticket, under_reached}
+use Rattle.cqs_rule.specs.Passes.{pass_view}
+use Rattle.cqs_rule.specs.Saw.{WasShown, WasFound}
+use Rattle.cqs_resume.specs.declared.resumed.Resumed.{Resumed}
+use Rattle.cqs_resume.specs.declared.resumed.Resumed.TheVariants.{Served, Left, Refused, Under}
+use Rattle.cqs_resume.specs.Rounds.{Round, cell_in, IsFoundIn, IsOpenedWith, numbers, drawn_in, facts_after_rounds, round_entries, over_entries}
 
-module _ {E S : Type 0} (names : ℕ → E → Bool) (legal : ℕ → List E → Type 0) (entries : QueueStep → ℕ → ℕ → List E) where
-  -- The resume drew the number k, and ended there by this exchange: it found the cell last in the state that the exchange
-  -- wants, and left there the payload that it owed. What the pass holds and waits for is as before.
-  pub record Ended (s : QueueStep) (payload k : ℕ) (v w : View E S) : Type 0 where
-    pub called : Called names legal v (entries reaches v.number k ++ entries s v.number k) (entries s v.number k) w
-    pub tried : List Sighting
-    pub found : FoundLast (sighting.Resumes k ∷ tried) k (record { state = state_before s; payload = 0 }) v w
-    pub left : payload_made s v.facts.payload ≡ payload
-    pub idle : w.facts.doing ≡ doing.Idle
-    pub held : w.facts.held ≡ v.facts.held
-    pub waits : w.facts.waits ≡ v.facts.waits
+-- how many numbers one call passes over before it hands the resumption back
+abbrev pub most_passed_over : ℕ
+most_passed_over = 64
 
-  abbrev pub Resumes : ℕ → View E S → Resumed → View E S → Type 0
-  Resumes payload v (Served k) w = Ended serves payload k v w
-  Resumes payload v (Left k) w = Ended leaves payload k v w
+module _ {C E S : Type 0} (primitive : C → Primitive E S) where
+  -- something held where the history was some beginning of what the pass has seen
+  pub record WasSo (fact : Hidden → List ℕ → Type 0) (w : View E S) : Type 0 where
+    pub before : List E
+    pub seen : IsPrefix before w.seen
+    pub was : WasShown primitive w.opening fact before
+
+  -- the cell of the round was found Cancelled, by its word and in what the history showed
+  pub record IsOver (w : View E S) (r : Round) : Type 0 where
+    pub found : IsFoundIn state.Cancelled r
+    pub was : WasSo (HasCell (cell_in state.Cancelled r)) w
+
+  abbrev pub AreOver : View E S → List Round → Type 0
+  AreOver w [] = Unit {0}
+  AreOver w (r ∷ rs) = IsOver w r × AreOver w rs
+
+module _ {C E S : Type 0} (object : Object E) (primitive : C → Primitive E S) where
+  -- The resume ended at the number k, by this step on its cell, which it found in this state. It passed over the numbers before,
+  -- fewer than `most` of which it drew. The pass is idle, and holds and waits for what it did before.
+  pub record Ended (s : QueueStep) (state : CoreState) (most : ℕ) (ticket : Option ℕ) (payload k : ℕ)
+      (v w : View E S) : Type 0 where
+    pub over : List Round
+    pub last : Round
+    pub number : last.number ≡ k
+    pub opens : IsOpenedWith ticket (over ++ last ∷ [])
+    pub few : drawn_in over < most
+    pub are_over : AreOver primitive w over
+    pub found : IsFoundIn state last
+    pub was : WasFound primitive (HasCell (cell_in state last)) (object.entries s v.number k payload) w
+    pub called : Called object v (over_entries object v.number payload over ++ round_entries object v.number payload s
+        last)
+        (object.entries s v.number k payload) w
+    pub facts_are : w.facts ≡ facts_after_rounds doing.Idle (numbers over) (over ++ last ∷ []) v.facts
+
+  -- It drew `most` numbers and passed over each of them. The pass still owes the resumption, and the last of the numbers comes after
+  -- those that it drew before.
+  pub record Stopped (most : ℕ) (ticket : Option ℕ) (payload : ℕ) (under : token.Under) (v w : View E S) : Type 0 where
+    pub over : List Round
+    pub opens : IsOpenedWith ticket over
+    pub all : drawn_in over ≡ most
+    pub are_over : AreOver primitive w over
+    pub called : Called object v (over_entries object v.number payload over)
+        (object.entries passes_over v.number (under_reached under) payload) w
+    pub facts_are : w.facts ≡ facts_after_rounds doing.Owes (numbers over) over v.facts
+    pub payload_is : under_payload under ≡ payload
+    pub ticket_is : under_ticket under ≡ None
+    pub has : HasUnder w.facts under
+    pub behind : IsBehind (under_reached under) v.facts
+    pub further : 1 < most → v.facts.reached < under_reached under
+
+  abbrev pub Resumes : ℕ → Option ℕ → ℕ → View E S → Resumed → View E S → Type 0
+  Resumes most ticket payload v (Served k) w = Ended serves state.Waiter most ticket payload k v w
+  Resumes most ticket payload v (Left k) w =
+      Ended leaves state.Empty most ticket payload k v w ⊎ Ended delegates state.Cancelling most ticket payload k v w
+  Resumes most ticket payload v (Refused k) w = Ended ends_refused state.Refused most ticket payload k v w
+  Resumes most ticket payload v (Under under) w = Stopped most ticket payload under v w
+
+module _ {C S E : Type 0} {g : Ghosts C S E} where
+  -- a resumption of this payload went on, by at most so many numbers that it passed over, from an open ticket or none
+  abbrev pub HasResumed : ℕ → Option ℕ → ℕ → Pass C S E g → Resumed → Pass C S E g → Type 0
+  HasResumed most ticket payload p result p' =
+      Resumes g.object g.primitive most ticket payload (pass_view p) result (pass_view p')
+
+-- where the resumption was handed back, the last number that was drawn for it is greater than this
+abbrev pub IsFurther : ℕ → Resumed → Type 0
+IsFurther reached (Served k) = Unit {0}
+IsFurther reached (Left k) = Unit {0}
+IsFurther reached (Refused k) = Unit {0}
+IsFurther reached (Under under) = reached < under_reached under

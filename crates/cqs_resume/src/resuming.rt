@@ -1,43 +1,78 @@
-//! The resume.
+//! The resume, and the end of one that was handed back.
 
-ghost use Rattle.std.specs.Prelude.{◌≡◌, ◌<◌, ◌^◌};
+ghost use Rattle.std.specs.Prelude.{◌≡◌, ◌<◌, None};
 ghost use Rattle.cqs_core.specs.declared.doings.Doing.TheVariants as doing;
-ghost use Rattle.cqs_rule.specs.Passes.{pass_view, IsOf};
-ghost use Rattle.cqs_resume.specs.Resumes.{Resumes};
+ghost use Rattle.cqs_rule.specs.Manner.{IsSmart};
+ghost use Rattle.cqs_rule.specs.Owed.{HasUnder, under_payload, under_ticket, under_reached};
+ghost use Rattle.cqs_rule.specs.Passes.{pass_view, client_of, IsOf};
+ghost use Rattle.cqs_resume.specs.Resumes.{HasResumed, IsFurther, most_passed_over};
 
-use cqs_cell::{leave_value, serve};
-use cqs_find::{Found, find};
-use cqs_rule::{ClientWords, Pass, Queue, RESUMES_WORD, Reaches};
+use crate::meeting::meet;
+use crate::resumed::Resumed;
+use cqs_rule::{ClientWords, Pass, Queue, RESUMES_WORD, Reaches, Under};
 
-/// What became of a resume.
-#[derive(Clone, Copy, Debug, PartialEq, Eq)]
-pub enum Resumed {
-    /// The waiter of this number was served.
-    Served(u64),
-    /// The cell of this number was empty, and the value was left for its suspend.
-    Left(u64),
-}
+// How many numbers one call passes over.
+const MOST_PASSED_OVER: u32 = 64;
 
-/// Draws a number for a pass that owes a resumption, and serves the waiter there, or leaves the payload for the suspend to come.
+/// Draws a number for a pass that owes a resumption, and serves the waiter there, or leaves the payload for the suspend to come or
+/// for the canceller. Cells whose waiters have left are passed over.
 pub fn resume<C: ClientWords>(queue: &Queue<C>, pass: &mut Pass<C>, payload: u32) -> Resumed
     requires belongs { IsOf queue.now pass.old }
+    requires smart { IsSmart (C.primitive (client_of queue.now)).manner.leaving }
     requires owes { (pass_view pass.old).facts.doing ≡ doing.Owes }
-    requires payload { (pass_view pass.old).facts.payload ≡ payload }
+    requires payload { (pass_view pass.old).facts.has.payload ≡ payload }
     ensures belongs { IsOf queue.now pass.new }
-    ensures resumes { Resumes C.names C.legal C.entries payload (pass_view pass.old) result (pass_view pass.new) }
+    ensures resumed { HasResumed most_passed_over None payload pass.old result pass.new }
 {
     let number = queue.add_table::<Reaches>(pass, RESUMES_WORD, 1);
-    let Found::At(at) = find(queue, pass, number) else {
-        unreachable!()
+    match meet(queue, pass, number, payload) {
+        Some(resumed) => resumed,
+        None => go_on(queue, pass, payload, MOST_PASSED_OVER - 1),
+    }
+}
+
+/// Goes on with a resumption that was handed back, by a count of its own.
+pub fn finish<C: ClientWords>(queue: &Queue<C>, pass: &mut Pass<C>, under: Under) -> Resumed
+    requires belongs { IsOf queue.now pass.old }
+    requires smart { IsSmart (C.primitive (client_of queue.now)).manner.leaving }
+    requires owes { HasUnder (pass_view pass.old).facts under }
+    ensures belongs { IsOf queue.now pass.new }
+    ensures resumed { HasResumed most_passed_over (under_ticket under)
+        (under_payload under) pass.old result pass.new }
+    ensures further { IsFurther (under_reached under) result }
+{
+    let (payload, ticket) = queue.spend_under(pass, under);
+    let Some(number) = ticket else {
+        return go_on(queue, pass, payload, MOST_PASSED_OVER);
     };
-    if let Ok(()) = serve(queue, pass, at, payload) {
-        return Resumed::Served(number);
+    match meet(queue, pass, number, payload) {
+        Some(resumed) => resumed,
+        None => go_on(queue, pass, payload, MOST_PASSED_OVER),
     }
-    if let Ok(()) = leave_value(queue, pass, at, payload) {
-        return Resumed::Left(number);
-    }
-    match serve(queue, pass, at, payload) {
-        Ok(()) => Resumed::Served(number),
-        Err(_) => unreachable!(),
+}
+
+// Passes over numbers until the resumption ends, or until it has passed over this many. It stands apart, so that a resume that ends
+// at its first number stays short.
+#[cold]
+#[inline(never)]
+fn go_on<C: ClientWords>(queue: &Queue<C>, pass: &mut Pass<C>, payload: u32, most: u32) -> Resumed
+    requires belongs { IsOf queue.now pass.old }
+    requires smart { IsSmart (C.primitive (client_of queue.now)).manner.leaving }
+    requires owes { (pass_view pass.old).facts.doing ≡ doing.Owes }
+    requires payload { (pass_view pass.old).facts.has.payload ≡ payload }
+    requires some { 0 < most }
+    ensures belongs { IsOf queue.now pass.new }
+    ensures resumed { HasResumed most None payload pass.old result pass.new }
+{
+    let mut left = most;
+    loop {
+        let number = queue.add_table::<Reaches>(pass, RESUMES_WORD, 1);
+        if let Some(resumed) = meet(queue, pass, number, payload) {
+            return resumed;
+        }
+        left -= 1;
+        if left == 0 {
+            return Resumed::Under(queue.under_of(pass, payload, None, number));
+        }
     }
 }

@@ -1,35 +1,33 @@
-use Rattle.std.proofs.Common.{ap}
-use Rattle.cqs_rule.specs.Hidden.{leaves, serves}
+use Rattle.std.proofs.Common.{◌∷◌, [], true, arith}
+use Rattle.cqs_core.specs.declared.cells.CoreState.TheVariants as state
+use Rattle.cqs_core.specs.declared.doings.Doing.TheVariants as doing
+use Rattle.cqs_core.specs.QueueSteps.{passes_over}
 use Rattle.cqs_rule.specs.Passes.{pass_view}
-use Rattle.cqs_resume.proofs.Steps.{ended, ends-leaves, ends-serves, tried-none, tried-miss}
+use Rattle.cqs_resume.proofs.Runs.{went-drawn, resumes-now, resumes-then}
 use Rattle.cqs_resume.proofs.resuming.resume.Goals as goal
 
-pub returns-in-Ok-clause-resumes : goal.returns-in-Ok-clause-resumes
-returns-in-Ok-clause-resumes g c =
-    let G = g.C.ClientWords in
-    let u = pass_view c.add_table-number.new.pass in
-    let found = tried-none G.names G.legal G.gains G.entries u (pass_view c.find.new.pass) (ap pass_view c.find.ensures.same) in
-    ended G.names G.legal G.gains G.entries serves c.args.payload c.add_table-number.result _ _ u _ _
-    (ends-serves G.gains) c.requires.payload c.add_table-number.ensures.saw found c.in-Ok.ensures.made
+pub returns-in-Some-clause-resumed : goal.returns-in-Some-clause-resumed
+returns-in-Some-clause-resumed g c =
+    let C = g.C.ClientWords in
+    let k = c.add_table-number.result in
+    let v = pass_view c.args.pass.now in
+    let x = pass_view c.add_table-number.new.pass in
+    let w = pass_view c.meet.new.pass in
+    resumes-now C.object C.primitive true 64 c.args.payload k c.in-Some.resumed v x w (omega arith)
+    (λ s found m. went-drawn C.object C.primitive s found doing.Idle [] c.args.payload k v x w c.requires.payload
+    c.add_table-number.ensures.saw m)
+    c.in-Some.ensures.met
 
-pub returns-in-Ok-leave_value-clause-resumes : goal.returns-in-Ok-leave_value-clause-resumes
-returns-in-Ok-leave_value-clause-resumes g c =
-    let G = g.C.ClientWords in
-    let u = pass_view c.add_table-number.new.pass in
-    let found = tried-none G.names G.legal G.gains G.entries u (pass_view c.find.new.pass) (ap pass_view c.find.ensures.same) in
-    let first = tried-miss G.names G.legal G.gains G.entries u _ (pass_view c.serve.new.pass) serves _
-    found c.in_default-serve.ensures.missed in
-    ended G.names G.legal G.gains G.entries leaves c.args.payload c.add_table-number.result _ _ u _ _
-    (ends-leaves G.gains) c.requires.payload c.add_table-number.ensures.saw first c.in-Ok-leave_value.ensures.made
-
-pub returns-clause-resumes : goal.returns-clause-resumes
-returns-clause-resumes g c =
-    let G = g.C.ClientWords in
-    let u = pass_view c.add_table-number.new.pass in
-    let found = tried-none G.names G.legal G.gains G.entries u (pass_view c.find.new.pass) (ap pass_view c.find.ensures.same) in
-    let first = tried-miss G.names G.legal G.gains G.entries u _ (pass_view c.serve.new.pass) serves _
-    found c.in_default-serve.ensures.missed in
-    let second = tried-miss G.names G.legal G.gains G.entries u _ (pass_view c.leave_value.new.pass) leaves _
-    first c.in_default-leave_value.ensures.missed in
-    ended G.names G.legal G.gains G.entries serves c.args.payload c.add_table-number.result _ _ u _ _
-    (ends-serves G.gains) c.requires.payload c.add_table-number.ensures.saw second c.in-Ok-serve.ensures.made
+pub returns-in-None-clause-resumed : goal.returns-in-None-clause-resumed
+returns-in-None-clause-resumed g c =
+    let C = g.C.ClientWords in
+    let k = c.add_table-number.result in
+    let v = pass_view c.args.pass.now in
+    let x = pass_view c.add_table-number.new.pass in
+    let u = pass_view c.meet.new.pass in
+    let w = pass_view c.go_on.new.pass in
+    let t = went-drawn C.object C.primitive passes_over state.Cancelled doing.Owes
+    (k ∷ []) c.args.payload k v x u c.requires.payload
+    c.add_table-number.ensures.saw c.in-None.ensures.met in
+    resumes-then C.object C.primitive true 63 c.args.payload k c.go_on.result v u w t c.add_table-number.ensures.after
+    c.go_on.ensures.resumed

@@ -1,0 +1,372 @@
+-- A resume is its rounds, one number after the other.
+use Rattle.std.proofs.Common.{◌≡◌, ℕ, ◌+◌, ◌<◌, ◌≤◌, Bool, true, false, List, [], ◌∷◌, ◌++◌, Option, Some, None, sym, refl, ap, ◌∙◌, subst, inl, inr, ⊎_elim, append_assoc, if◌then◌else◌, arith}
+use Rattle.std.proofs.lemmas.List.{append-nil}
+use Rattle.cqs_core.specs.declared.cells.CoreState.{CoreState}
+use Rattle.cqs_core.specs.declared.cells.CoreState.TheVariants as state
+use Rattle.cqs_core.specs.declared.doings.Doing.{Doing}
+use Rattle.cqs_core.specs.declared.doings.Doing.TheVariants as doing
+use Rattle.cqs_core.specs.QueueSteps.{QueueStep, reaches, serves, leaves, delegates, passes_over, ends_refused}
+use Rattle.cqs_rule.specs.declared.queue.tokens.Under as token
+use Rattle.cqs_rule.specs.declared.view.Facts.{Facts}
+use Rattle.cqs_rule.specs.declared.view.Sighting.{Sighting}
+use Rattle.cqs_rule.specs.declared.view.Sighting.TheVariants.{Cell, Word}
+use Rattle.cqs_rule.specs.declared.view.View.{View}
+use Rattle.cqs_rule.specs.Called.{Called}
+use Rattle.cqs_rule.specs.Counts.{Drew}
+use Rattle.cqs_rule.specs.Exchanges.{HasCell}
+use Rattle.cqs_rule.specs.Facts.{IsBehind}
+use Rattle.cqs_rule.specs.Hidden.{Hidden}
+use Rattle.cqs_rule.specs.Layout.{resumes_place}
+use Rattle.cqs_rule.specs.Lists as lists
+use Rattle.cqs_rule.specs.Lists.{IsPrefix}
+use Rattle.cqs_rule.specs.Object.{Object, Primitive}
+use Rattle.cqs_rule.specs.Owed.{HasUnder, under_payload, under_ticket, under_reached}
+use Rattle.cqs_rule.specs.Saw.{WasShown, WasFound}
+use Rattle.cqs_rule.proofs.Calls.{called-by, called-then, called-and}
+use Rattle.cqs_rule.proofs.Lists.{has_left, has_right}
+use Rattle.cqs_resume.specs.declared.resumed.Resumed.{Resumed}
+use Rattle.cqs_resume.specs.declared.resumed.Resumed.TheVariants.{Served, Left, Refused, Under}
+use Rattle.cqs_resume.specs.Rounds.{Round, cell_in, IsFoundIn, IsOpenedWith, AreDrawn, numbers, one_if, round_seen, all_seen, all_heads, facts_after_rounds, round_entries, over_entries}
+use Rattle.cqs_resume.specs.Meets.{facts_met, cell_of, Met, Meets}
+use Rattle.cqs_resume.specs.Resumes.{WasSo, IsOver, Ended, Stopped, Resumes, IsFurther}
+
+-- how a call opens with this number: it drew it, or it went on from its open ticket
+abbrev pub opened_by : Bool → ℕ → Option ℕ
+opened_by true k = None
+opened_by false k = Some k
+
+-- a pass at these facts after one round that left it so
+abbrev pub facts_round : Doing → List ℕ → Round → Facts → Facts
+facts_round at over r f = record f {
+  doing = at;
+  last = None;
+  reached = if r.drawn then r.number else f.reached;
+  passed = f.passed ++ over;
+  heads = f.heads ++ r.heads;
+  found = f.found ++ round_seen r;
+}
+
+-- the facts after one round, and after one round and then others
+facts-one : (at : Doing) (over : List ℕ) (r : Round) (f : Facts)
+    → facts_round at over r f ≡ facts_after_rounds at over (r ∷ []) f
+facts-one at over r f = λ i. record (facts_round at over r f) {
+  heads = f.heads ++ sym (append-nil r.heads) i;
+  found = f.found ++ sym (append-nil (round_seen r)) i;
+}
+
+facts-then : (at : Doing) (ns : List ℕ) (rest : List Round) (r : Round) (j : ℕ) (f : Facts) → r.number ≡ j
+    → facts_after_rounds at ns rest (facts_round doing.Owes (j ∷ []) r f)
+    ≡ facts_after_rounds at (r.number ∷ ns) (r ∷ rest) f
+facts-then at ns rest r j f is = λ i. record (facts_after_rounds at ns rest (facts_round doing.Owes (j ∷ []) r f)) {
+  passed = (append_assoc f.passed (j ∷ []) ns ∙ ap (λ z. f.passed ++ (z ∷ ns)) (sym is)) i;
+  heads = append_assoc f.heads r.heads (all_heads rest) i;
+  found = append_assoc f.found (round_seen r) (all_seen rest) i;
+}
+
+-- a number that was drawn comes after those that the pass drew before
+abbrev pub IsNext : Bool → ℕ → Facts → Type 0
+IsNext true k f = IsBehind k f
+IsNext false k f = Unit {0}
+
+module _ {C E S : Type 0} (object : Object E) (primitive : C → Primitive E S) where
+  -- one round of a call
+  pub record Went (drawn : Bool) (s : QueueStep) (state : CoreState) (at : Doing) (over : List ℕ) (payload k : ℕ)
+      (v w : View E S) : Type 0 where
+    pub round : Round
+    pub number : round.number ≡ k
+    pub is_drawn : round.drawn ≡ drawn
+    pub found : IsFoundIn state round
+    pub was : WasFound primitive (HasCell (cell_in state round)) (object.entries s v.number k payload) w
+    pub called : Called object v (round_entries object v.number payload s round) (object.entries s v.number k payload) w
+    pub facts_are : w.facts ≡ facts_round at over round v.facts
+
+  -- the number was drawn, and then met
+  pub went-drawn : (s : QueueStep) (state : CoreState) (at : Doing) (over : List ℕ) (payload k : ℕ) (v x w : View E S)
+      → v.facts.has.payload ≡ payload → Drew object reaches v k x → Met object primitive s state at over payload k x w
+      → Went true s state at over payload k v w
+  went-drawn s state at over payload k v x w owed d m =
+      let f : Facts = v.facts in
+      let drawn : Facts = record f {
+        doing = doing.Ticket k;
+        last = None;
+        reached = k;
+        found = f.found ++ Word resumes_place k ∷ [];
+      } in
+      let x_is : x.facts ≡ drawn = d.facts_are in
+      let seen : List Sighting = m.tried ++ Cell k m.word ∷ [] in
+      let last : object.entries s x.number k payload ≡ object.entries s v.number k payload =
+      ap (λ z. object.entries s z k payload) d.same.number in
+      let first : List E = object.entries reaches v.number k f.has.payload in
+      let called : Called object v (first ++ object.entries s x.number k payload)
+      (object.entries s x.number k payload) w =
+      called-then object v x w _ first first _ (called-by object v x _ first d) m.saw in
+      record {
+        round = record {
+          number = k;
+          drawn = true;
+          tried = m.tried;
+          heads = m.heads;
+          word = m.word;
+          payload = m.left;
+        };
+        number = refl;
+        is_drawn = refl;
+        found = record { cell = m.cell; few = m.few };
+        was = subst (λ (z : List E). WasFound primitive (HasCell (cell_of k state m.left)) z w) last m.was;
+        called = subst (λ (z : ℕ × List E). Called object v (object.entries reaches v.number k z.0 ++ z.1) z.1 w)
+            (λ i. (owed i, last i)) called;
+        facts_are = m.saw.facts_are ∙ ((λ i. facts_met at over seen m.heads (x_is i))
+            ∙ (λ i. record (facts_met at over seen m.heads drawn) {
+              found =
+                  append_assoc f.found (Word resumes_place k ∷ []) seen i;
+            }));
+      }
+
+  -- the number's ticket was open, and it was met
+  pub went-open : (s : QueueStep) (state : CoreState) (at : Doing) (over : List ℕ) (payload k : ℕ) (v w : View E S)
+      → Met object primitive s state at over payload k v w → Went false s state at over payload k v w
+  went-open s state at over payload k v w m = record {
+    round = record {
+      number = k;
+      drawn = false;
+      tried = m.tried;
+      heads = m.heads;
+      word = m.word;
+      payload = m.left;
+    };
+    number = refl;
+    is_drawn = refl;
+    found = record { cell = m.cell; few = m.few };
+    was = m.was;
+    called = called-by object v w _ _ m.saw;
+    facts_are = m.saw.facts_are;
+  }
+
+  -- a round that ended the resumption, as the first of its call
+  pub ended-now : (drawn : Bool) (s : QueueStep) (state : CoreState) (most payload k : ℕ) (v w : View E S) → 0 < most
+      → Went drawn s state doing.Idle [] payload k v w
+      → Ended object primitive s state most (opened_by drawn k) payload k v w
+  ended-now drawn s state most payload k v w some t = record {
+    over = [];
+    last = t.round;
+    number = t.number;
+    opens = opens drawn t.is_drawn;
+    few = some;
+    are_over = tt;
+    found = t.found;
+    was = t.was;
+    called = t.called;
+    facts_are = t.facts_are ∙ facts-one doing.Idle [] t.round v.facts;
+  }
+    where
+      opens : (b : Bool) → t.round.drawn ≡ b → IsOpenedWith (opened_by b k) (t.round ∷ [])
+      opens true is = (is, tt)
+      opens false is = (t.number, is, tt)
+
+  -- what held at a step holds for what the pass has seen later
+  was-so : (fact : Hidden → List ℕ → Type 0) (es more : List E) (u w : View E S) → WasFound primitive fact es u
+      → w.seen ≡ u.seen ++ more → w.opening ≡ u.opening → WasSo primitive fact w
+  was-so fact es more u w f seen opening = record {
+    before = f.before;
+    seen = (es ++ more, seen ∙ (ap (λ l. l ++ more) f.seen ∙ append_assoc f.before es more));
+    was = subst (λ z. WasShown primitive z fact f.before) (sym opening) f.was;
+  }
+
+  over-so : (drawn : Bool) (at : Doing) (over : List ℕ) (payload k : ℕ) (more : List E) (v u w : View E S)
+      → (t : Went drawn passes_over state.Cancelled at over payload k v u) → w.seen ≡ u.seen ++ more
+      → w.opening ≡ u.opening
+      → IsOver primitive w t.round
+  over-so drawn at over payload k more v u w t seen opening =
+      record { found = t.found; was = was-so (HasCell (cell_in state.Cancelled t.round)) _ more u w t.was seen opening }
+
+  opens-with : (drawn : Bool) (r : Round) (rest : List Round) (k : ℕ) → r.number ≡ k → r.drawn ≡ drawn → AreDrawn rest
+      → IsOpenedWith (opened_by drawn k) (r ∷ rest)
+  opens-with true r rest k number is all = (is, all)
+  opens-with false r rest k number is all = (number, is, all)
+
+  -- a number was passed over, and the resumption went on from there
+  then-ended : (drawn : Bool) (s : QueueStep) (stood : CoreState) (most payload j k : ℕ) (v u w : View E S)
+      → Went drawn passes_over state.Cancelled doing.Owes (j ∷ []) payload j v u
+      → Ended object primitive s stood most None payload k u w
+      → Ended object primitive s stood (one_if drawn + most) (opened_by drawn j) payload k v w
+  then-ended drawn s stood most payload j k v u w t e =
+      let number : u.number ≡ v.number = t.called.same.number in
+      let first : List E = round_entries object v.number payload passes_over t.round in
+      let rest : List Round = e.over ++ e.last ∷ [] in
+      let own : ℕ → List E = λ z. over_entries object z payload e.over in
+      let end : ℕ → List E = λ z. round_entries object z payload s e.last in
+      let one : one_if t.round.drawn ≡ one_if drawn = ap one_if t.is_drawn in
+      let few = e.few in
+      record {
+        over = t.round ∷ e.over;
+        last = e.last;
+        number = e.number;
+        opens = opens-with drawn t.round rest j t.number t.is_drawn e.opens;
+        few = omega (arith, one, few);
+        are_over = (
+          over-so drawn doing.Owes (j ∷ []) payload j e.called.more v u w t e.called.seen
+              e.called.same.opening,
+          e.are_over,
+        );
+        found = e.found;
+        was = subst (λ z. WasFound primitive (HasCell (cell_in stood e.last)) (object.entries s z k payload) w) number
+            e.was;
+        called = subst (λ (z : List E × ℕ). Called object v z.0 (object.entries s z.1 k payload) w)
+            (λ i. (
+              ((λ h. first ++ (own (number h) ++ end (number h)))
+                  ∙ sym (append_assoc first (own v.number) (end v.number))) i,
+              number i,
+            ))
+            (called-and object v u w first _ (own u.number ++ end u.number) _ t.called e.called);
+        facts_are = e.facts_are ∙ (ap (facts_after_rounds doing.Idle (numbers e.over) rest) t.facts_are
+            ∙ facts-then doing.Idle (numbers e.over) rest t.round j v.facts t.number);
+      }
+
+  -- the number that was passed over comes before the last of those that follow
+  passed-next : (drawn : Bool) (payload j : ℕ) (v u : View E S)
+      → Went drawn passes_over state.Cancelled doing.Owes (j ∷ []) payload j v u → lists.Has j u.facts.passed
+  passed-next drawn payload j v u t =
+      subst (lists.Has j) (sym (ap (λ (f : Facts). f.passed) t.facts_are))
+      (has_right j v.facts.passed (j ∷ []) (inl refl))
+
+  passed-still : (drawn : Bool) (payload j k : ℕ) (v u : View E S)
+      → Went drawn passes_over state.Cancelled doing.Owes (j ∷ []) payload j v u → lists.Has k v.facts.passed
+      → lists.Has k u.facts.passed
+  passed-still drawn payload j k v u t h =
+      subst (lists.Has k) (sym (ap (λ (f : Facts). f.passed) t.facts_are)) (has_left k v.facts.passed (j ∷ []) h)
+
+  reached-then : (payload j : ℕ) (v u : View E S)
+      → Went false passes_over state.Cancelled doing.Owes (j ∷ []) payload j v u → u.facts.reached ≡ v.facts.reached
+  reached-then payload j v u t =
+      ap (λ (f : Facts). f.reached) t.facts_are ∙ ap (λ b. if b then t.round.number else v.facts.reached) t.is_drawn
+
+  behind-then : (drawn : Bool) (payload j top : ℕ) (v u : View E S)
+      → Went drawn passes_over state.Cancelled doing.Owes (j ∷ []) payload j v u → IsNext drawn j v.facts
+      → IsBehind top u.facts → IsBehind top v.facts
+  behind-then true payload j top v u t next b =
+      let low : v.facts.reached ≤ j = next.reached in
+      let high : j < top = b.passed j (passed-next true payload j v u t) in
+      record { reached = omega arith; passed = λ k h. b.passed k (passed-still true payload j k v u t h) }
+  behind-then false payload j top v u t next b =
+      let low : u.facts.reached ≤ top = b.reached in
+      let is = reached-then payload j v u t in
+      record { reached = omega arith; passed = λ k h. b.passed k (passed-still false payload j k v u t h) }
+
+  further-then : (drawn : Bool) (most payload j top : ℕ) (v u : View E S)
+      → Went drawn passes_over state.Cancelled doing.Owes (j ∷ []) payload j v u → IsNext drawn j v.facts
+      → IsBehind top u.facts → (1 < most → u.facts.reached < top) → 1 < one_if drawn + most → v.facts.reached < top
+  further-then true most payload j top v u t next b further more =
+      let low : v.facts.reached ≤ j = next.reached in
+      let high : j < top = b.passed j (passed-next true payload j v u t) in omega arith
+  further-then false most payload j top v u t next b further more =
+      let is = reached-then payload j v u t in
+      let high : u.facts.reached < top = further (omega arith) in omega arith
+
+  then-stopped : (drawn : Bool) (most payload j : ℕ) (under : token.Under) (v u w : View E S)
+      → Went drawn passes_over state.Cancelled doing.Owes (j ∷ []) payload j v u → IsNext drawn j v.facts
+      → Stopped object primitive most None payload under u w
+      → Stopped object primitive (one_if drawn + most) (opened_by drawn j) payload under v w
+  then-stopped drawn most payload j under v u w t next e =
+      let number : u.number ≡ v.number = t.called.same.number in
+      let first : List E = round_entries object v.number payload passes_over t.round in
+      let own : ℕ → List E = λ z. over_entries object z payload e.over in
+      let one : one_if t.round.drawn ≡ one_if drawn = ap one_if t.is_drawn in
+      let all = e.all in
+      record {
+        over = t.round ∷ e.over;
+        opens = opens-with drawn t.round e.over j t.number t.is_drawn e.opens;
+        all = omega (arith, one, all);
+        are_over = (
+          over-so drawn doing.Owes (j ∷ []) payload j e.called.more v u w t e.called.seen
+              e.called.same.opening,
+          e.are_over,
+        );
+        called = subst (λ z. Called object v (first ++ own z)
+            (object.entries passes_over z (under_reached under) payload) w) number
+            (called-and object v u w first _ (own u.number) _ t.called e.called);
+        facts_are = e.facts_are ∙ (ap (facts_after_rounds doing.Owes (numbers e.over) e.over) t.facts_are
+            ∙ facts-then doing.Owes (numbers e.over) e.over t.round j v.facts t.number);
+        payload_is = e.payload_is;
+        ticket_is = e.ticket_is;
+        has = e.has;
+        behind = behind-then drawn payload j (under_reached under) v u t next e.behind;
+        further = λ more. further-then drawn most payload j (under_reached under) v u t next e.behind e.further more;
+      }
+
+  -- the last number that may be passed over was
+  pub stopped-now : (payload j : ℕ) (under : token.Under) (v u w : View E S)
+      → Went true passes_over state.Cancelled doing.Owes (j ∷ []) payload j v u → IsBehind j v.facts → w ≡ u
+      → under_payload under ≡ payload → under_ticket under ≡ None → under_reached under ≡ j → HasUnder w.facts under
+      → Stopped object primitive 1 None payload under v w
+  stopped-now payload j under v u w t next same owed ticket reached has =
+      let first : List E = round_entries object v.number payload passes_over t.round in
+      let one : one_if t.round.drawn ≡ 1 = ap one_if t.is_drawn in
+      let seen : w.seen ≡ u.seen ++ [] = ap (λ (z : View E S). z.seen) same ∙ sym (append-nil u.seen) in
+      record {
+        over = t.round ∷ [];
+        opens = (t.is_drawn, tt);
+        all = omega (arith, one);
+        are_over = (
+          over-so true doing.Owes (j ∷ []) payload j [] v u w t seen
+              (ap (λ (z : View E S). z.opening) same),
+          tt,
+        );
+        called = subst (λ (z : List E × ℕ × View E S). Called object v z.0
+            (object.entries passes_over v.number z.1 payload) z.2)
+            (λ i. (sym (append-nil first) i, sym reached i, sym same i)) t.called;
+        facts_are = ap (λ (z : View E S). z.facts) same ∙ (t.facts_are ∙ (facts-one doing.Owes (j ∷ []) t.round v.facts
+            ∙ ap (λ z. facts_after_rounds doing.Owes (z ∷ []) (t.round ∷ []) v.facts) (sym t.number)));
+        payload_is = owed;
+        ticket_is = ticket;
+        has = has;
+        behind = subst (λ z. IsBehind z v.facts) (sym reached) next;
+        further = λ more. absurd (omega arith);
+      }
+
+  -- a resume that ended at its first number
+  pub resumes-now : (drawn : Bool) (most payload k : ℕ) (result : Resumed) (v x w : View E S) → 0 < most
+      → ((s : QueueStep) (state : CoreState) → Met object primitive s state doing.Idle [] payload k x w
+      → Went drawn s state doing.Idle [] payload k v w)
+      → Meets object primitive payload k x (Some result) w
+      → Resumes object primitive most (opened_by drawn k) payload v result w
+  resumes-now drawn most payload k (Served n) v x w some went m =
+      subst (λ z. Ended object primitive serves state.Waiter most (opened_by drawn k) payload z v w) (sym m.0)
+      (ended-now drawn serves state.Waiter most payload k v w some (went serves state.Waiter m.1))
+  resumes-now drawn most payload k (Left n) v x w some went m = ⊎_elim
+      (λ (left : Met object primitive leaves state.Empty doing.Idle [] payload k x w). inl
+      (subst (λ z. Ended object primitive leaves state.Empty most (opened_by drawn k) payload z v w) (sym m.0)
+      (ended-now drawn leaves state.Empty most payload k v w some (went leaves state.Empty left))))
+      (λ (given : Met object primitive delegates state.Cancelling doing.Idle [] payload k x w). inr
+      (subst (λ z. Ended object primitive delegates state.Cancelling most (opened_by drawn k) payload z v w) (sym m.0)
+      (ended-now drawn delegates state.Cancelling most payload k v w some (went delegates state.Cancelling given))))
+      m.1
+  resumes-now drawn most payload k (Refused n) v x w some went m =
+      subst (λ z. Ended object primitive ends_refused state.Refused most (opened_by drawn k) payload z v w) (sym m.0)
+      (ended-now drawn ends_refused state.Refused most payload k v w some (went ends_refused state.Refused m.1))
+  resumes-now drawn most payload k (Under under) v x w some went m = absurd m
+
+  -- and one that passed over its first number
+  pub resumes-then : (drawn : Bool) (most payload j : ℕ) (result : Resumed) (v u w : View E S)
+      → Went drawn passes_over state.Cancelled doing.Owes (j ∷ []) payload j v u → IsNext drawn j v.facts
+      → Resumes object primitive most None payload u result w
+      → Resumes object primitive (one_if drawn + most) (opened_by drawn j) payload v result w
+  resumes-then drawn most payload j (Served k) v u w t next e =
+      then-ended drawn serves state.Waiter most payload j k v u w t e
+  resumes-then drawn most payload j (Left k) v u w t next e = ⊎_elim
+      (λ (left : Ended object primitive leaves state.Empty most None payload k u w). inl
+      (then-ended drawn leaves state.Empty most payload j k v u w t left))
+      (λ (given : Ended object primitive delegates state.Cancelling most None payload k u w). inr
+      (then-ended drawn delegates state.Cancelling most payload j k v u w t given))
+      e
+  resumes-then drawn most payload j (Refused k) v u w t next e =
+      then-ended drawn ends_refused state.Refused most payload j k v u w t e
+  resumes-then drawn most payload j (Under under) v u w t next e =
+      then-stopped drawn most payload j under v u w t next e
+
+  -- a resumption that was handed back again has come further
+  pub further-of : (most payload reached : ℕ) (ticket : Option ℕ) (result : Resumed) (v w : View E S) → 1 < most
+      → reached ≡ v.facts.reached → Resumes object primitive most ticket payload v result w → IsFurther reached result
+  further-of most payload reached ticket (Served k) v w more is e = tt
+  further-of most payload reached ticket (Left k) v w more is e = tt
+  further-of most payload reached ticket (Refused k) v w more is e = tt
+  further-of most payload reached ticket (Under under) v w more is e = let high = e.further more in omega arith

@@ -1,0 +1,44 @@
+use Rattle.std.proofs.Common.{◌≡◌, ℕ, ◌∷◌, [], false, Option, Some, sym, ◌∙◌, subst, arith}
+use Rattle.cqs_core.specs.declared.cells.CoreState.TheVariants as state
+use Rattle.cqs_core.specs.declared.doings.Doing.TheVariants as doing
+use Rattle.cqs_core.specs.QueueSteps.{passes_over}
+use Rattle.cqs_rule.specs.declared.view.View.{View}
+use Rattle.cqs_rule.specs.Owed.{under_ticket}
+use Rattle.cqs_rule.specs.Passes.{pass_view}
+use Rattle.cqs_resume.specs.Resumes.{Resumes}
+use Rattle.cqs_resume.proofs.Runs.{went-open, resumes-now, resumes-then}
+use Rattle.cqs_resume.proofs.resuming.finish.Goals as goal
+
+pub returns-in-Some-meet-clause-resumed : goal.returns-in-Some-meet-clause-resumed
+returns-in-Some-meet-clause-resumed g c =
+    let C = g.C.ClientWords in
+    let spent = c.spend_under-payload in
+    let k = c.in-Some.number in
+    let v = pass_view spent.new.pass in
+    let w = pass_view c.meet.new.pass in
+    let ticket : Some k ≡ under_ticket c.args.under = sym c.in-Some.is ∙ spent.ensures.ticket in
+    let now : Resumes C.object C.primitive 64 (Some k) spent.result.0 v c.in-Some-meet.resumed w =
+    resumes-now C.object C.primitive false 64 spent.result.0 k c.in-Some-meet.resumed v v w (omega arith)
+    (λ s found m. went-open C.object C.primitive s found doing.Idle [] spent.result.0 k v w m)
+    c.in-Some-meet.ensures.met in
+    subst (λ (z : Option ℕ × ℕ × View g.row.C-Entry.Denot g.row.C-Slot.Denot).
+    Resumes C.object C.primitive 64 z.0 z.1 z.2 c.in-Some-meet.resumed w)
+    (λ i. (ticket i, spent.ensures.payload i, pass_view (spent.ensures.same i))) now
+
+pub returns-in-None-clause-resumed : goal.returns-in-None-clause-resumed
+returns-in-None-clause-resumed g c =
+    let C = g.C.ClientWords in
+    let spent = c.spend_under-payload in
+    let k = c.in-Some.number in
+    let v = pass_view spent.new.pass in
+    let u = pass_view c.meet.new.pass in
+    let w = pass_view c.go_on-in-None.new.pass in
+    let ticket : Some k ≡ under_ticket c.args.under = sym c.in-Some.is ∙ spent.ensures.ticket in
+    let t = went-open C.object C.primitive passes_over state.Cancelled doing.Owes
+    (k ∷ []) spent.result.0 k v u c.in-None.ensures.met in
+    let now : Resumes C.object C.primitive 64 (Some k) spent.result.0 v c.go_on-in-None.result w =
+    resumes-then C.object C.primitive false 64 spent.result.0 k c.go_on-in-None.result v u w t tt
+    c.go_on-in-None.ensures.resumed in
+    subst (λ (z : Option ℕ × ℕ × View g.row.C-Entry.Denot g.row.C-Slot.Denot).
+    Resumes C.object C.primitive 64 z.0 z.1 z.2 c.go_on-in-None.result w)
+    (λ i. (ticket i, spent.ensures.payload i, pass_view (spent.ensures.same i))) now

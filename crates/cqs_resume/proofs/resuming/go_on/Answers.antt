@@ -1,0 +1,72 @@
+use Rattle.std.proofs.Common.{◌≡◌, ◌+◌, ◌-◌, ◌∷◌, [], None, true, ap, ◌∙◌, subst, arith}
+use Rattle.cqs_core.specs.declared.cells.CoreState.TheVariants as state
+use Rattle.cqs_core.specs.declared.doings.Doing.TheVariants as doing
+use Rattle.cqs_core.specs.QueueSteps.{passes_over}
+use Rattle.cqs_rule.specs.declared.view.Facts.{Facts}
+use Rattle.cqs_rule.specs.Passes.{pass_view}
+use Rattle.cqs_resume.specs.declared.resumed.Resumed.TheVariants.{Under}
+use Rattle.cqs_resume.specs.Resumes.{Resumes}
+use Rattle.cqs_resume.proofs.Runs.{went-drawn, stopped-now, resumes-now, resumes-then}
+use Rattle.cqs_resume.proofs.resuming.go_on.Goals as goal
+
+pub returns-in-Some-clause-resumed : goal.returns-in-Some-clause-resumed
+returns-in-Some-clause-resumed g c =
+    let C = g.C.ClientWords in
+    let l = c.loop-resumed.invariant in
+    let k = c.add_table-number.result in
+    let v = pass_view c.loop-resumed.pass in
+    let x = pass_view c.add_table-number.new.pass in
+    let w = pass_view c.meet.new.pass in
+    l.rest c.in-Some.resumed w
+    (resumes-now C.object C.primitive true c.loop-resumed.left c.args.payload k c.in-Some.resumed v x w l.some
+    (λ s found m. went-drawn C.object C.primitive s found doing.Idle
+    [] c.args.payload k v x w l.payload c.add_table-number.ensures.saw m)
+    c.in-Some.ensures.met)
+
+pub returns-then-left-eq0-clause-resumed : goal.returns-then-left-eq0-clause-resumed
+returns-then-left-eq0-clause-resumed g c =
+    let C = g.C.ClientWords in
+    let l = c.loop-resumed.invariant in
+    let k = c.add_table-number.result in
+    let v = pass_view c.loop-resumed.pass in
+    let x = pass_view c.add_table-number.new.pass in
+    let u = pass_view c.meet.new.pass in
+    let w = pass_view c.under_of.new.pass in
+    let under = c.under_of.ensures in
+    let t = went-drawn C.object C.primitive passes_over state.Cancelled doing.Owes
+    (k ∷ []) c.args.payload k v x u l.payload
+    c.add_table-number.ensures.saw c.in_default.ensures.met in
+    let last : c.loop-resumed.left - 1 ≡ 0 = c.if-left-eq0.true in
+    let some = l.some in
+    let one : 1 ≡ c.loop-resumed.left = omega arith in
+    l.rest (Under c.under_of.result) w
+    (subst (λ z. Resumes C.object C.primitive z None c.args.payload v (Under c.under_of.result) w) one
+    (stopped-now C.object C.primitive c.args.payload k c.under_of.result v u w t c.add_table-number.ensures.after
+    (ap pass_view under.same) under.payload under.ticket under.reached under.owes))
+
+pub loop-resumed-preserved : goal.loop-resumed-preserved
+loop-resumed-preserved g c =
+    let C = g.C.ClientWords in
+    let l = c.loop-resumed.invariant in
+    let k = c.add_table-number.result in
+    let v = pass_view c.loop-resumed.pass in
+    let x = pass_view c.add_table-number.new.pass in
+    let u = pass_view c.meet.new.pass in
+    let left = c.loop-resumed.left in
+    let t = went-drawn C.object C.primitive passes_over state.Cancelled doing.Owes
+    (k ∷ []) c.args.payload k v x u l.payload
+    c.add_table-number.ensures.saw c.in_default.ensures.met in
+    let some = l.some in
+    let few = l.few in
+    let more = c.if-left-eq0.false in
+    let same : 1 + (left - 1) ≡ left = omega arith in record {
+      belongs = c.in_default.ensures.belongs;
+      owes = ap (λ (f : Facts). f.doing) t.facts_are;
+      payload = ap (λ (f : Facts). f.has.payload) t.facts_are ∙ l.payload;
+      some = omega arith;
+      few = omega arith;
+      rest = λ result w e. l.rest result w
+          (subst (λ z. Resumes C.object C.primitive z None c.args.payload v result w) same
+          (resumes-then C.object C.primitive true
+          (left - 1) c.args.payload k result v u w t c.add_table-number.ensures.after e));
+    }

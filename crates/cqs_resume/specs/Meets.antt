@@ -1,0 +1,64 @@
+-- What becomes of one number: the resume ends at its cell, or passes over it.
+use Rattle.std.specs.Prelude.{◌≡◌, ◌⊎◌, ℕ, ◌+◌, ◌≤◌, List, [], ◌∷◌, ◌++◌, length, Option, Some, None}
+use Rattle.cqs_core.specs.declared.cells.CoreState.{CoreState}
+use Rattle.cqs_core.specs.declared.cells.CoreState.TheVariants as state
+use Rattle.cqs_core.specs.declared.doings.Doing.{Doing}
+use Rattle.cqs_core.specs.declared.doings.Doing.TheVariants as doing
+use Rattle.cqs_core.specs.QueueSteps.{QueueStep, serves, leaves, delegates, passes_over, ends_refused}
+use Rattle.cqs_rule.specs.declared.client.ClientWords.{Ghosts}
+use Rattle.cqs_rule.specs.declared.queue.Pass.{Pass}
+use Rattle.cqs_rule.specs.declared.view.Facts.{Facts}
+use Rattle.cqs_rule.specs.declared.view.Glimpse.{Glimpse}
+use Rattle.cqs_rule.specs.declared.view.Sighting.{Sighting}
+use Rattle.cqs_rule.specs.declared.view.Sighting.TheVariants.{Cell}
+use Rattle.cqs_rule.specs.declared.view.View.{View}
+use Rattle.cqs_rule.specs.Exchanges.{FoundCell, HasCell}
+use Rattle.cqs_rule.specs.Object.{Object, Primitive}
+use Rattle.cqs_rule.specs.Passes.{pass_view}
+use Rattle.cqs_rule.specs.Saw.{Saw, WasFound}
+use Rattle.cqs_find.specs.Finds.{longest_search}
+use Rattle.cqs_resume.specs.declared.resumed.Resumed.{Resumed}
+use Rattle.cqs_resume.specs.declared.resumed.Resumed.TheVariants.{Served, Left, Refused, Under}
+
+-- the pass is at this, has passed over these numbers besides, and found these words and heads
+abbrev pub facts_met : Doing → List ℕ → List Sighting → List (ℕ × ℕ) → Facts → Facts
+facts_met at over found heads f = record f {
+  doing = at;
+  last = None;
+  passed = f.passed ++ over;
+  heads = f.heads ++ heads;
+  found = f.found ++ found;
+}
+
+-- the cell of the number k in this state, with this payload
+abbrev pub cell_of : ℕ → CoreState → ℕ → Glimpse
+cell_of k state payload = record { number = k; state = state; payload = payload }
+
+module _ {C E S : Type 0} (object : Object E) (primitive : C → Primitive E S) where
+  -- The step s was made at the cell of the number k, which it found in this state, after a search for it and at most
+  -- four exchanges that weren't made.
+  pub record Met (s : QueueStep) (state : CoreState) (at : Doing) (over : List ℕ) (payload k : ℕ)
+      (v w : View E S) : Type 0 where
+    pub tried : List Sighting
+    pub heads : List (ℕ × ℕ)
+    pub few : length tried + length heads ≤ longest_search + 4
+    pub word : ℕ
+    pub left : ℕ
+    pub cell : FoundCell word (cell_of k state left)
+    pub saw : Saw object v (facts_met at over (tried ++ Cell k word ∷ []) heads v.facts)
+        (object.entries s v.number k payload) w
+    pub was : WasFound primitive (HasCell (cell_of k state left)) (object.entries s v.number k payload) w
+
+  -- the number was passed over; or the resume ended there, by the state that the cell was found in
+  abbrev pub Meets : ℕ → ℕ → View E S → Option Resumed → View E S → Type 0
+  Meets payload k v None w = Met passes_over state.Cancelled doing.Owes (k ∷ []) payload k v w
+  Meets payload k v (Some (Served n)) w = (n ≡ k) × Met serves state.Waiter doing.Idle [] payload k v w
+  Meets payload k v (Some (Left n)) w =
+      (n ≡ k) × (Met leaves state.Empty doing.Idle [] payload k v w
+      ⊎ Met delegates state.Cancelling doing.Idle [] payload k v w)
+  Meets payload k v (Some (Refused n)) w = (n ≡ k) × Met ends_refused state.Refused doing.Idle [] payload k v w
+  Meets payload k v (Some (Under under)) w = ⊥
+
+module _ {C S E : Type 0} {g : Ghosts C S E} where
+  abbrev pub HasMet : ℕ → ℕ → Pass C S E g → Option Resumed → Pass C S E g → Type 0
+  HasMet payload k p result p' = Meets g.object g.primitive payload k (pass_view p) result (pass_view p')

@@ -1,0 +1,62 @@
+//! One number of a resume: its cell is tried until a step is made there.
+
+ghost use Rattle.std.specs.Prelude.{◌≡◌};
+ghost use Rattle.cqs_core.specs.declared.doings.Doing.TheVariants as doing;
+ghost use Rattle.cqs_rule.specs.Manner.{IsSmart};
+ghost use Rattle.cqs_rule.specs.Passes.{pass_view, client_of, IsOf};
+ghost use Rattle.cqs_resume.specs.Meets.{HasMet};
+
+use crate::resumed::Resumed;
+use cqs_cell::{delegate, leave_value, look, serve};
+use cqs_find::{Found, find};
+use cqs_rule::{ClientWords, Meets, Pass, Queue};
+use cqs_words::CellState;
+
+/// Ends the resumption at the cell of the number whose ticket is open, or passes over it and answers none. A waiter is tried first.
+/// Whatever is found instead is what is tried next: a cell only goes on, from Empty to Waiter, from there to Cancelling, and then it
+/// is settled.
+#[inline]
+pub(crate) fn meet<C: ClientWords>(
+    queue: &Queue<C>,
+    pass: &mut Pass<C>,
+    number: u64,
+    payload: u32,
+) -> Option<Resumed>
+    requires belongs { IsOf queue.now pass.old }
+    requires smart { IsSmart (C.primitive (client_of queue.now)).manner.leaving }
+    requires ticket { (pass_view pass.old).facts.doing ≡ doing.Ticket number }
+    requires payload { (pass_view pass.old).facts.has.payload ≡ payload }
+    ensures belongs { IsOf queue.now pass.new }
+    ensures met { HasMet payload number pass.old result pass.new }
+{
+    let Found::At(at) = find(queue, pass, number) else {
+        unreachable!()
+    };
+    let mut state = match serve(queue, pass, at, payload) {
+        Ok(()) => return Some(Resumed::Served(number)),
+        Err(state) => state,
+    };
+    loop {
+        state = match state {
+            CellState::Empty => match leave_value(queue, pass, at, payload) {
+                Ok(()) => return Some(Resumed::Left(number)),
+                Err(state) => state,
+            },
+            CellState::Waiter => match serve(queue, pass, at, payload) {
+                Ok(()) => return Some(Resumed::Served(number)),
+                Err(state) => state,
+            },
+            CellState::Cancelling => match delegate(queue, pass, at, payload) {
+                Ok(()) => return Some(Resumed::Left(number)),
+                Err(state) => state,
+            },
+            _ => {
+                return match look::<C, Meets>(queue, pass, at).state {
+                    CellState::Cancelled => None,
+                    CellState::Refused => Some(Resumed::Refused(number)),
+                    _ => unreachable!(),
+                };
+            }
+        };
+    }
+}

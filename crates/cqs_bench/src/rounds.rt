@@ -1,14 +1,12 @@
 //! Rounds of the running queue: a semaphore of one permit on its words, with one pass.
 
-ghost use Rattle.std.specs.Prelude.{◌≡◌, ◌<◌, true, IfSome};
+ghost use Rattle.std.specs.Prelude.{◌≡◌, ◌<◌, true, IfSome, IsTrue};
 ghost use Rattle.cqs_core.specs.declared.doings.Doing.TheVariants.{Idle};
-ghost use Rattle.cqs_rule.specs.Lists.{Has};
 ghost use Rattle.cqs_rule.specs.Passes.{pass_view, limit_of, IsOf};
-ghost use Rattle.cqs_rule.specs.Placed.{IsPlace};
-ghost use Rattle.cqs_rule.specs.Waits.{place_of, pass_of};
+ghost use Rattle.cqs_bench.specs.Waits.{KeepsWaits, HasItsWait};
 
 use cqs_cell::look;
-use cqs_resume::resume;
+use cqs_resume::{Resumed, resume};
 use cqs_rule::{
     Counts, Pass, Polls, Queue, SUSPENDS_WORD, SemClient, Wait, give_permit, take_permit,
 };
@@ -17,9 +15,6 @@ use cqs_suspend::{Suspended, suspend};
 /// From this suspend counter on no number is drawn.
 pub const LIMIT: u64 = 1 << 20;
 
-// The state's word where no permit is free and nobody waits.
-const NONE_FREE: u64 = 1 << 32;
-
 // Takes a permit, or waits in line for one.
 fn acquire(queue: &Queue<SemClient>, pass: &mut Pass<SemClient>) -> Option<Wait>
     requires belongs { IsOf queue.now pass.old }
@@ -27,11 +22,9 @@ fn acquire(queue: &Queue<SemClient>, pass: &mut Pass<SemClient>) -> Option<Wait>
     requires may_draw { (pass_view pass.old).facts.may_draw ≡ true }
     ensures belongs { IsOf queue.now pass.new }
     ensures idle { (pass_view pass.new).facts.doing ≡ Idle }
-    ensures waits { IfSome result (λ wait. Has (place_of wait).index (pass_view pass.new).facts.waits) }
-    ensures place { IfSome result (λ wait. IsPlace (place_of wait)) }
-    ensures pass { IfSome result (λ wait. pass_of wait ≡ (pass_view pass.new).number) }
+    ensures waits { IfSome result (λ wait. HasItsWait wait pass.new) }
 {
-    if take_permit(queue, pass) > NONE_FREE {
+    if take_permit(queue, pass).is_above_zero() {
         return None;
     }
     match suspend(queue, pass) {
@@ -40,56 +33,60 @@ fn acquire(queue: &Queue<SemClient>, pass: &mut Pass<SemClient>) -> Option<Wait>
     }
 }
 
-// Gives a permit to the first of the line, or makes it free.
-fn release(queue: &Queue<SemClient>, pass: &mut Pass<SemClient>)
+// Gives the permit that the pass holds, if it has one, to the first of the line, or makes it free. It answers whether that was
+// done: where more waiters have left than one call passes over, the pass still owes it.
+fn release(queue: &Queue<SemClient>, pass: &mut Pass<SemClient>) -> bool
     requires belongs { IsOf queue.now pass.old }
     requires idle { (pass_view pass.old).facts.doing ≡ Idle }
-    requires holds { 0 < (pass_view pass.old).facts.held }
     ensures belongs { IsOf queue.now pass.new }
-    ensures idle { (pass_view pass.new).facts.doing ≡ Idle }
-    ensures waits { (pass_view pass.new).facts.waits ≡ (pass_view pass.old).facts.waits }
-    ensures number { (pass_view pass.new).number ≡ (pass_view pass.old).number }
+    ensures idle { IsTrue result → (pass_view pass.new).facts.doing ≡ Idle }
+    ensures waits { KeepsWaits pass.old pass.new }
 {
-    if give_permit(queue, pass) < NONE_FREE {
-        resume(queue, pass, 0);
+    if pass.held() == 0 {
+        return true;
+    }
+    if !give_permit(queue, pass).is_below_zero() {
+        return true;
+    }
+    match resume(queue, pass, 0) {
+        Resumed::Served(_) | Resumed::Left(_) | Resumed::Refused(_) => true,
+        Resumed::Under(_) => false,
     }
 }
 
-// A permit is free: it is taken and given back.
-fn free_round(queue: &Queue<SemClient>, pass: &mut Pass<SemClient>)
+// A permit is free: it is taken and given back. It answers whether rounds go on.
+fn free_round(queue: &Queue<SemClient>, pass: &mut Pass<SemClient>) -> bool
     requires belongs { IsOf queue.now pass.old }
     requires limit { limit_of queue.now ≡ 1048576 }
     requires idle { (pass_view pass.old).facts.doing ≡ Idle }
     ensures belongs { IsOf queue.now pass.new }
-    ensures idle { (pass_view pass.new).facts.doing ≡ Idle }
+    ensures idle { IsTrue result → (pass_view pass.new).facts.doing ≡ Idle }
 {
-    if queue.load_table::<Counts>(pass, SUSPENDS_WORD) < LIMIT
+    queue.load_table::<Counts>(pass, SUSPENDS_WORD) < LIMIT
         && acquire(queue, pass).is_none()
-        && pass.held() > 0
-    {
-        release(queue, pass);
-    }
+        && release(queue, pass)
 }
 
-// The pass that holds the one permit waits for it, gives it back, and is served.
-fn pair_round(queue: &Queue<SemClient>, pass: &mut Pass<SemClient>)
+// The pass that holds the one permit waits for it, gives it back, and is served. It answers whether rounds go on.
+fn pair_round(queue: &Queue<SemClient>, pass: &mut Pass<SemClient>) -> bool
     requires belongs { IsOf queue.now pass.old }
     requires limit { limit_of queue.now ≡ 1048576 }
     requires idle { (pass_view pass.old).facts.doing ≡ Idle }
     ensures belongs { IsOf queue.now pass.new }
-    ensures idle { (pass_view pass.new).facts.doing ≡ Idle }
+    ensures idle { IsTrue result → (pass_view pass.new).facts.doing ≡ Idle }
 {
     if queue.load_table::<Counts>(pass, SUSPENDS_WORD) >= LIMIT {
-        return;
+        return false;
     }
     let Some(wait) = acquire(queue, pass) else {
-        return;
+        return true;
     };
-    if pass.held() > 0 {
-        release(queue, pass);
+    if !release(queue, pass) {
+        return false;
     }
     let at = queue.spend_wait(pass, wait);
     look::<SemClient, Polls>(queue, pass, at);
+    true
 }
 
 /// In each round a permit that is free is taken and given back.
@@ -99,7 +96,9 @@ pub fn free_rounds(queue: &Queue<SemClient>, pass: &mut Pass<SemClient>, count: 
     requires idle { (pass_view pass.old).facts.doing ≡ Idle }
 {
     for _ in 0..count {
-        free_round(queue, pass);
+        if !free_round(queue, pass) {
+            return;
+        }
     }
 }
 
@@ -110,6 +109,8 @@ pub fn pair_rounds(queue: &Queue<SemClient>, pass: &mut Pass<SemClient>, count: 
     requires idle { (pass_view pass.old).facts.doing ≡ Idle }
 {
     for _ in 0..count {
-        pair_round(queue, pass);
+        if !pair_round(queue, pass) {
+            return;
+        }
     }
 }

@@ -26,15 +26,15 @@ const CONFIG: Config = Config {
 #[test]
 fn tries_on_the_state(rt: HostRuntime) -> Result<(), Fail> {
     let client = SemClient::new(1);
-    let (queue, mut pass) = Queue::new(rt.alloc(), CONFIG, CancelMode::Simple, client)?;
+    let (queue, mut pass) = Queue::new(rt.alloc(), CONFIG, CancelMode::Smart, client)?;
     let saw = load_state(&queue, &mut pass);
-    assert_eq!(rt; saw, 4_294_967_297);
-    assert_eq!(rt; try_take(&queue, &mut pass, saw), 4_294_967_297);
+    assert_eq!(rt; saw.word, 4_294_967_297);
+    assert_eq!(rt; try_take(&queue, &mut pass, saw).word, 4_294_967_297);
     assert_eq!(rt; pass.held(), 1);
     assert_eq!(rt; queue.load_word::<Silent>(&mut pass, 0), 4_294_967_296);
     let busy = load_state(&queue, &mut pass);
-    assert_eq!(rt; busy, 4_294_967_296);
-    assert_eq!(rt; give_permit(&queue, &mut pass), 4_294_967_296);
+    assert_eq!(rt; busy.word, 4_294_967_296);
+    assert_eq!(rt; give_permit(&queue, &mut pass).word, 4_294_967_296);
     assert_eq!(rt; pass.held(), 0);
     assert_eq!(rt; next_wait(&queue, &mut pass), 0);
     Ok(())
@@ -46,11 +46,11 @@ fn single_steps_on_the_state(rt: HostRuntime) -> Result<(), Fail> {
     let (queue, mut pass) = Queue::new(rt.alloc(), CONFIG, CancelMode::Smart, client)?;
     assert_eq!(rt; queue.or_word::<Silent>(&mut pass, 0, 0), 4_294_967_297);
     let saw = load_state(&queue, &mut pass);
-    assert_eq!(rt; saw, 4_294_967_297);
-    let found = queue.swap_word::<TrySwap>(&mut pass, 0, saw, saw - 1);
-    assert_eq!(rt; found, saw);
+    assert_eq!(rt; saw.word, 4_294_967_297);
+    let found = queue.swap_word::<TrySwap>(&mut pass, 0, saw.word, saw.word - 1);
+    assert_eq!(rt; found, saw.word);
     assert_eq!(rt; pass.held(), 1);
-    assert_eq!(rt; read_state(&queue, &mut pass), 4_294_967_296);
+    assert_eq!(rt; read_state(&queue, &mut pass).word, 4_294_967_296);
     Ok(())
 }
 
@@ -58,8 +58,8 @@ fn single_steps_on_the_state(rt: HostRuntime) -> Result<(), Fail> {
 fn looks_at_a_wait(rt: HostRuntime) -> Result<(), Fail> {
     let client = SemClient::new(1);
     let (queue, mut pass) = Queue::new(rt.alloc(), CONFIG, CancelMode::Smart, client)?;
-    assert_eq!(rt; take_permit(&queue, &mut pass), 4_294_967_297);
-    let found = take_permit(&queue, &mut pass);
+    assert_eq!(rt; take_permit(&queue, &mut pass).word, 4_294_967_297);
+    let found = take_permit(&queue, &mut pass).word;
     assert_eq!(rt; found, 4_294_967_296);
     let Suspended::Waits(wait) = suspend(&queue, &mut pass) else {
         panic!(rt; "no value was left for the first number");
@@ -82,22 +82,25 @@ fn looks_at_a_wait(rt: HostRuntime) -> Result<(), Fail> {
 fn a_cancellation_is_too_late(rt: HostRuntime) -> Result<(), Fail> {
     let client = SemClient::new(1);
     let (queue, mut pass) = Queue::new(rt.alloc(), CONFIG, CancelMode::Smart, client)?;
-    assert_eq!(rt; take_permit(&queue, &mut pass), 4_294_967_297);
-    let found = take_permit(&queue, &mut pass);
+    assert_eq!(rt; take_permit(&queue, &mut pass).word, 4_294_967_297);
+    let found = take_permit(&queue, &mut pass).word;
     assert_eq!(rt; found, 4_294_967_296);
     let Suspended::Waits(wait) = suspend(&queue, &mut pass) else {
         panic!(rt; "no value was left for the first number");
     };
-    let found = give_permit(&queue, &mut pass);
+    let found = give_permit(&queue, &mut pass).word;
     assert_eq!(rt; found, 4_294_967_295);
-    assert_eq!(rt; resume(&queue, &mut pass, 0), Resumed::Served(0));
+    let Resumed::Served(served) = resume(&queue, &mut pass, 0) else {
+        panic!(rt; "the first waiter stands in its cell");
+    };
+    assert_eq!(rt; served, 0);
     let at = queue.spend_wait(&mut pass, wait);
     let cell = look::<SemClient, Cancels>(&queue, &mut pass, at);
     assert_eq!(rt; cell, CellWord::bare(0, CellState::Resumed));
     assert_eq!(rt; (pass.held(), pass.waits()), (1, 0));
     let drawn = queue.load_table::<Counts>(&mut pass, SUSPENDS_WORD);
     assert_eq!(rt; drawn, 1);
-    let found = take_permit(&queue, &mut pass);
+    let found = take_permit(&queue, &mut pass).word;
     assert_eq!(rt; found, 4_294_967_296);
     let Suspended::Waits(wait) = suspend(&queue, &mut pass) else {
         panic!(rt; "no value was left for the second number");
@@ -110,8 +113,8 @@ fn a_cancellation_is_too_late(rt: HostRuntime) -> Result<(), Fail> {
 fn single_steps_of_a_suspend(rt: HostRuntime) -> Result<(), Fail> {
     let client = SemClient::new(1);
     let (queue, mut pass) = Queue::new(rt.alloc(), CONFIG, CancelMode::Smart, client)?;
-    assert_eq!(rt; take_permit(&queue, &mut pass), 4_294_967_297);
-    let found = take_permit(&queue, &mut pass);
+    assert_eq!(rt; take_permit(&queue, &mut pass).word, 4_294_967_297);
+    let found = take_permit(&queue, &mut pass).word;
     assert_eq!(rt; found, 4_294_967_296);
     let number = queue.add_table::<Draws>(&mut pass, SUSPENDS_WORD, 1);
     assert_eq!(rt; number, 0);
@@ -133,8 +136,8 @@ fn single_steps_of_a_suspend(rt: HostRuntime) -> Result<(), Fail> {
 fn an_exchange_on_a_cell(rt: HostRuntime) -> Result<(), Fail> {
     let client = SemClient::new(1);
     let (queue, mut pass) = Queue::new(rt.alloc(), CONFIG, CancelMode::Smart, client)?;
-    assert_eq!(rt; take_permit(&queue, &mut pass), 4_294_967_297);
-    let found = take_permit(&queue, &mut pass);
+    assert_eq!(rt; take_permit(&queue, &mut pass).word, 4_294_967_297);
+    let found = take_permit(&queue, &mut pass).word;
     assert_eq!(rt; found, 4_294_967_296);
     let number = queue.add_table::<Draws>(&mut pass, SUSPENDS_WORD, 1);
     assert_eq!(rt; number, 0);
@@ -148,13 +151,13 @@ fn an_exchange_on_a_cell(rt: HostRuntime) -> Result<(), Fail> {
 fn single_steps_of_a_resume(rt: HostRuntime) -> Result<(), Fail> {
     let client = SemClient::new(1);
     let (queue, mut pass) = Queue::new(rt.alloc(), CONFIG, CancelMode::Smart, client)?;
-    assert_eq!(rt; take_permit(&queue, &mut pass), 4_294_967_297);
-    let found = take_permit(&queue, &mut pass);
+    assert_eq!(rt; take_permit(&queue, &mut pass).word, 4_294_967_297);
+    let found = take_permit(&queue, &mut pass).word;
     assert_eq!(rt; found, 4_294_967_296);
     let Suspended::Waits(_) = suspend(&queue, &mut pass) else {
         panic!(rt; "no value was left for the first number");
     };
-    let found = give_permit(&queue, &mut pass);
+    let found = give_permit(&queue, &mut pass).word;
     assert_eq!(rt; found, 4_294_967_295);
     let under = queue.under_of(&mut pass, 0, None, 0);
     assert_eq!(rt; under.reached(), 0);

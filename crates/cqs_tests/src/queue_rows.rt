@@ -31,7 +31,10 @@ fn a_permit_goes_to_the_waiter(rt: HostRuntime) -> Result<(), Fail> {
     let found = queue.add_word::<Give>(&mut pass, 0, 1);
     assert_eq!(rt; found, 4_294_967_295);
     assert_eq!(rt; (pass.held(), pass.waits(), pass.owes()), (0, 1, true));
-    assert_eq!(rt; resume(&queue, &mut pass, 0), Resumed::Served(0));
+    let Resumed::Served(served) = resume(&queue, &mut pass, 0) else {
+        panic!(rt; "the first waiter stands in its cell");
+    };
+    assert_eq!(rt; served, 0);
     assert_eq!(rt; (pass.held(), pass.waits(), pass.owes()), (0, 1, false));
     let at = queue.spend_wait(&mut pass, wait);
     let cell = look::<SemClient, Polls>(&queue, &mut pass, at);

@@ -1,0 +1,13 @@
+use Rattle.std.proofs.Common.{ap}
+use Rattle.cqs_rule.specs.Passes.{pass_view}
+use Rattle.cqs_rule.proofs.Places.{knows-at}
+use Rattle.cqs_bench.proofs.rounds.pair_round.Goals as goal
+
+pub spend_wait-at-requires-clause-has : goal.spend_wait-at-requires-clause-has
+spend_wait-at-requires-clause-has c = c.release.ensures.waits.each c.in-Some.wait c.in-Some.ensures.waits
+
+pub look-requires-clause-place : goal.look-requires-clause-place
+look-requires-clause-place c =
+    knows-at (pass_view c.release.new.pass) (pass_view c.spend_wait-at.new.pass) _ _
+    (ap pass_view c.spend_wait-at.ensures.same) c.spend_wait-at.ensures.place
+    (c.release.ensures.waits.each c.in-Some.wait c.in-Some.ensures.waits).place

@@ -1,0 +1,49 @@
+-- What a pass knows of its wait goes on from step to step and from call to call.
+use Rattle.std.proofs.Common.{◌≡◌, ℕ, List, sym, refl, subst}
+use Rattle.cqs_core.specs.declared.cells.CoreState.{CoreState}
+use Rattle.cqs_core.specs.declared.cells.CoreState.TheVariants as state
+use Rattle.cqs_core.specs.declared.doings.Doing.TheVariants as doing
+use Rattle.cqs_rule.specs.declared.config.Place.{Place}
+use Rattle.cqs_rule.specs.declared.queue.tokens.Wait.{Wait}
+use Rattle.cqs_rule.specs.declared.view.Facts.{Facts}
+use Rattle.cqs_rule.specs.declared.view.Glimpse.{Glimpse}
+use Rattle.cqs_rule.specs.declared.view.View.{View}
+use Rattle.cqs_rule.specs.Hidden.{Gains}
+use Rattle.cqs_rule.specs.Loads.{cancels, event_of, facts_looked}
+use Rattle.cqs_rule.specs.Object.{Object}
+use Rattle.cqs_rule.specs.Placed.{KnowsPlace, place_known, place_word}
+use Rattle.cqs_rule.specs.Saw.{Saw}
+use Rattle.cqs_rule.specs.Waits.{HasWait, place_of}
+use Rattle.cqs_rule.proofs.Calls.{called-by}
+use Rattle.cqs_rule.proofs.Places.{has-wait-called}
+
+module _ {E S : Type 0} where
+  -- a place that is known to one view is known to a later one
+  pub goes-on : (v w : View E S) (at : Place) → KnowsPlace v at → KnowsPlace w at
+  goes-on v w at k = place_known w at (place_word v at k)
+
+  -- the place of a wait, wherever its token says so
+  pub stands : (v w : View E S) (wait : Wait) (at : Place) → at ≡ place_of wait → HasWait v wait → KnowsPlace w at
+  stands v w wait at is h =
+      goes-on v w at (subst (λ p. KnowsPlace v p) (sym is) h.place)
+
+module _ {E S : Type 0} (object : Object E) where
+  pub keeps-step : (v w : View E S) (f : Facts) (es : List E) (wait : Wait) → Saw object v f es w
+      → f.waits ≡ v.facts.waits → HasWait v wait → HasWait w wait
+  keeps-step v w f es wait s same =
+      has-wait-called object v w es es wait (called-by object v w f es s)
+      (subst (λ (g : Facts). g.waits ≡ v.facts.waits) (sym s.facts_are) same)
+
+-- an idle pass that is about to cancel is idle after its look, whatever it found
+pub still-idle : (gains : Gains) (x : CoreState) (n : ℕ) (g : Glimpse) (f : Facts) → f.doing ≡ doing.Idle
+    → (facts_looked gains (event_of cancels x) n g f).doing ≡ doing.Idle
+still-idle gains state.Empty n g f idle = idle
+still-idle gains state.Waiter n g f idle = idle
+still-idle gains state.Value n g f idle = idle
+still-idle gains state.Taken n g f idle = idle
+still-idle gains state.Broken n g f idle = idle
+still-idle gains state.Resumed n g f idle = refl
+still-idle gains state.Cancelling n g f idle = idle
+still-idle gains state.Delegated n g f idle = idle
+still-idle gains state.Cancelled n g f idle = idle
+still-idle gains state.Refused n g f idle = idle

@@ -2,6 +2,7 @@
 use Rattle.std.proofs.Common.{◌≡◌, inl, ℕ, ◌+◌, ◌-◌, ◌<◌, ◌==◌, List, [], ◌∷◌, Some, IsSome, length, set, get_or, slice_get, sum_by, refl, ap, sym, ◌∙◌, subst, arith}
 use Rattle.std.specs.Prelude.{slice_index}
 use Rattle.std.specs.Option.{option_map_or}
+use Rattle.std.proofs.lemmas.Option.{same_Some}
 use Rattle.cqs_core.specs.declared.calls.Call.TheVariants as call
 use Rattle.cqs_core.specs.declared.calls.Reply.{Reply}
 use Rattle.cqs_core.specs.declared.calls.Reply.TheVariants as reply
@@ -175,12 +176,12 @@ give-well l n at job answer kept is_job holding a written = go (shown core.shape
     go : (waits : List Waiting) → (shown core.shape).line ≡ waits → GivesWell (plain_floor l) at job answer n
     go [] is =
         let came = came-freed core a.calls.after a.reply held.sole a.calls.made is in
-        at-answer (Free 0) (a.told ∙ ap give_of came.is) (rw (line, is, element) refl)
+        at-answer (Free 0) (same_Some _ _ (sym a.told ∙ ap give_of came.is)) (rw (line, is, element) refl)
         (plain-freed l at job kept is_job.holds holding core a.calls.after a.reply a.calls.there a.calls.made is)
         (kept-freed l at job kept is_job.holds holding core a.calls.after a.reply a.calls.there a.calls.made is)
     go (first ∷ rest) is =
         let came = came-sent core a.calls.after a.reply held.sole first rest a.calls.made is in
-        at-answer (Sent 0 first.wait) (a.told ∙ ap give_of came.is) (rw (line, is, element) refl)
+        at-answer (Sent 0 first.wait) (same_Some _ _ (sym a.told ∙ ap give_of came.is)) (rw (line, is, element) refl)
         (plain-sent l at job kept is_job.holds holding core a.calls.after a.reply a.calls.there a.calls.made first rest is)
         (kept-sent l at job kept is_job.holds holding core a.calls.after a.reply a.calls.there a.calls.made first rest is)
 

@@ -2,6 +2,7 @@
 use Rattle.std.proofs.Common.{◌≡◌, ◌≢◌, ℕ, ◌+◌, ◌<◌, ◌==◌, not, Bool, true, false, List, [], ◌∷◌, Option, Some, None, is_some, set, get_or, slice_get, refl, ap, sym, ◌∙◌, subst, eq-eqb, ne_eqb, eqb-true, arith}
 use Rattle.std.specs.Prelude.{slice_index}
 use Rattle.std.specs.List.{list_any}
+use Rattle.std.proofs.lemmas.Option.{same_Some}
 use Rattle.cqs_core.specs.declared.calls.Call.TheVariants as call
 use Rattle.cqs_core.specs.declared.calls.Reply.TheVariants as reply
 use Rattle.cqs_core.specs.declared.entries.Entry.TheVariants as entry
@@ -218,7 +219,7 @@ leave-well l n job wait answer kept is_job slot a written =
     go true there =
         let found = some-found _ there in
         let came = came-left core after a.reply sole wait.number found.0 a.calls.made found.1 in
-        let is : answer ≡ Gone = a.told ∙ ap leave_of came.is in
+        let is : answer ≡ Gone = same_Some _ _ (sym a.told ∙ ap leave_of came.is) in
         record {
           answers = is ∙ rw (job_waits, in_line, there) refl;
           leaves = ap plain_floor (same Gone is)
@@ -233,7 +234,7 @@ leave-well l n job wait answer kept is_job slot a written =
         }
     go false missing =
         let came = came-late core after a.reply sole wait.number a.calls.made (none-found _ missing) in
-        let is : answer ≡ Late 0 = a.told ∙ ap leave_of came.is in
+        let is : answer ≡ Late 0 = same_Some _ _ (sym a.told ∙ ap leave_of came.is) in
         record {
           answers = is ∙ rw (job_waits, in_line, missing) refl;
           leaves = ap plain_floor (same (Late 0) is)

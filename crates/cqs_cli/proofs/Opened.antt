@@ -46,11 +46,11 @@ sole-opened permits some few = record {
 }
 
 sole-semaphore : (k : Kind) → IsSemaphore k → IsSole (opened (permits_of (Some k)) 1)
-sole-semaphore (kind.Semaphore permits) sized = sole-opened permits sized.0 sized.1
-sole-semaphore kind.Mutex sized = absurd sized
-sole-semaphore (kind.Pool elements) sized = absurd sized
-sole-semaphore (kind.Latch count) sized = absurd sized
-sole-semaphore (kind.Rounds parties rounds) sized = absurd sized
+sole-semaphore (kind.Semaphore permits) sized = sole-opened permits (omega (arith, sized.1.0)) sized.1.1
+sole-semaphore kind.Mutex sized = absurd sized.0
+sole-semaphore (kind.Pool elements) sized = absurd sized.0
+sole-semaphore (kind.Latch count) sized = absurd sized.0
+sole-semaphore (kind.Rounds parties rounds) sized = absurd sized.0
 
 -- nobody waits, and nobody holds anything
 waiting-none : (jobs at : ℕ) → waiting_at (replicate jobs None) at ≡ 0

@@ -4,6 +4,7 @@ use Rattle.std.specs.Prelude.{slice_index}
 use Rattle.std.specs.Option.{option_map}
 use Rattle.std.proofs.lemmas.Bool.{cases_eq}
 use Rattle.std.proofs.lemmas.List.{map-set, get_or-set_same, get_or-set_other}
+use Rattle.std.proofs.lemmas.Option.{same_Some}
 use Rattle.cqs_core.specs.declared.calls.Call.TheVariants as call
 use Rattle.cqs_core.specs.declared.calls.Reply.{Reply}
 use Rattle.cqs_core.specs.declared.calls.Reply.TheVariants as reply
@@ -283,13 +284,13 @@ take-well l n at job answer kept holdable is_job idle room a written =
     go : (b : Bool) → nat_lt 0 (shown core.shape).free ≡ b → TakesWell (plain_floor l) at job answer n
     go true some =
         let came = came-now core a.calls.after a.reply funded.sole a.calls.made some in
-        at-answer (Now 0) (a.told ∙ ap take_of came.is) (rw (object, some) refl)
+        at-answer (Now 0) (same_Some _ _ (sym a.told ∙ ap take_of came.is)) (rw (object, some) refl)
         (plain-now l at job kept place room is_job.holds waiter nobody core a.calls.after a.reply a.calls.there a.calls.made some)
         (kept-next l _ at core a.calls.after kept
         (follows-now l at job kept place room is_job.holds waiter nobody core a.calls.after a.reply a.calls.there a.calls.made some))
     go false none =
         let came = came-later core a.calls.after a.reply funded.sole a.calls.made none in
-        at-answer (Waits (shown core.shape).next) (a.told ∙ ap take_of came.is) (rw (object, none) refl)
+        at-answer (Waits (shown core.shape).next) (same_Some _ _ (sym a.told ∙ ap take_of came.is)) (rw (object, none) refl)
         (plain-later l at job kept place room is_job.holds waiter nobody core a.calls.after a.reply a.calls.there a.calls.made none)
         (kept-next l _ at core a.calls.after kept
         (follows-later l at job kept place room is_job.holds waiter nobody core a.calls.after a.reply a.calls.there a.calls.made none))

@@ -1,5 +1,5 @@
 -- The calls of a floor on cores in the words of its ledger.
-use Rattle.std.specs.Prelude.{◌≡◌, ℕ, ◌+◌, ◌-◌, ℤ, pos, negsuc, ◌≤ℤ◌, Bool, true, false, List, Some, None, slice_get, slice_set}
+use Rattle.std.specs.Prelude.{◌≡◌, ℕ, ◌+◌, ◌-◌, ℤ, pos, negsuc, ◌≤ℤ◌, Bool, true, false, List, Option, Some, None, slice_get, slice_set}
 use Rattle.cqs_core.specs.declared.calls.Call.{Call}
 use Rattle.cqs_core.specs.declared.calls.Call.TheVariants as call
 use Rattle.cqs_core.specs.declared.calls.Reply.{Reply}
@@ -37,24 +37,27 @@ pub record Calls (old : List Room) (at : ℕ) (c : Call) (answer : Reply) (new :
   pub cores : new ≡ slice_set old at after
 
 -- a floor answers by the reply of the core at a place
-pub record Answers {A : Type 0} (answer_of : Reply → A) (c : Call) (old : List Room) (at : ℕ) (new : List Room)
+pub record Answers {A : Type 0} (answer_of : Reply → Option A) (c : Call) (old : List Room) (at : ℕ) (new : List Room)
     (answer : A) : Type 0 where
   pub reply : Reply
   pub calls : Calls old at c reply new
-  pub told : answer ≡ answer_of reply
+  pub told : answer_of reply ≡ Some answer
 
--- what a floor answers by a reply; the other replies don't come
-abbrev pub take_of : Reply → FloorTake
-take_of (reply.Later number) = Waits number
-take_of _ = Now 0
+-- what a floor answers by a reply; the other replies don't come, and there is no answer by them
+abbrev pub take_of : Reply → Option FloorTake
+take_of reply.Now = Some (Now 0)
+take_of (reply.Later number) = Some (Waits number)
+take_of _ = None
 
-abbrev pub give_of : Reply → FloorGive
-give_of (reply.Sent number) = Sent 0 number
-give_of _ = Free 0
+abbrev pub give_of : Reply → Option FloorGive
+give_of reply.Freed = Some (Free 0)
+give_of (reply.Sent number) = Some (Sent 0 number)
+give_of _ = None
 
-abbrev pub leave_of : Reply → FloorLeave
-leave_of reply.TooLate = Late 0
-leave_of _ = Gone
+abbrev pub leave_of : Reply → Option FloorLeave
+leave_of reply.Cancelled = Some Gone
+leave_of reply.TooLate = Some (Late 0)
+leave_of _ = None
 
 -- the cell of a wait was served
 abbrev pub is_wait_served : Room → Wait → Bool

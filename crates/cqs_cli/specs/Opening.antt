@@ -10,7 +10,7 @@ use Rattle.cqs_plan.specs.declared.plans.kind.Kind.{Kind}
 use Rattle.cqs_plan.specs.declared.plans.plan.Plan.{Plan}
 use Rattle.cqs_plan.specs.declared.plans.resource.Resource.{Resource}
 use Rattle.cqs_plan.specs.declared.plans.step.Step.{Step}
-use Rattle.cqs_plan.specs.declared.plans.step.Step.TheVariants.{Take}
+use Rattle.cqs_plan.specs.declared.plans.step.Step.TheVariants.{Take, Give, Down, Await, Arrive, Work}
 use Rattle.cqs_plan.specs.Floor.{permits_of, takes_in}
 use Rattle.cqs_plan.specs.PlanSteps.{is_take}
 use Rattle.cqs_plan.specs.Runnable.{kinds_of}
@@ -19,7 +19,11 @@ use Rattle.cqs_cli.specs.Ledger.{Ledger}
 -- a take names one of so many resources
 abbrev pub IsWithin : ℕ → Step → Type 0
 IsWithin resources (Take at) = at < resources
-IsWithin resources _ = Unit {0}
+IsWithin resources (Give at) = Unit {0}
+IsWithin resources (Down at) = Unit {0}
+IsWithin resources (Await at) = Unit {0}
+IsWithin resources (Arrive at) = Unit {0}
+IsWithin resources (Work turns) = Unit {0}
 
 abbrev pub AreWithin : ℕ → List Step → Type 0
 AreWithin resources steps = EachAt (λ n step. IsWithin resources step) steps

@@ -34,7 +34,15 @@ pub record HasMade (old : Room) (c : Call) (answer : Reply) (new : Room) : Type 
 -- the wait of a cell was served
 abbrev pub is_resumed : CoreState → Bool
 is_resumed state.Resumed = true
-is_resumed _ = false
+is_resumed state.Empty = false
+is_resumed state.Waiter = false
+is_resumed state.Value = false
+is_resumed state.Taken = false
+is_resumed state.Broken = false
+is_resumed state.Cancelling = false
+is_resumed state.Delegated = false
+is_resumed state.Cancelled = false
+is_resumed state.Refused = false
 
 abbrev pub is_served_at : Option CoreCell → Bool
 is_served_at None = false

@@ -34,7 +34,29 @@ MakesReady None (Some o) old new = ⊥
 -- a resume passed over the cell that it met
 abbrev pub HasPassed : Outcome → Type 0
 HasPassed (outcome.Passed k) = Unit {0}
-HasPassed _ = ⊥
+HasPassed outcome.Now = ⊥
+HasPassed outcome.Door = ⊥
+HasPassed outcome.Busy = ⊥
+HasPassed (outcome.Loaded v) = ⊥
+HasPassed outcome.Got = ⊥
+HasPassed (outcome.Contended v w) = ⊥
+HasPassed (outcome.Drew k) = ⊥
+HasPassed (outcome.Waits k) = ⊥
+HasPassed (outcome.Took k) = ⊥
+HasPassed outcome.Freed = ⊥
+HasPassed outcome.Owes = ⊥
+HasPassed (outcome.Reached k) = ⊥
+HasPassed (outcome.Served k) = ⊥
+HasPassed (outcome.Left k) = ⊥
+HasPassed (outcome.Void k) = ⊥
+HasPassed (outcome.Cancelling k) = ⊥
+HasPassed (outcome.TooLate k) = ⊥
+HasPassed (outcome.Decided on) = ⊥
+HasPassed (outcome.Cancelled k) = ⊥
+HasPassed (outcome.Refused k) = ⊥
+HasPassed (outcome.OwesOn k) = ⊥
+HasPassed outcome.Pending = ⊥
+HasPassed outcome.Granted = ⊥
 
 -- A core is made where its numbers are in their ranges, and refused elsewhere; being out of memory alone may refuse
 -- one of these numbers.

@@ -1,4 +1,6 @@
--- Whole calls of one pass: the events of a call, one after the other, until the pass is idle again.
+-- Whole calls of one pass: the events of a call, one after the other, until the pass is idle again. After an event the
+-- outcomes that it can have are gone through; what is left is `stuck`. That is no answer: the calls are proved never to
+-- be stuck (`HasEnd`), so an outcome that an event newly has is refused until its line stands here.
 use Rattle.std.specs.Prelude.{◌≡◌, ℕ, zero, suc, ◌+◌, ◌-◌, ◌<◌, ◌≤◌, Option, Some, None, Result, Ok, Err}
 use Rattle.std.specs.Option.{option_and_then}
 use Rattle.cqs_core.specs.declared.calls.Call.{Call}
@@ -6,7 +8,7 @@ use Rattle.cqs_core.specs.declared.calls.Call.TheVariants as call
 use Rattle.cqs_core.specs.declared.calls.Reply.{Reply}
 use Rattle.cqs_core.specs.declared.calls.Reply.TheVariants as reply
 use Rattle.cqs_core.specs.declared.errors.CoreError.{CoreError}
-use Rattle.cqs_core.specs.declared.errors.CoreError.TheVariants.{Memory, NotEnabled}
+use Rattle.cqs_core.specs.declared.errors.CoreError.TheVariants.{Memory, BadSize, NotEnabled}
 use Rattle.cqs_core.specs.declared.events.Event.TheVariants as event
 use Rattle.cqs_core.specs.declared.outcomes.Outcome.{Outcome}
 use Rattle.cqs_core.specs.declared.outcomes.Outcome.TheVariants as outcome
@@ -154,7 +156,9 @@ abbrev pub MakesCallReady : Course → Option Reply → Room → Room → Type 0
 MakesCallReady (replied s given) (Some answer) old new =
     (answer ≡ given) × (new.shape ≡ s) × (old.spare ≤ new.spare + 3)
 MakesCallReady refused None old new = new ≡ old
-MakesCallReady _ _ old new = ⊥
+MakesCallReady (replied s given) None old new = ⊥
+MakesCallReady refused (Some answer) old new = ⊥
+MakesCallReady stuck answer old new = ⊥
 
 -- A call is made where its first event is allowed, and refused elsewhere; being out of memory alone may refuse an
 -- allowed one. Every refusal leaves the core unchanged.
@@ -162,4 +166,8 @@ abbrev pub MakesCall : Result Reply CoreError → Course → Shape → Shape →
 MakesCall (Ok answer) (replied s given) old new = (answer ≡ given) × (new ≡ s)
 MakesCall (Err Memory) found old new = new ≡ old
 MakesCall (Err NotEnabled) refused old new = new ≡ old
-MakesCall _ _ old new = ⊥
+MakesCall (Ok answer) refused old new = ⊥
+MakesCall (Ok answer) stuck old new = ⊥
+MakesCall (Err NotEnabled) (replied s given) old new = ⊥
+MakesCall (Err NotEnabled) stuck old new = ⊥
+MakesCall (Err BadSize) found old new = ⊥

@@ -26,7 +26,16 @@ OnePermitGoesToTheFirst =
 abbrev pub EndsWait : ℕ → Entry → Type 0
 EndsWait k (entry.Deliver j) = j ≡ k
 EndsWait k (entry.Leave c j) = j ≡ k
-EndsWait k _ = ⊥
+EndsWait k (entry.TakeNow c) = ⊥
+EndsWait k (entry.TakeDoor c) = ⊥
+EndsWait k (entry.Enter c j) = ⊥
+EndsWait k (entry.TryGot c) = ⊥
+EndsWait k (entry.TryBusy c) = ⊥
+EndsWait k (entry.GiveFreed c) = ⊥
+EndsWait k (entry.GiveSent c) = ⊥
+EndsWait k (entry.Late c j) = ⊥
+EndsWait k (entry.LookGranted c j) = ⊥
+EndsWait k (entry.LookPending c j) = ⊥
 
 -- a wait ends once: it is served no second time, and neither after it left nor does it leave after it was served
 abbrev pub EveryWaitEndsOnce : Type 0
@@ -38,7 +47,16 @@ EveryWaitEndsOnce =
 abbrev pub Collects : ℕ → Entry → Type 0
 Collects k (entry.LookGranted c j) = j ≡ k
 Collects k (entry.Late c j) = j ≡ k
-Collects k _ = ⊥
+Collects k (entry.TakeNow c) = ⊥
+Collects k (entry.TakeDoor c) = ⊥
+Collects k (entry.Enter c j) = ⊥
+Collects k (entry.TryGot c) = ⊥
+Collects k (entry.TryBusy c) = ⊥
+Collects k (entry.GiveFreed c) = ⊥
+Collects k (entry.GiveSent c) = ⊥
+Collects k (entry.Deliver j) = ⊥
+Collects k (entry.Leave c j) = ⊥
+Collects k (entry.LookPending c j) = ⊥
 
 -- a permit is handed over only after it was delivered
 abbrev pub EveryCollectionFollowsItsDelivery : Type 0

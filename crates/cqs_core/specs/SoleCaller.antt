@@ -73,14 +73,31 @@ MayCall s (call.Cancel p k) = HasWait k p (shown s)
 abbrev pub NoneTaken : Shape → Type 0
 NoneTaken s = EachAt (λ k cell. cell.state ≢ state.Taken) s.queue.cells
 
+-- who makes a call
+abbrev pub caller : Call → ℕ
+caller (call.Acquire p) = p
+caller (call.Try p) = p
+caller (call.Release p) = p
+caller (call.Poll p k) = p
+caller (call.Cancel p k) = p
+
+-- what the passes hold after this reply to one of them: a permit came to it, one went from it, or neither
+abbrev pub held_by : List ℕ → ℕ → Reply → List ℕ
+held_by held p reply.Now = slice_set held p (slice_index held p + 1)
+held_by held p (reply.Later k) = held
+held_by held p (reply.Took k) = slice_set held p (slice_index held p + 1)
+held_by held p reply.Got = slice_set held p (slice_index held p + 1)
+held_by held p reply.Busy = held
+held_by held p reply.Freed = slice_set held p (slice_index held p - 1)
+held_by held p (reply.Sent k) = slice_set held p (slice_index held p - 1)
+held_by held p reply.Granted = slice_set held p (slice_index held p + 1)
+held_by held p reply.Pending = held
+held_by held p reply.Cancelled = held
+held_by held p reply.TooLate = slice_set held p (slice_index held p + 1)
+
 -- what the passes hold after a call that replied so
 abbrev pub held_after : List ℕ → Call → Reply → List ℕ
-held_after held (call.Acquire p) reply.Now = slice_set held p (slice_index held p + 1)
-held_after held (call.Try p) reply.Got = slice_set held p (slice_index held p + 1)
-held_after held (call.Release p) answer = slice_set held p (slice_index held p - 1)
-held_after held (call.Poll p k) reply.Granted = slice_set held p (slice_index held p + 1)
-held_after held (call.Cancel p k) reply.TooLate = slice_set held p (slice_index held p + 1)
-held_after held _ answer = held
+held_after held c answer = held_by held (caller c) answer
 
 -- a call was made as a sole caller's, and every pass is idle again
 pub record IsSoleCall (old : Shape) (c : Call) (answer : Reply) (new : Shape) : Type 0 where

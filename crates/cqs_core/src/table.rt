@@ -251,7 +251,14 @@ impl Table {
                 self.history.push_reserved(Entry::Deliver { wait: number });
                 Some(Outcome::Took(number))
             }
-            _ => None,
+            CoreState::Waiter
+            | CoreState::Taken
+            | CoreState::Broken
+            | CoreState::Resumed
+            | CoreState::Cancelling
+            | CoreState::Delegated
+            | CoreState::Cancelled
+            | CoreState::Refused => None,
         }
     }
 
@@ -337,7 +344,11 @@ impl Table {
                 self.doing[at] = Doing::Idle;
                 Some(Outcome::Void(number))
             }
-            _ => None,
+            CoreState::Value
+            | CoreState::Taken
+            | CoreState::Broken
+            | CoreState::Resumed
+            | CoreState::Delegated => None,
         }
     }
 
@@ -367,7 +378,14 @@ impl Table {
                 self.history.push_reserved(Entry::Late { pass, wait });
                 Some(Outcome::TooLate(wait))
             }
-            _ => None,
+            CoreState::Empty
+            | CoreState::Value
+            | CoreState::Taken
+            | CoreState::Broken
+            | CoreState::Cancelling
+            | CoreState::Delegated
+            | CoreState::Cancelled
+            | CoreState::Refused => None,
         }
     }
 
@@ -414,7 +432,17 @@ impl Table {
                 self.doing[at] = Doing::Idle;
                 Some(Outcome::Refused(wait))
             }
-            _ => None,
+            (
+                _,
+                CoreState::Empty
+                | CoreState::Waiter
+                | CoreState::Value
+                | CoreState::Taken
+                | CoreState::Broken
+                | CoreState::Resumed
+                | CoreState::Cancelled
+                | CoreState::Refused,
+            ) => None,
         }
     }
 
@@ -445,7 +473,14 @@ impl Table {
                     .push_reserved(Entry::LookGranted { pass, wait });
                 Some(Outcome::Granted)
             }
-            _ => None,
+            CoreState::Empty
+            | CoreState::Value
+            | CoreState::Taken
+            | CoreState::Broken
+            | CoreState::Cancelling
+            | CoreState::Delegated
+            | CoreState::Cancelled
+            | CoreState::Refused => None,
         }
     }
 

@@ -18,6 +18,7 @@ use Rattle.cqs_plan.specs.Floor.{IsHoldable}
 use Rattle.cqs_plan.specs.Language.{can_hold, semaphores}
 use Rattle.cqs_plan.specs.Meaning.{resource_in, members_in, plan_in}
 use Rattle.cqs_plan.specs.PlanText.{IsPlanText}
+use Rattle.cqs_plan.specs.Holding.{TookMore}
 use Rattle.cqs_plan.specs.Runnable.{kinds_of, IsMakeable, IsRunnable, IsSemaphore, AreSemaphores}
 use Rattle.cqs_plan.specs.Validity.{IsValid, IsKind, IsResource, IsJob, IsStep, HasKindAt, is_latch, is_barrier}
 
@@ -95,7 +96,7 @@ module _ (plan : Plan) (valid : IsValid plan) (alone : HasSemaphoresAlone plan) 
   no-barrier (Rounds parties rounds) holdable barrier = holdable
 
   makeable : (job : Job) → IsJob plan.resources job → (n : ℕ) (step : Step) → slice_get job.steps n ≡ Some step
-      → IsStep plan.resources step → IsMakeable (kinds_of plan.resources) (take n job.steps) step
+      → IsStep plan.resources step → IsMakeable (kinds_of plan.resources) (TookMore (take n job.steps)) step
   makeable job fits n (Take at) there named = named-at can_hold at named
   makeable job fits n (Give at) there named = fits.gives n at there
   makeable job fits n (Down at) there named = other-kind is_latch no-latch at named
@@ -128,11 +129,7 @@ read-runnable bytes (Err error) text valid = tt
 
 -- a semaphore whose size is in its range
 sized : (kind : Kind) → IsHoldable (Some kind) → IsKind kind → IsSemaphore kind
-sized (Semaphore permits) holdable fits = (omega arith, fits.1)
-sized Mutex holdable fits = holdable
-sized (Pool elements) holdable fits = holdable
-sized (Latch count) holdable fits = holdable
-sized (Rounds parties rounds) holdable fits = holdable
+sized kind holdable fits = (holdable, fits)
 
 pub read-built : (bytes : List ℕ) (result : Result Plan PlanError) → IfOk result (IsPlanText bytes) → IfOk result IsValid
     → IfOk result (λ plan. AreSemaphores plan.resources)

@@ -49,19 +49,28 @@ wait_of f job = slice_index_or f.waits job None
 abbrev pub holds_of : PlainFloor → ℕ → List Holding
 holds_of f job = slice_index_or f.holds job []
 
--- how many permits a resource has
+-- how many permits a resource has; only semaphores have some, as long as no other kind is built
 abbrev pub permits_of : Option Kind → ℕ
 permits_of (Some (kind.Semaphore permits)) = permits
-permits_of _ = 0
+permits_of (Some kind.Mutex) = 0
+permits_of (Some (kind.Pool elements)) = 0
+permits_of (Some (kind.Latch count)) = 0
+permits_of (Some (kind.Rounds parties rounds)) = 0
+permits_of None = 0
 
 -- the plain semaphore at a place
 abbrev pub object_at : PlainFloor → ℕ → Semaphore
 object_at f at = object_after (permits_of (slice_get f.kinds at)) (entries_at f at)
 
--- a resource of a kind that can be taken and given
+-- There is a resource, of a kind that can be taken and given on a floor. The last four aren't built; the language
+-- knows which of them it will be (`can_hold`).
 abbrev pub IsHoldable : Option Kind → Type 0
 IsHoldable (Some (kind.Semaphore permits)) = Unit {0}
-IsHoldable _ = ⊥
+IsHoldable (Some kind.Mutex) = ⊥
+IsHoldable (Some (kind.Pool elements)) = ⊥
+IsHoldable (Some (kind.Latch count)) = ⊥
+IsHoldable (Some (kind.Rounds parties rounds)) = ⊥
+IsHoldable None = ⊥
 
 -- the place of a job
 pub record IsJob (f : PlainFloor) (job : ℕ) : Type 0 where

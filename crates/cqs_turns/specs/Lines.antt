@@ -53,20 +53,40 @@ ends_text (resource ∷ resources) at f = end_text resource.name (end_answer f a
 -- how a job ended, if it has
 abbrev pub is_done : Progress → Bool
 is_done (Ended Done) = true
-is_done _ = false
+is_done (Ended GaveUp) = false
+is_done (Ended Late) = false
+is_done (Ended Crowded) = false
+is_done (Stepping next) = false
+is_done (Working next until) = false
+is_done (Waiting next at number) = false
 
 abbrev pub has_given_up : Progress → Bool
 has_given_up (Ended GaveUp) = true
-has_given_up _ = false
+has_given_up (Ended Done) = false
+has_given_up (Ended Late) = false
+has_given_up (Ended Crowded) = false
+has_given_up (Stepping next) = false
+has_given_up (Working next until) = false
+has_given_up (Waiting next at number) = false
 
 abbrev pub is_late : Progress → Bool
 is_late (Ended Late) = true
-is_late _ = false
+is_late (Ended Done) = false
+is_late (Ended GaveUp) = false
+is_late (Ended Crowded) = false
+is_late (Stepping next) = false
+is_late (Working next until) = false
+is_late (Waiting next at number) = false
 
 -- a call of the job was turned away, which the plain floor never does
 abbrev pub is_crowded : Progress → Bool
 is_crowded (Ended Crowded) = true
-is_crowded _ = false
+is_crowded (Ended Done) = false
+is_crowded (Ended GaveUp) = false
+is_crowded (Ended Late) = false
+is_crowded (Stepping next) = false
+is_crowded (Working next until) = false
+is_crowded (Waiting next at number) = false
 
 abbrev pub is_unfinished : Progress → Bool
 is_unfinished (Stepping next) = true

@@ -182,8 +182,10 @@ give-well l n at job answer kept is_job holding a written = go (shown core.shape
     go (first ∷ rest) is =
         let came = came-sent core a.calls.after a.reply held.sole first rest a.calls.made is in
         at-answer (Sent 0 first.wait) (same_Some _ _ (sym a.told ∙ ap give_of came.is)) (rw (line, is, element) refl)
-        (plain-sent l at job kept is_job.holds holding core a.calls.after a.reply a.calls.there a.calls.made first rest is)
-        (kept-sent l at job kept is_job.holds holding core a.calls.after a.reply a.calls.there a.calls.made first rest is)
+        (plain-sent l at job kept is_job.holds holding core a.calls.after a.reply a.calls.there
+        a.calls.made first rest is)
+        (kept-sent l at job kept is_job.holds holding core a.calls.after a.reply a.calls.there
+        a.calls.made first rest is)
 
 -- the same where the floor is seen as its plain floor
 pub give-can : (l : Ledger) (f : PlainFloor) (at job : ℕ) → plain_floor l ≡ f → IsKept l

@@ -39,7 +39,12 @@ idle-one = record { at = λ p d got. replicate-all 1 doing.Idle d p got }
 
 sole-opened : (permits : ℕ) → 0 < permits → permits ≤ 1048576 → IsSole (opened permits 1)
 sole-opened permits some few = record {
-  core = opened-core permits 1 (record { some_permits = some; few_permits = few; some_passes = lit< tt; few_passes = lit≤ tt });
+  core = opened-core permits 1 (record {
+    some_permits = some;
+    few_permits = few;
+    some_passes = lit< tt;
+    few_passes = lit≤ tt;
+  });
   idle = idle-one;
   one = refl;
   untaken = record { at = λ k cell got. absurd (cc) };
@@ -73,7 +78,8 @@ module _ (plan : Plan) (l : Ledger) (semaphores : AreSemaphores plan.resources) 
   -- the ledger's lists, as they are made
   holds-none : holds_in l ≡ replicate (length plan.jobs) []
   holds-none =
-      ap₂ holds_after (ap (λ (ws : List (Option Wait)). length ws) o.waits ∙ length-replicate (length plan.jobs) None) o.transfers
+      ap₂ holds_after (ap (λ (ws : List (Option Wait)). length ws) o.waits ∙ length-replicate (length plan.jobs) None)
+      o.transfers
 
   room-long : length l.room ≡ length plan.resources
   room-long =

@@ -70,7 +70,8 @@ idle-there (Some wait ∷ waits) zero idle = absurd (cc)
 idle-there (wait ∷ waits) (suc job) idle = idle-there waits job idle
 
 pub wait-there : (waits : List (Option Wait)) (job : ℕ) (wait : Wait) → get_or waits job None ≡ Some wait
-    → (slice_get waits job ≡ Some (Some wait)) × (get_or (map (option_map job_wait) waits) job None ≡ Some (job_wait wait))
+    → (slice_get waits job ≡ Some (Some wait))
+    × (get_or (map (option_map job_wait) waits) job None ≡ Some (job_wait wait))
 wait-there [] job wait is = absurd (cc)
 wait-there (w ∷ waits) zero wait is = (ap Some is, ap (option_map job_wait) is)
 wait-there (w ∷ waits) (suc job) wait is = wait-there waits job wait is

@@ -137,7 +137,8 @@ module _ (l : Ledger) (at job : ℕ) (kept : IsKept l) (place : at < length l.ro
         go (inl same) =
             let was = get-there l.waits job waiter in
             let now : Some (Some wait) ≡ Some (Some w) =
-            sym (get-set_here l.waits job was.0 (Some wait) was.1) ∙ ap (slice_get (set l.waits job (Some wait))) (sym same) ∙ got in
+            sym (get-set_here l.waits job was.0 (Some wait) was.1)
+            ∙ ap (slice_get (set l.waits job (Some wait))) (sym same) ∙ got in
             let is : wait ≡ w = cc in
             inl (same, is)
         go (inr other) = inr (other, sym (get-set_else l.waits job j (Some wait) (λ e. other (sym e))) ∙ got)
@@ -256,7 +257,8 @@ take-well l n at job answer kept holdable is_job idle room a written =
     -- what holds of one answer, at the ledger that it makes
     at-answer : (given : FloorTake) → answer ≡ given
         → take_answer (plain_floor l) at job ≡ given
-        → plain_floor (with_cores (with_take l at job given) (set l.cores at a.calls.after)) ≡ after_take (plain_floor l) at job given
+        → plain_floor (with_cores (with_take l at job given) (set l.cores at a.calls.after))
+        ≡ after_take (plain_floor l) at job given
         → IsKept (with_cores (with_take l at job given) (set l.cores at a.calls.after))
         → TakesWell (plain_floor l) at job answer n
     at-answer given is answers leaves holds =
@@ -285,15 +287,20 @@ take-well l n at job answer kept holdable is_job idle room a written =
     go true some =
         let came = came-now core a.calls.after a.reply funded.sole a.calls.made some in
         at-answer (Now 0) (same_Some _ _ (sym a.told ∙ ap take_of came.is)) (rw (object, some) refl)
-        (plain-now l at job kept place room is_job.holds waiter nobody core a.calls.after a.reply a.calls.there a.calls.made some)
+        (plain-now l at job kept place room is_job.holds waiter nobody core a.calls.after a.reply
+        a.calls.there a.calls.made some)
         (kept-next l _ at core a.calls.after kept
-        (follows-now l at job kept place room is_job.holds waiter nobody core a.calls.after a.reply a.calls.there a.calls.made some))
+        (follows-now l at job kept place room is_job.holds waiter nobody core a.calls.after a.reply
+        a.calls.there a.calls.made some))
     go false none =
         let came = came-later core a.calls.after a.reply funded.sole a.calls.made none in
-        at-answer (Waits (shown core.shape).next) (same_Some _ _ (sym a.told ∙ ap take_of came.is)) (rw (object, none) refl)
-        (plain-later l at job kept place room is_job.holds waiter nobody core a.calls.after a.reply a.calls.there a.calls.made none)
+        at-answer (Waits (shown core.shape).next)
+        (same_Some _ _ (sym a.told ∙ ap take_of came.is)) (rw (object, none) refl)
+        (plain-later l at job kept place room is_job.holds waiter nobody core a.calls.after a.reply
+        a.calls.there a.calls.made none)
         (kept-next l _ at core a.calls.after kept
-        (follows-later l at job kept place room is_job.holds waiter nobody core a.calls.after a.reply a.calls.there a.calls.made none))
+        (follows-later l at job kept place room is_job.holds waiter nobody core a.calls.after a.reply
+        a.calls.there a.calls.made none))
 
 -- the same where the floor is seen as its plain floor
 pub take-floor : (l n : Ledger) (f : PlainFloor) (at job : ℕ) (answer : FloorTake) → plain_floor l ≡ f → IsKept l
@@ -301,7 +308,8 @@ pub take-floor : (l n : Ledger) (f : PlainFloor) (at job : ℕ) (answer : FloorT
     → Answers take_of (call.Acquire 0) l.cores at n.cores answer → n ≡ with_cores (with_take l at job answer) n.cores
     → TakesWell f at job answer n
 take-floor l n f at job answer view kept =
-    let Comes : PlainFloor → Type 0 = λ g. IsHoldable (slice_get g.kinds at) → IsJob g job → IsIdle g job → 0 < room_at g at
+    let Comes : PlainFloor → Type 0 =
+    λ g. IsHoldable (slice_get g.kinds at) → IsJob g job → IsIdle g job → 0 < room_at g at
     → Answers take_of (call.Acquire 0) l.cores at n.cores answer → n ≡ with_cores (with_take l at job answer) n.cores
     → TakesWell g at job answer n in
     subst Comes view (take-well l n at job answer kept)

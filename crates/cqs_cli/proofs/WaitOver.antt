@@ -43,7 +43,8 @@ module _ (l : Ledger) (job : ℕ) (wait : Wait) (kept : IsKept l) (has : slice_g
       go : (j ≡ job) ⊎ (j ≢ job) → IsAnother j w
       go (inl same) =
           let gone : Some None ≡ Some (Some w) =
-          sym (get-set_here l.waits job (Some wait) None has) ∙ ap (slice_get (set l.waits job None)) (sym same) ∙ got in
+          sym (get-set_here l.waits job (Some wait) None has) ∙ ap (slice_get (set l.waits job None)) (sym same)
+          ∙ got in
           absurd (cc)
       go (inr other) =
           let stands : slice_get l.waits j ≡ Some (Some w) =
@@ -87,7 +88,8 @@ module _ (l : Ledger) (job : ℕ) (wait : Wait) (kept : IsKept l) (has : slice_g
 
     -- the other waits stand on
     stand-on : ((k : ℕ) → k ≢ wait.number → HasWait k 0 (shown core.shape) → HasWait k 0 (shown after.shape))
-        → (j : ℕ) (w : Wait) → slice_get (set l.waits job None) j ≡ Some (Some w) → StandsIn (set l.cores wait.at after) w
+        → (j : ℕ) (w : Wait) → slice_get (set l.waits job None) j ≡ Some (Some w)
+        → StandsIn (set l.cores wait.at after) w
     stand-on stays j w got =
         let other = another j w got in
         stands-on l.cores wait.at core after w there (λ same stands. stays w.number (other.number same) stands)
@@ -110,7 +112,8 @@ module _ (l : Ledger) (job : ℕ) (wait : Wait) (kept : IsKept l) (has : slice_g
       cores = refl;
       rooms = refl;
       funded = funded-next core after c answer _ _ _ _ _ _ _ funded made
-          (omega (arith, numbers)) (omega (arith, waiting-here, held-here)) (omega (arith, came.holds, funded.holds, held-here));
+          (omega (arith, numbers)) (omega (arith, waiting-here, held-here))
+          (omega (arith, came.holds, funded.holds, held-here));
       room = λ i other. refl;
       waiting = waiting-else;
       held = λ i other. ap (λ hs. held_at hs i) gone-holds;
@@ -138,14 +141,16 @@ module _ (l : Ledger) (job : ℕ) (wait : Wait) (kept : IsKept l) (has : slice_g
     pub kept-came : (told : Reply) (entries : List Entry) → job < length (holds_in l)
         → Came core after answer told entries (slice_index core.shape.held 0 + 1)
         → after.shape.queue.suspends ≡ core.shape.queue.suspends
-        → ((k : ℕ) → k ≢ wait.number → HasWait k 0 (shown core.shape) → HasWait k 0 (shown after.shape)) → IsKept came_to
+        → ((k : ℕ) → k ≢ wait.number → HasWait k 0 (shown core.shape) → HasWait k 0 (shown after.shape))
+        → IsKept came_to
     kept-came told entries holder came numbers stays = kept-next l came_to wait.at core after kept (record {
       there = there;
       kinds = refl;
       cores = refl;
       rooms = refl;
       funded = funded-next core after c answer _ _ _ _ _ _ _ funded made
-          (omega (arith, numbers)) (omega (arith, waiting-here, held-here)) (omega (arith, came.holds, funded.holds, held-here));
+          (omega (arith, numbers)) (omega (arith, waiting-here, held-here))
+          (omega (arith, came.holds, funded.holds, held-here));
       room = λ i other. refl;
       waiting = waiting-else;
       held = λ i other. omega (arith, held-after i, bit-other wait.at i (λ e. other (sym e)));

@@ -29,7 +29,8 @@ pub record CanCall (cores : List Room) (at : ℕ) (c : Call) : Type 0 where
   pub allowed : MayCall core.shape c
 
 -- the core at a place has made this call, and the others are as they were
-pub record Calls (old : List Room) (at : ℕ) (c : Call) (answer : Reply) (new : List Room) : Type 0 where
+pub record Calls (old : List Room) (at : ℕ) (c : Call) (answer : Reply)
+    (new : List Room) : Type 0 where
   pub core : Room
   pub there : slice_get old at ≡ Some core
   pub after : Room
@@ -37,7 +38,8 @@ pub record Calls (old : List Room) (at : ℕ) (c : Call) (answer : Reply) (new :
   pub cores : new ≡ slice_set old at after
 
 -- a floor answers by the reply of the core at a place
-pub record Answers {A : Type 0} (answer_of : Reply → Option A) (c : Call) (old : List Room) (at : ℕ) (new : List Room)
+pub record Answers {A : Type 0} (answer_of : Reply → Option A) (c : Call) (old : List Room)
+    (at : ℕ) (new : List Room)
     (answer : A) : Type 0 where
   pub reply : Reply
   pub calls : Calls old at c reply new
@@ -76,7 +78,8 @@ pub record Reads (cores : List Room) (wait : Wait) (served : Bool) : Type 0 wher
   pub there : slice_get cores wait.at ≡ Some core
   pub reads : is_wait_served core wait ≡ served
 
--- a look: nothing changes where the wait wasn't served, and else the core is asked and the job has what came
+-- a look: nothing changes where the wait wasn't served, and else the core is asked
+-- and the job has what came
 abbrev pub Looks : Ledger → ℕ → Wait → FloorLook → Ledger → Type 0
 Looks old job wait Pending new = Reads old.cores wait false × (new ≡ old)
 Looks old job wait (Granted element) new =

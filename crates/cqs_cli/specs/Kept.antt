@@ -31,8 +31,9 @@ abbrev pub HoldPermits : List (List Holding) → Type 0
 HoldPermits [] = Unit {0}
 HoldPermits (hs ∷ holds) = ArePermits hs × HoldPermits holds
 
--- The core of a resource has room for all that can still come: three entries for each take, three for the look or
--- the leave of each wait, and three for each give. Its pass holds what the jobs hold.
+-- The core of a resource has room for all that can still come: three entries for each
+-- take, three for the look or the leave of each wait, and three for each give. Its pass
+-- holds what the jobs hold.
 pub record IsFunded (core : Room) (size room waiting held : ℕ) : Type 0 where
   pub sole : IsSole core.shape
   pub permits : core.shape.permits ≡ size
@@ -48,7 +49,8 @@ pub record StandsIn (cores : List Room) (wait : Wait) : Type 0 where
 
 -- no two jobs have one wait
 pub record AreApart (waits : List (Option Wait)) : Type 0 where
-  pub same : (i j : ℕ) (wait : Wait) → slice_get waits i ≡ Some (Some wait) → slice_get waits j ≡ Some (Some wait)
+  pub same : (i j : ℕ) (wait : Wait) → slice_get waits i ≡ Some (Some wait)
+      → slice_get waits j ≡ Some (Some wait)
       → i ≡ j
 
 -- what the jobs of a ledger hold
@@ -58,19 +60,23 @@ holds_in l = holds_after (length l.waits) l.transfers
 -- the core of a place is funded for what the ledger counts there
 abbrev pub IsFundedAt : Ledger → ℕ → Room → Type 0
 IsFundedAt l at core =
-    IsFunded core (permits_of (slice_get l.kinds at)) (slice_index l.room at) (waiting_at l.waits at)
+    IsFunded core (permits_of (slice_get l.kinds at))
+    (slice_index l.room at) (waiting_at l.waits at)
     (held_at (holds_in l) at)
 
--- how many transfers may still come: two of each take, two of each wait, and one of each permit held
+-- how many transfers may still come: two of each take, two of each wait,
+-- and one of each permit held
 abbrev pub transfers_to_come : Ledger → ℕ
 transfers_to_come l =
-    2 * sum l.room + 2 * count_by (λ wait. is_some wait) l.waits + sum_by (λ hs. length hs) (holds_in l)
+    2 * sum l.room + 2 * count_by (λ wait. is_some wait) l.waits
+    + sum_by (λ hs. length hs) (holds_in l)
 
 pub record IsKept (l : Ledger) : Type 0 where
   pub cores : length l.cores ≡ length l.kinds
   pub rooms : length l.room ≡ length l.kinds
   pub funded : EachAt (IsFundedAt l) l.cores
-  pub waits : (job : ℕ) (wait : Wait) → slice_get l.waits job ≡ Some (Some wait) → StandsIn l.cores wait
+  pub waits : (job : ℕ) (wait : Wait) → slice_get l.waits job ≡ Some (Some wait)
+      → StandsIn l.cores wait
   pub apart : AreApart l.waits
   pub plain : HoldPermits (holds_in l)
   pub spare : transfers_to_come l ≤ l.spare

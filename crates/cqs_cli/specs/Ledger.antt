@@ -59,7 +59,8 @@ with_cores l cores = record l { cores = cores }
 
 -- one more transfer is written down
 abbrev pub with_transfer : Ledger → Transfer → Ledger
-with_transfer l transfer = record l { transfers = l.transfers ++ transfer ∷ []; spare = l.spare - 1 }
+with_transfer l transfer =
+    record l { transfers = l.transfers ++ transfer ∷ []; spare = l.spare - 1 }
 
 abbrev pub with_wait : Ledger → ℕ → Option Wait → Ledger
 with_wait l job wait = record l { waits = slice_set l.waits job wait }

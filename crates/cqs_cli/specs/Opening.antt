@@ -1,4 +1,5 @@
--- The making of a floor on cores: which plans it can carry out, and what stands when nothing has happened.
+-- The making of a floor on cores: which plans it can carry out, and what stands
+-- when nothing has happened.
 pub use Rattle.cqs_plan.specs.Runnable.{IsSemaphore, AreSemaphores}
 use Rattle.std.specs.Prelude.{◌≡◌, ℕ, ◌*◌, ◌<◌, ◌≤◌, List, [], length, map, replicate, sum, sum_by, count_by, Some, None, slice_get, slice_index}
 use Rattle.std.specs.List.{range_with_len}
@@ -37,7 +38,8 @@ pub record IsCountable (resources : ℕ) (job : Job) : Type 0 where
 abbrev pub takes_of : List Job → ℕ → ℕ
 takes_of jobs at = sum_by (λ job. count_by (is_take at) job.steps) jobs
 
--- a core with one pass and all its permits free, with memory for so many takes and what they lead to
+-- a core with one pass and all its permits free, with memory for so many
+-- takes and what they lead to
 pub record IsOpened (kind : Kind) (takes : ℕ) (core : Room) : Type 0 where
   pub shape : core.shape ≡ opened (permits_of (Some kind)) 1
   pub spare : 9 * takes ≤ core.spare

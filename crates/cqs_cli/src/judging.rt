@@ -12,7 +12,8 @@ use std::alloc::Global;
 
 /// What the words and the source come to. Everything that is to be written is made here.
 pub fn judge<S: Source>(alloc: Global, words: &[String], source: &mut S) -> Verdict
-    ensures right { IsVerdict S.left S.faults (map string_bytes words.now) result source.old source.new }
+    ensures right { IsVerdict S.left S.faults
+        (map string_bytes words.now) result source.old source.new }
     ensures taken { GivesAtMost (LONGEST_INPUT + 1) (S.left source.old) (S.left source.new) }
     ensures counted { HasTaken result (S.tally source.old) (S.tally source.new) }
 {

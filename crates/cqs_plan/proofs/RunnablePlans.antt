@@ -33,9 +33,11 @@ all-at P xs i x all there = subst P (get_or-at xs i x there) (all i x (get-below
 
 -- the resources that a document says are semaphores, since no other kind is built
 resources-are : (f : List ℕ × Data → Resource) (rest : List Resource)
-    → ((m : List ℕ × Data) → IsHoldable (Some (f m).kind)) → rest ≡ [] → (members : List (List ℕ × Data)) (at : ℕ) (r : Resource)
+    → ((m : List ℕ × Data) → IsHoldable (Some (f m).kind)) → rest ≡ []
+    → (members : List (List ℕ × Data)) (at : ℕ) (r : Resource)
     → slice_get (map f members ++ rest) at ≡ Some r → IsHoldable (Some r.kind)
-resources-are f rest each none [] at r there = let gone : slice_get {X = Resource} [] at ≡ Some r = rw none at there in absurd (cc)
+resources-are f rest each none [] at r there =
+    let gone : slice_get {X = Resource} [] at ≡ Some r = rw none at there in absurd (cc)
 resources-are f rest each none (m ∷ members) zero r there =
     let same : f m ≡ r = cc in rw (← same) (each m)
 resources-are f rest each none (m ∷ members) (suc at) r there = resources-are f rest each none members at r there
@@ -47,7 +49,8 @@ HasSemaphoresAlone plan = EachAt (λ at resource. IsHoldable (Some resource.kind
 alone-in : (root : Members) → HasSemaphoresAlone (plan_in root)
 alone-in root = record {
   at = λ at r there.
-      resources-are (resource_in semaphores) [] (λ m. tt) refl (members_in (get_member (codes "semaphore") root)) at r there;
+      resources-are (resource_in semaphores) [] (λ m. tt) refl
+      (members_in (get_member (codes "semaphore") root)) at r there;
 }
 
 pub semaphores-alone : (bytes : List ℕ) (plan : Plan) → IsPlanText bytes plan → HasSemaphoresAlone plan
@@ -67,7 +70,8 @@ module _ (plan : Plan) (valid : IsValid plan) (alone : HasSemaphoresAlone plan) 
       → IsHoldable (slice_get (kinds_of plan.resources) at)
   named-at test at there = go (slice_get plan.resources at) refl there
     where
-      go : (o : Option Resource) → slice_get plan.resources at ≡ o → IsSomeAnd o (λ resource. IsTrue (test resource.kind))
+      go : (o : Option Resource) → slice_get plan.resources at ≡ o
+          → IsSomeAnd o (λ resource. IsTrue (test resource.kind))
           → IsHoldable (slice_get (kinds_of plan.resources) at)
       go None is named = absurd named
       go (Some r) is named = holdable-at at r is
@@ -77,7 +81,8 @@ module _ (plan : Plan) (valid : IsValid plan) (alone : HasSemaphoresAlone plan) 
       → (at : ℕ) → HasKindAt plan.resources test at → ⊥
   other-kind test differs at there = go (slice_get plan.resources at) refl there
     where
-      go : (o : Option Resource) → slice_get plan.resources at ≡ o → IsSomeAnd o (λ resource. IsTrue (test resource.kind)) → ⊥
+      go : (o : Option Resource) → slice_get plan.resources at ≡ o
+          → IsSomeAnd o (λ resource. IsTrue (test resource.kind)) → ⊥
       go None is named = named
       go (Some r) is named = differs r.kind (alone.at at r is) named
 
@@ -117,12 +122,16 @@ module _ (plan : Plan) (valid : IsValid plan) (alone : HasSemaphoresAlone plan) 
     steps = record {
       at = λ place job there.
           let fits = all-at (IsJob plan.resources) plan.jobs place job valid.jobs there in
-          record { at = λ n step found. makeable job fits n step found (all-at (IsStep plan.resources) job.steps n step fits.steps found) };
+          record {
+            at = λ n step found.
+                makeable job fits n step found (all-at (IsStep plan.resources) job.steps n step fits.steps found);
+          };
     };
   }
 
 -- what a reader answers can be run
-pub read-runnable : (bytes : List ℕ) (result : Result Plan PlanError) → IfOk result (IsPlanText bytes) → IfOk result IsValid
+pub read-runnable : (bytes : List ℕ) (result : Result Plan PlanError) → IfOk result (IsPlanText bytes)
+    → IfOk result IsValid
     → IfOk result IsRunnable
 read-runnable bytes (Ok plan) text valid = runnable plan valid (semaphores-alone bytes plan text)
 read-runnable bytes (Err error) text valid = tt
@@ -131,7 +140,8 @@ read-runnable bytes (Err error) text valid = tt
 sized : (kind : Kind) → IsHoldable (Some kind) → IsKind kind → IsSemaphore kind
 sized kind holdable fits = (holdable, fits)
 
-pub read-built : (bytes : List ℕ) (result : Result Plan PlanError) → IfOk result (IsPlanText bytes) → IfOk result IsValid
+pub read-built : (bytes : List ℕ) (result : Result Plan PlanError) → IfOk result (IsPlanText bytes)
+    → IfOk result IsValid
     → IfOk result (λ plan. AreSemaphores plan.resources)
 read-built bytes (Ok plan) text valid = record {
   at = λ at r there.

@@ -10,7 +10,8 @@ TookMore earlier place = count_by (is_give place) earlier < count_by (is_take pl
 
 -- a `give` has more earlier takes of its resource than gives
 abbrev pub is_held : List Step → Step → Bool
-is_held earlier (Give place) = nat_lt (count_by (is_give place) earlier) (count_by (is_take place) earlier)
+is_held earlier (Give place) =
+    nat_lt (count_by (is_give place) earlier) (count_by (is_take place) earlier)
 is_held earlier (Take place) = true
 is_held earlier (Down place) = true
 is_held earlier (Await place) = true

@@ -1,4 +1,5 @@
--- What running a plan rests on: its steps name resources that are there, and give what was taken before.
+-- What running a plan rests on: its steps name resources that are there, and
+-- give what was taken before.
 use Rattle.std.specs.Prelude.{ℕ, ◌≤◌, List, take, length, map, Some, slice_get}
 use Rattle.cqs_core.specs.Numbered.{EachAt}
 use Rattle.cqs_plan.specs.declared.plans.kind.Kind.{Kind}
@@ -14,8 +15,8 @@ use Rattle.cqs_plan.specs.Validity.{IsKind}
 abbrev pub kinds_of : List Resource → List Kind
 kinds_of resources = map (λ resource. resource.kind) resources
 
--- The step can be made by a job that holds something of the resources at such places: it takes what is there, gives
--- what is held, or works. The last three verbs aren't built.
+-- The step can be made by a job that holds something of the resources at such places: it takes what
+-- is there, gives what is held, or works. The last three verbs aren't built.
 abbrev pub IsMakeable : List Kind → (ℕ → Type 0) → Step → Type 0
 IsMakeable kinds Holds (Take at) = IsHoldable (slice_get kinds at)
 IsMakeable kinds Holds (Give at) = Holds at

@@ -136,11 +136,13 @@ can-make-from : (kinds : List Kind) (whole earlier rest : List Step) (held : Lis
 can-make-from kinds whole earlier [] held same makeable balances = tt
 can-make-from kinds whole earlier (Take at ∷ rest) held same makeable balances = (
   can-now kinds whole earlier (Take at) rest same makeable,
-  can-make-from kinds whole (earlier ++ Take at ∷ []) rest (held ++ at ∷ []) (one-later whole earlier (Take at) rest same)
+  can-make-from kinds whole (earlier ++ Take at ∷ []) rest (held ++ at ∷ [])
+      (one-later whole earlier (Take at) rest same)
       makeable (balances-take held earlier at balances),
 )
 can-make-from kinds whole earlier (Give at ∷ rest) held same makeable balances =
-    let can : IsMakeable kinds (TookMore earlier) (Give at) = can-now kinds whole earlier (Give at) rest same makeable in
+    let can : IsMakeable kinds (TookMore earlier) (Give at) =
+    can-now kinds whole earlier (Give at) rest same makeable in
     let here : is_held at held ≡ true = held-some at held (omega (arith, can, balances.even at)) in (
       here,
       can-make-from kinds whole (earlier ++ Give at ∷ []) rest (without (λ x. x) at held)
@@ -162,7 +164,8 @@ pub can-make : (kinds : List Kind) (steps : List Step) → AreMakeable kinds ste
 can-make kinds steps makeable = can-make-from kinds steps [] steps [] refl makeable (record { even = λ at. refl })
 
 -- a step that can be made takes nothing beyond the resources
-takes-there_by : (kinds : List Kind) (at p : ℕ) → length kinds ≤ at → IsHoldable (slice_get kinds p) → (p ≡ at) ⊎ (p ≢ at)
+takes-there_by : (kinds : List Kind) (at p : ℕ) → length kinds ≤ at → IsHoldable (slice_get kinds p) → (p ≡ at)
+    ⊎ (p ≢ at)
     → p == at ≡ false
 takes-there_by kinds at p past holdable (inl same) =
     let none : slice_get kinds p ≡ None = get-past kinds p (omega arith) in absurd (rw none at holdable)

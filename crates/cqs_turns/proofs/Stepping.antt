@@ -35,7 +35,8 @@ made-ready r next (Await at) rest s ready = absurd ready.makeable.0
 made-ready r next (Arrive at) rest s ready = absurd ready.makeable.0
 
 -- a step that takes nothing leaves as many takes
-fewer-takes : (at : ℕ) (step : Step) (rest : List Step) → count_by (is_take at) rest ≤ count_by (is_take at) (step ∷ rest)
+fewer-takes : (at : ℕ) (step : Step) (rest : List Step)
+    → count_by (is_take at) rest ≤ count_by (is_take at) (step ∷ rest)
 fewer-takes at step rest = omega (arith, takes-cons at step rest)
 
 pub made-moves : (r : Role) (next : ℕ) (step : Step) (rest : List Step) (s : Scene) → HasRoom s.floor (step ∷ rest)

@@ -1,4 +1,5 @@
--- What a job's turn rests on: the floor knows the job as its progress does, and its steps can be made from there.
+-- What a job's turn rests on: the floor knows the job as its progress does, and its
+-- steps can be made from there.
 use Rattle.std.specs.Prelude.{◌≡◌, ℕ, ◌≤◌, List, [], ◌∷◌, ◌++◌, Option, Some, None, Bool, true, ◌==◌, drop, count_by, slice_get}
 use Rattle.std.specs.List.{list_any}
 use Rattle.cqs_core.specs.Keyed.{without}
@@ -56,7 +57,8 @@ AreHoldable kinds [] = Unit {0}
 AreHoldable kinds (at ∷ places) = IsHoldable (slice_get kinds at) × AreHoldable kinds places
 
 -- the job at a place has this wait, and once that is served it can go on with these steps
-pub record IsReady (f : PlainFloor) (place : ℕ) (wait : Option JobWait) (steps : List Step) : Type 0 where
+pub record IsReady (f : PlainFloor) (place : ℕ) (wait : Option JobWait)
+    (steps : List Step) : Type 0 where
   pub job : IsJob f place
   pub waits : wait_of f place ≡ wait
   pub holdable : AreHoldable f.kinds (coming (places_held f place) wait)

@@ -50,7 +50,8 @@ fn give_all<F: Floor>(
         given_back (role actor.now) held.old.items (scene (F.plain floor.old) report.old)) }
     ensures held { OnOk result (held.new.items ≡ places_held (F.plain floor.new) actor.now.place) }
     ensures err { OnErr result (IsFrontOf
-        (given_back (role actor.now) held.old.items (scene (F.plain floor.old) report.old)).text report.new) }
+        (given_back (role actor.now) held.old.items (scene (F.plain floor.old) report.old)).text
+        report.new) }
 {
     for at in held.iter() {
         give(floor, report, actor, *at)?;
@@ -170,7 +171,8 @@ fn make_step<F: Floor>(
         made (role actor.now) next step (scene (F.plain floor.old) report.old)) }
     ensures held { OnOk result (held.new.items ≡ places_held (F.plain floor.new) actor.now.place) }
     ensures err { OnErr result (IsFrontOf
-        (made (role actor.now) next step (scene (F.plain floor.old) report.old)).scene.text report.new) }
+        (made (role actor.now) next step (scene (F.plain floor.old) report.old)).scene.text
+        report.new) }
 {
     match step {
         Step::Work(turns) => Ok(Some(Progress::Working {
@@ -195,7 +197,8 @@ fn make_steps<F: Floor>(
     first: u32,
 ) -> Result<Progress, Memory>
     requires held { held.old.items ≡ places_held (F.plain floor.old) actor.now.place }
-    requires ready { IsReady (F.plain floor.old) actor.now.place None (drop first actor.now.job.now.steps) }
+    requires ready { IsReady (F.plain floor.old) actor.now.place None
+        (drop first actor.now.job.now.steps) }
     requires room { HasRoom (F.plain floor.old) (drop first actor.now.job.now.steps) }
     requires few_steps { length actor.now.job.now.steps ≤ 64 }
     requires turn { actor.now.turn ≤ 40000 }
@@ -203,7 +206,8 @@ fn make_steps<F: Floor>(
         go_on (role actor.now) first (scene (F.plain floor.old) report.old)) }
     ensures held { OnOk result (held.new.items ≡ places_held (F.plain floor.new) actor.now.place) }
     ensures err { OnErr result (IsFrontOf
-        (go_on (role actor.now) first (scene (F.plain floor.old) report.old)).scene.text report.new) }
+        (go_on (role actor.now) first (scene (F.plain floor.old) report.old)).scene.text
+        report.new) }
 {
     let steps = actor.job.steps.as_slice();
     for next in first as usize..steps.len() {
@@ -243,7 +247,8 @@ fn leave<F: Floor>(
     ensures ok { OnOk result (scene (F.plain floor.new) report.new ≡
         cancelled (role actor.now) at number (leave_answer (F.plain floor.old) actor.now.place)
         (scene (F.plain floor.old) report.old)) }
-    ensures end { IfOk result (λ end. end ≡ end_of (leave_answer (F.plain floor.old) actor.now.place)) }
+    ensures end { IfOk result (λ end. end
+        ≡ end_of (leave_answer (F.plain floor.old) actor.now.place)) }
     ensures held { OnOk result (held.new.items ≡ places_held (F.plain floor.new) actor.now.place) }
     ensures ready { OnOk result (IsReady (F.plain floor.new) actor.now.place None []) }
     ensures err { OnErr result (report.new ≡ report.old) }
@@ -289,7 +294,8 @@ fn be_served<F: Floor>(
     number: u64,
 ) -> Result<Progress, Memory>
     requires held { places_held (F.plain floor.old) actor.now.place ≡ held.old.items ++ at ∷ [] }
-    requires ready { IsReady (F.plain floor.old) actor.now.place None (drop next actor.now.job.now.steps) }
+    requires ready { IsReady (F.plain floor.old) actor.now.place None
+        (drop next actor.now.job.now.steps) }
     requires room { HasRoom (F.plain floor.old) (drop next actor.now.job.now.steps) }
     requires few_steps { length actor.now.job.now.steps ≤ 64 }
     requires turn { actor.now.turn ≤ 40000 }
@@ -345,14 +351,17 @@ pub fn act<F: Floor>(
 ) -> Result<(), Memory>
     requires acts { rests actor.now.turn state.old.progress ≡ false }
     requires ready { IsSet (F.plain floor.old) (role actor.now) state.old }
-    requires room { HasRoom (F.plain floor.old) (steps_left actor.now.job.now.steps state.old.progress) }
+    requires room { HasRoom (F.plain floor.old)
+        (steps_left actor.now.job.now.steps state.old.progress) }
     requires few_steps { length actor.now.job.now.steps ≤ 64 }
     requires turn { actor.now.turn ≤ 40000 }
     ensures ok { OnOk result (left_at (scene (F.plain floor.new) report.new) state.new.progress ≡
         acted (role actor.now) state.old.progress (scene (F.plain floor.old) report.old)) }
-    ensures held { OnOk result (state.new.held.items ≡ places_held (F.plain floor.new) actor.now.place) }
+    ensures held { OnOk result (state.new.held.items
+        ≡ places_held (F.plain floor.new) actor.now.place) }
     ensures err { OnErr result (IsFrontOf
-        (acted (role actor.now) state.old.progress (scene (F.plain floor.old) report.old)).scene.text report.new) }
+        (acted (role actor.now) state.old.progress
+        (scene (F.plain floor.old) report.old)).scene.text report.new) }
 {
     match state.progress {
         Progress::Ended(_) => unreachable!(),

@@ -22,8 +22,8 @@ use cqs_core::{Core, Memory};
 use cqs_plan::{Job, Kind, Plan, Resource, Step};
 use std::alloc::{AllocError, Global};
 
-/// The entries for which a core needs memory, for each take: three for the take, three for the look or the leave of its
-/// wait, and three for the give.
+/// The entries for which a core needs memory, for each take: three for the take, three for the look
+/// or the leave of its wait, and three for the give.
 const ENTRIES_A_TAKE: u32 = 9;
 
 impl Desk {
@@ -61,7 +61,8 @@ fn kinds(alloc: Global, resources: &[Resource]) -> Result<Vec<Kind>, AllocError>
 fn count_takes(alloc: Global, resources: usize, jobs: &[Job]) -> Result<Vec<u32>, AllocError>
     requires few { length jobs.now ≤ 4096 }
     requires countable { EachAt (λ place job. IsCountable resources job) jobs.now }
-    ensures counts { IfOk result (λ room. room.items ≡ map (takes_of jobs.now) (range_with_len 0 resources)) }
+    ensures counts { IfOk result (λ room. room.items
+        ≡ map (takes_of jobs.now) (range_with_len 0 resources)) }
     ensures few { IfOk result (λ room. sum room.items ≤ 262144) }
 {
     let mut room = vec![in alloc; 0u32; resources]?;
@@ -75,7 +76,8 @@ fn count_takes(alloc: Global, resources: usize, jobs: &[Job]) -> Result<Vec<u32>
 fn count_steps(room: &mut [u32], steps: &[Step])
     requires few { sum room.old + length steps.now < 2 ^ 32 }
     requires within { AreWithin (length room.old) steps.now }
-    ensures counts { (at : ℕ) → slice_index room.new at ≡ slice_index room.old at + count_by (is_take at) steps.now }
+    ensures counts { (at : ℕ) → slice_index room.new at
+        ≡ slice_index room.old at + count_by (is_take at) steps.now }
     ensures few { sum room.new ≤ sum room.old + length steps.now }
 {
     for step in steps {

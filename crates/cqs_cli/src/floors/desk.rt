@@ -1,7 +1,15 @@
 //! What a floor on cores is made of, and its calls.
 //!
-//! Each call makes one call of one core and writes down what the job got or gave back. All memory was taken
-//! before: a core has room for the calls that are still to come, and so has the list of transfers.
+//! Each call makes one call of one core and writes down what the job got or gave back. All
+//! memory was taken before: a core has room for the calls that are still to come, and so
+//! has the list of transfers.
+//!
+//! What the jobs hold is kept three times, since three ask for it. The turn machine reads its own
+//! list of each job (`JobState::held`), to give all back at the end. A core reads how many permits
+//! its pass holds, since it lets none be given that isn't held. The list of transfers is written
+//! and not read: contracts read off it what each job holds, oldest first. A resource that hands
+//! out elements will read there which one comes back. A wait is kept twice: the machine reads the
+//! one in the job's progress, to tell its line, and the floor the one in `waits`, to ask its core.
 
 ghost use Rattle.std.specs.Prelude.{◌≡◌, ◌<◌, ◌≤ℤ◌, pos, negsuc, Some, None, IsSome, length, slice_get, slice_index};
 ghost use Rattle.cqs_core.specs.declared.calls.Call.TheVariants as call;
@@ -17,7 +25,8 @@ use cqs_core::{Call, Core, Reply};
 use cqs_plan::{FloorEnd, FloorGive, FloorLeave, FloorLook, FloorTake, Kind};
 use std::marker::Model;
 
-/// For each resource what it is, its core and its room; for each job its wait; and what the jobs got and gave back.
+/// For each resource what it is, its core and its room; for each job its wait; and what
+/// the jobs got and gave back.
 #[derive(Drop)]
 pub struct Desk {
     pub kinds: Vec<Kind>,
@@ -84,7 +93,8 @@ impl Desk {
         requires core { CanCall self.old.cores at (call.Release 0) }
         requires spare { 0 < self.old.spare }
         ensures answer { Answers give_of (call.Release 0) self.old.cores at self.new.cores result }
-        ensures written { self.new ≡ with_cores (with_transfer self.old (GaveBack job at)) self.new.cores }
+        ensures written { self.new ≡ with_cores
+            (with_transfer self.old (GaveBack job at)) self.new.cores }
     {
         self.transfers.push_reserved(Transfer::GaveBack { job, at });
         match call_core(&mut self.cores[at as usize], Call::Release { pass: 0 }) {
@@ -118,8 +128,10 @@ impl Desk {
         requires core { CanCall self.old.cores wait.at (call.Cancel 0 wait.number) }
         requires job { job < length self.old.waits }
         requires spare { 0 < self.old.spare }
-        ensures answer { Answers leave_of (call.Cancel 0 wait.number) self.old.cores wait.at self.new.cores result }
-        ensures written { self.new ≡ with_cores (with_leave self.old job wait result) self.new.cores }
+        ensures answer { Answers leave_of
+            (call.Cancel 0 wait.number) self.old.cores wait.at self.new.cores result }
+        ensures written { self.new ≡ with_cores
+            (with_leave self.old job wait result) self.new.cores }
     {
         let cancel = Call::Cancel {
             pass: 0,

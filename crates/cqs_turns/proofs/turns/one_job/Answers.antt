@@ -34,7 +34,8 @@ returns-clause-ok g c =
     = acting-at _ _ _ _ _ _ c.index-states-place-2.result actor.resources actor.place actor.job
     c.requires.runnable c.requires.running c.requires.kept c.requires.place in
     on_ok_weaker c.act.result
-    (one-job-ok _ _ _ _ _ _ acting c.args.turn c.args.place actor.turn actor.place _ _ c.act.new.state) c.act.ensures.ok
+    (one-job-ok _ _ _ _ _ _ acting c.args.turn c.args.place actor.turn actor.place _ _ c.act.new.state)
+    c.act.ensures.comes.ok
 
 pub returns-clause-running : goal.returns-clause-running
 returns-clause-running g c =
@@ -46,7 +47,7 @@ returns-clause-running g c =
     c.requires.runnable c.requires.running c.requires.kept c.requires.place in
     on_ok_weaker c.act.result
     (one-job-running _ _ _ _ _ _ acting c.args.turn c.args.place actor.turn actor.place _ _ c.act.new.state)
-    c.act.ensures.ok
+    c.act.ensures.comes.ok
 
 pub returns-clause-kept : goal.returns-clause-kept
 returns-clause-kept g c =
@@ -58,4 +59,4 @@ returns-clause-kept g c =
     c.requires.runnable c.requires.running c.requires.kept c.requires.place in
     on-ok-both c.act.result
     (one-job-kept _ _ _ _ _ _ acting c.args.turn c.args.place actor.turn actor.place _ _ c.act.new.state)
-    c.act.ensures.ok c.act.ensures.held
+    c.act.ensures.comes.ok c.act.ensures.held

@@ -129,6 +129,7 @@ module _ {C E S : Type 0} (object : Object E) (primitive : C → Primitive E S) 
     pub heads : List (ℕ × ℕ)
     pub last : Option Glimpse
     pub few : length found + length heads ≤ longest_search + tries
+    pub few_heads : length heads ≤ longest_search
     pub saw : Saw object v (facts_on_way found heads last v.facts) [] u
 
   pub way-searched : (v u : View E S) → Searched object v u → OnWay 0 v u
@@ -137,6 +138,7 @@ module _ {C E S : Type 0} (object : Object E) (primitive : C → Primitive E S) 
     heads = s.heads;
     last = v.facts.last;
     few = let few = s.few in omega arith;
+    few_heads = let few = s.few in omega arith;
     saw = s.saw;
   }
 
@@ -158,6 +160,7 @@ module _ {C E S : Type 0} (object : Object E) (primitive : C → Primitive E S) 
         heads = way.heads;
         last = Some m.glimpse;
         few = omega (arith, more, few);
+        few_heads = way.few_heads;
         saw = subst (λ (z : Facts). Saw object v z [] w) is (saw-then object v u w _ _ [] way.saw m.saw);
       }
 
@@ -167,6 +170,7 @@ module _ {C E S : Type 0} (object : Object E) (primitive : C → Primitive E S) 
     heads = way.heads;
     last = way.last;
     few = let few = way.few in omega arith;
+    few_heads = way.few_heads;
     saw = way.saw;
   }
 
@@ -397,6 +401,7 @@ module _ {C E S : Type 0} (object : Object E) (primitive : C → Primitive E S) 
         tried = way.found;
         heads = way.heads;
         few = omega arith;
+        few_heads = way.few_heads;
         word = d.word;
         left = d.left;
         cell = subst (λ z. FoundCell d.word (cell_of k z d.left)) ends.finds d.cell;

@@ -1,0 +1,4 @@
+pub mod Rules
+pub mod Courses
+pub mod States
+pub mod AcquireSteps

@@ -1,23 +1,25 @@
 -- An acquire is its steps: a load of the suspend counter, one taken from the state, and perhaps a suspend.
 use Rattle.std.proofs.Common.{◌≡◌, ℕ, ◌+◌, ◌<◌, ◌≤◌, Bool, true, false, List, [], ◌∷◌, ◌++◌, Option, Some, None, Result, Ok, Err, sym, refl, ap, ◌∙◌, subst, append_assoc, arith, if◌then◌else◌}
 use Rattle.std.specs.Prelude.{nat_lt}
-use Rattle.std.proofs.lemmas.Bool.{le-leb, le-ltb}
+use Rattle.std.proofs.lemmas.Bool.{le-ltb}
 use Rattle.std.proofs.lemmas.List.{append-nil}
 use Rattle.cqs_core.specs.declared.doings.Doing.{Doing}
 use Rattle.cqs_core.specs.declared.doings.Doing.TheVariants as doing
 use Rattle.cqs_core.specs.declared.cells.CoreState.TheVariants as state
 use Rattle.cqs_core.specs.declared.entries.Entry.{Entry}
 use Rattle.cqs_core.specs.declared.entries.Entry.TheVariants as entry
+use Rattle.cqs_core.specs.declared.cells.CoreState.{CoreState}
 use Rattle.cqs_core.specs.QueueSteps.{installs, takes}
+use Rattle.cqs_core.specs.SemaphoreEntries.{IsLegal}
 use Rattle.cqs_rule.specs.declared.view.Facts.{Facts}
 use Rattle.cqs_rule.specs.declared.view.Sighting.{Sighting}
-use Rattle.cqs_rule.specs.declared.view.Sighting.TheVariants.{Word}
+use Rattle.cqs_rule.specs.declared.view.Sighting.TheVariants.{Cell, Word}
 use Rattle.cqs_rule.specs.declared.view.View.{View}
 use Rattle.cqs_rule.specs.Called.{Called}
 use Rattle.cqs_rule.specs.Events.{in_any_case}
 use Rattle.cqs_rule.specs.Facts.{is_owing}
 use Rattle.cqs_rule.specs.Layout.{suspends_place, client_place}
-use Rattle.cqs_rule.specs.Lists.{IsPrefix}
+use Rattle.cqs_rule.specs.Lists.{Has, IsPrefix}
 use Rattle.cqs_rule.specs.Saw.{Saw}
 use Rattle.cqs_rule.specs.Semaphore.{semaphore_object, takes_one}
 use Rattle.cqs_rule.specs.SemaphoreSteps.{NextIs, OnState}
@@ -25,10 +27,15 @@ use Rattle.cqs_rule.specs.Waits.{place_of}
 use Rattle.cqs_rule.proofs.Calls.{called-by, called-then, called-and}
 use Rattle.cqs_suspend.specs.Suspends.{EndsBy}
 use Rattle.cqs_words.specs.State.{count_in, is_above_zero}
-use Rattle.cqs_semaphore.specs.Answers.{IsWorn, IsBelow, WasFree, WasNone, facts_refused}
-use Rattle.cqs_semaphore.specs.Calls.{IsReady, Rests}
+use Rattle.cqs_semaphore.specs.Answers.{IsWorn, IsBelow, WasFree, WasNone, Takes, Acquires, facts_refused}
+use Rattle.cqs_semaphore.specs.Calls.{IsReady, Rests, CallRule}
 use Rattle.cqs_semaphore.specs.Causes.{primitive_of, CellWas, Counted, StateWas, state_after}
-use Rattle.cqs_semaphore.proofs.States.{prefix-same, prefix-then, saw-prefix, called-prefix, counted, state-was, next-drawn, count-above, count-not_above}
+use Rattle.cqs_semaphore.specs.Entries.{took_entries, came_by, acquired_entries, acquired_further}
+use Rattle.cqs_semaphore.specs.Steps.{WaitsInLine}
+use Rattle.cqs_semaphore.specs.declared.answers.Acquired.{Acquired}
+use Rattle.cqs_semaphore.specs.declared.answers.Acquired.TheVariants.{Now, Later}
+use Rattle.cqs_semaphore.proofs.Rules.{call-rule, call-rule_own}
+use Rattle.cqs_semaphore.proofs.States.{prefix-same, prefix-then, saw-prefix, called-prefix, counted, state-was, state-later, next-drawn, count-above, count-not_above}
 
 -- what a step that takes one from the state leaves a pass at, by whether one was free
 abbrev pub took_by : Bool → ℕ → List Entry
@@ -42,6 +49,9 @@ facts_took b n f = record f {
   reached = (if is_owing f.doing then f.reached else 0);
   found = f.found ++ Word (client_place 0) n ∷ [];
 }
+
+prefix-more : {A : Type 0} (a b c d : List A) → IsPrefix a (((a ++ b) ++ c) ++ d)
+prefix-more a b c d = (b ++ (c ++ d), append_assoc (a ++ b) c d ∙ append_assoc a b (c ++ d))
 
 module _ {T : Type 0} where
   record TookBy (b : Bool) (n : ℕ) (u x : View Entry T) : Type 0 where
@@ -58,7 +68,7 @@ module _ {T : Type 0} where
   -- the counter was at the limit
   pub worn : (v u : View Entry T) (n : ℕ) → NextIs v n u → v.limit ≤ n → IsWorn v u
   worn v u n next high =
-      let off : nat_lt n v.limit ≡ false = lt_not n v.limit high in
+      let off : nat_lt n v.limit ≡ false = le-ltb n v.limit high in
       let facts : u.facts ≡ facts_refused n v.facts = next.saw.facts_are
       ∙ ap (λ b. record v.facts {
         may_draw = (if b then true else v.facts.may_draw);
@@ -146,12 +156,6 @@ module _ {T : Type 0} where
     };
   }
 
-  -- What a call goes on with: all that its pass had seen and found is the beginning of what it sees and finds.
-  record GoesOn (x w : View Entry T) : Type 0 where
-    seen : IsPrefix x.seen w.seen
-    found : IsPrefix x.facts.found w.facts.found
-    opening : w.opening ≡ x.opening
-
   pub below-later : (b : Bool) (v x w : View Entry T) → Came b v x → IsPrefix x.seen w.seen
       → IsPrefix x.facts.found w.facts.found → IsBelow v w
   below-later b v x w c seen found = record {
@@ -166,27 +170,6 @@ module _ {T : Type 0} where
     };
   }
 
-  state-later : (v x w : View Entry T) (count : Rattle.std.specs.Prelude.ℤ) (before own : List Entry)
-      → StateWas v count before own x → IsPrefix x.seen w.seen → IsPrefix x.facts.found w.facts.found
-      → w.opening ≡ x.opening → StateWas v count before own w
-  state-later v x w count before own s seen found opening = record {
-    since = s.since;
-    seen = prefix-then (before ++ own) x.seen w.seen s.seen seen;
-    state = s.state ∙ ap (λ (o : Rattle.cqs_rule.specs.declared.view.Opening.Opening).
-        Rattle.cqs_core.specs.SemaphoreShown.state_of
-        (Rattle.cqs_core.specs.SemaphoreEntries.object_after o.size before)) (sym opening);
-    word = s.word;
-    count_is = s.count_is;
-    found = (
-      s.found.0,
-      s.found.1 ++ found.0,
-      found.1
-          ∙ (ap (λ l. l ++ found.0) s.found.2
-          ∙ (append_assoc v.facts.found _ found.0
-          ∙ ap (λ l. v.facts.found ++ l) (append_assoc s.found.0 (Word (client_place 0) s.word ∷ s.found.1) found.0))),
-    );
-  }
-
   pub was-none : (v x w : View Entry T) → Came false v x → IsPrefix x.seen w.seen
       → IsPrefix x.facts.found w.facts.found → w.opening ≡ x.opening → WasNone v w
   was-none v x w c seen found opening = record {
@@ -195,3 +178,99 @@ module _ {T : Type 0} where
     none = count-not_above c.word c.word_is;
     found = state-later v x w _ c.before _ c.found seen found opening;
   }
+
+  -- The pass was at the door, and its suspend ended with a step on the cell of its number.
+  record Sat (k payload : ℕ) (own : List Entry) (waits : List ℕ) (more : ℕ) (seen_in : CoreState) (x w : View Entry T) : Type 0 where
+    found : IsPrefix x.facts.found w.facts.found
+    opening : w.opening ≡ x.opening
+    seen : IsPrefix x.seen w.seen
+    cell : CellWas seen_in k own w
+    held : w.facts.has.held ≡ x.facts.has.held + more
+    further : w.facts.has.further ≡ x.facts.has.further
+    idle : w.facts.doing ≡ doing.Idle
+    waits_are : w.facts.waits ≡ waits
+
+  sat-taken : (k payload : ℕ) (x w : View Entry T) → EndsBy semaphore_object primitive_of takes 2 k payload x w
+      → Sat k payload (entry.Deliver k ∷ []) x.facts.waits 1 state.Value x w
+  sat-taken k payload x w e =
+      let all = ap (λ (f : Facts). f.found) e.facts_are in
+      record {
+        found = subst (IsPrefix x.facts.found) (sym all)
+            (prefix-more x.facts.found (Word suspends_place k ∷ []) e.found (Cell k e.word ∷ []));
+        opening = e.called.same.opening;
+        seen = called-prefix x w _ _ e.called;
+        cell = record { word = e.word; payload = payload; cell = e.cell; found = (_, all); was = e.was };
+        held = ap (λ (f : Facts). f.has.held) e.facts_are;
+        further = ap (λ (f : Facts). f.has.further) e.facts_are;
+        idle = ap (λ (f : Facts). f.doing) e.facts_are;
+        waits_are = ap (λ (f : Facts). f.waits) e.facts_are;
+      }
+
+  sat-installed : (k : ℕ) (x w : View Entry T) → EndsBy semaphore_object primitive_of installs 0 k 0 x w
+      → Sat k 0 [] (x.facts.waits ++ k ∷ []) 0 state.Empty x w
+  sat-installed k x w e =
+      let all = ap (λ (f : Facts). f.found) e.facts_are in
+      record {
+        found = subst (IsPrefix x.facts.found) (sym all)
+            (prefix-more x.facts.found (Word suspends_place k ∷ []) e.found (Cell k e.word ∷ []));
+        opening = e.called.same.opening;
+        seen = called-prefix x w _ _ e.called;
+        cell = record { word = e.word; payload = 0; cell = e.cell; found = (_, all); was = e.was };
+        held = ap (λ (f : Facts). f.has.held) e.facts_are ∙ omega arith;
+        further = ap (λ (f : Facts). f.has.further) e.facts_are;
+        idle = ap (λ (f : Facts). f.doing) e.facts_are;
+        waits_are = ap (λ (f : Facts). f.waits) e.facts_are;
+      }
+
+  pub waits-called : (v x w : View Entry T) (a : Acquired) → Came false v x → WaitsInLine x a w
+      → Has v.number v.own → IsLegal w.opening.size w.seen
+      → CallRule v (acquired_entries v.number (Ok a)) (acquired_further (Ok a)) w
+  waits-called v x w (Now permit) c e own legal =
+      let k = e.0 in
+      subst (λ (n : Option ℕ). CallRule v (took_entries v.number n) (came_by n) w) (sym e.2)
+      (call-rule v w (entry.TakeDoor v.number ∷ entry.Enter v.number k ∷ []) (entry.Deliver k ∷ [])
+      (subst (λ p. Called semaphore_object v
+      (entry.TakeDoor v.number ∷ entry.Enter p k ∷ entry.Deliver k ∷ []) (entry.Deliver k ∷ []) w) c.called.same.number
+      (called-and semaphore_object v x w _ _ _ _ c.called e.3.called))
+      (λ n. refl, (λ n. refl, tt)) (λ n. refl, tt) own legal)
+  waits-called v x w (Later wait) c e own legal =
+      let k = (place_of wait).index in
+      call-rule_own v w (entry.TakeDoor v.number ∷ entry.Enter v.number k ∷ []) []
+      (subst (λ p. Called semaphore_object v (entry.TakeDoor v.number ∷ entry.Enter p k ∷ []) [] w) c.called.same.number
+      (called-and semaphore_object v x w _ _ _ _ c.called e.0.called))
+      (λ n. refl, (λ n. refl, tt)) own legal
+
+  pub waits-below : (v x w : View Entry T) (a : Acquired) → Came false v x → WaitsInLine x a w → IsBelow v w
+  waits-below v x w (Now permit) c e =
+      let s = sat-taken e.0 e.1 x w e.3 in below-later false v x w c s.seen s.found
+  waits-below v x w (Later wait) c e =
+      let s = sat-installed (place_of wait).index x w e.0 in below-later false v x w c s.seen s.found
+
+  pub waits-acquired : (v x w : View Entry T) (a : Acquired) → IsReady v.facts → Came false v x → WaitsInLine x a w
+      → Acquires v a w
+  waits-acquired v x w (Now permit) r c e =
+      let k = e.0 in
+      let s = sat-taken k e.1 x w e.3 in
+      subst (λ (n : Option ℕ). Takes v n w) (sym e.2) (
+        was-none v x w c s.seen s.found s.opening,
+        s.cell,
+        record {
+          ready = record { idle = s.idle; further = s.further ∙ (c.further ∙ r.further) };
+          held_is = s.held ∙ ap (λ h. h + 1) c.held;
+          waits_are = s.waits_are ∙ c.waits;
+        },
+      )
+  waits-acquired v x w (Later wait) r c e =
+      let k = (place_of wait).index in
+      let s = sat-installed k x w e.0 in
+      let held = s.held in
+      let held_x : x.facts.has.held ≡ v.facts.has.held = c.held in (
+        was-none v x w c s.seen s.found s.opening,
+        s.cell,
+        e.1,
+        record {
+          ready = record { idle = s.idle; further = s.further ∙ (c.further ∙ r.further) };
+          held_is = omega arith;
+          waits_are = s.waits_are ∙ ap (λ l. l ++ k ∷ []) c.waits;
+        },
+      )

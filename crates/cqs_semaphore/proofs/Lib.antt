@@ -2,3 +2,4 @@ pub mod Rules
 pub mod Courses
 pub mod States
 pub mod AcquireSteps
+pub mod TrySteps

@@ -12,7 +12,9 @@ use Rattle.cqs_core.specs.declared.entries.Entry.{Entry}
 use Rattle.cqs_core.specs.declared.entries.Entry.TheVariants as entry
 use Rattle.cqs_core.specs.SemaphoreEntries.{object_after, after_entry, turned_back}
 use Rattle.cqs_core.specs.SemaphoreObject.{Semaphore, due, opening}
+use Rattle.cqs_core.specs.SemaphoreShown.{state_of}
 use Rattle.cqs_rule.specs.declared.view.Facts.{Facts}
+use Rattle.cqs_rule.specs.declared.view.Opening.{Opening}
 use Rattle.cqs_rule.specs.declared.view.Sighting.{Sighting}
 use Rattle.cqs_rule.specs.declared.view.Sighting.TheVariants.{Word}
 use Rattle.cqs_rule.specs.declared.view.View.{View}
@@ -115,8 +117,8 @@ module _ {T : Type 0} where
       record {
         since = prefix-then v.seen u.seen before old (s.between, here);
         seen = subst (λ l. IsPrefix l w.seen) seen on;
-        state = state ∙ ap (λ (o : Rattle.cqs_rule.specs.declared.view.Opening.Opening).
-            Rattle.cqs_core.specs.SemaphoreShown.state_of (object_after o.size before)) (sym opening);
+        state = state ∙ ap (λ (o : Opening).
+            state_of (object_after o.size before)) (sym opening);
         word = n;
         count_is = refl;
         found = (
@@ -128,3 +130,25 @@ module _ {T : Type 0} where
               ∙ ap (λ l. v.facts.found ++ l) (append_assoc earlier (Word (client_place 0) n ∷ []) found_on.0))),
         );
       }
+
+  -- what the state was stays so while the call goes on
+  pub state-later : (v x w : View Entry T) (count : ℤ) (before own : List Entry)
+      → StateWas v count before own x → IsPrefix x.seen w.seen → IsPrefix x.facts.found w.facts.found
+      → w.opening ≡ x.opening → StateWas v count before own w
+  state-later v x w count before own s seen found opening = record {
+    since = s.since;
+    seen = prefix-then (before ++ own) x.seen w.seen s.seen seen;
+    state = s.state ∙ ap (λ (o : Opening).
+        state_of
+        (object_after o.size before)) (sym opening);
+    word = s.word;
+    count_is = s.count_is;
+    found = (
+      s.found.0,
+      s.found.1 ++ found.0,
+      found.1
+          ∙ (ap (λ l. l ++ found.0) s.found.2
+          ∙ (append_assoc v.facts.found _ found.0
+          ∙ ap (λ l. v.facts.found ++ l) (append_assoc s.found.0 (Word (client_place 0) s.word ∷ s.found.1) found.0))),
+    );
+  }

@@ -1,5 +1,5 @@
 -- A try is its steps: a load of the state, and at most one exchange.
-use Rattle.std.proofs.Common.{◌≡◌, ◌≢◌, ℕ, ◌+◌, Bool, true, false, List, [], ◌∷◌, ◌++◌, None, ℤ, pos, ◌<ℤ◌, sym, refl, ap, ◌∙◌, subst, append_assoc, if◌then◌else◌, ◌==◌, ne_eqb}
+use Rattle.std.proofs.Common.{◌≡◌, ◌≢◌, ℕ, ◌+◌, Bool, true, false, List, [], ◌∷◌, ◌++◌, None, sym, refl, ap, ◌∙◌, subst, append_assoc, if◌then◌else◌, ◌==◌, ne_eqb}
 use Rattle.std.proofs.lemmas.Bool.{eq-eqb}
 use Rattle.std.proofs.lemmas.List.{append-nil}
 use Rattle.cqs_core.specs.declared.doings.Doing.TheVariants as doing
@@ -147,25 +147,22 @@ module _ {T : Type 0} where
       (object_after (sym s.saw.same.opening i).size s.before)) ∙ sym s.state)) in
       other (sym (count-same n m states))
 
-  pub contended : (v u w : View Entry T) (n m : ℕ) (saw found : ℤ) → saw ≡ count_in n → found ≡ count_in m
-      → is_above_zero n ≡ true → m ≢ n → LoadedBy true n v u → SwappedBy false m u w → IsContended v saw found w
-  contended v u w n m saw found saw_is found_is above other l s =
+  pub contended : (v u w : View Entry T) (n m : ℕ) → is_above_zero n ≡ true → m ≢ n → LoadedBy true n v u
+      → SwappedBy false m u w → IsContended v (count_in n) (count_in m) w
+  contended v u w n m above other l s =
       let found_u : u.facts.found ≡ v.facts.found ++ Word (client_place 0) n ∷ [] =
       ap (λ (f : Facts). f.found) l.saw.facts_are in
       let found_w : w.facts.found ≡ u.facts.found ++ Word (client_place 0) m ∷ [] =
       ap (λ (f : Facts). f.found) s.saw.facts_are in
       let at_swap : s.before ≡ w.seen = sym (append-nil s.before) ∙ sym s.seen in
-      let at_load : StateWas v (count_in n) l.before [] w =
-      state-later v u w _ l.before [] (state-was v v u u _ [] l.before n [] (prefix-same v.seen) l.saw l.seen l.state found_u
-      (prefix-same u.seen) refl (prefix-same u.facts.found))
-      (saw-prefix u w _ _ s.saw) (Word (client_place 0) m ∷ [], found_w) s.saw.same.opening in
-      let whole : StateWas v (count_in m) w.seen [] w =
-      subst (λ h. StateWas v (count_in m) h [] w) at_swap (swap-found false v u w n m l s) in
       record {
         before = l.before;
-        free = subst (λ z. pos 0 <ℤ z) (sym saw_is) (count-above n above);
-        loaded = subst (λ z. StateWas v z l.before [] w) (sym saw_is) at_load;
-        exchanged = subst (λ z. StateWas v z w.seen [] w) (sym found_is) whole;
-        differ = λ same. other (sym (count-same n m (sym saw_is ∙ (same ∙ found_is))));
+        free = count-above n above;
+        loaded = state-later v u w _ l.before []
+            (state-was v v u u _ [] l.before n [] (prefix-same v.seen) l.saw l.seen l.state found_u (prefix-same u.seen) refl
+            (prefix-same u.facts.found))
+            (saw-prefix u w _ _ s.saw) (Word (client_place 0) m ∷ [], found_w) s.saw.same.opening;
+        exchanged = subst (λ h. StateWas v (count_in m) h [] w) at_swap (swap-found false v u w n m l s);
+        differ = λ same. other (sym (count-same n m same));
         together = never-alone v u w n m other l s;
       }

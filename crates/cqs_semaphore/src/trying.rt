@@ -5,12 +5,14 @@ ghost use Rattle.cqs_rule.specs.Passes.{pass_view};
 ghost use Rattle.cqs_semaphore.specs.Alone.{IsPlainTry};
 ghost use Rattle.cqs_semaphore.specs.Answers.{Tries};
 ghost use Rattle.cqs_semaphore.specs.Calls.{IsReady, IsMine, CallRule};
+ghost use Rattle.cqs_words.specs.State.{StateFits, count_in};
+ghost use Rattle.cqs_semaphore.specs.declared.answers.Tried.TheVariants.{Contended};
 ghost use Rattle.cqs_semaphore.specs.Entries.{tried_entries};
 
 use crate::answers::{Permit, Tried};
 use crate::semaphore::{SemPass, Semaphore};
 use cqs_rule::{load_state, try_take};
-use cqs_words::StateWord;
+use cqs_words::{PackedState, StateWord};
 
 impl<T: Send + Drop> Semaphore<T> {
     /// A permit where one is free, by one load and at most one exchange. It never waits.
@@ -34,9 +36,18 @@ impl<T: Send + Drop> Semaphore<T> {
         if found.word == saw.word {
             return Tried::Got(Permit { number: None });
         }
-        Tried::Contended {
-            saw: StateWord::read(saw.word).value,
-            found: StateWord::read(found.word).value,
-        }
+        contended(saw, found)
+    }
+}
+
+// The two states of a try by which another caller was first.
+fn contended(saw: PackedState, found: PackedState) -> Tried
+    requires saw { StateFits (record { value = count_in saw.word }) }
+    requires found { StateFits (record { value = count_in found.word }) }
+    ensures { result ≡ Contended (count_in saw.word) (count_in found.word) }
+{
+    Tried::Contended {
+        saw: StateWord::read(saw.word).value,
+        found: StateWord::read(found.word).value,
     }
 }

@@ -1,7 +1,10 @@
-use Rattle.std.proofs.Common.{◌≡◌, ◌∷◌, [], true, false, sym, refl, ap, ◌∙◌}
+use Rattle.std.proofs.Common.{◌≡◌, ◌∷◌, [], true, false, sym, refl, ap, ◌∙◌, subst}
 use Rattle.cqs_core.specs.declared.entries.Entry.TheVariants as entry
 use Rattle.cqs_rule.specs.Passes.{pass_view}
 use Rattle.cqs_words.specs.State.{is_above_zero, count_in}
+use Rattle.cqs_semaphore.specs.Answers.{Tries}
+use Rattle.cqs_semaphore.specs.Calls.{CallRule}
+use Rattle.cqs_semaphore.specs.Entries.{tried_entries}
 use Rattle.cqs_semaphore.proofs.Rules.{call-rule_own}
 use Rattle.cqs_semaphore.proofs.States.{count-above, count-not_above}
 use Rattle.cqs_semaphore.proofs.TrySteps.{LoadedBy, SwappedBy, loaded, got, missed, busy-called, busy-found, busy-rests, swap-called, swap-found, swap-rests, contended}
@@ -55,19 +58,24 @@ returns-then-found-saw-clause-alone g c = ?
 
 pub returns-clause-called : goal.returns-clause-called
 returns-clause-called g c =
+    let v = pass_view c.args.pass.now in
+    let w = pass_view c.try_take-found.new.pass in
     let is = sym c.is_above_zero.ensures ∙ c.if-not-is_above_zero.false in
     let l = loaded true _ _ _ is c.load_state-saw.ensures.saw in
     let s = missed _ _ _ _ c.if-found-saw.false c.try_take-found.ensures.saw in
-    call-rule_own _ _ [] _ (swap-called false _ _ _ _ _ l s) tt c.requires.belongs.live.own
-    c.try_take-found.ensures.belongs.live.legal
+    subst (λ t. CallRule v (tried_entries v.number t) [] w) (sym c.contended.ensures)
+    (call-rule_own _ _ [] _ (swap-called false _ _ _ _ _ l s) tt c.requires.belongs.live.own
+    c.try_take-found.ensures.belongs.live.legal)
 
 pub returns-clause-tries : goal.returns-clause-tries
 returns-clause-tries g c =
+    let v = pass_view c.args.pass.now in
+    let w = pass_view c.try_take-found.new.pass in
     let is = sym c.is_above_zero.ensures ∙ c.if-not-is_above_zero.false in
     let l = loaded true _ _ _ is c.load_state-saw.ensures.saw in
-    let s = missed _ _ _ _ c.if-found-saw.false c.try_take-found.ensures.saw in (
-      contended _ _ _ _ _ _ _ (ap (λ r. r.value) c.read.ensures.value) (ap (λ r. r.value) c.read-2.ensures.value) is
-          c.if-found-saw.false l s,
+    let s = missed _ _ _ _ c.if-found-saw.false c.try_take-found.ensures.saw in
+    subst (λ t. Tries v t w) (sym c.contended.ensures) (
+      contended _ _ _ _ _ is c.if-found-saw.false l s,
       swap-rests false _ _ _ _ _ c.requires.ready l s,
     )
 

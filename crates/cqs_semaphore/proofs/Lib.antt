@@ -6,3 +6,4 @@ pub mod TrySteps
 pub mod ResumeSteps
 pub mod ReleaseSteps
 pub mod PollSteps
+pub mod CancelSteps

@@ -78,7 +78,7 @@ impl<T: Send + Drop> Semaphore<T> {
 }
 
 // What the end of a resumption means for the permit.
-fn released(resumed: Resumed) -> Released
+pub(crate) fn released(resumed: Resumed) -> Released
     ensures { result ≡ as_released resumed }
 {
     match resumed {

@@ -7,3 +7,4 @@ pub mod ResumeSteps
 pub mod ReleaseSteps
 pub mod PollSteps
 pub mod CancelSteps
+pub mod AloneSteps

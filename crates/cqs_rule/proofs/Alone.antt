@@ -1,5 +1,5 @@
 -- A pass that is alone knows at each step that every other number rests.
-use Rattle.std.proofs.Common.{◌≡◌, ◌≢◌, ℕ, ◌<◌, List, Option, true, false, sym, subst, arith}
+use Rattle.std.proofs.Common.{◌≡◌, ◌≢◌, ℕ, ◌<◌, List, Option, true, false, sym, ◌∙◌, subst, arith}
 use mathlib.Core.Option.{some}
 use lib.ListN.{get_elem?}
 use Rattle.atomic_table.specs.Table.{State}
@@ -36,4 +36,5 @@ module _ {C E S : Type 0} (object : Object E) (all : C → Primitive E S) (passe
         others = λ n other low.
             alone-rests object (all x) passes limit client s r id v here (omega arith) alone n other
             (let same = k.passes_are in omega arith);
+        places = r.room.doing ∙ sym k.passes_are;
       }

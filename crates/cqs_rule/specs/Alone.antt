@@ -1,5 +1,5 @@
 -- What a pass knows that is alone, at every one of its steps.
-use Rattle.std.specs.Prelude.{◌≡◌, ◌≢◌, ℕ, ◌<◌, true, List, Option}
+use Rattle.std.specs.Prelude.{◌≡◌, ◌≢◌, ℕ, ◌<◌, true, List, length, Option}
 use Rattle.atomic_table.specs.Table.{Me, Step}
 use Rattle.cqs_rule.specs.declared.view.View.{View}
 use Rattle.cqs_rule.specs.Hidden.{Hidden}
@@ -18,6 +18,7 @@ module _ {C E S : Type 0} (primitive : C → Primitive E S) where
     pub shown : (primitive client).shows hidden words v.seen handed
     pub stands : Stands hidden v.number v.facts
     pub others : (n : ℕ) → n ≢ v.number → n < v.passes → Rests hidden n
+    pub places : length hidden.queue.doing ≡ v.passes
 
   abbrev pub TellsAlone : View E S → Type 0
   TellsAlone v = v.weight ≡ 1 → v.alone ≡ true → IsAlone v

@@ -35,7 +35,7 @@ use Rattle.cqs_semaphore.specs.Steps.{WaitsInLine}
 use Rattle.cqs_semaphore.specs.declared.answers.Acquired.{Acquired}
 use Rattle.cqs_semaphore.specs.declared.answers.Acquired.TheVariants.{Now, Later}
 use Rattle.cqs_semaphore.proofs.Rules.{call-rule, call-rule_own}
-use Rattle.cqs_semaphore.proofs.States.{prefix-same, prefix-then, saw-prefix, called-prefix, counted, state-was, state-later, next-drawn, count-above, count-not_above}
+use Rattle.cqs_semaphore.proofs.States.{prefix-same, prefix-then, prefix-more, saw-prefix, called-prefix, counted, state-was, state-later, next-drawn, count-above, count-not_above}
 
 -- what a step that takes one from the state leaves a pass at, by whether one was free
 abbrev pub took_by : Bool → ℕ → List Entry
@@ -49,9 +49,6 @@ facts_took b n f = record f {
   reached = (if is_owing f.doing then f.reached else 0);
   found = f.found ++ Word (client_place 0) n ∷ [];
 }
-
-prefix-more : {A : Type 0} (a b c d : List A) → IsPrefix a (((a ++ b) ++ c) ++ d)
-prefix-more a b c d = (b ++ (c ++ d), append_assoc (a ++ b) c d ∙ append_assoc a b (c ++ d))
 
 module _ {T : Type 0} where
   record TookBy (b : Bool) (n : ℕ) (u x : View Entry T) : Type 0 where

@@ -1,5 +1,6 @@
 -- Courses of a pass: a call is one, so is a meet, and one course after another is a course. A wait goes along.
-use Rattle.std.proofs.Common.{◌≡◌, ◌≢◌, ℕ, List, [], ◌++◌, sym, refl, ap, ◌∙◌, subst, append_assoc}
+use Rattle.std.proofs.Common.{◌≡◌, ◌≢◌, ℕ, List, [], ◌++◌, Result, Ok, Err, sym, refl, ap, ◌∙◌, subst, append_assoc}
+use Rattle.std.specs.Prelude.{OnOk}
 use Rattle.std.proofs.lemmas.List.{append-nil, append_cancel_left}
 use Rattle.std.proofs.lemmas.List.Elements.{filter-append}
 use Rattle.cqs_core.specs.declared.entries.Entry.{Entry}
@@ -17,6 +18,10 @@ use Rattle.cqs_rule.specs.Waits.{place_of, HasWait}
 use Rattle.cqs_rule.proofs.Lists.{has_left}
 use Rattle.cqs_rule.proofs.Places.{knows-called}
 use Rattle.cqs_semaphore.specs.Calls.{CallRule, Course}
+
+pub on-ok : {A B P Q : Type 0} → (P → Q) → (r : Result A B) → OnOk r P → OnOk r Q
+on-ok f (Ok x) p = f p
+on-ok f (Err e) p = p
 
 module _ {T : Type 0} where
   -- a call

@@ -6,3 +6,5 @@ pub mod TrySteps
 pub mod ResumeSteps
 pub mod ReleaseSteps
 pub mod PollSteps
+pub mod CancelSteps
+pub mod AloneSteps

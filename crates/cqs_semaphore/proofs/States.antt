@@ -34,6 +34,9 @@ module _ {A : Type 0} where
   pub prefix-then : (a b c : List A) → IsPrefix a b → IsPrefix b c → IsPrefix a c
   prefix-then a b c p q = (p.0 ++ q.0, q.1 ∙ (ap (λ l. l ++ q.0) p.1 ∙ append_assoc a p.0 q.0))
 
+pub prefix-more : {A : Type 0} (a b c d : List A) → IsPrefix a (((a ++ b) ++ c) ++ d)
+prefix-more a b c d = (b ++ (c ++ d), append_assoc (a ++ b) c d ∙ append_assoc a b (c ++ d))
+
 -- an entry draws a number exactly where it is an Enter
 turned-next : (o : Semaphore) → (turned_back o).next ≡ o.next
 turned-next o = by (nat_lt (due o) o.way) refl

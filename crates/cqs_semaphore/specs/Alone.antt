@@ -51,24 +51,25 @@ module _ {T : Type 0} where
       sole_call (plain_after v) (call.Try v.number) ≡ tells (entry.TryBusy v.number ∷ []) reply.Busy
   IsPlainTry v (Contended saw found) = ⊥
 
-  -- A release that hands the resumption back is the plain semaphore's with the `finish` that ends it: somebody waits in line.
-  abbrev pub IsPlainRelease : View Entry T → Released → Type 0
-  IsPlainRelease v Freed =
+  -- A release that hands the resumption back is the plain semaphore's with the `finish` that ends it: somebody waits in line, and
+  -- just this permit is on its way.
+  abbrev pub IsPlainRelease : View Entry T → Released → View Entry T → Type 0
+  IsPlainRelease v Freed w =
       sole_call (plain_after v) (call.Release v.number) ≡ tells (entry.GiveFreed v.number ∷ []) reply.Freed
-  IsPlainRelease v (Sent k) =
+  IsPlainRelease v (Sent k) w =
       sole_call (plain_after v) (call.Release v.number)
       ≡ tells (entry.GiveSent v.number ∷ entry.Deliver k ∷ []) (reply.Sent k)
-  IsPlainRelease v (Left k) = ⊥
-  IsPlainRelease v (Void k) = ⊥
-  IsPlainRelease v (Under under) = HasLine (plain_after v).line
+  IsPlainRelease v (Left k) w = ⊥
+  IsPlainRelease v (Void k) w = ⊥
+  IsPlainRelease v (Under under) w = HasLine (plain_after v).line × ((plain_after w).way ≡ 1)
 
-  -- the end of a release goes to the first of the line
-  abbrev pub IsPlainEnd : View Entry T → Released → Type 0
-  IsPlainEnd v Freed = ⊥
-  IsPlainEnd v (Sent k) = IsFirstOf (plain_after v).line k
-  IsPlainEnd v (Left k) = ⊥
-  IsPlainEnd v (Void k) = ⊥
-  IsPlainEnd v (Under under) = HasLine (plain_after v).line
+  -- The end of a release goes to the first of the line; or it is handed back again, and nothing has changed.
+  abbrev pub IsPlainEnd : View Entry T → Released → View Entry T → Type 0
+  IsPlainEnd v Freed w = ⊥
+  IsPlainEnd v (Sent k) w = IsFirstOf (plain_after v).line k
+  IsPlainEnd v (Left k) w = ⊥
+  IsPlainEnd v (Void k) w = ⊥
+  IsPlainEnd v (Under under) w = plain_after w ≡ plain_after v
 
   abbrev pub IsPlainPoll : ℕ → View Entry T → Polled → Type 0
   IsPlainPoll k v (Granted permit) =
@@ -76,10 +77,8 @@ module _ {T : Type 0} where
   IsPlainPoll k v (Pending wait) =
       sole_call (plain_after v) (call.Poll v.number k) ≡ tells (entry.LookPending v.number k ∷ []) reply.Pending
 
-  -- nothing was on its way to who left
   abbrev pub IsPlainCancel : ℕ → View Entry T → CancelAnswer → Type 0
   IsPlainCancel k v (Cancelled under) =
-      (under ≡ None)
-      × (sole_call (plain_after v) (call.Cancel v.number k) ≡ tells (entry.Leave v.number k ∷ []) reply.Cancelled)
+      sole_call (plain_after v) (call.Cancel v.number k) ≡ tells (entry.Leave v.number k ∷ []) reply.Cancelled
   IsPlainCancel k v (TooLate permit) =
       sole_call (plain_after v) (call.Cancel v.number k) ≡ tells (entry.Late v.number k ∷ []) reply.TooLate

@@ -27,6 +27,7 @@ use Rattle.cqs_semaphore.specs.declared.answers.CancelAnswer.TheVariants.{Cancel
 use Rattle.cqs_semaphore.specs.Calls.{IsReady, Rests, CallRule}
 use Rattle.cqs_semaphore.specs.Causes.{drawn_in, Counted, StateWas, CellWas, CellWasOnce, PassedOver, state_after}
 use Rattle.cqs_semaphore.specs.Entries.{passed_further, cancelled_entries}
+use Rattle.cqs_semaphore.specs.Owed.{owed_after}
 use Rattle.cqs_semaphore.specs.Permits.{number_of}
 
 -- how many numbers one call passes over before it hands the resumption back
@@ -36,14 +37,6 @@ most_passed_over = 64
 -- a pass at these facts that loaded the suspend counter as n, and did nothing else
 abbrev pub facts_refused : ℕ → Facts → Facts
 facts_refused n f = record f { found = f.found ++ Word suspends_place n ∷ [] }
-
--- the resumption that is still owed
-abbrev pub owed_after : Released → Option token.Under
-owed_after Freed = None
-owed_after (Sent k) = None
-owed_after (Left k) = None
-owed_after (Void k) = None
-owed_after (Under under) = Some under
 
 module _ {T : Type 0} where
   -- An acquire was refused: it loaded the suspend counter, and this was at the limit or above. So many numbers had been drawn in

@@ -1,4 +1,5 @@
 pub mod Permits
+pub mod Owed
 pub mod Entries
 pub mod Calls
 pub mod Causes

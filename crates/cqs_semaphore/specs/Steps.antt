@@ -16,10 +16,11 @@ use Rattle.cqs_semaphore.specs.declared.answers.Acquired.TheVariants.{Now, Later
 use Rattle.cqs_semaphore.specs.declared.answers.Released.{Released}
 use Rattle.cqs_semaphore.specs.declared.answers.Released.TheVariants.{Freed, Sent, Left, Void, Under}
 use Rattle.cqs_semaphore.specs.declared.answers.CancelAnswer.{CancelAnswer}
-use Rattle.cqs_semaphore.specs.Answers.{Cancels, most_passed_over, owed_after}
+use Rattle.cqs_semaphore.specs.Answers.{Cancels, most_passed_over}
 use Rattle.cqs_semaphore.specs.Calls.{CallRule}
 use Rattle.cqs_semaphore.specs.Causes.{primitive_of}
 use Rattle.cqs_semaphore.specs.Entries.{cancelled_entries, passed_further}
+use Rattle.cqs_semaphore.specs.Owed.{owed_after}
 use Rattle.cqs_semaphore.specs.Permits.{number_of}
 
 -- what the end of a resumption means for the permit

@@ -1,6 +1,7 @@
 //! What the calls of a semaphore answer.
 
 ghost use Rattle.std.specs.Prelude.{◌≡◌};
+ghost use Rattle.cqs_semaphore.specs.Owed.{owed_after};
 ghost use Rattle.cqs_semaphore.specs.Permits.{number_of};
 
 use cqs_rule::{Under, Wait};
@@ -53,6 +54,18 @@ pub enum Released {
     Void(u64),
     /// As many numbers were passed over as one call may; `finish` goes on.
     Under(Under),
+}
+
+impl Released {
+    // The resumption that is still owed.
+    pub(crate) fn owed(self) -> Option<Under>
+        ensures { result ≡ owed_after self }
+    {
+        match self {
+            Released::Under(under) => Some(under),
+            _ => None,
+        }
+    }
 }
 
 /// What a look at a wait found.

@@ -12,9 +12,10 @@ ghost use Rattle.cqs_semaphore.specs.Entries.{cancelled_entries, passed_further}
 ghost use Rattle.cqs_semaphore.specs.Steps.{HasCancelled, PassedOn};
 
 use crate::answers::{CancelAnswer, Permit};
+use crate::releasing::released;
 use crate::semaphore::{SemPass, Semaphore};
 use cqs_cancel::{Left, cancel};
-use cqs_resume::{Resumed, resume};
+use cqs_resume::resume;
 use cqs_rule::{Under, Wait};
 
 impl<T: Send + Drop> Semaphore<T> {
@@ -51,9 +52,6 @@ impl<T: Send + Drop> Semaphore<T> {
         ensures belongs { IsMine self.now pass.new }
         ensures passed { PassedOn payload (pass_view pass.old) result (pass_view pass.new) }
     {
-        match resume(&self.queue, pass, payload) {
-            Resumed::Under(under) => Some(under),
-            _ => None,
-        }
+        released(resume(&self.queue, pass, payload)).owed()
     }
 }

@@ -7,7 +7,7 @@ ghost use Rattle.cqs_rule.specs.Owed.{HasUnder, under_payload, under_reached, un
 ghost use Rattle.cqs_rule.specs.Passes.{pass_view};
 ghost use Rattle.cqs_semaphore.specs.Alone.{IsPlainRelease, IsPlainEnd};
 ghost use Rattle.cqs_semaphore.specs.Answers.{Releases, Ends, most_passed_over};
-ghost use Rattle.cqs_semaphore.specs.Calls.{IsReady, IsMine, CallRule};
+ghost use Rattle.cqs_semaphore.specs.Calls.{IsReady, IsMine, CallRule, plain_after};
 ghost use Rattle.cqs_semaphore.specs.Entries.{released_entries, released_further, resumed_further};
 ghost use Rattle.cqs_semaphore.specs.Steps.{as_released, HasEnded, IsFurther};
 
@@ -36,7 +36,8 @@ impl<T: Send + Drop> Semaphore<T> {
             (λ released. Releases (pass_view pass.old) released (pass_view pass.new)) }
         ensures between { IsBetween (pass_view pass.new).facts }
         ensures alone { (pass_view pass.old).alone ≡ true
-            → IfOk result (λ released. IsPlainRelease (pass_view pass.old) released) }
+            → IfOk result (λ released. IsPlainRelease (pass_view pass.old) released
+            (pass_view pass.new)) }
     {
         let Permit { .. } = permit;
         if give_permit(&self.queue, pass).is_below_zero() {
@@ -58,7 +59,8 @@ impl<T: Send + Drop> Semaphore<T> {
         ensures further { IsFurther (under_reached under) result }
         ensures between { IsBetween (pass_view pass.new).facts }
         ensures alone { (pass_view pass.old).alone ≡ true
-            → IsPlainEnd (pass_view pass.old) result }
+            → (plain_after (pass_view pass.old)).way ≡ 1
+            → IsPlainEnd (pass_view pass.old) result (pass_view pass.new) }
     {
         released(finish(&self.queue, pass, under))
     }
@@ -78,7 +80,7 @@ impl<T: Send + Drop> Semaphore<T> {
 }
 
 // What the end of a resumption means for the permit.
-fn released(resumed: Resumed) -> Released
+pub(crate) fn released(resumed: Resumed) -> Released
     ensures { result ≡ as_released resumed }
 {
     match resumed {

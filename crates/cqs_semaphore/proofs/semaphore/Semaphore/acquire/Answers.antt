@@ -1,7 +1,9 @@
-use Rattle.std.proofs.Common.{rules, ◌≡◌, ◌<◌, ◌≤◌, ◌∷◌, [], true, false, sym, refl, ◌∙◌, arith}
+use Rattle.std.proofs.Common.{rules, ◌≡◌, ◌<◌, ◌≤◌, ◌∷◌, [], true, false, sym, refl, ◌∙◌, arith, None}
 use Rattle.cqs_core.specs.declared.entries.Entry.TheVariants as entry
 use Rattle.cqs_rule.specs.Passes.{pass_view}
 use Rattle.cqs_words.specs.State.{is_above_zero}
+use Rattle.cqs_semaphore.specs.declared.answers.Acquired.TheVariants.{Now}
+use Rattle.cqs_semaphore.proofs.AloneSteps.{quiet, plain-acquire}
 use Rattle.cqs_semaphore.proofs.AcquireSteps.{Came, came, worn, worn-called, was-free, below-now, waits-called, waits-below, waits-acquired}
 use Rattle.cqs_semaphore.proofs.Rules.{call-rule_own}
 use Rattle.cqs_semaphore.proofs.semaphore.Semaphore.acquire.Goals as goal
@@ -47,7 +49,9 @@ returns-then-is_above_zero-clause-acquired g c =
     (omega arith) c.next_wait.ensures.saw c.take_permit.ensures.saw)
 
 pub returns-then-is_above_zero-clause-alone : goal.returns-then-is_above_zero-clause-alone
-returns-then-is_above_zero-clause-alone g c = ?
+returns-then-is_above_zero-clause-alone g c = λ alone.
+    plain-acquire _ _ (Now (record { number = None })) (quiet _ c.requires.belongs.alone c.args.pass.now.live.0 alone c.requires.ready.idle)
+    (returns-then-is_above_zero-clause-called g c) alone
 
 pub returns-clause-called : goal.returns-clause-called
 returns-clause-called g c =
@@ -75,4 +79,6 @@ returns-clause-acquired g c =
     (omega arith) c.next_wait.ensures.saw c.take_permit.ensures.saw) c.wait_in_line.ensures.waits
 
 pub returns-clause-alone : goal.returns-clause-alone
-returns-clause-alone g c = ?
+returns-clause-alone g c = λ alone.
+    plain-acquire _ _ c.wait_in_line.result (quiet _ c.requires.belongs.alone c.args.pass.now.live.0 alone c.requires.ready.idle)
+    (returns-clause-called g c) alone

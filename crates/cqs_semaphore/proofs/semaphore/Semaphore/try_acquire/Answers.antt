@@ -5,6 +5,8 @@ use Rattle.cqs_words.specs.State.{is_above_zero, count_in}
 use Rattle.cqs_semaphore.specs.Answers.{Tries}
 use Rattle.cqs_semaphore.specs.Calls.{CallRule}
 use Rattle.cqs_semaphore.specs.Entries.{tried_entries}
+use Rattle.cqs_semaphore.specs.Alone.{IsPlainTry}
+use Rattle.cqs_semaphore.proofs.AloneSteps.{plain-busy, plain-got}
 use Rattle.cqs_semaphore.proofs.Rules.{call-rule_own}
 use Rattle.cqs_semaphore.proofs.States.{count-above, count-not_above}
 use Rattle.cqs_semaphore.proofs.TrySteps.{LoadedBy, SwappedBy, loaded, got, missed, busy-called, busy-found, busy-rests, swap-called, swap-found, swap-rests, contended}
@@ -29,7 +31,8 @@ returns-then-not-is_above_zero-clause-tries g c =
     )
 
 pub returns-then-not-is_above_zero-clause-alone : goal.returns-then-not-is_above_zero-clause-alone
-returns-then-not-is_above_zero-clause-alone g c = ?
+returns-then-not-is_above_zero-clause-alone g c = λ alone.
+    plain-busy _ _ (returns-then-not-is_above_zero-clause-called g c) alone
 
 pub returns-then-found-saw-clause-called : goal.returns-then-found-saw-clause-called
 returns-then-found-saw-clause-called g c =
@@ -54,7 +57,8 @@ returns-then-found-saw-clause-tries g c =
     )
 
 pub returns-then-found-saw-clause-alone : goal.returns-then-found-saw-clause-alone
-returns-then-found-saw-clause-alone g c = ?
+returns-then-found-saw-clause-alone g c = λ alone.
+    plain-got _ _ (returns-then-found-saw-clause-called g c) alone
 
 pub returns-clause-called : goal.returns-clause-called
 returns-clause-called g c =
@@ -80,4 +84,9 @@ returns-clause-tries g c =
     )
 
 pub returns-clause-alone : goal.returns-clause-alone
-returns-clause-alone g c = ?
+returns-clause-alone g c = λ alone.
+    let is = sym c.is_above_zero.ensures ∙ c.if-not-is_above_zero.false in
+    let l = loaded true _ _ _ is c.load_state-saw.ensures.saw in
+    let s = missed _ _ _ _ c.if-found-saw.false c.try_take-found.ensures.saw in
+    subst (λ t. IsPlainTry (pass_view c.args.pass.now) t) (sym c.contended.ensures)
+    ((contended _ _ _ _ _ is c.if-found-saw.false l s).together alone)

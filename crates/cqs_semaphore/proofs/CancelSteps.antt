@@ -125,9 +125,9 @@ module _ {T : Type 0} where
             Cell k word ∷ (Word (client_place 0) e.asked ∷ e.tried),
             [],
             found
-            ∙ (append_assoc ((v.facts.found ++ Cell k word ∷ []) ++ Word (client_place 0) e.asked ∷ []) e.tried _
-            ∙ (append_assoc (v.facts.found ++ Cell k word ∷ []) (Word (client_place 0) e.asked ∷ []) _
-            ∙ append_assoc v.facts.found (Cell k word ∷ []) _)),
+                ∙ (append_assoc ((v.facts.found ++ Cell k word ∷ []) ++ Word (client_place 0) e.asked ∷ []) e.tried _
+                ∙ (append_assoc (v.facts.found ++ Cell k word ∷ []) (Word (client_place 0) e.asked ∷ []) _
+                ∙ append_assoc v.facts.found (Cell k word ∷ []) _)),
           );
           was = record { before = e.was.before; seen = ([], e.was.seen); was = e.was.was };
         },
@@ -155,8 +155,8 @@ module _ {T : Type 0} where
       o.found.0,
       o.found.1 ++ found.0,
       found.1 ∙ (ap (λ l. l ++ found.0) o.found.2
-      ∙ (append_assoc v.facts.found _ found.0
-      ∙ ap (λ l. v.facts.found ++ l) (append_assoc o.found.0 (Cell k o.word ∷ o.found.1) found.0))),
+          ∙ (append_assoc v.facts.found _ found.0
+          ∙ ap (λ l. v.facts.found ++ l) (append_assoc o.found.0 (Cell k o.word ∷ o.found.1) found.0))),
     );
     was = record {
       before = o.was.before;
@@ -185,11 +185,14 @@ module _ {T : Type 0} where
         call-rule_own v w (entry.Leave v.number k ∷ []) [] o.called (λ n. refl, tt) own legal,
         (
           out-waiter doing.Idle k v w Gone b o,
-          (refl, record {
-            ready = record { idle = o.doing_is; further = o.further ∙ ready.further };
-            held_is = o.held;
-            waits_are = o.waits;
-          }),
+          (
+            refl,
+            record {
+              ready = record { idle = o.doing_is; further = o.further ∙ ready.further };
+              held_is = o.held;
+              waits_are = o.waits;
+            },
+          ),
         ),
       )
 

@@ -108,8 +108,8 @@ module _ {T : Type 0} where
           found = (
             u.facts.found ++ at_end.0,
             found ∙ (ap (λ l. u.facts.found ++ l) at_end.1
-            ∙ (sym (append_assoc u.facts.found at_end.0 (Cell last.number last.word ∷ []))
-            ∙ ap (λ j. (u.facts.found ++ at_end.0) ++ Cell j last.word ∷ []) e.number)),
+                ∙ (sym (append_assoc u.facts.found at_end.0 (Cell last.number last.word ∷ []))
+                ∙ ap (λ j. (u.facts.found ++ at_end.0) ++ Cell j last.word ∷ []) e.number)),
           );
           was = subst (λ j. WasFound primitive_of (HasCell (cell_of j state last.payload)) own w) e.number e.was;
         };

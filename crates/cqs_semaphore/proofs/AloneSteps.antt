@@ -1,9 +1,9 @@
 -- The calls of a pass that is alone: between two of them nothing is on its way and nobody is at the door, so each is the plain
 -- semaphore's.
-use Rattle.std.proofs.Common.{◌≡◌, ◌≢◌, ◌⊎◌, ℕ, zero, suc, ◌+◌, ◌<◌, ◌≤◌, Bool, true, false, List, [], ◌∷◌, ◌++◌, length, Option, Some, None, Result, Ok, Err, slice_get, take, sym, refl, ap, ◌∙◌, subst, append_assoc, arith, take_at, inl, inr, ⊎_elim, lt-ltb, nat_lt, if◌then◌else◌, ne_eqb, zero-add}
+use Rattle.std.proofs.Common.{◌≡◌, ◌≢◌, ℕ, suc, ◌+◌, ◌<◌, true, List, [], ◌∷◌, ◌++◌, length, Option, Some, None, Ok, slice_get, take, sym, refl, ap, ◌∙◌, subst, append_assoc, arith, take_at, ⊎_elim, lt-ltb, ne_eqb, zero-add}
 use Rattle.std.specs.List.{fold}
 use Rattle.std.proofs.lemmas.Bool.{le-ltb}
-use Rattle.std.proofs.lemmas.List.{append-nil, append_cancel_right}
+use Rattle.std.proofs.lemmas.List.{append_cancel_right}
 use Rattle.std.proofs.lemmas.List.Sums.{fold-append}
 use Rattle.std.proofs.lemmas.Option.{same_Some}
 use mathlib.Core.Logic.{dite}
@@ -16,13 +16,13 @@ use Rattle.cqs_core.specs.declared.doings.Doing.{Doing}
 use Rattle.cqs_core.specs.declared.doings.Doing.TheVariants as doing
 use Rattle.cqs_core.specs.declared.entries.Entry.{Entry}
 use Rattle.cqs_core.specs.declared.entries.Entry.TheVariants as entry
-use Rattle.cqs_core.specs.Numbered.{picked, cons_option, IsIn}
+use Rattle.cqs_core.specs.Numbered.{picked, cons_option}
 use Rattle.cqs_core.specs.QueueLine.{Waiting, line, in_line}
 use Rattle.cqs_core.specs.QueueState.{Queue}
 use Rattle.cqs_core.specs.Resting.{IsIdle}
 use Rattle.cqs_core.specs.SemaphoreEntries.{object_after, after_entry, IsLegal, IsAllowed, Waits, find_wait}
 use Rattle.cqs_core.specs.SemaphoreObject.{Semaphore, due, opening}
-use Rattle.cqs_core.specs.SemaphoreShown.{IsCore, shown}
+use Rattle.cqs_core.specs.SemaphoreShown.{IsCore}
 use Rattle.cqs_core.specs.SemaphoreTable.{Shape}
 use Rattle.cqs_core.specs.SoleCaller.{tells, sole_call, sole_release, sole_poll, sole_cancel}
 use Rattle.cqs_core.proofs.CoreFacts.{shows-object}
@@ -38,13 +38,10 @@ use Rattle.cqs_rule.specs.Hidden.{state_in}
 use Rattle.cqs_rule.specs.Semaphore.{core_shown}
 use Rattle.cqs_rule.specs.SemaphorePermits.{permits_of}
 use Rattle.cqs_rule.specs.Waits.{place_of}
-use Rattle.cqs_rule.specs.declared.config.AcquireError.{AcquireError}
 use Rattle.cqs_semaphore.specs.declared.answers.Acquired.{Acquired}
 use Rattle.cqs_semaphore.specs.declared.answers.Acquired.TheVariants.{Now, Later}
 use Rattle.cqs_semaphore.specs.declared.answers.Released.{Released}
 use Rattle.cqs_semaphore.specs.declared.answers.Released.TheVariants.{Freed, Sent, Left, Void, Under}
-use Rattle.cqs_semaphore.specs.declared.answers.Polled.{Polled}
-use Rattle.cqs_semaphore.specs.declared.answers.Polled.TheVariants.{Granted, Pending}
 use Rattle.cqs_semaphore.specs.Alone.{IsPlainAcquire, IsPlainRelease, IsPlainEnd, IsFirstOf, HasLine}
 use Rattle.cqs_semaphore.specs.Answers.{Releases, Ends}
 use Rattle.cqs_semaphore.specs.Calls.{CallRule, plain_after}

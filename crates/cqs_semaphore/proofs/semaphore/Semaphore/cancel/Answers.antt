@@ -1,7 +1,6 @@
-use Rattle.std.proofs.Common.{rules, Some, ◌∷◌, [], refl, ap, subst}
+use Rattle.std.proofs.Common.{Some, ◌∷◌, [], ap, subst}
 use Rattle.cqs_rule.specs.Passes.{pass_view}
 use Rattle.cqs_rule.specs.Waits.{place_of}
-use Rattle.cqs_cancel.specs.Cancels as queue
 use Rattle.cqs_core.specs.declared.entries.Entry.TheVariants as entry
 use Rattle.cqs_semaphore.specs.Calls.{CallRule}
 use Rattle.cqs_semaphore.specs.Entries.{passed_further}

@@ -1,4 +1,4 @@
-use Rattle.std.proofs.Common.{rules, ◌∷◌, [], Some, sym, refl, ap, ◌∙◌, subst}
+use Rattle.std.proofs.Common.{◌∷◌, [], Some, sym, refl, ap, ◌∙◌, subst}
 use Rattle.cqs_core.specs.declared.entries.Entry.TheVariants as entry
 use Rattle.cqs_rule.specs.Passes.{pass_view, IsOf}
 use Rattle.cqs_rule.specs.Semaphore.{semaphore_object}

@@ -1,9 +1,7 @@
 -- An acquire is its steps: a load of the suspend counter, one taken from the state, and perhaps a suspend.
-use Rattle.std.proofs.Common.{◌≡◌, ℕ, ◌+◌, ◌<◌, ◌≤◌, Bool, true, false, List, [], ◌∷◌, ◌++◌, Option, Some, None, Result, Ok, Err, sym, refl, ap, ◌∙◌, subst, append_assoc, arith, if◌then◌else◌}
+use Rattle.std.proofs.Common.{◌≡◌, ℕ, ◌+◌, ◌<◌, ◌≤◌, Bool, true, false, List, [], ◌∷◌, ◌++◌, Option, None, Ok, sym, refl, ap, ◌∙◌, subst, append_assoc, arith, if◌then◌else◌}
 use Rattle.std.specs.Prelude.{nat_lt}
 use Rattle.std.proofs.lemmas.Bool.{le-ltb}
-use Rattle.std.proofs.lemmas.List.{append-nil}
-use Rattle.cqs_core.specs.declared.doings.Doing.{Doing}
 use Rattle.cqs_core.specs.declared.doings.Doing.TheVariants as doing
 use Rattle.cqs_core.specs.declared.cells.CoreState.TheVariants as state
 use Rattle.cqs_core.specs.declared.entries.Entry.{Entry}
@@ -12,7 +10,6 @@ use Rattle.cqs_core.specs.declared.cells.CoreState.{CoreState}
 use Rattle.cqs_core.specs.QueueSteps.{installs, takes}
 use Rattle.cqs_core.specs.SemaphoreEntries.{IsLegal}
 use Rattle.cqs_rule.specs.declared.view.Facts.{Facts}
-use Rattle.cqs_rule.specs.declared.view.Sighting.{Sighting}
 use Rattle.cqs_rule.specs.declared.view.Sighting.TheVariants.{Cell, Word}
 use Rattle.cqs_rule.specs.declared.view.View.{View}
 use Rattle.cqs_rule.specs.Called.{Called}
@@ -28,14 +25,14 @@ use Rattle.cqs_rule.proofs.Calls.{called-by, called-then, called-and}
 use Rattle.cqs_suspend.specs.Suspends.{EndsBy}
 use Rattle.cqs_words.specs.State.{count_in, is_above_zero}
 use Rattle.cqs_semaphore.specs.Answers.{IsWorn, IsBelow, WasFree, WasNone, Takes, Acquires, facts_refused}
-use Rattle.cqs_semaphore.specs.Calls.{IsReady, Rests, CallRule}
+use Rattle.cqs_semaphore.specs.Calls.{IsReady, CallRule}
 use Rattle.cqs_semaphore.specs.Causes.{primitive_of, CellWas, Counted, StateWas, state_after}
 use Rattle.cqs_semaphore.specs.Entries.{took_entries, came_by, acquired_entries, acquired_further}
 use Rattle.cqs_semaphore.specs.Steps.{WaitsInLine}
 use Rattle.cqs_semaphore.specs.declared.answers.Acquired.{Acquired}
 use Rattle.cqs_semaphore.specs.declared.answers.Acquired.TheVariants.{Now, Later}
 use Rattle.cqs_semaphore.proofs.Rules.{call-rule, call-rule_own}
-use Rattle.cqs_semaphore.proofs.States.{prefix-same, prefix-then, prefix-more, saw-prefix, called-prefix, counted, state-was, state-later, next-drawn, count-above, count-not_above}
+use Rattle.cqs_semaphore.proofs.States.{prefix-same, prefix-then, prefix-more, saw-prefix, called-prefix, counted, state-was, state-later, count-above, count-not_above}
 
 -- what a step that takes one from the state leaves a pass at, by whether one was free
 abbrev pub took_by : Bool → ℕ → List Entry

@@ -1,9 +1,9 @@
 -- The calls of a pass that is alone: between two of them nothing is on its way and nobody is at the door, so each is the plain
 -- semaphore's.
-use Rattle.std.proofs.Common.{◌≡◌, ◌≢◌, ◌⊎◌, ℕ, zero, suc, ◌+◌, ◌<◌, ◌≤◌, Bool, true, false, List, [], ◌∷◌, ◌++◌, length, Option, Some, None, Result, Ok, Err, slice_get, take, sym, refl, ap, ◌∙◌, subst, append_assoc, arith, take_at, inl, inr, ⊎_elim, lt-ltb, nat_lt, if◌then◌else◌, ne_eqb, zero-add}
+use Rattle.std.proofs.Common.{◌≡◌, ◌≢◌, ℕ, suc, ◌+◌, ◌<◌, true, List, [], ◌∷◌, ◌++◌, length, Option, Some, None, Ok, slice_get, take, sym, refl, ap, ◌∙◌, subst, append_assoc, arith, take_at, ⊎_elim, lt-ltb, ne_eqb, zero-add}
 use Rattle.std.specs.List.{fold}
 use Rattle.std.proofs.lemmas.Bool.{le-ltb}
-use Rattle.std.proofs.lemmas.List.{append-nil, append_cancel_right}
+use Rattle.std.proofs.lemmas.List.{append_cancel_right}
 use Rattle.std.proofs.lemmas.List.Sums.{fold-append}
 use Rattle.std.proofs.lemmas.Option.{same_Some}
 use mathlib.Core.Logic.{dite}
@@ -16,13 +16,13 @@ use Rattle.cqs_core.specs.declared.doings.Doing.{Doing}
 use Rattle.cqs_core.specs.declared.doings.Doing.TheVariants as doing
 use Rattle.cqs_core.specs.declared.entries.Entry.{Entry}
 use Rattle.cqs_core.specs.declared.entries.Entry.TheVariants as entry
-use Rattle.cqs_core.specs.Numbered.{picked, cons_option, IsIn}
+use Rattle.cqs_core.specs.Numbered.{picked, cons_option}
 use Rattle.cqs_core.specs.QueueLine.{Waiting, line, in_line}
 use Rattle.cqs_core.specs.QueueState.{Queue}
 use Rattle.cqs_core.specs.Resting.{IsIdle}
 use Rattle.cqs_core.specs.SemaphoreEntries.{object_after, after_entry, IsLegal, IsAllowed, Waits, find_wait}
 use Rattle.cqs_core.specs.SemaphoreObject.{Semaphore, due, opening}
-use Rattle.cqs_core.specs.SemaphoreShown.{IsCore, shown}
+use Rattle.cqs_core.specs.SemaphoreShown.{IsCore}
 use Rattle.cqs_core.specs.SemaphoreTable.{Shape}
 use Rattle.cqs_core.specs.SoleCaller.{tells, sole_call, sole_release, sole_poll, sole_cancel}
 use Rattle.cqs_core.proofs.CoreFacts.{shows-object}
@@ -38,13 +38,10 @@ use Rattle.cqs_rule.specs.Hidden.{state_in}
 use Rattle.cqs_rule.specs.Semaphore.{core_shown}
 use Rattle.cqs_rule.specs.SemaphorePermits.{permits_of}
 use Rattle.cqs_rule.specs.Waits.{place_of}
-use Rattle.cqs_rule.specs.declared.config.AcquireError.{AcquireError}
 use Rattle.cqs_semaphore.specs.declared.answers.Acquired.{Acquired}
 use Rattle.cqs_semaphore.specs.declared.answers.Acquired.TheVariants.{Now, Later}
 use Rattle.cqs_semaphore.specs.declared.answers.Released.{Released}
 use Rattle.cqs_semaphore.specs.declared.answers.Released.TheVariants.{Freed, Sent, Left, Void, Under}
-use Rattle.cqs_semaphore.specs.declared.answers.Polled.{Polled}
-use Rattle.cqs_semaphore.specs.declared.answers.Polled.TheVariants.{Granted, Pending}
 use Rattle.cqs_semaphore.specs.Alone.{IsPlainAcquire, IsPlainRelease, IsPlainEnd, IsFirstOf, HasLine}
 use Rattle.cqs_semaphore.specs.Answers.{Releases, Ends}
 use Rattle.cqs_semaphore.specs.Calls.{CallRule, plain_after}
@@ -106,6 +103,18 @@ served-gone q k served = find-nobody q.doing 0 k q.cells (λ i c at got.
     let here : slice_get q.cells k ≡ Some c = ap (slice_get q.cells) (at ∙ zero-add i) ∙ got in
     waiting-gone q.doing k c (sym (ap state_in here) ∙ served))
 
+-- where just one permit is on its way, it is delivered to the first of the line
+first-of : (o : Semaphore) (k : ℕ) (waits : List Waiting) → o.line ≡ waits → o.way ≡ 1
+    → (c : ℕ) × Waits k c (take o.way o.line) → IsFirstOf o.line k
+first-of o k [] is one may =
+    absurd (in-none _ (subst (λ (z : ℕ × List Waiting). Waits k may.0 (take z.0 z.1)) (λ i. (one i, is i)) may.1))
+first-of o k (x ∷ waits) is one may =
+    let there : Waits k may.0 (x ∷ []) =
+    subst (λ (z : ℕ × List Waiting). Waits k may.0 (take z.0 z.1)) (λ i. (one i, is i)) may.1 in
+    let same : record { wait = k; pass = may.0 } ≡ x =
+    ⊎_elim (λ e. e) (λ later. absurd (in-none _ later)) (in-behind _ x [] there) in
+    subst (λ l. IsFirstOf l k) (sym is) (ap (λ (w : Waiting). w.wait) (sym same))
+
 module _ {T : Type 0} where
   quiet-alone : (v : View Entry T) → IsAlone primitive_of v → v.facts.doing ≡ doing.Idle → IsQuiet (plain_after v)
   quiet-alone v a idle =
@@ -149,9 +158,6 @@ module _ {T : Type 0} where
     opening_is = c.called.same.opening;
     legal = subst (λ (o : Opening). IsLegal o.size w.seen) c.called.same.opening c.legal;
   }
-
-  free-at : (v w : View Entry T) (n : ℕ) → 0 < n → nat_lt 0 n ≡ true
-  free-at v w n some = lt-ltb 0 n some
 
   -- an acquire
   plain-took : (v w : View Entry T) (n : Option ℕ) → IsQuiet (plain_after v)
@@ -197,3 +203,155 @@ module _ {T : Type 0} where
       let l = legal-alone v w _ _ c alone in
       let none = allowed-at v.opening.size v.seen [] [] w.seen (entry.TryBusy v.number) l.seen l.legal in
       rw (le-ltb 0 (plain_after v).free (omega arith)) refl
+
+  -- a release
+  plain-freed : (v w : View Entry T) → IsQuiet (plain_after v) → Legal v (entry.GiveFreed v.number ∷ []) w
+      → sole_call (plain_after v) (call.Release v.number) ≡ tells (entry.GiveFreed v.number ∷ []) reply.Freed
+  plain-freed v w still l =
+      let may = allowed-at v.opening.size v.seen [] [] w.seen (entry.GiveFreed v.number) l.seen l.legal in
+      let enough : (plain_after v).way ≡ due (plain_after v) = may.1 in
+      let way = still.way in
+      by (plain_after v).line refl (omega arith)
+    where
+      by : (waits : List Waiting) → (plain_after v).line ≡ waits → length (plain_after v).line ≡ 0
+          → sole_release v.number (plain_after v).line ≡ tells (entry.GiveFreed v.number ∷ []) reply.Freed
+      by [] is none = ap (sole_release v.number) is
+      by (x ∷ waits) is none =
+          let some : length (plain_after v).line ≡ length waits + 1 = ap (λ l. length l) is ∙ omega arith in
+          absurd (omega arith)
+
+  -- a permit that was sent to a line with nothing on its way is the only one there
+  sent-way : (v w : View Entry T) (further : List Entry) → IsQuiet (plain_after v)
+      → Legal v (entry.GiveSent v.number ∷ further) w → HasLine (plain_after v).line
+  sent-way v w further still l =
+      let may = allowed-at v.opening.size v.seen [] further w.seen (entry.GiveSent v.number) l.seen l.legal in
+      let short : (plain_after v).way < due (plain_after v) = may.1 in
+      let door = still.door in
+      by (plain_after v).line refl (omega arith)
+    where
+      by : (waits : List Waiting) → (plain_after v).line ≡ waits → 0 < length (plain_after v).line
+          → HasLine (plain_after v).line
+      by [] is some = let none : length (plain_after v).line ≡ 0 = ap (λ l. length l) is in absurd (omega arith)
+      by (x ∷ waits) is some = subst HasLine (sym is) tt
+
+  plain-sent : (v w : View Entry T) (k : ℕ) → IsQuiet (plain_after v)
+      → Legal v (entry.GiveSent v.number ∷ entry.Deliver k ∷ []) w
+      → sole_call (plain_after v) (call.Release v.number)
+      ≡ tells (entry.GiveSent v.number ∷ entry.Deliver k ∷ []) (reply.Sent k)
+  plain-sent v w k still l =
+      let may = allowed-at v.opening.size v.seen (entry.GiveSent v.number ∷ []) [] w.seen (entry.Deliver k) l.seen l.legal in
+      let o = after_entry (plain_after v) (entry.GiveSent v.number) in
+      let way = still.way in
+      by (plain_after v).line refl (first-of o k (plain_after v).line refl (omega arith) may)
+    where
+      by : (waits : List Waiting) → (plain_after v).line ≡ waits → IsFirstOf (plain_after v).line k
+          → sole_release v.number (plain_after v).line
+          ≡ tells (entry.GiveSent v.number ∷ entry.Deliver k ∷ []) (reply.Sent k)
+      by [] is first = absurd (subst (λ l. IsFirstOf l k) is first)
+      by (x ∷ waits) is first =
+          let same : x.wait ≡ k = subst (λ l. IsFirstOf l k) is first in
+          ap (sole_release v.number) is
+          ∙ ap (λ n. tells (entry.GiveSent v.number ∷ entry.Deliver n ∷ []) (reply.Sent n)) same
+
+  -- the object after one entry more
+  after-one : (v w : View Entry T) (e : Entry) → Legal v (e ∷ []) w → plain_after w ≡ after_entry (plain_after v) e
+  after-one v w e l =
+      ap (λ (o : Opening). object_after o.size w.seen) l.opening_is
+      ∙ (ap (object_after v.opening.size) l.seen ∙ fold-append after_entry (opening v.opening.size) v.seen (e ∷ []))
+
+  same-after : (v w : View Entry T) → Legal v [] w → plain_after w ≡ plain_after v
+  same-after v w l =
+      ap (λ (o : Opening). object_after o.size w.seen) l.opening_is
+      ∙ (ap (object_after v.opening.size) l.seen ∙ fold-append after_entry (opening v.opening.size) v.seen [])
+
+  one-on_way : (v w : View Entry T) → IsQuiet (plain_after v) → Legal v (entry.GiveSent v.number ∷ []) w
+      → (plain_after w).way ≡ 1
+  one-on_way v w still l =
+      let way = still.way in
+      let now : (plain_after w).way ≡ (plain_after v).way + 1 = ap (λ (o : Semaphore). o.way) (after-one v w _ l) in
+      omega arith
+
+  not-quiet : (v w : View Entry T) → IsQuiet (plain_after v) → Legal v (entry.GiveSent v.number ∷ []) w
+      → IsQuiet (plain_after w) → ⊥
+  not-quiet v w still l rests =
+      let one = one-on_way v w still l in let none = rests.way in absurd (omega arith)
+
+  pub plain-release : (v w : View Entry T) (a : Released) → IsQuiet (plain_after v)
+      → CallRule v (gave_entries v.number a) (resumed_further a) w → Releases v a w
+      → (w.facts.doing ≡ doing.Idle → IsQuiet (plain_after w)) → v.alone ≡ true → IsPlainRelease v a w
+  plain-release v w Freed still c r now alone = plain-freed v w still (legal-alone v w _ _ c alone)
+  plain-release v w (Sent k) still c r now alone = plain-sent v w k still (legal-alone v w _ _ c alone)
+  plain-release v w (Left k) still c r now alone =
+      not-quiet v w still (legal-alone v w _ _ c alone) (now r.1.1.ready.idle)
+  plain-release v w (Void k) still c r now alone =
+      not-quiet v w still (legal-alone v w _ _ c alone) (now r.1.1.ready.idle)
+  plain-release v w (Under under) still c r now alone =
+      let l = legal-alone v w _ _ c alone in (sent-way v w [] still l, one-on_way v w still l)
+
+  -- its end
+  still-one : (v w : View Entry T) → Legal v [] w → (plain_after v).way ≡ 1 → IsQuiet (plain_after w) → ⊥
+  still-one v w l one rests =
+      let none = rests.way in
+      let same : (plain_after w).way ≡ (plain_after v).way = ap (λ (o : Semaphore). o.way) (same-after v w l) in
+      absurd (omega arith)
+
+  pub plain-end : (v w : View Entry T) (a : Released) (held : ℕ) (waits : List ℕ) → CallRule v [] (resumed_further a) w
+      → Ends v held waits a w → (w.facts.doing ≡ doing.Idle → IsQuiet (plain_after w)) → v.alone ≡ true
+      → (plain_after v).way ≡ 1 → IsPlainEnd v a w
+  plain-end v w Freed held waits c e now alone one = absurd e
+  plain-end v w (Sent k) held waits c e now alone one =
+      let l = legal-alone v w _ _ c alone in
+      let may = allowed-at v.opening.size v.seen [] [] w.seen (entry.Deliver k) l.seen l.legal in
+      first-of (plain_after v) k (plain_after v).line refl one may
+  plain-end v w (Left k) held waits c e now alone one =
+      still-one v w (legal-alone v w _ _ c alone) one (now e.1.ready.idle)
+  plain-end v w (Void k) held waits c e now alone one =
+      still-one v w (legal-alone v w _ _ c alone) one (now e.1.ready.idle)
+  plain-end v w (Under under) held waits c e now alone one = same-after v w (legal-alone v w _ _ c alone)
+
+  -- a wait that is in the line, and one that was served
+  in-line : (v w : View Entry T) (k : ℕ) (e : Entry) → Legal v (e ∷ []) w → Waits k v.number (plain_after v).line
+      → (x : Waiting) × (find_wait k (plain_after v).line ≡ Some x)
+  in-line v w k e l waits = let f = found-waits k v.number (plain_after v).line waits in (f.wait, f.is)
+
+  out-of_line : (v w : View Entry T) (k : ℕ) (e : Entry) → Legal v (e ∷ []) w → CellWas state.Resumed k (e ∷ []) w
+      → find_wait k (plain_after v).line ≡ None
+  out-of_line v w k e l c =
+      let was = c.was.was in
+      let s : Shape = core_shown (permits_of was.client) was.hidden was.words c.was.before in
+      let here : c.was.before ≡ v.seen = append_cancel_right c.was.before v.seen (e ∷ []) (sym c.was.seen ∙ l.seen) in
+      let opens : (primitive_of was.client).opening ≡ v.opening = was.opening_is ∙ l.opening_is in
+      let same : object_after (permits_of was.client) c.was.before ≡ plain_after v =
+      (λ i. object_after (opens i).size (here i)) in
+      let shows = shows-object s was.shown in
+      ap (λ (o : Semaphore). find_wait k o.line) (sym same)
+      ∙ (ap (find_wait k) shows.line ∙ served-gone was.hidden.queue k was.holds.0)
+
+  pub plain-pending : (v w : View Entry T) (k : ℕ) → CallRule v (entry.LookPending v.number k ∷ []) [] w → v.alone ≡ true
+      → sole_call (plain_after v) (call.Poll v.number k) ≡ tells (entry.LookPending v.number k ∷ []) reply.Pending
+  plain-pending v w k c alone =
+      let l = legal-alone v w _ _ c alone in
+      let may = allowed-at v.opening.size v.seen [] [] w.seen (entry.LookPending v.number k) l.seen l.legal in
+      let there = in-line v w k _ l may in
+      ap (sole_poll v.number k) there.1
+
+  pub plain-granted : (v w : View Entry T) (k : ℕ) → CallRule v (entry.LookGranted v.number k ∷ []) [] w
+      → CellWas state.Resumed k (entry.LookGranted v.number k ∷ []) w → v.alone ≡ true
+      → sole_call (plain_after v) (call.Poll v.number k) ≡ tells (entry.LookGranted v.number k ∷ []) reply.Granted
+  plain-granted v w k c cell alone =
+      ap (sole_poll v.number k) (out-of_line v w k _ (legal-alone v w _ _ c alone) cell)
+
+  pub plain-late : (v w : View Entry T) (k : ℕ) → CallRule v (entry.Late v.number k ∷ []) [] w
+      → CellWas state.Resumed k (entry.Late v.number k ∷ []) w → v.alone ≡ true
+      → sole_call (plain_after v) (call.Cancel v.number k) ≡ tells (entry.Late v.number k ∷ []) reply.TooLate
+  plain-late v w k c cell alone =
+      ap (sole_cancel v.number k) (out-of_line v w k _ (legal-alone v w _ _ c alone) cell)
+
+  pub plain-left : (v w : View Entry T) (k : ℕ) (further : List Entry) → CallRule v (entry.Leave v.number k ∷ []) further w
+      → v.alone ≡ true
+      → sole_call (plain_after v) (call.Cancel v.number k) ≡ tells (entry.Leave v.number k ∷ []) reply.Cancelled
+  plain-left v w k further c alone =
+      let l = legal-alone v w _ _ c alone in
+      let may = allowed-at v.opening.size v.seen [] further w.seen (entry.Leave v.number k) l.seen l.legal in
+      let f = found-waits k v.number (plain_after v).line may in
+      ap (sole_cancel v.number k) f.is

@@ -1,5 +1,5 @@
 -- A cancel is its steps: the queue's cancel, and perhaps a resumption that goes on.
-use Rattle.std.proofs.Common.{◌≡◌, ℕ, ◌+◌, Bool, true, false, List, [], ◌∷◌, ◌++◌, Option, Some, None, sym, refl, ap, ◌∙◌, subst, append_assoc, inl, inr}
+use Rattle.std.proofs.Common.{◌≡◌, ℕ, true, false, List, [], ◌∷◌, ◌++◌, Option, Some, None, sym, refl, ap, ◌∙◌, subst, append_assoc, inl, inr}
 use Rattle.cqs_core.specs.declared.cells.CoreState.{CoreState}
 use Rattle.cqs_core.specs.declared.cells.CoreState.TheVariants as state
 use Rattle.cqs_core.specs.declared.doings.Doing.{Doing}
@@ -28,15 +28,15 @@ use Rattle.cqs_semaphore.specs.declared.answers.CancelAnswer.TheVariants.{Cancel
 use Rattle.cqs_semaphore.specs.declared.answers.Permit.{Permit}
 use Rattle.cqs_semaphore.specs.declared.answers.Released.{Released}
 use Rattle.cqs_semaphore.specs.Answers.{Ends}
-use Rattle.cqs_semaphore.specs.Calls.{IsReady, Rests, CallRule}
-use Rattle.cqs_semaphore.specs.Causes.{primitive_of, cell_of, CellWas, CellWasOnce}
+use Rattle.cqs_semaphore.specs.Calls.{IsReady}
+use Rattle.cqs_semaphore.specs.Causes.{primitive_of, cell_of, CellWasOnce}
 use Rattle.cqs_semaphore.specs.Entries.{resumed_further}
 use Rattle.cqs_semaphore.specs.Permits.{number_of}
 use Rattle.cqs_semaphore.specs.Steps.{HasCancelled, HasEnded, PassedOn}
 use Rattle.cqs_semaphore.proofs.ReleaseSteps.{further-names}
 use Rattle.cqs_semaphore.proofs.ResumeSteps.{ends-so, ends-called}
 use Rattle.cqs_semaphore.proofs.Rules.{call-rule, call-rule_own}
-use Rattle.cqs_semaphore.proofs.States.{prefix-then, prefix-more, called-prefix}
+use Rattle.cqs_semaphore.proofs.States.{prefix-then, prefix-more}
 
 -- how a semaphore is asked
 abbrev pub asked_so : Asking Entry
@@ -125,9 +125,9 @@ module _ {T : Type 0} where
             Cell k word ∷ (Word (client_place 0) e.asked ∷ e.tried),
             [],
             found
-            ∙ (append_assoc ((v.facts.found ++ Cell k word ∷ []) ++ Word (client_place 0) e.asked ∷ []) e.tried _
-            ∙ (append_assoc (v.facts.found ++ Cell k word ∷ []) (Word (client_place 0) e.asked ∷ []) _
-            ∙ append_assoc v.facts.found (Cell k word ∷ []) _)),
+                ∙ (append_assoc ((v.facts.found ++ Cell k word ∷ []) ++ Word (client_place 0) e.asked ∷ []) e.tried _
+                ∙ (append_assoc (v.facts.found ++ Cell k word ∷ []) (Word (client_place 0) e.asked ∷ []) _
+                ∙ append_assoc v.facts.found (Cell k word ∷ []) _)),
           );
           was = record { before = e.was.before; seen = ([], e.was.seen); was = e.was.was };
         },
@@ -155,8 +155,8 @@ module _ {T : Type 0} where
       o.found.0,
       o.found.1 ++ found.0,
       found.1 ∙ (ap (λ l. l ++ found.0) o.found.2
-      ∙ (append_assoc v.facts.found _ found.0
-      ∙ ap (λ l. v.facts.found ++ l) (append_assoc o.found.0 (Cell k o.word ∷ o.found.1) found.0))),
+          ∙ (append_assoc v.facts.found _ found.0
+          ∙ ap (λ l. v.facts.found ++ l) (append_assoc o.found.0 (Cell k o.word ∷ o.found.1) found.0))),
     );
     was = record {
       before = o.was.before;
@@ -185,11 +185,14 @@ module _ {T : Type 0} where
         call-rule_own v w (entry.Leave v.number k ∷ []) [] o.called (λ n. refl, tt) own legal,
         (
           out-waiter doing.Idle k v w Gone b o,
-          (refl, record {
-            ready = record { idle = o.doing_is; further = o.further ∙ ready.further };
-            held_is = o.held;
-            waits_are = o.waits;
-          }),
+          (
+            refl,
+            record {
+              ready = record { idle = o.doing_is; further = o.further ∙ ready.further };
+              held_is = o.held;
+              waits_are = o.waits;
+            },
+          ),
         ),
       )
 

@@ -1,11 +1,10 @@
 -- A release is its steps: one is added to the state, and perhaps a resumption.
-use Rattle.std.proofs.Common.{◌≡◌, ℕ, ◌+◌, ◌-◌, Bool, true, false, List, [], ◌∷◌, ◌++◌, Option, Some, None, Result, Ok, Err, sym, refl, ap, ◌∙◌, subst, if◌then◌else◌}
+use Rattle.std.proofs.Common.{◌≡◌, ℕ, ◌-◌, Bool, true, false, List, [], ◌∷◌, ◌++◌, Option, None, sym, refl, ap, ◌∙◌, subst, if◌then◌else◌}
 use Rattle.cqs_core.specs.declared.doings.Doing.TheVariants as doing
 use Rattle.cqs_core.specs.declared.entries.Entry.{Entry}
 use Rattle.cqs_core.specs.declared.entries.Entry.TheVariants as entry
 use Rattle.cqs_core.specs.SemaphoreEntries.{IsLegal}
 use Rattle.cqs_rule.specs.declared.view.Facts.{Facts}
-use Rattle.cqs_rule.specs.declared.view.Has as has
 use Rattle.cqs_rule.specs.declared.view.Sighting.TheVariants.{Word}
 use Rattle.cqs_rule.specs.declared.view.View.{View}
 use Rattle.cqs_rule.specs.Called.{Called}
@@ -23,7 +22,7 @@ use Rattle.cqs_words.specs.State.{count_in, is_below_zero}
 use Rattle.cqs_semaphore.specs.declared.answers.Released.{Released}
 use Rattle.cqs_semaphore.specs.declared.answers.Released.TheVariants.{Freed, Sent, Left, Void, Under}
 use Rattle.cqs_semaphore.specs.Answers.{Ends, Releases, WasUnwanted, WasWanted}
-use Rattle.cqs_semaphore.specs.Calls.{IsReady, Rests, CallRule}
+use Rattle.cqs_semaphore.specs.Calls.{IsReady, CallRule}
 use Rattle.cqs_semaphore.specs.Causes.{StateWas, state_after}
 use Rattle.cqs_semaphore.specs.Entries.{gave_entries, resumed_further}
 use Rattle.cqs_semaphore.specs.Steps.{as_released, HasEnded}

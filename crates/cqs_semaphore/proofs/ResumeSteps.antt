@@ -1,15 +1,13 @@
 -- A resumption, as a permit's: it ended at a cell, or was handed back.
-use Rattle.std.proofs.Common.{◌≡◌, ℕ, ◌+◌, ◌<◌, ◌≤◌, Bool, true, false, List, [], ◌∷◌, ◌++◌, length, Option, Some, None, sym, refl, ap, ◌∙◌, subst, append_assoc, arith, inl, inr, ⊎_elim}
+use Rattle.std.proofs.Common.{◌≡◌, ℕ, ◌≤◌, Bool, true, false, List, [], ◌∷◌, ◌++◌, length, Option, sym, refl, ap, ◌∙◌, subst, append_assoc, arith, inl, inr}
 use Rattle.std.proofs.lemmas.List.{append-nil}
 use Rattle.cqs_core.specs.declared.cells.CoreState.{CoreState}
 use Rattle.cqs_core.specs.declared.cells.CoreState.TheVariants as state
 use Rattle.cqs_core.specs.declared.doings.Doing.TheVariants as doing
 use Rattle.cqs_core.specs.declared.entries.Entry.{Entry}
-use Rattle.cqs_core.specs.declared.entries.Entry.TheVariants as entry
-use Rattle.cqs_core.specs.QueueSteps.{QueueStep, serves, leaves, delegates, passes_over, ends_refused}
+use Rattle.cqs_core.specs.QueueSteps.{QueueStep, serves, leaves, delegates, ends_refused}
 use Rattle.cqs_core.specs.SemaphoreSteps.{step_entries}
 use Rattle.cqs_rule.specs.declared.view.Facts.{Facts}
-use Rattle.cqs_rule.specs.declared.view.Glimpse.{Glimpse}
 use Rattle.cqs_rule.specs.declared.view.Sighting.{Sighting}
 use Rattle.cqs_rule.specs.declared.view.Sighting.TheVariants.{Cell}
 use Rattle.cqs_rule.specs.declared.view.View.{View}
@@ -21,7 +19,7 @@ use Rattle.cqs_rule.specs.Semaphore.{semaphore_object}
 use Rattle.cqs_resume.specs.declared.resumed.Resumed.{Resumed}
 use Rattle.cqs_resume.specs.declared.resumed.Resumed.TheVariants as resumed
 use Rattle.cqs_resume.specs.Resumes.{Ended, Stopped, Resumes}
-use Rattle.cqs_resume.specs.Rounds.{Round, cell_in, draw_entries, round_entries, over_entries, draw_seen, round_seen, all_seen, drawn_in, one_if, numbers}
+use Rattle.cqs_resume.specs.Rounds.{Round, draw_entries, round_entries, over_entries, draw_seen, round_seen, all_seen, drawn_in, one_if, numbers}
 use Rattle.cqs_semaphore.specs.Answers.{Ends, HandsBack, most_passed_over}
 use Rattle.cqs_semaphore.specs.Calls.{Rests}
 use Rattle.cqs_semaphore.specs.Causes.{primitive_of, CellWas, cell_of}
@@ -108,8 +106,8 @@ module _ {T : Type 0} where
           found = (
             u.facts.found ++ at_end.0,
             found ∙ (ap (λ l. u.facts.found ++ l) at_end.1
-            ∙ (sym (append_assoc u.facts.found at_end.0 (Cell last.number last.word ∷ []))
-            ∙ ap (λ j. (u.facts.found ++ at_end.0) ++ Cell j last.word ∷ []) e.number)),
+                ∙ (sym (append_assoc u.facts.found at_end.0 (Cell last.number last.word ∷ []))
+                ∙ ap (λ j. (u.facts.found ++ at_end.0) ++ Cell j last.word ∷ []) e.number)),
           );
           was = subst (λ j. WasFound primitive_of (HasCell (cell_of j state last.payload)) own w) e.number e.was;
         };

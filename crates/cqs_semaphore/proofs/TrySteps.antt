@@ -22,7 +22,7 @@ use Rattle.cqs_words.specs.State.{count_in, is_above_zero}
 use Rattle.cqs_semaphore.specs.Answers.{IsContended}
 use Rattle.cqs_semaphore.specs.Calls.{IsReady, Rests}
 use Rattle.cqs_semaphore.specs.Causes.{StateWas, state_after}
-use Rattle.cqs_semaphore.proofs.States.{prefix-same, saw-prefix, state-was, state-later, count-above, count-not_above, count-same}
+use Rattle.cqs_semaphore.proofs.States.{prefix-same, saw-prefix, state-was, state-later, count-above, count-same}
 
 abbrev pub busy_by : Bool → ℕ → List Entry
 busy_by b p = if b then [] else entry.TryBusy p ∷ []

@@ -1,14 +1,11 @@
 -- A pass that is alone: each of its calls is the plain semaphore's call, as one thread makes it.
-use Rattle.std.specs.Prelude.{◌≡◌, ℕ, true, List, [], ◌∷◌, ◌++◌, Option, Some, None, Result, Ok, Err}
+use Rattle.std.specs.Prelude.{◌≡◌, ℕ, List, [], ◌∷◌, Some, None}
 use Rattle.cqs_core.specs.declared.calls.Call.TheVariants as call
-use Rattle.cqs_core.specs.declared.calls.Reply.{Reply}
 use Rattle.cqs_core.specs.declared.calls.Reply.TheVariants as reply
 use Rattle.cqs_core.specs.declared.entries.Entry.{Entry}
 use Rattle.cqs_core.specs.declared.entries.Entry.TheVariants as entry
 use Rattle.cqs_core.specs.QueueLine.{Waiting}
-use Rattle.cqs_core.specs.SemaphoreObject as plain
-use Rattle.cqs_core.specs.SoleCaller.{Told, tells, sole_call}
-use Rattle.cqs_rule.specs.declared.config.AcquireError.{AcquireError}
+use Rattle.cqs_core.specs.SoleCaller.{tells, sole_call}
 use Rattle.cqs_rule.specs.declared.view.View.{View}
 use Rattle.cqs_rule.specs.Waits.{place_of}
 use Rattle.cqs_semaphore.specs.declared.answers.Acquired.{Acquired}
@@ -22,7 +19,7 @@ use Rattle.cqs_semaphore.specs.declared.answers.Polled.TheVariants.{Granted, Pen
 use Rattle.cqs_semaphore.specs.declared.answers.CancelAnswer.{CancelAnswer}
 use Rattle.cqs_semaphore.specs.declared.answers.CancelAnswer.TheVariants.{Cancelled, TooLate}
 use Rattle.cqs_semaphore.specs.Calls.{plain_after}
-use Rattle.cqs_semaphore.specs.Entries.{tried_entries, polled_entries, took_entries}
+use Rattle.cqs_semaphore.specs.Entries.{took_entries}
 use Rattle.cqs_semaphore.specs.Permits.{number_of}
 
 -- the first of the line

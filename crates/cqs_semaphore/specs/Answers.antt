@@ -1,7 +1,6 @@
 -- What each call answers, and why.
 use Rattle.std.specs.Prelude.{◌≡◌, ◌≢◌, ◌⊎◌, ℕ, ◌+◌, ◌-◌, ◌<◌, ◌≤◌, true, List, [], ◌∷◌, ◌++◌, Option, Some, None, ℤ, pos, ◌<ℤ◌, ◌≤ℤ◌}
 use Rattle.cqs_core.specs.declared.cells.CoreState.TheVariants as state
-use Rattle.cqs_core.specs.declared.doings.Doing.TheVariants as doing
 use Rattle.cqs_core.specs.declared.entries.Entry.{Entry}
 use Rattle.cqs_core.specs.declared.entries.Entry.TheVariants as entry
 use Rattle.cqs_rule.specs.declared.queue.tokens.Under as token
@@ -13,7 +12,6 @@ use Rattle.cqs_rule.specs.Layout.{suspends_place}
 use Rattle.cqs_rule.specs.Lists.{without}
 use Rattle.cqs_rule.specs.Owed.{HasUnder}
 use Rattle.cqs_rule.specs.Waits.{place_of, HasWait}
-use Rattle.cqs_semaphore.specs.declared.answers.Permit.{Permit}
 use Rattle.cqs_semaphore.specs.declared.answers.Acquired.{Acquired}
 use Rattle.cqs_semaphore.specs.declared.answers.Acquired.TheVariants.{Now, Later}
 use Rattle.cqs_semaphore.specs.declared.answers.Tried.{Tried}
@@ -24,9 +22,8 @@ use Rattle.cqs_semaphore.specs.declared.answers.Polled.{Polled}
 use Rattle.cqs_semaphore.specs.declared.answers.Polled.TheVariants.{Granted, Pending}
 use Rattle.cqs_semaphore.specs.declared.answers.CancelAnswer.{CancelAnswer}
 use Rattle.cqs_semaphore.specs.declared.answers.CancelAnswer.TheVariants.{Cancelled, TooLate}
-use Rattle.cqs_semaphore.specs.Calls.{IsReady, Rests, CallRule}
-use Rattle.cqs_semaphore.specs.Causes.{drawn_in, Counted, StateWas, CellWas, CellWasOnce, PassedOver, state_after}
-use Rattle.cqs_semaphore.specs.Entries.{passed_further, cancelled_entries}
+use Rattle.cqs_semaphore.specs.Calls.{Rests}
+use Rattle.cqs_semaphore.specs.Causes.{Counted, StateWas, CellWas, CellWasOnce, PassedOver}
 use Rattle.cqs_semaphore.specs.Owed.{owed_after}
 use Rattle.cqs_semaphore.specs.Permits.{number_of}
 

@@ -1,5 +1,5 @@
 -- What every call of a semaphore leaves of its pass.
-use Rattle.std.specs.Prelude.{◌≡◌, ◌⊎◌, ℕ, true, List, [], ◌∷◌, ◌++◌}
+use Rattle.std.specs.Prelude.{◌≡◌, ℕ, List, [], ◌++◌}
 use Rattle.cqs_core.specs.declared.doings.Doing.TheVariants as doing
 use Rattle.cqs_core.specs.declared.entries.Entry.{Entry}
 use Rattle.cqs_core.specs.SemaphoreEntries.{object_after, IsLegal}
@@ -11,7 +11,7 @@ use Rattle.cqs_rule.specs.declared.semaphore.SemClient.{SemClient}
 use Rattle.cqs_rule.specs.declared.view.Facts.{Facts}
 use Rattle.cqs_rule.specs.declared.view.View.{View}
 use Rattle.cqs_rule.specs.Called.{Called}
-use Rattle.cqs_rule.specs.Lists.{Has, IsPrefix, part, NamesOnly}
+use Rattle.cqs_rule.specs.Lists.{Has, part, NamesOnly}
 use Rattle.cqs_rule.specs.Passes.{client_of, IsOf}
 use Rattle.cqs_rule.specs.Semaphore.{semaphore_object}
 use Rattle.cqs_rule.specs.SemaphorePermits.{permits_of}

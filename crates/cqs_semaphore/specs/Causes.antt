@@ -6,7 +6,6 @@ use Rattle.cqs_core.specs.declared.entries.Entry.TheVariants as entry
 use Rattle.cqs_core.specs.SemaphoreEntries.{object_after}
 use Rattle.cqs_core.specs.SemaphoreShown.{state_of}
 use Rattle.cqs_rule.specs.declared.semaphore.SemClient.{SemClient}
-use Rattle.cqs_rule.specs.declared.view.Facts.{Facts}
 use Rattle.cqs_rule.specs.declared.view.Glimpse.{Glimpse}
 use Rattle.cqs_rule.specs.declared.view.Sighting.{Sighting}
 use Rattle.cqs_rule.specs.declared.view.Sighting.TheVariants.{Cell, Word}

@@ -1,6 +1,6 @@
 -- What each answer appends to the history: the entries of the caller, in order; and apart from them the one that may come after
 -- them, by which a permit on its way is delivered.
-use Rattle.std.specs.Prelude.{ℕ, List, [], ◌∷◌, ◌++◌, Option, Some, None, Result, Ok, Err}
+use Rattle.std.specs.Prelude.{ℕ, List, [], ◌∷◌, Option, Some, None, Result, Ok, Err}
 use Rattle.cqs_core.specs.declared.entries.Entry.{Entry}
 use Rattle.cqs_core.specs.declared.entries.Entry.TheVariants as entry
 use Rattle.cqs_rule.specs.declared.config.AcquireError.{AcquireError}

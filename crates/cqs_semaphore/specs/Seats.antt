@@ -1,5 +1,5 @@
 -- What a split and a look at the crew leave of a pass, and what a pass knows that is alone.
-use Rattle.std.specs.Prelude.{◌≡◌, true, List, []}
+use Rattle.std.specs.Prelude.{◌≡◌, []}
 use Rattle.cqs_core.specs.declared.entries.Entry.{Entry}
 use Rattle.cqs_rule.specs.declared.view.View.{View}
 use Rattle.cqs_rule.specs.Alone.{IsAlone}

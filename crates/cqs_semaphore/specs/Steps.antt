@@ -1,5 +1,5 @@
 -- The parts of the calls: what a suspend and a resume mean for a permit.
-use Rattle.std.specs.Prelude.{◌≡◌, ℕ, ◌<◌, List, ◌++◌, Option, Some, None}
+use Rattle.std.specs.Prelude.{◌≡◌, ℕ, ◌<◌, Option, Some, None}
 use Rattle.cqs_core.specs.declared.entries.Entry.{Entry}
 use Rattle.cqs_core.specs.QueueSteps.{installs, takes}
 use Rattle.cqs_rule.specs.declared.view.View.{View}

@@ -22,6 +22,7 @@ impl<T: Send + Drop> Semaphore<T> {
         ensures crowd { IsErr result
             ↔ (passes_of self.now.queue ≤ made_in (pass_view pass.new).crew) }
         ensures looked { LookedOn (pass_view pass.old) (pass_view pass.new) }
+        ensures ready { IsReady (pass_view pass.new).facts }
         ensures kept { OnErr result ((pass_view pass.old).alone ≡ true
             → (pass_view pass.new).alone ≡ true) }
         ensures new_belongs { IfOk result (λ made. IsMine self.now made) }
@@ -62,6 +63,7 @@ impl<T: Send + Drop> Semaphore<T> {
         ensures sole { IsTrue result ↔ (live_in (pass_view pass.new).crew ≡ 1) }
         ensures alone { result ≡ (pass_view pass.new).alone }
         ensures looked { LookedOn (pass_view pass.old) (pass_view pass.new) }
+        ensures ready { IsReady (pass_view pass.old).facts → IsReady (pass_view pass.new).facts }
         ensures others { IsTrue result → SeesAll (pass_view pass.new) }
     {
         self.queue.sole(pass)

@@ -1,7 +1,6 @@
-use Rattle.std.proofs.Common.{rules, ◌≡◌, ◌<◌, ◌≤◌, ◌∷◌, [], true, false, sym, refl, ◌∙◌, arith, None}
+use Rattle.std.proofs.Common.{◌∷◌, [], true, false, sym, refl, ◌∙◌, arith, None}
 use Rattle.cqs_core.specs.declared.entries.Entry.TheVariants as entry
 use Rattle.cqs_rule.specs.Passes.{pass_view}
-use Rattle.cqs_words.specs.State.{is_above_zero}
 use Rattle.cqs_semaphore.specs.declared.answers.Acquired.TheVariants.{Now}
 use Rattle.cqs_semaphore.proofs.AloneSteps.{quiet, plain-acquire}
 use Rattle.cqs_semaphore.proofs.AcquireSteps.{Came, came, worn, worn-called, was-free, below-now, waits-called, waits-below, waits-acquired}

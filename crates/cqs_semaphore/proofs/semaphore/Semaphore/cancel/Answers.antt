@@ -1,7 +1,10 @@
-use Rattle.std.proofs.Common.{rules, Some, refl, ap}
+use Rattle.std.proofs.Common.{Some, ◌∷◌, [], ap, subst}
 use Rattle.cqs_rule.specs.Passes.{pass_view}
 use Rattle.cqs_rule.specs.Waits.{place_of}
-use Rattle.cqs_cancel.specs.Cancels as queue
+use Rattle.cqs_core.specs.declared.entries.Entry.TheVariants as entry
+use Rattle.cqs_semaphore.specs.Calls.{CallRule}
+use Rattle.cqs_semaphore.specs.Entries.{passed_further}
+use Rattle.cqs_semaphore.proofs.AloneSteps.{plain-left, plain-late}
 use Rattle.cqs_semaphore.proofs.CancelSteps.{gone, gone-owing, late}
 use Rattle.cqs_semaphore.proofs.semaphore.Semaphore.cancel.Goals as goal
 
@@ -11,7 +14,8 @@ returns-in-Gone-clause-cancelled g c =
     (rw c.in-Gone.is at c.cancel.ensures.cancelled)
 
 pub returns-in-Gone-clause-alone : goal.returns-in-Gone-clause-alone
-returns-in-Gone-clause-alone g c = ?
+returns-in-Gone-clause-alone g c = λ alone.
+    plain-left _ _ _ _ (returns-in-Gone-clause-cancelled g c).1 alone
 
 pub returns-in-GoneOwing-clause-cancelled : goal.returns-in-GoneOwing-clause-cancelled
 returns-in-GoneOwing-clause-cancelled g c =
@@ -19,7 +23,8 @@ returns-in-GoneOwing-clause-cancelled g c =
     (rw c.in-GoneOwing.is at c.cancel.ensures.cancelled) c.pass_on.ensures.passed
 
 pub returns-in-GoneOwing-clause-alone : goal.returns-in-GoneOwing-clause-alone
-returns-in-GoneOwing-clause-alone g c = ?
+returns-in-GoneOwing-clause-alone g c = λ alone.
+    plain-left _ _ _ _ (returns-in-GoneOwing-clause-cancelled g c).1 alone
 
 pub returns-in-Late-clause-cancelled : goal.returns-in-Late-clause-cancelled
 returns-in-Late-clause-cancelled g c =
@@ -27,4 +32,10 @@ returns-in-Late-clause-cancelled g c =
     (rw c.in-Late.is at c.cancel.ensures.cancelled) (ap (λ k. Some k) c.number-number.ensures)
 
 pub returns-in-Late-clause-alone : goal.returns-in-Late-clause-alone
-returns-in-Late-clause-alone g c = ?
+returns-in-Late-clause-alone g c = λ alone.
+    let v = pass_view c.args.pass.now in
+    let k = (place_of c.args.wait).index in
+    let so = returns-in-Late-clause-cancelled g c in
+    plain-late _ _ _
+    (subst (λ p. CallRule v (entry.Late v.number k ∷ []) (passed_further p) (pass_view c.cancel.new.pass)) so.2.0 so.1)
+    so.2.2 alone

@@ -1,3 +1,5 @@
+use Rattle.std.proofs.Common.{◌∙◌}
+use Rattle.cqs_semaphore.proofs.AloneSteps.{quiet, plain-end}
 use Rattle.cqs_semaphore.proofs.ReleaseSteps.{ends-rule, ends-by}
 use Rattle.cqs_semaphore.proofs.semaphore.Semaphore.finish.Goals as goal
 
@@ -11,4 +13,7 @@ returns-clause-ends g c =
     ends-by _ _ _ _ _ c.requires.further (c.finish.result, c.released.ensures, c.finish.ensures.resumed)
 
 pub returns-clause-alone : goal.returns-clause-alone
-returns-clause-alone g c = ?
+returns-clause-alone g c = λ alone one.
+    let rule = returns-clause-called g c in
+    plain-end _ _ c.released.result _ _ rule (returns-clause-ends g c)
+    (λ idle. quiet _ c.finish.ensures.belongs.alone c.finish.new.pass.live.0 (rule.called.same.alone ∙ alone) idle) alone one

@@ -1,4 +1,4 @@
-use Rattle.std.proofs.Common.{rules, ◌∷◌, [], Some, sym, refl, ap, ◌∙◌, subst}
+use Rattle.std.proofs.Common.{◌∷◌, [], Some, sym, refl, ap, ◌∙◌, subst}
 use Rattle.cqs_core.specs.declared.entries.Entry.TheVariants as entry
 use Rattle.cqs_rule.specs.Passes.{pass_view, IsOf}
 use Rattle.cqs_rule.specs.Semaphore.{semaphore_object}
@@ -6,6 +6,7 @@ use Rattle.cqs_rule.specs.Waits.{place_of}
 use Rattle.cqs_rule.proofs.Places.{knows-at, knows-saw}
 use Rattle.cqs_semaphore.specs.Answers.{IsPolled}
 use Rattle.cqs_semaphore.specs.Calls.{CallRule}
+use Rattle.cqs_semaphore.proofs.AloneSteps.{plain-granted, plain-pending}
 use Rattle.cqs_semaphore.proofs.PollSteps.{pending, pending-called, pending-cell, pending-rests, granted, granted-called, granted-cell, granted-rests}
 use Rattle.cqs_semaphore.proofs.Rules.{call-rule_own}
 use Rattle.cqs_semaphore.proofs.semaphore.Semaphore.poll.Goals as goal
@@ -42,7 +43,8 @@ returns-in-Resumed-clause-polled g c =
     )
 
 pub returns-in-Resumed-clause-alone : goal.returns-in-Resumed-clause-alone
-returns-in-Resumed-clause-alone g c = ?
+returns-in-Resumed-clause-alone g c = λ alone.
+    plain-granted _ _ _ (returns-in-Resumed-clause-called g c) (returns-in-Resumed-clause-polled g c).1 alone
 
 pub returns-in-Waiter-clause-belongs : goal.returns-in-Waiter-clause-belongs
 returns-in-Waiter-clause-belongs g c =
@@ -74,4 +76,4 @@ returns-in-Waiter-clause-polled g c =
     )
 
 pub returns-in-Waiter-clause-alone : goal.returns-in-Waiter-clause-alone
-returns-in-Waiter-clause-alone g c = ?
+returns-in-Waiter-clause-alone g c = λ alone. plain-pending _ _ _ (returns-in-Waiter-clause-called g c) alone

@@ -2,6 +2,8 @@ use Rattle.std.proofs.Common.{◌∷◌, [], true, false, sym, refl, ◌∙◌}
 use Rattle.cqs_core.specs.declared.entries.Entry.TheVariants as entry
 use Rattle.cqs_rule.specs.Passes.{pass_view}
 use Rattle.cqs_semaphore.proofs.ReleaseSteps.{gave, gave-called, freed, releases-so, released-rule}
+use Rattle.cqs_semaphore.specs.declared.answers.Released.TheVariants.{Freed}
+use Rattle.cqs_semaphore.proofs.AloneSteps.{quiet, plain-release}
 use Rattle.cqs_semaphore.proofs.Rules.{call-rule_own}
 use Rattle.cqs_semaphore.proofs.semaphore.Semaphore.release.Goals as goal
 
@@ -16,7 +18,11 @@ returns-then-is_below_zero-clause-released g c =
     releases-so _ _ _ _ _ _ _ c.requires.ready t c.send.ensures.ended
 
 pub returns-then-is_below_zero-clause-alone : goal.returns-then-is_below_zero-clause-alone
-returns-then-is_below_zero-clause-alone g c = ?
+returns-then-is_below_zero-clause-alone g c = λ alone.
+    let rule = returns-then-is_below_zero-clause-called g c in
+    plain-release _ _ c.send.result (quiet _ c.requires.belongs.alone c.args.pass.now.live.0 alone c.requires.ready.idle)
+    rule (returns-then-is_below_zero-clause-released g c)
+    (λ idle. quiet _ c.send.ensures.belongs.alone c.send.new.pass.live.0 (rule.called.same.alone ∙ alone) idle) alone
 
 pub returns-clause-called : goal.returns-clause-called
 returns-clause-called g c =
@@ -31,4 +37,9 @@ returns-clause-released g c =
     freed _ _ _ c.requires.ready t
 
 pub returns-clause-alone : goal.returns-clause-alone
-returns-clause-alone g c = ?
+returns-clause-alone g c = λ alone.
+    let rule = returns-clause-called g c in
+    plain-release _ _ Freed (quiet _ c.requires.belongs.alone c.args.pass.now.live.0 alone c.requires.ready.idle)
+    rule (returns-clause-released g c)
+    (λ idle. quiet _ c.give_permit.ensures.belongs.alone c.give_permit.new.pass.live.0 (rule.called.same.alone ∙ alone) idle)
+    alone

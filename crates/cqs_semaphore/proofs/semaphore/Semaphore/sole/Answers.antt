@@ -1,4 +1,4 @@
-use Rattle.std.proofs.Common.{rules, sym, ◌∙◌}
+use Rattle.std.proofs.Common.{sym, ◌∙◌}
 use Rattle.cqs_semaphore.proofs.semaphore.Semaphore.sole.Goals as goal
 
 pub returns-clause-others : goal.returns-clause-others

@@ -1,4 +1,4 @@
-use Rattle.std.proofs.Common.{◌≡◌, ◌∷◌, [], true, false, sym, refl, ap, ◌∙◌, subst}
+use Rattle.std.proofs.Common.{◌∷◌, [], true, false, sym, refl, ap, ◌∙◌, subst}
 use Rattle.cqs_core.specs.declared.entries.Entry.TheVariants as entry
 use Rattle.cqs_rule.specs.Passes.{pass_view}
 use Rattle.cqs_words.specs.State.{is_above_zero, count_in}
@@ -9,7 +9,7 @@ use Rattle.cqs_semaphore.specs.Alone.{IsPlainTry}
 use Rattle.cqs_semaphore.proofs.AloneSteps.{plain-busy, plain-got}
 use Rattle.cqs_semaphore.proofs.Rules.{call-rule_own}
 use Rattle.cqs_semaphore.proofs.States.{count-above, count-not_above}
-use Rattle.cqs_semaphore.proofs.TrySteps.{LoadedBy, SwappedBy, loaded, got, missed, busy-called, busy-found, busy-rests, swap-called, swap-found, swap-rests, contended}
+use Rattle.cqs_semaphore.proofs.TrySteps.{loaded, got, missed, busy-called, busy-found, busy-rests, swap-called, swap-found, swap-rests, contended}
 use Rattle.cqs_semaphore.proofs.semaphore.Semaphore.try_acquire.Goals as goal
 
 pub returns-then-not-is_above_zero-clause-called : goal.returns-then-not-is_above_zero-clause-called

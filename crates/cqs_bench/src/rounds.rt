@@ -62,9 +62,13 @@ fn free_round(queue: &Queue<SemClient>, pass: &mut Pass<SemClient>) -> bool
     ensures belongs { IsOf queue.now pass.new }
     ensures idle { IsTrue result → (pass_view pass.new).facts.doing ≡ Idle }
 {
-    queue.load_table::<Counts>(pass, SUSPENDS_WORD) < LIMIT
-        && acquire(queue, pass).is_none()
-        && release(queue, pass)
+    if queue.load_table::<Counts>(pass, SUSPENDS_WORD) >= LIMIT {
+        return false;
+    }
+    if acquire(queue, pass).is_some() {
+        return false;
+    }
+    release(queue, pass)
 }
 
 // The pass that holds the one permit waits for it, gives it back, and is served. It answers whether rounds go on.

@@ -1,5 +1,5 @@
-use Rattle.std.proofs.Common.{ap}
-use Rattle.cqs_rule.specs.Passes.{pass_view}
+use Rattle.std.proofs.Common.{ap, subst, sym}
+use Rattle.cqs_rule.specs.Passes.{pass_view, IsOf}
 use Rattle.cqs_rule.proofs.Places.{knows-at}
 use Rattle.cqs_bench.proofs.rounds.pair_round.Goals as goal
 
@@ -11,3 +11,7 @@ look-requires-clause-place c =
     knows-at (pass_view c.release.new.pass) (pass_view c.spend_wait-at.new.pass) _ _
     (ap pass_view c.spend_wait-at.ensures.same) c.spend_wait-at.ensures.place
     (c.release.ensures.waits.each c.in-Some.wait c.in-Some.ensures.waits).place
+
+pub look-requires-clause-belongs : goal.look-requires-clause-belongs
+look-requires-clause-belongs c =
+    subst (λ p. IsOf c.args.queue.now p) (sym c.spend_wait-at.ensures.same) c.release.ensures.belongs

@@ -1,19 +1,24 @@
 -- What a pass knows of its wait goes on from step to step and from call to call.
-use Rattle.std.proofs.Common.{◌≡◌, ℕ, List, sym, refl, subst}
+use Rattle.std.proofs.Common.{◌≡◌, ℕ, List, sym, refl, subst, ap, ◌∙◌, true, if◌then◌else◌}
 use Rattle.cqs_core.specs.declared.cells.CoreState.{CoreState}
 use Rattle.cqs_core.specs.declared.cells.CoreState.TheVariants as state
 use Rattle.cqs_core.specs.declared.doings.Doing.TheVariants as doing
+use Rattle.cqs_core.specs.declared.entries.Entry.{Entry}
 use Rattle.cqs_rule.specs.declared.config.Place.{Place}
 use Rattle.cqs_rule.specs.declared.queue.tokens.Wait.{Wait}
 use Rattle.cqs_rule.specs.declared.view.Facts.{Facts}
 use Rattle.cqs_rule.specs.declared.view.Glimpse.{Glimpse}
 use Rattle.cqs_rule.specs.declared.view.View.{View}
+use Rattle.cqs_rule.specs.Events.{in_any_case}
 use Rattle.cqs_rule.specs.Hidden.{Gains}
 use Rattle.cqs_rule.specs.Loads.{cancels, event_of, facts_looked}
 use Rattle.cqs_rule.specs.Object.{Object}
 use Rattle.cqs_rule.specs.Placed.{KnowsPlace, place_known, place_word}
 use Rattle.cqs_rule.specs.Saw.{Saw}
+use Rattle.cqs_rule.specs.Semaphore.{gives_one}
+use Rattle.cqs_rule.specs.SemaphoreSteps.{OnState}
 use Rattle.cqs_rule.specs.Waits.{HasWait, place_of}
+use Rattle.cqs_words.specs.State.{is_below_zero}
 use Rattle.cqs_rule.proofs.Calls.{called-by}
 use Rattle.cqs_rule.proofs.Places.{has-wait-called}
 
@@ -47,3 +52,12 @@ still-idle gains state.Cancelling n g f idle = idle
 still-idle gains state.Delegated n g f idle = idle
 still-idle gains state.Cancelled n g f idle = idle
 still-idle gains state.Refused n g f idle = idle
+
+-- a pass that gave a permit back, and found the state below 0, owes it to the line
+pub owes-it : {T : Type 0} (v w : View Entry T) (n : ℕ) → OnState gives_one in_any_case v n w
+    → is_below_zero n ≡ true → w.facts.doing ≡ doing.Owes
+owes-it v w n on below = ap (λ (f : Facts). f.doing) on.saw.facts_are ∙ ap (λ b. if b then doing.Owes else doing.Idle) below
+
+pub owes-nothing-named : {T : Type 0} (v w : View Entry T) (n : ℕ) → OnState gives_one in_any_case v n w
+    → w.facts.has.payload ≡ 0
+owes-nothing-named v w n on = ap (λ (f : Facts). f.has.payload) on.saw.facts_are

@@ -88,8 +88,11 @@ fn a_cancellation_is_too_late(rt: HostRuntime) -> Result<(), Fail> {
     let Suspended::Waits(wait) = suspend(&queue, &mut pass) else {
         panic!(rt; "no value was left for the first number");
     };
-    let found = give_permit(&queue, &mut pass).word;
-    assert_eq!(rt; found, 4_294_967_295);
+    let given = give_permit(&queue, &mut pass);
+    if !given.is_below_zero() {
+        panic!(rt; "somebody waits for the permit");
+    }
+    assert_eq!(rt; given.word, 4_294_967_295);
     let Resumed::Served(served) = resume(&queue, &mut pass, 0) else {
         panic!(rt; "the first waiter stands in its cell");
     };
@@ -157,8 +160,11 @@ fn single_steps_of_a_resume(rt: HostRuntime) -> Result<(), Fail> {
     let Suspended::Waits(_) = suspend(&queue, &mut pass) else {
         panic!(rt; "no value was left for the first number");
     };
-    let found = give_permit(&queue, &mut pass).word;
-    assert_eq!(rt; found, 4_294_967_295);
+    let given = give_permit(&queue, &mut pass);
+    if !given.is_below_zero() {
+        panic!(rt; "somebody waits for the permit");
+    }
+    assert_eq!(rt; given.word, 4_294_967_295);
     let under = queue.under_of(&mut pass, 0, None, 0);
     assert_eq!(rt; under.reached(), 0);
     assert_eq!(rt; queue.spend_under(&mut pass, under), (0, None));
@@ -168,10 +174,10 @@ fn single_steps_of_a_resume(rt: HostRuntime) -> Result<(), Fail> {
     let Found::At(at) = find(&queue, &mut pass, number) else {
         panic!(rt; "each cell has its place");
     };
-    assert_eq!(rt;
-        leave_value(&queue, &mut pass, at, 0),
-        Err(CellState::Waiter)
-    );
+    let Err(found) = leave_value(&queue, &mut pass, at, 0) else {
+        panic!(rt; "a waiter stands in the cell");
+    };
+    assert_eq!(rt; found, CellState::Waiter);
     let under = queue.under_of(&mut pass, 0, Some(number), number);
     assert_eq!(rt; queue.spend_under(&mut pass, under), (0, Some(0)));
     assert_eq!(rt; serve(&queue, &mut pass, at, 0), Ok(()));

@@ -1,5 +1,6 @@
-//! The plain fold of a plan over the kit's own parse of its bytes: ordinary data, and no contract. The whole program is measured
-//! beside it on plans of many events, so that both read by the same parser.
+//! The plain fold of a plan over the kit's own parse of its bytes: ordinary data, and no
+//! contract. The whole program is measured beside it on plans of many events, so that both
+//! read by the same parser.
 
 ghost use Rattle.std.specs.Prelude.{◌<◌, length, IfSome};
 

@@ -1,5 +1,6 @@
-//! Times what the program does with a plan on standard input: the parse of its document, the reading of the plan, its run, or the
-//! reading and the run together, beside a plain fold over the same parse. And times rounds of the running queue.
+//! Times what the program does with a plan on standard input: the parse of its document, the
+//! reading of the plan, its run, or the reading and the run together, beside a plain fold over the
+//! same parse. And times rounds of the running queue.
 //!
 //! Each part prints one line, which starts with its word and its nanoseconds.
 #![tactic(auto)]
@@ -23,7 +24,7 @@ use std::rt::Clock;
 use std::time::Instant;
 
 const USAGE: &str =
-    "usage: cqs_bench toml | plan | run | whole | fold, with a plan on standard input; or free | pairs [ROUNDS]";
+    "usage: cqs_bench toml | plan | run | whole | fold < PLAN; or free | pairs [ROUNDS]";
 
 const BAD_COMMAND: u8 = 2;
 

@@ -33,8 +33,9 @@ fn acquire(queue: &Queue<SemClient>, pass: &mut Pass<SemClient>) -> Option<Wait>
     }
 }
 
-// Gives the permit that the pass holds, if it has one, to the first of the line, or makes it free. It answers whether that was
-// done: where more waiters have left than one call passes over, the pass still owes it.
+// Gives the permit that the pass holds, if it has one, to the first of the line, or makes it
+// free. It answers whether that was done: where more waiters have left than one call passes
+// over, the pass still owes it.
 fn release(queue: &Queue<SemClient>, pass: &mut Pass<SemClient>) -> bool
     requires belongs { IsOf queue.now pass.old }
     requires idle { (pass_view pass.old).facts.doing ≡ Idle }
@@ -71,7 +72,8 @@ fn free_round(queue: &Queue<SemClient>, pass: &mut Pass<SemClient>) -> bool
     release(queue, pass)
 }
 
-// The pass that holds the one permit waits for it, gives it back, and is served. It answers whether rounds go on.
+// The pass that holds the one permit waits for it, gives it back, and is served. It
+// answers whether rounds go on.
 fn pair_round(queue: &Queue<SemClient>, pass: &mut Pass<SemClient>) -> bool
     requires belongs { IsOf queue.now pass.old }
     requires limit { limit_of queue.now ≡ 1048576 }
@@ -106,7 +108,8 @@ pub fn free_rounds(queue: &Queue<SemClient>, pass: &mut Pass<SemClient>, count: 
     }
 }
 
-/// The first round takes the permit. In each later one the pass that holds it waits for it, gives it back, and is served.
+/// The first round takes the permit. In each later one the pass that holds it waits for it,
+/// gives it back, and is served.
 pub fn pair_rounds(queue: &Queue<SemClient>, pass: &mut Pass<SemClient>, count: u64)
     requires belongs { IsOf queue.now pass.old }
     requires limit { limit_of queue.now ≡ 1048576 }

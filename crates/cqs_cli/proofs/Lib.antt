@@ -1,4 +1,5 @@
 pub mod MeaningLemmas
+pub mod KeptLemmas
 pub mod PlanLemmas
 pub mod WordLemmas
 pub mod Stays

@@ -9,4 +9,5 @@ pub mod SoleCore
 pub mod Ledger
 pub mod DeskCalls
 pub mod Kept
+pub mod KeptRuns
 pub mod Opening

@@ -1,7 +1,7 @@
 //! Runs each plan of examples/ by the program's own call, and compares its report with the one stored beside the plan.
 #![tactic(auto)]
 
-use cqs_cli::{DONE, top};
+use cqs_cli::{DONE, Kept, top};
 use cqs_plan::{SureSink, SureSource};
 use std::fs;
 use std::rt::Files;
@@ -29,7 +29,8 @@ fn is_as_stored<R: Files + AllocGlobal>(rt: &R, name: &str) -> anyhow::Result<bo
     let Ok(mut sink) = SureSink::new(alloc, ROOM) else {
         anyhow::bail!("no memory for the report");
     };
-    let status = top(alloc, &words, &mut source, &mut sink);
+    let mut kept = Kept::Nothing;
+    let status = top(alloc, &words, &mut source, &mut sink, &mut kept);
     Ok(status == DONE && sink.bytes() == Some(report.as_str().as_bytes()))
 }
 

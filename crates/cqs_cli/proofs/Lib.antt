@@ -19,3 +19,4 @@ pub mod Ends
 pub mod LegalFloors
 pub mod Counting
 pub mod Opened
+pub mod CoreSole

@@ -5,6 +5,7 @@ pub mod Standard
 pub mod Tellings
 pub mod Verdicts
 pub mod Words
+pub mod Soles
 pub mod SoleCore
 pub mod Ledger
 pub mod DeskCalls

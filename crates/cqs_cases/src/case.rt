@@ -37,8 +37,8 @@ impl Case {
         })
     }
 
-    /// Runs the program with this value in the place of `@`, and tells whether it ends with this status, having
-    /// written as many bytes of the text.
+    /// Runs the program with this value in the place of `@`, and tells whether it ends with this
+    /// status, having written as many bytes of the text.
     pub fn ends(
         &self,
         alloc: Global,

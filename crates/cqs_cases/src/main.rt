@@ -1,21 +1,23 @@
-//! Runs the cases of data/ by the program's own call, and counts those that don't end as they should.
+//! Runs the cases of data/ by the program's own call, and counts those that
+//! don't end as they should.
 //!
-//! A file of cases is a text of lines. A line that begins with `== ` tells what to do; the lines after it, up to
-//! the next such line, belong to it. A line that begins with `=== ` is a heading, for the reader alone.
+//! A file of cases is a text of lines. A line that begins with `== ` tells what to do; the lines
+//! after it, up to the next such line, belong to it. A line that begins with `=== ` is a
+//! heading, for the reader alone.
 //!
 //! | line | what it does |
 //! |---|---|
 //! | `== plan` | a new input, of the lines that follow; forgets all that was set before |
-//! | `== each 0 9 TEXT` | adds this text to the input, for each number of the range, up or down, which stands for `@` |
+//! | `== each 0 9 TEXT` | adds this text for each number of the range, for which `@` stands |
 //! | `== fill 100 #` | adds this sign to the input again and again, until it has so many bytes |
-//! | `== with` | the lines that follow are values: the input is tried with each of them in the place of `@` |
+//! | `== with` | the lines that follow are values: the input is tried with each in place of `@` |
 //! | `== byte 255` | this byte is the one value |
 //! | `== first 10` | no more than the first bytes of the input are tried |
 //! | `== words "run" "run"` | the words of the command line, in place of `run` |
-//! | `== chunk 16`, `== room 170` | how many bytes a call moves at most, and the sink takes in all |
-//! | `== read 4`, `== write 3` | this call of the source or of the sink fails; no call has the number 0 |
+//! | `== chunk 16`, `== room 170` | the bytes that a call moves at most, and the sink in all |
+//! | `== read 4`, `== write 3` | this call of the source or the sink fails; none is number 0 |
 //! | `== text` | the lines that follow are what must be written; a value stands for `@` |
-//! | `== ends 0`, `== ends 5 20` | runs it: it must end with this status, having written the text, or its first bytes |
+//! | `== ends 0`, `== ends 5 20` | runs it: it must end so, with the text written, or a prefix |
 //! | `== fault job: many` | runs it: it is no plan, and this is its first fault |
 //!
 //! In a value and in a text of `each` the sign `|` stands for the end of a line.
@@ -40,7 +42,8 @@ const TABLES: [&str; 8] = [
     "streams",
 ];
 
-/// Runs the cases of a file, and prints how many there are, and the place of each that doesn't end as it should.
+/// Runs the cases of a file, and prints how many there are, and the place of each that
+/// doesn't end as it should.
 fn run_table<R: Files + Print + AllocGlobal>(rt: &R, name: &str) -> anyhow::Result<()> {
     let alloc = rt.alloc();
     let text = fs::read_to_string(rt, format!(in alloc; "{name}.cases")?)?;

@@ -51,7 +51,8 @@ impl Table {
         self.failed
     }
 
-    /// Reads one line, and runs the cases that it asks for. Answers whether they end as they should.
+    /// Reads one line, and runs the cases that it asks for. Answers whether
+    /// they end as they should.
     pub fn read(&mut self, line: &str) -> anyhow::Result<bool> {
         self.line = self.line.saturating_add(1);
         if line.starts_with("=== ") {

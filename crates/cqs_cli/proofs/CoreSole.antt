@@ -53,7 +53,8 @@ idle-one = record { at = λ p d got. replicate-all 1 doing.Idle d p got }
 
 sole-opened : (permits : ℕ) → 0 < permits → permits ≤ 1048576 → IsSole (opened permits 1)
 sole-opened permits some few = record {
-  core = opened-core permits 1 (record { some_permits = some; few_permits = few; some_passes = lit< tt; few_passes = lit≤ tt });
+  core = opened-core permits 1
+      (record { some_permits = some; few_permits = few; some_passes = lit< tt; few_passes = lit≤ tt });
   idle = idle-one;
   one = refl;
   untaken = record { at = λ k cell got. absurd (cc) };
@@ -111,7 +112,8 @@ module _ (x y : Room) (answer : Reply) (sole : IsSole x.shape) where
             goes = record {
               appended = came.history;
               funded = funded-next x y _ answer _ _ _ _ _ _ _ funded made
-                  (omega (arith, made.call.numbers, left)) (omega (arith, left)) (omega (arith, came.holds, funded.holds));
+                  (omega (arith, made.call.numbers, left)) (omega (arith, left))
+                  (omega (arith, came.holds, funded.holds));
             };
             keeps = λ wait has. subst (λ (o : Semaphore). HasWait wait 0 o) (sym came.shows) has;
           })
@@ -127,7 +129,8 @@ module _ (x y : Room) (answer : Reply) (sole : IsSole x.shape) where
             goes = record {
               appended = rw (← next) came.history;
               funded = funded-next x y _ answer _ _ _ _ _ _ _ funded made
-                  (omega (arith, made.call.numbers, left)) (omega (arith, left)) (omega (arith, came.holds, funded.holds));
+                  (omega (arith, made.call.numbers, left)) (omega (arith, left))
+                  (omega (arith, came.holds, funded.holds));
             };
             has = subst (λ (o : Semaphore). HasWait (shown x.shape).next 0 o) (sym came.shows)
                 (comes-entered (shown x.shape));
@@ -306,7 +309,8 @@ module _ (x : Room) (size room waiting held : ℕ) (funded : IsFunded x size roo
 
   all-there : (shown x.shape).held + free_of x.shape.state ≡ size
   all-there =
-      let still : going x.shape.queue ≡ 0 = none-going x.shape.queue funded.sole.core.sound funded.sole.idle quiet.behind in
+      let still : going x.shape.queue ≡ 0 =
+      none-going x.shape.queue funded.sole.core.sound funded.sole.idle quiet.behind in
       let few = ending-within x.shape.queue funded.sole.core.sound funded.sole.core.covered in
       let conserved = funded.sole.core.conserved in
       omega (arith, still, few, conserved, funded.permits)

@@ -21,6 +21,7 @@ use Rattle.cqs_plan.specs.declared.plans.step.Step.{Step}
 use Rattle.cqs_plan.specs.declared.plans.step.Step.TheVariants as step
 use Rattle.cqs_plan.specs.PlanSteps.{is_take}
 use Rattle.cqs_plan.specs.Floor.{permits_of}
+use Rattle.cqs_plan.specs.Holding.{TookMore}
 use Rattle.cqs_plan.specs.Runnable.{IsRunnable, IsMakeable, kinds_of}
 use Rattle.cqs_cli.specs.Opening.{AreOpened, AreWithin, IsCountable, IsWithin, takes_of}
 use Rattle.cqs_cli.specs.Soles.{Sole, IsOpened}
@@ -151,7 +152,7 @@ runnable-countable plan runnable = record {
           length-map plan.resources (λ (r : Resource). r.kind),
         )
 
-    within : (s : Step) (earlier : List Step) → IsMakeable (kinds_of plan.resources) earlier s
+    within : (s : Step) (earlier : List Step) → IsMakeable (kinds_of plan.resources) (TookMore earlier) s
         → IsWithin (length plan.resources) s
     within (step.Take at) earlier makeable =
         let is = holdable-semaphore (slice_get (kinds_of plan.resources) at) makeable in

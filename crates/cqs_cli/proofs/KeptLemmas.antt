@@ -74,7 +74,7 @@ module _ {S K : Type 0} (left : S → Option (List ℕ)) (source_faults : S → 
     kept_done verdict.NoMemory status (judged, (is, untouched)) keeps zero = absurd (omega (arith, is, zero))
     kept_done verdict.TooLong status (judged, (is, untouched)) keeps zero = absurd (omega (arith, is, zero))
 
-    -- where the sink failed, the floor is kept of the run whose report broke off, and nothing more where there was no run
+    -- where the sink failed, the floor is kept of the run whose report broke off, and nothing more where there was none
     pub kept_broken : (given : Verdict) (status : ℕ) → Ends given status → KeptWith given → kept ≡ Nothing → status ≡ 5
         → KeptRun (left source) (left source_after) kept_after (λ text. GainsPrefix text (held sink) (held sink_after))
         ⊎ ((kept_after ≡ Nothing) × IsNoRun words (left source) (left source_after))
@@ -85,13 +85,19 @@ module _ {S K : Type 0} (left : S → Option (List ℕ)) (source_faults : S → 
       run = keeps.run;
       holds = rw keeps.holds broke.prefix;
     })
-    kept_broken (verdict.Report text) status (judged, inl (is, wrote)) keeps empty five = absurd (omega (arith, is, five))
+    kept_broken (verdict.Report text) status (judged, inl (is, wrote)) keeps empty five =
+        absurd (omega (arith, is, five))
     kept_broken verdict.NoCommand status ((wrong, untouched), inr (is, broke)) keeps empty five =
         inr (keeps ∙ empty, inl wrong)
-    kept_broken verdict.NoCommand status (judged, inl (is, wrote)) keeps empty five = absurd (omega (arith, is, five))
+    kept_broken verdict.NoCommand status (judged, inl (is, wrote)) keeps empty five =
+        absurd (omega (arith, is, five))
     kept_broken (verdict.NoPlan line) status ((run, calm, read), inr (is, broke)) keeps empty five =
         inr (keeps ∙ empty, inr (read.bytes, read.input, (line.items, read.right)))
-    kept_broken (verdict.NoPlan line) status (judged, inl (is, wrote)) keeps empty five = absurd (omega (arith, is, five))
-    kept_broken verdict.SourceFailed status (judged, (is, untouched)) keeps empty five = absurd (omega (arith, is, five))
-    kept_broken verdict.NoMemory status (judged, (is, untouched)) keeps empty five = absurd (omega (arith, is, five))
-    kept_broken verdict.TooLong status (judged, (is, untouched)) keeps empty five = absurd (omega (arith, is, five))
+    kept_broken (verdict.NoPlan line) status (judged, inl (is, wrote)) keeps empty five =
+        absurd (omega (arith, is, five))
+    kept_broken verdict.SourceFailed status (judged, (is, untouched)) keeps empty five =
+        absurd (omega (arith, is, five))
+    kept_broken verdict.NoMemory status (judged, (is, untouched)) keeps empty five =
+        absurd (omega (arith, is, five))
+    kept_broken verdict.TooLong status (judged, (is, untouched)) keeps empty five =
+        absurd (omega (arith, is, five))

@@ -98,7 +98,8 @@ module _ {X W : Type 0} (s : Sole X W) where
     pub kept : IsKept s n
 
   look-well : (l n : Ledger X W) (job : ℕ) (wait : Wait W) (answer : FloorLook) → IsKept s l
-      → IsJob (plain_floor s l) job → get_or l.waits job None ≡ Some wait → Looks s (with_wait l job None) job wait answer n
+      → IsJob (plain_floor s l) job → get_or l.waits job None ≡ Some wait
+      → Looks s (with_wait l job None) job wait answer n
       → LooksWell (plain_floor s l) job answer n
   look-well l n job wait Pending kept is_job slot (back, a, written) =
       let job_has = has l job wait kept slot in
@@ -139,7 +140,8 @@ module _ {X W : Type 0} (s : Sole X W) where
     pub kept : IsKept s n
 
   leave-well : (l n : Ledger X W) (job : ℕ) (wait : Wait W) (answer : FloorLeave) → IsKept s l
-      → IsJob (plain_floor s l) job → get_or l.waits job None ≡ Some wait → Leaves s (with_wait l job None) job wait answer n
+      → IsJob (plain_floor s l) job → get_or l.waits job None ≡ Some wait
+      → Leaves s (with_wait l job None) job wait answer n
       → LeavesWell (plain_floor s l) job answer n
   leave-well l n job wait Gone kept is_job slot (a, written) =
       let job_has = has l job wait kept slot in

@@ -25,8 +25,10 @@ all_statuses = (
 )
 
 -- the input is what the source told before
-input_told : (bytes told : List ℕ) (left after : Option (List ℕ)) → IsInput bytes left after → left ≡ Some told → told ≡ bytes
-input_told bytes told left after input tells = let P : Option (List ℕ) → Type 0 = IsAll bytes in subst P tells input.whole
+input_told : (bytes told : List ℕ) (left after : Option (List ℕ)) → IsInput bytes left after → left ≡ Some told
+    → told ≡ bytes
+input_told bytes told left after input tells =
+    let P : Option (List ℕ) → Type 0 = IsAll bytes in subst P tells input.whole
 
 -- a source that gave so many bytes told of as many before
 gave_as_many : (count : ℕ) (told : List ℕ) (left after : Option (List ℕ))
@@ -98,11 +100,13 @@ module _ {S K : Type 0} (left : S → Option (List ℕ)) (source_faults : S → 
   answers_fault verdict.NoCommand status ((wrong, untouched), told) run bytes tells few no_plan calm quiet =
       absurd (wrong run)
   answers_fault (verdict.Report text) status ((_, _, read), told) run bytes tells few no_plan calm quiet =
-      absurd (no_plan (subst IsPlan (sym (input_told read.bytes bytes _ _ read.input tells)) (read.right.plan, read.right.says)))
+      absurd (no_plan (subst IsPlan (sym (input_told read.bytes bytes _ _ read.input tells))
+      (read.right.plan, read.right.says)))
   answers_fault (verdict.NoPlan line) status (judged, inl (is, wrote)) run bytes tells few no_plan calm quiet = inl is
   answers_fault (verdict.NoPlan line) status (judged, inr (is, broke)) run bytes tells few no_plan calm quiet =
       absurd (quiet broke.cause)
-  answers_fault verdict.SourceFailed status ((_, rises), told) run bytes tells few no_plan calm quiet = absurd (calm rises)
+  answers_fault verdict.SourceFailed status ((_, rises), told) run bytes tells few no_plan calm quiet =
+      absurd (calm rises)
   answers_fault verdict.NoMemory status (judged, (is, untouched)) run bytes tells few no_plan calm quiet = inr is
   answers_fault verdict.TooLong status ((_, _, many), told) run bytes tells few no_plan calm quiet =
       let as_many : 1048577 ≤ length bytes = gave_as_many 1048577 bytes _ _ many tells in
@@ -113,7 +117,8 @@ module _ {S K : Type 0} (left : S → Option (List ℕ)) (source_faults : S → 
       → left source ≡ Some bytes → length bytes ≤ 1048576 → IsPlan bytes
       → Calm (source_faults source) (source_faults source_after) → Calm (sink_faults sink) (sink_faults sink_after)
       → MustEnd 0 status
-  answers_plan verdict.NoCommand status ((wrong, untouched), told) run bytes tells few plan calm quiet = absurd (wrong run)
+  answers_plan verdict.NoCommand status ((wrong, untouched), told) run bytes tells few plan calm quiet =
+      absurd (wrong run)
   answers_plan (verdict.Report text) status (judged, inl (is, wrote)) run bytes tells few plan calm quiet = inl is
   answers_plan (verdict.Report text) status (judged, inr (is, broke)) run bytes tells few plan calm quiet =
       absurd (quiet broke.cause)

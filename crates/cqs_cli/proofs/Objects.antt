@@ -40,7 +40,8 @@ stays-sent o first rest k is alone (inl waits) = go (cases_eq k first.wait)
     go (inl same) =
         let now : IsServed first.wait first.pass (sent_to o first).served =
         rw (sent-served o first rest is)
-        (comes-placed (λ (v : Service). v.wait) (record { wait = first.wait; pass = first.pass; is_open = true }) o.served) in
+        (comes-placed (λ (v : Service). v.wait)
+        (record { wait = first.wait; pass = first.pass; is_open = true }) o.served) in
         inr (rw (same, ← alone) now)
     go (inr other) =
         inl (stays-without (λ (w : Waiting). w.wait) (record { wait = k; pass = 0 }) first.wait o.line other waits)
@@ -49,10 +50,12 @@ stays-sent o first rest k is alone (inr serves) =
     (stays-placed (λ (v : Service). v.wait) (record { wait = k; pass = 0; is_open = true }) _ o.served serves))
 
 -- a permit that came, and that its caller looked at or was too late to leave
-pub stays-closed : (o : Semaphore) (k j : ℕ) → j ≢ k → HasWait j 0 o → HasWait j 0 (after_entry o (entry.LookGranted 0 k))
+pub stays-closed : (o : Semaphore) (k j : ℕ) → j ≢ k → HasWait j 0 o
+    → HasWait j 0 (after_entry o (entry.LookGranted 0 k))
 stays-closed o k j other (inl waits) = inl waits
 stays-closed o k j other (inr serves) =
-    inr (stays-changed (λ (v : Service). v.wait) (record { wait = j; pass = 0; is_open = true }) k _ o.served other serves)
+    inr (stays-changed (λ (v : Service). v.wait)
+    (record { wait = j; pass = 0; is_open = true }) k _ o.served other serves)
 
 -- the line without a wait
 abbrev line_without : Semaphore → ℕ → Semaphore
@@ -66,7 +69,8 @@ stays-left o k j other has = turn (nat_lt (due (line_without o k)) o.way) refl (
     go (inl waits) = inl (stays-without (λ (w : Waiting). w.wait) (record { wait = j; pass = 0 }) k o.line other waits)
     go (inr serves) = inr serves
 
-    turn : (b : Bool) → nat_lt (due (line_without o k)) o.way ≡ b → HasWait j 0 (line_without o k) → HasWait j 0 (turned_back (line_without o k))
+    turn : (b : Bool) → nat_lt (due (line_without o k)) o.way ≡ b → HasWait j 0 (line_without o k)
+        → HasWait j 0 (turned_back (line_without o k))
     turn true is stands = rw is stands
     turn false is stands = rw is stands
 

@@ -7,21 +7,23 @@ use Rattle.cqs_core.specs.declared.calls.Reply.TheVariants as reply
 use Rattle.cqs_core.specs.SemaphoreAnswers.{Room}
 use Rattle.cqs_core.specs.SemaphoreCalls.{Course, refused, replied, stuck, course, MakesCallReady}
 use Rattle.cqs_core.specs.SemaphoreShown.{IsCore}
-use Rattle.cqs_core.specs.SoleCaller.{IsSoleCall, ShowsNext, held_after}
+use Rattle.cqs_core.specs.SoleCaller.{IsSoleCall, ShowsNext, caller, held_by}
 use Rattle.cqs_core.proofs.CallsKeep.{call_ready-core}
 use Rattle.cqs_cli.specs.SoleCore.{HasMade, IsReady}
 
 -- a call changes what a pass holds, and not how many passes there are
-length-held_after : (held : List ℕ) (c : Call) (answer : Reply) → length (held_after held c answer) ≡ length held
-length-held_after held (call.Acquire p) reply.Now = length-set held p _
-length-held_after held (call.Acquire p) _ = refl
-length-held_after held (call.Try p) reply.Got = length-set held p _
-length-held_after held (call.Try p) _ = refl
-length-held_after held (call.Release p) answer = length-set held p _
-length-held_after held (call.Poll p k) reply.Granted = length-set held p _
-length-held_after held (call.Poll p k) _ = refl
-length-held_after held (call.Cancel p k) reply.TooLate = length-set held p _
-length-held_after held (call.Cancel p k) _ = refl
+length-held_by : (held : List ℕ) (p : ℕ) (answer : Reply) → length (held_by held p answer) ≡ length held
+length-held_by held p reply.Now = length-set held p _
+length-held_by held p (reply.Later k) = refl
+length-held_by held p (reply.Took k) = length-set held p _
+length-held_by held p reply.Got = length-set held p _
+length-held_by held p reply.Busy = refl
+length-held_by held p reply.Freed = length-set held p _
+length-held_by held p (reply.Sent k) = length-set held p _
+length-held_by held p reply.Granted = length-set held p _
+length-held_by held p reply.Pending = refl
+length-held_by held p reply.Cancelled = refl
+length-held_by held p reply.TooLate = length-set held p _
 
 -- what a made call takes from the room
 spare-made : (old new : Room) (found : Course) (answer : Reply) → MakesCallReady found (Some answer) old new
@@ -36,7 +38,7 @@ pub made-sole : (old new : Room) (c : Call) (answer : Reply) → IsReady old
 made-sole old new c answer ready made sole next =
     let core : IsCore new.shape = call_ready-core old new c (Some answer) ready.sole.core made in
     let as_many : length new.shape.held ≡ length old.shape.held =
-    ap (λ (held : List ℕ). length held) sole.held ∙ length-held_after old.shape.held c answer in
+    ap (λ (held : List ℕ). length held) sole.held ∙ length-held_by old.shape.held (caller c) answer in
     record {
       call = sole;
       shown = next;

@@ -23,7 +23,8 @@ module _ {Y : Type 0} where
   module _ (key : Y → ℕ) where
     pub stays-without : (x : Y) (n : ℕ) (ys : List Y) → key x ≢ n → IsIn x ys → IsIn x (without key n ys)
     stays-without x n [] other stands = absurd (in-none x stands)
-    stays-without x n (y ∷ ys) other stands = go (n == key y) refl (stays-without x n ys other) (in-behind x y ys stands)
+    stays-without x n (y ∷ ys) other stands =
+        go (n == key y) refl (stays-without x n ys other) (in-behind x y ys stands)
       where
         go : (b : Bool) → n == key y ≡ b → (IsIn x ys → IsIn x (without key n ys)) → (x ≡ y) ⊎ IsIn x ys
             → IsIn x (without key n (y ∷ ys))

@@ -165,7 +165,8 @@ module _ {X W : Type 0} (s : Sole X W) where
               where
                 waiting-after : (i : ℕ) → waiting_at later.waits i ≡ waiting_at l.waits i + bit (at == i)
                 waiting-after i =
-                    let changed : waiting_at (set l.waits job (Some wait)) i + 0 ≡ waiting_at l.waits i + bit (at == i) =
+                    let changed : waiting_at (set l.waits job (Some wait)) i + 0
+                    ≡ waiting_at l.waits i + bit (at == i) =
                     count-set (is_wait_at i) l.waits job None (Some wait) None waiter idle in
                     omega (arith, changed)
 
@@ -234,7 +235,8 @@ module _ {X W : Type 0} (s : Sole X W) where
             ∙ plain-now lawful l at job kept place room is_job.holds waiter nobody a.sole a.after a.there made.goes
             ∙ ap (after_take (plain_floor s l) at job) (sym is);
         kept = subst (IsKept s) (sym same)
-            (kept-now lawful l at job kept place room is_job.holds waiter nobody a.sole a.after a.there made.goes made.keeps);
+            (kept-now lawful l at job kept place room is_job.holds waiter nobody a.sole a.after a.there made.goes
+            made.keeps);
       }
   take-well lawful l n at job (Waits number) kept holdable is_job idle room (token, number_is, a, written) =
       let made = a.made _ _ _ _ (kept.funded.at at a.sole a.there) room in

@@ -38,7 +38,8 @@ module _ {X W : Type 0} (s : Sole X W) (l : Ledger X W) (job : ℕ) (wait : Wait
       go : (j ≡ job) ⊎ (j ≢ job) → IsAnother j w
       go (inl same) =
           let gone : Some None ≡ Some (Some w) =
-          sym (get-set_here l.waits job (Some wait) None has) ∙ ap (slice_get (set l.waits job None)) (sym same) ∙ got in
+          sym (get-set_here l.waits job (Some wait) None has)
+          ∙ ap (slice_get (set l.waits job None)) (sym same) ∙ got in
           absurd (cc)
       go (inr other) =
           let stands : slice_get l.waits j ≡ Some (Some w) =

@@ -60,7 +60,8 @@ module _ {X W : Type 0} (s : Sole X W) where
   Looks old job wait Pending new =
       (back : W)
       × Calls old.soles wait.at (λ x y. Polls s x wait.token (Some back) y) new.soles
-      × (new ≡ with_soles (with_wait old job (Some (record { at = wait.at; token = back }))) new.soles)
+      × (new ≡ with_soles
+      (with_wait old job (Some (record { at = wait.at; token = back }))) new.soles)
   Looks old job wait (Granted element) new =
       (element ≡ 0)
       × Calls old.soles wait.at (λ x y. Polls s x wait.token None y) new.soles

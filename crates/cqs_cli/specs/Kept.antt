@@ -29,10 +29,12 @@ module _ {W : Type 0} where
   abbrev pub waiting_at : List (Option (Wait W)) → ℕ → ℕ
   waiting_at waits at = count_by (is_wait_at at) waits
 
--- how many transfers may still come: two of each take, two of each wait, and one of each permit held
+-- how many transfers may still come: two of each take, two of each wait,
+-- and one of each permit held
 abbrev pub transfers_to_come : {X W : Type 0} → Ledger X W → ℕ
 transfers_to_come l =
-    2 * sum l.room + 2 * count_by (λ wait. is_some wait) l.waits + sum_by (λ hs. length hs) (holds_in l)
+    2 * sum l.room + 2 * count_by (λ wait. is_some wait) l.waits
+    + sum_by (λ hs. length hs) (holds_in l)
 
 module _ {X W : Type 0} (s : Sole X W) where
   -- the job's wait is one that the caller of its resource's semaphore has
@@ -43,20 +45,21 @@ module _ {X W : Type 0} (s : Sole X W) where
 
   -- no two jobs have one wait
   pub record AreApart (waits : List (Option (Wait W))) : Type 0 where
-    pub same : (i j : ℕ) (v w : Wait W) → slice_get waits i ≡ Some (Some v) → slice_get waits j ≡ Some (Some w)
-        → job_wait s v ≡ job_wait s w → i ≡ j
+    pub same : (i j : ℕ) (v w : Wait W) → slice_get waits i ≡ Some (Some v)
+        → slice_get waits j ≡ Some (Some w) → job_wait s v ≡ job_wait s w → i ≡ j
 
   -- The semaphore of a place has room for all that can still come of what the ledger counts there.
   abbrev pub IsFundedAt : Ledger X W → ℕ → X → Type 0
   IsFundedAt l at sole =
-      s.funded sole (permits_of (slice_get l.kinds at)) (slice_index l.room at) (waiting_at l.waits at)
-      (held_at (holds_in l) at)
+      s.funded sole (permits_of (slice_get l.kinds at)) (slice_index l.room at)
+      (waiting_at l.waits at) (held_at (holds_in l) at)
 
   pub record IsKept (l : Ledger X W) : Type 0 where
     pub soles : length l.soles ≡ length l.kinds
     pub rooms : length l.room ≡ length l.kinds
     pub funded : EachAt (IsFundedAt l) l.soles
-    pub waits : (job : ℕ) (wait : Wait W) → slice_get l.waits job ≡ Some (Some wait) → StandsIn l.soles wait
+    pub waits : (job : ℕ) (wait : Wait W) → slice_get l.waits job ≡ Some (Some wait)
+        → StandsIn l.soles wait
     pub apart : AreApart l.waits
     pub plain : HoldPermits (holds_in l)
     pub spare : transfers_to_come l ≤ l.spare

@@ -39,7 +39,8 @@ KeepsWith bytes verdict.SourceFailed old new = new ≡ old
 KeepsWith bytes verdict.TooLong old new = new ≡ old
 
 -- the input was a plan; what is kept is the floor on which it has run; and of its report this holds
-pub record KeptRun (left after : Option (List ℕ)) (kept : Kept) (Holds : List ℕ → Type 0) : Type 0 where
+pub record KeptRun (left after : Option (List ℕ)) (kept : Kept) (Holds : List ℕ → Type 0)
+    : Type 0 where
   pub bytes : List ℕ
   pub input : IsInput bytes left after
   pub text : List ℕ
@@ -58,4 +59,5 @@ Keeps verdict.TooLong left after old new = new ≡ old
 -- the words are no command, or the input is no plan
 abbrev pub IsNoRun : List (List ℕ) → Option (List ℕ) → Option (List ℕ) → Type 0
 IsNoRun words left after =
-    (¬ IsCommand words) ⊎ ((bytes : List ℕ) × IsInput bytes left after × ((line : List ℕ) × IsFaultLine bytes line))
+    (¬ IsCommand words)
+    ⊎ ((bytes : List ℕ) × IsInput bytes left after × ((line : List ℕ) × IsFaultLine bytes line))

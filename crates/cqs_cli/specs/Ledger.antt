@@ -62,7 +62,8 @@ module _ {X W : Type 0} where
 
   -- one more transfer is written down
   abbrev pub with_transfer : Ledger X W → Transfer → Ledger X W
-  with_transfer l transfer = record l { transfers = l.transfers ++ transfer ∷ []; spare = l.spare - 1 }
+  with_transfer l transfer =
+      record l { transfers = l.transfers ++ transfer ∷ []; spare = l.spare - 1 }
 
   abbrev pub with_wait : Ledger X W → ℕ → Option (Wait W) → Ledger X W
   with_wait l job wait = record l { waits = slice_set l.waits job wait }
@@ -76,7 +77,8 @@ module _ {X W : Type 0} where
   with_taken l at job = with_transfer (with_less_room l at) (Got job at)
 
   abbrev pub with_waiting : Ledger X W → ℕ → ℕ → W → Ledger X W
-  with_waiting l at job token = with_wait (with_less_room l at) job (Some (record { at = at; token = token }))
+  with_waiting l at job token =
+      with_wait (with_less_room l at) job (Some (record { at = at; token = token }))
 
   -- the wait of a job is over, and it has what came
   abbrev pub with_grant : Ledger X W → ℕ → ℕ → Ledger X W

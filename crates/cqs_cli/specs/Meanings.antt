@@ -40,7 +40,8 @@ pub record BrokeOff (words : List (List ℕ)) (left after held now : Option (Lis
 
 -- the statuses that there are
 abbrev pub IsStatus : ℕ → Type 0
-IsStatus = Contains (DONE ∷ NO_COMMAND ∷ NO_PLAN ∷ SOURCE_FAILED ∷ SINK_FAILED ∷ NO_MEMORY ∷ TOO_LONG ∷ [])
+IsStatus = Contains (DONE ∷ NO_COMMAND ∷ NO_PLAN ∷ SOURCE_FAILED ∷ SINK_FAILED ∷ NO_MEMORY
+    ∷ TOO_LONG ∷ [])
 
 -- the status that must come, unless there was no memory
 abbrev pub MustEnd : ℕ → ℕ → Type 0

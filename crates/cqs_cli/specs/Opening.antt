@@ -1,4 +1,5 @@
--- The making of a floor on semaphores: which plans it can carry out, and what stands when nothing has happened.
+-- The making of a floor on semaphores: which plans it can carry out, and what stands when nothing
+-- has happened.
 pub use Rattle.cqs_plan.specs.Runnable.{IsSemaphore, AreSemaphores}
 use Rattle.std.specs.Prelude.{◌≡◌, ℕ, ◌*◌, ◌<◌, ◌≤◌, List, [], length, map, replicate, sum, sum_by, count_by, Some, None, slice_get, slice_index}
 use Rattle.std.specs.List.{range_with_len}
@@ -7,7 +8,7 @@ use Rattle.cqs_plan.specs.declared.plans.job.Job.{Job}
 use Rattle.cqs_plan.specs.declared.plans.plan.Plan.{Plan}
 use Rattle.cqs_plan.specs.declared.plans.resource.Resource.{Resource}
 use Rattle.cqs_plan.specs.declared.plans.step.Step.{Step}
-use Rattle.cqs_plan.specs.declared.plans.step.Step.TheVariants.{Take}
+use Rattle.cqs_plan.specs.declared.plans.step.Step.TheVariants.{Take, Give, Down, Await, Arrive, Work}
 use Rattle.cqs_plan.specs.Floor.{permits_of, takes_in}
 use Rattle.cqs_plan.specs.PlanSteps.{is_take}
 use Rattle.cqs_plan.specs.Runnable.{kinds_of}
@@ -17,7 +18,11 @@ use Rattle.cqs_cli.specs.Soles.{Sole, IsOpened}
 -- a take names one of so many resources
 abbrev pub IsWithin : ℕ → Step → Type 0
 IsWithin resources (Take at) = at < resources
-IsWithin resources _ = Unit {0}
+IsWithin resources (Give at) = Unit {0}
+IsWithin resources (Down at) = Unit {0}
+IsWithin resources (Await at) = Unit {0}
+IsWithin resources (Arrive at) = Unit {0}
+IsWithin resources (Work turns) = Unit {0}
 
 abbrev pub AreWithin : ℕ → List Step → Type 0
 AreWithin resources steps = EachAt (λ n step. IsWithin resources step) steps

@@ -17,8 +17,8 @@ IsPlan bytes = (plan : Plan) × IsPlanText bytes plan
 abbrev pub floor_after : Plan → PlainFloor
 floor_after plan = (machine_after plan plan.turns).scene.floor
 
--- The bytes are a plan, the text is the report of the turn machine on it, and what happened to each of its resources is
--- a legal history of it.
+-- The bytes are a plan, the text is the report of the turn machine on it, and what happened to each
+-- of its resources is a legal history of it.
 pub record IsReport (bytes text : List ℕ) : Type 0 where
   pub plan : Plan
   pub says : IsPlanText bytes plan

@@ -36,14 +36,22 @@ pub record HasMade (old : Room) (c : Call) (answer : Reply) (new : Room) : Type 
 -- the wait of a cell was served
 abbrev pub is_resumed : CoreState → Bool
 is_resumed state.Resumed = true
-is_resumed _ = false
+is_resumed state.Empty = false
+is_resumed state.Waiter = false
+is_resumed state.Value = false
+is_resumed state.Taken = false
+is_resumed state.Broken = false
+is_resumed state.Cancelling = false
+is_resumed state.Delegated = false
+is_resumed state.Cancelled = false
+is_resumed state.Refused = false
 
 abbrev pub is_served_at : Option CoreCell → Bool
 is_served_at None = false
 is_served_at (Some cell) = is_resumed cell.state
 
--- The core has room for all that can still come: three entries for each take, three for the look or the leave of each
--- wait, and three for each give. Its pass holds so many permits.
+-- The core has room for all that can still come: three entries for each take, three for the look
+-- or the leave of each wait, and three for each give. Its pass holds so many permits.
 pub record IsFunded (core : Room) (size room waiting held : ℕ) : Type 0 where
   pub sole : IsSole core.shape
   pub permits : core.shape.permits ≡ size
@@ -60,7 +68,8 @@ sole_core = record {
   has = λ core wait. HasWait wait 0 (shown core.shape);
 }
 
--- what the replies tell of a wait that came, of the wait that a permit was sent to, and of a wait that left the line
+-- what the replies tell of a wait that came, of the wait that a permit was sent to, and of a wait
+-- that left the line
 abbrev pub wait_in : Reply → Option ℕ
 wait_in (reply.Later wait) = Some wait
 wait_in reply.Now = None

@@ -1,5 +1,5 @@
--- A semaphore with one caller, who makes one whole call after the other, as a floor sees it; and what its calls answer
--- and leave, in the words of the plain semaphore.
+-- A semaphore with one caller, who makes one whole call after the other, as a floor sees it; and
+-- what its calls answer and leave, in the words of the plain semaphore.
 use Rattle.std.specs.Prelude.{◌≡◌, ◌≢◌, ℕ, ◌+◌, ◌-◌, ◌<◌, ◌==◌, nat_lt, Bool, true, false, List, [], ◌∷◌, ◌++◌, length, Option, Some, None}
 use Rattle.std.specs.List.{list_any}
 use Rattle.cqs_core.specs.declared.entries.Entry.{Entry}
@@ -15,7 +15,8 @@ pub record Sole (X W : Type 0) : Type 1 where
   pub entries : X → List Entry
   -- the number of a wait
   pub number : W → ℕ
-  -- It has so many permits, and room for so many takes, for the end of so many waits and for so many gives.
+  -- It has so many permits, and room for so many takes, for the end of so many waits and for so
+  -- many gives.
   pub funded : X → ℕ → ℕ → ℕ → ℕ → Type 0
   -- its caller has this wait
   pub has : X → W → Type 0
@@ -29,13 +30,14 @@ module _ {X W : Type 0} (s : Sole X W) where
   abbrev pub object : ℕ → X → Semaphore
   object size x = object_after size (s.entries x)
 
-  -- What every such semaphore keeps to: its entries are legal, and a wait that its caller has was numbered before.
+  -- What every such semaphore keeps to: its entries are legal, and a wait that its caller has was
+  -- numbered before.
   pub record IsLawful : Type 0 where
     pub some : (x : X) (size room waiting held : ℕ) → s.funded x size room waiting held → 0 < size
     pub legal : (x : X) (size room waiting held : ℕ) → s.funded x size room waiting held
         → IsLegal size (s.entries x)
-    pub numbered : (x : X) (wait : W) (size room waiting held : ℕ) → s.funded x size room waiting held
-        → s.has x wait → s.number wait < (object size x).next
+    pub numbered : (x : X) (wait : W) (size room waiting held : ℕ)
+        → s.funded x size room waiting held → s.has x wait → s.number wait < (object size x).next
 
   -- all its permits are free, and it has room for so many takes
   pub record IsOpened (size takes : ℕ) (x : X) : Type 0 where
@@ -99,7 +101,8 @@ module _ {X W : Type 0} (s : Sole X W) where
   pub record TakesWait (wait : W) (size room waiting held : ℕ) (x y : X) : Type 0 where
     pub none : nat_lt 0 (object size x).free ≡ false
     pub number : s.number wait ≡ (object size x).next
-    pub goes : Goes x (entry.TakeDoor 0 ∷ entry.Enter 0 (object size x).next ∷ []) size (room - 1) (waiting + 1) held y
+    pub goes : Goes x (entry.TakeDoor 0 ∷ entry.Enter 0 (object size x).next ∷ [])
+        size (room - 1) (waiting + 1) held y
     pub has : s.has y wait
     pub keeps : KeepsAll x y
 
@@ -137,13 +140,16 @@ module _ {X W : Type 0} (s : Sole X W) where
     pub goes : Goes x [] size room waiting held y
     pub keeps : KeepsAll x y
 
-  -- The wait, which stood in the line or didn't, is over by this entry, and the caller then holds so many permits.
-  pub record EndsWait (wait : W) (in_line : Bool) (e : Entry) (then size room waiting : ℕ) (x y : X) : Type 0 where
+  -- The wait, which stood in the line or didn't, is over by this entry, and the caller then holds so
+  -- many permits.
+  pub record EndsWait (wait : W) (in_line : Bool) (e : Entry) (then size room waiting : ℕ) (x y : X)
+      : Type 0 where
     pub found : is_in_line (s.number wait) (object size x).line ≡ in_line
     pub goes : Goes x (e ∷ []) size room (waiting - 1) then y
     pub keeps : KeepsOthers x (s.number wait) y
 
-  -- a look: a wait that stands in the line comes back, and of one that was served the caller has the permit
+  -- a look: a wait that stands in the line comes back, and of one that was served the caller has
+  -- the permit
   abbrev pub Polls : X → W → Option W → X → Type 0
   Polls x wait (Some back) y =
       (back ≡ wait)
@@ -153,7 +159,8 @@ module _ {X W : Type 0} (s : Sole X W) where
       (size room waiting held : ℕ) → s.funded x size room waiting held → 0 < waiting
       → EndsWait wait false (entry.LookGranted 0 (s.number wait)) (held + 1) size room waiting x y
 
-  -- a cancel: a wait that stands in the line is gone, and of one that was served the caller has the permit
+  -- a cancel: a wait that stands in the line is gone, and of one that was served the caller has
+  -- the permit
   abbrev pub Cancels : X → W → Bool → X → Type 0
   Cancels x wait true y =
       (size room waiting held : ℕ) → s.funded x size room waiting held → 0 < waiting
@@ -172,4 +179,5 @@ module _ {X W : Type 0} (s : Sole X W) where
 
   abbrev pub Tells : X → Stand → X → Type 0
   Tells x stand y =
-      (size room waiting held : ℕ) → s.funded x size room waiting held → Stands size room waiting held x stand y
+      (size room waiting held : ℕ) → s.funded x size room waiting held
+      → Stands size room waiting held x stand y

@@ -13,7 +13,8 @@ pub record StandardOutput : Type 0 where
   pub is_flushed : Bool
   pub faults : ℕ
 
--- the answer of a call is handed on as it is, and the count of faults rose exactly where it is a failure
+-- the answer of a call is handed on as it is, and the count of faults rose
+-- exactly where it is a failure
 abbrev pub IsCounted : {T E F : Type 0} → Result T E → Result T F → ℕ → ℕ → Type 0
 IsCounted (Ok value) (Ok given) before after = (given ≡ value) × (after ≡ before)
 IsCounted (Ok value) (Err failed) before after = ⊥

@@ -26,9 +26,11 @@ pub record IsJudged (given : Verdict) (left after : Option (List ℕ)) : Type 0 
   pub right : IsVerdictOn bytes given
 
 -- the verdict on the words and on what was left of the source, which was read from old to new
-abbrev pub IsVerdict : {S : Type 0} → (S → Option (List ℕ)) → (S → ℕ) → List (List ℕ) → Verdict → S → S → Type 0
+abbrev pub IsVerdict : {S : Type 0} → (S → Option (List ℕ)) → (S → ℕ) → List (List ℕ) → Verdict → S
+    → S → Type 0
 IsVerdict left faults words verdict.NoCommand old new = (¬ IsCommand words) × (new ≡ old)
-IsVerdict left faults words verdict.SourceFailed old new = IsRun words × Rises (faults old) (faults new)
+IsVerdict left faults words verdict.SourceFailed old new =
+    IsRun words × Rises (faults old) (faults new)
 IsVerdict left faults words verdict.TooLong old new =
     IsRun words × (faults new ≡ faults old) × GivesCount (LONGEST_INPUT + 1) (left old) (left new)
 IsVerdict left faults words verdict.NoMemory old new = IsRun words × (faults new ≡ faults old)

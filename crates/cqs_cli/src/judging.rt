@@ -12,10 +12,11 @@ use crate::words::is_run;
 use cqs_plan::{LONGEST_INPUT, ReadError, Source, read_input};
 use std::alloc::Global;
 
-/// What the words and the source come to. Everything that is to be written is made here, and so is what is
-/// kept.
+/// What the words and the source come to. Everything that is to be written is made here, and so is
+/// what is kept.
 pub fn judge<S: Source>(alloc: Global, words: &[String], source: &mut S, kept: &mut Kept) -> Verdict
-    ensures right { IsVerdict S.left S.faults (map string_bytes words.now) result source.old source.new }
+    ensures right { IsVerdict S.left S.faults
+        (map string_bytes words.now) result source.old source.new }
     ensures taken { GivesAtMost (LONGEST_INPUT + 1) (S.left source.old) (S.left source.new) }
     ensures keeps { Keeps result (S.left source.old) (S.left source.new) kept.old kept.new }
     ensures counted { HasTaken result (S.tally source.old) (S.tally source.new) }

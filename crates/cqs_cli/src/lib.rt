@@ -1,9 +1,9 @@
 //! The program `cqs` as a library: its commands over any source and sink.
 //!
 //! `top` judges first and tells after. `judge` reads the words and the source and knows no sink;
-//! `tell` knows the sink alone, and writes a text that was made whole before. What each status means
-//! stands on `top`. `kept` is what a call leaves its caller of a run, and `floors` has the floor on which a
-//! plan is run. The real streams are in `standard`, the trusted edge.
+//! `tell` knows the sink alone, and writes a text that was made whole before. What each status
+//! means stands on `top`. `kept` is what a call leaves its caller of a run, and `floors` has the
+//! floor on which a plan is run. The real streams are in `standard`, the trusted edge.
 #![tactic(auto)]
 
 mod floors;

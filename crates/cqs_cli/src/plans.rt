@@ -16,8 +16,8 @@ use cqs_plan::{Plan, PlanError, fault_line, read_plan};
 use cqs_turns::{Report, run_plan};
 use std::alloc::Global;
 
-/// Reads an input as a plan, and makes its report or the line that says what is wrong with it. With a
-/// report it keeps the floor of the run.
+/// Reads an input as a plan, and makes its report or the line that says what is wrong with it.
+/// With a report it keeps the floor of the run.
 pub fn judge_input(alloc: Global, bytes: &[u8], kept: &mut Kept) -> Verdict
     ensures right { IsVerdictOn bytes.now result }
     ensures keeps { KeepsWith bytes.now result kept.old kept.new }

@@ -1,7 +1,8 @@
 //! The standard streams: the trusted edge.
 //!
-//! What the streams give and take is outside all contracts. But each call of one answers a `Result`,
-//! which is a value: that a failure is told and counted, and that nothing else is, is proved.
+//! What the streams give and take is outside all contracts. But each call of one
+//! answers a `Result`, which is a value: that a failure is told and counted, and that
+//! nothing else is, is proved.
 
 mod counted;
 mod stdin_source;

@@ -16,15 +16,16 @@ use crate::telling::tell;
 use cqs_plan::{LONGEST_INPUT, Sink, Source};
 use std::alloc::Global;
 
-/// One call of the program: does what the words say and gives the status that the process ends with.
+/// One call of the program: does what the words say and gives the status
+/// that the process ends with.
 ///
 /// The first clauses say what each status means, each by itself; then come those on what was read,
-/// whatever the status. The last four say which status must come where no fault does, unless memory runs
-/// out; what was then written stands at that status. What a clause says of content holds where the
-/// source and the sink tell it; what it says of the source's tally holds of every source.
+/// whatever the status. The last four say which status must come where no fault does, unless memory
+/// runs out; what was then written stands at that status. What a clause says of content holds where
+/// the source and the sink tell it; what it says of the source's tally holds of every source.
 ///
-/// The floor of a run is kept where its report was made, which is before anything is written: with status 0, and
-/// with status 5 where the input is a plan.
+/// The floor of a run is kept where its report was made, which is before anything is written: with
+/// status 0, and with status 5 where the input is a plan.
 pub fn top<S: Source, K: Sink>(
     alloc: Global,
     words: &[String],
@@ -34,8 +35,8 @@ pub fn top<S: Source, K: Sink>(
 ) -> u8
     requires empty { kept.old ≡ Nothing }
 
-    // Status 0 means: the bytes read are a plan, and the text written, whole and flushed, is the report of the turn machine
-    // on it, over plain semaphores with legal histories.
+    // Status 0 means: the bytes read are a plan, and the text written, whole and flushed, is the
+    // report of the turn machine on it, over plain semaphores with legal histories.
     ensures headline { result ≡ DONE → IsRun (map string_bytes words.now)
         × Reported (S.left source.old) (S.left source.new) (K.held sink.old) (K.held sink.new)
         × IsTrue (K.is_flushed sink.new) }
@@ -63,14 +64,16 @@ pub fn top<S: Source, K: Sink>(
         (S.left source.old) (S.left source.new) (K.held sink.old) (K.held sink.new) }
 
     // Memory ran out, and nothing was written.
-    ensures no_memory { result ≡ NO_MEMORY → IsRun (map string_bytes words.now) × (sink.new ≡ sink.old) }
+    ensures no_memory { result ≡ NO_MEMORY → IsRun (map string_bytes words.now)
+        × (sink.new ≡ sink.old) }
 
     // One byte more than an input may have was read, and nothing was written.
     ensures too_long { result ≡ TOO_LONG → IsRun (map string_bytes words.now)
         × GivesCount (LONGEST_INPUT + 1) (S.left source.old) (S.left source.new)
         × (sink.new ≡ sink.old) }
 
-    // By the source's tally that many bytes were read then; and where so many were, this status comes, unless memory ran out.
+    // By the source's tally that many bytes were read then; and where so many were, this status
+    // comes, unless memory ran out.
     ensures too_many { result ≡ TOO_LONG →
         (S.tally source.new).given ≡ raised (S.tally source.old).given (LONGEST_INPUT + 1) }
     ensures many_bytes { (S.tally source.old).given + LONGEST_INPUT < (S.tally source.new).given
@@ -81,7 +84,8 @@ pub fn top<S: Source, K: Sink>(
     ensures given { (S.tally source.new).given ≤ (S.tally source.old).given + (LONGEST_INPUT + 1) }
     ensures stops { (S.tally source.old).stops ≡ 0 → (S.tally source.new).stops ≤ 1 }
 
-    // A plan, and what is none, was read until a read stopped; no fault came, so it stopped at the end.
+    // A plan, and what is none, was read until a read stopped; no fault came, so
+    // it stopped at the end.
     ensures ended { (result ≡ DONE) ⊎ (result ≡ NO_PLAN)
         → (S.tally source.old).stops ≡ 0 → (S.tally source.new).stops ≡ 1 }
 
@@ -95,29 +99,36 @@ pub fn top<S: Source, K: Sink>(
         → ¬ Rises (K.faults sink.old) (K.faults sink.new) → result ≡ NO_COMMAND }
 
     // An input that is no plan is always answered by the line that says why.
-    ensures wrong_input { IsRun (map string_bytes words.now) → (bytes : List ℕ) → S.left source.old ≡ Some bytes
+    ensures wrong_input { IsRun (map string_bytes words.now) → (bytes : List ℕ)
+        → S.left source.old ≡ Some bytes
         → length bytes ≤ LONGEST_INPUT → ¬ IsPlan bytes
-        → ¬ Rises (S.faults source.old) (S.faults source.new) → ¬ Rises (K.faults sink.old) (K.faults sink.new)
+        → ¬ Rises (S.faults source.old) (S.faults source.new)
+        → ¬ Rises (K.faults sink.old) (K.faults sink.new)
         → MustEnd NO_PLAN result }
 
     // An input that is too long is always refused.
-    ensures long_input { IsRun (map string_bytes words.now) → (bytes : List ℕ) → S.left source.old ≡ Some bytes
+    ensures long_input { IsRun (map string_bytes words.now) → (bytes : List ℕ)
+        → S.left source.old ≡ Some bytes
         → LONGEST_INPUT < length bytes
         → ¬ Rises (S.faults source.old) (S.faults source.new)
         → MustEnd TOO_LONG result }
 
     // An input that is a plan is always answered by its whole report.
-    ensures complete { IsRun (map string_bytes words.now) → (bytes : List ℕ) → S.left source.old ≡ Some bytes
+    ensures complete { IsRun (map string_bytes words.now) → (bytes : List ℕ)
+        → S.left source.old ≡ Some bytes
         → length bytes ≤ LONGEST_INPUT → IsPlan bytes
-        → ¬ Rises (S.faults source.old) (S.faults source.new) → ¬ Rises (K.faults sink.old) (K.faults sink.new)
+        → ¬ Rises (S.faults source.old) (S.faults source.new)
+        → ¬ Rises (K.faults sink.old) (K.faults sink.new)
         → MustEnd DONE result }
 
     // With status 0 the floor of the run is kept whose report was written.
     ensures kept_done { result ≡ DONE → KeptRun (S.left source.old) (S.left source.new) kept.new
         (λ text. Gains text (K.held sink.old) (K.held sink.new)) }
 
-    // Where the sink failed, the floor is kept of the run whose report broke off; nothing is, where no plan was run.
-    ensures kept_broken { result ≡ SINK_FAILED → KeptRun (S.left source.old) (S.left source.new) kept.new
+    // Where the sink failed, the floor is kept of the run whose report broke off; nothing is, where
+    // no plan was run.
+    ensures kept_broken { result ≡ SINK_FAILED →
+        KeptRun (S.left source.old) (S.left source.new) kept.new
         (λ text. GainsPrefix text (K.held sink.old) (K.held sink.new))
         ⊎ ((kept.new ≡ Nothing)
         × IsNoRun (map string_bytes words.now) (S.left source.old) (S.left source.new)) }

@@ -1,5 +1,5 @@
--- Cover: each cell that was declined, and that no resume has reached, is covered by resumptions under way,
--- so that none of them is lost to a waiter behind it. This is the project's own.
+-- Cover: each cell that was declined, and that no resume has reached, is covered by resumptions
+-- under way, so that none of them is lost to a waiter behind it. This is the project's own.
 use Rattle.std.specs.Prelude.{◌≡◌, ℕ, ◌+◌, ◌≤◌, Bool, true, false, ◌||◌, ◌&&◌, not, List, Option, Some, slice_get, take, drop, count_by}
 use Rattle.cqs_core.specs.declared.cells.CoreCell.{CoreCell}
 use Rattle.cqs_core.specs.declared.cells.CoreState.{CoreState}
@@ -66,11 +66,14 @@ is_delegated state.Cancelling = false
 is_delegated state.Cancelled = false
 is_delegated state.Refused = false
 
--- a resumption stands at a cell that it will pass over: its ticket is open there, or its value was delegated to it
+-- a resumption stands at a cell that it will pass over: its ticket is open there, or its
+-- value was delegated to it
 abbrev pub is_passing_by : List Doing → ℕ → CoreCell → Bool
-is_passing_by passes k cell = is_gone passes k cell && (has_ticket k passes || is_delegated cell.state)
+is_passing_by passes k cell =
+    is_gone passes k cell && (has_ticket k passes || is_delegated cell.state)
 
--- the resumptions that are still to draw a number: passes that owe, and those that stand at a gone cell
+-- the resumptions that are still to draw a number: passes that owe, and those
+-- that stand at a gone cell
 abbrev pub roaming : Queue → ℕ
 roaming q = count_by is_owing q.doing + count_at (is_passing_by q.doing) 0 q.cells
 
@@ -78,15 +81,16 @@ roaming q = count_by is_owing q.doing + count_at (is_passing_by q.doing) 0 q.cel
 abbrev pub takes_one : List Doing → ℕ → CoreCell → Bool
 takes_one passes k cell = not (is_gone passes k cell)
 
--- for each declined cell that no resume has reached, the cells up to it that take a resumption each, from the next one
--- on, are no more than the resumptions that are still to draw a number
+-- for each declined cell that no resume has reached, the cells up to it that take a resumption
+-- each, from the next one on, are no more than the resumptions that are still to draw a number
 pub record IsCovered (q : Queue) : Type 0 where
-  pub at : (j : ℕ) (cell : CoreCell) → slice_get q.cells j ≡ Some cell → is_declined q.doing j cell ≡ true
+  pub at : (j : ℕ) (cell : CoreCell) → slice_get q.cells j ≡ Some cell
+      → is_declined q.doing j cell ≡ true
       → q.resumes ≤ j
       → count_at (takes_one q.doing) q.resumes (drop q.resumes (take (j + 1) q.cells)) ≤ roaming q
 
--- A cell may be declined only where as many resumptions are under way as must be resumed; the primitive's answer
--- says so.
+-- A cell may be declined only where as many resumptions are under way as must be resumed; the
+-- primitive's answer says so.
 abbrev pub IsFair : Queue → Move → Type 0
 IsFair q (move.decide p k false) = going q ≡ due q + ending q
 IsFair q move.stay = Unit {0}

@@ -1,5 +1,5 @@
--- What the queue part shows of a plain line of waiters: who is at the door, who stands in the line, who was served,
--- and how many resumptions are on their way to the line.
+-- What the queue part shows of a plain line of waiters: who is at the door, who stands in the line,
+-- who was served, and how many resumptions are on their way to the line.
 use Rattle.std.specs.Prelude.{ℕ, ◌+◌, ◌-◌, ◌||◌, nat_le, Bool, true, false, not, List, length, Option, Some, None, count_by}
 use Rattle.cqs_core.specs.declared.cells.CoreCell.{CoreCell}
 use Rattle.cqs_core.specs.declared.cells.CoreState.{CoreState}
@@ -14,7 +14,8 @@ pub record Waiting : Type 0 where
   pub wait : ℕ
   pub pass : ℕ
 
--- a wait that was served: its number, the pass that drew it, and whether the permit that came hasn't been looked at
+-- a wait that was served: its number, the pass that drew it, and whether the permit that
+-- came hasn't been looked at
 pub record Service : Type 0 where
   pub wait : ℕ
   pub pass : ℕ
@@ -35,7 +36,8 @@ at_door p (doing.Decided j on) = None
 abbrev pub door : Queue → List ℕ
 door q = picked at_door 0 q.doing
 
--- a number stays in line while its cell is Empty, Waiter or Value, and while its cancellation has no answer yet
+-- a number stays in line while its cell is Empty, Waiter or Value, and while its
+-- cancellation has no answer yet
 abbrev pub stays_in_line : ℕ → CoreState → Option Doing → Bool
 stays_in_line k state.Empty owner = true
 stays_in_line k state.Waiter owner = true
@@ -55,7 +57,8 @@ waiting_of k (Some p) false = None
 waiting_of k None stays = None
 
 abbrev pub in_line : List Doing → ℕ → CoreCell → Option Waiting
-in_line passes k cell = waiting_of k cell.owner (stays_in_line k cell.state (owner_doing passes cell))
+in_line passes k cell =
+    waiting_of k cell.owner (stays_in_line k cell.state (owner_doing passes cell))
 
 -- the line, in order of number: an owned cell is one that a suspend drew
 abbrev pub line : Queue → List Waiting
@@ -63,7 +66,8 @@ line q = picked (in_line q.doing) 0 q.cells
 
 abbrev pub service_of : ℕ → CoreState → Option ℕ → Bool → Option Service
 service_of k state.Taken (Some p) collected = Some (record { wait = k; pass = p; is_open = true })
-service_of k state.Resumed (Some p) collected = Some (record { wait = k; pass = p; is_open = not collected })
+service_of k state.Resumed (Some p) collected =
+    Some (record { wait = k; pass = p; is_open = not collected })
 service_of k state.Taken None collected = None
 service_of k state.Resumed None collected = None
 service_of k state.Empty owner collected = None
@@ -78,7 +82,8 @@ service_of k state.Refused owner collected = None
 abbrev pub is_served : ℕ → CoreCell → Option Service
 is_served k cell = service_of k cell.state cell.owner cell.collected
 
--- the waits that were served, in order of number. One that took its value from the cell never looks, and stays open
+-- the waits that were served, in order of number. One that took its value from the cell
+-- never looks, and stays open
 abbrev pub served : Queue → List Service
 served q = picked is_served 0 q.cells
 
@@ -121,7 +126,8 @@ is_left state.Refused = false
 abbrev pub has_left : CoreCell → Bool
 has_left cell = is_left cell.state
 
--- the cell was refused, and its one resumption hasn't met it: it has no number yet or still has its ticket
+-- the cell was refused, and its one resumption hasn't met it: it has no number
+-- yet or still has its ticket
 abbrev pub is_unmet_refusal : ℕ → List Doing → ℕ → CoreState → Bool
 is_unmet_refusal resumes passes k state.Refused = nat_le resumes k || has_ticket k passes
 is_unmet_refusal resumes passes k state.Empty = false

@@ -1,4 +1,5 @@
--- The moves of the queue part: each is what one atomic step of one pass does to the cells, the counters and the doings.
+-- The moves of the queue part: each is what one atomic step of one pass does to the cells,
+-- the counters and the doings.
 use Rattle.std.specs.Prelude.{◌≡◌, ℕ, ◌+◌, Bool, true, false, List, [], ◌∷◌, ◌++◌, Option, Some, None, slice_get, slice_set}
 use Rattle.cqs_core.specs.declared.cells.CoreCell.{CoreCell}
 use Rattle.cqs_core.specs.declared.cells.CoreState.{CoreState}
@@ -7,8 +8,8 @@ use Rattle.cqs_core.specs.declared.doings.Doing.{Doing}
 use Rattle.cqs_core.specs.declared.doings.Doing.TheVariants as doing
 use Rattle.cqs_core.specs.QueueState.{Queue, fresh_cell}
 
--- A move names its pass, its number, and what the cell of that number was found to be: for the two draws, none where
--- the other counter hasn't passed it.
+-- A move names its pass, its number, and what the cell of that number was found to be: for the two
+-- draws, none where the other counter hasn't passed it.
 pub data Move : Type 0 where
   stay : Move
   turn : (pass : ℕ) (from to : Doing) → Move
@@ -28,7 +29,8 @@ pub data Move : Type 0 where
   cancel_owing : (pass number : ℕ) (found : CoreCell) → Move
   refuse : (pass number : ℕ) (found : CoreCell) → Move
 
--- the pass names no cell: it is between two calls, tries, stands at the door, or owes a resumption without a number
+-- the pass names no cell: it is between two calls, tries, stands at the door, or owes a
+-- resumption without a number
 abbrev pub IsLight : Doing → Type 0
 IsLight doing.Idle = Unit {0}
 IsLight (doing.TryAt v) = Unit {0}
@@ -63,7 +65,8 @@ IsCancelling state.Cancelled = ⊥
 IsCancelling state.Refused = ⊥
 
 -- the pass does this, and the cell of the number was found so
-pub record Works (q : Queue) (p : ℕ) (d : Doing) (k : ℕ) (found : CoreCell) (s : CoreState) : Type 0 where
+pub record Works (q : Queue) (p : ℕ) (d : Doing) (k : ℕ) (found : CoreCell)
+    (s : CoreState) : Type 0 where
   pub does : slice_get q.doing p ≡ Some d
   pub finds : slice_get q.cells k ≡ Some found
   pub at : found.state ≡ s
@@ -77,10 +80,12 @@ pub record Owns (p : ℕ) (found : CoreCell) : Type 0 where
 abbrev pub IsOpen : Queue → Move → Type 0
 IsOpen q stay = Unit {0}
 IsOpen q (turn p from to) = (slice_get q.doing p ≡ Some from) × IsClear from × IsLight to
-IsOpen q (draw p k found) = (slice_get q.doing p ≡ Some doing.Door) × (k ≡ q.suspends) × (slice_get q.cells k ≡ found)
+IsOpen q (draw p k found) =
+    (slice_get q.doing p ≡ Some doing.Door) × (k ≡ q.suspends) × (slice_get q.cells k ≡ found)
 IsOpen q (install p k found) = Works q p (doing.Drawn k) k found state.Empty
 IsOpen q (take_value p k found) = Works q p (doing.Drawn k) k found state.Value
-IsOpen q (reach p k found) = (slice_get q.doing p ≡ Some doing.Owes) × (k ≡ q.resumes) × (slice_get q.cells k ≡ found)
+IsOpen q (reach p k found) =
+    (slice_get q.doing p ≡ Some doing.Owes) × (k ≡ q.resumes) × (slice_get q.cells k ≡ found)
 IsOpen q (serve p k found) = Works q p (doing.Ticket k) k found state.Waiter
 IsOpen q (leave_value p k found) = Works q p (doing.Ticket k) k found state.Empty
 IsOpen q (delegate p k found) = Works q p (doing.Ticket k) k found state.Cancelling
@@ -92,7 +97,8 @@ IsOpen q (decide p k on) = slice_get q.doing p ≡ Some (doing.Leaving k)
 IsOpen q (cancel p k found) = Works q p (doing.Decided k true) k found state.Cancelling
 IsOpen q (cancel_owing p k found) = Works q p (doing.Decided k true) k found state.Delegated
 IsOpen q (refuse p k found) =
-    (slice_get q.doing p ≡ Some (doing.Decided k false)) × (slice_get q.cells k ≡ Some found) × IsCancelling found.state
+    (slice_get q.doing p ≡ Some (doing.Decided k false)) × (slice_get q.cells k ≡ Some found)
+    × IsCancelling found.state
 
 -- the pass goes on to do this
 abbrev pub now_doing : Queue → ℕ → Doing → Queue
@@ -106,13 +112,16 @@ with_cell q k cell = record q { cells = slice_set q.cells k cell }
 abbrev pub at_state : CoreCell → CoreState → CoreCell
 at_state cell s = record { state = s; owner = cell.owner; collected = cell.collected }
 
--- the cells with that of number k drawn by the suspend of p: made, if the resume counter hasn't passed it
+-- the cells with that of number k drawn by the suspend of p: made, if the
+-- resume counter hasn't passed it
 abbrev pub cells_drawn : List CoreCell → ℕ → ℕ → Option CoreCell → List CoreCell
 cells_drawn cells k p (Some found) =
     slice_set cells k (record { state = found.state; owner = Some p; collected = found.collected })
-cells_drawn cells k p None = cells ++ record { state = state.Empty; owner = Some p; collected = false } ∷ []
+cells_drawn cells k p None =
+    cells ++ record { state = state.Empty; owner = Some p; collected = false } ∷ []
 
--- the cells with that of number k reached by a resume: made, if the suspend counter hasn't passed it
+-- the cells with that of number k reached by a resume: made, if the suspend
+-- counter hasn't passed it
 abbrev pub cells_reached : List CoreCell → Option CoreCell → List CoreCell
 cells_reached cells (Some found) = cells
 cells_reached cells None = cells ++ fresh_cell ∷ []
@@ -130,7 +139,8 @@ moved q (draw p k found) =
     }
 moved q (install p k found) = now_doing (with_cell q k (at_state found state.Waiter)) p doing.Idle
 moved q (take_value p k found) =
-    now_doing (with_cell q k (record { state = state.Taken; owner = found.owner; collected = true })) p doing.Idle
+    now_doing (with_cell q k
+    (record { state = state.Taken; owner = found.owner; collected = true })) p doing.Idle
 moved q (reach p k found) =
     record {
       suspends = q.suspends;
@@ -139,13 +149,18 @@ moved q (reach p k found) =
       doing = slice_set q.doing p (doing.Ticket k);
     }
 moved q (serve p k found) = now_doing (with_cell q k (at_state found state.Resumed)) p doing.Idle
-moved q (leave_value p k found) = now_doing (with_cell q k (at_state found state.Value)) p doing.Idle
-moved q (delegate p k found) = now_doing (with_cell q k (at_state found state.Delegated)) p doing.Idle
+moved q (leave_value p k found) =
+    now_doing (with_cell q k (at_state found state.Value)) p doing.Idle
+moved q (delegate p k found) =
+    now_doing (with_cell q k (at_state found state.Delegated)) p doing.Idle
 moved q (pass_over p k found) = now_doing q p doing.Owes
 moved q (meet_refused p k found) = now_doing q p doing.Idle
-moved q (begin_cancel p k found) = now_doing (with_cell q k (at_state found state.Cancelling)) p (doing.Leaving k)
-moved q (collect p k found) = with_cell q k (record { state = found.state; owner = found.owner; collected = true })
+moved q (begin_cancel p k found) =
+    now_doing (with_cell q k (at_state found state.Cancelling)) p (doing.Leaving k)
+moved q (collect p k found) =
+    with_cell q k (record { state = found.state; owner = found.owner; collected = true })
 moved q (decide p k on) = now_doing q p (doing.Decided k on)
 moved q (cancel p k found) = now_doing (with_cell q k (at_state found state.Cancelled)) p doing.Idle
-moved q (cancel_owing p k found) = now_doing (with_cell q k (at_state found state.Cancelled)) p doing.Owes
+moved q (cancel_owing p k found) =
+    now_doing (with_cell q k (at_state found state.Cancelled)) p doing.Owes
 moved q (refuse p k found) = now_doing (with_cell q k (at_state found state.Refused)) p doing.Idle

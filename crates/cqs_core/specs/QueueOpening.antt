@@ -9,7 +9,8 @@ use Rattle.cqs_core.specs.QueueState.{Queue}
 abbrev pub value_cell : CoreCell
 value_cell = record { state = state.Value; owner = None; collected = false }
 
--- so many values stand in the first cells, as if resumes had left them there, and so many passes do nothing
+-- so many values stand in the first cells, as if resumes had left them there, and
+-- so many passes do nothing
 abbrev pub opened_queue : ℕ → ℕ → Queue
 opened_queue values passes = record {
   suspends = 0;

@@ -1,5 +1,6 @@
--- Which cells no side will touch again, and by which moves they come to be so. This is for a client whose resumes
--- pass over a cancelled cell; where one ends there, such a cell is settled only by the resume that meets it.
+-- Which cells no side will touch again, and by which moves they come to be so. This is for a client
+-- whose resumes pass over a cancelled cell; where one ends there, such a cell is settled only by
+-- the resume that meets it.
 use Rattle.std.specs.Prelude.{◌≡◌, ◌⊎◌, ℕ, ◌<◌, true, false, Some, slice_get}
 use Rattle.cqs_core.specs.declared.cells.CoreCell.{CoreCell}
 use Rattle.cqs_core.specs.declared.cells.CoreState.{CoreState}
@@ -50,8 +51,8 @@ Settles (move.cancel p k found) j = j ≡ k
 Settles (move.cancel_owing p k found) j = j ≡ k
 Settles (move.refuse p k found) j = (j ≡ k) × (found.state ≡ state.Delegated)
 
--- A move makes no settled cell unsettled. A cell that is settled after it was so before, or the move is one that
--- settles it; and such a move settles a cell that wasn't.
+-- A move makes no settled cell unsettled. A cell that is settled after it was so before, or the
+-- move is one that settles it; and such a move settles a cell that wasn't.
 pub record IsSettling (q : Queue) (m : Move) : Type 0 where
   pub stays : (j : ℕ) → IsSettled q j → IsSettled (moved q m) j
   pub by : (j : ℕ) → IsSettled (moved q m) j → IsSettled q j ⊎ Settles m j

@@ -1,4 +1,5 @@
--- What holds of the queue part between any two moves: which states a cell may be in, with which owner and ticket.
+-- What holds of the queue part between any two moves: which states a cell may be in,
+-- with which owner and ticket.
 use Rattle.std.specs.Prelude.{◌≡◌, ℕ, ◌<◌, ◌≤◌, max, Bool, true, false, ◌⊎◌, List, length, Some, None, slice_get}
 use Rattle.cqs_core.specs.declared.cells.CoreCell.{CoreCell}
 use Rattle.cqs_core.specs.declared.cells.CoreState.{CoreState}
@@ -16,7 +17,8 @@ pub record IsEntered (q : Queue) (k : ℕ) (cell : CoreCell) : Type 0 where
   pub owner : cell.owner ≡ Some pass
   pub there : pass < length q.doing
 
--- the number was drawn by a suspend, and its pass is still to install; or it wasn't drawn by one yet
+-- the number was drawn by a suspend, and its pass is still to install; or
+-- it wasn't drawn by one yet
 abbrev pub IsUninstalled : Queue → ℕ → CoreCell → Type 0
 IsUninstalled q k cell =
     (IsEntered q k cell × (owner_doing q.doing cell ≡ Some (doing.Drawn k)))
@@ -103,7 +105,8 @@ IsPass q p doing.Owes = Unit {0}
 
 -- no two passes have drawn one number to resume at
 pub record AreApart (passes : List Doing) : Type 0 where
-  pub same : (p r k : ℕ) → slice_get passes p ≡ Some (doing.Ticket k) → slice_get passes r ≡ Some (doing.Ticket k)
+  pub same : (p r k : ℕ) → slice_get passes p ≡ Some (doing.Ticket k)
+      → slice_get passes r ≡ Some (doing.Ticket k)
       → p ≡ r
 
 -- the ticket invariant, with what makes it one that every move keeps

@@ -1,4 +1,5 @@
--- The queue part of a core: its cells, the two counters, and what each pass is doing. Nothing here knows of permits.
+-- The queue part of a core: its cells, the two counters, and what each pass is doing.
+-- Nothing here knows of permits.
 use Rattle.std.specs.Prelude.{ℕ, Bool, true, false, ◌==◌, List, Option, Some, None, slice_get, false}
 use Rattle.std.specs.Option.{option_and_then}
 use Rattle.std.specs.List.{list_any}
@@ -7,7 +8,8 @@ use Rattle.cqs_core.specs.declared.cells.CoreState.TheVariants as state
 use Rattle.cqs_core.specs.declared.doings.Doing.{Doing}
 use Rattle.cqs_core.specs.declared.doings.Doing.TheVariants as doing
 
--- `suspends` numbers were drawn by suspends and `resumes` by resumes; there is a cell for each number that either drew
+-- `suspends` numbers were drawn by suspends and `resumes` by resumes; there is a cell for
+-- each number that either drew
 pub record Queue : Type 0 where
   pub suspends : ℕ
   pub resumes : ℕ

@@ -1,4 +1,5 @@
--- Each step of the queue as one move of the queue part, or a few, in order: what is proved of moves holds of steps.
+-- Each step of the queue as one move of the queue part, or a few, in order: what is
+-- proved of moves holds of steps.
 use Rattle.std.specs.Prelude.{ℕ, true, List, [], ◌∷◌, Option, Some, None}
 use Rattle.cqs_core.specs.declared.cells.CoreCell.{CoreCell}
 use Rattle.cqs_core.specs.declared.cells.CoreState.TheVariants as state
@@ -18,7 +19,8 @@ look_moves pends p k found = []
 look_moves grants p k found = move.collect p k found ∷ []
 look_moves late p k found = move.collect p k found ∷ []
 
--- A resumption that ends at a cancelled cell is none: this is for a client whose resumes never pass on.
+-- A resumption that ends at a cancelled cell is none: this is for a client
+-- whose resumes never pass on.
 abbrev pub moves_of : QueueStep → ℕ → ℕ → Option CoreCell → Option (List Move)
 moves_of draws p k found = Some (move.draw p k found ∷ [])
 moves_of enters p k found = Some (move.turn p doing.Idle doing.Door ∷ move.draw p k found ∷ [])
@@ -34,10 +36,12 @@ moves_of passes_over p k found = at_found (λ cell. move.pass_over p k cell ∷ 
 moves_of ends_refused p k found = at_found (λ cell. move.meet_refused p k cell ∷ []) found
 moves_of ends_missed p k found = None
 moves_of starts_leaving p k found = at_found (λ cell. move.begin_cancel p k cell ∷ []) found
-moves_of leaves_line p k found = at_found (λ cell. move.begin_cancel p k cell ∷ move.decide p k true ∷ []) found
+moves_of leaves_line p k found =
+    at_found (λ cell. move.begin_cancel p k cell ∷ move.decide p k true ∷ []) found
 moves_of leaves_at_once p k found =
     at_found
-    (λ cell. move.begin_cancel p k cell ∷ move.decide p k true ∷ move.cancel p k (at_state cell state.Cancelling) ∷ [])
+    (λ cell. move.begin_cancel p k cell ∷ move.decide p k true
+    ∷ move.cancel p k (at_state cell state.Cancelling) ∷ [])
     found
 moves_of settles p k found = at_found (λ cell. move.cancel p k cell ∷ []) found
 moves_of settles_owing p k found = at_found (λ cell. move.cancel_owing p k cell ∷ []) found

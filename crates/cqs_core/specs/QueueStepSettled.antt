@@ -1,4 +1,5 @@
--- Which steps of the queue settle their cell: for a client whose resumes pass over a cancelled cell.
+-- Which steps of the queue settle their cell: for a client whose resumes
+-- pass over a cancelled cell.
 use Rattle.std.specs.Prelude.{◌≡◌, ◌⊎◌, ℕ, Option, slice_get}
 use Rattle.cqs_core.specs.declared.cells.CoreCell.{CoreCell}
 use Rattle.cqs_core.specs.QueueState.{Queue}
@@ -56,15 +57,20 @@ IsSettler (looks pends) = ⊥
 IsSettler (looks grants) = Unit {0}
 IsSettler (looks late) = Unit {0}
 
--- A step makes no settled cell unsettled, and leaves each as it is. A cell that is settled after it was so before,
--- or it is that of a step which settles it; and such a step settles a cell that wasn't.
-pub record StepSettles (q : Queue) (s : QueueStep) (p k : ℕ) (found : Option CoreCell) : Type 0 where
+-- A step makes no settled cell unsettled, and leaves each as it is. A cell that is settled
+-- after it was so before, or it is that of a step which settles it; and such a step
+-- settles a cell that wasn't.
+pub record StepSettles (q : Queue) (s : QueueStep) (p k : ℕ)
+    (found : Option CoreCell) : Type 0 where
   pub stays : (j : ℕ) → IsSettled q j → IsSettled (queue_after s q p k found) j
-  pub same : (j : ℕ) → IsSettled q j → slice_get (queue_after s q p k found).cells j ≡ slice_get q.cells j
-  pub by : (j : ℕ) → IsSettled (queue_after s q p k found) j → IsSettled q j ⊎ ((j ≡ k) × IsSettler s)
+  pub same : (j : ℕ) → IsSettled q j
+      → slice_get (queue_after s q p k found).cells j ≡ slice_get q.cells j
+  pub by : (j : ℕ) → IsSettled (queue_after s q p k found) j → IsSettled q j
+      ⊎ ((j ≡ k) × IsSettler s)
   pub once : IsSettler s → IsSettled (queue_after s q p k found) k × (IsSettled q k → ⊥)
 
 abbrev pub EveryStepSettles : Type 0
 EveryStepSettles =
-    (q : Queue) (s : QueueStep) (p k : ℕ) (found : Option CoreCell) → PassesOn s → IsSound q → IsOpenStep q s p k found
+    (q : Queue) (s : QueueStep) (p k : ℕ) (found : Option CoreCell) → PassesOn s → IsSound q
+    → IsOpenStep q s p k found
     → StepSettles q s p k found

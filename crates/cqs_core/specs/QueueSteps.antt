@@ -1,5 +1,5 @@
--- The steps of the queue, for every client: each is one atomic step of one pass, and is told by one row of a
--- table. A client permits some of them.
+-- The steps of the queue, for every client: each is one atomic step of one pass, and is told by one
+-- row of a table. A client permits some of them.
 use Rattle.std.specs.Prelude.{◌≡◌, ℕ, ◌==◌, Bool, true, false, List, ◌∷◌, [], ◌++◌, Option, Some, None, slice_get, slice_set, if◌then◌else◌}
 use Rattle.cqs_core.specs.declared.cells.CoreCell.{CoreCell}
 use Rattle.cqs_core.specs.declared.cells.CoreState.{CoreState}
@@ -12,19 +12,20 @@ use Rattle.cqs_core.specs.QueueSound.{IsSound}
 use Rattle.cqs_core.specs.QueueStages as stage
 use Rattle.cqs_core.specs.QueueStages.{Stage, doing_at, MayWork}
 
--- What the owner of a wait learns at a load of its cell: the wait still stands; it was served; or it was served
--- too early to be cancelled. The last two close the wait.
+-- What the owner of a wait learns at a load of its cell: the wait still stands; it was served; or
+-- it was served too early to be cancelled. The last two close the wait.
 pub data LookEvent : Type 0 where
   pends : LookEvent
   grants : LookEvent
   late : LookEvent
 
 pub data QueueStep : Type 0 where
-  -- a number is drawn to suspend at: by a pass at the door, or by an idle one that comes there with the same step
+  -- a number is drawn to suspend at: by a pass at the door, or by an idle one that comes
+  -- there with the same step
   draws : QueueStep
   enters : QueueStep
-  -- a number is drawn to resume at: by a pass that owes; or by an idle one that begins the next of those that it
-  -- owes, or that puts an element which it holds
+  -- a number is drawn to resume at: by a pass that owes; or by an idle one that begins the next of
+  -- those that it owes, or that puts an element which it holds
   reaches : QueueStep
   begins : QueueStep
   puts : QueueStep
@@ -38,13 +39,13 @@ pub data QueueStep : Type 0 where
   passes_over : QueueStep
   ends_refused : QueueStep
   ends_missed : QueueStep
-  -- the canceller of the number: it is to ask its client; or its leaving is final with this step, and resumes will
-  -- pass over the cell, or one will end there
+  -- the canceller of the number: it is to ask its client; or its leaving is final with this step,
+  -- and resumes will pass over the cell, or one will end there
   starts_leaving : QueueStep
   leaves_line : QueueStep
   leaves_at_once : QueueStep
-  -- the canceller ends it as it was told: resumes pass over the cell, or it is refused; in each case a resume may
-  -- have left a value there
+  -- the canceller ends it as it was told: resumes pass over the cell, or it is refused; in each
+  -- case a resume may have left a value there
   settles : QueueStep
   settles_owing : QueueStep
   refuses : QueueStep
@@ -52,13 +53,15 @@ pub data QueueStep : Type 0 where
   -- the owner of the wait loads its cell
   looks : (event : LookEvent) → QueueStep
 
--- What becomes of the pass's wait of the number: it stays, or there is none; a waiter was installed; or it is over.
+-- What becomes of the pass's wait of the number: it stays, or there is none; a waiter was
+-- installed; or it is over.
 pub data WaitChange : Type 0 where
   wait_stays : WaitChange
   wait_opens : WaitChange
   wait_closes : WaitChange
 
--- what the pass has from the cell: nothing; what it waited for; or what was left for its wait, which it owes now
+-- what the pass has from the cell: nothing; what it waited for; or what was left for
+-- its wait, which it owes now
 pub data Gain : Type 0 where
   nothing : Gain
   its_own : Gain
@@ -85,7 +88,8 @@ pub record CellRow : Type 0 where
   -- what the pass is at before and after it
   pub works_at : Stage
   pub goes_to : Stage
-  -- the state that the cell is found in, and the one that is written there; none where the cell is only loaded
+  -- the state that the cell is found in, and the one that is written there; none where
+  -- the cell is only loaded
   pub finds : CoreState
   pub makes : Option CoreState
   -- what the pass resumes with is left in the cell; else the cell keeps its payload
@@ -99,7 +103,8 @@ pub data StepRow : Type 0 where
 
 -- the rows of one kind
 abbrev pub counts : Stage → Counter → Cost → StepRow
-counts works_at counter cost = at_counter (record { works_at = works_at; counter = counter; cost = cost })
+counts works_at counter cost =
+    at_counter (record { works_at = works_at; counter = counter; cost = cost })
 
 -- a suspend's exchange: the state found, the state made, the wait, the gain
 abbrev pub suspend_row : CoreState → CoreState → WaitChange → Gain → StepRow
@@ -137,7 +142,8 @@ meet_row finds goes_to = at_cell (record {
   gain = nothing;
 })
 
--- a canceller's exchange: what it is at, the state found, the state made, what it is at then, the wait, the gain
+-- a canceller's exchange: what it is at, the state found, the state made, what it is
+-- at then, the wait, the gain
 abbrev pub cancel_row : Stage → CoreState → CoreState → Stage → WaitChange → Gain → StepRow
 cancel_row works_at finds makes goes_to wait gain = at_cell (record {
   works_at = works_at;
@@ -176,13 +182,20 @@ row_of delegates = resume_row state.Cancelling state.Delegated
 row_of passes_over = meet_row state.Cancelled stage.owes
 row_of ends_refused = meet_row state.Refused stage.idle
 row_of ends_missed = meet_row state.Cancelled stage.idle
-row_of starts_leaving = cancel_row stage.idle state.Waiter state.Cancelling stage.leaving wait_stays nothing
-row_of leaves_line = cancel_row stage.idle state.Waiter state.Cancelling (stage.decided true) wait_stays nothing
-row_of leaves_at_once = cancel_row stage.idle state.Waiter state.Cancelled stage.idle wait_closes nothing
-row_of settles = cancel_row (stage.decided true) state.Cancelling state.Cancelled stage.idle wait_closes nothing
-row_of settles_owing = cancel_row (stage.decided true) state.Delegated state.Cancelled stage.owes wait_closes a_debt
-row_of refuses = cancel_row (stage.decided false) state.Cancelling state.Refused stage.idle wait_closes nothing
-row_of refuses_value = cancel_row (stage.decided false) state.Delegated state.Refused stage.idle wait_closes nothing
+row_of starts_leaving =
+    cancel_row stage.idle state.Waiter state.Cancelling stage.leaving wait_stays nothing
+row_of leaves_line =
+    cancel_row stage.idle state.Waiter state.Cancelling (stage.decided true) wait_stays nothing
+row_of leaves_at_once =
+    cancel_row stage.idle state.Waiter state.Cancelled stage.idle wait_closes nothing
+row_of settles =
+    cancel_row (stage.decided true) state.Cancelling state.Cancelled stage.idle wait_closes nothing
+row_of settles_owing =
+    cancel_row (stage.decided true) state.Delegated state.Cancelled stage.owes wait_closes a_debt
+row_of refuses =
+    cancel_row (stage.decided false) state.Cancelling state.Refused stage.idle wait_closes nothing
+row_of refuses_value =
+    cancel_row (stage.decided false) state.Delegated state.Refused stage.idle wait_closes nothing
 row_of (looks pends) = look_row state.Waiter wait_stays nothing
 row_of (looks grants) = look_row state.Resumed wait_closes its_own
 row_of (looks late) = look_row state.Resumed wait_closes its_own
@@ -254,7 +267,8 @@ queue_after s q p k found = row_after (row_of s) q p k found
 
 -- the payloads of the cells after a step of a pass that resumes with this one
 abbrev pub payloads_after : CellRow → (ℕ → ℕ) → ℕ → ℕ → ℕ → ℕ
-payloads_after row payloads k payload j = if row.brings then (if j == k then payload else payloads j) else payloads j
+payloads_after row payloads k payload j =
+    if row.brings then (if j == k then payload else payloads j) else payloads j
 
 -- the numbers of the pass's waits after a step at the number k
 abbrev pub waits_after : WaitChange → ℕ → List ℕ → List ℕ
@@ -264,5 +278,6 @@ waits_after wait_closes k waits = without (λ j. j) k waits
 
 abbrev pub EveryStepKeepsSound : Type 0
 EveryStepKeepsSound =
-    (q : Queue) (s : QueueStep) (p k : ℕ) (found : Option CoreCell) → IsSound q → IsOpenStep q s p k found
+    (q : Queue) (s : QueueStep) (p k : ℕ) (found : Option CoreCell) → IsSound q
+    → IsOpenStep q s p k found
     → IsSound (queue_after s q p k found)

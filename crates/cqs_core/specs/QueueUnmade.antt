@@ -1,5 +1,5 @@
--- Which numbers are drawn whose segment isn't made. Segment s has the cells 32 * s to 32 * s + 31, and `tail` is the
--- last one that is made.
+-- Which numbers are drawn whose segment isn't made. Segment s has the cells 32 * s to 32 * s + 31,
+-- and `tail` is the last one that is made.
 use Rattle.std.specs.Prelude.{◌≡◌, ◌⊎◌, ℕ, ◌+◌, ◌*◌, ◌/◌, ◌<◌, ◌≤◌, Some, slice_get, length}
 use Rattle.cqs_core.specs.declared.cells.CoreCell.{CoreCell}
 use Rattle.cqs_core.specs.declared.cells.CoreState.TheVariants as state
@@ -53,4 +53,5 @@ IsMadeAt tail (move.refuse p k found) = Unit {0}
 
 abbrev pub MovesLeaveUnmadeEmpty : Type 0
 MovesLeaveUnmadeEmpty =
-    (q : Queue) (m : Move) (tail : ℕ) → IsOpen q m → IsMadeAt tail m → UnmadeEmpty q tail → UnmadeEmpty (moved q m) tail
+    (q : Queue) (m : Move) (tail : ℕ) → IsOpen q m → IsMadeAt tail m → UnmadeEmpty q tail
+    → UnmadeEmpty (moved q m) tail

@@ -1,5 +1,6 @@
--- What the plain object of every client has of its waiters: those at the door, the line, the next number, and those
--- that were served; and the changes of them. A semaphore, a latch and a barrier share it.
+-- What the plain object of every client has of its waiters: those at the door, the line,
+-- the next number, and those that were served; and the changes of them. A semaphore, a
+-- latch and a barrier share it.
 use Rattle.std.specs.Prelude.{ℕ, ◌+◌, ◌==◌, true, false, List, [], ◌∷◌, ◌++◌, Option, Some, None, length, if◌then◌else◌}
 use Rattle.cqs_core.specs.Numbered.{IsIn}
 use Rattle.cqs_core.specs.Keyed.{placed, without, changed}
@@ -22,7 +23,8 @@ find_wait k (w ∷ waits) = if k == w.wait then Some w else find_wait k waits
 
 abbrev pub with_service : Option Waiting → List Service → List Service
 with_service None served = served
-with_service (Some w) served = placed (λ s. s.wait) (record { wait = w.wait; pass = w.pass; is_open = true }) served
+with_service (Some w) served =
+    placed (λ s. s.wait) (record { wait = w.wait; pass = w.pass; is_open = true }) served
 
 pub record Waiters : Type 0 where
   -- the callers that must wait and have no number yet, in order of their own numbers
@@ -43,7 +45,12 @@ due_of w = length w.door + length w.line
 
 -- the waiters that a queue shows
 abbrev pub waiters : Queue → Waiters
-waiters q = record { door = queue.door q; line = queue.line q; next = q.suspends; served = queue.served q }
+waiters q = record {
+  door = queue.door q;
+  line = queue.line q;
+  next = q.suspends;
+  served = queue.served q;
+}
 
 -- c comes to the door
 abbrev pub comes : Waiters → ℕ → Waiters
@@ -74,5 +81,6 @@ goes w k = record w { line = without (λ v. v.wait) k w.line }
 abbrev pub closes : Waiters → ℕ → Waiters
 closes w k =
     record w {
-      served = changed (λ s. s.wait) k (λ s. record { wait = s.wait; pass = s.pass; is_open = false }) w.served;
+      served = changed (λ s. s.wait) k
+          (λ s. record { wait = s.wait; pass = s.pass; is_open = false }) w.served;
     }

@@ -1,5 +1,5 @@
--- The entries of the fair semaphore: where each may come, and what it changes. A history is legal where each of its
--- entries may come after those before it.
+-- The entries of the fair semaphore: where each may come, and what it changes. A history is legal
+-- where each of its entries may come after those before it.
 use Rattle.std.specs.Prelude.{◌≡◌, ◌⊎◌, ℕ, ◌+◌, ◌-◌, ◌<◌, nat_lt, false, List, [], ◌∷◌, ◌++◌, take, if◌then◌else◌}
 use Rattle.std.specs.List.{fold}
 use Rattle.cqs_core.specs.declared.entries.Entry.{Entry}
@@ -62,7 +62,8 @@ left o k = turned_back (record o { line = without (λ w. w.wait) k o.line })
 abbrev pub closed : Semaphore → ℕ → Semaphore
 closed o k =
     record o {
-      served = changed (λ s. s.wait) k (λ s. record { wait = s.wait; pass = s.pass; is_open = false }) o.served;
+      served = changed (λ s. s.wait) k
+          (λ s. record { wait = s.wait; pass = s.pass; is_open = false }) o.served;
     }
 
 -- what an entry changes
@@ -88,8 +89,8 @@ object_after permits history = fold after_entry (opening permits) history
 abbrev pub IsLegal : ℕ → List Entry → Type 0
 IsLegal permits history = IsLegalFrom IsAllowed after_entry (opening permits) history
 
--- The laws of the semaphore. No permit is lost; no more are on their way than wait; and none is free while some wait
--- for whom none is on its way.
+-- The laws of the semaphore. No permit is lost; no more are on their way than wait; and none is
+-- free while some wait for whom none is on its way.
 pub record IsBalanced (permits : ℕ) (o : Semaphore) : Type 0 where
   pub conserved : o.held + o.free + o.way ≡ permits
   pub wanted : o.way < due o + 1

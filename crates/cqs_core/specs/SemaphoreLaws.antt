@@ -1,4 +1,5 @@
--- The laws of the fair semaphore: what holds of every legal history, whatever machine it comes from.
+-- The laws of the fair semaphore: what holds of every legal history,
+-- whatever machine it comes from.
 use Rattle.std.specs.Prelude.{◌≡◌, ℕ, ◌<◌, List, take, Some, slice_get}
 use Rattle.cqs_core.specs.declared.entries.Entry.{Entry}
 use Rattle.cqs_core.specs.declared.entries.Entry.TheVariants as entry
@@ -6,10 +7,12 @@ use Rattle.cqs_core.specs.Numbered.{IsIn}
 use Rattle.cqs_core.specs.SemaphoreObject.{Semaphore}
 use Rattle.cqs_core.specs.SemaphoreEntries.{object_after, IsLegal, IsBalanced, IsFirst}
 
--- no permit is lost, no more are on their way than wait, and none is free while one waits for whom none is on its way
+-- no permit is lost, no more are on their way than wait, and none is free while one waits
+-- for whom none is on its way
 abbrev pub EveryLegalHistoryIsBalanced : Type 0
 EveryLegalHistoryIsBalanced =
-    (permits : ℕ) (history : List Entry) → IsLegal permits history → IsBalanced permits (object_after permits history)
+    (permits : ℕ) (history : List Entry) → IsLegal permits history
+    → IsBalanced permits (object_after permits history)
 
 -- the semaphore that the entry of number n comes to
 abbrev pub object_before : ℕ → List Entry → ℕ → Semaphore
@@ -26,19 +29,39 @@ OnePermitGoesToTheFirst =
 abbrev pub EndsWait : ℕ → Entry → Type 0
 EndsWait k (entry.Deliver j) = j ≡ k
 EndsWait k (entry.Leave c j) = j ≡ k
-EndsWait k _ = ⊥
+EndsWait k (entry.TakeNow c) = ⊥
+EndsWait k (entry.TakeDoor c) = ⊥
+EndsWait k (entry.Enter c j) = ⊥
+EndsWait k (entry.TryGot c) = ⊥
+EndsWait k (entry.TryBusy c) = ⊥
+EndsWait k (entry.GiveFreed c) = ⊥
+EndsWait k (entry.GiveSent c) = ⊥
+EndsWait k (entry.Late c j) = ⊥
+EndsWait k (entry.LookGranted c j) = ⊥
+EndsWait k (entry.LookPending c j) = ⊥
 
--- a wait ends once: it is served no second time, and neither after it left nor does it leave after it was served
+-- a wait ends once: it is served no second time, and neither after it left nor does it
+-- leave after it was served
 abbrev pub EveryWaitEndsOnce : Type 0
 EveryWaitEndsOnce =
     (permits : ℕ) (history : List Entry) (k m n : ℕ) (d e : Entry) → IsLegal permits history
-    → slice_get history m ≡ Some d → slice_get history n ≡ Some e → EndsWait k d → EndsWait k e → m ≡ n
+    → slice_get history m ≡ Some d → slice_get history n ≡ Some e → EndsWait k d → EndsWait k e
+    → m ≡ n
 
 -- the entry hands the permit of wait k to its caller, who looks, or comes too late to leave
 abbrev pub Collects : ℕ → Entry → Type 0
 Collects k (entry.LookGranted c j) = j ≡ k
 Collects k (entry.Late c j) = j ≡ k
-Collects k _ = ⊥
+Collects k (entry.TakeNow c) = ⊥
+Collects k (entry.TakeDoor c) = ⊥
+Collects k (entry.Enter c j) = ⊥
+Collects k (entry.TryGot c) = ⊥
+Collects k (entry.TryBusy c) = ⊥
+Collects k (entry.GiveFreed c) = ⊥
+Collects k (entry.GiveSent c) = ⊥
+Collects k (entry.Deliver j) = ⊥
+Collects k (entry.Leave c j) = ⊥
+Collects k (entry.LookPending c j) = ⊥
 
 -- a permit is handed over only after it was delivered
 abbrev pub EveryCollectionFollowsItsDelivery : Type 0
@@ -50,15 +73,20 @@ EveryCollectionFollowsItsDelivery =
 abbrev pub EveryWaitIsCollectedOnce : Type 0
 EveryWaitIsCollectedOnce =
     (permits : ℕ) (history : List Entry) (k m n : ℕ) (d e : Entry) → IsLegal permits history
-    → slice_get history m ≡ Some d → slice_get history n ≡ Some e → Collects k d → Collects k e → m ≡ n
+    → slice_get history m ≡ Some d → slice_get history n ≡ Some e → Collects k d → Collects k e
+    → m ≡ n
 
 -- each permit is delivered before the next is on its way
 abbrev pub DeliversOneByOne : ℕ → List Entry → Type 0
 DeliversOneByOne permits history =
-    (n k : ℕ) → slice_get history n ≡ Some (entry.Deliver k) → (object_before permits history n).way ≡ 1
+    (n k : ℕ) → slice_get history n ≡ Some (entry.Deliver k)
+    → (object_before permits history n).way ≡ 1
 
--- where each permit is delivered before the next is on its way, waits are served in the order in which they entered
+-- where each permit is delivered before the next is on its way, waits are served in the
+-- order in which they entered
 abbrev pub ServiceIsInOrder : Type 0
 ServiceIsInOrder =
-    (permits : ℕ) (history : List Entry) (m n j k : ℕ) → IsLegal permits history → DeliversOneByOne permits history
-    → slice_get history m ≡ Some (entry.Deliver j) → slice_get history n ≡ Some (entry.Deliver k) → m < n → j < k
+    (permits : ℕ) (history : List Entry) (m n j k : ℕ) → IsLegal permits history
+    → DeliversOneByOne permits history
+    → slice_get history m ≡ Some (entry.Deliver j) → slice_get history n ≡ Some (entry.Deliver k)
+    → m < n → j < k

@@ -20,7 +20,8 @@ pub record Semaphore : Type 0 where
 
 -- a semaphore opens with all its permits free
 abbrev pub opening : ℕ → Semaphore
-opening permits = record { free = permits; way = 0; door = []; line = []; next = 0; served = []; held = 0 }
+opening permits =
+    record { free = permits; way = 0; door = []; line = []; next = 0; served = []; held = 0 }
 
 -- how many wait for a permit: at the door, and in the line
 abbrev pub due : Semaphore → ℕ

@@ -1,5 +1,5 @@
--- A core shows the fair semaphore: which plain object its words, cells and passes stand for. With it, all that holds of
--- every core between any two events.
+-- A core shows the fair semaphore: which plain object its words, cells and passes stand for. With
+-- it, all that holds of every core between any two events.
 use Rattle.std.specs.Prelude.{◌≡◌, ℕ, ◌+◌, ◌-◌, ◌<◌, ◌≤◌, [], length, ℤ, pos, negsuc, ◌<ℤ◌, ◌≤ℤ◌, ◌-ℤ◌, sum, replicate}
 use Rattle.cqs_core.specs.declared.doings.Doing.{Doing}
 use Rattle.cqs_core.specs.declared.doings.Doing.TheVariants as doing
@@ -11,7 +11,8 @@ use Rattle.cqs_core.specs.SemaphoreObject.{Semaphore, due}
 use Rattle.cqs_core.specs.SemaphoreEntries.{object_after, IsLegal}
 use Rattle.cqs_core.specs.SemaphoreTable.{Shape, lowest, last_number}
 
--- the state word counts the free permits where it is above 0, and else the waiters for whom no permit is on its way
+-- the state word counts the free permits where it is above 0, and else the waiters for
+-- whom no permit is on its way
 abbrev pub free_of : ℤ → ℕ
 free_of (pos n) = n
 free_of (negsuc n) = 0
@@ -79,7 +80,8 @@ pub record IsCore (s : Shape) : Type 0 where
   pub short : queue.going s.queue + short_of s.state ≡ queue.due s.queue + queue.ending s.queue
   -- no permit is lost
   pub conserved :
-      sum s.held + queue.ready s.queue + free_of s.state + queue.going s.queue ≡ s.permits + queue.ending s.queue
+      sum s.held + queue.ready s.queue + free_of s.state + queue.going s.queue
+      ≡ s.permits + queue.ending s.queue
 
 -- a core as it is made
 abbrev pub opened : ℕ → ℕ → Shape

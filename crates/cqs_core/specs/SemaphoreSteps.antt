@@ -1,4 +1,5 @@
--- The steps of the queue as a semaphore makes them: which ones, with which entries, and what they make of its core.
+-- The steps of the queue as a semaphore makes them: which ones, with which entries, and
+-- what they make of its core.
 use Rattle.std.specs.Prelude.{ℕ, ◌+◌, ◌<◌, List, [], ◌∷◌, ◌++◌, Option, slice_index, slice_set}
 use Rattle.cqs_core.specs.declared.cells.CoreCell.{CoreCell}
 use Rattle.cqs_core.specs.declared.entries.Entry.{Entry}
@@ -7,8 +8,8 @@ use Rattle.cqs_core.specs.QueueSteps.{pends, grants, late, QueueStep, draws, ent
 use Rattle.cqs_core.specs.SemaphoreShown.{IsCore}
 use Rattle.cqs_core.specs.SemaphoreTable.{Shape, last_number}
 
--- Its passes come to the door and owe one resumption by steps on its state; a wait leaves as the state's old value
--- answers.
+-- Its passes come to the door and owe one resumption by steps on its state; a wait leaves as the
+-- state's old value answers.
 abbrev pub IsSemaphoreStep : QueueStep → Type 0
 IsSemaphoreStep draws = Unit {0}
 IsSemaphoreStep enters = ⊥
@@ -80,6 +81,8 @@ stepped s step p k found = record {
 
 abbrev pub EveryStepKeepsTheCore : Type 0
 EveryStepKeepsTheCore =
-    (s : Shape) (step : QueueStep) (p k : ℕ) (found : Option CoreCell) → IsCore s → IsSemaphoreStep step
-    → IsOpenStep s.queue step p k found → s.queue.suspends < last_number → s.queue.resumes < last_number
+    (s : Shape) (step : QueueStep) (p k : ℕ) (found : Option CoreCell) → IsCore s
+    → IsSemaphoreStep step
+    → IsOpenStep s.queue step p k found → s.queue.suspends < last_number
+    → s.queue.resumes < last_number
     → IsCore (stepped s step p k found)

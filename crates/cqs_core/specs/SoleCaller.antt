@@ -1,5 +1,6 @@
--- The law of a sole caller: where every pass is idle between two calls, each call is what the plain semaphore does at
--- once. No counters, no cells: only the free permits, the line and the waits that were served.
+-- The law of a sole caller: where every pass is idle between two calls, each call is what the
+-- plain semaphore does at once. No counters, no cells: only the free permits, the line and
+-- the waits that were served.
 use Rattle.std.specs.Prelude.{◌≡◌, ◌≢◌, ◌⊎◌, ℕ, ◌+◌, ◌-◌, ◌<◌, ◌≤◌, nat_lt, length, slice_index, slice_set, IsSomeAnd, List, [], ◌∷◌, ◌++◌, Option, Some, None, if◌then◌else◌}
 use Rattle.std.specs.List.{fold}
 use Rattle.cqs_core.specs.declared.calls.Call.{Call}
@@ -47,7 +48,8 @@ sole_call o (call.Acquire p) =
     if nat_lt 0 o.free then tells (entry.TakeNow p ∷ []) reply.Now
     else tells (entry.TakeDoor p ∷ entry.Enter p o.next ∷ []) (reply.Later o.next)
 sole_call o (call.Try p) =
-    if nat_lt 0 o.free then tells (entry.TryGot p ∷ []) reply.Got else tells (entry.TryBusy p ∷ []) reply.Busy
+    if nat_lt 0 o.free then tells (entry.TryGot p ∷ []) reply.Got
+    else tells (entry.TryBusy p ∷ []) reply.Busy
 sole_call o (call.Release p) = sole_release p o.line
 sole_call o (call.Poll p k) = sole_poll p k (find_wait k o.line)
 sole_call o (call.Cancel p k) = sole_cancel p k (find_wait k o.line)
@@ -68,19 +70,38 @@ MayCall s (call.Release p) = 0 < slice_index s.held p
 MayCall s (call.Poll p k) = HasWait k p (shown s)
 MayCall s (call.Cancel p k) = HasWait k p (shown s)
 
--- No suspend found its value before it came. It never does where a sole caller made all the calls; a wait of such a
--- cell is closed from the start, though the plain semaphore counts it among those that were served.
+-- No suspend found its value before it came. It never does where a sole caller made all the
+-- calls; a wait of such a cell is closed from the start, though the plain semaphore counts it
+-- among those that were served.
 abbrev pub NoneTaken : Shape → Type 0
 NoneTaken s = EachAt (λ k cell. cell.state ≢ state.Taken) s.queue.cells
 
+-- who makes a call
+abbrev pub caller : Call → ℕ
+caller (call.Acquire p) = p
+caller (call.Try p) = p
+caller (call.Release p) = p
+caller (call.Poll p k) = p
+caller (call.Cancel p k) = p
+
+-- what the passes hold after this reply to one of them: a permit came to it,
+-- one went from it, or neither
+abbrev pub held_by : List ℕ → ℕ → Reply → List ℕ
+held_by held p reply.Now = slice_set held p (slice_index held p + 1)
+held_by held p (reply.Later k) = held
+held_by held p (reply.Took k) = slice_set held p (slice_index held p + 1)
+held_by held p reply.Got = slice_set held p (slice_index held p + 1)
+held_by held p reply.Busy = held
+held_by held p reply.Freed = slice_set held p (slice_index held p - 1)
+held_by held p (reply.Sent k) = slice_set held p (slice_index held p - 1)
+held_by held p reply.Granted = slice_set held p (slice_index held p + 1)
+held_by held p reply.Pending = held
+held_by held p reply.Cancelled = held
+held_by held p reply.TooLate = slice_set held p (slice_index held p + 1)
+
 -- what the passes hold after a call that replied so
 abbrev pub held_after : List ℕ → Call → Reply → List ℕ
-held_after held (call.Acquire p) reply.Now = slice_set held p (slice_index held p + 1)
-held_after held (call.Try p) reply.Got = slice_set held p (slice_index held p + 1)
-held_after held (call.Release p) answer = slice_set held p (slice_index held p - 1)
-held_after held (call.Poll p k) reply.Granted = slice_set held p (slice_index held p + 1)
-held_after held (call.Cancel p k) reply.TooLate = slice_set held p (slice_index held p + 1)
-held_after held _ answer = held
+held_after held c answer = held_by held (caller c) answer
 
 -- a call was made as a sole caller's, and every pass is idle again
 pub record IsSoleCall (old : Shape) (c : Call) (answer : Reply) (new : Shape) : Type 0 where
@@ -103,5 +124,7 @@ IsSoleRefusal s c = NoneTaken s → ¬ MayCall s c
 
 -- a cell tells a sole caller of its wait: a Waiter stands in the line, and a Resumed one was served
 pub record TellsWait (s : Shape) (k : ℕ) (found : Option CoreCell) : Type 0 where
-  pub waits : (p : ℕ) → Waits k p (shown s).line → IsSomeAnd found (λ cell. cell.state ≡ state.Waiter)
-  pub served : (p : ℕ) → IsServed k p (shown s).served → IsSomeAnd found (λ cell. cell.state ≡ state.Resumed)
+  pub waits : (p : ℕ) → Waits k p (shown s).line
+      → IsSomeAnd found (λ cell. cell.state ≡ state.Waiter)
+  pub served : (p : ℕ) → IsServed k p (shown s).served
+      → IsSomeAnd found (λ cell. cell.state ≡ state.Resumed)

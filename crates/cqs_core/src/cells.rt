@@ -2,8 +2,9 @@
 
 /// What a cell stands at.
 ///
-/// A resume that comes first leaves its value, and a suspend that comes first waits. `Cancelling` and `Delegated` are the states
-/// between a waiter's cancellation and the answer of its primitive, whether resumes pass over the cell or it is refused.
+/// A resume that comes first leaves its value, and a suspend that comes first waits. `Cancelling`
+/// and `Delegated` are the states between a waiter's cancellation and the answer of its primitive,
+/// whether resumes pass over the cell or it is refused.
 #[derive(Clone, Copy, PartialEq, Eq, Debug)]
 pub enum CoreState {
     /// Nobody has worked in the cell.

@@ -1,4 +1,5 @@
-//! The fair semaphore as a plain object, and the runnable core of the cancellable queue, which shows it.
+//! The fair semaphore as a plain object, and the runnable core of the
+//! cancellable queue, which shows it.
 #![tactic(auto)]
 
 mod calls;

@@ -28,8 +28,8 @@ const MOST_PASSES: u32 = 32;
 
 /// A semaphore with its queue of cells, as plain data that makes one event after the other.
 ///
-/// Contracts see its shape (the words, cells and passes, and the history so far) and its spare room: for how many further
-/// entries and cells it has memory.
+/// Contracts see its shape (the words, cells and passes, and the history so far) and its spare
+/// room: for how many further entries and cells it has memory.
 #[derive(Drop)]
 pub struct Core {
     table: Table,
@@ -65,7 +65,8 @@ impl Core {
     pub fn step(&mut self, event: Event) -> Result<Outcome, CoreError>
         ensures made { Makes (step self.old.shape event) result self.old.shape self.new.shape }
 
-        // It is out of memory only where there was no room for one entry and one cell, and it uses no more than that.
+        // It is out of memory only where there was no room for one entry and one cell, and it uses
+        // no more than that.
         ensures memory { IsErrOf result CoreError.Memory → self.old.spare < 1 }
         ensures spare { self.old.spare ≤ self.new.spare + 1 }
     {
@@ -90,10 +91,12 @@ impl Core {
     pub fn run_call(&mut self, call: Call) -> Result<Reply, CoreError>
         requires { IsResting self.old.shape }
         ensures made { MakesCall result (course self.old.shape call) self.old.shape self.new.shape }
-        ensures sole { IfOk result (λ answer. IsSoleCall self.old.shape call answer self.new.shape) }
+        ensures sole { IfOk result
+            (λ answer. IsSoleCall self.old.shape call answer self.new.shape) }
         ensures shown { IfOk result (λ _. ShowsNext self.old.shape call self.new.shape) }
 
-        // It is out of memory only where there was no room for three entries and cells, and it uses no more than that.
+        // It is out of memory only where there was no room for three entries and cells, and it uses
+        // no more than that.
         ensures memory { IsErrOf result CoreError.Memory → self.old.spare < 3 }
         ensures spare { self.old.spare ≤ self.new.spare + 3 }
     {
@@ -104,7 +107,8 @@ impl Core {
         }
     }
 
-    /// Makes room for so many further entries and cells. Its only error is `Memory`, where that room wasn't there.
+    /// Makes room for so many further entries and cells. Its only error is `Memory`, where
+    /// that room wasn't there.
     pub fn reserve(&mut self, more: u32) -> Result<(), CoreError>
         ensures ok { OnOk result (more ≤ self.new.spare) }
         ensures err { OnErr result (result ≡ Err CoreError.Memory) }
@@ -121,7 +125,8 @@ impl Core {
         requires resting { IsResting self.old.shape }
         requires room { 3 ≤ self.old.spare }
         ensures made { MakesCallReady (course self.old.shape call) result self.old self.new }
-        ensures sole { IfSome result (λ answer. IsSoleCall self.old.shape call answer self.new.shape) }
+        ensures sole { IfSome result
+            (λ answer. IsSoleCall self.old.shape call answer self.new.shape) }
         ensures shown { IfSome result (λ _. ShowsNext self.old.shape call self.new.shape) }
         ensures refused { IfNone result (IsSoleRefusal self.old.shape call) }
     {
@@ -152,7 +157,8 @@ impl Core {
     /// The cell of a number; none where neither counter has passed it.
     pub fn cell(&self, number: u64) -> Option<CoreCell>
         ensures value { result ≡ slice_get self.now.shape.queue.cells number }
-        ensures sole { IsIdle self.now.shape.queue.doing → NoneTaken self.now.shape → TellsWait self.now.shape number result }
+        ensures sole { IsIdle self.now.shape.queue.doing → NoneTaken self.now.shape
+            → TellsWait self.now.shape number result }
     {
         self.table.cell(number)
     }
@@ -175,11 +181,15 @@ impl Core {
     pub fn history(&self) -> &[Entry]
         ensures value { result.now ≡ self.now.shape.history }
 
-        // Each entry may come where it stands, and the semaphore after them all is the one that the core shows.
+        // Each entry may come where it stands, and the semaphore after them all is the one
+        // that the core shows.
         ensures legal { IsLegal self.now.shape.permits self.now.shape.history }
-        ensures object { object_after self.now.shape.permits self.now.shape.history ≡ shown self.now.shape }
-        ensures shows { Shows self.now.shape (object_after self.now.shape.permits self.now.shape.history) }
-        ensures balanced { IsBalanced self.now.shape.permits (object_after self.now.shape.permits self.now.shape.history) }
+        ensures object { object_after self.now.shape.permits self.now.shape.history
+            ≡ shown self.now.shape }
+        ensures shows { Shows self.now.shape
+            (object_after self.now.shape.permits self.now.shape.history) }
+        ensures balanced { IsBalanced self.now.shape.permits
+            (object_after self.now.shape.permits self.now.shape.history) }
     {
         self.table.history()
     }

@@ -1,7 +1,8 @@
 //! The runnable table of events: its words, its cells, and one method for each kind of event.
 //!
-//! Each method makes its row of the table or answers `None` where the row isn't allowed. None of them takes memory:
-//! `reserve` makes room before. What makes a table a core of a fair semaphore is told in `runnable`.
+//! Each method makes its row of the table or answers `None` where the row isn't allowed. None
+//! of them takes memory: `reserve` makes room before. What makes a table a core of a fair
+//! semaphore is told in `runnable`.
 
 ghost use Rattle.std.specs.Prelude.{◌≡◌, ◌+◌, ◌-◌, ◌≤◌, ◌<◌, OnOk, OnErr, Err, slice_get, length, vec_len, vec_capacity, replicate, IfOk, IfSome, pos};
 ghost use Rattle.cqs_core.specs.declared.events.Event.TheVariants as event;
@@ -57,7 +58,8 @@ impl Model for Table {
           doing = t.doing.items;
         };
       };
-      spare = min (vec_capacity t.history - vec_len t.history) (vec_capacity t.cells - vec_len t.cells);
+      spare = min (vec_capacity t.history - vec_len t.history)
+          (vec_capacity t.cells - vec_len t.cells);
     } };
 }
 
@@ -251,7 +253,14 @@ impl Table {
                 self.history.push_reserved(Entry::Deliver { wait: number });
                 Some(Outcome::Took(number))
             }
-            _ => None,
+            CoreState::Waiter
+            | CoreState::Taken
+            | CoreState::Broken
+            | CoreState::Resumed
+            | CoreState::Cancelling
+            | CoreState::Delegated
+            | CoreState::Cancelled
+            | CoreState::Refused => None,
         }
     }
 
@@ -284,8 +293,10 @@ impl Table {
     /// Resume: the next number is drawn.
     pub fn reach(&mut self, pass: u32) -> Option<Outcome>
         requires room { 1 ≤ self.old.spare }
-        ensures made { MakesReady (step self.old.shape (event.Reach pass)) result self.old self.new }
-        ensures spare { self.old.shape.queue.resumes < length self.old.shape.queue.cells → self.old.spare ≤ self.new.spare }
+        ensures made { MakesReady (step self.old.shape (event.Reach pass))
+            result self.old self.new }
+        ensures spare { self.old.shape.queue.resumes < length self.old.shape.queue.cells
+            → self.old.spare ≤ self.new.spare }
     {
         let at = pass as usize;
         let Some(Doing::Owes) = self.doing(pass) else {
@@ -337,7 +348,11 @@ impl Table {
                 self.doing[at] = Doing::Idle;
                 Some(Outcome::Void(number))
             }
-            _ => None,
+            CoreState::Value
+            | CoreState::Taken
+            | CoreState::Broken
+            | CoreState::Resumed
+            | CoreState::Delegated => None,
         }
     }
 
@@ -345,7 +360,8 @@ impl Table {
     pub fn leave(&mut self, pass: u32, wait: u64) -> Option<Outcome>
         requires fits { FitsWords self.old.shape }
         requires room { 1 ≤ self.old.spare }
-        ensures { MakesReady (step self.old.shape (event.Leave pass wait)) result self.old self.new }
+        ensures { MakesReady (step self.old.shape (event.Leave pass wait))
+            result self.old self.new }
     {
         let at = pass as usize;
         let Some(Doing::Idle) = self.doing(pass) else {
@@ -367,11 +383,19 @@ impl Table {
                 self.history.push_reserved(Entry::Late { pass, wait });
                 Some(Outcome::TooLate(wait))
             }
-            _ => None,
+            CoreState::Empty
+            | CoreState::Value
+            | CoreState::Taken
+            | CoreState::Broken
+            | CoreState::Cancelling
+            | CoreState::Delegated
+            | CoreState::Cancelled
+            | CoreState::Refused => None,
         }
     }
 
-    /// Cancel: one is added to the state, whose old value answers whether resumes pass over the cell.
+    /// Cancel: one is added to the state, whose old value answers whether
+    /// resumes pass over the cell.
     pub fn decide(&mut self, pass: u32) -> Option<Outcome>
         requires fits { FitsWords self.old.shape }
         requires room { 1 ≤ self.old.spare }
@@ -390,7 +414,8 @@ impl Table {
 
     /// Cancel: the cell gets its last state.
     pub fn settle(&mut self, pass: u32) -> Option<Outcome>
-        ensures made { MakesReady (step self.old.shape (event.Settle pass)) result self.old self.new }
+        ensures made { MakesReady (step self.old.shape (event.Settle pass))
+            result self.old self.new }
         ensures spare { self.old.spare ≤ self.new.spare }
     {
         let at = pass as usize;
@@ -414,7 +439,17 @@ impl Table {
                 self.doing[at] = Doing::Idle;
                 Some(Outcome::Refused(wait))
             }
-            _ => None,
+            (
+                _,
+                CoreState::Empty
+                | CoreState::Waiter
+                | CoreState::Value
+                | CoreState::Taken
+                | CoreState::Broken
+                | CoreState::Resumed
+                | CoreState::Cancelled
+                | CoreState::Refused,
+            ) => None,
         }
     }
 
@@ -445,7 +480,14 @@ impl Table {
                     .push_reserved(Entry::LookGranted { pass, wait });
                 Some(Outcome::Granted)
             }
-            _ => None,
+            CoreState::Empty
+            | CoreState::Value
+            | CoreState::Taken
+            | CoreState::Broken
+            | CoreState::Cancelling
+            | CoreState::Delegated
+            | CoreState::Cancelled
+            | CoreState::Refused => None,
         }
     }
 
@@ -472,10 +514,12 @@ impl Table {
     }
 }
 
-/// The suspend of `pass` draws the cell of `number`, which is made if the resumes haven't passed it.
+/// The suspend of `pass` draws the cell of `number`, which is made if the
+/// resumes haven't passed it.
 fn draw_cell(cells: &mut Vec<CoreCell>, number: u64, pass: u32)
     requires { vec_len cells.old < vec_capacity cells.old }
-    ensures drawn { cells.new.items ≡ cells_drawn cells.old.items number pass (slice_get cells.old.items number) }
+    ensures drawn { cells.new.items
+        ≡ cells_drawn cells.old.items number pass (slice_get cells.old.items number) }
     ensures capacity { vec_capacity cells.new ≡ vec_capacity cells.old }
     ensures len { vec_len cells.new ≤ vec_len cells.old + 1 }
 {
@@ -493,7 +537,8 @@ fn draw_cell(cells: &mut Vec<CoreCell>, number: u64, pass: u32)
 /// A resume draws the cell of `number`, which is made if the suspends haven't passed it.
 fn reach_cell(cells: &mut Vec<CoreCell>, number: u64)
     requires { vec_len cells.old < vec_capacity cells.old }
-    ensures reached { cells.new.items ≡ cells_reached cells.old.items (slice_get cells.old.items number) }
+    ensures reached { cells.new.items
+        ≡ cells_reached cells.old.items (slice_get cells.old.items number) }
     ensures capacity { vec_capacity cells.new ≡ vec_capacity cells.old }
     ensures len { vec_len cells.new ≤ vec_len cells.old + 1 }
     ensures there { number < vec_len cells.old → vec_len cells.new ≡ vec_len cells.old }

@@ -1,4 +1,5 @@
-//! Whole calls over the table: the events of a call, one after the other, until its pass is idle again.
+//! Whole calls over the table: the events of a call, one after the other,
+//! until its pass is idle again.
 
 ghost use Rattle.std.specs.Prelude.{◌≡◌, ◌+◌, ◌≤◌, is_some, IsSome, IfSome, IfNone, if◌then◌else◌};
 ghost use Rattle.cqs_core.specs.declared.calls.Call.TheVariants as call;
@@ -15,7 +16,8 @@ impl Table {
         requires fits { FitsWords self.old.shape }
         requires room { 3 ≤ self.old.spare }
         requires ends { HasEnd (course self.old.shape (call.Acquire pass)) }
-        ensures { MakesCallReady (course self.old.shape (call.Acquire pass)) result self.old self.new }
+        ensures { MakesCallReady (course self.old.shape (call.Acquire pass))
+            result self.old self.new }
     {
         match self.take(pass)? {
             Outcome::Now => Some(Reply::Now),
@@ -75,7 +77,8 @@ impl Table {
         requires fits { FitsWords self.old.shape }
         requires room { 3 ≤ self.old.spare }
         requires ends { HasEnd (course self.old.shape (call.Release pass)) }
-        ensures { MakesCallReady (course self.old.shape (call.Release pass)) result self.old self.new }
+        ensures { MakesCallReady (course self.old.shape (call.Release pass))
+            result self.old self.new }
     {
         match self.give(pass)? {
             Outcome::Freed => Some(Reply::Freed),
@@ -84,11 +87,13 @@ impl Table {
         }
     }
 
-    /// Resume: the pass that owes draws numbers and meets their cells, until it has served a wait, whose number it answers.
+    /// Resume: the pass that owes draws numbers and meets their cells, until it has served a wait,
+    /// whose number it answers.
     fn resume(&mut self, pass: u32) -> u64
         requires room { 1 ≤ self.old.spare }
         requires ends { IsSome (resumes_at pass self.old.shape) }
-        ensures made { resumes_at pass self.old.shape ≡ Some (record { shape = self.new.shape; wait = result }) }
+        ensures made { resumes_at pass self.old.shape
+            ≡ Some (record { shape = self.new.shape; wait = result }) }
         ensures spare { self.old.spare ≤ self.new.spare + 1 }
     {
         'resumes: loop {
@@ -98,11 +103,14 @@ impl Table {
         }
     }
 
-    /// The next number of a resumption: the wait that was served, or none where its cell is one to pass over.
+    /// The next number of a resumption: the wait that was served, or none where its cell
+    /// is one to pass over.
     fn serve_next(&mut self, pass: u32) -> Option<u64>
         requires room { 1 ≤ self.old.spare }
         requires ends { IsSome (resumes_at pass self.old.shape) }
-        ensures served { IfSome result (λ k. resumes_at pass self.old.shape ≡ Some (record { shape = self.new.shape; wait = k })) }
+        ensures served { IfSome result
+            (λ k. resumes_at pass self.old.shape
+            ≡ Some (record { shape = self.new.shape; wait = k })) }
         ensures passed { IfNone result (PassesOver pass self.old.shape self.new.shape) }
         ensures spare { self.old.spare ≤ self.new.spare + (if is_some result then 1 else 0) }
     {
@@ -121,7 +129,8 @@ impl Table {
         requires fits { FitsWords self.old.shape }
         requires room { 3 ≤ self.old.spare }
         requires ends { HasEnd (course self.old.shape (call.Poll pass wait)) }
-        ensures { MakesCallReady (course self.old.shape (call.Poll pass wait)) result self.old self.new }
+        ensures { MakesCallReady (course self.old.shape (call.Poll pass wait))
+            result self.old self.new }
     {
         match self.look(pass, wait)? {
             Outcome::Granted => Some(Reply::Granted),
@@ -135,7 +144,8 @@ impl Table {
         requires fits { FitsWords self.old.shape }
         requires room { 3 ≤ self.old.spare }
         requires ends { HasEnd (course self.old.shape (call.Cancel pass wait)) }
-        ensures { MakesCallReady (course self.old.shape (call.Cancel pass wait)) result self.old self.new }
+        ensures { MakesCallReady (course self.old.shape (call.Cancel pass wait))
+            result self.old self.new }
     {
         match self.leave(pass, wait)? {
             Outcome::TooLate(_) => Some(Reply::TooLate),
@@ -144,7 +154,8 @@ impl Table {
         }
     }
 
-    /// Cancel, once it has begun: the state answers whether resumes pass over the cell, which is then settled.
+    /// Cancel, once it has begun: the state answers whether resumes pass over the cell,
+    /// which is then settled.
     fn depart(&mut self, pass: u32) -> Reply
         requires fits { FitsWords self.old.shape }
         requires room { 2 ≤ self.old.spare }

@@ -1,4 +1,5 @@
-//! Runs each plan of examples/ by the program's own call, and compares its report with the one stored beside the plan.
+//! Runs each plan of examples/ by the program's own call, and compares its report with the
+//! one stored beside the plan.
 #![tactic(auto)]
 
 use cqs_cli::{DONE, Kept, top};

@@ -18,5 +18,7 @@ Balances size (Rounds over) = ⊥
 -- each resource of a plan, with the size that the plan gives it
 abbrev pub EveryResourceBalances : Type 0
 EveryResourceBalances =
-    (plan : Plan) (turns at : ℕ) (resource : Resource) → IsRunnable plan → slice_get plan.resources at ≡ Some resource
-    → Balances (permits_of (Some resource.kind)) (end_answer (machine_after plan turns).scene.floor at)
+    (plan : Plan) (turns at : ℕ) (resource : Resource) → IsRunnable plan
+    → slice_get plan.resources at ≡ Some resource
+    → Balances (permits_of (Some resource.kind))
+    (end_answer (machine_after plan turns).scene.floor at)

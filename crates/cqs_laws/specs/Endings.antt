@@ -17,11 +17,13 @@ progress_of plan turns job = slice_get (machine_after plan turns).progress job
 -- between any two turns, a job that has ended has no wait and holds nothing
 abbrev pub EndedJobsHaveNothing : Type 0
 EndedJobsHaveNothing =
-    (plan : Plan) (turns place : ℕ) (end : End) → IsRunnable plan → progress_of plan turns place ≡ Some (Ended end)
+    (plan : Plan) (turns place : ℕ) (end : End) → IsRunnable plan
+    → progress_of plan turns place ≡ Some (Ended end)
     → (wait_of (machine_after plan turns).scene.floor place ≡ None)
     × (holds_of (machine_after plan turns).scene.floor place ≡ [])
 
--- who waits when a turn begins that isn't before its deadline has given up or is late when the turn is over
+-- who waits when a turn begins that isn't before its deadline has given up or is
+-- late when the turn is over
 abbrev pub NoWaitOutlivesItsDeadline : Type 0
 NoWaitOutlivesItsDeadline =
     (plan : Plan) (turn place deadline next at number : ℕ) (job : Job)

@@ -53,7 +53,8 @@ pub record WasSent (at number : ℕ) (lines : List Line) : Type 0 where
   pub told : line.told ≡ told.GivesSent at number
   pub there : IsIn line lines
 
--- after these lines the next may tell this: a wait is served, or is late, only after a permit was sent to it
+-- after these lines the next may tell this: a wait is served, or is late, only
+-- after a permit was sent to it
 abbrev pub MayTell : List Line → Told → Type 0
 MayTell earlier (told.Served at number) = WasSent at number earlier
 MayTell earlier (told.Late at number) = WasSent at number earlier
@@ -64,12 +65,13 @@ MayTell earlier (told.GivesSent at number) = Unit {0}
 MayTell earlier (told.GaveUp at number) = Unit {0}
 MayTell earlier told.Done = Unit {0}
 
--- the report so far is the text of these lines; the waits of each resource are numbered in order; and what comes to a
--- wait was sent to it before
+-- the report so far is the text of these lines; the waits of each resource are numbered in order;
+-- and what comes to a wait was sent to it before
 pub record AreLines (plan : Plan) (report : List ℕ) (lines : List Line) : Type 0 where
   pub text : report ≡ lines_text plan lines
   pub numbered : (at : ℕ) → CountUp (wait_numbers at lines)
-  pub sent : (n : ℕ) (line : Line) → slice_get lines n ≡ Some line → MayTell (take n lines) line.told
+  pub sent : (n : ℕ) (line : Line) → slice_get lines n ≡ Some line
+      → MayTell (take n lines) line.told
 
 -- the lines of jobs of each report are such lines
 abbrev pub EveryReportHasItsLines : Type 0

@@ -1,4 +1,5 @@
-//! The laws of the turn machine: what holds of every plan's run, whatever the code of the machine looks like.
+//! The laws of the turn machine: what holds of every plan's run, whatever the code
+//! of the machine looks like.
 //!
 //! Each function does nothing: a law is proved where the contract of a function says it.
 #![tactic(auto)]
@@ -23,15 +24,15 @@ pub fn no_wait_outlives_its_deadline()
     ensures { NoWaitOutlivesItsDeadline }
 {}
 
-/// The events of a run are lines, one after the other, whose texts are the report so far. The waits of each
-/// resource are numbered 0, 1, 2 and so on, in order of the lines where they begin; and a wait is served, or is
-/// late, only after a line that sent it a permit.
+/// The events of a run are lines, one after the other, whose texts are the report so far. The waits
+/// of each resource are numbered 0, 1, 2 and so on, in order of the lines where they begin; and a
+/// wait is served, or is late, only after a line that sent it a permit.
 pub fn every_report_has_its_lines()
     ensures { EveryReportHasItsLines }
 {}
 
-/// Of each resource, free and held permits are together those that the plan gives it, and nobody waits in line
-/// while one is free. So it is between any two turns, and in the `end` lines.
+/// Of each resource, free and held permits are together those that the plan gives it, and nobody
+/// waits in line while one is free. So it is between any two turns, and in the `end` lines.
 pub fn every_resource_balances()
     ensures { EveryResourceBalances }
 {}

@@ -3,7 +3,8 @@ use Rattle.std.specs.Prelude.{ℕ, ◌≤◌, List, [], length, take, codes, Opt
 use Rattle.std.specs.Io.KnownBytes.{Appends}
 use Rattle.cqs_cli.specs.declared.statuses.TheConstants.{NO_COMMAND, NO_MEMORY, SINK_FAILED, SOURCE_FAILED, TOO_LONG}
 
--- the line that tells the cause of a status; none where standard output has a report or a fault line
+-- the line that tells the cause of a status; none where standard output has
+-- a report or a fault line
 abbrev pub message : ℕ → List ℕ
 message status =
     if status == NO_COMMAND

@@ -68,7 +68,8 @@ pub fn run<S: Source, K: Sink, W: Write>(
         × GivesCount (LONGEST_INPUT + 1) (S.left source.old) (S.left source.new)
         × (sink.new ≡ sink.old) }
 
-    // By the source's tally that many bytes were read then; and where so many were, this status comes.
+    // By the source's tally that many bytes were read then; and where so many
+    // were, this status comes.
     ensures too_many { exit_status result ≡ TOO_LONG →
         (S.tally source.new).given ≡ raised (S.tally source.old).given (LONGEST_INPUT + 1) }
     ensures many_bytes { (S.tally source.old).given + LONGEST_INPUT < (S.tally source.new).given

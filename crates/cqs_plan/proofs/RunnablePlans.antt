@@ -18,6 +18,7 @@ use Rattle.cqs_plan.specs.Floor.{IsHoldable}
 use Rattle.cqs_plan.specs.Language.{can_hold, semaphores}
 use Rattle.cqs_plan.specs.Meaning.{resource_in, members_in, plan_in}
 use Rattle.cqs_plan.specs.PlanText.{IsPlanText}
+use Rattle.cqs_plan.specs.Holding.{TookMore}
 use Rattle.cqs_plan.specs.Runnable.{kinds_of, IsMakeable, IsRunnable, IsSemaphore, AreSemaphores}
 use Rattle.cqs_plan.specs.Validity.{IsValid, IsKind, IsResource, IsJob, IsStep, HasKindAt, is_latch, is_barrier}
 
@@ -32,9 +33,11 @@ all-at P xs i x all there = subst P (get_or-at xs i x there) (all i x (get-below
 
 -- the resources that a document says are semaphores, since no other kind is built
 resources-are : (f : List ℕ × Data → Resource) (rest : List Resource)
-    → ((m : List ℕ × Data) → IsHoldable (Some (f m).kind)) → rest ≡ [] → (members : List (List ℕ × Data)) (at : ℕ) (r : Resource)
+    → ((m : List ℕ × Data) → IsHoldable (Some (f m).kind)) → rest ≡ []
+    → (members : List (List ℕ × Data)) (at : ℕ) (r : Resource)
     → slice_get (map f members ++ rest) at ≡ Some r → IsHoldable (Some r.kind)
-resources-are f rest each none [] at r there = let gone : slice_get {X = Resource} [] at ≡ Some r = rw none at there in absurd (cc)
+resources-are f rest each none [] at r there =
+    let gone : slice_get {X = Resource} [] at ≡ Some r = rw none at there in absurd (cc)
 resources-are f rest each none (m ∷ members) zero r there =
     let same : f m ≡ r = cc in rw (← same) (each m)
 resources-are f rest each none (m ∷ members) (suc at) r there = resources-are f rest each none members at r there
@@ -46,7 +49,8 @@ HasSemaphoresAlone plan = EachAt (λ at resource. IsHoldable (Some resource.kind
 alone-in : (root : Members) → HasSemaphoresAlone (plan_in root)
 alone-in root = record {
   at = λ at r there.
-      resources-are (resource_in semaphores) [] (λ m. tt) refl (members_in (get_member (codes "semaphore") root)) at r there;
+      resources-are (resource_in semaphores) [] (λ m. tt) refl
+      (members_in (get_member (codes "semaphore") root)) at r there;
 }
 
 pub semaphores-alone : (bytes : List ℕ) (plan : Plan) → IsPlanText bytes plan → HasSemaphoresAlone plan
@@ -66,7 +70,8 @@ module _ (plan : Plan) (valid : IsValid plan) (alone : HasSemaphoresAlone plan) 
       → IsHoldable (slice_get (kinds_of plan.resources) at)
   named-at test at there = go (slice_get plan.resources at) refl there
     where
-      go : (o : Option Resource) → slice_get plan.resources at ≡ o → IsSomeAnd o (λ resource. IsTrue (test resource.kind))
+      go : (o : Option Resource) → slice_get plan.resources at ≡ o
+          → IsSomeAnd o (λ resource. IsTrue (test resource.kind))
           → IsHoldable (slice_get (kinds_of plan.resources) at)
       go None is named = absurd named
       go (Some r) is named = holdable-at at r is
@@ -76,7 +81,8 @@ module _ (plan : Plan) (valid : IsValid plan) (alone : HasSemaphoresAlone plan) 
       → (at : ℕ) → HasKindAt plan.resources test at → ⊥
   other-kind test differs at there = go (slice_get plan.resources at) refl there
     where
-      go : (o : Option Resource) → slice_get plan.resources at ≡ o → IsSomeAnd o (λ resource. IsTrue (test resource.kind)) → ⊥
+      go : (o : Option Resource) → slice_get plan.resources at ≡ o
+          → IsSomeAnd o (λ resource. IsTrue (test resource.kind)) → ⊥
       go None is named = named
       go (Some r) is named = differs r.kind (alone.at at r is) named
 
@@ -95,7 +101,7 @@ module _ (plan : Plan) (valid : IsValid plan) (alone : HasSemaphoresAlone plan) 
   no-barrier (Rounds parties rounds) holdable barrier = holdable
 
   makeable : (job : Job) → IsJob plan.resources job → (n : ℕ) (step : Step) → slice_get job.steps n ≡ Some step
-      → IsStep plan.resources step → IsMakeable (kinds_of plan.resources) (take n job.steps) step
+      → IsStep plan.resources step → IsMakeable (kinds_of plan.resources) (TookMore (take n job.steps)) step
   makeable job fits n (Take at) there named = named-at can_hold at named
   makeable job fits n (Give at) there named = fits.gives n at there
   makeable job fits n (Down at) there named = other-kind is_latch no-latch at named
@@ -116,25 +122,26 @@ module _ (plan : Plan) (valid : IsValid plan) (alone : HasSemaphoresAlone plan) 
     steps = record {
       at = λ place job there.
           let fits = all-at (IsJob plan.resources) plan.jobs place job valid.jobs there in
-          record { at = λ n step found. makeable job fits n step found (all-at (IsStep plan.resources) job.steps n step fits.steps found) };
+          record {
+            at = λ n step found.
+                makeable job fits n step found (all-at (IsStep plan.resources) job.steps n step fits.steps found);
+          };
     };
   }
 
 -- what a reader answers can be run
-pub read-runnable : (bytes : List ℕ) (result : Result Plan PlanError) → IfOk result (IsPlanText bytes) → IfOk result IsValid
+pub read-runnable : (bytes : List ℕ) (result : Result Plan PlanError) → IfOk result (IsPlanText bytes)
+    → IfOk result IsValid
     → IfOk result IsRunnable
 read-runnable bytes (Ok plan) text valid = runnable plan valid (semaphores-alone bytes plan text)
 read-runnable bytes (Err error) text valid = tt
 
 -- a semaphore whose size is in its range
 sized : (kind : Kind) → IsHoldable (Some kind) → IsKind kind → IsSemaphore kind
-sized (Semaphore permits) holdable fits = (omega arith, fits.1)
-sized Mutex holdable fits = holdable
-sized (Pool elements) holdable fits = holdable
-sized (Latch count) holdable fits = holdable
-sized (Rounds parties rounds) holdable fits = holdable
+sized kind holdable fits = (holdable, fits)
 
-pub read-built : (bytes : List ℕ) (result : Result Plan PlanError) → IfOk result (IsPlanText bytes) → IfOk result IsValid
+pub read-built : (bytes : List ℕ) (result : Result Plan PlanError) → IfOk result (IsPlanText bytes)
+    → IfOk result IsValid
     → IfOk result (λ plan. AreSemaphores plan.resources)
 read-built bytes (Ok plan) text valid = record {
   at = λ at r there.

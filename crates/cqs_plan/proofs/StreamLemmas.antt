@@ -32,7 +32,8 @@ still_at_end bytes None (Some after) none given ended = absurd (cc)
 still_at_end bytes (Some left) None none (rest, whole, told) ended = absurd (cc)
 still_at_end bytes (Some left) (Some after) none (rest, whole, told) ended =
     let rest_is : rest ≡ after = cc in
-    let empty : length after ≡ 0 = omega (arith, ap length (sym whole ∙ ended), length-append bytes rest, ap length rest_is) in
+    let empty : length after ≡ 0 =
+    omega (arith, ap length (sym whole ∙ ended), length-append bytes rest, ap length rest_is) in
     nil_from_length after empty
 
 -- a prefix, and a prefix of what comes after it, are a longer prefix
@@ -47,4 +48,5 @@ take_on text done count =
 pub left_splits : (bytes : List ℕ) (place count : ℕ)
     → drop place bytes ≡ take count (drop place bytes) ++ drop (place + count) bytes
 left_splits bytes place count =
-    sym (take-append-drop count (drop place bytes)) ∙ ap (λ xs. take count (drop place bytes) ++ xs) (drop-drop count place bytes)
+    sym (take-append-drop count (drop place bytes))
+    ∙ ap (λ xs. take count (drop place bytes) ++ xs) (drop-drop count place bytes)

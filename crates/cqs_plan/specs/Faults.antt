@@ -1,4 +1,5 @@
--- All faults of a document, in the order in which they are looked for: `faults_in`, at the end of this file.
+-- All faults of a document, in the order in which they are looked for:
+-- `faults_in`, at the end of this file.
 use Rattle.std.specs.Prelude.{ℕ, ◌+◌, pos, Bool, ◌&&◌, not, nat_le, nat_lt, int_le, List, [], ◌∷◌, ◌++◌, map, take, length, Option, Result, Ok, Err, codes}
 use Rattle.std.specs.List.{list_any, flat_map}
 use Rattle.std.specs.Str.{bytes_eq}
@@ -23,7 +24,8 @@ number_faults place least most value =
 abbrev pub resource_number_faults : ResourceKind → List ℕ → Members → List Fault
 resource_number_faults kind name table = flat_map (λ number.
     let place = dotted (dotted kind.key name) number.key in
-    required place (get_member number.key table) (number_faults place number.least number.most)) kind.numbers
+    required place (get_member number.key table) (number_faults place number.least number.most))
+    kind.numbers
 
 -- the faults of the i-th resource of a kind, where these names stand in earlier kinds
 abbrev pub resource_faults : ResourceKind → List (List ℕ) → ℕ → List ℕ × Data → List Fault
@@ -38,7 +40,8 @@ resource_faults kind earlier i (name, value) =
 
 -- the names of the resources of these kinds
 abbrev pub names_in : List ResourceKind → Members → List (List ℕ)
-names_in kinds root = flat_map (λ kind. map (λ m. m.0) (members_in (get_member kind.key root))) kinds
+names_in kinds root =
+    flat_map (λ kind. map (λ m. m.0) (members_in (get_member kind.key root))) kinds
 
 -- the faults of the resources: kind by kind, and within a kind name by name, in byte order
 abbrev pub resources_faults : Members → List Fault
@@ -75,7 +78,8 @@ steps_part_faults i resources value =
 -- the faults of a name, where some names stand already
 abbrev pub name_faults : List ℕ → (List ℕ → Bool) → Data → List Fault
 name_faults place stands value =
-    shaped place (as_str value) (λ text. unless (is_name text && not (stands text)) place fault.Name)
+    shaped place (as_str value) (λ text.
+    unless (is_name text && not (stands text)) place fault.Name)
 
 -- one of these jobs has the name
 abbrev pub is_named : List Data → List ℕ → Bool
@@ -112,11 +116,13 @@ jobs_part_faults resources value = optional value (λ jobs.
 
 -- the keys of the root
 abbrev pub root_keys : List (List ℕ)
-root_keys = codes "version" ∷ codes "turns" ∷ map (λ kind. kind.key) resource_kinds ++ codes "job" ∷ []
+root_keys = codes "version" ∷ codes "turns" ∷ map (λ kind. kind.key) resource_kinds ++ codes "job"
+    ∷ []
 
 -- the faults of an integer that the root has to have
 abbrev pub root_number_faults : List ℕ → ℕ → ℕ → Members → List Fault
-root_number_faults key least most root = required key (get_member key root) (number_faults key least most)
+root_number_faults key least most root =
+    required key (get_member key root) (number_faults key least most)
 
 -- all faults of a document, in order
 abbrev pub faults_in : Members → List Fault

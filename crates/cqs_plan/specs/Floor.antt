@@ -49,19 +49,28 @@ wait_of f job = slice_index_or f.waits job None
 abbrev pub holds_of : PlainFloor → ℕ → List Holding
 holds_of f job = slice_index_or f.holds job []
 
--- how many permits a resource has
+-- how many permits a resource has; only semaphores have some, as long as no other kind is built
 abbrev pub permits_of : Option Kind → ℕ
 permits_of (Some (kind.Semaphore permits)) = permits
-permits_of _ = 0
+permits_of (Some kind.Mutex) = 0
+permits_of (Some (kind.Pool elements)) = 0
+permits_of (Some (kind.Latch count)) = 0
+permits_of (Some (kind.Rounds parties rounds)) = 0
+permits_of None = 0
 
 -- the plain semaphore at a place
 abbrev pub object_at : PlainFloor → ℕ → Semaphore
 object_at f at = object_after (permits_of (slice_get f.kinds at)) (entries_at f at)
 
--- a resource of a kind that can be taken and given
+-- There is a resource, of a kind that can be taken and given on a floor. The last four aren't
+-- built; the language knows which of them it will be (`can_hold`).
 abbrev pub IsHoldable : Option Kind → Type 0
 IsHoldable (Some (kind.Semaphore permits)) = Unit {0}
-IsHoldable _ = ⊥
+IsHoldable (Some kind.Mutex) = ⊥
+IsHoldable (Some (kind.Pool elements)) = ⊥
+IsHoldable (Some (kind.Latch count)) = ⊥
+IsHoldable (Some (kind.Rounds parties rounds)) = ⊥
+IsHoldable None = ⊥
 
 -- the place of a job
 pub record IsJob (f : PlainFloor) (job : ℕ) : Type 0 where
@@ -86,7 +95,8 @@ IsHolding f at job = IsSome (oldest at (holds_of f job))
 
 -- these entries come after those so far
 abbrev pub with_entries : PlainFloor → ℕ → List Entry → PlainFloor
-with_entries f at entries = record f { entries = slice_set f.entries at (entries_at f at ++ entries) }
+with_entries f at entries =
+    record f { entries = slice_set f.entries at (entries_at f at ++ entries) }
 
 -- one take less has room
 abbrev pub with_less_room : PlainFloor → ℕ → PlainFloor
@@ -99,17 +109,22 @@ with_wait f job wait = record f { waits = slice_set f.waits job wait }
 -- what came is the newest that the job holds
 abbrev pub with_newest : PlainFloor → ℕ → ℕ → ℕ → PlainFloor
 with_newest f job at element =
-    record f { holds = slice_set f.holds job (holds_of f job ++ record { at = at; element = element } ∷ []) }
+    record f {
+      holds = slice_set f.holds job (holds_of f job
+          ++ record { at = at; element = element } ∷ []);
+    }
 
 -- the oldest that the job holds of a resource is gone
 abbrev pub without_oldest : PlainFloor → ℕ → ℕ → PlainFloor
-without_oldest f job at = record f { holds = slice_set f.holds job (without (λ h. h.at) at (holds_of f job)) }
+without_oldest f job at =
+    record f { holds = slice_set f.holds job (without (λ h. h.at) at (holds_of f job)) }
 
 -- how many take steps a plan has on a resource
 abbrev pub takes_in : Plan → ℕ → ℕ
 takes_in plan at = sum_by (λ job. count_by (is_take at) job.steps) plan.jobs
 
--- the floor on which a plan begins: nothing has happened, and each resource has room for the plan's takes
+-- the floor on which a plan begins: nothing has happened, and each resource has
+-- room for the plan's takes
 abbrev pub opening_floor : Plan → PlainFloor
 opening_floor plan = record {
   kinds = map (λ resource. resource.kind) plan.resources;

@@ -1,4 +1,5 @@
--- The calls of a floor in the words of the plain semaphore: what each answers, and the plain floor after it.
+-- The calls of a floor in the words of the plain semaphore: what each answers, and
+-- the plain floor after it.
 use Rattle.std.specs.Prelude.{ℕ, nat_lt, ◌==◌, Bool, List, [], ◌∷◌, Option, Some, None, length, if◌then◌else◌}
 use Rattle.std.specs.Option.{option_map_or}
 use Rattle.std.specs.List.{list_any}
@@ -26,10 +27,12 @@ abbrev pub after_take : PlainFloor → ℕ → ℕ → FloorTake → PlainFloor
 after_take f at job (Now element) =
     with_newest (with_entries (with_less_room f at) at (entry.TakeNow 0 ∷ [])) job at element
 after_take f at job (Waits number) =
-    with_wait (with_entries (with_less_room f at) at (entry.TakeDoor 0 ∷ entry.Enter 0 number ∷ [])) job
+    with_wait (with_entries (with_less_room f at) at (entry.TakeDoor 0 ∷ entry.Enter 0 number ∷ []))
+    job
     (Some (record { at = at; number = number }))
 
--- give: the oldest that the job holds goes to the first of the line, and is free where nobody is in it
+-- give: the oldest that the job holds goes to the first of the line, and is
+-- free where nobody is in it
 abbrev pub give_of : List Waiting → Option Holding → FloorGive
 give_of [] held = Free (option_map_or (λ h. h.element) held 0)
 give_of (first ∷ line) held = Sent (option_map_or (λ h. h.element) held 0) first.wait
@@ -40,7 +43,8 @@ give_answer f at job = give_of (object_at f at).line (oldest at (holds_of f job)
 
 -- a give to the line is delivered at once
 abbrev pub after_give : PlainFloor → ℕ → ℕ → FloorGive → PlainFloor
-after_give f at job (Free element) = without_oldest (with_entries f at (entry.GiveFreed 0 ∷ [])) job at
+after_give f at job (Free element) =
+    without_oldest (with_entries f at (entry.GiveFreed 0 ∷ [])) job at
 after_give f at job (Sent element number) =
     without_oldest (with_entries f at (entry.GiveSent 0 ∷ entry.Deliver number ∷ [])) job at
 
@@ -52,7 +56,8 @@ is_in_line f wait = list_any (λ w. w.wait == wait.number) (object_at f wait.at)
 abbrev pub with_granted : PlainFloor → ℕ → (JobWait → Entry) → Option JobWait → ℕ → PlainFloor
 with_granted f job entry_of None element = f
 with_granted f job entry_of (Some wait) element =
-    with_newest (with_wait (with_entries f wait.at (entry_of wait ∷ [])) job None) job wait.at element
+    with_newest (with_wait (with_entries f wait.at (entry_of wait ∷ [])) job None) job wait.at
+    element
 
 -- look: a wait that isn't in the line any more was served
 abbrev pub look_of : PlainFloor → Option JobWait → FloorLook
@@ -66,7 +71,8 @@ look_answer f job = look_of f (wait_of f job)
 -- a look that finds nothing new changes nothing
 abbrev pub after_look : PlainFloor → ℕ → FloorLook → PlainFloor
 after_look f job Pending = f
-after_look f job (Granted element) = with_granted f job (λ wait. entry.LookGranted 0 wait.number) (wait_of f job) element
+after_look f job (Granted element) =
+    with_granted f job (λ wait. entry.LookGranted 0 wait.number) (wait_of f job) element
 
 -- leave: a wait that is in the line goes, and one that was served is late
 abbrev pub leave_of : PlainFloor → Option JobWait → FloorLeave
@@ -80,12 +86,14 @@ leave_answer f job = leave_of f (wait_of f job)
 -- the wait of the job is gone
 abbrev pub with_left : PlainFloor → ℕ → Option JobWait → PlainFloor
 with_left f job None = f
-with_left f job (Some wait) = with_wait (with_entries f wait.at (entry.Leave 0 wait.number ∷ [])) job None
+with_left f job (Some wait) =
+    with_wait (with_entries f wait.at (entry.Leave 0 wait.number ∷ [])) job None
 
 -- a job that was late has what came
 abbrev pub after_leave : PlainFloor → ℕ → FloorLeave → PlainFloor
 after_leave f job Gone = with_left f job (wait_of f job)
-after_leave f job (Late element) = with_granted f job (λ wait. entry.Late 0 wait.number) (wait_of f job) element
+after_leave f job (Late element) =
+    with_granted f job (λ wait. entry.Late 0 wait.number) (wait_of f job) element
 
 -- end: how the resource stands
 abbrev pub end_answer : PlainFloor → ℕ → FloorEnd

@@ -5,7 +5,8 @@ use Rattle.cqs_plan.specs.Tally.{after_read}
 use Rattle.cqs_plan.specs.declared.streams.failed.Failed.{Failed}
 use Rattle.cqs_plan.specs.declared.streams.tally.Tally.{Tally}
 
--- a source that never fails: the bytes that are left, the most that one read gives, and what it counted
+-- a source that never fails: the bytes that are left, the most that one read
+-- gives, and what it counted
 pub record PlainSource : Type 0 where
   pub left : List ℕ
   pub chunk : ℕ
@@ -35,9 +36,11 @@ pub record ScriptedSource : Type 0 where
 -- it fails exactly where the script says so, and then gives nothing
 abbrev pub ReadsByScript : ScriptedSource → List ℕ → Result ℕ Failed → ScriptedSource → Type 0
 ReadsByScript old buffer (Ok count) new =
-    (¬ IsFailing old.script) × ReadsNext old.plain buffer count new.plain × (new.script ≡ after_call old.script)
+    (¬ IsFailing old.script) × ReadsNext old.plain buffer count new.plain
+    × (new.script ≡ after_call old.script)
 ReadsByScript old buffer (Err failed) new =
-    IsFailing old.script × (new ≡ record old { plain = with_read old.plain 0; script = after_fault old.script })
+    IsFailing old.script
+    × (new ≡ record old { plain = with_read old.plain 0; script = after_fault old.script })
 
 -- a sink that never fails: what it keeps, for how much it has room, and whether more came than that
 pub record PlainSink : Type 0 where
@@ -58,7 +61,8 @@ WritesSurely old piece (Ok count) new =
     × (new.room ≡ old.room)
 WritesSurely old piece (Err failed) new = ⊥
 
--- a sink that fails by a script, and when its room is used up: what it holds, and the most that one write takes
+-- a sink that fails by a script, and when its room is used up: what it holds, and the
+-- most that one write takes
 pub record ScriptedSink : Type 0 where
   pub held : List ℕ
   pub room : ℕ
@@ -77,5 +81,7 @@ WritesByScript old piece (Err failed) new =
 
 -- a flush fails exactly where the script says so
 abbrev pub FlushesByScript : ScriptedSink → Bool → ScriptedSink → Type 0
-FlushesByScript old true new = (¬ IsFailing old.script) × (new ≡ record old { script = after_call old.script })
-FlushesByScript old false new = IsFailing old.script × (new ≡ record old { script = after_fault old.script })
+FlushesByScript old true new =
+    (¬ IsFailing old.script) × (new ≡ record old { script = after_call old.script })
+FlushesByScript old false new =
+    IsFailing old.script × (new ≡ record old { script = after_fault old.script })

@@ -21,7 +21,8 @@ pub record Number : Type 0 where
   pub least : ℕ
   pub most : ℕ
 
--- a kind of resource: its key in the root, the numbers of each of its resources, in order, and what they make
+-- a kind of resource: its key in the root, the numbers of each of its resources, in
+-- order, and what they make
 pub record ResourceKind : Type 0 where
   pub key : List ℕ
   pub numbers : List Number
@@ -38,7 +39,8 @@ semaphores = record {
 abbrev pub resource_kinds : List ResourceKind
 resource_kinds = semaphores ∷ []
 
--- a verb whose argument is a resource: its word, the kinds that it works on, and its step at a place
+-- a verb whose argument is a resource: its word, the kinds that it works
+-- on, and its step at a place
 pub record Verb : Type 0 where
   pub word : List ℕ
   pub works_on : Kind → Bool

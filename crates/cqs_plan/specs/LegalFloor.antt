@@ -1,5 +1,6 @@
--- A floor is legal where the entries of each resource are a legal history of what the resource is. A kind of resource
--- that joins brings its object, and its word for a legal history of that object, to `IsHistory`.
+-- A floor is legal where the entries of each resource are a legal history of what the resource
+-- is. A kind of resource that joins brings its object, and its word for a legal history of
+-- that object, to `IsHistory`.
 use Rattle.std.specs.Prelude.{◌≡◌, ℕ, List, Some, slice_get}
 use Rattle.cqs_core.specs.declared.entries.Entry.{Entry}
 use Rattle.cqs_core.specs.SemaphoreEntries.{IsLegal}
@@ -9,7 +10,8 @@ use Rattle.cqs_plan.specs.declared.plans.plan.Plan.{Plan}
 use Rattle.cqs_plan.specs.Floor.{PlainFloor, entries_at}
 use Rattle.cqs_plan.specs.Runnable.{kinds_of}
 
--- these entries are a legal history of a resource of this kind, from its size on; the last four kinds aren't built
+-- these entries are a legal history of a resource of this kind, from its size on; the
+-- last four kinds aren't built
 abbrev pub IsHistory : Kind → List Entry → Type 0
 IsHistory (kind.Semaphore permits) entries = IsLegal permits entries
 IsHistory kind.Mutex entries = ⊥

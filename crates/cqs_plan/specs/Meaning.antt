@@ -49,7 +49,8 @@ resource_in kind (name, value) = record {
   kind = kind.kind (map (λ number. number_in (get number.key value)) kind.numbers);
 }
 
--- the resources: kind by kind, and within a kind as their table has them, in byte order of the names
+-- the resources: kind by kind, and within a kind as their table has them,
+-- in byte order of the names
 abbrev pub resources_in : List ResourceKind → Members → List Resource
 resources_in kinds root =
     flat_map (λ kind. map (resource_in kind) (members_in (get_member kind.key root))) kinds
@@ -80,7 +81,8 @@ work_step text =
 abbrev pub step_at : Verb → List Resource → List ℕ → Result Step FaultKind
 step_at verb resources name =
     option_map_or (λ place. Ok (verb.step place))
-    (position_from (λ resource. bytes_eq resource.name name && verb.works_on resource.kind) 0 resources)
+    (position_from (λ resource. bytes_eq resource.name name && verb.works_on resource.kind) 0
+    resources)
     (Err fault.Target)
 
 -- a verb and its argument
@@ -94,11 +96,13 @@ verb_step resources word argument =
 -- the step that a text says: a verb, one space and an argument
 abbrev pub step_of : List Resource → List ℕ → Result Step FaultKind
 step_of resources text =
-    if has_one_space text then verb_step resources (before_first is_space text) (after_first is_space text)
+    if has_one_space text then verb_step resources (before_first is_space text)
+    (after_first is_space text)
     else Err fault.Step
 
 abbrev pub step_in : List Resource → Data → Option Step
-step_in resources value = option_and_then (λ text. result_ok (step_of resources text)) (as_str value)
+step_in resources value =
+    option_and_then (λ text. result_ok (step_of resources text)) (as_str value)
 
 -- the steps that these values say, in order
 abbrev pub steps_in : List Resource → List Data → List Step

@@ -21,7 +21,8 @@ IsBelow one other = slice_cmp nat_cmp one other ≡ Less
 -- of an earlier kind, or of the same kind and below in byte order of the names
 abbrev pub Precedes : Resource → Resource → Type 0
 Precedes one other =
-    (rank one.kind < rank other.kind) ⊎ ((rank one.kind ≡ rank other.kind) × IsBelow one.name other.name)
+    (rank one.kind < rank other.kind)
+    ⊎ ((rank one.kind ≡ rank other.kind) × IsBelow one.name other.name)
 
 -- kind by kind, and within a kind in byte order of the names, which are all different
 pub record AreInOrder (resources : List Resource) : Type 0 where

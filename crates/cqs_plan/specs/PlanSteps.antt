@@ -1,14 +1,22 @@
 -- The steps of a plan's jobs on one resource.
 use Rattle.std.specs.Prelude.{ℕ, ◌==◌, Bool, false}
 use Rattle.cqs_plan.specs.declared.plans.step.Step.{Step}
-use Rattle.cqs_plan.specs.declared.plans.step.Step.TheVariants.{Take, Give}
+use Rattle.cqs_plan.specs.declared.plans.step.Step.TheVariants.{Take, Give, Down, Await, Arrive, Work}
 
 -- takes of this resource
 abbrev pub is_take : ℕ → Step → Bool
 is_take at (Take place) = place == at
-is_take at _ = false
+is_take at (Give place) = false
+is_take at (Down place) = false
+is_take at (Await place) = false
+is_take at (Arrive place) = false
+is_take at (Work turns) = false
 
 -- gives of this resource
 abbrev pub is_give : ℕ → Step → Bool
 is_give at (Give place) = place == at
-is_give at _ = false
+is_give at (Take place) = false
+is_give at (Down place) = false
+is_give at (Await place) = false
+is_give at (Arrive place) = false
+is_give at (Work turns) = false

@@ -15,7 +15,8 @@ use Rattle.cqs_plan.specs.FaultRules.{Fault}
 abbrev pub StopsAt : List Fault → PlanError → Type 0
 StopsAt faults stop.Memory = Unit {0}
 StopsAt faults stop.NotToml = ⊥
-StopsAt faults (stop.Fault place kind) = slice_get faults 0 ≡ Some (record { place = place; kind = kind })
+StopsAt faults (stop.Fault place kind) =
+    slice_get faults 0 ≡ Some (record { place = place; kind = kind })
 
 -- there are no faults, or the error names the first of them
 abbrev pub Reads : {T : Type 0} → Result T PlanError → List Fault → Type 0

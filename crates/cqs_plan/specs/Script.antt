@@ -18,4 +18,5 @@ after_call script = record script { calls = raised script.calls 1 }
 
 -- after a call that failed
 abbrev pub after_fault : Script → Script
-after_fault script = record script { calls = raised script.calls 1; faults = raised script.faults 1 }
+after_fault script =
+    record script { calls = raised script.calls 1; faults = raised script.faults 1 }

@@ -28,4 +28,5 @@ Gains bytes (Some held) (Some after) = after ≡ held ++ bytes
 
 -- a sink took a prefix of these bytes
 abbrev pub GainsPrefix : List ℕ → Option (List ℕ) → Option (List ℕ) → Type 0
-GainsPrefix bytes held after = (count : ℕ) × (count ≤ length bytes) × Gains (take count bytes) held after
+GainsPrefix bytes held after =
+    (count : ℕ) × (count ≤ length bytes) × Gains (take count bytes) held after

@@ -13,7 +13,8 @@ abbrev pub bytes_of : Result ℕ Failed → ℕ
 bytes_of (Ok count) = count
 bytes_of (Err failed) = 0
 
--- after a read that gave so many bytes: it stops where it gave none, and where an earlier one stopped
+-- after a read that gave so many bytes: it stops where it gave none, and
+-- where an earlier one stopped
 abbrev pub after_read : Tally → ℕ → Tally
 after_read tally bytes = record {
   given = raised tally.given bytes;

@@ -1,5 +1,5 @@
 -- What every plan keeps to.
-use Rattle.std.specs.Prelude.{◌≡◌, ◌≢◌, ℕ, ◌<◌, ◌≤◌, Bool, true, false, IsTrue, List, length, take, All, AllPairs, Some, IfSome, IsSomeAnd, slice_get, count_by}
+use Rattle.std.specs.Prelude.{◌≡◌, ◌≢◌, ℕ, ◌<◌, ◌≤◌, Bool, true, false, IsTrue, List, length, take, All, AllPairs, Some, IfSome, IsSomeAnd, slice_get}
 use Rattle.std.specs.Int.{IsInRange}
 use Rattle.cqs_plan.specs.declared.plans.job.Job.{Job}
 use Rattle.cqs_plan.specs.declared.plans.kind.Kind.{Kind}
@@ -8,7 +8,7 @@ use Rattle.cqs_plan.specs.declared.plans.plan.Plan.{Plan}
 use Rattle.cqs_plan.specs.declared.plans.resource.Resource.{Resource}
 use Rattle.cqs_plan.specs.declared.plans.step.Step.{Step}
 use Rattle.cqs_plan.specs.declared.plans.step.Step.TheVariants.{Take, Give, Down, Await, Arrive, Work}
-use Rattle.cqs_plan.specs.Holding.{is_give, is_take}
+use Rattle.cqs_plan.specs.Holding.{TookMore}
 use Rattle.cqs_plan.specs.Language.{can_hold, is_name}
 use Rattle.cqs_plan.specs.Order.{AreInOrder}
 
@@ -26,11 +26,17 @@ pub record IsResource (resource : Resource) : Type 0 where
 
 abbrev pub is_latch : Kind → Bool
 is_latch (Latch count) = true
-is_latch _ = false
+is_latch (Semaphore permits) = false
+is_latch Mutex = false
+is_latch (Pool elements) = false
+is_latch (Rounds parties rounds) = false
 
 abbrev pub is_barrier : Kind → Bool
 is_barrier (Rounds parties rounds) = true
-is_barrier _ = false
+is_barrier (Semaphore permits) = false
+is_barrier Mutex = false
+is_barrier (Pool elements) = false
+is_barrier (Latch count) = false
 
 -- there is a resource at the place, of a kind that passes the test
 abbrev pub HasKindAt : List Resource → (Kind → Bool) → ℕ → Type 0
@@ -49,7 +55,7 @@ IsStep resources (Work turns) = IsInRange 1 1000 turns
 -- before each `give` there were more takes of its resource than gives
 abbrev pub GivesWhatItTook : List Step → Type 0
 GivesWhatItTook steps = (i place : ℕ) → slice_get steps i ≡ Some (Give place)
-    → count_by (is_give place) (take i steps) < count_by (is_take place) (take i steps)
+    → TookMore (take i steps) place
 
 pub record IsJob (resources : List Resource) (job : Job) : Type 0 where
   pub named : IsTrue (is_name job.name)

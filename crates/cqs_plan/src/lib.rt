@@ -1,12 +1,13 @@
 //! Plans, the streams that carry them, and the floors that carry them out.
 //!
-//! A plan names resources and jobs. Each job takes, holds and gives resources, step by step, over a
-//! number of turns. `plans` has the types, one a file; `reader` reads them from bytes, and names the first
-//! fault of bytes that are none. A `Floor` is what carries out the steps of a plan's jobs.
+//! A plan names resources and jobs. Each job takes, holds and gives resources, step by step,
+//! over a number of turns. `plans` has the types, one a file; `reader` reads them from
+//! bytes, and names the first fault of bytes that are none. A `Floor` is what carries out
+//! the steps of a plan's jobs.
 //!
-//! A `Source` gives the bytes of a plan and a `Sink` takes the text that answers it. Each counts its
-//! own faults, so that whoever reports one can show that it came. `read_input` and `write_all` are the
-//! only loops over them.
+//! A `Source` gives the bytes of a plan and a `Sink` takes the text that answers it. Each counts
+//! its own faults, so that whoever reports one can show that it came. `read_input` and `write_all`
+//! are the only loops over them.
 #![tactic(auto)]
 
 mod floors;

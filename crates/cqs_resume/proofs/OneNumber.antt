@@ -1,5 +1,5 @@
 -- One number of a resume: its cell is looked for, and tried until a step is made there.
-use Rattle.std.proofs.Common.{◌≡◌, ◌≢◌, ℕ, suc, ◌+◌, ◌-◌, ◌<◌, ◌≤◌, List, [], ◌∷◌, ◌++◌, length, Option, Some, None, min, sym, refl, ap, ◌∙◌, subst, ⊎_elim, append_assoc, length-append, arith}
+use Rattle.std.proofs.Common.{◌≡◌, ◌≢◌, ℕ, suc, ◌+◌, ◌-◌, ◌<◌, ◌≤◌, List, [], ◌∷◌, ◌++◌, length, Option, Some, None, min, sym, refl, ap, ◌∙◌, subst, inl, ⊎_elim, append_assoc, length-append, arith}
 use Rattle.std.proofs.lemmas.List.{append-nil}
 use Rattle.cqs_core.specs.declared.cells.CoreState.{CoreState}
 use Rattle.cqs_core.specs.declared.cells.CoreState.TheVariants as state
@@ -19,6 +19,7 @@ use Rattle.cqs_rule.specs.declared.view.Glimpse.{Glimpse}
 use Rattle.cqs_rule.specs.declared.view.Sighting.{Sighting}
 use Rattle.cqs_rule.specs.declared.view.Sighting.TheVariants.{Cell}
 use Rattle.cqs_rule.specs.declared.view.View.{View}
+use Rattle.cqs_rule.specs.Callbacks.{EndedRefused}
 use Rattle.cqs_rule.specs.Exchanges.{FoundCell, HasCell, SinceLast, IsFoundSince}
 use Rattle.cqs_rule.specs.Facts.{facts_worked, facts_missed, facts_after}
 use Rattle.cqs_rule.specs.Hidden.{Gains}
@@ -129,6 +130,7 @@ module _ {C E S : Type 0} (object : Object E) (primitive : C → Primitive E S) 
     pub heads : List (ℕ × ℕ)
     pub last : Option Glimpse
     pub few : length found + length heads ≤ longest_search + tries
+    pub few_heads : length heads ≤ longest_search
     pub saw : Saw object v (facts_on_way found heads last v.facts) [] u
 
   pub way-searched : (v u : View E S) → Searched object v u → OnWay 0 v u
@@ -137,6 +139,7 @@ module _ {C E S : Type 0} (object : Object E) (primitive : C → Primitive E S) 
     heads = s.heads;
     last = v.facts.last;
     few = let few = s.few in omega arith;
+    few_heads = let few = s.few in omega arith;
     saw = s.saw;
   }
 
@@ -158,6 +161,7 @@ module _ {C E S : Type 0} (object : Object E) (primitive : C → Primitive E S) 
         heads = way.heads;
         last = Some m.glimpse;
         few = omega (arith, more, few);
+        few_heads = way.few_heads;
         saw = subst (λ (z : Facts). Saw object v z [] w) is (saw-then object v u w _ _ [] way.saw m.saw);
       }
 
@@ -167,6 +171,7 @@ module _ {C E S : Type 0} (object : Object E) (primitive : C → Primitive E S) 
     heads = way.heads;
     last = way.last;
     few = let few = way.few in omega arith;
+    few_heads = way.few_heads;
     saw = way.saw;
   }
 
@@ -397,6 +402,7 @@ module _ {C E S : Type 0} (object : Object E) (primitive : C → Primitive E S) 
         tried = way.found;
         heads = way.heads;
         few = omega arith;
+        few_heads = way.few_heads;
         word = d.word;
         left = d.left;
         cell = subst (λ z. FoundCell d.word (cell_of k z d.left)) ends.finds d.cell;
@@ -418,3 +424,18 @@ module _ {C E S : Type 0} (object : Object E) (primitive : C → Primitive E S) 
           → Met object primitive s state at (over j) payload j v w
       by (at_counter row) ends d = absurd d
       by (at_cell row) ends d = met-of s row state at (over j) tries j payload v u w ends low owed way d
+
+  -- the client is told of the resumption that ended where its waiter was refused
+  pub ended-refused : (payload k : ℕ) (v w : View E S) → v.facts.has.payload ≡ payload
+      → Met object primitive ends_refused state.Refused doing.Idle [] payload k v w → EndedRefused w.facts payload
+  ended-refused payload k v w owed m =
+      let f : Facts = v.facts in
+      let here : List Sighting = Cell k m.word ∷ [] in
+      record {
+        idle = ap (λ (z : Facts). z.doing) m.saw.facts_are;
+        number = k;
+        word = m.word;
+        before = f.found ++ m.tried;
+        last = ap (λ (z : Facts). z.found) m.saw.facts_are ∙ sym (append_assoc f.found m.tried here);
+        cell = inl (m.left, m.cell, ap (λ (z : Facts). z.has.payload) m.saw.facts_are ∙ owed);
+      }

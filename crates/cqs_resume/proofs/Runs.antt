@@ -111,7 +111,7 @@ module _ {C E S : Type 0} (object : Object E) (primitive : C → Primitive E S) 
         };
         number = refl;
         is_drawn = refl;
-        found = record { cell = m.cell; few = m.few };
+        found = record { cell = m.cell; few = m.few; few_heads = m.few_heads };
         was = subst (λ (z : List E). WasFound primitive (HasCell (cell_of k state m.left)) z w) last m.was;
         called = subst (λ (z : ℕ × List E). Called object v (object.entries reaches v.number k z.0 ++ z.1) z.1 w)
             (λ i. (owed i, last i)) called;
@@ -136,7 +136,7 @@ module _ {C E S : Type 0} (object : Object E) (primitive : C → Primitive E S) 
     };
     number = refl;
     is_drawn = refl;
-    found = record { cell = m.cell; few = m.few };
+    found = record { cell = m.cell; few = m.few; few_heads = m.few_heads };
     was = m.was;
     called = called-by object v w _ _ m.saw;
     facts_are = m.saw.facts_are;

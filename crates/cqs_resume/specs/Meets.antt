@@ -42,6 +42,7 @@ module _ {C E S : Type 0} (object : Object E) (primitive : C → Primitive E S) 
     pub tried : List Sighting
     pub heads : List (ℕ × ℕ)
     pub few : length tried + length heads ≤ longest_search + 4
+    pub few_heads : length heads ≤ longest_search
     pub word : ℕ
     pub left : ℕ
     pub cell : FoundCell word (cell_of k state left)

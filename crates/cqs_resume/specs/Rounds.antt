@@ -32,6 +32,7 @@ cell_in state r = record { number = r.number; state = state; payload = r.payload
 pub record IsFoundIn (state : CoreState) (r : Round) : Type 0 where
   pub cell : FoundCell r.word (cell_in state r)
   pub few : length r.tried + length r.heads ≤ longest_search + 4
+  pub few_heads : length r.heads ≤ longest_search
 
 -- what the rounds found, in order
 abbrev pub draw_seen : Bool → ℕ → List Sighting

@@ -9,14 +9,14 @@ ghost use Rattle.cqs_resume.specs.Meets.{HasMet};
 use crate::resumed::Resumed;
 use cqs_cell::{delegate, leave_value, look, serve};
 use cqs_find::{Found, find};
-use cqs_rule::{ClientWords, Meets, Pass, Queue};
+use cqs_rule::{Client, Meets, Pass, Queue};
 use cqs_words::CellState;
 
 /// Ends the resumption at the cell of the number whose ticket is open, or passes over it and answers none. A waiter is tried first.
 /// Whatever is found instead is what is tried next: a cell only goes on, from Empty to Waiter, from there to Cancelling, and then it
-/// is settled.
+/// is settled. Where its waiter was refused to leave, the client is told that the resumption ended there.
 #[inline]
-pub(crate) fn meet<C: ClientWords>(
+pub(crate) fn meet<C: Client>(
     queue: &Queue<C>,
     pass: &mut Pass<C>,
     number: u64,
@@ -53,7 +53,10 @@ pub(crate) fn meet<C: ClientWords>(
             _ => {
                 return match look::<C, Meets>(queue, pass, at).state {
                     CellState::Cancelled => None,
-                    CellState::Refused => Some(Resumed::Refused(number)),
+                    CellState::Refused => {
+                        C::complete_refused_resume(queue, pass, payload);
+                        Some(Resumed::Refused(number))
+                    }
                     _ => unreachable!(),
                 };
             }

@@ -9,14 +9,14 @@ ghost use Rattle.cqs_resume.specs.Resumes.{HasResumed, IsFurther, most_passed_ov
 
 use crate::meeting::meet;
 use crate::resumed::Resumed;
-use cqs_rule::{ClientWords, Pass, Queue, RESUMES_WORD, Reaches, Under};
+use cqs_rule::{Client, Pass, Queue, RESUMES_WORD, Reaches, Under};
 
 // How many numbers one call passes over.
 const MOST_PASSED_OVER: u32 = 64;
 
 /// Draws a number for a pass that owes a resumption, and serves the waiter there, or leaves the payload for the suspend to come or
 /// for the canceller. Cells whose waiters have left are passed over.
-pub fn resume<C: ClientWords>(queue: &Queue<C>, pass: &mut Pass<C>, payload: u32) -> Resumed
+pub fn resume<C: Client>(queue: &Queue<C>, pass: &mut Pass<C>, payload: u32) -> Resumed
     requires belongs { IsOf queue.now pass.old }
     requires smart { IsSmart (C.primitive (client_of queue.now)).manner.leaving }
     requires owes { (pass_view pass.old).facts.doing ≡ doing.Owes }
@@ -32,7 +32,7 @@ pub fn resume<C: ClientWords>(queue: &Queue<C>, pass: &mut Pass<C>, payload: u32
 }
 
 /// Goes on with a resumption that was handed back, by a count of its own.
-pub fn finish<C: ClientWords>(queue: &Queue<C>, pass: &mut Pass<C>, under: Under) -> Resumed
+pub fn finish<C: Client>(queue: &Queue<C>, pass: &mut Pass<C>, under: Under) -> Resumed
     requires belongs { IsOf queue.now pass.old }
     requires smart { IsSmart (C.primitive (client_of queue.now)).manner.leaving }
     requires owes { HasUnder (pass_view pass.old).facts under }
@@ -55,7 +55,7 @@ pub fn finish<C: ClientWords>(queue: &Queue<C>, pass: &mut Pass<C>, under: Under
 // at its first number stays short.
 #[cold]
 #[inline(never)]
-fn go_on<C: ClientWords>(queue: &Queue<C>, pass: &mut Pass<C>, payload: u32, most: u32) -> Resumed
+fn go_on<C: Client>(queue: &Queue<C>, pass: &mut Pass<C>, payload: u32, most: u32) -> Resumed
     requires belongs { IsOf queue.now pass.old }
     requires smart { IsSmart (C.primitive (client_of queue.now)).manner.leaving }
     requires owes { (pass_view pass.old).facts.doing ≡ doing.Owes }

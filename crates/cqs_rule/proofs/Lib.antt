@@ -15,6 +15,7 @@ pub mod Counters
 pub mod CellLoads
 pub mod Moves
 pub mod Crew
+pub mod Alone
 pub mod Tries
 pub mod Calls
 pub mod StandStill

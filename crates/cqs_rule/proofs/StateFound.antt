@@ -1,10 +1,13 @@
 -- What the words of a semaphore were is what the plain semaphore was.
-use Rattle.std.proofs.Common.{◌≡◌, ℕ, Bool, List, refl, sym, ap, ◌∙◌}
+use Rattle.std.proofs.Common.{◌≡◌, ℕ, ◌<◌, ◌^◌, Bool, List, ℤ, pos, negsuc, ◌≤ℤ◌, refl, sym, ap, ◌∙◌, subst, arith}
+use Rattle.std.proofs.lemmas.Int.{ints}
 use Rattle.std.proofs.lemmas.List.{append-nil}
+use Rattle.std.specs.Prelude.{unsigned_abs}
 use Rattle.cqs_core.specs.declared.entries.Entry.{Entry}
 use Rattle.cqs_core.specs.SemaphoreEntries.{object_after}
 use Rattle.cqs_core.specs.SemaphoreShown.{state_of}
-use Rattle.cqs_core.proofs.CoreFacts.{shows-object}
+use Rattle.cqs_core.specs.SemaphoreTable.{lowest}
+use Rattle.cqs_core.proofs.CoreFacts.{shows-object, state-few}
 use Rattle.cqs_rule.specs.declared.semaphore.SemClient.{SemClient}
 use Rattle.cqs_rule.specs.declared.view.View.{View}
 use Rattle.cqs_rule.specs.declared.view.Opening.{Opening}
@@ -16,7 +19,12 @@ use Rattle.cqs_rule.specs.Saw.{WasShown}
 use Rattle.cqs_rule.specs.Semaphore.{core_shown, semaphore_object, semaphore_primitive}
 use Rattle.cqs_rule.specs.SemaphorePermits.{permits_of}
 use Rattle.cqs_rule.specs.SemaphoreSteps.{OnState, NextIs}
-use Rattle.cqs_words.specs.State.{count_in}
+use Rattle.cqs_words.specs.State.{count_in, StateFits}
+
+-- a count between the lowest and the most permits fits its word
+state-fits : (z : ℤ) → lowest ≤ℤ z → z ≤ℤ pos 1048576 → unsigned_abs z < 2 ^ 32
+state-fits (pos n) low few = omega (arith, ints)
+state-fits (negsuc n) low few = omega (arith, ints)
 
 module _ {T : Type 0} where
   abbrev primitive_of : SemClient T → Primitive Entry T
@@ -29,6 +37,14 @@ module _ {T : Type 0} where
       ap count_in (sym was.holds)
       ∙ (shows.state ∙ ap (λ (o : Opening). state_of (object_after o.size history)) was.opening_is)
 
+  -- the word stands for a count
+  fits-at : (opening : Opening) (n : ℕ) (history : List Entry)
+      → WasShown primitive_of opening (HasWord 0 n) history → StateFits (record { value = count_in n })
+  fits-at opening n history was =
+      let s = core_shown (permits_of was.client) was.hidden was.words history in
+      subst (λ m. StateFits (record { value = count_in m })) was.holds
+      (record { value = state-fits s.state was.shown.range.state (state-few s was.shown) })
+
   -- the state
   pub on_state : (event : Event Entry) (made : ℕ → Bool) (v w : View Entry T) (n : ℕ)
       → Moved semaphore_object primitive_of event made (client_place 0) v n w → OnState event made v n w
@@ -39,6 +55,7 @@ module _ {T : Type 0} where
         before = found.before;
         seen = found.seen;
         state = state-at w.opening n found.before found.was;
+        fits = fits-at w.opening n found.before found.was;
       }
 
   -- the next number

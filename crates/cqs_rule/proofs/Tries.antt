@@ -123,6 +123,7 @@ module _ {E S : Type 0} (object : Object E) where
     pub passes : x.passes ≡ w.passes
     pub opening : x.opening ≡ w.opening
     pub alive : IsLive object x
+    pub lonely : x.alone ≡ false
 
   pub cut-leaves : {X : Type 0} (v w u : View E S) (x : View E S × X) (more : X) (first n : ℕ) → Tries v w first
       → Tried object first w n u → IsLive object u → x ≡ (single u, more) → Leaves v w x.0
@@ -137,6 +138,7 @@ module _ {E S : Type 0} (object : Object E) where
         passes = s.same.passes;
         opening = s.same.opening;
         alive = live-single u alive;
+        lonely = refl;
       }
 
   -- the new pass
@@ -148,6 +150,7 @@ module _ {E S : Type 0} (object : Object E) where
     pub passes : y.passes ≡ w.passes
     pub opening : y.opening ≡ w.opening
     pub alive : IsLive object y
+    pub lonely : y.alone ≡ false
 
   pub cut-begins : {X : Type 0} (w u : View E S) (x y : View E S × X) (more bare : X) (first n : ℕ) → n ≡ first
       → Tried object first w n u → IsLive object u → x ≡ (single u, more) → y ≡ (cut_off u, bare) → Begins w x.0 y.0
@@ -172,6 +175,7 @@ module _ {E S : Type 0} (object : Object E) where
         passes = s.same.passes;
         opening = s.same.opening;
         alive = live-cut u n alive d;
+        lonely = refl;
       }
 
 -- a pass between two calls that owes nothing is idle

@@ -21,6 +21,7 @@ pub mod Callbacks
 pub mod Silent
 pub mod Called
 pub mod Crew
+pub mod Alone
 pub mod Configured
 pub mod Semaphore
 pub mod SemaphoreSteps

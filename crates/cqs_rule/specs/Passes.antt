@@ -3,6 +3,7 @@ use Rattle.std.specs.Prelude.{◌≡◌, ℕ}
 use Rattle.cqs_rule.specs.declared.client.ClientWords.{Ghosts}
 use Rattle.cqs_rule.specs.declared.config.CancelMode.{CancelMode}
 use Rattle.cqs_rule.specs.declared.view.View.{View}
+use Rattle.cqs_rule.specs.Alone.{TellsAlone}
 use Rattle.cqs_rule.specs.Ruled.{cell_count}
 use Rattle.cqs_rule.specs.Saw.{IsLive}
 use Rattle.cqs_rule.specs.declared.queue.Pass.{Pass}
@@ -44,3 +45,4 @@ module _ {C S E : Type 0} {g : Ghosts C S E} where
     pub mode : (g.primitive q.table.shared.key.client).opening.mode ≡ q.mode
     pub live : IsLive g.object p.seat.me.0
     pub opening : p.seat.me.0.opening ≡ (g.primitive q.table.shared.key.client).opening
+    pub alone : TellsAlone g.primitive p.seat.me.0

@@ -8,12 +8,12 @@ use Rattle.cqs_rule.specs.Events.{Event, moment, facts_moved}
 use Rattle.cqs_rule.specs.Facts.{facts_counted}
 use Rattle.cqs_rule.specs.Layout.{client_place}
 use Rattle.cqs_rule.specs.Saw.{Saw}
-use Rattle.cqs_words.specs.State.{count_in}
+use Rattle.cqs_words.specs.State.{count_in, StateFits}
 use Rattle.cqs_rule.specs.Semaphore.{semaphore_object}
 
 module _ {T : Type 0} where
-  -- What a step on the state saw and did: it is the only step, it found the word n, and the state of the plain semaphore was that
-  -- at its place, after all that the pass has seen before its own entries.
+  -- What a step on the state saw and did: it is the only step, it found the word n, which stands for a count, and the state of the
+  -- plain semaphore was that at its place, after all that the pass has seen before its own entries.
   pub record OnState (event : Event Entry) (made : ℕ
       → Bool) (v : View Entry T) (n : ℕ) (w : View Entry T) : Type 0 where
     pub saw : Saw semaphore_object v (facts_moved event (client_place 0) (moment v.opening v.number v.facts made n))
@@ -21,6 +21,7 @@ module _ {T : Type 0} where
     pub before : List Entry
     pub seen : w.seen ≡ before ++ event.entries (moment v.opening v.number v.facts made n)
     pub state : count_in n ≡ state_of (object_after w.opening.size before)
+    pub fits : StateFits (record { value = count_in n })
 
   -- The suspend counter was found as n, and no event was shown: it is the next number of the plain semaphore after all that the
   -- pass has seen.

@@ -59,6 +59,19 @@ pub enum MeetError {
     Busy,
 }
 
+/// Why nothing was acquired. The primitive is as it was before.
+#[derive(Clone, Copy, Debug, PartialEq, Eq)]
+pub enum AcquireError {
+    /// As many numbers were drawn as the queue's limit allows.
+    Worn,
+    /// No segment was free for a further cell.
+    Crowded,
+}
+
+/// No segment was free for a further cell.
+#[derive(Clone, Copy, Debug, PartialEq, Eq)]
+pub struct Crowded;
+
 /// Where the cell of a number stands in the table.
 #[derive(Clone, Copy, Debug, PartialEq, Eq)]
 pub struct Place {

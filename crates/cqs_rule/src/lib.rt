@@ -20,7 +20,7 @@ mod view;
 
 pub use callbacks::Client;
 pub use client::{ClientWords, Shown};
-pub use config::{CancelMode, Config, Crowd, MakeError, MeetError, Place};
+pub use config::{AcquireError, CancelMode, Config, Crowd, Crowded, MakeError, MeetError, Place};
 pub use kinds::{
     Begins, Delegates, Draws, Enters, Installs, Kind, Leaves, LeavesAtOnce, LeavesLine, Puts,
     Reaches, Refuses, RefusesValue, Serves, Settles, SettlesOwing, StartsLeaving, Takes,

@@ -1,5 +1,6 @@
 //! What each step tells. These types are for the proofs alone.
 
+ghost use Rattle.cqs_rule.specs.Alone.{and_alone};
 ghost use Rattle.cqs_rule.specs.Crew.{IsSole, counted_by, tried_by, met_by};
 ghost use Rattle.cqs_rule.specs.Counts.{drew};
 ghost use Rattle.cqs_rule.specs.Events.{moved_by, exchanged_by};
@@ -19,7 +20,7 @@ pub(crate) struct Loading<C, L> {
 }
 
 impl<C: ClientWords, L: Load> Play<Option<C::Slot>, View<C::Entry, C::Slot>> for Loading<C, L> {
-    ghost then = { loaded_by C.object C.primitive L.load };
+    ghost then = { and_alone C.primitive (loaded_by C.object C.primitive L.load) };
 }
 
 /// A number is drawn from a counter.
@@ -28,7 +29,7 @@ pub(crate) struct Draw<C, K> {
 }
 
 impl<C: ClientWords, K: Kind> Play<Option<C::Slot>, View<C::Entry, C::Slot>> for Draw<C, K> {
-    ghost then = { drew C.object K.step };
+    ghost then = { and_alone C.primitive (drew C.object K.step) };
 }
 
 /// An exchange on a cell.
@@ -37,7 +38,7 @@ pub(crate) struct Cross<C, K> {
 }
 
 impl<C: ClientWords, K: Kind> Play<Option<C::Slot>, View<C::Entry, C::Slot>> for Cross<C, K> {
-    ghost then = { crossed C.object C.primitive K.step };
+    ghost then = { and_alone C.primitive (crossed C.object C.primitive K.step) };
 }
 
 /// A load of a word of the client, or a step that changes it in any case, by the event that it shows.
@@ -46,7 +47,7 @@ pub(crate) struct Show<C, M> {
 }
 
 impl<C: ClientWords, M: Shown<C>> Play<Option<C::Slot>, View<C::Entry, C::Slot>> for Show<C, M> {
-    ghost then = { moved_by C.object C.primitive M.event };
+    ghost then = { and_alone C.primitive (moved_by C.object C.primitive M.event) };
 }
 
 /// An exchange on a word of the client, by the event that it shows.
@@ -56,7 +57,7 @@ pub(crate) struct ShowExchange<C, M> {
 
 impl<C: ClientWords, M: Shown<C>> Play<Option<C::Slot>, View<C::Entry, C::Slot>>
     for ShowExchange<C, M> {
-    ghost then = { exchanged_by C.object C.primitive M.event };
+    ghost then = { and_alone C.primitive (exchanged_by C.object C.primitive M.event) };
 }
 
 /// A load of the crew's word.
@@ -65,7 +66,7 @@ pub(crate) struct Count<C> {
 }
 
 impl<C: ClientWords> Play<Option<C::Slot>, View<C::Entry, C::Slot>> for Count<C> {
-    ghost then = { counted_by C.object (IsSole C.primitive) };
+    ghost then = { and_alone C.primitive (counted_by C.object (IsSole C.primitive)) };
 }
 
 /// The exchange on the crew's word by which a pass is made.
@@ -74,7 +75,7 @@ pub(crate) struct Make<C> {
 }
 
 impl<C: ClientWords> Play<Option<C::Slot>, View<C::Entry, C::Slot>> for Make<C> {
-    ghost then = { tried_by C.object };
+    ghost then = { and_alone C.primitive (tried_by C.object) };
 }
 
 /// The step on the crew's word by which a pass that was joined away is counted out.
@@ -83,7 +84,7 @@ pub(crate) struct Meet<C> {
 }
 
 impl<C: ClientWords> Play<Option<C::Slot>, View<C::Entry, C::Slot>> for Meet<C> {
-    ghost then = { met_by C.object };
+    ghost then = { and_alone C.primitive (met_by C.object) };
 }
 
 /// A view that counts for two is cut in two.

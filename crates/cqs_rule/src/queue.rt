@@ -6,6 +6,7 @@ ghost use Rattle.cqs_rule.specs.Layout.{words_for};
 ghost use Rattle.cqs_rule.specs.Facts.{is_owing};
 
 mod opening;
+mod readers;
 mod seats;
 mod steps;
 mod tokens;

@@ -1,8 +1,8 @@
 //! Makes the events of data/ on a core, and counts those that don't answer as they should.
 //!
-//! A file of schedules is a text of lines, each of which asks, and says what is to be answered: `take 0: Now`. A
-//! line that begins with `=== ` is a heading, for the reader alone. Answers are written as `{:?}` writes them; an
-//! event that may not come now answers NotEnabled.
+//! A file of schedules is a text of lines, each of which asks, and says what is to be answered:
+//! `take 0: Now`. A line that begins with `=== ` is a heading, for the reader alone. Answers are
+//! written as `{:?}` writes them; an event that may not come now answers NotEnabled.
 //!
 //! | line | what it asks |
 //! |---|---|
@@ -25,7 +25,8 @@ use std::rt::Files;
 /// The files of schedules, each of which ends with `.schedules`.
 const FILES: [&str; 4] = ["sizes", "schedules", "random", "histories"];
 
-/// Asks what a file asks. Prints how many lines there are, and the place of each that isn't answered as it should be.
+/// Asks what a file asks. Prints how many lines there are, and the place of each that isn't
+/// answered as it should be.
 fn run_file<R: Files + Print + AllocGlobal>(rt: &R, name: &str) -> anyhow::Result<()> {
     let alloc = rt.alloc();
     let text = fs::read_to_string(rt, format!(in alloc; "{name}.schedules")?)?;

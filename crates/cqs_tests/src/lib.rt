@@ -5,6 +5,8 @@
 #[cfg(test)]
 mod core_calls;
 #[cfg(test)]
+mod leaving;
+#[cfg(test)]
 mod packed_words;
 #[cfg(test)]
 mod queue_calls;

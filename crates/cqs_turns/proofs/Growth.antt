@@ -1,7 +1,8 @@
 -- The report only grows: what stands in it before an event, a step or a turn is a front of what stands there after.
-use Rattle.std.proofs.Common.{◌≡◌, ℕ, ◌+◌, suc, zero, add-zero, add-suc, add-one, ◌-◌, ◌<◌, arith, Bool, true, false, nat_lt, slice_index_or, List, [], ◌∷◌, ◌++◌, drop, Option, Some, None, Result, Ok, Err, OnOk, OnErr, refl, sym, ap, ◌∙◌, append_assoc}
+use Rattle.std.proofs.Common.{◌≡◌, ℕ, ◌+◌, suc, zero, add-zero, add-suc, add-one, ◌-◌, ◌<◌, arith, Bool, true, false, nat_lt, slice_index_or, List, [], ◌∷◌, ◌++◌, drop, Option, Some, None, Result, Ok, Err, OnOk, OnErr, IsErr, refl, sym, ap, ◌∙◌, append_assoc}
 use Rattle.std.specs.Bool.{if◌then◌else◌}
 use Rattle.std.proofs.lemmas.List.{append-nil}
+use Rattle.cqs_core.specs.declared.shortage.Memory.{Memory}
 use Rattle.cqs_plan.specs.declared.plans.step.Step.{Step}
 use Rattle.cqs_plan.specs.declared.plans.step.Step.TheVariants.{Take, Give, Down, Await, Arrive, Work}
 use Rattle.cqs_plan.specs.declared.floors.answers.FloorTake.{FloorTake}
@@ -19,6 +20,7 @@ use Rattle.cqs_turns.specs.declared.lines.Told.TheVariants as told
 use Rattle.cqs_turns.specs.declared.states.End.TheVariants as end
 use Rattle.cqs_turns.specs.declared.states.Progress.{Progress}
 use Rattle.cqs_turns.specs.declared.states.Progress.TheVariants.{Stepping, Working, Waiting, Ended}
+use Rattle.cqs_turns.specs.Coming.{ComesTo, LeavesAt}
 use Rattle.cqs_turns.specs.Report.{IsFrontOf}
 use Rattle.cqs_turns.specs.Turns.{Role, Scene, Acted, Made, event, given, given_back, given_all, finished, made, took, stop_or, stepped, go_on, cancelled, gave_up, looked, acted, left_at, is_due, one_job, each_job, one_turn, machine_after, Machine, places_held}
 
@@ -26,6 +28,17 @@ use Rattle.cqs_turns.specs.Turns.{Role, Scene, Acted, Made, event, given, given_
 pub on-err : {T E P : Type 0} (r : Result T E) → P → OnErr r P
 on-err (Ok x) fact = tt
 on-err (Err e) fact = fact
+
+-- a call that broke off has a report that is a prefix, and nothing else is to be shown of it
+pub comes-off : {A B : Type 0} (text_of : B → List ℕ) (r : Result A Memory) (expected now : B) → IsErr r
+    → IsFrontOf (text_of expected) (text_of now) → ComesTo text_of r expected now
+comes-off text_of (Ok answer) expected now failed prefix = absurd (cc)
+comes-off text_of (Err memory) expected now failed prefix = record { ok = tt; err = prefix }
+
+pub leaves-off : (r : Result Progress Memory) (expected : Acted) (now : Scene) → IsErr r
+    → IsFrontOf expected.scene.text now.text → LeavesAt r expected now
+leaves-off (Ok progress) expected now failed prefix = absurd (cc)
+leaves-off (Err memory) expected now failed prefix = record { ok = tt; err = prefix }
 
 -- a clause on success, from two others
 pub on-ok-both : {T E P Q R : Type 0} (r : Result T E) → (P → Q → R) → OnOk r P → OnOk r Q → OnOk r R

@@ -12,7 +12,8 @@ oldest-there_by : (at : ℕ) (h : Holding) (holds : List Holding) (b : Bool) →
 oldest-there_by at h holds true same later held = rw same refl
 oldest-there_by at h holds false other later held = rw other (later (rw other at held))
 
-pub oldest-there : (at : ℕ) (holds : List Holding) → is_held at (map (λ h. h.at) holds) ≡ true → IsSome (oldest at holds)
+pub oldest-there : (at : ℕ) (holds : List Holding) → is_held at (map (λ h. h.at) holds) ≡ true
+    → IsSome (oldest at holds)
 oldest-there at [] held = absurd (cc)
 oldest-there at (h ∷ holds) held = oldest-there_by at h holds (h.at == at) refl (oldest-there at holds) held
 

@@ -1,5 +1,5 @@
 -- A plan that can be run: its opening machine runs.
-use Rattle.std.proofs.Common.{◌≡◌, ◌≢◌, ◌⊎◌, inl, inr, ℕ, zero, suc, ◌+◌, ◌<◌, ◌≤◌, List, [], ◌∷◌, ◌++◌, Bool, true, false, cond, ◌==◌, Option, Some, None, length, map, take, replicate, slice_get, count_by, sum_by, refl, sym, ap, ◌∙◌, eq-eqb, ne_eqb, arith}
+use Rattle.std.proofs.Common.{◌≡◌, ◌≢◌, ◌⊎◌, inl, inr, ℕ, zero, suc, ◌+◌, ◌<◌, ◌≤◌, List, [], ◌∷◌, ◌++◌, Bool, true, false, cond, ◌==◌, Option, Some, None, length, map, take, replicate, slice_get, count_by, sum_by, refl, sym, ap, ◌∙◌, subst, eq-eqb, ne_eqb, arith}
 use Rattle.std.proofs.lemmas.Bool.{cases_eq, cases_lt}
 use Rattle.std.proofs.lemmas.List.{append_assoc, take_at, length-replicate, length-map, get_or-replicate}
 use Rattle.std.proofs.lemmas.List.FromFn.{get_or-map-range_with_len}
@@ -13,6 +13,7 @@ use Rattle.cqs_plan.specs.declared.plans.step.Step.TheVariants.{Take, Give, Down
 use Rattle.cqs_plan.specs.declared.plans.job.Job.{Job}
 use Rattle.cqs_plan.specs.declared.plans.plan.Plan.{Plan}
 use Rattle.cqs_plan.specs.PlanSteps.{is_take, is_give}
+use Rattle.cqs_plan.specs.Holding.{TookMore}
 use Rattle.cqs_plan.specs.Floor.{PlainFloor, JobWait, Holding, IsHoldable, opening_floor, takes_in, room_at}
 use Rattle.cqs_plan.specs.Runnable.{IsRunnable, IsMakeable, AreMakeable, kinds_of}
 use Rattle.cqs_turns.specs.declared.states.Progress.{Progress}
@@ -82,12 +83,13 @@ get-next [] x rest = refl
 get-next (y ∷ earlier) x rest = get-next earlier x rest
 
 can-now : (kinds : List Kind) (whole earlier : List Step) (step : Step) (rest : List Step)
-    → whole ≡ earlier ++ step ∷ rest → AreMakeable kinds whole → IsMakeable kinds earlier step
+    → whole ≡ earlier ++ step ∷ rest → AreMakeable kinds whole → IsMakeable kinds (TookMore earlier) step
 can-now kinds whole earlier step rest same makeable =
     let got : slice_get whole (length earlier) ≡ Some step = rw same (get-next earlier step rest) in
     let front : take (length earlier) whole ≡ earlier
     = ap (take (length earlier)) same ∙ take_at earlier (step ∷ rest) (length earlier) refl in
-    rw front at (makeable.at (length earlier) step got)
+    subst (λ (made : List Step). IsMakeable kinds (TookMore made) step) front
+    (makeable.at (length earlier) step got)
 
 one-later : (whole earlier : List Step) (step : Step) (rest : List Step) → whole ≡ earlier ++ step ∷ rest
     → whole ≡ (earlier ++ step ∷ []) ++ rest
@@ -134,11 +136,13 @@ can-make-from : (kinds : List Kind) (whole earlier rest : List Step) (held : Lis
 can-make-from kinds whole earlier [] held same makeable balances = tt
 can-make-from kinds whole earlier (Take at ∷ rest) held same makeable balances = (
   can-now kinds whole earlier (Take at) rest same makeable,
-  can-make-from kinds whole (earlier ++ Take at ∷ []) rest (held ++ at ∷ []) (one-later whole earlier (Take at) rest same)
+  can-make-from kinds whole (earlier ++ Take at ∷ []) rest (held ++ at ∷ [])
+      (one-later whole earlier (Take at) rest same)
       makeable (balances-take held earlier at balances),
 )
 can-make-from kinds whole earlier (Give at ∷ rest) held same makeable balances =
-    let can : IsMakeable kinds earlier (Give at) = can-now kinds whole earlier (Give at) rest same makeable in
+    let can : IsMakeable kinds (TookMore earlier) (Give at) =
+    can-now kinds whole earlier (Give at) rest same makeable in
     let here : is_held at held ≡ true = held-some at held (omega (arith, can, balances.even at)) in (
       here,
       can-make-from kinds whole (earlier ++ Give at ∷ []) rest (without (λ x. x) at held)
@@ -150,17 +154,18 @@ can-make-from kinds whole earlier (Work turns ∷ rest) held same makeable balan
       makeable (balances-work held earlier turns balances),
 )
 can-make-from kinds whole earlier (Down at ∷ rest) held same makeable balances =
-    can-now kinds whole earlier (Down at) rest same makeable
+    absurd (can-now kinds whole earlier (Down at) rest same makeable)
 can-make-from kinds whole earlier (Await at ∷ rest) held same makeable balances =
-    can-now kinds whole earlier (Await at) rest same makeable
+    absurd (can-now kinds whole earlier (Await at) rest same makeable)
 can-make-from kinds whole earlier (Arrive at ∷ rest) held same makeable balances =
-    can-now kinds whole earlier (Arrive at) rest same makeable
+    absurd (can-now kinds whole earlier (Arrive at) rest same makeable)
 
 pub can-make : (kinds : List Kind) (steps : List Step) → AreMakeable kinds steps → CanMake kinds [] steps
 can-make kinds steps makeable = can-make-from kinds steps [] steps [] refl makeable (record { even = λ at. refl })
 
 -- a step that can be made takes nothing beyond the resources
-takes-there_by : (kinds : List Kind) (at p : ℕ) → length kinds ≤ at → IsHoldable (slice_get kinds p) → (p ≡ at) ⊎ (p ≢ at)
+takes-there_by : (kinds : List Kind) (at p : ℕ) → length kinds ≤ at → IsHoldable (slice_get kinds p) → (p ≡ at)
+    ⊎ (p ≢ at)
     → p == at ≡ false
 takes-there_by kinds at p past holdable (inl same) =
     let none : slice_get kinds p ≡ None = get-past kinds p (omega arith) in absurd (rw none at holdable)
@@ -181,9 +186,9 @@ takes-there kinds held (Give p ∷ steps) at past can =
     )
 takes-there kinds held (Work turns ∷ steps) at past can =
     omega (arith, count-cons (is_take at) (Work turns) steps, takes-there kinds held steps at past can.1)
-takes-there kinds held (Down p ∷ steps) at past can = absurd can
-takes-there kinds held (Await p ∷ steps) at past can = absurd can
-takes-there kinds held (Arrive p ∷ steps) at past can = absurd can
+takes-there kinds held (Down p ∷ steps) at past can = absurd can.0
+takes-there kinds held (Await p ∷ steps) at past can = absurd can.0
+takes-there kinds held (Arrive p ∷ steps) at past can = absurd can.0
 
 -- how many takes of a resource all steps of these jobs have
 abbrev all_takes : ℕ → List Job → ℕ

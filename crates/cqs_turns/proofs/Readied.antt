@@ -179,7 +179,8 @@ first-ready f place at answer ready =
     tt
 
 -- what was waited for came
-came-ready : (f : PlainFloor) (place : ℕ) (entry_of : JobWait → Entry) (wait : JobWait) (element : ℕ) (steps : List Step)
+came-ready : (f : PlainFloor) (place : ℕ) (entry_of : JobWait → Entry) (wait : JobWait)
+    (element : ℕ) (steps : List Step)
     → IsReady f place (Some wait) steps → IsReady (with_granted f place entry_of (Some wait) element) place None steps
 came-ready f place entry_of wait element steps ready =
     let g : PlainFloor = with_granted f place entry_of (Some wait) element in

@@ -30,12 +30,13 @@ made-ready r next (Take at) rest s ready = took-ready (take_answer s.floor at r.
     took-ready (Now element) = taken-ready s.floor r.place at element rest ready
     took-ready (Waits number) = waiting-ready s.floor r.place at number rest ready
 made-ready r next (Give at) rest s ready = given-ready s.floor r.place at (give_answer s.floor at r.place) rest ready
-made-ready r next (Down at) rest s ready = absurd ready.makeable
-made-ready r next (Await at) rest s ready = absurd ready.makeable
-made-ready r next (Arrive at) rest s ready = absurd ready.makeable
+made-ready r next (Down at) rest s ready = absurd ready.makeable.0
+made-ready r next (Await at) rest s ready = absurd ready.makeable.0
+made-ready r next (Arrive at) rest s ready = absurd ready.makeable.0
 
 -- a step that takes nothing leaves as many takes
-fewer-takes : (at : ℕ) (step : Step) (rest : List Step) → count_by (is_take at) rest ≤ count_by (is_take at) (step ∷ rest)
+fewer-takes : (at : ℕ) (step : Step) (rest : List Step)
+    → count_by (is_take at) rest ≤ count_by (is_take at) (step ∷ rest)
 fewer-takes at step rest = omega (arith, takes-cons at step rest)
 
 pub made-moves : (r : Role) (next : ℕ) (step : Step) (rest : List Step) (s : Scene) → HasRoom s.floor (step ∷ rest)

@@ -116,7 +116,8 @@ gave_up-turned r at number answer s steps ready =
     }
 
 looked-turned : (r : Role) (next at number : ℕ) (answer : FloorLook) (s : Scene)
-    → IsReady s.floor r.place (Some (wait_at at number)) (drop next r.job.steps) → HasRoom s.floor (drop next r.job.steps)
+    → IsReady s.floor r.place (Some (wait_at at number)) (drop next r.job.steps)
+    → HasRoom s.floor (drop next r.job.steps)
     → Turned r s.floor (drop next r.job.steps) (looked r next at number answer s)
 looked-turned r next at number Pending s ready room =
     record { ready = ready; moves = moves-none r.place s.floor (drop next r.job.steps) }

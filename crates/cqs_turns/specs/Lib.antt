@@ -6,3 +6,4 @@ pub mod Ready
 pub mod Roles
 pub mod States
 pub mod Running
+pub mod Coming

@@ -20,13 +20,17 @@ name_at resources at = option_map_or (λ resource. resource.name) (slice_get res
 -- the words of a line: a verb and a resource, and then what else there is to tell
 abbrev pub told_text : List Resource → Told → List ℕ
 told_text resources (told.Takes at) = codes "takes " ++ name_at resources at
-told_text resources (told.Waits at number) = codes "waits " ++ name_at resources at ++ codes " " ++ decimal number
-told_text resources (told.Served at number) = codes "served " ++ name_at resources at ++ codes " " ++ decimal number
+told_text resources (told.Waits at number) =
+    codes "waits " ++ name_at resources at ++ codes " " ++ decimal number
+told_text resources (told.Served at number) =
+    codes "served " ++ name_at resources at ++ codes " " ++ decimal number
 told_text resources (told.GivesFree at) = codes "gives " ++ name_at resources at ++ codes " free"
 told_text resources (told.GivesSent at number) =
     codes "gives " ++ name_at resources at ++ codes " sent " ++ decimal number
-told_text resources (told.GaveUp at number) = codes "gaveup " ++ name_at resources at ++ codes " " ++ decimal number
-told_text resources (told.Late at number) = codes "late " ++ name_at resources at ++ codes " " ++ decimal number
+told_text resources (told.GaveUp at number) =
+    codes "gaveup " ++ name_at resources at ++ codes " " ++ decimal number
+told_text resources (told.Late at number) =
+    codes "late " ++ name_at resources at ++ codes " " ++ decimal number
 told_text resources told.Done = codes "done"
 
 -- a line: the turn, the job's name and the words
@@ -37,7 +41,8 @@ line_text resources turn name told =
 -- the words that tell how a resource stands at the end
 abbrev pub end_words : FloorEnd → List ℕ
 end_words (Permits free held line) =
-    codes " free " ++ decimal free ++ codes " held " ++ decimal held ++ codes " line " ++ decimal line
+    codes " free " ++ decimal free ++ codes " held " ++ decimal held ++ codes " line "
+    ++ decimal line
 end_words (Latch count line) = codes " count " ++ decimal count ++ codes " line " ++ decimal line
 end_words (Rounds over) = codes " rounds " ++ decimal over
 
@@ -48,25 +53,46 @@ end_text name end = codes "end " ++ name ++ end_words end ++ codes "\n"
 -- the end lines of these resources, in order; the first one's place is `at`
 abbrev pub ends_text : List Resource → ℕ → PlainFloor → List ℕ
 ends_text [] at f = []
-ends_text (resource ∷ resources) at f = end_text resource.name (end_answer f at) ++ ends_text resources (at + 1) f
+ends_text (resource ∷ resources) at f =
+    end_text resource.name (end_answer f at) ++ ends_text resources (at + 1) f
 
 -- how a job ended, if it has
 abbrev pub is_done : Progress → Bool
 is_done (Ended Done) = true
-is_done _ = false
+is_done (Ended GaveUp) = false
+is_done (Ended Late) = false
+is_done (Ended Crowded) = false
+is_done (Stepping next) = false
+is_done (Working next until) = false
+is_done (Waiting next at number) = false
 
 abbrev pub has_given_up : Progress → Bool
 has_given_up (Ended GaveUp) = true
-has_given_up _ = false
+has_given_up (Ended Done) = false
+has_given_up (Ended Late) = false
+has_given_up (Ended Crowded) = false
+has_given_up (Stepping next) = false
+has_given_up (Working next until) = false
+has_given_up (Waiting next at number) = false
 
 abbrev pub is_late : Progress → Bool
 is_late (Ended Late) = true
-is_late _ = false
+is_late (Ended Done) = false
+is_late (Ended GaveUp) = false
+is_late (Ended Crowded) = false
+is_late (Stepping next) = false
+is_late (Working next until) = false
+is_late (Waiting next at number) = false
 
 -- a call of the job was turned away, which the plain floor never does
 abbrev pub is_crowded : Progress → Bool
 is_crowded (Ended Crowded) = true
-is_crowded _ = false
+is_crowded (Ended Done) = false
+is_crowded (Ended GaveUp) = false
+is_crowded (Ended Late) = false
+is_crowded (Stepping next) = false
+is_crowded (Working next until) = false
+is_crowded (Waiting next at number) = false
 
 abbrev pub is_unfinished : Progress → Bool
 is_unfinished (Stepping next) = true

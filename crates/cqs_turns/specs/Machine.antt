@@ -1,4 +1,5 @@
--- The turn machine, over any world: what the jobs of a plan do, turn by turn, whatever answers their calls.
+-- The turn machine, over any world: what the jobs of a plan do, turn by turn,
+-- whatever answers their calls.
 use Rattle.std.specs.Prelude.{ℕ, zero, suc, ◌+◌, nat_lt, nat_le, Bool, true, false, List, [], ◌∷◌, Option, Some, None, length, drop, replicate, slice_index_or, slice_set, if◌then◌else◌}
 use Rattle.std.specs.Option.{option_map_or}
 use Rattle.cqs_plan.specs.declared.plans.resource.Resource.{Resource}
@@ -98,14 +99,19 @@ module _ {S : Type 0} (w : World S) where
 
   -- a `take`, whose answer is this; a job that is turned away has ended
   abbrev pub took : Role → ℕ → ℕ → Option FloorTake → S → MadeIn S
-  took r next at (Some (Now element)) s = record { scene = w.took r at (Some (Now element)) s; stops = None }
+  took r next at (Some (Now element)) s =
+      record { scene = w.took r at (Some (Now element)) s; stops = None }
   took r next at (Some (Waits number)) s =
-      record { scene = w.took r at (Some (Waits number)) s; stops = Some (Waiting (next + 1) at number) }
+      record {
+        scene = w.took r at (Some (Waits number)) s;
+        stops = Some (Waiting (next + 1) at number);
+      }
   took r next at None s = record { scene = w.took r at None s; stops = Some (Ended end.Crowded) }
 
   -- a step: `work` ends the job's turn, and so does a `take` that must wait
   abbrev pub made : Role → ℕ → Step → S → MadeIn S
-  made r next (Work turns) s = record { scene = s; stops = Some (Working (next + 1) (r.turn + turns)) }
+  made r next (Work turns) s =
+      record { scene = s; stops = Some (Working (next + 1) (r.turn + turns)) }
   made r next (Take at) s = took r next at (w.take_answer r at s) s
   made r next (Give at) s = record { scene = w.gave r at s; stops = None }
   made r next (Down at) s = record { scene = s; stops = None }
@@ -124,17 +130,21 @@ module _ {S : Type 0} (w : World S) where
 
   -- the job gives up: it cancels its wait, gives back all that it holds, and has ended
   abbrev pub gave_up : Role → ℕ → ℕ → FloorLeave → S → ActedIn S
-  gave_up r at number answer s = left_at (given_all r (w.left r at number answer s)) (Ended (end_of answer))
+  gave_up r at number answer s =
+      left_at (given_all r (w.left r at number answer s)) (Ended (end_of answer))
 
   -- the job looks: while its wait is pending its turn is over
   abbrev pub looked : Role → ℕ → ℕ → ℕ → FloorLook → S → ActedIn S
-  looked r next at number Pending s = left_at (w.looked r at number Pending s) (Waiting next at number)
-  looked r next at number (Granted element) s = go_on r next (w.looked r at number (Granted element) s)
+  looked r next at number Pending s =
+      left_at (w.looked r at number Pending s) (Waiting next at number)
+  looked r next at number (Granted element) s =
+      go_on r next (w.looked r at number (Granted element) s)
 
   -- the turn of a job
   abbrev pub acted : Role → Progress → S → ActedIn S
   acted r (Stepping next) s = go_on r next s
-  acted r (Working next until) s = if nat_lt r.turn until then left_at s (Working next until) else go_on r next s
+  acted r (Working next until) s =
+      if nat_lt r.turn until then left_at s (Working next until) else go_on r next s
   acted r (Waiting next at number) s =
       if is_due r.job.deadline r.turn then gave_up r at number (w.leave_answer r s) s
       else looked r next at number (w.look_answer r s) s
@@ -159,5 +169,6 @@ module _ {S : Type 0} (w : World S) where
 
   -- the machine after the first so many turns, where it began with this world
   abbrev pub machine_after : Plan → S → ℕ → MachineIn S
-  machine_after plan s zero = record { scene = s; progress = replicate (length plan.jobs) (Stepping 0) }
+  machine_after plan s zero =
+      record { scene = s; progress = replicate (length plan.jobs) (Stepping 0) }
   machine_after plan s (suc turn) = one_turn plan turn (machine_after plan s turn)

@@ -1,4 +1,5 @@
--- What a job's turn rests on: the floor knows the job as its progress does, and its steps can be made from there.
+-- What a job's turn rests on: the floor knows the job as its progress does, and its
+-- steps can be made from there.
 use Rattle.std.specs.Prelude.{◌≡◌, ℕ, ◌≤◌, List, [], ◌∷◌, ◌++◌, Option, Some, None, Bool, true, ◌==◌, drop, count_by, slice_get}
 use Rattle.std.specs.List.{list_any}
 use Rattle.cqs_core.specs.Keyed.{without}
@@ -7,6 +8,7 @@ use Rattle.cqs_plan.specs.declared.plans.step.Step.{Step}
 use Rattle.cqs_plan.specs.declared.plans.step.Step.TheVariants.{Take, Give, Down, Await, Arrive, Work}
 use Rattle.cqs_plan.specs.PlanSteps.{is_take}
 use Rattle.cqs_plan.specs.Floor.{PlainFloor, JobWait, IsJob, IsHoldable, wait_of, room_at}
+use Rattle.cqs_plan.specs.Runnable.{IsMakeable}
 use Rattle.cqs_turns.specs.declared.states.Progress.{Progress}
 use Rattle.cqs_turns.specs.declared.states.Progress.TheVariants.{Stepping, Working, Waiting, Ended}
 use Rattle.cqs_turns.specs.Turns.{places_held}
@@ -34,15 +36,20 @@ coming held (Some wait) = held ++ wait.at ∷ []
 abbrev pub is_held : ℕ → List ℕ → Bool
 is_held at held = list_any (λ place. place == at) held
 
+-- what is held after a step
+abbrev pub held_next : List ℕ → Step → List ℕ
+held_next held (Take at) = held ++ at ∷ []
+held_next held (Give at) = without (λ place. place) at held
+held_next held (Down at) = held
+held_next held (Await at) = held
+held_next held (Arrive at) = held
+held_next held (Work turns) = held
+
 -- a job that holds something at these places can make these steps, one after the other
 abbrev pub CanMake : List Kind → List ℕ → List Step → Type 0
 CanMake kinds held [] = Unit {0}
-CanMake kinds held (Take at ∷ steps) = IsHoldable (slice_get kinds at) × CanMake kinds (held ++ at ∷ []) steps
-CanMake kinds held (Give at ∷ steps) = (is_held at held ≡ true) × CanMake kinds (without (λ place. place) at held) steps
-CanMake kinds held (Work turns ∷ steps) = (turns ≤ 1000) × CanMake kinds held steps
-CanMake kinds held (Down at ∷ steps) = ⊥
-CanMake kinds held (Await at ∷ steps) = ⊥
-CanMake kinds held (Arrive at ∷ steps) = ⊥
+CanMake kinds held (step ∷ steps) =
+    IsMakeable kinds (λ at. is_held at held ≡ true) step × CanMake kinds (held_next held step) steps
 
 -- each of these places has what can be held
 abbrev pub AreHoldable : List Kind → List ℕ → Type 0
@@ -50,7 +57,8 @@ AreHoldable kinds [] = Unit {0}
 AreHoldable kinds (at ∷ places) = IsHoldable (slice_get kinds at) × AreHoldable kinds places
 
 -- the job at a place has this wait, and once that is served it can go on with these steps
-pub record IsReady (f : PlainFloor) (place : ℕ) (wait : Option JobWait) (steps : List Step) : Type 0 where
+pub record IsReady (f : PlainFloor) (place : ℕ) (wait : Option JobWait)
+    (steps : List Step) : Type 0 where
   pub job : IsJob f place
   pub waits : wait_of f place ≡ wait
   pub holdable : AreHoldable f.kinds (coming (places_held f place) wait)

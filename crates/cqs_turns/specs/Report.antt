@@ -6,7 +6,8 @@ use Rattle.cqs_turns.specs.Turns.{Machine, machine_after}
 
 -- the whole report, where the turns end with this machine
 abbrev pub report_after : Plan → Machine → List ℕ
-report_after plan m = m.scene.text ++ ends_text plan.resources 0 m.scene.floor ++ total_text m.progress
+report_after plan m =
+    m.scene.text ++ ends_text plan.resources 0 m.scene.floor ++ total_text m.progress
 
 -- the report of a plan
 abbrev pub report_of : Plan → List ℕ

@@ -16,20 +16,25 @@ use Rattle.cqs_turns.specs.Turns.{Machine, one_job, places_held}
 abbrev pub takes_left : ℕ → List Job → List Progress → ℕ
 takes_left at [] progress = 0
 takes_left at (job ∷ jobs) [] = 0
-takes_left at (job ∷ jobs) (p ∷ progress) = count_by (is_take at) (steps_left job.steps p) + takes_left at jobs progress
+takes_left at (job ∷ jobs) (p ∷ progress) =
+    count_by (is_take at) (steps_left job.steps p) + takes_left at jobs progress
 
 -- every job is ready, and the floor has room for all takes that are left
 pub record IsRunning (plan : Plan) (m : Machine) : Type 0 where
   pub jobs : length m.progress ≡ length plan.jobs
   pub kinds : m.scene.floor.kinds ≡ kinds_of plan.resources
   pub ready : (place : ℕ) (job : Job) (p : Progress) → slice_get plan.jobs place ≡ Some job
-      → slice_get m.progress place ≡ Some p → IsReady m.scene.floor place (wait_in p) (steps_left job.steps p)
+      → slice_get m.progress place ≡ Some p
+      → IsReady m.scene.floor place (wait_in p) (steps_left job.steps p)
   pub room : (at : ℕ) → takes_left at plan.jobs m.progress ≤ room_at m.scene.floor at
 
 -- the machine, as the code keeps it
 abbrev pub machine_of : PlainFloor → List ℕ → List JobState → Machine
 machine_of floor text states =
-    record { scene = record { floor = floor; text = text }; progress = map (λ state. state.progress) states }
+    record {
+      scene = record { floor = floor; text = text };
+      progress = map (λ state. state.progress) states;
+    }
 
 -- each state has the places of what the floor holds for the job
 pub record IsKept (f : PlainFloor) (states : List JobState) : Type 0 where
@@ -38,7 +43,8 @@ pub record IsKept (f : PlainFloor) (states : List JobState) : Type 0 where
 
 -- the job at a place has its turn
 abbrev pub turn_at : Plan → ℕ → ℕ → Machine → Machine
-turn_at plan turn place m = option_map_or (λ job. one_job plan.resources turn place job m) (slice_get plan.jobs place) m
+turn_at plan turn place m =
+    option_map_or (λ job. one_job plan.resources turn place job m) (slice_get plan.jobs place) m
 
 -- a job that has just begun
 pub record IsOpening (state : JobState) : Type 0 where

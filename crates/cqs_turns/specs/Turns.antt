@@ -29,7 +29,8 @@ pub record Scene : Type 0 where
 
 -- an event: a change of the floor, and its line
 abbrev pub event : Role → Scene → PlainFloor → Told → Scene
-event r s floor told = record { floor = floor; text = s.text ++ line_text r.resources r.turn r.job.name told }
+event r s floor told =
+    record { floor = floor; text = s.text ++ line_text r.resources r.turn r.job.name told }
 
 -- what the answer to a take tells
 abbrev pub take_told : ℕ → FloorTake → Told
@@ -62,9 +63,11 @@ given r at s = given_by r at (give_answer s.floor at r.place) s
 abbrev pub places_held : PlainFloor → ℕ → List ℕ
 places_held f job = map (λ h. h.at) (holds_of f job)
 
--- the job cancels its wait: the wait is gone, or too late, and then the job holds what came as its newest
+-- the job cancels its wait: the wait is gone, or too late, and then the job
+-- holds what came as its newest
 abbrev pub cancelled : Role → ℕ → ℕ → FloorLeave → Scene → Scene
-cancelled r at number answer s = event r s (after_leave s.floor r.place answer) (leave_told at number answer)
+cancelled r at number answer s =
+    event r s (after_leave s.floor r.place answer) (leave_told at number answer)
 
 -- what a look leaves of the scene
 abbrev pub seen_by : Role → ℕ → ℕ → FloorLook → Scene → Scene
@@ -142,7 +145,8 @@ one_turn plan turn m = machine.one_turn plain_world plan turn m
 
 -- the machine after the first so many turns
 abbrev pub machine_after : Plan → ℕ → Machine
-machine_after plan turns = machine.machine_after plain_world plan (record { floor = opening_floor plan; text = [] }) turns
+machine_after plan turns =
+    machine.machine_after plain_world plan (record { floor = opening_floor plan; text = [] }) turns
 
 -- the machine before the first turn: every job is at its first step
 abbrev pub opening_machine : Plan → Machine

@@ -8,7 +8,7 @@ ghost use Rattle.cqs_plan.specs.FloorCalls.{take_answer, leave_answer, look_answ
 ghost use Rattle.cqs_turns.specs.Machine.{rests};
 ghost use Rattle.cqs_turns.specs.Turns.{acted, given, given_back, took, made, event, left_at, finished, go_on, cancelled, gave_up, end_of, looked, places_held};
 ghost use Rattle.cqs_turns.specs.Ready.{IsReady, HasRoom, steps_left};
-ghost use Rattle.cqs_turns.specs.Report.{IsFrontOf};
+ghost use Rattle.cqs_turns.specs.Coming.{ComesTo, LeavesAt, Makes, text_acted, text_in};
 ghost use Rattle.cqs_turns.specs.Roles.{role, scene, made_of, wait_at, left_with, told_served};
 ghost use Rattle.cqs_turns.specs.States.{IsSet};
 
@@ -46,11 +46,10 @@ fn give_all<F: Floor>(
 ) -> Result<(), Memory>
     requires held { held.old.items ≡ places_held (F.plain floor.old) actor.now.place }
     requires ready { IsReady (F.plain floor.old) actor.now.place None [] }
-    ensures ok { OnOk result (scene (F.plain floor.new) report.new ≡
-        given_back (role actor.now) held.old.items (scene (F.plain floor.old) report.old)) }
+    ensures comes { ComesTo text_in result
+        (given_back (role actor.now) held.old.items (scene (F.plain floor.old) report.old))
+        (scene (F.plain floor.new) report.new) }
     ensures held { OnOk result (held.new.items ≡ places_held (F.plain floor.new) actor.now.place) }
-    ensures err { OnErr result (IsFrontOf
-        (given_back (role actor.now) held.old.items (scene (F.plain floor.old) report.old)).text report.new) }
 {
     for at in held.iter() {
         give(floor, report, actor, *at)?;
@@ -68,11 +67,10 @@ fn finish<F: Floor>(
 ) -> Result<Progress, Memory>
     requires held { held.old.items ≡ places_held (F.plain floor.old) actor.now.place }
     requires ready { IsReady (F.plain floor.old) actor.now.place None [] }
-    ensures ok { IfOk result (λ progress. left_at (scene (F.plain floor.new) report.new) progress ≡
-        finished (role actor.now) (scene (F.plain floor.old) report.old)) }
+    ensures comes { LeavesAt result
+        (finished (role actor.now) (scene (F.plain floor.old) report.old))
+        (scene (F.plain floor.new) report.new) }
     ensures held { OnOk result (held.new.items ≡ places_held (F.plain floor.new) actor.now.place) }
-    ensures err { OnErr result (IsFrontOf
-        (finished (role actor.now) (scene (F.plain floor.old) report.old)).scene.text report.new) }
 {
     give_all(floor, report, actor, held)?;
     actor.tell(report, Told::Done)?;
@@ -92,13 +90,11 @@ fn take<F: Floor>(
     requires ready { IsReady (F.plain floor.old) actor.now.place None (Step.Take at ∷ []) }
     requires room { HasRoom (F.plain floor.old) (Step.Take at ∷ []) }
     requires next { next < 64 }
-    ensures ok { IfOk result (λ stops. made_of (scene (F.plain floor.new) report.new) stops ≡
-        took (role actor.now) next at (take_answer (F.plain floor.old) at actor.now.place)
-        (scene (F.plain floor.old) report.old)) }
-    ensures held { OnOk result (held.new.items ≡ places_held (F.plain floor.new) actor.now.place) }
-    ensures err { OnErr result (IsFrontOf
+    ensures comes { Makes result
         (took (role actor.now) next at (take_answer (F.plain floor.old) at actor.now.place)
-        (scene (F.plain floor.old) report.old)).scene.text report.new) }
+        (scene (F.plain floor.old) report.old))
+        (scene (F.plain floor.new) report.new) }
+    ensures held { OnOk result (held.new.items ≡ places_held (F.plain floor.new) actor.now.place) }
 {
     let answer = floor.take(at, actor.place);
     actor.tell(report, told_of_take(at, answer))?;
@@ -166,11 +162,10 @@ fn make_step<F: Floor>(
     requires room { HasRoom (F.plain floor.old) (step ∷ []) }
     requires next { next < 64 }
     requires turn { actor.now.turn ≤ 40000 }
-    ensures ok { IfOk result (λ stops. made_of (scene (F.plain floor.new) report.new) stops ≡
-        made (role actor.now) next step (scene (F.plain floor.old) report.old)) }
+    ensures comes { Makes result
+        (made (role actor.now) next step (scene (F.plain floor.old) report.old))
+        (scene (F.plain floor.new) report.new) }
     ensures held { OnOk result (held.new.items ≡ places_held (F.plain floor.new) actor.now.place) }
-    ensures err { OnErr result (IsFrontOf
-        (made (role actor.now) next step (scene (F.plain floor.old) report.old)).scene.text report.new) }
 {
     match step {
         Step::Work(turns) => Ok(Some(Progress::Working {
@@ -195,15 +190,15 @@ fn make_steps<F: Floor>(
     first: u32,
 ) -> Result<Progress, Memory>
     requires held { held.old.items ≡ places_held (F.plain floor.old) actor.now.place }
-    requires ready { IsReady (F.plain floor.old) actor.now.place None (drop first actor.now.job.now.steps) }
+    requires ready { IsReady (F.plain floor.old) actor.now.place None
+        (drop first actor.now.job.now.steps) }
     requires room { HasRoom (F.plain floor.old) (drop first actor.now.job.now.steps) }
     requires few_steps { length actor.now.job.now.steps ≤ 64 }
     requires turn { actor.now.turn ≤ 40000 }
-    ensures ok { IfOk result (λ progress. left_at (scene (F.plain floor.new) report.new) progress ≡
-        go_on (role actor.now) first (scene (F.plain floor.old) report.old)) }
+    ensures comes { LeavesAt result
+        (go_on (role actor.now) first (scene (F.plain floor.old) report.old))
+        (scene (F.plain floor.new) report.new) }
     ensures held { OnOk result (held.new.items ≡ places_held (F.plain floor.new) actor.now.place) }
-    ensures err { OnErr result (IsFrontOf
-        (go_on (role actor.now) first (scene (F.plain floor.old) report.old)).scene.text report.new) }
 {
     let steps = actor.job.steps.as_slice();
     for next in first as usize..steps.len() {
@@ -243,7 +238,8 @@ fn leave<F: Floor>(
     ensures ok { OnOk result (scene (F.plain floor.new) report.new ≡
         cancelled (role actor.now) at number (leave_answer (F.plain floor.old) actor.now.place)
         (scene (F.plain floor.old) report.old)) }
-    ensures end { IfOk result (λ end. end ≡ end_of (leave_answer (F.plain floor.old) actor.now.place)) }
+    ensures end { IfOk result (λ end. end
+        ≡ end_of (leave_answer (F.plain floor.old) actor.now.place)) }
     ensures held { OnOk result (held.new.items ≡ places_held (F.plain floor.new) actor.now.place) }
     ensures ready { OnOk result (IsReady (F.plain floor.new) actor.now.place None []) }
     ensures err { OnErr result (report.new ≡ report.old) }
@@ -265,13 +261,11 @@ fn give_up<F: Floor>(
 ) -> Result<Progress, Memory>
     requires held { held.old.items ≡ places_held (F.plain floor.old) actor.now.place }
     requires ready { IsReady (F.plain floor.old) actor.now.place (Some (wait_at at number)) [] }
-    ensures ok { IfOk result (λ progress. left_at (scene (F.plain floor.new) report.new) progress ≡
-        gave_up (role actor.now) at number (leave_answer (F.plain floor.old) actor.now.place)
-        (scene (F.plain floor.old) report.old)) }
-    ensures held { OnOk result (held.new.items ≡ places_held (F.plain floor.new) actor.now.place) }
-    ensures err { OnErr result (IsFrontOf
+    ensures comes { LeavesAt result
         (gave_up (role actor.now) at number (leave_answer (F.plain floor.old) actor.now.place)
-        (scene (F.plain floor.old) report.old)).scene.text report.new) }
+        (scene (F.plain floor.old) report.old))
+        (scene (F.plain floor.new) report.new) }
+    ensures held { OnOk result (held.new.items ≡ places_held (F.plain floor.new) actor.now.place) }
 {
     let end = leave(floor, report, actor, held, at, number)?;
     give_all(floor, report, actor, held)?;
@@ -289,17 +283,16 @@ fn be_served<F: Floor>(
     number: u64,
 ) -> Result<Progress, Memory>
     requires held { places_held (F.plain floor.old) actor.now.place ≡ held.old.items ++ at ∷ [] }
-    requires ready { IsReady (F.plain floor.old) actor.now.place None (drop next actor.now.job.now.steps) }
+    requires ready { IsReady (F.plain floor.old) actor.now.place None
+        (drop next actor.now.job.now.steps) }
     requires room { HasRoom (F.plain floor.old) (drop next actor.now.job.now.steps) }
     requires few_steps { length actor.now.job.now.steps ≤ 64 }
     requires turn { actor.now.turn ≤ 40000 }
-    ensures ok { IfOk result (λ progress. left_at (scene (F.plain floor.new) report.new) progress ≡
-        go_on (role actor.now) next (event (role actor.now) (scene (F.plain floor.old) report.old)
-        (F.plain floor.old) (told_served at number))) }
-    ensures held { OnOk result (held.new.items ≡ places_held (F.plain floor.new) actor.now.place) }
-    ensures err { OnErr result (IsFrontOf
+    ensures comes { LeavesAt result
         (go_on (role actor.now) next (event (role actor.now) (scene (F.plain floor.old) report.old)
-        (F.plain floor.old) (told_served at number))).scene.text report.new) }
+        (F.plain floor.old) (told_served at number)))
+        (scene (F.plain floor.new) report.new) }
+    ensures held { OnOk result (held.new.items ≡ places_held (F.plain floor.new) actor.now.place) }
 {
     held.push(at)?;
     actor.tell(report, Told::Served(at, number))?;
@@ -322,13 +315,11 @@ fn look<F: Floor>(
     requires room { HasRoom (F.plain floor.old) (drop next actor.now.job.now.steps) }
     requires few_steps { length actor.now.job.now.steps ≤ 64 }
     requires turn { actor.now.turn ≤ 40000 }
-    ensures ok { IfOk result (λ progress. left_at (scene (F.plain floor.new) report.new) progress ≡
-        looked (role actor.now) next at number (look_answer (F.plain floor.old) actor.now.place)
-        (scene (F.plain floor.old) report.old)) }
-    ensures held { OnOk result (held.new.items ≡ places_held (F.plain floor.new) actor.now.place) }
-    ensures err { OnErr result (IsFrontOf
+    ensures comes { LeavesAt result
         (looked (role actor.now) next at number (look_answer (F.plain floor.old) actor.now.place)
-        (scene (F.plain floor.old) report.old)).scene.text report.new) }
+        (scene (F.plain floor.old) report.old))
+        (scene (F.plain floor.new) report.new) }
+    ensures held { OnOk result (held.new.items ≡ places_held (F.plain floor.new) actor.now.place) }
 {
     match floor.look(actor.place) {
         FloorLook::Pending => Ok(Progress::Waiting { next, at, number }),
@@ -345,14 +336,15 @@ pub fn act<F: Floor>(
 ) -> Result<(), Memory>
     requires acts { rests actor.now.turn state.old.progress ≡ false }
     requires ready { IsSet (F.plain floor.old) (role actor.now) state.old }
-    requires room { HasRoom (F.plain floor.old) (steps_left actor.now.job.now.steps state.old.progress) }
+    requires room { HasRoom (F.plain floor.old)
+        (steps_left actor.now.job.now.steps state.old.progress) }
     requires few_steps { length actor.now.job.now.steps ≤ 64 }
     requires turn { actor.now.turn ≤ 40000 }
-    ensures ok { OnOk result (left_at (scene (F.plain floor.new) report.new) state.new.progress ≡
-        acted (role actor.now) state.old.progress (scene (F.plain floor.old) report.old)) }
-    ensures held { OnOk result (state.new.held.items ≡ places_held (F.plain floor.new) actor.now.place) }
-    ensures err { OnErr result (IsFrontOf
-        (acted (role actor.now) state.old.progress (scene (F.plain floor.old) report.old)).scene.text report.new) }
+    ensures comes { ComesTo text_acted result
+        (acted (role actor.now) state.old.progress (scene (F.plain floor.old) report.old))
+        (left_at (scene (F.plain floor.new) report.new) state.new.progress) }
+    ensures held { OnOk result (state.new.held.items
+        ≡ places_held (F.plain floor.new) actor.now.place) }
 {
     match state.progress {
         Progress::Ended(_) => unreachable!(),

@@ -11,8 +11,8 @@ use cqs_plan::{FloorEnd, Resource};
 use std::alloc::Global;
 use std::marker::Model;
 
-/// The report of a plan. Contracts see its text so far. A line is made aside and then added whole, so a
-/// line for which there is no memory leaves the text as it was.
+/// The report of a plan. Contracts see its text so far. A line is made aside and then added whole,
+/// so a line for which there is no memory leaves the text as it was.
 #[derive(Drop)]
 pub struct Report {
     text: Vec<u8>,
@@ -61,7 +61,8 @@ impl Report {
         name: &[u8],
         told: Told,
     ) -> Result<(), Memory>
-        ensures ok { OnOk result (self.new ≡ self.old ++ line_text resources.now turn name.now told) }
+        ensures ok { OnOk result
+            (self.new ≡ self.old ++ line_text resources.now turn name.now told) }
         ensures err { OnErr result (self.new ≡ self.old) }
     {
         self.line.clear();
@@ -83,7 +84,8 @@ impl Report {
 
     /// Adds the totals of the jobs.
     pub fn tell_total(&mut self, states: &[JobState]) -> Result<(), Memory>
-        ensures ok { OnOk result (self.new ≡ self.old ++ total_text (map (λ state. state.progress) states.now)) }
+        ensures ok { OnOk result (self.new
+            ≡ self.old ++ total_text (map (λ state. state.progress) states.now)) }
         ensures err { OnErr result (self.new ≡ self.old) }
     {
         self.line.clear();

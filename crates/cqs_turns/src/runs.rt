@@ -53,12 +53,15 @@ fn all_turns<F: Floor>(
     states: &mut [JobState],
 ) -> Result<(), Memory>
     requires runnable { IsRunnable plan.now }
-    requires opening { machine_of (F.plain floor.old) report.old states.old ≡ opening_machine plan.now }
+    requires opening { machine_of (F.plain floor.old) report.old states.old
+        ≡ opening_machine plan.now }
     requires kept { IsKept (F.plain floor.old) states.old }
     ensures ok { OnOk result (machine_of (F.plain floor.new) report.new states.new ≡
         machine_after plan.now plan.now.turns) }
-    ensures running { OnOk result (IsRunning plan.now (machine_of (F.plain floor.new) report.new states.new)) }
-    ensures err { OnErr result (IsFrontOf (machine_after plan.now plan.now.turns).scene.text report.new) }
+    ensures running { OnOk result (IsRunning plan.now
+        (machine_of (F.plain floor.new) report.new states.new)) }
+    ensures err { OnErr result (IsFrontOf
+        (machine_after plan.now plan.now.turns).scene.text report.new) }
 {
     for turn in 0..plan.turns {
         one_turn(floor, report, plan, turn, states)?;
@@ -72,7 +75,8 @@ fn tell_ends<F: Floor>(floor: &mut F, report: &mut Report, plan: &Plan) -> Resul
     requires kinds { (F.plain floor.old).kinds ≡ kinds_of plan.now.resources }
     ensures same { F.plain floor.new ≡ F.plain floor.old }
     ensures legal { OnOk result (IsLegalFloor (F.plain floor.new)) }
-    ensures ok { OnOk result (report.new ≡ report.old ++ ends_text plan.now.resources 0 (F.plain floor.old)) }
+    ensures ok { OnOk result (report.new
+        ≡ report.old ++ ends_text plan.now.resources 0 (F.plain floor.old)) }
     ensures err { OnErr result (IsFrontOf
         (report.old ++ ends_text plan.now.resources 0 (F.plain floor.old)) report.new) }
 {
@@ -83,9 +87,9 @@ fn tell_ends<F: Floor>(floor: &mut F, report: &mut Report, plan: &Plan) -> Resul
     Ok(())
 }
 
-/// Runs a plan on a floor: all its turns, job by job, with a line in the report for each event, and then
-/// the lines of the resources and the totals. Memory can run out between two lines; the report then has
-/// the lines so far.
+/// Runs a plan on a floor: all its turns, job by job, with a line in the report for each event, and
+/// then the lines of the resources and the totals. Memory can run out between two lines; the report
+/// then has the lines so far.
 pub fn run_plan<F: Floor>(
     alloc: Global,
     plan: &Plan,
@@ -95,7 +99,8 @@ pub fn run_plan<F: Floor>(
     requires runnable { IsRunnable plan.now }
     requires opening { F.plain floor.old ≡ opening_floor plan.now }
     requires empty { report.old ≡ [] }
-    ensures floor { OnOk result (F.plain floor.new ≡ (machine_after plan.now plan.now.turns).scene.floor) }
+    ensures floor { OnOk result (F.plain floor.new
+        ≡ (machine_after plan.now plan.now.turns).scene.floor) }
 
     // The entries of each of the plan's resources are a legal history of it.
     ensures legal { OnOk result (IsLegalFor plan.now (F.plain floor.new)) }

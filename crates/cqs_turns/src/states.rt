@@ -33,7 +33,7 @@ pub enum Progress {
 #[derive(Drop)]
 pub struct JobState {
     pub progress: Progress,
-    /// The places of what the job holds, oldest first.
+    /// The places of what the job holds, oldest first: what it gives back at its end.
     pub held: Vec<u32>,
 }
 

@@ -89,7 +89,8 @@ pub fn push_line(
     name: &[u8],
     told: Told,
 ) -> Result<(), Memory>
-    ensures { OnOk result (line.new.items ≡ line.old.items ++ line_text resources.now turn name.now told) }
+    ensures { OnOk result (line.new.items
+        ≡ line.old.items ++ line_text resources.now turn name.now told) }
 {
     push_number(line, u64::from(turn))?;
     push_verb(line, b" ", name)?;

@@ -46,10 +46,12 @@ fn one_job<F: Floor>(
     requires place { place < length plan.now.jobs }
     ensures ok { OnOk result (machine_of (F.plain floor.new) report.new states.new ≡
         turn_at plan.now turn place (machine_of (F.plain floor.old) report.old states.old)) }
-    ensures running { OnOk result (IsRunning plan.now (machine_of (F.plain floor.new) report.new states.new)) }
+    ensures running { OnOk result (IsRunning plan.now
+        (machine_of (F.plain floor.new) report.new states.new)) }
     ensures kept { OnOk result (IsKept (F.plain floor.new) states.new) }
     ensures err { OnErr result (IsFrontOf
-        (turn_at plan.now turn place (machine_of (F.plain floor.old) report.old states.old)).scene.text report.new) }
+        (turn_at plan.now turn place
+        (machine_of (F.plain floor.old) report.old states.old)).scene.text report.new) }
 {
     // In most turns most jobs rest, and this look is all that those turns cost.
     if states[place as usize].progress.rests(turn) {
@@ -73,10 +75,12 @@ pub fn one_turn<F: Floor>(
     requires turn { turn ≤ 40000 }
     ensures ok { OnOk result (machine_of (F.plain floor.new) report.new states.new ≡
         one_turn plan.now turn (machine_of (F.plain floor.old) report.old states.old)) }
-    ensures running { OnOk result (IsRunning plan.now (machine_of (F.plain floor.new) report.new states.new)) }
+    ensures running { OnOk result (IsRunning plan.now
+        (machine_of (F.plain floor.new) report.new states.new)) }
     ensures kept { OnOk result (IsKept (F.plain floor.new) states.new) }
     ensures err { OnErr result (IsFrontOf
-        (one_turn plan.now turn (machine_of (F.plain floor.old) report.old states.old)).scene.text report.new) }
+        (one_turn plan.now turn (machine_of (F.plain floor.old) report.old states.old)).scene.text
+        report.new) }
 {
     for place in 0..plan.jobs.as_slice().len() {
         one_job(floor, report, plan, turn, place as u32, states)?;

@@ -20,7 +20,8 @@ state_code Refused = 9
 
 -- the states in the order of their codes
 abbrev pub states : List CellState
-states = Empty ∷ Waiter ∷ Value ∷ Taken ∷ Broken ∷ Resumed ∷ Cancelling ∷ Delegated ∷ Cancelled ∷ Refused ∷ []
+states = Empty ∷ Waiter ∷ Value ∷ Taken ∷ Broken ∷ Resumed ∷ Cancelling ∷ Delegated ∷ Cancelled
+    ∷ Refused ∷ []
 
 -- the state with this code, if there is one
 abbrev pub state_of : ℕ → Option CellState
@@ -49,4 +50,5 @@ index_in n = n / 2 ^ 24
 
 -- the cell that a number is the packing of, if there is one
 abbrev pub unpacked_cell : ℕ → Option CellWord
-unpacked_cell n = if nat_lt n (2 ^ 64) then option_map (cell_in n) (state_of (n / 2 ^ 20 % 2 ^ 4)) else None
+unpacked_cell n =
+    if nat_lt n (2 ^ 64) then option_map (cell_in n) (state_of (n / 2 ^ 20 % 2 ^ 4)) else None

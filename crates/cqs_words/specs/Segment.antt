@@ -18,7 +18,8 @@ packed_tail w = segment_word w.id w.slot
 
 -- the tail that a number is the packing of, if there is one
 abbrev pub unpacked_tail : ℕ → Option TailWord
-unpacked_tail n = if nat_lt n (2 ^ 52) then Some (record { id = n / 2 ^ 16; slot = n % 2 ^ 16 }) else None
+unpacked_tail n =
+    if nat_lt n (2 ^ 52) then Some (record { id = n / 2 ^ 16; slot = n % 2 ^ 16 }) else None
 
 -- the parts of a link fit their bits
 pub record LinkFits (w : LinkWord) : Type 0 where
@@ -31,4 +32,5 @@ packed_link w = segment_word w.id w.slot
 
 -- the link that a number is the packing of, if there is one
 abbrev pub unpacked_link : ℕ → Option LinkWord
-unpacked_link n = if nat_lt n (2 ^ 52) then Some (record { id = n / 2 ^ 16; slot = n % 2 ^ 16 }) else None
+unpacked_link n =
+    if nat_lt n (2 ^ 52) then Some (record { id = n / 2 ^ 16; slot = n % 2 ^ 16 }) else None

@@ -60,8 +60,8 @@ impl CellState {
 /// A cell of the queue.
 #[derive(Clone, Copy, Debug, PartialEq, Eq)]
 pub struct CellWord {
-    /// The cell's number in the queue, below 2^40. By it an exchange tells the cell from an earlier one that lay
-    /// in the same place.
+    /// The cell's number in the queue, below 2^40. By it an exchange tells the cell from an earlier
+    /// one that lay in the same place.
     pub index: u64,
     pub state: CellState,
     /// What the caller who made the state left in the cell, below 2^20.
@@ -109,8 +109,8 @@ impl CellWord {
         })
     }
 
-    /// The low 32 bits of the packing, which are all that the kernel compares where a waiter sleeps on the cell's
-    /// word. Whoever changes the state changes them.
+    /// The low 32 bits of the packing, which are all that the kernel compares where a waiter sleeps
+    /// on the cell's word. Whoever changes the state changes them.
     #[inline]
     pub fn low_half(self) -> u32
         requires { CellFits self }

@@ -1,14 +1,15 @@
-// Where the fields lie. A word is a stack of fields, the lowest first. `join` puts one more field below what is
-// there, and `split` takes it away again.
+// Where the fields lie. A word is a stack of fields, the lowest first. `join` puts one more field
+// below what is there, and `split` takes it away again.
 ghost use Rattle.std.specs.Prelude.{◌≡◌, ◌+◌, ◌*◌, ◌/◌, ◌%◌, ◌^◌, ◌<◌};
 
-// A cell has its payload in the lowest bits, then the code of its state, and its index in the 40 bits above.
+// A cell has its payload in the lowest bits, then the code of its state, and its
+// index in the 40 bits above.
 pub(crate) const PAYLOAD_BITS: u32 = 20;
 
 pub(crate) const CODE_BITS: u32 = 4;
 
-// A head has its tag in the lowest bits, and a tail and a link have their slot there. Above it is the id of a
-// segment, which is one of this many.
+// A head has its tag in the lowest bits, and a tail and a link have their slot there. Above it is
+// the id of a segment, which is one of this many.
 pub(crate) const TAG_BITS: u32 = 2;
 
 pub(crate) const SLOT_BITS: u32 = 16;

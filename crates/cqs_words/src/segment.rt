@@ -45,7 +45,8 @@ impl TailWord {
 /// The segment that comes next after a segment.
 #[derive(Clone, Copy, Debug, PartialEq, Eq)]
 pub struct LinkWord {
-    /// The segment, below 2^36. A link whose id isn't above that of the segment it belongs to names nothing.
+    /// The segment, below 2^36. A link whose id isn't above that of the segment it
+    /// belongs to names nothing.
     pub id: u64,
     /// The slot that it lies in, below 2^16.
     pub slot: u32,

@@ -13,7 +13,8 @@ use std::marker::Model;
 
 /// A floor for plans that have semaphores alone: each is a core with one pass.
 ///
-/// Contracts see its plain floor. Its cores have room for all the calls that its plan's takes can lead to.
+/// Contracts see its plain floor. Its cores have room for all the calls that its
+/// plan's takes can lead to.
 #[derive(Drop)]
 pub struct CoreFloor {
     desk: Desk<Core>,

@@ -9,8 +9,8 @@ use super::sole::{SoleSemaphore, Stand};
 use cqs_core::{Call, Core, CoreCell, CoreState, Memory, Reply};
 use std::alloc::Global;
 
-/// The entries for which a core needs memory, for each take: three for the take, three for the look or the leave of its
-/// wait, and three for the give.
+/// The entries for which a core needs memory, for each take: three for the take, three for the look
+/// or the leave of its wait, and three for the give.
 const ENTRIES_A_TAKE: u32 = 9;
 
 impl SoleSemaphore for Core {

@@ -1,7 +1,16 @@
 //! What a floor on semaphores is made of, and its calls.
 //!
-//! Each call makes one call of one semaphore and writes down what the job got or gave back. All memory was taken
-//! before: a semaphore has room for the calls that are still to come, and so has the list of transfers.
+//! Each call makes one call of one semaphore and writes down what the job got or gave back. All
+//! memory was taken before: a semaphore has room for the calls that are still to come, and so has
+//! the list of transfers.
+//!
+//! What the jobs hold is kept three times, since three ask for it. The turn machine reads its own
+//! list of each job (`JobState::held`), to give all back at the end. A semaphore knows how many
+//! permits its caller holds, since it lets none be given that isn't held. The list of transfers is
+//! written and not read: contracts read off it what each job holds, oldest first. A resource that
+//! hands out elements will read there which one comes back. A wait is kept twice: the machine reads
+//! the one in the job's progress, to tell its line, and the floor the one in `waits`, to ask its
+//! semaphore.
 
 ghost use Rattle.std.specs.Prelude.{◌≡◌, ◌<◌, Some, None, IsSome, length, slice_get, slice_index};
 ghost use Rattle.cqs_cli.specs.Ledger.{wait_at, with_wait};
@@ -14,8 +23,8 @@ use super::waits::Wait;
 use cqs_plan::{FloorEnd, FloorGive, FloorLeave, FloorLook, FloorTake, Kind};
 use std::marker::Model;
 
-/// For each resource what it is, its semaphore and its room; for each job its wait; and what the jobs got and gave
-/// back.
+/// For each resource what it is, its semaphore and its room; for each job its wait; and what the
+/// jobs got and gave back.
 #[derive(Drop)]
 pub struct Desk<S: SoleSemaphore> {
     pub kinds: Vec<Kind>,

@@ -1,4 +1,5 @@
-//! The making of a desk: its semaphores, and the memory for all that the takes of a plan can lead to.
+//! The making of a desk: its semaphores, and the memory for all that the takes of a plan can lead
+//! to.
 
 ghost use Rattle.std.specs.Prelude.{◌≡◌, ℕ, ◌+◌, ◌*◌, ◌^◌, ◌<◌, ◌≤◌, IfOk, All, length, map, replicate, sum, None, Some, count_by, slice_index, EachIndex};
 ghost use Rattle.std.specs.List.{range_with_len};
@@ -59,7 +60,8 @@ fn kinds(alloc: Global, resources: &[Resource]) -> Result<Vec<Kind>, AllocError>
 fn count_takes(alloc: Global, resources: usize, jobs: &[Job]) -> Result<Vec<u32>, AllocError>
     requires few { length jobs.now ≤ 4096 }
     requires countable { EachAt (λ place job. IsCountable resources job) jobs.now }
-    ensures counts { IfOk result (λ room. room.items ≡ map (takes_of jobs.now) (range_with_len 0 resources)) }
+    ensures counts { IfOk result (λ room. room.items
+        ≡ map (takes_of jobs.now) (range_with_len 0 resources)) }
     ensures few { IfOk result (λ room. sum room.items ≤ 262144) }
 {
     let mut room = vec![in alloc; 0u32; resources]?;
@@ -73,7 +75,8 @@ fn count_takes(alloc: Global, resources: usize, jobs: &[Job]) -> Result<Vec<u32>
 fn count_steps(room: &mut [u32], steps: &[Step])
     requires few { sum room.old + length steps.now < 2 ^ 32 }
     requires within { AreWithin (length room.old) steps.now }
-    ensures counts { (at : ℕ) → slice_index room.new at ≡ slice_index room.old at + count_by (is_take at) steps.now }
+    ensures counts { (at : ℕ) → slice_index room.new at
+        ≡ slice_index room.old at + count_by (is_take at) steps.now }
     ensures few { sum room.new ≤ sum room.old + length steps.now }
 {
     for step in steps {

@@ -10,9 +10,11 @@ pub struct Stand {
     pub line: u32,
 }
 
-/// A semaphore with one caller, who makes one whole call after the other. Each call is the plain semaphore's.
+/// A semaphore with one caller, who makes one whole call after the other. Each call is the plain
+/// semaphore's.
 ///
-/// It takes its memory when it is made: as many takes as it has room for, and all that they lead to, can't fail.
+/// It takes its memory when it is made: as many takes as it has room for, and all that they lead to,
+/// can't fail.
 pub trait SoleSemaphore: Sized + Drop {
     /// What its caller has of a wait, until that is over.
     type Wait: Drop;
@@ -50,12 +52,14 @@ pub trait SoleSemaphore: Sized + Drop {
         requires { CanAcquire sole self.old }
         ensures { Acquires sole self.old result self.new };
 
-    /// Gives a permit back. It answers the number of the wait that the permit was sent to, if somebody waits.
+    /// Gives a permit back. It answers the number of the wait that the permit was sent to, if
+    /// somebody waits.
     fn release(&mut self) -> Option<u64>
         requires { CanRelease sole self.old }
         ensures { Releases sole self.old result self.new };
 
-    /// Looks at a wait. It comes back where it still stands in the line; else its permit is the caller's.
+    /// Looks at a wait. It comes back where it still stands in the line; else its permit is the
+    /// caller's.
     fn poll(&mut self, wait: Self::Wait) -> Option<Self::Wait>
         requires { CanEnd sole wait self.old }
         ensures { Polls sole self.old wait result self.new };

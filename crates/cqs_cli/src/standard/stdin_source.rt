@@ -10,7 +10,8 @@ use cqs_plan::{Failed, Source, Tally};
 use std::io::{self, ErrorKind, Read, Stdin};
 use std::marker::Model;
 
-/// Standard input. What it gives is outside all contracts; how many bytes, and its failures, are counted.
+/// Standard input. What it gives is outside all contracts; how many bytes, and
+/// its failures, are counted.
 #[derive(Drop)]
 pub struct StdinSource {
     stdin: Stdin,

@@ -1,5 +1,5 @@
-//! What the calls of a floor answer. An element's number is that of a pool's element, and 0 for every
-//! other kind of resource.
+//! What the calls of a floor answer. An element's number is that of a pool's element, and 0 for
+//! every other kind of resource.
 
 /// What a job's take came to.
 #[derive(Clone, Copy, Debug, PartialEq, Eq)]

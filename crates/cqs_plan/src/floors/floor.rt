@@ -19,10 +19,10 @@ use super::answers::{FloorEnd, FloorGive, FloorLeave, FloorLook, FloorTake};
 
 /// What carries out the steps of a plan's jobs, for one caller that makes them one after the other.
 ///
-/// Contracts see a floor as its plain floor: what happened to each resource so far, and what each job
-/// waits for and holds. Whatever was called, the entries of each resource are a legal history of it.
-/// A floor takes all its memory when it is made, so its calls can't fail. `at` is the place of a
-/// resource among the plan's resources, and `job` that of a job among its jobs.
+/// Contracts see a floor as its plain floor: what happened to each resource so far, and what each
+/// job waits for and holds. Whatever was called, the entries of each resource are a legal history
+/// of it. A floor takes all its memory when it is made, so its calls can't fail. `at` is the place
+/// of a resource among the plan's resources, and `job` that of a job among its jobs.
 pub trait Floor {
     ghost plain: { Self → PlainFloor };
 
@@ -53,7 +53,8 @@ pub trait Floor {
         ensures after { plain self.new ≡ after_look (plain self.old) job result }
         ensures legal { IsLegalFloor (plain self.new) };
 
-    /// The job gives its wait up. A wait that was served before is late: what came is the job's newest.
+    /// The job gives its wait up. A wait that was served before is late: what came
+    /// is the job's newest.
     fn leave(&mut self, job: u32) -> FloorLeave
         requires job { IsJob (plain self.old) job }
         requires waits { IsWaiting (plain self.old) job }

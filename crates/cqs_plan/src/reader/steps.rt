@@ -44,7 +44,7 @@ fn is_held(step: Step, earlier: &[Step]) -> bool
 {
     match step {
         Step::Give(resource) => gives(earlier, resource) < takes(earlier, resource),
-        _ => true,
+        Step::Take(_) | Step::Down(_) | Step::Await(_) | Step::Arrive(_) | Step::Work(_) => true,
     }
 }
 

@@ -7,8 +7,8 @@ use std::marker::Model;
 
 /// A sink in memory that fails when it is told to, for tests of faults.
 ///
-/// Each write takes at most `chunk` bytes. The calls whose numbers, from 1, stand in `failing` fail,
-/// and so does a write once `room` bytes were taken.
+/// Each write takes at most `chunk` bytes. The calls whose numbers, from 1, stand in `failing`
+/// fail, and so does a write once `room` bytes were taken.
 #[derive(Drop)]
 pub struct BytesSink {
     held: Vec<u8>,
@@ -23,9 +23,15 @@ impl Model for BytesSink {
 
     ghost Value = { ScriptedSink };
 
-    ghost view = { λ sink. record { held = sink.held.items; room = sink.room; chunk = sink.chunk; script = sink.script } };
+    ghost view = { λ sink. record {
+      held = sink.held.items;
+      room = sink.room;
+      chunk = sink.chunk;
+      script = sink.script;
+    } };
 
-    ghost invariant = { λ sink. (vec_len sink.held ≤ sink.room) × (sink.room ≤ vec_capacity sink.held) × (1 ≤ sink.chunk) };
+    ghost invariant = { λ sink. (vec_len sink.held ≤ sink.room)
+        × (sink.room ≤ vec_capacity sink.held) × (1 ≤ sink.chunk) };
 }
 
 impl BytesSink {
@@ -37,7 +43,8 @@ impl BytesSink {
         ensures empty { IfOk result (λ sink. sink.held ≡ []) }
         ensures room { IfOk result (λ sink. sink.room ≡ room) }
         ensures chunk { IfOk result (λ sink. sink.chunk ≡ chunk) }
-        ensures faults { IfOk result (λ sink. sink.script ≡ record { failing = failing.now; calls = 0; faults = 0 }) }
+        ensures faults { IfOk result
+            (λ sink. sink.script ≡ record { failing = failing.now; calls = 0; faults = 0 }) }
     {
         Ok(BytesSink {
             held: Vec::with_capacity(alloc, room as usize)?,

@@ -7,7 +7,8 @@ use std::marker::Model;
 
 /// Bytes in memory as a source that fails when it is told to, for tests of faults.
 ///
-/// Each read gives at most `chunk` bytes, and the reads whose numbers, from 1, stand in `failing` fail.
+/// Each read gives at most `chunk` bytes, and the reads whose numbers, from 1,
+/// stand in `failing` fail.
 #[derive(Drop)]
 pub struct BytesSource {
     source: SureSource,
@@ -34,8 +35,10 @@ impl BytesSource {
         failing: &[u32],
     ) -> Result<BytesSource, Memory>
         requires { 1 ≤ chunk }
-        ensures bytes { IfOk result (λ source. source.plain ≡ record { left = bytes.now; chunk = chunk; tally = untouched }) }
-        ensures faults { IfOk result (λ source. source.script ≡ record { failing = failing.now; calls = 0; faults = 0 }) }
+        ensures bytes { IfOk result (λ source. source.plain
+            ≡ record { left = bytes.now; chunk = chunk; tally = untouched }) }
+        ensures faults { IfOk result
+            (λ source. source.script ≡ record { failing = failing.now; calls = 0; faults = 0 }) }
     {
         Ok(BytesSource {
             source: SureSource::new(alloc, bytes, chunk)?,

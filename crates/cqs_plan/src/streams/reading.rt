@@ -48,18 +48,22 @@ pub fn read_input<S: Source>(alloc: Global, source: &mut S) -> Result<Vec<u8>, R
     ensures ended { OnOk result (IsAll [] (S.left source.new)) }
     ensures few { IfOk result (λ bytes. vec_len bytes ≤ LONGEST_INPUT) }
 
-    ensures too_long { IsErrOf result ReadError.TooLong → GivesCount (LONGEST_INPUT + 1) (S.left source.old) (S.left source.new) }
-    ensures failed { IsErrOf result ReadError.Failed → Rises (S.faults source.old) (S.faults source.new) }
+    ensures too_long { IsErrOf result ReadError.TooLong
+        → GivesCount (LONGEST_INPUT + 1) (S.left source.old) (S.left source.new) }
+    ensures failed { IsErrOf result ReadError.Failed
+        → Rises (S.faults source.old) (S.faults source.new) }
     ensures fine { ¬ IsErrOf result ReadError.Failed → S.faults source.new ≡ S.faults source.old }
     ensures taken { GivesAtMost (LONGEST_INPUT + 1) (S.left source.old) (S.left source.new) }
 
     // How many bytes were taken is known of every source.
-    ensures given { IfOk result (λ bytes. (S.tally source.new).given ≡ raised (S.tally source.old).given (vec_len bytes)) }
+    ensures given { IfOk result (λ bytes. (S.tally source.new).given
+        ≡ raised (S.tally source.old).given (vec_len bytes)) }
     ensures given_too_long { IsErrOf result ReadError.TooLong →
         (S.tally source.new).given ≡ raised (S.tally source.old).given (LONGEST_INPUT + 1) }
     ensures given_failed { IsErrOf result ReadError.Failed →
         (S.tally source.new).given ≤ (S.tally source.old).given + LONGEST_INPUT }
-    ensures given_most { (S.tally source.new).given ≤ (S.tally source.old).given + (LONGEST_INPUT + 1) }
+    ensures given_most { (S.tally source.new).given
+        ≤ (S.tally source.old).given + (LONGEST_INPUT + 1) }
 
     // Nothing is read after the end or a fault.
     ensures stops { (S.tally source.old).stops ≡ 0 → (S.tally source.new).stops ≡ stops_of result }

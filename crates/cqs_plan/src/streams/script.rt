@@ -17,7 +17,8 @@ impl Model for Script {
 
     ghost Value = { spec.Script };
 
-    ghost view = { λ script. record { failing = script.failing.items; calls = script.calls; faults = script.faults } };
+    ghost view = { λ script. record
+        { failing = script.failing.items; calls = script.calls; faults = script.faults } };
 }
 
 impl Script {
@@ -27,7 +28,8 @@ impl Script {
 
     /// A script before the first call.
     pub fn new(alloc: Global, failing: &[u32]) -> Result<Script, AllocError>
-        ensures { IfOk result (λ script. script ≡ record { failing = failing.now; calls = 0; faults = 0 }) }
+        ensures { IfOk result (λ script. script
+            ≡ record { failing = failing.now; calls = 0; faults = 0 }) }
     {
         Ok(Script {
             failing: Vec::from_slice(alloc, failing)?,

@@ -8,9 +8,9 @@ use crate::Failed;
 
 /// Where bytes go.
 ///
-/// Contracts see what it `held` so far, where it tells that, whether all of it `is_flushed` on to where
-/// it goes, and the number of its `faults` so far. A sink that is known better says exactly what a
-/// write and a flush do, in `writes` and `flushes`.
+/// Contracts see what it `held` so far, where it tells that, whether all of it `is_flushed` on to
+/// where it goes, and the number of its `faults` so far. A sink that is known better says exactly
+/// what a write and a flush do, in `writes` and `flushes`.
 pub trait Sink {
     ghost held: { Self → Option (List ℕ) };
 
@@ -22,11 +22,13 @@ pub trait Sink {
 
     ghost flushes: { Self → Bool → Self → Type 0 } = { λ _ _ _. Unit {0} };
 
-    /// Takes a prefix of `piece` and says how many bytes it is. To take nothing of a piece is a failure.
+    /// Takes a prefix of `piece` and says how many bytes it is. To take nothing of
+    /// a piece is a failure.
     fn write(&mut self, piece: &[u8]) -> Result<usize, Failed>
         ensures within { IfOk result (λ count. count ≤ length piece.now) }
         ensures some { IfOk result (λ count. 0 < length piece.now → 0 < count) }
-        ensures taken { IfOk result (λ count. Gains (take count piece.now) (held self.old) (held self.new)) }
+        ensures taken { IfOk result
+            (λ count. Gains (take count piece.now) (held self.old) (held self.new)) }
         ensures fine { OnOk result (faults self.new ≡ faults self.old) }
 
         // A write that fails takes nothing.

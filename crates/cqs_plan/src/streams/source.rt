@@ -10,9 +10,10 @@ use crate::Failed;
 
 /// Where bytes come from.
 ///
-/// Contracts see what is `left` of its bytes, where it tells that, the `tally` of its reads, and the
-/// number of its `faults` so far. A source that tells nothing of its bytes, as standard input, is
-/// still held to its counts. A source that is known better says exactly what a read does, in `reads`.
+/// Contracts see what is `left` of its bytes, where it tells that, the `tally` of its reads,
+/// and the number of its `faults` so far. A source that tells nothing of its bytes, as
+/// standard input, is still held to its counts. A source that is known better says exactly
+/// what a read does, in `reads`.
 pub trait Source {
     ghost left: { Self → Option (List ℕ) };
 
@@ -28,7 +29,8 @@ pub trait Source {
     fn read(&mut self, buffer: &mut [u8]) -> Result<usize, Failed>
         requires { 0 < length buffer.old }
         ensures within { IfOk result (λ count. count ≤ length buffer.old) }
-        ensures next { IfOk result (λ count. Gives (take count buffer.new) (left self.old) (left self.new)) }
+        ensures next { IfOk result (λ count.
+            Gives (take count buffer.new) (left self.old) (left self.new)) }
         ensures end { IfOk result (λ count. count ≡ 0 → IsAll [] (left self.old)) }
         ensures counted { tally self.new ≡ after_read (tally self.old) (bytes_of result) }
         ensures fine { OnOk result (faults self.new ≡ faults self.old) }

@@ -6,7 +6,8 @@ use std::marker::Model;
 
 /// A sink in memory that never fails.
 ///
-/// It keeps up to `room` bytes. Past them it still takes every byte, and no longer tells what it holds.
+/// It keeps up to `room` bytes. Past them it still takes every byte, and no
+/// longer tells what it holds.
 #[derive(Drop)]
 pub struct SureSink {
     kept: Vec<u8>,
@@ -20,9 +21,14 @@ impl Model for SureSink {
 
     ghost Value = { PlainSink };
 
-    ghost view = { λ sink. record { kept = sink.kept.items; room = sink.room; is_over = sink.is_over } };
+    ghost view = { λ sink. record {
+      kept = sink.kept.items;
+      room = sink.room;
+      is_over = sink.is_over;
+    } };
 
-    ghost invariant = { λ sink. (vec_len sink.kept ≤ sink.room) × (sink.room ≤ vec_capacity sink.kept) };
+    ghost invariant = { λ sink. (vec_len sink.kept ≤ sink.room)
+        × (sink.room ≤ vec_capacity sink.kept) };
 }
 
 impl SureSink {

@@ -36,7 +36,8 @@ impl SureSource {
     /// A source of a copy of these bytes.
     pub fn new(alloc: Global, bytes: &[u8], chunk: u32) -> Result<SureSource, Memory>
         requires { 1 ≤ chunk }
-        ensures { IfOk result (λ source. source ≡ record { left = bytes.now; chunk = chunk; tally = untouched }) }
+        ensures { IfOk result (λ source. source
+            ≡ record { left = bytes.now; chunk = chunk; tally = untouched }) }
     {
         Ok(SureSource {
             bytes: Vec::from_slice(alloc, bytes)?,

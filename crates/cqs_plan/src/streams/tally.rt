@@ -8,8 +8,8 @@ ghost use Rattle.cqs_plan.specs.Tally.{after_read, untouched};
 pub struct Tally {
     /// How many bytes they gave.
     pub given: u64,
-    /// How many of them stopped: a read stops that gives no byte, since it came to the end or failed,
-    /// and so does every read after it.
+    /// How many of them stopped: a read stops that gives no byte, since it came to the end or
+    /// failed, and so does every read after it.
     pub stops: u64,
 }
 

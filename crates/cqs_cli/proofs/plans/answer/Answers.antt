@@ -8,7 +8,8 @@ returns-in_ok-fault_line-in-Err-Fault c =
       right = inr (record {
         place = c.in-Err-Fault.place;
         kind = c.in-Err-Fault.kind;
-        first = c.in-Err-Fault.ensures.fault c.in-Err-Fault.place c.in-Err-Fault.kind (ap Err c.in-Err-Fault.field-0-is);
+        first = c.in-Err-Fault.ensures.fault c.in-Err-Fault.place c.in-Err-Fault.kind
+            (ap Err c.in-Err-Fault.field-0-is);
         named = c.in_ok-fault_line-in-Err-Fault.ensures;
       });
       keeps = refl;

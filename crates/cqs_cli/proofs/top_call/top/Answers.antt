@@ -45,7 +45,8 @@ pub returns-clause-kept_done : goal.returns-clause-kept_done
 returns-clause-kept_done g c =
     let known =
     kept_done g.S.Source.left g.S.Source.faults g.K.Sink.held g.K.Sink.is_flushed g.K.Sink.faults _ _ _ _ _ _ _
-    c.judge-verdict.result c.tell.result (c.judge-verdict.ensures.right, c.tell.ensures) c.judge-verdict.ensures.keeps in
+    c.judge-verdict.result c.tell.result (c.judge-verdict.ensures.right, c.tell.ensures)
+    c.judge-verdict.ensures.keeps in
     search rules
 
 pub returns-clause-kept_broken : goal.returns-clause-kept_broken

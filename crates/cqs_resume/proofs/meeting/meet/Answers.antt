@@ -1,9 +1,11 @@
-use Rattle.std.proofs.Common.{◌∷◌, [], refl, sym, ap, ◌∙◌, inl, inr, arith}
+use Rattle.std.proofs.Common.{◌∷◌, [], Some, refl, sym, ap, ◌∙◌, subst, inl, inr, arith}
 use Rattle.cqs_core.specs.declared.cells.CoreState.TheVariants as state
 use Rattle.cqs_core.specs.declared.doings.Doing.TheVariants as doing
 use Rattle.cqs_core.specs.QueueSteps.{serves, leaves, delegates, passes_over, ends_refused}
 use Rattle.cqs_rule.proofs.CellSteps.{shown-injective}
-use Rattle.cqs_resume.proofs.OneNumber.{stays-searched, stays-missed, way-searched, tried-first, tried-next, worked-by, worked-over, worked-refused, met-by, end-serves, end-leaves, end-delegates, end-refused, end-over}
+use Rattle.cqs_resume.proofs.OneNumber.{stays-searched, stays-missed, way-searched, tried-first, tried-next, worked-by, worked-over, worked-refused, met-by, end-serves, end-leaves, end-delegates, end-refused, end-over, ended-refused}
+use Rattle.cqs_resume.specs.declared.resumed.Resumed.TheVariants.{Refused}
+use Rattle.cqs_resume.specs.Meets.{HasMet}
 use Rattle.cqs_resume.proofs.meeting.meet.Goals as goal
 
 pub returns-in-Ok-clause-met : goal.returns-in-Ok-clause-met
@@ -115,15 +117,23 @@ returns-in-Cancelled g c =
           (worked-over C.object C.primitive _ _ _ _ c.look.ensures.looks c.in-Cancelled.is);
     }
 
-pub returns-in-Refused : goal.returns-in-Refused
-returns-in-Refused g c =
+pub complete_refused_resume-requires-clause-ended : goal.complete_refused_resume-requires-clause-ended
+complete_refused_resume-requires-clause-ended g c =
     let C = g.C.ClientWords in
-    let l = c.loop-state.invariant in record {
-      belongs = c.look.ensures.belongs;
-      met = (
-        refl,
-        met-by C.object C.primitive ends_refused state.Refused doing.Idle (λ _. []) _ _ _ _ _ _ _ l.number
-            (end-refused C.object.gains _) (omega arith) c.requires.payload l.tried.way
-            (worked-refused C.object C.primitive _ _ _ _ c.look.ensures.looks c.in-Refused.is),
-      );
-    }
+    let l = c.loop-state.invariant in
+    ended-refused C.object C.primitive _ _ _ _ c.requires.payload
+    (met-by C.object C.primitive ends_refused state.Refused doing.Idle (λ _. []) _ _ _ _ _ _ _ l.number
+    (end-refused C.object.gains _) (omega arith) c.requires.payload l.tried.way
+    (worked-refused C.object C.primitive _ _ _ _ c.look.ensures.looks c.in-Refused.is))
+
+pub returns-in-Refused-clause-met : goal.returns-in-Refused-clause-met
+returns-in-Refused-clause-met g c =
+    let C = g.C.ClientWords in
+    let l = c.loop-state.invariant in
+    subst (λ r. HasMet c.args.payload c.args.number c.args.pass.now (Some (Refused c.args.number)) r)
+    (sym c.complete_refused_resume.ensures.same) (
+      refl,
+      met-by C.object C.primitive ends_refused state.Refused doing.Idle (λ _. []) _ _ _ _ _ _ _ l.number
+          (end-refused C.object.gains _) (omega arith) c.requires.payload l.tried.way
+          (worked-refused C.object C.primitive _ _ _ _ c.look.ensures.looks c.in-Refused.is),
+    )

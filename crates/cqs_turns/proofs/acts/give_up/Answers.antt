@@ -1,12 +1,12 @@
 use Rattle.cqs_plan.specs.FloorCalls.{leave_answer}
 use Rattle.cqs_turns.specs.Roles.{role, scene}
 use Rattle.cqs_turns.specs.Turns.{Role, Scene}
-use Rattle.cqs_turns.proofs.Growth.{on-err, gave_up-grows}
+use Rattle.cqs_turns.proofs.Growth.{leaves-off, gave_up-grows}
 use Rattle.cqs_turns.proofs.acts.give_up.Goals as goal
 
-pub returns-in_err-end-clause-err : goal.returns-in_err-end-clause-err
-returns-in_err-end-clause-err g c =
+pub returns-in_err-end-clause-comes : goal.returns-in_err-end-clause-comes
+returns-in_err-end-clause-comes g c =
     let r : Role = role c.args.actor.now in
     let s : Scene = scene (g.F.Floor.plain c.args.floor.now) c.args.report.now in
-    on-err c.from_residual.result
+    leaves-off c.from_residual.result _ _ c.from_residual.ensures.0
     (rw c.in_err-end.ensures.err (gave_up-grows r c.args.at c.args.number (leave_answer s.floor r.place) s))

@@ -4,6 +4,7 @@ use Rattle.cqs_cli.proofs.floors.opening.count_steps.Given as goal
 
 abbrev pub invariant-loop-step : goal.invariant-loop-step
 invariant-loop-step l = record {
-  counts : (at : ℕ) → get_or l.room at 0 ≡ get_or l.initial.room at 0 + count_by (is_take at) (take l.step-index l.steps);
+  counts : (at : ℕ) → get_or l.room at 0 ≡ get_or l.initial.room at 0
+      + count_by (is_take at) (take l.step-index l.steps);
   few : sum l.room ≤ sum l.initial.room + l.step-index;
 }

@@ -25,9 +25,16 @@ loop-job-preserved c =
           rw (← c.deref_mut.ensures.value, ← c.as_slice.ensures) (c.count_steps.ensures.counts at) in
           ap (λ xs. get_or xs at 0) whole ∙ written
           ∙ ap (λ n. n + count_by (is_take at) c.job-item.result.steps) (c.loop-job.invariant.counts at)
-          ∙ sym (takes-more c.args.jobs.now c.loop-job.job-index c.job-item.result at c.loop-job-test.true c.job-item.is);
+          ∙ sym (takes-more c.args.jobs.now c.loop-job.job-index c.job-item.result at
+          c.loop-job-test.true c.job-item.is);
       few = rw whole (omega (arith, sums, few_steps, c.loop-job.invariant.few));
-      long = rw whole (omega (arith, long, c.loop-job.invariant.long, c.deref_mut.ensures.len, c.deref_mut.ensures.value));
+      long = rw whole (omega (
+        arith,
+        long,
+        c.loop-job.invariant.long,
+        c.deref_mut.ensures.len,
+        c.deref_mut.ensures.value,
+      ));
     }
 
 pub returns-clause-counts : goal.returns-clause-counts

@@ -10,7 +10,8 @@ returns-in-Some-Passed-clause-passed c =
 
 pub returns-in-Some-Passed-clause-spare : goal.returns-in-Some-Passed-clause-spare
 returns-in-Some-Passed-clause-spare c =
-    let there = (resumption-passed c.args.pass c.in-Some-Passed.field-0-0 c.in-Some-Reached.field-0 c.in-Some-Passed.field-0
+    let there = (resumption-passed c.args.pass c.in-Some-Passed.field-0-0
+    c.in-Some-Reached.field-0 c.in-Some-Passed.field-0
     c.args.self.now c.reach.new.self c.meet.new.self c.in-Some-Reached.ensures.made c.in-Some-Passed.ensures.made
     c.in-Some-Passed.field-0-is c.requires.ends).1 in
     let reached = c.in-Some-Reached.ensures.spare there in

@@ -1,5 +1,7 @@
-use Rattle.std.proofs.Common.{rules, ◌≡◌, pos, unsigned_abs, ◌<ℤ◌, ◌≤ℤ◌}
+use Rattle.std.proofs.Common.{rules, ◌+◌, ◌-◌, ◌%◌, ◌^◌, ◌≡◌, pos, unsigned_abs, ◌<ℤ◌, ◌≤ℤ◌}
 use Rattle.cqs_rule.specs.Events.{in_any_case}
+use Rattle.cqs_rule.proofs.Lists.{set_there}
+use Rattle.cqs_rule.proofs.Alone.{alone-now}
 use Rattle.cqs_rule.proofs.CellPlaces.{client-inside}
 use Rattle.cqs_rule.proofs.Moves.{moves-at, added-down, added-up}
 use Rattle.cqs_rule.proofs.queue.Queue.add_word.Goals as goal
@@ -13,10 +15,20 @@ fetch_sub-found-requires g c =
     let is : c.unsigned_abs-amount.result ≡ unsigned_abs c.args.by = search rules in (
       search rules,
       search rules,
-      moves-at C.object C.primitive _ _ x
-          (g.met.C.ClientWords.keeps x) g.M.Shown.event in_any_case _ _ _ c.args.word _ _ _
+      (λ s r homes here small.
+          let t = moves-at C.object C.primitive _ _ x (g.met.C.ClientWords.keeps x) g.M.Shown.event in_any_case c.args.self.now.table.shared.table_id.slots c.args.pass.now.seat.id c.args.pass.now.seat.me c.args.word _ _
+          (λ n. (n + (2 ^ 64 - c.unsigned_abs-amount.result)) % 2 ^ 64)
           c.args.pass.now.live.0 c.requires.word c.place-place.ensures
-          (λ n. added-down c.args.by _ n is side) c.requires.law,
+          (λ n. added-down c.args.by _ n is side) c.requires.law s r homes here small in (
+            t.0,
+            t.1,
+            t.2,
+            t.3,
+            (
+              t.4,
+              alone-now C.object C.primitive _ _ x (g.met.C.ClientWords.keeps x) _ t.3 _ t.0 (set_there s.views _ _ t.0 here),
+            ),
+          )),
     )
 
 pub fetch_add-found-requires : goal.fetch_add-found-requires
@@ -28,8 +40,18 @@ fetch_add-found-requires g c =
     let is : c.unsigned_abs-amount.result ≡ unsigned_abs c.args.by = search rules in (
       search rules,
       search rules,
-      moves-at C.object C.primitive _ _ x
-          (g.met.C.ClientWords.keeps x) g.M.Shown.event in_any_case _ _ _ c.args.word _ _ _
+      (λ s r homes here small.
+          let t = moves-at C.object C.primitive _ _ x (g.met.C.ClientWords.keeps x) g.M.Shown.event in_any_case c.args.self.now.table.shared.table_id.slots c.args.pass.now.seat.id c.args.pass.now.seat.me c.args.word _ _
+          (λ n. (n + c.unsigned_abs-amount.result) % 2 ^ 64)
           c.args.pass.now.live.0 c.requires.word c.place-place.ensures
-          (λ n. added-up c.args.by _ n is side) c.requires.law,
+          (λ n. added-up c.args.by _ n is side) c.requires.law s r homes here small in (
+            t.0,
+            t.1,
+            t.2,
+            t.3,
+            (
+              t.4,
+              alone-now C.object C.primitive _ _ x (g.met.C.ClientWords.keeps x) _ t.3 _ t.0 (set_there s.views _ _ t.0 here),
+            ),
+          )),
     )

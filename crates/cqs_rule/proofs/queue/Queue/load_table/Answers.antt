@@ -1,4 +1,6 @@
 use Rattle.std.proofs.Common.{rules, refl}
+use Rattle.cqs_rule.proofs.Lists.{set_there}
+use Rattle.cqs_rule.proofs.Alone.{alone-now}
 use Rattle.cqs_rule.proofs.CellLoads.{loads, load-low}
 use Rattle.cqs_rule.proofs.queue.Queue.load_table.Goals as goal
 
@@ -10,7 +12,18 @@ load-found-requires g c =
     let client = g.met.C.ClientWords.keeps x in (
       search rules,
       search rules,
-      loads C.object (C.primitive x) _ _ client C.primitive x refl _ _ _ g.L.Load.load _ c.args.pass.now.live.0
+      (λ s r homes here small.
+          let t = loads C.object (C.primitive x) _ _ client C.primitive x refl c.args.self.now.table.shared.table_id.slots c.args.pass.now.seat.id c.args.pass.now.seat.me
+          g.L.Load.load c.args.word c.args.pass.now.live.0
           c.requires.suits
-          c.requires.load,
+          c.requires.load s r homes here small in (
+            t.0,
+            t.1,
+            t.2,
+            t.3,
+            (
+              t.4,
+              alone-now C.object C.primitive _ _ x client _ t.3 _ t.0 (set_there s.views _ _ t.0 here),
+            ),
+          )),
     )

@@ -1,4 +1,6 @@
 use Rattle.std.proofs.Common.{rules, ◌≡◌, ◌∙◌, []}
+use Rattle.cqs_rule.proofs.Lists.{set_there}
+use Rattle.cqs_rule.proofs.Alone.{alone-now}
 use Rattle.cqs_rule.proofs.Crew.{joins, meets}
 use Rattle.cqs_rule.proofs.Tries.{between-idle, none-of, none-slots, joined-idles}
 use Rattle.cqs_rule.proofs.queue.Queue.meet.Goals as goal
@@ -29,6 +31,16 @@ fetch_sub-requires g c =
     let j = joined-idles c.args.pass.now.seat.me.0 u.seat.me.0 _ _ rests.0 rests.1 waitless e.2 in (
       e.0 ∙ c.requires.belongs.table,
       search rules,
-      meets C.object (C.primitive x) _ _ (g.met.C.ClientWords.keeps x) _ _ _ j.weight j.idle j.empty j.owes_none
-          j.slotless j.waitless,
+      (λ s r homes here small.
+          let t = meets C.object (C.primitive x) _ _ (g.met.C.ClientWords.keeps x) c.args.self.now.table.shared.table_id.slots _ _ j.weight j.idle j.empty j.owes_none
+          j.slotless j.waitless s r homes here small in (
+            t.0,
+            t.1,
+            t.2,
+            t.3,
+            (
+              t.4,
+              alone-now C.object C.primitive _ _ x (g.met.C.ClientWords.keeps x) _ t.3 _ t.0 (set_there s.views _ _ t.0 here),
+            ),
+          )),
     )

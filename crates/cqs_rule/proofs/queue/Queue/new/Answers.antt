@@ -1,8 +1,10 @@
-use Rattle.std.proofs.Common.{rules, ◌≡◌, true, sym, subst}
+use Rattle.std.proofs.Common.{rules, ◌≡◌, true, [], refl, sym, subst}
 use Rattle.cqs_rule.specs.Configured.{is_config}
 use Rattle.cqs_rule.specs.Saw.{IsLive}
 use Rattle.cqs_rule.specs.Ruled.{cell_count}
 use Rattle.cqs_rule.specs.Views.{first_view}
+use Rattle.cqs_rule.specs.Alone.{TellsAlone}
+use Rattle.cqs_rule.proofs.Alone.{alone-now}
 use Rattle.cqs_rule.proofs.Opens.{opens-by, first-live-by}
 use Rattle.cqs_rule.proofs.queue.Queue.new.Goals as goal
 
@@ -32,4 +34,11 @@ returns-clause-belongs g c =
       live = subst (λ v. IsLive C.object v) (sym view)
           (first-live-by C.object (C.primitive x) (g.met.C.ClientWords.keeps x) config good);
       opening = search rules;
+      alone = subst (TellsAlone C.primitive) (sym view)
+          (subst (λ passes. TellsAlone C.primitive (first_view passes config.limit
+          (cell_count passes config.limit (C.primitive x).values) (C.primitive x).opening (C.primitive x).held))
+          c.from.ensures
+          (alone-now C.object C.primitive _ _ x (g.met.C.ClientWords.keeps x) _
+          (opens-by C.object (C.primitive x) (g.met.C.ClientWords.keeps x) config c.from.result c.values.result _ _ [] good
+          c.from.ensures c.values.ensures c.as_slice.ensures.value c.in_ok-words.ensures c.requires.few) 0 _ refl));
     }

@@ -1,5 +1,7 @@
-use Rattle.std.proofs.Common.{rules, refl}
+use Rattle.std.proofs.Common.{rules, refl, bit_or}
 use Rattle.cqs_rule.specs.Events.{in_any_case}
+use Rattle.cqs_rule.proofs.Lists.{set_there}
+use Rattle.cqs_rule.proofs.Alone.{alone-now}
 use Rattle.cqs_rule.proofs.CellPlaces.{client-inside}
 use Rattle.cqs_rule.proofs.Moves.{moves-at}
 use Rattle.cqs_rule.proofs.queue.Queue.or_word.Goals as goal
@@ -11,7 +13,17 @@ fetch_or-found-requires g c =
     let x = c.args.self.now.table.shared.key.client in (
       search rules,
       search rules,
-      moves-at C.object C.primitive _ _ x
-          (g.met.C.ClientWords.keeps x) g.M.Shown.event in_any_case _ _ _ c.args.word _ _ _
-          c.args.pass.now.live.0 c.requires.word c.place.ensures (λ n. refl) c.requires.law,
+      (λ s r homes here small.
+          let t = moves-at C.object C.primitive _ _ x (g.met.C.ClientWords.keeps x) g.M.Shown.event in_any_case c.args.self.now.table.shared.table_id.slots c.args.pass.now.seat.id c.args.pass.now.seat.me c.args.word _ _
+          (λ n. bit_or n c.args.bits)
+          c.args.pass.now.live.0 c.requires.word c.place.ensures (λ n. refl) c.requires.law s r homes here small in (
+            t.0,
+            t.1,
+            t.2,
+            t.3,
+            (
+              t.4,
+              alone-now C.object C.primitive _ _ x (g.met.C.ClientWords.keeps x) _ t.3 _ t.0 (set_there s.views _ _ t.0 here),
+            ),
+          )),
     )

@@ -4,6 +4,8 @@ use Rattle.cqs_rule.specs.Crew.{IsSole}
 use Rattle.cqs_rule.specs.Layout.{words_for}
 use Rattle.cqs_rule.specs.Facts.{is_owing}
 use Rattle.cqs_rule.specs.Views.{crew_turn}
+use Rattle.cqs_rule.proofs.Lists.{set_there}
+use Rattle.cqs_rule.proofs.Alone.{alone-now, not-alone}
 use Rattle.cqs_rule.proofs.Crew.{counts, makes-to, splits}
 use Rattle.cqs_rule.proofs.Tries.{sole-tells, tries-first, tries-again, cut-leaves, cut-begins, le-by}
 use Rattle.cqs_rule.proofs.queue.Queue.split.Goals as goal
@@ -14,26 +16,37 @@ load-saw-requires g c =
     let x = c.args.self.now.table.shared.key.client in (
       search rules,
       search rules,
-      counts C.object (C.primitive x) _ _ (g.met.C.ClientWords.keeps x)
-          (IsSole C.primitive) _ _ _ c.args.pass.now.live.0
-          (sole-tells C.primitive x),
+      (λ s r homes here small.
+          let t = counts C.object (C.primitive x) _ _ (g.met.C.ClientWords.keeps x)
+          (IsSole C.primitive) c.args.self.now.table.shared.table_id.slots c.args.pass.now.seat.id c.args.pass.now.seat.me c.args.pass.now.live.0
+          (sole-tells C.primitive x) s r homes here small in (
+            t.0,
+            t.1,
+            t.2,
+            t.3,
+            (
+              t.4,
+              alone-now C.object C.primitive _ _ x (g.met.C.ClientWords.keeps x) _ t.3 _ t.0 (set_there s.views _ _ t.0 here),
+            ),
+          )),
     )
 
 pub loop-pass-init : goal.loop-pass-init
 loop-pass-init g c =
     let C = g.C.ClientWords in
     let e = c.load-saw.ensures in
-    let saw = e.2.0.saw in (
+    let saw = e.2.0.0.saw in (
       record {
         table = e.0 ∙ c.requires.belongs.table;
         passes = saw.same.passes ∙ c.requires.belongs.passes;
         limit = saw.same.limit ∙ c.requires.belongs.limit;
         cells = saw.same.cells ∙ c.requires.belongs.cells;
         mode = c.requires.belongs.mode;
-        live = e.2.2;
+        live = e.2.0.2;
+        alone = e.2.1;
         opening = saw.same.opening ∙ c.requires.belongs.opening;
       },
-      tries-first C.object _ _ _ e.2.0,
+      tries-first C.object _ _ _ e.2.0.0,
     )
 
 pub compare_exchange-found-requires : goal.compare_exchange-found-requires
@@ -44,16 +57,27 @@ compare_exchange-found-requires g c =
     let room = c.loop-pass-test.true in (
       search rules,
       search rules,
-      makes-to C.object (C.primitive x) _ _ (g.met.C.ClientWords.keeps x) _ _ _ _ _ c.loop-pass.pass.live.0
+      (λ s r homes here small.
+          let t = makes-to C.object (C.primitive x) _ _ (g.met.C.ClientWords.keeps x) c.args.self.now.table.shared.table_id.slots
+          c.loop-pass.pass.seat.id c.loop-pass.saw c.with_one_more.result c.loop-pass.pass.seat.me c.loop-pass.pass.live.0
           (omega arith)
-          c.with_one_more.ensures,
+          c.with_one_more.ensures s r homes here small in (
+            t.0,
+            t.1,
+            t.2,
+            t.3,
+            (
+              t.4,
+              alone-now C.object C.primitive _ _ x (g.met.C.ClientWords.keeps x) _ t.3 _ t.0 (set_there s.views _ _ t.0 here),
+            ),
+          )),
     )
 
 pub split_seat-seat-requires : goal.split_seat-seat-requires
 split_seat-seat-requires g c =
     let C = g.C.ClientWords in
     let x = c.args.self.now.table.shared.key.client in
-    let made = c.compare_exchange-found.ensures.2.0.made c.if-found-saw.true in (
+    let made = c.compare_exchange-found.ensures.2.0.0.made c.if-found-saw.true in (
       c.compare_exchange-found.ensures.0 ∙ c.loop-pass.invariant.0.table,
       search rules,
       splits C.object (C.primitive x) _ _ (g.met.C.ClientWords.keeps x) _ _ made.weight,
@@ -65,8 +89,8 @@ invariant_of-pass-then-found-saw g c =
     let cut = c.split_seat-seat.ensures in
     let p = c.loop-pass.pass in
     let e = c.compare_exchange-found.ensures in
-    let l = cut-leaves C.object _ _ _ _ _ _ _ c.loop-pass.invariant.1 e.2.0 e.2.2 cut.2 in record {
-      live = (l.weight, ap (λ m. length m.1) cut.2 ∙ (ap length e.2.1 ∙ p.live.1));
+    let l = cut-leaves C.object _ _ _ _ _ _ _ c.loop-pass.invariant.1 e.2.0.0 e.2.0.2 cut.2 in record {
+      live = (l.weight, ap (λ m. length m.1) cut.2 ∙ (ap length e.2.0.1 ∙ p.live.1));
       number_is = l.number ∙ p.number_is;
       held_is = ap (λ f. f.has.held) l.facts ∙ p.held_is;
       owes_is = ap (λ f. is_owing f.doing) l.facts ∙ p.owes_is;
@@ -81,42 +105,44 @@ returns-then-found-saw-clause-belongs g c =
     let C = g.C.ClientWords in
     let cut = c.split_seat-seat.ensures in
     let old = c.loop-pass.invariant.0 in
-    let l = cut-leaves C.object _ _ _ _ _ _ _ c.loop-pass.invariant.1 c.compare_exchange-found.ensures.2.0
-    c.compare_exchange-found.ensures.2.2 cut.2 in record {
+    let l = cut-leaves C.object _ _ _ _ _ _ _ c.loop-pass.invariant.1 c.compare_exchange-found.ensures.2.0.0
+    c.compare_exchange-found.ensures.2.0.2 cut.2 in record {
       table = cut.0 ∙ (c.compare_exchange-found.ensures.0 ∙ old.table);
       passes = l.passes ∙ old.passes;
       limit = l.limit ∙ old.limit;
       cells = l.cells ∙ old.cells;
       mode = old.mode;
       live = l.alive;
+      alone = not-alone C.primitive _ l.lonely;
       opening = l.opening ∙ old.opening;
     }
 
 pub returns-then-found-saw-clause-looked : goal.returns-then-found-saw-clause-looked
 returns-then-found-saw-clause-looked g c =
     let C = g.C.ClientWords in
-    (cut-leaves C.object _ _ _ _ _ _ _ c.loop-pass.invariant.1 c.compare_exchange-found.ensures.2.0
-    c.compare_exchange-found.ensures.2.2 c.split_seat-seat.ensures.2).saw
+    (cut-leaves C.object _ _ _ _ _ _ _ c.loop-pass.invariant.1 c.compare_exchange-found.ensures.2.0.0
+    c.compare_exchange-found.ensures.2.0.2 c.split_seat-seat.ensures.2).saw
 
 pub returns-then-found-saw-clause-new_belongs : goal.returns-then-found-saw-clause-new_belongs
 returns-then-found-saw-clause-new_belongs g c =
     let C = g.C.ClientWords in
     let cut = c.split_seat-seat.ensures in
     let old = c.loop-pass.invariant.0 in
-    let b = cut-begins C.object _ _ _ _ _ _ _ _ c.if-found-saw.true c.compare_exchange-found.ensures.2.0
-    c.compare_exchange-found.ensures.2.2 cut.2 cut.4 in record {
+    let b = cut-begins C.object _ _ _ _ _ _ _ _ c.if-found-saw.true c.compare_exchange-found.ensures.2.0.0
+    c.compare_exchange-found.ensures.2.0.2 cut.2 cut.4 in record {
       table = cut.3 ∙ (c.compare_exchange-found.ensures.0 ∙ old.table);
       passes = b.passes ∙ old.passes;
       limit = b.limit ∙ old.limit;
       cells = b.cells ∙ old.cells;
       mode = old.mode;
       live = b.alive;
+      alone = not-alone C.primitive _ b.lonely;
       opening = b.opening ∙ old.opening;
     }
 
 pub loop-pass-smaller : goal.loop-pass-smaller
 loop-pass-smaller g c =
-    let e = c.compare_exchange-found.ensures.2.0 in
+    let e = c.compare_exchange-found.ensures.2.0.0 in
     let rises : crew_turn c.loop-pass.saw < crew_turn c.compare_exchange-found.result =
     e.later c.if-found-saw.false c.loop-pass.invariant.1.crew in
     let fits : c.compare_exchange-found.result < 18446744073709551616 = c.compare_exchange-found.type_inv in
@@ -126,17 +152,18 @@ pub loop-pass-preserved : goal.loop-pass-preserved
 loop-pass-preserved g c =
     let C = g.C.ClientWords in
     let e = c.compare_exchange-found.ensures in
-    let saw = e.2.0.saw in (
+    let saw = e.2.0.0.saw in (
       record {
         table = e.0 ∙ c.loop-pass.invariant.0.table;
         passes = saw.same.passes ∙ c.loop-pass.invariant.0.passes;
         limit = saw.same.limit ∙ c.loop-pass.invariant.0.limit;
         cells = saw.same.cells ∙ c.loop-pass.invariant.0.cells;
         mode = c.loop-pass.invariant.0.mode;
-        live = e.2.2;
+        live = e.2.0.2;
+        alone = e.2.1;
         opening = saw.same.opening ∙ c.loop-pass.invariant.0.opening;
       },
-      tries-again C.object _ _ _ _ _ c.if-found-saw.false c.loop-pass.invariant.1 e.2.0,
+      tries-again C.object _ _ _ _ _ c.if-found-saw.false c.loop-pass.invariant.1 e.2.0.0,
     )
 
 pub returns-clause-belongs : goal.returns-clause-belongs

@@ -1,4 +1,6 @@
 use Rattle.std.proofs.Common.{rules, refl, ◌<◌, ◌^◌, ap, sym, ◌∙◌, subst, arith}
+use Rattle.cqs_rule.proofs.Lists.{set_there}
+use Rattle.cqs_rule.proofs.Alone.{alone-now}
 use Rattle.cqs_rule.proofs.CellSteps.{cross, crossing-low}
 use Rattle.cqs_rule.proofs.queue.Queue.swap_table.Goals as goal
 
@@ -10,34 +12,45 @@ compare_exchange-found-requires g c =
     let client = g.met.C.ClientWords.keeps x in (
       search rules,
       search rules,
-      cross C.object (C.primitive x) _ _ client C.primitive x refl _ _ _ _ _ _ _ c.args.pass.now.live.0 c.requires.suits
-          c.requires.cell,
+      (λ s r homes here small.
+          let t = cross C.object (C.primitive x) _ _ client C.primitive x refl c.args.self.now.table.shared.table_id.slots c.args.pass.now.seat.id c.args.pass.now.seat.me
+          g.K.Kind.step c.args.word c.args.saw c.args.new c.args.pass.now.live.0 c.requires.suits
+          c.requires.cell s r homes here small in (
+            t.0,
+            t.1,
+            t.2,
+            t.3,
+            (
+              t.4,
+              alone-now C.object C.primitive _ _ x client _ t.3 _ t.0 (set_there s.views _ _ t.0 here),
+            ),
+          )),
     )
 
 pub held_after-pass-requires : goal.held_after-pass-requires
 held_after-pass-requires g c =
     let e = c.compare_exchange-found.ensures in
-    let carries = e.2.3 c.if-found-saw.true in
+    let carries = e.2.0.3 c.if-found-saw.true in
     subst (λ z. z < 2 ^ 32) (carries.held ∙ ap
     (Rattle.cqs_rule.specs.Kinds.held_then g.C.ClientWords.object.gains.held g.K.Kind.step) c.args.pass.now.held_is)
-    e.2.2.held
+    e.2.0.2.held
 
 pub waits_after-pass-requires-clause-some : goal.waits_after-pass-requires-clause-some
 waits_after-pass-requires-clause-some g c =
-    let carries = c.compare_exchange-found.ensures.2.3 c.if-found-saw.true in
+    let carries = c.compare_exchange-found.ensures.2.0.3 c.if-found-saw.true in
     let waits = carries.waits in
     let were = c.args.pass.now.waits_are in omega arith
 
 pub invariant_of-pass-clause-held_is : goal.invariant_of-pass-clause-held_is
 invariant_of-pass-clause-held_is g c =
-    let carries = c.compare_exchange-found.ensures.2.3 c.if-found-saw.true in
+    let carries = c.compare_exchange-found.ensures.2.0.3 c.if-found-saw.true in
     carries.held ∙ (ap (Rattle.cqs_rule.specs.Kinds.held_then g.C.ClientWords.object.gains.held g.K.Kind.step)
     c.args.pass.now.held_is
     ∙ sym c.held_after-pass.ensures)
 
 pub invariant_of-pass-clause-waits_are : goal.invariant_of-pass-clause-waits_are
 invariant_of-pass-clause-waits_are g c =
-    let carries = c.compare_exchange-found.ensures.2.3 c.if-found-saw.true in
+    let carries = c.compare_exchange-found.ensures.2.0.3 c.if-found-saw.true in
     let waits = carries.waits in
     let were = c.args.pass.now.waits_are in
     let now = c.waits_after-pass.ensures in omega arith

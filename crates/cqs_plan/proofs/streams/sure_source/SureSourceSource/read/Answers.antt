@@ -11,5 +11,9 @@ returns-clause-next c =
     let count = c.min-count.result in
     let buffer = c.copy_from_slice.new.self ++ drop count c.args.buffer.now in
     let copied : take count buffer ≡ take count (drop place bytes) = grind (arith, common_steps) in
-    let view = ap (λ (source : PlainSource). source.left) (sym c.self.view_is) in
-    (drop (place + count) bytes, view ∙ left_splits bytes place count ∙ ap (λ xs. xs ++ drop (place + count) bytes) (sym copied), refl)
+    let view = ap (λ (source : PlainSource). source.left) (sym c.self.view_is) in (
+      drop (place + count) bytes,
+      view ∙ left_splits bytes place count
+          ∙ ap (λ xs. xs ++ drop (place + count) bytes) (sym copied),
+      refl,
+    )

@@ -1,0 +1,199 @@
+-- The calls of a pass that is alone: between two of them nothing is on its way and nobody is at the door, so each is the plain
+-- semaphore's.
+use Rattle.std.proofs.Common.{◌≡◌, ◌≢◌, ◌⊎◌, ℕ, zero, suc, ◌+◌, ◌<◌, ◌≤◌, Bool, true, false, List, [], ◌∷◌, ◌++◌, length, Option, Some, None, Result, Ok, Err, slice_get, take, sym, refl, ap, ◌∙◌, subst, append_assoc, arith, take_at, inl, inr, ⊎_elim, lt-ltb, nat_lt, if◌then◌else◌, ne_eqb, zero-add}
+use Rattle.std.specs.List.{fold}
+use Rattle.std.proofs.lemmas.Bool.{le-ltb}
+use Rattle.std.proofs.lemmas.List.{append-nil, append_cancel_right}
+use Rattle.std.proofs.lemmas.List.Sums.{fold-append}
+use Rattle.std.proofs.lemmas.Option.{same_Some}
+use mathlib.Core.Logic.{dite}
+use native.Mathlib.Decide.{ℕ_discrete}
+use Rattle.cqs_core.specs.declared.calls.Call.TheVariants as call
+use Rattle.cqs_core.specs.declared.calls.Reply.TheVariants as reply
+use Rattle.cqs_core.specs.declared.cells.CoreCell.{CoreCell}
+use Rattle.cqs_core.specs.declared.cells.CoreState.TheVariants as state
+use Rattle.cqs_core.specs.declared.doings.Doing.{Doing}
+use Rattle.cqs_core.specs.declared.doings.Doing.TheVariants as doing
+use Rattle.cqs_core.specs.declared.entries.Entry.{Entry}
+use Rattle.cqs_core.specs.declared.entries.Entry.TheVariants as entry
+use Rattle.cqs_core.specs.Numbered.{picked, cons_option, IsIn}
+use Rattle.cqs_core.specs.QueueLine.{Waiting, line, in_line}
+use Rattle.cqs_core.specs.QueueState.{Queue}
+use Rattle.cqs_core.specs.Resting.{IsIdle}
+use Rattle.cqs_core.specs.SemaphoreEntries.{object_after, after_entry, IsLegal, IsAllowed, Waits, find_wait}
+use Rattle.cqs_core.specs.SemaphoreObject.{Semaphore, due, opening}
+use Rattle.cqs_core.specs.SemaphoreShown.{IsCore, shown}
+use Rattle.cqs_core.specs.SemaphoreTable.{Shape}
+use Rattle.cqs_core.specs.SoleCaller.{tells, sole_call, sole_release, sole_poll, sole_cancel}
+use Rattle.cqs_core.proofs.CoreFacts.{shows-object}
+use Rattle.cqs_core.proofs.LineReads.{line-keyed}
+use Rattle.cqs_core.proofs.Places.{get-append_left, get-push_at, get-below}
+use Rattle.cqs_core.proofs.Quiet.{nobody-at_door, behind, none-going}
+use Rattle.cqs_core.proofs.Rising.{in-none, in-behind}
+use Rattle.cqs_core.proofs.Waits.{found-waits}
+use Rattle.cqs_rule.specs.declared.view.View.{View}
+use Rattle.cqs_rule.specs.declared.view.Opening.{Opening}
+use Rattle.cqs_rule.specs.Alone.{IsAlone, TellsAlone}
+use Rattle.cqs_rule.specs.Hidden.{state_in}
+use Rattle.cqs_rule.specs.Semaphore.{core_shown}
+use Rattle.cqs_rule.specs.SemaphorePermits.{permits_of}
+use Rattle.cqs_rule.specs.Waits.{place_of}
+use Rattle.cqs_rule.specs.declared.config.AcquireError.{AcquireError}
+use Rattle.cqs_semaphore.specs.declared.answers.Acquired.{Acquired}
+use Rattle.cqs_semaphore.specs.declared.answers.Acquired.TheVariants.{Now, Later}
+use Rattle.cqs_semaphore.specs.declared.answers.Released.{Released}
+use Rattle.cqs_semaphore.specs.declared.answers.Released.TheVariants.{Freed, Sent, Left, Void, Under}
+use Rattle.cqs_semaphore.specs.declared.answers.Polled.{Polled}
+use Rattle.cqs_semaphore.specs.declared.answers.Polled.TheVariants.{Granted, Pending}
+use Rattle.cqs_semaphore.specs.Alone.{IsPlainAcquire, IsPlainRelease, IsPlainEnd, IsFirstOf, HasLine}
+use Rattle.cqs_semaphore.specs.Answers.{Releases, Ends}
+use Rattle.cqs_semaphore.specs.Calls.{CallRule, plain_after}
+use Rattle.cqs_semaphore.specs.Causes.{primitive_of, CellWas}
+use Rattle.cqs_semaphore.specs.Entries.{took_entries, came_by, acquired_entries, acquired_further, gave_entries, resumed_further}
+use Rattle.cqs_semaphore.specs.Permits.{number_of}
+
+-- an entry of a legal history may come after those before it
+allowed-at : (size : ℕ) (h mid rest all : List Entry) (e : Entry) → all ≡ h ++ (mid ++ e ∷ rest) → IsLegal size all
+    → IsAllowed (fold after_entry (object_after size h) mid) e
+allowed-at size h mid rest all e is legal =
+    let front = h ++ mid in
+    let whole : all ≡ front ++ (e ∷ rest) = is ∙ sym (append_assoc h mid (e ∷ rest)) in
+    let there : slice_get (front ++ (e ∷ rest)) (length front) ≡ Some e =
+    ap (λ l. slice_get l (length front)) (sym (append_assoc front (e ∷ []) rest))
+    ∙ get-append_left (front ++ e ∷ []) rest (length front) e (get-push_at front e (length front) refl) in
+    let here : IsAllowed (fold after_entry (opening size) (take (length front) all)) e =
+    legal.at (length front) e (ap (λ l. slice_get l (length front)) whole ∙ there) in
+    let before : take (length front) all ≡ front =
+    ap (take (length front)) whole ∙ take_at front (e ∷ rest) (length front) refl in
+    subst (λ (o : Semaphore). IsAllowed o e)
+    (ap (fold after_entry (opening size)) before ∙ fold-append after_entry (opening size) h mid) here
+
+-- nothing is on its way, and nobody is at the door
+pub record IsQuiet (o : Semaphore) : Type 0 where
+  pub door : length o.door ≡ 0
+  pub way : o.way ≡ 0
+
+-- nobody is found under a number at which nothing is read
+find-nobody : (passes : List Doing) (m k : ℕ) (cells : List CoreCell)
+    → ((i : ℕ) (c : CoreCell) → k ≡ m + i → slice_get cells i ≡ Some c → in_line passes k c ≡ None)
+    → find_wait k (picked (in_line passes) m cells) ≡ None
+find-nobody passes m k [] none = refl
+find-nobody passes m k (c ∷ cells) none =
+    go (in_line passes m c) refl (find-nobody passes (suc m) k cells (λ i z at got. none (suc i) z (omega arith) got))
+  where
+    go : (o : Option Waiting) → in_line passes m c ≡ o → find_wait k (picked (in_line passes) (suc m) cells) ≡ None
+        → find_wait k (cons_option o (picked (in_line passes) (suc m) cells)) ≡ None
+    go None reads rest = rest
+    go (Some w) reads rest =
+        let number : w.wait ≡ m = (line-keyed passes).at m c w reads in
+        let other : k ≢ w.wait = λ e.
+        let here : k ≡ m + 0 = omega arith in
+        let nothing : in_line passes k c ≡ None = none 0 c here refl in
+        let same : in_line passes k c ≡ in_line passes m c = ap (λ n. in_line passes n c) (omega arith) in
+        absurd (cc (nothing, same, reads)) in
+        rw (ne_eqb k w.wait other) rest
+
+waiting-gone : (passes : List Doing) (k : ℕ) (c : CoreCell) → c.state ≡ state.Resumed → in_line passes k c ≡ None
+waiting-gone passes k c served = by c.owner refl
+  where
+    by : (o : Option ℕ) → c.owner ≡ o → in_line passes k c ≡ None
+    by None is = rw is refl
+    by (Some p) is = rw (is, served) refl
+
+-- a wait that was served isn't in the line
+served-gone : (q : Queue) (k : ℕ) → state_in (slice_get q.cells k) ≡ state.Resumed → find_wait k (line q) ≡ None
+served-gone q k served = find-nobody q.doing 0 k q.cells (λ i c at got.
+    let here : slice_get q.cells k ≡ Some c = ap (slice_get q.cells) (at ∙ zero-add i) ∙ got in
+    waiting-gone q.doing k c (sym (ap state_in here) ∙ served))
+
+module _ {T : Type 0} where
+  quiet-alone : (v : View Entry T) → IsAlone primitive_of v → v.facts.doing ≡ doing.Idle → IsQuiet (plain_after v)
+  quiet-alone v a idle =
+      let s : Shape = core_shown (permits_of a.client) a.hidden a.words v.seen in
+      let core : IsCore s = a.shown in
+      let q = a.hidden.queue in
+      let rests : IsIdle q.doing = record { at = λ p d there. idle-at p d there } in
+      let same : object_after (permits_of a.client) v.seen ≡ plain_after v =
+      ap (λ (o : Opening). object_after o.size v.seen) a.opening_is in
+      let shows = shows-object s core in
+      let within = behind q core.sound rests _ core.short in
+      let still = none-going q core.sound rests within in
+      let on_way = shows.way in
+      let nobody = ap (λ l. length l) (shows.door ∙ nobody-at_door q core.sound rests) in
+      subst IsQuiet same (record { door = nobody; way = omega arith })
+    where
+      idle-at : (p : ℕ) (d : Doing) → slice_get a.hidden.queue.doing p ≡ Some d → d ≡ doing.Idle
+      idle-at p d there = dite (ℕ_discrete p v.number)
+          (λ (e : p ≡ v.number). same_Some d doing.Idle
+          (sym there ∙ (ap (slice_get a.hidden.queue.doing) e ∙ (a.stands.doing ∙ ap Some idle))))
+          (λ (other : p ≢ v.number).
+          let below = get-below a.hidden.queue.doing p d there in
+          let long = a.places in
+          let r = a.others p other (omega arith) in
+          same_Some d doing.Idle (sym there ∙ (r.stands.doing ∙ ap Some r.idle)))
+
+  pub quiet : (v : View Entry T) → TellsAlone primitive_of v → v.weight ≡ 1 → v.alone ≡ true → v.facts.doing ≡ doing.Idle
+      → IsQuiet (plain_after v)
+  quiet v tells_it one alone idle = quiet-alone v (tells_it one alone) idle
+
+  -- all that a pass has seen after a call that it made alone
+  record Legal (v : View Entry T) (entries : List Entry) (w : View Entry T) : Type 0 where
+    seen : w.seen ≡ v.seen ++ entries
+    opening_is : w.opening ≡ v.opening
+    legal : IsLegal v.opening.size w.seen
+
+  legal-alone : (v w : View Entry T) (own further : List Entry) → CallRule v own further w → v.alone ≡ true
+      → Legal v (own ++ further) w
+  legal-alone v w own further c alone = record {
+    seen = c.called.seen ∙ ap (λ l. v.seen ++ l) (c.called.sole alone);
+    opening_is = c.called.same.opening;
+    legal = subst (λ (o : Opening). IsLegal o.size w.seen) c.called.same.opening c.legal;
+  }
+
+  free-at : (v w : View Entry T) (n : ℕ) → 0 < n → nat_lt 0 n ≡ true
+  free-at v w n some = lt-ltb 0 n some
+
+  -- an acquire
+  plain-took : (v w : View Entry T) (n : Option ℕ) → IsQuiet (plain_after v)
+      → Legal v (took_entries v.number n ++ came_by n) w
+      → (n ≡ None)
+      × (sole_call (plain_after v) (call.Acquire v.number) ≡ tells (entry.TakeNow v.number ∷ []) reply.Now)
+  plain-took v w None still l =
+      let free = allowed-at v.opening.size v.seen [] [] w.seen (entry.TakeNow v.number) l.seen l.legal in
+      (refl, rw (lt-ltb 0 (plain_after v).free free) refl)
+  plain-took v w (Some k) still l =
+      let may = allowed-at v.opening.size v.seen (entry.TakeDoor v.number ∷ entry.Enter v.number k ∷ []) [] w.seen
+      (entry.Deliver k) l.seen l.legal in
+      let o = fold after_entry (plain_after v) (entry.TakeDoor v.number ∷ entry.Enter v.number k ∷ []) in
+      absurd (in-none _ (subst (λ n. Waits k may.0 (take n o.line)) still.way may.1))
+
+  plain-later : (v w : View Entry T) (k : ℕ) → Legal v (took_entries v.number (Some k) ++ []) w
+      → sole_call (plain_after v) (call.Acquire v.number) ≡ tells (took_entries v.number (Some k)) (reply.Later k)
+  plain-later v w k l =
+      let none = allowed-at v.opening.size v.seen [] (entry.Enter v.number k ∷ []) w.seen (entry.TakeDoor v.number) l.seen
+      l.legal in
+      let entered = allowed-at v.opening.size v.seen (entry.TakeDoor v.number ∷ []) [] w.seen (entry.Enter v.number k) l.seen
+      l.legal in
+      let next : k ≡ (plain_after v).next = entered.1 in
+      rw (le-ltb 0 (plain_after v).free (omega arith)) (ap (λ n. tells (took_entries v.number (Some n)) (reply.Later n)) (sym next))
+
+  pub plain-acquire : (v w : View Entry T) (a : Acquired) → IsQuiet (plain_after v)
+      → CallRule v (acquired_entries v.number (Ok a)) (acquired_further (Ok a)) w → v.alone ≡ true → IsPlainAcquire v a
+  plain-acquire v w (Now permit) still c alone = plain-took v w (number_of permit) still (legal-alone v w _ _ c alone)
+  plain-acquire v w (Later wait) still c alone =
+      plain-later v w (place_of wait).index (legal-alone v w _ _ c alone)
+
+  -- a try
+  pub plain-got : (v w : View Entry T) → CallRule v (entry.TryGot v.number ∷ []) [] w → v.alone ≡ true
+      → sole_call (plain_after v) (call.Try v.number) ≡ tells (entry.TryGot v.number ∷ []) reply.Got
+  plain-got v w c alone =
+      let l = legal-alone v w _ _ c alone in
+      let free = allowed-at v.opening.size v.seen [] [] w.seen (entry.TryGot v.number) l.seen l.legal in
+      rw (lt-ltb 0 (plain_after v).free free) refl
+
+  pub plain-busy : (v w : View Entry T) → CallRule v (entry.TryBusy v.number ∷ []) [] w → v.alone ≡ true
+      → sole_call (plain_after v) (call.Try v.number) ≡ tells (entry.TryBusy v.number ∷ []) reply.Busy
+  plain-busy v w c alone =
+      let l = legal-alone v w _ _ c alone in
+      let none = allowed-at v.opening.size v.seen [] [] w.seen (entry.TryBusy v.number) l.seen l.legal in
+      rw (le-ltb 0 (plain_after v).free (omega arith)) refl

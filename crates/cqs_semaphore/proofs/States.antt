@@ -1,0 +1,157 @@
+-- What steps on the state and on the suspend counter found, and where in the history it was so.
+use Rattle.std.proofs.Common.{◌≡◌, ℕ, suc, ◌+◌, ◌<◌, ◌≤◌, Bool, true, false, List, [], ◌∷◌, ◌++◌, ℤ, pos, ◌<ℤ◌, ◌≤ℤ◌, sym, refl, ap, ◌∙◌, subst, append_assoc, arith, cond}
+use Rattle.std.specs.Prelude.{count_by, nat_lt}
+use Rattle.std.specs.List.{fold}
+use Rattle.std.proofs.lemmas.Bool.{ltb-true, ltb-false, cases_Bool}
+use Rattle.std.proofs.lemmas.Int.{ints}
+use Rattle.std.proofs.lemmas.List.{append-nil, append_cancel_right}
+use Rattle.std.proofs.lemmas.List.Sums.{sum_by-cons}
+use Rattle.cqs_core.specs.declared.doings.Doing.TheVariants as doing
+use Rattle.cqs_core.specs.Keyed.{without}
+use Rattle.cqs_core.specs.declared.entries.Entry.{Entry}
+use Rattle.cqs_core.specs.declared.entries.Entry.TheVariants as entry
+use Rattle.cqs_core.specs.SemaphoreEntries.{object_after, after_entry, turned_back}
+use Rattle.cqs_core.specs.SemaphoreObject.{Semaphore, due, opening}
+use Rattle.cqs_core.specs.SemaphoreShown.{state_of}
+use Rattle.cqs_rule.specs.declared.view.Facts.{Facts}
+use Rattle.cqs_rule.specs.declared.view.Opening.{Opening}
+use Rattle.cqs_rule.specs.declared.view.Sighting.{Sighting}
+use Rattle.cqs_rule.specs.declared.view.Sighting.TheVariants.{Word}
+use Rattle.cqs_rule.specs.declared.view.View.{View}
+use Rattle.cqs_rule.specs.Called.{Called}
+use Rattle.cqs_rule.specs.Layout.{suspends_place, client_place}
+use Rattle.cqs_rule.specs.Lists.{IsPrefix}
+use Rattle.cqs_rule.specs.Saw.{Saw}
+use Rattle.cqs_rule.specs.Semaphore.{semaphore_object}
+use Rattle.cqs_rule.specs.SemaphoreSteps.{NextIs}
+use Rattle.cqs_words.specs.State.{count_in, is_above_zero, is_below_zero}
+use Rattle.cqs_semaphore.specs.Causes.{is_enter, drawn_in, Counted, StateWas, state_after}
+
+module _ {A : Type 0} where
+  pub prefix-same : (l : List A) → IsPrefix l l
+  prefix-same l = ([], sym (append-nil l))
+
+  pub prefix-then : (a b c : List A) → IsPrefix a b → IsPrefix b c → IsPrefix a c
+  prefix-then a b c p q = (p.0 ++ q.0, q.1 ∙ (ap (λ l. l ++ q.0) p.1 ∙ append_assoc a p.0 q.0))
+
+pub prefix-more : {A : Type 0} (a b c d : List A) → IsPrefix a (((a ++ b) ++ c) ++ d)
+prefix-more a b c d = (b ++ (c ++ d), append_assoc (a ++ b) c d ∙ append_assoc a b (c ++ d))
+
+-- an entry draws a number exactly where it is an Enter
+turned-next : (o : Semaphore) → (turned_back o).next ≡ o.next
+turned-next o = by (nat_lt (due o) o.way) refl
+  where
+    by : (b : Bool) → nat_lt (due o) o.way ≡ b → (turned_back o).next ≡ o.next
+    by true is = rw is refl
+    by false is = rw is refl
+
+step-next : (o : Semaphore) (e : Entry) → (after_entry o e).next ≡ o.next + cond (is_enter e) 1 0
+step-next o (entry.TakeNow c) = omega arith
+step-next o (entry.TakeDoor c) = omega arith
+step-next o (entry.Enter c k) = refl
+step-next o (entry.TryGot c) = omega arith
+step-next o (entry.TryBusy c) = omega arith
+step-next o (entry.GiveFreed c) = omega arith
+step-next o (entry.GiveSent c) = omega arith
+step-next o (entry.Deliver k) = omega arith
+step-next o (entry.Leave c k) =
+    let same = turned-next (record o { line = without (λ w. w.wait) k o.line }) in omega arith
+step-next o (entry.Late c k) = omega arith
+step-next o (entry.LookGranted c k) = omega arith
+step-next o (entry.LookPending c k) = omega arith
+
+next-from : (h : List Entry) (o : Semaphore) → (fold after_entry o h).next ≡ o.next + count_by is_enter h
+next-from [] o = omega arith
+next-from (e ∷ h) o =
+    let here = step-next o e in
+    let later = next-from h (after_entry o e) in
+    let both : count_by is_enter (e ∷ h) ≡ cond (is_enter e) 1 0 + count_by is_enter h =
+    sum_by-cons (λ x. cond (is_enter x) 1 0) e h in
+    omega arith
+
+pub next-drawn : (size : ℕ) (h : List Entry) → (object_after size h).next ≡ drawn_in h
+next-drawn size h = let all = next-from h (opening size) in omega arith
+
+-- what the tests of a word say of its count
+pub count-above : (n : ℕ) → is_above_zero n ≡ true → pos 0 <ℤ count_in n
+count-above n is = let above = ltb-true _ _ is in grind (arith, ints)
+
+pub count-not_above : (n : ℕ) → is_above_zero n ≡ false → count_in n ≤ℤ pos 0
+count-not_above n is = let below = ltb-false _ _ is in grind (arith, ints)
+
+pub count-below : (n : ℕ) → is_below_zero n ≡ true → count_in n <ℤ pos 0
+count-below n is = let below = ltb-true _ _ is in grind (arith, ints)
+
+pub count-not_below : (n : ℕ) → is_below_zero n ≡ false → pos 0 ≤ℤ count_in n
+count-not_below n is = let above = ltb-false _ _ is in grind (arith, ints)
+
+pub count-same : (n m : ℕ) → count_in n ≡ count_in m → n ≡ m
+count-same n m is = grind (arith, ints)
+
+module _ {T : Type 0} where
+  pub saw-prefix : (v w : View Entry T) (f : Facts) (es : List Entry) → Saw semaphore_object v f es w → IsPrefix v.seen w.seen
+  saw-prefix v w f es s = (s.between ++ es, s.seen ∙ append_assoc v.seen s.between es)
+
+  pub called-prefix : (v w : View Entry T) (es last : List Entry) → Called semaphore_object v es last w
+      → IsPrefix v.seen w.seen
+  called-prefix v w es last c = (c.more, c.seen)
+
+  -- the counter was loaded, and the call went on
+  pub counted : (v u w : View Entry T) (n : ℕ) → NextIs v n u → IsPrefix u.seen w.seen
+      → IsPrefix u.facts.found w.facts.found → Counted v n u.seen w
+  counted v u w n next seen found = record {
+    since = saw-prefix v u _ _ next.saw;
+    seen = seen;
+    drawn = sym (next-drawn u.opening.size u.seen) ∙ next.next;
+    found = prefix-then _ _ _ (prefix-of (ap (λ (f : Facts). f.found) next.saw.facts_are)) found;
+  }
+    where
+      prefix-of : {A : Type 0} {a b : List A} → b ≡ a → IsPrefix a b
+      prefix-of {A} {a} {b} e = subst (IsPrefix a) (sym e) (prefix-same a)
+
+  -- the state was found so, by a step from u to x, and the call had come to u and went on from x
+  pub state-was : (v u x w : View Entry T) (f : Facts) (es before : List Entry) (n : ℕ) (earlier : List Sighting)
+      → IsPrefix v.seen u.seen → Saw semaphore_object u f es x → x.seen ≡ before ++ es
+      → count_in n ≡ state_after x before → x.facts.found ≡ v.facts.found ++ (earlier ++ Word (client_place 0) n ∷ [])
+      → IsPrefix x.seen w.seen → w.opening ≡ x.opening → IsPrefix x.facts.found w.facts.found
+      → StateWas v (count_in n) before es w
+  state-was v u x w f es before n earlier old s seen state found on opening found_on =
+      let here : before ≡ u.seen ++ s.between = append_cancel_right before (u.seen ++ s.between) es (sym seen ∙ s.seen) in
+      record {
+        since = prefix-then v.seen u.seen before old (s.between, here);
+        seen = subst (λ l. IsPrefix l w.seen) seen on;
+        state = state ∙ ap (λ (o : Opening).
+            state_of (object_after o.size before)) (sym opening);
+        word = n;
+        count_is = refl;
+        found = (
+          earlier,
+          found_on.0,
+          found_on.1
+              ∙ (ap (λ l. l ++ found_on.0) found
+              ∙ (append_assoc v.facts.found (earlier ++ Word (client_place 0) n ∷ []) found_on.0
+              ∙ ap (λ l. v.facts.found ++ l) (append_assoc earlier (Word (client_place 0) n ∷ []) found_on.0))),
+        );
+      }
+
+  -- what the state was stays so while the call goes on
+  pub state-later : (v x w : View Entry T) (count : ℤ) (before own : List Entry)
+      → StateWas v count before own x → IsPrefix x.seen w.seen → IsPrefix x.facts.found w.facts.found
+      → w.opening ≡ x.opening → StateWas v count before own w
+  state-later v x w count before own s seen found opening = record {
+    since = s.since;
+    seen = prefix-then (before ++ own) x.seen w.seen s.seen seen;
+    state = s.state ∙ ap (λ (o : Opening).
+        state_of
+        (object_after o.size before)) (sym opening);
+    word = s.word;
+    count_is = s.count_is;
+    found = (
+      s.found.0,
+      s.found.1 ++ found.0,
+      found.1
+          ∙ (ap (λ l. l ++ found.0) s.found.2
+          ∙ (append_assoc v.facts.found _ found.0
+          ∙ ap (λ l. v.facts.found ++ l) (append_assoc s.found.0 (Word (client_place 0) s.word ∷ s.found.1) found.0))),
+    );
+  }

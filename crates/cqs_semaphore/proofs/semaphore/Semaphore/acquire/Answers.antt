@@ -1,0 +1,84 @@
+use Rattle.std.proofs.Common.{rules, ◌≡◌, ◌<◌, ◌≤◌, ◌∷◌, [], true, false, sym, refl, ◌∙◌, arith, None}
+use Rattle.cqs_core.specs.declared.entries.Entry.TheVariants as entry
+use Rattle.cqs_rule.specs.Passes.{pass_view}
+use Rattle.cqs_words.specs.State.{is_above_zero}
+use Rattle.cqs_semaphore.specs.declared.answers.Acquired.TheVariants.{Now}
+use Rattle.cqs_semaphore.proofs.AloneSteps.{quiet, plain-acquire}
+use Rattle.cqs_semaphore.proofs.AcquireSteps.{Came, came, worn, worn-called, was-free, below-now, waits-called, waits-below, waits-acquired}
+use Rattle.cqs_semaphore.proofs.Rules.{call-rule_own}
+use Rattle.cqs_semaphore.proofs.semaphore.Semaphore.acquire.Goals as goal
+
+pub returns-then-next_wait-limit-clause-called : goal.returns-then-next_wait-limit-clause-called
+returns-then-next_wait-limit-clause-called g c =
+    call-rule_own _ _ [] [] (worn-called _ _ _ c.next_wait.ensures.saw) tt c.requires.belongs.live.own
+    c.next_wait.ensures.belongs.live.legal
+
+pub returns-then-next_wait-limit-clause-worn : goal.returns-then-next_wait-limit-clause-worn
+returns-then-next_wait-limit-clause-worn g c =
+    let limit = c.limit.ensures in
+    let is = c.requires.belongs.limit in
+    let high = c.if-next_wait-limit.true in
+    worn _ _ _ c.next_wait.ensures.saw (omega arith)
+
+pub returns-then-is_above_zero-clause-called : goal.returns-then-is_above_zero-clause-called
+returns-then-is_above_zero-clause-called g c =
+    let limit = c.limit.ensures in
+    let is = c.requires.belongs.limit in
+    let low = c.if-next_wait-limit.false in
+    let v = pass_view c.args.pass.now in
+    let t : Came true v (pass_view c.take_permit.new.pass) =
+    came true _ _ _ _ _ (sym c.is_above_zero.ensures ∙ c.if-is_above_zero.true) (omega arith) c.next_wait.ensures.saw
+    c.take_permit.ensures.saw in
+    call-rule_own _ _ (entry.TakeNow v.number ∷ []) _ t.called (λ n. refl, tt) c.requires.belongs.live.own
+    c.take_permit.ensures.belongs.live.legal
+
+pub returns-then-is_above_zero-clause-below : goal.returns-then-is_above_zero-clause-below
+returns-then-is_above_zero-clause-below g c =
+    let limit = c.limit.ensures in
+    let is = c.requires.belongs.limit in
+    let low = c.if-next_wait-limit.false in
+    below-now true _ _ (came true _ _ _ _ _ (sym c.is_above_zero.ensures ∙ c.if-is_above_zero.true) (omega arith)
+    c.next_wait.ensures.saw c.take_permit.ensures.saw)
+
+pub returns-then-is_above_zero-clause-acquired : goal.returns-then-is_above_zero-clause-acquired
+returns-then-is_above_zero-clause-acquired g c =
+    let limit = c.limit.ensures in
+    let is = c.requires.belongs.limit in
+    let low = c.if-next_wait-limit.false in
+    was-free _ _ c.requires.ready (came true _ _ _ _ _ (sym c.is_above_zero.ensures ∙ c.if-is_above_zero.true)
+    (omega arith) c.next_wait.ensures.saw c.take_permit.ensures.saw)
+
+pub returns-then-is_above_zero-clause-alone : goal.returns-then-is_above_zero-clause-alone
+returns-then-is_above_zero-clause-alone g c = λ alone.
+    plain-acquire _ _ (Now (record { number = None })) (quiet _ c.requires.belongs.alone c.args.pass.now.live.0 alone c.requires.ready.idle)
+    (returns-then-is_above_zero-clause-called g c) alone
+
+pub returns-clause-called : goal.returns-clause-called
+returns-clause-called g c =
+    let limit = c.limit.ensures in
+    let is = c.requires.belongs.limit in
+    let low = c.if-next_wait-limit.false in
+    waits-called _ _ _ _ (came false _ _ _ _ _ (sym c.is_above_zero.ensures ∙ c.if-is_above_zero.false) (omega arith)
+    c.next_wait.ensures.saw c.take_permit.ensures.saw) c.wait_in_line.ensures.waits c.requires.belongs.live.own
+    c.wait_in_line.ensures.belongs.live.legal
+
+pub returns-clause-below : goal.returns-clause-below
+returns-clause-below g c =
+    let limit = c.limit.ensures in
+    let is = c.requires.belongs.limit in
+    let low = c.if-next_wait-limit.false in
+    waits-below _ _ _ _ (came false _ _ _ _ _ (sym c.is_above_zero.ensures ∙ c.if-is_above_zero.false) (omega arith)
+    c.next_wait.ensures.saw c.take_permit.ensures.saw) c.wait_in_line.ensures.waits
+
+pub returns-clause-acquired : goal.returns-clause-acquired
+returns-clause-acquired g c =
+    let limit = c.limit.ensures in
+    let is = c.requires.belongs.limit in
+    let low = c.if-next_wait-limit.false in
+    waits-acquired _ _ _ _ c.requires.ready (came false _ _ _ _ _ (sym c.is_above_zero.ensures ∙ c.if-is_above_zero.false)
+    (omega arith) c.next_wait.ensures.saw c.take_permit.ensures.saw) c.wait_in_line.ensures.waits
+
+pub returns-clause-alone : goal.returns-clause-alone
+returns-clause-alone g c = λ alone.
+    plain-acquire _ _ c.wait_in_line.result (quiet _ c.requires.belongs.alone c.args.pass.now.live.0 alone c.requires.ready.idle)
+    (returns-clause-called g c) alone

@@ -1,0 +1,34 @@
+use Rattle.std.proofs.Common.{◌∷◌, [], true, false, sym, refl, ◌∙◌}
+use Rattle.cqs_core.specs.declared.entries.Entry.TheVariants as entry
+use Rattle.cqs_rule.specs.Passes.{pass_view}
+use Rattle.cqs_semaphore.proofs.ReleaseSteps.{gave, gave-called, freed, releases-so, released-rule}
+use Rattle.cqs_semaphore.proofs.Rules.{call-rule_own}
+use Rattle.cqs_semaphore.proofs.semaphore.Semaphore.release.Goals as goal
+
+pub returns-then-is_below_zero-clause-called : goal.returns-then-is_below_zero-clause-called
+returns-then-is_below_zero-clause-called g c =
+    let t = gave true _ _ _ (sym c.is_below_zero.ensures ∙ c.if-is_below_zero.true) c.give_permit.ensures.saw in
+    released-rule _ _ _ _ _ _ _ t c.send.ensures.ended c.requires.belongs.live.own c.send.ensures.belongs.live.legal
+
+pub returns-then-is_below_zero-clause-released : goal.returns-then-is_below_zero-clause-released
+returns-then-is_below_zero-clause-released g c =
+    let t = gave true _ _ _ (sym c.is_below_zero.ensures ∙ c.if-is_below_zero.true) c.give_permit.ensures.saw in
+    releases-so _ _ _ _ _ _ _ c.requires.ready t c.send.ensures.ended
+
+pub returns-then-is_below_zero-clause-alone : goal.returns-then-is_below_zero-clause-alone
+returns-then-is_below_zero-clause-alone g c = ?
+
+pub returns-clause-called : goal.returns-clause-called
+returns-clause-called g c =
+    let v = pass_view c.args.pass.now in
+    let t = gave false _ _ _ (sym c.is_below_zero.ensures ∙ c.if-is_below_zero.false) c.give_permit.ensures.saw in
+    call-rule_own _ _ (entry.GiveFreed v.number ∷ []) _ (gave-called false _ _ _ t) (λ n. refl, tt)
+    c.requires.belongs.live.own c.give_permit.ensures.belongs.live.legal
+
+pub returns-clause-released : goal.returns-clause-released
+returns-clause-released g c =
+    let t = gave false _ _ _ (sym c.is_below_zero.ensures ∙ c.if-is_below_zero.false) c.give_permit.ensures.saw in
+    freed _ _ _ c.requires.ready t
+
+pub returns-clause-alone : goal.returns-clause-alone
+returns-clause-alone g c = ?

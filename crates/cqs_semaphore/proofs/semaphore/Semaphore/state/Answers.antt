@@ -1,0 +1,10 @@
+use Rattle.std.proofs.Common.{[]}
+use Rattle.cqs_rule.specs.Semaphore.{semaphore_object}
+use Rattle.cqs_rule.proofs.Calls.{called-by}
+use Rattle.cqs_semaphore.proofs.Rules.{call-rule_own}
+use Rattle.cqs_semaphore.proofs.semaphore.Semaphore.state.Goals as goal
+
+pub returns-clause-called : goal.returns-clause-called
+returns-clause-called g c =
+    call-rule_own _ _ [] [] (called-by semaphore_object _ _ _ [] c.read_state.ensures.saw.saw) tt
+    c.requires.belongs.live.own c.read_state.ensures.belongs.live.legal

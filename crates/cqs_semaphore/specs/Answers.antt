@@ -1,0 +1,167 @@
+-- What each call answers, and why.
+use Rattle.std.specs.Prelude.{◌≡◌, ◌≢◌, ◌⊎◌, ℕ, ◌+◌, ◌-◌, ◌<◌, ◌≤◌, true, List, [], ◌∷◌, ◌++◌, Option, Some, None, ℤ, pos, ◌<ℤ◌, ◌≤ℤ◌}
+use Rattle.cqs_core.specs.declared.cells.CoreState.TheVariants as state
+use Rattle.cqs_core.specs.declared.doings.Doing.TheVariants as doing
+use Rattle.cqs_core.specs.declared.entries.Entry.{Entry}
+use Rattle.cqs_core.specs.declared.entries.Entry.TheVariants as entry
+use Rattle.cqs_rule.specs.declared.queue.tokens.Under as token
+use Rattle.cqs_rule.specs.declared.queue.tokens.Wait.{Wait}
+use Rattle.cqs_rule.specs.declared.view.Facts.{Facts}
+use Rattle.cqs_rule.specs.declared.view.Sighting.TheVariants.{Word}
+use Rattle.cqs_rule.specs.declared.view.View.{View}
+use Rattle.cqs_rule.specs.Layout.{suspends_place}
+use Rattle.cqs_rule.specs.Lists.{without}
+use Rattle.cqs_rule.specs.Owed.{HasUnder}
+use Rattle.cqs_rule.specs.Waits.{place_of, HasWait}
+use Rattle.cqs_semaphore.specs.declared.answers.Permit.{Permit}
+use Rattle.cqs_semaphore.specs.declared.answers.Acquired.{Acquired}
+use Rattle.cqs_semaphore.specs.declared.answers.Acquired.TheVariants.{Now, Later}
+use Rattle.cqs_semaphore.specs.declared.answers.Tried.{Tried}
+use Rattle.cqs_semaphore.specs.declared.answers.Tried.TheVariants.{Got, Busy, Contended}
+use Rattle.cqs_semaphore.specs.declared.answers.Released.{Released}
+use Rattle.cqs_semaphore.specs.declared.answers.Released.TheVariants.{Freed, Sent, Left, Void, Under}
+use Rattle.cqs_semaphore.specs.declared.answers.Polled.{Polled}
+use Rattle.cqs_semaphore.specs.declared.answers.Polled.TheVariants.{Granted, Pending}
+use Rattle.cqs_semaphore.specs.declared.answers.CancelAnswer.{CancelAnswer}
+use Rattle.cqs_semaphore.specs.declared.answers.CancelAnswer.TheVariants.{Cancelled, TooLate}
+use Rattle.cqs_semaphore.specs.Calls.{IsReady, Rests, CallRule}
+use Rattle.cqs_semaphore.specs.Causes.{drawn_in, Counted, StateWas, CellWas, CellWasOnce, PassedOver, state_after}
+use Rattle.cqs_semaphore.specs.Entries.{passed_further, cancelled_entries}
+use Rattle.cqs_semaphore.specs.Owed.{owed_after}
+use Rattle.cqs_semaphore.specs.Permits.{number_of}
+
+-- how many numbers one call passes over before it hands the resumption back
+abbrev pub most_passed_over : ℕ
+most_passed_over = 64
+
+-- a pass at these facts that loaded the suspend counter as n, and did nothing else
+abbrev pub facts_refused : ℕ → Facts → Facts
+facts_refused n f = record f { found = f.found ++ Word suspends_place n ∷ [] }
+
+module _ {T : Type 0} where
+  -- An acquire was refused: it loaded the suspend counter, and this was at the limit or above. So many numbers had been drawn in
+  -- all that the pass has seen now. Nothing else was touched.
+  pub record IsWorn (v w : View Entry T) : Type 0 where
+    pub loaded : ℕ
+    pub worn : v.limit ≤ loaded
+    pub counted : Counted v loaded w.seen w
+    pub facts_are : w.facts ≡ facts_refused loaded v.facts
+
+  -- one that wasn't had loaded it below the limit
+  pub record IsBelow (v w : View Entry T) : Type 0 where
+    pub loaded : ℕ
+    pub before : List Entry
+    pub below : loaded < v.limit
+    pub counted : Counted v loaded before w
+
+  -- The state was found above 0, and the permit taken by that step.
+  pub record WasFree (v w : View Entry T) : Type 0 where
+    pub count : ℤ
+    pub before : List Entry
+    pub free : pos 0 <ℤ count
+    pub found : StateWas v count before (entry.TakeNow v.number ∷ []) w
+    pub rests : Rests v (v.facts.has.held + 1) v.facts.waits w
+
+  -- The state was found at most 0, and so the caller came to the door.
+  pub record WasNone (v w : View Entry T) : Type 0 where
+    pub count : ℤ
+    pub before : List Entry
+    pub none : count ≤ℤ pos 0
+    pub found : StateWas v count before (entry.TakeDoor v.number ∷ []) w
+
+  -- a permit that was free; or the resume of the number was first, and had left its value in the cell
+  abbrev pub Takes : View Entry T → Option ℕ → View Entry T → Type 0
+  Takes v None w = WasFree v w
+  Takes v (Some k) w =
+      WasNone v w × CellWas state.Value k (entry.Deliver k ∷ []) w × Rests v (v.facts.has.held + 1) v.facts.waits w
+
+  -- or the cell of the number was empty, and the caller waits there
+  abbrev pub Acquires : View Entry T → Acquired → View Entry T → Type 0
+  Acquires v (Now permit) w = Takes v (number_of permit) w
+  Acquires v (Later wait) w =
+      WasNone v w × CellWas state.Empty (place_of wait).index [] w × HasWait w wait
+      × Rests v v.facts.has.held (v.facts.waits ++ (place_of wait).index ∷ []) w
+
+  -- Another caller was first: the state was loaded as one count, above 0, and found as another by the exchange. The first was the plain
+  -- semaphore's after some of what the pass has seen, not less than it had seen before; the second is its state now.
+  pub record IsContended (v : View Entry T) (saw found : ℤ) (w : View Entry T) : Type 0 where
+    pub before : List Entry
+    pub free : pos 0 <ℤ saw
+    pub loaded : StateWas v saw before [] w
+    pub exchanged : StateWas v found w.seen [] w
+    pub differ : saw ≢ found
+    pub together : v.alone ≢ true
+
+  abbrev pub Tries : View Entry T → Tried → View Entry T → Type 0
+  Tries v (Got permit) w =
+      (count : ℤ) × (before : List Entry) × (pos 0 <ℤ count) × StateWas v count before (entry.TryGot v.number ∷ []) w
+      × (number_of permit ≡ None) × Rests v (v.facts.has.held + 1) v.facts.waits w
+  Tries v Busy w =
+      (count : ℤ) × (before : List Entry) × (count ≤ℤ pos 0) × StateWas v count before (entry.TryBusy v.number ∷ []) w
+      × Rests v v.facts.has.held v.facts.waits w
+  Tries v (Contended saw found) w = IsContended v saw found w × Rests v v.facts.has.held v.facts.waits w
+
+  -- the resumption that the pass owes was handed back, since so many numbers were passed over
+  pub record HandsBack (v : View Entry T) (under : token.Under) (held : ℕ) (waits : List ℕ) (w : View Entry T) : Type 0 where
+    pub over : PassedOver most_passed_over v w
+    pub owes : HasUnder w.facts under
+    pub further : w.facts.has.further ≡ 0
+    pub held_is : w.facts.has.held ≡ held
+    pub waits_are : w.facts.waits ≡ waits
+
+  -- How a resumption ended: by the state of the cell that it found last. The pass holds so much then, and has these waits.
+  abbrev pub Ends : View Entry T → ℕ → List ℕ → Released → View Entry T → Type 0
+  Ends v held waits Freed w = ⊥
+  Ends v held waits (Sent k) w = CellWas state.Waiter k (entry.Deliver k ∷ []) w × Rests v held waits w
+  Ends v held waits (Left k) w =
+      (CellWas state.Empty k [] w ⊎ CellWas state.Cancelling k [] w) × Rests v held waits w
+  Ends v held waits (Void k) w = CellWas state.Refused k [] w × Rests v held waits w
+  Ends v held waits (Under under) w = HandsBack v under held waits w
+
+  -- The state was found at 0 or above: nobody waited for want of a permit.
+  pub record WasUnwanted (v w : View Entry T) : Type 0 where
+    pub count : ℤ
+    pub before : List Entry
+    pub enough : pos 0 ≤ℤ count
+    pub found : StateWas v count before (entry.GiveFreed v.number ∷ []) w
+    pub rests : Rests v (v.facts.has.held - 1) v.facts.waits w
+
+  -- The state was found below 0: somebody waited with no permit on its way.
+  pub record WasWanted (v w : View Entry T) : Type 0 where
+    pub count : ℤ
+    pub before : List Entry
+    pub short : count <ℤ pos 0
+    pub found : StateWas v count before (entry.GiveSent v.number ∷ []) w
+
+  abbrev pub Releases : View Entry T → Released → View Entry T → Type 0
+  Releases v Freed w = WasUnwanted v w
+  Releases v (Sent k) w = WasWanted v w × Ends v (v.facts.has.held - 1) v.facts.waits (Sent k) w
+  Releases v (Left k) w = WasWanted v w × Ends v (v.facts.has.held - 1) v.facts.waits (Left k) w
+  Releases v (Void k) w = WasWanted v w × Ends v (v.facts.has.held - 1) v.facts.waits (Void k) w
+  Releases v (Under under) w = WasWanted v w × Ends v (v.facts.has.held - 1) v.facts.waits (Under under) w
+
+  -- A look at a wait found its cell with its waiter, or found it served.
+  abbrev pub IsPolled : Wait → View Entry T → Polled → View Entry T → Type 0
+  IsPolled wait v (Granted permit) w =
+      (number_of permit ≡ Some (place_of wait).index)
+      × CellWas state.Resumed (place_of wait).index (entry.LookGranted v.number (place_of wait).index ∷ []) w
+      × Rests v (v.facts.has.held + 1) (without (place_of wait).index v.facts.waits) w
+  IsPolled wait v (Pending again) w =
+      (place_of again ≡ place_of wait) × HasWait w again
+      × CellWas state.Waiter (place_of wait).index (entry.LookPending v.number (place_of wait).index ∷ []) w
+      × Rests v v.facts.has.held v.facts.waits w
+
+  -- What was on its way to the waiter of the number k that left: nothing that this call must pass on; or a resume had left its value there,
+  -- the waiter left the line, and the call went on with that resumption, which ended so.
+  abbrev pub PassesOn : ℕ → View Entry T → Option token.Under → Option Released → View Entry T → Type 0
+  PassesOn k v under None w = (under ≡ None) × Rests v v.facts.has.held (without k v.facts.waits) w
+  PassesOn k v under (Some released) w =
+      (under ≡ owed_after released) × CellWasOnce state.Delegated k v w
+      × Ends v v.facts.has.held (without k v.facts.waits) released w
+
+  -- A cancel found the cell of the wait served; or with its waiter, who left.
+  abbrev pub Cancels : ℕ → View Entry T → CancelAnswer → Option Released → View Entry T → Type 0
+  Cancels k v (TooLate permit) passed w =
+      (passed ≡ None) × (number_of permit ≡ Some k) × CellWas state.Resumed k (entry.Late v.number k ∷ []) w
+      × Rests v (v.facts.has.held + 1) (without k v.facts.waits) w
+  Cancels k v (Cancelled under) passed w = CellWasOnce state.Waiter k v w × PassesOn k v under passed w

@@ -1,0 +1,9 @@
+pub mod Permits
+pub mod Owed
+pub mod Entries
+pub mod Calls
+pub mod Causes
+pub mod Answers
+pub mod Alone
+pub mod Steps
+pub mod Seats

@@ -1,0 +1,62 @@
+//! The acquire.
+
+ghost use Rattle.std.specs.Prelude.{◌≡◌, true, IfOk, OnOk, OnErr, IsErrOf};
+ghost use Rattle.cqs_core.specs.declared.doings.Doing.TheVariants as doing;
+ghost use Rattle.cqs_rule.specs.Passes.{pass_view};
+ghost use Rattle.cqs_semaphore.specs.Alone.{IsPlainAcquire};
+ghost use Rattle.cqs_semaphore.specs.Answers.{IsWorn, IsBelow, Acquires};
+ghost use Rattle.cqs_semaphore.specs.Calls.{IsReady, IsMine, CallRule};
+ghost use Rattle.cqs_semaphore.specs.Entries.{acquired_entries, acquired_further};
+ghost use Rattle.cqs_semaphore.specs.Steps.{WaitsInLine};
+
+use crate::answers::{Acquired, Permit};
+use crate::semaphore::{SemPass, Semaphore};
+use cqs_rule::{AcquireError, next_wait, take_permit};
+use cqs_suspend::{Suspended, suspend};
+
+impl<T: Send + Drop> Semaphore<T> {
+    /// A permit where one is free, or else a wait for one. It is refused as worn where as many numbers were drawn as the
+    /// limit allows, even if a permit is free.
+    #[inline]
+    pub fn acquire(&self, pass: &mut SemPass<T>) -> Result<Acquired, AcquireError>
+        requires belongs { IsMine self.now pass.old }
+        requires ready { IsReady (pass_view pass.old).facts }
+        ensures belongs { IsMine self.now pass.new }
+        ensures called { CallRule (pass_view pass.old)
+            (acquired_entries (pass_view pass.old).number result) (acquired_further result)
+            (pass_view pass.new) }
+        ensures worn { OnErr result (IsWorn (pass_view pass.old) (pass_view pass.new)) }
+        ensures never_crowded { ¬ IsErrOf result AcquireError.Crowded }
+        ensures below { OnOk result (IsBelow (pass_view pass.old) (pass_view pass.new)) }
+        ensures acquired { IfOk result
+            (λ acquired. Acquires (pass_view pass.old) acquired (pass_view pass.new)) }
+        ensures ready { IsReady (pass_view pass.new).facts }
+        ensures alone { (pass_view pass.old).alone ≡ true
+            → IfOk result (λ acquired. IsPlainAcquire (pass_view pass.old) acquired) }
+    {
+        if next_wait(&self.queue, pass) >= self.queue.limit() {
+            return Err(AcquireError::Worn);
+        }
+        if take_permit(&self.queue, pass).is_above_zero() {
+            return Ok(Acquired::Now(Permit { number: None }));
+        }
+        Ok(self.wait_in_line(pass))
+    }
+
+    // Goes from the door to the line. It stands apart, so that an acquire with a free permit stays short.
+    #[cold]
+    #[inline(never)]
+    fn wait_in_line(&self, pass: &mut SemPass<T>) -> Acquired
+        requires belongs { IsMine self.now pass.old }
+        requires door { (pass_view pass.old).facts.doing ≡ doing.Door }
+        ensures belongs { IsMine self.now pass.new }
+        ensures waits { WaitsInLine (pass_view pass.old) result (pass_view pass.new) }
+    {
+        match suspend(&self.queue, pass) {
+            Suspended::Waits(wait) => Acquired::Later(wait),
+            Suspended::Took { number, .. } => Acquired::Now(Permit {
+                number: Some(number),
+            }),
+        }
+    }
+}

@@ -1,0 +1,29 @@
+//! A fair semaphore on the running queue: permits that callers take, wait for in line, give back, and stop waiting for.
+//!
+//! ```text
+//!  acquire --- a permit is free --------------------------------> Now
+//!     |
+//!     '------- none is: a number is drawn, and its cell is found
+//!                |-- empty: the caller waits ------------------> Later, then poll or cancel
+//!                '-- with the value of the resume that was first -> Now
+//!
+//!  release --- nobody waits for want of a permit ----------------> Freed
+//!     |
+//!     '------- somebody does: the next number is resumed -------> Sent, Left, Void, or Under, then finish
+//! ```
+//!
+//! Each caller makes its calls with a pass of its own. Contracts see what the pass has seen of the one history of all callers: the
+//! calls of the plain semaphore of `cqs_core`, with a plain line of waiters.
+#![tactic(auto)]
+
+mod acquiring;
+mod answers;
+mod cancelling;
+mod polling;
+mod releasing;
+mod seats;
+mod semaphore;
+mod trying;
+
+pub use answers::{Acquired, CancelAnswer, Permit, Polled, Released, Tried};
+pub use semaphore::{SemPass, Semaphore};

@@ -1,0 +1,43 @@
+//! The look at a wait.
+
+ghost use Rattle.std.specs.Prelude.{◌≡◌, [], true};
+ghost use Rattle.cqs_rule.specs.Passes.{pass_view};
+ghost use Rattle.cqs_rule.specs.Waits.{place_of, HasWait};
+ghost use Rattle.cqs_semaphore.specs.Alone.{IsPlainPoll};
+ghost use Rattle.cqs_semaphore.specs.Answers.{IsPolled};
+ghost use Rattle.cqs_semaphore.specs.Calls.{IsReady, IsMine, CallRule};
+ghost use Rattle.cqs_semaphore.specs.Entries.{polled_entries};
+
+use crate::answers::{Permit, Polled};
+use crate::semaphore::{SemPass, Semaphore};
+use cqs_cell::look;
+use cqs_rule::{Polls, SemClient, Wait};
+use cqs_words::CellState;
+
+impl<T: Send + Drop> Semaphore<T> {
+    /// Looks whether the wait was served: one load.
+    #[inline]
+    pub fn poll(&self, pass: &mut SemPass<T>, wait: Wait) -> Polled
+        requires belongs { IsMine self.now pass.old }
+        requires ready { IsReady (pass_view pass.old).facts }
+        requires has { HasWait (pass_view pass.old) wait }
+        ensures belongs { IsMine self.now pass.new }
+        ensures called { CallRule (pass_view pass.old)
+            (polled_entries (pass_view pass.old).number (place_of wait).index result) []
+            (pass_view pass.new) }
+        ensures polled { IsPolled wait (pass_view pass.old) result (pass_view pass.new) }
+        ensures ready { IsReady (pass_view pass.new).facts }
+        ensures alone { (pass_view pass.old).alone ≡ true
+            → IsPlainPoll (place_of wait).index (pass_view pass.old) result }
+    {
+        let at = self.queue.spend_wait(pass, wait);
+        let cell = look::<SemClient<T>, Polls>(&self.queue, pass, at);
+        match cell.state {
+            CellState::Resumed => Polled::Granted(Permit {
+                number: Some(at.index),
+            }),
+            CellState::Waiter => Polled::Pending(self.queue.wait_of(pass, at)),
+            _ => unreachable!(),
+        }
+    }
+}

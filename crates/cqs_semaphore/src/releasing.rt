@@ -1,0 +1,92 @@
+//! The release, and the end of one that was handed back.
+
+ghost use Rattle.std.specs.Prelude.{◌≡◌, ◌<◌, [], true, None, IsOk, IfOk};
+ghost use Rattle.cqs_core.specs.declared.doings.Doing.TheVariants as doing;
+ghost use Rattle.cqs_rule.specs.Crew.{IsBetween};
+ghost use Rattle.cqs_rule.specs.Owed.{HasUnder, under_payload, under_reached, under_ticket};
+ghost use Rattle.cqs_rule.specs.Passes.{pass_view};
+ghost use Rattle.cqs_semaphore.specs.Alone.{IsPlainRelease, IsPlainEnd};
+ghost use Rattle.cqs_semaphore.specs.Answers.{Releases, Ends, most_passed_over};
+ghost use Rattle.cqs_semaphore.specs.Calls.{IsReady, IsMine, CallRule, plain_after};
+ghost use Rattle.cqs_semaphore.specs.Entries.{released_entries, released_further, resumed_further};
+ghost use Rattle.cqs_semaphore.specs.Steps.{as_released, HasEnded, IsFurther};
+
+use crate::answers::{Permit, Released};
+use crate::semaphore::{SemPass, Semaphore};
+use cqs_resume::{Resumed, finish, resume};
+use cqs_rule::{Crowded, Under, give_permit};
+
+impl<T: Send + Drop> Semaphore<T> {
+    /// Gives a permit back: it is free, or it goes to the first who waits.
+    #[inline]
+    pub fn release(
+        &self,
+        pass: &mut SemPass<T>,
+        permit: Permit,
+    ) -> Result<Released, (Permit, Crowded)>
+        requires belongs { IsMine self.now pass.old }
+        requires ready { IsReady (pass_view pass.old).facts }
+        requires holds { 0 < (pass_view pass.old).facts.has.held }
+        ensures belongs { IsMine self.now pass.new }
+        ensures called { CallRule (pass_view pass.old)
+            (released_entries (pass_view pass.old).number result) (released_further result)
+            (pass_view pass.new) }
+        ensures never_crowded { IsOk result }
+        ensures released { IfOk result
+            (λ released. Releases (pass_view pass.old) released (pass_view pass.new)) }
+        ensures between { IsBetween (pass_view pass.new).facts }
+        ensures alone { (pass_view pass.old).alone ≡ true
+            → IfOk result (λ released. IsPlainRelease (pass_view pass.old) released
+            (pass_view pass.new)) }
+    {
+        let Permit { .. } = permit;
+        if give_permit(&self.queue, pass).is_below_zero() {
+            return Ok(self.send(pass));
+        }
+        Ok(Released::Freed)
+    }
+
+    /// Goes on with a permit that is on its way, and whose resumption was handed back.
+    pub fn finish(&self, pass: &mut SemPass<T>, under: Under) -> Released
+        requires belongs { IsMine self.now pass.old }
+        requires owes { HasUnder (pass_view pass.old).facts under }
+        requires further { (pass_view pass.old).facts.has.further ≡ 0 }
+        ensures belongs { IsMine self.now pass.new }
+        ensures called { CallRule (pass_view pass.old) [] (resumed_further result)
+            (pass_view pass.new) }
+        ensures ends { Ends (pass_view pass.old) (pass_view pass.old).facts.has.held
+            (pass_view pass.old).facts.waits result (pass_view pass.new) }
+        ensures further { IsFurther (under_reached under) result }
+        ensures between { IsBetween (pass_view pass.new).facts }
+        ensures alone { (pass_view pass.old).alone ≡ true
+            → (plain_after (pass_view pass.old)).way ≡ 1
+            → IsPlainEnd (pass_view pass.old) result (pass_view pass.new) }
+    {
+        released(finish(&self.queue, pass, under))
+    }
+
+    // Resumes for a permit that was sent to the line. It stands apart, so that a release with nobody in line stays short.
+    #[cold]
+    #[inline(never)]
+    fn send(&self, pass: &mut SemPass<T>) -> Released
+        requires belongs { IsMine self.now pass.old }
+        requires owes { (pass_view pass.old).facts.doing ≡ doing.Owes }
+        requires payload { (pass_view pass.old).facts.has.payload ≡ 0 }
+        ensures belongs { IsMine self.now pass.new }
+        ensures ended { HasEnded None 0 (pass_view pass.old) result (pass_view pass.new) }
+    {
+        released(resume(&self.queue, pass, 0))
+    }
+}
+
+// What the end of a resumption means for the permit.
+pub(crate) fn released(resumed: Resumed) -> Released
+    ensures { result ≡ as_released resumed }
+{
+    match resumed {
+        Resumed::Served(number) => Released::Sent(number),
+        Resumed::Left(number) => Released::Left(number),
+        Resumed::Refused(number) => Released::Void(number),
+        Resumed::Under(under) => Released::Under(under),
+    }
+}

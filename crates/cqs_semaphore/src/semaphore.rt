@@ -1,0 +1,76 @@
+//! The semaphore, how it is made, and the reader of its state.
+
+ghost use Rattle.std.specs.Prelude.{◌≡◌, ◌⊎◌, ◌<◌, ◌≤◌, [], true, false, IfOk, IsErrOf};
+ghost use mathlib.Core.Logic.{◌↔◌};
+ghost use Rattle.cqs_core.specs.SemaphoreShown.{state_of};
+ghost use Rattle.cqs_rule.specs.Configured.{is_config};
+ghost use Rattle.cqs_rule.specs.Passes.{pass_view, passes_of, limit_of};
+ghost use Rattle.cqs_rule.specs.Views.{first_view};
+ghost use Rattle.cqs_rule.specs.declared.config.CancelMode.TheVariants.{Smart};
+ghost use Rattle.cqs_semaphore.specs.Calls.{IsReady, Rests, IsMine, CallRule, permits_in, plain_after};
+
+use cqs_rule::{CancelMode, Config, MakeError, Pass, Queue, SemClient, read_state};
+use cqs_words::StateWord;
+use std::alloc::Global;
+
+/// What a caller makes its calls with.
+pub type SemPass<T = ()> = Pass<SemClient<T>>;
+
+/// The most permits that a semaphore may be made with.
+const MOST_PERMITS: u32 = 1_048_576;
+
+/// A fair semaphore, with values of `T` in its slots; a plain one has none.
+#[derive(Drop)]
+pub struct Semaphore<T: Drop = ()> {
+    pub(crate) queue: Queue<SemClient<T>>,
+}
+
+impl Semaphore {
+    /// A semaphore with all its permits free, and its first pass, which has number 0 and has seen nothing. There are from
+    /// 1 to 1,048,576 permits.
+    pub fn new(
+        alloc: Global,
+        permits: u32,
+        config: Config,
+    ) -> Result<(Semaphore, SemPass), MakeError>
+        ensures bad_config { IsErrOf result MakeError.BadConfig
+            ↔ ((permits ≡ 0) ⊎ (1048576 < permits) ⊎ (is_config config ≡ false)) }
+        ensures belongs { IfOk result (λ made. IsMine made.0 made.1) }
+        ensures permits { IfOk result (λ made. permits_in made.0 ≡ permits) }
+        ensures passes { IfOk result (λ made. (passes_of made.0.queue ≡ config.passes)
+            × (limit_of made.0.queue ≡ config.limit)) }
+        ensures first { IfOk result (λ made. (pass_view made.1).number ≡ 0) }
+        ensures nothing { IfOk result (λ made. (pass_view made.1).seen ≡ []) }
+        ensures alone { IfOk result (λ made. (pass_view made.1).alone ≡ true) }
+        ensures ready { IfOk result (λ made. Rests (pass_view made.1) 0 [] (pass_view made.1)) }
+    {
+        if permits == 0 || permits > MOST_PERMITS {
+            return Err(MakeError::BadConfig);
+        }
+        let client = SemClient::new(permits);
+        let (queue, pass) = Queue::new(alloc, config, CancelMode::Smart, client)?;
+        Ok((Semaphore { queue }, pass))
+    }
+}
+
+impl<T: Send + Drop> Semaphore<T> {
+    /// The state: the free permits, less those who wait with none on its way.
+    pub fn state(&self, pass: &mut SemPass<T>) -> i64
+        requires belongs { IsMine self.now pass.old }
+        requires ready { IsReady (pass_view pass.old).facts }
+        ensures belongs { IsMine self.now pass.new }
+        ensures state { result ≡ state_of (plain_after (pass_view pass.new)) }
+        ensures called { CallRule (pass_view pass.old) [] [] (pass_view pass.new) }
+        ensures rests { Rests (pass_view pass.old) (pass_view pass.old).facts.has.held
+            (pass_view pass.old).facts.waits (pass_view pass.new) }
+    {
+        StateWord::read(read_state(&self.queue, pass).word).value
+    }
+
+    /// The queue that the semaphore stands on.
+    pub fn queue(&self) -> &Queue<SemClient<T>>
+        ensures { result.now ≡ self.now.queue }
+    {
+        &self.queue
+    }
+}

@@ -1,0 +1,53 @@
+//! The try.
+
+ghost use Rattle.std.specs.Prelude.{◌≡◌, [], true};
+ghost use Rattle.cqs_rule.specs.Passes.{pass_view};
+ghost use Rattle.cqs_semaphore.specs.Alone.{IsPlainTry};
+ghost use Rattle.cqs_semaphore.specs.Answers.{Tries};
+ghost use Rattle.cqs_semaphore.specs.Calls.{IsReady, IsMine, CallRule};
+ghost use Rattle.cqs_words.specs.State.{StateFits, count_in};
+ghost use Rattle.cqs_semaphore.specs.declared.answers.Tried.TheVariants.{Contended};
+ghost use Rattle.cqs_semaphore.specs.Entries.{tried_entries};
+
+use crate::answers::{Permit, Tried};
+use crate::semaphore::{SemPass, Semaphore};
+use cqs_rule::{load_state, try_take};
+use cqs_words::{PackedState, StateWord};
+
+impl<T: Send + Drop> Semaphore<T> {
+    /// A permit where one is free, by one load and at most one exchange. It never waits.
+    #[inline]
+    pub fn try_acquire(&self, pass: &mut SemPass<T>) -> Tried
+        requires belongs { IsMine self.now pass.old }
+        requires ready { IsReady (pass_view pass.old).facts }
+        ensures belongs { IsMine self.now pass.new }
+        ensures called { CallRule (pass_view pass.old)
+            (tried_entries (pass_view pass.old).number result) [] (pass_view pass.new) }
+        ensures tries { Tries (pass_view pass.old) result (pass_view pass.new) }
+        ensures ready { IsReady (pass_view pass.new).facts }
+        ensures alone { (pass_view pass.old).alone ≡ true
+            → IsPlainTry (pass_view pass.old) result }
+    {
+        let saw = load_state(&self.queue, pass);
+        if !saw.is_above_zero() {
+            return Tried::Busy;
+        }
+        let found = try_take(&self.queue, pass, saw);
+        if found.word == saw.word {
+            return Tried::Got(Permit { number: None });
+        }
+        contended(saw, found)
+    }
+}
+
+// The two states of a try by which another caller was first.
+fn contended(saw: PackedState, found: PackedState) -> Tried
+    requires saw { StateFits (record { value = count_in saw.word }) }
+    requires found { StateFits (record { value = count_in found.word }) }
+    ensures { result ≡ Contended (count_in saw.word) (count_in found.word) }
+{
+    Tried::Contended {
+        saw: StateWord::read(saw.word).value,
+        found: StateWord::read(found.word).value,
+    }
+}

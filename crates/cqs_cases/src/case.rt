@@ -1,6 +1,6 @@
 //! One case: what the program is run on.
 
-use cqs_cli::top;
+use cqs_cli::{Kept, top};
 use cqs_plan::{BytesSink, BytesSource};
 use std::alloc::{AllocError, Global};
 
@@ -57,10 +57,9 @@ impl Case {
         let Ok(mut sink) = BytesSink::new(alloc, self.room, self.chunk, &[self.write]) else {
             anyhow::bail!("no memory for the sink");
         };
-        Ok(
-            top(alloc, &self.words, &mut source, &mut sink) == status
-                && sink.bytes() == text.as_slice(),
-        )
+        let mut kept = Kept::Nothing;
+        let ended = top(alloc, &self.words, &mut source, &mut sink, &mut kept);
+        Ok(ended == status && sink.bytes() == text.as_slice())
     }
 }
 

@@ -1,4 +1,4 @@
--- Counting the takes of a plan, and opening its cores.
+-- Counting the takes of a plan, and opening its semaphores.
 use Rattle.std.proofs.Common.{◌≡◌, ◌≢◌, ◌⊎◌, inl, inr, ℕ, ◌+◌, ◌<◌, ◌≤◌, ◌==◌, Bool, false, List, [], ◌∷◌, ◌++◌, Some, length, map, take, set, get_or, slice_get, count_by, refl, ap, sym, ◌∙◌, arith}
 use Rattle.std.specs.Prelude.{slice_index}
 use Rattle.std.specs.List.{range_with_len}
@@ -10,7 +10,6 @@ use Rattle.std.proofs.lemmas.List.Sums.{sum_by_push}
 use Rattle.std.proofs.lemmas.Option.{slice_get-get_or}
 use Rattle.std.proofs.Math.Seq.{take-length}
 use Rattle.cqs_core.specs.Numbered.{EachAt}
-use Rattle.cqs_core.specs.SemaphoreAnswers.{Room}
 use Rattle.cqs_core.proofs.Counts.{bit}
 use Rattle.cqs_core.proofs.Places.{get-below, get-append_below, get-push_at}
 use Rattle.cqs_plan.specs.declared.plans.job.Job.{Job}
@@ -21,9 +20,11 @@ use Rattle.cqs_plan.specs.declared.plans.resource.Resource.{Resource}
 use Rattle.cqs_plan.specs.declared.plans.step.Step.{Step}
 use Rattle.cqs_plan.specs.declared.plans.step.Step.TheVariants as step
 use Rattle.cqs_plan.specs.PlanSteps.{is_take}
+use Rattle.cqs_plan.specs.Floor.{permits_of}
 use Rattle.cqs_plan.specs.Holding.{TookMore}
 use Rattle.cqs_plan.specs.Runnable.{IsRunnable, IsMakeable, kinds_of}
-use Rattle.cqs_cli.specs.Opening.{AreOpened, AreWithin, IsCountable, IsOpened, IsWithin, takes_of}
+use Rattle.cqs_cli.specs.Opening.{AreOpened, AreWithin, IsCountable, IsWithin, takes_of}
+use Rattle.cqs_cli.specs.Soles.{Sole, IsOpened}
 use Rattle.cqs_cli.proofs.Resources.{bit-same, bit-other, holdable-semaphore}
 
 -- a take among the steps names one of the resources
@@ -103,31 +104,32 @@ counts-all room jobs n i long all counts =
     whole : (k : ℕ) → takes_of (take i jobs) k ≡ takes_of jobs k
     whole k = ap (λ m. takes_of (take m jobs) k) all ∙ ap (λ js. takes_of js k) (take-length jobs)
 
--- a core for one more resource
-pub opened-push : (resources : List Resource) (room : List ℕ) (cores : List Room) (resource : Resource)
-    (core : Room)
-    → length cores < length resources → resource ≡ get_or resources (length cores) resource
-    → IsOpened resource.kind (slice_index room (length cores)) core → AreOpened resources room cores
-    → AreOpened resources room (cores ++ core ∷ [])
-opened-push resources room cores resource core below is opens opened =
-    record { each = λ at r c named got. go at r c named got (cases_lt at (length cores)) }
+-- a semaphore for one more resource
+pub opened-push : {X W : Type 0} (s : Sole X W) (resources : List Resource) (room : List ℕ) (soles : List X)
+    (resource : Resource) (sole : X)
+    → length soles < length resources → resource ≡ get_or resources (length soles) resource
+    → IsOpened s (permits_of (Some resource.kind)) (slice_index room (length soles)) sole
+    → AreOpened s resources room soles → AreOpened s resources room (soles ++ sole ∷ [])
+opened-push {X} s resources room soles resource sole below is opens opened =
+    record { each = λ at r x named got. go at r x named got (cases_lt at (length soles)) }
   where
-    go : (at : ℕ) (r : Resource) (c : Room) → slice_get resources at ≡ Some r
-        → slice_get (cores ++ core ∷ []) at ≡ Some c
-        → (at < length cores) ⊎ (length cores ≤ at) → IsOpened r.kind (slice_index room at) c
-    go at r c named got (inl before) =
-        opened.each at r c named (sym (get-append_below cores (core ∷ []) at before) ∙ got)
-    go at r c named got (inr past) =
-        let last : at ≡ length cores =
-        omega (arith, get-below (cores ++ core ∷ []) at c got, length_push cores core) in
-        let core_is : Some core ≡ Some c = sym (get-push_at cores core at last) ∙ got in
-        let same_core : core ≡ c = cc in
-        let named_is : Some (get_or resources (length cores) resource) ≡ Some r =
-        sym (slice_get-get_or resources (length cores) resource below)
+    go : (at : ℕ) (r : Resource) (x : X) → slice_get resources at ≡ Some r
+        → slice_get (soles ++ sole ∷ []) at ≡ Some x
+        → (at < length soles) ⊎ (length soles ≤ at)
+        → IsOpened s (permits_of (Some r.kind)) (slice_index room at) x
+    go at r x named got (inl before) =
+        opened.each at r x named (sym (get-append_below soles (sole ∷ []) at before) ∙ got)
+    go at r x named got (inr past) =
+        let last : at ≡ length soles =
+        omega (arith, get-below (soles ++ sole ∷ []) at x got, length_push soles sole) in
+        let sole_is : Some sole ≡ Some x = sym (get-push_at soles sole at last) ∙ got in
+        let same_sole : sole ≡ x = cc in
+        let named_is : Some (get_or resources (length soles) resource) ≡ Some r =
+        sym (slice_get-get_or resources (length soles) resource below)
         ∙ ap (slice_get resources) (sym last) ∙ named in
-        let same : get_or resources (length cores) resource ≡ r = cc in
+        let same : get_or resources (length soles) resource ≡ r = cc in
         let same_resource : resource ≡ r = is ∙ same in
-        rw (last, ← same_core, ← same_resource) opens
+        rw (last, ← same_sole, ← same_resource) opens
 
 -- the steps of a plan that can be run name its resources
 pub runnable-countable : (plan : Plan) → IsRunnable plan

@@ -1,87 +1,80 @@
--- How a resource stands, read off the state word of its core.
-use Rattle.std.proofs.Common.{◌≡◌, ℕ, ◌+◌, ◌-◌, ◌≤◌, ℤ, pos, negsuc, ◌≤ℤ◌, length, slice_get, ap, ap₂, sym, ◌∙◌, subst, arith}
-use Rattle.std.proofs.lemmas.Int.{ints}
-use Rattle.cqs_core.specs.QueueLine.{going}
-use Rattle.cqs_core.specs.SemaphoreAnswers.{Room}
+-- How a resource stands, as its semaphore tells it.
+use Rattle.std.proofs.Common.{◌≡◌, ℕ, ◌+◌, ◌-◌, ◌≤◌, ℤ, pos, negsuc, ◌≤ℤ◌, length, slice_get, set, ap, ap₂, sym, ◌∙◌, subst, arith}
+use Rattle.std.specs.Prelude.{slice_index}
 use Rattle.cqs_core.specs.SemaphoreObject.{Semaphore}
-use Rattle.cqs_core.specs.SemaphoreShown.{free_of, short_of, shown}
-use Rattle.cqs_core.proofs.FirstOfWay.{ending-within}
-use Rattle.cqs_core.proofs.Quiet.{IsQuiet, none-going, quiet-core}
 use Rattle.cqs_plan.specs.declared.floors.answers.FloorEnd.{FloorEnd}
 use Rattle.cqs_plan.specs.declared.floors.answers.FloorEnd.TheVariants.{Permits}
 use Rattle.cqs_plan.specs.Floor.{PlainFloor, IsHoldable, permits_of}
 use Rattle.cqs_plan.specs.FloorCalls.{end_answer}
-use Rattle.cqs_cli.specs.DeskCalls.{CanEnd, Ends, end_of}
-use Rattle.cqs_cli.specs.Kept.{IsKept, IsFunded}
-use Rattle.cqs_cli.specs.Ledger.{Ledger, plain_floor}
-use Rattle.cqs_cli.proofs.Funded.{funded-rests}
-use Rattle.cqs_cli.proofs.Resources.{Funds, funds-at, holdable-semaphore, object-shown}
+use Rattle.cqs_cli.specs.declared.floors.sole.Stand.{Stand}
+use Rattle.cqs_cli.specs.DeskCalls.{CanEndAt, Ends}
+use Rattle.cqs_cli.specs.Kept.{IsKept, held_at, waiting_at}
+use Rattle.cqs_cli.specs.Ledger.{Ledger, holds_in, plain_floor, with_soles}
+use Rattle.cqs_cli.specs.Soles.{Sole, Stands, object}
+use Rattle.cqs_cli.proofs.Looks.{kept-same, plain-same}
+use Rattle.cqs_cli.proofs.Resources.{Funds, funds-at, holdable-semaphore, object-there}
 
--- a state word that counts no more than so many free permits
-state-le : (z : ℤ) (n : ℕ) → free_of z ≤ n → z ≤ℤ pos n
-state-le (pos m) n few = grind (arith, ints)
-state-le (negsuc m) n few = grind (arith, ints)
+module _ {X W : Type 0} (s : Sole X W) where
+  stands-shown : (size room waiting held : ℕ) (x y : X) (stand : Stand) → Stands s size room waiting held x stand y
+      → Permits stand.free (size - stand.free) stand.line
+      ≡ Permits (object s size x).free (object s size x).held (length (object s size x).line)
+  stands-shown size room waiting held x y stand stands =
+      let rest : size - stand.free ≡ (object s size x).held = omega (arith, stands.all, stands.free) in
+      ap (λ n. Permits n (size - stand.free) stand.line) stands.free
+      ∙ ap₂ (λ h w. Permits (object s size x).free h w) rest stands.line
 
--- the state word tells all, where no permit is on its way
-end-shown : (z : ℤ) (size held line : ℕ) → held + free_of z ≡ size → short_of z ≡ line
-    → end_of size z ≡ Permits (free_of z) held line
-end-shown (pos n) size held line all short =
-    let rest : size - n ≡ held = omega arith in
-    ap₂ (λ h w. Permits n h w) rest short
-end-shown (negsuc n) size held line all short =
-    let rest : size ≡ held = omega arith in
-    ap₂ (λ h w. Permits 0 h w) rest short
+  can-end : (l : Ledger X W) (at : ℕ) → IsKept s l → IsHoldable (slice_get l.kinds at) → CanEndAt s l at
+  can-end l at kept holdable =
+      let is = holdable-semaphore (slice_get l.kinds at) holdable in
+      let funds : Funds s l at = funds-at s l at kept holdable in
+      let size : permits_of (slice_get l.kinds at) ≡ is.0 = ap permits_of is.1 in
+      record {
+        permits = is.0;
+        kind = is.1;
+        sole = record {
+          sole = funds.sole;
+          there = funds.there;
+          can = record {
+            room = slice_index l.room at;
+            waiting = waiting_at l.waits at;
+            held = held_at (holds_in l) at;
+            funded = subst
+                (λ n. s.funded funds.sole n (slice_index l.room at) (waiting_at l.waits at) (held_at (holds_in l) at))
+                size funds.funded;
+          };
+        };
+      }
 
--- what a core at rest shows
-module _ (core : Room) (size room waiting held : ℕ) (funded : IsFunded core size room waiting held) where
-  quiet : IsQuiet core.shape
-  quiet = quiet-core core.shape funded.sole.core (funded-rests core size room waiting held funded)
+  -- what telling how a resource stands comes to
+  pub record EndsWell (f : PlainFloor) (at : ℕ) (answer : FloorEnd) (n : Ledger X W) : Type 0 where
+    pub answers : answer ≡ end_answer f at
+    pub same : plain_floor s n ≡ f
+    pub kept : IsKept s n
 
-  pub all-there : (shown core.shape).held + free_of core.shape.state ≡ size
-  all-there =
-      let still : going core.shape.queue ≡ 0 =
-      none-going core.shape.queue funded.sole.core.sound funded.sole.idle quiet.behind in
-      let few = ending-within core.shape.queue funded.sole.core.sound funded.sole.core.covered in
-      let conserved = funded.sole.core.conserved in
-      omega (arith, still, few, conserved, funded.permits)
+  end-well : (l n : Ledger X W) (at : ℕ) (answer : FloorEnd) → IsKept s l → Ends s l at answer n
+      → EndsWell (plain_floor s l) at answer n
+  end-well l n at answer kept e =
+      let made = e.calls.made _ _ _ _ (kept.funded.at at e.calls.sole e.calls.there) in
+      let size : permits_of (slice_get l.kinds at) ≡ e.permits = ap permits_of e.kind in
+      let is : n ≡ with_soles l (set l.soles at e.calls.after) = e.written ∙ ap (with_soles l) e.calls.soles in
+      record {
+        answers = e.told ∙ ap (λ m. Permits e.stand.free (m - e.stand.free) e.stand.line) (sym size)
+            ∙ stands-shown _ _ _ _ _ _ _ made
+            ∙ ap (λ (o : Semaphore). Permits o.free o.held (length o.line))
+            (sym (object-there s l at e.calls.sole e.calls.there));
+        same = ap (plain_floor s) is ∙ plain-same s l at e.calls.sole e.calls.after kept e.calls.there made.goes;
+        kept = subst (IsKept s) (sym is)
+            (kept-same s l at e.calls.sole e.calls.after kept e.calls.there made.goes made.keeps);
+      }
 
-  pub stands-shown : end_of size core.shape.state
-      ≡ Permits (shown core.shape).free (shown core.shape).held (length (shown core.shape).line)
-  stands-shown =
-      end-shown core.shape.state size (shown core.shape).held (length (shown core.shape).line) all-there quiet.waits
+  -- the same where the floor is seen as its plain floor
+  pub end-can : (l : Ledger X W) (f : PlainFloor) (at : ℕ) → plain_floor s l ≡ f → IsKept s l
+      → IsHoldable (slice_get f.kinds at) → CanEndAt s l at
+  end-can l f at view kept =
+      let Allows : PlainFloor → Type 0 = λ g. IsHoldable (slice_get g.kinds at) → CanEndAt s l at in
+      subst Allows view (can-end l at kept)
 
-can-end : (l : Ledger) (at : ℕ) → IsKept l → IsHoldable (slice_get l.kinds at) → CanEnd l at
-can-end l at kept holdable =
-    let is = holdable-semaphore (slice_get l.kinds at) holdable in
-    let funds : Funds l at = funds-at l at kept holdable in
-    let size : permits_of (slice_get l.kinds at) ≡ is.0 = ap permits_of is.1 in
-    record {
-      permits = is.0;
-      kind = is.1;
-      core = funds.core;
-      there = funds.there;
-      least = funds.funded.sole.core.range.state;
-      most = state-le funds.core.shape.state is.0
-          (omega (arith, all-there funds.core _ _ _ _ funds.funded, size));
-    }
-
-end-well : (l : Ledger) (at : ℕ) (answer : FloorEnd) → IsKept l → Ends l at answer
-    → answer ≡ end_answer (plain_floor l) at
-end-well l at answer kept e =
-    let funded = kept.funded.at at e.core e.there in
-    let size : permits_of (slice_get l.kinds at) ≡ e.permits = ap permits_of e.kind in
-    e.told ∙ ap (λ n. end_of n e.core.shape.state) (sym size) ∙ stands-shown e.core _ _ _ _ funded
-    ∙ ap (λ (o : Semaphore). Permits o.free o.held (length o.line))
-    (sym (object-shown l at e.core kept e.there))
-
--- the same where the floor is seen as its plain floor
-pub end-can : (l : Ledger) (f : PlainFloor) (at : ℕ) → plain_floor l ≡ f → IsKept l
-    → IsHoldable (slice_get f.kinds at) → CanEnd l at
-end-can l f at view kept =
-    let Allows : PlainFloor → Type 0 = λ g. IsHoldable (slice_get g.kinds at) → CanEnd l at in
-    subst Allows view (can-end l at kept)
-
-pub end-floor : (l : Ledger) (f : PlainFloor) (at : ℕ) (answer : FloorEnd) → plain_floor l ≡ f → IsKept l
-    → Ends l at answer
-    → answer ≡ end_answer f at
-end-floor l f at answer view kept e = end-well l at answer kept e ∙ ap (λ g. end_answer g at) view
+  pub end-floor : (l n : Ledger X W) (f : PlainFloor) (at : ℕ) (answer : FloorEnd) → plain_floor s l ≡ f → IsKept s l
+      → Ends s l at answer n → EndsWell f at answer n
+  end-floor l n f at answer view kept e =
+      subst (λ g. EndsWell g at answer n) view (end-well l n at answer kept e)

@@ -5,8 +5,7 @@ use Rattle.cqs_core.specs.declared.calls.Call.{Call}
 use Rattle.cqs_core.specs.declared.calls.Reply.{Reply}
 use Rattle.cqs_core.specs.SemaphoreAnswers.{Room}
 use Rattle.cqs_core.specs.Resting.{IsResting}
-use Rattle.cqs_cli.specs.Kept.{IsFunded}
-use Rattle.cqs_cli.specs.SoleCore.{HasMade, IsReady}
+use Rattle.cqs_cli.specs.SoleCore.{HasMade, IsFunded, IsReady}
 use Rattle.cqs_cli.proofs.SoleCells.{sole-rests}
 
 pub funded-next : (core after : Room) (c : Call) (answer : Reply) (size r w h s v i : ℕ)

@@ -1,81 +1,101 @@
 -- What a ledger keeps after a call at one resource.
-use Rattle.std.proofs.Common.{◌≡◌, ◌≢◌, ◌⊎◌, inl, inr, ℕ, ◌≤◌, List, [], ◌++◌, Some, length, map, set, get_or, slice_get, ap, sym, ◌∙◌, subst, length-set}
+use Rattle.std.proofs.Common.{◌≡◌, ◌≢◌, ◌⊎◌, inl, inr, ℕ, zero, suc, ◌≤◌, List, [], ◌∷◌, ◌++◌, Some, length, map, set, get_or, slice_get, ap, ap₂, sym, ◌∙◌, subst, length-set}
 use Rattle.std.specs.Prelude.{slice_index}
 use Rattle.std.proofs.lemmas.Bool.{cases_eq}
 use Rattle.std.proofs.lemmas.List.{map-set}
 use Rattle.cqs_core.specs.declared.entries.Entry.{Entry}
 use Rattle.cqs_core.specs.Numbered.{EachAt}
-use Rattle.cqs_core.specs.SemaphoreAnswers.{Room}
-use Rattle.cqs_core.specs.SemaphoreShown.{shown}
-use Rattle.cqs_core.specs.SoleCaller.{HasWait}
 use Rattle.cqs_core.proofs.EachAtLemmas.{EachAt-write}
 use Rattle.cqs_core.proofs.Places.{get-set_here, get-set_else}
 use Rattle.cqs_plan.specs.declared.plans.kind.Kind.{Kind}
+use Rattle.cqs_plan.specs.Floor.{permits_of}
 use Rattle.cqs_cli.specs.declared.floors.waits.Wait.{Wait}
-use Rattle.cqs_cli.specs.Kept.{IsKept, IsFundedAt, StandsIn, AreApart, HoldPermits, holds_in, waiting_at, held_at, transfers_to_come}
-use Rattle.cqs_cli.specs.Ledger.{Ledger}
-use Rattle.cqs_cli.proofs.Resources.{history-at}
+use Rattle.cqs_cli.specs.Kept.{IsKept, IsFundedAt, StandsIn, AreApart, HoldPermits, waiting_at, held_at, transfers_to_come}
+use Rattle.cqs_cli.specs.Ledger.{Ledger, holds_in}
+use Rattle.cqs_cli.specs.Soles.{Sole}
+use Rattle.cqs_cli.proofs.Resources.{entries-at}
 
--- after a call of the core at a place: that core is another, and what is counted of the other resources is as it was
-pub record Follows (l : Ledger) (at : ℕ) (core after : Room) (n : Ledger) : Type 0 where
-  pub there : slice_get l.cores at ≡ Some core
-  pub kinds : n.kinds ≡ l.kinds
-  pub cores : n.cores ≡ set l.cores at after
-  pub rooms : length n.room ≡ length l.room
-  pub funded : IsFundedAt n at after
-  pub room : (i : ℕ) → i ≢ at → slice_index n.room i ≡ slice_index l.room i
-  pub waiting : (i : ℕ) → i ≢ at → waiting_at n.waits i ≡ waiting_at l.waits i
-  pub held : (i : ℕ) → i ≢ at → held_at (holds_in n) i ≡ held_at (holds_in l) i
-  pub waits : (job : ℕ) (wait : Wait) → slice_get n.waits job ≡ Some (Some wait)
-      → StandsIn (set l.cores at after) wait
-  pub apart : AreApart n.waits
-  pub plain : HoldPermits (holds_in n)
-  pub spare : transfers_to_come n ≤ n.spare
+module _ {X W : Type 0} (s : Sole X W) where
+  -- the same funds, in other words
+  pub funded-as : (x : X) (size : ℕ) {r r' w w' h h' : ℕ} → r ≡ r' → w ≡ w' → h ≡ h'
+      → s.funded x size r w h → s.funded x size r' w' h'
+  funded-as x size {r} {r'} {w} {w'} {h} {h'} room waiting held funded =
+      subst (λ n. s.funded x size n w' h') room
+      (subst (λ n. s.funded x size r n h') waiting (subst (λ n. s.funded x size r w n) held funded))
 
-pub kept-next : (l n : Ledger) (at : ℕ) (core after : Room) → IsKept l → Follows l at core after n → IsKept n
-kept-next l n at core after kept f = record {
-  cores = ap (λ (cs : List Room). length cs) f.cores ∙ length-set l.cores at after ∙ kept.cores
-      ∙ ap (λ (ks : List Kind). length ks) (sym f.kinds);
-  rooms = f.rooms ∙ kept.rooms ∙ ap (λ (ks : List Kind). length ks) (sym f.kinds);
-  funded = subst (λ (cs : List Room). EachAt (IsFundedAt n) cs) (sym f.cores)
-      (EachAt-write (IsFundedAt l) (IsFundedAt n) l.cores at core after f.there f.funded others kept.funded);
-  waits = λ job wait got. subst (λ (cs : List Room). StandsIn cs wait) (sym f.cores) (f.waits job wait got);
-  apart = f.apart;
-  plain = f.plain;
-  spare = f.spare;
-}
-  where
-    others : (i : ℕ) (c : Room) → slice_get l.cores i ≡ Some c → i ≢ at → IsFundedAt l i c → IsFundedAt n i c
-    others i c got other was = rw (f.kinds, f.room i other, f.waiting i other, f.held i other) was
+  -- after a call at a place: the semaphore there is another, and what is counted of the other resources is as it was
+  pub record Follows (l : Ledger X W) (at : ℕ) (sole after : X) (n : Ledger X W) : Type 0 where
+    pub there : slice_get l.soles at ≡ Some sole
+    pub kinds : n.kinds ≡ l.kinds
+    pub soles : n.soles ≡ set l.soles at after
+    pub rooms : length n.room ≡ length l.room
+    pub funded : IsFundedAt s n at after
+    pub room : (i : ℕ) → i ≢ at → slice_index n.room i ≡ slice_index l.room i
+    pub waiting : (i : ℕ) → i ≢ at → waiting_at n.waits i ≡ waiting_at l.waits i
+    pub held : (i : ℕ) → i ≢ at → held_at (holds_in n) i ≡ held_at (holds_in l) i
+    pub waits : (job : ℕ) (wait : Wait W) → slice_get n.waits job ≡ Some (Some wait)
+        → StandsIn s (set l.soles at after) wait
+    pub apart : AreApart s n.waits
+    pub plain : HoldPermits (holds_in n)
+    pub spare : transfers_to_come n ≤ n.spare
 
--- a wait stands on in the cores where it stands on in the one that made the call
-pub stands-on : (cores : List Room) (at : ℕ) (core after : Room) (wait : Wait) → slice_get cores at ≡ Some core
-    → (wait.at ≡ at → HasWait wait.number 0 (shown core.shape) → HasWait wait.number 0 (shown after.shape))
-    → StandsIn cores wait → StandsIn (set cores at after) wait
-stands-on cores at core after wait there on stands = go (cases_eq wait.at at)
-  where
-    go : (wait.at ≡ at) ⊎ (wait.at ≢ at) → StandsIn (set cores at after) wait
-    go (inl same) =
-        let is : Some stands.core ≡ Some core = sym stands.there ∙ ap (slice_get cores) same ∙ there in
-        let here : stands.core ≡ core = cc in
-        record {
-          core = after;
-          there = ap (slice_get (set cores at after)) same ∙ get-set_here cores at core after there;
-          stands = on same (subst (λ (c : Room). HasWait wait.number 0 (shown c.shape)) here stands.stands);
-        }
-    go (inr other) =
-        record {
-          core = stands.core;
-          there = get-set_else cores at wait.at after (λ e. other (sym e)) ∙ stands.there;
-          stands = stands.stands;
-        }
+  pub kept-next : (l n : Ledger X W) (at : ℕ) (sole after : X) → IsKept s l → Follows l at sole after n → IsKept s n
+  kept-next l n at sole after kept f = record {
+    soles = ap (λ (xs : List X). length xs) f.soles ∙ length-set l.soles at after ∙ kept.soles
+        ∙ ap (λ (ks : List Kind). length ks) (sym f.kinds);
+    rooms = f.rooms ∙ kept.rooms ∙ ap (λ (ks : List Kind). length ks) (sym f.kinds);
+    funded = subst (λ (xs : List X). EachAt (IsFundedAt s n) xs) (sym f.soles)
+        (EachAt-write (IsFundedAt s l) (IsFundedAt s n) l.soles at sole after f.there f.funded others kept.funded);
+    waits = λ job wait got. subst (λ (xs : List X). StandsIn s xs wait) (sym f.soles) (f.waits job wait got);
+    apart = f.apart;
+    plain = f.plain;
+    spare = f.spare;
+  }
+    where
+      others : (i : ℕ) (x : X) → slice_get l.soles i ≡ Some x → i ≢ at → IsFundedAt s l i x → IsFundedAt s n i x
+      others i x got other was =
+          subst (λ (ks : List Kind). s.funded x (permits_of (slice_get ks i)) (slice_index n.room i)
+          (waiting_at n.waits i) (held_at (holds_in n) i)) (sym f.kinds)
+          (funded-as x _ (sym (f.room i other)) (sym (f.waiting i other)) (sym (f.held i other)) was)
 
--- the histories of the cores, with entries added to one
-pub histories-next : (cores : List Room) (at : ℕ) (core after : Room) (entries : List Entry)
-    → slice_get cores at ≡ Some core → after.shape.history ≡ core.shape.history ++ entries
-    → map (λ c. c.shape.history) (set cores at after)
-    ≡ set (map (λ c. c.shape.history) cores) at (get_or (map (λ c. c.shape.history) cores) at [] ++ entries)
-histories-next cores at core after entries there history =
-    map-set (λ (c : Room). c.shape.history) cores at after
-    ∙ ap (set (map (λ c. c.shape.history) cores) at)
-    (history ∙ ap (λ h. h ++ entries) (sym (history-at cores at core there)))
+  -- a wait stands on where it stands on in the semaphore that made the call
+  pub stands-on : (soles : List X) (at : ℕ) (sole after : X) (wait : Wait W) → slice_get soles at ≡ Some sole
+      → (wait.at ≡ at → s.has sole wait.token → s.has after wait.token)
+      → StandsIn s soles wait → StandsIn s (set soles at after) wait
+  stands-on soles at sole after wait there on stands = go (cases_eq wait.at at)
+    where
+      go : (wait.at ≡ at) ⊎ (wait.at ≢ at) → StandsIn s (set soles at after) wait
+      go (inl same) =
+          let is : Some stands.sole ≡ Some sole = sym stands.there ∙ ap (slice_get soles) same ∙ there in
+          let here : stands.sole ≡ sole = cc in
+          record {
+            sole = after;
+            there = ap (slice_get (set soles at after)) same ∙ get-set_here soles at sole after there;
+            has = on same (subst (λ (x : X). s.has x wait.token) here stands.has);
+          }
+      go (inr other) =
+          record {
+            sole = stands.sole;
+            there = get-set_else soles at wait.at after (λ e. other (sym e)) ∙ stands.there;
+            has = stands.has;
+          }
+
+  -- the entries of all, with more at one
+  pub entries-next : (soles : List X) (at : ℕ) (sole after : X) (entries : List Entry)
+      → slice_get soles at ≡ Some sole → s.entries after ≡ s.entries sole ++ entries
+      → map s.entries (set soles at after)
+      ≡ set (map s.entries soles) at (get_or (map s.entries soles) at [] ++ entries)
+  entries-next soles at sole after entries there appended =
+      map-set s.entries soles at after
+      ∙ ap (set (map s.entries soles) at)
+      (appended ∙ ap (λ h. h ++ entries) (sym (entries-at s soles at sole there)))
+
+  -- the entries of all, with none more
+  pub entries-same : (soles : List X) (at : ℕ) (sole after : X) → slice_get soles at ≡ Some sole
+      → s.entries after ≡ s.entries sole → map s.entries (set soles at after) ≡ map s.entries soles
+  entries-same [] at sole after there same = absurd (cc)
+  entries-same (x ∷ soles) zero sole after there same =
+      let is : x ≡ sole = cc in
+      ap (λ (es : List Entry). es ∷ map s.entries soles) (same ∙ ap s.entries (sym is))
+  entries-same (x ∷ soles) (suc at) sole after there same =
+      ap (λ ess. s.entries x ∷ ess) (entries-same soles at sole after there same)

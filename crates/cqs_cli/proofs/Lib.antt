@@ -1,4 +1,5 @@
 pub mod MeaningLemmas
+pub mod KeptLemmas
 pub mod PlanLemmas
 pub mod WordLemmas
 pub mod Stays
@@ -18,3 +19,4 @@ pub mod Ends
 pub mod LegalFloors
 pub mod Counting
 pub mod Opened
+pub mod CoreSole

@@ -1,270 +1,204 @@
 -- A look at a wait, and a leave: what they rest on, what they answer, and what they leave.
-use Rattle.std.proofs.Common.{◌≡◌, ◌≢◌, ℕ, ◌+◌, ◌<◌, ◌==◌, not, Bool, true, false, List, [], ◌∷◌, Option, Some, None, is_some, set, get_or, slice_get, refl, ap, sym, ◌∙◌, subst, eq-eqb, ne_eqb, eqb-true, arith}
+use Rattle.std.proofs.Common.{◌≡◌, ℕ, zero, suc, ◌+◌, ◌-◌, ◌<◌, Bool, true, false, List, [], ◌∷◌, ◌++◌, Option, Some, None, IsSome, is_some, length, map, set, get_or, slice_get, count_by, refl, ap, sym, ◌∙◌, subst, arith}
 use Rattle.std.specs.Prelude.{slice_index}
-use Rattle.std.specs.List.{list_any}
-use Rattle.std.proofs.lemmas.Option.{same_Some}
-use Rattle.cqs_core.specs.declared.calls.Call.TheVariants as call
-use Rattle.cqs_core.specs.declared.calls.Reply.TheVariants as reply
+use Rattle.std.specs.Option.{option_map}
+use Rattle.std.proofs.lemmas.List.{append-nil}
+use Rattle.cqs_core.specs.declared.entries.Entry.{Entry}
 use Rattle.cqs_core.specs.declared.entries.Entry.TheVariants as entry
-use Rattle.cqs_core.specs.QueueLine.{Waiting}
-use Rattle.cqs_core.specs.SemaphoreAnswers.{Room}
-use Rattle.cqs_core.specs.SemaphoreEntries.{find_wait}
 use Rattle.cqs_core.specs.SemaphoreObject.{Semaphore}
-use Rattle.cqs_core.specs.SemaphoreShown.{shown}
-use Rattle.cqs_core.specs.SoleCaller.{HasWait}
 use Rattle.cqs_plan.specs.declared.floors.answers.FloorLook.{FloorLook}
 use Rattle.cqs_plan.specs.declared.floors.answers.FloorLook.TheVariants.{Pending, Granted}
 use Rattle.cqs_plan.specs.declared.floors.answers.FloorLeave.{FloorLeave}
 use Rattle.cqs_plan.specs.declared.floors.answers.FloorLeave.TheVariants.{Gone, Late}
-use Rattle.cqs_plan.specs.Floor.{PlainFloor, IsJob, wait_of}
+use Rattle.cqs_plan.specs.Floor.{PlainFloor, IsJob, IsWaiting, permits_of, wait_of}
 use Rattle.cqs_plan.specs.FloorCalls as plain
 use Rattle.cqs_cli.specs.declared.floors.waits.Wait.{Wait}
-use Rattle.cqs_cli.specs.DeskCalls.{Answers, CanCall, CanLook, Looks, leave_of, with_leave, is_wait_served}
-use Rattle.cqs_cli.specs.Kept.{IsKept, IsFundedAt, StandsIn}
-use Rattle.cqs_cli.specs.Ledger.{Ledger, plain_floor, with_cores, with_grant, job_wait}
-use Rattle.cqs_cli.specs.SoleCore.{IsSole}
-use Rattle.cqs_cli.proofs.Came.{Came, came-granted, came-left, came-late}
-use Rattle.cqs_cli.proofs.Funded.{funded-rests, funded-ready}
-use Rattle.cqs_cli.proofs.Objects.{stays-closed, stays-left, left-next}
-use Rattle.cqs_cli.proofs.Resources.{object-shown, wait-there}
-use Rattle.cqs_cli.proofs.SoleCells.{read-wait}
-use Rattle.cqs_cli.proofs.WaitOver.{waiting-here, fewer, kept-gone, kept-came, plain-gone, plain-came}
+use Rattle.cqs_cli.specs.DeskCalls.{HasAt, Leaves, Looks}
+use Rattle.cqs_cli.specs.Kept.{IsKept, IsFundedAt, StandsIn, held_at, waiting_at}
+use Rattle.cqs_cli.specs.Ledger.{Ledger, plain_floor, with_soles, with_wait, with_grant, holds_in, job_wait}
+use Rattle.cqs_cli.specs.Soles.{Sole, CanEnd, Goes, KeepsAll, is_in_line, object}
+use Rattle.cqs_cli.proofs.KeptNext.{kept-next, stands-on, entries-same}
+use Rattle.cqs_cli.proofs.Resources.{object-there, wait-there}
+use Rattle.cqs_cli.proofs.WaitOver.{some-waiting, fewer, kept-gone, kept-came, plain-gone, plain-came}
 
--- some wait of the number is in the line where the first of it is found
-any-find : (k : ℕ) (ws : List Waiting) → list_any (λ w. w.wait == k) ws ≡ is_some (find_wait k ws)
-any-find k [] = refl
-any-find k (w ∷ ws) = go (w.wait == k) refl (any-find k ws)
-  where
-    go : (b : Bool) → w.wait == k ≡ b → list_any (λ x. x.wait == k) ws ≡ is_some (find_wait k ws)
-        → list_any (λ x. x.wait == k) (w ∷ ws) ≡ is_some (find_wait k (w ∷ ws))
-    go true same later = rw (same, eq-eqb k w.wait (sym (eqb-true w.wait k same))) refl
-    go false other later =
-        let differs : k ≢ w.wait = λ e. absurd (cc (eq-eqb w.wait k (sym e), other)) in
-        rw (other, ne_eqb k w.wait differs) later
+-- an element that was taken out of a list and put back
+set-back : {A : Type 0} (xs : List (Option A)) (i : ℕ) (x : Option A) → slice_get xs i ≡ Some x
+    → set (set xs i None) i x ≡ xs
+set-back [] i x there = absurd (cc)
+set-back (y ∷ xs) zero x there = let same : y ≡ x = cc in ap (λ z. z ∷ xs) (sym same)
+set-back (y ∷ xs) (suc i) x there = ap (λ ys. y ∷ ys) (set-back xs i x there)
 
-none-found : (o : Option Waiting) → is_some o ≡ false → o ≡ None
-none-found None is = refl
-none-found (Some w) is = absurd (cc)
+module _ {X W : Type 0} (s : Sole X W) where
+  -- A call that appends nothing leaves the ledger as it was, for the plain floor.
+  module _ (l : Ledger X W) (at : ℕ) (sole after : X) (kept : IsKept s l) (there : slice_get l.soles at ≡ Some sole)
+      (goes : Goes s sole [] (permits_of (slice_get l.kinds at)) (slice_index l.room at) (waiting_at l.waits at)
+      (held_at (holds_in l) at) after) where
+    pub plain-same : plain_floor s (with_soles l (set l.soles at after)) ≡ plain_floor s l
+    plain-same =
+        let entries = entries-same s l.soles at sole after there (goes.appended ∙ append-nil (s.entries sole)) in
+        rw entries refl
 
-some-found : (o : Option Waiting) → is_some o ≡ true → (w : Waiting) × (o ≡ Some w)
-some-found None is = absurd (cc)
-some-found (Some w) is = (w, refl)
+    pub kept-same : KeepsAll s sole after → IsKept s (with_soles l (set l.soles at after))
+    kept-same keeps = kept-next s l (with_soles l (set l.soles at after)) at sole after kept (record {
+      there = there;
+      kinds = refl;
+      soles = refl;
+      rooms = refl;
+      funded = goes.funded;
+      room = λ i other. refl;
+      waiting = λ i other. refl;
+      held = λ i other. refl;
+      waits = λ j wait got. stands-on s l.soles at sole after wait there (λ same has. keeps wait.token has)
+          (kept.waits j wait got);
+      apart = kept.apart;
+      plain = kept.plain;
+      spare = kept.spare;
+    })
 
-not-true : (b : Bool) → true ≡ not b → b ≡ false
-not-true true is = absurd (cc)
-not-true false is = refl
+  -- a job of the ledger whose wait stands
+  module _ (l : Ledger X W) (job : ℕ) (wait : Wait W) (kept : IsKept s l) (slot : get_or l.waits job None ≡ Some wait)
+    where
+      has : slice_get l.waits job ≡ Some (Some wait)
+      has = (wait-there s l.waits job wait slot).stands
 
-not-false : (b : Bool) → false ≡ not b → b ≡ true
-not-false true is = refl
-not-false false is = absurd (cc)
+      seen : wait_of (plain_floor s l) job ≡ Some (job_wait s wait)
+      seen = (wait-there s l.waits job wait slot).plain
 
--- a job of the ledger whose wait stands
-module _ (l : Ledger) (job : ℕ) (wait : Wait) (kept : IsKept l)
-    (slot : get_or l.waits job None ≡ Some wait) where
-  has : slice_get l.waits job ≡ Some (Some wait)
-  has = (wait-there l.waits job wait slot).0
+      pub can-end : HasAt l.soles wait.at (CanEnd s wait.token)
+      can-end =
+          let stands : StandsIn s l.soles wait = kept.waits job wait has in
+          record {
+            sole = stands.sole;
+            there = stands.there;
+            can = record {
+              size = _;
+              room = _;
+              waiting = _;
+              held = _;
+              funded = kept.funded.at wait.at stands.sole stands.there;
+              some = some-waiting s l job wait kept has;
+              has = stands.has;
+            };
+          }
 
-  seen : wait_of (plain_floor l) job ≡ Some (job_wait wait)
-  seen = (wait-there l.waits job wait slot).1
+      pub some-spare : 0 < l.spare
+      some-spare = omega (arith, kept.spare, fewer s l job wait kept has)
 
-  stands : StandsIn l.cores wait
-  stands = kept.waits job wait has
+      -- whether the wait stands in the line, as the plain floor sees it
+      line-reads : (sole : X) → slice_get l.soles wait.at ≡ Some sole → (stands : Bool)
+          → is_in_line (s.number wait.token) (object s (permits_of (slice_get l.kinds wait.at)) sole).line ≡ stands
+          → plain.is_in_line (plain_floor s l) (job_wait s wait) ≡ stands
+      line-reads sole there stands reads =
+          ap (λ (o : Semaphore). is_in_line (s.number wait.token) o.line) (object-there s l wait.at sole there) ∙ reads
 
-  -- any core that stands at the place of the wait is this one
-  module _ (core : Room) (there : slice_get l.cores wait.at ≡ Some core) where
-    funded : IsFundedAt l wait.at core
-    funded = kept.funded.at wait.at core there
+  -- what a look comes to: its answer is the plain floor's, and so is what it leaves
+  pub record LooksWell (f : PlainFloor) (job : ℕ) (answer : FloorLook) (n : Ledger X W) : Type 0 where
+    pub answers : answer ≡ plain.look_answer f job
+    pub leaves : plain_floor s n ≡ plain.after_look f job answer
+    pub kept : IsKept s n
 
-    waits : HasWait wait.number 0 (shown core.shape)
-    waits =
-        let found : Some stands.core ≡ Some core = sym stands.there ∙ there in
-        let is : stands.core ≡ core = cc in
-        subst (λ (c : Room). HasWait wait.number 0 (shown c.shape)) is stands.stands
+  look-well : (l n : Ledger X W) (job : ℕ) (wait : Wait W) (answer : FloorLook) → IsKept s l
+      → IsJob (plain_floor s l) job → get_or l.waits job None ≡ Some wait
+      → Looks s (with_wait l job None) job wait answer n
+      → LooksWell (plain_floor s l) job answer n
+  look-well l n job wait Pending kept is_job slot (back, a, written) =
+      let job_has = has l job wait kept slot in
+      let made = a.made.1 _ _ _ _ (kept.funded.at wait.at a.sole a.there) (some-waiting s l job wait kept job_has) in
+      let in_line = line-reads l job wait kept slot a.sole a.there true made.found in
+      let returned : Option (Wait W) → Ledger X W = λ w. with_soles (with_wait (with_wait l job None) job w) n.soles in
+      let token : W → Wait W = λ t. record { at = wait.at; token = t } in
+      let same : n ≡ with_soles l (set l.soles wait.at a.after) =
+      written ∙ ap (λ t. returned (Some (token t))) a.made.0
+      ∙ ap (λ ws. record l { waits = ws; soles = n.soles }) (set-back l.waits job (Some wait) job_has)
+      ∙ ap (with_soles l) a.soles in
+      record {
+        answers = rw (seen l job wait kept slot, in_line) refl;
+        leaves = ap (plain_floor s) same ∙ plain-same l wait.at a.sole a.after kept a.there made.goes;
+        kept = subst (IsKept s) (sym same) (kept-same l wait.at a.sole a.after kept a.there made.goes made.keeps);
+      }
+  look-well l n job wait (Granted element) kept is_job slot (none, a, written) =
+      let job_has = has l job wait kept slot in
+      let made = a.made _ _ _ _ (kept.funded.at wait.at a.sole a.there) (some-waiting s l job wait kept job_has) in
+      let in_line = line-reads l job wait kept slot a.sole a.there false made.found in
+      let same : n ≡ with_soles (with_grant l job wait.at) (set l.soles wait.at a.after) =
+      written ∙ ap (with_soles (with_grant l job wait.at)) a.soles in
+      record {
+        answers = rw (none, seen l job wait kept slot, in_line) refl;
+        leaves = ap (plain_floor s) same
+            ∙ plain-came s l job wait kept job_has a.sole a.after a.there made.keeps _ made.goes.appended
+            ∙ ap (λ o. plain.with_granted (plain_floor s l) job (λ w. entry.LookGranted 0 w.number) o 0)
+            (sym (seen l job wait kept slot))
+            ∙ ap (λ e. plain.after_look (plain_floor s l) job (Granted e)) (sym none);
+        kept = subst (IsKept s) (sym same)
+            (kept-came s l job wait kept job_has a.sole a.after a.there made.keeps _ is_job.holds made.goes);
+      }
 
-    served-reads : is_wait_served core wait ≡ not (is_some (find_wait wait.number (shown core.shape).line))
-    served-reads =
-        (read-wait core.shape funded.sole (funded-rests core _ _ _ _ funded) wait.number 0 waits).reads
+  -- what a leave comes to
+  pub record LeavesWell (f : PlainFloor) (job : ℕ) (answer : FloorLeave) (n : Ledger X W) : Type 0 where
+    pub answers : answer ≡ plain.leave_answer f job
+    pub leaves : plain_floor s n ≡ plain.after_leave f job answer
+    pub kept : IsKept s n
 
-    line-reads : plain.is_in_line (plain_floor l) (job_wait wait)
-        ≡ is_some (find_wait wait.number (shown core.shape).line)
-    line-reads =
-        ap (λ (o : Semaphore). list_any (λ w. w.wait == wait.number) o.line)
-        (object-shown l wait.at core kept there)
-        ∙ any-find wait.number (shown core.shape).line
+  leave-well : (l n : Ledger X W) (job : ℕ) (wait : Wait W) (answer : FloorLeave) → IsKept s l
+      → IsJob (plain_floor s l) job → get_or l.waits job None ≡ Some wait
+      → Leaves s (with_wait l job None) job wait answer n
+      → LeavesWell (plain_floor s l) job answer n
+  leave-well l n job wait Gone kept is_job slot (a, written) =
+      let job_has = has l job wait kept slot in
+      let made = a.made _ _ _ _ (kept.funded.at wait.at a.sole a.there) (some-waiting s l job wait kept job_has) in
+      let in_line = line-reads l job wait kept slot a.sole a.there true made.found in
+      let same : n ≡ with_soles (with_wait l job None) (set l.soles wait.at a.after) =
+      written ∙ ap (with_soles (with_wait l job None)) a.soles in
+      record {
+        answers = rw (seen l job wait kept slot, in_line) refl;
+        leaves = ap (plain_floor s) same
+            ∙ plain-gone s l job wait kept job_has a.sole a.after a.there made.keeps _ made.goes.appended
+            ∙ ap (plain.with_left (plain_floor s l) job) (sym (seen l job wait kept slot));
+        kept = subst (IsKept s) (sym same)
+            (kept-gone s l job wait kept job_has a.sole a.after a.there made.keeps _ made.goes);
+      }
+  leave-well l n job wait (Late element) kept is_job slot (none, a, written) =
+      let job_has = has l job wait kept slot in
+      let made = a.made _ _ _ _ (kept.funded.at wait.at a.sole a.there) (some-waiting s l job wait kept job_has) in
+      let in_line = line-reads l job wait kept slot a.sole a.there false made.found in
+      let same : n ≡ with_soles (with_grant l job wait.at) (set l.soles wait.at a.after) =
+      written ∙ ap (with_soles (with_grant l job wait.at)) a.soles in
+      record {
+        answers = rw (none, seen l job wait kept slot, in_line) refl;
+        leaves = ap (plain_floor s) same
+            ∙ plain-came s l job wait kept job_has a.sole a.after a.there made.keeps _ made.goes.appended
+            ∙ ap (λ o. plain.with_granted (plain_floor s l) job (λ w. entry.Late 0 w.number) o 0)
+            (sym (seen l job wait kept slot))
+            ∙ ap (λ e. plain.after_leave (plain_floor s l) job (Late e)) (sym none);
+        kept = subst (IsKept s) (sym same)
+            (kept-came s l job wait kept job_has a.sole a.after a.there made.keeps _ is_job.holds made.goes);
+      }
 
-  pub can-look : CanLook l.cores wait
-  can-look = record {
-    core = stands.core;
-    there = stands.there;
-    ready = funded-ready _ _ _ _ _ (funded stands.core stands.there)
-        (omega (arith, waiting-here l job wait kept has));
-    allowed = λ served. waits stands.core stands.there;
-  }
+  -- a job that waits on the plain floor waits in the ledger
+  some-there : (waits : List (Option (Wait W))) (job : ℕ)
+      → IsSome (get_or (map (option_map (job_wait s)) waits) job None) → IsSome (get_or waits job None)
+  some-there [] job some = some
+  some-there (None ∷ waits) zero some = some
+  some-there (Some wait ∷ waits) zero some = refl
+  some-there (w ∷ waits) (suc job) some = some-there waits job some
 
-  pub can-leave : CanCall l.cores wait.at (call.Cancel 0 wait.number)
-  can-leave = record {
-    core = stands.core;
-    there = stands.there;
-    ready = funded-ready _ _ _ _ _ (funded stands.core stands.there)
-        (omega (arith, waiting-here l job wait kept has));
-    allowed = waits stands.core stands.there;
-  }
+  pub wait-can : (l : Ledger X W) (f : PlainFloor) (job : ℕ) → plain_floor s l ≡ f → IsWaiting f job
+      → IsSome (get_or l.waits job None)
+  wait-can l f job view waiting = some-there l.waits job (subst (λ g. IsWaiting g job) (sym view) waiting)
 
-  pub some-spare : 0 < l.spare
-  some-spare = omega (arith, kept.spare, fewer l job wait kept has)
+  -- the same where the floor is seen as its plain floor
+  pub look-floor : (l n : Ledger X W) (f : PlainFloor) (job : ℕ) (wait : Wait W) (answer : FloorLook)
+      → plain_floor s l ≡ f → IsKept s l → IsJob f job → get_or l.waits job None ≡ Some wait
+      → Looks s (with_wait l job None) job wait answer n → LooksWell f job answer n
+  look-floor l n f job wait answer view kept =
+      let Comes : PlainFloor → Type 0 = λ g. IsJob g job → get_or l.waits job None ≡ Some wait
+      → Looks s (with_wait l job None) job wait answer n → LooksWell g job answer n in
+      subst Comes view (look-well l n job wait answer kept)
 
--- what a look comes to: its answer is the plain floor's, and so is what it leaves
-pub record LooksWell (f : PlainFloor) (job : ℕ) (answer : FloorLook) (n : Ledger) : Type 0 where
-  pub answers : answer ≡ plain.look_answer f job
-  pub leaves : plain_floor n ≡ plain.after_look f job answer
-  pub kept : IsKept n
-
-look-well : (l n : Ledger) (job : ℕ) (wait : Wait) (answer : FloorLook) → IsKept l → IsJob (plain_floor l) job
-    → get_or l.waits job None ≡ Some wait → Looks l job wait answer n → LooksWell (plain_floor l) job answer n
-look-well l n job wait Pending kept is_job slot (reads, same) =
-    let there : is_some (find_wait wait.number (shown reads.core.shape).line) ≡ true =
-    not-false _ (sym reads.reads ∙ served-reads l job wait kept slot reads.core reads.there) in
-    let in_line : plain.is_in_line (plain_floor l) (job_wait wait) ≡ true =
-    line-reads l job wait kept slot reads.core reads.there ∙ there in
-    record {
-      answers = rw (seen l job wait kept slot, in_line) refl;
-      leaves = ap plain_floor same;
-      kept = subst IsKept (sym same) kept;
-    }
-look-well l n job wait (Granted element) kept is_job slot (none, reads, (answer, calls), written) = record {
-  answers = rw (none, seen l job wait kept slot, in_line) refl;
-  leaves = ap plain_floor same
-      ∙ plain-came l job wait kept job_has core after _ answer calls.there calls.made _ _ _ came
-      ∙ ap (λ o. plain.with_granted (plain_floor l) job (λ w. entry.LookGranted 0 w.number) o 0)
-      (sym (seen l job wait kept slot))
-      ∙ ap (λ e. plain.after_look (plain_floor l) job (Granted e)) (sym none);
-  kept = subst IsKept (sym same)
-      (kept-came l job wait kept job_has core after _ answer calls.there calls.made _ _ is_job.holds came
-      (ap (λ (o : Semaphore). o.next) came.shows)
-      (λ k other stands. subst (λ (o : Semaphore). HasWait k 0 o) (sym came.shows)
-      (stays-closed (shown core.shape) wait.number k other stands)));
-}
-  where
-    core : Room
-    core = calls.core
-
-    after : Room
-    after = calls.after
-
-    job_has : slice_get l.waits job ≡ Some (Some wait)
-    job_has = has l job wait kept slot
-
-    sole : IsSole core.shape
-    sole = (funded l job wait kept slot core calls.there).sole
-
-    one_core : reads.core ≡ core
-    one_core = let found : Some reads.core ≡ Some core = sym reads.there ∙ calls.there in cc
-
-    missing : is_some (find_wait wait.number (shown core.shape).line) ≡ false
-    missing =
-        not-true _
-        (sym (ap (λ c. is_wait_served c wait) (sym one_core) ∙ reads.reads)
-        ∙ served-reads l job wait kept slot core calls.there)
-
-    in_line : plain.is_in_line (plain_floor l) (job_wait wait) ≡ false
-    in_line = line-reads l job wait kept slot core calls.there ∙ missing
-
-    came : Came core after answer reply.Granted (entry.LookGranted 0 wait.number ∷ [])
-        (slice_index core.shape.held 0 + 1)
-    came = came-granted core after answer sole wait.number calls.made (none-found _ missing)
-
-    same : n ≡ with_cores (with_grant l job wait) (set l.cores wait.at after)
-    same = written ∙ ap (with_cores (with_grant l job wait)) calls.cores
-
--- what a leave comes to
-pub record LeavesWell (f : PlainFloor) (job : ℕ) (answer : FloorLeave) (n : Ledger) : Type 0 where
-  pub answers : answer ≡ plain.leave_answer f job
-  pub leaves : plain_floor n ≡ plain.after_leave f job answer
-  pub kept : IsKept n
-
-leave-well : (l n : Ledger) (job : ℕ) (wait : Wait) (answer : FloorLeave) → IsKept l
-    → IsJob (plain_floor l) job → get_or l.waits job None ≡ Some wait
-    → Answers leave_of (call.Cancel 0 wait.number) l.cores wait.at n.cores answer
-    → n ≡ with_cores (with_leave l job wait answer) n.cores → LeavesWell (plain_floor l) job answer n
-leave-well l n job wait answer kept is_job slot a written =
-    go (is_some (find_wait wait.number (shown core.shape).line)) refl
-  where
-    core : Room
-    core = a.calls.core
-
-    after : Room
-    after = a.calls.after
-
-    job_has : slice_get l.waits job ≡ Some (Some wait)
-    job_has = has l job wait kept slot
-
-    sole : IsSole core.shape
-    sole = (funded l job wait kept slot core a.calls.there).sole
-
-    job_waits : wait_of (plain_floor l) job ≡ Some (job_wait wait)
-    job_waits = seen l job wait kept slot
-
-    in_line : plain.is_in_line (plain_floor l) (job_wait wait)
-        ≡ is_some (find_wait wait.number (shown core.shape).line)
-    in_line = line-reads l job wait kept slot core a.calls.there
-
-    same : (told : FloorLeave) → answer ≡ told
-        → n ≡ with_cores (with_leave l job wait told) (set l.cores wait.at after)
-    same told is =
-        written ∙ ap (λ g. with_cores (with_leave l job wait g) n.cores) is
-        ∙ ap (with_cores (with_leave l job wait told)) a.calls.cores
-
-    go : (b : Bool) → is_some (find_wait wait.number (shown core.shape).line) ≡ b
-        → LeavesWell (plain_floor l) job answer n
-    go true there =
-        let found = some-found _ there in
-        let came = came-left core after a.reply sole wait.number found.0 a.calls.made found.1 in
-        let is : answer ≡ Gone = same_Some _ _ (sym a.told ∙ ap leave_of came.is) in
-        record {
-          answers = is ∙ rw (job_waits, in_line, there) refl;
-          leaves = ap plain_floor (same Gone is)
-              ∙ plain-gone l job wait kept job_has core after _ a.reply a.calls.there a.calls.made _ _ _ came
-              ∙ ap (plain.with_left (plain_floor l) job) (sym job_waits)
-              ∙ ap (plain.after_leave (plain_floor l) job) (sym is);
-          kept = subst IsKept (sym (same Gone is))
-              (kept-gone l job wait kept job_has core after _ a.reply a.calls.there a.calls.made _ _ came
-              (ap (λ (o : Semaphore). o.next) came.shows ∙ left-next (shown core.shape) wait.number)
-              (λ k other stands. subst (λ (o : Semaphore). HasWait k 0 o) (sym came.shows)
-              (stays-left (shown core.shape) wait.number k other stands)));
-        }
-    go false missing =
-        let came = came-late core after a.reply sole wait.number a.calls.made (none-found _ missing) in
-        let is : answer ≡ Late 0 = same_Some _ _ (sym a.told ∙ ap leave_of came.is) in
-        record {
-          answers = is ∙ rw (job_waits, in_line, missing) refl;
-          leaves = ap plain_floor (same (Late 0) is)
-              ∙ plain-came l job wait kept job_has core after _ a.reply a.calls.there a.calls.made _ _ _ came
-              ∙ ap (λ o. plain.with_granted (plain_floor l) job (λ w. entry.Late 0 w.number) o 0)
-              (sym job_waits)
-              ∙ ap (plain.after_leave (plain_floor l) job) (sym is);
-          kept = subst IsKept (sym (same (Late 0) is))
-              (kept-came l job wait kept job_has core after _ a.reply a.calls.there a.calls.made _ _
-              is_job.holds came
-              (ap (λ (o : Semaphore). o.next) came.shows)
-              (λ k other stands. subst (λ (o : Semaphore). HasWait k 0 o) (sym came.shows)
-              (stays-closed (shown core.shape) wait.number k other stands)));
-        }
-
--- the same where the floor is seen as its plain floor
-pub look-floor : (l n : Ledger) (f : PlainFloor) (job : ℕ) (wait : Wait) (answer : FloorLook)
-    → plain_floor l ≡ f → IsKept l
-    → IsJob f job → get_or l.waits job None ≡ Some wait → Looks l job wait answer n → LooksWell f job answer n
-look-floor l n f job wait answer view kept =
-    let Comes : PlainFloor → Type 0 = λ g. IsJob g job → get_or l.waits job None ≡ Some wait → Looks l job wait answer n
-    → LooksWell g job answer n in
-    subst Comes view (look-well l n job wait answer kept)
-
-pub leave-floor : (l n : Ledger) (f : PlainFloor) (job : ℕ) (wait : Wait) (answer : FloorLeave)
-    → plain_floor l ≡ f → IsKept l → IsJob f job → get_or l.waits job None ≡ Some wait
-    → Answers leave_of (call.Cancel 0 wait.number) l.cores wait.at n.cores answer
-    → n ≡ with_cores (with_leave l job wait answer) n.cores → LeavesWell f job answer n
-leave-floor l n f job wait answer view kept =
-    let Comes : PlainFloor → Type 0 = λ g. IsJob g job → get_or l.waits job None ≡ Some wait
-    → Answers leave_of (call.Cancel 0 wait.number) l.cores wait.at n.cores answer
-    → n ≡ with_cores (with_leave l job wait answer) n.cores → LeavesWell g job answer n in
-    subst Comes view (leave-well l n job wait answer kept)
+  pub leave-floor : (l n : Ledger X W) (f : PlainFloor) (job : ℕ) (wait : Wait W) (answer : FloorLeave)
+      → plain_floor s l ≡ f → IsKept s l → IsJob f job → get_or l.waits job None ≡ Some wait
+      → Leaves s (with_wait l job None) job wait answer n → LeavesWell f job answer n
+  leave-floor l n f job wait answer view kept =
+      let Comes : PlainFloor → Type 0 = λ g. IsJob g job → get_or l.waits job None ≡ Some wait
+      → Leaves s (with_wait l job None) job wait answer n → LeavesWell g job answer n in
+      subst Comes view (leave-well l n job wait answer kept)

@@ -1,31 +1,26 @@
 -- The wait of a job is over: it looked at what came, left the line, or was too late to leave.
-use Rattle.std.proofs.Common.{◌≡◌, ◌≢◌, ◌⊎◌, inl, inr, ℕ, ◌+◌, ◌<◌, ◌==◌, List, [], ◌∷◌, ◌++◌, Some, None, is_some, length, map, set, get_or, slice_get, sum_by, count_by, refl, ap, ap₂, sym, ◌∙◌, subst, length-set, arith}
+use Rattle.std.proofs.Common.{◌≡◌, ◌≢◌, ◌⊎◌, inl, inr, ℕ, ◌+◌, ◌-◌, ◌<◌, ◌==◌, List, [], ◌∷◌, ◌++◌, Some, None, is_some, length, map, set, get_or, slice_get, sum_by, count_by, refl, ap, ap₂, sym, ◌∙◌, subst, length-set, arith}
 use Rattle.std.specs.Prelude.{slice_index}
 use Rattle.std.specs.Option.{option_map}
 use Rattle.std.proofs.lemmas.Bool.{cases_eq}
 use Rattle.std.proofs.lemmas.List.{map-set}
 use Rattle.std.proofs.lemmas.Option.{get_or_from_slice_get}
-use Rattle.cqs_core.specs.declared.calls.Call.{Call}
-use Rattle.cqs_core.specs.declared.calls.Reply.{Reply}
 use Rattle.cqs_core.specs.declared.entries.Entry.{Entry}
-use Rattle.cqs_core.specs.SemaphoreAnswers.{Room}
-use Rattle.cqs_core.specs.SemaphoreShown.{shown}
-use Rattle.cqs_core.specs.SoleCaller.{HasWait}
 use Rattle.cqs_core.proofs.Counts.{bit}
 use Rattle.cqs_core.proofs.Places.{get-set_here, get-set_else, get-below}
+use Rattle.cqs_plan.specs.Floor.{JobWait, permits_of}
 use Rattle.cqs_cli.specs.declared.floors.transfers.Transfer.TheVariants.{Got}
 use Rattle.cqs_cli.specs.declared.floors.waits.Wait.{Wait}
-use Rattle.cqs_cli.specs.Kept.{IsKept, IsFundedAt, StandsIn, AreApart, HoldPermits, holds_in, waiting_at, held_at, is_wait_at}
-use Rattle.cqs_cli.specs.Ledger.{Ledger, plain_floor, with_cores, with_wait, with_grant, after_transfer, holds_after, job_wait}
-use Rattle.cqs_cli.specs.SoleCore.{HasMade}
-use Rattle.cqs_cli.proofs.Came.{Came}
-use Rattle.cqs_cli.proofs.Funded.{funded-next}
+use Rattle.cqs_cli.specs.Kept.{IsKept, IsFundedAt, StandsIn, AreApart, HoldPermits, waiting_at, held_at, is_wait_at}
+use Rattle.cqs_cli.specs.Ledger.{Ledger, plain_floor, with_soles, with_wait, with_grant, after_transfer, holds_after, holds_in, job_wait}
+use Rattle.cqs_cli.specs.Soles.{Sole, Goes, KeepsOthers}
 use Rattle.cqs_cli.proofs.Holdings.{count-set, held-got, many-got, permits-transfer, holds-transfer}
-use Rattle.cqs_cli.proofs.KeptNext.{kept-next, stands-on, histories-next}
+use Rattle.cqs_cli.proofs.KeptNext.{funded-as, kept-next, stands-on, entries-next}
 use Rattle.cqs_cli.proofs.Resources.{bit-same, bit-other}
 
 -- a job whose wait stands
-module _ (l : Ledger) (job : ℕ) (wait : Wait) (kept : IsKept l) (has : slice_get l.waits job ≡ Some (Some wait)) where
+module _ {X W : Type 0} (s : Sole X W) (l : Ledger X W) (job : ℕ) (wait : Wait W) (kept : IsKept s l)
+    (has : slice_get l.waits job ≡ Some (Some wait)) where
   below : job < length l.waits
   below = get-below l.waits job (Some wait) has
 
@@ -33,18 +28,18 @@ module _ (l : Ledger) (job : ℕ) (wait : Wait) (kept : IsKept l) (has : slice_g
   was = get_or_from_slice_get l.waits job (Some wait) None has
 
   -- a wait that is left is another job's, and another one
-  record IsAnother (j : ℕ) (w : Wait) : Type 0 where
+  record IsAnother (j : ℕ) (w : Wait W) : Type 0 where
     stands : slice_get l.waits j ≡ Some (Some w)
-    number : w.at ≡ wait.at → w.number ≢ wait.number
+    number : w.at ≡ wait.at → s.number w.token ≢ s.number wait.token
 
-  another : (j : ℕ) (w : Wait) → slice_get (set l.waits job None) j ≡ Some (Some w) → IsAnother j w
+  another : (j : ℕ) (w : Wait W) → slice_get (set l.waits job None) j ≡ Some (Some w) → IsAnother j w
   another j w got = go (cases_eq j job)
     where
       go : (j ≡ job) ⊎ (j ≢ job) → IsAnother j w
       go (inl same) =
           let gone : Some None ≡ Some (Some w) =
-          sym (get-set_here l.waits job (Some wait) None has) ∙ ap (slice_get (set l.waits job None)) (sym same)
-          ∙ got in
+          sym (get-set_here l.waits job (Some wait) None has)
+          ∙ ap (slice_get (set l.waits job None)) (sym same) ∙ got in
           absurd (cc)
       go (inr other) =
           let stands : slice_get l.waits j ≡ Some (Some w) =
@@ -52,14 +47,13 @@ module _ (l : Ledger) (job : ℕ) (wait : Wait) (kept : IsKept l) (has : slice_g
           record {
             stands = stands;
             number = λ at number.
-                let wait_from : ℕ → ℕ → Wait = λ a n. record { at = a; number = n } in
-                let is : w ≡ wait = ap₂ wait_from at number in
-                other (kept.apart.same j job wait (stands ∙ ap (λ x. Some (Some x)) is) has);
+                let wait_from : ℕ → ℕ → JobWait = λ a n. record { at = a; number = n } in
+                other (kept.apart.same j job w wait stands has (ap₂ wait_from at number));
           }
 
-  apart : AreApart (set l.waits job None)
+  apart : AreApart s (set l.waits job None)
   apart = record {
-    same = λ i j w one two. kept.apart.same i j w (another i w one).stands (another j w two).stands;
+    same = λ i j v w one two. kept.apart.same i j v w (another i v one).stands (another j w two).stands;
   }
 
   waiting-after : (i : ℕ) → waiting_at (set l.waits job None) i + bit (wait.at == i) ≡ waiting_at l.waits i
@@ -68,7 +62,10 @@ module _ (l : Ledger) (job : ℕ) (wait : Wait) (kept : IsKept l) (has : slice_g
       count-set (is_wait_at i) l.waits job (Some wait) None None below was in
       omega (arith, changed)
 
-  pub waiting-here : waiting_at (set l.waits job None) wait.at + 1 ≡ waiting_at l.waits wait.at
+  pub some-waiting : 0 < waiting_at l.waits wait.at
+  some-waiting = omega (arith, waiting-after wait.at, bit-same wait.at)
+
+  waiting-here : waiting_at (set l.waits job None) wait.at ≡ waiting_at l.waits wait.at - 1
   waiting-here = omega (arith, waiting-after wait.at, bit-same wait.at)
 
   waiting-else : (i : ℕ) → i ≢ wait.at → waiting_at (set l.waits job None) i ≡ waiting_at l.waits i
@@ -80,44 +77,41 @@ module _ (l : Ledger) (job : ℕ) (wait : Wait) (kept : IsKept l) (has : slice_g
       count-set (λ w. is_some w) l.waits job (Some wait) None None below was in
       omega (arith, changed)
 
-  -- a call of the core of that wait
-  module _ (core after : Room) (c : Call) (answer : Reply) (there : slice_get l.cores wait.at ≡ Some core)
-      (made : HasMade core c answer after) where
-    funded : IsFundedAt l wait.at core
-    funded = kept.funded.at wait.at core there
+  -- a call of the semaphore of that wait
+  module _ (sole after : X) (there : slice_get l.soles wait.at ≡ Some sole)
+      (keeps : KeepsOthers s sole (s.number wait.token) after) where
+    abbrev size : ℕ
+    size = permits_of (slice_get l.kinds wait.at)
 
     -- the other waits stand on
-    stand-on : ((k : ℕ) → k ≢ wait.number → HasWait k 0 (shown core.shape) → HasWait k 0 (shown after.shape))
-        → (j : ℕ) (w : Wait) → slice_get (set l.waits job None) j ≡ Some (Some w)
-        → StandsIn (set l.cores wait.at after) w
-    stand-on stays j w got =
+    stand-on : (j : ℕ) (w : Wait W) → slice_get (set l.waits job None) j ≡ Some (Some w)
+        → StandsIn s (set l.soles wait.at after) w
+    stand-on j w got =
         let other = another j w got in
-        stands-on l.cores wait.at core after w there (λ same stands. stays w.number (other.number same) stands)
+        stands-on s l.soles wait.at sole after w there (λ same stands. keeps w.token (other.number same) stands)
         (kept.waits j w other.stands)
 
     -- the job left the line
-    abbrev pub gone : Ledger
-    gone = with_cores (with_wait l job None) (set l.cores wait.at after)
+    abbrev pub gone : Ledger X W
+    gone = with_soles (with_wait l job None) (set l.soles wait.at after)
 
     gone-holds : holds_in gone ≡ holds_in l
     gone-holds = ap (λ n. holds_after n l.transfers) (length-set l.waits job None)
 
-    pub kept-gone : (told : Reply) (entries : List Entry)
-        → Came core after answer told entries (slice_index core.shape.held 0)
-        → after.shape.queue.suspends ≡ core.shape.queue.suspends
-        → ((k : ℕ) → k ≢ wait.number → HasWait k 0 (shown core.shape) → HasWait k 0 (shown after.shape)) → IsKept gone
-    kept-gone told entries came numbers stays = kept-next l gone wait.at core after kept (record {
+    pub kept-gone : (entries : List Entry)
+        → Goes s sole entries size (slice_index l.room wait.at) (waiting_at l.waits wait.at - 1)
+        (held_at (holds_in l) wait.at) after
+        → IsKept s gone
+    kept-gone entries goes = kept-next s l gone wait.at sole after kept (record {
       there = there;
       kinds = refl;
-      cores = refl;
+      soles = refl;
       rooms = refl;
-      funded = funded-next core after c answer _ _ _ _ _ _ _ funded made
-          (omega (arith, numbers)) (omega (arith, waiting-here, held-here))
-          (omega (arith, came.holds, funded.holds, held-here));
+      funded = funded-as s after _ refl (sym waiting-here) (sym held-here) goes.funded;
       room = λ i other. refl;
       waiting = waiting-else;
       held = λ i other. ap (λ hs. held_at hs i) gone-holds;
-      waits = stand-on stays;
+      waits = stand-on;
       apart = apart;
       plain = subst HoldPermits (sym gone-holds) kept.plain;
       spare = omega (arith, kept.spare, fewer, many);
@@ -130,31 +124,28 @@ module _ (l : Ledger) (job : ℕ) (wait : Wait) (kept : IsKept l) (has : slice_g
         many = ap (λ hss. sum_by (λ hs. length hs) hss) gone-holds
 
     -- the job has what came
-    abbrev pub came_to : Ledger
-    came_to = with_cores (with_grant l job wait) (set l.cores wait.at after)
+    abbrev pub came_to : Ledger X W
+    came_to = with_soles (with_grant l job wait.at) (set l.soles wait.at after)
 
     came-holds : holds_in came_to ≡ after_transfer (holds_in l) (Got job wait.at)
     came-holds =
         ap (λ n. holds_after n (l.transfers ++ Got job wait.at ∷ [])) (length-set l.waits job None)
         ∙ holds-transfer (length l.waits) l.transfers (Got job wait.at)
 
-    pub kept-came : (told : Reply) (entries : List Entry) → job < length (holds_in l)
-        → Came core after answer told entries (slice_index core.shape.held 0 + 1)
-        → after.shape.queue.suspends ≡ core.shape.queue.suspends
-        → ((k : ℕ) → k ≢ wait.number → HasWait k 0 (shown core.shape) → HasWait k 0 (shown after.shape))
-        → IsKept came_to
-    kept-came told entries holder came numbers stays = kept-next l came_to wait.at core after kept (record {
+    pub kept-came : (entries : List Entry) → job < length (holds_in l)
+        → Goes s sole entries size (slice_index l.room wait.at) (waiting_at l.waits wait.at - 1)
+        (held_at (holds_in l) wait.at + 1) after
+        → IsKept s came_to
+    kept-came entries holder goes = kept-next s l came_to wait.at sole after kept (record {
       there = there;
       kinds = refl;
-      cores = refl;
+      soles = refl;
       rooms = refl;
-      funded = funded-next core after c answer _ _ _ _ _ _ _ funded made
-          (omega (arith, numbers)) (omega (arith, waiting-here, held-here))
-          (omega (arith, came.holds, funded.holds, held-here));
+      funded = funded-as s after _ refl (sym waiting-here) (sym held-here) goes.funded;
       room = λ i other. refl;
       waiting = waiting-else;
       held = λ i other. omega (arith, held-after i, bit-other wait.at i (λ e. other (sym e)));
-      waits = stand-on stays;
+      waits = stand-on;
       apart = apart;
       plain = subst HoldPermits (sym came-holds) (permits-transfer (holds_in l) (Got job wait.at) kept.plain);
       spare = omega (arith, kept.spare, fewer, many);
@@ -170,25 +161,23 @@ module _ (l : Ledger) (job : ℕ) (wait : Wait) (kept : IsKept l) (has : slice_g
         many = ap (λ hss. sum_by (λ hs. length hs) hss) came-holds ∙ many-got (holds_in l) job wait.at holder
 
     -- the plain floors of both
-    pub plain-gone : (told : Reply) (held : ℕ) (e : Entry) → Came core after answer told (e ∷ []) held
-        → plain_floor gone ≡ record (plain_floor l) {
-          entries = set (map (λ x. x.shape.history) l.cores) wait.at
-              (get_or (map (λ x. x.shape.history) l.cores) wait.at [] ++ e ∷ []);
-          waits = set (map (option_map job_wait) l.waits) job None;
+    pub plain-gone : (e : Entry) → s.entries after ≡ s.entries sole ++ e ∷ []
+        → plain_floor s gone ≡ record (plain_floor s l) {
+          entries = set (map s.entries l.soles) wait.at (get_or (map s.entries l.soles) wait.at [] ++ e ∷ []);
+          waits = set (map (option_map (job_wait s)) l.waits) job None;
         }
-    plain-gone told held e came =
-        let entries = histories-next l.cores wait.at core after (e ∷ []) there came.history in
-        let waits = map-set (option_map job_wait) l.waits job None in
+    plain-gone e appended =
+        let entries = entries-next s l.soles wait.at sole after (e ∷ []) there appended in
+        let waits = map-set (option_map (job_wait s)) l.waits job None in
         rw (entries, waits, gone-holds) refl
 
-    pub plain-came : (told : Reply) (held : ℕ) (e : Entry) → Came core after answer told (e ∷ []) held
-        → plain_floor came_to ≡ record (plain_floor l) {
-          entries = set (map (λ x. x.shape.history) l.cores) wait.at
-              (get_or (map (λ x. x.shape.history) l.cores) wait.at [] ++ e ∷ []);
-          waits = set (map (option_map job_wait) l.waits) job None;
+    pub plain-came : (e : Entry) → s.entries after ≡ s.entries sole ++ e ∷ []
+        → plain_floor s came_to ≡ record (plain_floor s l) {
+          entries = set (map s.entries l.soles) wait.at (get_or (map s.entries l.soles) wait.at [] ++ e ∷ []);
+          waits = set (map (option_map (job_wait s)) l.waits) job None;
           holds = after_transfer (holds_in l) (Got job wait.at);
         }
-    plain-came told held e came =
-        let entries = histories-next l.cores wait.at core after (e ∷ []) there came.history in
-        let waits = map-set (option_map job_wait) l.waits job None in
+    plain-came e appended =
+        let entries = entries-next s l.soles wait.at sole after (e ∷ []) there appended in
+        let waits = map-set (option_map (job_wait s)) l.waits job None in
         rw (entries, waits, came-holds) refl

@@ -1,11 +1,5 @@
--- The calls of a floor on cores in the words of its ledger.
-use Rattle.std.specs.Prelude.{◌≡◌, ℕ, ◌+◌, ◌-◌, ℤ, pos, negsuc, ◌≤ℤ◌, Bool, true, false, List, Option, Some, None, slice_get, slice_set}
-use Rattle.cqs_core.specs.declared.calls.Call.{Call}
-use Rattle.cqs_core.specs.declared.calls.Call.TheVariants as call
-use Rattle.cqs_core.specs.declared.calls.Reply.{Reply}
-use Rattle.cqs_core.specs.declared.calls.Reply.TheVariants as reply
-use Rattle.cqs_core.specs.SemaphoreAnswers.{Room}
-use Rattle.cqs_core.specs.SoleCaller.{MayCall}
+-- The calls of a floor in the words of its ledger.
+use Rattle.std.specs.Prelude.{◌≡◌, ℕ, ◌-◌, true, false, List, Some, None, slice_get, slice_set}
 use Rattle.cqs_plan.specs.declared.floors.answers.FloorTake.{FloorTake}
 use Rattle.cqs_plan.specs.declared.floors.answers.FloorTake.TheVariants.{Now, Waits}
 use Rattle.cqs_plan.specs.declared.floors.answers.FloorGive.{FloorGive}
@@ -17,99 +11,83 @@ use Rattle.cqs_plan.specs.declared.floors.answers.FloorLeave.TheVariants.{Gone, 
 use Rattle.cqs_plan.specs.declared.floors.answers.FloorEnd.{FloorEnd}
 use Rattle.cqs_plan.specs.declared.floors.answers.FloorEnd.TheVariants.{Permits}
 use Rattle.cqs_plan.specs.declared.plans.kind.Kind.TheVariants as kind
+use Rattle.cqs_cli.specs.declared.floors.transfers.Transfer.TheVariants.{Got, GaveBack}
+use Rattle.cqs_cli.specs.declared.floors.sole.Stand.{Stand}
 use Rattle.cqs_cli.specs.declared.floors.waits.Wait.{Wait}
-use Rattle.cqs_cli.specs.Ledger.{Ledger, with_cores, with_grant, with_wait}
-use Rattle.cqs_cli.specs.SoleCore.{HasMade, IsReady, is_served_at}
+use Rattle.cqs_cli.specs.Ledger.{Ledger, with_soles, with_taken, with_transfer, with_wait, with_waiting}
+use Rattle.cqs_cli.specs.Soles.{Sole, Acquires, Cancels, IsFundedFor, Polls, Releases, Tells}
 
--- the core at a place can make this call
-pub record CanCall (cores : List Room) (at : ℕ) (c : Call) : Type 0 where
-  pub core : Room
-  pub there : slice_get cores at ≡ Some core
-  pub ready : IsReady core
-  pub allowed : MayCall core.shape c
+module _ {X : Type 0} where
+  -- of the semaphore at a place this holds
+  pub record HasAt (soles : List X) (at : ℕ) (Can : X → Type 0) : Type 0 where
+    pub sole : X
+    pub there : slice_get soles at ≡ Some sole
+    pub can : Can sole
 
--- the core at a place has made this call, and the others are as they were
-pub record Calls (old : List Room) (at : ℕ) (c : Call) (answer : Reply)
-    (new : List Room) : Type 0 where
-  pub core : Room
-  pub there : slice_get old at ≡ Some core
-  pub after : Room
-  pub made : HasMade core c answer after
-  pub cores : new ≡ slice_set old at after
+  -- the semaphore at a place has made a call, and the others are as they were
+  pub record Calls (old : List X) (at : ℕ) (Makes : X → X → Type 0) (new : List X) : Type 0 where
+    pub sole : X
+    pub there : slice_get old at ≡ Some sole
+    pub after : X
+    pub made : Makes sole after
+    pub soles : new ≡ slice_set old at after
 
--- a floor answers by the reply of the core at a place
-pub record Answers {A : Type 0} (answer_of : Reply → Option A) (c : Call) (old : List Room)
-    (at : ℕ) (new : List Room)
-    (answer : A) : Type 0 where
-  pub reply : Reply
-  pub calls : Calls old at c reply new
-  pub told : answer_of reply ≡ Some answer
+module _ {X W : Type 0} (s : Sole X W) where
+  -- a take: the job has a permit, or has the wait
+  abbrev pub Takes : Ledger X W → ℕ → ℕ → FloorTake → Ledger X W → Type 0
+  Takes old at job (Now element) new =
+      (element ≡ 0)
+      × Calls old.soles at (λ x y. Acquires s x None y) new.soles
+      × (new ≡ with_soles (with_taken old at job) new.soles)
+  Takes old at job (Waits number) new =
+      (token : W) × (number ≡ s.number token)
+      × Calls old.soles at (λ x y. Acquires s x (Some token) y) new.soles
+      × (new ≡ with_soles (with_waiting old at job token) new.soles)
 
--- what a floor answers by a reply; the other replies don't come, and there is no answer by them
-abbrev pub take_of : Reply → Option FloorTake
-take_of reply.Now = Some (Now 0)
-take_of (reply.Later number) = Some (Waits number)
-take_of _ = None
+  -- a give
+  abbrev pub Gives : Ledger X W → ℕ → ℕ → FloorGive → Ledger X W → Type 0
+  Gives old at job (Free element) new =
+      (element ≡ 0)
+      × Calls old.soles at (λ x y. Releases s x None y) new.soles
+      × (new ≡ with_soles (with_transfer old (GaveBack job at)) new.soles)
+  Gives old at job (Sent element number) new =
+      (element ≡ 0)
+      × Calls old.soles at (λ x y. Releases s x (Some number) y) new.soles
+      × (new ≡ with_soles (with_transfer old (GaveBack job at)) new.soles)
 
-abbrev pub give_of : Reply → Option FloorGive
-give_of reply.Freed = Some (Free 0)
-give_of (reply.Sent number) = Some (Sent 0 number)
-give_of _ = None
+  -- a look at the job's wait, which was taken out: where it is pending, its token goes back
+  abbrev pub Looks : Ledger X W → ℕ → Wait W → FloorLook → Ledger X W → Type 0
+  Looks old job wait Pending new =
+      (back : W)
+      × Calls old.soles wait.at (λ x y. Polls s x wait.token (Some back) y) new.soles
+      × (new ≡ with_soles
+      (with_wait old job (Some (record { at = wait.at; token = back }))) new.soles)
+  Looks old job wait (Granted element) new =
+      (element ≡ 0)
+      × Calls old.soles wait.at (λ x y. Polls s x wait.token None y) new.soles
+      × (new ≡ with_soles (with_transfer old (Got job wait.at)) new.soles)
 
-abbrev pub leave_of : Reply → Option FloorLeave
-leave_of reply.Cancelled = Some Gone
-leave_of reply.TooLate = Some (Late 0)
-leave_of _ = None
+  -- a leave of the job's wait, which was taken out
+  abbrev pub Leaves : Ledger X W → ℕ → Wait W → FloorLeave → Ledger X W → Type 0
+  Leaves old job wait Gone new =
+      Calls old.soles wait.at (λ x y. Cancels s x wait.token true y) new.soles
+      × (new ≡ with_soles old new.soles)
+  Leaves old job wait (Late element) new =
+      (element ≡ 0)
+      × Calls old.soles wait.at (λ x y. Cancels s x wait.token false y) new.soles
+      × (new ≡ with_soles (with_transfer old (Got job wait.at)) new.soles)
 
--- the cell of a wait was served
-abbrev pub is_wait_served : Room → Wait → Bool
-is_wait_served core wait = is_served_at (slice_get core.shape.queue.cells wait.number)
+  -- the resource at a place is a semaphore that can be asked for its state
+  pub record CanEndAt (l : Ledger X W) (at : ℕ) : Type 0 where
+    pub permits : ℕ
+    pub kind : slice_get l.kinds at ≡ Some (kind.Semaphore permits)
+    pub sole : HasAt l.soles at (IsFundedFor s permits)
 
--- the core of a wait can be asked for it, where it was served
-pub record CanLook (cores : List Room) (wait : Wait) : Type 0 where
-  pub core : Room
-  pub there : slice_get cores wait.at ≡ Some core
-  pub ready : IsReady core
-  pub allowed : is_wait_served core wait ≡ true → MayCall core.shape (call.Poll 0 wait.number)
-
--- the cell of a wait says whether it was served
-pub record Reads (cores : List Room) (wait : Wait) (served : Bool) : Type 0 where
-  pub core : Room
-  pub there : slice_get cores wait.at ≡ Some core
-  pub reads : is_wait_served core wait ≡ served
-
--- a look: nothing changes where the wait wasn't served, and else the core is asked
--- and the job has what came
-abbrev pub Looks : Ledger → ℕ → Wait → FloorLook → Ledger → Type 0
-Looks old job wait Pending new = Reads old.cores wait false × (new ≡ old)
-Looks old job wait (Granted element) new =
-    (element ≡ 0)
-    × Reads old.cores wait true
-    × ((reply : Reply) × Calls old.cores wait.at (call.Poll 0 wait.number) reply new.cores)
-    × (new ≡ with_cores (with_grant old job wait) new.cores)
-
--- what a leave writes down
-abbrev pub with_leave : Ledger → ℕ → Wait → FloorLeave → Ledger
-with_leave l job wait Gone = with_wait l job None
-with_leave l job wait (Late element) = with_grant l job wait
-
--- how a resource with so many permits stands, by its core's state word
-abbrev pub end_of : ℕ → ℤ → FloorEnd
-end_of permits (pos free) = Permits free (permits - free) 0
-end_of permits (negsuc short) = Permits 0 permits (short + 1)
-
--- the resource at a place is a semaphore, whose core's state word is one that its permits allow
-pub record CanEnd (l : Ledger) (at : ℕ) : Type 0 where
-  pub permits : ℕ
-  pub kind : slice_get l.kinds at ≡ Some (kind.Semaphore permits)
-  pub core : Room
-  pub there : slice_get l.cores at ≡ Some core
-  pub least : negsuc 4294967294 ≤ℤ core.shape.state
-  pub most : core.shape.state ≤ℤ pos permits
-
-pub record Ends (l : Ledger) (at : ℕ) (answer : FloorEnd) : Type 0 where
-  pub permits : ℕ
-  pub kind : slice_get l.kinds at ≡ Some (kind.Semaphore permits)
-  pub core : Room
-  pub there : slice_get l.cores at ≡ Some core
-  pub told : answer ≡ end_of permits core.shape.state
+  -- the answer tells how it stands
+  pub record Ends (old : Ledger X W) (at : ℕ) (answer : FloorEnd) (new : Ledger X W) : Type 0 where
+    pub permits : ℕ
+    pub kind : slice_get old.kinds at ≡ Some (kind.Semaphore permits)
+    pub stand : Stand
+    pub calls : Calls old.soles at (λ x y. Tells s x stand y) new.soles
+    pub told : answer ≡ Permits stand.free (permits - stand.free) stand.line
+    pub written : new ≡ with_soles old new.soles

@@ -1,33 +1,28 @@
--- What a floor on cores keeps, and the plain floor that it stands for.
+-- What a floor keeps, and the plain floor that it stands for.
 use Rattle.std.specs.Prelude.{ℕ, ◌-◌, List, [], ◌∷◌, ◌++◌, Option, Some, None, length, map, replicate, slice_index, slice_index_or, slice_set}
 use Rattle.std.specs.Option.{option_map}
 use Rattle.std.specs.List.{fold}
 use Rattle.cqs_core.specs.Keyed.{without}
-use Rattle.cqs_core.specs.SemaphoreAnswers.{Room}
-use Rattle.cqs_plan.specs.declared.floors.answers.FloorTake.{FloorTake}
-use Rattle.cqs_plan.specs.declared.floors.answers.FloorTake.TheVariants.{Now, Waits}
 use Rattle.cqs_plan.specs.declared.plans.kind.Kind.{Kind}
 use Rattle.cqs_plan.specs.Floor.{PlainFloor, JobWait, Holding}
 use Rattle.cqs_cli.specs.declared.floors.transfers.Transfer.{Transfer}
 use Rattle.cqs_cli.specs.declared.floors.transfers.Transfer.TheVariants.{Got, GaveBack}
 use Rattle.cqs_cli.specs.declared.floors.waits.Wait.{Wait}
+use Rattle.cqs_cli.specs.Soles.{Sole}
 
-pub record Ledger : Type 0 where
+pub record Ledger (X W : Type 0) : Type 0 where
   -- what each resource is
   pub kinds : List Kind
-  -- the core of each resource
-  pub cores : List Room
+  -- the semaphore of each resource
+  pub soles : List X
   -- for each resource how many takes it has room for
   pub room : List ℕ
   -- for each job its wait
-  pub waits : List (Option Wait)
+  pub waits : List (Option (Wait W))
   -- what the jobs got and gave back, oldest first
   pub transfers : List Transfer
   -- for how many further transfers there is memory
   pub spare : ℕ
-
-abbrev pub wait_at : Ledger → ℕ → Option Wait
-wait_at l job = slice_index_or l.waits job None
 
 -- what the jobs hold after a transfer
 abbrev pub after_transfer : List (List Holding) → Transfer → List (List Holding)
@@ -40,41 +35,51 @@ after_transfer holds (GaveBack job at) =
 abbrev pub holds_after : ℕ → List Transfer → List (List Holding)
 holds_after jobs transfers = fold after_transfer (replicate jobs []) transfers
 
-abbrev pub job_wait : Wait → JobWait
-job_wait wait = record { at = wait.at; number = wait.number }
+module _ {X W : Type 0} where
+  abbrev pub wait_at : Ledger X W → ℕ → Option (Wait W)
+  wait_at l job = slice_index_or l.waits job None
 
--- the plain floor of a ledger
-abbrev pub plain_floor : Ledger → PlainFloor
-plain_floor l = record {
-  kinds = l.kinds;
-  entries = map (λ core. core.shape.history) l.cores;
-  room = l.room;
-  waits = map (option_map job_wait) l.waits;
-  holds = holds_after (length l.waits) l.transfers;
-}
+  -- what the jobs of a ledger hold
+  abbrev pub holds_in : Ledger X W → List (List Holding)
+  holds_in l = holds_after (length l.waits) l.transfers
 
--- a ledger with these cores
-abbrev pub with_cores : Ledger → List Room → Ledger
-with_cores l cores = record l { cores = cores }
+  abbrev pub job_wait : Sole X W → Wait W → JobWait
+  job_wait s wait = record { at = wait.at; number = s.number wait.token }
 
--- one more transfer is written down
-abbrev pub with_transfer : Ledger → Transfer → Ledger
-with_transfer l transfer =
-    record l { transfers = l.transfers ++ transfer ∷ []; spare = l.spare - 1 }
+  -- the plain floor of a ledger
+  abbrev pub plain_floor : Sole X W → Ledger X W → PlainFloor
+  plain_floor s l = record {
+    kinds = l.kinds;
+    entries = map s.entries l.soles;
+    room = l.room;
+    waits = map (option_map (job_wait s)) l.waits;
+    holds = holds_in l;
+  }
 
-abbrev pub with_wait : Ledger → ℕ → Option Wait → Ledger
-with_wait l job wait = record l { waits = slice_set l.waits job wait }
+  -- a ledger with these semaphores
+  abbrev pub with_soles : Ledger X W → List X → Ledger X W
+  with_soles l soles = record l { soles = soles }
 
--- one take less has room
-abbrev pub with_less_room : Ledger → ℕ → Ledger
-with_less_room l at = record l { room = slice_set l.room at (slice_index l.room at - 1) }
+  -- one more transfer is written down
+  abbrev pub with_transfer : Ledger X W → Transfer → Ledger X W
+  with_transfer l transfer =
+      record l { transfers = l.transfers ++ transfer ∷ []; spare = l.spare - 1 }
 
--- what a take writes down
-abbrev pub with_take : Ledger → ℕ → ℕ → FloorTake → Ledger
-with_take l at job (Now element) = with_transfer (with_less_room l at) (Got job at)
-with_take l at job (Waits number) =
-    with_wait (with_less_room l at) job (Some (record { at = at; number = number }))
+  abbrev pub with_wait : Ledger X W → ℕ → Option (Wait W) → Ledger X W
+  with_wait l job wait = record l { waits = slice_set l.waits job wait }
 
--- the wait of a job is over, and it has what came
-abbrev pub with_grant : Ledger → ℕ → Wait → Ledger
-with_grant l job wait = with_transfer (with_wait l job None) (Got job wait.at)
+  -- one take less has room
+  abbrev pub with_less_room : Ledger X W → ℕ → Ledger X W
+  with_less_room l at = record l { room = slice_set l.room at (slice_index l.room at - 1) }
+
+  -- a take that got a permit, and one that waits
+  abbrev pub with_taken : Ledger X W → ℕ → ℕ → Ledger X W
+  with_taken l at job = with_transfer (with_less_room l at) (Got job at)
+
+  abbrev pub with_waiting : Ledger X W → ℕ → ℕ → W → Ledger X W
+  with_waiting l at job token =
+      with_wait (with_less_room l at) job (Some (record { at = at; token = token }))
+
+  -- the wait of a job is over, and it has what came
+  abbrev pub with_grant : Ledger X W → ℕ → ℕ → Ledger X W
+  with_grant l job at = with_transfer (with_wait l job None) (Got job at)

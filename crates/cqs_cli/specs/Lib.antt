@@ -5,8 +5,10 @@ pub mod Standard
 pub mod Tellings
 pub mod Verdicts
 pub mod Words
+pub mod Soles
 pub mod SoleCore
 pub mod Ledger
 pub mod DeskCalls
 pub mod Kept
+pub mod KeptRuns
 pub mod Opening

@@ -1,13 +1,10 @@
--- The making of a floor on cores: which plans it can carry out, and what stands
--- when nothing has happened.
+-- The making of a floor on semaphores: which plans it can carry out, and what stands when nothing
+-- has happened.
 pub use Rattle.cqs_plan.specs.Runnable.{IsSemaphore, AreSemaphores}
 use Rattle.std.specs.Prelude.{◌≡◌, ℕ, ◌*◌, ◌<◌, ◌≤◌, List, [], length, map, replicate, sum, sum_by, count_by, Some, None, slice_get, slice_index}
 use Rattle.std.specs.List.{range_with_len}
 use Rattle.cqs_core.specs.Numbered.{EachAt}
-use Rattle.cqs_core.specs.SemaphoreAnswers.{Room}
-use Rattle.cqs_core.specs.SemaphoreShown.{opened}
 use Rattle.cqs_plan.specs.declared.plans.job.Job.{Job}
-use Rattle.cqs_plan.specs.declared.plans.kind.Kind.{Kind}
 use Rattle.cqs_plan.specs.declared.plans.plan.Plan.{Plan}
 use Rattle.cqs_plan.specs.declared.plans.resource.Resource.{Resource}
 use Rattle.cqs_plan.specs.declared.plans.step.Step.{Step}
@@ -16,6 +13,7 @@ use Rattle.cqs_plan.specs.Floor.{permits_of, takes_in}
 use Rattle.cqs_plan.specs.PlanSteps.{is_take}
 use Rattle.cqs_plan.specs.Runnable.{kinds_of}
 use Rattle.cqs_cli.specs.Ledger.{Ledger}
+use Rattle.cqs_cli.specs.Soles.{Sole, IsOpened}
 
 -- a take names one of so many resources
 abbrev pub IsWithin : ℕ → Step → Type 0
@@ -38,24 +36,19 @@ pub record IsCountable (resources : ℕ) (job : Job) : Type 0 where
 abbrev pub takes_of : List Job → ℕ → ℕ
 takes_of jobs at = sum_by (λ job. count_by (is_take at) job.steps) jobs
 
--- a core with one pass and all its permits free, with memory for so many
--- takes and what they lead to
-pub record IsOpened (kind : Kind) (takes : ℕ) (core : Room) : Type 0 where
-  pub shape : core.shape ≡ opened (permits_of (Some kind)) 1
-  pub spare : 9 * takes ≤ core.spare
+module _ {X W : Type 0} (s : Sole X W) where
+  -- a semaphore for each of the first resources, with room for so many takes
+  pub record AreOpened (resources : List Resource) (room : List ℕ) (soles : List X) : Type 0 where
+    pub each : (at : ℕ) (resource : Resource) (sole : X) → slice_get resources at ≡ Some resource
+        → slice_get soles at ≡ Some sole
+        → IsOpened s (permits_of (Some resource.kind)) (slice_index room at) sole
 
--- a core for each of the first resources
-pub record AreOpened (resources : List Resource) (room : List ℕ) (cores : List Room) : Type 0 where
-  pub each : (at : ℕ) (resource : Resource) (core : Room) → slice_get resources at ≡ Some resource
-      → slice_get cores at ≡ Some core → IsOpened resource.kind (slice_index room at) core
-
--- nothing has happened, and there is memory for all that a plan's takes can lead to
-pub record IsOpening (plan : Plan) (l : Ledger) : Type 0 where
-  pub kinds : l.kinds ≡ kinds_of plan.resources
-  pub long : length l.cores ≡ length plan.resources
-  pub cores : AreOpened plan.resources l.room l.cores
-  pub room : l.room ≡ map (takes_in plan) (range_with_len 0 (length plan.resources))
-  pub waits : l.waits ≡ replicate (length plan.jobs) None
-  pub transfers : l.transfers ≡ []
-  pub few : sum l.room ≤ 262144
-  pub spare : 2 * sum l.room ≤ l.spare
+  -- nothing has happened, and there is memory for all that a plan's takes can lead to
+  pub record IsOpening (plan : Plan) (l : Ledger X W) : Type 0 where
+    pub kinds : l.kinds ≡ kinds_of plan.resources
+    pub long : length l.soles ≡ length plan.resources
+    pub soles : AreOpened plan.resources l.room l.soles
+    pub room : l.room ≡ map (takes_in plan) (range_with_len 0 (length plan.resources))
+    pub waits : l.waits ≡ replicate (length plan.jobs) None
+    pub transfers : l.transfers ≡ []
+    pub spare : 2 * sum l.room ≤ l.spare

@@ -2,26 +2,30 @@
 
 ghost use Rattle.std.specs.Prelude.{◌+◌, map, string_bytes};
 ghost use Rattle.cqs_plan.specs.Stream.{GivesAtMost};
+ghost use Rattle.cqs_cli.specs.KeptRuns.{Keeps};
 ghost use Rattle.cqs_cli.specs.Verdicts.{HasTaken, IsVerdict};
 
+use crate::kept::Kept;
 use crate::plans::judge_input;
 use crate::verdict::Verdict;
 use crate::words::is_run;
 use cqs_plan::{LONGEST_INPUT, ReadError, Source, read_input};
 use std::alloc::Global;
 
-/// What the words and the source come to. Everything that is to be written is made here.
-pub fn judge<S: Source>(alloc: Global, words: &[String], source: &mut S) -> Verdict
+/// What the words and the source come to. Everything that is to be written is made here, and so is
+/// what is kept.
+pub fn judge<S: Source>(alloc: Global, words: &[String], source: &mut S, kept: &mut Kept) -> Verdict
     ensures right { IsVerdict S.left S.faults
         (map string_bytes words.now) result source.old source.new }
     ensures taken { GivesAtMost (LONGEST_INPUT + 1) (S.left source.old) (S.left source.new) }
+    ensures keeps { Keeps result (S.left source.old) (S.left source.new) kept.old kept.new }
     ensures counted { HasTaken result (S.tally source.old) (S.tally source.new) }
 {
     if !is_run(words) {
         return Verdict::NoCommand;
     }
     match read_input(alloc, source) {
-        Ok(bytes) => judge_input(alloc, &bytes),
+        Ok(bytes) => judge_input(alloc, &bytes, kept),
         Err(ReadError::Failed) => Verdict::SourceFailed,
         Err(ReadError::TooLong) => Verdict::TooLong,
         Err(ReadError::Memory) => Verdict::NoMemory,

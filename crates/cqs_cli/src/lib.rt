@@ -2,12 +2,13 @@
 //!
 //! `top` judges first and tells after. `judge` reads the words and the source and knows no sink;
 //! `tell` knows the sink alone, and writes a text that was made whole before. What each status
-//! means stands on `top`. `floors` has the floor on which a plan is run. The real streams are in
-//! `standard`, the trusted edge.
+//! means stands on `top`. `kept` is what a call leaves its caller of a run, and `floors` has the
+//! floor on which a plan is run. The real streams are in `standard`, the trusted edge.
 #![tactic(auto)]
 
 mod floors;
 mod judging;
+mod kept;
 mod plans;
 mod standard;
 mod statuses;
@@ -17,6 +18,7 @@ mod verdict;
 mod words;
 
 pub use floors::core_floor::CoreFloor;
+pub use kept::Kept;
 pub use standard::{StdinSource, StdoutSink};
 pub use statuses::{DONE, NO_COMMAND, NO_MEMORY, NO_PLAN, SINK_FAILED, SOURCE_FAILED, TOO_LONG};
 pub use top_call::top;

@@ -2,12 +2,15 @@
 
 ghost use Rattle.std.specs.Prelude.{◌≡◌, ◌≢◌, ◌⊎◌, ℕ, ◌+◌, ◌<◌, ◌≤◌, List, length, map, string_bytes, IsTrue, Some};
 ghost use Rattle.cqs_plan.specs.Counts.{raised, Rises};
-ghost use Rattle.cqs_plan.specs.Stream.{Gains, GivesAtMost, GivesCount};
+ghost use Rattle.cqs_plan.specs.Stream.{Gains, GainsPrefix, GivesAtMost, GivesCount};
+ghost use Rattle.cqs_cli.specs.KeptRuns.{IsNoRun, KeptRun};
 ghost use Rattle.cqs_cli.specs.Meanings.{BrokeOff, IsStatus, MustEnd, NamedFault, Reported};
 ghost use Rattle.cqs_cli.specs.Plans.{IsPlan};
 ghost use Rattle.cqs_cli.specs.Words.{IsCommand, IsRun, usage};
+ghost use Rattle.cqs_cli.specs.declared.kept.Kept.TheVariants.{Nothing};
 
 use crate::judging::judge;
+use crate::kept::Kept;
 use crate::statuses::{DONE, NO_COMMAND, NO_MEMORY, NO_PLAN, SINK_FAILED, SOURCE_FAILED, TOO_LONG};
 use crate::telling::tell;
 use cqs_plan::{LONGEST_INPUT, Sink, Source};
@@ -20,7 +23,18 @@ use std::alloc::Global;
 /// whatever the status. The last four say which status must come where no fault does, unless memory
 /// runs out; what was then written stands at that status. What a clause says of content holds where
 /// the source and the sink tell it; what it says of the source's tally holds of every source.
-pub fn top<S: Source, K: Sink>(alloc: Global, words: &[String], source: &mut S, sink: &mut K) -> u8
+///
+/// The floor of a run is kept where its report was made, which is before anything is written: with
+/// status 0, and with status 5 where the input is a plan.
+pub fn top<S: Source, K: Sink>(
+    alloc: Global,
+    words: &[String],
+    source: &mut S,
+    sink: &mut K,
+    kept: &mut Kept,
+) -> u8
+    requires empty { kept.old ≡ Nothing }
+
     // Status 0 means: the bytes read are a plan, and the text written, whole and flushed, is the
     // report of the turn machine on it, over plain semaphores with legal histories.
     ensures headline { result ≡ DONE → IsRun (map string_bytes words.now)
@@ -106,7 +120,22 @@ pub fn top<S: Source, K: Sink>(alloc: Global, words: &[String], source: &mut S, 
         → ¬ Rises (S.faults source.old) (S.faults source.new)
         → ¬ Rises (K.faults sink.old) (K.faults sink.new)
         → MustEnd DONE result }
+
+    // With status 0 the floor of the run is kept whose report was written.
+    ensures kept_done { result ≡ DONE → KeptRun (S.left source.old) (S.left source.new) kept.new
+        (λ text. Gains text (K.held sink.old) (K.held sink.new)) }
+
+    // Where the sink failed, the floor is kept of the run whose report broke off; nothing is, where
+    // no plan was run.
+    ensures kept_broken { result ≡ SINK_FAILED →
+        KeptRun (S.left source.old) (S.left source.new) kept.new
+        (λ text. GainsPrefix text (K.held sink.old) (K.held sink.new))
+        ⊎ ((kept.new ≡ Nothing)
+        × IsNoRun (map string_bytes words.now) (S.left source.old) (S.left source.new)) }
+
+    // With every other status nothing is kept.
+    ensures kept_nothing { result ≢ DONE → result ≢ SINK_FAILED → kept.new ≡ Nothing }
 {
-    let verdict = judge(alloc, words, source);
+    let verdict = judge(alloc, words, source, kept);
     tell(sink, &verdict)
 }

@@ -2,7 +2,7 @@
 //! one stored beside the plan.
 #![tactic(auto)]
 
-use cqs_cli::{DONE, top};
+use cqs_cli::{DONE, Kept, top};
 use cqs_plan::{SureSink, SureSource};
 use std::fs;
 use std::rt::Files;
@@ -30,7 +30,8 @@ fn is_as_stored<R: Files + AllocGlobal>(rt: &R, name: &str) -> anyhow::Result<bo
     let Ok(mut sink) = SureSink::new(alloc, ROOM) else {
         anyhow::bail!("no memory for the report");
     };
-    let status = top(alloc, &words, &mut source, &mut sink);
+    let mut kept = Kept::Nothing;
+    let status = top(alloc, &words, &mut source, &mut sink, &mut kept);
     Ok(status == DONE && sink.bytes() == Some(report.as_str().as_bytes()))
 }
 

@@ -11,7 +11,9 @@ ghost use Rattle.cqs_main.specs.Messages.{TakesPrefix, message};
 
 use crate::messages::finish;
 use crate::words::words_after_name;
-use cqs_cli::{DONE, NO_COMMAND, NO_MEMORY, NO_PLAN, SINK_FAILED, SOURCE_FAILED, TOO_LONG, top};
+use cqs_cli::{
+    DONE, Kept, NO_COMMAND, NO_MEMORY, NO_PLAN, SINK_FAILED, SOURCE_FAILED, TOO_LONG, top,
+};
 use cqs_plan::{LONGEST_INPUT, Sink, Source};
 use std::alloc::Global;
 use std::env::Args;
@@ -114,8 +116,9 @@ pub fn run<S: Source, K: Sink, W: Write>(
     ensures message { TakesPrefix (message (exit_status result))
         (W.contents errors.old) (W.contents errors.new) }
 {
+    let mut kept = Kept::Nothing;
     let status = match words_after_name(alloc, arguments) {
-        Ok(words) => top(alloc, &words, source, sink),
+        Ok(words) => top(alloc, &words, source, sink, &mut kept),
         Err(_) => NO_MEMORY,
     };
     finish(errors, status)

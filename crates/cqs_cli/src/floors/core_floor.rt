@@ -6,7 +6,7 @@ ghost use Rattle.cqs_plan.specs.Runnable.{IsRunnable};
 ghost use Rattle.cqs_cli.specs.Opening.{AreSemaphores};
 
 use super::desk::Desk;
-use cqs_core::Memory;
+use cqs_core::{Core, Memory};
 use cqs_plan::{Floor, FloorEnd, FloorGive, FloorLeave, FloorLook, FloorTake, Plan};
 use std::alloc::Global;
 use std::marker::Model;
@@ -17,7 +17,7 @@ use std::marker::Model;
 /// plan's takes can lead to.
 #[derive(Drop)]
 pub struct CoreFloor {
-    desk: Desk,
+    desk: Desk<Core>,
 }
 
 impl Model for CoreFloor {
@@ -27,10 +27,11 @@ impl Model for CoreFloor {
 
     ghost use Rattle.cqs_cli.specs.Ledger.{plain_floor};
     ghost use Rattle.cqs_cli.specs.Kept.{IsKept};
+    ghost use Rattle.cqs_cli.specs.SoleCore.{sole_core};
 
-    ghost view = { λ floor. plain_floor floor.desk };
+    ghost view = { λ floor. plain_floor sole_core floor.desk };
 
-    ghost invariant = { λ floor. IsKept floor.desk };
+    ghost invariant = { λ floor. IsKept sole_core floor.desk };
 }
 
 impl CoreFloor {
@@ -57,12 +58,12 @@ impl Floor for CoreFloor {
     }
 
     fn look(&mut self, job: u32) -> FloorLook {
-        let wait = self.desk.wait(job);
+        let wait = self.desk.take_wait(job);
         self.desk.look(job, wait)
     }
 
     fn leave(&mut self, job: u32) -> FloorLeave {
-        let wait = self.desk.wait(job);
+        let wait = self.desk.take_wait(job);
         self.desk.leave(job, wait)
     }
 

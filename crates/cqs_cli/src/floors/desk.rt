@@ -1,50 +1,48 @@
-//! What a floor on cores is made of, and its calls.
+//! What a floor on semaphores is made of, and its calls.
 //!
-//! Each call makes one call of one core and writes down what the job got or gave back. All
-//! memory was taken before: a core has room for the calls that are still to come, and so
-//! has the list of transfers.
+//! Each call makes one call of one semaphore and writes down what the job got or gave back. All
+//! memory was taken before: a semaphore has room for the calls that are still to come, and so has
+//! the list of transfers.
 //!
 //! What the jobs hold is kept three times, since three ask for it. The turn machine reads its own
-//! list of each job (`JobState::held`), to give all back at the end. A core reads how many permits
-//! its pass holds, since it lets none be given that isn't held. The list of transfers is written
-//! and not read: contracts read off it what each job holds, oldest first. A resource that hands
-//! out elements will read there which one comes back. A wait is kept twice: the machine reads the
-//! one in the job's progress, to tell its line, and the floor the one in `waits`, to ask its core.
+//! list of each job (`JobState::held`), to give all back at the end. A semaphore knows how many
+//! permits its caller holds, since it lets none be given that isn't held. The list of transfers is
+//! written and not read: contracts read off it what each job holds, oldest first. A resource that
+//! hands out elements will read there which one comes back. A wait is kept twice: the machine reads
+//! the one in the job's progress, to tell its line, and the floor the one in `waits`, to ask its
+//! semaphore.
 
-ghost use Rattle.std.specs.Prelude.{◌≡◌, ◌<◌, ◌≤ℤ◌, pos, negsuc, Some, None, IsSome, length, slice_get, slice_index};
-ghost use Rattle.cqs_core.specs.declared.calls.Call.TheVariants as call;
-ghost use Rattle.cqs_plan.specs.declared.plans.kind.Kind.TheVariants as kind;
-ghost use Rattle.cqs_cli.specs.declared.floors.transfers.Transfer.TheVariants.{Got, GaveBack};
-ghost use Rattle.cqs_cli.specs.Ledger.{with_grant, with_take, wait_at, with_cores, with_transfer};
-ghost use Rattle.cqs_cli.specs.DeskCalls.{Answers, CanCall, CanEnd, CanLook, Ends, Looks, end_of, give_of, leave_of, with_leave, take_of};
+ghost use Rattle.std.specs.Prelude.{◌≡◌, ◌<◌, Some, None, IsSome, length, slice_get, slice_index};
+ghost use Rattle.cqs_cli.specs.Ledger.{wait_at, with_wait};
+ghost use Rattle.cqs_cli.specs.DeskCalls.{CanEndAt, Ends, Gives, HasAt, Leaves, Looks, Takes};
+ghost use Rattle.cqs_cli.specs.Soles.{CanAcquire, CanEnd, CanRelease};
 
-use super::calls::{call_core, is_served};
+use super::sole::{SoleSemaphore, Stand};
 use super::transfers::Transfer;
 use super::waits::Wait;
-use cqs_core::{Call, Core, Reply};
 use cqs_plan::{FloorEnd, FloorGive, FloorLeave, FloorLook, FloorTake, Kind};
 use std::marker::Model;
 
-/// For each resource what it is, its core and its room; for each job its wait; and what
-/// the jobs got and gave back.
+/// For each resource what it is, its semaphore and its room; for each job its wait; and what the
+/// jobs got and gave back.
 #[derive(Drop)]
-pub struct Desk {
+pub struct Desk<S: SoleSemaphore> {
     pub kinds: Vec<Kind>,
-    pub cores: Vec<Core>,
+    pub soles: Vec<S>,
     pub room: Vec<u32>,
-    pub waits: Vec<Option<Wait>>,
+    pub waits: Vec<Option<Wait<S::Wait>>>,
     pub transfers: Vec<Transfer>,
 }
 
-impl Model for Desk {
+impl<S: SoleSemaphore> Model for Desk<S> {
     ghost use Rattle.std.specs.Prelude.{◌-◌, vec_len, vec_capacity};
     ghost use Rattle.cqs_cli.specs.Ledger.{Ledger};
 
-    ghost Value = { Ledger };
+    ghost Value = { Ledger S S.Wait };
 
     ghost view = { λ d. record {
       kinds = d.kinds.items;
-      cores = d.cores.items;
+      soles = d.soles.items;
       room = d.room.items;
       waits = d.waits.items;
       transfers = d.transfers.items;
@@ -52,144 +50,102 @@ impl Model for Desk {
     } };
 }
 
-impl Desk {
-    /// The wait of a job that waits.
-    pub fn wait(&self, job: u32) -> Wait
-        requires { IsSome (wait_at self.now job) }
-        ensures { wait_at self.now job ≡ Some result }
-    {
-        let Some(wait) = self.waits[job as usize] else {
-            unreachable!()
-        };
-        wait
-    }
-
+impl<S: SoleSemaphore> Desk<S> {
     /// The job takes.
     pub fn take(&mut self, at: u32, job: u32) -> FloorTake
-        requires core { CanCall self.old.cores at (call.Acquire 0) }
+        requires sole { HasAt self.old.soles at (CanAcquire S.sole) }
         requires place { at < length self.old.room }
         requires room { 0 < slice_index self.old.room at }
         requires job { job < length self.old.waits }
         requires spare { 0 < self.old.spare }
-        ensures answer { Answers take_of (call.Acquire 0) self.old.cores at self.new.cores result }
-        ensures written { self.new ≡ with_cores (with_take self.old at job result) self.new.cores }
+        ensures { Takes S.sole self.old at job result self.new }
     {
         self.room[at as usize] -= 1;
-        match call_core(&mut self.cores[at as usize], Call::Acquire { pass: 0 }) {
-            Reply::Now => {
+        match self.soles[at as usize].acquire() {
+            None => {
                 self.transfers.push_reserved(Transfer::Got { job, at });
                 FloorTake::Now(0)
             }
-            Reply::Later(number) => {
-                self.waits[job as usize] = Some(Wait { at, number });
+            Some(token) => {
+                let number = S::number(&token);
+                self.waits[job as usize] = Some(Wait { at, token });
                 FloorTake::Waits(number)
             }
-            _ => unreachable!(),
         }
     }
 
     /// The job gives back the oldest that it holds of this resource.
     pub fn give(&mut self, at: u32, job: u32) -> FloorGive
-        requires core { CanCall self.old.cores at (call.Release 0) }
+        requires sole { HasAt self.old.soles at (CanRelease S.sole) }
         requires spare { 0 < self.old.spare }
-        ensures answer { Answers give_of (call.Release 0) self.old.cores at self.new.cores result }
-        ensures written { self.new ≡ with_cores
-            (with_transfer self.old (GaveBack job at)) self.new.cores }
+        ensures { Gives S.sole self.old at job result self.new }
     {
         self.transfers.push_reserved(Transfer::GaveBack { job, at });
-        match call_core(&mut self.cores[at as usize], Call::Release { pass: 0 }) {
-            Reply::Freed => FloorGive::Free(0),
-            Reply::Sent(number) => FloorGive::Sent(0, number),
-            _ => unreachable!(),
+        match self.soles[at as usize].release() {
+            None => FloorGive::Free(0),
+            Some(number) => FloorGive::Sent(0, number),
         }
     }
 
-    /// The job looks at its wait.
-    pub fn look(&mut self, job: u32, wait: Wait) -> FloorLook
-        requires core { CanLook self.old.cores wait }
-        requires job { job < length self.old.waits }
-        requires spare { 0 < self.old.spare }
-        ensures { Looks self.old job wait result self.new }
+    /// Takes out the wait of a job that waits.
+    pub fn take_wait(&mut self, job: u32) -> Wait<S::Wait>
+        requires { IsSome (wait_at self.old job) }
+        ensures was { wait_at self.old job ≡ Some result }
+        ensures written { self.new ≡ with_wait self.old job None }
     {
-        if !is_served(&self.cores[wait.at as usize], wait.number) {
-            return FloorLook::Pending;
-        }
-        let poll = Call::Poll {
-            pass: 0,
-            wait: wait.number,
+        let Some(wait) = self.waits[job as usize].take() else {
+            unreachable!()
         };
-        call_core(&mut self.cores[wait.at as usize], poll);
-        self.grant(job, wait);
-        FloorLook::Granted(0)
+        wait
     }
 
-    /// The job leaves the line, where its wait still stands there.
-    pub fn leave(&mut self, job: u32, wait: Wait) -> FloorLeave
-        requires core { CanCall self.old.cores wait.at (call.Cancel 0 wait.number) }
+    /// The job, whose wait was taken out, looks at it.
+    pub fn look(&mut self, job: u32, wait: Wait<S::Wait>) -> FloorLook
+        requires sole { HasAt self.old.soles wait.at (CanEnd S.sole wait.token) }
         requires job { job < length self.old.waits }
         requires spare { 0 < self.old.spare }
-        ensures answer { Answers leave_of
-            (call.Cancel 0 wait.number) self.old.cores wait.at self.new.cores result }
-        ensures written { self.new ≡ with_cores
-            (with_leave self.old job wait result) self.new.cores }
+        ensures { Looks S.sole self.old job wait result self.new }
     {
-        let cancel = Call::Cancel {
-            pass: 0,
-            wait: wait.number,
-        };
-        match call_core(&mut self.cores[wait.at as usize], cancel) {
-            Reply::Cancelled => {
-                self.waits[job as usize] = None;
-                FloorLeave::Gone
+        let Wait { at, token } = wait;
+        match self.soles[at as usize].poll(token) {
+            Some(token) => {
+                self.waits[job as usize] = Some(Wait { at, token });
+                FloorLook::Pending
             }
-            Reply::TooLate => {
-                self.grant(job, wait);
-                FloorLeave::Late(0)
+            None => {
+                self.transfers.push_reserved(Transfer::Got { job, at });
+                FloorLook::Granted(0)
             }
-            _ => unreachable!(),
         }
     }
 
-    /// The wait of the job is over, and the job has what came.
-    fn grant(&mut self, job: u32, wait: Wait)
-        requires job { job < length self.old.waits }
+    /// The job, whose wait was taken out, leaves the line, where that still stands there.
+    pub fn leave(&mut self, job: u32, wait: Wait<S::Wait>) -> FloorLeave
+        requires sole { HasAt self.old.soles wait.at (CanEnd S.sole wait.token) }
         requires spare { 0 < self.old.spare }
-        ensures { self.new ≡ with_grant self.old job wait }
+        ensures { Leaves S.sole self.old job wait result self.new }
     {
-        self.waits[job as usize] = None;
-        self.transfers
-            .push_reserved(Transfer::Got { job, at: wait.at });
+        let Wait { at, token } = wait;
+        if self.soles[at as usize].cancel(token) {
+            return FloorLeave::Gone;
+        }
+        self.transfers.push_reserved(Transfer::Got { job, at });
+        FloorLeave::Late(0)
     }
 
     /// How a resource stands.
-    pub fn end(&self, at: u32) -> FloorEnd
-        requires { CanEnd self.now at }
-        ensures { Ends self.now at result }
+    pub fn end(&mut self, at: u32) -> FloorEnd
+        requires { CanEndAt S.sole self.old at }
+        ensures { Ends S.sole self.old at result self.new }
     {
         let Kind::Semaphore(permits) = self.kinds[at as usize] else {
             unreachable!()
         };
-        stand_of(permits, self.cores[at as usize].state())
-    }
-}
-
-/// How a semaphore with so many permits stands, by the state word of a core whose pass is idle.
-fn stand_of(permits: u32, state: i64) -> FloorEnd
-    requires least { negsuc 4294967294 ≤ℤ state }
-    requires most { state ≤ℤ pos permits }
-    ensures { result ≡ end_of permits state }
-{
-    if state < 0 {
-        return FloorEnd::Permits {
-            free: 0,
-            held: permits,
-            line: (-state) as u32,
-        };
-    }
-    let free = state as u32;
-    FloorEnd::Permits {
-        free,
-        held: permits - free,
-        line: 0,
+        let Stand { free, line } = self.soles[at as usize].stand();
+        FloorEnd::Permits {
+            free,
+            held: permits - free,
+            line,
+        }
     }
 }

@@ -1,37 +1,36 @@
-//! The making of a desk: its cores, and the memory for all that the takes of a plan can lead to.
+//! The making of a desk: its semaphores, and the memory for all that the takes of a plan can lead
+//! to.
 
-ghost use Rattle.std.specs.Prelude.{◌≡◌, ℕ, ◌+◌, ◌*◌, ◌^◌, ◌<◌, ◌≤◌, IfOk, All, length, map, sum, count_by, slice_index, EachIndex};
+ghost use Rattle.std.specs.Prelude.{◌≡◌, ℕ, ◌+◌, ◌*◌, ◌^◌, ◌<◌, ◌≤◌, IfOk, All, length, map, replicate, sum, None, Some, count_by, slice_index, EachIndex};
 ghost use Rattle.std.specs.List.{range_with_len};
 ghost use Rattle.cqs_core.specs.Numbered.{EachAt};
 ghost use Rattle.cqs_plan.specs.PlanSteps.{is_take};
+ghost use Rattle.cqs_plan.specs.Floor.{permits_of};
 ghost use Rattle.cqs_plan.specs.Runnable.{IsRunnable, kinds_of};
 ghost use Rattle.cqs_cli.specs.Opening.{
   AreOpened,
   AreSemaphores,
   AreWithin,
   IsCountable,
-  IsOpened,
   IsOpening,
   IsSemaphore,
   takes_of,
 };
+ghost use Rattle.cqs_cli.specs.Soles.{IsOpened};
 
 use super::desk::Desk;
+use super::sole::SoleSemaphore;
 use super::waits::Wait;
-use cqs_core::{Core, Memory};
+use cqs_core::Memory;
 use cqs_plan::{Job, Kind, Plan, Resource, Step};
 use std::alloc::{AllocError, Global};
 
-/// The entries for which a core needs memory, for each take: three for the take, three for the look
-/// or the leave of its wait, and three for the give.
-const ENTRIES_A_TAKE: u32 = 9;
-
-impl Desk {
+impl<S: SoleSemaphore> Desk<S> {
     /// A desk at which nothing has happened, with memory for all that the plan's takes can lead to.
     pub fn new(alloc: Global, plan: &Plan) -> Result<Self, Memory>
         requires runnable { IsRunnable plan.now }
         requires semaphores { AreSemaphores plan.now.resources }
-        ensures { IfOk result (λ desk. IsOpening plan.now desk) }
+        ensures { IfOk result (IsOpening S.sole plan.now) }
     {
         let resources = plan.resources.as_slice();
         let jobs = plan.jobs.as_slice();
@@ -39,8 +38,8 @@ impl Desk {
         let takes = total(&room);
         Ok(Desk {
             kinds: kinds(alloc, resources)?,
-            cores: open_cores(alloc, resources, &room)?,
-            waits: vec![in alloc; None::<Wait>; jobs.len()]?,
+            soles: open_soles(alloc, resources, &room)?,
+            waits: no_waits(alloc, jobs.len())?,
             transfers: Vec::with_capacity(alloc, 2 * takes)?,
             room,
         })
@@ -95,31 +94,44 @@ fn total(room: &[u32]) -> usize
     room.iter().map(|takes| *takes as usize).sum()
 }
 
-/// A core for each resource.
-fn open_cores(alloc: Global, resources: &[Resource], room: &[u32]) -> Result<Vec<Core>, Memory>
+/// A list in which no job has a wait.
+fn no_waits<W: Drop>(alloc: Global, jobs: usize) -> Result<Vec<Option<Wait<W>>>, AllocError>
+    ensures { IfOk result (λ waits. waits.items ≡ replicate jobs None) }
+{
+    let mut waits = Vec::with_capacity(alloc, jobs)?;
+    for _job in 0..jobs {
+        waits.push(None)?;
+    }
+    Ok(waits)
+}
+
+/// A semaphore for each resource.
+fn open_soles<S: SoleSemaphore>(
+    alloc: Global,
+    resources: &[Resource],
+    room: &[u32],
+) -> Result<Vec<S>, Memory>
     requires semaphores { AreSemaphores resources.now }
     requires same { length room.now ≡ length resources.now }
     requires few { sum room.now ≤ 262144 }
-    ensures opened { IfOk result (λ cores. AreOpened resources.now room.now cores.items) }
-    ensures long { IfOk result (λ cores. length cores.items ≡ length resources.now) }
+    ensures opened { IfOk result (λ soles. AreOpened S.sole resources.now room.now soles.items) }
+    ensures long { IfOk result (λ soles. length soles.items ≡ length resources.now) }
 {
-    let mut cores = Vec::with_capacity(alloc, resources.len())?;
+    let mut soles = Vec::with_capacity(alloc, resources.len())?;
     for (at, resource) in resources.iter().enumerate() {
-        cores.push(open_core(alloc, resource.kind, room[at])?)?;
+        soles.push(open_sole(alloc, resource.kind, room[at])?)?;
     }
-    Ok(cores)
+    Ok(soles)
 }
 
-/// A core with one pass for a semaphore, with memory for so many takes and what they lead to.
-fn open_core(alloc: Global, kind: Kind, takes: u32) -> Result<Core, Memory>
+/// A semaphore with memory for so many takes and what they lead to.
+fn open_sole<S: SoleSemaphore>(alloc: Global, kind: Kind, takes: u32) -> Result<S, Memory>
     requires semaphore { IsSemaphore kind }
     requires few { takes ≤ 262144 }
-    ensures { IfOk result (λ core. IsOpened kind takes core) }
+    ensures { IfOk result (IsOpened S.sole (permits_of (Some kind)) takes) }
 {
     let Kind::Semaphore(permits) = kind else {
         unreachable!()
     };
-    let mut core = Core::new(alloc, permits, 1).map_err(|_| Memory)?;
-    core.reserve(ENTRIES_A_TAKE * takes).map_err(|_| Memory)?;
-    Ok(core)
+    S::open(alloc, permits, takes)
 }

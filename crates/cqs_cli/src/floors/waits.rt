@@ -1,8 +1,8 @@
 //! The wait of a job.
 
-/// The wait of a job: the place of its resource, and its number there.
-#[derive(Clone, Copy, PartialEq, Eq, Debug)]
-pub struct Wait {
+/// The wait of a job: the place of its resource, and what the floor has of the wait there.
+#[derive(Drop)]
+pub struct Wait<W> {
     pub at: u32,
-    pub number: u64,
+    pub token: W,
 }

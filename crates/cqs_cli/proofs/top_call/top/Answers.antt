@@ -1,6 +1,7 @@
 -- Each answer has what follows from the verdict and its telling, and leaves the rest to `search`: so a body that gives
 -- another status is refused by the clause.
 use Rattle.std.proofs.Common.{rules}
+use Rattle.cqs_cli.proofs.KeptLemmas.{headline, kept_broken, kept_done}
 use Rattle.cqs_cli.proofs.MeaningLemmas.{all_statuses, answers_fault, answers_plan, broke_off, is_status}
 use Rattle.cqs_cli.proofs.top_call.top.Goals as goal
 
@@ -31,4 +32,27 @@ returns-clause-complete g c =
     let known =
     answers_plan g.S.Source.left g.S.Source.faults g.K.Sink.held g.K.Sink.is_flushed g.K.Sink.faults _ _ _ _ _
     c.judge-verdict.result c.tell.result (c.judge-verdict.ensures.right, c.tell.ensures) in
+    search rules
+
+pub returns-clause-headline : goal.returns-clause-headline
+returns-clause-headline g c =
+    let known =
+    headline g.S.Source.left g.S.Source.faults g.K.Sink.held g.K.Sink.is_flushed g.K.Sink.faults _ _ _ _ _
+    c.judge-verdict.result c.tell.result (c.judge-verdict.ensures.right, c.tell.ensures) in
+    search rules
+
+pub returns-clause-kept_done : goal.returns-clause-kept_done
+returns-clause-kept_done g c =
+    let known =
+    kept_done g.S.Source.left g.S.Source.faults g.K.Sink.held g.K.Sink.is_flushed g.K.Sink.faults _ _ _ _ _ _ _
+    c.judge-verdict.result c.tell.result (c.judge-verdict.ensures.right, c.tell.ensures)
+    c.judge-verdict.ensures.keeps in
+    search rules
+
+pub returns-clause-kept_broken : goal.returns-clause-kept_broken
+returns-clause-kept_broken g c =
+    let known =
+    kept_broken g.S.Source.left g.S.Source.faults g.K.Sink.held g.K.Sink.is_flushed g.K.Sink.faults _ _ _ _ _ _ _
+    c.judge-verdict.result c.tell.result (c.judge-verdict.ensures.right, c.tell.ensures) c.judge-verdict.ensures.keeps
+    c.requires.empty in
     search rules

@@ -24,3 +24,10 @@ returns-clause-statuses g c =
       | in-Ok w ↦ search rules
       | in-Err w ↦ search (rules, is_no_memory)
     ]
+
+pub returns-clause-sink_failed : goal.returns-clause-sink_failed
+returns-clause-sink_failed g c =
+    elim c.match-words_after_name.branch [
+      | in-Ok w ↦ search rules
+      | in-Err w ↦ search rules
+    ]

@@ -1,29 +1,31 @@
 use Rattle.std.proofs.Common.{refl}
+use Rattle.cqs_cli.specs.SoleCore.{sole_core}
+use Rattle.cqs_cli.proofs.CoreSole.{core-lawful}
 use Rattle.cqs_cli.proofs.Takes.{take-can, take-floor}
 use Rattle.cqs_cli.proofs.LegalFloors.{legal-floor}
 use Rattle.cqs_cli.proofs.floors.core_floor.CoreFloorFloor.take.Goals as goal
 
-pub take-requires-clause-core : goal.take-requires-clause-core
-take-requires-clause-core c =
-    take-can _ _ _ c.self.view_is c.self.invariant c.requires.resource c.requires.room
+pub take-requires-clause-sole : goal.take-requires-clause-sole
+take-requires-clause-sole c =
+    take-can sole_core _ _ _ c.self.view_is c.self.invariant c.requires.resource c.requires.room
 
 pub invariant_of-self : goal.invariant_of-self
 invariant_of-self c =
-    (take-floor _ _ _ _ _ _ c.self.view_is c.self.invariant c.requires.resource c.requires.job c.requires.idle
-    c.requires.room c.take.ensures.answer c.take.ensures.written).kept
+    (take-floor sole_core core-lawful _ _ _ _ _ _ c.self.view_is c.self.invariant c.requires.resource c.requires.job
+    c.requires.idle c.requires.room c.take.ensures).kept
 
 pub returns-clause-answer : goal.returns-clause-answer
 returns-clause-answer c =
-    (take-floor _ _ _ _ _ _ c.self.view_is c.self.invariant c.requires.resource c.requires.job c.requires.idle
-    c.requires.room c.take.ensures.answer c.take.ensures.written).answers
+    (take-floor sole_core core-lawful _ _ _ _ _ _ c.self.view_is c.self.invariant c.requires.resource c.requires.job
+    c.requires.idle c.requires.room c.take.ensures).answers
 
 pub returns-clause-after : goal.returns-clause-after
 returns-clause-after c =
-    (take-floor _ _ _ _ _ _ c.self.view_is c.self.invariant c.requires.resource c.requires.job c.requires.idle
-    c.requires.room c.take.ensures.answer c.take.ensures.written).leaves
+    (take-floor sole_core core-lawful _ _ _ _ _ _ c.self.view_is c.self.invariant c.requires.resource c.requires.job
+    c.requires.idle c.requires.room c.take.ensures).leaves
 
 pub returns-clause-legal : goal.returns-clause-legal
 returns-clause-legal c =
-    legal-floor _ _ refl
-    (take-floor _ _ _ _ _ _ c.self.view_is c.self.invariant c.requires.resource c.requires.job c.requires.idle
-    c.requires.room c.take.ensures.answer c.take.ensures.written).kept
+    legal-floor sole_core core-lawful _ _ refl
+    (take-floor sole_core core-lawful _ _ _ _ _ _ c.self.view_is c.self.invariant c.requires.resource c.requires.job
+    c.requires.idle c.requires.room c.take.ensures).kept

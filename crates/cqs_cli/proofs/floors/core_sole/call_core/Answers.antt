@@ -1,5 +1,5 @@
 use Rattle.cqs_cli.proofs.SoleMade.{made-sole}
-use Rattle.cqs_cli.proofs.floors.calls.call_core.Goals as goal
+use Rattle.cqs_cli.proofs.floors.core_sole.call_core.Goals as goal
 
 pub returns : goal.returns
 returns c =

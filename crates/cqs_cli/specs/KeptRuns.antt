@@ -1,0 +1,63 @@
+-- What a call of the program keeps of a run.
+use Rattle.std.specs.Prelude.{◌≡◌, ℕ, ◌⊎◌, List, Option}
+use Rattle.cqs_plan.specs.declared.plans.plan.Plan.{Plan}
+use Rattle.cqs_plan.specs.Floor.{PlainFloor}
+use Rattle.cqs_plan.specs.PlanText.{IsPlanText}
+use Rattle.cqs_turns.specs.Report.{report_of}
+use Rattle.cqs_cli.specs.Input.{IsInput}
+use Rattle.cqs_cli.specs.Plans.{IsFaultLine, floor_after}
+use Rattle.cqs_cli.specs.Words.{IsCommand}
+use Rattle.cqs_cli.specs.declared.kept.Kept.{Kept}
+use Rattle.cqs_cli.specs.declared.kept.Kept.TheVariants.{Ran}
+use Rattle.cqs_cli.specs.declared.verdict.Verdict.{Verdict}
+use Rattle.cqs_cli.specs.declared.verdict.Verdict.TheVariants as verdict
+
+-- the floor is the one on which the turns of this plan end
+abbrev pub HasRun : Plan → PlainFloor → Type 0
+HasRun plan floor = floor ≡ floor_after plan
+
+-- what is kept is a floor on which this plan has run
+pub record KeepsRun (plan : Plan) (kept : Kept) : Type 0 where
+  pub floor : PlainFloor
+  pub is : kept ≡ Ran floor
+  pub ran : HasRun plan floor
+
+-- the bytes are a plan, the text is its report, and what is kept is the floor on which it has run
+pub record IsKeptFor (bytes text : List ℕ) (kept : Kept) : Type 0 where
+  pub plan : Plan
+  pub says : IsPlanText bytes plan
+  pub made : text ≡ report_of plan
+  pub run : KeepsRun plan kept
+
+-- with the verdict on an input, the run of a report is kept, and else nothing more
+abbrev pub KeepsWith : List ℕ → Verdict → Kept → Kept → Type 0
+KeepsWith bytes (verdict.Report text) old new = IsKeptFor bytes text.items new
+KeepsWith bytes (verdict.NoPlan line) old new = new ≡ old
+KeepsWith bytes verdict.NoMemory old new = new ≡ old
+KeepsWith bytes verdict.NoCommand old new = new ≡ old
+KeepsWith bytes verdict.SourceFailed old new = new ≡ old
+KeepsWith bytes verdict.TooLong old new = new ≡ old
+
+-- the input was a plan; what is kept is the floor on which it has run; and of its report this holds
+pub record KeptRun (left after : Option (List ℕ)) (kept : Kept) (Holds : List ℕ → Type 0)
+    : Type 0 where
+  pub bytes : List ℕ
+  pub input : IsInput bytes left after
+  pub text : List ℕ
+  pub run : IsKeptFor bytes text kept
+  pub holds : Holds text
+
+-- with the verdict on what was left of a source
+abbrev pub Keeps : Verdict → Option (List ℕ) → Option (List ℕ) → Kept → Kept → Type 0
+Keeps (verdict.Report text) left after old new = KeptRun left after new (λ made. made ≡ text.items)
+Keeps (verdict.NoPlan line) left after old new = new ≡ old
+Keeps verdict.NoMemory left after old new = new ≡ old
+Keeps verdict.NoCommand left after old new = new ≡ old
+Keeps verdict.SourceFailed left after old new = new ≡ old
+Keeps verdict.TooLong left after old new = new ≡ old
+
+-- the words are no command, or the input is no plan
+abbrev pub IsNoRun : List (List ℕ) → Option (List ℕ) → Option (List ℕ) → Type 0
+IsNoRun words left after =
+    (¬ IsCommand words)
+    ⊎ ((bytes : List ℕ) × IsInput bytes left after × ((line : List ℕ) × IsFaultLine bytes line))

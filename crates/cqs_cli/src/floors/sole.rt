@@ -1,0 +1,76 @@
+//! A semaphore with one caller, as a floor needs it.
+
+use cqs_core::Memory;
+use std::alloc::Global;
+
+/// How a semaphore stands between two calls: all other permits are held.
+#[derive(Clone, Copy)]
+pub struct Stand {
+    pub free: u32,
+    pub line: u32,
+}
+
+/// A semaphore with one caller, who makes one whole call after the other. Each call is the plain
+/// semaphore's.
+///
+/// It takes its memory when it is made: as many takes as it has room for, and all that they lead to,
+/// can't fail.
+pub trait SoleSemaphore: Sized + Drop {
+    /// What its caller has of a wait, until that is over.
+    type Wait: Drop;
+
+    ghost use Rattle.std.specs.Prelude.{◌≡◌, ◌<◌, ◌≤◌, IfOk};
+    ghost use Rattle.cqs_cli.specs.Soles.{
+      Sole,
+      Acquires,
+      CanAcquire,
+      CanEnd,
+      CanRelease,
+      CanStand,
+      Cancels,
+      IsOpened,
+      Polls,
+      Releases,
+      Tells,
+    };
+
+    ghost sole: { Sole Self Self.Wait };
+
+    /// One with so many permits, all of them free, and room for so many takes.
+    fn open(alloc: Global, permits: u32, takes: u32) -> Result<Self, Memory>
+        requires some { 0 < permits }
+        requires few { permits ≤ 1048576 }
+        requires few_takes { takes ≤ 262144 }
+        ensures { IfOk result (IsOpened sole permits takes) };
+
+    /// The number of a wait.
+    fn number(wait: &Self::Wait) -> u64
+        ensures { result ≡ sole.number wait.now };
+
+    /// Takes a permit, or else a wait at the end of the line.
+    fn acquire(&mut self) -> Option<Self::Wait>
+        requires { CanAcquire sole self.old }
+        ensures { Acquires sole self.old result self.new };
+
+    /// Gives a permit back. It answers the number of the wait that the permit was sent to, if
+    /// somebody waits.
+    fn release(&mut self) -> Option<u64>
+        requires { CanRelease sole self.old }
+        ensures { Releases sole self.old result self.new };
+
+    /// Looks at a wait. It comes back where it still stands in the line; else its permit is the
+    /// caller's.
+    fn poll(&mut self, wait: Self::Wait) -> Option<Self::Wait>
+        requires { CanEnd sole wait self.old }
+        ensures { Polls sole self.old wait result self.new };
+
+    /// Gives a wait up. It answers whether that stood in the line; else its permit is the caller's.
+    fn cancel(&mut self, wait: Self::Wait) -> bool
+        requires { CanEnd sole wait self.old }
+        ensures { Cancels sole self.old wait result self.new };
+
+    /// How many permits are free, and how many waits stand in the line.
+    fn stand(&mut self) -> Stand
+        requires { CanStand sole self.old }
+        ensures { Tells sole self.old result self.new };
+}

@@ -15,7 +15,7 @@ use Rattle.cqs_rule.specs.Views.{made_in, live_in, crew_turn, first_facts, as_be
 
 -- A pass between two calls is idle, or owes something: it isn't in the middle of a call that owes nothing.
 abbrev pub IsBetween : Facts → Type 0
-IsBetween f = ((f.doing ≡ doing.Idle) × (f.has.further ≡ 0)) ⊎ (is_owing f.doing ≡ true)
+IsBetween f = (f.doing ≡ doing.Idle) ⊎ (is_owing f.doing ≡ true)
 
 -- The pass of this view is alone: what the client shows goes with all that it has seen, the pass stands there at its facts, and
 -- every other number is in the middle of nothing, holds nothing, has nothing in hand and owes nothing.

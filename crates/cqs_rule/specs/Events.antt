@@ -26,12 +26,12 @@ pub record Moment : Type 0 where
   pub found : ℕ
   pub made : Bool
 
--- What such a step shows: its entries, and what its pass is doing then and has of its own. How much it holds is counted where the
--- program runs, too: by whether the step was made, what the pass held, and the word found.
+-- What such a step shows: its entries, and what its pass is doing then and has of its own. How much it holds, and how many further
+-- resumptions it owes, is counted where the program runs, too: by what the pass had, the word found, and whether the step was made.
 pub record Event (E : Type 0) : Type 0 where
   pub entries : Moment → List E
   pub doing : Moment → Doing
-  pub holds : Bool → ℕ → ℕ → ℕ
+  pub holds : Moment → ℕ
   pub payload : Moment → ℕ
   pub further : Moment → ℕ
   pub slots : Moment → List ℕ
@@ -48,13 +48,26 @@ where_found saw n = n == saw
 abbrev pub moment : Opening → ℕ → Facts → (ℕ → Bool) → ℕ → Moment
 moment opening p facts made n = record { opening = opening; pass = p; facts = facts; found = n; made = made n }
 
+-- the moment, as far as the program knows it: what the pass held, the word found, and whether the step was made
+pub record IsMoment (held found : ℕ) (made : Bool) (m : Moment) : Type 0 where
+  pub held_is : m.facts.has.held ≡ held
+  pub found_is : m.found ≡ found
+  pub made_is : m.made ≡ made
+
+-- what a pass holds after such a step fits 32 bits
+pub record HoldsFew {E : Type 0} (event : Event E) (held found : ℕ) (made : Bool) : Type 0 where
+  pub at : Moment
+  pub is : IsMoment held found made at
+  pub few : event.holds at < 2 ^ 32
+
 module _ {E : Type 0} (event : Event E) where
   abbrev pub has_then : Moment → Has
   has_then m = record {
-    held = event.holds m.made m.facts.has.held m.found;
+    held = event.holds m;
     payload = event.payload m;
     further = event.further m;
     slots = event.slots m;
+    spares = m.facts.has.spares;
   }
 
   -- what the pass is at after the step, made at this place

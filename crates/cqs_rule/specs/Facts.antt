@@ -23,6 +23,10 @@ is_owing doing.Door = false
 is_owing (doing.TryAt v) = false
 is_owing (doing.Drawn k) = false
 
+-- whether it owes anything: what it is in the middle of, or a further resumption
+abbrev pub owes_any : Facts → Bool
+owes_any f = if is_owing f.doing then true else nat_lt 0 f.has.further
+
 -- the counter's word
 abbrev pub counter_place : Counter → ℕ
 counter_place to_suspend = suspends_place

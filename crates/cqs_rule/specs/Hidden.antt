@@ -91,10 +91,14 @@ now_may_draw c p may = record {
 
 -- what a pass has that got what another held and had in hand, and that other one
 abbrev pub gathered : Has → Has → Has
-gathered mine theirs = record mine { held = mine.held + theirs.held; slots = mine.slots ++ theirs.slots }
+gathered mine theirs = record mine {
+  held = mine.held + theirs.held;
+  slots = mine.slots ++ theirs.slots;
+  spares = mine.spares + theirs.spares;
+}
 
 abbrev pub emptied : Has → Has
-emptied theirs = record theirs { held = 0; slots = [] }
+emptied theirs = record theirs { held = 0; slots = []; spares = 0 }
 
 -- what one pass has, or some of it, becomes another's: they have this now
 abbrev pub hands_over : Hidden → ℕ → Has → ℕ → Has → Hidden

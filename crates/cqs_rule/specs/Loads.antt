@@ -222,6 +222,8 @@ pub record CarriesLearned (gains : ℕ → ℕ) (learned : Learned) (f g : Facts
   pub held : g.has.held ≡ held_learned gains learned f.has.held
   pub owes : is_owing g.doing ≡ owes_learned learned (is_owing f.doing)
   pub waits : length g.waits + closed_learned learned ≡ length f.waits
+  pub further : g.has.further ≡ f.has.further
+  pub spares : g.has.spares ≡ f.has.spares
 
 -- the suspend counter is n
 abbrev pub IsDrawn : ℕ → Hidden → List ℕ → Type 0

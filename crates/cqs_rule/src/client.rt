@@ -55,19 +55,24 @@ pub trait ClientWords: Sized + Drop {
 
 /// The event that a step on a word of the client shows.
 pub trait Shown<C: ClientWords> {
-    ghost use Rattle.std.specs.Prelude.{◌≡◌, ◌<◌, ◌^◌};
-    ghost use Rattle.cqs_rule.specs.Events.{Event, Moment};
+    ghost use Rattle.std.specs.Prelude.{◌≡◌};
+    ghost use Rattle.cqs_rule.specs.Events.{Event, Moment, IsMoment, HoldsFew};
     ghost use Rattle.cqs_rule.specs.Facts.{is_owing};
 
     ghost event: { Event C.Entry };
 
     /// What the pass holds after the step.
     fn held_after(held: u32, found: u64, made: bool) -> u32
-        requires { event.holds made held found < 2 ^ 32 }
-        ensures { result ≡ event.holds made held found };
+        requires { HoldsFew event held found made }
+        ensures { (m : Moment) → IsMoment held found made m → event.holds m ≡ result };
 
     /// Whether the pass owes after the step, by whether it owed before.
     fn owes_after(owes: bool, found: u64, made: bool) -> bool
         ensures { (m : Moment) → is_owing m.facts.doing ≡ owes → m.found ≡ found → m.made ≡ made
             → is_owing (event.doing m) ≡ result };
+
+    /// How many further resumptions it owes after the step, by how many it owed before.
+    fn further_after(further: u32, found: u64, made: bool) -> u32
+        ensures { (m : Moment) → m.facts.has.further ≡ further → m.found ≡ found → m.made ≡ made
+            → event.further m ≡ result };
 }

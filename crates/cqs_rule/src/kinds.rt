@@ -26,7 +26,7 @@ use crate::client::ClientWords;
 pub trait Kind {
     ghost use Rattle.std.specs.Prelude.{◌≡◌, ◌+◌, ◌<◌, ◌≤◌, ◌^◌};
     ghost use Rattle.cqs_core.specs.QueueSteps.{QueueStep};
-    ghost use Rattle.cqs_rule.specs.Kinds.{held_then, owes_then, opens_wait, closes_wait};
+    ghost use Rattle.cqs_rule.specs.Kinds.{held_then, owes_then, further_then, opens_wait, closes_wait};
 
     ghost step: { QueueStep };
 
@@ -38,6 +38,10 @@ pub trait Kind {
     /// Whether it owes after the step.
     fn owes_after() -> bool
         ensures { result ≡ owes_then step };
+
+    /// How many further resumptions it owes after the step that owed this many.
+    fn further_after(further: u32) -> u32
+        ensures { result ≡ further_then step further };
 
     /// How many waits a pass has after the step that had this many.
     fn waits_after(waits: u32) -> u32
@@ -60,6 +64,10 @@ impl Kind for Draws {
         false
     }
 
+    fn further_after(further: u32) -> u32 {
+        further
+    }
+
     fn waits_after(waits: u32) -> u32 {
         waits
     }
@@ -77,6 +85,10 @@ impl Kind for Enters {
 
     fn owes_after() -> bool {
         false
+    }
+
+    fn further_after(further: u32) -> u32 {
+        further
     }
 
     fn waits_after(waits: u32) -> u32 {
@@ -98,6 +110,10 @@ impl Kind for Reaches {
         true
     }
 
+    fn further_after(further: u32) -> u32 {
+        further
+    }
+
     fn waits_after(waits: u32) -> u32 {
         waits
     }
@@ -115,6 +131,10 @@ impl Kind for Begins {
 
     fn owes_after() -> bool {
         true
+    }
+
+    fn further_after(further: u32) -> u32 {
+        further.saturating_sub(1)
     }
 
     fn waits_after(waits: u32) -> u32 {
@@ -136,6 +156,10 @@ impl Kind for Puts {
         true
     }
 
+    fn further_after(further: u32) -> u32 {
+        further
+    }
+
     fn waits_after(waits: u32) -> u32 {
         waits
     }
@@ -153,6 +177,10 @@ impl Kind for Installs {
 
     fn owes_after() -> bool {
         false
+    }
+
+    fn further_after(further: u32) -> u32 {
+        further
     }
 
     fn waits_after(waits: u32) -> u32 {
@@ -174,6 +202,10 @@ impl Kind for Takes {
         false
     }
 
+    fn further_after(further: u32) -> u32 {
+        further
+    }
+
     fn waits_after(waits: u32) -> u32 {
         waits
     }
@@ -191,6 +223,10 @@ impl Kind for Serves {
 
     fn owes_after() -> bool {
         false
+    }
+
+    fn further_after(further: u32) -> u32 {
+        further
     }
 
     fn waits_after(waits: u32) -> u32 {
@@ -212,6 +248,10 @@ impl Kind for Leaves {
         false
     }
 
+    fn further_after(further: u32) -> u32 {
+        further
+    }
+
     fn waits_after(waits: u32) -> u32 {
         waits
     }
@@ -229,6 +269,10 @@ impl Kind for Delegates {
 
     fn owes_after() -> bool {
         false
+    }
+
+    fn further_after(further: u32) -> u32 {
+        further
     }
 
     fn waits_after(waits: u32) -> u32 {
@@ -250,6 +294,10 @@ impl Kind for StartsLeaving {
         true
     }
 
+    fn further_after(further: u32) -> u32 {
+        further
+    }
+
     fn waits_after(waits: u32) -> u32 {
         waits
     }
@@ -267,6 +315,10 @@ impl Kind for LeavesLine {
 
     fn owes_after() -> bool {
         true
+    }
+
+    fn further_after(further: u32) -> u32 {
+        further
     }
 
     fn waits_after(waits: u32) -> u32 {
@@ -288,6 +340,10 @@ impl Kind for LeavesAtOnce {
         false
     }
 
+    fn further_after(further: u32) -> u32 {
+        further
+    }
+
     fn waits_after(waits: u32) -> u32 {
         waits - 1
     }
@@ -305,6 +361,10 @@ impl Kind for Settles {
 
     fn owes_after() -> bool {
         false
+    }
+
+    fn further_after(further: u32) -> u32 {
+        further
     }
 
     fn waits_after(waits: u32) -> u32 {
@@ -326,6 +386,10 @@ impl Kind for SettlesOwing {
         true
     }
 
+    fn further_after(further: u32) -> u32 {
+        further
+    }
+
     fn waits_after(waits: u32) -> u32 {
         waits - 1
     }
@@ -345,6 +409,10 @@ impl Kind for Refuses {
         false
     }
 
+    fn further_after(further: u32) -> u32 {
+        further
+    }
+
     fn waits_after(waits: u32) -> u32 {
         waits - 1
     }
@@ -362,6 +430,10 @@ impl Kind for RefusesValue {
 
     fn owes_after() -> bool {
         false
+    }
+
+    fn further_after(further: u32) -> u32 {
+        further
     }
 
     fn waits_after(waits: u32) -> u32 {

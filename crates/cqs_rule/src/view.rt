@@ -37,6 +37,8 @@ pub struct Has {
     pub further: u64,
     /// The value slots that it has in hand.
     pub slots: LinkedList<u64>,
+    /// How many slots for segments it has spare.
+    pub spares: u64,
 }
 
 /// The facts of a pass that its own steps alone change.

@@ -62,6 +62,7 @@ impl<C: ClientWords> Queue<C> {
                     seat,
                     number: CrewWord::made_in(found),
                     held: gives,
+                    further: 0,
                     owes: false,
                     waits: 0,
                 });
@@ -83,7 +84,7 @@ impl<C: ClientWords> Queue<C> {
         ensures unchanged { OnErr result (pass.new ≡ pass.old) }
         ensures met { OnOk result (HasMet pass.old given pass.new) }
     {
-        if given.owes || given.waits > 0 {
+        if given.owes() || given.waits > 0 {
             return Err((given, MeetError::Busy));
         }
         let Pass { seat, held, .. } = given;

@@ -52,6 +52,7 @@ impl<C: ClientWords> Queue<C> {
             .shared
             .fetch_add::<Draw<C, K>>(&mut pass.seat, word as usize, by.unsigned_abs());
         pass.owes = K::owes_after();
+        pass.further = K::further_after(pass.further);
         found
     }
 
@@ -70,6 +71,7 @@ impl<C: ClientWords> Queue<C> {
         if found == saw {
             pass.held = K::held_after::<C>(pass.held);
             pass.owes = K::owes_after();
+            pass.further = K::further_after(pass.further);
             pass.waits = K::waits_after(pass.waits);
         }
         found

@@ -5,7 +5,7 @@ ghost use Rattle.cqs_rule.specs.Lists.{Has};
 ghost use Rattle.cqs_rule.specs.Owed.{OwesWith, IsReached, HasUnder, under_payload, under_ticket, under_reached};
 ghost use Rattle.cqs_rule.specs.Passes.{pass_view, IsOf};
 ghost use Rattle.cqs_rule.specs.Placed.{KnowsPlace};
-ghost use Rattle.cqs_rule.specs.Facts.{is_owing};
+ghost use Rattle.cqs_rule.specs.Facts.{owes_any};
 ghost use Rattle.cqs_rule.specs.Waits.{place_of, pass_of, HasWait};
 
 use crate::client::ClientWords;
@@ -134,16 +134,16 @@ impl<C: ClientWords> Pass<C> {
 
     /// How many slots for segments it has spare: none, as long as the table has no segments.
     pub fn spares(&self) -> u32
-        ensures { result ≡ 0 }
+        ensures { result ≡ (pass_view self.now).facts.has.spares }
     {
         0
     }
 
-    /// Whether it owes: a resumption, or the end of a cancellation that it began.
+    /// Whether it owes: a resumption, one that it is at or a further one, or the end of a cancellation that it began.
     pub fn owes(&self) -> bool
-        ensures { result ≡ is_owing (pass_view self.now).facts.doing }
+        ensures { result ≡ owes_any (pass_view self.now).facts }
     {
-        self.owes
+        self.owes || self.further > 0
     }
 
     /// How many waits it has: those that it installed and hasn't closed.

@@ -23,6 +23,10 @@ impl<T: Drop> Shown<SemClient<T>> for Take {
     fn owes_after(_owes: bool, _found: u64, _made: bool) -> bool {
         false
     }
+
+    fn further_after(further: u32, _found: u64, _made: bool) -> u32 {
+        further
+    }
 }
 
 /// A try loads the state: no permit is free, or the pass is about to exchange the state that it loaded.
@@ -39,6 +43,10 @@ impl<T: Drop> Shown<SemClient<T>> for TryLoad {
 
     fn owes_after(_owes: bool, _found: u64, _made: bool) -> bool {
         false
+    }
+
+    fn further_after(further: u32, _found: u64, _made: bool) -> u32 {
+        further
     }
 }
 
@@ -58,6 +66,10 @@ impl<T: Drop> Shown<SemClient<T>> for TrySwap {
     fn owes_after(_owes: bool, _found: u64, _made: bool) -> bool {
         false
     }
+
+    fn further_after(further: u32, _found: u64, _made: bool) -> u32 {
+        further
+    }
 }
 
 /// A release adds one to the state: the permit is free, or the pass owes a resumption, whose payload is 0.
@@ -74,6 +86,10 @@ impl<T: Drop> Shown<SemClient<T>> for Give {
 
     fn owes_after(_owes: bool, found: u64, _made: bool) -> bool {
         StateWord::is_below_zero(found)
+    }
+
+    fn further_after(further: u32, _found: u64, _made: bool) -> u32 {
+        further
     }
 }
 
@@ -92,5 +108,9 @@ impl<T: Drop> Shown<SemClient<T>> for Decide {
 
     fn owes_after(_owes: bool, _found: u64, _made: bool) -> bool {
         true
+    }
+
+    fn further_after(further: u32, _found: u64, _made: bool) -> u32 {
+        further
     }
 }

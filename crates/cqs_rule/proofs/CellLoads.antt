@@ -1,5 +1,5 @@
--- A load of a cell. What it shows, if it shows a step of the queue, is a row of its table: the owner of a wait learns what became of
--- it, and a resume meets a cell that is settled.
+-- A load of a cell. What it shows, if it shows a step of the queue, is a row of its table: the owner of a wait learns
+-- what became of it, and a resume meets a cell that is settled.
 use Rattle.std.proofs.Common.{◌≡◌, ℕ, ◌<◌, ◌^◌, false, [], ◌++◌, sym, refl, ap, ◌∙◌, subst, arith, Option, Some, None}
 use Rattle.std.specs.Prelude.{slice_index}
 use Rattle.std.proofs.lemmas.Option.{same_Some}

@@ -1,5 +1,5 @@
--- The steps at a cell: each keeps the rule, and tells what its row says. An exchange is made where the cell was found as the row
--- wants it, and else shows nothing.
+-- The steps at a cell: each keeps the rule, and tells what its row says. An exchange is made where the cell was found
+-- as the row wants it, and else shows nothing.
 use Rattle.std.proofs.Common.{◌≡◌, ℕ, ◌+◌, ◌<◌, ◌^◌, Bool, List, [], ◌∷◌, ◌++◌, length, sym, refl, ap, ◌∙◌, subst, inl, arith, Option, Some, None, slice_get, eq-eqb, ne_eqb, eqb}
 use Rattle.std.specs.Prelude.{slice_index}
 use Rattle.std.proofs.lemmas.List.{length-set, length-append}
@@ -284,8 +284,8 @@ worked-carries gains row k n payload f once own = record {
 
 module _ {E S : Type 0} (object : Object E) (primitive : Primitive E S) (passes limit : ℕ)
     (client : IsClient object primitive) where
-  -- A step of this row is made at the cell of the number k, which stands at this word: the word becomes that of the cell as the step
-  -- leaves it.
+  -- A step of this row is made at the cell of the number k, which stands at this word: the word becomes that of the
+  -- cell as the step leaves it.
   pub works : (s : State (Option S) (View E S)) (r : Ruled object primitive passes limit s) (id : ℕ)
       (me : Me (Option S) (View E S)) (st : QueueStep) (row : CellRow) (k word x payload : ℕ) (found : CoreCell)
       → row_of st ≡ at_cell row → get_elem? s.views id ≡ some me.0 → me.0.weight ≡ 1 → Suits primitive.manner st

@@ -1,5 +1,5 @@
--- The steps that draw a number from a counter. No counter comes past the cells: those at the door may draw, and the numbers drawn
--- with those who may draw stay below the limit and the passes.
+-- The steps that draw a number from a counter. No counter comes past the cells: those at the door may draw, and the
+-- numbers drawn with those who may draw stay below the limit and the passes.
 use Rattle.std.proofs.Common.{◌≡◌, ◌≢◌, ◌⊎◌, ℕ, suc, ◌+◌, ◌%◌, ◌<◌, ◌≤◌, ◌^◌, Bool, true, false, List, [], ◌∷◌, ◌++◌, length, set, sym, refl, ap, ◌∙◌, subst, inl, inr, ⊎_elim, arith, Option, Some, None, slice_get, cond, ℤ, pos, unsigned_abs}
 use Rattle.std.specs.Prelude.{slice_index, count_by}
 use Rattle.std.proofs.lemmas.List.{length-set}

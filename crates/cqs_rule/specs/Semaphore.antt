@@ -86,7 +86,8 @@ loads_to_try = event_of
     (λ m. if is_above_zero m.found then doing.TryAt (count_in m.found) else doing.Idle)
     (λ m. m.facts.has.held)
 
--- the try exchanges the state for one less: it has a permit where it made the exchange, and nothing where others were first
+-- the try exchanges the state for one less: it has a permit where it made the exchange, and nothing where others were
+-- first
 abbrev pub tries : Event Entry
 tries = event_of
     (λ m. if m.made then entry.TryGot m.pass ∷ [] else [])

@@ -1,9 +1,10 @@
 //! What a primitive tells the queue.
 //!
-//! The data, the readers and the laws stand in `ClientWords`, over which the queue, its passes and its steps are generic.
+//! The data, the readers and the laws stand in `ClientWords`, over which the queue, its passes and
+//! its steps are generic.
 
-/// A client of the queue: a primitive, by its own words of the table. Contracts see which histories its words and the queue
-/// show together, and the laws say that each step of the queue keeps this.
+/// A client of the queue: a primitive, by its own words of the table. Contracts see which histories
+/// its words and the queue show together, and the laws say that each step of the queue keeps this.
 pub trait ClientWords: Sized + Drop {
     /// What lies in its value slots.
     type Slot: Drop;
@@ -15,10 +16,12 @@ pub trait ClientWords: Sized + Drop {
     ghost use Rattle.cqs_rule.specs.Client.{IsClient};
     ghost use Rattle.cqs_rule.specs.Object.{Object, Primitive};
 
-    // Its object: which entries name a pass, which histories are legal, and what the steps of the queue mean to it.
+    // Its object: which entries name a pass, which histories are legal, and what the steps of the
+    // queue mean to it.
     ghost object: { Object Self.Entry };
 
-    // What this client is made with, and what its words, the history and the values handed in show together.
+    // What this client is made with, and what its words, the history and the values handed in show
+    // together.
     ghost primitive: { Self → Primitive Self.Entry Self.Slot };
 
     ghost value_slots: { Self → ℕ };

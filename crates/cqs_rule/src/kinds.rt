@@ -1,4 +1,5 @@
-//! The steps of the queue itself that draw a number or make an exchange, as type parameters of the calls that make them.
+//! The steps of the queue itself that draw a number or make an exchange, as type parameters of the
+//! calls that make them.
 
 ghost use Rattle.cqs_core.specs.QueueSteps.{
   draws,
@@ -119,7 +120,8 @@ impl Kind for Reaches {
     }
 }
 
-/// A number is drawn to resume at, by an idle pass that begins the next of the resumptions that it owes.
+/// A number is drawn to resume at, by an idle pass that begins the next of the resumptions that it
+/// owes.
 pub struct Begins;
 
 impl Kind for Begins {
@@ -142,7 +144,8 @@ impl Kind for Begins {
     }
 }
 
-/// A number is drawn to resume at, by an idle pass that puts the first of the elements that it has in hand.
+/// A number is drawn to resume at, by an idle pass that puts the first of the elements that it has
+/// in hand.
 pub struct Puts;
 
 impl Kind for Puts {

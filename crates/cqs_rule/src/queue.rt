@@ -31,7 +31,8 @@ pub struct Queue<C: ClientWords> {
     ghost limit_is: { table.shared.key.limit ≡ limit },
 }
 
-/// What a caller makes steps with. Contracts see what it has seen of the queue, and what it is doing there.
+/// What a caller makes steps with. Contracts see what it has seen of the queue, and what it is
+/// doing there.
 #[derive(Drop)]
 pub struct Pass<C: ClientWords> {
     seat: Seat<Option<C::Slot>, View<C::Entry, C::Slot>>,

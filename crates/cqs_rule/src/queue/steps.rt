@@ -14,8 +14,9 @@ use crate::plays::{Cross, Draw, Loading};
 use crate::queue::{Pass, Queue};
 
 impl<C: ClientWords> Queue<C> {
-    /// Loads the suspend counter or a cell. A pass that finds the counter below the limit may draw, the owner of a wait learns in its
-    /// cell what became of it, and a resume meets the cell of its number.
+    /// Loads the suspend counter or a cell. A pass that finds the counter below the limit may draw,
+    /// the owner of a wait learns in its cell what became of it, and a resume meets the cell of its
+    /// number.
     pub fn load_table<L: Load>(&self, pass: &mut Pass<C>, word: u32) -> u64
         requires belongs { IsOf self.now pass.old }
         requires suits { LoadSuits (C.primitive (client_of self.now)).manner L.load }
@@ -56,7 +57,8 @@ impl<C: ClientWords> Queue<C> {
         found
     }
 
-    /// Makes an exchange on a cell: that of the number which the pass is at, or that of a wait of its own.
+    /// Makes an exchange on a cell: that of the number which the pass is at, or that of a wait of
+    /// its own.
     pub fn swap_table<K: Kind>(&self, pass: &mut Pass<C>, word: u32, saw: u64, new: u64) -> u64
         requires belongs { IsOf self.now pass.old }
         requires suits { Suits (C.primitive (client_of self.now)).manner K.step }

@@ -12,7 +12,8 @@ use crate::client::ClientWords;
 use crate::config::Place;
 use crate::queue::{Pass, Queue};
 
-/// A wait in the line, for as long as its pass hasn't had its answer. It is neither copied nor cloned.
+/// A wait in the line, for as long as its pass hasn't had its answer. It is neither copied nor
+/// cloned.
 #[derive(Drop)]
 pub struct Wait {
     pub(super) number: u64,
@@ -38,8 +39,8 @@ pub struct Under {
 }
 
 impl Under {
-    /// The last number that was drawn for the resumption, or 0 where none was. A loop that goes on with a resumption until it
-    /// ends can be measured by it.
+    /// The last number that was drawn for the resumption, or 0 where none was. A loop that goes on
+    /// with a resumption until it ends can be measured by it.
     pub fn reached(&self) -> u64
         ensures { result ≡ under_reached self.now }
     {
@@ -80,8 +81,8 @@ impl<C: ClientWords> Queue<C> {
 }
 
 impl<C: ClientWords> Queue<C> {
-    /// The token of a resumption that the pass owes: its payload, its ticket where one is open, and the last number that was
-    /// drawn for it. It makes no step.
+    /// The token of a resumption that the pass owes: its payload, its ticket where one is open, and
+    /// the last number that was drawn for it. It makes no step.
     pub fn under_of(
         &self,
         pass: &mut Pass<C>,
@@ -139,7 +140,8 @@ impl<C: ClientWords> Pass<C> {
         0
     }
 
-    /// Whether it owes: a resumption, one that it is at or a further one, or the end of a cancellation that it began.
+    /// Whether it owes: a resumption, one that it is at or a further one, or the end of a
+    /// cancellation that it began.
     pub fn owes(&self) -> bool
         ensures { result ≡ owes_any (pass_view self.now).facts }
     {

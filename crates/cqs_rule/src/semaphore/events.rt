@@ -29,7 +29,8 @@ impl<T: Drop> Shown<SemClient<T>> for Take {
     }
 }
 
-/// A try loads the state: no permit is free, or the pass is about to exchange the state that it loaded.
+/// A try loads the state: no permit is free, or the pass is about to exchange the state that it
+/// loaded.
 pub struct TryLoad;
 
 impl<T: Drop> Shown<SemClient<T>> for TryLoad {
@@ -50,8 +51,8 @@ impl<T: Drop> Shown<SemClient<T>> for TryLoad {
     }
 }
 
-/// A try exchanges the state that it loaded for one less: it has a permit, or another pass was first and it has
-/// nothing.
+/// A try exchanges the state that it loaded for one less: it has a permit, or another pass was
+/// first and it has nothing.
 pub struct TrySwap;
 
 impl<T: Drop> Shown<SemClient<T>> for TrySwap {
@@ -72,7 +73,8 @@ impl<T: Drop> Shown<SemClient<T>> for TrySwap {
     }
 }
 
-/// A release adds one to the state: the permit is free, or the pass owes a resumption, whose payload is 0.
+/// A release adds one to the state: the permit is free, or the pass owes a resumption, whose
+/// payload is 0.
 pub struct Give;
 
 impl<T: Drop> Shown<SemClient<T>> for Give {
@@ -93,8 +95,8 @@ impl<T: Drop> Shown<SemClient<T>> for Give {
     }
 }
 
-/// A canceller adds one to the state: its waiter has left the line, or it is refused and the permit that was on its way
-/// to it is free.
+/// A canceller adds one to the state: its waiter has left the line, or it is refused and the permit
+/// that was on its way to it is free.
 pub struct Decide;
 
 impl<T: Drop> Shown<SemClient<T>> for Decide {

@@ -4,7 +4,7 @@
 //! memory and prints the nanoseconds of the run and a sum over the report's bytes, by which the two reports are compared; `plain
 //! report NAME` prints the report, and `plain make NAME` makes the plan alone. The names are those of `named_plan`; a number after
 //! a name is how many turns the plan has.
-//! `plain free` and `plain pairs` make the rounds of the running queue on atomic words; `ROUNDS` after them is how many.
+//! `plain free`, `plain pairs` and `plain leaves` make the rounds of the running queue on atomic words; `ROUNDS` after them is how many.
 
 use std::collections::VecDeque;
 use std::fmt::Write as _;
@@ -347,6 +347,10 @@ const WAITER: u64 = 1;
 const VALUE: u64 = 2;
 const TAKEN: u64 = 3;
 const RESUMED: u64 = 5;
+const CANCELLING: u64 = 6;
+const DELEGATED: u64 = 7;
+const CANCELLED: u64 = 8;
+const REFUSED: u64 = 9;
 
 /// A cell's word: its number, its state, and 20 bits of what was left in it.
 fn cell(number: u64, state: u64, payload: u64) -> u64 {
@@ -408,6 +412,15 @@ impl Words {
         }
     }
 
+    /// The waiter leaves the line, unless it was served. It answers whether a resume had left its value to it.
+    fn cancel(&self, number: u64) -> bool {
+        if !self.exchange(number, WAITER, CANCELLING) {
+            return false;
+        }
+        let end = if self.words[STATE].fetch_add(1, SeqCst) < BIAS { CANCELLED } else { REFUSED };
+        !self.exchange(number, CANCELLING, end) && self.exchange(number, DELEGATED, end)
+    }
+
     fn is_served(&self, number: u64) -> bool {
         self.words[CELLS + number as usize].load(SeqCst) >> 20 & 15 == RESUMED
     }
@@ -444,6 +457,20 @@ fn pair_round(words: &Words, caller: &mut Caller) {
     }
     if words.is_served(number) {
         caller.held += 1;
+    }
+}
+
+/// The caller that holds the one permit waits for it, and leaves the line again.
+fn leave_round(words: &Words, caller: &mut Caller) {
+    if !words.may_draw() {
+        return;
+    }
+    let Some(number) = words.acquire() else {
+        caller.held += 1;
+        return;
+    };
+    if words.cancel(number) {
+        words.resume();
     }
 }
 
@@ -501,12 +528,16 @@ fn main() {
             time_rounds("pairs", rounds(), pair_round);
             true
         }
+        ["leaves", ..] => {
+            time_rounds("leaves", rounds(), leave_round);
+            true
+        }
         [command, name] => with_plan(command, name, None),
         [command, name, turns] => with_plan(command, name, turns.parse().ok()),
         _ => false,
     };
     if !known {
-        let usage = "usage: plain plan | make | run | report NAME [TURNS]; or plain large | free [ROUNDS] | pairs [ROUNDS]";
+        let usage = "usage: plain plan | make | run | report NAME [TURNS]; or plain large | free [ROUNDS] | pairs [ROUNDS] | leaves [ROUNDS]";
         let _ = writeln!(std::io::stderr(), "{usage}");
         std::process::exit(2);
     }

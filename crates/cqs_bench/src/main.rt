@@ -15,7 +15,7 @@ use cqs_cli::CoreFloor;
 use cqs_plan::{Plan, read_plan};
 use cqs_rule::{CancelMode, Config, Queue, SemClient};
 use cqs_turns::{Report, run_plan};
-use rounds::{LIMIT, free_rounds, pair_rounds};
+use rounds::{LIMIT, free_rounds, leave_rounds, pair_rounds};
 use std::alloc::Global;
 use std::env;
 use std::io::{self, Read};
@@ -24,7 +24,7 @@ use std::rt::Clock;
 use std::time::Instant;
 
 const USAGE: &str =
-    "usage: cqs_bench toml | plan | run | whole | fold < PLAN; or free | pairs [ROUNDS]";
+    "usage: cqs_bench toml | plan | run | whole | fold < PLAN; or free | pairs | leaves [ROUNDS]";
 
 const BAD_COMMAND: u8 = 2;
 
@@ -137,10 +137,10 @@ fn time_rounds(
         anyhow::bail!("no memory for the queue");
     };
     let start = Instant::now(rt)?;
-    if word == "pairs" {
-        pair_rounds(&queue, &mut pass, count);
-    } else {
-        free_rounds(&queue, &mut pass, count);
+    match word {
+        "pairs" => pair_rounds(&queue, &mut pass, count),
+        "leaves" => leave_rounds(&queue, &mut pass, count),
+        _ => free_rounds(&queue, &mut pass, count),
     }
     let nanoseconds = start.elapsed(rt)?.as_nanos();
     println!(rt; "{word} {nanoseconds} rounds {count} held {}", pass.held())?;
@@ -156,7 +156,7 @@ fn main(rt: HostRuntime) -> anyhow::Result<ExitCode> {
     let Some(word) = env::args(&rt)?.nth(1) else {
         return Ok(usage(&rt)?);
     };
-    if word.as_str() == "free" || word.as_str() == "pairs" {
+    if ["free", "pairs", "leaves"].contains(&word.as_str()) {
         let wanted = env::args(&rt)?.nth(2).and_then(|text| text.parse().ok());
         time_rounds(&rt, word.as_str(), wanted.unwrap_or(LIMIT))?;
         return Ok(ExitCode::SUCCESS);

@@ -5,6 +5,7 @@ ghost use Rattle.cqs_core.specs.declared.doings.Doing.TheVariants.{Idle};
 ghost use Rattle.cqs_rule.specs.Passes.{pass_view, limit_of, IsOf};
 ghost use Rattle.cqs_bench.specs.Waits.{KeepsWaits, HasItsWait};
 
+use cqs_cancel::{Left, cancel};
 use cqs_cell::look;
 use cqs_resume::{Resumed, resume};
 use cqs_rule::{
@@ -95,6 +96,27 @@ fn pair_round(queue: &Queue<SemClient>, pass: &mut Pass<SemClient>) -> bool
     true
 }
 
+// The pass that holds the one permit waits for it, and leaves the line again. It answers whether rounds go on.
+fn leave_round(queue: &Queue<SemClient>, pass: &mut Pass<SemClient>) -> bool
+    requires belongs { IsOf queue.now pass.old }
+    requires limit { limit_of queue.now ≡ 1048576 }
+    requires idle { (pass_view pass.old).facts.doing ≡ Idle }
+    ensures belongs { IsOf queue.now pass.new }
+    ensures idle { IsTrue result → (pass_view pass.new).facts.doing ≡ Idle }
+{
+    if queue.load_table::<Counts>(pass, SUSPENDS_WORD) >= LIMIT {
+        return false;
+    }
+    let Some(wait) = acquire(queue, pass) else {
+        return true;
+    };
+    match cancel(queue, pass, wait) {
+        Left::Gone => true,
+        Left::Late(_) => true,
+        Left::GoneOwing(_) => false,
+    }
+}
+
 /// In each round a permit that is free is taken and given back.
 pub fn free_rounds(queue: &Queue<SemClient>, pass: &mut Pass<SemClient>, count: u64)
     requires belongs { IsOf queue.now pass.old }
@@ -117,6 +139,19 @@ pub fn pair_rounds(queue: &Queue<SemClient>, pass: &mut Pass<SemClient>, count: 
 {
     for _ in 0..count {
         if !pair_round(queue, pass) {
+            return;
+        }
+    }
+}
+
+/// The first round takes the permit. In each later one the pass that holds it waits for it, and leaves the line again.
+pub fn leave_rounds(queue: &Queue<SemClient>, pass: &mut Pass<SemClient>, count: u64)
+    requires belongs { IsOf queue.now pass.old }
+    requires limit { limit_of queue.now ≡ 1048576 }
+    requires idle { (pass_view pass.old).facts.doing ≡ Idle }
+{
+    for _ in 0..count {
+        if !leave_round(queue, pass) {
             return;
         }
     }

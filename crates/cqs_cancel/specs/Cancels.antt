@@ -46,9 +46,9 @@ asks_at v facts n = moment v.opening v.number facts in_any_case n
 module _ {C E S : Type 0} (object : Object E) (primitive : C → Primitive E S) where
   -- A pass was leaving the wait k, and at these facts, after these entries. Its client was asked, by a step of this
   -- event on this word, and answered so by what it found there. Then the cell was settled by a step of this row: it was
-  -- found in the state that the row wants, with this payload, at the end of all that the pass has seen before the step's
-  -- entries. At most one exchange before it missed. The entries are those of the steps, in order, and the pass is where
-  -- they lead.
+  -- found in the state that the row wants, with this payload, at the end of all that the pass has seen before the
+  -- step's entries. At most one exchange before it missed. The entries are those of the steps, in order, and the pass
+  -- is where they lead.
   pub record Settled (first : List E) (facts : Facts) (word : ℕ) (event : Event E) (s : QueueStep) (row : CellRow)
       (answer : Bool) (k payload : ℕ) (v w : View E S) : Type 0 where
     pub asked : ℕ

@@ -15,10 +15,11 @@ use cqs_rule::{Cancels, Client, Pass, Place, Queue, Wait};
 /// What became of a cancel.
 #[derive(Clone, Copy, Debug, PartialEq, Eq)]
 pub enum Left {
-    /// The wait is over, and nothing is owed for it: the waiter has left the line, or it was refused and what was on
-    /// its way to it ended.
+    /// The wait is over, and nothing is owed for it: the waiter has left the line, or it was
+    /// refused and what was on its way to it ended.
     Gone,
-    /// The waiter has left the line. A resume had left this payload to it, and the pass owes that resumption now.
+    /// The waiter has left the line. A resume had left this payload to it, and the pass owes that
+    /// resumption now.
     GoneOwing(u32),
     /// The waiter was served before, and has this payload.
     Late(u32),

@@ -12,7 +12,8 @@ use Rattle.cqs_rule.specs.Placed.{KnowsPlace}
 use Rattle.cqs_rule.specs.Ruled.{word_of}
 
 module _ {E S : Type 0} where
-  -- The pass may make the exchange of this row at the place, from the word of a cell with this payload to the word of the one made.
+  -- The pass may make the exchange of this row at the place, from the word of a cell with this payload to the word of
+  -- the one made.
   pub record CrossesRow (row : CellRow) (v : View E S) (at : Place) (payload expected new : ℕ) : Type 0 where
     pub works : v.facts.doing ≡ doing_at row.works_at at.index
     pub own : IsOwnWait row.works_at at.index v.facts

@@ -24,8 +24,9 @@ abbrev pub facts_since : List Sighting → Option Glimpse → Facts → Facts
 facts_since found last f = record f { last = last; found = found }
 
 module _ {C E S : Type 0} (object : Object E) (primitive : C → Primitive E S) where
-  -- A step of this row was made at the cell of the number k: it found the cell in the state that the row wants, with this payload. The
-  -- step's entries are the only ones, and the pass is where the row leads. Before the step it may have tried in vain, and found these.
+  -- A step of this row was made at the cell of the number k: it found the cell in the state that the row wants, with
+  -- this payload. The step's entries are the only ones, and the pass is where the row leads. Before the step it may
+  -- have tried in vain, and found these.
   pub record Made (s : QueueStep) (row : CellRow) (tried : ℕ) (k payload : ℕ) (v w : View E S) : Type 0 where
     pub word : ℕ
     pub cell : FoundCell word (record { number = k; state = row.finds; payload = payload })

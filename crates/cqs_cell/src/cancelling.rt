@@ -41,8 +41,9 @@ pub fn begin_cancel<C: ClientWords>(
     }
 }
 
-/// A canceller ends its leaving by what was decided: resumes pass over the cell, or the one that comes ends there. It answers the
-/// payload that a resume had left for it. It never fails: nobody else ends what it began.
+/// A canceller ends its leaving by what was decided: resumes pass over the cell, or the one that
+/// comes ends there. It answers the payload that a resume had left for it. It never fails: nobody
+/// else ends what it began.
 pub fn settle<C: ClientWords>(
     queue: &Queue<C>,
     pass: &mut Pass<C>,
@@ -82,7 +83,8 @@ pub fn settle<C: ClientWords>(
     }
 }
 
-// The word of a cell in which a resume left its payload to the canceller, and that of the cell as it ends.
+// The word of a cell in which a resume left its payload to the canceller, and that of the cell as
+// it ends.
 fn ends(at: Place, payload: u32, state: CellState) -> (u64, u64)
     requires index { at.index < 2 ^ 40 }
     requires payload { payload < 2 ^ 20 }

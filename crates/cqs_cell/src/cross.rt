@@ -9,8 +9,8 @@ ghost use Rattle.cqs_rule.specs.Passes.{pass_view, client_of, IsOf};
 use cqs_rule::{ClientWords, Kind, Pass, Place, Queue};
 use cqs_words::CellWord;
 
-// The exchange that the step K makes, from the word of a cell with this payload to another word. It answers the cell that was found
-// where that is another.
+// The exchange that the step K makes, from the word of a cell with this payload to another word. It
+// answers the cell that was found where that is another.
 #[inline]
 pub(crate) fn cross<C: ClientWords, K: Kind>(
     queue: &Queue<C>,

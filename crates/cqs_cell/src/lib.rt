@@ -1,6 +1,7 @@
 //! The cells of the queue: each call tries one transition on the cell of a number.
 //!
-//! A call makes its transition, or answers the state that it found at a step of its own. A cell changes at most four times:
+//! A call makes its transition, or answers the state that it found at a step of its own. A cell
+//! changes at most four times:
 //!
 //! | from | to | by | entry |
 //! |---|---|---|---|
@@ -13,7 +14,8 @@
 //! | Cancelling, Delegated | Cancelled | `settle`: the owner, where resumes are to pass over | |
 //! | Cancelling, Delegated | Refused | `settle`: the owner, where the resume is to end there | |
 //!
-//! The entries are those of a client whose object has one for a delivery; when a wait leaves is for its client to say.
+//! The entries are those of a client whose object has one for a delivery; when a wait leaves is for
+//! its client to say.
 #![tactic(auto)]
 
 mod cancelling;

@@ -9,9 +9,10 @@ ghost use Rattle.cqs_rule.specs.Placed.{KnowsPlace};
 use cqs_rule::{ClientWords, Load, Pass, Place, Queue};
 use cqs_words::CellWord;
 
-/// Loads the cell of a number, and answers it as it was found. By `L` the owner of a wait names what it wants to learn there:
-/// `Polls`, whether it was served, and `Cancels`, whether it is too late to cancel; a resume meets by `Meets` a cell that is settled.
-/// `Watches` shows no event, and may find the cell of a later number.
+/// Loads the cell of a number, and answers it as it was found. By `L` the owner of a wait names
+/// what it wants to learn there: `Polls`, whether it was served, and `Cancels`, whether it is too
+/// late to cancel; a resume meets by `Meets` a cell that is settled. `Watches` shows no event, and
+/// may find the cell of a later number.
 #[inline]
 pub fn look<C: ClientWords, L: Load>(queue: &Queue<C>, pass: &mut Pass<C>, at: Place) -> CellWord
     requires belongs { IsOf queue.now pass.old }

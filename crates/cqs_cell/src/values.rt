@@ -12,8 +12,8 @@ use crate::cross::{cross, cross_surely};
 use cqs_rule::{ClientWords, Pass, Place, Queue, Takes};
 use cqs_words::{CellState, CellWord};
 
-/// A suspend takes the value that the resume of its number left, and answers its payload. Where its first exchange finds another
-/// payload than 0, it makes a second.
+/// A suspend takes the value that the resume of its number left, and answers its payload. Where its
+/// first exchange finds another payload than 0, it makes a second.
 pub fn take_value<C: ClientWords>(
     queue: &Queue<C>,
     pass: &mut Pass<C>,

@@ -40,8 +40,8 @@ use Rattle.cqs_resume.specs.Meets.{facts_met, cell_of, Met}
 abbrev pub facts_on_way : List Sighting → List (ℕ × ℕ) → Option Glimpse → Facts → Facts
 facts_on_way found heads last f = record (facts_searched found heads f) { last = last }
 
--- A step of this row at the cell of the number k finds it in this state, and leaves the pass at this, with these numbers passed over
--- besides.
+-- A step of this row at the cell of the number k finds it in this state, and leaves the pass at this, with these
+-- numbers passed over besides.
 pub record IsEnd (gains : Gains) (row : CellRow) (state : CoreState) (at : Doing) (over : List ℕ) (k : ℕ) : Type 0 where
   pub finds : row.finds ≡ state
   pub told : row.gain ≡ nothing
@@ -124,7 +124,8 @@ none-other state.Resumed may top cancelled refused = may
 none-other state.Delegated may top cancelled refused = may
 
 module _ {C E S : Type 0} (object : Object E) (primitive : C → Primitive E S) where
-  -- The pass is on its way to the step that will be made at a cell: it looked for the cell, and so many exchanges missed.
+  -- The pass is on its way to the step that will be made at a cell: it looked for the cell, and so many exchanges
+  -- missed.
   pub record OnWay (tries : ℕ) (v u : View E S) : Type 0 where
     pub found : List Sighting
     pub heads : List (ℕ × ℕ)

@@ -42,8 +42,8 @@ module _ {C E S : Type 0} (primitive : C → Primitive E S) where
   AreOver w (r ∷ rs) = IsOver w r × AreOver w rs
 
 module _ {C E S : Type 0} (object : Object E) (primitive : C → Primitive E S) where
-  -- The resume ended at the number k, by this step on its cell, which it found in this state. It passed over the numbers before,
-  -- fewer than `most` of which it drew. The pass is idle, and holds and waits for what it did before.
+  -- The resume ended at the number k, by this step on its cell, which it found in this state. It passed over the
+  -- numbers before, fewer than `most` of which it drew. The pass is idle, and holds and waits for what it did before.
   pub record Ended (s : QueueStep) (state : CoreState) (most : ℕ) (ticket : Option ℕ) (payload k : ℕ)
       (v w : View E S) : Type 0 where
     pub over : List Round
@@ -59,8 +59,8 @@ module _ {C E S : Type 0} (object : Object E) (primitive : C → Primitive E S) 
         (object.entries s v.number k payload) w
     pub facts_are : w.facts ≡ facts_after_rounds doing.Idle (numbers over) (over ++ last ∷ []) v.facts
 
-  -- It drew `most` numbers and passed over each of them. The pass still owes the resumption, and the last of the numbers comes after
-  -- those that it drew before.
+  -- It drew `most` numbers and passed over each of them. The pass still owes the resumption, and the last of the
+  -- numbers comes after those that it drew before.
   pub record Stopped (most : ℕ) (ticket : Option ℕ) (payload : ℕ) (under : token.Under) (v w : View E S) : Type 0 where
     pub over : List Round
     pub opens : IsOpenedWith ticket over

@@ -28,7 +28,8 @@ pub record Round : Type 0 where
 abbrev pub cell_in : CoreState → Round → Glimpse
 cell_in state r = record { number = r.number; state = state; payload = r.payload }
 
--- the step of the round found the cell in this state, after a search for it and at most four exchanges that weren't made
+-- the step of the round found the cell in this state, after a search for it and at most four exchanges that weren't
+-- made
 pub record IsFoundIn (state : CoreState) (r : Round) : Type 0 where
   pub cell : FoundCell r.word (cell_in state r)
   pub few : length r.tried + length r.heads ≤ longest_search + 4

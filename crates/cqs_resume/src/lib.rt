@@ -1,7 +1,8 @@
-//! Resuming: a pass that owes a resumption draws a number, and serves the waiter in its cell or leaves its value there.
+//! Resuming: a pass that owes a resumption draws a number, and serves the waiter in its cell or
+//! leaves its value there.
 //!
-//! A waiter may have left the line: its cell is passed over, and the next number is drawn. After 64 such numbers the call hands the
-//! resumption back, for `finish` to go on with.
+//! A waiter may have left the line: its cell is passed over, and the next number is drawn. After 64
+//! such numbers the call hands the resumption back, for `finish` to go on with.
 #![tactic(auto)]
 
 mod meeting;

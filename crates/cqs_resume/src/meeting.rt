@@ -12,9 +12,10 @@ use cqs_find::{Found, find};
 use cqs_rule::{Client, Meets, Pass, Queue};
 use cqs_words::CellState;
 
-/// Ends the resumption at the cell of the number whose ticket is open, or passes over it and answers none. A waiter is tried first.
-/// Whatever is found instead is what is tried next: a cell only goes on, from Empty to Waiter, from there to Cancelling, and then it
-/// is settled. Where its waiter was refused to leave, the client is told that the resumption ended there.
+/// Ends the resumption at the cell of the number whose ticket is open, or passes over it and
+/// answers none. A waiter is tried first. Whatever is found instead is what is tried next: a cell
+/// only goes on, from Empty to Waiter, from there to Cancelling, and then it is settled. Where its
+/// waiter was refused to leave, the client is told that the resumption ended there.
 #[inline]
 pub(crate) fn meet<C: Client>(
     queue: &Queue<C>,

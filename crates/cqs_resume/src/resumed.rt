@@ -7,7 +7,8 @@ use cqs_rule::Under;
 pub enum Resumed {
     /// The waiter of this number was served.
     Served(u64),
-    /// The value was left in the cell of this number: for its suspend, or for its canceller, who is to go on with it.
+    /// The value was left in the cell of this number: for its suspend, or for its canceller, who is
+    /// to go on with it.
     Left(u64),
     /// The waiter of this number was refused to leave, and the value ended at its cell.
     Refused(u64),

@@ -1,5 +1,5 @@
--- A load of a cell. What it shows, if it shows a step of the queue, is a row of its table: the owner of a wait learns what became of
--- it, and a resume meets a cell that is settled.
+-- A load of a cell. What it shows, if it shows a step of the queue, is a row of its table: the owner of a wait learns
+-- what became of it, and a resume meets a cell that is settled.
 use Rattle.std.proofs.Common.{◌≡◌, ℕ, ◌<◌, ◌^◌, false, [], ◌++◌, sym, refl, ap, ◌∙◌, subst, arith, Option, Some, None}
 use Rattle.std.specs.Prelude.{slice_index}
 use Rattle.std.proofs.lemmas.Option.{same_Some}
@@ -133,7 +133,7 @@ quiet misses state.Cancelled e = absurd (cc)
 quiet misses state.Refused e = refl
 
 kept : (gains : ℕ → ℕ) (k n : ℕ) (f : Facts) → CarriesLearned gains Nothing f (facts_watched k n f)
-kept gains k n f = record { held = refl; owes = refl; waits = omega arith }
+kept gains k n f = record { held = refl; owes = refl; waits = omega arith; further = refl; spares = refl }
 
 polls-waiter : ShowsStep polls state.Waiter (looks pends)
 polls-waiter = record {
@@ -155,6 +155,8 @@ polls-waiter = record {
     held = refl;
     owes = ap is_owing (sym does);
     waits = omega arith;
+    further = refl;
+    spares = refl;
   };
 }
 
@@ -178,6 +180,8 @@ polls-resumed = record {
     held = refl;
     owes = ap is_owing (sym does);
     waits = length_without k f.waits once own;
+    further = refl;
+    spares = refl;
   };
 }
 
@@ -201,6 +205,8 @@ cancels-resumed = record {
     held = refl;
     owes = ap is_owing (sym does);
     waits = length_without k f.waits once own;
+    further = refl;
+    spares = refl;
   };
 }
 
@@ -224,6 +230,8 @@ meets-cancelled = record {
     held = refl;
     owes = ap is_owing (sym does);
     waits = omega arith;
+    further = refl;
+    spares = refl;
   };
 }
 
@@ -243,7 +251,13 @@ meets-refused = record {
   finds = refl;
   at = refl;
   suits = λ m fit. fit;
-  carries = λ gains k n payload f does once own. record { held = refl; owes = refl; waits = omega arith };
+  carries = λ gains k n payload f does once own. record {
+    held = refl;
+    owes = refl;
+    waits = omega arith;
+    further = refl;
+    spares = refl;
+  };
 }
 
 misses-cancelled : ShowsStep misses state.Cancelled ends_missed
@@ -262,7 +276,13 @@ misses-cancelled = record {
   finds = refl;
   at = refl;
   suits = λ m fit. fit;
-  carries = λ gains k n payload f does once own. record { held = refl; owes = refl; waits = omega arith };
+  carries = λ gains k n payload f does once own. record {
+    held = refl;
+    owes = refl;
+    waits = omega arith;
+    further = refl;
+    spares = refl;
+  };
 }
 
 -- the step that a load shows

@@ -1,4 +1,5 @@
--- Where the cells stand among the words of a table. Steps cite these lemmas; else only what opens a queue computes a place.
+-- Where the cells stand among the words of a table. Steps cite these lemmas; else only what opens a queue computes a
+-- place.
 use Rattle.std.proofs.Common.{◌≡◌, ◌≢◌, ℕ, ◌<◌, arith}
 use Rattle.cqs_rule.specs.Layout.{crew_place, suspends_place, resumes_place, client_place, cell_place, cell_number, words_for, IsIdle}
 

@@ -1,5 +1,5 @@
--- The steps at a cell: each keeps the rule, and tells what its row says. An exchange is made where the cell was found as the row
--- wants it, and else shows nothing.
+-- The steps at a cell: each keeps the rule, and tells what its row says. An exchange is made where the cell was found
+-- as the row wants it, and else shows nothing.
 use Rattle.std.proofs.Common.{◌≡◌, ℕ, ◌+◌, ◌<◌, ◌^◌, Bool, List, [], ◌∷◌, ◌++◌, length, sym, refl, ap, ◌∙◌, subst, inl, arith, Option, Some, None, slice_get, eq-eqb, ne_eqb, eqb}
 use Rattle.std.specs.Prelude.{slice_index}
 use Rattle.std.proofs.lemmas.List.{length-set, length-append}
@@ -226,6 +226,18 @@ gained-held gains nothing payload h = refl
 gained-held gains its_own payload h = refl
 gained-held gains a_debt payload h = refl
 
+gained-further : (gains : Gains) (gain : Gain) (payload : ℕ) (h : Has)
+    → (has_gained gains gain payload h).further ≡ h.further
+gained-further gains nothing payload h = refl
+gained-further gains its_own payload h = refl
+gained-further gains a_debt payload h = refl
+
+gained-spares : (gains : Gains) (gain : Gain) (payload : ℕ) (h : Has)
+    → (has_gained gains gain payload h).spares ≡ h.spares
+gained-spares gains nothing payload h = refl
+gained-spares gains its_own payload h = refl
+gained-spares gains a_debt payload h = refl
+
 stage-owes : (at : Stage) (k : ℕ) → is_owing (doing_at at k) ≡ owes_at_stage at
 stage-owes stage.idle k = refl
 stage-owes stage.door k = refl
@@ -260,6 +272,8 @@ worked-carries gains row k n payload f once own = record {
   held = gained-held gains row.gain payload f.has;
   owes = stage-owes row.goes_to k;
   waits = by row.wait own;
+  further = gained-further gains row.gain payload f.has;
+  spares = gained-spares gains row.gain payload f.has;
 }
   where
     by : (w : WaitChange) → (w ≡ wait_closes → lists.Has k f.waits)
@@ -270,8 +284,8 @@ worked-carries gains row k n payload f once own = record {
 
 module _ {E S : Type 0} (object : Object E) (primitive : Primitive E S) (passes limit : ℕ)
     (client : IsClient object primitive) where
-  -- A step of this row is made at the cell of the number k, which stands at this word: the word becomes that of the cell as the step
-  -- leaves it.
+  -- A step of this row is made at the cell of the number k, which stands at this word: the word becomes that of the
+  -- cell as the step leaves it.
   pub works : (s : State (Option S) (View E S)) (r : Ruled object primitive passes limit s) (id : ℕ)
       (me : Me (Option S) (View E S)) (st : QueueStep) (row : CellRow) (k word x payload : ℕ) (found : CoreCell)
       → row_of st ≡ at_cell row → get_elem? s.views id ≡ some me.0 → me.0.weight ≡ 1 → Suits primitive.manner st

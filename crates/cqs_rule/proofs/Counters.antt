@@ -1,5 +1,5 @@
--- The steps that draw a number from a counter. No counter comes past the cells: those at the door may draw, and the numbers drawn
--- with those who may draw stay below the limit and the passes.
+-- The steps that draw a number from a counter. No counter comes past the cells: those at the door may draw, and the
+-- numbers drawn with those who may draw stay below the limit and the passes.
 use Rattle.std.proofs.Common.{◌≡◌, ◌≢◌, ◌⊎◌, ℕ, suc, ◌+◌, ◌%◌, ◌<◌, ◌≤◌, ◌^◌, Bool, true, false, List, [], ◌∷◌, ◌++◌, length, set, sym, refl, ap, ◌∙◌, subst, inl, inr, ⊎_elim, arith, Option, Some, None, slice_get, cond, ℤ, pos, unsigned_abs}
 use Rattle.std.specs.Prelude.{slice_index, count_by}
 use Rattle.std.proofs.lemmas.List.{length-set}
@@ -30,7 +30,7 @@ use Rattle.cqs_rule.specs.Client.{IsClient, IsPaid, IsPayload}
 use Rattle.cqs_rule.specs.Counts.{IsCount, payload_paid, DrewBy, drew, IsDrawnBy}
 use Rattle.cqs_rule.specs.Facts.{facts_counted_by, IsBehind}
 use Rattle.cqs_rule.specs.Hidden.{Hidden, Gains, has_paid, happened_by, state_at}
-use Rattle.cqs_rule.specs.Kinds.{Carries}
+use Rattle.cqs_rule.specs.Kinds.{Carries, further_paid}
 use Rattle.cqs_rule.specs.Layout.{words_for, client_words}
 use Rattle.cqs_rule.specs.Manner.{Suits}
 use Rattle.cqs_rule.specs.Object.{Object, Primitive}
@@ -79,6 +79,17 @@ paid-held : (cost : Cost) (payload : ℕ) (h : Has) → (has_paid cost payload h
 paid-held no_cost payload h = refl
 paid-held one_owed payload h = refl
 paid-held one_element payload h = refl
+
+paid-further : (cost : Cost) (payload : ℕ) (h : Has)
+    → (has_paid cost payload h).further ≡ further_paid cost h.further
+paid-further no_cost payload h = refl
+paid-further one_owed payload h = refl
+paid-further one_element payload h = refl
+
+paid-spares : (cost : Cost) (payload : ℕ) (h : Has) → (has_paid cost payload h).spares ≡ h.spares
+paid-spares no_cost payload h = refl
+paid-spares one_owed payload h = refl
+paid-spares one_element payload h = refl
 
 module _ (c : Hidden) (p k : ℕ) where
   -- a number is drawn: each cell keeps its state
@@ -359,7 +370,13 @@ module _ {E S : Type 0} (object : Object E) (primitive : Primitive E S) (passes 
               (grown v facts (r.log ++ es) r.handed)) first done.1,
           refl,
           done.2,
-          record { held = paid-held cost payload f.has; owes = refl; waits = refl },
+          record {
+            held = paid-held cost payload f.has;
+            owes = refl;
+            waits = refl;
+            further = paid-further cost payload f.has;
+            spares = paid-spares cost payload f.has;
+          },
           tt,
         ),
       )
@@ -451,7 +468,13 @@ module _ {E S : Type 0} (object : Object E) (primitive : Primitive E S) (passes 
               (grown v facts (r.log ++ es) r.handed)) first done.1,
           refl,
           done.2,
-          record { held = paid-held cost payload f.has; owes = refl; waits = refl },
+          record {
+            held = paid-held cost payload f.has;
+            owes = refl;
+            waits = refl;
+            further = paid-further cost payload f.has;
+            spares = paid-spares cost payload f.has;
+          },
           subst (λ z. IsBehind z f) (sym next) stands.behind,
         ),
       )

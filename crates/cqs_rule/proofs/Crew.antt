@@ -234,7 +234,8 @@ module _ {E S : Type 0} where
       })
 
 module _ {E S : Type 0} (object : Object E) where
-  -- what the rule says of another view stays, where more were made, fewer or more are live, and its numbers stand as they did
+  -- what the rule says of another view stays, where more were made, fewer or more are live, and its numbers stand as
+  -- they did
   knows-on : (c d : Hidden) (log : List E) (given : List S) (made live made' live' passes limit cells : ℕ)
       (opening : Opening) (u : View E S)
       → made ≤ made' → ((n : ℕ) (facts : Facts) → Has n (all_own u) → Stands c n facts → Stands d n facts)

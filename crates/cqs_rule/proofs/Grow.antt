@@ -1,5 +1,5 @@
--- A step of a live pass: it sees the whole history, to which it adds entries of its own. What the rule says of all other passes
--- stays, whatever kind of step it is; a kind has to show only what `Turned` asks.
+-- A step of a live pass: it sees the whole history, to which it adds entries of its own. What the rule says of all
+-- other passes stays, whatever kind of step it is; a kind has to show only what `Turned` asks.
 use Rattle.std.proofs.Common.{◌≡◌, ◌≢◌, ℕ, ◌<◌, ◌≤◌, ◌^◌, Bool, true, List, [], ◌++◌, length, set, sym, refl, ap, ◌∙◌, subst, ⊎_elim, inl, arith, length-set, Option, slice_get}
 use Rattle.std.specs.Prelude.{slice_index, slice_set}
 use Rattle.std.proofs.lemmas.List.{append-nil}
@@ -110,7 +110,8 @@ module _ {E S : Type 0} (object : Object E) (primitive : Primitive E S) (passes 
   abbrev pub R : State (Option S) (View E S) → Type 0
   R = Ruled object primitive passes limit
 
-  -- what a step of the view v has to show: the word i becomes x, what is hidden becomes d, the history grows by the entries
+  -- what a step of the view v has to show: the word i becomes x, what is hidden becomes d, the history grows by the
+  -- entries
   pub record Turned (s : State (Option S) (View E S)) (r : R s) (v : View E S) (i x : ℕ) (d : Hidden)
       (es : List E) (facts : Facts) : Type 0 where
     pub crew : slice_index (slice_set s.words i x) 0 ≡ slice_index s.words 0

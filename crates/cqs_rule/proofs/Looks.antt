@@ -156,7 +156,7 @@ module _ {E S : Type 0} (object : Object E) (primitive : Primitive E S) (passes 
           },
           refl,
           t.2,
-          record { held = refl; owes = refl; waits = omega arith },
+          record { held = refl; owes = refl; waits = omega arith; further = refl; spares = refl },
           t.1.same,
         ),
       )

@@ -181,6 +181,7 @@ module _ (permits p : ℕ) (facts : Facts) (c : Hidden) (words : List ℕ) (log 
     payload = facts.has.payload;
     further = facts.has.further;
     slots = facts.has.slots;
+    spares = facts.has.spares;
   }
 
   abbrev TakesTo : Bool → Type 0
@@ -263,7 +264,13 @@ module _ (permits p : ℕ) (facts : Facts) (c : Hidden) (words : List ℕ) (log 
 
   -- what a pass has that gave one away: it owes with the payload 0, if it owes
   abbrev giving : Has
-  giving = record { held = facts.has.held - 1; payload = 0; further = facts.has.further; slots = facts.has.slots }
+  giving = record {
+    held = facts.has.held - 1;
+    payload = 0;
+    further = facts.has.further;
+    slots = facts.has.slots;
+    spares = facts.has.spares;
+  }
 
   abbrev GivesTo : Bool → Type 0
   GivesTo b = IsCore (Leaves (log ++ (if b then entry.GiveSent p ∷ [] else entry.GiveFreed p ∷ []))

@@ -1,5 +1,6 @@
 -- A pass that is made by an exchange which may have to be tried again, and what the cut leaves of the two.
-use Rattle.std.proofs.Common.{◌≡◌, ◌≢◌, ℕ, ◌<◌, ◌^◌, Bool, true, false, true≢false, List, [], ◌∷◌, ◌≤◌, sym, refl, ap, ◌∙◌, subst, arith, length, inl, ⊎_elim}
+use Rattle.std.proofs.Common.{◌≡◌, ◌≢◌, ℕ, ◌<◌, ◌^◌, Bool, true, false, true≢false, List, [], ◌∷◌, ◌≤◌, sym, refl, ap, ◌∙◌, subst, arith, length, inl, ⊎_elim, nat_lt, lt-ltb, if◌then◌else◌}
+use Rattle.std.proofs.lemmas.Bool.{cases_lt}
 use Rattle.cqs_core.specs.declared.doings.Doing.TheVariants as doing
 use Rattle.cqs_rule.specs.declared.view.View.{View}
 use Rattle.cqs_rule.specs.declared.view.Facts.{Facts}
@@ -8,7 +9,7 @@ use Rattle.cqs_rule.specs.Hidden.{Hidden}
 use Rattle.cqs_rule.specs.Inside.{IsInside}
 use Rattle.cqs_rule.specs.Lists.{Has, part}
 use Rattle.cqs_rule.specs.Ruled.{Stands, Rests}
-use Rattle.cqs_rule.specs.Facts.{is_owing}
+use Rattle.cqs_rule.specs.Facts.{is_owing, owes_any}
 use Rattle.cqs_rule.specs.Object.{Object, Primitive}
 use Rattle.cqs_rule.specs.Saw.{Saw, IsLive}
 use Rattle.cqs_rule.specs.Views.{made_in, first_facts, single, cut_off, joined, as_before}
@@ -178,10 +179,22 @@ module _ {E S : Type 0} (object : Object E) where
         lonely = refl;
       }
 
+-- what owes nothing is in the middle of nothing that it owes, and owes nothing further
+no-debt : (owing : Bool) (further : ℕ) → (if owing then true else nat_lt 0 further) ≡ false
+    → (owing ≡ false) × (further ≡ 0)
+no-debt true further e = absurd (true≢false e)
+no-debt false further e = (
+  refl,
+  ⊎_elim (λ (some : 0 < further). absurd (true≢false (sym (lt-ltb 0 further some) ∙ e)))
+      (λ (none : further ≤ 0). omega arith) (cases_lt 0 further),
+)
+
 -- a pass between two calls that owes nothing is idle
-pub between-idle : (f : Facts) (owes : Bool) → is_owing f.doing ≡ owes → owes ≡ false → IsBetween f
+pub between-idle : (f : Facts) (owes : Bool) → owes ≡ owes_any f → owes ≡ false → IsBetween f
     → (f.doing ≡ doing.Idle) × (f.has.further ≡ 0)
-between-idle f owes is none between = ⊎_elim (λ i. i) (λ o. absurd (true≢false (sym o ∙ (is ∙ none)))) between
+between-idle f owes is none between =
+    let free = no-debt (is_owing f.doing) f.has.further (sym is ∙ none) in
+    (⊎_elim (λ i. i) (λ o. absurd (true≢false (sym o ∙ free.0))) between, free.1)
 
 pub none-slots : {A : Type 0} (l : List A) → length l ≡ 0 → l ≡ []
 none-slots [] e = refl

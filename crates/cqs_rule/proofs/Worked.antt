@@ -1,5 +1,5 @@
--- A step at a cell, by its row: what it makes of the cells, of the waits, and of what each pass stands at. Each step of the queue at
--- a cell is an instance, whether it writes the cell or loads it.
+-- A step at a cell, by its row: what it makes of the cells, of the waits, and of what each pass stands at. Each step of
+-- the queue at a cell is an instance, whether it writes the cell or loads it.
 use Rattle.std.proofs.Common.{◌≡◌, ◌≢◌, ℕ, ◌<◌, ◌^◌, Bool, true, false, [], ◌∷◌, sym, refl, ap, ◌∙◌, subst, inl, inr, ⊎_elim, Option, Some, None, slice_get, eq-eqb, ne_eqb, if◌then◌else◌, ◌≤◌, arith}
 use Rattle.std.proofs.lemmas.Option.{same_Some}
 use Rattle.cqs_core.specs.declared.cells.CoreCell.{CoreCell}
@@ -126,7 +126,8 @@ module _ (gains : Gains) (c : Hidden) (p k : ℕ) (row : CellRow) (found : CoreC
   loaded-same e =
       let same : after.state ≡ found.state = ap
       (λ (z : Option CoreState). Rattle.cqs_core.specs.QueueSteps.state_made z found.state) e in
-      let none : row.brings ≡ false = subst (λ (z : Option CoreState). RowGoesOn row.finds z row.brings) e is.goes_on in (
+      let none : row.brings ≡ false =
+      subst (λ (z : Option CoreState). RowGoesOn row.finds z row.brings) e is.goes_on in (
         state-here ∙ (same ∙ sym (ap state_in opens.0.finds)),
         payload-here ∙ ap (λ b. if b then payload else c.payloads k) none,
       )

@@ -1,5 +1,5 @@
--- What a client owes: that its words, its history and the values handed in go with what is hidden, from the opening on and at
--- each step of the queue.
+-- What a client owes: that its words, its history and the values handed in go with what is hidden, from the opening on
+-- and at each step of the queue.
 use Rattle.std.specs.Prelude.{◌≡◌, ◌≢◌, ℕ, ◌+◌, ◌-◌, ◌<◌, ◌≤◌, ◌^◌, Bool, List, [], ◌++◌, length, slice_get, Option, Some}
 use Rattle.cqs_core.specs.declared.cells.CoreCell.{CoreCell}
 use Rattle.cqs_core.specs.declared.doings.Doing.TheVariants as doing
@@ -73,8 +73,8 @@ module _ {E S : Type 0} (object : Object E) (primitive : Primitive E S) where
     -- what a pass holds fits 32 bits
     pub held_fits : (c : Hidden) (words : List ℕ) (log : List E) (handed : List S) (p : ℕ) (has : Has)
         → primitive.shows c words log handed → slice_get c.has p ≡ Some has → has.held < 2 ^ 32
-    -- where a resumption is owed, fewer numbers were drawn to resume at than were drawn to suspend at, wait at the door, or
-    -- opened with a value; and so where one more is begun
+    -- where a resumption is owed, fewer numbers were drawn to resume at than were drawn to suspend at, wait at the
+    -- door, or opened with a value; and so where one more is begun
     pub reaches_few : (c : Hidden) (words : List ℕ) (log : List E) (handed : List S) (p : ℕ)
         → primitive.shows c words log handed → slice_get c.queue.doing p ≡ Some doing.Owes
         → c.queue.resumes < c.queue.suspends + length (door c.queue) + primitive.values

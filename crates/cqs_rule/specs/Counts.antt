@@ -36,7 +36,8 @@ pub record Counts (row : CounterRow) (facts : Facts) (payload word : ℕ) (by : 
   pub word_is : word ≡ counter_place row.counter
   pub one : by ≡ pos 1
 
--- the element that is put comes first among the value slots that the pass has in hand; else it resumes with what it owes
+-- the element that is put comes first among the value slots that the pass has in hand; else it resumes with what it
+-- owes
 abbrev pub first_slot : List ℕ → ℕ
 first_slot slots = slice_index slots 0
 

@@ -17,8 +17,9 @@ use Rattle.cqs_rule.specs.Lists.{NamesOnly}
 use Rattle.cqs_rule.specs.Object.{Object, Primitive}
 use Rattle.cqs_rule.specs.Saw.{Saw, IsLive, WasFound}
 
--- What a step on a client's word meets: what the object opened with, the pass and what it is at, the word found, and whether the
--- word was changed as the step means to. An exchange that finds another word changes nothing; every other step is made in any case.
+-- What a step on a client's word meets: what the object opened with, the pass and what it is at, the word found, and
+-- whether the word was changed as the step means to. An exchange that finds another word changes nothing; every other
+-- step is made in any case.
 pub record Moment : Type 0 where
   pub opening : Opening
   pub pass : ℕ
@@ -26,18 +27,19 @@ pub record Moment : Type 0 where
   pub found : ℕ
   pub made : Bool
 
--- What such a step shows: its entries, and what its pass is doing then and has of its own. How much it holds is counted where the
--- program runs, too: by whether the step was made, what the pass held, and the word found.
+-- What such a step shows: its entries, and what its pass is doing then and has of its own. How much it holds, and how
+-- many further resumptions it owes, is counted where the program runs, too: by what the pass had, the word found, and
+-- whether the step was made.
 pub record Event (E : Type 0) : Type 0 where
   pub entries : Moment → List E
   pub doing : Moment → Doing
-  pub holds : Bool → ℕ → ℕ → ℕ
+  pub holds : Moment → ℕ
   pub payload : Moment → ℕ
   pub further : Moment → ℕ
   pub slots : Moment → List ℕ
 
--- whether a step on a client's word is made, by the word that it finds: a load or a sum in any case, and an exchange where it
--- finds the word that it saw
+-- whether a step on a client's word is made, by the word that it finds: a load or a sum in any case, and an exchange
+-- where it finds the word that it saw
 abbrev pub in_any_case : ℕ → Bool
 in_any_case n = true
 
@@ -48,13 +50,26 @@ where_found saw n = n == saw
 abbrev pub moment : Opening → ℕ → Facts → (ℕ → Bool) → ℕ → Moment
 moment opening p facts made n = record { opening = opening; pass = p; facts = facts; found = n; made = made n }
 
+-- the moment, as far as the program knows it: what the pass held, the word found, and whether the step was made
+pub record IsMoment (held found : ℕ) (made : Bool) (m : Moment) : Type 0 where
+  pub held_is : m.facts.has.held ≡ held
+  pub found_is : m.found ≡ found
+  pub made_is : m.made ≡ made
+
+-- what a pass holds after such a step fits 32 bits
+pub record HoldsFew {E : Type 0} (event : Event E) (held found : ℕ) (made : Bool) : Type 0 where
+  pub at : Moment
+  pub is : IsMoment held found made at
+  pub few : event.holds at < 2 ^ 32
+
 module _ {E : Type 0} (event : Event E) where
   abbrev pub has_then : Moment → Has
   has_then m = record {
-    held = event.holds m.made m.facts.has.held m.found;
+    held = event.holds m;
     payload = event.payload m;
     further = event.further m;
     slots = event.slots m;
+    spares = m.facts.has.spares;
   }
 
   -- what the pass is at after the step, made at this place
@@ -103,9 +118,10 @@ exchanged saw new n = either (where_found saw n) new n
 abbrev pub longest_line : ℕ
 longest_line = 4194304
 
--- What a client owes for a step on its word i, by which n becomes f n: wherever the pass is at these facts, the client's words,
--- the entries and the pass's next facts go together again. What is owed stays, and a step without an event leaves all that the
--- pass has, and whether it owes. A step that brings the pass to the door needs that it may draw, unless it is there already.
+-- What a client owes for a step on its word i, by which n becomes f n: wherever the pass is at these facts, the
+-- client's words, the entries and the pass's next facts go together again. What is owed stays, and a step without an
+-- event leaves all that the pass has, and whether it owes. A step that brings the pass to the door needs that it may
+-- draw, unless it is there already.
 pub record Moves {E S : Type 0} (object : Object E) (primitive : Primitive E S) (event : Event E) (made : ℕ → Bool)
     (p : ℕ) (facts : Facts) (i : ℕ) (f : ℕ → ℕ) : Type 0 where
   pub step : (c : Hidden) (words : List ℕ) (log : List E) (handed : List S) → primitive.shows c words log handed

@@ -33,7 +33,8 @@ IsOwnWait (stage.decided on) k facts = Unit {0}
 abbrev pub payload_left : Bool → ℕ → ℕ → ℕ
 payload_left brings owed found = if brings then owed else found
 
--- An exchange of this row that a pass may make on the cell of the number k: from the state that it wants to the one that it makes.
+-- An exchange of this row that a pass may make on the cell of the number k: from the state that it wants to the one
+-- that it makes.
 pub record Exchanges {E S : Type 0} (row : CellRow) (v : View E S) (k word expected new : ℕ) : Type 0 where
   pub works : v.facts.doing ≡ doing_at row.works_at k
   pub own : IsOwnWait row.works_at k v.facts

@@ -23,6 +23,10 @@ is_owing doing.Door = false
 is_owing (doing.TryAt v) = false
 is_owing (doing.Drawn k) = false
 
+-- whether it owes anything: what it is in the middle of, or a further resumption
+abbrev pub owes_any : Facts → Bool
+owes_any f = if is_owing f.doing then true else nat_lt 0 f.has.further
+
 -- the counter's word
 abbrev pub counter_place : Counter → ℕ
 counter_place to_suspend = suspends_place
@@ -33,8 +37,8 @@ abbrev pub may_then : Counter → Bool → Bool
 may_then to_suspend may = false
 may_then to_resume may = may
 
--- the last number drawn for the resumption that the pass owes: a number that it draws to resume at, and none where it comes to owe
--- what was left to it
+-- the last number drawn for the resumption that the pass owes: a number that it draws to resume at, and none where it
+-- comes to owe what was left to it
 abbrev pub reached_by : Counter → ℕ → ℕ → ℕ
 reached_by to_suspend n reached = reached
 reached_by to_resume n reached = n
@@ -60,8 +64,8 @@ passed_from stage.drawn to k passed = passed
 passed_from stage.leaving to k passed = passed
 passed_from (stage.decided on) to k passed = passed
 
--- The number n comes after those that the pass drew to resume at and passed over, and not before the last one that it drew for the
--- resumption which it owes.
+-- The number n comes after those that the pass drew to resume at and passed over, and not before the last one that it
+-- drew for the resumption which it owes.
 pub record IsBehind (n : ℕ) (f : Facts) : Type 0 where
   pub reached : f.reached ≤ n
   pub passed : (k : ℕ) → Has k f.passed → k < n

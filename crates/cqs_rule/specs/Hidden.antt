@@ -9,15 +9,16 @@ use Rattle.cqs_core.specs.QueueSteps.{QueueStep, row_of, StepRow, at_counter, at
 use Rattle.cqs_rule.specs.declared.view.Has.{Has}
 use Rattle.cqs_rule.specs.Lists.{without}
 
--- the queue part of a core, what each pass has of its own, who may draw a number to suspend at, and what is left in the cells
+-- the queue part of a core, what each pass has of its own, who may draw a number to suspend at, and what is left in the
+-- cells
 pub record Hidden : Type 0 where
   pub queue : Queue
   pub has : List Has
   pub may_draw : List Bool
   pub payloads : ℕ → ℕ
 
--- What a pass gains that has what it waited for, where this payload came with it: how its count grows, and the value slots that
--- it has then.
+-- What a pass gains that has what it waited for, where this payload came with it: how its count grows, and the value
+-- slots that it has then.
 pub record Gains : Type 0 where
   pub held : ℕ → ℕ
   pub slots : ℕ → List ℕ
@@ -91,10 +92,14 @@ now_may_draw c p may = record {
 
 -- what a pass has that got what another held and had in hand, and that other one
 abbrev pub gathered : Has → Has → Has
-gathered mine theirs = record mine { held = mine.held + theirs.held; slots = mine.slots ++ theirs.slots }
+gathered mine theirs = record mine {
+  held = mine.held + theirs.held;
+  slots = mine.slots ++ theirs.slots;
+  spares = mine.spares + theirs.spares;
+}
 
 abbrev pub emptied : Has → Has
-emptied theirs = record theirs { held = 0; slots = [] }
+emptied theirs = record theirs { held = 0; slots = []; spares = 0 }
 
 -- what one pass has, or some of it, becomes another's: they have this now
 abbrev pub hands_over : Hidden → ℕ → Has → ℕ → Has → Hidden

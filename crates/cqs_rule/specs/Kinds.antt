@@ -1,10 +1,10 @@
 -- What a step of the queue changes of what a pass counts where the program runs, read off its row.
-use Rattle.std.specs.Prelude.{◌≡◌, ℕ, ◌+◌, Bool, true, false, length}
+use Rattle.std.specs.Prelude.{◌≡◌, ℕ, ◌+◌, ◌-◌, Bool, true, false, length}
 use Rattle.cqs_core.specs.QueueStages as stage
 use Rattle.cqs_core.specs.QueueStages.{Stage}
 use Rattle.cqs_rule.specs.declared.view.Facts.{Facts}
 use Rattle.cqs_rule.specs.Facts.{is_owing}
-use Rattle.cqs_core.specs.QueueSteps.{QueueStep, row_of, StepRow, at_counter, at_cell, stage_counted, Gain, nothing, its_own, a_debt, WaitChange, wait_stays, wait_opens, wait_closes}
+use Rattle.cqs_core.specs.QueueSteps.{QueueStep, row_of, StepRow, at_counter, at_cell, stage_counted, Cost, no_cost, one_owed, one_element, Gain, nothing, its_own, a_debt, WaitChange, wait_stays, wait_opens, wait_closes}
 
 -- what it holds that held this much
 abbrev pub held_gained : (ℕ → ℕ) → Gain → ℕ → ℕ
@@ -18,6 +18,19 @@ held_by gains (at_cell row) held = held_gained gains row.gain held
 
 abbrev pub held_then : (ℕ → ℕ) → QueueStep → ℕ → ℕ
 held_then gains s held = held_by gains (row_of s) held
+
+-- how many further resumptions it owes that owed this many
+abbrev pub further_paid : Cost → ℕ → ℕ
+further_paid no_cost further = further
+further_paid one_owed further = further - 1
+further_paid one_element further = further
+
+abbrev pub further_by : StepRow → ℕ → ℕ
+further_by (at_counter row) further = further_paid row.cost further
+further_by (at_cell row) further = further
+
+abbrev pub further_then : QueueStep → ℕ → ℕ
+further_then s further = further_by (row_of s) further
 
 -- whether a pass at this stage owes
 abbrev pub owes_at_stage : Stage → Bool
@@ -66,3 +79,5 @@ pub record Carries (gains : ℕ → ℕ) (row : StepRow) (f g : Facts) : Type 0 
   pub held : g.has.held ≡ held_by gains row f.has.held
   pub owes : is_owing g.doing ≡ owes_by row
   pub waits : length g.waits + closes_by row ≡ length f.waits + opens_by row
+  pub further : g.has.further ≡ further_by row f.has.further
+  pub spares : g.has.spares ≡ f.has.spares

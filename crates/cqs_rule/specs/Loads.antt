@@ -1,5 +1,5 @@
--- The loads of the table: of the suspend counter, and of a cell. A load of a cell may be an event: the owner of a wait learns what
--- became of it, and a resume meets a cell that is settled.
+-- The loads of the table: of the suspend counter, and of a cell. A load of a cell may be an event: the owner of a wait
+-- learns what became of it, and a resume meets a cell that is settled.
 use Rattle.std.specs.Prelude.{◌≡◌, ℕ, ◌+◌, ◌<◌, ◌≤◌, Bool, false, List, [], length, Option, Some, None}
 use Rattle.atomic_table.specs.Table.{Me, Step}
 use Rattle.cqs_core.specs.declared.cells.CoreState.{CoreState}
@@ -28,8 +28,8 @@ use Rattle.cqs_rule.specs.Placed.{KnowsPlace, place_at}
 use Rattle.cqs_rule.specs.Saw.{Saw, IsLive, WasFound}
 use Rattle.cqs_rule.specs.Views.{IsSame}
 
--- A load of the suspend counter; of a cell, with no event; of a cell by the owner of its wait, which asks whether it was served,
--- or whether it is too late to cancel; of a cell by the resume of its number, in smart and in simple mode.
+-- A load of the suspend counter; of a cell, with no event; of a cell by the owner of its wait, which asks whether it
+-- was served, or whether it is too late to cancel; of a cell by the resume of its number, in smart and in simple mode.
 pub data LoadStep : Type 0 where
   counts : LoadStep
   watches : LoadStep
@@ -104,7 +104,8 @@ LoadSuits m cancels = Unit {0}
 LoadSuits m meets = IsSmart m.leaving
 LoadSuits m misses = IsAtOnce m.leaving
 
--- what the pass learns from the state of the word that it found: that a wait of its own was served, or that its resumption ended
+-- what the pass learns from the state of the word that it found: that a wait of its own was served, or that its
+-- resumption ended
 abbrev pub served_in : CellState → Learned
 served_in shown.Resumed = Granted
 served_in shown.Empty = Nothing
@@ -222,6 +223,8 @@ pub record CarriesLearned (gains : ℕ → ℕ) (learned : Learned) (f g : Facts
   pub held : g.has.held ≡ held_learned gains learned f.has.held
   pub owes : is_owing g.doing ≡ owes_learned learned (is_owing f.doing)
   pub waits : length g.waits + closed_learned learned ≡ length f.waits
+  pub further : g.has.further ≡ f.has.further
+  pub spares : g.has.spares ≡ f.has.spares
 
 -- the suspend counter is n
 abbrev pub IsDrawn : ℕ → Hidden → List ℕ → Type 0
@@ -250,7 +253,8 @@ module _ {C E S : Type 0} (object : Object E) (primitive : C → Primitive E S) 
     pub saw : Saw object v (facts_counted v.limit n v.facts) [] w
     pub was : WasFound primitive (IsDrawn n) [] w
 
-  -- a load of the word of this number found n: of a cell, whichever it is that the pass knows to stand there and may load so
+  -- a load of the word of this number found n: of a cell, whichever it is that the pass knows to stand there and may
+  -- load so
   abbrev pub LoadedCell : LoadStep → ℕ → View E S → ℕ → View E S → Type 0
   LoadedCell load word v n w = (k : ℕ) → KnowsPlace v (place_at word k) → MayLook load v k → Looked load k v n w
 

@@ -22,8 +22,8 @@ module _ {E S : Type 0} (object : Object E) where
     pub homes : IsPrefix v.homes w.homes
     pub sole : v.alone ≡ true → between ≡ []
 
-  -- What holds of the view of every live pass: all that it has seen is legal and names only passes that may be made, its own
-  -- number is among its numbers, which are those of cells, and what it holds and owes fits.
+  -- What holds of the view of every live pass: all that it has seen is legal and names only passes that may be made,
+  -- its own number is among its numbers, which are those of cells, and what it holds and owes fits.
   pub record IsLive (v : View E S) : Type 0 where
     pub legal : object.legal v.opening v.seen
     pub unnamed : (n : ℕ) → v.passes ≤ n → part object.names n v.seen ≡ []
@@ -31,7 +31,8 @@ module _ {E S : Type 0} (object : Object E) where
     pub held : v.facts.has.held < 2 ^ 32
     pub inside : IsInside v
 
--- Where the history was this, the client, which opened so, showed it by a hidden state and by words of which this holds.
+-- Where the history was this, the client, which opened so, showed it by a hidden state and by words of which this
+-- holds.
 pub record WasShown {C E S : Type 0} (primitive : C → Primitive E S) (opening : Opening) (fact : Hidden → List ℕ
     → Type 0)
     (history : List E) : Type 0 where

@@ -5,13 +5,13 @@ use Rattle.cqs_rule.specs.declared.queue.Pass.{Pass}
 use Rattle.cqs_rule.specs.declared.view.Facts.{Facts}
 use Rattle.cqs_rule.specs.Crew.{Met}
 use Rattle.cqs_rule.specs.Passes.{pass_view}
-use Rattle.cqs_rule.specs.Facts.{is_owing}
+use Rattle.cqs_rule.specs.Facts.{owes_any}
 use Rattle.cqs_rule.specs.Saw.{Saw}
 use Rattle.cqs_rule.specs.Views.{as_before, gathered}
 
 -- a pass that can't be met away: it owes something, or has a wait
 abbrev pub IsBusy : Facts → Type 0
-IsBusy f = (is_owing f.doing ≡ true) ⊎ (0 < length f.waits)
+IsBusy f = (owes_any f ≡ true) ⊎ (0 < length f.waits)
 
 module _ {C S E : Type 0} {g : Ghosts C S E} where
   -- the pass has seen more, appended nothing, and is at what it was

@@ -62,7 +62,7 @@ semaphore_primitive permits = record {
 }
 
 -- an event that changes nothing of what the pass owes or has in hand
-abbrev pub event_of : (Moment → List Entry) → (Moment → Doing) → (Bool → ℕ → ℕ → ℕ) → Event Entry
+abbrev pub event_of : (Moment → List Entry) → (Moment → Doing) → (Moment → ℕ) → Event Entry
 event_of entries doing holds = record {
   entries = entries;
   doing = doing;
@@ -77,28 +77,29 @@ abbrev pub takes_one : Event Entry
 takes_one = event_of
     (λ m. if is_above_zero m.found then entry.TakeNow m.pass ∷ [] else entry.TakeDoor m.pass ∷ [])
     (λ m. if is_above_zero m.found then doing.Idle else doing.Door)
-    (λ made held n. if is_above_zero n then held + 1 else held)
+    (λ m. if is_above_zero m.found then m.facts.has.held + 1 else m.facts.has.held)
 
 -- a try loads the state: it is told that none is free, or it is about to exchange the state
 abbrev pub loads_to_try : Event Entry
 loads_to_try = event_of
     (λ m. if is_above_zero m.found then [] else entry.TryBusy m.pass ∷ [])
     (λ m. if is_above_zero m.found then doing.TryAt (count_in m.found) else doing.Idle)
-    (λ made held n. held)
+    (λ m. m.facts.has.held)
 
--- the try exchanges the state for one less: it has a permit where it made the exchange, and nothing where others were first
+-- the try exchanges the state for one less: it has a permit where it made the exchange, and nothing where others were
+-- first
 abbrev pub tries : Event Entry
 tries = event_of
     (λ m. if m.made then entry.TryGot m.pass ∷ [] else [])
     (λ m. doing.Idle)
-    (λ made held n. if made then held + 1 else held)
+    (λ m. if m.made then m.facts.has.held + 1 else m.facts.has.held)
 
 -- a release adds one to the state
 abbrev pub gives_one : Event Entry
 gives_one = record {
   entries = λ m. if is_below_zero m.found then entry.GiveSent m.pass ∷ [] else entry.GiveFreed m.pass ∷ [];
   doing = λ m. if is_below_zero m.found then doing.Owes else doing.Idle;
-  holds = λ made held n. held - 1;
+  holds = λ m. m.facts.has.held - 1;
   payload = λ m. 0;
   further = λ m. m.facts.has.further;
   slots = λ m. m.facts.has.slots;
@@ -110,4 +111,4 @@ abbrev pub decides : Event Entry
 decides = event_of
     (λ m. entry.Leave m.pass (number_at m.facts.doing) ∷ [])
     (λ m. doing.Decided (number_at m.facts.doing) (is_below_zero m.found))
-    (λ made held n. held)
+    (λ m. m.facts.has.held)

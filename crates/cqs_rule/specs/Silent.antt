@@ -7,7 +7,7 @@ abbrev pub silent : {E : Type 0} → Event E
 silent = record {
   entries = λ m. [];
   doing = λ m. m.facts.doing;
-  holds = λ made held n. held;
+  holds = λ m. m.facts.has.held;
   payload = λ m. m.facts.has.payload;
   further = λ m. m.facts.has.further;
   slots = λ m. m.facts.has.slots;

@@ -12,16 +12,17 @@ pub trait Client: ClientWords<Slot: Send> {
     // How it is asked whether a waiter leaves the line.
     ghost asking: { Asking Self.Entry };
 
-    /// Whether the waiter of this number leaves the line: resumes pass over its cell then. Else it is refused, and the
-    /// resume that comes to it ends there.
+    /// Whether the waiter of this number leaves the line: resumes pass over its cell then. Else it
+    /// is refused, and the resume that comes to it ends there.
     fn on_cancellation(queue: &Queue<Self>, pass: &mut Pass<Self>, wait: u64) -> bool
         requires belongs { IsOf queue.now pass.old }
         requires begun { HasBegun asking queue.now pass.old wait }
         ensures belongs { IsOf queue.now pass.new }
         ensures answered { HasAnswered asking wait result pass.old pass.new };
 
-    /// What a client does with the payload of a resumption that ended at the cell of a waiter who was refused. It makes
-    /// no step: that which refused the waiter took back what was on its way to it.
+    /// What a client does with the payload of a resumption that ended at the cell of a waiter who
+    /// was refused. It makes no step: that which refused the waiter took back what was on its way
+    /// to it.
     fn complete_refused_resume(queue: &Queue<Self>, pass: &mut Pass<Self>, payload: u32)
         requires belongs { IsOf queue.now pass.old }
         requires ended { EndedRefused (pass_view pass.old).facts payload }

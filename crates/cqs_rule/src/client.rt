@@ -1,9 +1,10 @@
 //! What a primitive tells the queue.
 //!
-//! The data, the readers and the laws stand in `ClientWords`, over which the queue, its passes and its steps are generic.
+//! The data, the readers and the laws stand in `ClientWords`, over which the queue, its passes and
+//! its steps are generic.
 
-/// A client of the queue: a primitive, by its own words of the table. Contracts see which histories its words and the queue
-/// show together, and the laws say that each step of the queue keeps this.
+/// A client of the queue: a primitive, by its own words of the table. Contracts see which histories
+/// its words and the queue show together, and the laws say that each step of the queue keeps this.
 pub trait ClientWords: Sized + Drop {
     /// What lies in its value slots.
     type Slot: Drop;
@@ -15,10 +16,12 @@ pub trait ClientWords: Sized + Drop {
     ghost use Rattle.cqs_rule.specs.Client.{IsClient};
     ghost use Rattle.cqs_rule.specs.Object.{Object, Primitive};
 
-    // Its object: which entries name a pass, which histories are legal, and what the steps of the queue mean to it.
+    // Its object: which entries name a pass, which histories are legal, and what the steps of the
+    // queue mean to it.
     ghost object: { Object Self.Entry };
 
-    // What this client is made with, and what its words, the history and the values handed in show together.
+    // What this client is made with, and what its words, the history and the values handed in show
+    // together.
     ghost primitive: { Self → Primitive Self.Entry Self.Slot };
 
     ghost value_slots: { Self → ℕ };
@@ -55,19 +58,24 @@ pub trait ClientWords: Sized + Drop {
 
 /// The event that a step on a word of the client shows.
 pub trait Shown<C: ClientWords> {
-    ghost use Rattle.std.specs.Prelude.{◌≡◌, ◌<◌, ◌^◌};
-    ghost use Rattle.cqs_rule.specs.Events.{Event, Moment};
+    ghost use Rattle.std.specs.Prelude.{◌≡◌};
+    ghost use Rattle.cqs_rule.specs.Events.{Event, Moment, IsMoment, HoldsFew};
     ghost use Rattle.cqs_rule.specs.Facts.{is_owing};
 
     ghost event: { Event C.Entry };
 
     /// What the pass holds after the step.
     fn held_after(held: u32, found: u64, made: bool) -> u32
-        requires { event.holds made held found < 2 ^ 32 }
-        ensures { result ≡ event.holds made held found };
+        requires { HoldsFew event held found made }
+        ensures { (m : Moment) → IsMoment held found made m → event.holds m ≡ result };
 
     /// Whether the pass owes after the step, by whether it owed before.
     fn owes_after(owes: bool, found: u64, made: bool) -> bool
         ensures { (m : Moment) → is_owing m.facts.doing ≡ owes → m.found ≡ found → m.made ≡ made
             → is_owing (event.doing m) ≡ result };
+
+    /// How many further resumptions it owes after the step, by how many it owed before.
+    fn further_after(further: u32, found: u64, made: bool) -> u32
+        ensures { (m : Moment) → m.facts.has.further ≡ further → m.found ≡ found → m.made ≡ made
+            → event.further m ≡ result };
 }

@@ -6,15 +6,16 @@ ghost use Rattle.cqs_rule.specs.declared.config.MakeError.TheVariants.{Memory};
 
 use std::alloc::AllocError;
 
-/// How a queue is made. In range are `passes` from 1 to 32, `limit` from 1 to 1,048,576, and `slots` from
-/// `2 * passes + 2` to 65,535.
+/// How a queue is made. In range are `passes` from 1 to 32, `limit` from 1 to 1,048,576, and
+/// `slots` from `2 * passes + 2` to 65,535.
 #[derive(Clone, Copy, Debug, PartialEq, Eq)]
 pub struct Config {
     /// How many passes may be made in all, the first one included.
     pub passes: u32,
     /// From this suspend counter on no pass draws a further number.
     pub limit: u64,
-    /// How many segments of cells the table has room for. It is checked, and not used before segments are.
+    /// How many segments of cells the table has room for. It is checked, and not used before
+    /// segments are.
     pub slots: u32,
 }
 

@@ -1,4 +1,5 @@
-//! The steps of the queue itself that draw a number or make an exchange, as type parameters of the calls that make them.
+//! The steps of the queue itself that draw a number or make an exchange, as type parameters of the
+//! calls that make them.
 
 ghost use Rattle.cqs_core.specs.QueueSteps.{
   draws,
@@ -26,7 +27,7 @@ use crate::client::ClientWords;
 pub trait Kind {
     ghost use Rattle.std.specs.Prelude.{◌≡◌, ◌+◌, ◌<◌, ◌≤◌, ◌^◌};
     ghost use Rattle.cqs_core.specs.QueueSteps.{QueueStep};
-    ghost use Rattle.cqs_rule.specs.Kinds.{held_then, owes_then, opens_wait, closes_wait};
+    ghost use Rattle.cqs_rule.specs.Kinds.{held_then, owes_then, further_then, opens_wait, closes_wait};
 
     ghost step: { QueueStep };
 
@@ -38,6 +39,10 @@ pub trait Kind {
     /// Whether it owes after the step.
     fn owes_after() -> bool
         ensures { result ≡ owes_then step };
+
+    /// How many further resumptions it owes after the step that owed this many.
+    fn further_after(further: u32) -> u32
+        ensures { result ≡ further_then step further };
 
     /// How many waits a pass has after the step that had this many.
     fn waits_after(waits: u32) -> u32
@@ -60,6 +65,10 @@ impl Kind for Draws {
         false
     }
 
+    fn further_after(further: u32) -> u32 {
+        further
+    }
+
     fn waits_after(waits: u32) -> u32 {
         waits
     }
@@ -77,6 +86,10 @@ impl Kind for Enters {
 
     fn owes_after() -> bool {
         false
+    }
+
+    fn further_after(further: u32) -> u32 {
+        further
     }
 
     fn waits_after(waits: u32) -> u32 {
@@ -98,12 +111,17 @@ impl Kind for Reaches {
         true
     }
 
+    fn further_after(further: u32) -> u32 {
+        further
+    }
+
     fn waits_after(waits: u32) -> u32 {
         waits
     }
 }
 
-/// A number is drawn to resume at, by an idle pass that begins the next of the resumptions that it owes.
+/// A number is drawn to resume at, by an idle pass that begins the next of the resumptions that it
+/// owes.
 pub struct Begins;
 
 impl Kind for Begins {
@@ -117,12 +135,17 @@ impl Kind for Begins {
         true
     }
 
+    fn further_after(further: u32) -> u32 {
+        further.saturating_sub(1)
+    }
+
     fn waits_after(waits: u32) -> u32 {
         waits
     }
 }
 
-/// A number is drawn to resume at, by an idle pass that puts the first of the elements that it has in hand.
+/// A number is drawn to resume at, by an idle pass that puts the first of the elements that it has
+/// in hand.
 pub struct Puts;
 
 impl Kind for Puts {
@@ -134,6 +157,10 @@ impl Kind for Puts {
 
     fn owes_after() -> bool {
         true
+    }
+
+    fn further_after(further: u32) -> u32 {
+        further
     }
 
     fn waits_after(waits: u32) -> u32 {
@@ -155,6 +182,10 @@ impl Kind for Installs {
         false
     }
 
+    fn further_after(further: u32) -> u32 {
+        further
+    }
+
     fn waits_after(waits: u32) -> u32 {
         waits + 1
     }
@@ -172,6 +203,10 @@ impl Kind for Takes {
 
     fn owes_after() -> bool {
         false
+    }
+
+    fn further_after(further: u32) -> u32 {
+        further
     }
 
     fn waits_after(waits: u32) -> u32 {
@@ -193,6 +228,10 @@ impl Kind for Serves {
         false
     }
 
+    fn further_after(further: u32) -> u32 {
+        further
+    }
+
     fn waits_after(waits: u32) -> u32 {
         waits
     }
@@ -210,6 +249,10 @@ impl Kind for Leaves {
 
     fn owes_after() -> bool {
         false
+    }
+
+    fn further_after(further: u32) -> u32 {
+        further
     }
 
     fn waits_after(waits: u32) -> u32 {
@@ -231,6 +274,10 @@ impl Kind for Delegates {
         false
     }
 
+    fn further_after(further: u32) -> u32 {
+        further
+    }
+
     fn waits_after(waits: u32) -> u32 {
         waits
     }
@@ -248,6 +295,10 @@ impl Kind for StartsLeaving {
 
     fn owes_after() -> bool {
         true
+    }
+
+    fn further_after(further: u32) -> u32 {
+        further
     }
 
     fn waits_after(waits: u32) -> u32 {
@@ -269,6 +320,10 @@ impl Kind for LeavesLine {
         true
     }
 
+    fn further_after(further: u32) -> u32 {
+        further
+    }
+
     fn waits_after(waits: u32) -> u32 {
         waits
     }
@@ -286,6 +341,10 @@ impl Kind for LeavesAtOnce {
 
     fn owes_after() -> bool {
         false
+    }
+
+    fn further_after(further: u32) -> u32 {
+        further
     }
 
     fn waits_after(waits: u32) -> u32 {
@@ -307,6 +366,10 @@ impl Kind for Settles {
         false
     }
 
+    fn further_after(further: u32) -> u32 {
+        further
+    }
+
     fn waits_after(waits: u32) -> u32 {
         waits - 1
     }
@@ -324,6 +387,10 @@ impl Kind for SettlesOwing {
 
     fn owes_after() -> bool {
         true
+    }
+
+    fn further_after(further: u32) -> u32 {
+        further
     }
 
     fn waits_after(waits: u32) -> u32 {
@@ -345,6 +412,10 @@ impl Kind for Refuses {
         false
     }
 
+    fn further_after(further: u32) -> u32 {
+        further
+    }
+
     fn waits_after(waits: u32) -> u32 {
         waits - 1
     }
@@ -362,6 +433,10 @@ impl Kind for RefusesValue {
 
     fn owes_after() -> bool {
         false
+    }
+
+    fn further_after(further: u32) -> u32 {
+        further
     }
 
     fn waits_after(waits: u32) -> u32 {

@@ -1,7 +1,7 @@
 //! Which word of the table holds what.
 //!
-//! The numbers are fixed, so that no step needs to ask the configuration. Words that change often stand 16 apart: no two of them
-//! share a cache line, nor the neighbour that is fetched with it.
+//! The numbers are fixed, so that no step needs to ask the configuration. Words that change often
+//! stand 16 apart: no two of them share a cache line, nor the neighbour that is fetched with it.
 
 /// The word of the crew: the passes that were made, times 2^32, and those that are live.
 pub const CREW_WORD: u32 = 0;

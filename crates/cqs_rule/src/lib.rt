@@ -1,7 +1,9 @@
-//! The queue on one table of atomic words: the single steps of its passes, and the rule that each of them keeps.
+//! The queue on one table of atomic words: the single steps of its passes, and the rule that each
+//! of them keeps.
 //!
-//! A pass carries what its caller has seen; contracts alone know it. Each step is made through the shared queue with a pass,
-//! answers the word that it found, and tells what the pass has seen since: first what others did, and then its own entries.
+//! A pass carries what its caller has seen; contracts alone know it. Each step is made through the
+//! shared queue with a pass, answers the word that it found, and tells what the pass has seen
+//! since: first what others did, and then its own entries.
 #![tactic(auto)]
 
 mod callbacks;

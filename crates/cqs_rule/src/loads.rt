@@ -80,8 +80,8 @@ impl Load for Polls {
     }
 }
 
-/// The cell of a wait, by its owner who is about to cancel it: it was served, so it is too late; where the wait still stands,
-/// this is no event.
+/// The cell of a wait, by its owner who is about to cancel it: it was served, so it is too late;
+/// where the wait still stands, this is no event.
 pub struct Cancels;
 
 impl Load for Cancels {
@@ -92,7 +92,8 @@ impl Load for Cancels {
     }
 }
 
-/// The cell of a ticket, by its resume, in smart mode: it passes over a cancelled cell, and ends at a refused one.
+/// The cell of a ticket, by its resume, in smart mode: it passes over a cancelled cell, and ends at
+/// a refused one.
 pub struct Meets;
 
 impl Load for Meets {

@@ -41,7 +41,8 @@ impl<C: ClientWords, K: Kind> Play<Option<C::Slot>, View<C::Entry, C::Slot>> for
     ghost then = { and_alone C.primitive (crossed C.object C.primitive K.step) };
 }
 
-/// A load of a word of the client, or a step that changes it in any case, by the event that it shows.
+/// A load of a word of the client, or a step that changes it in any case, by the event that it
+/// shows.
 pub(crate) struct Show<C, M> {
     of: PhantomData<(C, M)>,
 }

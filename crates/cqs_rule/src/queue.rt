@@ -32,17 +32,21 @@ pub struct Queue<C: ClientWords> {
     ghost limit_is: { table.shared.key.limit ≡ limit },
 }
 
-/// What a caller makes steps with. Contracts see what it has seen of the queue, and what it is doing there.
+/// What a caller makes steps with. Contracts see what it has seen of the queue, and what it is
+/// doing there.
 #[derive(Drop)]
 pub struct Pass<C: ClientWords> {
     seat: Seat<Option<C::Slot>, View<C::Entry, C::Slot>>,
     number: u32,
     held: u32,
+    further: u32,
     owes: bool,
     waits: u32,
     pub ghost live: { (seat.me.0.weight ≡ 1) × (length seat.me.1 ≡ 0) },
     pub ghost number_is: { seat.me.0.number ≡ number },
     pub ghost held_is: { seat.me.0.facts.has.held ≡ held },
+    pub ghost further_is: { seat.me.0.facts.has.further ≡ further },
+    pub ghost spareless: { seat.me.0.facts.has.spares ≡ 0 },
     pub ghost owes_is: { is_owing seat.me.0.facts.doing ≡ owes },
     pub ghost waits_are: { length seat.me.0.facts.waits ≡ waits },
     pub ghost cells_are: { words_for seat.me.0.cells ≡ seat.table_id.words },

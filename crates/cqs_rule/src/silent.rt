@@ -17,4 +17,8 @@ impl<C: ClientWords> Shown<C> for Silent {
     fn owes_after(owes: bool, _found: u64, _made: bool) -> bool {
         owes
     }
+
+    fn further_after(further: u32, _found: u64, _made: bool) -> u32 {
+        further
+    }
 }

@@ -1,5 +1,5 @@
-//! A queue is shared between threads, and a pass is handed from one to another. This is shown here, where a field that could
-//! not cross would be refused.
+//! A queue is shared between threads, and a pass is handed from one to another. This is shown here,
+//! where a field that could not cross would be refused.
 
 use crate::callbacks::Client;
 use crate::queue::{Pass, Queue, Under, Wait};

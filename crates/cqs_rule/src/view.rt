@@ -1,4 +1,5 @@
-//! What a pass knows of its queue, as the rule and contracts see it. No value of these types is made.
+//! What a pass knows of its queue, as the rule and contracts see it. No value of these types is
+//! made.
 
 use crate::config::CancelMode;
 use cqs_core::{CoreState, Doing};
@@ -37,6 +38,8 @@ pub struct Has {
     pub further: u64,
     /// The value slots that it has in hand.
     pub slots: LinkedList<u64>,
+    /// How many slots for segments it has spare.
+    pub spares: u64,
 }
 
 /// The facts of a pass that its own steps alone change.
@@ -50,7 +53,8 @@ pub struct Facts {
     pub last: Option<Glimpse>,
     /// The numbers of its waits, which it has installed and not yet closed.
     pub waits: LinkedList<u64>,
-    /// The last number that it drew for the resumption that it owes, or 0 where it drew none for it yet.
+    /// The last number that it drew for the resumption that it owes, or 0 where it drew none for it
+    /// yet.
     pub reached: u64,
     /// The numbers that it drew to resume at and passed over.
     pub passed: LinkedList<u64>,
@@ -63,7 +67,8 @@ pub struct Facts {
 /// What a pass knows.
 pub struct View<E, S> {
     pub number: u64,
-    /// How many passes the crew counts for it: 1, and 2 between two steps of a split or a meet, and 0 once it was met away.
+    /// How many passes the crew counts for it: 1, and 2 between two steps of a split or a meet, and
+    /// 0 once it was met away.
     pub weight: u64,
     pub facts: Facts,
     /// The history as far as the pass has seen it.

@@ -1,4 +1,5 @@
-//! Suspending: a pass at the door draws a number and waits in its cell, or takes the value that stands there.
+//! Suspending: a pass at the door draws a number and waits in its cell, or takes the value that
+//! stands there.
 #![tactic(auto)]
 
 mod suspending;

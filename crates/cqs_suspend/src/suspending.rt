@@ -18,7 +18,8 @@ pub enum Suspended {
     Took { payload: u32, number: u64 },
 }
 
-/// Draws a number for a pass at the door, and waits under it or takes the value that its resume left.
+/// Draws a number for a pass at the door, and waits under it or takes the value that its resume
+/// left.
 pub fn suspend<C: ClientWords>(queue: &Queue<C>, pass: &mut Pass<C>) -> Suspended
     requires belongs { IsOf queue.now pass.old }
     requires door { (pass_view pass.old).facts.doing ≡ doing.Door }

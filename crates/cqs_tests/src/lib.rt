@@ -1,5 +1,5 @@
-//! Tests that cross crates: calls of the core and of the running queue, and packed words. Their expected
-//! values were worked out by hand.
+//! Tests that cross crates: calls of the core and of the running queue, and packed words. Their
+//! expected values were worked out by hand.
 #![tactic(auto)]
 
 #[cfg(test)]

@@ -1,9 +1,11 @@
 //! The other calls of a queue, each on its happy path.
 //!
-//! With one pass no value is left in a cell, and so none is taken. A value is left where a resume comes to a number before its
-//! suspend. But the conditions let a pass suspend only at the door and resume only what it owes, and it comes to either from rest
-//! alone, where each number that was drawn has its waiter. It comes to owe only where somebody waits to whom no permit was sent. So
-//! its resume finds a waiter. The calls that leave a value and take one are made here where they miss.
+//! With one pass no value is left in a cell, and so none is taken. A value is left where a resume
+//! comes to a number before its suspend. But the conditions let a pass suspend only at the door and
+//! resume only what it owes, and it comes to either from rest alone, where each number that was
+//! drawn has its waiter. It comes to owe only where somebody waits to whom no permit was sent. So
+//! its resume finds a waiter. The calls that leave a value and take one are made here where they
+//! miss.
 
 use cqs_cell::{install, leave_value, look, serve, take_value};
 use cqs_find::{Found, find};

@@ -140,6 +140,7 @@ impl<C: ClientWords> Queue<C> {
                 seat,
                 number: 0,
                 held,
+                further: 0,
                 owes: false,
                 waits: 0,
             },

@@ -16,8 +16,8 @@ use crate::queue::{Pass, Queue};
 use cqs_words::CrewWord;
 
 impl<C: ClientWords> Queue<C> {
-    /// Whether no other pass is there. Then the pass has seen the whole history, and what happens from now on it does itself, until
-    /// it makes another.
+    /// Whether no other pass is there. Then the pass has seen the whole history, and what happens
+    /// from now on it does itself, until it makes another.
     pub fn sole(&self, pass: &mut Pass<C>) -> bool
         requires belongs { IsOf self.now pass.old }
         ensures belongs { IsOf self.now pass.new }
@@ -62,6 +62,7 @@ impl<C: ClientWords> Queue<C> {
                     seat,
                     number: CrewWord::made_in(found),
                     held: gives,
+                    further: 0,
                     owes: false,
                     waits: 0,
                 });
@@ -71,7 +72,8 @@ impl<C: ClientWords> Queue<C> {
         Err(Crowd)
     }
 
-    /// The pass takes in the given one: it has seen what each of them had seen, and holds what both held.
+    /// The pass takes in the given one: it has seen what each of them had seen, and holds what both
+    /// held.
     pub fn meet(&self, pass: &mut Pass<C>, given: Pass<C>) -> Result<(), (Pass<C>, MeetError)>
         requires belongs { IsOf self.now pass.old }
         requires given_belongs { IsOf self.now given }
@@ -83,7 +85,7 @@ impl<C: ClientWords> Queue<C> {
         ensures unchanged { OnErr result (pass.new ≡ pass.old) }
         ensures met { OnOk result (HasMet pass.old given pass.new) }
     {
-        if given.owes || given.waits > 0 {
+        if given.owes() || given.waits > 0 {
             return Err((given, MeetError::Busy));
         }
         let Pass { seat, held, .. } = given;

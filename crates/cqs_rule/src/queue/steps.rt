@@ -14,8 +14,9 @@ use crate::plays::{Cross, Draw, Loading};
 use crate::queue::{Pass, Queue};
 
 impl<C: ClientWords> Queue<C> {
-    /// Loads the suspend counter or a cell. A pass that finds the counter below the limit may draw, the owner of a wait learns in its
-    /// cell what became of it, and a resume meets the cell of its number.
+    /// Loads the suspend counter or a cell. A pass that finds the counter below the limit may draw,
+    /// the owner of a wait learns in its cell what became of it, and a resume meets the cell of its
+    /// number.
     pub fn load_table<L: Load>(&self, pass: &mut Pass<C>, word: u32) -> u64
         requires belongs { IsOf self.now pass.old }
         requires suits { LoadSuits (C.primitive (client_of self.now)).manner L.load }
@@ -52,10 +53,12 @@ impl<C: ClientWords> Queue<C> {
             .shared
             .fetch_add::<Draw<C, K>>(&mut pass.seat, word as usize, by.unsigned_abs());
         pass.owes = K::owes_after();
+        pass.further = K::further_after(pass.further);
         found
     }
 
-    /// Makes an exchange on a cell: that of the number which the pass is at, or that of a wait of its own.
+    /// Makes an exchange on a cell: that of the number which the pass is at, or that of a wait of
+    /// its own.
     pub fn swap_table<K: Kind>(&self, pass: &mut Pass<C>, word: u32, saw: u64, new: u64) -> u64
         requires belongs { IsOf self.now pass.old }
         requires suits { Suits (C.primitive (client_of self.now)).manner K.step }
@@ -70,6 +73,7 @@ impl<C: ClientWords> Queue<C> {
         if found == saw {
             pass.held = K::held_after::<C>(pass.held);
             pass.owes = K::owes_after();
+            pass.further = K::further_after(pass.further);
             pass.waits = K::waits_after(pass.waits);
         }
         found

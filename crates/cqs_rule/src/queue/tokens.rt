@@ -5,14 +5,15 @@ ghost use Rattle.cqs_rule.specs.Lists.{Has};
 ghost use Rattle.cqs_rule.specs.Owed.{OwesWith, IsReached, HasUnder, under_payload, under_ticket, under_reached};
 ghost use Rattle.cqs_rule.specs.Passes.{pass_view, IsOf};
 ghost use Rattle.cqs_rule.specs.Placed.{KnowsPlace};
-ghost use Rattle.cqs_rule.specs.Facts.{is_owing};
+ghost use Rattle.cqs_rule.specs.Facts.{owes_any};
 ghost use Rattle.cqs_rule.specs.Waits.{place_of, pass_of, HasWait};
 
 use crate::client::ClientWords;
 use crate::config::Place;
 use crate::queue::{Pass, Queue};
 
-/// A wait in the line, for as long as its pass hasn't had its answer. It is neither copied nor cloned.
+/// A wait in the line, for as long as its pass hasn't had its answer. It is neither copied nor
+/// cloned.
 #[derive(Drop)]
 pub struct Wait {
     pub(super) number: u64,
@@ -38,8 +39,8 @@ pub struct Under {
 }
 
 impl Under {
-    /// The last number that was drawn for the resumption, or 0 where none was. A loop that goes on with a resumption until it
-    /// ends can be measured by it.
+    /// The last number that was drawn for the resumption, or 0 where none was. A loop that goes on
+    /// with a resumption until it ends can be measured by it.
     pub fn reached(&self) -> u64
         ensures { result ≡ under_reached self.now }
     {
@@ -80,8 +81,8 @@ impl<C: ClientWords> Queue<C> {
 }
 
 impl<C: ClientWords> Queue<C> {
-    /// The token of a resumption that the pass owes: its payload, its ticket where one is open, and the last number that was
-    /// drawn for it. It makes no step.
+    /// The token of a resumption that the pass owes: its payload, its ticket where one is open, and
+    /// the last number that was drawn for it. It makes no step.
     pub fn under_of(
         &self,
         pass: &mut Pass<C>,
@@ -134,16 +135,17 @@ impl<C: ClientWords> Pass<C> {
 
     /// How many slots for segments it has spare: none, as long as the table has no segments.
     pub fn spares(&self) -> u32
-        ensures { result ≡ 0 }
+        ensures { result ≡ (pass_view self.now).facts.has.spares }
     {
         0
     }
 
-    /// Whether it owes: a resumption, or the end of a cancellation that it began.
+    /// Whether it owes: a resumption, one that it is at or a further one, or the end of a
+    /// cancellation that it began.
     pub fn owes(&self) -> bool
-        ensures { result ≡ is_owing (pass_view self.now).facts.doing }
+        ensures { result ≡ owes_any (pass_view self.now).facts }
     {
-        self.owes
+        self.owes || self.further > 0
     }
 
     /// How many waits it has: those that it installed and hasn't closed.

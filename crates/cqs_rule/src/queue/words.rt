@@ -34,6 +34,7 @@ impl<C: ClientWords> Queue<C> {
             .load::<Show<C, M>>(&mut pass.seat, place(word));
         pass.held = M::held_after(pass.held, found, true);
         pass.owes = M::owes_after(pass.owes, found, true);
+        pass.further = M::further_after(pass.further, found, true);
         found
     }
 
@@ -58,6 +59,7 @@ impl<C: ClientWords> Queue<C> {
         };
         pass.held = M::held_after(pass.held, found, true);
         pass.owes = M::owes_after(pass.owes, found, true);
+        pass.further = M::further_after(pass.further, found, true);
         found
     }
 
@@ -75,6 +77,7 @@ impl<C: ClientWords> Queue<C> {
             .fetch_or::<Show<C, M>>(&mut pass.seat, place(word), bits);
         pass.held = M::held_after(pass.held, found, true);
         pass.owes = M::owes_after(pass.owes, found, true);
+        pass.further = M::further_after(pass.further, found, true);
         found
     }
 
@@ -93,6 +96,7 @@ impl<C: ClientWords> Queue<C> {
             .compare_exchange::<ShowExchange<C, M>>(&mut pass.seat, place(word), saw, new);
         pass.held = M::held_after(pass.held, found, found == saw);
         pass.owes = M::owes_after(pass.owes, found, found == saw);
+        pass.further = M::further_after(pass.further, found, found == saw);
         found
     }
 }

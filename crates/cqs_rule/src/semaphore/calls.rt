@@ -1,4 +1,5 @@
-//! The steps of a semaphore on its state, each under the conditions in which its event may be shown.
+//! The steps of a semaphore on its state, each under the conditions in which its event may be
+//! shown.
 
 ghost use Rattle.std.specs.Prelude.{◌≡◌, ◌<◌, true, []};
 ghost use Rattle.cqs_core.specs.declared.doings.Doing.TheVariants.{Idle, TryAt};
@@ -42,7 +43,8 @@ pub fn take_permit<T: Drop>(
     }
 }
 
-/// Loads the state for a try: no permit is free, or the pass may go on with `try_take`. It answers the state found.
+/// Loads the state for a try: no permit is free, or the pass may go on with `try_take`. It answers
+/// the state found.
 #[tactic(auto, using(crate::proofs::StateFound::on_state))]
 pub fn load_state<T: Drop>(
     queue: &Queue<SemClient<T>>,
@@ -59,8 +61,8 @@ pub fn load_state<T: Drop>(
     }
 }
 
-/// Exchanges the state that a try loaded for one less. It answers the state found: the pass has a permit where that is
-/// `saw`.
+/// Exchanges the state that a try loaded for one less. It answers the state found: the pass has a
+/// permit where that is `saw`.
 #[tactic(auto, using(crate::proofs::StateFound::on_state))]
 pub fn try_take<T: Drop>(
     queue: &Queue<SemClient<T>>,
@@ -79,7 +81,8 @@ pub fn try_take<T: Drop>(
     }
 }
 
-/// Adds one to the state: the permit is free, or the pass owes a resumption of payload 0. It answers the state found.
+/// Adds one to the state: the permit is free, or the pass owes a resumption of payload 0. It
+/// answers the state found.
 #[tactic(auto, using(crate::proofs::StateFound::on_state))]
 pub fn give_permit<T: Drop>(
     queue: &Queue<SemClient<T>>,
@@ -112,7 +115,8 @@ pub fn read_state<T: Drop>(
     }
 }
 
-/// Loads the suspend counter: the number that the next wait will have. A pass that finds it below the limit may draw.
+/// Loads the suspend counter: the number that the next wait will have. A pass that finds it below
+/// the limit may draw.
 #[tactic(auto, using(crate::proofs::StateFound::next_is))]
 pub fn next_wait<T: Drop>(queue: &Queue<SemClient<T>>, pass: &mut Pass<SemClient<T>>) -> u64
     requires belongs { IsOf queue.now pass.old }

@@ -23,9 +23,14 @@ impl<T: Drop> Shown<SemClient<T>> for Take {
     fn owes_after(_owes: bool, _found: u64, _made: bool) -> bool {
         false
     }
+
+    fn further_after(further: u32, _found: u64, _made: bool) -> u32 {
+        further
+    }
 }
 
-/// A try loads the state: no permit is free, or the pass is about to exchange the state that it loaded.
+/// A try loads the state: no permit is free, or the pass is about to exchange the state that it
+/// loaded.
 pub struct TryLoad;
 
 impl<T: Drop> Shown<SemClient<T>> for TryLoad {
@@ -40,10 +45,14 @@ impl<T: Drop> Shown<SemClient<T>> for TryLoad {
     fn owes_after(_owes: bool, _found: u64, _made: bool) -> bool {
         false
     }
+
+    fn further_after(further: u32, _found: u64, _made: bool) -> u32 {
+        further
+    }
 }
 
-/// A try exchanges the state that it loaded for one less: it has a permit, or another pass was first and it has
-/// nothing.
+/// A try exchanges the state that it loaded for one less: it has a permit, or another pass was
+/// first and it has nothing.
 pub struct TrySwap;
 
 impl<T: Drop> Shown<SemClient<T>> for TrySwap {
@@ -58,9 +67,14 @@ impl<T: Drop> Shown<SemClient<T>> for TrySwap {
     fn owes_after(_owes: bool, _found: u64, _made: bool) -> bool {
         false
     }
+
+    fn further_after(further: u32, _found: u64, _made: bool) -> u32 {
+        further
+    }
 }
 
-/// A release adds one to the state: the permit is free, or the pass owes a resumption, whose payload is 0.
+/// A release adds one to the state: the permit is free, or the pass owes a resumption, whose
+/// payload is 0.
 pub struct Give;
 
 impl<T: Drop> Shown<SemClient<T>> for Give {
@@ -75,10 +89,14 @@ impl<T: Drop> Shown<SemClient<T>> for Give {
     fn owes_after(_owes: bool, found: u64, _made: bool) -> bool {
         StateWord::is_below_zero(found)
     }
+
+    fn further_after(further: u32, _found: u64, _made: bool) -> u32 {
+        further
+    }
 }
 
-/// A canceller adds one to the state: its waiter has left the line, or it is refused and the permit that was on its way
-/// to it is free.
+/// A canceller adds one to the state: its waiter has left the line, or it is refused and the permit
+/// that was on its way to it is free.
 pub struct Decide;
 
 impl<T: Drop> Shown<SemClient<T>> for Decide {
@@ -92,5 +110,9 @@ impl<T: Drop> Shown<SemClient<T>> for Decide {
 
     fn owes_after(_owes: bool, _found: u64, _made: bool) -> bool {
         true
+    }
+
+    fn further_after(further: u32, _found: u64, _made: bool) -> u32 {
+        further
     }
 }

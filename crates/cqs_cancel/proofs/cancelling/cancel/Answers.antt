@@ -26,8 +26,8 @@ returns-in-Ok-clause-cancelled g c =
     let at = c.spend_wait-at in
     subst (λ q. HasCancelled g.C.Client.asking c.args.wait.number q c.leave.result c.leave.new.pass) at.ensures.same
     (subst (λ (p : Place). HasCancelled g.C.Client.asking p.index at.new.pass c.leave.result c.leave.new.pass)
-    at.ensures.place (cancelled g.C.Client.asking at.result.index c.leave.result at.new.pass c.begin_cancel.new.pass c.leave.new.pass
-    c.in-Ok.ensures.made c.leave.ensures.left))
+    at.ensures.place (cancelled g.C.Client.asking at.result.index c.leave.result at.new.pass
+    c.begin_cancel.new.pass c.leave.new.pass c.in-Ok.ensures.made c.leave.ensures.left))
 
 pub returns-in-Err-clause-cancelled : goal.returns-in-Err-clause-cancelled
 returns-in-Err-clause-cancelled g c =

@@ -11,7 +11,8 @@ use Rattle.cqs_tests.proofs.queue_calls.a_cancellation_is_too_late.Goals as goal
 pub spend_wait-at-requires-clause-has : goal.spend_wait-at-requires-clause-has
 spend_wait-at-requires-clause-has g c =
     let resumed = c.in-Served.ensures.resumed in
-    has-wait-called semaphore_object _ _ _ _ c.in-Waits.wait resumed.called (ap (λ (f : Facts). f.waits) resumed.facts_are)
+    has-wait-called semaphore_object _ _ _ _ c.in-Waits.wait resumed.called
+    (ap (λ (f : Facts). f.waits) resumed.facts_are)
     (keeps-step semaphore_object _ _ _ _ c.in-Waits.wait c.give_permit-given.ensures.saw.saw refl
     c.in-Waits.ensures.suspends.1)
 

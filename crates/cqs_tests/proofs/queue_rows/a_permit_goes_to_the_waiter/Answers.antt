@@ -26,7 +26,8 @@ add_word-found-requires-3-clause-law g c =
 pub spend_wait-at-requires-clause-has : goal.spend_wait-at-requires-clause-has
 spend_wait-at-requires-clause-has g c =
     let resumed = c.in-Served.ensures.resumed in
-    has-wait-called semaphore_object _ _ _ _ c.in-Waits.wait resumed.called (ap (λ (f : Facts). f.waits) resumed.facts_are)
+    has-wait-called semaphore_object _ _ _ _ c.in-Waits.wait resumed.called
+    (ap (λ (f : Facts). f.waits) resumed.facts_are)
     (keeps-step semaphore_object _ _ _ _ c.in-Waits.wait c.add_word-found-3.ensures.saw.saw refl
     c.in-Waits.ensures.suspends.1)
 

@@ -11,7 +11,7 @@ join_seat-requires g c =
     let x = c.args.self.now.table.shared.key.client in
     let p = c.args.pass.now in
     let u = c.args.given in
-    let rests = between-idle u.seat.me.0.facts _ u.owes_is c.if-given.false c.requires.between in (
+    let rests = between-idle u.seat.me.0.facts _ c.owes.ensures c.if-owes.false c.requires.between in (
       c.requires.belongs.table,
       c.requires.given_belongs.table,
       none-slots _ u.live.1,
@@ -25,7 +25,7 @@ fetch_sub-requires g c =
     let C = g.C.ClientWords in
     let x = c.args.self.now.table.shared.key.client in
     let u = c.args.given in
-    let rests = between-idle u.seat.me.0.facts _ u.owes_is c.if-given.false c.requires.between in
+    let rests = between-idle u.seat.me.0.facts _ c.owes.ensures c.if-owes.false c.requires.between in
     let waitless : u.seat.me.0.facts.waits ≡ [] = none-of _ _ u.waits_are c.if-given-gt0.false in
     let e = c.join_seat.ensures in
     let j = joined-idles c.args.pass.now.seat.me.0 u.seat.me.0 _ _ rests.0 rests.1 waitless e.2 in (

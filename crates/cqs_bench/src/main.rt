@@ -24,7 +24,7 @@ use std::rt::Clock;
 use std::time::Instant;
 
 const USAGE: &str =
-    "usage: cqs_bench toml | plan | run | whole | fold < PLAN; or free | pairs | leaves [ROUNDS]";
+    "usage: cqs_bench toml | plan | run | whole | fold < PLAN; free | pairs | leaves [ROUNDS]";
 
 const BAD_COMMAND: u8 = 2;
 

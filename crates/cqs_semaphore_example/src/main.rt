@@ -1,0 +1,151 @@
+//! Two threads and a semaphore of one permit: the host has the permit, and the guest waits for it and gives up.
+#![tactic(auto)]
+
+ghost use Rattle.std.specs.Prelude.{◌-◌, ◌<◌};
+ghost use Rattle.cqs_threads.specs.Workers.{held_by, IsAtRest, IsWaiting, IsOwing, HasEnded};
+
+use cqs_rule::{Config, Under, Wait};
+use cqs_semaphore::{Acquired, CancelAnswer, Permit, Polled, Released, SemPass, Semaphore};
+use std::fmt;
+use std::thread::{self, Threads};
+
+/// A pass for each thread, and room for 1,024 waits.
+const CONFIG: Config = Config {
+    passes: 2,
+    limit: 1024,
+    slots: 6,
+};
+
+/// The guest looks so often at its wait before it gives up.
+const LOOKS: u32 = 1000;
+
+/// How a visit ended.
+#[derive(Clone, Copy, Drop)]
+enum Ending {
+    Admitted,
+    GaveUp { wait: u64 },
+    TurnedAway,
+}
+
+impl fmt::Display for Ending {
+    fn fmt<W: fmt::Write>(&self, f: &mut fmt::Formatter<W>) -> fmt::Result {
+        match self {
+            Ending::Admitted => write!(f, "was admitted"),
+            Ending::GaveUp { wait } => write!(f, "gave up wait {wait}"),
+            Ending::TurnedAway => write!(f, "was turned away"),
+        }
+    }
+}
+
+/// The guest takes a permit, or waits for one.
+fn visit(semaphore: &Semaphore, pass: SemPass) -> (SemPass, Ending)
+    requires rest { IsAtRest semaphore.now 0 pass }
+    ensures rest { IsAtRest semaphore.now 0 result.0 }
+{
+    let mut pass = pass;
+    let told = enter(semaphore, &mut pass);
+    (pass, told)
+}
+
+fn enter(semaphore: &Semaphore, pass: &mut SemPass) -> Ending
+    requires rest { IsAtRest semaphore.now (held_by pass.old) pass.old }
+    ensures rest { IsAtRest semaphore.now (held_by pass.old) pass.new }
+{
+    match semaphore.acquire(pass) {
+        Ok(Acquired::Now(permit)) => leave(semaphore, pass, permit),
+        Ok(Acquired::Later(wait)) => wait_for(semaphore, pass, wait),
+        Err(_) => Ending::TurnedAway,
+    }
+}
+
+/// The guest looks at its wait, but not for ever.
+fn wait_for(semaphore: &Semaphore, pass: &mut SemPass, wait: Wait) -> Ending
+    requires waits { IsWaiting semaphore.now (held_by pass.old) wait pass.old }
+    ensures rest { IsAtRest semaphore.now (held_by pass.old) pass.new }
+{
+    let number = wait.number();
+    let mut wait = wait;
+    for _ in 0..LOOKS {
+        match semaphore.poll(pass, wait) {
+            Polled::Granted(permit) => return leave(semaphore, pass, permit),
+            Polled::Pending(again) => wait = again,
+        }
+    }
+    match give_up(semaphore, pass, wait) {
+        None => Ending::GaveUp { wait: number },
+        Some(permit) => leave(semaphore, pass, permit),
+    }
+}
+
+/// The guest leaves the line, or has the permit that came before.
+fn give_up(semaphore: &Semaphore, pass: &mut SemPass, wait: Wait) -> Option<Permit>
+    requires waits { IsWaiting semaphore.now (held_by pass.old) wait pass.old }
+    ensures ended { HasEnded semaphore.now (held_by pass.old) result pass.new }
+{
+    match semaphore.cancel(pass, wait) {
+        CancelAnswer::Cancelled(None) => None,
+        CancelAnswer::Cancelled(Some(under)) => {
+            finish(semaphore, pass, under);
+            None
+        }
+        CancelAnswer::TooLate(permit) => Some(permit),
+    }
+}
+
+/// Who was admitted gives the permit back.
+fn leave(semaphore: &Semaphore, pass: &mut SemPass, permit: Permit) -> Ending
+    requires rest { IsAtRest semaphore.now (held_by pass.old) pass.old }
+    requires holds { 0 < held_by pass.old }
+    ensures rest { IsAtRest semaphore.now (held_by pass.old - 1) pass.new }
+{
+    if let Ok(Released::Under(under)) = semaphore.release(pass, permit) {
+        finish(semaphore, pass, under);
+    }
+    Ending::Admitted
+}
+
+/// More waiters had left than one call passes over: goes on until the permit has arrived.
+fn finish(semaphore: &Semaphore, pass: &mut SemPass, under: Under)
+    requires owes { IsOwing semaphore.now (held_by pass.old) under pass.old }
+    ensures rest { IsAtRest semaphore.now (held_by pass.old) pass.new }
+{
+    let mut under = under;
+    'arrive: loop {
+        match semaphore.finish(pass, under) {
+            Released::Under(again) => under = again,
+            _ => return,
+        }
+    }
+}
+
+/// The host works, while the guest comes.
+fn meanwhile<R: Threads>(rt: &R, semaphore: &Semaphore, guest: SemPass) -> (SemPass, Ending)
+    requires rest { IsAtRest semaphore.now 0 guest }
+    ensures rest { IsAtRest semaphore.now 0 result.0 }
+{
+    thread::join(rt, || thread::yield_now(), || visit(semaphore, guest)).1
+}
+
+fn main(rt: HostRuntime) -> anyhow::Result<()> {
+    let Ok((semaphore, mut host)) = Semaphore::new(rt.alloc(), 1, CONFIG) else {
+        anyhow::bail!("no memory for the semaphore");
+    };
+    let Ok(guest) = semaphore.split(&mut host) else {
+        anyhow::bail!("no further pass may be made");
+    };
+    let Ok(Acquired::Now(permit)) = semaphore.acquire(&mut host) else {
+        anyhow::bail!("no permit was free");
+    };
+    println!(rt; "the host has the permit")?;
+    let (guest, told) = meanwhile(&rt, &semaphore, guest);
+    println!(rt; "the guest {told}")?;
+    leave(&semaphore, &mut host, permit);
+    if semaphore.meet(&mut host, guest).is_err() {
+        anyhow::bail!("the guest still waits");
+    }
+    println!(rt;
+        "the permit is back, and the state is {}",
+        semaphore.state(&mut host)
+    )?;
+    Ok(())
+}

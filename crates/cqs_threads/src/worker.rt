@@ -1,0 +1,88 @@
+//! What a worker does with its pass, round for round.
+
+ghost use Rattle.cqs_threads.specs.Workers.{held_by, IsAtRest, HasEnded};
+
+use crate::counts::{Counts, count};
+use crate::giving::give_back;
+use crate::waiting::{give_up, wait_for};
+use cqs_semaphore::{Acquired, Permit, SemPass, Semaphore, Tried};
+use std::thread;
+
+// While a worker has a permit, other threads may run so often.
+const PAUSES: u32 = 16;
+
+/// Makes so many rounds: in each the worker acquires and gives back, and tries and gives back. It gives every third of its waits
+/// up at once, in every other hundred of rounds all of them, and each other one if some looks don't find it served.
+pub fn work(semaphore: &Semaphore, pass: SemPass, rounds: u32) -> (SemPass, Counts)
+    requires rest { IsAtRest semaphore.now (held_by pass) pass }
+    ensures rest { IsAtRest semaphore.now (held_by pass) result.0 }
+{
+    let mut pass = pass;
+    let mut counts = Counts::default();
+    for round in 0..rounds {
+        let hasty = round % 3 == 0 || round / 100 % 2 == 1;
+        acquire_once(semaphore, &mut pass, hasty, &mut counts);
+        try_once(semaphore, &mut pass, &mut counts);
+    }
+    (pass, counts)
+}
+
+// Acquires, and gives back what came, after a while.
+fn acquire_once(semaphore: &Semaphore, pass: &mut SemPass, hasty: bool, counts: &mut Counts)
+    requires rest { IsAtRest semaphore.now (held_by pass.old) pass.old }
+    ensures rest { IsAtRest semaphore.now (held_by pass.old) pass.new }
+{
+    if let Some(permit) = seek(semaphore, pass, hasty, counts) {
+        for _ in 0..PAUSES {
+            thread::yield_now();
+        }
+        give_back(semaphore, pass, permit, counts);
+    }
+}
+
+// Acquires: a permit, or none where the wait was given up, or where no further number may be drawn.
+fn seek(
+    semaphore: &Semaphore,
+    pass: &mut SemPass,
+    hasty: bool,
+    counts: &mut Counts,
+) -> Option<Permit>
+    requires rest { IsAtRest semaphore.now (held_by pass.old) pass.old }
+    ensures ended { HasEnded semaphore.now (held_by pass.old) result pass.new }
+{
+    match semaphore.acquire(pass) {
+        Ok(Acquired::Now(permit)) => {
+            match permit.number() {
+                None => count(&mut counts.acquires.free),
+                Some(_) => count(&mut counts.acquires.took),
+            }
+            Some(permit)
+        }
+        Ok(Acquired::Later(wait)) => {
+            count(&mut counts.acquires.waited);
+            if hasty {
+                return give_up(semaphore, pass, wait, counts);
+            }
+            wait_for(semaphore, pass, wait, counts)
+        }
+        Err(_) => {
+            count(&mut counts.acquires.worn);
+            None
+        }
+    }
+}
+
+// Tries, and gives back what came.
+fn try_once(semaphore: &Semaphore, pass: &mut SemPass, counts: &mut Counts)
+    requires rest { IsAtRest semaphore.now (held_by pass.old) pass.old }
+    ensures rest { IsAtRest semaphore.now (held_by pass.old) pass.new }
+{
+    match semaphore.try_acquire(pass) {
+        Tried::Got(permit) => {
+            count(&mut counts.tries.got);
+            give_back(semaphore, pass, permit, counts);
+        }
+        Tried::Busy => count(&mut counts.tries.busy),
+        Tried::Contended { .. } => count(&mut counts.tries.contended),
+    }
+}

@@ -96,7 +96,8 @@ fn pair_round(queue: &Queue<SemClient>, pass: &mut Pass<SemClient>) -> bool
     true
 }
 
-// The pass that holds the one permit waits for it, and leaves the line again. It answers whether rounds go on.
+// The pass that holds the one permit waits for it, and leaves the line again. It answers whether
+// rounds go on.
 fn leave_round(queue: &Queue<SemClient>, pass: &mut Pass<SemClient>) -> bool
     requires belongs { IsOf queue.now pass.old }
     requires limit { limit_of queue.now ≡ 1048576 }
@@ -144,7 +145,8 @@ pub fn pair_rounds(queue: &Queue<SemClient>, pass: &mut Pass<SemClient>, count: 
     }
 }
 
-/// The first round takes the permit. In each later one the pass that holds it waits for it, and leaves the line again.
+/// The first round takes the permit. In each later one the pass that holds it waits for it, and
+/// leaves the line again.
 pub fn leave_rounds(queue: &Queue<SemClient>, pass: &mut Pass<SemClient>, count: u64)
     requires belongs { IsOf queue.now pass.old }
     requires limit { limit_of queue.now ≡ 1048576 }

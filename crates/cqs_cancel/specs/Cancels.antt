@@ -1,4 +1,5 @@
--- What a cancel answers: exactly what its owner found in the cell of the wait, and what its client answered.
+-- What a cancel answers: exactly what its owner found in the cell of the wait, and what its client
+-- answered.
 use Rattle.std.specs.Prelude.{◌≡◌, ◌⊎◌, ℕ, ◌≤◌, Bool, true, false, List, [], ◌∷◌, ◌++◌, length, None}
 use Rattle.cqs_core.specs.declared.cells.CoreState.TheVariants as state
 use Rattle.cqs_core.specs.declared.doings.Doing.TheVariants as doing
@@ -44,12 +45,13 @@ abbrev pub asks_at : {E S : Type 0} → View E S → Facts → ℕ → Moment
 asks_at v facts n = moment v.opening v.number facts in_any_case n
 
 module _ {C E S : Type 0} (object : Object E) (primitive : C → Primitive E S) where
-  -- A pass was leaving the wait k, and at these facts, after these entries. Its client was asked, by a step of this
-  -- event on this word, and answered so by what it found there. Then the cell was settled by a step of this row: it was
-  -- found in the state that the row wants, with this payload, at the end of all that the pass has seen before the
-  -- step's entries. At most one exchange before it missed. The entries are those of the steps, in order, and the pass
-  -- is where they lead.
-  pub record Settled (first : List E) (facts : Facts) (word : ℕ) (event : Event E) (s : QueueStep) (row : CellRow)
+  -- A pass was leaving the wait k, and at these facts, after these entries. Its client was asked,
+  -- by a step of this event on this word, and answered so by what it found there. Then the cell was
+  -- settled by a step of this row: it was found in the state that the row wants, with this payload,
+  -- at the end of all that the pass has seen before the step's entries. At most one exchange before
+  -- it missed. The entries are those of the steps, in order, and the pass is where they lead.
+  pub record Settled (first : List E) (facts : Facts) (word : ℕ) (event : Event E) (s : QueueStep)
+      (row : CellRow)
       (answer : Bool) (k payload : ℕ) (v w : View E S) : Type 0 where
     pub asked : ℕ
     pub decided : event.doing (asks_at v facts asked) ≡ doing.Decided k answer
@@ -63,49 +65,57 @@ module _ {C E S : Type 0} (object : Object E) (primitive : C → Primitive E S) 
     pub called : Called object v
         (first ++ (event.entries (asks_at v facts asked) ++ object.entries s v.number k told))
         (object.entries s v.number k told) w
-    pub was : WasFound primitive (HasCell (record { number = k; state = row.finds; payload = payload }))
+    pub was : WasFound primitive
+        (HasCell (record { number = k; state = row.finds; payload = payload }))
         (object.entries s v.number k told) w
     pub facts_are : w.facts ≡ facts_worked object.gains row k found told
         (facts_tried tried (facts_moved event (client_place word) (asks_at v facts asked)))
 
-  abbrev pub SettledBy : StepRow → List E → Facts → ℕ → Event E → QueueStep → Bool → ℕ → ℕ → View E S → View E S
+  abbrev pub SettledBy : StepRow → List E → Facts → ℕ → Event E → QueueStep → Bool → ℕ → ℕ
+      → View E S → View E S
       → Type 0
   SettledBy (at_counter row) first facts word event s answer k payload v w = ⊥
   SettledBy (at_cell row) first facts word event s answer k payload v w =
       Settled first facts word event s row answer k payload v w
 
-  abbrev pub Settles : List E → Facts → ℕ → Event E → QueueStep → Bool → ℕ → ℕ → View E S → View E S → Type 0
+  abbrev pub Settles : List E → Facts → ℕ → Event E → QueueStep → Bool → ℕ → ℕ → View E S → View E S
+      → Type 0
   Settles first facts word event s answer k payload v w =
       SettledBy (row_of s) first facts word event s answer k payload v w
 
-  -- How the leaving of the wait k ended. The waiter left the line, or was refused, and what a resume had left to it
-  -- ended there; or it left the line, and the pass owes what a resume had left to it.
+  -- How the leaving of the wait k ended. The waiter left the line, or was refused, and what a
+  -- resume had left to it ended there; or it left the line, and the pass owes what a resume had
+  -- left to it.
   abbrev pub Leaves : List E → Facts → Asking E → ℕ → View E S → Left → View E S → Type 0
   Leaves first facts (by_step word event) k v Gone w =
       Settles first facts word event settles true k 0 v w
       ⊎ (Settles first facts word event refuses false k 0 v w
       ⊎ ((payload : ℕ) × Settles first facts word event refuses_value false k payload v w))
   Leaves first facts (by_step word event) k v (GoneOwing payload) w =
-      Settles first facts word event settles_owing true k payload v w × OwesWith w.facts payload None
+      Settles first facts word event settles_owing true k payload v w
+      × OwesWith w.facts payload None
   Leaves first facts (by_step word event) k v (Late payload) w = ⊥
   Leaves first facts as_it_begins k v left w = ⊥
   Leaves first facts by_itself k v left w = ⊥
 
   -- The cell was found with its waiter, by the first exchange.
-  pub record Began (asking : Asking E) (k : ℕ) (v : View E S) (left : Left) (w : View E S) : Type 0 where
+  pub record Began (asking : Asking E) (k : ℕ) (v : View E S) (left : Left) (w : View E S)
+      : Type 0 where
     pub word : ℕ
     pub cell : FoundCell word (waiting k)
     pub was : WasSo primitive (HasCell (waiting k)) w
     pub ends : Leaves (object.entries starts_leaving v.number k v.facts.has.payload)
         (facts_leaving object.gains k word v.facts) asking k v left w
 
-  -- It was found served, by the only exchange, and so again by a load. The pass has what it waited for.
+  -- It was found served, by the only exchange, and so again by a load. The pass has what it waited
+  -- for.
   pub record CameLate (k payload : ℕ) (v w : View E S) : Type 0 where
     pub word : ℕ
     pub cell : FoundCell word (served k payload)
     pub called : Called object v (object.entries (looks late) v.number k payload)
         (object.entries (looks late) v.number k payload) w
-    pub was : WasFound primitive (HasCell (served k payload)) (object.entries (looks late) v.number k payload) w
+    pub was : WasFound primitive (HasCell (served k payload))
+        (object.entries (looks late) v.number k payload) w
     pub facts_are : w.facts ≡ facts_after object.gains (row_of (looks late)) k word payload
         (facts_tried (Cell k word ∷ []) v.facts)
 
@@ -117,7 +127,8 @@ module _ {C E S : Type 0} (object : Object E) (primitive : C → Primitive E S) 
 module _ {C S E : Type 0} {g : Ghosts C S E} where
   -- the wait of the number k was cancelled
   abbrev pub HasCancelled : Asking E → ℕ → Pass C S E g → Left → Pass C S E g → Type 0
-  HasCancelled asking k p left p' = Cancels g.object g.primitive asking k (pass_view p) left (pass_view p')
+  HasCancelled asking k p left p' =
+      Cancels g.object g.primitive asking k (pass_view p) left (pass_view p')
 
   -- what the owner of the wait k began was ended
   abbrev pub HasLeft : Asking E → ℕ → Pass C S E g → Left → Pass C S E g → Type 0

@@ -1,11 +1,11 @@
 //! Cancelling: the owner of a wait leaves the line, or learns that it was served before.
 //!
 //! ```text
-//!  Waiter --> Cancelling -- the client is asked -- yes --> Cancelled: resumes pass over the cell
-//!    |             |                          \-- no ---> Refused: the resume that comes ends there
+//!  Waiter --> Cancelling -- its client is asked - yes -> Cancelled: resumes pass over the cell
+//!    |             |                          \ no --> Refused: the resume that comes ends there
 //!    |             v
-//!    |         Delegated: a resume has left its value to the canceller, who settles the cell in the
-//!    |                    same way, and where the waiter leaves, owes that resumption
+//!    |         Delegated: a resume has left its value to the canceller, who settles the cell in
+//!    |                    the same way, and where the waiter leaves, owes that resumption
 //!    v
 //!  Resumed: it is too late
 //! ```

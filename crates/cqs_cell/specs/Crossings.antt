@@ -12,9 +12,10 @@ use Rattle.cqs_rule.specs.Placed.{KnowsPlace}
 use Rattle.cqs_rule.specs.Ruled.{word_of}
 
 module _ {E S : Type 0} where
-  -- The pass may make the exchange of this row at the place, from the word of a cell with this payload to the word of
-  -- the one made.
-  pub record CrossesRow (row : CellRow) (v : View E S) (at : Place) (payload expected new : ℕ) : Type 0 where
+  -- The pass may make the exchange of this row at the place, from the word of a cell with this
+  -- payload to the word of the one made.
+  pub record CrossesRow (row : CellRow) (v : View E S) (at : Place) (payload expected new : ℕ)
+      : Type 0 where
     pub works : v.facts.doing ≡ doing_at row.works_at at.index
     pub own : IsOwnWait row.works_at at.index v.facts
     pub place : KnowsPlace v at
@@ -44,7 +45,8 @@ IsSure s = IsSureBy (row_of s)
 -- the cell of the number was found so last, in the state that the step finds, with this payload
 abbrev pub IsLastBy : StepRow → ℕ → ℕ → Option Glimpse → Type 0
 IsLastBy (at_counter row) k payload last = ⊥
-IsLastBy (at_cell row) k payload last = last ≡ Some (record { number = k; state = row.finds; payload = payload })
+IsLastBy (at_cell row) k payload last = last
+    ≡ Some (record { number = k; state = row.finds; payload = payload })
 
 abbrev pub IsLast : QueueStep → ℕ → ℕ → Option Glimpse → Type 0
 IsLast s k payload last = IsLastBy (row_of s) k payload last

@@ -11,7 +11,8 @@ use Rattle.cqs_rule.specs.Ruled.{shown_state}
 
 module _ {C E S : Type 0} (object : Object E) (primitive : C → Primitive E S) where
   -- the cell of the number k was loaded so, and this state and payload were found there
-  pub record LooksAt (load : LoadStep) (k : ℕ) (v : View E S) (cell : CellWord) (w : View E S) : Type 0 where
+  pub record LooksAt (load : LoadStep) (k : ℕ) (v : View E S) (cell : CellWord) (w : View E S)
+      : Type 0 where
     pub word : ℕ
     pub looked : Looked object primitive load k v word w
     pub index : looked.glimpse.number ≡ cell.index
@@ -20,4 +21,5 @@ module _ {C E S : Type 0} (object : Object E) (primitive : C → Primitive E S) 
 
 module _ {C S E : Type 0} {g : Ghosts C S E} where
   abbrev pub HasLookedAt : LoadStep → ℕ → CellWord → Pass C S E g → Pass C S E g → Type 0
-  HasLookedAt load k cell p p' = LooksAt g.object g.primitive load k (pass_view p) cell (pass_view p')
+  HasLookedAt load k cell p p' =
+      LooksAt g.object g.primitive load k (pass_view p) cell (pass_view p')

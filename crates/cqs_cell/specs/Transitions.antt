@@ -24,10 +24,11 @@ abbrev pub facts_since : List Sighting → Option Glimpse → Facts → Facts
 facts_since found last f = record f { last = last; found = found }
 
 module _ {C E S : Type 0} (object : Object E) (primitive : C → Primitive E S) where
-  -- A step of this row was made at the cell of the number k: it found the cell in the state that the row wants, with
-  -- this payload. The step's entries are the only ones, and the pass is where the row leads. Before the step it may
-  -- have tried in vain, and found these.
-  pub record Made (s : QueueStep) (row : CellRow) (tried : ℕ) (k payload : ℕ) (v w : View E S) : Type 0 where
+  -- A step of this row was made at the cell of the number k: it found the cell in the state that
+  -- the row wants, with this payload. The step's entries are the only ones, and the pass is where
+  -- the row leads. Before the step it may have tried in vain, and found these.
+  pub record Made (s : QueueStep) (row : CellRow) (tried : ℕ) (k payload : ℕ) (v w : View E S)
+      : Type 0 where
     pub word : ℕ
     pub cell : FoundCell word (record { number = k; state = row.finds; payload = payload })
     pub before : Facts
@@ -36,13 +37,16 @@ module _ {C E S : Type 0} (object : Object E) (primitive : C → Primitive E S) 
     pub last : Option Glimpse
     pub before_is : before ≡ facts_since (v.facts.found ++ found) last v.facts
     pub saw : Saw object v
-        (facts_worked object.gains row k word (payload_told row.gain payload v.facts.has.payload) before)
+        (facts_worked object.gains row k word (payload_told row.gain payload v.facts.has.payload)
+        before)
         (object.entries s v.number k (payload_told row.gain payload v.facts.has.payload)) w
-    pub was : WasFound primitive (HasCell (record { number = k; state = row.finds; payload = payload }))
+    pub was : WasFound primitive
+        (HasCell (record { number = k; state = row.finds; payload = payload }))
         (object.entries s v.number k (payload_told row.gain payload v.facts.has.payload)) w
 
   -- It wasn't made, since the cell of the number k was found in this state, by the only step.
-  pub record Missed (row : CellRow) (k : ℕ) (v : View E S) (state : CellState) (w : View E S) : Type 0 where
+  pub record Missed (row : CellRow) (k : ℕ) (v : View E S) (state : CellState) (w : View E S)
+      : Type 0 where
     pub word : ℕ
     pub glimpse : Glimpse
     pub number : glimpse.number ≡ k
@@ -55,7 +59,8 @@ module _ {C E S : Type 0} (object : Object E) (primitive : C → Primitive E S) 
     pub was : WasFound primitive (HasCell glimpse) [] w
 
   -- the same of an exchange that wanted this payload there, with the one that was found
-  pub record MissedCell (row : CellRow) (k payload : ℕ) (v : View E S) (cell : CellWord) (w : View E S) : Type 0 where
+  pub record MissedCell (row : CellRow) (k payload : ℕ) (v : View E S) (cell : CellWord)
+      (w : View E S) : Type 0 where
     pub missed : Missed row k v cell.state w
     pub payload_is : missed.glimpse.payload ≡ cell.payload
     pub other : missed.glimpse.state ≡ row.finds → missed.glimpse.payload ≢ payload
@@ -73,24 +78,30 @@ module _ {C E S : Type 0} (object : Object E) (primitive : C → Primitive E S) 
   MissedBy (at_cell row) k v found w = Missed row k v found w
 
 module _ {C S E : Type 0} {g : Ghosts C S E} where
-  -- the step was made at the cell of the number k, which had this payload, as the first and only try
+  -- the step was made at the cell of the number k, which had this payload, as the first and only
+  -- try
   abbrev pub HasMade : QueueStep → ℕ → ℕ → Pass C S E g → Pass C S E g → Type 0
-  HasMade s k payload p p' = MadeBy g.object g.primitive s (row_of s) 0 k payload (pass_view p) (pass_view p')
+  HasMade s k payload p p' =
+      MadeBy g.object g.primitive s (row_of s) 0 k payload (pass_view p) (pass_view p')
 
   -- the same, after at most one try that found another payload or state
   abbrev pub HasMadeAfter : QueueStep → ℕ → ℕ → Pass C S E g → Pass C S E g → Type 0
-  HasMadeAfter s k payload p p' = MadeBy g.object g.primitive s (row_of s) 1 k payload (pass_view p) (pass_view p')
+  HasMadeAfter s k payload p p' =
+      MadeBy g.object g.primitive s (row_of s) 1 k payload (pass_view p) (pass_view p')
 
   -- it wasn't: the cell of the number k was found in this state
   abbrev pub HasMissed : QueueStep → ℕ → CellState → Pass C S E g → Pass C S E g → Type 0
-  HasMissed s k found p p' = MissedBy g.object g.primitive (row_of s) k (pass_view p) found (pass_view p')
+  HasMissed s k found p p' =
+      MissedBy g.object g.primitive (row_of s) k (pass_view p) found (pass_view p')
 
   -- the same of an exchange that wanted this payload there, with the one that was found
   abbrev pub HasMissedCell : QueueStep → ℕ → ℕ → CellWord → Pass C S E g → Pass C S E g → Type 0
-  HasMissedCell s k payload cell p p' = MissedCellBy g.object g.primitive (row_of s) k payload (pass_view p) cell
+  HasMissedCell s k payload cell p p' =
+      MissedCellBy g.object g.primitive (row_of s) k payload (pass_view p) cell
       (pass_view p')
 
-  -- How a canceller ended its leaving: by what was decided, and with the payload that a resume had left there or none.
+  -- How a canceller ended its leaving: by what was decided, and with the payload that a resume had
+  -- left there or none.
   abbrev pub HasSettled : Bool → ℕ → Option ℕ → Pass C S E g → Pass C S E g → Type 0
   HasSettled true k None p p' = HasMade settles k 0 p p'
   HasSettled true k (Some payload) p p' = HasMadeAfter settles_owing k payload p p'

@@ -140,8 +140,8 @@ module _ {X W : Type 0} (s : Sole X W) where
     pub goes : Goes x [] size room waiting held y
     pub keeps : KeepsAll x y
 
-  -- The wait, which stood in the line or didn't, is over by this entry, and the caller then holds so
-  -- many permits.
+  -- The wait, which stood in the line or didn't, is over by this entry, and the caller then holds
+  -- so many permits.
   pub record EndsWait (wait : W) (in_line : Bool) (e : Entry) (then size room waiting : ℕ) (x y : X)
       : Type 0 where
     pub found : is_in_line (s.number wait) (object size x).line ≡ in_line

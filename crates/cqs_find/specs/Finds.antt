@@ -26,8 +26,9 @@ abbrev pub facts_searched : List Sighting → List (ℕ × ℕ) → Facts → Fa
 facts_searched found heads f = record f { heads = f.heads ++ heads; found = f.found ++ found }
 
 module _ {E S : Type 0} (object : Object E) where
-  -- A pass looked for a cell, by loads that show no event. It may have seen more of what others did, and has found
-  -- these on its way. It is at what it was at, and has, owes and waits for what it did.
+  -- A pass looked for a cell, by loads that show no event. It may have seen more of what others
+  -- did, and has found these on its way. It is at what it was at, and has, owes and waits for what
+  -- it did.
   pub record Searched (v w : View E S) : Type 0 where
     pub found : List Sighting
     pub heads : List (ℕ × ℕ)

@@ -35,8 +35,8 @@ abbrev pub cell_of : ℕ → CoreState → ℕ → Glimpse
 cell_of k state payload = record { number = k; state = state; payload = payload }
 
 module _ {C E S : Type 0} (object : Object E) (primitive : C → Primitive E S) where
-  -- The step s was made at the cell of the number k, which it found in this state, after a search for it and at most
-  -- four exchanges that weren't made.
+  -- The step s was made at the cell of the number k, which it found in this state, after a search
+  -- for it and at most four exchanges that weren't made.
   pub record Met (s : QueueStep) (state : CoreState) (at : Doing) (over : List ℕ) (payload k : ℕ)
       (v w : View E S) : Type 0 where
     pub tried : List Sighting
@@ -48,18 +48,22 @@ module _ {C E S : Type 0} (object : Object E) (primitive : C → Primitive E S) 
     pub cell : FoundCell word (cell_of k state left)
     pub saw : Saw object v (facts_met at over (tried ++ Cell k word ∷ []) heads v.facts)
         (object.entries s v.number k payload) w
-    pub was : WasFound primitive (HasCell (cell_of k state left)) (object.entries s v.number k payload) w
+    pub was : WasFound primitive (HasCell (cell_of k state left))
+        (object.entries s v.number k payload) w
 
   -- the number was passed over; or the resume ended there, by the state that the cell was found in
   abbrev pub Meets : ℕ → ℕ → View E S → Option Resumed → View E S → Type 0
   Meets payload k v None w = Met passes_over state.Cancelled doing.Owes (k ∷ []) payload k v w
-  Meets payload k v (Some (Served n)) w = (n ≡ k) × Met serves state.Waiter doing.Idle [] payload k v w
+  Meets payload k v (Some (Served n)) w =
+      (n ≡ k) × Met serves state.Waiter doing.Idle [] payload k v w
   Meets payload k v (Some (Left n)) w =
       (n ≡ k) × (Met leaves state.Empty doing.Idle [] payload k v w
       ⊎ Met delegates state.Cancelling doing.Idle [] payload k v w)
-  Meets payload k v (Some (Refused n)) w = (n ≡ k) × Met ends_refused state.Refused doing.Idle [] payload k v w
+  Meets payload k v (Some (Refused n)) w =
+      (n ≡ k) × Met ends_refused state.Refused doing.Idle [] payload k v w
   Meets payload k v (Some (Under under)) w = ⊥
 
 module _ {C S E : Type 0} {g : Ghosts C S E} where
   abbrev pub HasMet : ℕ → ℕ → Pass C S E g → Option Resumed → Pass C S E g → Type 0
-  HasMet payload k p result p' = Meets g.object g.primitive payload k (pass_view p) result (pass_view p')
+  HasMet payload k p result p' =
+      Meets g.object g.primitive payload k (pass_view p) result (pass_view p')

@@ -42,9 +42,11 @@ module _ {C E S : Type 0} (primitive : C → Primitive E S) where
   AreOver w (r ∷ rs) = IsOver w r × AreOver w rs
 
 module _ {C E S : Type 0} (object : Object E) (primitive : C → Primitive E S) where
-  -- The resume ended at the number k, by this step on its cell, which it found in this state. It passed over the
-  -- numbers before, fewer than `most` of which it drew. The pass is idle, and holds and waits for what it did before.
-  pub record Ended (s : QueueStep) (state : CoreState) (most : ℕ) (ticket : Option ℕ) (payload k : ℕ)
+  -- The resume ended at the number k, by this step on its cell, which it found in this state. It
+  -- passed over the numbers before, fewer than `most` of which it drew. The pass is idle, and holds
+  -- and waits for what it did before.
+  pub record Ended (s : QueueStep) (state : CoreState) (most : ℕ) (ticket : Option ℕ)
+      (payload k : ℕ)
       (v w : View E S) : Type 0 where
     pub over : List Round
     pub last : Round
@@ -53,15 +55,19 @@ module _ {C E S : Type 0} (object : Object E) (primitive : C → Primitive E S) 
     pub few : drawn_in over < most
     pub are_over : AreOver primitive w over
     pub found : IsFoundIn state last
-    pub was : WasFound primitive (HasCell (cell_in state last)) (object.entries s v.number k payload) w
-    pub called : Called object v (over_entries object v.number payload over ++ round_entries object v.number payload s
+    pub was : WasFound primitive (HasCell (cell_in state last))
+        (object.entries s v.number k payload) w
+    pub called : Called object v
+        (over_entries object v.number payload over ++ round_entries object v.number payload s
         last)
         (object.entries s v.number k payload) w
-    pub facts_are : w.facts ≡ facts_after_rounds doing.Idle (numbers over) (over ++ last ∷ []) v.facts
+    pub facts_are : w.facts
+        ≡ facts_after_rounds doing.Idle (numbers over) (over ++ last ∷ []) v.facts
 
-  -- It drew `most` numbers and passed over each of them. The pass still owes the resumption, and the last of the
-  -- numbers comes after those that it drew before.
-  pub record Stopped (most : ℕ) (ticket : Option ℕ) (payload : ℕ) (under : token.Under) (v w : View E S) : Type 0 where
+  -- It drew `most` numbers and passed over each of them. The pass still owes the resumption, and
+  -- the last of the numbers comes after those that it drew before.
+  pub record Stopped (most : ℕ) (ticket : Option ℕ) (payload : ℕ) (under : token.Under)
+      (v w : View E S) : Type 0 where
     pub over : List Round
     pub opens : IsOpenedWith ticket over
     pub all : drawn_in over ≡ most
@@ -78,12 +84,15 @@ module _ {C E S : Type 0} (object : Object E) (primitive : C → Primitive E S) 
   abbrev pub Resumes : ℕ → Option ℕ → ℕ → View E S → Resumed → View E S → Type 0
   Resumes most ticket payload v (Served k) w = Ended serves state.Waiter most ticket payload k v w
   Resumes most ticket payload v (Left k) w =
-      Ended leaves state.Empty most ticket payload k v w ⊎ Ended delegates state.Cancelling most ticket payload k v w
-  Resumes most ticket payload v (Refused k) w = Ended ends_refused state.Refused most ticket payload k v w
+      Ended leaves state.Empty most ticket payload k v w
+      ⊎ Ended delegates state.Cancelling most ticket payload k v w
+  Resumes most ticket payload v (Refused k) w =
+      Ended ends_refused state.Refused most ticket payload k v w
   Resumes most ticket payload v (Under under) w = Stopped most ticket payload under v w
 
 module _ {C S E : Type 0} {g : Ghosts C S E} where
-  -- a resumption of this payload went on, by at most so many numbers that it passed over, from an open ticket or none
+  -- a resumption of this payload went on, by at most so many numbers that it passed over, from an
+  -- open ticket or none
   abbrev pub HasResumed : ℕ → Option ℕ → ℕ → Pass C S E g → Resumed → Pass C S E g → Type 0
   HasResumed most ticket payload p result p' =
       Resumes g.object g.primitive most ticket payload (pass_view p) result (pass_view p')

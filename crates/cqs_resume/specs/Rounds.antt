@@ -17,7 +17,8 @@ pub record Round : Type 0 where
   pub number : ℕ
   -- whether the call drew it: it didn't draw the one whose ticket was open already
   pub drawn : Bool
-  -- what it found on the way: where its cell was looked for, and by exchanges on it that weren't made
+  -- what it found on the way: where its cell was looked for, and by exchanges on it that weren't
+  -- made
   pub tried : List Sighting
   pub heads : List (ℕ × ℕ)
   -- the cell's word and payload, as the step that was made found them
@@ -28,8 +29,8 @@ pub record Round : Type 0 where
 abbrev pub cell_in : CoreState → Round → Glimpse
 cell_in state r = record { number = r.number; state = state; payload = r.payload }
 
--- the step of the round found the cell in this state, after a search for it and at most four exchanges that weren't
--- made
+-- the step of the round found the cell in this state, after a search for it and at most four
+-- exchanges that weren't made
 pub record IsFoundIn (state : CoreState) (r : Round) : Type 0 where
   pub cell : FoundCell r.word (cell_in state r)
   pub few : length r.tried + length r.heads ≤ longest_search + 4
@@ -79,7 +80,8 @@ IsOpenedWith None rounds = AreDrawn rounds
 IsOpenedWith (Some k) [] = ⊥
 IsOpenedWith (Some k) (r ∷ rs) = (r.number ≡ k) × (r.drawn ≡ false) × AreDrawn rs
 
--- The pass is at this after the rounds, has passed over these numbers, and has all else as it had it.
+-- The pass is at this after the rounds, has passed over these numbers, and has all else as it had
+-- it.
 abbrev pub facts_after_rounds : Doing → List ℕ → List Round → Facts → Facts
 facts_after_rounds at over rounds f = record f {
   doing = at;
@@ -91,7 +93,8 @@ facts_after_rounds at over rounds f = record f {
 }
 
 module _ {E : Type 0} (object : Object E) (pass payload : ℕ) where
-  -- the entries of a round of this pass that ended by this step; and of those that passed over their numbers
+  -- the entries of a round of this pass that ended by this step; and of those that passed over
+  -- their numbers
   abbrev pub draw_entries : Bool → ℕ → List E
   draw_entries true k = object.entries reaches pass k payload
   draw_entries false k = []

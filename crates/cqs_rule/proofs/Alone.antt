@@ -12,7 +12,8 @@ use Rattle.cqs_rule.specs.Ruled.{Ruled}
 use Rattle.cqs_rule.proofs.Crew.{alone-rests}
 
 -- nothing is told of a pass that isn't
-pub not-alone : {C E S : Type 0} (primitive : C → Primitive E S) (v : View E S) → v.alone ≡ false → TellsAlone primitive v
+pub not-alone : {C E S : Type 0} (primitive : C → Primitive E S) (v : View E S) → v.alone ≡ false
+    → TellsAlone primitive v
 not-alone primitive v other = λ one alone. absurd (cc (other, alone))
 
 module _ {C E S : Type 0} (object : Object E) (all : C → Primitive E S) (passes limit : ℕ) (x : C)

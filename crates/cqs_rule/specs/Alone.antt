@@ -7,8 +7,8 @@ use Rattle.cqs_rule.specs.Object.{Primitive}
 use Rattle.cqs_rule.specs.Ruled.{Stands, Rests}
 
 module _ {C E S : Type 0} (primitive : C → Primitive E S) where
-  -- The pass of this view is alone: what the client shows goes with all that it has seen, and some values handed in; the pass stands
-  -- there at its facts, and every other number rests.
+  -- The pass of this view is alone: what the client shows goes with all that it has seen, and some
+  -- values handed in; the pass stands there at its facts, and every other number rests.
   pub record IsAlone (v : View E S) : Type 0 where
     pub client : C
     pub opening_is : (primitive client).opening ≡ v.opening
@@ -24,6 +24,7 @@ module _ {C E S : Type 0} (primitive : C → Primitive E S) where
   TellsAlone v = v.weight ≡ 1 → v.alone ≡ true → IsAlone v
 
   -- a step that tells this tells it of a pass that is alone, too
-  abbrev pub and_alone : (Step (Option S) → Me (Option S) (View E S) → ℕ → Me (Option S) (View E S) → Type 0)
+  abbrev pub and_alone :
+      (Step (Option S) → Me (Option S) (View E S) → ℕ → Me (Option S) (View E S) → Type 0)
       → Step (Option S) → Me (Option S) (View E S) → ℕ → Me (Option S) (View E S) → Type 0
   and_alone told st me n me' = told st me n me' × TellsAlone me'.0

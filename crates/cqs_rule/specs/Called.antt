@@ -6,9 +6,9 @@ use Rattle.cqs_rule.specs.Object.{Object}
 use Rattle.cqs_rule.specs.Views.{IsSame}
 
 module _ {E S : Type 0} (object : Object E) where
-  -- The call rule. What the pass had seen is a beginning of what it has seen now. In the new part the entries that name
-  -- the pass, or one met into it, are those of `entries` that do; what the last step appended is last. A pass that was
-  -- alone has seen just its own entries.
+  -- The call rule. What the pass had seen is a beginning of what it has seen now. In the new part
+  -- the entries that name the pass, or one met into it, are those of `entries` that do; what the
+  -- last step appended is last. A pass that was alone has seen just its own entries.
   pub record Called (v : View E S) (entries last : List E) (w : View E S) : Type 0 where
     pub more : List E
     pub seen : w.seen ≡ v.seen ++ more

@@ -1,5 +1,5 @@
--- What a client owes: that its words, its history and the values handed in go with what is hidden, from the opening on
--- and at each step of the queue.
+-- What a client owes: that its words, its history and the values handed in go with what is hidden,
+-- from the opening on and at each step of the queue.
 use Rattle.std.specs.Prelude.{◌≡◌, ◌≢◌, ℕ, ◌+◌, ◌-◌, ◌<◌, ◌≤◌, ◌^◌, Bool, List, [], ◌++◌, length, slice_get, Option, Some}
 use Rattle.cqs_core.specs.declared.cells.CoreCell.{CoreCell}
 use Rattle.cqs_core.specs.declared.doings.Doing.TheVariants as doing
@@ -45,40 +45,51 @@ module _ {E S : Type 0} (object : Object E) (primitive : Primitive E S) where
   pub record IsClient : Type 0 where
     -- its words as they open go with a queue as it opens
     pub begins : (passes : ℕ) → 0 < passes → passes ≤ 32
-        → primitive.shows (first_hidden passes primitive.values primitive.held) (four primitive.words) [] []
+        → primitive.shows (first_hidden passes primitive.values primitive.held)
+        (four primitive.words) [] []
     -- each step of the queue that suits it and is open there appends its entries
-    pub steps : (c : Hidden) (s : QueueStep) (p k : ℕ) (found : Option CoreCell) (has : Has) (payload : ℕ)
+    pub steps : (c : Hidden) (s : QueueStep) (p k : ℕ) (found : Option CoreCell) (has : Has)
+        (payload : ℕ)
         (words : List ℕ) (log : List E) (handed : List S)
-        → primitive.shows c words log handed → IsOpenStep c.queue s p k found → slice_get c.has p ≡ Some has
+        → primitive.shows c words log handed → IsOpenStep c.queue s p k found
+        → slice_get c.has p ≡ Some has
         → IsPayload (row_of s) has (c.payloads k) payload → Suits primitive.manner s
         → c.queue.suspends < no_number → c.queue.resumes < no_number
         → primitive.shows (happened object.gains c s p k found has payload) words
         (log ++ object.entries s p k payload) handed
     -- who may draw is no part of what it shows
     pub counts : (c : Hidden) (p : ℕ) (may : Bool) (words : List ℕ) (log : List E) (handed : List S)
-        → primitive.shows c words log handed → primitive.shows (now_may_draw c p may) words log handed
+        → primitive.shows c words log handed
+        → primitive.shows (now_may_draw c p may) words log handed
     -- what one idle pass holds and has in hand may become that of another
-    pub hands : (c : Hidden) (from to : ℕ) (mine theirs : Has) (words : List ℕ) (log : List E) (handed : List S)
+    pub hands : (c : Hidden) (from to : ℕ) (mine theirs : Has) (words : List ℕ) (log : List E)
+        (handed : List S)
         → primitive.shows c words log handed → from ≢ to
-        → slice_get c.queue.doing from ≡ Some doing.Idle → slice_get c.queue.doing to ≡ Some doing.Idle
+        → slice_get c.queue.doing from ≡ Some doing.Idle
+        → slice_get c.queue.doing to ≡ Some doing.Idle
         → slice_get c.has from ≡ Some mine → slice_get c.has to ≡ Some theirs
-        → primitive.shows (hands_over c from (emptied mine) to (gathered theirs mine)) words log handed
+        → primitive.shows (hands_over c from (emptied mine) to (gathered theirs mine)) words log
+        handed
     -- a step of the queue appends no entry that names another pass
-    pub silent : (s : QueueStep) (p k payload : ℕ) → NamesOnly object.names p (object.entries s p k payload)
+    pub silent : (s : QueueStep) (p k payload : ℕ)
+        → NamesOnly object.names p (object.entries s p k payload)
     -- the queue part is sound, and the history legal
-    pub sound : (c : Hidden) (words : List ℕ) (log : List E) (handed : List S) → primitive.shows c words log handed
+    pub sound : (c : Hidden) (words : List ℕ) (log : List E) (handed : List S)
+        → primitive.shows c words log handed
         → IsSound c.queue
     pub legal_shown : (c : Hidden) (words : List ℕ) (log : List E) (handed : List S)
         → primitive.shows c words log handed → object.legal primitive.opening log
     -- what a pass holds fits 32 bits
-    pub held_fits : (c : Hidden) (words : List ℕ) (log : List E) (handed : List S) (p : ℕ) (has : Has)
+    pub held_fits : (c : Hidden) (words : List ℕ) (log : List E) (handed : List S) (p : ℕ)
+        (has : Has)
         → primitive.shows c words log handed → slice_get c.has p ≡ Some has → has.held < 2 ^ 32
-    -- where a resumption is owed, fewer numbers were drawn to resume at than were drawn to suspend at, wait at the
-    -- door, or opened with a value; and so where one more is begun
+    -- where a resumption is owed, fewer numbers were drawn to resume at than were drawn to suspend
+    -- at, wait at the door, or opened with a value; and so where one more is begun
     pub reaches_few : (c : Hidden) (words : List ℕ) (log : List E) (handed : List S) (p : ℕ)
         → primitive.shows c words log handed → slice_get c.queue.doing p ≡ Some doing.Owes
         → c.queue.resumes < c.queue.suspends + length (door c.queue) + primitive.values
-    pub begins_few : (c : Hidden) (words : List ℕ) (log : List E) (handed : List S) (p : ℕ) (has : Has) (cost : Cost)
+    pub begins_few : (c : Hidden) (words : List ℕ) (log : List E) (handed : List S) (p : ℕ)
+        (has : Has) (cost : Cost)
         (payload : ℕ)
         → primitive.shows c words log handed → slice_get c.queue.doing p ≡ Some doing.Idle
         → slice_get c.has p ≡ Some has

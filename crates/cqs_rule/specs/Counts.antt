@@ -36,8 +36,8 @@ pub record Counts (row : CounterRow) (facts : Facts) (payload word : ℕ) (by : 
   pub word_is : word ≡ counter_place row.counter
   pub one : by ≡ pos 1
 
--- the element that is put comes first among the value slots that the pass has in hand; else it resumes with what it
--- owes
+-- the element that is put comes first among the value slots that the pass has in hand; else it
+-- resumes with what it owes
 abbrev pub first_slot : List ℕ → ℕ
 first_slot slots = slice_index slots 0
 
@@ -47,13 +47,15 @@ payload_paid one_owed has = has.payload
 payload_paid one_element has = first_slot has.slots
 
 abbrev pub IsCountBy : StepRow → Facts → ℕ → ℤ → Type 0
-IsCountBy (at_counter row) facts word by = Counts row facts (payload_paid row.cost facts.has) word by
+IsCountBy (at_counter row) facts word by =
+    Counts row facts (payload_paid row.cost facts.has) word by
 IsCountBy (at_cell row) facts word by = ⊥
 
 abbrev pub IsCount : QueueStep → Facts → ℕ → ℤ → Type 0
 IsCount s facts word by = IsCountBy (row_of s) facts word by
 
--- where the number n was drawn by a pass at these facts: one to resume at comes after those that it drew before
+-- where the number n was drawn by a pass at these facts: one to resume at comes after those that it
+-- drew before
 abbrev pub IsDrawnFrom : Counter → Facts → ℕ → Type 0
 IsDrawnFrom to_suspend facts n = Unit {0}
 IsDrawnFrom to_resume facts n = IsBehind n facts
@@ -77,7 +79,8 @@ module _ {E : Type 0} (object : Object E) where
     abbrev pub Drew : QueueStep → View E S → ℕ → View E S → Type 0
     Drew s v n w = DrewBy s (row_of s) v n w
 
-    abbrev pub drew : QueueStep → Step (Option S) → Me (Option S) (View E S) → ℕ → Me (Option S) (View E S) → Type 0
+    abbrev pub drew : QueueStep → Step (Option S) → Me (Option S) (View E S) → ℕ
+        → Me (Option S) (View E S) → Type 0
     drew s st me n me' =
         Drew s me.0 n me'.0 × (me'.1 ≡ me.1) × IsLive object me'.0
         × Carries object.gains.held (row_of s) me.0.facts me'.0.facts × IsDrawnAt s me.0.facts n

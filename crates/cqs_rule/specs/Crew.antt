@@ -1,5 +1,5 @@
--- What the steps on the crew's word tell: a load of it, the exchange by which a pass is made, and the step by which one
--- that was joined away is counted out.
+-- What the steps on the crew's word tell: a load of it, the exchange by which a pass is made, and
+-- the step by which one that was joined away is counted out.
 use Rattle.std.specs.Prelude.{◌≡◌, ◌≢◌, ◌⊎◌, ℕ, ◌<◌, ◌==◌, true, false, List, [], ◌∷◌, ◌++◌, length, Option}
 use Rattle.atomic_table.specs.Table.{Me, Step}
 use Rattle.cqs_core.specs.declared.doings.Doing.TheVariants as doing
@@ -13,12 +13,14 @@ use Rattle.cqs_rule.specs.Object.{Object, Primitive}
 use Rattle.cqs_rule.specs.Saw.{Saw, IsLive}
 use Rattle.cqs_rule.specs.Views.{made_in, live_in, crew_turn, first_facts, as_before}
 
--- A pass between two calls is idle, or owes something: it isn't in the middle of a call that owes nothing.
+-- A pass between two calls is idle, or owes something: it isn't in the middle of a call that owes
+-- nothing.
 abbrev pub IsBetween : Facts → Type 0
 IsBetween f = (f.doing ≡ doing.Idle) ⊎ (is_owing f.doing ≡ true)
 
--- The pass of this view is alone: what the client shows goes with all that it has seen, the pass stands there at its
--- facts, and every other number is in the middle of nothing, holds nothing, has nothing in hand and owes nothing.
+-- The pass of this view is alone: what the client shows goes with all that it has seen, the pass
+-- stands there at its facts, and every other number is in the middle of nothing, holds nothing, has
+-- nothing in hand and owes nothing.
 pub record IsSole {C E S : Type 0} (primitive : C → Primitive E S) (v : View E S) : Type 0 where
   pub client : C
   pub opening_is : (primitive client).opening ≡ v.opening
@@ -48,8 +50,8 @@ module _ {E : Type 0} (object : Object E) where
       pub kept : v.alone ≡ true → w.alone ≡ true
       pub saw : Saw object v v.facts [] (as_before v w)
 
-    -- The exchange by which a pass is made, where `first` stands at the crew's word, found n. Where it was not made,
-    -- the turn of the crew has risen.
+    -- The exchange by which a pass is made, where `first` stands at the crew's word, found n. Where
+    -- it was not made, the turn of the crew has risen.
     pub record Tried (first : ℕ) (v : View E S) (n : ℕ) (w : View E S) : Type 0 where
       pub crew : w.crew ≡ n
       pub saw : Saw object v v.facts [] (as_before v w)
@@ -58,8 +60,8 @@ module _ {E : Type 0} (object : Object E) where
       pub made : n ≡ first → IsDoubled n w
       pub unnamed : n ≡ first → part object.names (made_in n) w.seen ≡ []
 
-    -- The view v has taken in what another pass, with these numbers, had seen, and stands at these facts now. The
-    -- entries of each number are those that the pass which had it had seen.
+    -- The view v has taken in what another pass, with these numbers, had seen, and stands at these
+    -- facts now. The entries of each number are those that the pass which had it had seen.
     pub record Met (v : View E S) (facts : Facts) (seen : List E) (handed : List S) (own : List ℕ)
         (w : View E S) : Type 0 where
       pub number : w.number ≡ v.number
@@ -82,16 +84,20 @@ module _ {E : Type 0} (object : Object E) where
     counted_by told st me n me' = Counted me.0 n me'.0 × (me'.1 ≡ me.1) × IsLive object me'.0
         × (me'.0.alone ≡ true → told me'.0)
 
-    abbrev pub tried_by : Step (Option S) → Me (Option S) (View E S) → ℕ → Me (Option S) (View E S) → Type 0
+    abbrev pub tried_by : Step (Option S) → Me (Option S) (View E S) → ℕ → Me (Option S) (View E S)
+        → Type 0
     tried_by st me n me' = Tried st.first me.0 n me'.0 × (me'.1 ≡ me.1) × IsLive object me'.0
 
-    abbrev pub met_by : Step (Option S) → Me (Option S) (View E S) → ℕ → Me (Option S) (View E S) → Type 0
+    abbrev pub met_by : Step (Option S) → Me (Option S) (View E S) → ℕ → Me (Option S) (View E S)
+        → Type 0
     met_by st me n me' =
-        Met me.0 me.0.facts me.0.other me.0.other_handed me.0.others me'.0 × (me'.0.crew ≡ n) × (me'.1 ≡ me.1)
+        Met me.0 me.0.facts me.0.other me.0.other_handed me.0.others me'.0 × (me'.0.crew ≡ n)
+        × (me'.1 ≡ me.1)
         × IsLive object me'.0
 
 module _ {E S : Type 0} (object : Object E) where
-  -- the new pass: it has seen and holds what this says, has a number of its own, and no entry names it
+  -- the new pass: it has seen and holds what this says, has a number of its own, and no entry names
+  -- it
   pub record Came (v w : View E S) : Type 0 where
     pub number : w.number ≡ made_in v.crew
     pub own : w.own ≡ w.number ∷ []

@@ -17,9 +17,9 @@ use Rattle.cqs_rule.specs.Lists.{NamesOnly}
 use Rattle.cqs_rule.specs.Object.{Object, Primitive}
 use Rattle.cqs_rule.specs.Saw.{Saw, IsLive, WasFound}
 
--- What a step on a client's word meets: what the object opened with, the pass and what it is at, the word found, and
--- whether the word was changed as the step means to. An exchange that finds another word changes nothing; every other
--- step is made in any case.
+-- What a step on a client's word meets: what the object opened with, the pass and what it is at,
+-- the word found, and whether the word was changed as the step means to. An exchange that finds
+-- another word changes nothing; every other step is made in any case.
 pub record Moment : Type 0 where
   pub opening : Opening
   pub pass : ℕ
@@ -27,9 +27,9 @@ pub record Moment : Type 0 where
   pub found : ℕ
   pub made : Bool
 
--- What such a step shows: its entries, and what its pass is doing then and has of its own. How much it holds, and how
--- many further resumptions it owes, is counted where the program runs, too: by what the pass had, the word found, and
--- whether the step was made.
+-- What such a step shows: its entries, and what its pass is doing then and has of its own. How much
+-- it holds, and how many further resumptions it owes, is counted where the program runs, too: by
+-- what the pass had, the word found, and whether the step was made.
 pub record Event (E : Type 0) : Type 0 where
   pub entries : Moment → List E
   pub doing : Moment → Doing
@@ -38,8 +38,8 @@ pub record Event (E : Type 0) : Type 0 where
   pub further : Moment → ℕ
   pub slots : Moment → List ℕ
 
--- whether a step on a client's word is made, by the word that it finds: a load or a sum in any case, and an exchange
--- where it finds the word that it saw
+-- whether a step on a client's word is made, by the word that it finds: a load or a sum in any
+-- case, and an exchange where it finds the word that it saw
 abbrev pub in_any_case : ℕ → Bool
 in_any_case n = true
 
@@ -48,9 +48,11 @@ where_found saw n = n == saw
 
 -- the step of the pass p at these facts that finds n
 abbrev pub moment : Opening → ℕ → Facts → (ℕ → Bool) → ℕ → Moment
-moment opening p facts made n = record { opening = opening; pass = p; facts = facts; found = n; made = made n }
+moment opening p facts made n = record
+    { opening = opening; pass = p; facts = facts; found = n; made = made n }
 
--- the moment, as far as the program knows it: what the pass held, the word found, and whether the step was made
+-- the moment, as far as the program knows it: what the pass held, the word found, and whether the
+-- step was made
 pub record IsMoment (held found : ℕ) (made : Bool) (m : Moment) : Type 0 where
   pub held_is : m.facts.has.held ≡ held
   pub found_is : m.found ≡ found
@@ -86,21 +88,28 @@ module _ {E : Type 0} (event : Event E) where
 abbrev pub HasWord : ℕ → ℕ → Hidden → List ℕ → Type 0
 HasWord i n c words = slice_index words i ≡ n
 
-module _ {C E S : Type 0} (object : Object E) (primitive : C → Primitive E S) (event : Event E) where
+module _ {C E S : Type 0} (object : Object E) (primitive : C → Primitive E S)
+    (event : Event E) where
   -- a step on the client's word at this place found n, and showed the event
-  pub record Moved (made : ℕ → Bool) (place : ℕ) (v : View E S) (n : ℕ) (w : View E S) : Type 0 where
+  pub record Moved (made : ℕ → Bool) (place : ℕ) (v : View E S) (n : ℕ) (w : View E S)
+      : Type 0 where
     pub saw : Saw object v (facts_moved event place (moment v.opening v.number v.facts made n))
         (event.entries (moment v.opening v.number v.facts made n)) w
     pub was : (i : ℕ) → place ≡ client_place i
-        → WasFound primitive (HasWord i n) (event.entries (moment v.opening v.number v.facts made n)) w
+        → WasFound primitive (HasWord i n)
+        (event.entries (moment v.opening v.number v.facts made n)) w
 
   -- a load, or a sum: it is made in any case
-  abbrev pub moved_by : Step (Option S) → Me (Option S) (View E S) → ℕ → Me (Option S) (View E S) → Type 0
-  moved_by st me n me' = Moved in_any_case st.word me.0 n me'.0 × (me'.1 ≡ me.1) × IsLive object me'.0
+  abbrev pub moved_by : Step (Option S) → Me (Option S) (View E S) → ℕ → Me (Option S) (View E S)
+      → Type 0
+  moved_by st me n me' =
+      Moved in_any_case st.word me.0 n me'.0 × (me'.1 ≡ me.1) × IsLive object me'.0
 
   -- an exchange, from its first operand
-  abbrev pub exchanged_by : Step (Option S) → Me (Option S) (View E S) → ℕ → Me (Option S) (View E S) → Type 0
-  exchanged_by st me n me' = Moved (where_found st.first) st.word me.0 n me'.0 × (me'.1 ≡ me.1) × IsLive object me'.0
+  abbrev pub exchanged_by : Step (Option S) → Me (Option S) (View E S) → ℕ
+      → Me (Option S) (View E S) → Type 0
+  exchanged_by st me n me' =
+      Moved (where_found st.first) st.word me.0 n me'.0 × (me'.1 ≡ me.1) × IsLive object me'.0
 
 -- a word with a signed number added, as it wraps
 abbrev pub raise : ℤ → ℕ
@@ -118,13 +127,15 @@ exchanged saw new n = either (where_found saw n) new n
 abbrev pub longest_line : ℕ
 longest_line = 4194304
 
--- What a client owes for a step on its word i, by which n becomes f n: wherever the pass is at these facts, the
--- client's words, the entries and the pass's next facts go together again. What is owed stays, and a step without an
--- event leaves all that the pass has, and whether it owes. A step that brings the pass to the door needs that it may
--- draw, unless it is there already.
-pub record Moves {E S : Type 0} (object : Object E) (primitive : Primitive E S) (event : Event E) (made : ℕ → Bool)
+-- What a client owes for a step on its word i, by which n becomes f n: wherever the pass is at
+-- these facts, the client's words, the entries and the pass's next facts go together again. What is
+-- owed stays, and a step without an event leaves all that the pass has, and whether it owes. A step
+-- that brings the pass to the door needs that it may draw, unless it is there already.
+pub record Moves {E S : Type 0} (object : Object E) (primitive : Primitive E S) (event : Event E)
+    (made : ℕ → Bool)
     (p : ℕ) (facts : Facts) (i : ℕ) (f : ℕ → ℕ) : Type 0 where
-  pub step : (c : Hidden) (words : List ℕ) (log : List E) (handed : List S) → primitive.shows c words log handed
+  pub step : (c : Hidden) (words : List ℕ) (log : List E) (handed : List S)
+      → primitive.shows c words log handed
       → slice_get c.queue.doing p ≡ Some facts.doing → slice_get c.has p ≡ Some facts.has
       → length (line c.queue) < longest_line → slice_index words i < 2 ^ 64
       → primitive.shows
@@ -132,7 +143,8 @@ pub record Moves {E S : Type 0} (object : Object E) (primitive : Primitive E S) 
       (has_then event (moment primitive.opening p facts made (slice_index words i))))
       (slice_set words i (f (slice_index words i)))
       (log ++ event.entries (moment primitive.opening p facts made (slice_index words i))) handed
-  pub silent : (n : ℕ) → NamesOnly object.names p (event.entries (moment primitive.opening p facts made n))
+  pub silent : (n : ℕ)
+      → NamesOnly object.names p (event.entries (moment primitive.opening p facts made n))
   pub door : (n : ℕ) → event.doing (moment primitive.opening p facts made n) ≡ doing.Door
       → (facts.doing ≡ doing.Door) ⊎ (facts.may_draw ≡ true)
   pub owed : (n : ℕ) → is_owing facts.doing ≡ true
@@ -141,4 +153,5 @@ pub record Moves {E S : Type 0} (object : Object E) (primitive : Primitive E S) 
       → has_then event (moment primitive.opening p facts made n) ≡ facts.has
   pub owing : (n : ℕ) → event.entries (moment primitive.opening p facts made n) ≡ []
       → is_owing (event.doing (moment primitive.opening p facts made n)) ≡ is_owing facts.doing
-  pub fits : (n : ℕ) → facts.has.payload < 2 ^ 20 → event.payload (moment primitive.opening p facts made n) < 2 ^ 20
+  pub fits : (n : ℕ) → facts.has.payload < 2 ^ 20
+      → event.payload (moment primitive.opening p facts made n) < 2 ^ 20

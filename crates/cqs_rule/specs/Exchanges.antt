@@ -19,7 +19,8 @@ use Rattle.cqs_rule.specs.Placed.{KnowsPlace, place_at}
 use Rattle.cqs_rule.specs.Ruled.{word_of}
 use Rattle.cqs_rule.specs.Saw.{Saw, IsLive, WasFound}
 
--- An idle pass works at the cell of a wait of its own, every other at that of the number which it is at.
+-- An idle pass works at the cell of a wait of its own, every other at that of the number which it
+-- is at.
 abbrev pub IsOwnWait : Stage → ℕ → Facts → Type 0
 IsOwnWait stage.idle k facts = Has k facts.waits
 IsOwnWait stage.door k facts = Unit {0}
@@ -33,9 +34,10 @@ IsOwnWait (stage.decided on) k facts = Unit {0}
 abbrev pub payload_left : Bool → ℕ → ℕ → ℕ
 payload_left brings owed found = if brings then owed else found
 
--- An exchange of this row that a pass may make on the cell of the number k: from the state that it wants to the one
--- that it makes.
-pub record Exchanges {E S : Type 0} (row : CellRow) (v : View E S) (k word expected new : ℕ) : Type 0 where
+-- An exchange of this row that a pass may make on the cell of the number k: from the state that it
+-- wants to the one that it makes.
+pub record Exchanges {E S : Type 0} (row : CellRow) (v : View E S) (k word expected new : ℕ)
+    : Type 0 where
   pub works : v.facts.doing ≡ doing_at row.works_at k
   pub own : IsOwnWait row.works_at k v.facts
   pub place : KnowsPlace v (place_at word k)
@@ -77,7 +79,8 @@ abbrev pub HasCell : Glimpse → Hidden → List ℕ → Type 0
 HasCell g c words = (state_at c.queue g.number ≡ g.state) × (c.payloads g.number ≡ g.payload)
 
 module _ {C E S : Type 0} (object : Object E) (primitive : C → Primitive E S) where
-  -- an exchange of this row on the cell of the number k found the word n: it was made, or the cell was found otherwise
+  -- an exchange of this row on the cell of the number k found the word n: it was made, or the cell
+  -- was found otherwise
   pub record Crossed (s : QueueStep) (row : CellRow) (k expected : ℕ) (v : View E S) (n : ℕ)
       (w : View E S) : Type 0 where
     pub found : Glimpse
@@ -90,14 +93,18 @@ module _ {C E S : Type 0} (object : Object E) (primitive : C → Primitive E S) 
     pub made : n ≡ expected
         → Saw object v (facts_worked object.gains row k n
         (payload_told row.gain found.payload v.facts.has.payload) v.facts) entries w
-        × (entries ≡ object.entries s v.number k (payload_told row.gain found.payload v.facts.has.payload))
-    pub missed : n ≢ expected → Saw object v (facts_missed n found v.facts) entries w × (entries ≡ [])
+        × (entries ≡ object.entries s v.number k
+        (payload_told row.gain found.payload v.facts.has.payload))
+    pub missed : n ≢ expected → Saw object v (facts_missed n found v.facts) entries w
+        × (entries ≡ [])
 
   abbrev pub CrossedBy : QueueStep → StepRow → ℕ → ℕ → View E S → ℕ → View E S → Type 0
   CrossedBy s (at_counter row) k expected v n w = ⊥
   CrossedBy s (at_cell row) k expected v n w = Crossed s row k expected v n w
 
-  abbrev pub crossed : QueueStep → Step (Option S) → Me (Option S) (View E S) → ℕ → Me (Option S) (View E S) → Type 0
+  abbrev pub crossed : QueueStep → Step (Option S) → Me (Option S) (View E S) → ℕ
+      → Me (Option S) (View E S) → Type 0
   crossed s st me n me' =
-      CrossedBy s (row_of s) (index_in st.first) st.first me.0 n me'.0 × (me'.1 ≡ me.1) × IsLive object me'.0
+      CrossedBy s (row_of s) (index_in st.first) st.first me.0 n me'.0 × (me'.1 ≡ me.1)
+      × IsLive object me'.0
       × (n ≡ st.first → Carries object.gains.held (row_of s) me.0.facts me'.0.facts)

@@ -12,7 +12,8 @@ use Rattle.cqs_rule.specs.Hidden.{Gains, has_paid, has_gained}
 use Rattle.cqs_rule.specs.Layout.{suspends_place, resumes_place}
 use Rattle.cqs_rule.specs.Lists.{Has, without}
 
--- whether a pass that is at this owes something: a resumption, or the end of a cancellation that it began
+-- whether a pass that is at this owes something: a resumption, or the end of a cancellation that it
+-- began
 abbrev pub is_owing : Doing → Bool
 is_owing doing.Owes = true
 is_owing (doing.Ticket k) = true
@@ -37,8 +38,8 @@ abbrev pub may_then : Counter → Bool → Bool
 may_then to_suspend may = false
 may_then to_resume may = may
 
--- the last number drawn for the resumption that the pass owes: a number that it draws to resume at, and none where it
--- comes to owe what was left to it
+-- the last number drawn for the resumption that the pass owes: a number that it draws to resume at,
+-- and none where it comes to owe what was left to it
 abbrev pub reached_by : Counter → ℕ → ℕ → ℕ
 reached_by to_suspend n reached = reached
 reached_by to_resume n reached = n
@@ -64,8 +65,8 @@ passed_from stage.drawn to k passed = passed
 passed_from stage.leaving to k passed = passed
 passed_from (stage.decided on) to k passed = passed
 
--- The number n comes after those that the pass drew to resume at and passed over, and not before the last one that it
--- drew for the resumption which it owes.
+-- The number n comes after those that the pass drew to resume at and passed over, and not before
+-- the last one that it drew for the resumption which it owes.
 pub record IsBehind (n : ℕ) (f : Facts) : Type 0 where
   pub reached : f.reached ≤ n
   pub passed : (k : ℕ) → Has k f.passed → k < n
@@ -99,7 +100,8 @@ facts_worked gains row k n payload f = record f {
   found = f.found ++ Cell k n ∷ [];
 }
 
--- what a step of the queue at the number k leaves the pass at; it found the word n, and its payload is this
+-- what a step of the queue at the number k leaves the pass at; it found the word n, and its payload
+-- is this
 abbrev pub facts_after : Gains → StepRow → ℕ → ℕ → ℕ → Facts → Facts
 facts_after gains (at_counter row) k n payload f = facts_counted_by row n payload f
 facts_after gains (at_cell row) k n payload f = facts_worked gains row k n payload f
@@ -115,4 +117,8 @@ facts_watched k n f = record f { found = f.found ++ Cell k n ∷ [] }
 -- the suspend counter was found at n
 abbrev pub facts_counted : ℕ → ℕ → Facts → Facts
 facts_counted limit n f =
-    record f { may_draw = (if nat_lt n limit then true else f.may_draw); found = f.found ++ Word suspends_place n ∷ [] }
+    record f {
+      may_draw = (if nat_lt n limit then true else f.may_draw);
+      found =
+          f.found ++ Word suspends_place n ∷ [];
+    }

@@ -9,16 +9,16 @@ use Rattle.cqs_core.specs.QueueSteps.{QueueStep, row_of, StepRow, at_counter, at
 use Rattle.cqs_rule.specs.declared.view.Has.{Has}
 use Rattle.cqs_rule.specs.Lists.{without}
 
--- the queue part of a core, what each pass has of its own, who may draw a number to suspend at, and what is left in the
--- cells
+-- the queue part of a core, what each pass has of its own, who may draw a number to suspend at, and
+-- what is left in the cells
 pub record Hidden : Type 0 where
   pub queue : Queue
   pub has : List Has
   pub may_draw : List Bool
   pub payloads : ℕ → ℕ
 
--- What a pass gains that has what it waited for, where this payload came with it: how its count grows, and the value
--- slots that it has then.
+-- What a pass gains that has what it waited for, where this payload came with it: how its count
+-- grows, and the value slots that it has then.
 pub record Gains : Type 0 where
   pub held : ℕ → ℕ
   pub slots : ℕ → List ℕ
@@ -32,7 +32,8 @@ has_paid one_element payload h = record h { payload = payload; slots = without p
 -- what a pass has that had this payload from a cell
 abbrev pub has_gained : Gains → Gain → ℕ → Has → Has
 has_gained gains nothing payload h = h
-has_gained gains its_own payload h = record h { held = gains.held h.held; slots = gains.slots payload ++ h.slots }
+has_gained gains its_own payload h = record h
+    { held = gains.held h.held; slots = gains.slots payload ++ h.slots }
 has_gained gains a_debt payload h = record h { payload = payload }
 
 -- what a pass has after a step of the queue

@@ -8,6 +8,7 @@ use Rattle.cqs_rule.specs.Ruled.{number_at}
 pub record IsInside {E S : Type 0} (v : View E S) : Type 0 where
   pub number : number_at v.facts.doing < v.cells
   pub waits : (k : ℕ) → Has k v.facts.waits → k < v.cells
-  pub once : (k : ℕ) → Has k v.facts.waits → length (without k v.facts.waits) + 1 ≡ length v.facts.waits
+  pub once : (k : ℕ) → Has k v.facts.waits
+      → length (without k v.facts.waits) + 1 ≡ length v.facts.waits
   pub few : length v.facts.waits ≤ v.cells
   pub payload : v.facts.has.payload < 2 ^ 20

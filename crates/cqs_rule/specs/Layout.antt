@@ -1,4 +1,5 @@
--- Which word of the table holds what. Words that change often stand 16 apart, so that no two share a cache line.
+-- Which word of the table holds what. Words that change often stand 16 apart, so that no two share
+-- a cache line.
 use Rattle.std.specs.Prelude.{◌≢◌, ℕ, ◌+◌, ◌-◌, ◌*◌, ◌<◌, List, [], ◌∷◌, slice_index}
 
 -- the passes made and the passes live
@@ -27,7 +28,8 @@ cell_number word = word - 112
 abbrev pub words_for : ℕ → ℕ
 words_for cells = cells + 112
 
--- a word between these: it stands before the cells, and is none of the crew's, the counters' and the client's
+-- a word between these: it stands before the cells, and is none of the crew's, the counters' and
+-- the client's
 pub record IsIdle (i : ℕ) : Type 0 where
   pub before : i < cell_place 0
   pub crew : i ≢ crew_place

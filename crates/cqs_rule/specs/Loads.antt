@@ -1,5 +1,5 @@
--- The loads of the table: of the suspend counter, and of a cell. A load of a cell may be an event: the owner of a wait
--- learns what became of it, and a resume meets a cell that is settled.
+-- The loads of the table: of the suspend counter, and of a cell. A load of a cell may be an event:
+-- the owner of a wait learns what became of it, and a resume meets a cell that is settled.
 use Rattle.std.specs.Prelude.{◌≡◌, ℕ, ◌+◌, ◌<◌, ◌≤◌, Bool, false, List, [], length, Option, Some, None}
 use Rattle.atomic_table.specs.Table.{Me, Step}
 use Rattle.cqs_core.specs.declared.cells.CoreState.{CoreState}
@@ -28,8 +28,9 @@ use Rattle.cqs_rule.specs.Placed.{KnowsPlace, place_at}
 use Rattle.cqs_rule.specs.Saw.{Saw, IsLive, WasFound}
 use Rattle.cqs_rule.specs.Views.{IsSame}
 
--- A load of the suspend counter; of a cell, with no event; of a cell by the owner of its wait, which asks whether it
--- was served, or whether it is too late to cancel; of a cell by the resume of its number, in smart and in simple mode.
+-- A load of the suspend counter; of a cell, with no event; of a cell by the owner of its wait,
+-- which asks whether it was served, or whether it is too late to cancel; of a cell by the resume of
+-- its number, in smart and in simple mode.
 pub data LoadStep : Type 0 where
   counts : LoadStep
   watches : LoadStep
@@ -104,8 +105,8 @@ LoadSuits m cancels = Unit {0}
 LoadSuits m meets = IsSmart m.leaving
 LoadSuits m misses = IsAtOnce m.leaving
 
--- what the pass learns from the state of the word that it found: that a wait of its own was served, or that its
--- resumption ended
+-- what the pass learns from the state of the word that it found: that a wait of its own was served,
+-- or that its resumption ended
 abbrev pub served_in : CellState → Learned
 served_in shown.Resumed = Granted
 served_in shown.Empty = Nothing
@@ -178,7 +179,8 @@ abbrev pub told_at : StepRow → ℕ → Facts → ℕ
 told_at (at_counter row) left f = f.has.payload
 told_at (at_cell row) left f = payload_told row.gain left f.has.payload
 
--- what a load leaves the pass to count: what it holds, whether it owes, and how many waits were closed
+-- what a load leaves the pass to count: what it holds, whether it owes, and how many waits were
+-- closed
 abbrev pub held_learned : (ℕ → ℕ) → Learned → ℕ → ℕ
 held_learned gains Nothing held = held
 held_learned gains Granted held = gains held
@@ -197,7 +199,8 @@ closed_learned Ended = 0
 -- what a load of the cell of the number k leaves the pass at, by the event that it shows
 abbrev pub facts_looked : Gains → Option QueueStep → ℕ → Glimpse → Facts → Facts
 facts_looked gains None n g f = facts_watched g.number n f
-facts_looked gains (Some s) n g f = facts_after gains (row_of s) g.number n (told_at (row_of s) g.payload f) f
+facts_looked gains (Some s) n g f =
+    facts_after gains (row_of s) g.number n (told_at (row_of s) g.payload f) f
 
 module _ {E S : Type 0} where
   -- where a pass may load the cell of the number k so
@@ -243,7 +246,8 @@ module _ {C E S : Type 0} (object : Object E) (primitive : C → Primitive E S) 
     pub cell : FoundCell n glimpse
     pub may : MayStand load glimpse.state
     pub since : SinceLast glimpse v.facts.last
-    pub saw : Saw object v (facts_looked object.gains (event_of load glimpse.state) n glimpse v.facts)
+    pub saw : Saw object v
+        (facts_looked object.gains (event_of load glimpse.state) n glimpse v.facts)
         (look_entries (event_of load glimpse.state) v.number glimpse v.facts) w
     pub was : WasFound primitive (HasCell glimpse)
         (look_entries (event_of load glimpse.state) v.number glimpse v.facts) w
@@ -253,10 +257,11 @@ module _ {C E S : Type 0} (object : Object E) (primitive : C → Primitive E S) 
     pub saw : Saw object v (facts_counted v.limit n v.facts) [] w
     pub was : WasFound primitive (IsDrawn n) [] w
 
-  -- a load of the word of this number found n: of a cell, whichever it is that the pass knows to stand there and may
-  -- load so
+  -- a load of the word of this number found n: of a cell, whichever it is that the pass knows to
+  -- stand there and may load so
   abbrev pub LoadedCell : LoadStep → ℕ → View E S → ℕ → View E S → Type 0
-  LoadedCell load word v n w = (k : ℕ) → KnowsPlace v (place_at word k) → MayLook load v k → Looked load k v n w
+  LoadedCell load word v n w =
+      (k : ℕ) → KnowsPlace v (place_at word k) → MayLook load v k → Looked load k v n w
 
   abbrev pub Loaded : LoadStep → ℕ → View E S → ℕ → View E S → Type 0
   Loaded counts word v n w = CountLoaded v n w
@@ -266,7 +271,8 @@ module _ {C E S : Type 0} (object : Object E) (primitive : C → Primitive E S) 
   Loaded meets word v n w = LoadedCell meets word v n w
   Loaded misses word v n w = LoadedCell misses word v n w
 
-  abbrev pub loaded_by : LoadStep → Step (Option S) → Me (Option S) (View E S) → ℕ → Me (Option S) (View E S) → Type 0
+  abbrev pub loaded_by : LoadStep → Step (Option S) → Me (Option S) (View E S) → ℕ
+      → Me (Option S) (View E S) → Type 0
   loaded_by load st me n me' =
       Loaded load st.word me.0 n me'.0 × (me'.1 ≡ me.1) × IsLive object me'.0
       × CarriesLearned object.gains.held (learned load n) me.0.facts me'.0.facts × IsSame me.0 me'.0

@@ -4,14 +4,15 @@ use Rattle.cqs_rule.specs.declared.config.CancelMode.{CancelMode}
 use Rattle.cqs_rule.specs.declared.config.CancelMode.TheVariants.{Smart, Simple}
 use Rattle.cqs_core.specs.QueueSteps.{QueueStep, draws, enters, reaches, begins, puts, installs, takes, serves, leaves, delegates, passes_over, ends_refused, ends_missed, starts_leaving, leaves_line, leaves_at_once, settles, settles_owing, refuses, refuses_value, looks}
 
--- How a wait leaves: its client is asked, in steps of its own; or resumes pass on in any case; or at once, and the
--- resume that comes ends there.
+-- How a wait leaves: its client is asked, in steps of its own; or resumes pass on in any case; or
+-- at once, and the resume that comes ends there.
 pub data Leaving : Type 0 where
   asks : Leaving
   passes_on : Leaving
   at_once : Leaving
 
--- What pays for a resumption beside the pass that owes it: nothing; what is owed further; an element that the pass has.
+-- What pays for a resumption beside the pass that owes it: nothing; what is owed further; an
+-- element that the pass has.
 pub data Source : Type 0 where
   owed : Source
   owed_further : Source

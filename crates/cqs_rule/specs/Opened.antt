@@ -17,7 +17,8 @@ value_cell = record { state = state.Value; owner = None; collected = false }
 abbrev pub first_payload : ℕ → ℕ → ℕ
 first_payload values k = if nat_lt k values then k else 0
 
--- what a table stands for as it opens: so many passes, so many values in cells, and what the first pass holds
+-- what a table stands for as it opens: so many passes, so many values in cells, and what the first
+-- pass holds
 abbrev pub first_hidden : ℕ → ℕ → ℕ → Hidden
 first_hidden passes values held = record {
   queue = record {
@@ -33,7 +34,8 @@ first_hidden passes values held = record {
 
 -- the client's words, each of which may be missing
 abbrev pub four : List ℕ → List ℕ
-four words = slice_index words 0 ∷ slice_index words 1 ∷ slice_index words 2 ∷ slice_index words 3 ∷ []
+four words =
+    slice_index words 0 ∷ slice_index words 1 ∷ slice_index words 2 ∷ slice_index words 3 ∷ []
 
 abbrev pub first_cell : ℕ → ℕ → ℕ
 first_cell values k = if nat_lt k values then cell_word k 2 k else cell_word k 0 0

@@ -15,7 +15,8 @@ pub record OwesWith (facts : Facts) (payload : ℕ) (ticket : Option ℕ) : Type
   pub doing : facts.doing ≡ owes_at ticket
   pub owed : facts.has.payload ≡ payload
 
--- this is the last number that was drawn for the resumption, or 0 where none was, and there is a cell for it
+-- this is the last number that was drawn for the resumption, or 0 where none was, and there is a
+-- cell for it
 pub record IsReached (cells : ℕ) (facts : Facts) (reached : ℕ) : Type 0 where
   pub below : reached < cells
   pub drawn : reached ≡ facts.reached

@@ -1,4 +1,5 @@
--- The running rule of one table: what holds of its words and of its passes' views between any two steps.
+-- The running rule of one table: what holds of its words and of its passes' views between any two
+-- steps.
 use Rattle.std.specs.Prelude.{◌≡◌, ◌≢◌, ◌⊎◌, ℕ, ◌+◌, ◌<◌, ◌≤◌, ◌^◌, true, false, List, [], length, slice_index, slice_get, count_by, Option, Some, None}
 use mathlib.Core.Option.{some}
 use lib.ListN.{get_elem?}
@@ -43,7 +44,8 @@ shown_state state.Refused = shown.Refused
 abbrev pub word_of : ℕ → CoreState → ℕ → ℕ
 word_of k s payload = cell_word k (state_code (shown_state s)) payload
 
--- a table has a cell for each number that can be drawn, and for each value that stands in one at first
+-- a table has a cell for each number that can be drawn, and for each value that stands in one at
+-- first
 abbrev pub cell_count : ℕ → ℕ → ℕ → ℕ
 cell_count passes limit values = limit + passes + values
 
@@ -54,7 +56,8 @@ pub record CountersShow (q : Queue) (words : List ℕ) : Type 0 where
 
 -- the cells
 pub record CellsShow (c : Hidden) (cells : ℕ) (words : List ℕ) : Type 0 where
-  pub at : (k : ℕ) → k < cells → slice_index words (cell_place k) ≡ word_of k (state_at c.queue k) (c.payloads k)
+  pub at : (k : ℕ) → k < cells
+      → slice_index words (cell_place k) ≡ word_of k (state_at c.queue k) (c.payloads k)
   pub fits : (k : ℕ) → c.payloads k < 2 ^ 20
   pub bare : (k : ℕ) → IsBare (state_at c.queue k) → c.payloads k ≡ 0
 
@@ -62,8 +65,8 @@ pub record CellsShow (c : Hidden) (cells : ℕ) (words : List ℕ) : Type 0 wher
 pub record IdleWords (words : List ℕ) : Type 0 where
   pub none : (i : ℕ) → IsIdle i → slice_index words i ≡ 0
 
--- each list has a place for each pass that may be made, and no counter can pass the cells: those who may draw and the
--- numbers drawn are together fewer than the limit and the passes
+-- each list has a place for each pass that may be made, and no counter can pass the cells: those
+-- who may draw and the numbers drawn are together fewer than the limit and the passes
 pub record HasRoom (passes limit values : ℕ) (c : Hidden) : Type 0 where
   pub few_passes : passes ≤ 32
   pub low_limit : limit ≤ 1048576
@@ -75,7 +78,8 @@ pub record HasRoom (passes limit values : ℕ) (c : Hidden) : Type 0 where
   pub resumes : c.queue.resumes ≤ limit + passes + values
 
 -- the word of the crew, and the passes that it counts
-pub record CrewShows {E S : Type 0} (passes made live : ℕ) (words : List ℕ) (views : List (View E S)) : Type 0 where
+pub record CrewShows {E S : Type 0} (passes made live : ℕ) (words : List ℕ)
+    (views : List (View E S)) : Type 0 where
   pub word : slice_index words crew_place ≡ crew_word made live
   pub some_made : 0 < made
   pub few : made ≤ passes
@@ -123,13 +127,15 @@ pub record Stands (c : Hidden) (p : ℕ) (facts : Facts) : Type 0 where
 
 -- a pass at the door may draw
 abbrev pub DoorMayDraw : Hidden → Type 0
-DoorMayDraw c = (p : ℕ) → slice_get c.queue.doing p ≡ Some doing.Door → slice_get c.may_draw p ≡ Some true
+DoorMayDraw c =
+    (p : ℕ) → slice_get c.queue.doing p ≡ Some doing.Door → slice_get c.may_draw p ≡ Some true
 
 -- no pass has this number yet: it stands where a pass begins
 abbrev pub IsUnused : Hidden → ℕ → Type 0
 IsUnused c p = Stands c p (first_facts 0)
 
--- The pass p was met away, or was not made yet: it is in the middle of nothing, holds nothing, and has no wait.
+-- The pass p was met away, or was not made yet: it is in the middle of nothing, holds nothing, and
+-- has no wait.
 pub record Rests (c : Hidden) (p : ℕ) : Type 0 where
   pub facts : Facts
   pub stands : Stands c p facts
@@ -155,7 +161,8 @@ pub record IsKept {E S : Type 0} (views : List (View E S)) (n : ℕ) : Type 0 wh
   pub has : Has n (all_own view)
 
 module _ {E S : Type 0} (object : Object E) where
-  -- what a view has seen of the history: how it begins, and all of it that names the view's own passes
+  -- what a view has seen of the history: how it begins, and all of it that names the view's own
+  -- passes
   pub record Sees (log : List E) (handed : List S) (v : View E S) : Type 0 where
     pub seen : IsPrefix v.seen log
     pub other : IsPrefix v.other log
@@ -165,7 +172,8 @@ module _ {E S : Type 0} (object : Object E) where
     pub theirs : (n : ℕ) → Has n v.others → part object.names n v.other ≡ part object.names n log
 
   -- what the rule says of one live view
-  pub record Knows (c : Hidden) (log : List E) (handed : List S) (made live passes limit cells : ℕ) (opening : Opening)
+  pub record Knows (c : Hidden) (log : List E) (handed : List S) (made live passes limit cells : ℕ)
+      (opening : Opening)
       (v : View E S) : Type 0 where
     pub sees : Sees log handed v
     pub below : (n : ℕ) → Has n (all_own v) → n < made
@@ -184,7 +192,8 @@ module _ {E S : Type 0} (object : Object E) where
     pub payload_fits : v.facts.has.payload < 2 ^ 20
 
   -- The rule.
-  pub record Ruled (primitive : Primitive E S) (passes limit : ℕ) (s : State (Option S) (View E S)) : Type 0 where
+  pub record Ruled (primitive : Primitive E S) (passes limit : ℕ) (s : State (Option S) (View E S))
+      : Type 0 where
     pub hidden : Hidden
     pub log : List E
     pub handed : List S
@@ -199,7 +208,8 @@ module _ {E S : Type 0} (object : Object E) where
     pub door : DoorMayDraw hidden
     pub shown : primitive.shows hidden (client_words s.words) log handed
     pub each_view : (j : ℕ) (v : View E S) → get_elem? s.views j ≡ some v → 0 < v.weight
-        → Knows hidden log handed made live passes limit (cell_count passes limit primitive.values) primitive.opening v
+        → Knows hidden log handed made live passes limit (cell_count passes limit primitive.values)
+        primitive.opening v
     pub apart : Apart s.views
     pub spent : SpentHasNone s.views
     pub unnamed : (n : ℕ) → made ≤ n → part object.names n log ≡ []
@@ -207,4 +217,5 @@ module _ {E S : Type 0} (object : Object E) where
     pub unused : (n : ℕ) → made ≤ n → n < passes → IsUnused hidden n
     pub tip : Tip log s.views
     pub segments : Segments
-    pub each_segment : (j : ℕ) (v : View E S) → get_elem? s.views j ≡ some v → KnowsSegments segments v
+    pub each_segment : (j : ℕ) (v : View E S) → get_elem? s.views j ≡ some v
+        → KnowsSegments segments v

@@ -10,8 +10,8 @@ use Rattle.cqs_rule.specs.declared.view.Opening.{Opening}
 use Rattle.cqs_rule.specs.Views.{IsSame}
 
 module _ {E S : Type 0} (object : Object E) where
-  -- The pass has seen more of the history: what others did meanwhile, which names none of its numbers, and then these
-  -- entries of its own. It is at these facts now.
+  -- The pass has seen more of the history: what others did meanwhile, which names none of its
+  -- numbers, and then these entries of its own. It is at these facts now.
   pub record Saw (v : View E S) (facts : Facts) (entries : List E) (w : View E S) : Type 0 where
     pub between : List E
     pub seen : w.seen ≡ (v.seen ++ between) ++ entries
@@ -22,8 +22,9 @@ module _ {E S : Type 0} (object : Object E) where
     pub homes : IsPrefix v.homes w.homes
     pub sole : v.alone ≡ true → between ≡ []
 
-  -- What holds of the view of every live pass: all that it has seen is legal and names only passes that may be made,
-  -- its own number is among its numbers, which are those of cells, and what it holds and owes fits.
+  -- What holds of the view of every live pass: all that it has seen is legal and names only passes
+  -- that may be made, its own number is among its numbers, which are those of cells, and what it
+  -- holds and owes fits.
   pub record IsLive (v : View E S) : Type 0 where
     pub legal : object.legal v.opening v.seen
     pub unnamed : (n : ℕ) → v.passes ≤ n → part object.names n v.seen ≡ []
@@ -31,9 +32,10 @@ module _ {E S : Type 0} (object : Object E) where
     pub held : v.facts.has.held < 2 ^ 32
     pub inside : IsInside v
 
--- Where the history was this, the client, which opened so, showed it by a hidden state and by words of which this
--- holds.
-pub record WasShown {C E S : Type 0} (primitive : C → Primitive E S) (opening : Opening) (fact : Hidden → List ℕ
+-- Where the history was this, the client, which opened so, showed it by a hidden state and by words
+-- of which this holds.
+pub record WasShown {C E S : Type 0} (primitive : C → Primitive E S) (opening : Opening)
+    (fact : Hidden → List ℕ
     → Type 0)
     (history : List E) : Type 0 where
   pub client : C
@@ -44,7 +46,8 @@ pub record WasShown {C E S : Type 0} (primitive : C → Primitive E S) (opening 
   pub shown : (primitive client).shows hidden words history handed
   pub holds : fact hidden words
 
--- A step found something that holds at the end of all that the pass has seen before these entries of its own.
+-- A step found something that holds at the end of all that the pass has seen before these entries
+-- of its own.
 pub record WasFound {C E S : Type 0} (primitive : C → Primitive E S) (fact : Hidden → List ℕ
     → Type 0) (entries : List E)
     (w : View E S) : Type 0 where

@@ -23,5 +23,6 @@ module _ {C S E : Type 0} {g : Ghosts C S E} where
   abbrev pub HasMet : Pass C S E g → Pass C S E g → Pass C S E g → Type 0
   HasMet p given p' =
       Met g.object (pass_view p)
-      (record (pass_view p).facts { has = gathered (pass_view p).facts.has (pass_view given).facts.has })
+      (record (pass_view p).facts
+      { has = gathered (pass_view p).facts.has (pass_view given).facts.has })
       (pass_view given).seen (pass_view given).handed (pass_view given).own (pass_view p')

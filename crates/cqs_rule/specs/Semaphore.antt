@@ -47,7 +47,8 @@ semaphore_object = record {
   gains = one_more;
 }
 
--- a semaphore asks where a wait leaves, its passes come to a door, and it owes one resumption at a time
+-- a semaphore asks where a wait leaves, its passes come to a door, and it owes one resumption at a
+-- time
 abbrev pub semaphore_manner : Manner
 semaphore_manner = record { leaving = asks; has_door = true; source = owed }
 
@@ -86,8 +87,8 @@ loads_to_try = event_of
     (λ m. if is_above_zero m.found then doing.TryAt (count_in m.found) else doing.Idle)
     (λ m. m.facts.has.held)
 
--- the try exchanges the state for one less: it has a permit where it made the exchange, and nothing where others were
--- first
+-- the try exchanges the state for one less: it has a permit where it made the exchange, and nothing
+-- where others were first
 abbrev pub tries : Event Entry
 tries = event_of
     (λ m. if m.made then entry.TryGot m.pass ∷ [] else [])
@@ -97,7 +98,8 @@ tries = event_of
 -- a release adds one to the state
 abbrev pub gives_one : Event Entry
 gives_one = record {
-  entries = λ m. if is_below_zero m.found then entry.GiveSent m.pass ∷ [] else entry.GiveFreed m.pass ∷ [];
+  entries = λ m. if is_below_zero m.found then entry.GiveSent m.pass
+      ∷ [] else entry.GiveFreed m.pass ∷ [];
   doing = λ m. if is_below_zero m.found then doing.Owes else doing.Idle;
   holds = λ m. m.facts.has.held - 1;
   payload = λ m. 0;
@@ -105,8 +107,8 @@ gives_one = record {
   slots = λ m. m.facts.has.slots;
 }
 
--- A canceller adds one to the state: below 0 its waiter has left the line. Else it is refused, and the permit that was
--- on its way to it is free by this step.
+-- A canceller adds one to the state: below 0 its waiter has left the line. Else it is refused, and
+-- the permit that was on its way to it is free by this step.
 abbrev pub decides : Event Entry
 decides = event_of
     (λ m. entry.Leave m.pass (number_at m.facts.doing) ∷ [])

@@ -1,5 +1,6 @@
--- The semaphore is a client: each step of the queue that suits it is an event of its core, by the law of the core. This
--- file is a proof: nothing of it has to be read to know what is promised, and nothing in it is taken on trust.
+-- The semaphore is a client: each step of the queue that suits it is an event of its core, by the
+-- law of the core. This file is a proof: nothing of it has to be read to know what is promised, and
+-- nothing in it is taken on trust.
 use Rattle.std.proofs.Common.{◌≡◌, ◌≢◌, ℕ, zero, suc, ◌+◌, ◌-◌, ◌<◌, ◌≤◌, true, false, List, [], ◌∷◌, ◌++◌, replicate, refl, ap, sym, ◌∙◌, subst, arith, Option, Some, slice_get, nat_lt, lt-ltb, ne_eqb, ℤ, pos, le-leb, length, get_or, set, nat_le}
 use Rattle.std.proofs.lemmas.Option.{slice_get-map, get_or_from_slice_get}
 use Rattle.std.proofs.lemmas.List.{map-set}
@@ -54,14 +55,18 @@ silent-step (looks grants) p k payload n apart = rw (ne_eqb p n (λ q. apart (sy
 silent-step (looks late) p k payload n apart = rw (ne_eqb p n (λ q. apart (sym q))) refl
 
 -- how much the pass holds that has this
-pub held-at : (l : List Has) (p : ℕ) (has : Has) → slice_get l p ≡ Some has → slice_get (held_of l) p ≡ Some has.held
-held-at l p has there = slice_get-map (λ (h : Has). h.held) l p ∙ ap (option_map (λ (h : Has). h.held)) there
+pub held-at : (l : List Has) (p : ℕ) (has : Has) → slice_get l p ≡ Some has
+    → slice_get (held_of l) p ≡ Some has.held
+held-at l p has there =
+    slice_get-map (λ (h : Has). h.held) l p ∙ ap (option_map (λ (h : Has). h.held)) there
 
-pub held-is : (l : List Has) (p : ℕ) (has : Has) → slice_get l p ≡ Some has → get_or (held_of l) p 0 ≡ has.held
+pub held-is : (l : List Has) (p : ℕ) (has : Has) → slice_get l p ≡ Some has
+    → get_or (held_of l) p 0 ≡ has.held
 held-is l p has there = get_or_from_slice_get (held_of l) p has.held 0 (held-at l p has there)
 
 -- what all hold where the pass has this now: the pass holds so much, or what it held
-pub held-set : (l : List Has) (p : ℕ) (h : Has) (n : ℕ) → h.held ≡ n → set (held_of l) p n ≡ held_of (slice_set l p h)
+pub held-set : (l : List Has) (p : ℕ) (h : Has) (n : ℕ) → h.held ≡ n
+    → set (held_of l) p n ≡ held_of (slice_set l p h)
 held-set l p h n is = sym (map-set (λ (x : Has). x.held) l p h ∙ ap (λ m. set (held_of l) p m) is)
 
 pub held-kept : (l : List Has) (p : ℕ) (has h : Has) → slice_get l p ≡ Some has → h.held ≡ has.held
@@ -71,7 +76,8 @@ held-kept l p has h there same =
 
 -- what all hold after a step of this row
 held-after : (row : StepRow) (l : List Has) (p payload : ℕ) (has : Has) → slice_get l p ≡ Some has
-    → held_by (gain_of row) (held_of l) p ≡ held_of (slice_set l p (has_after one_more row payload has))
+    → held_by (gain_of row) (held_of l) p
+    ≡ held_of (slice_set l p (has_after one_more row payload has))
 held-after (at_counter row) l p payload has there = paid row.cost
   where
     paid : (cost : Cost) → held_of l ≡ held_of (slice_set l p (has_paid cost payload has))
@@ -81,9 +87,11 @@ held-after (at_counter row) l p payload has there = paid row.cost
 held-after (at_cell row) l p payload has there = gained row.gain
   where
     gained : (gain : Gain)
-        → held_by gain (held_of l) p ≡ held_of (slice_set l p (has_gained one_more gain payload has))
+        → held_by gain (held_of l) p
+        ≡ held_of (slice_set l p (has_gained one_more gain payload has))
     gained nothing = held-kept l p has has there refl
-    gained its_own = held-set l p (has_gained one_more its_own payload has) (get_or (held_of l) p 0 + 1)
+    gained its_own =
+        held-set l p (has_gained one_more its_own payload has) (get_or (held_of l) p 0 + 1)
         (ap (λ n. n + 1) (sym (held-is l p has there)))
     gained a_debt = held-kept l p has (has_gained one_more a_debt payload has) there refl
 
@@ -115,11 +123,14 @@ suiting refuses_value suits = tt
 suiting (looks e) suits = tt
 
 -- each of them is an event of the core, or none
-steps-core : (permits : ℕ) (c : Hidden) (t : QueueStep) (p k : ℕ) (found : Option CoreCell) (has : Has) (payload : ℕ)
+steps-core : (permits : ℕ) (c : Hidden) (t : QueueStep) (p k : ℕ) (found : Option CoreCell)
+    (has : Has) (payload : ℕ)
     (words : List ℕ) (log : List Entry)
-    → IsCore (core_shown permits c words log) → IsOpenStep c.queue t p k found → slice_get c.has p ≡ Some has
+    → IsCore (core_shown permits c words log) → IsOpenStep c.queue t p k found
+    → slice_get c.has p ≡ Some has
     → Suits semaphore_manner t → c.queue.suspends < no_number → c.queue.resumes < no_number
-    → IsCore (core_shown permits (happened one_more c t p k found has payload) words (log ++ step_entries t p k))
+    → IsCore (core_shown permits (happened one_more c t p k found has payload) words
+    (log ++ step_entries t p k))
 steps-core permits c t p k found has payload words log core opens there suits low low' =
     let s = core_shown permits c words log in
     let after : Shape = stepped s t p k found in
@@ -142,7 +153,8 @@ opens-state : (permits : ℕ) → count_in (state_word (pos permits)) ≡ pos pe
 opens-state permits = grind (arith, ints)
 
 begins-core : (permits passes : ℕ) → 0 < permits → permits ≤ 1048576 → 0 < passes → passes ≤ 32
-    → IsCore (core_shown permits (first_hidden passes 0 0) (four (state_word (pos permits) ∷ [])) [])
+    → IsCore (core_shown permits (first_hidden passes 0 0) (four (state_word (pos permits) ∷ []))
+    [])
 begins-core permits passes some low any few =
     let queue = (opened permits passes).queue in
     subst (λ (z : List ℕ × ℤ).
@@ -152,10 +164,12 @@ begins-core permits passes some low any few =
     (record { some_permits = some; few_permits = low; some_passes = any; few_passes = few }))
 
 -- permits that one pass hands to another are all still held
-hands-permits : (permits : ℕ) (c : Hidden) (from to : ℕ) (mine theirs : Has) (words : List ℕ) (log : List Entry)
+hands-permits : (permits : ℕ) (c : Hidden) (from to : ℕ) (mine theirs : Has) (words : List ℕ)
+    (log : List Entry)
     → IsCore (core_shown permits c words log) → from ≢ to → slice_get c.has from ≡ Some mine
     → slice_get c.has to ≡ Some theirs
-    → IsCore (core_shown permits (hands_over c from (emptied mine) to (gathered theirs mine)) words log)
+    → IsCore (core_shown permits (hands_over c from (emptied mine) to (gathered theirs mine)) words
+    log)
 hands-permits permits c from to mine theirs words log core apart has there =
     let s = core_shown permits c words log in
     let held = held_of c.has in
@@ -164,10 +178,13 @@ hands-permits permits c from to mine theirs words log core apart has there =
     let got : Has = gathered theirs mine in
     let from_has : slice_get held from ≡ Some mine.held = held-at c.has from mine has in
     let to_has : slice_get held to ≡ Some theirs.held = held-at c.has to theirs there in
-    let first : nat_lt from (length held) ≡ true = lt-ltb from (length held) (get-below held from mine.held from_has) in
-    let second : nat_lt to (length held) ≡ true = lt-ltb to (length held) (get-below held to theirs.held to_has) in
+    let first : nat_lt from (length held) ≡ true =
+    lt-ltb from (length held) (get-below held from mine.held from_has) in
+    let second : nat_lt to (length held) ≡ true =
+    lt-ltb to (length held) (get-below held to theirs.held to_has) in
     let holds : slice_index held from ≡ mine.held = held-is c.has from mine has in
-    let few : nat_le many (slice_index held from) ≡ true = le-leb many (slice_index held from) (omega arith) in
+    let few : nat_le many (slice_index held from) ≡ true =
+    le-leb many (slice_index held from) (omega arith) in
     let rest = slice_set held from (slice_index held from - many) in
     let lies : slice_index rest to ≡ theirs.held =
     get_or_from_slice_get rest to theirs.held 0
@@ -178,7 +195,8 @@ hands-permits permits c from to mine theirs words log core apart has there =
     ∙ (ap (λ l. set l to got.held) (held-set c.has from gave (mine.held - many) none)
     ∙ held-set (slice_set c.has from gave) to got got.held refl) in
     subst (λ l. IsCore (record s { held = l })) is
-    (hand_over-core s (record s { held = handed held from to many }) from to many core (rw (first, second, few) refl))
+    (hand_over-core s (record s { held = handed held from to many }) from to many core
+    (rw (first, second, few) refl))
 
 -- a semaphore begins no resumption but by a release
 none-begun : (cost : Cost) → IsBegun cost → Suits semaphore_manner (begun_by cost) → ⊥
@@ -200,7 +218,8 @@ semaphore-client permits some low = record {
   sound = λ c words log handed core. core.sound;
   legal_shown = λ c words log handed core. core.legal;
   held_fits = λ c words log handed p has core there.
-      let few = held-small (core_shown permits c words log) p has.held core (held-at c.has p has there) in omega arith;
+      let few = held-small (core_shown permits c words log) p has.held core
+      (held-at c.has p has there) in omega arith;
   reaches_few = λ c words log handed p core owes.
       let few = reached-few (core_shown permits c words log) p core owes in omega arith;
   begins_few = λ c words log handed p has cost payload core idle there paid begun suits.

@@ -17,11 +17,14 @@ module _ {C S E : Type 0} {g : Ghosts C S E} where
   -- a step on the client's word i, by which n becomes f n, may be made by the pass as it is now
   abbrev pub MayMove : Queue C S E → Pass C S E g → Event E → (ℕ → Bool) → ℕ → (ℕ → ℕ) → Type 0
   MayMove q p event made i f =
-      Moves g.object (g.primitive (client_of q)) event made (pass_view p).number (pass_view p).facts i f
+      Moves g.object (g.primitive (client_of q)) event made (pass_view p).number (pass_view p).facts
+      i f
 
-  -- Such a step was made, and found n: the word was so at the end of what the pass has seen before its own entries.
+  -- Such a step was made, and found n: the word was so at the end of what the pass has seen before
+  -- its own entries.
   abbrev pub HasMoved : Event E → (ℕ → Bool) → ℕ → ℕ → Pass C S E g → Pass C S E g → Type 0
-  HasMoved event made i n p p' = Moved g.object g.primitive event made (client_place i) (pass_view p) n (pass_view p')
+  HasMoved event made i n p p' =
+      Moved g.object g.primitive event made (client_place i) (pass_view p) n (pass_view p')
 
   -- a load of this word found n
   abbrev pub HasLoaded : LoadStep → ℕ → ℕ → Pass C S E g → Pass C S E g → Type 0
@@ -34,4 +37,5 @@ module _ {C S E : Type 0} {g : Ghosts C S E} where
   -- an exchange on a cell, where `expected` was wanted, found n
   abbrev pub HasCrossed : QueueStep → ℕ → ℕ → Pass C S E g → Pass C S E g → Type 0
   HasCrossed s expected n p p' =
-      CrossedBy g.object g.primitive s (row_of s) (index_in expected) expected (pass_view p) n (pass_view p')
+      CrossedBy g.object g.primitive s (row_of s) (index_in expected) expected (pass_view p) n
+      (pass_view p')

@@ -1,4 +1,5 @@
--- The views of the passes: the first one, what of them the rule counts, and what stays of one at each step.
+-- The views of the passes: the first one, what of them the rule counts, and what stays of one at
+-- each step.
 pub use Rattle.cqs_rule.specs.Hidden.{gathered, emptied}
 use Rattle.std.specs.Prelude.{◌≡◌, ◌⊎◌, ℕ, ◌+◌, ◌-◌, ◌*◌, ◌<◌, true, false, List, [], ◌∷◌, ◌++◌, None}
 use mathlib.Core.Option.{some}
@@ -109,7 +110,8 @@ module _ {E S : Type 0} where
 
   -- what is left of the view of a pass that was joined away
   abbrev pub spent : View E S
-  spent = record (first_view 0 0 0 (record { size = 0; mode = Smart }) 0) { weight = 0; own = []; alone = false }
+  spent = record (first_view 0 0 0 (record { size = 0; mode = Smart }) 0)
+      { weight = 0; own = []; alone = false }
 
   -- the view w, but for what a step on the crew's word changes in v
   abbrev pub as_before : View E S → View E S → View E S
@@ -138,7 +140,8 @@ module _ {E S : Type 0} where
 
   -- no number is in two views
   abbrev pub Apart : List (View E S) → Type 0
-  Apart views = (i j : ℕ) (v w : View E S) (n : ℕ) → get_elem? views i ≡ some v → get_elem? views j ≡ some w
+  Apart views =
+      (i j : ℕ) (v w : View E S) (n : ℕ) → get_elem? views i ≡ some v → get_elem? views j ≡ some w
       → lists.Has n (all_own v) → lists.Has n (all_own w) → i ≡ j
 
   -- what is left of a view that was spent has no number

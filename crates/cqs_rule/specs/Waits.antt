@@ -14,7 +14,8 @@ place_of w = record { word = w.word; index = w.number }
 abbrev pub pass_of : Wait → ℕ
 pass_of w = w.pass
 
--- The pass has the wait: it is one of its own that isn't closed, and it knows where the cell stands.
+-- The pass has the wait: it is one of its own that isn't closed, and it knows where the cell
+-- stands.
 pub record HasWait {E S : Type 0} (v : View E S) (wait : Wait) : Type 0 where
   pub mine : pass_of wait ≡ v.number
   pub open_yet : Has (place_of wait).index v.facts.waits

@@ -121,7 +121,8 @@ module _ {T : Type 0} where
         word_is = is;
         before = t.before;
         found = subst (λ p. StateWas v (count_in m) t.before (took_by b p) x) number
-            (state-was v u x x _ (took_by b u.number) t.before m (Word suspends_place n ∷ []) (saw-prefix v u _ _ next.saw) t.saw
+            (state-was v u x x _ (took_by b u.number) t.before m (Word suspends_place n ∷ [])
+            (saw-prefix v u _ _ next.saw) t.saw
             t.seen t.state
             (found_x ∙ (ap (λ l. l ++ Word (client_place 0) m ∷ []) found_u
             ∙ append_assoc v.facts.found (Word suspends_place n ∷ []) (Word (client_place 0) m ∷ [])))
@@ -174,7 +175,8 @@ module _ {T : Type 0} where
   }
 
   -- The pass was at the door, and its suspend ended with a step on the cell of its number.
-  record Sat (k payload : ℕ) (own : List Entry) (waits : List ℕ) (more : ℕ) (seen_in : CoreState) (x w : View Entry T) : Type 0 where
+  record Sat (k payload : ℕ) (own : List Entry) (waits : List ℕ) (more : ℕ) (seen_in : CoreState) (x w : View Entry T)
+      : Type 0 where
     found : IsPrefix x.facts.found w.facts.found
     opening : w.opening ≡ x.opening
     seen : IsPrefix x.seen w.seen

@@ -1,5 +1,5 @@
--- The calls of a pass that is alone: between two of them nothing is on its way and nobody is at the door, so each is the plain
--- semaphore's.
+-- The calls of a pass that is alone: between two of them nothing is on its way and nobody is at the door, so each is
+-- the plain semaphore's.
 use Rattle.std.proofs.Common.{◌≡◌, ◌≢◌, ℕ, suc, ◌+◌, ◌<◌, true, List, [], ◌∷◌, ◌++◌, length, Option, Some, None, Ok, slice_get, take, sym, refl, ap, ◌∙◌, subst, append_assoc, arith, take_at, ⊎_elim, lt-ltb, ne_eqb, zero-add}
 use Rattle.std.specs.List.{fold}
 use Rattle.std.proofs.lemmas.Bool.{le-ltb}
@@ -141,7 +141,8 @@ module _ {T : Type 0} where
           let r = a.others p other (omega arith) in
           same_Some d doing.Idle (sym there ∙ (r.stands.doing ∙ ap Some r.idle)))
 
-  pub quiet : (v : View Entry T) → TellsAlone primitive_of v → v.weight ≡ 1 → v.alone ≡ true → v.facts.doing ≡ doing.Idle
+  pub quiet : (v : View Entry T) → TellsAlone primitive_of v → v.weight ≡ 1 → v.alone ≡ true
+      → v.facts.doing ≡ doing.Idle
       → IsQuiet (plain_after v)
   quiet v tells_it one alone idle = quiet-alone v (tells_it one alone) idle
 
@@ -176,12 +177,15 @@ module _ {T : Type 0} where
   plain-later : (v w : View Entry T) (k : ℕ) → Legal v (took_entries v.number (Some k) ++ []) w
       → sole_call (plain_after v) (call.Acquire v.number) ≡ tells (took_entries v.number (Some k)) (reply.Later k)
   plain-later v w k l =
-      let none = allowed-at v.opening.size v.seen [] (entry.Enter v.number k ∷ []) w.seen (entry.TakeDoor v.number) l.seen
+      let none = allowed-at v.opening.size v.seen [] (entry.Enter v.number k ∷ []) w.seen (entry.TakeDoor v.number)
+      l.seen
       l.legal in
-      let entered = allowed-at v.opening.size v.seen (entry.TakeDoor v.number ∷ []) [] w.seen (entry.Enter v.number k) l.seen
+      let entered =
+      allowed-at v.opening.size v.seen (entry.TakeDoor v.number ∷ []) [] w.seen (entry.Enter v.number k) l.seen
       l.legal in
       let next : k ≡ (plain_after v).next = entered.1 in
-      rw (le-ltb 0 (plain_after v).free (omega arith)) (ap (λ n. tells (took_entries v.number (Some n)) (reply.Later n)) (sym next))
+      rw (le-ltb 0 (plain_after v).free (omega arith))
+      (ap (λ n. tells (took_entries v.number (Some n)) (reply.Later n)) (sym next))
 
   pub plain-acquire : (v w : View Entry T) (a : Acquired) → IsQuiet (plain_after v)
       → CallRule v (acquired_entries v.number (Ok a)) (acquired_further (Ok a)) w → v.alone ≡ true → IsPlainAcquire v a
@@ -239,7 +243,8 @@ module _ {T : Type 0} where
       → sole_call (plain_after v) (call.Release v.number)
       ≡ tells (entry.GiveSent v.number ∷ entry.Deliver k ∷ []) (reply.Sent k)
   plain-sent v w k still l =
-      let may = allowed-at v.opening.size v.seen (entry.GiveSent v.number ∷ []) [] w.seen (entry.Deliver k) l.seen l.legal in
+      let may = allowed-at v.opening.size v.seen (entry.GiveSent v.number ∷ []) [] w.seen (entry.Deliver k) l.seen
+      l.legal in
       let o = after_entry (plain_after v) (entry.GiveSent v.number) in
       let way = still.way in
       by (plain_after v).line refl (first-of o k (plain_after v).line refl (omega arith) may)
@@ -327,7 +332,8 @@ module _ {T : Type 0} where
       ap (λ (o : Semaphore). find_wait k o.line) (sym same)
       ∙ (ap (find_wait k) shows.line ∙ served-gone was.hidden.queue k was.holds.0)
 
-  pub plain-pending : (v w : View Entry T) (k : ℕ) → CallRule v (entry.LookPending v.number k ∷ []) [] w → v.alone ≡ true
+  pub plain-pending : (v w : View Entry T) (k : ℕ) → CallRule v (entry.LookPending v.number k ∷ []) [] w
+      → v.alone ≡ true
       → sole_call (plain_after v) (call.Poll v.number k) ≡ tells (entry.LookPending v.number k ∷ []) reply.Pending
   plain-pending v w k c alone =
       let l = legal-alone v w _ _ c alone in
@@ -347,7 +353,8 @@ module _ {T : Type 0} where
   plain-late v w k c cell alone =
       ap (sole_cancel v.number k) (out-of_line v w k _ (legal-alone v w _ _ c alone) cell)
 
-  pub plain-left : (v w : View Entry T) (k : ℕ) (further : List Entry) → CallRule v (entry.Leave v.number k ∷ []) further w
+  pub plain-left : (v w : View Entry T) (k : ℕ) (further : List Entry)
+      → CallRule v (entry.Leave v.number k ∷ []) further w
       → v.alone ≡ true
       → sole_call (plain_after v) (call.Cancel v.number k) ≡ tells (entry.Leave v.number k ∷ []) reply.Cancelled
   plain-left v w k further c alone =

@@ -54,7 +54,8 @@ module _ {T : Type 0} where
     found : IsPrefix (v.facts.found ++ Cell k word ∷ []) u.facts.found
 
   out-settles : (k word : ℕ) (v u : View Entry T)
-      → Settles semaphore_object primitive_of [] (facts_leaving semaphore_object.gains k word v.facts) 0 decides settles true
+      → Settles semaphore_object primitive_of [] (facts_leaving semaphore_object.gains k word v.facts) 0 decides settles
+      true
       k 0 v u → Out doing.Idle k word v u
   out-settles k word v u e =
       let is = e.facts_are in
@@ -70,7 +71,8 @@ module _ {T : Type 0} where
       }
 
   out-refuses : (k word : ℕ) (v u : View Entry T)
-      → Settles semaphore_object primitive_of [] (facts_leaving semaphore_object.gains k word v.facts) 0 decides refuses false
+      → Settles semaphore_object primitive_of [] (facts_leaving semaphore_object.gains k word v.facts) 0 decides refuses
+      false
       k 0 v u → Out doing.Idle k word v u
   out-refuses k word v u e =
       let is = e.facts_are in
@@ -86,7 +88,8 @@ module _ {T : Type 0} where
       }
 
   out-refuses_value : (k word payload : ℕ) (v u : View Entry T)
-      → Settles semaphore_object primitive_of [] (facts_leaving semaphore_object.gains k word v.facts) 0 decides refuses_value
+      → Settles semaphore_object primitive_of [] (facts_leaving semaphore_object.gains k word v.facts) 0 decides
+      refuses_value
       false k payload v u → Out doing.Idle k word v u
   out-refuses_value k word payload v u e =
       let is = e.facts_are in
@@ -102,7 +105,8 @@ module _ {T : Type 0} where
       }
 
   out-owing : (k word payload : ℕ) (v u : View Entry T)
-      → Settles semaphore_object primitive_of [] (facts_leaving semaphore_object.gains k word v.facts) 0 decides settles_owing
+      → Settles semaphore_object primitive_of [] (facts_leaving semaphore_object.gains k word v.facts) 0 decides
+      settles_owing
       true k payload v u → Out doing.Owes k word v u × CellWasOnce state.Delegated k v u
   out-owing k word payload v u e =
       let is = e.facts_are in
@@ -138,7 +142,8 @@ module _ {T : Type 0} where
       → Out doing.Idle k b.word v u
   out-gone k v u b = by b.ends
     where
-      by : cancel.Leaves semaphore_object primitive_of [] (facts_leaving semaphore_object.gains k b.word v.facts) asked_so k v
+      by : cancel.Leaves semaphore_object primitive_of [] (facts_leaving semaphore_object.gains k b.word v.facts)
+          asked_so k v
           Gone u → Out doing.Idle k b.word v u
       by (inl e) = out-settles k b.word v u e
       by (inr (inl e)) = out-refuses k b.word v u e
@@ -161,12 +166,14 @@ module _ {T : Type 0} where
     was = record {
       before = o.was.before;
       seen = prefix-then o.was.before u.seen w.seen o.was.seen seen;
-      was = subst (λ (z : Opening). WasShown {S = T} primitive_of z (HasCell (cell_of k at o.payload)) o.was.before) (sym opening)
+      was = subst (λ (z : Opening). WasShown {S = T} primitive_of z (HasCell (cell_of k at o.payload)) o.was.before)
+          (sym opening)
           o.was.was;
     };
   }
 
-  out-waiter : (at : Doing) (k : ℕ) (v u : View Entry T) (answer : Rattle.cqs_cancel.specs.declared.cancelling.Left.Left)
+  out-waiter : (at : Doing) (k : ℕ) (v u : View Entry T)
+      (answer : Rattle.cqs_cancel.specs.declared.cancelling.Left.Left)
       (b : cancel.Began semaphore_object primitive_of asked_so k v answer u) → Out at k b.word v u
       → CellWasOnce state.Waiter k v u
   out-waiter at k v u answer b o = record {
@@ -205,7 +212,8 @@ module _ {T : Type 0} where
       let out = out-owing k b.word payload v u b.ends.0 in
       let o = out.0 in
       let on = ends-called u w None payload e.0 e.2 in
-      let called = subst (λ (r : Released). Called semaphore_object u (resumed_further r) (resumed_further r) w) (sym e.1)
+      let called =
+      subst (λ (r : Released). Called semaphore_object u (resumed_further r) (resumed_further r) w) (sym e.1)
       on.0 in
       let ends : Ends v v.facts.has.held (without k v.facts.waits) released w =
       subst (λ a. Ends v v.facts.has.held (without k v.facts.waits) a w) (sym e.1)
@@ -214,7 +222,8 @@ module _ {T : Type 0} where
       (ends-so v u w None payload e.0 o.passed (o.further ∙ ready.further) e.2)) in (
         Some released,
         call-rule v w (entry.Leave v.number k ∷ []) (resumed_further released)
-            (called-and semaphore_object v u w _ _ _ _ o.called called) (λ n. refl, tt) (further-names released) own legal,
+            (called-and semaphore_object v u w _ _ _ _ o.called called) (λ n. refl, tt) (further-names released) own
+            legal,
         (
           once-later state.Waiter k v u w (out-waiter doing.Owes k v u (GoneOwing payload) b o) on.1.seen on.1.found
               on.1.opening,

@@ -63,7 +63,8 @@ module _ {T : Type 0} where
       ∙ append-nil (part entry_names n v.seen)))
 
   -- a look at the crew's word
-  pub course-saw : (v w : View Entry T) → Saw semaphore_object v v.facts [] (as_before v w) → IsLegal w.opening.size w.seen
+  pub course-saw : (v w : View Entry T) → Saw semaphore_object v v.facts [] (as_before v w)
+      → IsLegal w.opening.size w.seen
       → Course v [] w
   course-saw v w s legal = record {
     number = s.same.number;

@@ -29,9 +29,11 @@ module _ {T : Type 0} where
     pub cell : FoundCell word (cell_of k at payload)
     pub saw : Saw semaphore_object v
         (facts_looked semaphore_object.gains (event_of polls at) word (cell_of k at payload) v.facts)
-        (look_entries {S = T} semaphore_object primitive_of (event_of polls at) v.number (cell_of k at payload) v.facts) w
+        (look_entries {S = T} semaphore_object primitive_of (event_of polls at) v.number (cell_of k at payload) v.facts)
+        w
     pub was : WasFound primitive_of (HasCell (cell_of k at payload))
-        (look_entries {S = T} semaphore_object primitive_of (event_of polls at) v.number (cell_of k at payload) v.facts) w
+        (look_entries {S = T} semaphore_object primitive_of (event_of polls at) v.number (cell_of k at payload) v.facts)
+        w
 
   found-so : (at : CoreState) (k : ℕ) (v w : View Entry T) (cell : CellWord)
       → LooksAt semaphore_object primitive_of polls k v cell w → cell.state ≡ shown_state at → FoundSo at k v w
@@ -46,9 +48,11 @@ module _ {T : Type 0} where
         cell = subst (FoundCell l.word) same l.looked.cell;
         saw = subst (λ (z : Glimpse). Saw semaphore_object v
             (facts_looked semaphore_object.gains (event_of polls z.state) l.word z v.facts)
-            (look_entries {S = T} semaphore_object primitive_of (event_of polls z.state) v.number z v.facts) w) same l.looked.saw;
+            (look_entries {S = T} semaphore_object primitive_of (event_of polls z.state) v.number z v.facts) w) same
+            l.looked.saw;
         was = subst (λ (z : Glimpse). WasFound primitive_of (HasCell z)
-            (look_entries {S = T} semaphore_object primitive_of (event_of polls z.state) v.number z v.facts) w) same l.looked.was;
+            (look_entries {S = T} semaphore_object primitive_of (event_of polls z.state) v.number z v.facts) w) same
+            l.looked.was;
       }
 
   -- with its waiter

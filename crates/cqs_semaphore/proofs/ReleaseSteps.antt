@@ -124,14 +124,20 @@ module _ {T : Type 0} where
 
   releases-by : (v u w : View Entry T) (n : ℕ) (ticket : Option ℕ) (payload : ℕ) (r : Resumed) → IsReady v.facts
       → GaveBy true n v u → HasEnded ticket payload u (as_released r) w → Releases v (as_released r) w
-  releases-by v u w n ticket payload (resumed.Served k) ready g e =
-      (wanted v u w n ticket payload (resumed.Served k) g e, sent-ends v u w n ticket payload (resumed.Served k) ready g e)
+  releases-by v u w n ticket payload (resumed.Served k) ready g e = (
+    wanted v u w n ticket payload (resumed.Served k) g e,
+    sent-ends v u w n ticket payload (resumed.Served k) ready g e,
+  )
   releases-by v u w n ticket payload (resumed.Left k) ready g e =
       (wanted v u w n ticket payload (resumed.Left k) g e, sent-ends v u w n ticket payload (resumed.Left k) ready g e)
-  releases-by v u w n ticket payload (resumed.Refused k) ready g e =
-      (wanted v u w n ticket payload (resumed.Refused k) g e, sent-ends v u w n ticket payload (resumed.Refused k) ready g e)
-  releases-by v u w n ticket payload (resumed.Under t) ready g e =
-      (wanted v u w n ticket payload (resumed.Under t) g e, sent-ends v u w n ticket payload (resumed.Under t) ready g e)
+  releases-by v u w n ticket payload (resumed.Refused k) ready g e = (
+    wanted v u w n ticket payload (resumed.Refused k) g e,
+    sent-ends v u w n ticket payload (resumed.Refused k) ready g e,
+  )
+  releases-by v u w n ticket payload (resumed.Under t) ready g e = (
+    wanted v u w n ticket payload (resumed.Under t) g e,
+    sent-ends v u w n ticket payload (resumed.Under t) ready g e,
+  )
 
   pub releases-so : (v u w : View Entry T) (n : ℕ) (ticket : Option ℕ) (payload : ℕ) (a : Released) → IsReady v.facts
       → GaveBy true n v u → HasEnded ticket payload u a w → Releases v a w

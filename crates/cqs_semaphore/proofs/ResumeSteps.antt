@@ -38,7 +38,8 @@ over-none p payload (r ∷ over) =
     λ i. (draw-none p payload r.drawn r.number i ++ []) ++ over-none p payload over i
 
 entries-last : (p payload k : ℕ) (s : QueueStep) (over : List Round) (last : Round) → last.number ≡ k
-    → over_entries semaphore_object p payload over ++ round_entries semaphore_object p payload s last ≡ step_entries s p k
+    → over_entries semaphore_object p payload over ++ round_entries semaphore_object p payload s last
+    ≡ step_entries s p k
 entries-last p payload k s over last is =
     λ i. over-none p payload over i ++ (draw-none p payload last.drawn last.number i ++ step_entries s p (is i))
 

@@ -76,4 +76,5 @@ module _ {T : Type 0} where
       → Has v.number v.own → IsLegal w.opening.size w.seen → CallRule v own [] w
   call-rule_own v w own last c all has legal =
       call-rule v w own []
-      (subst (λ es. Called semaphore_object v es [] w) (sym (append-nil own)) (called-weak v w own last c)) all tt has legal
+      (subst (λ es. Called semaphore_object v es [] w) (sym (append-nil own)) (called-weak v w own last c)) all tt has
+      legal

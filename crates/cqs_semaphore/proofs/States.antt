@@ -88,7 +88,8 @@ pub count-same : (n m : ℕ) → count_in n ≡ count_in m → n ≡ m
 count-same n m is = grind (arith, ints)
 
 module _ {T : Type 0} where
-  pub saw-prefix : (v w : View Entry T) (f : Facts) (es : List Entry) → Saw semaphore_object v f es w → IsPrefix v.seen w.seen
+  pub saw-prefix : (v w : View Entry T) (f : Facts) (es : List Entry) → Saw semaphore_object v f es w
+      → IsPrefix v.seen w.seen
   saw-prefix v w f es s = (s.between ++ es, s.seen ∙ append_assoc v.seen s.between es)
 
   pub called-prefix : (v w : View Entry T) (es last : List Entry) → Called semaphore_object v es last w
@@ -115,7 +116,8 @@ module _ {T : Type 0} where
       → IsPrefix x.seen w.seen → w.opening ≡ x.opening → IsPrefix x.facts.found w.facts.found
       → StateWas v (count_in n) before es w
   state-was v u x w f es before n earlier old s seen state found on opening found_on =
-      let here : before ≡ u.seen ++ s.between = append_cancel_right before (u.seen ++ s.between) es (sym seen ∙ s.seen) in
+      let here : before ≡ u.seen ++ s.between =
+      append_cancel_right before (u.seen ++ s.between) es (sym seen ∙ s.seen) in
       record {
         since = prefix-then v.seen u.seen before old (s.between, here);
         seen = subst (λ l. IsPrefix l w.seen) seen on;

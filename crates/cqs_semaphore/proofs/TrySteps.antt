@@ -113,12 +113,14 @@ module _ {T : Type 0} where
       let found_w : w.facts.found ≡ u.facts.found ++ Word (client_place 0) m ∷ [] =
       ap (λ (f : Facts). f.found) s.saw.facts_are in
       subst (λ p. StateWas v (count_in m) s.before (got_by b p) w) l.saw.same.number
-      (state-was v u w w _ (got_by b u.number) s.before m (Word (client_place 0) n ∷ []) (saw-prefix v u _ _ l.saw) s.saw s.seen
+      (state-was v u w w _ (got_by b u.number) s.before m (Word (client_place 0) n ∷ []) (saw-prefix v u _ _ l.saw)
+      s.saw s.seen
       s.state (found_w ∙ (ap (λ l. l ++ Word (client_place 0) m ∷ []) found_u
       ∙ append_assoc v.facts.found (Word (client_place 0) n ∷ []) (Word (client_place 0) m ∷ [])))
       (prefix-same w.seen) refl (prefix-same w.facts.found))
 
-  pub swap-rests : (b : Bool) (v u w : View Entry T) (n m : ℕ) → IsReady v.facts → LoadedBy true n v u → SwappedBy b m u w
+  pub swap-rests : (b : Bool) (v u w : View Entry T) (n m : ℕ) → IsReady v.facts → LoadedBy true n v u
+      → SwappedBy b m u w
       → Rests v (if b then v.facts.has.held + 1 else v.facts.has.held) v.facts.waits w
   swap-rests b v u w n m r l s =
       let was = l.saw.facts_are in
@@ -159,7 +161,8 @@ module _ {T : Type 0} where
         before = l.before;
         free = count-above n above;
         loaded = state-later v u w _ l.before []
-            (state-was v v u u _ [] l.before n [] (prefix-same v.seen) l.saw l.seen l.state found_u (prefix-same u.seen) refl
+            (state-was v v u u _ [] l.before n [] (prefix-same v.seen) l.saw l.seen l.state found_u (prefix-same u.seen)
+            refl
             (prefix-same u.facts.found))
             (saw-prefix u w _ _ s.saw) (Word (client_place 0) m ∷ [], found_w) s.saw.same.opening;
         exchanged = subst (λ h. StateWas v (count_in m) h [] w) at_swap (swap-found false v u w n m l s);

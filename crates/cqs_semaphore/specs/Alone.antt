@@ -36,10 +36,12 @@ module _ {T : Type 0} where
   abbrev pub IsPlainAcquire : View Entry T → Acquired → Type 0
   IsPlainAcquire v (Now permit) =
       (number_of permit ≡ None)
-      × (sole_call (plain_after v) (call.Acquire v.number) ≡ tells (entry.TakeNow v.number ∷ []) reply.Now)
+      × (sole_call (plain_after v) (call.Acquire v.number)
+      ≡ tells (entry.TakeNow v.number ∷ []) reply.Now)
   IsPlainAcquire v (Later wait) =
       sole_call (plain_after v) (call.Acquire v.number)
-      ≡ tells (took_entries v.number (Some (place_of wait).index)) (reply.Later (place_of wait).index)
+      ≡ tells (took_entries v.number (Some (place_of wait).index))
+      (reply.Later (place_of wait).index)
 
   abbrev pub IsPlainTry : View Entry T → Tried → Type 0
   IsPlainTry v (Got permit) =
@@ -48,11 +50,12 @@ module _ {T : Type 0} where
       sole_call (plain_after v) (call.Try v.number) ≡ tells (entry.TryBusy v.number ∷ []) reply.Busy
   IsPlainTry v (Contended saw found) = ⊥
 
-  -- A release that hands the resumption back is the plain semaphore's with the `finish` that ends it: somebody waits in line, and
-  -- just this permit is on its way.
+  -- A release that hands the resumption back is the plain semaphore's with the `finish` that ends
+  -- it: somebody waits in line, and just this permit is on its way.
   abbrev pub IsPlainRelease : View Entry T → Released → View Entry T → Type 0
   IsPlainRelease v Freed w =
-      sole_call (plain_after v) (call.Release v.number) ≡ tells (entry.GiveFreed v.number ∷ []) reply.Freed
+      sole_call (plain_after v) (call.Release v.number)
+      ≡ tells (entry.GiveFreed v.number ∷ []) reply.Freed
   IsPlainRelease v (Sent k) w =
       sole_call (plain_after v) (call.Release v.number)
       ≡ tells (entry.GiveSent v.number ∷ entry.Deliver k ∷ []) (reply.Sent k)
@@ -60,7 +63,8 @@ module _ {T : Type 0} where
   IsPlainRelease v (Void k) w = ⊥
   IsPlainRelease v (Under under) w = HasLine (plain_after v).line × ((plain_after w).way ≡ 1)
 
-  -- The end of a release goes to the first of the line; or it is handed back again, and nothing has changed.
+  -- The end of a release goes to the first of the line; or it is handed back again, and nothing has
+  -- changed.
   abbrev pub IsPlainEnd : View Entry T → Released → View Entry T → Type 0
   IsPlainEnd v Freed w = ⊥
   IsPlainEnd v (Sent k) w = IsFirstOf (plain_after v).line k
@@ -70,12 +74,16 @@ module _ {T : Type 0} where
 
   abbrev pub IsPlainPoll : ℕ → View Entry T → Polled → Type 0
   IsPlainPoll k v (Granted permit) =
-      sole_call (plain_after v) (call.Poll v.number k) ≡ tells (entry.LookGranted v.number k ∷ []) reply.Granted
+      sole_call (plain_after v) (call.Poll v.number k)
+      ≡ tells (entry.LookGranted v.number k ∷ []) reply.Granted
   IsPlainPoll k v (Pending wait) =
-      sole_call (plain_after v) (call.Poll v.number k) ≡ tells (entry.LookPending v.number k ∷ []) reply.Pending
+      sole_call (plain_after v) (call.Poll v.number k)
+      ≡ tells (entry.LookPending v.number k ∷ []) reply.Pending
 
   abbrev pub IsPlainCancel : ℕ → View Entry T → CancelAnswer → Type 0
   IsPlainCancel k v (Cancelled under) =
-      sole_call (plain_after v) (call.Cancel v.number k) ≡ tells (entry.Leave v.number k ∷ []) reply.Cancelled
+      sole_call (plain_after v) (call.Cancel v.number k)
+      ≡ tells (entry.Leave v.number k ∷ []) reply.Cancelled
   IsPlainCancel k v (TooLate permit) =
-      sole_call (plain_after v) (call.Cancel v.number k) ≡ tells (entry.Late v.number k ∷ []) reply.TooLate
+      sole_call (plain_after v) (call.Cancel v.number k)
+      ≡ tells (entry.Late v.number k ∷ []) reply.TooLate

@@ -36,8 +36,8 @@ abbrev pub facts_refused : ℕ → Facts → Facts
 facts_refused n f = record f { found = f.found ++ Word suspends_place n ∷ [] }
 
 module _ {T : Type 0} where
-  -- An acquire was refused: it loaded the suspend counter, and this was at the limit or above. So many numbers had been drawn in
-  -- all that the pass has seen now. Nothing else was touched.
+  -- An acquire was refused: it loaded the suspend counter, and this was at the limit or above. So
+  -- many numbers had been drawn in all that the pass has seen now. Nothing else was touched.
   pub record IsWorn (v w : View Entry T) : Type 0 where
     pub loaded : ℕ
     pub worn : v.limit ≤ loaded
@@ -66,11 +66,13 @@ module _ {T : Type 0} where
     pub none : count ≤ℤ pos 0
     pub found : StateWas v count before (entry.TakeDoor v.number ∷ []) w
 
-  -- a permit that was free; or the resume of the number was first, and had left its value in the cell
+  -- a permit that was free; or the resume of the number was first, and had left its value in the
+  -- cell
   abbrev pub Takes : View Entry T → Option ℕ → View Entry T → Type 0
   Takes v None w = WasFree v w
   Takes v (Some k) w =
-      WasNone v w × CellWas state.Value k (entry.Deliver k ∷ []) w × Rests v (v.facts.has.held + 1) v.facts.waits w
+      WasNone v w × CellWas state.Value k (entry.Deliver k ∷ []) w
+      × Rests v (v.facts.has.held + 1) v.facts.waits w
 
   -- or the cell of the number was empty, and the caller waits there
   abbrev pub Acquires : View Entry T → Acquired → View Entry T → Type 0
@@ -79,8 +81,9 @@ module _ {T : Type 0} where
       WasNone v w × CellWas state.Empty (place_of wait).index [] w × HasWait w wait
       × Rests v v.facts.has.held (v.facts.waits ++ (place_of wait).index ∷ []) w
 
-  -- Another caller was first: the state was loaded as one count, above 0, and found as another by the exchange. The first was the plain
-  -- semaphore's after some of what the pass has seen, not less than it had seen before; the second is its state now.
+  -- Another caller was first: the state was loaded as one count, above 0, and found as another by
+  -- the exchange. The first was the plain semaphore's after some of what the pass has seen, not
+  -- less than it had seen before; the second is its state now.
   pub record IsContended (v : View Entry T) (saw found : ℤ) (w : View Entry T) : Type 0 where
     pub before : List Entry
     pub free : pos 0 <ℤ saw
@@ -91,25 +94,31 @@ module _ {T : Type 0} where
 
   abbrev pub Tries : View Entry T → Tried → View Entry T → Type 0
   Tries v (Got permit) w =
-      (count : ℤ) × (before : List Entry) × (pos 0 <ℤ count) × StateWas v count before (entry.TryGot v.number ∷ []) w
+      (count : ℤ) × (before : List Entry) × (pos 0 <ℤ count)
+      × StateWas v count before (entry.TryGot v.number ∷ []) w
       × (number_of permit ≡ None) × Rests v (v.facts.has.held + 1) v.facts.waits w
   Tries v Busy w =
-      (count : ℤ) × (before : List Entry) × (count ≤ℤ pos 0) × StateWas v count before (entry.TryBusy v.number ∷ []) w
+      (count : ℤ) × (before : List Entry) × (count ≤ℤ pos 0)
+      × StateWas v count before (entry.TryBusy v.number ∷ []) w
       × Rests v v.facts.has.held v.facts.waits w
-  Tries v (Contended saw found) w = IsContended v saw found w × Rests v v.facts.has.held v.facts.waits w
+  Tries v (Contended saw found) w =
+      IsContended v saw found w × Rests v v.facts.has.held v.facts.waits w
 
   -- the resumption that the pass owes was handed back, since so many numbers were passed over
-  pub record HandsBack (v : View Entry T) (under : token.Under) (held : ℕ) (waits : List ℕ) (w : View Entry T) : Type 0 where
+  pub record HandsBack (v : View Entry T) (under : token.Under) (held : ℕ) (waits : List ℕ)
+      (w : View Entry T) : Type 0 where
     pub over : PassedOver most_passed_over v w
     pub owes : HasUnder w.facts under
     pub further : w.facts.has.further ≡ 0
     pub held_is : w.facts.has.held ≡ held
     pub waits_are : w.facts.waits ≡ waits
 
-  -- How a resumption ended: by the state of the cell that it found last. The pass holds so much then, and has these waits.
+  -- How a resumption ended: by the state of the cell that it found last. The pass holds so much
+  -- then, and has these waits.
   abbrev pub Ends : View Entry T → ℕ → List ℕ → Released → View Entry T → Type 0
   Ends v held waits Freed w = ⊥
-  Ends v held waits (Sent k) w = CellWas state.Waiter k (entry.Deliver k ∷ []) w × Rests v held waits w
+  Ends v held waits (Sent k) w =
+      CellWas state.Waiter k (entry.Deliver k ∷ []) w × Rests v held waits w
   Ends v held waits (Left k) w =
       (CellWas state.Empty k [] w ⊎ CellWas state.Cancelling k [] w) × Rests v held waits w
   Ends v held waits (Void k) w = CellWas state.Refused k [] w × Rests v held waits w
@@ -135,22 +144,27 @@ module _ {T : Type 0} where
   Releases v (Sent k) w = WasWanted v w × Ends v (v.facts.has.held - 1) v.facts.waits (Sent k) w
   Releases v (Left k) w = WasWanted v w × Ends v (v.facts.has.held - 1) v.facts.waits (Left k) w
   Releases v (Void k) w = WasWanted v w × Ends v (v.facts.has.held - 1) v.facts.waits (Void k) w
-  Releases v (Under under) w = WasWanted v w × Ends v (v.facts.has.held - 1) v.facts.waits (Under under) w
+  Releases v (Under under) w =
+      WasWanted v w × Ends v (v.facts.has.held - 1) v.facts.waits (Under under) w
 
   -- A look at a wait found its cell with its waiter, or found it served.
   abbrev pub IsPolled : Wait → View Entry T → Polled → View Entry T → Type 0
   IsPolled wait v (Granted permit) w =
       (number_of permit ≡ Some (place_of wait).index)
-      × CellWas state.Resumed (place_of wait).index (entry.LookGranted v.number (place_of wait).index ∷ []) w
+      × CellWas state.Resumed (place_of wait).index
+      (entry.LookGranted v.number (place_of wait).index ∷ []) w
       × Rests v (v.facts.has.held + 1) (without (place_of wait).index v.facts.waits) w
   IsPolled wait v (Pending again) w =
       (place_of again ≡ place_of wait) × HasWait w again
-      × CellWas state.Waiter (place_of wait).index (entry.LookPending v.number (place_of wait).index ∷ []) w
+      × CellWas state.Waiter (place_of wait).index
+      (entry.LookPending v.number (place_of wait).index ∷ []) w
       × Rests v v.facts.has.held v.facts.waits w
 
-  -- What was on its way to the waiter of the number k that left: nothing that this call must pass on; or a resume had left its value there,
-  -- the waiter left the line, and the call went on with that resumption, which ended so.
-  abbrev pub PassesOn : ℕ → View Entry T → Option token.Under → Option Released → View Entry T → Type 0
+  -- What was on its way to the waiter of the number k that left: nothing that this call must pass
+  -- on; or a resume had left its value there, the waiter left the line, and the call went on with
+  -- that resumption, which ended so.
+  abbrev pub PassesOn : ℕ → View Entry T → Option token.Under → Option Released → View Entry T
+      → Type 0
   PassesOn k v under None w = (under ≡ None) × Rests v v.facts.has.held (without k v.facts.waits) w
   PassesOn k v under (Some released) w =
       (under ≡ owed_after released) × CellWasOnce state.Delegated k v w
@@ -159,6 +173,8 @@ module _ {T : Type 0} where
   -- A cancel found the cell of the wait served; or with its waiter, who left.
   abbrev pub Cancels : ℕ → View Entry T → CancelAnswer → Option Released → View Entry T → Type 0
   Cancels k v (TooLate permit) passed w =
-      (passed ≡ None) × (number_of permit ≡ Some k) × CellWas state.Resumed k (entry.Late v.number k ∷ []) w
+      (passed ≡ None) × (number_of permit ≡ Some k)
+      × CellWas state.Resumed k (entry.Late v.number k ∷ []) w
       × Rests v (v.facts.has.held + 1) (without k v.facts.waits) w
-  Cancels k v (Cancelled under) passed w = CellWasOnce state.Waiter k v w × PassesOn k v under passed w
+  Cancels k v (Cancelled under) passed w =
+      CellWasOnce state.Waiter k v w × PassesOn k v under passed w

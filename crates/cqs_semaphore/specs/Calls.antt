@@ -28,18 +28,21 @@ module _ {T : Type 0} where
   permits_in s = permits_of (client_of s.queue)
 
   -- the pass is one of this semaphore
-  abbrev pub IsMine : {g : Ghosts (SemClient T) T Entry} → Semaphore T → Pass (SemClient T) T Entry g → Type 0
+  abbrev pub IsMine : {g : Ghosts (SemClient T) T Entry} → Semaphore T
+      → Pass (SemClient T) T Entry g → Type 0
   IsMine s p = IsOf s.queue p
 
   -- the plain semaphore, after all that the pass has seen
   abbrev pub plain_after : View Entry T → plain.Semaphore
   plain_after v = object_after v.opening.size v.seen
 
-  -- The call rule. What the pass had seen is a beginning of what it has seen now, which is legal. In the new part the entries that
-  -- name the pass are just its own ones of the call, in order. These name nobody else, and the further entry, where the call makes
-  -- one, names nobody and is the last of all that the pass has seen now. A pass that was alone has seen just the entries of the
-  -- call.
-  pub record CallRule (v : View Entry T) (own further : List Entry) (w : View Entry T) : Type 0 where
+  -- The call rule. What the pass had seen is a beginning of what it has seen now, which is legal.
+  -- In the new part the entries that name the pass are just its own ones of the call, in order.
+  -- These name nobody else, and the further entry, where the call makes one, names nobody and is
+  -- the last of all that the pass has seen now. A pass that was alone has seen just the entries of
+  -- the call.
+  pub record CallRule (v : View Entry T) (own further : List Entry) (w : View Entry T)
+      : Type 0 where
     pub called : Called semaphore_object v (own ++ further) further w
     pub legal : IsLegal w.opening.size w.seen
     pub mine : part entry_names v.number called.more ≡ own
@@ -47,8 +50,8 @@ module _ {T : Type 0} where
     pub only : NamesOnly entry_names v.number own
     pub nobody : (n : ℕ) → part entry_names n further ≡ []
 
-  -- What a pass has done since: the entries that name it, or one that was met into it, among those that it has seen since. Calls
-  -- one after the other, and a call after a meet, make one course.
+  -- What a pass has done since: the entries that name it, or one that was met into it, among those
+  -- that it has seen since. Calls one after the other, and a call after a meet, make one course.
   pub record Course (v : View Entry T) (own : List Entry) (w : View Entry T) : Type 0 where
     pub number : w.number ≡ v.number
     pub more : List Entry

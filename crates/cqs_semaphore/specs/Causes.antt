@@ -50,16 +50,20 @@ module _ {T : Type 0} where
   abbrev pub state_after : View Entry T → List Entry → ℤ
   state_after v history = state_of (object_after v.opening.size history)
 
-  -- The first step of the call loaded the suspend counter, and found n: so many numbers had been drawn in what was seen by then.
-  pub record Counted (v : View Entry T) (n : ℕ) (before : List Entry) (w : View Entry T) : Type 0 where
+  -- The first step of the call loaded the suspend counter, and found n: so many numbers had been
+  -- drawn in what was seen by then.
+  pub record Counted (v : View Entry T) (n : ℕ) (before : List Entry) (w : View Entry T)
+      : Type 0 where
     pub since : IsPrefix v.seen before
     pub seen : IsPrefix before w.seen
     pub drawn : drawn_in before ≡ n
     pub found : IsPrefix (v.facts.found ++ Word suspends_place n ∷ []) w.facts.found
 
-  -- A step of the call found the state to be this count: it was that of the plain semaphore after this history, which the pass has seen
-  -- all of, and what it had seen before is the beginning of it. The step's own entry, where it has one, comes next.
-  pub record StateWas (v : View Entry T) (count : ℤ) (before own : List Entry) (w : View Entry T) : Type 0 where
+  -- A step of the call found the state to be this count: it was that of the plain semaphore after
+  -- this history, which the pass has seen all of, and what it had seen before is the beginning of
+  -- it. The step's own entry, where it has one, comes next.
+  pub record StateWas (v : View Entry T) (count : ℤ) (before own : List Entry) (w : View Entry T)
+      : Type 0 where
     pub since : IsPrefix v.seen before
     pub seen : IsPrefix (before ++ own) w.seen
     pub state : count ≡ state_after w before
@@ -68,9 +72,10 @@ module _ {T : Type 0} where
     pub found : (earlier : List Sighting) × (later : List Sighting)
         × (w.facts.found ≡ v.facts.found ++ (earlier ++ Word (client_place 0) word ∷ later))
 
-  -- The last step of the call found the cell of the number k in this state: the table's word says so, and the cell was so at the end of
-  -- all that the pass has seen before these entries.
-  pub record CellWas (state : CoreState) (k : ℕ) (own : List Entry) (w : View Entry T) : Type 0 where
+  -- The last step of the call found the cell of the number k in this state: the table's word says
+  -- so, and the cell was so at the end of all that the pass has seen before these entries.
+  pub record CellWas (state : CoreState) (k : ℕ) (own : List Entry) (w : View Entry T)
+      : Type 0 where
     pub word : ℕ
     pub payload : ℕ
     pub cell : FoundCell word (cell_of k state payload)

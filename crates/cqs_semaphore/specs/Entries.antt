@@ -1,5 +1,5 @@
--- What each answer appends to the history: the entries of the caller, in order; and apart from them the one that may come after
--- them, by which a permit on its way is delivered.
+-- What each answer appends to the history: the entries of the caller, in order; and apart from them
+-- the one that may come after them, by which a permit on its way is delivered.
 use Rattle.std.specs.Prelude.{ℕ, List, [], ◌∷◌, Option, Some, None, Result, Ok, Err}
 use Rattle.cqs_core.specs.declared.entries.Entry.{Entry}
 use Rattle.cqs_core.specs.declared.entries.Entry.TheVariants as entry
@@ -79,7 +79,8 @@ abbrev pub cancelled_entries : ℕ → ℕ → CancelAnswer → List Entry
 cancelled_entries p k (Cancelled under) = entry.Leave p k ∷ []
 cancelled_entries p k (TooLate permit) = entry.Late p k ∷ []
 
--- what comes after a cancel: the delivery of a permit that was left to it, if the call passed one on
+-- what comes after a cancel: the delivery of a permit that was left to it, if the call passed one
+-- on
 abbrev pub passed_further : Option Released → List Entry
 passed_further None = []
 passed_further (Some released) = resumed_further released

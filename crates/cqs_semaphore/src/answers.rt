@@ -6,14 +6,16 @@ ghost use Rattle.cqs_semaphore.specs.Permits.{number_of};
 
 use cqs_rule::{Under, Wait};
 
-/// A permit that a caller has. It is neither copied nor cloned; one that is dropped stays held for good.
+/// A permit that a caller has. It is neither copied nor cloned; one that is dropped stays held for
+/// good.
 #[derive(Drop)]
 pub struct Permit {
     pub(crate) number: Option<u64>,
 }
 
 impl Permit {
-    /// The number of the wait by which the permit came: none where it was free, and no number was drawn for it.
+    /// The number of the wait by which the permit came: none where it was free, and no number was
+    /// drawn for it.
     pub fn number(&self) -> Option<u64>
         ensures { result ≡ number_of self.now }
     {
@@ -37,7 +39,8 @@ pub enum Tried {
     Got(Permit),
     /// None was free.
     Busy,
-    /// One was free, and another caller was first: the state was loaded as the one, and then found as the other.
+    /// One was free, and another caller was first: the state was loaded as the one, and then found
+    /// as the other.
     Contended { saw: i64, found: i64 },
 }
 
@@ -48,7 +51,8 @@ pub enum Released {
     Freed,
     /// It went to the waiter of this number.
     Sent(u64),
-    /// It was left in the cell of this number, for the caller who is about to wait there, or who is about to leave.
+    /// It was left in the cell of this number, for the caller who is about to wait there, or who is
+    /// about to leave.
     Left(u64),
     /// The waiter of this number had left, and was told that the permit would be free: it is.
     Void(u64),
@@ -80,7 +84,8 @@ pub enum Polled {
 /// What became of a cancel.
 #[derive(Drop)]
 pub enum CancelAnswer {
-    /// The wait is over, and no permit came of it. Where a permit was on its way to it and is still owed, `finish` goes on.
+    /// The wait is over, and no permit came of it. Where a permit was on its way to it and is still
+    /// owed, `finish` goes on.
     Cancelled(Option<Under>),
     /// The permit had come before.
     TooLate(Permit),

@@ -1,4 +1,5 @@
-//! A fair semaphore on the running queue: permits that callers take, wait for in line, give back, and stop waiting for.
+//! A fair semaphore on the running queue: permits that callers take, wait for in line, give back,
+//! and stop waiting for.
 //!
 //! ```text
 //!  acquire --- a permit is free --------------------------------> Now
@@ -9,11 +10,13 @@
 //!
 //!  release --- nobody waits for want of a permit ----------------> Freed
 //!     |
-//!     '------- somebody does: the next number is resumed -------> Sent, Left, Void, or Under, then finish
+//!     '------- somebody does: the next number is resumed -------> Sent, Left, Void,
+//!                                                                 or Under, then finish
 //! ```
 //!
-//! Each caller makes its calls with a pass of its own. Contracts see what the pass has seen of the one history of all callers: the
-//! calls of the plain semaphore of `cqs_core`, with a plain line of waiters.
+//! Each caller makes its calls with a pass of its own. Contracts see what the pass has seen of the
+//! one history of all callers: the calls of the plain semaphore of `cqs_core`, with a plain line of
+//! waiters.
 #![tactic(auto)]
 
 mod acquiring;

@@ -65,7 +65,8 @@ impl<T: Send + Drop> Semaphore<T> {
         released(finish(&self.queue, pass, under))
     }
 
-    // Resumes for a permit that was sent to the line. It stands apart, so that a release with nobody in line stays short.
+    // Resumes for a permit that was sent to the line. It stands apart, so that a release with
+    // nobody in line stays short.
     #[cold]
     #[inline(never)]
     fn send(&self, pass: &mut SemPass<T>) -> Released

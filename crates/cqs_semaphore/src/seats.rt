@@ -33,7 +33,8 @@ impl<T: Send + Drop> Semaphore<T> {
         self.queue.split(pass, 0)
     }
 
-    /// The pass takes in the given one: it has seen what each of them had seen, and holds what both held.
+    /// The pass takes in the given one: it has seen what each of them had seen, and holds what both
+    /// held.
     pub fn meet(
         &self,
         pass: &mut SemPass<T>,
@@ -56,7 +57,8 @@ impl<T: Send + Drop> Semaphore<T> {
         self.queue.meet(pass, given)
     }
 
-    /// Whether no other pass is there. Then this one has seen the whole history, and all others rest.
+    /// Whether no other pass is there. Then this one has seen the whole history, and all others
+    /// rest.
     pub fn sole(&self, pass: &mut SemPass<T>) -> bool
         requires belongs { IsMine self.now pass.old }
         ensures belongs { IsMine self.now pass.new }

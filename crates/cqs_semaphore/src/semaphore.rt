@@ -26,8 +26,8 @@ pub struct Semaphore<T: Drop = ()> {
 }
 
 impl Semaphore {
-    /// A semaphore with all its permits free, and its first pass, which has number 0 and has seen nothing. There are from
-    /// 1 to 1,048,576 permits.
+    /// A semaphore with all its permits free, and its first pass, which has number 0 and has seen
+    /// nothing. There are from 1 to 1,048,576 permits.
     pub fn new(
         alloc: Global,
         permits: u32,

@@ -1,4 +1,5 @@
-//! Two threads and a semaphore of one permit: the host has the permit, and the guest waits for it and gives up.
+//! Two threads and a semaphore of one permit: the host has the permit, and the guest waits for it
+//! and gives up.
 #![tactic(auto)]
 
 ghost use Rattle.std.specs.Prelude.{◌-◌, ◌<◌};

@@ -1,7 +1,7 @@
 //! Has threads work on one semaphore, and says how often each answer came.
 //!
-//! `cqs_stress THREADS PERMITS ROUNDS` prints what is sure of every run; with a further word, `counts`, also what isn't: how often
-//! each answer came, and the time.
+//! `cqs_stress THREADS PERMITS ROUNDS` prints what is sure of every run; with a further word,
+//! `counts`, also what isn't: how often each answer came, and the time.
 #![tactic(auto)]
 
 use cqs_rule::Config;

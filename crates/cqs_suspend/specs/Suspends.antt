@@ -40,16 +40,20 @@ module _ {E S : Type 0} (object : Object E) (k : ℕ) (v : View E S) where
   end_entries s row payload = object.entries s v.number k (told_by row payload v.facts)
 
 module _ {C E S : Type 0} (object : Object E) (primitive : C → Primitive E S) where
-  -- The number k was drawn, and the call's last step, of this row, was made at its cell: the cell was found in the
-  -- state that the row wants, with this payload, at the end of all that the pass has seen before the step's entries.
-  -- The call's entries are those of the two steps, in order, and the pass is where they lead. In between it found
-  -- these, by its search for the cell and by so many tries in vain.
-  pub record Ended (s : QueueStep) (row : CellRow) (tries k payload : ℕ) (v w : View E S) : Type 0 where
+  -- The number k was drawn, and the call's last step, of this row, was made at its cell: the cell
+  -- was found in the state that the row wants, with this payload, at the end of all that the pass
+  -- has seen before the step's entries. The call's entries are those of the two steps, in order,
+  -- and the pass is where they lead. In between it found these, by its search for the cell and by
+  -- so many tries in vain.
+  pub record Ended (s : QueueStep) (row : CellRow) (tries k payload : ℕ) (v w : View E S)
+      : Type 0 where
     pub called : Called object v
-        (draw_entries object k v ++ end_entries object k v s row payload) (end_entries object k v s row payload) w
+        (draw_entries object k v ++ end_entries object k v s row payload)
+        (end_entries object k v s row payload) w
     pub word : ℕ
     pub cell : FoundCell word (cell_found row k payload)
-    pub was : WasFound primitive (HasCell (cell_found row k payload)) (end_entries object k v s row payload) w
+    pub was : WasFound primitive (HasCell (cell_found row k payload))
+        (end_entries object k v s row payload) w
     pub found : List Sighting
     pub heads : List (ℕ × ℕ)
     pub few : length found + length heads ≤ longest_search + tries
@@ -67,10 +71,12 @@ module _ {C E S : Type 0} (object : Object E) (primitive : C → Primitive E S) 
   EndsBy s tries k payload v w = EndedBy s (row_of s) tries k payload v w
 
 module _ {C S E : Type 0} {g : Ghosts C S E} where
-  -- An empty cell got its waiter, by the only exchange. Or the value was taken that the resume of the number left: the
-  -- first exchange found that the cell wasn't empty, and a second one may have found another payload than it wanted.
+  -- An empty cell got its waiter, by the only exchange. Or the value was taken that the resume of
+  -- the number left: the first exchange found that the cell wasn't empty, and a second one may have
+  -- found another payload than it wanted.
   abbrev pub Suspends : Pass C S E g → Suspended → Pass C S E g → Type 0
   Suspends p (Waits wait) p' =
       EndsBy g.object g.primitive installs 0 (place_of wait).index 0 (pass_view p) (pass_view p')
       × HasWait (pass_view p') wait
-  Suspends p (Took payload k) p' = EndsBy g.object g.primitive takes 2 k payload (pass_view p) (pass_view p')
+  Suspends p (Took payload k) p' =
+      EndsBy g.object g.primitive takes 2 k payload (pass_view p) (pass_view p')

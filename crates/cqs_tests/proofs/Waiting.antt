@@ -56,7 +56,8 @@ still-idle gains state.Refused n g f idle = idle
 -- a pass that gave a permit back, and found the state below 0, owes it to the line
 pub owes-it : {T : Type 0} (v w : View Entry T) (n : ℕ) → OnState gives_one in_any_case v n w
     → is_below_zero n ≡ true → w.facts.doing ≡ doing.Owes
-owes-it v w n on below = ap (λ (f : Facts). f.doing) on.saw.facts_are ∙ ap (λ b. if b then doing.Owes else doing.Idle) below
+owes-it v w n on below =
+    ap (λ (f : Facts). f.doing) on.saw.facts_are ∙ ap (λ b. if b then doing.Owes else doing.Idle) below
 
 pub owes-nothing-named : {T : Type 0} (v w : View Entry T) (n : ℕ) → OnState gives_one in_any_case v n w
     → w.facts.has.payload ≡ 0

@@ -20,8 +20,10 @@ module _ {T : Type 0} {g : Ghosts (SemClient T) T Entry} where
   abbrev pub held_by : Pass (SemClient T) T Entry g → ℕ
   held_by p = (pass_view p).facts.has.held
 
-  -- the pass is one of this semaphore, between two calls; it has these waits, and holds so many permits
-  pub record Stays (s : Semaphore T) (held : ℕ) (waits : List ℕ) (p : Pass (SemClient T) T Entry g) : Type 0 where
+  -- the pass is one of this semaphore, between two calls; it has these waits, and holds so many
+  -- permits
+  pub record Stays (s : Semaphore T) (held : ℕ) (waits : List ℕ) (p : Pass (SemClient T) T Entry g)
+      : Type 0 where
     pub belongs : IsMine s p
     pub ready : IsReady (pass_view p).facts
     pub held_is : (pass_view p).facts.has.held ≡ held
@@ -36,7 +38,8 @@ module _ {T : Type 0} {g : Ghosts (SemClient T) T Entry} where
   IsWaiting s held wait p = Stays s held ((place_of wait).index ∷ []) p × HasWait (pass_view p) wait
 
   -- it owes the resumption of this token
-  pub record IsOwing (s : Semaphore T) (held : ℕ) (under : token.Under) (p : Pass (SemClient T) T Entry g) : Type 0 where
+  pub record IsOwing (s : Semaphore T) (held : ℕ) (under : token.Under)
+      (p : Pass (SemClient T) T Entry g) : Type 0 where
     pub belongs : IsMine s p
     pub owes : HasUnder (pass_view p).facts under
     pub further : (pass_view p).facts.has.further ≡ 0

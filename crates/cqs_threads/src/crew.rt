@@ -37,8 +37,8 @@ impl From<Crowd> for CrewError {
     }
 }
 
-/// Has so many threads make so many rounds each, with passes that are made of this one and meet it again at the end. It gives the
-/// sums of what they counted.
+/// Has so many threads make so many rounds each, with passes that are made of this one and meet it
+/// again at the end. It gives the sums of what they counted.
 pub fn together<R: Threads + Sync>(
     rt: &R,
     alloc: Global,

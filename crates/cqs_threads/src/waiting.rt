@@ -11,7 +11,8 @@ use std::thread;
 // A worker looks so often at a wait before it gives it up.
 const LOOKS: u32 = 64;
 
-// Looks at the wait until it was served, but no more than 64 times. Between two looks another thread may run.
+// Looks at the wait until it was served, but no more than 64 times. Between two looks another
+// thread may run.
 fn look_on(semaphore: &Semaphore, pass: &mut SemPass, wait: Wait, counts: &mut Counts) -> Polled
     requires waits { IsWaiting semaphore.now (held_by pass.old) wait pass.old }
     ensures looked { HasLooked semaphore.now (held_by pass.old) result pass.new }

@@ -11,8 +11,9 @@ use std::thread;
 // While a worker has a permit, other threads may run so often.
 const PAUSES: u32 = 16;
 
-/// Makes so many rounds: in each the worker acquires and gives back, and tries and gives back. It gives every third of its waits
-/// up at once, in every other hundred of rounds all of them, and each other one if some looks don't find it served.
+/// Makes so many rounds: in each the worker acquires and gives back, and tries and gives back. It
+/// gives every third of its waits up at once, in every other hundred of rounds all of them, and
+/// each other one if some looks don't find it served.
 pub fn work(semaphore: &Semaphore, pass: SemPass, rounds: u32) -> (SemPass, Counts)
     requires rest { IsAtRest semaphore.now (held_by pass) pass }
     ensures rest { IsAtRest semaphore.now (held_by pass) result.0 }

@@ -13,8 +13,8 @@ pub struct Stand {
 /// A semaphore with one caller, who makes one whole call after the other. Each call is the plain
 /// semaphore's.
 ///
-/// It takes its memory when it is made: as many takes as it has room for, and all that they lead to,
-/// can't fail.
+/// It takes its memory when it is made: as many takes as it has room for, and all that they lead
+/// to, can't fail.
 pub trait SoleSemaphore: Sized + Drop {
     /// What its caller has of a wait, until that is over.
     type Wait: Drop;

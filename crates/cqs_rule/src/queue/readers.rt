@@ -7,7 +7,8 @@ use crate::client::ClientWords;
 use crate::queue::Queue;
 
 impl<C: ClientWords> Queue<C> {
-    /// The limit of the suspend counter: a pass draws a number only if it saw the counter below this.
+    /// The limit of the suspend counter: a pass draws a number only if it saw the counter below
+    /// this.
     #[inline]
     pub fn limit(&self) -> u64
         ensures { result ≡ limit_of self.now }

@@ -20,7 +20,8 @@ take_in-requires-clause-given c =
 pub loop-given-preserved : goal.loop-given-preserved
 loop-given-preserved c =
     let rest = c.take_in.ensures.rest in
-    let left = subst (All (λ w. IsAtRest c.args.semaphore.now 0 w.0)) c.in-Some.ensures.steps.0 c.loop-given.invariant.1 in (
+    let left = subst (All (λ w. IsAtRest c.args.semaphore.now 0 w.0)) c.in-Some.ensures.steps.0 c.loop-given.invariant.1
+    in (
       record {
         belongs = rest.belongs;
         ready = rest.ready;

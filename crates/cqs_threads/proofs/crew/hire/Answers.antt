@@ -15,5 +15,6 @@ loop-preserved c =
         waits_are = rest.waits_are;
       },
       subst (All free) (sym c.in_ok-push.ensures.items)
-          (All-push free c.loop.passes.items c.in_ok-hire_one.field-0 c.loop.invariant.1 c.in_ok-hire_one.ensures.hired),
+          (All-push free c.loop.passes.items c.in_ok-hire_one.field-0 c.loop.invariant.1
+          c.in_ok-hire_one.ensures.hired),
     )

@@ -16,7 +16,9 @@ fetch_sub-found-requires g c =
       search rules,
       search rules,
       (λ s r homes here small.
-          let t = moves-at C.object C.primitive _ _ x (g.met.C.ClientWords.keeps x) g.M.Shown.event in_any_case c.args.self.now.table.shared.table_id.slots c.args.pass.now.seat.id c.args.pass.now.seat.me c.args.word _ _
+          let t = moves-at C.object C.primitive _ _ x (g.met.C.ClientWords.keeps x) g.M.Shown.event in_any_case
+          c.args.self.now.table.shared.table_id.slots c.args.pass.now.seat.id c.args.pass.now.seat.me c.args.word _
+          _
           (λ n. (n + (2 ^ 64 - c.unsigned_abs-amount.result)) % 2 ^ 64)
           c.args.pass.now.live.0 c.requires.word c.place-place.ensures
           (λ n. added-down c.args.by _ n is side) c.requires.law s r homes here small in (
@@ -26,7 +28,8 @@ fetch_sub-found-requires g c =
             t.3,
             (
               t.4,
-              alone-now C.object C.primitive _ _ x (g.met.C.ClientWords.keeps x) _ t.3 _ t.0 (set_there s.views _ _ t.0 here),
+              alone-now C.object C.primitive _ _ x (g.met.C.ClientWords.keeps x) _ t.3 _ t.0
+                  (set_there s.views _ _ t.0 here),
             ),
           )),
     )
@@ -41,7 +44,9 @@ fetch_add-found-requires g c =
       search rules,
       search rules,
       (λ s r homes here small.
-          let t = moves-at C.object C.primitive _ _ x (g.met.C.ClientWords.keeps x) g.M.Shown.event in_any_case c.args.self.now.table.shared.table_id.slots c.args.pass.now.seat.id c.args.pass.now.seat.me c.args.word _ _
+          let t = moves-at C.object C.primitive _ _ x (g.met.C.ClientWords.keeps x) g.M.Shown.event in_any_case
+          c.args.self.now.table.shared.table_id.slots c.args.pass.now.seat.id c.args.pass.now.seat.me c.args.word _
+          _
           (λ n. (n + c.unsigned_abs-amount.result) % 2 ^ 64)
           c.args.pass.now.live.0 c.requires.word c.place-place.ensures
           (λ n. added-up c.args.by _ n is side) c.requires.law s r homes here small in (
@@ -51,7 +56,8 @@ fetch_add-found-requires g c =
             t.3,
             (
               t.4,
-              alone-now C.object C.primitive _ _ x (g.met.C.ClientWords.keeps x) _ t.3 _ t.0 (set_there s.views _ _ t.0 here),
+              alone-now C.object C.primitive _ _ x (g.met.C.ClientWords.keeps x) _ t.3 _ t.0
+                  (set_there s.views _ _ t.0 here),
             ),
           )),
     )

@@ -13,7 +13,8 @@ load-found-requires g c =
       search rules,
       search rules,
       (λ s r homes here small.
-          let t = loads C.object (C.primitive x) _ _ client C.primitive x refl c.args.self.now.table.shared.table_id.slots c.args.pass.now.seat.id c.args.pass.now.seat.me
+          let t = loads C.object (C.primitive x) _ _ client C.primitive x refl
+          c.args.self.now.table.shared.table_id.slots c.args.pass.now.seat.id c.args.pass.now.seat.me
           g.L.Load.load c.args.word c.args.pass.now.live.0
           c.requires.suits
           c.requires.load s r homes here small in (

@@ -32,7 +32,8 @@ fetch_sub-requires g c =
       e.0 ∙ c.requires.belongs.table,
       search rules,
       (λ s r homes here small.
-          let t = meets C.object (C.primitive x) _ _ (g.met.C.ClientWords.keeps x) c.args.self.now.table.shared.table_id.slots _ _ j.weight j.idle j.empty j.owes_none
+          let t = meets C.object (C.primitive x) _ _ (g.met.C.ClientWords.keeps x)
+          c.args.self.now.table.shared.table_id.slots _ _ j.weight j.idle j.empty j.owes_none
           j.slotless j.waitless s r homes here small in (
             t.0,
             t.1,
@@ -40,7 +41,8 @@ fetch_sub-requires g c =
             t.3,
             (
               t.4,
-              alone-now C.object C.primitive _ _ x (g.met.C.ClientWords.keeps x) _ t.3 _ t.0 (set_there s.views _ _ t.0 here),
+              alone-now C.object C.primitive _ _ x (g.met.C.ClientWords.keeps x) _ t.3 _ t.0
+                  (set_there s.views _ _ t.0 here),
             ),
           )),
     )

@@ -14,7 +14,9 @@ fetch_or-found-requires g c =
       search rules,
       search rules,
       (λ s r homes here small.
-          let t = moves-at C.object C.primitive _ _ x (g.met.C.ClientWords.keeps x) g.M.Shown.event in_any_case c.args.self.now.table.shared.table_id.slots c.args.pass.now.seat.id c.args.pass.now.seat.me c.args.word _ _
+          let t = moves-at C.object C.primitive _ _ x (g.met.C.ClientWords.keeps x) g.M.Shown.event in_any_case
+          c.args.self.now.table.shared.table_id.slots c.args.pass.now.seat.id c.args.pass.now.seat.me c.args.word _
+          _
           (λ n. bit_or n c.args.bits)
           c.args.pass.now.live.0 c.requires.word c.place.ensures (λ n. refl) c.requires.law s r homes here small in (
             t.0,
@@ -23,7 +25,8 @@ fetch_or-found-requires g c =
             t.3,
             (
               t.4,
-              alone-now C.object C.primitive _ _ x (g.met.C.ClientWords.keeps x) _ t.3 _ t.0 (set_there s.views _ _ t.0 here),
+              alone-now C.object C.primitive _ _ x (g.met.C.ClientWords.keeps x) _ t.3 _ t.0
+                  (set_there s.views _ _ t.0 here),
             ),
           )),
     )

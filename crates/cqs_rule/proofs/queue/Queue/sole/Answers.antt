@@ -14,7 +14,8 @@ load-found-requires g c =
       search rules,
       (λ s r homes here small.
           let t = counts C.object (C.primitive x) _ _ (g.met.C.ClientWords.keeps x)
-          (IsSole C.primitive) c.args.self.now.table.shared.table_id.slots c.args.pass.now.seat.id c.args.pass.now.seat.me c.args.pass.now.live.0
+          (IsSole C.primitive) c.args.self.now.table.shared.table_id.slots c.args.pass.now.seat.id
+          c.args.pass.now.seat.me c.args.pass.now.live.0
           (sole-tells C.primitive x) s r homes here small in (
             t.0,
             t.1,
@@ -22,7 +23,8 @@ load-found-requires g c =
             t.3,
             (
               t.4,
-              alone-now C.object C.primitive _ _ x (g.met.C.ClientWords.keeps x) _ t.3 _ t.0 (set_there s.views _ _ t.0 here),
+              alone-now C.object C.primitive _ _ x (g.met.C.ClientWords.keeps x) _ t.3 _ t.0
+                  (set_there s.views _ _ t.0 here),
             ),
           )),
     )

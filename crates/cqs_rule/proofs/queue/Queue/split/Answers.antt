@@ -18,7 +18,8 @@ load-saw-requires g c =
       search rules,
       (λ s r homes here small.
           let t = counts C.object (C.primitive x) _ _ (g.met.C.ClientWords.keeps x)
-          (IsSole C.primitive) c.args.self.now.table.shared.table_id.slots c.args.pass.now.seat.id c.args.pass.now.seat.me c.args.pass.now.live.0
+          (IsSole C.primitive) c.args.self.now.table.shared.table_id.slots c.args.pass.now.seat.id
+          c.args.pass.now.seat.me c.args.pass.now.live.0
           (sole-tells C.primitive x) s r homes here small in (
             t.0,
             t.1,
@@ -26,7 +27,8 @@ load-saw-requires g c =
             t.3,
             (
               t.4,
-              alone-now C.object C.primitive _ _ x (g.met.C.ClientWords.keeps x) _ t.3 _ t.0 (set_there s.views _ _ t.0 here),
+              alone-now C.object C.primitive _ _ x (g.met.C.ClientWords.keeps x) _ t.3 _ t.0
+                  (set_there s.views _ _ t.0 here),
             ),
           )),
     )
@@ -58,8 +60,10 @@ compare_exchange-found-requires g c =
       search rules,
       search rules,
       (λ s r homes here small.
-          let t = makes-to C.object (C.primitive x) _ _ (g.met.C.ClientWords.keeps x) c.args.self.now.table.shared.table_id.slots
-          c.loop-pass.pass.seat.id c.loop-pass.saw c.with_one_more.result c.loop-pass.pass.seat.me c.loop-pass.pass.live.0
+          let t = makes-to C.object (C.primitive x) _ _ (g.met.C.ClientWords.keeps x)
+          c.args.self.now.table.shared.table_id.slots
+          c.loop-pass.pass.seat.id c.loop-pass.saw c.with_one_more.result c.loop-pass.pass.seat.me
+          c.loop-pass.pass.live.0
           (omega arith)
           c.with_one_more.ensures s r homes here small in (
             t.0,
@@ -68,7 +72,8 @@ compare_exchange-found-requires g c =
             t.3,
             (
               t.4,
-              alone-now C.object C.primitive _ _ x (g.met.C.ClientWords.keeps x) _ t.3 _ t.0 (set_there s.views _ _ t.0 here),
+              alone-now C.object C.primitive _ _ x (g.met.C.ClientWords.keeps x) _ t.3 _ t.0
+                  (set_there s.views _ _ t.0 here),
             ),
           )),
     )

@@ -13,7 +13,8 @@ compare_exchange-found-requires g c =
       search rules,
       search rules,
       (λ s r homes here small.
-          let t = cross C.object (C.primitive x) _ _ client C.primitive x refl c.args.self.now.table.shared.table_id.slots c.args.pass.now.seat.id c.args.pass.now.seat.me
+          let t = cross C.object (C.primitive x) _ _ client C.primitive x refl
+          c.args.self.now.table.shared.table_id.slots c.args.pass.now.seat.id c.args.pass.now.seat.me
           g.K.Kind.step c.args.word c.args.saw c.args.new c.args.pass.now.live.0 c.requires.suits
           c.requires.cell s r homes here small in (
             t.0,

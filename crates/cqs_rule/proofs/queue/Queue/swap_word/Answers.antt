@@ -16,7 +16,8 @@ compare_exchange-found-requires g c =
       search rules,
       (λ s r homes here small.
           let t = moves-at C.object C.primitive _ _ x (g.met.C.ClientWords.keeps x) g.M.Shown.event
-          (where_found c.args.saw) c.args.self.now.table.shared.table_id.slots c.args.pass.now.seat.id c.args.pass.now.seat.me c.args.word _ _
+          (where_found c.args.saw) c.args.self.now.table.shared.table_id.slots c.args.pass.now.seat.id
+          c.args.pass.now.seat.me c.args.word _ _
           (λ n. either (n == c.args.saw) c.args.new n)
           c.args.pass.now.live.0 c.requires.word c.place.ensures (λ n. refl) c.requires.law s r homes here small in (
             t.0,
@@ -25,7 +26,8 @@ compare_exchange-found-requires g c =
             t.3,
             (
               t.4,
-              alone-now C.object C.primitive _ _ x (g.met.C.ClientWords.keeps x) _ t.3 _ t.0 (set_there s.views _ _ t.0 here),
+              alone-now C.object C.primitive _ _ x (g.met.C.ClientWords.keeps x) _ t.3 _ t.0
+                  (set_there s.views _ _ t.0 here),
             ),
           )),
     )

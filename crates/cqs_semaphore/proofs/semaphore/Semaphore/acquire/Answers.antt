@@ -49,7 +49,8 @@ returns-then-is_above_zero-clause-acquired g c =
 
 pub returns-then-is_above_zero-clause-alone : goal.returns-then-is_above_zero-clause-alone
 returns-then-is_above_zero-clause-alone g c = λ alone.
-    plain-acquire _ _ (Now (record { number = None })) (quiet _ c.requires.belongs.alone c.args.pass.now.live.0 alone c.requires.ready.idle)
+    plain-acquire _ _ (Now (record { number = None }))
+    (quiet _ c.requires.belongs.alone c.args.pass.now.live.0 alone c.requires.ready.idle)
     (returns-then-is_above_zero-clause-called g c) alone
 
 pub returns-clause-called : goal.returns-clause-called
@@ -74,10 +75,12 @@ returns-clause-acquired g c =
     let limit = c.limit.ensures in
     let is = c.requires.belongs.limit in
     let low = c.if-next_wait-limit.false in
-    waits-acquired _ _ _ _ c.requires.ready (came false _ _ _ _ _ (sym c.is_above_zero.ensures ∙ c.if-is_above_zero.false)
+    waits-acquired _ _ _ _ c.requires.ready
+    (came false _ _ _ _ _ (sym c.is_above_zero.ensures ∙ c.if-is_above_zero.false)
     (omega arith) c.next_wait.ensures.saw c.take_permit.ensures.saw) c.wait_in_line.ensures.waits
 
 pub returns-clause-alone : goal.returns-clause-alone
 returns-clause-alone g c = λ alone.
-    plain-acquire _ _ c.wait_in_line.result (quiet _ c.requires.belongs.alone c.args.pass.now.live.0 alone c.requires.ready.idle)
+    plain-acquire _ _ c.wait_in_line.result
+    (quiet _ c.requires.belongs.alone c.args.pass.now.live.0 alone c.requires.ready.idle)
     (returns-clause-called g c) alone

@@ -16,4 +16,5 @@ pub returns-clause-alone : goal.returns-clause-alone
 returns-clause-alone g c = λ alone one.
     let rule = returns-clause-called g c in
     plain-end _ _ c.released.result _ _ rule (returns-clause-ends g c)
-    (λ idle. quiet _ c.finish.ensures.belongs.alone c.finish.new.pass.live.0 (rule.called.same.alone ∙ alone) idle) alone one
+    (λ idle. quiet _ c.finish.ensures.belongs.alone c.finish.new.pass.live.0 (rule.called.same.alone ∙ alone) idle)
+    alone one

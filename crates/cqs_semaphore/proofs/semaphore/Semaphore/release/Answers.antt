@@ -20,7 +20,8 @@ returns-then-is_below_zero-clause-released g c =
 pub returns-then-is_below_zero-clause-alone : goal.returns-then-is_below_zero-clause-alone
 returns-then-is_below_zero-clause-alone g c = λ alone.
     let rule = returns-then-is_below_zero-clause-called g c in
-    plain-release _ _ c.send.result (quiet _ c.requires.belongs.alone c.args.pass.now.live.0 alone c.requires.ready.idle)
+    plain-release _ _ c.send.result
+    (quiet _ c.requires.belongs.alone c.args.pass.now.live.0 alone c.requires.ready.idle)
     rule (returns-then-is_below_zero-clause-released g c)
     (λ idle. quiet _ c.send.ensures.belongs.alone c.send.new.pass.live.0 (rule.called.same.alone ∙ alone) idle) alone
 
@@ -41,5 +42,6 @@ returns-clause-alone g c = λ alone.
     let rule = returns-clause-called g c in
     plain-release _ _ Freed (quiet _ c.requires.belongs.alone c.args.pass.now.live.0 alone c.requires.ready.idle)
     rule (returns-clause-released g c)
-    (λ idle. quiet _ c.give_permit.ensures.belongs.alone c.give_permit.new.pass.live.0 (rule.called.same.alone ∙ alone) idle)
+    (λ idle. quiet _ c.give_permit.ensures.belongs.alone c.give_permit.new.pass.live.0 (rule.called.same.alone ∙ alone)
+    idle)
     alone

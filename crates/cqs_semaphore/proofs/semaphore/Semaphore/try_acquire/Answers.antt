@@ -15,7 +15,8 @@ use Rattle.cqs_semaphore.proofs.semaphore.Semaphore.try_acquire.Goals as goal
 pub returns-then-not-is_above_zero-clause-called : goal.returns-then-not-is_above_zero-clause-called
 returns-then-not-is_above_zero-clause-called g c =
     let v = pass_view c.args.pass.now in
-    let l = loaded false _ _ _ (sym c.is_above_zero.ensures ∙ c.if-not-is_above_zero.true) c.load_state-saw.ensures.saw in
+    let l = loaded false _ _ _ (sym c.is_above_zero.ensures ∙ c.if-not-is_above_zero.true) c.load_state-saw.ensures.saw
+    in
     call-rule_own _ _ (entry.TryBusy v.number ∷ []) _ (busy-called _ _ _ l) (λ n. refl, tt) c.requires.belongs.live.own
     c.load_state-saw.ensures.belongs.live.legal
 

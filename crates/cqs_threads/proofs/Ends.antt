@@ -1,11 +1,11 @@
 -- How a cancel of the one wait leaves the pass: at rest, or with a resumption that it owes.
-use Rattle.std.proofs.Common.{◌≡◌, inl, inr, true, false, ℕ, [], ◌∷◌, ◌∙◌, Option, Some, None, sym, ap, subst, rules}
+use Rattle.std.proofs.Common.{◌≡◌, refl, inl, inr, true, false, ℕ, [], ◌∷◌, ◌∙◌, Option, Some, None, sym, ap, subst, rules}
 use Rattle.cqs_core.specs.declared.entries.Entry.{Entry}
 use Rattle.cqs_core.specs.declared.doings.Doing.TheVariants as doing
 use Rattle.cqs_rule.specs.declared.queue.tokens.Under as token
 use Rattle.cqs_rule.specs.declared.view.Facts.{Facts}
 use Rattle.cqs_rule.specs.declared.view.View.{View}
-use Rattle.cqs_rule.specs.Facts.{is_owing}
+use Rattle.cqs_rule.specs.Facts.{owes_any}
 use Rattle.cqs_rule.specs.Lists.{without}
 use Rattle.cqs_rule.specs.Owed.{HasUnder}
 use Rattle.cqs_rule.specs.Seats.{IsBusy}
@@ -52,8 +52,9 @@ module _ {T : Type 0} where
         waits_are = p.2.waits_are;
       }
 
--- a pass that is idle and has no wait can be met away
-pub not-busy : (f : Facts) → f.doing ≡ doing.Idle → f.waits ≡ [] → IsBusy f → ⊥
-not-busy f idle none (inl owing) =
-    let same : false ≡ true = sym (ap is_owing idle) ∙ owing in absurd (cc)
-not-busy f idle none (inr some) = search (rules, none, some)
+-- a pass that is idle, has no further resumption and no wait can be met away
+pub not-busy : (f : Facts) → f.doing ≡ doing.Idle → f.has.further ≡ 0 → f.waits ≡ [] → IsBusy f → ⊥
+not-busy f idle further none (inl owing) =
+    let same : owes_any f ≡ false = rw (idle, further) refl in
+    let clash : false ≡ true = sym same ∙ owing in absurd (cc)
+not-busy f idle further none (inr some) = search (rules, none, some)

@@ -4,7 +4,8 @@
 //! memory and prints the nanoseconds of the run and a sum over the report's bytes, by which the two reports are compared; `plain
 //! report NAME` prints the report, and `plain make NAME` makes the plan alone. The names are those of `named_plan`; a number after
 //! a name is how many turns the plan has.
-//! `plain free`, `plain pairs` and `plain leaves` make the rounds of the running queue on atomic words; `ROUNDS` after them is how many.
+//! `plain free`, `plain pairs` and `plain leaves` make the rounds of the running queue on atomic words, `plain leave` and
+//! `plain leave-behind` those of a semaphore whose waiter looks and leaves; `ROUNDS` after them is how many.
 
 use std::collections::VecDeque;
 use std::fmt::Write as _;
@@ -474,10 +475,33 @@ fn leave_round(words: &Words, caller: &mut Caller) {
     }
 }
 
-/// Times rounds of one kind, and prints their nanoseconds, how many there were, and what the caller holds at the end.
-fn time_rounds(name: &str, rounds: u64, round: impl Fn(&Words, &mut Caller)) {
+/// No permit is free: the caller waits in line, looks once, and leaves.
+fn look_and_leave_round(words: &Words, caller: &mut Caller) {
+    if !words.may_draw() {
+        return;
+    }
+    let Some(number) = words.acquire() else {
+        caller.held += 1;
+        return;
+    };
+    if !words.is_served(number) && words.cancel(number) {
+        words.resume();
+    }
+}
+
+/// So many waiters stand in line where rounds are made behind them.
+const LIVE: u64 = 1000;
+
+/// Times rounds of one kind, after the caller has taken so often, and prints their nanoseconds, how many there were, and what the
+/// caller holds at the end.
+fn time_rounds(name: &str, rounds: u64, taken: u64, round: impl Fn(&Words, &mut Caller)) {
     let words = Words::new(1);
     let mut caller = Caller { held: 0 };
+    for _ in 0..taken {
+        if words.acquire().is_none() {
+            caller.held += 1;
+        }
+    }
     let start = Instant::now();
     for _ in 0..rounds {
         round(&words, &mut caller);
@@ -521,15 +545,23 @@ fn main() {
             true
         }
         ["free", ..] => {
-            time_rounds("free", rounds(), free_round);
+            time_rounds("free", rounds(), 0, free_round);
             true
         }
         ["pairs", ..] => {
-            time_rounds("pairs", rounds(), pair_round);
+            time_rounds("pairs", rounds(), 0, pair_round);
             true
         }
         ["leaves", ..] => {
-            time_rounds("leaves", rounds(), leave_round);
+            time_rounds("leaves", rounds(), 0, leave_round);
+            true
+        }
+        ["leave", ..] => {
+            time_rounds("leave", rounds(), 1, look_and_leave_round);
+            true
+        }
+        ["leave-behind", ..] => {
+            time_rounds("leave-behind", rounds(), 1 + LIVE, look_and_leave_round);
             true
         }
         [command, name] => with_plan(command, name, None),
@@ -537,7 +569,7 @@ fn main() {
         _ => false,
     };
     if !known {
-        let usage = "usage: plain plan | make | run | report NAME [TURNS]; or plain large | free [ROUNDS] | pairs [ROUNDS] | leaves [ROUNDS]";
+        let usage = "usage: plain plan | make | run | report NAME [TURNS]; or plain large; or plain free | pairs | leaves | leave | leave-behind [ROUNDS]";
         let _ = writeln!(std::io::stderr(), "{usage}");
         std::process::exit(2);
     }

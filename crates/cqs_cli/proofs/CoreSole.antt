@@ -178,7 +178,7 @@ module _ (x y : Room) (answer : Reply) (sole : IsSole x.shape) where
           })
 
 -- some wait of the number is in the line where the first of it is found
-any-find : (k : ℕ) (ws : List Waiting) → list_any (λ w. w.wait == k) ws ≡ is_some (find_wait k ws)
+pub any-find : (k : ℕ) (ws : List Waiting) → list_any (λ w. w.wait == k) ws ≡ is_some (find_wait k ws)
 any-find k [] = refl
 any-find k (w ∷ ws) = go (w.wait == k) refl (any-find k ws)
   where

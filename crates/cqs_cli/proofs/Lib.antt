@@ -20,3 +20,8 @@ pub mod LegalFloors
 pub mod Counting
 pub mod Opened
 pub mod CoreSole
+pub mod News
+pub mod QueueSole
+pub mod QueueSends
+pub mod QueueStands
+pub mod RunFloors

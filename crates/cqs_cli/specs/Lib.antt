@@ -7,6 +7,7 @@ pub mod Verdicts
 pub mod Words
 pub mod Soles
 pub mod SoleCore
+pub mod SoleQueue
 pub mod Ledger
 pub mod DeskCalls
 pub mod Kept

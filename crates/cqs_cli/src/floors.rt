@@ -4,6 +4,8 @@ pub mod core_floor;
 mod core_sole;
 mod desk;
 mod opening;
+pub mod queue_floor;
+mod queue_sole;
 mod sole;
 mod transfers;
 mod waits;

@@ -1,6 +1,6 @@
 //! What a call of the program keeps for its caller.
 
-use crate::floors::core_floor::CoreFloor;
+use crate::floors::queue_floor::QueueFloor;
 
 /// What a call of the program keeps: nothing, or what its command worked on.
 #[derive(Drop)]
@@ -8,5 +8,5 @@ pub enum Kept {
     /// No command made its text.
     Nothing,
     /// The floor on which a plan was run, as it stood when the report was made.
-    Ran(CoreFloor),
+    Ran(QueueFloor),
 }

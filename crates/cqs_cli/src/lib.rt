@@ -18,6 +18,7 @@ mod verdict;
 mod words;
 
 pub use floors::core_floor::CoreFloor;
+pub use floors::queue_floor::QueueFloor;
 pub use kept::Kept;
 pub use standard::{StdinSource, StdoutSink};
 pub use statuses::{DONE, NO_COMMAND, NO_MEMORY, NO_PLAN, SINK_FAILED, SOURCE_FAILED, TOO_LONG};

@@ -8,7 +8,7 @@ ghost use Rattle.cqs_cli.specs.KeptRuns.{KeepsRun, KeepsWith};
 ghost use Rattle.cqs_cli.specs.Plans.{floor_after};
 ghost use Rattle.cqs_cli.specs.Verdicts.{IsVerdictOn};
 
-use crate::floors::core_floor::CoreFloor;
+use crate::floors::queue_floor::QueueFloor;
 use crate::kept::Kept;
 use crate::verdict::Verdict;
 use cqs_core::Memory;
@@ -46,7 +46,8 @@ fn answer(alloc: Global, bytes: &[u8], kept: &mut Kept) -> Result<Verdict, Memor
     }
 }
 
-/// The report of a plan, over a floor on one core for each semaphore, which is kept.
+/// The report of a plan, over a floor on one semaphore of the running queue for each of the plan's,
+/// which is kept.
 fn report_of(alloc: Global, plan: &Plan, kept: &mut Kept) -> Result<Vec<u8>, Memory>
     requires runnable { IsRunnable plan.now }
     requires built { AreSemaphores plan.now.resources }
@@ -55,9 +56,10 @@ fn report_of(alloc: Global, plan: &Plan, kept: &mut Kept) -> Result<Vec<u8>, Mem
     ensures keeps { OnOk result (KeepsRun plan.now kept.new) }
     ensures err { OnErr result (kept.new ≡ kept.old) }
 {
-    let mut floor = CoreFloor::new(alloc, plan)?;
+    let mut floor = QueueFloor::new(alloc, plan)?;
     let mut told = Report::new(alloc);
     run_plan(alloc, plan, &mut floor, &mut told)?;
+    floor.is_kept();
     *kept = Kept::Ran(floor);
     Ok(told.into_text())
 }

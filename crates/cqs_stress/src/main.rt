@@ -79,7 +79,7 @@ fn run<R: Threads + Sync + Clock + Print + AllocGlobal>(
     println!(rt; "one pass is left: {}", semaphore.sole(&mut pass))?;
     println!(rt; "the state: {}", semaphore.state(&mut pass))?;
     let free = matches!(semaphore.acquire(&mut pass), Ok(Acquired::Now(_)));
-    println!(rt; "a permit is free: {free}")?;
+    println!(rt; "a last acquire has a permit at once: {free}")?;
     if counts {
         println!(rt; "{made}")?;
         println!(rt; "nanoseconds: {nanoseconds}")?;

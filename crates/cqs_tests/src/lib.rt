@@ -12,3 +12,9 @@ mod packed_words;
 mod queue_calls;
 #[cfg(test)]
 mod queue_rows;
+#[cfg(test)]
+mod semaphore_limits;
+#[cfg(test)]
+mod semaphore_rows;
+#[cfg(test)]
+mod threads;

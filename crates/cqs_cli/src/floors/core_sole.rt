@@ -5,7 +5,7 @@ ghost use Rattle.cqs_core.specs.SemaphoreShown.{free_of, short_of};
 ghost use Rattle.cqs_core.specs.SoleCaller.{MayCall};
 ghost use Rattle.cqs_cli.specs.SoleCore.{HasMade, IsReady, is_served_at};
 
-use super::sole::{SoleSemaphore, Stand};
+use super::sole::{SoleSemaphore, Stand, stand_in};
 use cqs_core::{Call, Core, CoreCell, CoreState, Memory, Reply};
 use std::alloc::Global;
 
@@ -101,18 +101,7 @@ fn stand_of(core: &Core) -> Stand
     ensures free { result.free ≡ free_of core.now.shape.state }
     ensures line { result.line ≡ short_of core.now.shape.state }
 {
-    let state = core.state();
-    if state < 0 {
-        Stand {
-            free: 0,
-            line: (-state) as u32,
-        }
-    } else {
-        Stand {
-            free: state as u32,
-            line: 0,
-        }
-    }
+    stand_in(core.state())
 }
 
 /// Whether the wait of this number was served.

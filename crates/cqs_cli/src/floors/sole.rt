@@ -1,5 +1,8 @@
 //! A semaphore with one caller, as a floor needs it.
 
+ghost use Rattle.std.specs.Prelude.{◌≡◌, ◌≤ℤ◌, negsuc, pos};
+ghost use Rattle.cqs_core.specs.SemaphoreShown.{free_of, short_of};
+
 use cqs_core::Memory;
 use std::alloc::Global;
 
@@ -8,6 +11,26 @@ use std::alloc::Global;
 pub struct Stand {
     pub free: u32,
     pub line: u32,
+}
+
+/// How a semaphore stands by its state: the free permits, or below 0 the waits in the line.
+pub(super) fn stand_in(state: i64) -> Stand
+    requires least { negsuc 4294967294 ≤ℤ state }
+    requires most { state ≤ℤ pos 4294967295 }
+    ensures free { result.free ≡ free_of state }
+    ensures line { result.line ≡ short_of state }
+{
+    if state < 0 {
+        Stand {
+            free: 0,
+            line: (-state) as u32,
+        }
+    } else {
+        Stand {
+            free: state as u32,
+            line: 0,
+        }
+    }
 }
 
 /// A semaphore with one caller, who makes one whole call after the other. Each call is the plain

@@ -1,0 +1,259 @@
+-- A permit that is on its way comes to the first of the line, in however many calls.
+use Rattle.std.proofs.Common.{◌≡◌, ℕ, ◌+◌, true, List, [], ◌∷◌, ◌++◌, Option, Some, None, Ok, take, length, vec_capacity, refl, ap, sym, ◌∙◌, subst}
+use Rattle.std.proofs.Math.Seq.{take-append_seam}
+use Rattle.std.proofs.lemmas.List.Sums.{fold-append}
+use Rattle.std.proofs.lemmas.List.{append_assoc, append-nil}
+use Rattle.cqs_core.specs.declared.entries.Entry.{Entry}
+use Rattle.cqs_core.specs.declared.entries.Entry.TheVariants as entry
+use Rattle.cqs_core.specs.QueueLine.{Waiting}
+use Rattle.cqs_core.specs.SemaphoreEntries.{IsAllowed, IsFirst, IsLegal, Waits, after_entry, left, object_after}
+use Rattle.cqs_core.specs.SemaphoreObject.{Semaphore, opening}
+use Rattle.cqs_rule.specs.declared.queue.tokens.Under.{Under as Token}
+use Rattle.cqs_core.proofs.Places.{get-push_at}
+use Rattle.cqs_core.proofs.Rising.{in-none}
+use Rattle.cqs_rule.specs.declared.view.Opening.{Opening}
+use Rattle.cqs_rule.specs.declared.view.View.{View}
+use Rattle.cqs_rule.specs.Lists.{without}
+use Rattle.cqs_rule.specs.Owed.{HasUnder}
+use Rattle.cqs_rule.specs.Passes.{pass_view}
+use Rattle.cqs_rule.specs.Views.{IsSame}
+use Rattle.cqs_semaphore.specs.declared.answers.Released.{Released}
+use Rattle.cqs_semaphore.specs.declared.answers.CancelAnswer.TheVariants.{Cancelled}
+use Rattle.cqs_semaphore.specs.declared.answers.Released.TheVariants.{Freed, Left, Sent, Under, Void}
+use Rattle.cqs_semaphore.specs.Alone.{IsFirstOf, IsPlainEnd}
+use Rattle.cqs_semaphore.specs.Answers.{Ends}
+use Rattle.cqs_semaphore.specs.Answers.{Releases as Gave}
+use Rattle.cqs_semaphore.specs.Calls.{CallRule, IsMine, Rests, plain_after}
+use Rattle.cqs_semaphore.specs.Entries.{passed_further, released_entries, released_further, resumed_further}
+use Rattle.cqs_semaphore.specs.Steps.{HasCancelled}
+use Rattle.cqs_cli.specs.declared.floors.queue_sole.QueueSole.{QueueSole}
+use Rattle.cqs_cli.specs.Soles.{Releases}
+use Rattle.cqs_cli.specs.SoleQueue.{sole_queue}
+use Rattle.cqs_cli.proofs.QueueSole.{HasLeft, left-way, plain-next, queue-sends, went}
+
+module _ {T : Type 0} where
+  same-then : (u v w : View Entry T) → IsSame u v → IsSame v w → IsSame u w
+  same-then u v w one two = record {
+    number = two.number ∙ one.number;
+    weight = two.weight ∙ one.weight;
+    own = two.own ∙ one.own;
+    crew = two.crew ∙ one.crew;
+    alone = two.alone ∙ one.alone;
+    limit = two.limit ∙ one.limit;
+    cells = two.cells ∙ one.cells;
+    passes = two.passes ∙ one.passes;
+    opening = two.opening ∙ one.opening;
+  }
+
+  pub same-first : (v : View Entry T) → IsSame v v
+  same-first v = record {
+    number = refl;
+    weight = refl;
+    own = refl;
+    crew = refl;
+    alone = refl;
+    limit = refl;
+    cells = refl;
+    passes = refl;
+    opening = refl;
+  }
+
+  -- the pass rests as it did, and has seen nothing
+  pub record HasEnded (u w : View Entry T) : Type 0 where
+    pub seen : w.seen ≡ u.seen
+    pub same : IsSame u w
+    pub rests : Rests u u.facts.has.held u.facts.waits w
+
+  -- The pass went from u to v, where it owes this, and has seen nothing since; so many permits are on their way.
+  pub record IsSending (way : ℕ) (u v : View Entry T) (under : Token) : Type 0 where
+    pub same : IsSame u v
+    pub seen : v.seen ≡ u.seen
+    pub alone : v.alone ≡ true
+    pub ways : (plain_after v).way ≡ way
+    pub owes : HasUnder v.facts under
+    pub further : v.facts.has.further ≡ 0
+    pub held : v.facts.has.held ≡ u.facts.has.held
+    pub waits : v.facts.waits ≡ u.facts.waits
+
+  module _ (way : ℕ) (u v w : View Entry T) (under : Token) (sending : IsSending way u v under) where
+    -- it was handed back again
+    pub sends-on : (next : Token) → CallRule v [] (resumed_further (Under next)) w
+        → Ends v v.facts.has.held v.facts.waits (Under next) w → IsSending way u w next
+    sends-on next rule ends = record {
+      same = same-then u v w sending.same rule.called.same;
+      seen = went v w _ _ rule sending.alone ∙ append-nil v.seen ∙ sending.seen;
+      alone = rule.called.same.alone ∙ sending.alone;
+      ways = ap (λ (o : Semaphore). o.way) (plain-next v w [] rule.called.same (went v w _ _ rule sending.alone))
+          ∙ sending.ways;
+      owes = ends.owes;
+      further = ends.further;
+      held = ends.held_is ∙ sending.held;
+      waits = ends.waits_are ∙ sending.waits;
+    }
+
+    -- what was seen at its end
+    pub record HasSent (k : ℕ) : Type 0 where
+      pub first : IsFirstOf (plain_after u).line k
+      pub seen : w.seen ≡ u.seen ++ entry.Deliver k ∷ []
+      pub same : IsSame u w
+      pub rests : Rests u u.facts.has.held u.facts.waits w
+
+    pub sends-last : (k : ℕ) → CallRule v [] (resumed_further (Sent k)) w
+        → Ends v v.facts.has.held v.facts.waits (Sent k) w → IsPlainEnd v (Sent k) w → HasSent k
+    sends-last k rule ends plain = record {
+      first = subst (λ (o : Semaphore). IsFirstOf o.line k)
+          (plain-next u v [] sending.same (sending.seen ∙ sym (append-nil u.seen))) plain;
+      seen = went v w _ _ rule sending.alone ∙ ap (λ es. es ++ entry.Deliver k ∷ []) sending.seen;
+      same = same-then u v w sending.same rule.called.same;
+      rests = record {
+        ready = ends.1.ready;
+        held_is = ends.1.held_is ∙ sending.held;
+        waits_are = ends.1.waits_are ∙ sending.waits;
+      };
+    }
+
+-- where none is on its way, none is delivered
+never-sent : (size k : ℕ) (seen : List Entry) → IsLegal size (seen ++ entry.Deliver k ∷ [])
+    → (object_after size seen).way ≡ 0 → ⊥
+never-sent size k seen legal none =
+    let got = get-push_at seen (entry.Deliver k) (length seen) refl in
+    let whole : take (length seen) (seen ++ entry.Deliver k ∷ []) ≡ seen =
+    take-append_seam seen (entry.Deliver k ∷ []) in
+    let May : List Entry → Type 0 = λ es. IsAllowed (object_after size es) (entry.Deliver k) in
+    let allowed : May seen = subst May whole (legal.at (length seen) (entry.Deliver k) got) in
+    absurd (in-none _ (subst (λ n. Waits k allowed.0 (take n (object_after size seen).line)) none allowed.1))
+
+module _ {T : Type 0} where
+  pub never-ends-sent : (u v w : View Entry T) (under : Token) (k : ℕ) → IsSending 0 u v under
+      → CallRule v [] (resumed_further (Sent k)) w → ⊥
+  never-ends-sent u v w under k sending rule =
+      let seen : w.seen ≡ v.seen ++ entry.Deliver k ∷ [] = went v w _ _ rule sending.alone in
+      let size : w.opening.size ≡ v.opening.size = ap (λ (o : Opening). o.size) rule.called.same.opening in
+      never-sent v.opening.size k v.seen
+      (subst (λ es. IsLegal v.opening.size es) seen (subst (λ n. IsLegal n w.seen) size rule.legal)) sending.ways
+
+  -- a resumption that ended without a permit to deliver: the pass rests
+  pub ends-quiet : (u v w : View Entry T) (under : Token) → IsSending 0 u v under → CallRule v [] [] w
+      → Rests v v.facts.has.held v.facts.waits w → HasEnded u w
+  ends-quiet u v w under sending rule rests = record {
+    seen = went v w _ _ rule sending.alone ∙ append-nil v.seen ∙ sending.seen;
+    same = same-then u v w sending.same rule.called.same;
+    rests = record {
+      ready = rests.ready;
+      held_is = rests.held_is ∙ sending.held;
+      waits_are = rests.waits_are ∙ sending.waits;
+    };
+  }
+
+-- A cancel of a pass that is alone.
+module _ {T : Type 0} (k : ℕ) (v u : View Entry T) (alone : v.alone ≡ true) (still : (plain_after v).way ≡ 0) where
+  -- what a cancel leaves whose wait left the line
+  abbrev left_entries : List Entry
+  left_entries = entry.Leave v.number k ∷ []
+
+  seen-left : (passed : Option Released) → CallRule v left_entries (passed_further passed) u
+      → u.seen ≡ v.seen ++ (left_entries ++ passed_further passed)
+  seen-left passed rule = went v u _ _ rule alone
+
+  none-left : (left (plain_after v) k).way ≡ 0
+  none-left = left-way (plain_after v) k still
+
+  -- nothing was delivered after it
+  none-sent : (j : ℕ) → CallRule v left_entries (entry.Deliver j ∷ []) u → ⊥
+  none-sent j rule =
+      let size : u.opening.size ≡ v.opening.size = ap (λ (o : Opening). o.size) rule.called.same.opening in
+      let seen : u.seen ≡ (v.seen ++ left_entries) ++ entry.Deliver j ∷ [] =
+      went v u _ _ rule alone ∙ sym (append_assoc v.seen left_entries (entry.Deliver j ∷ [])) in
+      let way : (object_after v.opening.size (v.seen ++ left_entries)).way ≡ 0 =
+      ap (λ (o : Semaphore). o.way) (fold-append after_entry (opening v.opening.size) v.seen left_entries)
+      ∙ none-left in
+      never-sent v.opening.size j (v.seen ++ left_entries)
+      (subst (λ es. IsLegal v.opening.size es) seen (subst (λ n. IsLegal n u.seen) size rule.legal)) way
+
+  left-rests : CallRule v left_entries [] u → Rests v v.facts.has.held (without k v.facts.waits) u → HasLeft k v u
+  left-rests rule rests = record { same = rule.called.same; seen = went v u _ _ rule alone; rests = rests }
+
+  -- no resumption is still owed: the wait has left
+  pub left-now : (under : Option Token) → under ≡ None → HasCancelled k v (Cancelled under) u → HasLeft k v u
+  left-now under none (None, rule, (cell, passes)) = left-rests rule passes.1
+  left-now under none (Some Freed, rule, (cell, passes)) = absurd passes.2
+  left-now under none (Some (Sent j), rule, (cell, passes)) = absurd (none-sent j rule)
+  left-now under none (Some (Left j), rule, (cell, passes)) = left-rests rule passes.2.1
+  left-now under none (Some (Void j), rule, (cell, passes)) = left-rests rule passes.2.1
+  left-now under none (Some (Under token), rule, (cell, passes)) =
+      let other : Some token ≡ None = sym passes.0 ∙ none in absurd (cc)
+
+  -- one is still owed: the wait has left once that has ended
+  pub record OwesStill (under : Token) : Type 0 where
+    pub owes : HasUnder u.facts under
+    pub further : u.facts.has.further ≡ 0
+    pub is_alone : u.alone ≡ true
+    pub ways : (plain_after u).way ≡ 0
+    pub then : (w : View Entry T) → w.seen ≡ u.seen → IsSame u w → Rests u u.facts.has.held u.facts.waits w
+        → HasLeft k v w
+
+  pub owes-still : (under : Option Token) (token : Token) → under ≡ Some token
+      → HasCancelled k v (Cancelled under) u → OwesStill token
+  owes-still under token some (None, rule, (cell, passes)) =
+      let other : None ≡ Some token = sym passes.0 ∙ some in absurd (cc)
+  owes-still under token some (Some Freed, rule, (cell, passes)) = absurd passes.2
+  owes-still under token some (Some (Sent j), rule, (cell, passes)) = absurd (none-sent j rule)
+  owes-still under token some (Some (Left j), rule, (cell, passes)) =
+      let other : None ≡ Some token = sym passes.0 ∙ some in absurd (cc)
+  owes-still under token some (Some (Void j), rule, (cell, passes)) =
+      let other : None ≡ Some token = sym passes.0 ∙ some in absurd (cc)
+  owes-still under token some (Some (Under owed), rule, (cell, passes)) =
+      let both : Some owed ≡ Some token = sym passes.0 ∙ some in
+      let one : owed ≡ token = cc in
+      let ended = passes.2 in
+      record {
+        owes = subst (λ t. HasUnder u.facts t) one ended.owes;
+        further = ended.further;
+        is_alone = rule.called.same.alone ∙ alone;
+        ways = ap (λ (o : Semaphore). o.way) (plain-next v u left_entries rule.called.same (went v u _ _ rule alone))
+            ∙ none-left;
+        then = λ w seen same rests. record {
+          same = same-then v u w rule.called.same same;
+          seen = seen ∙ went v u _ _ rule alone;
+          rests = record {
+            ready = rests.ready;
+            held_is = rests.held_is ∙ ended.held_is;
+            waits_are = rests.waits_are ∙ ended.waits_are;
+          };
+        };
+      }
+
+first-of : (line : List Waiting) (k : ℕ) → IsFirstOf line k → IsFirst k line
+first-of [] k first = absurd first
+first-of (w ∷ line) k first = first
+
+-- A release whose resumption was handed back, and went on to its end.
+module _ (x y : QueueSole) (mine : IsMine y.semaphore y.pass)
+    (one_less : length y.permits.items + 1 ≡ length x.permits.items)
+    (capacity : vec_capacity y.permits ≡ vec_capacity x.permits) where
+  pub queue-hands : (k : ℕ) (under : Token) (u : View Entry (Unit {0}))
+      → CallRule (pass_view x.pass) (released_entries (pass_view x.pass).number (Ok (Under under)))
+      (released_further (Ok (Under under))) u
+      → Gave (pass_view x.pass) (Under under) u
+      → IsFirstOf (plain_after u).line k
+      → (pass_view y.pass).seen ≡ u.seen ++ entry.Deliver k ∷ []
+      → IsSame u (pass_view y.pass)
+      → Rests u u.facts.has.held u.facts.waits (pass_view y.pass)
+      → Releases sole_queue x (Some k) y
+  queue-hands k under u rule gave first seen same rests =
+      let v = pass_view x.pass in
+      let w = pass_view y.pass in
+      let sent : List Entry = entry.GiveSent v.number ∷ [] in
+      queue-sends x y mine one_less capacity k (same-then v u w rule.called.same same)
+      (λ alone zero. seen ∙ ap (λ es. es ++ entry.Deliver k ∷ []) (went v u _ _ rule alone)
+      ∙ append_assoc v.seen sent (entry.Deliver k ∷ [])
+      ∙ ap (λ p. v.seen ++ (entry.GiveSent p ∷ entry.Deliver k ∷ [])) zero)
+      (record {
+        ready = rests.ready;
+        held_is = rests.held_is ∙ gave.1.held_is;
+        waits_are = rests.waits_are ∙ gave.1.waits_are;
+      })
+      (λ alone.
+      let line : (plain_after u).line ≡ (plain_after v).line =
+      ap (λ (o : Semaphore). o.line) (plain-next v u sent rule.called.same (went v u _ _ rule alone)) in
+      first-of (plain_after v).line k (subst (λ ws. IsFirstOf ws k) line first))

@@ -1,0 +1,19 @@
+use Rattle.std.proofs.Common.{refl, ap, ◌∙◌, length}
+use Rattle.std.proofs.lemmas.List.{length_push}
+use Rattle.cqs_cli.proofs.QueueSole.{queue-takes, queue-waits}
+use Rattle.cqs_cli.proofs.floors.queue_sole.QueueSoleSoleSemaphore.acquire.Goals as goal
+
+pub returns-in-Ok-Now : goal.returns-in-Ok-Now
+returns-in-Ok-Now c =
+    queue-takes _ _ c.in-Ok-Now.ensures.belongs c.in-Ok-Now.permit
+    (rw c.in-Ok-Now.field-0-is at c.in-Ok-Now.ensures.called)
+    (rw c.in-Ok-Now.field-0-is at c.in-Ok-Now.ensures.acquired)
+    (rw c.in-Ok-Now.field-0-is at c.in-Ok-Now.ensures.alone)
+    (ap (λ ps. length ps) c.push_reserved.ensures.items ∙ length_push _ _) c.push_reserved.ensures.capacity
+
+pub returns-in-Ok-Later : goal.returns-in-Ok-Later
+returns-in-Ok-Later c =
+    queue-waits _ _ c.in-Ok-Later.ensures.belongs c.in-Ok-Later.wait
+    (rw c.in-Ok-Later.field-0-is at c.in-Ok-Later.ensures.called)
+    (rw c.in-Ok-Later.field-0-is at c.in-Ok-Later.ensures.acquired)
+    (rw c.in-Ok-Later.field-0-is at c.in-Ok-Later.ensures.alone) refl

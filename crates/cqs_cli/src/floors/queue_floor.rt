@@ -1,0 +1,86 @@
+//! A floor on one semaphore of the running queue for each of a plan's semaphores.
+
+ghost use Rattle.std.specs.Prelude.{◌≡◌, IfOk};
+ghost use Rattle.cqs_plan.specs.Floor.{opening_floor};
+ghost use Rattle.cqs_plan.specs.Runnable.{IsRunnable};
+ghost use Rattle.cqs_cli.specs.Kept.{IsKept};
+ghost use Rattle.cqs_cli.specs.Ledger.{plain_floor};
+ghost use Rattle.cqs_cli.specs.Opening.{AreSemaphores};
+ghost use Rattle.cqs_cli.specs.SoleQueue.{sole_queue};
+
+use super::desk::Desk;
+use super::queue_sole::QueueSole;
+use cqs_core::Memory;
+use cqs_plan::{Floor, FloorEnd, FloorGive, FloorLeave, FloorLook, FloorTake, Plan};
+use std::alloc::Global;
+use std::marker::Model;
+
+/// A floor for plans that have semaphores alone: each is one of the running queue, with its one
+/// pass.
+///
+/// Contracts see its ledger, with the semaphores and their passes: its plain floor is what these
+/// have seen, without looks that found nothing new. A semaphore's limit is the plan's takes on it
+/// and one more, so none of its calls is refused.
+#[derive(Drop)]
+pub struct QueueFloor {
+    desk: Desk<QueueSole>,
+}
+
+impl Model for QueueFloor {
+    ghost use Rattle.cqs_cli.specs.Kept.{IsKept};
+    ghost use Rattle.cqs_cli.specs.Ledger.{Ledger};
+    ghost use Rattle.cqs_cli.specs.SoleQueue.{sole_queue};
+    ghost use Rattle.cqs_cli.specs.declared.floors.queue_sole.QueueSole as sole;
+    ghost use Rattle.cqs_rule.specs.declared.queue.tokens.Wait as token;
+
+    ghost Value = { Ledger sole.QueueSole token.Wait };
+
+    ghost view = { λ floor. floor.desk };
+
+    ghost invariant = { λ floor. IsKept sole_queue floor.desk };
+}
+
+impl QueueFloor {
+    /// A floor on which nothing has happened, with room for the plan's takes.
+    pub fn new(alloc: Global, plan: &Plan) -> Result<Self, Memory>
+        requires runnable { IsRunnable plan.now }
+        requires semaphores { AreSemaphores plan.now.resources }
+        ensures { IfOk result (λ floor. plain_floor sole_queue floor ≡ opening_floor plan.now) }
+    {
+        let desk = Desk::new(alloc, plan)?;
+        Ok(QueueFloor { desk })
+    }
+
+    /// Does nothing: its clause tells what every such floor keeps.
+    pub(crate) fn is_kept(&self)
+        ensures { IsKept sole_queue self.now }
+    {
+        let _ = &self.desk;
+    }
+}
+
+impl Floor for QueueFloor {
+    ghost plain = { plain_floor sole_queue };
+
+    fn take(&mut self, at: u32, job: u32) -> FloorTake {
+        self.desk.take(at, job)
+    }
+
+    fn give(&mut self, at: u32, job: u32) -> FloorGive {
+        self.desk.give(at, job)
+    }
+
+    fn look(&mut self, job: u32) -> FloorLook {
+        let wait = self.desk.take_wait(job);
+        self.desk.look(job, wait)
+    }
+
+    fn leave(&mut self, job: u32) -> FloorLeave {
+        let wait = self.desk.take_wait(job);
+        self.desk.leave(job, wait)
+    }
+
+    fn end(&mut self, at: u32) -> FloorEnd {
+        self.desk.end(at)
+    }
+}

@@ -1,0 +1,186 @@
+//! A semaphore of the running queue with its one pass, as the semaphore of a floor.
+
+ghost use Rattle.std.specs.Prelude.{◌≡◌, ◌≤ℤ◌, ◌++◌, [], ◌∷◌, negsuc, pos, true};
+ghost use Rattle.cqs_core.specs.declared.entries.Entry.TheVariants.{Deliver};
+ghost use Rattle.cqs_core.specs.SemaphoreShown.{free_of, short_of, state_of};
+ghost use Rattle.cqs_rule.specs.Owed.{HasUnder};
+ghost use Rattle.cqs_rule.specs.Passes.{pass_view};
+ghost use Rattle.cqs_rule.specs.Views.{IsSame};
+ghost use Rattle.cqs_semaphore.specs.Alone.{IsFirstOf};
+ghost use Rattle.cqs_semaphore.specs.Calls.{CallRule, IsMine, IsReady, Rests, plain_after};
+
+use super::sole::{SoleSemaphore, Stand, stand_in};
+use cqs_core::Memory;
+use cqs_rule::{Config, MakeError, Under, Wait};
+use cqs_semaphore::{Acquired, CancelAnswer, Permit, Polled, Released, SemPass, Semaphore};
+use std::alloc::Global;
+
+/// A semaphore, its one pass, and the permits that the pass holds.
+#[derive(Drop)]
+pub struct QueueSole {
+    pub semaphore: Semaphore,
+    pub pass: SemPass,
+    pub permits: Vec<Permit>,
+}
+
+impl SoleSemaphore for QueueSole {
+    ghost use Rattle.cqs_cli.specs.SoleQueue.{sole_queue};
+
+    type Wait = Wait;
+
+    ghost sole = { sole_queue };
+
+    fn open(alloc: Global, permits: u32, takes: u32) -> Result<Self, Memory> {
+        let config = Config {
+            passes: 1,
+            limit: u64::from(takes) + 1,
+            slots: takes / 32 + 8,
+        };
+        let (semaphore, pass) = match Semaphore::new(alloc, permits, config) {
+            Ok(made) => made,
+            Err(MakeError::Memory) => return Err(Memory),
+            Err(MakeError::BadConfig) => unreachable!(),
+        };
+        Ok(QueueSole {
+            semaphore,
+            pass,
+            permits: Vec::with_capacity(alloc, takes as usize)?,
+        })
+    }
+
+    fn number(wait: &Wait) -> u64 {
+        wait.number()
+    }
+
+    fn acquire(&mut self) -> Option<Wait> {
+        match self.semaphore.acquire(&mut self.pass) {
+            Ok(Acquired::Now(permit)) => {
+                self.permits.push_reserved(permit);
+                None
+            }
+            Ok(Acquired::Later(wait)) => Some(wait),
+            Err(_) => unreachable!(),
+        }
+    }
+
+    fn release(&mut self) -> Option<u64> {
+        let Some(permit) = self.permits.pop() else {
+            unreachable!()
+        };
+        match self.semaphore.release(&mut self.pass, permit) {
+            Ok(Released::Freed) => None,
+            Ok(Released::Sent(number)) => Some(number),
+            Ok(Released::Under(under)) => Some(send(&self.semaphore, &mut self.pass, under)),
+            Ok(Released::Left(_)) => unreachable!(),
+            Ok(Released::Void(_)) => unreachable!(),
+            Err(_) => unreachable!(),
+        }
+    }
+
+    fn poll(&mut self, wait: Wait) -> Option<Wait> {
+        match self.semaphore.poll(&mut self.pass, wait) {
+            Polled::Pending(wait) => Some(wait),
+            Polled::Granted(permit) => {
+                self.permits.push_reserved(permit);
+                None
+            }
+        }
+    }
+
+    fn cancel(&mut self, wait: Wait) -> bool {
+        match self.semaphore.cancel(&mut self.pass, wait) {
+            CancelAnswer::Cancelled(None) => true,
+            // Nobody leaves a permit to a pass that is alone, but no clause of a cancel says so.
+            CancelAnswer::Cancelled(Some(under)) => {
+                end(&self.semaphore, &mut self.pass, under);
+                true
+            }
+            CancelAnswer::TooLate(permit) => {
+                self.permits.push_reserved(permit);
+                false
+            }
+        }
+    }
+
+    fn stand(&mut self) -> Stand {
+        stand_of(&self.semaphore, &mut self.pass)
+    }
+}
+
+/// How a semaphore stands, by its state.
+#[tactic(auto, using(crate::proofs::QueueSole::state_same))]
+fn stand_of(semaphore: &Semaphore, pass: &mut SemPass) -> Stand
+    requires mine { IsMine semaphore.now pass.old }
+    requires ready { IsReady (pass_view pass.old).facts }
+    requires alone { (pass_view pass.old).alone ≡ true }
+    requires least { negsuc 4294967294 ≤ℤ state_of (plain_after (pass_view pass.old)) }
+    requires most { state_of (plain_after (pass_view pass.old)) ≤ℤ pos 4294967295 }
+    ensures free { result.free ≡ free_of (state_of (plain_after (pass_view pass.old))) }
+    ensures line { result.line ≡ short_of (state_of (plain_after (pass_view pass.old))) }
+    ensures mine { IsMine semaphore.now pass.new }
+    ensures called { CallRule (pass_view pass.old) [] [] (pass_view pass.new) }
+    ensures rests { Rests (pass_view pass.old) (pass_view pass.old).facts.has.held
+        (pass_view pass.old).facts.waits (pass_view pass.new) }
+{
+    stand_in(semaphore.state(pass))
+}
+
+/// Goes on with a permit that is on its way, until it comes to the first of the line.
+#[cold]
+#[inline(never)]
+fn send(semaphore: &Semaphore, pass: &mut SemPass, under: Under) -> u64
+    requires mine { IsMine semaphore.now pass.old }
+    requires owes { HasUnder (pass_view pass.old).facts under }
+    requires further { (pass_view pass.old).facts.has.further ≡ 0 }
+    requires alone { (pass_view pass.old).alone ≡ true }
+    requires way { (plain_after (pass_view pass.old)).way ≡ 1 }
+    ensures mine { IsMine semaphore.now pass.new }
+    ensures first { IsFirstOf (plain_after (pass_view pass.old)).line result }
+    ensures seen { (pass_view pass.new).seen ≡ (pass_view pass.old).seen ++ Deliver result ∷ [] }
+    ensures same { IsSame (pass_view pass.old) (pass_view pass.new) }
+    ensures rests { Rests (pass_view pass.old) (pass_view pass.old).facts.has.held
+        (pass_view pass.old).facts.waits (pass_view pass.new) }
+{
+    let mut reached = under.reached();
+    let mut under = under;
+    loop {
+        match semaphore.finish(pass, under) {
+            Released::Sent(number) => return number,
+            Released::Under(next) => {
+                reached = next.reached();
+                under = next;
+            }
+            _ => unreachable!(),
+        }
+    }
+}
+
+/// Goes on with a resumption for which no permit is on its way, until it ends.
+#[cold]
+#[inline(never)]
+fn end(semaphore: &Semaphore, pass: &mut SemPass, under: Under)
+    requires mine { IsMine semaphore.now pass.old }
+    requires owes { HasUnder (pass_view pass.old).facts under }
+    requires further { (pass_view pass.old).facts.has.further ≡ 0 }
+    requires alone { (pass_view pass.old).alone ≡ true }
+    requires way { (plain_after (pass_view pass.old)).way ≡ 0 }
+    ensures mine { IsMine semaphore.now pass.new }
+    ensures seen { (pass_view pass.new).seen ≡ (pass_view pass.old).seen }
+    ensures same { IsSame (pass_view pass.old) (pass_view pass.new) }
+    ensures rests { Rests (pass_view pass.old) (pass_view pass.old).facts.has.held
+        (pass_view pass.old).facts.waits (pass_view pass.new) }
+{
+    let mut reached = under.reached();
+    let mut under = under;
+    loop {
+        match semaphore.finish(pass, under) {
+            Released::Left(_) | Released::Void(_) => return,
+            Released::Under(next) => {
+                reached = next.reached();
+                under = next;
+            }
+            Released::Freed => unreachable!(),
+            Released::Sent(_) => unreachable!(),
+        }
+    }
+}

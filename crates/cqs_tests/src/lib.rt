@@ -13,8 +13,4 @@ mod queue_calls;
 #[cfg(test)]
 mod queue_rows;
 #[cfg(test)]
-mod semaphore_limits;
-#[cfg(test)]
-mod semaphore_rows;
-#[cfg(test)]
 mod threads;

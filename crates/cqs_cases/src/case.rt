@@ -1,6 +1,7 @@
 //! One case: what the program is run on.
 
-use cqs_cli::{Kept, top};
+use crate::floors::{Compared, compare};
+use cqs_cli::{DONE, Kept, top};
 use cqs_plan::{BytesSink, BytesSource};
 use std::alloc::{AllocError, Global};
 
@@ -38,7 +39,7 @@ impl Case {
     }
 
     /// Runs the program with this value in the place of `@`, and tells whether it ends with this
-    /// status, having written as many bytes of the text.
+    /// status, having written as many bytes of the text. A plan is run on both floors, too.
     pub fn ends(
         &self,
         alloc: Global,
@@ -59,7 +60,16 @@ impl Case {
         };
         let mut kept = Kept::Nothing;
         let ended = top(alloc, &self.words, &mut source, &mut sink, &mut kept);
-        Ok(ended == status && sink.bytes() == text.as_slice())
+        let right = ended == status && sink.bytes() == text.as_slice();
+        Ok(right && (status != DONE || is_same_on_both(alloc, &input, &text)))
+    }
+}
+
+/// Whether the bytes are a plan whose report on each of the floors is this text.
+fn is_same_on_both(alloc: Global, bytes: &[u8], text: &[u8]) -> bool {
+    match compare(alloc, bytes) {
+        Ok(Compared::Same(report)) => report.text() == text,
+        Ok(Compared::NoPlan) | Ok(Compared::Different) | Err(_) => false,
     }
 }
 

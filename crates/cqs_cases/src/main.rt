@@ -1,5 +1,5 @@
 //! Runs the cases of data/ by the program's own call, and counts those that
-//! don't end as they should.
+//! don't end as they should. Then runs plans made by chance on both floors.
 //!
 //! A file of cases is a text of lines. A line that begins with `== ` tells what to do; the lines
 //! after it, up to the next such line, belong to it. A line that begins with `=== ` is a
@@ -20,12 +20,20 @@
 //! | `== ends 0`, `== ends 5 20` | runs it: it must end so, with the text written, or a prefix |
 //! | `== fault job: many` | runs it: it is no plan, and this is its first fault |
 //!
+//! A case that ends with status 0 is also run on both floors, which must have that report.
+//!
 //! In a value and in a text of `each` the sign `|` stands for the end of a line.
 #![tactic(auto)]
 
 mod case;
+mod events;
+mod floors;
+mod generator;
 mod table;
 
+use crate::events::Events;
+use crate::floors::{Compared, compare};
+use crate::generator::plan_text;
 use crate::table::Table;
 use std::fs;
 use std::rt::Files;
@@ -61,9 +69,32 @@ fn run_table<R: Files + Print + AllocGlobal>(rt: &R, name: &str) -> anyhow::Resu
     Ok(())
 }
 
+/// How many plans are made by chance.
+const GENERATED: u64 = 200;
+
+/// Runs the plan of each seed on both floors, and prints how many reports aren't the same, and how
+/// often the rarer events came.
+fn run_generated<R: Print + AllocGlobal>(rt: &R) -> anyhow::Result<()> {
+    let alloc = rt.alloc();
+    let mut failed = 0u64;
+    let mut events = Events::default();
+    for seed in 1..=GENERATED {
+        let text = plan_text(alloc, seed)?;
+        match compare(alloc, text.as_str().as_bytes()) {
+            Ok(Compared::Same(report)) => events.count(report.text())?,
+            Ok(Compared::NoPlan) | Ok(Compared::Different) | Err(_) => {
+                println!(rt; "generated, seed {seed}: NOT as it should be")?;
+                failed = failed.saturating_add(1);
+            }
+        }
+    }
+    println!(rt; "generated: {GENERATED} cases, {failed} failed; {events}")?;
+    Ok(())
+}
+
 fn main(rt: HostRuntime) -> anyhow::Result<()> {
     for name in TABLES {
         run_table(&rt, name)?;
     }
-    Ok(())
+    run_generated(&rt)
 }

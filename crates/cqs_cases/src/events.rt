@@ -1,0 +1,37 @@
+//! How often the rarer events came in reports.
+
+use std::fmt;
+
+/// How often a wait was served, given up, and late.
+#[derive(Clone, Copy, Default)]
+pub struct Events {
+    served: u64,
+    gave_up: u64,
+    late: u64,
+}
+
+impl Events {
+    /// Counts the events of a report.
+    pub fn count(&mut self, report: &[u8]) -> anyhow::Result<()> {
+        for line in str::from_utf8(report)?.lines() {
+            let count = match line.split(' ').nth(2) {
+                Some("served") => &mut self.served,
+                Some("gaveup") => &mut self.gave_up,
+                Some("late") => &mut self.late,
+                _ => continue,
+            };
+            *count = count.saturating_add(1);
+        }
+        Ok(())
+    }
+}
+
+impl fmt::Display for Events {
+    fn fmt<W: fmt::Write>(&self, f: &mut fmt::Formatter<W>) -> fmt::Result {
+        write!(
+            f,
+            "{} waits served, {} given up, {} late",
+            self.served, self.gave_up, self.late
+        )
+    }
+}

@@ -8,11 +8,12 @@
 mod fold;
 mod rounds;
 
-ghost use Rattle.cqs_cli.specs.Opening.{AreSemaphores};
-ghost use Rattle.cqs_plan.specs.Runnable.{IsRunnable};
+ghost use Rattle.std.specs.Prelude.{◌≡◌};
+ghost use Rattle.cqs_plan.specs.Floor.{opening_floor};
+ghost use Rattle.cqs_plan.specs.Runnable.{AreSemaphores, IsRunnable};
 
-use cqs_cli::CoreFloor;
-use cqs_plan::{Plan, read_plan};
+use cqs_cli::{CoreFloor, QueueFloor};
+use cqs_plan::{Floor, Plan, read_plan};
 use cqs_rule::{CancelMode, Config, Queue, SemClient};
 use cqs_turns::{Report, run_plan};
 use rounds::{LIMIT, free_rounds, leave_rounds, pair_rounds};
@@ -23,8 +24,8 @@ use std::process::ExitCode;
 use std::rt::Clock;
 use std::time::Instant;
 
-const USAGE: &str =
-    "usage: cqs_bench toml | plan | run | whole | fold < PLAN; free | pairs | leaves [ROUNDS]";
+const USAGE: &str = "usage: cqs_bench toml | plan | run | cores | whole | fold < PLAN; \
+    free | pairs | leaves [ROUNDS]";
 
 const BAD_COMMAND: u8 = 2;
 
@@ -72,19 +73,38 @@ fn tell_report(
     Ok(())
 }
 
-/// The run of a plan, with the making of its floor.
+/// The run of a plan on a floor on which nothing has happened.
+fn run_on<F: Floor>(alloc: Global, plan: &Plan, floor: &mut F) -> anyhow::Result<Report>
+    requires runnable { IsRunnable plan.now }
+    requires opening { F.plain floor.old ≡ opening_floor plan.now }
+{
+    let mut report = Report::new(alloc);
+    if run_plan(alloc, plan, floor, &mut report).is_err() {
+        anyhow::bail!("no memory for the report");
+    }
+    Ok(report)
+}
+
+/// The run of a plan as the program runs it, on the running queue, with the making of its floor.
 fn run(alloc: Global, plan: &Plan) -> anyhow::Result<Report>
+    requires runnable { IsRunnable plan.now }
+    requires semaphores { AreSemaphores plan.now.resources }
+{
+    let Ok(mut floor) = QueueFloor::new(alloc, plan) else {
+        anyhow::bail!("no memory for the floor");
+    };
+    run_on(alloc, plan, &mut floor)
+}
+
+/// The same on cores.
+fn run_on_cores(alloc: Global, plan: &Plan) -> anyhow::Result<Report>
     requires runnable { IsRunnable plan.now }
     requires semaphores { AreSemaphores plan.now.resources }
 {
     let Ok(mut floor) = CoreFloor::new(alloc, plan) else {
         anyhow::bail!("no memory for the floor");
     };
-    let mut report = Report::new(alloc);
-    if run_plan(alloc, plan, &mut floor, &mut report).is_err() {
-        anyhow::bail!("no memory for the report");
-    }
-    Ok(report)
+    run_on(alloc, plan, &mut floor)
 }
 
 fn read_and_run(alloc: Global, bytes: &[u8]) -> anyhow::Result<Report> {
@@ -103,6 +123,17 @@ fn time_run(rt: &(impl Clock + Print + AllocGlobal), bytes: &[u8]) -> anyhow::Re
     let start = Instant::now(rt)?;
     let report = run(alloc, &plan)?;
     tell_report(rt, "run", start, report.text())
+}
+
+/// The same on cores.
+fn time_cores(rt: &(impl Clock + Print + AllocGlobal), bytes: &[u8]) -> anyhow::Result<()> {
+    let alloc = rt.alloc();
+    let Ok(plan) = read_plan(alloc, bytes) else {
+        anyhow::bail!("the input is no plan");
+    };
+    let start = Instant::now(rt)?;
+    let report = run_on_cores(alloc, &plan)?;
+    tell_report(rt, "cores", start, report.text())
 }
 
 /// The reading of a plan and its run, from its bytes to the report, and the freeing of the plan.
@@ -167,6 +198,7 @@ fn main(rt: HostRuntime) -> anyhow::Result<ExitCode> {
         "toml" => time_parse(&rt, &bytes)?,
         "plan" => time_reading(&rt, &bytes)?,
         "run" => time_run(&rt, &bytes)?,
+        "cores" => time_cores(&rt, &bytes)?,
         "whole" => time_whole(&rt, &bytes)?,
         "fold" => time_fold(&rt, &bytes)?,
         _ => return Ok(usage(&rt)?),

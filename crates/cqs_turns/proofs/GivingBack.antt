@@ -3,7 +3,7 @@ use Rattle.std.proofs.Common.{◌≡◌, ℕ, ◌+◌, ◌<◌, List, [], ◌∷
 use Rattle.std.proofs.lemmas.List.{drop_more}
 use Rattle.cqs_plan.specs.Floor.{IsHolding, holds_of}
 use Rattle.cqs_plan.specs.FloorCalls.{give_answer}
-use Rattle.cqs_turns.specs.Report.{IsFrontOf}
+use Rattle.cqs_core.specs.Parts.{IsPrefix}
 use Rattle.cqs_turns.specs.Ready.{IsReady, is_held}
 use Rattle.cqs_turns.specs.Turns.{Role, Scene, given, given_back, places_held}
 use Rattle.cqs_turns.proofs.Growth.{given_back-grows}
@@ -41,7 +41,7 @@ gives-next r all i start now after giving below same =
       ready = first-ready now.floor r.place at (give_answer now.floor at r.place) giving.ready;
     })
 
--- the report so far is a front of what it will be
-pub giving-front : (r : Role) (all : List ℕ) (i : ℕ) (start now : Scene) → GivingBack r all i start now
-    → IsFrontOf (given_back r all start).text now.text
-giving-front r all i start now giving = rw (← giving.whole) (given_back-grows r (drop i all) now)
+-- the report so far is a prefix of what it will be
+pub giving-prefix : (r : Role) (all : List ℕ) (i : ℕ) (start now : Scene) → GivingBack r all i start now
+    → IsPrefix now.text (given_back r all start).text
+giving-prefix r all i start now giving = rw (← giving.whole) (given_back-grows r (drop i all) now)

@@ -8,11 +8,11 @@ use Rattle.cqs_plan.specs.declared.floors.answers.FloorTake.{FloorTake}
 use Rattle.cqs_plan.specs.declared.floors.answers.FloorTake.TheVariants.{Now, Waits}
 use Rattle.cqs_plan.specs.PlanSteps.{is_take}
 use Rattle.cqs_plan.specs.FloorCalls.{take_answer, give_answer}
-use Rattle.cqs_turns.specs.Report.{IsFrontOf}
+use Rattle.cqs_core.specs.Parts.{IsPrefix}
 use Rattle.cqs_turns.specs.Ready.{IsReady, HasRoom, wait_in}
 use Rattle.cqs_turns.specs.Roles.{made_of}
 use Rattle.cqs_turns.specs.Turns.{Role, Scene, Made, made, took, stop_or, stepped}
-use Rattle.cqs_turns.proofs.Growth.{front-through, stepped-grows, stop_or-grows}
+use Rattle.cqs_turns.proofs.Growth.{prefix-through, stepped-grows, stop_or-grows}
 use Rattle.cqs_turns.proofs.Moved.{Moves, moves-fewer, moves-on, taken-moves, given-moves, takes-cons, room-after}
 use Rattle.cqs_turns.proofs.Readied.{taken-ready, waiting-ready, given-ready}
 
@@ -101,14 +101,14 @@ steps-on r first next start now after step d on below is same =
           (room-after r.place now.floor (step ∷ rest) _ rest (made-moves r next step rest now room) room);
     }
 
--- a part of the step's report is a front of the whole
-pub stepping-front : (r : Role) (first next : ℕ) (start now : Scene) (step d : Step) (text : List ℕ)
+-- a part of the step's report is a prefix of the whole
+pub stepping-prefix : (r : Role) (first next : ℕ) (start now : Scene) (step d : Step) (text : List ℕ)
     → SteppingOn r first next start now → next < length r.job.steps → step ≡ get_or r.job.steps next d
-    → IsFrontOf (made r next step now).scene.text text
-    → IsFrontOf (stepped r (drop first r.job.steps) first start).scene.text text
-stepping-front r first next start now step d text on below is front =
+    → IsPrefix text (made r next step now).scene.text
+    → IsPrefix text (stepped r (drop first r.job.steps) first start).scene.text
+stepping-prefix r first next start now step d text on below is prefix =
     let m : Made = made r next step now in
     let rest : List Step = drop (next + 1) r.job.steps in
     rw (unrolled r first next start now step d on below is)
-    (front-through _ m.scene.text text
-    (stop_or-grows m (stepped r rest (next + 1) m.scene) (stepped-grows r rest (next + 1) m.scene)) front)
+    (prefix-through _ m.scene.text text
+    (stop_or-grows m (stepped r rest (next + 1) m.scene) (stepped-grows r rest (next + 1) m.scene)) prefix)

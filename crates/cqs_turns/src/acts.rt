@@ -8,7 +8,8 @@ ghost use Rattle.cqs_plan.specs.FloorCalls.{take_answer, leave_answer, look_answ
 ghost use Rattle.cqs_turns.specs.Machine.{rests};
 ghost use Rattle.cqs_turns.specs.Turns.{acted, given, given_back, took, made, event, left_at, finished, go_on, cancelled, gave_up, end_of, looked, places_held};
 ghost use Rattle.cqs_turns.specs.Ready.{IsReady, HasRoom, steps_left};
-ghost use Rattle.cqs_turns.specs.Coming.{ComesTo, LeavesAt, Makes, text_acted, text_in};
+ghost use Rattle.cqs_turns.specs.Coming.{ComesTo, LeavesAt, LeavesFrom, Makes, text_acted, text_in};
+ghost use Rattle.cqs_turns.specs.declared.states.Progress.TheVariants.{Waiting};
 ghost use Rattle.cqs_turns.specs.Roles.{role, scene, made_of, wait_at, left_with, told_served};
 ghost use Rattle.cqs_turns.specs.States.{IsSet};
 
@@ -299,7 +300,7 @@ fn be_served<F: Floor>(
     make_steps(floor, report, actor, held, next)
 }
 
-/// The job looks at its wait.
+/// The job looks at its wait. Its progress comes where the wait is over; else it is as it was.
 fn look<F: Floor>(
     floor: &mut F,
     report: &mut Report,
@@ -308,22 +309,25 @@ fn look<F: Floor>(
     next: u32,
     at: u32,
     number: u64,
-) -> Result<Progress, Memory>
+) -> Result<Option<Progress>, Memory>
     requires held { held.old.items ≡ places_held (F.plain floor.old) actor.now.place }
     requires ready { IsReady (F.plain floor.old) actor.now.place (Some (wait_at at number))
         (drop next actor.now.job.now.steps) }
     requires room { HasRoom (F.plain floor.old) (drop next actor.now.job.now.steps) }
     requires few_steps { length actor.now.job.now.steps ≤ 64 }
     requires turn { actor.now.turn ≤ 40000 }
-    ensures comes { LeavesAt result
+    ensures comes { LeavesFrom (Waiting next at number) result
         (looked (role actor.now) next at number (look_answer (F.plain floor.old) actor.now.place)
         (scene (F.plain floor.old) report.old))
         (scene (F.plain floor.new) report.new) }
     ensures held { OnOk result (held.new.items ≡ places_held (F.plain floor.new) actor.now.place) }
 {
     match floor.look(actor.place) {
-        FloorLook::Pending => Ok(Progress::Waiting { next, at, number }),
-        FloorLook::Granted(_) => be_served(floor, report, actor, held, next, at, number),
+        FloorLook::Pending => Ok(None),
+        FloorLook::Granted(_) => {
+            let progress = be_served(floor, report, actor, held, next, at, number)?;
+            Ok(Some(progress))
+        }
     }
 }
 
@@ -359,7 +363,11 @@ pub fn act<F: Floor>(
             state.progress = give_up(floor, report, actor, &mut state.held, at, number)?;
         }
         Progress::Waiting { next, at, number } => {
-            state.progress = look(floor, report, actor, &mut state.held, next, at, number)?;
+            // Nothing is written while a wait goes on: in most turns most jobs wait.
+            let moved = look(floor, report, actor, &mut state.held, next, at, number)?;
+            if let Some(progress) = moved {
+                state.progress = progress;
+            }
         }
     }
     Ok(())

@@ -22,7 +22,7 @@ use Rattle.cqs_turns.specs.declared.states.Progress.{Progress}
 use Rattle.cqs_turns.specs.declared.states.Progress.TheVariants.{Stepping, Working, Waiting, Ended}
 use Rattle.cqs_turns.specs.Coming.{ComesTo, LeavesAt}
 use Rattle.cqs_core.specs.Parts.{IsPrefix}
-use Rattle.cqs_turns.specs.Turns.{Role, Scene, Acted, Made, event, given, given_back, given_all, finished, made, took, stop_or, stepped, go_on, cancelled, gave_up, looked, acted, left_at, is_due, one_job, each_job, one_turn, machine_after, Machine, places_held}
+use Rattle.cqs_turns.specs.Turns.{Role, Scene, Acted, Made, event, on_give, after_gives, after_all_gives, after_last_step, after_step, after_taking, stop_or, after_steps, go_on, on_leave, after_giving_up, after_looking, after_acting, left_at, is_due, one_job, each_job, one_turn, machine_after, Machine, places_held}
 
 -- a clause on an error, from its fact
 pub on-err : {T E P : Type 0} (r : Result T E) → P → OnErr r P
@@ -55,27 +55,28 @@ pub prefix-through : (whole middle text : List ℕ) → IsPrefix middle whole �
 prefix-through whole middle text last first =
     (first.0 ++ last.0, last.1 ∙ ap (λ t. t ++ last.0) first.1 ∙ append_assoc text first.0 last.0)
 
-pub given_back-grows : (r : Role) (places : List ℕ) (s : Scene) → IsPrefix s.text (given_back r places s).text
-given_back-grows r [] s = prefix-same s.text
-given_back-grows r (at ∷ places) s =
-    prefix-through _ (given r at s).text _ (given_back-grows r places (given r at s)) (prefix-added s.text _)
+pub after_gives-grows : (r : Role) (places : List ℕ) (s : Scene) → IsPrefix s.text (after_gives r places s).text
+after_gives-grows r [] s = prefix-same s.text
+after_gives-grows r (at ∷ places) s =
+    prefix-through _ (on_give r at s).text _ (after_gives-grows r places (on_give r at s)) (prefix-added s.text _)
 
-pub finished-grows : (r : Role) (s : Scene) → IsPrefix s.text (finished r s).scene.text
-finished-grows r s =
-    let all = given_all r s in
-    prefix-through _ all.text _ (prefix-added all.text _) (given_back-grows r (places_held s.floor r.place) s)
+pub after_last_step-grows : (r : Role) (s : Scene) → IsPrefix s.text (after_last_step r s).scene.text
+after_last_step-grows r s =
+    let all = after_all_gives r s in
+    prefix-through _ all.text _ (prefix-added all.text _) (after_gives-grows r (places_held s.floor r.place) s)
 
-pub made-grows : (r : Role) (next : ℕ) (step : Step) (s : Scene) → IsPrefix s.text (made r next step s).scene.text
-made-grows r next (Work turns) s = prefix-same s.text
-made-grows r next (Take at) s = took-grows (take_answer s.floor at r.place)
+pub after_step-grows : (r : Role) (next : ℕ) (step : Step) (s : Scene)
+    → IsPrefix s.text (after_step r next step s).scene.text
+after_step-grows r next (Work turns) s = prefix-same s.text
+after_step-grows r next (Take at) s = after_taking-grows (take_answer s.floor at r.place)
   where
-    took-grows : (answer : FloorTake) → IsPrefix s.text (took r next at answer s).scene.text
-    took-grows (Now element) = prefix-added s.text _
-    took-grows (Waits number) = prefix-added s.text _
-made-grows r next (Give at) s = prefix-added s.text _
-made-grows r next (Down at) s = prefix-same s.text
-made-grows r next (Await at) s = prefix-same s.text
-made-grows r next (Arrive at) s = prefix-same s.text
+    after_taking-grows : (answer : FloorTake) → IsPrefix s.text (after_taking r next at answer s).scene.text
+    after_taking-grows (Now element) = prefix-added s.text _
+    after_taking-grows (Waits number) = prefix-added s.text _
+after_step-grows r next (Give at) s = prefix-added s.text _
+after_step-grows r next (Down at) s = prefix-same s.text
+after_step-grows r next (Await at) s = prefix-same s.text
+after_step-grows r next (Arrive at) s = prefix-same s.text
 
 pub stop_or-grows : (m : Made) (onward : Acted) → IsPrefix m.scene.text onward.scene.text
     → IsPrefix m.scene.text (stop_or m onward).scene.text
@@ -85,55 +86,56 @@ stop_or-grows m onward grows = go m.stops
     go None = grows
     go (Some p) = prefix-same m.scene.text
 
-pub stepped-grows : (r : Role) (steps : List Step) (next : ℕ) (s : Scene)
-    → IsPrefix s.text (stepped r steps next s).scene.text
-stepped-grows r [] next s = finished-grows r s
-stepped-grows r (step ∷ steps) next s =
-    let m : Made = made r next step s in
+pub after_steps-grows : (r : Role) (steps : List Step) (next : ℕ) (s : Scene)
+    → IsPrefix s.text (after_steps r steps next s).scene.text
+after_steps-grows r [] next s = after_last_step-grows r s
+after_steps-grows r (step ∷ steps) next s =
+    let m : Made = after_step r next step s in
     prefix-through _ m.scene.text _
-    (stop_or-grows m (stepped r steps (next + 1) m.scene) (stepped-grows r steps (next + 1) m.scene))
-    (made-grows r next step s)
+    (stop_or-grows m (after_steps r steps (next + 1) m.scene) (after_steps-grows r steps (next + 1) m.scene))
+    (after_step-grows r next step s)
 
 -- a job that goes on after an event
 pub go_on-grows : (r : Role) (next : ℕ) (s : Scene) (floor : PlainFloor) (told : Told)
     → IsPrefix s.text (go_on r next (event r s floor told)).scene.text
 go_on-grows r next s floor told =
     prefix-through _ (event r s floor told).text s.text
-    (stepped-grows r (drop next r.job.steps) next (event r s floor told)) (prefix-added s.text _)
+    (after_steps-grows r (drop next r.job.steps) next (event r s floor told)) (prefix-added s.text _)
 
-pub gave_up-grows : (r : Role) (at number : ℕ) (answer : FloorLeave) (s : Scene)
-    → IsPrefix s.text (gave_up r at number answer s).scene.text
-gave_up-grows r at number answer s =
-    let e : Scene = cancelled r at number answer s in
-    prefix-through _ e.text s.text (given_back-grows r (places_held e.floor r.place) e) (prefix-added s.text _)
+pub after_giving_up-grows : (r : Role) (at number : ℕ) (answer : FloorLeave) (s : Scene)
+    → IsPrefix s.text (after_giving_up r at number answer s).scene.text
+after_giving_up-grows r at number answer s =
+    let e : Scene = on_leave r at number answer s in
+    prefix-through _ e.text s.text (after_gives-grows r (places_held e.floor r.place) e) (prefix-added s.text _)
 
-acted-if : (b : Bool) (a c : Acted) (text : List ℕ) → IsPrefix text a.scene.text → IsPrefix text c.scene.text
+after_acting-if : (b : Bool) (a c : Acted) (text : List ℕ) → IsPrefix text a.scene.text → IsPrefix text c.scene.text
     → IsPrefix text (if b then a else c).scene.text
-acted-if true a c text here there = here
-acted-if false a c text here there = there
+after_acting-if true a c text here there = here
+after_acting-if false a c text here there = there
 
-looked-grows : (r : Role) (next at number : ℕ) (answer : FloorLook) (s : Scene)
-    → IsPrefix s.text (looked r next at number answer s).scene.text
-looked-grows r next at number Pending s = prefix-same s.text
-looked-grows r next at number (Granted element) s =
+after_looking-grows : (r : Role) (next at number : ℕ) (answer : FloorLook) (s : Scene)
+    → IsPrefix s.text (after_looking r next at number answer s).scene.text
+after_looking-grows r next at number Pending s = prefix-same s.text
+after_looking-grows r next at number (Granted element) s =
     go_on-grows r next s (after_look s.floor r.place (Granted element)) (told.Served at number)
 
-pub acted-grows : (r : Role) (p : Progress) (s : Scene) → IsPrefix s.text (acted r p s).scene.text
-acted-grows r (Stepping next) s = stepped-grows r (drop next r.job.steps) next s
-acted-grows r (Working next until) s =
-    acted-if (nat_lt r.turn until) (left_at s (Working next until)) (go_on r next s) s.text
-    (prefix-same s.text) (stepped-grows r (drop next r.job.steps) next s)
-acted-grows r (Waiting next at number) s =
-    acted-if (is_due r.job.deadline r.turn)
-    (gave_up r at number (leave_answer s.floor r.place) s)
-    (looked r next at number (look_answer s.floor r.place) s) s.text
-    (gave_up-grows r at number (leave_answer s.floor r.place) s)
-    (looked-grows r next at number (look_answer s.floor r.place) s)
-acted-grows r (Ended end) s = prefix-same s.text
+pub after_acting-grows : (r : Role) (p : Progress) (s : Scene) → IsPrefix s.text (after_acting r p s).scene.text
+after_acting-grows r (Stepping next) s = after_steps-grows r (drop next r.job.steps) next s
+after_acting-grows r (Working next until) s =
+    after_acting-if (nat_lt r.turn until) (left_at s (Working next until)) (go_on r next s) s.text
+    (prefix-same s.text) (after_steps-grows r (drop next r.job.steps) next s)
+after_acting-grows r (Waiting next at number) s =
+    after_acting-if (is_due r.job.deadline r.turn)
+    (after_giving_up r at number (leave_answer s.floor r.place) s)
+    (after_looking r next at number (look_answer s.floor r.place) s) s.text
+    (after_giving_up-grows r at number (leave_answer s.floor r.place) s)
+    (after_looking-grows r next at number (look_answer s.floor r.place) s)
+after_acting-grows r (Ended end) s = prefix-same s.text
 
 one_job-grows : (resources : List Resource) (turn place : ℕ) (job : Job) (m : Machine)
     → IsPrefix m.scene.text (one_job resources turn place job m).scene.text
-one_job-grows resources turn place job m = acted-grows _ (slice_index_or m.progress place (Ended end.Done)) m.scene
+one_job-grows resources turn place job m
+    = after_acting-grows _ (slice_index_or m.progress place (Ended end.Done)) m.scene
 
 pub each_job-grows : (resources : List Resource) (turn place : ℕ) (jobs : List Job) (m : Machine)
     → IsPrefix m.scene.text (each_job resources turn place jobs m).scene.text

@@ -15,33 +15,34 @@ use Rattle.cqs_turns.specs.declared.states.Progress.{Progress}
 use Rattle.cqs_turns.specs.declared.states.Progress.TheVariants.{Stepping, Working, Waiting, Ended}
 use Rattle.cqs_turns.specs.Ready.{IsReady, wait_in, steps_left}
 use Rattle.cqs_turns.specs.Roles.{wait_at}
-use Rattle.cqs_turns.specs.Turns.{Role, Scene, Made, Acted, event, given, given_back, made, took, stop_or, stepped, finished, cancelled, gave_up, looked, acted, is_due, places_held, left_at, go_on}
-use Rattle.cqs_turns.proofs.Readied.{first-given, first-ready, leave-ready, looked-ready}
-use Rattle.cqs_turns.proofs.Stepping.{made-ready}
+use Rattle.cqs_turns.specs.Turns.{Role, Scene, Made, Acted, event, on_give, after_gives, after_step, after_taking, stop_or, after_steps, after_last_step, on_leave, after_giving_up, after_looking, after_acting, is_due, places_held, left_at, go_on}
+use Rattle.cqs_turns.proofs.Readied.{first-given, first-ready, leave-ready, after_looking-ready}
+use Rattle.cqs_turns.proofs.Stepping.{after_step-ready}
 
 -- where the job has ended, it holds nothing
 abbrev pub IsEmptied : Role → Acted → Type 0
 IsEmptied r a = (e : End) → a.progress ≡ Ended e → places_held a.scene.floor r.place ≡ []
 
-given_back-empties : (r : Role) (places : List ℕ) (s : Scene) → IsReady s.floor r.place None []
-    → places_held s.floor r.place ≡ places → places_held (given_back r places s).floor r.place ≡ []
-given_back-empties r [] s ready held = held
-given_back-empties r (at ∷ places) s ready held =
-    given_back-empties r places (given r at s) (first-ready s.floor r.place at (give_answer s.floor at r.place) ready)
+after_gives-empties : (r : Role) (places : List ℕ) (s : Scene) → IsReady s.floor r.place None []
+    → places_held s.floor r.place ≡ places → places_held (after_gives r places s).floor r.place ≡ []
+after_gives-empties r [] s ready held = held
+after_gives-empties r (at ∷ places) s ready held =
+    after_gives-empties r places (on_give r at s)
+    (first-ready s.floor r.place at (give_answer s.floor at r.place) ready)
     (first-given s.floor r.place at places (give_answer s.floor at r.place) ready.job held)
 
-finished-empties : (r : Role) (s : Scene) → IsReady s.floor r.place None [] → IsEmptied r (finished r s)
-finished-empties r s ready e ended = given_back-empties r (places_held s.floor r.place) s ready refl
+after_last_step-empties : (r : Role) (s : Scene) → IsReady s.floor r.place None [] → IsEmptied r (after_last_step r s)
+after_last_step-empties r s ready e ended = after_gives-empties r (places_held s.floor r.place) s ready refl
 
 -- a step never ends a job
 stops-unended : (r : Role) (next : ℕ) (step : Step) (s : Scene) (e : End)
-    → (made r next step s).stops ≢ Some (Ended e)
+    → (after_step r next step s).stops ≢ Some (Ended e)
 stops-unended r next (Work turns) s e same = absurd (cc)
-stops-unended r next (Take at) s e same = took-unended (take_answer s.floor at r.place) same
+stops-unended r next (Take at) s e same = after_taking-unended (take_answer s.floor at r.place) same
   where
-    took-unended : (answer : FloorTake) → (took r next at answer s).stops ≢ Some (Ended e)
-    took-unended (Now element) same = absurd (cc)
-    took-unended (Waits number) same = absurd (cc)
+    after_taking-unended : (answer : FloorTake) → (after_taking r next at answer s).stops ≢ Some (Ended e)
+    after_taking-unended (Now element) same = absurd (cc)
+    after_taking-unended (Waits number) same = absurd (cc)
 stops-unended r next (Give at) s e same = absurd (cc)
 stops-unended r next (Down at) s e same = absurd (cc)
 stops-unended r next (Await at) s e same = absurd (cc)
@@ -53,44 +54,44 @@ stop-empties : (r : Role) (scene : Scene) (stops : Option Progress) (onward : Ac
 stop-empties r scene None onward unended goes e ended = goes refl e ended
 stop-empties r scene (Some p) onward unended goes e ended = absurd (unended e (ap Some ended))
 
-stepped-empties : (r : Role) (steps : List Step) (next : ℕ) (s : Scene) → IsReady s.floor r.place None steps
-    → IsEmptied r (stepped r steps next s)
-stepped-empties r [] next s ready = finished-empties r s ready
-stepped-empties r (step ∷ rest) next s ready =
-    let m : Made = made r next step s in
-    stop-empties r m.scene m.stops (stepped r rest (next + 1) m.scene) (stops-unended r next step s)
-    (λ none. stepped-empties r rest (next + 1) m.scene (rw none at (made-ready r next step rest s ready)))
+after_steps-empties : (r : Role) (steps : List Step) (next : ℕ) (s : Scene) → IsReady s.floor r.place None steps
+    → IsEmptied r (after_steps r steps next s)
+after_steps-empties r [] next s ready = after_last_step-empties r s ready
+after_steps-empties r (step ∷ rest) next s ready =
+    let m : Made = after_step r next step s in
+    stop-empties r m.scene m.stops (after_steps r rest (next + 1) m.scene) (stops-unended r next step s)
+    (λ none. after_steps-empties r rest (next + 1) m.scene (rw none at (after_step-ready r next step rest s ready)))
 
 emptied-if : (r : Role) (b : Bool) (a c : Acted) → IsEmptied r a → IsEmptied r c → IsEmptied r (if b then a else c)
 emptied-if r true a c here there = here
 emptied-if r false a c here there = there
 
-gave_up-empties : (r : Role) (at number : ℕ) (answer : FloorLeave) (s : Scene) (steps : List Step)
-    → IsReady s.floor r.place (Some (wait_at at number)) steps → IsEmptied r (gave_up r at number answer s)
-gave_up-empties r at number answer s steps ready e ended =
-    let t : Scene = cancelled r at number answer s in
-    given_back-empties r (places_held t.floor r.place) t
+after_giving_up-empties : (r : Role) (at number : ℕ) (answer : FloorLeave) (s : Scene) (steps : List Step)
+    → IsReady s.floor r.place (Some (wait_at at number)) steps → IsEmptied r (after_giving_up r at number answer s)
+after_giving_up-empties r at number answer s steps ready e ended =
+    let t : Scene = on_leave r at number answer s in
+    after_gives-empties r (places_held t.floor r.place) t
     (leave-ready s.floor r.place (wait_at at number) answer steps ready) refl
 
-looked-empties : (r : Role) (next at number : ℕ) (answer : FloorLook) (s : Scene)
+after_looking-empties : (r : Role) (next at number : ℕ) (answer : FloorLook) (s : Scene)
     → IsReady s.floor r.place (Some (wait_at at number)) (drop next r.job.steps)
-    → IsEmptied r (looked r next at number answer s)
-looked-empties r next at number Pending s ready e ended = absurd (cc)
-looked-empties r next at number (Granted element) s ready e ended =
-    stepped-empties r (drop next r.job.steps) next
+    → IsEmptied r (after_looking r next at number answer s)
+after_looking-empties r next at number Pending s ready e ended = absurd (cc)
+after_looking-empties r next at number (Granted element) s ready e ended =
+    after_steps-empties r (drop next r.job.steps) next
     (event r s (after_look s.floor r.place (Granted element)) (told.Served at number))
-    (looked-ready s.floor r.place (wait_at at number) element (drop next r.job.steps) ready) e ended
+    (after_looking-ready s.floor r.place (wait_at at number) element (drop next r.job.steps) ready) e ended
 
-pub acted-empties : (r : Role) (p : Progress) (s : Scene)
+pub after_acting-empties : (r : Role) (p : Progress) (s : Scene)
     → IsReady s.floor r.place (wait_in p) (steps_left r.job.steps p)
-    → IsEmptied r (left_at s p) → IsEmptied r (acted r p s)
-acted-empties r (Stepping next) s ready before = stepped-empties r (drop next r.job.steps) next s ready
-acted-empties r (Working next until) s ready before =
+    → IsEmptied r (left_at s p) → IsEmptied r (after_acting r p s)
+after_acting-empties r (Stepping next) s ready before = after_steps-empties r (drop next r.job.steps) next s ready
+after_acting-empties r (Working next until) s ready before =
     emptied-if r (nat_lt r.turn until) (left_at s (Working next until)) (go_on r next s) before
-    (stepped-empties r (drop next r.job.steps) next s ready)
-acted-empties r (Waiting next at number) s ready before =
-    emptied-if r (is_due r.job.deadline r.turn) (gave_up r at number (leave_answer s.floor r.place) s)
-    (looked r next at number (look_answer s.floor r.place) s)
-    (gave_up-empties r at number (leave_answer s.floor r.place) s (drop next r.job.steps) ready)
-    (looked-empties r next at number (look_answer s.floor r.place) s ready)
-acted-empties r (Ended end) s ready before = before
+    (after_steps-empties r (drop next r.job.steps) next s ready)
+after_acting-empties r (Waiting next at number) s ready before =
+    emptied-if r (is_due r.job.deadline r.turn) (after_giving_up r at number (leave_answer s.floor r.place) s)
+    (after_looking r next at number (look_answer s.floor r.place) s)
+    (after_giving_up-empties r at number (leave_answer s.floor r.place) s (drop next r.job.steps) ready)
+    (after_looking-empties r next at number (look_answer s.floor r.place) s ready)
+after_acting-empties r (Ended end) s ready before = before

@@ -14,14 +14,14 @@ use Rattle.cqs_turns.specs.declared.states.Progress.{Progress}
 use Rattle.cqs_turns.specs.declared.states.Progress.TheVariants.{Stepping, Ended}
 use Rattle.cqs_turns.specs.Ready.{IsReady, wait_in, steps_left}
 use Rattle.cqs_turns.specs.Running.{IsRunning}
-use Rattle.cqs_turns.specs.Turns.{Role, Acted, Machine, acted, one_job, opening_machine, machine_after, places_held}
+use Rattle.cqs_turns.specs.Turns.{Role, Acted, Machine, after_acting, one_job, opening_machine, machine_after, places_held}
 use Rattle.cqs_turns.proofs.Opened.{opening-running}
 use Rattle.cqs_turns.proofs.RunningLemmas.{room-of, running-on}
-use Rattle.cqs_turns.proofs.Turned.{Turned, acted-turned}
+use Rattle.cqs_turns.proofs.Turned.{Turned, after_acting-turned}
 use Rattle.cqs_laws.specs.Endings.{EndedJobsHaveNothing}
 use Rattle.cqs_laws.proofs.Everywhere.{always}
 use Rattle.cqs_laws.proofs.OwnTurn.{role_of}
-use Rattle.cqs_laws.proofs.Emptied.{acted-empties}
+use Rattle.cqs_laws.proofs.Emptied.{after_acting-empties}
 
 -- the machine runs, and the jobs that have ended hold nothing
 pub record IsKept (plan : Plan) (m : Machine) : Type 0 where
@@ -35,9 +35,10 @@ with_acted m place a = record { scene = a.scene; progress = set m.progress place
 
 pub one-job-is : (resources : List Resource) (turn place : ℕ) (job : Job) (m : Machine) (p : Progress)
     → slice_get m.progress place ≡ Some p
-    → one_job resources turn place job m ≡ with_acted m place (acted (role_of resources turn place job) p m.scene)
+    → one_job resources turn place job m
+    ≡ with_acted m place (after_acting (role_of resources turn place job) p m.scene)
 one-job-is resources turn place job m p got =
-    ap (λ q. with_acted m place (acted (role_of resources turn place job) q m.scene))
+    ap (λ q. with_acted m place (after_acting (role_of resources turn place job) q m.scene))
     (get_or_from_slice_get m.progress place p (Ended end.Done) got)
 
 module _ (plan : Plan) (turn place : ℕ) (job : Job) (m : Machine) (there : slice_get plan.jobs place ≡ Some job)
@@ -46,13 +47,13 @@ module _ (plan : Plan) (turn place : ℕ) (job : Job) (m : Machine) (there : sli
   r = role_of plan.resources turn place job
 
   abbrev a : Acted
-  a = acted r p m.scene
+  a = after_acting r p m.scene
 
   ready : IsReady m.scene.floor place (wait_in p) (steps_left job.steps p)
   ready = kept.running.ready place job p there got
 
   turned : Turned r m.scene.floor (steps_left job.steps p) a
-  turned = acted-turned r p m.scene ready (room-of plan m place job p kept.running there got)
+  turned = after_acting-turned r p m.scene ready (room-of plan m place job p kept.running there got)
 
   emptied-after : (j : ℕ) (e : End) → slice_get (set m.progress place a.progress) j ≡ Some (Ended e)
       → (j ≡ place) ⊎ (j ≢ place) → places_held a.scene.floor j ≡ []
@@ -61,7 +62,7 @@ module _ (plan : Plan) (turn place : ℕ) (job : Job) (m : Machine) (there : sli
       = get-set_here m.progress place p a.progress got in
       let own : slice_get (set m.progress place a.progress) place ≡ Some (Ended e) = rw here at ended in
       let same : a.progress ≡ Ended e = cc in
-      rw here (acted-empties r p m.scene ready (λ d before. kept.emptied place d (got ∙ ap Some before)) e same)
+      rw here (after_acting-empties r p m.scene ready (λ d before. kept.emptied place d (got ∙ ap Some before)) e same)
   emptied-after j e ended (inr other) =
       let before : slice_get m.progress j ≡ Some (Ended e)
       = sym (get-set_else m.progress place j a.progress (λ same. other (sym same))) ∙ ended in

@@ -20,12 +20,12 @@ use Rattle.cqs_turns.specs.declared.states.Progress.TheVariants.{Stepping, Worki
 use Rattle.cqs_turns.specs.Ready.{IsReady, AreHoldable, wait_in, steps_left, is_held}
 use Rattle.cqs_turns.specs.Roles.{wait_at}
 use Rattle.cqs_turns.specs.Running.{IsRunning}
-use Rattle.cqs_turns.specs.Turns.{Role, Scene, Made, Acted, Machine, event, taken, given, given_back, made, took, stop_or, stepped, finished, cancelled, gave_up, looked, acted, is_due, one_job, opening_machine, machine_after, places_held, left_at, go_on}
+use Rattle.cqs_turns.specs.Turns.{Role, Scene, Made, Acted, Machine, event, on_take, on_give, after_gives, after_step, after_taking, stop_or, after_steps, after_last_step, on_leave, after_giving_up, after_looking, after_acting, is_due, one_job, opening_machine, machine_after, places_held, left_at, go_on}
 use Rattle.cqs_turns.proofs.Opened.{opening-running}
-use Rattle.cqs_turns.proofs.Readied.{first-given, first-ready, leave-ready, looked-ready, can-give}
+use Rattle.cqs_turns.proofs.Readied.{first-given, first-ready, leave-ready, after_looking-ready, can-give}
 use Rattle.cqs_turns.proofs.RunningLemmas.{room-of, running-on}
-use Rattle.cqs_turns.proofs.Stepping.{made-ready}
-use Rattle.cqs_turns.proofs.Turned.{acted-turned}
+use Rattle.cqs_turns.proofs.Stepping.{after_step-ready}
+use Rattle.cqs_turns.proofs.Turned.{after_acting-turned}
 use Rattle.cqs_laws.proofs.Everywhere.{always}
 use Rattle.cqs_laws.proofs.OwnTurn.{role_of}
 use Rattle.cqs_laws.proofs.Kept.{one-job-is}
@@ -62,21 +62,21 @@ holdable-last kinds (p ∷ places) at all = holdable-last kinds places at all.1
 -- each event of the plan's jobs keeps the fact
 pub record IsKeptByEvents (plan : Plan) (P : Scene → Type 0) : Type 0 where
   pub takes : (r : Role) (at : ℕ) (s : Scene) → IsActor plan r → CanTake s.floor r.place at → P s
-      → P (taken r at (take_answer s.floor at r.place) s)
-  pub gives : (r : Role) (at : ℕ) (s : Scene) → IsActor plan r → CanGive s.floor r.place at → P s → P (given r at s)
+      → P (on_take r at (take_answer s.floor at r.place) s)
+  pub gives : (r : Role) (at : ℕ) (s : Scene) → IsActor plan r → CanGive s.floor r.place at → P s → P (on_give r at s)
   pub serves : (r : Role) (at number element : ℕ) (s : Scene) → IsActor plan r → HasWait s.floor r.place at number
       → look_answer s.floor r.place ≡ Granted element → P s
       → P (event r s (after_look s.floor r.place (Granted element)) (told.Served at number))
   pub leaves : (r : Role) (at number : ℕ) (s : Scene) → IsActor plan r → HasWait s.floor r.place at number → P s
-      → P (cancelled r at number (leave_answer s.floor r.place) s)
+      → P (on_leave r at number (leave_answer s.floor r.place) s)
   pub ends : (r : Role) (s : Scene) → IsActor plan r → P s → P (event r s s.floor told.Done)
 
 module _ (plan : Plan) (P : Scene → Type 0) (kept : IsKeptByEvents plan P) where
   module _ (r : Role) (actor : IsActor plan r) where
-    given_back-keeps : (places : List ℕ) (s : Scene) → IsReady s.floor r.place None []
-        → places_held s.floor r.place ≡ places → P s → P (given_back r places s)
-    given_back-keeps [] s ready held holds = holds
-    given_back-keeps (at ∷ places) s ready held holds =
+    after_gives-keeps : (places : List ℕ) (s : Scene) → IsReady s.floor r.place None []
+        → places_held s.floor r.place ≡ places → P s → P (after_gives r places s)
+    after_gives-keeps [] s ready held holds = holds
+    after_gives-keeps (at ∷ places) s ready held holds =
         let first : at == at ≡ true = eq-eqb at at refl in
         let there : is_held at (at ∷ places) ≡ true = rw first refl in
         let can : CanGive s.floor r.place at = record {
@@ -84,45 +84,48 @@ module _ (plan : Plan) (P : Scene → Type 0) (kept : IsKeptByEvents plan P) whe
           held = rw held there;
           kind = (rw held at ready.holdable).0;
         } in
-        given_back-keeps places (given r at s) (first-ready s.floor r.place at (give_answer s.floor at r.place) ready)
+        after_gives-keeps places (on_give r at s)
+        (first-ready s.floor r.place at (give_answer s.floor at r.place) ready)
         (first-given s.floor r.place at places (give_answer s.floor at r.place) ready.job held)
         (kept.gives r at s actor can holds)
 
-    finished-keeps : (s : Scene) → IsReady s.floor r.place None [] → P s → P (finished r s).scene
-    finished-keeps s ready holds =
-        kept.ends r _ actor (given_back-keeps (places_held s.floor r.place) s ready refl holds)
+    after_last_step-keeps : (s : Scene) → IsReady s.floor r.place None [] → P s → P (after_last_step r s).scene
+    after_last_step-keeps s ready holds =
+        kept.ends r _ actor (after_gives-keeps (places_held s.floor r.place) s ready refl holds)
 
-    took-keeps : (next at : ℕ) (answer : FloorTake) (s : Scene) → P (taken r at answer s)
-        → P (took r next at answer s).scene
-    took-keeps next at (Now element) s holds = holds
-    took-keeps next at (Waits number) s holds = holds
+    after_taking-keeps : (next at : ℕ) (answer : FloorTake) (s : Scene) → P (on_take r at answer s)
+        → P (after_taking r next at answer s).scene
+    after_taking-keeps next at (Now element) s holds = holds
+    after_taking-keeps next at (Waits number) s holds = holds
 
-    made-keeps : (next : ℕ) (step : Step) (rest : List Step) (s : Scene) → IsReady s.floor r.place None (step ∷ rest)
-        → P s → P (made r next step s).scene
-    made-keeps next (Work turns) rest s ready holds = holds
-    made-keeps next (Take at) rest s ready holds =
-        took-keeps next at (take_answer s.floor at r.place) s
+    after_step-keeps : (next : ℕ) (step : Step) (rest : List Step) (s : Scene)
+        → IsReady s.floor r.place None (step ∷ rest)
+        → P s → P (after_step r next step s).scene
+    after_step-keeps next (Work turns) rest s ready holds = holds
+    after_step-keeps next (Take at) rest s ready holds =
+        after_taking-keeps next at (take_answer s.floor at r.place) s
         (kept.takes r at s actor (record { job = ready.job; idle = ready.waits; kind = ready.makeable.0 }) holds)
-    made-keeps next (Give at) rest s ready holds =
+    after_step-keeps next (Give at) rest s ready holds =
         kept.gives r at s actor
         (record { job = ready.job; held = ready.makeable.0; kind = can-give s.floor r.place at rest ready }) holds
-    made-keeps next (Down at) rest s ready holds = holds
-    made-keeps next (Await at) rest s ready holds = holds
-    made-keeps next (Arrive at) rest s ready holds = holds
+    after_step-keeps next (Down at) rest s ready holds = holds
+    after_step-keeps next (Await at) rest s ready holds = holds
+    after_step-keeps next (Arrive at) rest s ready holds = holds
 
     stop-keeps : (scene : Scene) (stops : Option Progress) (onward : Acted) → P scene
         → (stops ≡ None → P onward.scene) → P (stop_or (record { scene = scene; stops = stops }) onward).scene
     stop-keeps scene None onward holds goes = goes refl
     stop-keeps scene (Some p) onward holds goes = holds
 
-    stepped-keeps : (steps : List Step) (next : ℕ) (s : Scene) → IsReady s.floor r.place None steps → P s
-        → P (stepped r steps next s).scene
-    stepped-keeps [] next s ready holds = finished-keeps s ready holds
-    stepped-keeps (step ∷ rest) next s ready holds =
-        let m : Made = made r next step s in
-        let after : P m.scene = made-keeps next step rest s ready holds in
-        stop-keeps m.scene m.stops (stepped r rest (next + 1) m.scene) after
-        (λ none. stepped-keeps rest (next + 1) m.scene (rw none at (made-ready r next step rest s ready)) after)
+    after_steps-keeps : (steps : List Step) (next : ℕ) (s : Scene) → IsReady s.floor r.place None steps → P s
+        → P (after_steps r steps next s).scene
+    after_steps-keeps [] next s ready holds = after_last_step-keeps s ready holds
+    after_steps-keeps (step ∷ rest) next s ready holds =
+        let m : Made = after_step r next step s in
+        let after : P m.scene = after_step-keeps next step rest s ready holds in
+        stop-keeps m.scene m.stops (after_steps r rest (next + 1) m.scene) after
+        (λ none. after_steps-keeps rest (next + 1) m.scene (rw none at (after_step-ready r next step rest s ready))
+        after)
 
     if-keeps : (b : Bool) (a c : Acted) → P a.scene → P c.scene → P (if b then a else c).scene
     if-keeps true a c here there = here
@@ -137,36 +140,37 @@ module _ (plan : Plan) (P : Scene → Type 0) (kept : IsKeptByEvents plan P) whe
       kind = holdable-last s.floor.kinds (places_held s.floor r.place) at ready.holdable;
     }
 
-    gave_up-keeps : (at number : ℕ) (s : Scene) (steps : List Step)
+    after_giving_up-keeps : (at number : ℕ) (s : Scene) (steps : List Step)
         → IsReady s.floor r.place (Some (wait_at at number)) steps → P s
-        → P (gave_up r at number (leave_answer s.floor r.place) s).scene
-    gave_up-keeps at number s steps ready holds =
-        let t : Scene = cancelled r at number (leave_answer s.floor r.place) s in
-        given_back-keeps (places_held t.floor r.place) t
+        → P (after_giving_up r at number (leave_answer s.floor r.place) s).scene
+    after_giving_up-keeps at number s steps ready holds =
+        let t : Scene = on_leave r at number (leave_answer s.floor r.place) s in
+        after_gives-keeps (places_held t.floor r.place) t
         (leave-ready s.floor r.place (wait_at at number) (leave_answer s.floor r.place) steps ready) refl
         (kept.leaves r at number s actor (waits-so s at number steps ready) holds)
 
-    looked-keeps : (next at number : ℕ) (answer : FloorLook) (s : Scene)
+    after_looking-keeps : (next at number : ℕ) (answer : FloorLook) (s : Scene)
         → IsReady s.floor r.place (Some (wait_at at number)) (drop next r.job.steps)
-        → look_answer s.floor r.place ≡ answer → P s → P (looked r next at number answer s).scene
-    looked-keeps next at number Pending s ready same holds = holds
-    looked-keeps next at number (Granted element) s ready same holds =
-        stepped-keeps (drop next r.job.steps) next _
-        (looked-ready s.floor r.place (wait_at at number) element (drop next r.job.steps) ready)
+        → look_answer s.floor r.place ≡ answer → P s → P (after_looking r next at number answer s).scene
+    after_looking-keeps next at number Pending s ready same holds = holds
+    after_looking-keeps next at number (Granted element) s ready same holds =
+        after_steps-keeps (drop next r.job.steps) next _
+        (after_looking-ready s.floor r.place (wait_at at number) element (drop next r.job.steps) ready)
         (kept.serves r at number element s actor (waits-so s at number (drop next r.job.steps) ready) same holds)
 
-    acted-keeps : (p : Progress) (s : Scene) → IsReady s.floor r.place (wait_in p) (steps_left r.job.steps p) → P s
-        → P (acted r p s).scene
-    acted-keeps (Stepping next) s ready holds = stepped-keeps (drop next r.job.steps) next s ready holds
-    acted-keeps (Working next until) s ready holds =
+    after_acting-keeps : (p : Progress) (s : Scene) → IsReady s.floor r.place (wait_in p) (steps_left r.job.steps p)
+        → P s
+        → P (after_acting r p s).scene
+    after_acting-keeps (Stepping next) s ready holds = after_steps-keeps (drop next r.job.steps) next s ready holds
+    after_acting-keeps (Working next until) s ready holds =
         if-keeps (nat_lt r.turn until) (left_at s (Working next until)) (go_on r next s) holds
-        (stepped-keeps (drop next r.job.steps) next s ready holds)
-    acted-keeps (Waiting next at number) s ready holds =
-        if-keeps (is_due r.job.deadline r.turn) (gave_up r at number (leave_answer s.floor r.place) s)
-        (looked r next at number (look_answer s.floor r.place) s)
-        (gave_up-keeps at number s (drop next r.job.steps) ready holds)
-        (looked-keeps next at number (look_answer s.floor r.place) s ready refl holds)
-    acted-keeps (Ended end) s ready holds = holds
+        (after_steps-keeps (drop next r.job.steps) next s ready holds)
+    after_acting-keeps (Waiting next at number) s ready holds =
+        if-keeps (is_due r.job.deadline r.turn) (after_giving_up r at number (leave_answer s.floor r.place) s)
+        (after_looking r next at number (look_answer s.floor r.place) s)
+        (after_giving_up-keeps at number s (drop next r.job.steps) ready holds)
+        (after_looking-keeps next at number (look_answer s.floor r.place) s ready refl holds)
+    after_acting-keeps (Ended end) s ready holds = holds
 
   -- the machine runs, and its scene keeps the fact
   record Holds (m : Machine) : Type 0 where
@@ -183,9 +187,9 @@ module _ (plan : Plan) (P : Scene → Type 0) (kept : IsKeptByEvents plan P) whe
       let ready : IsReady m.scene.floor place (wait_in p) (steps_left job.steps p)
       = h.running.ready place job p there own.1 in
       subst Holds (sym (one-job-is plan.resources turn place job m p own.1)) (record {
-        running = running-on plan m r p (acted r p m.scene) h.running there own.1
-            (acted-turned r p m.scene ready (room-of plan m place job p h.running there own.1));
-        holds = acted-keeps r (record { resources = refl; job = there }) p m.scene ready h.holds;
+        running = running-on plan m r p (after_acting r p m.scene) h.running there own.1
+            (after_acting-turned r p m.scene ready (room-of plan m place job p h.running there own.1));
+        holds = after_acting-keeps r (record { resources = refl; job = there }) p m.scene ready h.holds;
       })
 
   pub always-holds : (turns : ℕ) → IsRunnable plan → P (opening_machine plan).scene

@@ -12,7 +12,7 @@ use Rattle.cqs_plan.specs.FloorCalls.{leave_answer, look_answer}
 use Rattle.cqs_turns.specs.declared.states.End.TheVariants as end
 use Rattle.cqs_turns.specs.declared.states.Progress.{Progress}
 use Rattle.cqs_turns.specs.declared.states.Progress.TheVariants.{Waiting, Ended}
-use Rattle.cqs_turns.specs.Turns.{Role, Scene, Acted, Machine, acted, gave_up, looked, is_due, end_of, one_job, each_job, machine_after}
+use Rattle.cqs_turns.specs.Turns.{Role, Scene, Acted, Machine, after_acting, after_giving_up, after_looking, is_due, end_of, one_job, each_job, machine_after}
 use Rattle.cqs_laws.specs.Endings.{NoWaitOutlivesItsDeadline}
 
 -- a job in a turn
@@ -22,10 +22,10 @@ role_of resources turn place job = record { resources = resources; turn = turn; 
 pub own-turn : (resources : List Resource) (turn place : ℕ) (job : Job) (m : Machine) (p : Progress)
     → slice_get m.progress place ≡ Some p
     → slice_get (one_job resources turn place job m).progress place
-    ≡ Some (acted (role_of resources turn place job) p m.scene).progress
+    ≡ Some (after_acting (role_of resources turn place job) p m.scene).progress
 own-turn resources turn place job m p got =
     get-set_here m.progress place p _ got
-    ∙ ap (λ q. Some (acted (role_of resources turn place job) q m.scene).progress)
+    ∙ ap (λ q. Some (after_acting (role_of resources turn place job) q m.scene).progress)
     (get_or_from_slice_get m.progress place p (Ended end.Done) got)
 
 -- the turns of the jobs after it leave a job as it is
@@ -41,7 +41,7 @@ its-turn : (resources : List Resource) (turn place first i : ℕ) (jobs : List J
     (p : Progress)
     → place ≡ first + i → slice_get jobs i ≡ Some job → slice_get m.progress place ≡ Some p
     → (s : Scene) × (slice_get (each_job resources turn first jobs m).progress place
-    ≡ Some (acted (role_of resources turn place job) p s).progress)
+    ≡ Some (after_acting (role_of resources turn place job) p s).progress)
 its-turn resources turn place first i [] m job p at there got = absurd (cc)
 its-turn resources turn place first zero (j ∷ jobs) m job p at there got =
     let here : first ≡ place = omega (arith, at) in
@@ -60,7 +60,7 @@ its-turn resources turn place first (suc i) (j ∷ jobs) m job p at there got =
 pub after-turn : (plan : Plan) (turn place : ℕ) (job : Job) (p : Progress) → slice_get plan.jobs place ≡ Some job
     → slice_get (machine_after plan turn).progress place ≡ Some p
     → (s : Scene) × (slice_get (machine_after plan (turn + 1)).progress place
-    ≡ Some (acted (role_of plan.resources turn place job) p s).progress)
+    ≡ Some (after_acting (role_of plan.resources turn place job) p s).progress)
 after-turn plan turn place job p there got =
     let next : suc turn ≡ turn + 1 = omega arith in
     rw (← next) (its-turn plan.resources turn place 0 place plan.jobs (machine_after plan turn) job p
@@ -71,12 +71,12 @@ if-true true x y same = refl
 if-true false x y same = absurd (cc)
 
 -- a wait that is due ends, by what the floor answers
-acted-due : (r : Role) (next at number : ℕ) (s : Scene) → is_due r.job.deadline r.turn ≡ true
-    → (acted r (Waiting next at number) s).progress ≡ Ended (end_of (leave_answer s.floor r.place))
-acted-due r next at number s due =
+after_acting-due : (r : Role) (next at number : ℕ) (s : Scene) → is_due r.job.deadline r.turn ≡ true
+    → (after_acting r (Waiting next at number) s).progress ≡ Ended (end_of (leave_answer s.floor r.place))
+after_acting-due r next at number s due =
     ap (λ (a : Acted). a.progress)
-    (if-true (is_due r.job.deadline r.turn) (gave_up r at number (leave_answer s.floor r.place) s)
-    (looked r next at number (look_answer s.floor r.place) s) due)
+    (if-true (is_due r.job.deadline r.turn) (after_giving_up r at number (leave_answer s.floor r.place) s)
+    (after_looking r next at number (look_answer s.floor r.place) s) due)
 
 due-from : (deadline : Option ℕ) (d turn : ℕ) → deadline ≡ Some d → d ≤ turn → is_due deadline turn ≡ true
 due-from deadline d turn has below = rw has (le-leb d turn below)
@@ -91,4 +91,4 @@ no-wait-outlives plan turn place deadline next at number job there has below got
     let r : Role = role_of plan.resources turn place job in
     let after = after-turn plan turn place job (Waiting next at number) there got in
     ends-so _ (leave_answer (after.0).floor place)
-    (after.1 ∙ ap Some (acted-due r next at number after.0 (due-from job.deadline deadline turn has below)))
+    (after.1 ∙ ap Some (after_acting-due r next at number after.0 (due-from job.deadline deadline turn has below)))

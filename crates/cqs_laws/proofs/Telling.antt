@@ -22,7 +22,7 @@ use Rattle.cqs_turns.specs.declared.lines.Told.{Told}
 use Rattle.cqs_turns.specs.declared.lines.Told.TheVariants as told
 use Rattle.cqs_turns.specs.Lines.{line_text}
 use Rattle.cqs_turns.specs.Roles.{wait_at}
-use Rattle.cqs_turns.specs.Turns.{Role, Scene, event, taken, given_by, cancelled, opening_machine, machine_after}
+use Rattle.cqs_turns.specs.Turns.{Role, Scene, event, on_take, on_give_answer, on_leave, opening_machine, machine_after}
 use Rattle.cqs_laws.specs.Events.{Line, name_of, lines_text, new_wait, wait_numbers, WasSent, MayTell, EveryReportHasItsLines}
 use Rattle.cqs_laws.proofs.Lifting.{IsActor, HasWait, IsKeptByEvents, always-holds}
 use Rattle.cqs_laws.proofs.Objects.{holdable-below, object-here, object-else, next-same, in_line, line-longer, line-joined, line-fewer, turned-line, turned-next}
@@ -68,7 +68,7 @@ module _ (plan : Plan) (r : Role) (actor : IsActor plan r) (s : Scene) (tells : 
   there-of at below = omega (arith, below, tells.lined.sized)
 
   -- a job takes at once
-  takes-now : (at element : ℕ) → at < length s.floor.entries → IsTelling plan (taken r at (Now element) s)
+  takes-now : (at element : ℕ) → at < length s.floor.entries → IsTelling plan (on_take r at (Now element) s)
   takes-now at element there =
       calm-on (after_take s.floor at r.place (Now element)) (told.Takes at) (record {
         sized = sized-after (with_less_room s.floor at) at (entry.TakeNow 0 ∷ []) tells.lined.sized;
@@ -80,7 +80,7 @@ module _ (plan : Plan) (r : Role) (actor : IsActor plan r) (s : Scene) (tells : 
       }) (λ q. refl) tt
 
   -- nobody waits for what is given back
-  gives-free : (at element : ℕ) → at < length s.floor.entries → IsTelling plan (given_by r at (Free element) s)
+  gives-free : (at element : ℕ) → at < length s.floor.entries → IsTelling plan (on_give_answer r at (Free element) s)
   gives-free at element there =
       calm-on (after_give s.floor at r.place (Free element)) (told.GivesFree at) (record {
         sized = sized-after s.floor at (entry.GiveFreed 0 ∷ []) tells.lined.sized;
@@ -92,7 +92,7 @@ module _ (plan : Plan) (r : Role) (actor : IsActor plan r) (s : Scene) (tells : 
 
   -- what is given back is sent to a wait
   gives-sent : (at element number : ℕ) → at < length s.floor.entries
-      → IsTelling plan (given_by r at (Sent element number) s)
+      → IsTelling plan (on_give_answer r at (Sent element number) s)
   gives-sent at element number there =
       calm-on (after_give s.floor at r.place (Sent element number)) (told.GivesSent at number) (record {
         sized = sized-after s.floor at entries tells.lined.sized;
@@ -265,7 +265,7 @@ module _ (plan : Plan) (r : Role) (actor : IsActor plan r) (s : Scene) (tells : 
         numbers-same q tells.lines line (waits-else at q k other) ∙ tells.numbered q
         ∙ ap (range_with_len 0) (sym (next-else q other))
 
-    takes-later : IsTelling plan (taken r at (Waits k) s)
+    takes-later : IsTelling plan (on_take r at (Waits k) s)
     takes-later = record {
       lines = tells.lines ++ line ∷ [];
       text = text-on (told.Waits at k);
@@ -280,11 +280,11 @@ module _ (plan : Plan) (r : Role) (actor : IsActor plan r) (s : Scene) (tells : 
     }
 
   takes-if : (at : ℕ) (b : Bool) → at < length s.floor.entries → r.place < length s.floor.waits
-      → IsTelling plan (taken r at (if b then Now 0 else Waits (object_at s.floor at).next) s)
+      → IsTelling plan (on_take r at (if b then Now 0 else Waits (object_at s.floor at).next) s)
   takes-if at true there job_there = takes-now at 0 there
   takes-if at false there job_there = takes-later at there job_there
 
-  gives-by : (at : ℕ) (answer : FloorGive) → at < length s.floor.entries → IsTelling plan (given_by r at answer s)
+  gives-by : (at : ℕ) (answer : FloorGive) → at < length s.floor.entries → IsTelling plan (on_give_answer r at answer s)
   gives-by at (Free element) there = gives-free at element there
   gives-by at (Sent element number) there = gives-sent at element number there
 
@@ -310,11 +310,11 @@ module _ (plan : Plan) (r : Role) (actor : IsActor plan r) (s : Scene) (tells : 
           let pending : Pending ≡ Granted element = rw (has.waits, stands) at served in absurd (cc)
 
   leaves-so : (at number : ℕ) → HasWait s.floor r.place at number → at < length s.floor.entries
-      → IsTelling plan (cancelled r at number (leave_answer s.floor r.place) s)
+      → IsTelling plan (on_leave r at number (leave_answer s.floor r.place) s)
   leaves-so at number has there = go (is_in_line s.floor (wait_at at number)) refl
     where
       go : (b : Bool) → is_in_line s.floor (wait_at at number) ≡ b
-          → IsTelling plan (cancelled r at number (leave_answer s.floor r.place) s)
+          → IsTelling plan (on_leave r at number (leave_answer s.floor r.place) s)
       go true stands =
           let gone_answer : leave_answer s.floor r.place ≡ leave.Gone = rw (has.waits, stands) refl in
           rw gone_answer (gone at number has there)

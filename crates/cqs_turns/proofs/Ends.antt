@@ -1,5 +1,5 @@
 -- What comes after the last turn: the lines of the resources and the totals.
-use Rattle.std.proofs.Common.{◌≡◌, ℕ, zero, suc, List, [], ◌∷◌, ◌++◌, map, drop, replicate, length, refl, sym, ap, arith}
+use Rattle.std.proofs.Common.{◌≡◌, ℕ, zero, suc, List, [], ◌∷◌, ◌++◌, ◌∙◌, map, drop, replicate, length, refl, sym, ap, append_assoc, arith}
 use Rattle.cqs_core.specs.Numbered.{EachAt}
 use Rattle.cqs_core.proofs.EachAtLemmas.{EachAt-push}
 use Rattle.cqs_plan.specs.declared.plans.resource.Resource.{Resource}
@@ -7,10 +7,11 @@ use Rattle.cqs_plan.specs.declared.plans.plan.Plan.{Plan}
 use Rattle.cqs_plan.specs.Floor.{PlainFloor, opening_floor}
 use Rattle.cqs_turns.specs.declared.states.JobState.{JobState}
 use Rattle.cqs_turns.specs.declared.states.Progress.TheVariants.{Stepping}
-use Rattle.cqs_turns.specs.Lines.{ends_text}
-use Rattle.cqs_turns.specs.Report.{IsFrontOf}
+use Rattle.cqs_turns.specs.Lines.{ends_text, total_text}
+use Rattle.cqs_turns.specs.Report.{report_after}
+use Rattle.cqs_core.specs.Parts.{IsPrefix}
 use Rattle.cqs_turns.specs.Running.{IsOpening, AreOpening, machine_of}
-use Rattle.cqs_turns.specs.Turns.{opening_machine}
+use Rattle.cqs_turns.specs.Turns.{Machine, opening_machine}
 
 -- the resources before `at` have their lines, after the text at the start
 pub record EndingOn (resources : List Resource) (at : ℕ) (f : PlainFloor) (start now : List ℕ) : Type 0 where
@@ -36,8 +37,22 @@ opening-progress (state ∷ states) (suc n) same opening =
     = opening-progress states n (omega arith) (record { at = λ k s got. opening.at (suc k) s got }) in
     rw (first, rest) refl
 
-pub front-empty : (whole text : List ℕ) → text ≡ [] → IsFrontOf whole text
-front-empty whole text empty = record { rest = whole; joined = ap (λ t. t ++ whole) (sym empty) }
+pub prefix-empty : (whole text : List ℕ) → text ≡ [] → IsPrefix text whole
+prefix-empty whole text empty = (whole, ap (λ t. t ++ whole) (sym empty))
+
+-- a prefix of the lines of the turns and the resources is one of the whole report, and so is one of the lines of the
+-- turns alone
+pub prefix-ends : (plan : Plan) (m : Machine) (text : List ℕ)
+    → IsPrefix text (m.scene.text ++ ends_text plan.resources 0 m.scene.floor) → IsPrefix text (report_after plan m)
+prefix-ends plan m text below =
+    let totals : List ℕ = total_text m.progress in
+    (below.0 ++ totals, ap (λ t. t ++ totals) below.1 ∙ append_assoc text below.0 totals)
+
+pub prefix-turns : (plan : Plan) (m : Machine) (text : List ℕ) → IsPrefix text m.scene.text
+    → IsPrefix text (report_after plan m)
+prefix-turns plan m text below =
+    let lines : List ℕ = ends_text plan.resources 0 m.scene.floor in
+    prefix-ends plan m text (below.0 ++ lines, ap (λ t. t ++ lines) below.1 ∙ append_assoc text below.0 lines)
 
 -- the machine at the start of a run
 pub opens : (plan : Plan) (f : PlainFloor) (text : List ℕ) (states : List JobState) → f ≡ opening_floor plan → text ≡ []

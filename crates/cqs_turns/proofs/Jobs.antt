@@ -15,10 +15,10 @@ use Rattle.cqs_turns.specs.Ready.{HasRoom, steps_left}
 use Rattle.cqs_turns.specs.Roles.{scene}
 use Rattle.cqs_turns.specs.Running.{IsRunning, IsKept, machine_of, turn_at}
 use Rattle.cqs_turns.specs.States.{IsSet}
-use Rattle.cqs_turns.specs.Turns.{Role, Acted, Machine, acted, left_at, one_job, places_held}
+use Rattle.cqs_turns.specs.Turns.{Role, Acted, Machine, after_acting, left_at, one_job, places_held}
 use Rattle.cqs_turns.proofs.Mapped.{get-map}
 use Rattle.cqs_turns.proofs.RunningLemmas.{room-of, running-on}
-use Rattle.cqs_turns.proofs.Turned.{Turned, acted-turned}
+use Rattle.cqs_turns.proofs.Turned.{Turned, after_acting-turned}
 
 -- the job r, with this state, is about to act on a running machine
 pub record Acting (plan : Plan) (r : Role) (f : PlainFloor) (text : List ℕ) (states : List JobState) (state : JobState)
@@ -52,7 +52,7 @@ module _ (plan : Plan) (r : Role) (f : PlainFloor) (text : List ℕ) (states : L
 
   -- what the turn of the job is to the machine
   machine-turn : turn_at plan r.turn r.place (machine_of f text states)
-      ≡ turn_with r states (acted r state.progress (scene f text))
+      ≡ turn_with r states (after_acting r state.progress (scene f text))
   machine-turn =
       let m : Machine = machine_of f text states in
       let this_job : turn_at plan r.turn r.place m ≡ one_job plan.resources r.turn r.place r.job m
@@ -62,13 +62,13 @@ module _ (plan : Plan) (r : Role) (f : PlainFloor) (text : List ℕ) (states : L
       let its_progress : get_or (map (λ s. s.progress) states) r.place (Ended end.Done) ≡ state.progress
       = get_or_from_slice_get (map (λ (s : JobState). s.progress) states) r.place state.progress
       (Ended end.Done) its-progress in
-      this_job ∙ these_resources ∙ ap (λ p. turn_with r states (acted r p (scene f text))) its_progress
+      this_job ∙ these_resources ∙ ap (λ p. turn_with r states (after_acting r p (scene f text))) its_progress
 
-  its-turned : Turned r f (steps_left r.job.steps state.progress) (acted r state.progress (scene f text))
-  its-turned = acted-turned r state.progress (scene f text) acting-set.ready acting-room
+  its-turned : Turned r f (steps_left r.job.steps state.progress) (after_acting r state.progress (scene f text))
+  its-turned = after_acting-turned r state.progress (scene f text) acting-set.ready acting-room
 
   module _ (g : PlainFloor) (new : List ℕ) (after : JobState)
-      (acts : left_at (scene g new) after.progress ≡ acted r state.progress (scene f text)) where
+      (acts : left_at (scene g new) after.progress ≡ after_acting r state.progress (scene f text)) where
     machine-after : machine_of g new (set states r.place after)
         ≡ turn_with r states (left_at (scene g new) after.progress)
     machine-after =
@@ -80,8 +80,8 @@ module _ (plan : Plan) (r : Role) (f : PlainFloor) (text : List ℕ) (states : L
 
     pub acting-running : IsRunning plan (machine_of g new (set states r.place after))
     acting-running =
-        let turned : IsRunning plan (turn_with r states (acted r state.progress (scene f text)))
-        = running-on plan (machine_of f text states) r state.progress (acted r state.progress (scene f text))
+        let turned : IsRunning plan (turn_with r states (after_acting r state.progress (scene f text)))
+        = running-on plan (machine_of f text states) r state.progress (after_acting r state.progress (scene f text))
         acting.running acting.job its-progress its-turned in
         subst (IsRunning plan) (sym (machine-after ∙ ap (turn_with r states) acts)) turned
 
@@ -99,7 +99,7 @@ module _ (plan : Plan) (r : Role) (f : PlainFloor) (text : List ℕ) (states : L
         kept j s got (inr other) =
             let before : slice_get states j ≡ Some s
             = sym (get-set_else states r.place j after (λ e. other (sym e))) ∙ got in
-            let floor_after : g ≡ (acted r state.progress (scene f text)).scene.floor
+            let floor_after : g ≡ (after_acting r state.progress (scene f text)).scene.floor
             = ap (λ (a : Acted). a.scene.floor) acts in
             let unmoved : holds_of g j ≡ holds_of f j
             = ap (λ h. holds_of h j) floor_after ∙ its-turned.moves.holds j other in
@@ -124,14 +124,14 @@ acting-at plan r f text states place d resources there job runnable running kept
 module _ (plan : Plan) (r : Role) (f : PlainFloor) (text : List ℕ) (states : List JobState) (state : JobState)
     (acting : Acting plan r f text states state) (turn place : ℕ) (at_turn : r.turn ≡ turn) (there : r.place ≡ place)
     (g : PlainFloor) (new : List ℕ) (after : JobState) where
-  pub one-job-ok : left_at (scene g new) after.progress ≡ acted r state.progress (scene f text)
+  pub one-job-ok : left_at (scene g new) after.progress ≡ after_acting r state.progress (scene f text)
       → machine_of g new (set states place after) ≡ turn_at plan turn place (machine_of f text states)
   one-job-ok acts = rw (← there, ← at_turn) (acting-ok plan r f text states state acting g new after acts)
 
-  pub one-job-running : left_at (scene g new) after.progress ≡ acted r state.progress (scene f text)
+  pub one-job-running : left_at (scene g new) after.progress ≡ after_acting r state.progress (scene f text)
       → IsRunning plan (machine_of g new (set states place after))
   one-job-running acts = rw (← there) (acting-running plan r f text states state acting g new after acts)
 
-  pub one-job-kept : left_at (scene g new) after.progress ≡ acted r state.progress (scene f text)
+  pub one-job-kept : left_at (scene g new) after.progress ≡ after_acting r state.progress (scene f text)
       → after.held.items ≡ places_held g r.place → IsKept g (set states place after)
   one-job-kept acts held = rw (← there) (acting-kept plan r f text states state acting g new after acts held)

@@ -144,15 +144,15 @@ moves-entries place f at entries steps = record {
   room = λ q. omega arith;
 }
 
-pub taken-moves : (place : ℕ) (f : PlainFloor) (at : ℕ) (answer : FloorTake) (steps : List Step)
+pub on_take-moves : (place : ℕ) (f : PlainFloor) (at : ℕ) (answer : FloorTake) (steps : List Step)
     → HasRoom f (Take at ∷ steps) → Moves place f (Take at ∷ steps) (after_take f at place answer) steps
-taken-moves place f at (Now element) steps room =
+on_take-moves place f at (Now element) steps room =
     let less : PlainFloor = with_less_room f at in
     let told : PlainFloor = with_entries less at (entry.TakeNow 0 ∷ []) in
     moves-on place f (Take at ∷ steps) less steps _ steps (moves-room place f at steps (room-some f at steps room))
     (moves-on place less steps told steps _ steps (moves-entries place less at (entry.TakeNow 0 ∷ []) steps)
     (moves-holds place told (holds_of told place ++ record { at = at; element = element } ∷ []) steps))
-taken-moves place f at (Waits number) steps room =
+on_take-moves place f at (Waits number) steps room =
     let less : PlainFloor = with_less_room f at in
     let entries : List Entry = entry.TakeDoor 0 ∷ entry.Enter 0 number ∷ [] in
     let told : PlainFloor = with_entries less at entries in
@@ -160,18 +160,18 @@ taken-moves place f at (Waits number) steps room =
     (moves-on place less steps told steps _ steps (moves-entries place less at entries steps)
     (moves-wait place told (Some (record { at = at; number = number })) steps))
 
-given-by : (place : ℕ) (f : PlainFloor) (at : ℕ) (entries : List Entry) (steps : List Step)
+on_give-by : (place : ℕ) (f : PlainFloor) (at : ℕ) (entries : List Entry) (steps : List Step)
     → Moves place f steps (without_oldest (with_entries f at entries) place at) steps
-given-by place f at entries steps =
+on_give-by place f at entries steps =
     let told : PlainFloor = with_entries f at entries in
     moves-on place f steps told steps _ steps (moves-entries place f at entries steps)
     (moves-holds place told (without (λ h. h.at) at (holds_of told place)) steps)
 
-pub given-moves : (place : ℕ) (f : PlainFloor) (at : ℕ) (answer : FloorGive) (steps : List Step)
+pub on_give-moves : (place : ℕ) (f : PlainFloor) (at : ℕ) (answer : FloorGive) (steps : List Step)
     → Moves place f steps (after_give f at place answer) steps
-given-moves place f at (Free element) steps = given-by place f at (entry.GiveFreed 0 ∷ []) steps
-given-moves place f at (Sent element number) steps =
-    given-by place f at (entry.GiveSent 0 ∷ entry.Deliver number ∷ []) steps
+on_give-moves place f at (Free element) steps = on_give-by place f at (entry.GiveFreed 0 ∷ []) steps
+on_give-moves place f at (Sent element number) steps =
+    on_give-by place f at (entry.GiveSent 0 ∷ entry.Deliver number ∷ []) steps
 
 granted-moves : (place : ℕ) (f : PlainFloor) (entry_of : JobWait → Entry) (wait : Option JobWait) (element : ℕ)
     (steps : List Step) → Moves place f steps (with_granted f place entry_of wait element) steps
@@ -184,9 +184,9 @@ granted-moves place f entry_of (Some wait) element steps =
     (moves-on place told steps over steps _ steps (moves-wait place told None steps)
     (moves-holds place over (holds_of over place ++ record { at = wait.at; element = element } ∷ []) steps))
 
-pub looked-moves : (place : ℕ) (f : PlainFloor) (element : ℕ) (steps : List Step)
+pub after_looking-moves : (place : ℕ) (f : PlainFloor) (element : ℕ) (steps : List Step)
     → Moves place f steps (after_look f place (Granted element)) steps
-looked-moves place f element steps =
+after_looking-moves place f element steps =
     granted-moves place f (λ wait. entry.LookGranted 0 wait.number) (wait_of f place) element steps
 
 left-moves : (place : ℕ) (f : PlainFloor) (wait : Option JobWait) (steps : List Step)

@@ -18,34 +18,35 @@ use Rattle.cqs_turns.specs.declared.states.End.TheVariants as end
 use Rattle.cqs_turns.specs.declared.states.Progress.{Progress}
 use Rattle.cqs_turns.specs.declared.states.Progress.TheVariants.{Stepping, Working, Waiting, Ended}
 use Rattle.cqs_turns.specs.Lines.{is_crowded}
-use Rattle.cqs_turns.specs.Turns.{Role, Scene, Acted, Machine, made, took, stop_or, stepped, go_on, left_at, gave_up, looked, acted, is_due, one_job, each_job, machine_after}
+use Rattle.cqs_turns.specs.Turns.{Role, Scene, Acted, Machine, after_step, after_taking, stop_or, after_steps, go_on, left_at, after_giving_up, after_looking, after_acting, is_due, one_job, each_job, machine_after}
 
-stepped-stays : (r : Role) (steps : List Step) (next : ℕ) (s : Scene)
-    → is_crowded (stepped r steps next s).progress ≡ false
-stepped-stays r [] next s = refl
-stepped-stays r (Work turns ∷ steps) next s = refl
-stepped-stays r (Take at ∷ steps) next s =
-    answered (take_answer s.floor at r.place) (λ t. stepped-stays r steps (next + 1) t)
+after_steps-stays : (r : Role) (steps : List Step) (next : ℕ) (s : Scene)
+    → is_crowded (after_steps r steps next s).progress ≡ false
+after_steps-stays r [] next s = refl
+after_steps-stays r (Work turns ∷ steps) next s = refl
+after_steps-stays r (Take at ∷ steps) next s =
+    answered (take_answer s.floor at r.place) (λ t. after_steps-stays r steps (next + 1) t)
   where
-    answered : (answer : FloorTake) → ((t : Scene) → is_crowded (stepped r steps (next + 1) t).progress ≡ false)
-        → is_crowded (stop_or (took r next at answer s)
-        (stepped r steps (next + 1) (took r next at answer s).scene)).progress ≡ false
-    answered (Now element) onward = onward (took r next at (Now element) s).scene
+    answered : (answer : FloorTake) → ((t : Scene) → is_crowded (after_steps r steps (next + 1) t).progress ≡ false)
+        → is_crowded (stop_or (after_taking r next at answer s)
+        (after_steps r steps (next + 1) (after_taking r next at answer s).scene)).progress ≡ false
+    answered (Now element) onward = onward (after_taking r next at (Now element) s).scene
     answered (Waits number) onward = refl
-stepped-stays r (Give at ∷ steps) next s = stepped-stays r steps (next + 1) (made r next (Give at) s).scene
-stepped-stays r (Down at ∷ steps) next s = stepped-stays r steps (next + 1) s
-stepped-stays r (Await at ∷ steps) next s = stepped-stays r steps (next + 1) s
-stepped-stays r (Arrive at ∷ steps) next s = stepped-stays r steps (next + 1) s
+after_steps-stays r (Give at ∷ steps) next s
+    = after_steps-stays r steps (next + 1) (after_step r next (Give at) s).scene
+after_steps-stays r (Down at ∷ steps) next s = after_steps-stays r steps (next + 1) s
+after_steps-stays r (Await at ∷ steps) next s = after_steps-stays r steps (next + 1) s
+after_steps-stays r (Arrive at ∷ steps) next s = after_steps-stays r steps (next + 1) s
 
-gave_up-stays : (r : Role) (at number : ℕ) (answer : FloorLeave) (s : Scene)
-    → is_crowded (gave_up r at number answer s).progress ≡ false
-gave_up-stays r at number leave.Gone s = refl
-gave_up-stays r at number (leave.Late element) s = refl
+after_giving_up-stays : (r : Role) (at number : ℕ) (answer : FloorLeave) (s : Scene)
+    → is_crowded (after_giving_up r at number answer s).progress ≡ false
+after_giving_up-stays r at number leave.Gone s = refl
+after_giving_up-stays r at number (leave.Late element) s = refl
 
-looked-stays : (r : Role) (next at number : ℕ) (answer : FloorLook) (s : Scene)
-    → is_crowded (looked r next at number answer s).progress ≡ false
-looked-stays r next at number Pending s = refl
-looked-stays r next at number (Granted element) s = stepped-stays r (drop next r.job.steps) next _
+after_looking-stays : (r : Role) (next at number : ℕ) (answer : FloorLook) (s : Scene)
+    → is_crowded (after_looking r next at number answer s).progress ≡ false
+after_looking-stays r next at number Pending s = refl
+after_looking-stays r next at number (Granted element) s = after_steps-stays r (drop next r.job.steps) next _
 
 if-stays : (b : Bool) (a c : Acted) → is_crowded a.progress ≡ false → is_crowded c.progress ≡ false
     → is_crowded (if b then a else c).progress ≡ false
@@ -53,17 +54,18 @@ if-stays true a c here there = here
 if-stays false a c here there = there
 
 -- a job that isn't crowded isn't after its turn
-acted-stays : (r : Role) (p : Progress) (s : Scene) → is_crowded p ≡ false → is_crowded (acted r p s).progress ≡ false
-acted-stays r (Stepping next) s not = stepped-stays r (drop next r.job.steps) next s
-acted-stays r (Working next until) s not =
+after_acting-stays : (r : Role) (p : Progress) (s : Scene) → is_crowded p ≡ false
+    → is_crowded (after_acting r p s).progress ≡ false
+after_acting-stays r (Stepping next) s not = after_steps-stays r (drop next r.job.steps) next s
+after_acting-stays r (Working next until) s not =
     if-stays (nat_lt r.turn until) (left_at s (Working next until)) (go_on r next s) refl
-    (stepped-stays r (drop next r.job.steps) next s)
-acted-stays r (Waiting next at number) s not =
-    if-stays (is_due r.job.deadline r.turn) (gave_up r at number (leave_answer s.floor r.place) s)
-    (looked r next at number (look_answer s.floor r.place) s)
-    (gave_up-stays r at number (leave_answer s.floor r.place) s)
-    (looked-stays r next at number (look_answer s.floor r.place) s)
-acted-stays r (Ended end) s not = not
+    (after_steps-stays r (drop next r.job.steps) next s)
+after_acting-stays r (Waiting next at number) s not =
+    if-stays (is_due r.job.deadline r.turn) (after_giving_up r at number (leave_answer s.floor r.place) s)
+    (after_looking r next at number (look_answer s.floor r.place) s)
+    (after_giving_up-stays r at number (leave_answer s.floor r.place) s)
+    (after_looking-stays r next at number (look_answer s.floor r.place) s)
+after_acting-stays r (Ended end) s not = not
 
 -- how many of them are crowded
 abbrev crowded : List Progress → ℕ
@@ -111,8 +113,8 @@ each_job-stays resources turn place (job ∷ jobs) m none =
     let r : Role = record { resources = resources; turn = turn; place = place; job = job } in
     let p : Progress = slice_index_or m.progress place (Ended end.Done) in
     each_job-stays resources turn (place + 1) jobs (one_job resources turn place job m)
-    (none-set m.progress place (acted r p m.scene).progress none
-    (acted-stays r p m.scene (none-at m.progress place none)))
+    (none-set m.progress place (after_acting r p m.scene).progress none
+    (after_acting-stays r p m.scene (none-at m.progress place none)))
 
 none-opening : (n : ℕ) → crowded (replicate n (Stepping 0)) ≡ 0
 none-opening zero = refl

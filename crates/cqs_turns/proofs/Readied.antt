@@ -90,9 +90,9 @@ pub ready-to-end : (f : PlainFloor) (place : ℕ) (wait : Option JobWait) (steps
 ready-to-end f place wait steps ready =
     record { job = ready.job; waits = ready.waits; holdable = ready.holdable; makeable = tt }
 
-pub taken-ready : (f : PlainFloor) (place at element : ℕ) (steps : List Step)
+pub on_take-ready : (f : PlainFloor) (place at element : ℕ) (steps : List Step)
     → IsReady f place None (Take at ∷ steps) → IsReady (after_take f at place (Now element)) place None steps
-taken-ready f place at element steps ready =
+on_take-ready f place at element steps ready =
     let g : PlainFloor = after_take f at place (Now element) in
     let newest : Holding = record { at = at; element = element } in
     let job : IsJob g place = record {
@@ -118,64 +118,64 @@ waiting-ready f place at number steps ready =
     (holdable-push f.kinds (places_held f place) at ready.holdable ready.makeable.0) ready.makeable.1
 
 -- what a give leaves, where the job could give
-given-held : (f : PlainFloor) (place at : ℕ) (answer : FloorGive) → IsJob f place
+on_give-held : (f : PlainFloor) (place at : ℕ) (answer : FloorGive) → IsJob f place
     → places_held (after_give f at place answer) place ≡ without (λ p. p) at (places_held f place)
-given-held f place at (Free element) job = places-without f place at job
-given-held f place at (Sent element number) job = places-without f place at job
+on_give-held f place at (Free element) job = places-without f place at job
+on_give-held f place at (Sent element number) job = places-without f place at job
 
-given-job : (f : PlainFloor) (place at : ℕ) (answer : FloorGive) → IsJob f place
+on_give-job : (f : PlainFloor) (place at : ℕ) (answer : FloorGive) → IsJob f place
     → IsJob (after_give f at place answer) place
-given-job f place at (Free element) job = record {
+on_give-job f place at (Free element) job = record {
   waits = job.waits;
   holds = omega (arith, job.holds, length-set f.holds place (without (λ h. h.at) at (holds_of f place)));
 }
-given-job f place at (Sent element number) job = record {
+on_give-job f place at (Sent element number) job = record {
   waits = job.waits;
   holds = omega (arith, job.holds, length-set f.holds place (without (λ h. h.at) at (holds_of f place)));
 }
 
 -- what the job holds, as the code and the floor have it, after a give
-pub given-left : (f g : PlainFloor) (place at : ℕ) (answer : FloorGive) (held left : List ℕ) → IsJob f place
+pub on_give-left : (f g : PlainFloor) (place at : ℕ) (answer : FloorGive) (held left : List ℕ) → IsJob f place
     → held ≡ places_held f place → left ≡ without (λ p. p) at held → g ≡ after_give f at place answer
     → left ≡ places_held g place
-given-left f g place at answer held left job before fewer after =
-    fewer ∙ ap (without (λ p. p) at) before ∙ sym (given-held f place at answer job)
+on_give-left f g place at answer held left job before fewer after =
+    fewer ∙ ap (without (λ p. p) at) before ∙ sym (on_give-held f place at answer job)
     ∙ ap (λ h. places_held h place) (sym after)
 
-given-kinds : (f : PlainFloor) (place at : ℕ) (answer : FloorGive) → (after_give f at place answer).kinds ≡ f.kinds
-given-kinds f place at (Free element) = refl
-given-kinds f place at (Sent element number) = refl
+on_give-kinds : (f : PlainFloor) (place at : ℕ) (answer : FloorGive) → (after_give f at place answer).kinds ≡ f.kinds
+on_give-kinds f place at (Free element) = refl
+on_give-kinds f place at (Sent element number) = refl
 
-given-waits : (f : PlainFloor) (place at : ℕ) (answer : FloorGive) → (after_give f at place answer).waits ≡ f.waits
-given-waits f place at (Free element) = refl
-given-waits f place at (Sent element number) = refl
+on_give-waits : (f : PlainFloor) (place at : ℕ) (answer : FloorGive) → (after_give f at place answer).waits ≡ f.waits
+on_give-waits f place at (Free element) = refl
+on_give-waits f place at (Sent element number) = refl
 
-pub given-ready : (f : PlainFloor) (place at : ℕ) (answer : FloorGive) (steps : List Step)
+pub on_give-ready : (f : PlainFloor) (place at : ℕ) (answer : FloorGive) (steps : List Step)
     → IsReady f place None (Give at ∷ steps) → IsReady (after_give f at place answer) place None steps
-given-ready f place at answer steps ready =
+on_give-ready f place at answer steps ready =
     let g : PlainFloor = after_give f at place answer in
     let rest : List ℕ = without (λ p. p) at (places_held f place) in
-    ready-at g place None steps rest (given-job f place at answer ready.job)
-    (ap (λ waits. get_or waits place None) (given-waits f place at answer) ∙ ready.waits)
-    (given-held f place at answer ready.job)
-    (rw (given-kinds f place at answer) (holdable-without f.kinds at (places_held f place) ready.holdable))
-    (rw (given-kinds f place at answer) ready.makeable.1)
+    ready-at g place None steps rest (on_give-job f place at answer ready.job)
+    (ap (λ waits. get_or waits place None) (on_give-waits f place at answer) ∙ ready.waits)
+    (on_give-held f place at answer ready.job)
+    (rw (on_give-kinds f place at answer) (holdable-without f.kinds at (places_held f place) ready.holdable))
+    (rw (on_give-kinds f place at answer) ready.makeable.1)
 
 -- a job gives back the oldest of all
 pub first-given : (f : PlainFloor) (place at : ℕ) (rest : List ℕ) (answer : FloorGive) → IsJob f place
     → places_held f place ≡ at ∷ rest → places_held (after_give f at place answer) place ≡ rest
 first-given f place at rest answer job first =
-    given-held f place at answer job ∙ ap (without (λ p. p) at) first ∙ without-head at rest
+    on_give-held f place at answer job ∙ ap (without (λ p. p) at) first ∙ without-head at rest
 
 pub first-ready : (f : PlainFloor) (place at : ℕ) (answer : FloorGive)
     → IsReady f place None [] → IsReady (after_give f at place answer) place None []
 first-ready f place at answer ready =
     let g : PlainFloor = after_give f at place answer in
     let rest : List ℕ = without (λ p. p) at (places_held f place) in
-    ready-at g place None [] rest (given-job f place at answer ready.job)
-    (ap (λ waits. get_or waits place None) (given-waits f place at answer) ∙ ready.waits)
-    (given-held f place at answer ready.job)
-    (rw (given-kinds f place at answer) (holdable-without f.kinds at (places_held f place) ready.holdable))
+    ready-at g place None [] rest (on_give-job f place at answer ready.job)
+    (ap (λ waits. get_or waits place None) (on_give-waits f place at answer) ∙ ready.waits)
+    (on_give-held f place at answer ready.job)
+    (rw (on_give-kinds f place at answer) (holdable-without f.kinds at (places_held f place) ready.holdable))
     tt
 
 -- what was waited for came
@@ -201,9 +201,9 @@ granted-ready f place entry_of wait element steps ready =
     let Goes : Option JobWait → Type 0 = λ o. IsReady (with_granted f place entry_of o element) place None steps in
     subst Goes (sym ready.waits) (came-ready f place entry_of wait element steps ready)
 
-pub looked-ready : (f : PlainFloor) (place : ℕ) (wait : JobWait) (element : ℕ) (steps : List Step)
+pub after_looking-ready : (f : PlainFloor) (place : ℕ) (wait : JobWait) (element : ℕ) (steps : List Step)
     → IsReady f place (Some wait) steps → IsReady (after_look f place (Granted element)) place None steps
-looked-ready f place wait element steps ready =
+after_looking-ready f place wait element steps ready =
     granted-ready f place (λ w. entry.LookGranted 0 w.number) wait element steps ready
 
 went-ready : (f : PlainFloor) (place : ℕ) (wait : JobWait) (steps : List Step)

@@ -17,33 +17,35 @@ use Rattle.cqs_turns.specs.declared.states.Progress.{Progress}
 use Rattle.cqs_turns.specs.declared.states.Progress.TheVariants.{Stepping, Working, Waiting, Ended}
 use Rattle.cqs_turns.specs.Ready.{IsReady, HasRoom, wait_in, steps_left}
 use Rattle.cqs_turns.specs.Roles.{wait_at}
-use Rattle.cqs_turns.specs.Turns.{Role, Scene, Made, Acted, event, given, given_back, made, took, stop_or, stepped, go_on, left_at, finished, cancelled, gave_up, looked, acted, is_due, places_held}
-use Rattle.cqs_turns.proofs.Moved.{Moves, moves-fewer, moves-none, moves-on, given-moves, leave-moves, looked-moves, room-after}
-use Rattle.cqs_turns.proofs.Readied.{first-ready, leave-ready, looked-ready}
-use Rattle.cqs_turns.proofs.Stepping.{made-ready, made-moves}
+use Rattle.cqs_turns.specs.Turns.{Role, Scene, Made, Acted, event, on_give, after_gives, after_step, after_taking, stop_or, after_steps, go_on, left_at, after_last_step, on_leave, after_giving_up, after_looking, after_acting, is_due, places_held}
+use Rattle.cqs_turns.proofs.Moved.{Moves, moves-fewer, moves-none, moves-on, on_give-moves, leave-moves, after_looking-moves, room-after}
+use Rattle.cqs_turns.proofs.Readied.{first-ready, leave-ready, after_looking-ready}
+use Rattle.cqs_turns.proofs.Stepping.{after_step-ready, after_step-moves}
 
 -- the job that had these steps left on the floor f is ready, and the floor has moved for it alone
 pub record Turned (r : Role) (f : PlainFloor) (steps : List Step) (a : Acted) : Type 0 where
   pub ready : IsReady a.scene.floor r.place (wait_in a.progress) (steps_left r.job.steps a.progress)
   pub moves : Moves r.place f steps a.scene.floor (steps_left r.job.steps a.progress)
 
-given_back-ready : (r : Role) (places : List ℕ) (s : Scene) → IsReady s.floor r.place None []
-    → IsReady (given_back r places s).floor r.place None []
-given_back-ready r [] s ready = ready
-given_back-ready r (at ∷ places) s ready =
-    given_back-ready r places (given r at s) (first-ready s.floor r.place at (give_answer s.floor at r.place) ready)
+after_gives-ready : (r : Role) (places : List ℕ) (s : Scene) → IsReady s.floor r.place None []
+    → IsReady (after_gives r places s).floor r.place None []
+after_gives-ready r [] s ready = ready
+after_gives-ready r (at ∷ places) s ready =
+    after_gives-ready r places (on_give r at s) (first-ready s.floor r.place at (give_answer s.floor at r.place) ready)
 
-given_back-moves : (r : Role) (places : List ℕ) (s : Scene) → Moves r.place s.floor [] (given_back r places s).floor []
-given_back-moves r [] s = moves-none r.place s.floor []
-given_back-moves r (at ∷ places) s =
-    moves-on r.place s.floor [] (given r at s).floor [] _ []
-    (given-moves r.place s.floor at (give_answer s.floor at r.place) [])
-    (given_back-moves r places (given r at s))
+after_gives-moves : (r : Role) (places : List ℕ) (s : Scene)
+    → Moves r.place s.floor [] (after_gives r places s).floor []
+after_gives-moves r [] s = moves-none r.place s.floor []
+after_gives-moves r (at ∷ places) s =
+    moves-on r.place s.floor [] (on_give r at s).floor [] _ []
+    (on_give-moves r.place s.floor at (give_answer s.floor at r.place) [])
+    (after_gives-moves r places (on_give r at s))
 
-finished-turned : (r : Role) (s : Scene) → IsReady s.floor r.place None [] → Turned r s.floor [] (finished r s)
-finished-turned r s ready = record {
-  ready = given_back-ready r (places_held s.floor r.place) s ready;
-  moves = given_back-moves r (places_held s.floor r.place) s;
+after_last_step-turned : (r : Role) (s : Scene) → IsReady s.floor r.place None []
+    → Turned r s.floor [] (after_last_step r s)
+after_last_step-turned r s ready = record {
+  ready = after_gives-ready r (places_held s.floor r.place) s ready;
+  moves = after_gives-moves r (places_held s.floor r.place) s;
 }
 
 -- the steps after the first
@@ -53,14 +55,15 @@ rest-of n steps step rest split = sym (drop-drop 1 n steps) ∙ ap (drop 1) spli
 
 -- where the job's turn ends with a step, the steps after it are left
 stops-before : (r : Role) (next : ℕ) (step : Step) (rest : List Step) (s : Scene) (p : Progress)
-    → drop (next + 1) r.job.steps ≡ rest → (made r next step s).stops ≡ Some p → steps_left r.job.steps p ≡ rest
+    → drop (next + 1) r.job.steps ≡ rest → (after_step r next step s).stops ≡ Some p → steps_left r.job.steps p ≡ rest
 stops-before r next (Work turns) rest s p after stops =
     let same : p ≡ Working (next + 1) (r.turn + turns) = cc in rw same after
-stops-before r next (Take at) rest s p after stops = took-stops (take_answer s.floor at r.place) stops
+stops-before r next (Take at) rest s p after stops = after_taking-stops (take_answer s.floor at r.place) stops
   where
-    took-stops : (answer : FloorTake) → (took r next at answer s).stops ≡ Some p → steps_left r.job.steps p ≡ rest
-    took-stops (Now element) none = absurd (cc)
-    took-stops (Waits number) some = let same : p ≡ Waiting (next + 1) at number = cc in rw same after
+    after_taking-stops : (answer : FloorTake) → (after_taking r next at answer s).stops ≡ Some p
+        → steps_left r.job.steps p ≡ rest
+    after_taking-stops (Now element) none = absurd (cc)
+    after_taking-stops (Waits number) some = let same : p ≡ Waiting (next + 1) at number = cc in rw same after
 stops-before r next (Give at) rest s p after stops = absurd (cc)
 stops-before r next (Down at) rest s p after stops = absurd (cc)
 stops-before r next (Await at) rest s p after stops = absurd (cc)
@@ -77,18 +80,18 @@ stop-turned r scene (Some p) onward rest ready left goes = record {
   moves = rw (left p refl) (moves-none r.place scene.floor rest);
 }
 
-pub stepped-turned : (r : Role) (steps : List Step) (next : ℕ) (s : Scene) → drop next r.job.steps ≡ steps
-    → IsReady s.floor r.place None steps → HasRoom s.floor steps → Turned r s.floor steps (stepped r steps next s)
-stepped-turned r [] next s split ready room = finished-turned r s ready
-stepped-turned r (step ∷ rest) next s split ready room =
-    let m : Made = made r next step s in
-    let onward : Acted = stepped r rest (next + 1) m.scene in
+pub after_steps-turned : (r : Role) (steps : List Step) (next : ℕ) (s : Scene) → drop next r.job.steps ≡ steps
+    → IsReady s.floor r.place None steps → HasRoom s.floor steps → Turned r s.floor steps (after_steps r steps next s)
+after_steps-turned r [] next s split ready room = after_last_step-turned r s ready
+after_steps-turned r (step ∷ rest) next s split ready room =
+    let m : Made = after_step r next step s in
+    let onward : Acted = after_steps r rest (next + 1) m.scene in
     let after : drop (next + 1) r.job.steps ≡ rest = rest-of next r.job.steps step rest split in
-    let moved : Moves r.place s.floor (step ∷ rest) m.scene.floor rest = made-moves r next step rest s room in
+    let moved : Moves r.place s.floor (step ∷ rest) m.scene.floor rest = after_step-moves r next step rest s room in
     let waits : IsReady m.scene.floor r.place (option_map_or wait_in m.stops None) rest
-    = made-ready r next step rest s ready in
+    = after_step-ready r next step rest s ready in
     let goes : m.stops ≡ None → Turned r m.scene.floor rest onward = λ none.
-    stepped-turned r rest (next + 1) m.scene after (rw none at waits)
+    after_steps-turned r rest (next + 1) m.scene after (rw none at waits)
     (room-after r.place s.floor (step ∷ rest) m.scene.floor rest moved room) in
     let turned : Turned r m.scene.floor rest (stop_or m onward)
     = stop-turned r m.scene m.stops onward rest waits (λ p. stops-before r next step rest s p after) goes in
@@ -102,32 +105,34 @@ turned-if : (r : Role) (f : PlainFloor) (steps : List Step) (b : Bool) (a c : Ac
 turned-if r f steps true a c here there = here
 turned-if r f steps false a c here there = there
 
-gave_up-turned : (r : Role) (at number : ℕ) (answer : FloorLeave) (s : Scene) (steps : List Step)
-    → IsReady s.floor r.place (Some (wait_at at number)) steps → Turned r s.floor steps (gave_up r at number answer s)
-gave_up-turned r at number answer s steps ready =
-    let e : Scene = cancelled r at number answer s in
+after_giving_up-turned : (r : Role) (at number : ℕ) (answer : FloorLeave) (s : Scene) (steps : List Step)
+    → IsReady s.floor r.place (Some (wait_at at number)) steps
+    → Turned r s.floor steps (after_giving_up r at number answer s)
+after_giving_up-turned r at number answer s steps ready =
+    let e : Scene = on_leave r at number answer s in
     let f : PlainFloor = s.floor in
     record {
-      ready = given_back-ready r (places_held e.floor r.place) e
+      ready = after_gives-ready r (places_held e.floor r.place) e
           (leave-ready f r.place (wait_at at number) answer steps ready);
       moves = moves-on r.place f steps f [] _ [] (moves-fewer r.place f steps [] (λ q. omega arith))
           (moves-on r.place f [] e.floor [] _ [] (leave-moves r.place f answer [])
-          (given_back-moves r (places_held e.floor r.place) e));
+          (after_gives-moves r (places_held e.floor r.place) e));
     }
 
-looked-turned : (r : Role) (next at number : ℕ) (answer : FloorLook) (s : Scene)
+after_looking-turned : (r : Role) (next at number : ℕ) (answer : FloorLook) (s : Scene)
     → IsReady s.floor r.place (Some (wait_at at number)) (drop next r.job.steps)
     → HasRoom s.floor (drop next r.job.steps)
-    → Turned r s.floor (drop next r.job.steps) (looked r next at number answer s)
-looked-turned r next at number Pending s ready room =
+    → Turned r s.floor (drop next r.job.steps) (after_looking r next at number answer s)
+after_looking-turned r next at number Pending s ready room =
     record { ready = ready; moves = moves-none r.place s.floor (drop next r.job.steps) }
-looked-turned r next at number (Granted element) s ready room =
+after_looking-turned r next at number (Granted element) s ready room =
     let steps : List Step = drop next r.job.steps in
     let g : PlainFloor = after_look s.floor r.place (Granted element) in
     let e : Scene = event r s g (told.Served at number) in
-    let moved : Moves r.place s.floor steps g steps = looked-moves r.place s.floor element steps in
-    let turned : Turned r g steps (stepped r steps next e)
-    = stepped-turned r steps next e refl (looked-ready s.floor r.place (wait_at at number) element steps ready)
+    let moved : Moves r.place s.floor steps g steps = after_looking-moves r.place s.floor element steps in
+    let turned : Turned r g steps (after_steps r steps next e)
+    = after_steps-turned r steps next e refl
+    (after_looking-ready s.floor r.place (wait_at at number) element steps ready)
     (room-after r.place s.floor steps g steps moved room) in
     record {
       ready = turned.ready;
@@ -135,19 +140,20 @@ looked-turned r next at number (Granted element) s ready room =
     }
 
 -- the turn of a job
-pub acted-turned : (r : Role) (p : Progress) (s : Scene)
+pub after_acting-turned : (r : Role) (p : Progress) (s : Scene)
     → IsReady s.floor r.place (wait_in p) (steps_left r.job.steps p) → HasRoom s.floor (steps_left r.job.steps p)
-    → Turned r s.floor (steps_left r.job.steps p) (acted r p s)
-acted-turned r (Stepping next) s ready room = stepped-turned r (drop next r.job.steps) next s refl ready room
-acted-turned r (Working next until) s ready room =
+    → Turned r s.floor (steps_left r.job.steps p) (after_acting r p s)
+after_acting-turned r (Stepping next) s ready room = after_steps-turned r (drop next r.job.steps) next s refl ready room
+after_acting-turned r (Working next until) s ready room =
     let steps : List Step = drop next r.job.steps in
     turned-if r s.floor steps (nat_lt r.turn until) (left_at s (Working next until)) (go_on r next s)
     (record { ready = ready; moves = moves-none r.place s.floor steps })
-    (stepped-turned r steps next s refl ready room)
-acted-turned r (Waiting next at number) s ready room =
+    (after_steps-turned r steps next s refl ready room)
+after_acting-turned r (Waiting next at number) s ready room =
     let steps : List Step = drop next r.job.steps in
     turned-if r s.floor steps (is_due r.job.deadline r.turn)
-    (gave_up r at number (leave_answer s.floor r.place) s) (looked r next at number (look_answer s.floor r.place) s)
-    (gave_up-turned r at number (leave_answer s.floor r.place) s steps ready)
-    (looked-turned r next at number (look_answer s.floor r.place) s ready room)
-acted-turned r (Ended end) s ready room = record { ready = ready; moves = moves-none r.place s.floor [] }
+    (after_giving_up r at number (leave_answer s.floor r.place) s)
+    (after_looking r next at number (look_answer s.floor r.place) s)
+    (after_giving_up-turned r at number (leave_answer s.floor r.place) s steps ready)
+    (after_looking-turned r next at number (look_answer s.floor r.place) s ready room)
+after_acting-turned r (Ended end) s ready room = record { ready = ready; moves = moves-none r.place s.floor [] }

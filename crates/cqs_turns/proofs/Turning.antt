@@ -6,10 +6,10 @@ use Rattle.std.proofs.lemmas.Option.{get_or_from_slice_get}
 use Rattle.cqs_core.proofs.Places.{get-there, get-below}
 use Rattle.cqs_plan.specs.declared.plans.job.Job.{Job}
 use Rattle.cqs_plan.specs.declared.plans.plan.Plan.{Plan}
-use Rattle.cqs_turns.specs.Report.{IsFrontOf}
+use Rattle.cqs_core.specs.Parts.{IsPrefix}
 use Rattle.cqs_turns.specs.Running.{turn_at}
 use Rattle.cqs_turns.specs.Turns.{Machine, one_job, each_job, one_turn}
-use Rattle.cqs_turns.proofs.Growth.{front-through, each_job-grows}
+use Rattle.cqs_turns.proofs.Growth.{prefix-through, each_job-grows}
 
 -- the jobs before `place` have had their turns since the start
 pub record TurningOn (plan : Plan) (turn place : ℕ) (start now : Machine) : Type 0 where
@@ -39,11 +39,11 @@ turns_on plan turn place start now after on below same = record {
       ∙ turn-unrolled plan turn place start now on below;
 }
 
-pub turning_front : (plan : Plan) (turn place : ℕ) (start now : Machine) (text : List ℕ)
+pub turning_prefix : (plan : Plan) (turn place : ℕ) (start now : Machine) (text : List ℕ)
     → TurningOn plan turn place start now → place < length plan.jobs
-    → IsFrontOf (turn_at plan turn place now).scene.text text → IsFrontOf (one_turn plan turn start).scene.text text
-turning_front plan turn place start now text on below front =
+    → IsPrefix text (turn_at plan turn place now).scene.text → IsPrefix text (one_turn plan turn start).scene.text
+turning_prefix plan turn place start now text on below prefix =
     let after : Machine = turn_at plan turn place now in
     rw (← turn-unrolled plan turn place start now on below)
-    (front-through _ after.scene.text text
-    (each_job-grows plan.resources turn (place + 1) (drop (place + 1) plan.jobs) after) front)
+    (prefix-through _ after.scene.text text
+    (each_job-grows plan.resources turn (place + 1) (drop (place + 1) plan.jobs) after) prefix)

@@ -29,15 +29,15 @@ pub record Role : Type 0 where
 pub record World (S : Type 0) : Type 0 where
   -- a take at a place; it has no answer where it is turned away
   pub take_answer : Role → ℕ → S → Option FloorTake
-  pub took : Role → ℕ → Option FloorTake → S → S
+  pub after_take : Role → ℕ → Option FloorTake → S → S
   -- a give at a place
-  pub gave : Role → ℕ → S → S
+  pub after_give : Role → ℕ → S → S
   -- a look at the wait at a place, under a number
   pub look_answer : Role → S → FloorLook
-  pub looked : Role → ℕ → ℕ → FloorLook → S → S
+  pub after_look : Role → ℕ → ℕ → FloorLook → S → S
   -- the cancelling of the wait at a place, under a number
   pub leave_answer : Role → S → FloorLeave
-  pub left : Role → ℕ → ℕ → FloorLeave → S → S
+  pub after_leave : Role → ℕ → ℕ → FloorLeave → S → S
   -- the job is done
   pub done : Role → S → S
   -- the places of what a job holds, oldest first
@@ -85,75 +85,76 @@ module _ {S : Type 0} where
 
 module _ {S : Type 0} (w : World S) where
   -- the job gives back one after the other
-  abbrev pub given_back : Role → List ℕ → S → S
-  given_back r [] s = s
-  given_back r (at ∷ places) s = given_back r places (w.gave r at s)
+  abbrev pub after_gives : Role → List ℕ → S → S
+  after_gives r [] s = s
+  after_gives r (at ∷ places) s = after_gives r places (w.after_give r at s)
 
   -- the job gives back all that it holds, oldest first
-  abbrev pub given_all : Role → S → S
-  given_all r s = given_back r (w.held r.place s) s
+  abbrev pub after_all_gives : Role → S → S
+  after_all_gives r s = after_gives r (w.held r.place s) s
 
   -- after its last step the job gives back all that it holds, and is done
-  abbrev pub finished : Role → S → ActedIn S
-  finished r s = left_at (w.done r (given_all r s)) (Ended end.Done)
+  abbrev pub after_last_step : Role → S → ActedIn S
+  after_last_step r s = left_at (w.done r (after_all_gives r s)) (Ended end.Done)
 
   -- a `take`, whose answer is this; a job that is turned away has ended
-  abbrev pub took : Role → ℕ → ℕ → Option FloorTake → S → MadeIn S
-  took r next at (Some (Now element)) s =
-      record { scene = w.took r at (Some (Now element)) s; stops = None }
-  took r next at (Some (Waits number)) s =
+  abbrev pub after_taking : Role → ℕ → ℕ → Option FloorTake → S → MadeIn S
+  after_taking r next at (Some (Now element)) s =
+      record { scene = w.after_take r at (Some (Now element)) s; stops = None }
+  after_taking r next at (Some (Waits number)) s =
       record {
-        scene = w.took r at (Some (Waits number)) s;
+        scene = w.after_take r at (Some (Waits number)) s;
         stops = Some (Waiting (next + 1) at number);
       }
-  took r next at None s = record { scene = w.took r at None s; stops = Some (Ended end.Crowded) }
+  after_taking r next at None s
+      = record { scene = w.after_take r at None s; stops = Some (Ended end.Crowded) }
 
   -- a step: `work` ends the job's turn, and so does a `take` that must wait
-  abbrev pub made : Role → ℕ → Step → S → MadeIn S
-  made r next (Work turns) s =
+  abbrev pub after_step : Role → ℕ → Step → S → MadeIn S
+  after_step r next (Work turns) s =
       record { scene = s; stops = Some (Working (next + 1) (r.turn + turns)) }
-  made r next (Take at) s = took r next at (w.take_answer r at s) s
-  made r next (Give at) s = record { scene = w.gave r at s; stops = None }
-  made r next (Down at) s = record { scene = s; stops = None }
-  made r next (Await at) s = record { scene = s; stops = None }
-  made r next (Arrive at) s = record { scene = s; stops = None }
+  after_step r next (Take at) s = after_taking r next at (w.take_answer r at s) s
+  after_step r next (Give at) s = record { scene = w.after_give r at s; stops = None }
+  after_step r next (Down at) s = record { scene = s; stops = None }
+  after_step r next (Await at) s = record { scene = s; stops = None }
+  after_step r next (Arrive at) s = record { scene = s; stops = None }
 
   -- the job makes these steps one after the other; the first one's place is `next`
-  abbrev pub stepped : Role → List Step → ℕ → S → ActedIn S
-  stepped r [] next s = finished r s
-  stepped r (step ∷ steps) next s =
-      let m = made r next step s in stop_or m (stepped r steps (next + 1) m.scene)
+  abbrev pub after_steps : Role → List Step → ℕ → S → ActedIn S
+  after_steps r [] next s = after_last_step r s
+  after_steps r (step ∷ steps) next s =
+      let m = after_step r next step s in stop_or m (after_steps r steps (next + 1) m.scene)
 
   -- the job goes to its next step
   abbrev pub go_on : Role → ℕ → S → ActedIn S
-  go_on r next s = stepped r (drop next r.job.steps) next s
+  go_on r next s = after_steps r (drop next r.job.steps) next s
 
   -- the job gives up: it cancels its wait, gives back all that it holds, and has ended
-  abbrev pub gave_up : Role → ℕ → ℕ → FloorLeave → S → ActedIn S
-  gave_up r at number answer s =
-      left_at (given_all r (w.left r at number answer s)) (Ended (end_of answer))
+  abbrev pub after_giving_up : Role → ℕ → ℕ → FloorLeave → S → ActedIn S
+  after_giving_up r at number answer s =
+      left_at (after_all_gives r (w.after_leave r at number answer s)) (Ended (end_of answer))
 
   -- the job looks: while its wait is pending its turn is over
-  abbrev pub looked : Role → ℕ → ℕ → ℕ → FloorLook → S → ActedIn S
-  looked r next at number Pending s =
-      left_at (w.looked r at number Pending s) (Waiting next at number)
-  looked r next at number (Granted element) s =
-      go_on r next (w.looked r at number (Granted element) s)
+  abbrev pub after_looking : Role → ℕ → ℕ → ℕ → FloorLook → S → ActedIn S
+  after_looking r next at number Pending s =
+      left_at (w.after_look r at number Pending s) (Waiting next at number)
+  after_looking r next at number (Granted element) s =
+      go_on r next (w.after_look r at number (Granted element) s)
 
   -- the turn of a job
-  abbrev pub acted : Role → Progress → S → ActedIn S
-  acted r (Stepping next) s = go_on r next s
-  acted r (Working next until) s =
+  abbrev pub after_acting : Role → Progress → S → ActedIn S
+  after_acting r (Stepping next) s = go_on r next s
+  after_acting r (Working next until) s =
       if nat_lt r.turn until then left_at s (Working next until) else go_on r next s
-  acted r (Waiting next at number) s =
-      if is_due r.job.deadline r.turn then gave_up r at number (w.leave_answer r s) s
-      else looked r next at number (w.look_answer r s) s
-  acted r (Ended end) s = left_at s (Ended end)
+  after_acting r (Waiting next at number) s =
+      if is_due r.job.deadline r.turn then after_giving_up r at number (w.leave_answer r s) s
+      else after_looking r next at number (w.look_answer r s) s
+  after_acting r (Ended end) s = left_at s (Ended end)
 
   -- the job at a place has its turn
   abbrev pub one_job : List Resource → ℕ → ℕ → Job → MachineIn S → MachineIn S
   one_job resources turn place job m =
-      let a = acted (record { resources = resources; turn = turn; place = place; job = job })
+      let a = after_acting (record { resources = resources; turn = turn; place = place; job = job })
       (slice_index_or m.progress place (Ended end.Done)) m.scene in
       record { scene = a.scene; progress = slice_set m.progress place a.progress }
 

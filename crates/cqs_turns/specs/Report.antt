@@ -1,5 +1,5 @@
 -- The report of a plan: the lines of its turns, then a line for each resource, then the totals.
-use Rattle.std.specs.Prelude.{◌≡◌, ℕ, List, ◌++◌}
+use Rattle.std.specs.Prelude.{ℕ, List, ◌++◌}
 use Rattle.cqs_plan.specs.declared.plans.plan.Plan.{Plan}
 use Rattle.cqs_turns.specs.Lines.{ends_text, total_text}
 use Rattle.cqs_turns.specs.Turns.{Machine, machine_after}
@@ -12,8 +12,3 @@ report_after plan m =
 -- the report of a plan
 abbrev pub report_of : Plan → List ℕ
 report_of plan = report_after plan (machine_after plan plan.turns)
-
--- the text is the first part of the whole
-pub record IsFrontOf (whole text : List ℕ) : Type 0 where
-  pub rest : List ℕ
-  pub joined : whole ≡ text ++ rest

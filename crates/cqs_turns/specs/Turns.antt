@@ -48,16 +48,17 @@ leave_told at number leave.Gone = told.GaveUp at number
 leave_told at number (leave.Late element) = told.Late at number
 
 -- the job takes
-abbrev pub taken : Role → ℕ → FloorTake → Scene → Scene
-taken r at answer s = event r s (after_take s.floor at r.place answer) (take_told at answer)
+abbrev pub on_take : Role → ℕ → FloorTake → Scene → Scene
+on_take r at answer s = event r s (after_take s.floor at r.place answer) (take_told at answer)
 
 -- the job gives back the oldest that it holds of a resource, and this is the floor's answer
-abbrev pub given_by : Role → ℕ → FloorGive → Scene → Scene
-given_by r at answer s = event r s (after_give s.floor at r.place answer) (give_told at answer)
+abbrev pub on_give_answer : Role → ℕ → FloorGive → Scene → Scene
+on_give_answer r at answer s
+    = event r s (after_give s.floor at r.place answer) (give_told at answer)
 
 -- the job gives back the oldest that it holds of a resource
-abbrev pub given : Role → ℕ → Scene → Scene
-given r at s = given_by r at (give_answer s.floor at r.place) s
+abbrev pub on_give : Role → ℕ → Scene → Scene
+on_give r at s = on_give_answer r at (give_answer s.floor at r.place) s
 
 -- the places of what the job holds, oldest first
 abbrev pub places_held : PlainFloor → ℕ → List ℕ
@@ -65,31 +66,31 @@ places_held f job = map (λ h. h.at) (holds_of f job)
 
 -- the job cancels its wait: the wait is gone, or too late, and then the job
 -- holds what came as its newest
-abbrev pub cancelled : Role → ℕ → ℕ → FloorLeave → Scene → Scene
-cancelled r at number answer s =
+abbrev pub on_leave : Role → ℕ → ℕ → FloorLeave → Scene → Scene
+on_leave r at number answer s =
     event r s (after_leave s.floor r.place answer) (leave_told at number answer)
 
 -- what a look leaves of the scene
-abbrev pub seen_by : Role → ℕ → ℕ → FloorLook → Scene → Scene
-seen_by r at number Pending s = s
-seen_by r at number (Granted element) s =
+abbrev pub on_look : Role → ℕ → ℕ → FloorLook → Scene → Scene
+on_look r at number Pending s = s
+on_look r at number (Granted element) s =
     event r s (after_look s.floor r.place (Granted element)) (told.Served at number)
 
 -- what an answered take leaves of the scene; the plain floor turns nobody away
-abbrev pub taken_or : Role → ℕ → Option FloorTake → Scene → Scene
-taken_or r at None s = s
-taken_or r at (Some answer) s = taken r at answer s
+abbrev pub on_take_answer : Role → ℕ → Option FloorTake → Scene → Scene
+on_take_answer r at None s = s
+on_take_answer r at (Some answer) s = on_take r at answer s
 
 -- the plain floor answers the calls, and each event has its line
 abbrev pub plain_world : World Scene
 plain_world = record {
   take_answer = λ r at s. Some (take_answer s.floor at r.place);
-  took = taken_or;
-  gave = given;
+  after_take = on_take_answer;
+  after_give = on_give;
   look_answer = λ r s. look_answer s.floor r.place;
-  looked = seen_by;
+  after_look = on_look;
   leave_answer = λ r s. leave_answer s.floor r.place;
-  left = cancelled;
+  after_leave = on_leave;
   done = λ r s. event r s s.floor told.Done;
   held = λ job s. places_held s.floor job;
 }
@@ -104,35 +105,36 @@ Made = MadeIn Scene
 abbrev pub Machine : Type 0
 Machine = MachineIn Scene
 
-abbrev pub given_back : Role → List ℕ → Scene → Scene
-given_back r places s = machine.given_back plain_world r places s
+abbrev pub after_gives : Role → List ℕ → Scene → Scene
+after_gives r places s = machine.after_gives plain_world r places s
 
-abbrev pub given_all : Role → Scene → Scene
-given_all r s = machine.given_all plain_world r s
+abbrev pub after_all_gives : Role → Scene → Scene
+after_all_gives r s = machine.after_all_gives plain_world r s
 
-abbrev pub finished : Role → Scene → Acted
-finished r s = machine.finished plain_world r s
+abbrev pub after_last_step : Role → Scene → Acted
+after_last_step r s = machine.after_last_step plain_world r s
 
-abbrev pub took : Role → ℕ → ℕ → FloorTake → Scene → Made
-took r next at answer s = machine.took plain_world r next at (Some answer) s
+abbrev pub after_taking : Role → ℕ → ℕ → FloorTake → Scene → Made
+after_taking r next at answer s = machine.after_taking plain_world r next at (Some answer) s
 
-abbrev pub made : Role → ℕ → Step → Scene → Made
-made r next step s = machine.made plain_world r next step s
+abbrev pub after_step : Role → ℕ → Step → Scene → Made
+after_step r next step s = machine.after_step plain_world r next step s
 
-abbrev pub stepped : Role → List Step → ℕ → Scene → Acted
-stepped r steps next s = machine.stepped plain_world r steps next s
+abbrev pub after_steps : Role → List Step → ℕ → Scene → Acted
+after_steps r steps next s = machine.after_steps plain_world r steps next s
 
 abbrev pub go_on : Role → ℕ → Scene → Acted
 go_on r next s = machine.go_on plain_world r next s
 
-abbrev pub gave_up : Role → ℕ → ℕ → FloorLeave → Scene → Acted
-gave_up r at number answer s = machine.gave_up plain_world r at number answer s
+abbrev pub after_giving_up : Role → ℕ → ℕ → FloorLeave → Scene → Acted
+after_giving_up r at number answer s = machine.after_giving_up plain_world r at number answer s
 
-abbrev pub looked : Role → ℕ → ℕ → ℕ → FloorLook → Scene → Acted
-looked r next at number answer s = machine.looked plain_world r next at number answer s
+abbrev pub after_looking : Role → ℕ → ℕ → ℕ → FloorLook → Scene → Acted
+after_looking r next at number answer s
+    = machine.after_looking plain_world r next at number answer s
 
-abbrev pub acted : Role → Progress → Scene → Acted
-acted r progress s = machine.acted plain_world r progress s
+abbrev pub after_acting : Role → Progress → Scene → Acted
+after_acting r progress s = machine.after_acting plain_world r progress s
 
 abbrev pub one_job : List Resource → ℕ → ℕ → Job → Machine → Machine
 one_job resources turn place job m = machine.one_job plain_world resources turn place job m

@@ -6,9 +6,10 @@ ghost use Rattle.cqs_core.specs.Keyed.{without};
 ghost use Rattle.cqs_plan.specs.Floor.{IsJob, IsHolding, IsHoldable};
 ghost use Rattle.cqs_plan.specs.FloorCalls.{take_answer, leave_answer, look_answer};
 ghost use Rattle.cqs_turns.specs.Machine.{rests};
-ghost use Rattle.cqs_turns.specs.Turns.{acted, given, given_back, took, made, event, left_at, finished, go_on, cancelled, gave_up, end_of, looked, places_held};
+ghost use Rattle.cqs_turns.specs.Turns.{after_acting, on_give, after_gives, after_taking, after_step, event, left_at, after_last_step, go_on, on_leave, after_giving_up, end_of, after_looking, places_held};
 ghost use Rattle.cqs_turns.specs.Ready.{IsReady, HasRoom, steps_left};
-ghost use Rattle.cqs_turns.specs.Coming.{ComesTo, LeavesAt, Makes, text_acted, text_in};
+ghost use Rattle.cqs_turns.specs.Coming.{ComesTo, LeavesAt, LeavesFrom, Makes, text_acted, text_in};
+ghost use Rattle.cqs_turns.specs.declared.states.Progress.TheVariants.{Waiting};
 ghost use Rattle.cqs_turns.specs.Roles.{role, scene, made_of, wait_at, left_with, told_served};
 ghost use Rattle.cqs_turns.specs.States.{IsSet};
 
@@ -30,7 +31,7 @@ fn give<F: Floor>(
     requires job { IsJob (F.plain floor.old) actor.now.place }
     requires holds { IsHolding (F.plain floor.old) at actor.now.place }
     ensures ok { OnOk result (scene (F.plain floor.new) report.new ≡
-        given (role actor.now) at (scene (F.plain floor.old) report.old)) }
+        on_give (role actor.now) at (scene (F.plain floor.old) report.old)) }
     ensures err { OnErr result (report.new ≡ report.old) }
 {
     let answer = floor.give(at, actor.place);
@@ -47,7 +48,7 @@ fn give_all<F: Floor>(
     requires held { held.old.items ≡ places_held (F.plain floor.old) actor.now.place }
     requires ready { IsReady (F.plain floor.old) actor.now.place None [] }
     ensures comes { ComesTo text_in result
-        (given_back (role actor.now) held.old.items (scene (F.plain floor.old) report.old))
+        (after_gives (role actor.now) held.old.items (scene (F.plain floor.old) report.old))
         (scene (F.plain floor.new) report.new) }
     ensures held { OnOk result (held.new.items ≡ places_held (F.plain floor.new) actor.now.place) }
 {
@@ -68,7 +69,7 @@ fn finish<F: Floor>(
     requires held { held.old.items ≡ places_held (F.plain floor.old) actor.now.place }
     requires ready { IsReady (F.plain floor.old) actor.now.place None [] }
     ensures comes { LeavesAt result
-        (finished (role actor.now) (scene (F.plain floor.old) report.old))
+        (after_last_step (role actor.now) (scene (F.plain floor.old) report.old))
         (scene (F.plain floor.new) report.new) }
     ensures held { OnOk result (held.new.items ≡ places_held (F.plain floor.new) actor.now.place) }
 {
@@ -91,7 +92,7 @@ fn take<F: Floor>(
     requires room { HasRoom (F.plain floor.old) (Step.Take at ∷ []) }
     requires next { next < 64 }
     ensures comes { Makes result
-        (took (role actor.now) next at (take_answer (F.plain floor.old) at actor.now.place)
+        (after_taking (role actor.now) next at (take_answer (F.plain floor.old) at actor.now.place)
         (scene (F.plain floor.old) report.old))
         (scene (F.plain floor.new) report.new) }
     ensures held { OnOk result (held.new.items ≡ places_held (F.plain floor.new) actor.now.place) }
@@ -139,7 +140,7 @@ fn give_step<F: Floor>(
     requires held { held.old.items ≡ places_held (F.plain floor.old) actor.now.place }
     requires ready { IsReady (F.plain floor.old) actor.now.place None (Step.Give at ∷ []) }
     ensures ok { OnOk result (scene (F.plain floor.new) report.new ≡
-        given (role actor.now) at (scene (F.plain floor.old) report.old)) }
+        on_give (role actor.now) at (scene (F.plain floor.old) report.old)) }
     ensures held { OnOk result (held.new.items ≡ places_held (F.plain floor.new) actor.now.place) }
     ensures err { OnErr result (report.new ≡ report.old) }
 {
@@ -163,7 +164,7 @@ fn make_step<F: Floor>(
     requires next { next < 64 }
     requires turn { actor.now.turn ≤ 40000 }
     ensures comes { Makes result
-        (made (role actor.now) next step (scene (F.plain floor.old) report.old))
+        (after_step (role actor.now) next step (scene (F.plain floor.old) report.old))
         (scene (F.plain floor.new) report.new) }
     ensures held { OnOk result (held.new.items ≡ places_held (F.plain floor.new) actor.now.place) }
 {
@@ -236,7 +237,7 @@ fn leave<F: Floor>(
     requires held { held.old.items ≡ places_held (F.plain floor.old) actor.now.place }
     requires ready { IsReady (F.plain floor.old) actor.now.place (Some (wait_at at number)) [] }
     ensures ok { OnOk result (scene (F.plain floor.new) report.new ≡
-        cancelled (role actor.now) at number (leave_answer (F.plain floor.old) actor.now.place)
+        on_leave (role actor.now) at number (leave_answer (F.plain floor.old) actor.now.place)
         (scene (F.plain floor.old) report.old)) }
     ensures end { IfOk result (λ end. end
         ≡ end_of (leave_answer (F.plain floor.old) actor.now.place)) }
@@ -262,7 +263,8 @@ fn give_up<F: Floor>(
     requires held { held.old.items ≡ places_held (F.plain floor.old) actor.now.place }
     requires ready { IsReady (F.plain floor.old) actor.now.place (Some (wait_at at number)) [] }
     ensures comes { LeavesAt result
-        (gave_up (role actor.now) at number (leave_answer (F.plain floor.old) actor.now.place)
+        (after_giving_up (role actor.now) at number
+        (leave_answer (F.plain floor.old) actor.now.place)
         (scene (F.plain floor.old) report.old))
         (scene (F.plain floor.new) report.new) }
     ensures held { OnOk result (held.new.items ≡ places_held (F.plain floor.new) actor.now.place) }
@@ -299,7 +301,7 @@ fn be_served<F: Floor>(
     make_steps(floor, report, actor, held, next)
 }
 
-/// The job looks at its wait.
+/// The job looks at its wait. Its progress comes where the wait is over; else it is as it was.
 fn look<F: Floor>(
     floor: &mut F,
     report: &mut Report,
@@ -308,22 +310,26 @@ fn look<F: Floor>(
     next: u32,
     at: u32,
     number: u64,
-) -> Result<Progress, Memory>
+) -> Result<Option<Progress>, Memory>
     requires held { held.old.items ≡ places_held (F.plain floor.old) actor.now.place }
     requires ready { IsReady (F.plain floor.old) actor.now.place (Some (wait_at at number))
         (drop next actor.now.job.now.steps) }
     requires room { HasRoom (F.plain floor.old) (drop next actor.now.job.now.steps) }
     requires few_steps { length actor.now.job.now.steps ≤ 64 }
     requires turn { actor.now.turn ≤ 40000 }
-    ensures comes { LeavesAt result
-        (looked (role actor.now) next at number (look_answer (F.plain floor.old) actor.now.place)
+    ensures comes { LeavesFrom (Waiting next at number) result
+        (after_looking (role actor.now) next at number
+        (look_answer (F.plain floor.old) actor.now.place)
         (scene (F.plain floor.old) report.old))
         (scene (F.plain floor.new) report.new) }
     ensures held { OnOk result (held.new.items ≡ places_held (F.plain floor.new) actor.now.place) }
 {
     match floor.look(actor.place) {
-        FloorLook::Pending => Ok(Progress::Waiting { next, at, number }),
-        FloorLook::Granted(_) => be_served(floor, report, actor, held, next, at, number),
+        FloorLook::Pending => Ok(None),
+        FloorLook::Granted(_) => {
+            let progress = be_served(floor, report, actor, held, next, at, number)?;
+            Ok(Some(progress))
+        }
     }
 }
 
@@ -341,7 +347,7 @@ pub fn act<F: Floor>(
     requires few_steps { length actor.now.job.now.steps ≤ 64 }
     requires turn { actor.now.turn ≤ 40000 }
     ensures comes { ComesTo text_acted result
-        (acted (role actor.now) state.old.progress (scene (F.plain floor.old) report.old))
+        (after_acting (role actor.now) state.old.progress (scene (F.plain floor.old) report.old))
         (left_at (scene (F.plain floor.new) report.new) state.new.progress) }
     ensures held { OnOk result (state.new.held.items
         ≡ places_held (F.plain floor.new) actor.now.place) }
@@ -359,7 +365,11 @@ pub fn act<F: Floor>(
             state.progress = give_up(floor, report, actor, &mut state.held, at, number)?;
         }
         Progress::Waiting { next, at, number } => {
-            state.progress = look(floor, report, actor, &mut state.held, next, at, number)?;
+            // Nothing is written while a wait goes on: in most turns most jobs wait.
+            let moved = look(floor, report, actor, &mut state.held, next, at, number)?;
+            if let Some(progress) = moved {
+                state.progress = progress;
+            }
         }
     }
     Ok(())

@@ -5,7 +5,8 @@ ghost use Rattle.cqs_plan.specs.Floor.{opening_floor};
 ghost use Rattle.cqs_plan.specs.LegalFloor.{IsLegalFloor, IsLegalFor};
 ghost use Rattle.cqs_plan.specs.Runnable.{IsRunnable, kinds_of};
 ghost use Rattle.cqs_turns.specs.Lines.{ends_text};
-ghost use Rattle.cqs_turns.specs.Report.{IsFrontOf, report_of};
+ghost use Rattle.cqs_core.specs.Parts.{IsPrefix};
+ghost use Rattle.cqs_turns.specs.Report.{report_of};
 ghost use Rattle.cqs_turns.specs.Running.{IsRunning, IsKept, machine_of, IsOpening, AreOpening};
 ghost use Rattle.cqs_turns.specs.Turns.{machine_after, opening_machine};
 
@@ -60,8 +61,8 @@ fn all_turns<F: Floor>(
         machine_after plan.now plan.now.turns) }
     ensures running { OnOk result (IsRunning plan.now
         (machine_of (F.plain floor.new) report.new states.new)) }
-    ensures err { OnErr result (IsFrontOf
-        (machine_after plan.now plan.now.turns).scene.text report.new) }
+    ensures err { OnErr result (IsPrefix report.new
+        (machine_after plan.now plan.now.turns).scene.text) }
 {
     for turn in 0..plan.turns {
         one_turn(floor, report, plan, turn, states)?;
@@ -77,8 +78,8 @@ fn tell_ends<F: Floor>(floor: &mut F, report: &mut Report, plan: &Plan) -> Resul
     ensures legal { OnOk result (IsLegalFloor (F.plain floor.new)) }
     ensures ok { OnOk result (report.new
         ≡ report.old ++ ends_text plan.now.resources 0 (F.plain floor.old)) }
-    ensures err { OnErr result (IsFrontOf
-        (report.old ++ ends_text plan.now.resources 0 (F.plain floor.old)) report.new) }
+    ensures err { OnErr result (IsPrefix report.new
+        (report.old ++ ends_text plan.now.resources 0 (F.plain floor.old))) }
 {
     for (at, resource) in plan.resources.as_slice().iter().enumerate() {
         let end = floor.end(at as u32);
@@ -105,7 +106,7 @@ pub fn run_plan<F: Floor>(
     // The entries of each of the plan's resources are a legal history of it.
     ensures legal { OnOk result (IsLegalFor plan.now (F.plain floor.new)) }
     ensures report { OnOk result (report.new ≡ report_of plan.now) }
-    ensures err { OnErr result (IsFrontOf (report_of plan.now) report.new) }
+    ensures err { OnErr result (IsPrefix report.new (report_of plan.now)) }
 {
     let mut states = opening_states(alloc, plan.jobs.as_slice())?;
     all_turns(floor, report, plan, states.as_mut_slice())?;

@@ -2,7 +2,7 @@
 
 ghost use Rattle.std.specs.Prelude.{◌≡◌, ◌≤◌, ◌<◌, Some, length, slice_get, OnOk, OnErr};
 ghost use Rattle.cqs_plan.specs.Runnable.{IsRunnable};
-ghost use Rattle.cqs_turns.specs.Report.{IsFrontOf};
+ghost use Rattle.cqs_core.specs.Parts.{IsPrefix};
 ghost use Rattle.cqs_turns.specs.Roles.{role};
 ghost use Rattle.cqs_turns.specs.Running.{IsRunning, IsKept, machine_of, turn_at};
 ghost use Rattle.cqs_turns.specs.Turns.{one_turn};
@@ -49,9 +49,9 @@ fn one_job<F: Floor>(
     ensures running { OnOk result (IsRunning plan.now
         (machine_of (F.plain floor.new) report.new states.new)) }
     ensures kept { OnOk result (IsKept (F.plain floor.new) states.new) }
-    ensures err { OnErr result (IsFrontOf
+    ensures err { OnErr result (IsPrefix report.new
         (turn_at plan.now turn place
-        (machine_of (F.plain floor.old) report.old states.old)).scene.text report.new) }
+        (machine_of (F.plain floor.old) report.old states.old)).scene.text) }
 {
     // In most turns most jobs rest, and this look is all that those turns cost.
     if states[place as usize].progress.rests(turn) {
@@ -78,9 +78,9 @@ pub fn one_turn<F: Floor>(
     ensures running { OnOk result (IsRunning plan.now
         (machine_of (F.plain floor.new) report.new states.new)) }
     ensures kept { OnOk result (IsKept (F.plain floor.new) states.new) }
-    ensures err { OnErr result (IsFrontOf
-        (one_turn plan.now turn (machine_of (F.plain floor.old) report.old states.old)).scene.text
-        report.new) }
+    ensures err { OnErr result (IsPrefix report.new
+        (one_turn plan.now turn
+        (machine_of (F.plain floor.old) report.old states.old)).scene.text) }
 {
     for place in 0..plan.jobs.as_slice().len() {
         one_job(floor, report, plan, turn, place as u32, states)?;

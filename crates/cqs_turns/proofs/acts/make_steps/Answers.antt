@@ -1,7 +1,7 @@
 use Rattle.std.proofs.Common.{get_or, ap}
 use Rattle.cqs_plan.specs.declared.plans.step.Step.TheVariants.{Take}
 use Rattle.cqs_turns.proofs.Growth.{leaves-off}
-use Rattle.cqs_turns.proofs.Stepping.{stepping-front, steps-on}
+use Rattle.cqs_turns.proofs.Stepping.{stepping-prefix, steps-on}
 use Rattle.cqs_turns.proofs.acts.make_steps.Goals as goal
 
 pub returns-in_err-stops-clause-comes : goal.returns-in_err-stops-clause-comes
@@ -9,7 +9,7 @@ returns-in_err-stops-clause-comes g c =
     let same = ap (λ steps. get_or steps c.loop-next.next (Take 0)) c.as_slice-steps.ensures in
     let below = rw c.as_slice-steps.ensures at c.loop-next-test.true in
     leaves-off c.from_residual.result _ _ c.from_residual.ensures.0
-    (stepping-front _ _ _ _ _ _ _ _ c.loop-next.invariant.on below same c.in_err-stops.ensures.comes.err)
+    (stepping-prefix _ _ _ _ _ _ _ _ c.loop-next.invariant.on below same c.in_err-stops.ensures.comes.err)
 
 pub loop-next-preserved : goal.loop-next-preserved
 loop-next-preserved g c =

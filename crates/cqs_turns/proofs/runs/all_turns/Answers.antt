@@ -1,6 +1,6 @@
 use Rattle.std.proofs.Common.{subst, sym}
 use Rattle.cqs_turns.specs.Running.{IsRunning}
-use Rattle.cqs_turns.proofs.Growth.{on-err, front-of-later}
+use Rattle.cqs_turns.proofs.Growth.{on-err, prefix-of-later}
 use Rattle.cqs_turns.proofs.Opened.{opening-running}
 use Rattle.cqs_turns.proofs.runs.all_turns.Goals as goal
 
@@ -15,5 +15,5 @@ loop-turn-init g c = record {
 pub returns-in_err-one_turn-clause-err : goal.returns-in_err-one_turn-clause-err
 returns-in_err-one_turn-clause-err g c =
     on-err c.from_residual.result
-    (front-of-later c.args.plan.now c.loop-turn.turn c.args.plan.now.turns _ _ c.loop-turn.invariant.now
+    (prefix-of-later c.args.plan.now c.loop-turn.turn c.args.plan.now.turns _ _ c.loop-turn.invariant.now
     c.loop-turn-test.true c.in_err-one_turn.ensures.err)

@@ -2,7 +2,7 @@ use Rattle.std.proofs.Common.{◌<◌, length, ap, arith}
 use Rattle.cqs_turns.specs.Running.{machine_of}
 use Rattle.cqs_turns.specs.Turns.{Machine}
 use Rattle.cqs_turns.proofs.Growth.{on-err}
-use Rattle.cqs_turns.proofs.Turning.{turns_on, turning_front}
+use Rattle.cqs_turns.proofs.Turning.{turns_on, turning_prefix}
 use Rattle.cqs_turns.proofs.turns.one_turn.Goals as goal
 
 pub returns-in_err-one_job-clause-err : goal.returns-in_err-one_job-clause-err
@@ -12,7 +12,7 @@ returns-in_err-one_job-clause-err g c =
     let start : Machine = machine_of (g.F.Floor.plain c.args.floor.now) c.args.report.now c.args.states.now in
     let now : Machine = machine_of (g.F.Floor.plain c.loop-place.floor) c.loop-place.report c.loop-place.states in
     on-err c.from_residual.result
-    (turning_front c.args.plan.now c.args.turn c.loop-place.place start now _ c.loop-place.invariant.on below
+    (turning_prefix c.args.plan.now c.args.turn c.loop-place.place start now _ c.loop-place.invariant.on below
     c.in_err-one_job.ensures.err)
 
 pub loop-place-preserved : goal.loop-place-preserved

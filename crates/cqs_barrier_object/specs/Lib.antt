@@ -1,0 +1,6 @@
+pub mod BarrierObject
+pub mod BarrierEntries
+pub mod BarrierNames
+pub mod BarrierShown
+pub mod BarrierSteps
+pub mod BarrierLaws

@@ -439,6 +439,37 @@ module _ (s : PoolShape) (p k : ℕ) (is : IsPool s) where
       (length-set r.doing p (doing.Ticket s.queue.resumes) ∙ length-set s.queue.doing p doing.Owes)
       (omega (arith, keeps.ending, begins.ending, is.none_refused))
 
+  -- a pass at the door draws its number
+  pub pool-draw_at_door : (found : Option CoreCell) → slice_get s.queue.doing p ≡ Some doing.Door
+      → slice_get s.queue.cells s.queue.suspends ≡ found
+      → IsPool (record s {
+        queue = moved s.queue (move.draw p s.queue.suspends found);
+        history = s.history ++ entry.Enter p s.queue.suspends ∷ [];
+      })
+  pool-draw_at_door found does finds =
+      let m : move.Move = move.draw p s.queue.suspends found in
+      let enters = enters-draw s.queue p found is.sound does finds in
+      let shows = is.shows in
+      let drew = (λ (f : ℕ).
+      brings-write f s.queue.doing p doing.Door (doing.Drawn s.queue.suspends) s.loads s.loads does
+      (loads-same p s.loads)) in
+      let cells = (λ (f : ℕ). cells-drawn has_left f s.payloads s.queue p found finds (λ c. refl) refl) in
+      let readies = (λ (f : ℕ). cells-drawn has_ready f s.payloads s.queue p found finds (λ c. refl) refl) in
+      pool-push s.loads s.payloads s.holds (entry.Enter p s.queue.suspends) (moved s.queue m)
+      (sound-moved s.queue m is.sound (does, refl, finds)) (sym shows.next)
+      (record {
+        line = ap (λ l. l ++ record { wait = s.queue.suspends; pass = p } ∷ []) shows.line
+            ∙ ap (λ w. w.line) (sym enters.waiters);
+        next = ap (λ n. n + 1) shows.next;
+        served = shows.served ∙ sym (given-drawn s.queue p found s.payloads is.sound finds);
+        many = omega (arith, shows.many, enters.going);
+        way = λ f. omega (arith, shows.way f, drew f, cells f);
+        held = λ f. omega (arith, shows.held f, readies f);
+      })
+      refl refl
+      (length-set s.queue.doing p (doing.Drawn s.queue.suspends))
+      (omega (arith, enters.ending, is.none_refused))
+
   -- A take draws a number at once.
   pub pool-draw : (found : Option CoreCell) → slice_get s.queue.doing p ≡ Some doing.Idle
       → slice_get s.queue.cells s.queue.suspends ≡ found

@@ -52,6 +52,9 @@ quiet s r q histories queues is =
 pub step-pool : (s : PoolShape) (step : QueueStep) (p k : ℕ) (found : Option CoreCell) (e : ℕ) → IsPool s
     → IsPoolStep step → IsOpenStep s.queue step p k found → IsPayload (row_of step) s p k e
     → IsPool (stepped s step p k found e)
+step-pool s draws p k found e is may w paid =
+    let here : slice_get s.queue.cells s.queue.suspends ≡ found = ap (slice_get s.queue.cells) (sym w.1) ∙ w.2 in
+    subst (λ j. IsPool (stepped s draws p j found e)) (sym w.1) (law.pool-draw_at_door s p k is found w.0 here)
 step-pool s enters p k found e is may w paid =
     let here : slice_get s.queue.cells s.queue.suspends ≡ found = ap (slice_get s.queue.cells) (sym w.1) ∙ w.2 in
     let at : IsPool (record s {
@@ -135,7 +138,6 @@ step-pool s (looks late) p k (Some found) e is may w paid =
       queue = moved s.queue (move.collect p k found);
       history = s.history ++ entry.Late p k (s.payloads k) ∷ [];
     }) _ _ refl (leads s.queue p k (looks late) (Some found) w).1 (law.pool-late s p k is found w.0 w.1))
-step-pool s draws p k found e is may w paid = absurd may
 step-pool s begins p k found e is may w paid = absurd may
 step-pool s ends_missed p k found e is may w paid = absurd may
 step-pool s starts_leaving p k found e is may w paid = absurd may

@@ -9,10 +9,10 @@ use Rattle.cqs_pool_object.specs.declared.entries.PoolEntry.TheVariants as entry
 use Rattle.cqs_pool_object.specs.PoolEntries.{less}
 use Rattle.cqs_pool_object.specs.PoolShown.{PoolShape}
 
--- A taker draws its number in one step from idle, and a put does; a wait leaves by the exchange
--- itself, and resumes pass over its cell.
+-- A taker draws its number, by a step from idle, and would from the door; a put draws by a step
+-- from idle. A wait leaves by the exchange itself, and resumes pass over its cell.
 abbrev pub IsPoolStep : QueueStep → Type 0
-IsPoolStep draws = ⊥
+IsPoolStep draws = Unit {0}
 IsPoolStep enters = Unit {0}
 IsPoolStep reaches = Unit {0}
 IsPoolStep begins = ⊥
@@ -36,7 +36,7 @@ IsPoolStep (looks e) = Unit {0}
 
 -- the entries of a step of the pass p at the number k, whose payload is this
 abbrev pub step_entries : QueueStep → ℕ → ℕ → ℕ → List PoolEntry
-step_entries draws p k e = []
+step_entries draws p k e = entry.Enter p k ∷ []
 step_entries enters p k e = entry.Enter p k ∷ []
 step_entries reaches p k e = []
 step_entries begins p k e = []

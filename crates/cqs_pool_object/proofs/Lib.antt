@@ -1,0 +1,5 @@
+pub mod PoolCounts
+pub mod PoolLaw
+pub mod PoolSteps
+pub mod PoolConserved
+pub mod PoolOpens

@@ -83,8 +83,8 @@ floor-above z passes above =
     below n m within = grind (arith, ints)
 
 -- a pass that had loaded it goes on: one fewer may take one
-pub fewer-loaded : (passes : List Doing) (p : ℕ) (v : ℤ) (to : Doing) → slice_get passes p ≡ Some (doing.TryAt v)
-    → has_loaded (doing.TryAt v) ≡ true → has_loaded to ≡ false
+pub fewer-loaded : (passes : List Doing) (p : ℕ) (v : ℤ) (to : Doing)
+    → slice_get passes p ≡ Some (doing.TryAt v) → has_loaded (doing.TryAt v) ≡ true → has_loaded to ≡ false
     → count_by has_loaded (set passes p to) + 1 ≡ count_by has_loaded passes
 fewer-loaded passes p v to does was now =
     let write = count_by-write has_loaded passes p (doing.TryAt v) to does in
@@ -93,8 +93,9 @@ fewer-loaded passes p v to does was now =
     omega arith
 
 -- it takes one
-pub floor-takes : (z y : ℤ) (passes : List Doing) (p : ℕ) (v : ℤ) (to : Doing) → slice_get passes p ≡ Some (doing.TryAt v)
-    → has_loaded (doing.TryAt v) ≡ true → has_loaded to ≡ false → y ≡ z -ℤ pos 1
+pub floor-takes : (z y : ℤ) (passes : List Doing) (p : ℕ) (v : ℤ) (to : Doing)
+    → slice_get passes p ≡ Some (doing.TryAt v) → has_loaded (doing.TryAt v) ≡ true → has_loaded to ≡ false
+    → y ≡ z -ℤ pos 1
     → pos (count_by has_loaded passes) <ℤ (z +ℤ pos (length passes))
     → pos (count_by has_loaded (set passes p to)) <ℤ (y +ℤ pos (length (set passes p to)))
 floor-takes z y passes p v to does was now less low =
@@ -108,8 +109,8 @@ floor-takes z y passes p v to does was now less low =
         down a n low = grind (arith, ints)
 
 -- it goes on and takes none
-pub floor-leaves : (z : ℤ) (passes : List Doing) (p : ℕ) (v : ℤ) (to : Doing) → slice_get passes p ≡ Some (doing.TryAt v)
-    → has_loaded (doing.TryAt v) ≡ true → has_loaded to ≡ false
+pub floor-leaves : (z : ℤ) (passes : List Doing) (p : ℕ) (v : ℤ) (to : Doing)
+    → slice_get passes p ≡ Some (doing.TryAt v) → has_loaded (doing.TryAt v) ≡ true → has_loaded to ≡ false
     → pos (count_by has_loaded passes) <ℤ (z +ℤ pos (length passes))
     → pos (count_by has_loaded (set passes p to)) <ℤ (z +ℤ pos (length (set passes p to)))
 floor-leaves z passes p v to does was now low =

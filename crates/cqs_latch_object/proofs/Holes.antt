@@ -1,5 +1,5 @@
 -- The holes of a latch in simple mode, read off its queue, after each move.
-use Rattle.std.proofs.Common.{◌≡◌, ◌≢◌, ◌⊎◌, inl, inr, ℕ, ◌+◌, ◌<◌, ◌≤◌, nat_le, le-leb, ◌||◌, Bool, true, false, List, [], ◌∷◌, ◌++◌, Option, Some, None, is_some, length, set, slice_get, refl, ap, ap₂, sym, ◌∙◌, subst, arith, append-nil}
+use Rattle.std.proofs.Common.{◌≡◌, ◌≢◌, ◌⊎◌, inl, inr, ℕ, ◌+◌, ◌<◌, ◌≤◌, nat_le, le-leb, ◌||◌, Bool, true, false, List, Option, Some, None, is_some, length, set, slice_get, refl, ap, sym, ◌∙◌, subst, arith, append-nil}
 use Rattle.std.specs.List.{count_by}
 use Rattle.std.proofs.lemmas.Bool.{cases_lt, lt-leb, or_left, or_right}
 use Rattle.cqs_core.specs.declared.cells.CoreCell.{CoreCell}
@@ -15,7 +15,7 @@ use Rattle.cqs_core.specs.QueueMoves as move
 use Rattle.cqs_core.specs.QueueMoves.{Works, moved, now_doing, with_cell, at_state, cells_drawn}
 use Rattle.cqs_core.specs.QueueSound.{IsSound, IsSoundAt, IsTicket, IsUntaken}
 use Rattle.cqs_core.proofs.Counts.{count_at-agree}
-use Rattle.cqs_core.proofs.DrawMoves.{undrawn, picked-reached, unmet-reached}
+use Rattle.cqs_core.proofs.DrawMoves.{picked-reached, unmet-reached}
 use Rattle.cqs_core.proofs.Keys.{Around, around-kept, around-came, around-went}
 use Rattle.cqs_core.proofs.Picked.{IsKeyed, AgreeBut, picked-same, picked-around, picked-push, picked-in}
 use Rattle.cqs_core.proofs.PickedPlaces.{length-picked}
@@ -137,8 +137,9 @@ holes-drawn q p found sound does finds =
         ≡ picked (is_hole q.resumes after) 0 q.cells
     at (Some cell) there =
         around-kept number q.suspends _ _ _ _
-        (picked-around (is_hole q.resumes after) (is_hole q.resumes after) number (hole-keyed q.resumes after) q.suspends
-        (record { at = λ m c other. refl }) 0 q.cells q.suspends cell (new cell.state cell.collected) (omega arith) there)
+        (picked-around (is_hole q.resumes after) (is_hole q.resumes after) number (hole-keyed q.resumes after)
+        q.suspends (record { at = λ m c other. refl }) 0 q.cells q.suspends cell (new cell.state cell.collected)
+        (omega arith) there)
         refl
     at None there =
         let few : length q.cells ≤ q.suspends = last (cases_lt q.suspends (length q.cells)) in
@@ -200,8 +201,8 @@ holes-missed q p k found sound works =
     let is_met : is_unmet q.resumes after k found ≡ false = rw (works.at, reached) closed in
     let was : is_hole q.resumes q.doing k found ≡ Some k = ap (hole_of k) was_unmet in
     let gone : is_hole q.resumes after k found ≡ None = ap (hole_of k) is_met in
-    let around : Around number k (holes q) (picked (is_hole q.resumes after) 0 q.cells) (is_hole q.resumes q.doing k found)
-    (is_hole q.resumes after k found) =
+    let around : Around number k (holes q) (picked (is_hole q.resumes after) 0 q.cells)
+    (is_hole q.resumes q.doing k found) (is_hole q.resumes after k found) =
     subst (λ (cells : List CoreCell). Around number k (holes q) (picked (is_hole q.resumes after) 0 cells)
     (is_hole q.resumes q.doing k found) (is_hole q.resumes after k found))
     (set-same q.cells k found works.finds)

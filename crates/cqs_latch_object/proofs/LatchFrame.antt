@@ -1,12 +1,12 @@
 -- What every step of a latch owes: one more entry, or none; and the two kinds of steps that most are, one that nobody
 -- sees and one by which a resumption reaches a wait.
-use Rattle.std.proofs.Common.{◌≡◌, ◌⊎◌, inl, inr, ℕ, ◌+◌, ◌-◌, ◌<◌, ◌≤◌, ℤ, pos, ◌<ℤ◌, ◌+ℤ◌, Bool, true, false, List, [], ◌∷◌, ◌++◌, Some, length, set, slice_get, sum, refl, ap, sym, ◌∙◌, subst, arith}
+use Rattle.std.proofs.Common.{◌≡◌, ◌⊎◌, inl, inr, ℕ, ◌-◌, ◌<◌, ℤ, Bool, true, false, List, [], ◌∷◌, ◌++◌, Some, length, set, slice_get, sum, refl, ap, sym, ◌∙◌, subst, arith}
 use Rattle.std.specs.List.{count_by}
 use Rattle.std.proofs.lemmas.Bool.{cases_Bool, both_ways}
 use Rattle.std.proofs.lemmas.List.{length-set}
 use Rattle.cqs_core.specs.declared.doings.Doing.{Doing}
 use Rattle.cqs_core.specs.QueueState.{Queue}
-use Rattle.cqs_core.specs.QueueLine.{going, ending, is_resuming, is_told_refused}
+use Rattle.cqs_core.specs.QueueLine.{going, is_resuming, is_told_refused}
 use Rattle.cqs_core.specs.QueueMoves as move
 use Rattle.cqs_core.specs.QueueMoves.{IsOpen, moved}
 use Rattle.cqs_core.specs.QueueSound.{IsSound}
@@ -18,7 +18,7 @@ use Rattle.cqs_core.proofs.Sound.{sound-moved}
 use Rattle.cqs_latch_object.specs.declared.entries.LatchEntry.{LatchEntry}
 use Rattle.cqs_latch_object.specs.declared.entries.LatchEntry.TheVariants as entry
 use Rattle.cqs_latch_object.specs.LatchObject.{Latch, opening}
-use Rattle.cqs_latch_object.specs.LatchEntries.{IsAllowed, after_entry, object_after, IsLegal}
+use Rattle.cqs_latch_object.specs.LatchEntries.{IsAllowed, after_entry}
 use Rattle.cqs_core.specs.QueueWaiters.{Waiters, waiters}
 use Rattle.cqs_latch_object.specs.LatchShown.{LatchShape, holes, holes_shown, way_shown, shown_by, shown, is_opening, has_loaded, IsFit, IsShut, IsOpened, IsLatch}
 use Rattle.cqs_latch_object.proofs.Counting.{same-count, floor-same}
@@ -26,7 +26,14 @@ use Rattle.cqs_latch_object.proofs.Counting.{same-count, floor-same}
 pub same-latch : {a b : Latch} → a.simple ≡ b.simple → a.count ≡ b.count → a.opened ≡ b.opened → a.way ≡ b.way
     → a.waiters ≡ b.waiters → a.holes ≡ b.holes → a ≡ b
 same-latch simple count opened way waiters holes =
-    λ i. record { simple = simple i; count = count i; opened = opened i; way = way i; waiters = waiters i; holes = holes i }
+    λ i. record {
+      simple = simple i;
+      count = count i;
+      opened = opened i;
+      way = way i;
+      waiters = waiters i;
+      holes = holes i;
+    }
 
 pub shown-holes : (b : Bool) (q r : Queue) → holes r ≡ holes q → holes_shown b r ≡ holes_shown b q
 shown-holes true q r same = same

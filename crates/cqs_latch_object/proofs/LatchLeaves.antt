@@ -1,6 +1,6 @@
 -- The steps by which a wait leaves keep what a latch shows, in both modes; and so do those by which a resumption ends
 -- at a cell that was left.
-use Rattle.std.proofs.Common.{◌≡◌, ℕ, ◌+◌, ◌-◌, ◌<◌, ◌≤◌, ◌<ℤ◌, ◌+ℤ◌, pos, Bool, true, false, not, List, [], ◌∷◌, ◌++◌, Some, length, set, slice_get, sum, refl, ap, sym, ◌∙◌, subst, arith}
+use Rattle.std.proofs.Common.{◌≡◌, ℕ, ◌-◌, Bool, true, false, [], ◌∷◌, ◌++◌, Some, length, set, slice_get, sum, refl, ap, sym, ◌∙◌, arith}
 use Rattle.std.specs.List.{count_by}
 use Rattle.std.proofs.lemmas.Bool.{both_ways}
 use Rattle.std.proofs.lemmas.List.{length-set}
@@ -11,10 +11,9 @@ use Rattle.cqs_core.specs.declared.doings.Doing.TheVariants as doing
 use Rattle.cqs_core.specs.Numbered.{IsIn}
 use Rattle.cqs_core.specs.Keyed.{placed, without}
 use Rattle.cqs_core.specs.QueueState.{Queue}
-use Rattle.cqs_core.specs.QueueLine.{going, ending, is_told_refused}
+use Rattle.cqs_core.specs.QueueLine.{going, is_told_refused}
 use Rattle.cqs_core.specs.QueueMoves as move
 use Rattle.cqs_core.specs.QueueMoves.{Works, Owns, IsCancelling, moved, with_cell, at_state}
-use Rattle.cqs_core.specs.QueueWaiters.{Waiters}
 use Rattle.cqs_core.proofs.Counts.{count_by-write}
 use Rattle.cqs_core.proofs.HiddenMoves.{Keeps, keeps-begin_cancel, keeps-cancel, keeps-cancel_owing, keeps-refuse, keeps-refuse_left, keeps-meet_refused}
 use Rattle.cqs_core.proofs.LineMoves.{LeavesLine, decide-leaves}
@@ -26,7 +25,7 @@ use Rattle.cqs_latch_object.specs.LatchEntries.{way_left, holes_left}
 use Rattle.cqs_latch_object.specs.LatchShown.{LatchShape, holes, holes_shown, way_shown, has_loaded, is_opening, IsFit, IsLatch}
 use Rattle.cqs_latch_object.proofs.Counting.{same-count, floor-same}
 use Rattle.cqs_latch_object.proofs.Holes.{number, holes-write, holes-came, holes-missed}
-use Rattle.cqs_latch_object.proofs.LatchFrame.{same-latch, push-latch, SamePasses, same-passes, passes-set, passes-fit, ways-quiet, quiet-latch, resuming-open, unseen}
+use Rattle.cqs_latch_object.proofs.LatchFrame.{same-latch, push-latch, passes-set, passes-fit, ways-quiet, quiet-latch, resuming-open, unseen}
 use Rattle.cqs_latch_object.proofs.LatchResumes.{after_move}
 
 module _ (s : LatchShape) (p k : ℕ) (is : IsLatch s) where
@@ -210,7 +209,8 @@ module _ (s : LatchShape) (p k : ℕ) (is : IsLatch s) where
       (ways-ended s.simple smart r 1 quiet) (no-holes s.simple smart r) refl
 
   pub latch-miss : (found : CoreCell) → Works s.queue p (doing.Ticket k) k found state.Refused → s.simple ≡ true
-      → IsLatch (record (after_move s p k is (move.meet_refused p k found)) { history = s.history ++ entry.Miss k ∷ [] })
+      → IsLatch (record (after_move s p k is (move.meet_refused p k found))
+      { history = s.history ++ entry.Miss k ∷ [] })
   latch-miss found w simple =
       let m : move.Move = move.meet_refused p k found in
       let r : Queue = moved s.queue m in

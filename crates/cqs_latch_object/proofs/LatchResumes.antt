@@ -1,11 +1,10 @@
 -- The steps of suspends and resumes, and the looks at a wait, keep what a latch shows.
-use Rattle.std.proofs.Common.{◌≡◌, ℕ, ◌+◌, ◌-◌, ◌<◌, ◌≤◌, Bool, true, false, List, [], ◌∷◌, ◌++◌, Option, Some, length, set, slice_get, get_or, sum, refl, ap, sym, ◌∙◌, subst, arith}
+use Rattle.std.proofs.Common.{◌≡◌, ℕ, ◌-◌, ◌<◌, ◌≤◌, Bool, true, false, List, [], ◌∷◌, ◌++◌, Option, Some, length, slice_get, get_or, sum, refl, ap, sym, ◌∙◌, subst, arith}
 use Rattle.std.proofs.lemmas.Bool.{both_ways}
 use Rattle.std.proofs.lemmas.List.{length-set}
 use Rattle.std.proofs.lemmas.List.Sums.{get_or-le-sum_by}
 use Rattle.cqs_core.specs.declared.cells.CoreCell.{CoreCell}
 use Rattle.cqs_core.specs.declared.cells.CoreState.TheVariants as state
-use Rattle.cqs_core.specs.declared.doings.Doing.{Doing}
 use Rattle.cqs_core.specs.declared.doings.Doing.TheVariants as doing
 use Rattle.cqs_core.specs.Numbered.{IsIn}
 use Rattle.cqs_core.specs.QueueState.{Queue}
@@ -14,7 +13,7 @@ use Rattle.cqs_core.specs.QueueLine.{going, ending, door, at_door}
 use Rattle.cqs_core.specs.QueueMoves as move
 use Rattle.cqs_core.specs.QueueMoves.{Works, Owns, moved, at_state}
 use Rattle.cqs_core.specs.QueueSound.{IsSound}
-use Rattle.cqs_core.specs.QueueWaiters.{Waiters, IsServed, closes, due_of}
+use Rattle.cqs_core.specs.QueueWaiters.{IsServed, closes, due_of}
 use Rattle.cqs_core.proofs.DeliveryMoves.{closes-collect}
 use Rattle.cqs_core.proofs.DrawMoves.{keeps-reach, enters-draw}
 use Rattle.cqs_core.proofs.HiddenMoves.{no-other-ticket, keeps-install, keeps-leave_value, keeps-delegate, keeps-pass_over}

@@ -1,7 +1,6 @@
 -- Each step of the queue that a latch makes keeps what it shows. In simple mode the queue is read with its cancelled
 -- cells as refused ones: a step at a cell sets the cell that is read so, too.
-use Rattle.std.proofs.Common.{◌≡◌, ℕ, ◌+◌, ◌<◌, true, false, Bool, List, [], ◌∷◌, ◌++◌, Option, Some, None, set, slice_get, slice_index, refl, sym, ap, ◌∙◌, subst, append-nil, ℤ}
-use Rattle.std.proofs.lemmas.Bool.{both_ways}
+use Rattle.std.proofs.Common.{◌≡◌, ℕ, ◌+◌, true, false, Bool, List, Option, Some, None, set, slice_get, refl, sym, ap, ◌∙◌, subst, append-nil, ℤ}
 use Rattle.cqs_core.specs.declared.cells.CoreCell.{CoreCell}
 use Rattle.cqs_core.specs.declared.cells.CoreState.{CoreState}
 use Rattle.cqs_core.specs.declared.cells.CoreState.TheVariants as state
@@ -11,15 +10,14 @@ use Rattle.cqs_core.specs.QueueAsRefused.{refused_state, refused_cell, all_refus
 use Rattle.cqs_core.specs.QueueState.{Queue}
 use Rattle.cqs_core.specs.QueueMoves as move
 use Rattle.cqs_core.specs.QueueMoves.{Works, Owns, moved, at_state}
-use Rattle.cqs_core.specs.QueueSteps.{pends, grants, late, QueueStep, draws, enters, reaches, begins, puts, installs, takes, serves, leaves, delegates, passes_over, ends_refused, ends_missed, starts_leaving, leaves_line, leaves_at_once, settles, settles_owing, refuses, refuses_value, looks, row_of, IsOpenStep, queue_after}
+use Rattle.cqs_core.specs.QueueSteps.{pends, grants, late, QueueStep, draws, enters, reaches, begins, puts, installs, takes, serves, leaves, delegates, passes_over, ends_refused, ends_missed, starts_leaving, leaves_line, leaves_at_once, settles, settles_owing, refuses, refuses_value, looks, row_of, IsOpenStep}
 use Rattle.cqs_core.proofs.Places.{set-same}
 use Rattle.cqs_core.proofs.QueueAsRefused.{read_option, get-refused, get-read, set-refused, drawn-refused, reached-refused}
 use Rattle.cqs_core.proofs.QueueBegins.{one_fewer}
 use Rattle.cqs_core.proofs.QueueStepMoves.{leads}
 use Rattle.cqs_latch_object.specs.declared.entries.LatchEntry.{LatchEntry}
-use Rattle.cqs_latch_object.specs.declared.entries.LatchEntry.TheVariants as entry
-use Rattle.cqs_latch_object.specs.LatchShown.{LatchShape, as_read, read_as, IsLatch, IsLatchCore}
-use Rattle.cqs_latch_object.specs.LatchSteps.{IsLatchStep, step_entries, cost_of, IsPaid, owed_by, stepped}
+use Rattle.cqs_latch_object.specs.LatchShown.{LatchShape, as_read, IsLatch, IsLatchCore}
+use Rattle.cqs_latch_object.specs.LatchSteps.{IsLatchStep, cost_of, IsPaid, stepped}
 use Rattle.cqs_latch_object.specs.LatchWords as words
 use Rattle.cqs_latch_object.specs.LatchWords.{WordStep, loads_to_count, counts_down, loads_to_wait, comes, turns_back, opens, IsOpenWord, worded}
 use Rattle.cqs_latch_object.proofs.LatchResumes.{latch-install, latch-leave_value, latch-delegate, latch-pass_over, latch-reach, latch-begin, latch-serve, latch-take_value, latch-draw, latch-granted, latch-late, latch-pending}

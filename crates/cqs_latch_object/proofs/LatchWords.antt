@@ -1,5 +1,5 @@
 -- The steps on a latch's words keep what it shows.
-use Rattle.std.proofs.Common.{◌≡◌, ◌⊎◌, inl, inr, ℕ, ◌+◌, ◌-◌, ◌<◌, ◌≤◌, ℤ, pos, ◌≤ℤ◌, ◌<ℤ◌, ◌-ℤ◌, ◌+ℤ◌, int_le, Bool, true, false, not, List, [], ◌∷◌, ◌++◌, Some, length, set, slice_get, get_or, sum, refl, ap, sym, ◌∙◌, subst, arith, append-nil, if◌then◌else◌}
+use Rattle.std.proofs.Common.{◌≡◌, ◌⊎◌, inl, inr, ℕ, ◌+◌, ◌-◌, ◌<◌, ◌≤◌, ℤ, pos, ◌≤ℤ◌, ◌<ℤ◌, ◌-ℤ◌, ◌+ℤ◌, int_le, Bool, true, false, not, List, [], ◌∷◌, ◌++◌, Some, length, set, slice_get, get_or, sum, refl, ap, sym, ◌∙◌, subst, arith, append-nil}
 use Rattle.std.specs.List.{count_by}
 use Rattle.std.proofs.lemmas.Bool.{cases_Bool, both_ways}
 use Rattle.std.proofs.lemmas.Int.{ints}
@@ -23,11 +23,11 @@ use Rattle.cqs_latch_object.specs.declared.entries.LatchEntry.{LatchEntry}
 use Rattle.cqs_latch_object.specs.declared.entries.LatchEntry.TheVariants as entry
 use Rattle.cqs_latch_object.specs.LatchObject.{opening}
 use Rattle.cqs_latch_object.specs.LatchEntries.{IsAllowed, after_entry, object_after, IsLegal}
-use Rattle.cqs_latch_object.specs.LatchShown.{LatchShape, left_of, holes, holes_shown, way_shown, shown, is_opening, has_loaded, one_where, IsFit, IsShut, IsOpened, IsLatch}
+use Rattle.cqs_latch_object.specs.LatchShown.{LatchShape, left_of, holes, holes_shown, way_shown, shown, is_opening, has_loaded, one_where, IsLatch}
 use Rattle.cqs_latch_object.specs.LatchWords.{WordStep, loads_to_count, counts_down, loads_to_wait, comes, turns_back, opens, leaves, IsOpenWord, worded, is_used, is_last, loaded_entries, loaded_doing, counted_entry, counted_doing, come_entry, come_doing}
 use Rattle.cqs_latch_object.proofs.Counting.{above-not, used-none, used-yes, used-less, used-still, used-below, less-high, down-more, down-some, down-above, down-still, one-where_le, one-used, same-count, floor-same, floor-above, fewer-loaded, floor-takes, floor-leaves}
 use Rattle.cqs_latch_object.proofs.Holes.{length-holes, holes-turn}
-use Rattle.cqs_latch_object.proofs.LatchFrame.{same-latch, shown-holes, owes-there, push-latch, latch_of, SamePasses, passes-set, passes-fit, ways-quiet}
+use Rattle.cqs_latch_object.proofs.LatchFrame.{same-latch, shown-holes, owes-there, push-latch, latch_of, ways-quiet}
 use Rattle.cqs_latch_object.proofs.LatchResumes.{same-way}
 use Rattle.cqs_latch_object.proofs.LatchLeaves.{latch-refused, latch-let_go}
 use Rattle.cqs_latch_object.proofs.Places.{few-wait}
@@ -126,7 +126,8 @@ module _ (s : LatchShape) (p : ℕ) (is : IsLatch s) where
       → IsLatch (latch_of s count word s.done s.owed history (now to))
   turned from to count word history does clear legal object shut_opener open_opener low high =
       let r : Queue = now to in
-      let keeps = keeps-turn s.queue p from to does (clear.doors p) clear.leaves clear.tickets clear.resumes clear.tells in
+      let keeps =
+      keeps-turn s.queue p from to does (clear.doors p) clear.leaves clear.tickets clear.resumes clear.tells in
       let quiet = quiet-keeps s.queue r s.owed 0 keeps in
       let told = same-count is_told_refused s.queue.doing p from to does clear.tells in
       record {
@@ -134,7 +135,8 @@ module _ (s : LatchShape) (p : ℕ) (is : IsLatch s) where
         legal = legal;
         object = object
             ∙ same-latch refl refl refl (ways-quiet s.simple s.queue r s.owed s.owed 0 quiet (λ simple. refl))
-            (sym quiet.waiters) (sym (shown-holes s.simple s.queue r (holes-turn s.queue p from to does clear.tickets)));
+            (sym quiet.waiters)
+            (sym (shown-holes s.simple s.queue r (holes-turn s.queue p from to does clear.tickets)));
         owners = is.owners ∙ sym (still-long to);
         shut = λ shut. let was = is.shut shut in record {
           resumes = was.resumes;
@@ -208,8 +210,11 @@ module _ (s : LatchShape) (p : ℕ) (is : IsLatch s) where
         turned (doing.TryAt v) doing.Idle (s.count -ℤ pos 1) s.word (s.history ++ entry.DownLeft p left ∷ []) does
         (tries-idle v) (pushed (entry.DownLeft p left) (down-more s.count many, down-some s.count many))
         (object-then (entry.DownLeft p left))
-        (λ shut. (refl, same-opener doing.Idle refl ∙ (is.shut shut).opener
-        ∙ ap one_where (down-above s.count many ∙ sym (down-still s.count many))))
+        (λ shut. (
+          refl,
+          same-opener doing.Idle refl ∙ (is.shut shut).opener
+              ∙ ap one_where (down-above s.count many ∙ sym (down-still s.count many)),
+        ))
         (λ done. absurd (let used = (is.opened done).used in omega (arith, ints)))
         (floor-takes s.count (s.count -ℤ pos 1) s.queue.doing p v doing.Idle does had-loaded refl refl is.fit.low)
         (less-high s.count (pos s.size) is.fit.high)
@@ -253,8 +258,11 @@ module _ (s : LatchShape) (p : ℕ) (is : IsLatch s) where
         turned (doing.TryAt v) doing.Idle (s.count -ℤ pos 1) s.word (s.history ++ entry.DownAlready p ∷ []) does
         (tries-idle v) (pushed (entry.DownAlready p) zero)
         (object-then (entry.DownAlready p) ∙ same-latch refl (zero ∙ sym still) refl refl refl refl)
-        (λ shut. (refl, same-opener doing.Idle refl ∙ (is.shut shut).opener
-        ∙ ap one_where (used-yes s.count used ∙ sym (used-still s.count used))))
+        (λ shut. (
+          refl,
+          same-opener doing.Idle refl ∙ (is.shut shut).opener
+              ∙ ap one_where (used-yes s.count used ∙ sym (used-still s.count used)),
+        ))
         (λ done. open-idle (s.count -ℤ pos 1) done (used-below s.count used))
         (floor-takes s.count (s.count -ℤ pos 1) s.queue.doing p v doing.Idle does had-loaded refl refl is.fit.low)
         (less-high s.count (pos s.size) is.fit.high)
@@ -335,7 +343,9 @@ module _ (s : LatchShape) (p : ℕ) (is : IsLatch s) where
         omega (arith, total, counted, long)
     all-ways false at owed r total ends counted kept = omega (arith, total, counted, ends, kept (sym at))
 
-    now-open : IsLatch (latch_of s s.count s.word true (set s.owed p s.word) (s.history ++ entry.Open p ∷ []) (now doing.Idle))
+    now-open :
+        IsLatch (latch_of s s.count s.word true (set s.owed p s.word) (s.history ++ entry.Open p ∷ [])
+        (now doing.Idle))
     now-open =
         let owed : List ℕ = set s.owed p s.word in
         let r : Queue = now doing.Idle in

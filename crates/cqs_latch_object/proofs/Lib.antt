@@ -6,3 +6,6 @@ pub mod LatchLeaves
 pub mod Places
 pub mod LatchWords
 pub mod LatchSteps
+pub mod LatchRuns
+pub mod LatchBounds
+pub mod Balance

@@ -1,6 +1,6 @@
 -- Who waits and who left stands at a number of his own or is a pass of its own: so they are no more than the numbers
 -- drawn and the passes.
-use Rattle.std.proofs.Common.{◌≡◌, ℕ, suc, ◌+◌, ◌≤◌, max, true, false, Bool, List, [], ◌∷◌, Option, Some, None, length, refl, arith, ap}
+use Rattle.std.proofs.Common.{◌≡◌, ℕ, suc, ◌+◌, ◌≤◌, true, false, Bool, List, [], ◌∷◌, Option, Some, None, length, refl, arith}
 use Rattle.std.specs.List.{count_by}
 use Rattle.std.proofs.lemmas.List.Sums.{sum_by-cons}
 use Rattle.cqs_core.specs.declared.cells.CoreCell.{CoreCell}
@@ -10,7 +10,7 @@ use Rattle.cqs_core.specs.declared.doings.Doing.{Doing}
 use Rattle.cqs_core.specs.declared.doings.Doing.TheVariants as doing
 use Rattle.cqs_core.specs.Numbered.{picked, count_at, cons_option}
 use Rattle.cqs_core.specs.QueueState.{Queue, owner_doing}
-use Rattle.cqs_core.specs.QueueLine.{at_door, in_line, waiting_of, Waiting, is_told_refused, is_unmet, is_unmet_refusal, stays_in_line, due, ending}
+use Rattle.cqs_core.specs.QueueLine.{at_door, in_line, waiting_of, is_told_refused, is_unmet, is_unmet_refusal, stays_in_line, due, ending}
 use Rattle.cqs_core.specs.QueueSound.{IsSound}
 use Rattle.cqs_core.proofs.Counts.{bit}
 use Rattle.cqs_latch_object.specs.LatchShown.{has_loaded}
@@ -83,8 +83,10 @@ one-cell resumes passes k c = at c.state
     at state.Broken = let few = waits c.owner false in omega arith
     at state.Resumed = let few = waits c.owner false in omega arith
     at state.Cancelled = let few = waits c.owner false in omega arith
-    at state.Cancelling = let few = waits c.owner (stays_in_line k state.Cancelling (owner_doing passes c)) in omega arith
-    at state.Delegated = let few = waits c.owner (stays_in_line k state.Delegated (owner_doing passes c)) in omega arith
+    at state.Cancelling =
+        let few = waits c.owner (stays_in_line k state.Cancelling (owner_doing passes c)) in omega arith
+    at state.Delegated =
+        let few = waits c.owner (stays_in_line k state.Delegated (owner_doing passes c)) in omega arith
 
 few-cells : (resumes : ℕ) (passes : List Doing) (k : ℕ) (cells : List CoreCell)
     → length (picked (in_line passes) k cells) + count_at (is_unmet resumes passes) k cells ≤ length cells

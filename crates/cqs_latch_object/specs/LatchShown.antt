@@ -1,9 +1,9 @@
--- A latch's core shows the plain latch: which object its words, cells and passes stand for. With it,
--- all that holds of every latch between any two steps.
+-- A latch's core shows the plain latch: which object its words, cells and passes stand for. With
+-- it, all that holds of every latch between any two steps.
 --
--- In simple mode the queue is read with its cancelled cells as refused ones: a resumption that comes
--- to such a cell ends there. So the two modes have one law.
-use Rattle.std.specs.Prelude.{◌≡◌, ℕ, ◌+◌, ◌-◌, ◌<◌, ◌≤◌, Bool, true, false, not, List, [], length, sum, Option, Some, None, ℤ, pos, negsuc, ◌≤ℤ◌, ◌<ℤ◌, ◌+ℤ◌, int_le, count_by}
+-- In simple mode the queue is read with its cancelled cells as refused ones: a resumption that
+-- comes to such a cell ends there. So the two modes have one law.
+use Rattle.std.specs.Prelude.{◌≡◌, ℕ, ◌+◌, ◌-◌, ◌≤◌, Bool, true, false, not, List, [], length, sum, Option, Some, None, ℤ, pos, negsuc, ◌≤ℤ◌, ◌<ℤ◌, ◌+ℤ◌, int_le, count_by}
 use Rattle.cqs_core.specs.declared.cells.CoreCell.{CoreCell}
 use Rattle.cqs_core.specs.declared.doings.Doing.{Doing}
 use Rattle.cqs_core.specs.declared.doings.Doing.TheVariants as doing

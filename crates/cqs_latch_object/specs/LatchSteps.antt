@@ -8,8 +8,8 @@ use Rattle.cqs_latch_object.specs.declared.entries.LatchEntry.TheVariants as ent
 use Rattle.cqs_latch_object.specs.LatchShown.{LatchShape, IsLatchCore}
 
 -- Its passes come to the door by a step on the waiters, and begin each resumption that they owe as
--- they are idle. In smart mode a wait leaves as the waiters' old word answers, and resumes pass over
--- its cell. In simple mode it leaves at once, and a resume ends at its cell.
+-- they are idle. In smart mode a wait leaves as the waiters' old word answers, and resumes pass
+-- over its cell. In simple mode it leaves at once, and a resume ends at its cell.
 abbrev pub IsLatchStep : Bool → QueueStep → Type 0
 IsLatchStep simple draws = Unit {0}
 IsLatchStep simple enters = ⊥

@@ -4,3 +4,5 @@ pub mod LatchNames
 pub mod LatchShown
 pub mod LatchWords
 pub mod LatchSteps
+pub mod LatchRuns
+pub mod LatchLaws

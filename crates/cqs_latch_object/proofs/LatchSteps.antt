@@ -1,0 +1,309 @@
+-- Each step of the queue that a latch makes keeps what it shows. In simple mode the queue is read with its cancelled
+-- cells as refused ones: a step at a cell sets the cell that is read so, too.
+use Rattle.std.proofs.Common.{◌≡◌, ℕ, ◌+◌, true, false, Bool, List, Option, Some, None, set, slice_get, refl, sym, ap, ◌∙◌, subst, append-nil, ℤ}
+use Rattle.cqs_core.specs.declared.cells.CoreCell.{CoreCell}
+use Rattle.cqs_core.specs.declared.cells.CoreState.{CoreState}
+use Rattle.cqs_core.specs.declared.cells.CoreState.TheVariants as state
+use Rattle.cqs_core.specs.declared.doings.Doing.{Doing}
+use Rattle.cqs_core.specs.declared.doings.Doing.TheVariants as doing
+use Rattle.cqs_core.specs.QueueAsRefused.{refused_state, refused_cell, all_refused, as_refused}
+use Rattle.cqs_core.specs.QueueState.{Queue}
+use Rattle.cqs_core.specs.QueueMoves as move
+use Rattle.cqs_core.specs.QueueMoves.{Works, Owns, moved, at_state}
+use Rattle.cqs_core.specs.QueueSteps.{pends, grants, late, QueueStep, draws, enters, reaches, begins, puts, installs, takes, serves, leaves, delegates, passes_over, ends_refused, ends_missed, starts_leaving, leaves_line, leaves_at_once, settles, settles_owing, refuses, refuses_value, looks, row_of, IsOpenStep}
+use Rattle.cqs_core.proofs.Places.{set-same}
+use Rattle.cqs_core.proofs.QueueAsRefused.{read_option, get-refused, get-read, set-refused, drawn-refused, reached-refused}
+use Rattle.cqs_core.proofs.QueueBegins.{one_fewer}
+use Rattle.cqs_core.proofs.QueueStepMoves.{leads}
+use Rattle.cqs_latch_object.specs.declared.entries.LatchEntry.{LatchEntry}
+use Rattle.cqs_latch_object.specs.LatchShown.{LatchShape, as_read, IsLatch, IsLatchCore}
+use Rattle.cqs_latch_object.specs.LatchSteps.{IsLatchStep, cost_of, IsPaid, stepped}
+use Rattle.cqs_latch_object.specs.LatchWords as words
+use Rattle.cqs_latch_object.specs.LatchWords.{WordStep, loads_to_count, counts_down, loads_to_wait, comes, turns_back, opens, IsOpenWord, worded}
+use Rattle.cqs_latch_object.proofs.LatchResumes.{latch-install, latch-leave_value, latch-delegate, latch-pass_over, latch-reach, latch-begin, latch-serve, latch-take_value, latch-draw, latch-granted, latch-late, latch-pending}
+use Rattle.cqs_latch_object.proofs.LatchLeaves.{latch-begin_cancel, latch-cancel, latch-cancel_owing, latch-refuse, latch-refuse_value, latch-meet_refused, latch-miss, latch-leave_at_once}
+use Rattle.cqs_latch_object.proofs.LatchWords.{word-latch}
+
+module _ (size : ℕ) (count : ℤ) (word : ℕ) (done : Bool) where
+  -- a latch of this mode with these debts, history and queue
+  abbrev core : Bool → List ℕ → List LatchEntry → Queue → LatchShape
+  core simple owed history q = record {
+    simple = simple;
+    size = size;
+    count = count;
+    word = word;
+    done = done;
+    owed = owed;
+    history = history;
+    queue = q;
+  }
+
+  -- the same latch, with its history and queue written so
+  same-latch : (simple : Bool) (owed : List ℕ) {log history : List LatchEntry} {q r : Queue} → history ≡ log → q ≡ r
+      → IsLatch (core simple owed log r) → IsLatch (core simple owed history q)
+  same-latch simple owed logs queues is =
+      subst (λ (z : List LatchEntry × Queue). IsLatch (core simple owed z.0 z.1)) (λ i. (sym logs i, sym queues i)) is
+
+  module _ (owed : List ℕ) (log : List LatchEntry) (q : Queue) (p k : ℕ) where
+    -- Smart mode.
+    module _ (is : IsLatch (core false owed log q)) where
+      abbrev smart : LatchShape
+      smart = core false owed log q
+
+      pub smart-step : (step : QueueStep) (found : Option CoreCell) → IsLatchStep false step
+          → IsOpenStep q step p k found → IsPaid (cost_of (row_of step)) owed p
+          → IsLatch (stepped smart step p k found)
+      smart-step draws found may w paid =
+          let here : slice_get q.cells q.suspends ≡ found = ap (slice_get q.cells) (sym w.1) ∙ w.2 in
+          subst (λ j. IsLatch (stepped smart draws p j found)) (sym w.1) (latch-draw smart p k is found w.0 here)
+      smart-step reaches found may w paid =
+          let here : slice_get q.cells q.resumes ≡ found = ap (slice_get q.cells) (sym w.1) ∙ w.2 in
+          subst (λ j. IsLatch (stepped smart reaches p j found)) (sym w.1)
+          (same-latch false owed (append-nil log) refl (latch-reach smart p k is found w.0 here))
+      smart-step begins found may w paid =
+          let here : slice_get q.cells q.resumes ≡ found = ap (slice_get q.cells) (sym w.1) ∙ w.2 in
+          subst (λ j. IsLatch (stepped smart begins p j found)) (sym w.1)
+          (same-latch false (one_fewer owed p) (append-nil log) refl (latch-begin smart p k is found w.0 paid here))
+      smart-step installs (Some found) may w paid =
+          same-latch false owed (append-nil log) refl (latch-install smart p k is found w.0)
+      smart-step takes (Some found) may w paid = latch-take_value smart p k is found w.0
+      smart-step serves (Some found) may w paid = latch-serve smart p k is found w.0
+      smart-step leaves (Some found) may w paid =
+          same-latch false owed (append-nil log) refl (latch-leave_value smart p k is found w.0)
+      smart-step delegates (Some found) may w paid =
+          same-latch false owed (append-nil log) refl (latch-delegate smart p k is found w.0)
+      smart-step passes_over (Some found) may w paid =
+          same-latch false owed (append-nil log) (leads q p k passes_over (Some found) w).1
+          (latch-pass_over smart p k is found w.0)
+      smart-step ends_refused (Some found) may w paid =
+          same-latch false owed (append-nil log) (leads q p k ends_refused (Some found) w).1
+          (latch-meet_refused smart p k is found w.0 refl)
+      smart-step starts_leaving (Some found) may w paid =
+          same-latch false owed (append-nil log) refl (latch-begin_cancel smart p k is found w.0 w.1)
+      smart-step settles (Some found) may w paid =
+          same-latch false owed (append-nil log) refl (latch-cancel smart p k is found w.0)
+      smart-step settles_owing (Some found) may w paid =
+          same-latch false owed (append-nil log) refl (latch-cancel_owing smart p k is found w.0)
+      smart-step refuses (Some found) may w paid =
+          same-latch false owed (append-nil log) refl (latch-refuse smart p k is found w.0)
+      smart-step refuses_value (Some found) may w paid =
+          same-latch false owed (append-nil log) refl (latch-refuse_value smart p k is found w.0)
+      smart-step (looks pends) (Some found) may w paid =
+          same-latch false owed refl (leads q p k (looks pends) (Some found) w).1
+          (latch-pending smart p k is found w.0 w.1)
+      smart-step (looks grants) (Some found) may w paid =
+          same-latch false owed refl (leads q p k (looks grants) (Some found) w).1
+          (latch-granted smart p k is found w.0 w.1)
+      smart-step (looks late) (Some found) may w paid =
+          same-latch false owed refl (leads q p k (looks late) (Some found) w).1
+          (latch-late smart p k is found w.0 w.1)
+      smart-step enters found may w paid = absurd may
+      smart-step puts found may w paid = absurd may
+      smart-step leaves_line found may w paid = absurd may
+      smart-step ends_missed found may w paid = absurd (cc)
+      smart-step leaves_at_once found may w paid = absurd (cc)
+      smart-step installs None may w paid = absurd w
+      smart-step takes None may w paid = absurd w
+      smart-step serves None may w paid = absurd w
+      smart-step leaves None may w paid = absurd w
+      smart-step delegates None may w paid = absurd w
+      smart-step passes_over None may w paid = absurd w
+      smart-step ends_refused None may w paid = absurd w
+      smart-step starts_leaving None may w paid = absurd w
+      smart-step settles None may w paid = absurd w
+      smart-step settles_owing None may w paid = absurd w
+      smart-step refuses None may w paid = absurd w
+      smart-step refuses_value None may w paid = absurd w
+      smart-step (looks pends) None may w paid = absurd w
+      smart-step (looks grants) None may w paid = absurd w
+      smart-step (looks late) None may w paid = absurd w
+
+    -- Simple mode.
+    module _ (is : IsLatch (core true owed log (as_refused q))) where
+      abbrev simple : LatchShape
+      simple = core true owed log (as_refused q)
+
+      reads : (d : Doing) (found : CoreCell) (s : CoreState) → Works q p d k found s
+          → Works (as_refused q) p d k (refused_cell found) (refused_state s)
+      reads d found s w = record {
+        does = w.does;
+        finds = get-refused q.cells k found w.finds;
+        at = ap refused_state w.at;
+      }
+
+      owned : (found : CoreCell) → Owns p found → Owns p (refused_cell found)
+      owned found owns = record { owner = owns.owner; uncollected = owns.uncollected }
+
+      -- a queue with one cell set, as it is read
+      read-set : (c : CoreCell) (doings : List Doing)
+          → as_refused (record {
+            suspends = q.suspends;
+            resumes = q.resumes;
+            cells = set q.cells k c;
+            doing = doings;
+          })
+          ≡ record {
+            suspends = q.suspends;
+            resumes = q.resumes;
+            cells = set (all_refused q.cells) k (refused_cell c);
+            doing = doings;
+          }
+      read-set c doings = λ i. record {
+        suspends = q.suspends;
+        resumes = q.resumes;
+        cells = set-refused q.cells k c i;
+        doing = doings;
+      }
+
+      read-reached : (found : Option CoreCell)
+          → as_refused (moved q (move.reach p q.resumes found))
+          ≡ moved (as_refused q) (move.reach p q.resumes (read_option found))
+      read-reached found = λ i. record {
+        suspends = q.suspends;
+        resumes = q.resumes + 1;
+        cells = reached-refused q.cells found i;
+        doing = set q.doing p (doing.Ticket q.resumes);
+      }
+
+      abbrev looked : CoreCell → CoreCell
+      looked found = record { state = found.state; owner = found.owner; collected = true }
+
+      -- an idle pass goes on to be idle
+      still : slice_get q.doing p ≡ Some doing.Idle → (cells : List CoreCell)
+          → ◌≡◌ {A = Queue}
+          (record { suspends = q.suspends; resumes = q.resumes; cells = cells; doing = set q.doing p doing.Idle })
+          (record { suspends = q.suspends; resumes = q.resumes; cells = cells; doing = q.doing })
+      still does cells = λ i. record {
+        suspends = q.suspends;
+        resumes = q.resumes;
+        cells = cells;
+        doing = set-same q.doing p doing.Idle does i;
+      }
+
+      -- the latch after the step, as it is read
+      abbrev after : QueueStep → ℕ → Option CoreCell → LatchShape
+      after step j found = as_read (stepped (core true owed log q) step p j found)
+
+      abbrev idle : List Doing
+      idle = set q.doing p doing.Idle
+
+      pub simple-step : (step : QueueStep) (found : Option CoreCell) → IsLatchStep true step
+          → IsOpenStep q step p k found → IsPaid (cost_of (row_of step)) owed p
+          → IsLatch (after step k found)
+      simple-step draws found may w paid =
+          let here : slice_get q.cells q.suspends ≡ found = ap (slice_get q.cells) (sym w.1) ∙ w.2 in
+          subst (λ j. IsLatch (after draws j found)) (sym w.1)
+          (same-latch true owed refl
+          (λ i. record {
+            suspends = q.suspends + 1;
+            resumes = q.resumes;
+            cells = drawn-refused q.cells q.suspends p found i;
+            doing = set q.doing p (doing.Drawn q.suspends);
+          })
+          (latch-draw simple p k is (read_option found) w.0 (get-read q.cells q.suspends found here)))
+      simple-step reaches found may w paid =
+          let here : slice_get q.cells q.resumes ≡ found = ap (slice_get q.cells) (sym w.1) ∙ w.2 in
+          subst (λ j. IsLatch (after reaches j found)) (sym w.1)
+          (same-latch true owed (append-nil log) (read-reached found)
+          (latch-reach simple p k is (read_option found) w.0 (get-read q.cells q.resumes found here)))
+      simple-step begins found may w paid =
+          let here : slice_get q.cells q.resumes ≡ found = ap (slice_get q.cells) (sym w.1) ∙ w.2 in
+          subst (λ j. IsLatch (after begins j found)) (sym w.1)
+          (same-latch true (one_fewer owed p) (append-nil log) (read-reached found)
+          (latch-begin simple p k is (read_option found) w.0 paid (get-read q.cells q.resumes found here)))
+      simple-step installs (Some found) may w paid =
+          same-latch true owed (append-nil log) (read-set (at_state found state.Waiter) idle)
+          (latch-install simple p k is (refused_cell found) (reads (doing.Drawn k) found state.Empty w.0))
+      simple-step takes (Some found) may w paid =
+          same-latch true owed refl
+          (read-set (record { state = state.Taken; owner = found.owner; collected = true }) idle)
+          (latch-take_value simple p k is (refused_cell found) (reads (doing.Drawn k) found state.Value w.0))
+      simple-step serves (Some found) may w paid =
+          same-latch true owed refl (read-set (at_state found state.Resumed) idle)
+          (latch-serve simple p k is (refused_cell found) (reads (doing.Ticket k) found state.Waiter w.0))
+      simple-step leaves (Some found) may w paid =
+          same-latch true owed (append-nil log) (read-set (at_state found state.Value) idle)
+          (latch-leave_value simple p k is (refused_cell found) (reads (doing.Ticket k) found state.Empty w.0))
+      simple-step ends_missed (Some found) may w paid =
+          same-latch true owed refl
+          (λ i. as_refused (record {
+            suspends = q.suspends;
+            resumes = q.resumes;
+            cells = set-same q.cells k found w.0.finds i;
+            doing = idle;
+          }))
+          (latch-miss simple p k is (refused_cell found) (reads (doing.Ticket k) found state.Cancelled w.0) refl)
+      simple-step leaves_at_once (Some found) may w paid =
+          same-latch true owed refl
+          (read-set (at_state found state.Cancelled) idle
+          ∙ still w.0.does (set (all_refused q.cells) k (at_state (refused_cell found) state.Refused)))
+          (latch-leave_at_once simple p k is (refused_cell found) (reads doing.Idle found state.Waiter w.0)
+          (owned found w.1) refl)
+      simple-step (looks pends) (Some found) may w paid =
+          same-latch true owed refl (ap as_refused (leads q p k (looks pends) (Some found) w).1)
+          (latch-pending simple p k is (refused_cell found) (reads doing.Idle found state.Waiter w.0)
+          (owned found w.1))
+      simple-step (looks grants) (Some found) may w paid =
+          same-latch true owed refl
+          (ap as_refused (leads q p k (looks grants) (Some found) w).1 ∙ read-set (looked found) q.doing)
+          (latch-granted simple p k is (refused_cell found) (reads doing.Idle found state.Resumed w.0)
+          (owned found w.1))
+      simple-step (looks late) (Some found) may w paid =
+          same-latch true owed refl
+          (ap as_refused (leads q p k (looks late) (Some found) w).1 ∙ read-set (looked found) q.doing)
+          (latch-late simple p k is (refused_cell found) (reads doing.Idle found state.Resumed w.0)
+          (owned found w.1))
+      simple-step enters found may w paid = absurd may
+      simple-step puts found may w paid = absurd may
+      simple-step leaves_line found may w paid = absurd may
+      simple-step delegates found may w paid = absurd (cc)
+      simple-step passes_over found may w paid = absurd (cc)
+      simple-step ends_refused found may w paid = absurd (cc)
+      simple-step starts_leaving found may w paid = absurd (cc)
+      simple-step settles found may w paid = absurd (cc)
+      simple-step settles_owing found may w paid = absurd (cc)
+      simple-step refuses found may w paid = absurd (cc)
+      simple-step refuses_value found may w paid = absurd (cc)
+      simple-step installs None may w paid = absurd w
+      simple-step takes None may w paid = absurd w
+      simple-step serves None may w paid = absurd w
+      simple-step leaves None may w paid = absurd w
+      simple-step ends_missed None may w paid = absurd w
+      simple-step leaves_at_once None may w paid = absurd w
+      simple-step (looks pends) None may w paid = absurd w
+      simple-step (looks grants) None may w paid = absurd w
+      simple-step (looks late) None may w paid = absurd w
+
+-- Both modes: the parts of the latch are given one by one, so that its mode may be told apart.
+module _ (size : ℕ) (count : ℤ) (word : ℕ) (done : Bool) (owed : List ℕ) (log : List LatchEntry) (q : Queue) where
+  either-step : (simple : Bool) (step : QueueStep) (p k : ℕ) (found : Option CoreCell)
+      → IsLatchCore (core size count word done simple owed log q) → IsLatchStep simple step
+      → IsOpenStep q step p k found → IsPaid (cost_of (row_of step)) owed p
+      → IsLatchCore (stepped (core size count word done simple owed log q) step p k found)
+  either-step false step p k found is = smart-step size count word done owed log q p k is step found
+  either-step true step p k found is = simple-step size count word done owed log q p k is step found
+
+  either-word : (simple : Bool) (w : WordStep) (p : ℕ)
+      → IsLatchCore (core size count word done simple owed log q)
+      → IsOpenWord (core size count word done simple owed log q) w p
+      → IsLatchCore (worded (core size count word done simple owed log q) w p)
+  either-word false w p is may = word-latch (core size count word done false owed log q) w p is may
+  either-word true w p is may = word-latch (core size count word done true owed log (as_refused q)) w p is (same w may)
+    where
+      same : (w : WordStep) → IsOpenWord (core size count word done true owed log q) w p
+          → IsOpenWord (core size count word done true owed log (as_refused q)) w p
+      same loads_to_count may = may
+      same counts_down may = may
+      same loads_to_wait may = may
+      same comes may = may
+      same turns_back may = may
+      same opens may = may
+      same (words.leaves j) may = may
+
+pub step-core : (s : LatchShape) (step : QueueStep) (p k : ℕ) (found : Option CoreCell) → IsLatchCore s
+    → IsLatchStep s.simple step → IsOpenStep s.queue step p k found → IsPaid (cost_of (row_of step)) s.owed p
+    → IsLatchCore (stepped s step p k found)
+step-core s = either-step s.size s.count s.word s.done s.owed s.history s.queue s.simple
+
+pub word-core : (s : LatchShape) (w : WordStep) (p : ℕ) → IsLatchCore s → IsOpenWord s w p → IsLatchCore (worded s w p)
+word-core s = either-word s.size s.count s.word s.done s.owed s.history s.queue s.simple

@@ -40,6 +40,7 @@ use Rattle.cqs_rule.proofs.CellsStand.{CellAt, cell-at, one-number, place-low}
 use Rattle.cqs_rule.proofs.CellSteps.{WorksAt, works-at, works, since-last, closes-own}
 use Rattle.cqs_rule.proofs.Lists.{length_without}
 use Rattle.cqs_rule.proofs.Looks.{looks-to, found-so, counted-at}
+use Rattle.cqs_rule.proofs.Shelves.{keeps-all}
 use Rattle.cqs_rule.proofs.Worked.{loaded-same}
 
 -- at what a pass loads so
@@ -133,7 +134,7 @@ quiet misses state.Cancelled e = absurd (cc)
 quiet misses state.Refused e = refl
 
 kept : (gains : ℕ → ℕ) (k n : ℕ) (f : Facts) → CarriesLearned gains Nothing f (facts_watched k n f)
-kept gains k n f = record { held = refl; owes = refl; waits = omega arith; further = refl; spares = refl }
+kept gains k n f = record { held = refl; owes = refl; waits = omega arith; further = refl; spares = refl; open_slot = refl }
 
 polls-waiter : ShowsStep polls state.Waiter (looks pends)
 polls-waiter = record {
@@ -157,6 +158,7 @@ polls-waiter = record {
     waits = omega arith;
     further = refl;
     spares = refl;
+    open_slot = refl;
   };
 }
 
@@ -182,6 +184,7 @@ polls-resumed = record {
     waits = length_without k f.waits once own;
     further = refl;
     spares = refl;
+    open_slot = refl;
   };
 }
 
@@ -207,6 +210,7 @@ cancels-resumed = record {
     waits = length_without k f.waits once own;
     further = refl;
     spares = refl;
+    open_slot = refl;
   };
 }
 
@@ -232,6 +236,7 @@ meets-cancelled = record {
     waits = omega arith;
     further = refl;
     spares = refl;
+    open_slot = refl;
   };
 }
 
@@ -257,6 +262,7 @@ meets-refused = record {
     waits = omega arith;
     further = refl;
     spares = refl;
+    open_slot = refl;
   };
 }
 
@@ -282,6 +288,7 @@ misses-cancelled = record {
     waits = omega arith;
     further = refl;
     spares = refl;
+    open_slot = refl;
   };
 }
 
@@ -451,7 +458,7 @@ module _ {E S : Type 0} (object : Object E) (primitive : Primitive E S) (passes 
             once = at.once;
             last = at.last;
             behind = record { reached = at.behind.reached; passed = at.behind.passed };
-          }) known.payload_fits in
+          }) known.payload_fits (keeps-all primitive.opens v facts refl (λ j o. o)) in
           let w : View E S = grown v facts (r.log ++ []) r.handed in (
             w,
             keeps,
@@ -558,7 +565,7 @@ module _ {E S : Type 0} (object : Object E) (primitive : Primitive E S) (passes 
         once = at.once;
         last = at.last;
         behind = record { reached = at.behind.reached; passed = at.behind.passed };
-      }) known.payload_fits in
+      }) known.payload_fits (keeps-all primitive.opens v facts refl (λ j o. o)) in
       let w : View E S = grown v facts (r.log ++ []) r.handed in (
         w,
         keeps,

@@ -32,7 +32,7 @@ use Rattle.cqs_rule.specs.Exchanges.{IsOwnWait, payload_left, Exchanges, MayExch
 use Rattle.cqs_rule.specs.declared.view.Has.{Has}
 use Rattle.cqs_rule.specs.Facts.{facts_worked, facts_missed, waits_then, is_owing}
 use Rattle.cqs_rule.specs.Kinds.{Carries, held_gained, owes_at_stage, opened, closed}
-use Rattle.cqs_rule.specs.Hidden.{Hidden, Gains, has_gained, happened_by, state_in, state_at}
+use Rattle.cqs_rule.specs.Hidden.{Hidden, Gains, has_gained, has_after, happened_by, state_in, state_at}
 use Rattle.cqs_rule.specs.Inside.{IsInside as InView}
 use Rattle.cqs_rule.specs.Layout.{client_words, words_for}
 use Rattle.cqs_rule.specs.Lists as lists
@@ -46,6 +46,7 @@ use Rattle.cqs_rule.proofs.Grow.{Turned}
 use Rattle.cqs_rule.proofs.Cells.{installed-drawn, idle-stands}
 use Rattle.cqs_rule.proofs.Lists.{length_without}
 use Rattle.cqs_rule.proofs.Looks.{looks-to, found-so}
+use Rattle.cqs_rule.proofs.Shelves.{keeps-all}
 use Rattle.cqs_rule.proofs.Others.{door-keeps}
 use Rattle.cqs_rule.proofs.Segments.{later-same}
 use Rattle.cqs_rule.proofs.Tells.{Steps, steps, inside-of, suspends-low, resumes-low}
@@ -274,6 +275,7 @@ worked-carries gains row k n payload f once own = record {
   waits = by row.wait own;
   further = gained-further gains row.gain payload f.has;
   spares = gained-spares gains row.gain payload f.has;
+  open_slot = refl;
 }
   where
     by : (w : WaitChange) → (w ≡ wait_closes → lists.Has k f.waits)
@@ -355,6 +357,9 @@ module _ {E S : Type 0} (object : Object E) (primitive : Primitive E S) (passes 
         self = worked-self object.gains c p k row found f.has payload row_is sound opens n f refl at safe;
         silent = client.silent st p k payload;
         payload_fits = gained-fits object.gains row.gain payload f.has fits known.payload_fits;
+        slots = keeps-all primitive.opens v (facts_worked object.gains row k n payload f) refl
+            (λ j o. subst (λ z. primitive.opens (has_after object.gains z payload f.has) j) is
+            (client.slots.steps st f.has payload j suits o));
         now = r.segments;
         later = later-same r.segments;
       } in
@@ -433,7 +438,7 @@ module _ {E S : Type 0} (object : Object E) (primitive : Primitive E S) (passes 
         once = at.once;
         last = inl (refl, refl);
         behind = record { reached = at.behind.reached; passed = at.behind.passed };
-      }) known.payload_fits in (
+      }) known.payload_fits (keeps-all primitive.opens v facts refl (λ j o. o)) in (
         grown v facts (r.log ++ []) r.handed,
         keeps,
         tt,

@@ -29,7 +29,7 @@ use Rattle.cqs_rule.specs.declared.view.Has.{Has}
 use Rattle.cqs_rule.specs.Client.{IsClient, IsPaid, IsPayload}
 use Rattle.cqs_rule.specs.Counts.{IsCount, payload_paid, DrewBy, drew, IsDrawnBy}
 use Rattle.cqs_rule.specs.Facts.{facts_counted_by, IsBehind}
-use Rattle.cqs_rule.specs.Hidden.{Hidden, Gains, has_paid, happened_by, state_at}
+use Rattle.cqs_rule.specs.Hidden.{Hidden, Gains, has_paid, has_after, happened_by, state_at}
 use Rattle.cqs_rule.specs.Kinds.{Carries, further_paid}
 use Rattle.cqs_rule.specs.Layout.{words_for, client_words}
 use Rattle.cqs_rule.specs.Manner.{Suits}
@@ -43,6 +43,7 @@ use Rattle.cqs_rule.proofs.Grow.{Turned, OthersStay}
 use Rattle.cqs_rule.proofs.Lists.{fewer_draw}
 use Rattle.cqs_rule.proofs.Others.{door-keeps}
 use Rattle.cqs_rule.proofs.Segments.{later-same}
+use Rattle.cqs_rule.proofs.Shelves.{keeps-all}
 use Rattle.cqs_rule.proofs.Tells.{steps, suspends-low, resumes-low}
 use Rattle.cqs_rule.proofs.Words.{this-word, crew-else, cells-else, client-below, idle-else, other-word}
 
@@ -357,6 +358,9 @@ module _ {E S : Type 0} (object : Object E) (primitive : Primitive E S) (passes 
         self = drawn-self object.gains c p n at cost found f.has payload n f refl refl refl next sound stands;
         silent = client.silent st p n payload;
         payload_fits = paid-fits cost payload f.has fits known.payload_fits;
+        slots = keeps-all primitive.opens v facts refl
+            (λ j o. subst (λ z. primitive.opens (has_after object.gains z payload f.has) j) is
+            (client.slots.steps st f.has payload j suits o));
         now = r.segments;
         later = later-same r.segments;
       } in
@@ -376,6 +380,7 @@ module _ {E S : Type 0} (object : Object E) (primitive : Primitive E S) (passes 
             waits = refl;
             further = paid-further cost payload f.has;
             spares = paid-spares cost payload f.has;
+            open_slot = refl;
           },
           tt,
         ),
@@ -386,7 +391,7 @@ module _ {E S : Type 0} (object : Object E) (primitive : Primitive E S) (passes 
       → row_of st ≡ at_counter (record { works_at = at; counter = to_resume; cost = cost }) → me.0.weight ≡ 1
       → Suits primitive.manner st → me.0.facts.doing ≡ doing_at at 0 → ((k : ℕ) → doing_at at 0 ≡ doing_at at k)
       → IsPaid cost me.0.facts.has payload → payload < 2 ^ 20 → payload ≡ payload_paid cost me.0.facts.has
-      → ((c : Hidden) (words : List ℕ) (log : List E) (handed : List S) → primitive.shows c words log handed
+      → ((c : Hidden) (words : List ℕ) (log : List E) (handed : List (ℕ × S)) → primitive.shows c words log handed
       → slice_get c.queue.doing me.0.number ≡ Some me.0.facts.doing → slice_get c.has me.0.number ≡ Some me.0.facts.has
       → c.queue.resumes < c.queue.suspends + length (queue.door c.queue) + primitive.values)
       → Allows (Ruled object primitive passes limit) slots id me 32 (λ n. (n + 1) % 2 ^ 64)
@@ -455,6 +460,9 @@ module _ {E S : Type 0} (object : Object E) (primitive : Primitive E S) (passes 
         self = reached-self object.gains c p n at cost found f.has payload n f refl refl next stands;
         silent = client.silent st p n payload;
         payload_fits = paid-fits cost payload f.has fits known.payload_fits;
+        slots = keeps-all primitive.opens v facts refl
+            (λ j o. subst (λ z. primitive.opens (has_after object.gains z payload f.has) j) is
+            (client.slots.steps st f.has payload j suits o));
         now = r.segments;
         later = later-same r.segments;
       } in
@@ -474,6 +482,7 @@ module _ {E S : Type 0} (object : Object E) (primitive : Primitive E S) (passes 
             waits = refl;
             further = paid-further cost payload f.has;
             spares = paid-spares cost payload f.has;
+            open_slot = refl;
           },
           subst (λ z. IsBehind z f) (sym next) stands.behind,
         ),

@@ -1,5 +1,5 @@
 -- The steps on the crew's word, and the cut and the join of views that go with them, keep the rule.
-use Rattle.std.proofs.Common.{◌≡◌, ◌≢◌, ◌⊎◌, ℕ, ◌+◌, ◌-◌, ◌*◌, ◌/◌, ◌%◌, ◌^◌, ◌<◌, ◌≤◌, Bool, true, false, true≢false, List, [], ◌∷◌, ◌++◌, length, set, sym, refl, ap, ◌∙◌, subst, ⊎_elim, inl, inr, arith, length-set, eq-eqb, Option, Some}
+use Rattle.std.proofs.Common.{◌≡◌, ◌≢◌, ◌⊎◌, ℕ, ◌+◌, ◌-◌, ◌*◌, ◌/◌, ◌%◌, ◌^◌, ◌<◌, ◌≤◌, Bool, true, false, true≢false, List, [], ◌∷◌, ◌++◌, length, set, sym, refl, ap, ◌∙◌, subst, ⊎_elim, inl, inr, arith, length-set, eq-eqb, Option, Some, None}
 use Rattle.std.specs.Prelude.{slice_index, slice_set, ◌==◌}
 use Rattle.std.proofs.lemmas.List.{append-nil}
 use Rattle.std.proofs.lemmas.Bool.{eqb-true, cases_lt}
@@ -34,6 +34,7 @@ use Rattle.cqs_rule.proofs.Lists.{set_there, one_there, set_all, total_set, tota
 use Rattle.cqs_rule.proofs.Grow.{rests-on, second-on, spent-set, advance, is-inside}
 use Rattle.cqs_rule.proofs.Others.{others-same}
 use Rattle.cqs_rule.proofs.Looks.{still}
+use Rattle.cqs_rule.proofs.Shelves.{keeps-same, never-open, shelf-set, shelf-live, shelf-end, shelf-joined}
 use Rattle.cqs_rule.proofs.Tells.{steps, inside-of}
 
 -- the two numbers of the crew's word
@@ -236,7 +237,7 @@ module _ {E S : Type 0} where
 module _ {E S : Type 0} (object : Object E) where
   -- what the rule says of another view stays, where more were made, fewer or more are live, and its numbers stand as
   -- they did
-  knows-on : (c d : Hidden) (log : List E) (given : List S) (made live made' live' passes limit cells : ℕ)
+  knows-on : (c d : Hidden) (log : List E) (given : List (ℕ × S)) (made live made' live' passes limit cells : ℕ)
       (opening : Opening) (u : View E S)
       → made ≤ made' → ((n : ℕ) (facts : Facts) → Has n (all_own u) → Stands c n facts → Stands d n facts)
       → WasCrew made' live' u.crew → (u.alone ≡ true → live' ≡ live)
@@ -319,7 +320,8 @@ module _ {E S : Type 0} (object : Object E) (primitive : Primitive E S) (passes 
       let k = r.each_view id v here (omega arith) in
       let n = slice_index s.words 0 in
       let t = still object primitive passes limit client s r v 0 r.hidden v.facts
-      r.counters r.cells r.room r.door r.shown (others-same r.hidden v.number) k.stands k.payload_fits in (
+      r.counters r.cells r.room r.door r.shown (others-same r.hidden v.number) k.stands k.payload_fits
+      (keeps-same primitive.opens v) in (
         advance object primitive passes limit s r id me.1 v 0 n r.hidden [] v.facts n alone here one
             (inr r.crew.word) sole t,
         (steps object primitive passes limit client s r id me 0 n r.hidden [] v.facts here one t).1,
@@ -364,10 +366,11 @@ module _ {E S : Type 0} (object : Object E) (primitive : Primitive E S) (passes 
       )
 
   -- the exchange that makes a pass
-  pub makes : (slots id first : ℕ) (me : Me (Option S) (View E S)) → me.0.weight ≡ 1 → made_in first < passes
+  pub makes : (slots id first : ℕ) (me : Me (Option S) (View E S)) → me.0.weight ≡ 1 → me.0.facts.open_slot ≡ None
+      → made_in first < passes
       → Allows R slots id me 0 (λ n. either (n == first) (first + 4294967297) n)
       (tried_by object (step slots 0 first (first + 4294967297) none) me)
-  makes slots id first me one room s r _ here small = exchanged n first (first + 4294967297) Done hit miss
+  makes slots id first me one shut room s r _ here small = exchanged n first (first + 4294967297) Done hit miss
     where
       n : ℕ
       n = slice_index s.words 0
@@ -512,6 +515,14 @@ module _ {E S : Type 0} (object : Object E) (primitive : Primitive E S) (passes 
                 live = omega arith;
                 sees = inl refl;
               };
+              shelf = shelf-live primitive.opens r.handed r.live (r.live + 1) s.homes (set s.views id w)
+                  (set_all (λ j u. 0 < u.weight → (i : ℕ) → u.facts.open_slot ≡ Some i → r.live ≡ 1 → ⊥) s.views id w
+                  (λ _ i out single. absurd (never-open v i shut out))
+                  (λ j u apart at live i out single.
+                  let two = two_of weight s.views j id u v apart at here in
+                  let l = r.crew.live_is in absurd (omega arith)))
+                  (shelf-set primitive.opens r.handed r.live s.homes s.views id v w here (omega arith)
+                  (record { live = omega arith; laid = refl; keeps = keeps-same primitive.opens v }) r.shelf);
             },
             (
               record {
@@ -577,16 +588,18 @@ module _ {E S : Type 0} (object : Object E) (primitive : Primitive E S) (passes 
           )
 
   -- the same by the number that the pass writes
-  pub makes-to : (slots id first new : ℕ) (me : Me (Option S) (View E S)) → me.0.weight ≡ 1 → made_in first < passes
+  pub makes-to : (slots id first new : ℕ) (me : Me (Option S) (View E S)) → me.0.weight ≡ 1
+      → me.0.facts.open_slot ≡ None → made_in first < passes
       → new ≡ first + crew_word 1 1
       → Allows R slots id me 0 (λ n. either (n == first) new n) (tried_by object (step slots 0 first new none) me)
-  makes-to slots id first new me one room is = subst
+  makes-to slots id first new me one shut room is = subst
       (λ z. Allows R slots id me 0 (λ n. either (n == first) z n) (tried_by object (step slots 0 first z none) me))
-      (sym is) (makes slots id first me one room)
+      (sym is) (makes slots id first me one shut room)
 
   -- the view of a pass that counts for two is cut in two
-  pub splits : (id : ℕ) (v : View E S) → v.weight ≡ 2 → Splits R id v (single v) (cut_off v)
-  splits id v two s r here =
+  pub splits : (id : ℕ) (v : View E S) → v.weight ≡ 2 → v.second.open_slot ≡ None
+      → Splits R id v (single v) (cut_off v)
+  splits id v two shut s r here =
       let k = r.each_view id v here (omega arith) in
       let second = k.second (omega arith) in
       let left = single v in
@@ -685,6 +698,9 @@ module _ {E S : Type 0} (object : Object E) (primitive : Primitive E S) (passes 
         unused = r.unused;
         kept = λ n low. kept-cut n (r.kept n low);
         tip = tip-cut r.tip;
+        shelf = shelf-end primitive.opens r.handed r.live s.homes views right refl shut
+            (shelf-set primitive.opens r.handed r.live s.homes s.views id v left here (omega arith)
+            (record { live = omega arith; laid = refl; keeps = keeps-same primitive.opens v }) r.shelf);
         spent = λ j u e none. ⊎_elim
             (λ q. spent-set object primitive passes limit s.views id left (omega arith) r.spent j u q none)
             (λ (q : (j ≡ length views) × (right ≡ u)). let w : right.weight ≡ u.weight =
@@ -756,8 +772,9 @@ module _ {E S : Type 0} (object : Object E) (primitive : Primitive E S) (passes 
 
   -- the view of an idle pass takes in that of another idle one, and gets what it holds
   pub joins : (id other : ℕ) (v u : View E S) → v.weight ≡ 1 → u.weight ≡ 1 → v.facts.doing ≡ doing.Idle
-      → u.facts.doing ≡ doing.Idle → Joins R id v other u (joined v u) spent
-  joins id other v u one one' idle idle' s r here apart there =
+      → u.facts.doing ≡ doing.Idle → v.facts.open_slot ≡ None → u.facts.open_slot ≡ None
+      → Joins R id v other u (joined v u) spent
+  joins id other v u one one' idle idle' shut bare s r here apart there =
       let w = joined v u in
       let mid : List (View E S) = set s.views id w in
       let k = r.each_view id v here (omega arith) in
@@ -880,6 +897,9 @@ module _ {E S : Type 0} (object : Object E) (primitive : Primitive E S) (passes 
             (r.unused n above low);
         kept = λ n low. kept-joined n none_u none_v (r.kept n low);
         tip = tip-joined r.tip;
+        shelf = shelf-joined primitive.opens r.handed r.live s.homes s.views id other v u w spent here at-other apart
+            (omega arith) (omega arith) (omega arith) refl refl shut bare shut
+            (λ j o. client.slots.gathers v.facts.has u.facts.has j o) r.shelf;
       }
     where
       at-other : get_elem? s.views other ≡ some u
@@ -1066,6 +1086,10 @@ module _ {E S : Type 0} (object : Object E) (primitive : Primitive E S) (passes 
             live = omega arith;
             sees = inl refl;
           };
+          shelf = shelf-live primitive.opens r.handed r.live (r.live - 1) s.homes (set s.views id w)
+              (λ j u at on i out single. absurd (omega arith))
+              (shelf-set primitive.opens r.handed r.live s.homes s.views id v w here (omega arith)
+              (record { live = omega arith; laid = refl; keeps = keeps-same primitive.opens v }) r.shelf);
         },
         (
           record {

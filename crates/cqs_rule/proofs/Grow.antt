@@ -19,6 +19,7 @@ use Rattle.cqs_rule.specs.Views.{all_own, weight, grown, Apart, SpentHasNone, Wa
 use Rattle.cqs_rule.specs.Ruled.{Ruled, Knows, Sees, Stands, IsWaitOf, CountersShow, CellsShow, IdleWords, HasRoom, DoorMayDraw, number_at, IsKept, Rests, HasSecond, cell_count}
 use Rattle.cqs_rule.specs.Segments.{Segments, IsLater, KnowsSegments}
 use Rattle.cqs_rule.proofs.Segments.{knows-later}
+use Rattle.cqs_rule.proofs.Shelves.{Keeps, shelf-set}
 use Rattle.cqs_rule.specs.Inside.{IsInside}
 use Rattle.cqs_rule.specs.Object.{Object, Primitive}
 use Rattle.cqs_rule.specs.Saw.{Saw, IsLive}
@@ -64,7 +65,7 @@ is-inside w cells are inside waits once owed = record {
 
 module _ {E S : Type 0} (object : Object E) where
   -- what another view has seen, where the pass p adds entries to the history
-  sees-more : (log es : List E) (handed : List S) (p : ℕ) (u : View E S) → NamesOnly object.names p es
+  sees-more : (log es : List E) (handed : List (ℕ × S)) (p : ℕ) (u : View E S) → NamesOnly object.names p es
       → ((n : ℕ) → Has n (all_own u) → n ≢ p) → Sees object log handed u → Sees object (log ++ es) handed u
   sees-more log es handed p u silent apart k = record {
     seen = longer u.seen log es k.seen;
@@ -77,7 +78,7 @@ module _ {E S : Type 0} (object : Object E) where
   }
 
   -- what the rule says of another view
-  others-know : (c d : Hidden) (log es : List E) (handed : List S) (made live passes limit cells : ℕ)
+  others-know : (c d : Hidden) (log es : List E) (handed : List (ℕ × S)) (made live passes limit cells : ℕ)
       (opening : Opening) (p : ℕ) (u : View E S)
       → OthersStay c d p → NamesOnly object.names p es → ((n : ℕ) → Has n (all_own u) → n ≢ p) → (u.alone ≡ true → ⊥)
       → Knows object c log handed made live passes limit cells opening u
@@ -125,6 +126,7 @@ module _ {E S : Type 0} (object : Object E) (primitive : Primitive E S) (passes 
     pub self : Stands d v.number facts
     pub silent : NamesOnly object.names v.number es
     pub payload_fits : facts.has.payload < 2 ^ 20
+    pub slots : Keeps primitive.opens v facts
     pub now : Segments
     pub later : IsLater r.segments now
 
@@ -254,6 +256,8 @@ module _ {E S : Type 0} (object : Object E) (primitive : Primitive E S) (passes 
           live = omega arith;
           sees = inl refl;
         };
+        shelf = shelf-set primitive.opens r.handed r.live s.homes s.views id v w here (omega arith)
+            (record { live = omega arith; laid = refl; keeps = t.slots }) r.shelf;
         segments = t.now;
         each_segment = set_all (λ j u. KnowsSegments t.now u) s.views id w
             (record { homes = (knows-later r.segments t.now v t.later (r.each_segment id v here)).homes })

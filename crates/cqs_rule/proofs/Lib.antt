@@ -4,6 +4,7 @@ pub mod CellPlaces
 pub mod Places
 pub mod Words
 pub mod Segments
+pub mod Shelves
 pub mod Grow
 pub mod Others
 pub mod CellsStand

@@ -23,6 +23,7 @@ use Rattle.cqs_rule.specs.Saw.{WasFound}
 use Rattle.cqs_rule.proofs.Lists.{all_draw}
 use Rattle.cqs_rule.proofs.Segments.{later-same}
 use Rattle.cqs_rule.proofs.Grow.{Turned, OthersStay}
+use Rattle.cqs_rule.proofs.Shelves.{Keeps, keeps-all}
 use Rattle.cqs_rule.proofs.Others.{others-same, others-counted, door-keeps}
 use Rattle.cqs_rule.proofs.Tells.{steps, Steps}
 use Rattle.cqs_core.proofs.Places.{get-set_here, get-set_else, set-same}
@@ -37,9 +38,9 @@ module _ {E S : Type 0} (object : Object E) (primitive : Primitive E S) (passes 
       → DoorMayDraw d
       → primitive.shows d (client_words s.words) (r.log ++ es) r.handed → OthersStay r.hidden d v.number
       → Stands d v.number facts
-      → NamesOnly object.names v.number es → facts.has.payload < 2 ^ 20
+      → NamesOnly object.names v.number es → facts.has.payload < 2 ^ 20 → Keeps primitive.opens v facts
       → Turned object primitive passes limit s r v i (slice_index s.words i) d es facts
-  stays s r v i d es facts counters cells room door shown others self silent owed =
+  stays s r v i d es facts counters cells room door shown others self silent owed slots =
       let same : slice_set s.words i (slice_index s.words i) ≡ s.words = set-get_or s.words i 0 in
       record {
         crew = ap (λ l. slice_index l 0) same;
@@ -53,6 +54,7 @@ module _ {E S : Type 0} (object : Object E) (primitive : Primitive E S) (passes 
         self = self;
         silent = silent;
         payload_fits = owed;
+        slots = slots;
         now = r.segments;
         later = later-same r.segments;
       }
@@ -65,25 +67,25 @@ module _ {E S : Type 0} (object : Object E) (primitive : Primitive E S) (passes 
       → DoorMayDraw d
       → primitive.shows d (client_words s.words) r.log r.handed → OthersStay r.hidden d v.number
       → Stands d v.number facts
-      → facts.has.payload < 2 ^ 20
+      → facts.has.payload < 2 ^ 20 → Keeps primitive.opens v facts
       → Turned object primitive passes limit s r v i (slice_index s.words i) d [] facts
-  still s r v i d facts counters cells room door shown others self owed =
+  still s r v i d facts counters cells room door shown others self owed slots =
       stays s r v i d [] facts counters cells room door
       (subst (λ l. primitive.shows d (client_words s.words) l r.handed) (sym (append-nil r.log)) shown) others self
-      (λ n apart. refl) owed
+      (λ n apart. refl) owed slots
 
   -- nothing hidden changes, and the pass goes on to these facts
   pub looks-to : (s : State (Option S) (View E S)) (r : Ruled object primitive passes limit s) (id : ℕ)
       (me : Me (Option S) (View E S)) (i : ℕ) (facts : Facts)
       → get_elem? s.views id ≡ some me.0 → me.0.weight ≡ 1 → Stands r.hidden me.0.number facts
-      → facts.has.payload < 2 ^ 20
+      → facts.has.payload < 2 ^ 20 → Keeps primitive.opens me.0 facts
       → Steps object primitive passes limit client s id me i
       (slice_index s.words i) [] facts (grown me.0 facts (r.log ++ []) r.handed)
-  looks-to s r id me i facts here one self owed =
+  looks-to s r id me i facts here one self owed slots =
       steps object primitive passes limit client s r id me i
       (slice_index s.words i) r.hidden [] facts here one
       (still s r me.0 i r.hidden facts r.counters r.cells r.room r.door r.shown
-      (others-same r.hidden me.0.number) self owed)
+      (others-same r.hidden me.0.number) self owed slots)
 
   -- what was found is told by what the client shows
   pub found-so : {C : Type 0} (all : C → Primitive E S) (x : C) → all x ≡ primitive → (s : State (Option S) (View E S))
@@ -142,7 +144,7 @@ module _ {E S : Type 0} (object : Object E) (primitive : Primitive E S) (passes 
         last = at.last;
         behind = record { reached = at.behind.reached; passed = at.behind.passed };
       })
-      k.payload_fits) in (
+      k.payload_fits (keeps-all primitive.opens me.0 (facts_counted me.0.limit n f) refl (λ j o. o))) in (
         grown me.0 (facts_counted me.0.limit n f) (r.log ++ []) r.handed,
         keeps,
         tt,
@@ -156,7 +158,7 @@ module _ {E S : Type 0} (object : Object E) (primitive : Primitive E S) (passes 
           },
           refl,
           t.2,
-          record { held = refl; owes = refl; waits = omega arith; further = refl; spares = refl },
+          record { held = refl; owes = refl; waits = omega arith; further = refl; spares = refl; open_slot = refl },
           t.1.same,
         ),
       )

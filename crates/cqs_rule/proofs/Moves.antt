@@ -5,14 +5,16 @@ use Rattle.std.proofs.lemmas.Int.{ints}
 use Rattle.std.specs.Prelude.{slice_index, slice_set}
 use Rattle.std.proofs.lemmas.List.{length-set}
 use Rattle.std.proofs.lemmas.Option.{same_Some}
-use Rattle.atomic_table.specs.Table.{Me, keeps, Allows}
+use mathlib.Core.Option.{some}
+use lib.ListN.{get_elem?}
+use Rattle.atomic_table.specs.Table.{State, Me, keeps, stepped, Allows}
 use Rattle.cqs_core.specs.declared.doings.Doing.TheVariants as doing
 use Rattle.cqs_core.proofs.Places.{get-set_here, get-set_else}
 use Rattle.cqs_rule.specs.declared.view.View.{View}
 use Rattle.cqs_rule.specs.declared.view.Facts.{Facts}
 use Rattle.cqs_rule.specs.declared.view.Opening.{Opening}
 use Rattle.cqs_rule.specs.Client.{IsClient}
-use Rattle.cqs_rule.specs.Events.{Moment, Event, moment, has_then, facts_moved, HasWord, Moved, Moves, added}
+use Rattle.cqs_rule.specs.Events.{Moment, Event, moment, has_then, facts_moved, HasWord, Moved, Moves, SlotsStay, added}
 use Rattle.cqs_rule.specs.Facts.{is_owing, IsBehind}
 use Rattle.cqs_rule.specs.Hidden.{Hidden, stands_at}
 use Rattle.cqs_rule.specs.Layout.{client_words, client_place}
@@ -23,6 +25,7 @@ use Rattle.cqs_rule.specs.Saw.{Saw, IsLive, WasFound}
 use Rattle.cqs_rule.specs.Views.{grown}
 use Rattle.cqs_rule.proofs.CellPlaces.{behind-client, client-inside}
 use Rattle.cqs_rule.proofs.Grow.{Turned}
+use Rattle.cqs_rule.proofs.Shelves.{never-open}
 use Rattle.cqs_rule.proofs.Lines.{line-flat}
 use Rattle.cqs_rule.proofs.Others.{others-moved, door-keeps}
 use Rattle.cqs_rule.proofs.Segments.{later-same}
@@ -74,10 +77,23 @@ module _ {C E S : Type 0} (object : Object E) (primitive : C → Primitive E S) 
   Tells place me n me' =
       Moved object primitive event made place me.0 n me'.0 × (me'.1 ≡ me.1) × IsLive object me'.0
 
-  pub moves : (slots id : ℕ) (me : Me (Option S) (View E S)) (i : ℕ) (f : ℕ → ℕ) → me.0.weight ≡ 1 → i < 4
+  -- a pass that has no slot open, and keeps those that it has laid something into
+  pub record MayStep (slots : ℕ) (v : View E S) : Type 0 where
+    pub one : v.weight ≡ 1
+    pub shut : v.facts.open_slot ≡ None
+    pub stay : SlotsStay (primitive x) slots event made v
+
+  -- the rule after the step, and what the step tells: the pass has seen all that was handed in
+  pub moved : (slots id : ℕ) (me : Me (Option S) (View E S)) (i : ℕ) (f : ℕ → ℕ) → MayStep slots me.0 → i < 4
       → Moves object (primitive x) event made me.0.number me.0.facts i f
-      → Allows (Ruled object (primitive x) passes limit) slots id me (client_place i) f (Tells (client_place i) me)
-  moves slots id me i f one few law s r _ here small =
+      → (s : State (Option S) (View E S)) (r : Ruled object (primitive x) passes limit s) → length s.homes ≡ slots
+      → get_elem? s.views id ≡ some me.0 → slice_index s.words (client_place i) < 18446744073709551616
+      → (w : View E S)
+      × Ruled object (primitive x) passes limit
+      (stepped s (client_place i) (f (slice_index s.words (client_place i))) id me.1 w keeps)
+      × Tells (client_place i) me (slice_index s.words (client_place i)) (w, me.1) × (w.handed ≡ r.handed)
+  moved slots id me i f may few law s r homes here small =
+      let one = may.one in
       let v = me.0 in let p = v.number in let facts = v.facts in let c = r.hidden in
       let known = r.each_view id v here (omega arith) in
       let at = known.stands in
@@ -137,14 +153,18 @@ module _ {C E S : Type 0} (object : Object E) (primitive : C → Primitive E S) 
             }) at;
         silent = law.silent n;
         payload_fits = law.fits n known.payload_fits;
+        slots = record {
+          open_slot = refl;
+          laid = λ k y is o. may.stay n k y (let t = r.shelf.laid id v here (omega arith) k y is in let low = t.2 in
+              omega arith) is o;
+          out = λ k is o. absurd (never-open v k may.shut is);
+        };
         now = r.segments;
         later = later-same r.segments;
       } in
       let done = steps object (primitive x) passes limit client s r id me word (f n) d es after here one t in
       let w : View E S = grown v after (r.log ++ es) r.handed in (
         w,
-        keeps,
-        tt,
         done.0,
         (
           record {
@@ -169,16 +189,23 @@ module _ {C E S : Type 0} (object : Object E) (primitive : C → Primitive E S) 
           refl,
           done.2,
         ),
+        refl,
       )
 
+  pub moves : (slots id : ℕ) (me : Me (Option S) (View E S)) (i : ℕ) (f : ℕ → ℕ) → MayStep slots me.0 → i < 4
+      → Moves object (primitive x) event made me.0.number me.0.facts i f
+      → Allows (Ruled object (primitive x) passes limit) slots id me (client_place i) f (Tells (client_place i) me)
+  moves slots id me i f may few law s r homes here small =
+      let t = moved slots id me i f may few law s r homes here small in (t.0, keeps, tt, t.1, t.2)
+
   -- the same at a word's place, by what the step computes of the word found
-  pub moves-at : (slots id : ℕ) (me : Me (Option S) (View E S)) (i place : ℕ) (f g : ℕ → ℕ) → me.0.weight ≡ 1 → i < 4
+  pub moves-at : (slots id : ℕ) (me : Me (Option S) (View E S)) (i place : ℕ) (f g : ℕ → ℕ) → MayStep slots me.0 → i < 4
       → place ≡ client_place i → ((n : ℕ) → g n ≡ f n)
       → Moves object (primitive x) event made me.0.number me.0.facts i f
       → Allows (Ruled object (primitive x) passes limit) slots id me place g (Tells place me)
-  moves-at slots id me i place f g one few is same law =
+  moves-at slots id me i place f g may few is same law =
       subst (λ (z : ℕ × (ℕ → ℕ)). Allows (Ruled object (primitive x) passes limit) slots id me z.0 z.1 (Tells z.0 me))
-      (λ j. (sym is j, λ n. sym (same n) j)) (moves slots id me i f one few law)
+      (λ j. (sym is j, λ n. sym (same n) j)) (moves slots id me i f may few law)
 
 -- what is added where the number is not negative, and where it is
 pub added-up : (by : ℤ) (amount n : ℕ) → amount ≡ unsigned_abs by → pos 0 ≤ℤ by → (n + amount) % 2 ^ 64 ≡ added by n

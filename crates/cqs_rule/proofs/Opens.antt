@@ -1,5 +1,5 @@
 -- The rule holds as a queue opens.
-use Rattle.std.proofs.Common.{◌≡◌, ◌⊎◌, ℕ, zero, suc, ◌+◌, ◌-◌, ◌<◌, ◌≤◌, true, false, List, [], ◌∷◌, ◌++◌, length, replicate, sym, refl, ap, ◌∙◌, subst, inl, inr, arith, Option, Some, slice_get, nat_lt, nat_le, lt-ltb, le-ltb, le-leb, ne_eqb, leb-true, if◌then◌else◌}
+use Rattle.std.proofs.Common.{◌≡◌, ◌⊎◌, ℕ, zero, suc, ◌+◌, ◌-◌, ◌<◌, ◌≤◌, true, false, List, [], ◌∷◌, ◌++◌, length, replicate, sym, refl, ap, ◌∙◌, subst, inl, inr, arith, Option, Some, None, slice_get, nat_lt, nat_le, lt-ltb, le-ltb, le-leb, ne_eqb, leb-true, if◌then◌else◌}
 use Rattle.std.specs.Prelude.{slice_index}
 use Rattle.std.proofs.lemmas.List.{length-replicate, length_push, get_or_append_left, get_or_push}
 use Rattle.std.proofs.lemmas.Bool.{cases_lt, and_parts, lt-leb}
@@ -27,6 +27,7 @@ use Rattle.cqs_rule.specs.Ruled.{Ruled, Knows, IsWaitOf, word_of, Stands, cell_c
 use Rattle.cqs_rule.specs.Opened.{value_cell, first_payload, first_hidden, four, first_word, first_cell, IsOpening}
 use Rattle.cqs_rule.proofs.CellPlaces.{number-place, cell-inside}
 use Rattle.cqs_rule.proofs.Lists.{all_draw}
+use Rattle.cqs_rule.proofs.Shelves.{shelf-opens}
 
 module _ {A : Type 0} where
   pub get-replicate : (n i : ℕ) (a : A) → i < n → slice_get (replicate n a) i ≡ Some a
@@ -98,11 +99,11 @@ module _ {E S : Type 0} (object : Object E) (primitive : Primitive E S) (passes 
   abbrev pub h : Hidden
   h = first_hidden passes primitive.values primitive.held
 
-  pub opens : IsClient object primitive → (words : List ℕ) (homes : List (Option S))
+  pub opens : IsClient object primitive → (words : List ℕ) (count : ℕ)
       → IsOpening (words_for cells_of) primitive.values primitive.words words
       → 0 < passes → passes ≤ 32 → 0 < limit → limit ≤ 1048576 → primitive.values ≤ 4096
-      → Ruled object primitive passes limit (opening words homes first)
-  opens client words homes o any few any_limit low_limit few_values = record {
+      → Ruled object primitive passes limit (opening words (replicate count None) first)
+  opens client words count o any few any_limit low_limit few_values = record {
     hidden = h;
     log = [];
     handed = [];
@@ -157,6 +158,7 @@ module _ {E S : Type 0} (object : Object E) (primitive : Primitive E S) (passes 
     };
     kept = λ n low. record { place = 0; view = first; there = refl; live = omega arith; has = inl (omega arith) };
     tip = record { place = 0; view = first; there = refl; live = omega arith; sees = inl refl };
+    shelf = shelf-opens primitive.opens 1 count first refl refl;
     segments = record { homes = [] };
     each_segment = λ j v e. subst (KnowsSegments (record { homes = [] })) (only-one first v j e).1
         (record { homes = ([], refl) });
@@ -297,23 +299,23 @@ config-bounds c good =
 
 -- the same by what the code computes of a configuration
 pub opens-by : {E S : Type 0} (object : Object E) (primitive : Primitive E S) → IsClient object primitive
-    → (config : Config) (passes values : ℕ) (words items : List ℕ) (homes : List (Option S))
+    → (config : Config) (passes values : ℕ) (words items : List ℕ) (count : ℕ)
     → is_config config ≡ true → passes ≡ config.passes → values ≡ primitive.values → words ≡ items
     → IsOpening (words_for (config.limit + config.passes + values)) primitive.values primitive.words items
     → primitive.values ≤ 4096
     → Ruled object primitive passes config.limit
-    (opening words homes
+    (opening words (replicate count None)
     (first_view passes config.limit (cell_count passes config.limit primitive.values) primitive.opening primitive.held))
-opens-by object primitive client config passes values words items homes good is_passes is_values is_words o few =
+opens-by object primitive client config passes values words items count good is_passes is_values is_words o few =
     let b = config-bounds config good in
     let any : 0 < passes = let h = b.some_passes in omega arith in
     let low : passes ≤ 32 = let h = b.few_passes in omega arith in
-    let count : config.limit + config.passes + values ≡ cell_count passes config.limit primitive.values = omega arith in
+    let cells : config.limit + config.passes + values ≡ cell_count passes config.limit primitive.values = omega arith in
     let whole :
     IsOpening (words_for (cell_count passes config.limit primitive.values)) primitive.values primitive.words words =
     subst (λ (t : ℕ × List ℕ). IsOpening (words_for t.0) primitive.values primitive.words t.1)
-    (λ i. (count i, sym is_words i)) o in
-    opens object primitive passes config.limit client words homes whole any low b.some_limit b.low_limit few
+    (λ i. (cells i, sym is_words i)) o in
+    opens object primitive passes config.limit client words count whole any low b.some_limit b.low_limit few
 
 pub first-live-by : {E S : Type 0} (object : Object E) (primitive : Primitive E S) → IsClient object primitive
     → (config : Config) → is_config config ≡ true

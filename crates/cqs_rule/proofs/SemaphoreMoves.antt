@@ -23,10 +23,11 @@ use Rattle.cqs_core.proofs.Ground.{free-small}
 use Rattle.cqs_core.proofs.Places.{set-same}
 use Rattle.cqs_rule.specs.declared.view.Facts.{Facts}
 use Rattle.cqs_rule.specs.declared.view.Has.{Has}
-use Rattle.cqs_rule.specs.Events.{Moves, longest_line, added, exchanged, in_any_case, where_found}
+use Rattle.cqs_rule.specs.Events.{Event as Shows, Moves, SlotsStay, longest_line, added, exchanged, in_any_case, where_found}
 use Rattle.cqs_rule.specs.Facts.{is_owing}
 use Rattle.cqs_rule.specs.Hidden.{Hidden, stands_at}
 use Rattle.cqs_rule.specs.Lists.{NamesOnly}
+use Rattle.cqs_rule.specs.declared.view.View.{View}
 use Rattle.cqs_rule.specs.Semaphore.{core_shown, held_of, semaphore_object, semaphore_primitive, takes_one, loads_to_try, tries, gives_one, decides}
 use Rattle.cqs_rule.specs.Ruled.{number_at}
 use Rattle.cqs_core.specs.SemaphoreNames.{entry_names}
@@ -450,6 +451,28 @@ give-moves permits p facts idle some = record {
     no-door : (b : Bool) → (if b then doing.Owes else doing.Idle) ≡ doing.Door → ⊥
     no-door true q = cc
     no-door false q = cc
+
+-- each event but a release leaves a pass that holds the one permit its slot
+pub take-stays : {T : Type 0} (permits slots : ℕ) (v : View Entry T)
+    → SlotsStay (semaphore_primitive {T = T} permits) slots takes_one in_any_case v
+take-stays permits slots v n k x low is o = (o.0, o.1, some (is_above_zero n))
+  where
+    some : (b : Bool) → 0 < (if b then v.facts.has.held + 1 else v.facts.has.held)
+    some true = omega arith
+    some false = o.2
+
+pub try-stays : {T : Type 0} (permits slots saw : ℕ) (v : View Entry T)
+    → SlotsStay (semaphore_primitive {T = T} permits) slots tries (where_found saw) v
+try-stays permits slots saw v n k x low is o = (o.0, o.1, some (where_found saw n))
+  where
+    some : (b : Bool) → 0 < (if b then v.facts.has.held + 1 else v.facts.has.held)
+    some true = omega arith
+    some false = o.2
+
+-- a semaphore without slots has none to lose
+pub none-stays : {T : Type 0} (permits slots : ℕ) (event : Shows Entry) (made : ℕ → Bool) (v : View Entry T) → slots ≡ 0
+    → SlotsStay (semaphore_primitive {T = T} permits) slots event made v
+none-stays permits slots event made v none n k x low is o = absurd (omega arith)
 
 -- a pass that is leaving a wait may ask: it adds one to the state
 pub decide-moves : {T : Type 0} (permits p : ℕ) (facts : Facts) (k : ℕ) → facts.doing ≡ doing.Leaving k

@@ -14,7 +14,7 @@ module _ {C E S : Type 0} (primitive : C → Primitive E S) where
     pub opening_is : (primitive client).opening ≡ v.opening
     pub hidden : Hidden
     pub words : List ℕ
-    pub handed : List S
+    pub handed : List (ℕ × S)
     pub shown : (primitive client).shows hidden words v.seen handed
     pub stands : Stands hidden v.number v.facts
     pub others : (n : ℕ) → n ≢ v.number → n < v.passes → Rests hidden n

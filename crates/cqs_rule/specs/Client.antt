@@ -1,13 +1,13 @@
 -- What a client owes: that its words, its history and the values handed in go with what is hidden,
 -- from the opening on and at each step of the queue.
-use Rattle.std.specs.Prelude.{◌≡◌, ◌≢◌, ℕ, ◌+◌, ◌-◌, ◌<◌, ◌≤◌, ◌^◌, Bool, List, [], ◌++◌, length, slice_get, Option, Some}
+use Rattle.std.specs.Prelude.{◌≡◌, ◌≢◌, ◌⊎◌, ℕ, ◌+◌, ◌-◌, ◌<◌, ◌≤◌, ◌^◌, Bool, List, [], ◌∷◌, ◌++◌, length, slice_get, Option, Some}
 use Rattle.cqs_core.specs.declared.cells.CoreCell.{CoreCell}
 use Rattle.cqs_core.specs.declared.doings.Doing.TheVariants as doing
 use Rattle.cqs_core.specs.QueueLine.{door}
 use Rattle.cqs_core.specs.QueueSound.{IsSound}
 use Rattle.cqs_core.specs.QueueSteps.{QueueStep, reaches, begins, puts, row_of, StepRow, at_counter, at_cell, Cost, no_cost, one_owed, one_element, payload_told, IsOpenStep}
 use Rattle.cqs_rule.specs.declared.view.Has.{Has}
-use Rattle.cqs_rule.specs.Hidden.{Hidden, happened, now_may_draw, gathered, emptied, hands_over}
+use Rattle.cqs_rule.specs.Hidden.{Hidden, happened, has_after, now_may_draw, gathered, emptied, hands_over}
 use Rattle.cqs_rule.specs.Lists.{NamesOnly}
 use Rattle.cqs_rule.specs.Lists as lists
 use Rattle.cqs_rule.specs.Manner.{Suits}
@@ -42,6 +42,26 @@ begun_by one_owed = begins
 begun_by one_element = puts
 
 module _ {E S : Type 0} (object : Object E) (primitive : Primitive E S) where
+  -- What a client owes for its value slots.
+  pub record KeepsSlots : Type 0 where
+    -- a slot is one pass's at most
+    pub apart : (c : Hidden) (words : List ℕ) (log : List E) (handed : List (ℕ × S)) (p q k : ℕ)
+        (mine theirs : Has)
+        → primitive.shows c words log handed
+        → slice_get c.has p ≡ Some mine → slice_get c.has q ≡ Some theirs
+        → primitive.opens mine k → primitive.opens theirs k → p ≡ q
+    -- a pass keeps its slots at each step of the queue
+    pub steps : (s : QueueStep) (has : Has) (payload k : ℕ) → Suits primitive.manner s
+        → primitive.opens has k → primitive.opens (has_after object.gains (row_of s) payload has) k
+    -- and gets those of a pass that it takes in
+    pub gathers : (mine theirs : Has) (k : ℕ) → primitive.opens mine k ⊎ primitive.opens theirs k
+        → primitive.opens (gathered mine theirs) k
+    -- a value that is handed in changes nothing else
+    pub hands_in : (c : Hidden) (words : List ℕ) (log : List E) (handed : List (ℕ × S)) (k : ℕ)
+        (value : S)
+        → primitive.shows c words log handed
+        → primitive.shows c words log (handed ++ (k, value) ∷ [])
+
   pub record IsClient : Type 0 where
     -- its words as they open go with a queue as it opens
     pub begins : (passes : ℕ) → 0 < passes → passes ≤ 32
@@ -50,7 +70,7 @@ module _ {E S : Type 0} (object : Object E) (primitive : Primitive E S) where
     -- each step of the queue that suits it and is open there appends its entries
     pub steps : (c : Hidden) (s : QueueStep) (p k : ℕ) (found : Option CoreCell) (has : Has)
         (payload : ℕ)
-        (words : List ℕ) (log : List E) (handed : List S)
+        (words : List ℕ) (log : List E) (handed : List (ℕ × S))
         → primitive.shows c words log handed → IsOpenStep c.queue s p k found
         → slice_get c.has p ≡ Some has
         → IsPayload (row_of s) has (c.payloads k) payload → Suits primitive.manner s
@@ -58,12 +78,12 @@ module _ {E S : Type 0} (object : Object E) (primitive : Primitive E S) where
         → primitive.shows (happened object.gains c s p k found has payload) words
         (log ++ object.entries s p k payload) handed
     -- who may draw is no part of what it shows
-    pub counts : (c : Hidden) (p : ℕ) (may : Bool) (words : List ℕ) (log : List E) (handed : List S)
+    pub counts : (c : Hidden) (p : ℕ) (may : Bool) (words : List ℕ) (log : List E) (handed : List (ℕ × S))
         → primitive.shows c words log handed
         → primitive.shows (now_may_draw c p may) words log handed
     -- what one idle pass holds and has in hand may become that of another
     pub hands : (c : Hidden) (from to : ℕ) (mine theirs : Has) (words : List ℕ) (log : List E)
-        (handed : List S)
+        (handed : List (ℕ × S))
         → primitive.shows c words log handed → from ≢ to
         → slice_get c.queue.doing from ≡ Some doing.Idle
         → slice_get c.queue.doing to ≡ Some doing.Idle
@@ -74,24 +94,26 @@ module _ {E S : Type 0} (object : Object E) (primitive : Primitive E S) where
     pub silent : (s : QueueStep) (p k payload : ℕ)
         → NamesOnly object.names p (object.entries s p k payload)
     -- the queue part is sound, and the history legal
-    pub sound : (c : Hidden) (words : List ℕ) (log : List E) (handed : List S)
+    pub sound : (c : Hidden) (words : List ℕ) (log : List E) (handed : List (ℕ × S))
         → primitive.shows c words log handed
         → IsSound c.queue
-    pub legal_shown : (c : Hidden) (words : List ℕ) (log : List E) (handed : List S)
+    pub legal_shown : (c : Hidden) (words : List ℕ) (log : List E) (handed : List (ℕ × S))
         → primitive.shows c words log handed → object.legal primitive.opening log
     -- what a pass holds fits 32 bits
-    pub held_fits : (c : Hidden) (words : List ℕ) (log : List E) (handed : List S) (p : ℕ)
+    pub held_fits : (c : Hidden) (words : List ℕ) (log : List E) (handed : List (ℕ × S)) (p : ℕ)
         (has : Has)
         → primitive.shows c words log handed → slice_get c.has p ≡ Some has → has.held < 2 ^ 32
     -- where a resumption is owed, fewer numbers were drawn to resume at than were drawn to suspend
     -- at, wait at the door, or opened with a value; and so where one more is begun
-    pub reaches_few : (c : Hidden) (words : List ℕ) (log : List E) (handed : List S) (p : ℕ)
+    pub reaches_few : (c : Hidden) (words : List ℕ) (log : List E) (handed : List (ℕ × S)) (p : ℕ)
         → primitive.shows c words log handed → slice_get c.queue.doing p ≡ Some doing.Owes
         → c.queue.resumes < c.queue.suspends + length (door c.queue) + primitive.values
-    pub begins_few : (c : Hidden) (words : List ℕ) (log : List E) (handed : List S) (p : ℕ)
+    pub begins_few : (c : Hidden) (words : List ℕ) (log : List E) (handed : List (ℕ × S)) (p : ℕ)
         (has : Has) (cost : Cost)
         (payload : ℕ)
         → primitive.shows c words log handed → slice_get c.queue.doing p ≡ Some doing.Idle
         → slice_get c.has p ≡ Some has
         → IsPaid cost has payload → IsBegun cost → Suits primitive.manner (begun_by cost)
         → c.queue.resumes < c.queue.suspends + length (door c.queue) + primitive.values
+    -- what it owes for its value slots
+    pub slots : KeepsSlots

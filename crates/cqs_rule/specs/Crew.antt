@@ -62,7 +62,7 @@ module _ {E : Type 0} (object : Object E) where
 
     -- The view v has taken in what another pass, with these numbers, had seen, and stands at these
     -- facts now. The entries of each number are those that the pass which had it had seen.
-    pub record Met (v : View E S) (facts : Facts) (seen : List E) (handed : List S) (own : List ℕ)
+    pub record Met (v : View E S) (facts : Facts) (seen : List E) (handed : List (ℕ × S)) (own : List ℕ)
         (w : View E S) : Type 0 where
       pub number : w.number ≡ v.number
       pub weight : w.weight ≡ 1

@@ -16,6 +16,7 @@ use Rattle.cqs_rule.specs.Layout.{client_place}
 use Rattle.cqs_rule.specs.Lists.{NamesOnly}
 use Rattle.cqs_rule.specs.Object.{Object, Primitive}
 use Rattle.cqs_rule.specs.Saw.{Saw, IsLive, WasFound}
+use Rattle.cqs_rule.specs.Slots.{laid_in}
 
 -- What a step on a client's word meets: what the object opened with, the pass and what it is at,
 -- the word found, and whether the word was changed as the step means to. An exchange that finds
@@ -127,6 +128,13 @@ exchanged saw new n = either (where_found saw n) new n
 abbrev pub longest_line : ℕ
 longest_line = 4194304
 
+-- A step that shows the event leaves its pass the slots that it has laid something into.
+abbrev pub SlotsStay : {E S : Type 0} → Primitive E S → ℕ → Event E → (ℕ → Bool) → View E S → Type 0
+SlotsStay {E} {S} primitive slots event made v =
+    (n k : ℕ) (x : Option S) → k < slots → laid_in v.laid k ≡ Some x
+    → primitive.opens v.facts.has k
+    → primitive.opens (has_then event (moment primitive.opening v.number v.facts made n)) k
+
 -- What a client owes for a step on its word i, by which n becomes f n: wherever the pass is at
 -- these facts, the client's words, the entries and the pass's next facts go together again. What is
 -- owed stays, and a step without an event leaves all that the pass has, and whether it owes. A step
@@ -134,7 +142,7 @@ longest_line = 4194304
 pub record Moves {E S : Type 0} (object : Object E) (primitive : Primitive E S) (event : Event E)
     (made : ℕ → Bool)
     (p : ℕ) (facts : Facts) (i : ℕ) (f : ℕ → ℕ) : Type 0 where
-  pub step : (c : Hidden) (words : List ℕ) (log : List E) (handed : List S)
+  pub step : (c : Hidden) (words : List ℕ) (log : List E) (handed : List (ℕ × S))
       → primitive.shows c words log handed
       → slice_get c.queue.doing p ≡ Some facts.doing → slice_get c.has p ≡ Some facts.has
       → length (line c.queue) < longest_line → slice_index words i < 2 ^ 64

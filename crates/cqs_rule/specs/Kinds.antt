@@ -81,3 +81,4 @@ pub record Carries (gains : ℕ → ℕ) (row : StepRow) (f g : Facts) : Type 0 
   pub waits : length g.waits + closes_by row ≡ length f.waits + opens_by row
   pub further : g.has.further ≡ further_by row f.has.further
   pub spares : g.has.spares ≡ f.has.spares
+  pub open_slot : g.open_slot ≡ f.open_slot

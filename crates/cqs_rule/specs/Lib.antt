@@ -5,6 +5,7 @@ pub mod Hidden
 pub mod Manner
 pub mod Object
 pub mod Segments
+pub mod Slots
 pub mod Placed
 pub mod Ruled
 pub mod Opened
@@ -25,6 +26,7 @@ pub mod Alone
 pub mod Configured
 pub mod Semaphore
 pub mod SemaphoreSteps
+pub mod SemaphoreSlots
 pub mod SemaphoreClient
 pub mod SemaphorePermits
 pub mod Passes

@@ -228,6 +228,7 @@ pub record CarriesLearned (gains : ℕ → ℕ) (learned : Learned) (f g : Facts
   pub waits : length g.waits + closed_learned learned ≡ length f.waits
   pub further : g.has.further ≡ f.has.further
   pub spares : g.has.spares ≡ f.has.spares
+  pub open_slot : g.open_slot ≡ f.open_slot
 
 -- the suspend counter is n
 abbrev pub IsDrawn : ℕ → Hidden → List ℕ → Type 0

@@ -1,6 +1,7 @@
 -- What a client tells the rule of itself.
 use Rattle.std.specs.Prelude.{ℕ, Bool, List}
 use Rattle.cqs_core.specs.QueueSteps.{QueueStep}
+use Rattle.cqs_rule.specs.declared.view.Has.{Has}
 use Rattle.cqs_rule.specs.declared.view.Opening.{Opening}
 use Rattle.cqs_rule.specs.Hidden.{Hidden, Gains}
 use Rattle.cqs_rule.specs.Manner.{Manner}
@@ -19,10 +20,12 @@ pub record Object (E : Type 0) : Type 1 where
 pub record Primitive (E S : Type 0) : Type 1 where
   pub opening : Opening
   -- its words, the history and the values handed in go with what is hidden
-  pub shows : Hidden → List ℕ → List E → List S → Type 0
+  pub shows : Hidden → List ℕ → List E → List (ℕ × S) → Type 0
   pub manner : Manner
   -- the opening values of its words
   pub words : List ℕ
   -- how many values stand in cells at first, and what the first pass holds
   pub values : ℕ
   pub held : ℕ
+  -- a pass that has this may open the value slot of this number
+  pub opens : Has → ℕ → Type 0

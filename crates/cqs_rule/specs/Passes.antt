@@ -38,6 +38,7 @@ module _ {C S E : Type 0} {g : Ghosts C S E} where
   -- the pass is one of this queue
   pub record IsOf (q : Queue C S E) (p : Pass C S E g) : Type 0 where
     pub table : p.seat.table_id ≡ q.table.shared.table_id
+    pub slots : q.table.shared.table_id.slots ≡ g.value_slots q.table.shared.key.client
     pub passes : p.seat.me.0.passes ≡ q.table.shared.key.passes
     pub limit : p.seat.me.0.limit ≡ q.limit
     pub cells : p.seat.me.0.cells ≡ cell_count q.table.shared.key.passes q.limit

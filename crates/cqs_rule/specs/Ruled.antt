@@ -25,6 +25,7 @@ use Rattle.cqs_rule.specs.Hidden.{Hidden, state_at}
 use Rattle.cqs_rule.specs.Lists.{Has, IsDistinct, total, IsPrefix, part}
 use Rattle.cqs_rule.specs.Facts.{IsBehind}
 use Rattle.cqs_rule.specs.Segments.{Segments, KnowsSegments}
+use Rattle.cqs_rule.specs.Slots.{Shelf}
 use Rattle.cqs_rule.specs.Views.{WasCrew, all_own, weight, Apart, Tip, SpentHasNone, first_facts}
 
 -- the state as a cell's word says it
@@ -163,7 +164,7 @@ pub record IsKept {E S : Type 0} (views : List (View E S)) (n : ℕ) : Type 0 wh
 module _ {E S : Type 0} (object : Object E) where
   -- what a view has seen of the history: how it begins, and all of it that names the view's own
   -- passes
-  pub record Sees (log : List E) (handed : List S) (v : View E S) : Type 0 where
+  pub record Sees (log : List E) (handed : List (ℕ × S)) (v : View E S) : Type 0 where
     pub seen : IsPrefix v.seen log
     pub other : IsPrefix v.other log
     pub handed_in : IsPrefix v.handed handed
@@ -172,7 +173,7 @@ module _ {E S : Type 0} (object : Object E) where
     pub theirs : (n : ℕ) → Has n v.others → part object.names n v.other ≡ part object.names n log
 
   -- what the rule says of one live view
-  pub record Knows (c : Hidden) (log : List E) (handed : List S) (made live passes limit cells : ℕ)
+  pub record Knows (c : Hidden) (log : List E) (handed : List (ℕ × S)) (made live passes limit cells : ℕ)
       (opening : Opening)
       (v : View E S) : Type 0 where
     pub sees : Sees log handed v
@@ -196,7 +197,7 @@ module _ {E S : Type 0} (object : Object E) where
       : Type 0 where
     pub hidden : Hidden
     pub log : List E
-    pub handed : List S
+    pub handed : List (ℕ × S)
     pub made : ℕ
     pub live : ℕ
     pub wide : words_for (cell_count passes limit primitive.values) ≤ length s.words
@@ -216,6 +217,7 @@ module _ {E S : Type 0} (object : Object E) where
     pub kept : (n : ℕ) → n < made → IsKept s.views n
     pub unused : (n : ℕ) → made ≤ n → n < passes → IsUnused hidden n
     pub tip : Tip log s.views
+    pub shelf : Shelf primitive.opens handed live s.homes s.views
     pub segments : Segments
     pub each_segment : (j : ℕ) (v : View E S) → get_elem? s.views j ≡ some v
         → KnowsSegments segments v

@@ -42,7 +42,7 @@ pub record WasShown {C E S : Type 0} (primitive : C → Primitive E S) (opening 
   pub opening_is : (primitive client).opening ≡ opening
   pub hidden : Hidden
   pub words : List ℕ
-  pub handed : List S
+  pub handed : List (ℕ × S)
   pub shown : (primitive client).shows hidden words history handed
   pub holds : fact hidden words
 

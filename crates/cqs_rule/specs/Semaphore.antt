@@ -1,5 +1,5 @@
 -- The semaphore as a client: its one word is the state of a core, whose history is the client's.
-use Rattle.std.specs.Prelude.{ℕ, ◌+◌, ◌-◌, map, Bool, true, List, [], ◌∷◌, slice_index, pos, if◌then◌else◌}
+use Rattle.std.specs.Prelude.{◌≡◌, ℕ, ◌+◌, ◌-◌, ◌<◌, map, Bool, true, List, [], ◌∷◌, slice_index, pos, if◌then◌else◌}
 use Rattle.cqs_core.specs.declared.doings.Doing.{Doing}
 use Rattle.cqs_core.specs.declared.doings.Doing.TheVariants as doing
 use Rattle.cqs_core.specs.declared.entries.Entry.{Entry}
@@ -52,6 +52,10 @@ semaphore_object = record {
 abbrev pub semaphore_manner : Manner
 semaphore_manner = record { leaving = asks; has_door = true; source = owed }
 
+-- Where there is one permit, the pass that holds it may open the one slot.
+abbrev pub opens_one : ℕ → Has → ℕ → Type 0
+opens_one permits h k = (permits ≡ 1) × (k ≡ 0) × (0 < h.held)
+
 abbrev pub semaphore_primitive : {T : Type 0} → ℕ → Primitive Entry T
 semaphore_primitive permits = record {
   opening = record { size = permits; mode = Smart };
@@ -60,6 +64,7 @@ semaphore_primitive permits = record {
   words = state_word (pos permits) ∷ [];
   values = 0;
   held = 0;
+  opens = opens_one permits;
 }
 
 -- an event that changes nothing of what the pass owes or has in hand

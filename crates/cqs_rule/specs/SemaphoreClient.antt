@@ -1,9 +1,12 @@
 -- The semaphore is a client: each step of the queue that suits it is an event of its core, by the
 -- law of the core. This file is a proof: nothing of it has to be read to know what is promised, and
 -- nothing in it is taken on trust.
-use Rattle.std.proofs.Common.{◌≡◌, ◌≢◌, ℕ, zero, suc, ◌+◌, ◌-◌, ◌<◌, ◌≤◌, true, false, List, [], ◌∷◌, ◌++◌, replicate, refl, ap, sym, ◌∙◌, subst, arith, Option, Some, slice_get, nat_lt, lt-ltb, ne_eqb, ℤ, pos, le-leb, length, get_or, set, nat_le}
+use Rattle.std.proofs.Common.{◌≡◌, ◌≢◌, ℕ, zero, suc, ◌+◌, ◌-◌, ◌<◌, ◌≤◌, true, false, List, [], ◌∷◌, ◌++◌, replicate, refl, ap, sym, ◌∙◌, subst, ⊎_elim, arith, Option, Some, slice_get, nat_lt, lt-ltb, ne_eqb, ℤ, pos, le-leb, length, get_or, set, nat_le}
 use Rattle.std.proofs.lemmas.Option.{slice_get-map, get_or_from_slice_get}
-use Rattle.std.proofs.lemmas.List.{map-set}
+use Rattle.std.proofs.lemmas.List.{map-set, length-set}
+use Rattle.std.proofs.lemmas.List.Sums.{sum_by-set, get_or-le-sum_by}
+use mathlib.Core.Logic.{dite}
+use native.Mathlib.Decide.{ℕ_discrete}
 use Rattle.std.specs.Prelude.{slice_index, slice_set}
 use Rattle.std.specs.Option.{option_map}
 use Rattle.std.proofs.lemmas.Int.{ints}
@@ -19,13 +22,14 @@ use Rattle.cqs_core.specs.SemaphoreRuns.{handed}
 use Rattle.cqs_core.proofs.OpenedCore.{opened-core, hand_over-core}
 use Rattle.cqs_core.proofs.Places.{get-below, get-set_else, set-same}
 use Rattle.cqs_core.proofs.Ground.{reached-few, held-small}
+use Rattle.cqs_core.proofs.FirstOfWay.{ending-within}
 use Rattle.cqs_rule.specs.declared.view.Has.{Has}
-use Rattle.cqs_rule.specs.Client.{IsClient, IsBegun, begun_by, no_number}
+use Rattle.cqs_rule.specs.Client.{IsClient, KeepsSlots, IsBegun, begun_by, no_number}
 use Rattle.cqs_rule.specs.Hidden.{Hidden, happened, has_after, has_gained, has_paid, gathered, emptied, hands_over}
 use Rattle.cqs_rule.specs.Lists.{NamesOnly}
 use Rattle.cqs_rule.specs.Manner.{Suits}
 use Rattle.cqs_rule.specs.Opened.{first_hidden, four}
-use Rattle.cqs_rule.specs.Semaphore.{core_shown, held_of, one_more, semaphore_manner, semaphore_object, semaphore_primitive}
+use Rattle.cqs_rule.specs.Semaphore.{core_shown, held_of, one_more, opens_one, semaphore_manner, semaphore_object, semaphore_primitive}
 use Rattle.cqs_rule.specs.Views.{first_has}
 use Rattle.cqs_words.specs.State.{state_word, count_in}
 
@@ -204,6 +208,62 @@ none-begun no_cost begun suits = begun
 none-begun one_owed begun suits = suits
 none-begun one_element begun suits = suits
 
+-- Where there is one permit, one pass holds it.
+one-holder : (c : Hidden) (words : List ℕ) (log : List Entry) (p q : ℕ) (mine theirs : Has)
+    → IsCore (core_shown 1 c words log)
+    → slice_get c.has p ≡ Some mine → slice_get c.has q ≡ Some theirs → 0 < mine.held
+    → 0 < theirs.held → p ≡ q
+one-holder c words log p q mine theirs core here there some some' = dite (ℕ_discrete p q)
+    (λ (same : p ≡ q). same)
+    (λ (apart : p ≢ q).
+    let s = core_shown 1 c words log in
+    let held = held_of c.has in
+    let none = set held p 0 in
+    let at = held-at c.has p mine here in
+    let at' = held-at c.has q theirs there in
+    let low : p < length held = get-below held p mine.held at in
+    let low' : q < length held = get-below held q theirs.held at' in
+    let long = length-set held p 0 in
+    let is : get_or held p 0 ≡ mine.held = held-is c.has p mine here in
+    let other : get_or none q 0 ≡ theirs.held =
+    get_or_from_slice_get none q theirs.held 0 (get-set_else held p q 0 apart ∙ at') in
+    let less = sum_by-set (λ (n : ℕ). n) held p 0 0 low in
+    let one = get_or-le-sum_by (λ (n : ℕ). n) none q 0 (omega arith) in
+    let few = ending-within s.queue core.sound core.covered in
+    let all = core.conserved in
+    absurd (omega arith))
+
+-- the slot of a semaphore is that of the pass that holds its one permit
+semaphore-slots : {T : Type 0} (permits : ℕ)
+    → KeepsSlots semaphore_object (semaphore_primitive {T = T} permits)
+semaphore-slots permits = record {
+  apart = λ c words log handed p q k mine theirs core here there o o'.
+      one-holder c words log p q mine theirs
+      (subst (λ n. IsCore (core_shown n c words log)) o.0 core) here there o.2 o'.2;
+  steps = λ s has payload k suits o. (o.0, o.1, after (row_of s) has payload o.2);
+  gathers = λ mine theirs k o. ⊎_elim
+      (λ (a : opens_one permits mine k). (a.0, a.1, let some = a.2 in omega arith))
+      (λ (b : opens_one permits theirs k). (b.0, b.1, let some = b.2 in omega arith)) o;
+  hands_in = λ c words log handed k value core. core;
+}
+  where
+    gained : (gain : Gain) (has : Has) (payload : ℕ) → 0 < has.held
+        → 0 < (has_gained one_more gain payload has).held
+    gained nothing has payload some = some
+    gained its_own has payload some = omega arith
+    gained a_debt has payload some = some
+
+    paid : (cost : Cost) (has : Has) (payload : ℕ) → 0 < has.held
+        → 0 < (has_paid cost payload has).held
+    paid no_cost has payload some = some
+    paid one_owed has payload some = some
+    paid one_element has payload some = some
+
+    after : (row : StepRow) (has : Has) (payload : ℕ) → 0 < has.held
+        → 0 < (has_after one_more row payload has).held
+    after (at_counter row) has payload some = paid row.cost has payload some
+    after (at_cell row) has payload some = gained row.gain has payload some
+
 -- a semaphore with permits from 1 to 1,048,576
 pub semaphore-client : {T : Type 0} (permits : ℕ) → 0 < permits → permits ≤ 1048576
     → IsClient semaphore_object (semaphore_primitive {T = T} permits)
@@ -224,4 +284,5 @@ semaphore-client permits some low = record {
       let few = reached-few (core_shown permits c words log) p core owes in omega arith;
   begins_few = λ c words log handed p has cost payload core idle there paid begun suits.
       absurd (none-begun cost begun suits);
+  slots = semaphore-slots permits;
 }

@@ -5,11 +5,11 @@ use Rattle.cqs_rule.specs.declared.client.ClientWords.{Ghosts}
 use Rattle.cqs_rule.specs.declared.queue.Pass.{Pass}
 use Rattle.cqs_rule.specs.declared.queue.Queue.{Queue}
 use Rattle.cqs_rule.specs.Counts.{Drew}
-use Rattle.cqs_rule.specs.Events.{Event, Moves, Moved}
+use Rattle.cqs_rule.specs.Events.{Event, Moves, SlotsStay, Moved}
 use Rattle.cqs_rule.specs.Exchanges.{CrossedBy}
 use Rattle.cqs_rule.specs.Layout.{client_place}
 use Rattle.cqs_rule.specs.Loads.{LoadStep, Loaded}
-use Rattle.cqs_rule.specs.Passes.{pass_view, client_of}
+use Rattle.cqs_rule.specs.Passes.{pass_view, client_of, slots_of}
 use Rattle.cqs_core.specs.QueueSteps.{row_of}
 use Rattle.cqs_words.specs.Cell.{index_in}
 
@@ -19,6 +19,10 @@ module _ {C S E : Type 0} {g : Ghosts C S E} where
   MayMove q p event made i f =
       Moves g.object (g.primitive (client_of q)) event made (pass_view p).number (pass_view p).facts
       i f
+
+  -- and leaves the pass the slots that it has laid something into
+  abbrev pub MayKeep : Queue C S E → Pass C S E g → Event E → (ℕ → Bool) → Type 0
+  MayKeep q p event made = SlotsStay (g.primitive (client_of q)) (slots_of q) event made (pass_view p)
 
   -- Such a step was made, and found n: the word was so at the end of what the pass has seen before
   -- its own entries.

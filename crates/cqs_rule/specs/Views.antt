@@ -28,6 +28,7 @@ first_facts held = record {
   waits = [];
   reached = 0;
   passed = [];
+  open_slot = None;
   heads = [];
   found = [];
 }
@@ -48,6 +49,7 @@ module _ {E S : Type 0} where
     facts = first_facts held;
     seen = [];
     handed = [];
+    laid = [];
     own = 0 ∷ [];
     other = [];
     other_handed = [];
@@ -70,7 +72,7 @@ module _ {E S : Type 0} where
   weight v = v.weight
 
   -- the view with more seen, after a step that leaves it at these facts
-  abbrev pub grown : View E S → Facts → List E → List S → View E S
+  abbrev pub grown : View E S → Facts → List E → List (ℕ × S) → View E S
   grown v facts seen handed = record v { facts = facts; seen = seen; handed = handed }
 
   -- the view without its second pass
@@ -92,6 +94,7 @@ module _ {E S : Type 0} where
     facts = v.second;
     seen = v.other;
     handed = v.other_handed;
+    laid = [];
     own = v.others;
   }
 
@@ -100,6 +103,7 @@ module _ {E S : Type 0} where
   joined v u = record v {
     weight = 2;
     facts = record v.facts { has = gathered v.facts.has u.facts.has };
+    laid = v.laid ++ u.laid;
     other = u.seen;
     other_handed = u.handed;
     others = u.own;

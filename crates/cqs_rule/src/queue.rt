@@ -1,6 +1,6 @@
 //! The queue, and the passes that callers make its steps with.
 
-ghost use Rattle.std.specs.Prelude.{◌≡◌, ◌+◌, ◌<◌, ◌≤◌, ◌^◌, length};
+ghost use Rattle.std.specs.Prelude.{◌≡◌, ◌+◌, ◌<◌, ◌≤◌, ◌^◌, length, None};
 ghost use Rattle.cqs_rule.specs.Inside.{IsInside};
 ghost use Rattle.cqs_rule.specs.Layout.{words_for};
 ghost use Rattle.cqs_rule.specs.Facts.{is_owing};
@@ -47,6 +47,7 @@ pub struct Pass<C: ClientWords> {
     pub ghost held_is: { seat.me.0.facts.has.held ≡ held },
     pub ghost further_is: { seat.me.0.facts.has.further ≡ further },
     pub ghost spareless: { seat.me.0.facts.has.spares ≡ 0 },
+    pub ghost shut: { seat.me.0.facts.open_slot ≡ None },
     pub ghost owes_is: { is_owing seat.me.0.facts.doing ≡ owes },
     pub ghost waits_are: { length seat.me.0.facts.waits ≡ waits },
     pub ghost cells_are: { words_for seat.me.0.cells ≡ seat.table_id.words },

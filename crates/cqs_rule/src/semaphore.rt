@@ -5,14 +5,16 @@ ghost use Rattle.std.specs.Prelude.{◌≡◌, ◌+◌, ◌<◌, ◌≤◌, [], 
 
 mod callbacks;
 mod calls;
+mod carries;
 mod client;
 mod events;
 
 pub use calls::{give_permit, load_state, next_wait, read_state, take_permit, try_take};
+pub use carries::{Carries, Kept};
 pub use events::{Decide, Give, Take, TryLoad, TrySwap};
 use std::marker::PhantomData;
 
-/// A semaphore with values of `T` in its slots; a plain one has none.
+/// A semaphore whose permits carry what `T` says: a value in a slot, or nothing.
 #[derive(Drop)]
 pub struct SemClient<T = ()> {
     permits: u32,
@@ -32,6 +34,20 @@ impl SemClient {
     {
         SemClient {
             permits,
+            value: PhantomData,
+        }
+    }
+}
+
+impl<T> SemClient<Kept<T>> {
+    ghost use Rattle.cqs_rule.specs.SemaphorePermits.{permits_of};
+
+    /// A semaphore of one permit, which carries a value.
+    pub fn guarded() -> SemClient<Kept<T>>
+        ensures { permits_of result ≡ 1 }
+    {
+        SemClient {
+            permits: 1,
             value: PhantomData,
         }
     }

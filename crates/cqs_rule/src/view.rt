@@ -58,6 +58,8 @@ pub struct Facts {
     pub reached: u64,
     /// The numbers that it drew to resume at and passed over.
     pub passed: LinkedList<u64>,
+    /// The value slot that it has open: it is in the middle of a swap.
+    pub open_slot: Option<u64>,
     /// The slots and head words that it found.
     pub heads: LinkedList<(u64, u64)>,
     /// What each of its steps on counters, cells and the client's words found.
@@ -73,14 +75,16 @@ pub struct View<E, S> {
     pub facts: Facts,
     /// The history as far as the pass has seen it.
     pub seen: LinkedList<E>,
-    /// The values that were handed in, as far as the pass has seen.
-    pub handed: LinkedList<S>,
+    /// The values that were handed in, each with its slot, as far as the pass has seen.
+    pub handed: LinkedList<(u64, S)>,
+    /// What it has laid into value slots that are its own, the latest first.
+    pub laid: LinkedList<(u64, Option<S>)>,
     /// Its number, and those of the passes that were met into it.
     pub own: LinkedList<u64>,
     /// At weight 2: what the second pass has seen.
     pub other: LinkedList<E>,
     /// At weight 2: the values handed in that the second pass has seen.
-    pub other_handed: LinkedList<S>,
+    pub other_handed: LinkedList<(u64, S)>,
     /// At weight 2: the numbers of the second pass.
     pub others: LinkedList<u64>,
     /// At weight 2: the number of the second pass.

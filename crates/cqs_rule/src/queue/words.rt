@@ -4,7 +4,7 @@ ghost use Rattle.std.specs.Prelude.{◌≡◌, ◌<◌, bit_or};
 ghost use Rattle.cqs_rule.specs.Layout.{client_place};
 ghost use Rattle.cqs_rule.specs.Passes.{IsOf};
 ghost use Rattle.cqs_rule.specs.Events.{added, exchanged, in_any_case, where_found};
-ghost use Rattle.cqs_rule.specs.Steps.{MayMove, HasMoved};
+ghost use Rattle.cqs_rule.specs.Steps.{MayMove, MayKeep, HasMoved};
 
 use crate::client::{ClientWords, Shown};
 use crate::layout::CLIENT_WORD;
@@ -25,6 +25,7 @@ impl<C: ClientWords> Queue<C> {
         requires belongs { IsOf self.now pass.old }
         requires word { word < 4 }
         requires law { MayMove self.now pass.old M.event in_any_case word (λ n. n) }
+        requires slots { MayKeep self.now pass.old M.event in_any_case }
         ensures belongs { IsOf self.now pass.new }
         ensures saw { HasMoved M.event in_any_case word result pass.old pass.new }
     {
@@ -43,6 +44,7 @@ impl<C: ClientWords> Queue<C> {
         requires belongs { IsOf self.now pass.old }
         requires word { word < 4 }
         requires law { MayMove self.now pass.old M.event in_any_case word (added by) }
+        requires slots { MayKeep self.now pass.old M.event in_any_case }
         ensures belongs { IsOf self.now pass.new }
         ensures saw { HasMoved M.event in_any_case word result pass.old pass.new }
     {
@@ -68,6 +70,7 @@ impl<C: ClientWords> Queue<C> {
         requires belongs { IsOf self.now pass.old }
         requires word { word < 4 }
         requires law { MayMove self.now pass.old M.event in_any_case word (λ n. bit_or n bits) }
+        requires slots { MayKeep self.now pass.old M.event in_any_case }
         ensures belongs { IsOf self.now pass.new }
         ensures saw { HasMoved M.event in_any_case word result pass.old pass.new }
     {
@@ -87,6 +90,7 @@ impl<C: ClientWords> Queue<C> {
         requires word { word < 4 }
         requires law { MayMove self.now pass.old M.event (where_found saw) word
             (exchanged saw new) }
+        requires slots { MayKeep self.now pass.old M.event (where_found saw) }
         ensures belongs { IsOf self.now pass.new }
         ensures saw { HasMoved M.event (where_found saw) word result pass.old pass.new }
     {

@@ -3,10 +3,10 @@
 use crate::callbacks::Client;
 use crate::queue::{Pass, Queue};
 use crate::semaphore::calls::STATE;
-use crate::semaphore::{Decide, SemClient};
+use crate::semaphore::{Carries, Decide, SemClient};
 use cqs_words::StateWord;
 
-impl<T: Send + Drop> Client for SemClient<T> {
+impl<T: Carries + Send> Client for SemClient<T> {
     ghost use Rattle.cqs_rule.specs.Callbacks.{by_step};
     ghost use Rattle.cqs_rule.specs.Semaphore.{decides};
 

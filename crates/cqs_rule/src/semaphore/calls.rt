@@ -18,7 +18,7 @@ ghost use Rattle.cqs_rule.specs.Silent.{silent};
 use crate::layout::SUSPENDS_WORD;
 use crate::loads::Counts;
 use crate::queue::{Pass, Queue};
-use crate::semaphore::{Give, SemClient, Take, TryLoad, TrySwap};
+use crate::semaphore::{Carries, Give, SemClient, Take, TryLoad, TrySwap};
 use crate::silent::Silent;
 use cqs_words::PackedState;
 
@@ -27,7 +27,7 @@ pub(super) const STATE: u32 = 0;
 
 /// Takes one from the state: the pass has a permit, or is at the door. It answers the state found.
 #[tactic(auto, using(crate::proofs::StateFound::on_state))]
-pub fn take_permit<T: Drop>(
+pub fn take_permit<T: Carries>(
     queue: &Queue<SemClient<T>>,
     pass: &mut Pass<SemClient<T>>,
 ) -> PackedState
@@ -46,7 +46,7 @@ pub fn take_permit<T: Drop>(
 /// Loads the state for a try: no permit is free, or the pass may go on with `try_take`. It answers
 /// the state found.
 #[tactic(auto, using(crate::proofs::StateFound::on_state))]
-pub fn load_state<T: Drop>(
+pub fn load_state<T: Carries>(
     queue: &Queue<SemClient<T>>,
     pass: &mut Pass<SemClient<T>>,
 ) -> PackedState
@@ -64,7 +64,7 @@ pub fn load_state<T: Drop>(
 /// Exchanges the state that a try loaded for one less. It answers the state found: the pass has a
 /// permit where that is `saw`.
 #[tactic(auto, using(crate::proofs::StateFound::on_state))]
-pub fn try_take<T: Drop>(
+pub fn try_take<T: Carries>(
     queue: &Queue<SemClient<T>>,
     pass: &mut Pass<SemClient<T>>,
     saw: PackedState,
@@ -84,7 +84,7 @@ pub fn try_take<T: Drop>(
 /// Adds one to the state: the permit is free, or the pass owes a resumption of payload 0. It
 /// answers the state found.
 #[tactic(auto, using(crate::proofs::StateFound::on_state))]
-pub fn give_permit<T: Drop>(
+pub fn give_permit<T: Carries>(
     queue: &Queue<SemClient<T>>,
     pass: &mut Pass<SemClient<T>>,
 ) -> PackedState
@@ -102,7 +102,7 @@ pub fn give_permit<T: Drop>(
 
 /// Loads the state, whatever the pass is doing, and answers the word found. It shows no event.
 #[tactic(auto, using(crate::proofs::StateFound::on_state))]
-pub fn read_state<T: Drop>(
+pub fn read_state<T: Carries>(
     queue: &Queue<SemClient<T>>,
     pass: &mut Pass<SemClient<T>>,
 ) -> PackedState
@@ -118,7 +118,7 @@ pub fn read_state<T: Drop>(
 /// Loads the suspend counter: the number that the next wait will have. A pass that finds it below
 /// the limit may draw.
 #[tactic(auto, using(crate::proofs::StateFound::next_is))]
-pub fn next_wait<T: Drop>(queue: &Queue<SemClient<T>>, pass: &mut Pass<SemClient<T>>) -> u64
+pub fn next_wait<T: Carries>(queue: &Queue<SemClient<T>>, pass: &mut Pass<SemClient<T>>) -> u64
     requires belongs { IsOf queue.now pass.old }
     ensures belongs { IsOf queue.now pass.new }
     ensures saw { NextIs (pass_view pass.old) result (pass_view pass.new) }

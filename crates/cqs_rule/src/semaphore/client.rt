@@ -1,14 +1,15 @@
 //! What the semaphore tells the queue.
 
 use crate::client::ClientWords;
-use crate::semaphore::SemClient;
+use crate::semaphore::{Carries, SemClient};
 use cqs_core::Entry;
 use cqs_words::StateWord;
 
-impl<T: Drop> ClientWords for SemClient<T> {
+impl<T: Carries> ClientWords for SemClient<T> {
     ghost use Rattle.cqs_rule.specs.Semaphore.{semaphore_object, semaphore_primitive};
     ghost use Rattle.cqs_rule.specs.SemaphoreClient.{semaphore-client};
     ghost use Rattle.cqs_rule.specs.SemaphorePermits.{permits_of};
+    ghost use Rattle.cqs_rule.specs.SemaphoreSlots.{slots_when};
 
     type Slot = T;
 
@@ -18,7 +19,7 @@ impl<T: Drop> ClientWords for SemClient<T> {
 
     ghost primitive = { λ x. semaphore_primitive (permits_of x) };
 
-    ghost value_slots = { λ x. 0 };
+    ghost value_slots = { λ x. slots_when T.kept };
 
     fn words(&self) -> u32 {
         1
@@ -32,7 +33,7 @@ impl<T: Drop> ClientWords for SemClient<T> {
     }
 
     fn slots(&self) -> u32 {
-        0
+        T::slots()
     }
 
     fn values(&self) -> u32 {

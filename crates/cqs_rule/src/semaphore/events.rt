@@ -1,13 +1,13 @@
 //! The events of the state: what an acquire, a try, a release and a cancel show.
 
 use crate::client::Shown;
-use crate::semaphore::SemClient;
+use crate::semaphore::{Carries, SemClient};
 use cqs_words::StateWord;
 
 /// An acquire takes one from the state: it has a permit, or it is at the door.
 pub struct Take;
 
-impl<T: Drop> Shown<SemClient<T>> for Take {
+impl<T: Carries> Shown<SemClient<T>> for Take {
     ghost use Rattle.cqs_rule.specs.Semaphore.{takes_one};
 
     ghost event = { takes_one };
@@ -33,7 +33,7 @@ impl<T: Drop> Shown<SemClient<T>> for Take {
 /// loaded.
 pub struct TryLoad;
 
-impl<T: Drop> Shown<SemClient<T>> for TryLoad {
+impl<T: Carries> Shown<SemClient<T>> for TryLoad {
     ghost use Rattle.cqs_rule.specs.Semaphore.{loads_to_try};
 
     ghost event = { loads_to_try };
@@ -55,7 +55,7 @@ impl<T: Drop> Shown<SemClient<T>> for TryLoad {
 /// first and it has nothing.
 pub struct TrySwap;
 
-impl<T: Drop> Shown<SemClient<T>> for TrySwap {
+impl<T: Carries> Shown<SemClient<T>> for TrySwap {
     ghost use Rattle.cqs_rule.specs.Semaphore.{tries};
 
     ghost event = { tries };
@@ -77,7 +77,7 @@ impl<T: Drop> Shown<SemClient<T>> for TrySwap {
 /// payload is 0.
 pub struct Give;
 
-impl<T: Drop> Shown<SemClient<T>> for Give {
+impl<T: Carries> Shown<SemClient<T>> for Give {
     ghost use Rattle.cqs_rule.specs.Semaphore.{gives_one};
 
     ghost event = { gives_one };
@@ -99,7 +99,7 @@ impl<T: Drop> Shown<SemClient<T>> for Give {
 /// that was on its way to it is free.
 pub struct Decide;
 
-impl<T: Drop> Shown<SemClient<T>> for Decide {
+impl<T: Carries> Shown<SemClient<T>> for Decide {
     ghost use Rattle.cqs_rule.specs.Semaphore.{decides};
 
     ghost event = { decides };

@@ -20,7 +20,8 @@ fetch_sub-found-requires g c =
           c.args.self.now.table.shared.table_id.slots c.args.pass.now.seat.id c.args.pass.now.seat.me c.args.word _
           _
           (λ n. (n + (2 ^ 64 - c.unsigned_abs-amount.result)) % 2 ^ 64)
-          c.args.pass.now.live.0 c.requires.word c.place-place.ensures
+          (record { one = c.args.pass.now.live.0; shut = c.args.pass.now.shut; stay = c.requires.slots })
+          c.requires.word c.place-place.ensures
           (λ n. added-down c.args.by _ n is side) c.requires.law s r homes here small in (
             t.0,
             t.1,
@@ -48,7 +49,8 @@ fetch_add-found-requires g c =
           c.args.self.now.table.shared.table_id.slots c.args.pass.now.seat.id c.args.pass.now.seat.me c.args.word _
           _
           (λ n. (n + c.unsigned_abs-amount.result) % 2 ^ 64)
-          c.args.pass.now.live.0 c.requires.word c.place-place.ensures
+          (record { one = c.args.pass.now.live.0; shut = c.args.pass.now.shut; stay = c.requires.slots })
+          c.requires.word c.place-place.ensures
           (λ n. added-up c.args.by _ n is side) c.requires.law s r homes here small in (
             t.0,
             t.1,

@@ -18,7 +18,8 @@ load-found-requires g c =
           c.args.self.now.table.shared.table_id.slots c.args.pass.now.seat.id c.args.pass.now.seat.me c.args.word _
           _
           (λ n. n)
-          c.args.pass.now.live.0 c.requires.word c.place.ensures (λ n. refl) c.requires.law s r homes here small in (
+          (record { one = c.args.pass.now.live.0; shut = c.args.pass.now.shut; stay = c.requires.slots })
+          c.requires.word c.place.ensures (λ n. refl) c.requires.law s r homes here small in (
             t.0,
             t.1,
             t.2,

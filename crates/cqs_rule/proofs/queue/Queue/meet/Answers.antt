@@ -17,7 +17,7 @@ join_seat-requires g c =
       none-slots _ u.live.1,
       search rules,
       joins C.object (C.primitive x) _ _ (g.met.C.ClientWords.keeps x) _ _ _ _ p.live.0 u.live.0
-          c.requires.idle rests.0,
+          c.requires.idle rests.0 p.shut u.shut,
     )
 
 pub fetch_sub-requires : goal.fetch_sub-requires

@@ -27,6 +27,7 @@ returns-clause-belongs g c =
     (C.primitive x).opening (C.primitive x).held = search rules in
     record {
       table = search rules;
+      slots = search rules;
       passes = search rules;
       limit = search rules;
       cells = search rules;
@@ -39,7 +40,7 @@ returns-clause-belongs g c =
           (cell_count passes config.limit (C.primitive x).values) (C.primitive x).opening (C.primitive x).held))
           c.from.ensures
           (alone-now C.object C.primitive _ _ x (g.met.C.ClientWords.keeps x) _
-          (opens-by C.object (C.primitive x) (g.met.C.ClientWords.keeps x) config c.from.result c.values.result _ _ []
+          (opens-by C.object (C.primitive x) (g.met.C.ClientWords.keeps x) config c.from.result c.values.result _ _ 0
           good
           c.from.ensures c.values.ensures c.as_slice.ensures.value c.in_ok-words.ensures c.requires.few) 0 _ refl));
     }

@@ -40,6 +40,7 @@ loop-pass-init g c =
     let saw = e.2.0.0.saw in (
       record {
         table = e.0 ∙ c.requires.belongs.table;
+        slots = c.requires.belongs.slots;
         passes = saw.same.passes ∙ c.requires.belongs.passes;
         limit = saw.same.limit ∙ c.requires.belongs.limit;
         cells = saw.same.cells ∙ c.requires.belongs.cells;
@@ -63,7 +64,7 @@ compare_exchange-found-requires g c =
           let t = makes-to C.object (C.primitive x) _ _ (g.met.C.ClientWords.keeps x)
           c.args.self.now.table.shared.table_id.slots
           c.loop-pass.pass.seat.id c.loop-pass.saw c.with_one_more.result c.loop-pass.pass.seat.me
-          c.loop-pass.pass.live.0
+          c.loop-pass.pass.live.0 c.loop-pass.pass.shut
           (omega arith)
           c.with_one_more.ensures s r homes here small in (
             t.0,
@@ -85,7 +86,8 @@ split_seat-seat-requires g c =
     let made = c.compare_exchange-found.ensures.2.0.0.made c.if-found-saw.true in (
       c.compare_exchange-found.ensures.0 ∙ c.loop-pass.invariant.0.table,
       search rules,
-      splits C.object (C.primitive x) _ _ (g.met.C.ClientWords.keeps x) _ _ made.weight,
+      splits C.object (C.primitive x) _ _ (g.met.C.ClientWords.keeps x) _ _ made.weight
+          (ap (λ f. f.open_slot) made.facts),
     )
 
 pub invariant_of-pass-then-found-saw : goal.invariant_of-pass-then-found-saw
@@ -100,6 +102,7 @@ invariant_of-pass-then-found-saw g c =
       held_is = ap (λ f. f.has.held) l.facts ∙ p.held_is;
       further_is = ap (λ f. f.has.further) l.facts ∙ p.further_is;
       spareless = ap (λ f. f.has.spares) l.facts ∙ p.spareless;
+      shut = ap (λ (f : Facts). f.open_slot) l.facts ∙ p.shut;
       owes_is = ap (λ f. is_owing f.doing) l.facts ∙ p.owes_is;
       waits_are = ap (λ (f : Facts). length f.waits) l.facts ∙ p.waits_are;
       cells_are = ap words_for l.cells ∙ (p.cells_are ∙ ap (λ t. t.words) (sym (cut.0 ∙ e.0)));
@@ -115,6 +118,7 @@ returns-then-found-saw-clause-belongs g c =
     let l = cut-leaves C.object _ _ _ _ _ _ _ c.loop-pass.invariant.1 c.compare_exchange-found.ensures.2.0.0
     c.compare_exchange-found.ensures.2.0.2 cut.2 in record {
       table = cut.0 ∙ (c.compare_exchange-found.ensures.0 ∙ old.table);
+      slots = old.slots;
       passes = l.passes ∙ old.passes;
       limit = l.limit ∙ old.limit;
       cells = l.cells ∙ old.cells;
@@ -138,6 +142,7 @@ returns-then-found-saw-clause-new_belongs g c =
     let b = cut-begins C.object _ _ _ _ _ _ _ _ c.if-found-saw.true c.compare_exchange-found.ensures.2.0.0
     c.compare_exchange-found.ensures.2.0.2 cut.2 cut.4 in record {
       table = cut.3 ∙ (c.compare_exchange-found.ensures.0 ∙ old.table);
+      slots = old.slots;
       passes = b.passes ∙ old.passes;
       limit = b.limit ∙ old.limit;
       cells = b.cells ∙ old.cells;
@@ -162,6 +167,7 @@ loop-pass-preserved g c =
     let saw = e.2.0.0.saw in (
       record {
         table = e.0 ∙ c.loop-pass.invariant.0.table;
+        slots = c.loop-pass.invariant.0.slots;
         passes = saw.same.passes ∙ c.loop-pass.invariant.0.passes;
         limit = saw.same.limit ∙ c.loop-pass.invariant.0.limit;
         cells = saw.same.cells ∙ c.loop-pass.invariant.0.cells;

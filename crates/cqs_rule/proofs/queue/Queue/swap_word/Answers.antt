@@ -19,7 +19,8 @@ compare_exchange-found-requires g c =
           (where_found c.args.saw) c.args.self.now.table.shared.table_id.slots c.args.pass.now.seat.id
           c.args.pass.now.seat.me c.args.word _ _
           (λ n. either (n == c.args.saw) c.args.new n)
-          c.args.pass.now.live.0 c.requires.word c.place.ensures (λ n. refl) c.requires.law s r homes here small in (
+          (record { one = c.args.pass.now.live.0; shut = c.args.pass.now.shut; stay = c.requires.slots })
+          c.requires.word c.place.ensures (λ n. refl) c.requires.law s r homes here small in (
             t.0,
             t.1,
             t.2,

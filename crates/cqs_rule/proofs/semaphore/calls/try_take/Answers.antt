@@ -3,7 +3,7 @@ use Rattle.cqs_rule.specs.Events.{Moves, exchanged, where_found}
 use Rattle.cqs_rule.specs.Passes.{pass_view, client_of}
 use Rattle.cqs_rule.specs.Semaphore.{semaphore_object, semaphore_primitive, tries}
 use Rattle.cqs_rule.specs.SemaphorePermits.{permits_of}
-use Rattle.cqs_rule.proofs.SemaphoreMoves.{try-swap-moves}
+use Rattle.cqs_rule.proofs.SemaphoreMoves.{try-swap-moves, try-stays}
 use Rattle.cqs_rule.proofs.semaphore.calls.try_take.Goals as goal
 
 pub swap_word-requires-clause-law : goal.swap_word-requires-clause-law
@@ -12,3 +12,6 @@ swap_word-requires-clause-law g c =
     subst (λ less. Moves semaphore_object (semaphore_primitive (permits_of (client_of c.args.queue.now))) tries
     (where_found c.args.saw.word) v.number v.facts 0 (exchanged c.args.saw.word less))
     (sym c.one_less.ensures.word) (try-swap-moves _ _ _ _ c.requires.loaded)
+
+pub swap_word-requires-clause-slots : goal.swap_word-requires-clause-slots
+swap_word-requires-clause-slots g c = try-stays _ _ _ (pass_view c.args.pass.now)

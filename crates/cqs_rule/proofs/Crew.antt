@@ -1,5 +1,5 @@
 -- The steps on the crew's word, and the cut and the join of views that go with them, keep the rule.
-use Rattle.std.proofs.Common.{◌≡◌, ◌≢◌, ◌⊎◌, ℕ, ◌+◌, ◌-◌, ◌*◌, ◌/◌, ◌%◌, ◌^◌, ◌<◌, ◌≤◌, Bool, true, false, true≢false, List, [], ◌∷◌, ◌++◌, length, set, sym, refl, ap, ◌∙◌, subst, ⊎_elim, inl, inr, arith, length-set, eq-eqb, Option, Some, None}
+use Rattle.std.proofs.Common.{◌≡◌, ◌≢◌, ◌⊎◌, ℕ, ◌+◌, ◌-◌, ◌*◌, ◌/◌, ◌%◌, ◌^◌, ◌<◌, ◌≤◌, Bool, true, false, true≢false, List, [], ◌∷◌, ◌++◌, zero, suc, length, set, sym, refl, ap, ◌∙◌, subst, ⊎_elim, inl, inr, arith, length-set, eq-eqb, Option, Some, None}
 use Rattle.std.specs.Prelude.{slice_index, slice_set, ◌==◌}
 use Rattle.std.proofs.lemmas.List.{append-nil}
 use Rattle.std.proofs.lemmas.Bool.{eqb-true, cases_lt}
@@ -12,7 +12,7 @@ use Rattle.atomic_table.specs.Table.{State, Me, Act, step, stepped, keeps, Valid
 use Rattle.atomic_table.proofs.Lists.{at_set, set_else, at_longer, at_last, exchanged}
 use Rattle.cqs_core.specs.declared.doings.Doing.TheVariants as doing
 use Rattle.cqs_core.specs.QueueState.{Queue}
-use Rattle.cqs_core.proofs.Places.{get-set_here, get-set_else}
+use Rattle.cqs_core.proofs.Places.{get-set_here, get-set_else, set-same}
 use Rattle.cqs_rule.specs.declared.view.View.{View}
 use Rattle.cqs_rule.specs.declared.view.Facts.{Facts}
 use Rattle.cqs_rule.specs.Segments.{KnowsSegments}
@@ -20,21 +20,21 @@ use Rattle.cqs_rule.specs.Hidden.{Hidden, hands_over}
 use Rattle.cqs_words.specs.Crew.{crew_word}
 use Rattle.cqs_rule.specs.Layout.{client_words}
 use Rattle.cqs_rule.specs.Lists.{Has}
-use Rattle.cqs_rule.specs.Views.{WasCrew, all_own, weight, grown, Apart, Tip, first_facts, made_in, live_in, crew_turn, single, cut_off, joined, spent, as_before, gathered, emptied}
+use Rattle.cqs_rule.specs.Views.{WasCrew, all_own, weight, grown, Apart, Tip, first_facts, made_in, live_in, crew_turn, first_has, facts_lessened, lessened, single, cut_off, joined, spent, as_before, gathered, emptied}
 use Rattle.cqs_rule.specs.Ruled.{Ruled, IsKept, Rests, Knows, Stands, CountersShow, CellsShow, IdleWords, cell_count}
 use Rattle.cqs_rule.specs.Client.{IsClient}
 use Rattle.cqs_rule.specs.Object.{Object, Primitive}
 use Rattle.cqs_rule.specs.Saw.{Saw, IsLive}
 use Rattle.cqs_rule.specs.declared.view.Has.{Has as OwnHas}
 use Rattle.cqs_rule.specs.declared.view.Opening.{Opening}
-use Rattle.cqs_rule.specs.Crew.{counted_by, tried_by, met_by}
+use Rattle.cqs_rule.specs.Crew.{MayGive, counted_by, tried_by, met_by}
 use Rattle.cqs_rule.proofs.CellPlaces.{behind-crew}
 use Rattle.cqs_rule.proofs.Words.{other-word, this-word, cells-else, idle-else, client-below}
 use Rattle.cqs_rule.proofs.Lists.{set_there, one_there, set_all, total_set, total_last, one_of, two_of, has_append, has_left, has_right, at_end}
 use Rattle.cqs_rule.proofs.Grow.{rests-on, second-on, spent-set, advance, is-inside}
 use Rattle.cqs_rule.proofs.Others.{others-same}
 use Rattle.cqs_rule.proofs.Looks.{still}
-use Rattle.cqs_rule.proofs.Shelves.{keeps-same, never-open, shelf-set, shelf-live, shelf-end, shelf-joined}
+use Rattle.cqs_rule.proofs.Shelves.{Keeps, keeps-all, keeps-same, never-open, shelf-set, shelf-live, shelf-end, shelf-joined}
 use Rattle.cqs_rule.proofs.Tells.{steps, inside-of}
 
 -- the two numbers of the crew's word
@@ -118,6 +118,47 @@ handed-to c from to gave got facts apart at = record {
   once = at.once;
   last = at.last;
   behind = record { reached = at.behind.reached; passed = at.behind.passed };
+}
+
+-- what a pass keeps that gave so much of what it held, and what of it stays as it was
+pub lessened-held : (gives : ℕ) (h : OwnHas) → (lessened gives h).held ≡ h.held - gives
+lessened-held zero h = omega arith
+lessened-held (suc n) h = refl
+
+pub lessened-payload : (gives : ℕ) (h : OwnHas) → (lessened gives h).payload ≡ h.payload
+lessened-payload zero h = refl
+lessened-payload (suc n) h = refl
+
+pub lessened-further : (gives : ℕ) (h : OwnHas) → (lessened gives h).further ≡ h.further
+lessened-further zero h = refl
+lessened-further (suc n) h = refl
+
+pub lessened-spares : (gives : ℕ) (h : OwnHas) → (lessened gives h).spares ≡ h.spares
+lessened-spares zero h = refl
+lessened-spares (suc n) h = refl
+
+-- what holds of a live view holds of it with less
+-- a pass that gives nothing keeps its slots, and one that gives some has none
+keeps-less : {E S : Type 0} (opens : OwnHas → ℕ → Type 0) (gives : ℕ) (v : View E S) → MayGive opens gives v.facts
+    → Keeps opens v (facts_lessened gives v.facts)
+keeps-less opens zero v may = keeps-all opens v (facts_lessened zero v.facts) refl (λ k o. o)
+keeps-less opens (suc n) v may =
+    keeps-all opens v (facts_lessened (suc n) v.facts) refl (λ k o. absurd (may.shut (omega arith) k o))
+
+live-lessened : {E S : Type 0} (object : Object E) (v : View E S) (gives : ℕ) → IsLive object v
+    → IsLive object (record v { facts = facts_lessened gives v.facts })
+live-lessened object v gives l = record {
+  legal = l.legal;
+  unnamed = l.unnamed;
+  own = l.own;
+  held = omega (arith, l.held, lessened-held gives v.facts.has);
+  inside = record {
+    number = l.inside.number;
+    waits = l.inside.waits;
+    once = l.inside.once;
+    few = l.inside.few;
+    payload = omega (arith, l.inside.payload, lessened-payload gives v.facts.has);
+  };
 }
 
 -- what holds of a live view doesn't speak of what the crew's word changes
@@ -365,12 +406,34 @@ module _ {E S : Type 0} (object : Object E) (primitive : Primitive E S) (passes 
         ),
       )
 
-  -- the exchange that makes a pass
-  pub makes : (slots id first : ℕ) (me : Me (Option S) (View E S)) → me.0.weight ≡ 1 → me.0.facts.open_slot ≡ None
-      → made_in first < passes
+  -- what a pass gives of what it holds becomes that of one that is made
+  gives-shown : (c : Hidden) (words : List ℕ) (log : List E) (handed : List (ℕ × S)) (from to gives : ℕ) (facts : Facts)
+      → primitive.shows c words log handed → from ≢ to → Stands c from facts → Stands c to (first_facts 0)
+      → MayGive primitive.opens gives facts
+      → primitive.shows (hands_over c from (lessened gives facts.has) to (first_has gives)) words log handed
+  gives-shown c words log handed from to zero facts shown apart mine theirs may =
+      let same : set (set c.has from facts.has) to (first_has 0) ≡ c.has =
+      ap (λ l. set l to (first_has 0)) (set-same c.has from facts.has mine.has)
+      ∙ set-same c.has to (first_has 0) theirs.has in
+      subst (λ l. primitive.shows (record {
+        queue = c.queue;
+        has = l;
+        may_draw = c.may_draw;
+        payloads = c.payloads;
+      }) words log handed) (sym same) shown
+  gives-shown c words log handed from to (suc g) facts shown apart mine theirs may =
+      let all : 0 + suc g ≡ suc g = omega arith in
+      let raised : record (first_has 0) { held = 0 + suc g } ≡ first_has (suc g) = ap (λ n. first_has n) all in
+      subst (λ h. primitive.shows (hands_over c from (lessened (suc g) facts.has) to h) words log handed) raised
+      (client.shares c from to (suc g) facts.has (first_has 0) words log handed shown apart
+      (mine.doing ∙ ap Some (may.idle (omega arith))) theirs.doing mine.has theirs.has may.enough)
+
+  -- the exchange that makes a pass, which gets so much of what this one holds
+  pub makes : (slots id first gives : ℕ) (me : Me (Option S) (View E S)) → me.0.weight ≡ 1
+      → me.0.facts.open_slot ≡ None → made_in first < passes → MayGive primitive.opens gives me.0.facts
       → Allows R slots id me 0 (λ n. either (n == first) (first + 4294967297) n)
-      (tried_by object (step slots 0 first (first + 4294967297) none) me)
-  makes slots id first me one shut room s r _ here small = exchanged n first (first + 4294967297) Done hit miss
+      (tried_by object gives (step slots 0 first (first + 4294967297) none) me)
+  makes slots id first gives me one shut room may s r _ here small = exchanged n first (first + 4294967297) Done hit miss
     where
       n : ℕ
       n = slice_index s.words 0
@@ -384,7 +447,7 @@ module _ {E S : Type 0} (object : Object E) (primitive : Primitive E S) (passes 
 
       Done : ℕ → Type 0
       Done x = (w : View E S) × (a : Act (Option S)) × Valid s.homes me.1 a × R (stepped s 0 x id me.1 w a)
-          × tried_by object (step slots 0 first (first + 4294967297) none) me n (w, carried_after me.1 a)
+          × tried_by object gives (step slots 0 first (first + 4294967297) none) me n (w, carried_after me.1 a)
 
       few-made : r.made < 4294967296
       few-made = let few = r.crew.few in let low = r.room.few_passes in omega arith
@@ -403,13 +466,14 @@ module _ {E S : Type 0} (object : Object E) (primitive : Primitive E S) (passes 
           let word : n ≡ r.made * 4294967296 + r.live = r.crew.word in
           let w : View E S = record v {
             weight = 2;
+            facts = facts_lessened gives v.facts;
             seen = r.log;
             handed = r.handed;
             other = r.log;
             other_handed = r.handed;
             others = m ∷ [];
             second_number = m;
-            second = first_facts 0;
+            second = first_facts gives;
             crew = n;
             alone = false;
           } in
@@ -417,14 +481,22 @@ module _ {E S : Type 0} (object : Object E) (primitive : Primitive E S) (passes 
           let mine : (j : ℕ) → Has j (all_own v) → Has j v.own =
           λ j h. only-left j v.own (subst (λ l. Has j (v.own ++ l)) none h) in
           let below : (j : ℕ) → Has j v.own → j < r.made = λ j h. k.below j (has_left j v.own v.others h) in
+          let from = v.number in
+          let gave : OwnHas = lessened gives v.facts.has in
+          let got : OwnHas = first_has gives in
+          let d = hands_over r.hidden from gave m got in
+          let differ : from ≢ m = λ same. let b = below from k.own in omega arith in
+          let new : Stands r.hidden m (first_facts 0) = r.unused m (omega arith) (omega arith) in
+          let shows_cells = cells-stay r.hidden (cell_count passes limit primitive.values) s.words x r.cells in
+          let base = subst (λ h. Saw object v v.facts [] (grown v v.facts h r.handed)) (append-nil r.log) told in
           let P : ℕ → View E S → Type 0 =
-          λ j u. 0 < u.weight → Knows object r.hidden r.log r.handed (r.made + 1) (r.live + 1) passes limit
+          λ j u. 0 < u.weight → Knows object d r.log r.handed (r.made + 1) (r.live + 1) passes limit
           (cell_count passes limit primitive.values) primitive.opening u in (
             w,
             keeps,
             tt,
             record {
-              hidden = r.hidden;
+              hidden = d;
               log = r.log;
               handed = r.handed;
               made = r.made + 1;
@@ -438,12 +510,23 @@ module _ {E S : Type 0} (object : Object E) (primitive : Primitive E S) (passes 
                 live_is = let t = total_set weight s.views id v w here in let l = r.crew.live_is in omega arith;
               };
               counters = counters-stay r.hidden.queue s.words x r.counters;
-              cells = cells-stay r.hidden (cell_count passes limit primitive.values) s.words x r.cells;
+              cells = record { at = shows_cells.at; fits = shows_cells.fits; bare = shows_cells.bare };
               idle_words = idle-stay s.words x r.idle_words;
-              room = r.room;
+              room = record {
+                few_passes = r.room.few_passes;
+                low_limit = r.room.low_limit;
+                few_values = r.room.few_values;
+                doing = r.room.doing;
+                has = length-set (set r.hidden.has from gave) m got ∙ (length-set r.hidden.has from gave ∙ r.room.has);
+                may_draw = r.room.may_draw;
+                ground = r.room.ground;
+                resumes = r.room.resumes;
+              };
               door = r.door;
-              shown = subst (λ l. primitive.shows r.hidden l r.log r.handed)
-                  (sym (client-below s.words 0 x (omega arith))) r.shown;
+              shown = subst (λ l. primitive.shows d l r.log r.handed)
+                  (sym (client-below s.words 0 x (omega arith)))
+                  (gives-shown r.hidden (client_words s.words) r.log r.handed from m gives v.facts r.shown differ
+                  k.stands new may);
               segments = r.segments;
               each_segment = set_all (λ j u. KnowsSegments r.segments u) s.views id w
                   (record { homes = (r.each_segment id v here).homes })
@@ -464,11 +547,14 @@ module _ {E S : Type 0} (object : Object E) (primitive : Primitive E S) (passes 
                     parted = λ j h g. let b = below j h in ⊎_elim (λ (z : j ≡ m). absurd (omega arith))
                         (λ z. absurd z) g;
                     own = k.own;
-                    stands = k.stands;
-                    resting = k.resting;
+                    stands = handed-from r.hidden from m gave got v.facts differ k.stands;
+                    resting = λ j h away. rests-on r.hidden d j
+                        (λ f stands. handed-else r.hidden from m gave got j f away
+                        (λ same. let b = below j h in omega arith) stands)
+                        (k.resting j h away);
                     second = λ two. record {
                       own = inl refl;
-                      stands = r.unused m (omega arith) (omega arith);
+                      stands = handed-to r.hidden from m gave got (first_facts 0) differ new;
                       resting = λ j h other. ⊎_elim (λ z. absurd (other z)) (λ z. absurd z) h;
                       payload_fits = omega arith;
                     };
@@ -478,13 +564,18 @@ module _ {E S : Type 0} (object : Object E) (primitive : Primitive E S) (passes 
                     cells_are = k.cells_are;
                     passes_are = k.passes_are;
                     opening_is = k.opening_is;
-                    payload_fits = k.payload_fits;
+                    payload_fits = omega (arith, k.payload_fits, lessened-payload gives v.facts.has);
                   })
                   (λ j u apart at live.
                   let p = r.each_view j u at live in
-                  knows-on object r.hidden r.hidden r.log r.handed r.made r.live (r.made + 1) (r.live + 1) passes limit
+                  knows-on object r.hidden d r.log r.handed r.made r.live (r.made + 1) (r.live + 1) passes limit
                   (cell_count passes limit primitive.values) primitive.opening u
-                  (omega arith) (λ i f h stands. stands) (crew-made r.made r.live u.crew more few p.crew)
+                  (omega arith)
+                  (λ i f h stands. handed-else r.hidden from m gave got i f
+                  (λ same. apart (r.apart j id u v i at here h
+                  (subst (λ z. Has z (all_own v)) (sym same) (has_left from v.own v.others k.own))))
+                  (λ same. let b = p.below i h in omega arith) stands)
+                  (crew-made r.made r.live u.crew more few p.crew)
                   (λ a.
                   let was = p.alone a in
                   let two = two_of weight s.views j id u v apart at here in
@@ -495,7 +586,9 @@ module _ {E S : Type 0} (object : Object E) (primitive : Primitive E S) (passes 
                   (λ q. ⊎_elim (λ (z : j ≡ m). inr (λ i u a at g. unmade i u at j g (omega arith))) (λ z. absurd z) q)
                   (has_append j v.own (m ∷ []) h));
               unnamed = λ j above. r.unnamed j (omega arith);
-              unused = λ j above. r.unused j (omega arith);
+              unused = λ j above under. handed-else r.hidden from m gave got j (first_facts 0)
+                  (λ same. let b = below from k.own in omega arith) (λ same. omega arith)
+                  (r.unused j (omega arith) under);
               kept = λ j under. ⊎_elim
                   (λ (old : j < r.made). kept-set s.views id v w j here (omega arith)
                   (λ h. has_left j v.own (m ∷ []) (mine j h)) (r.kept j old))
@@ -522,12 +615,11 @@ module _ {E S : Type 0} (object : Object E) (primitive : Primitive E S) (passes 
                   let two = two_of weight s.views j id u v apart at here in
                   let l = r.crew.live_is in absurd (omega arith)))
                   (shelf-set primitive.opens r.handed r.live s.homes s.views id v w here (omega arith)
-                  (record { live = omega arith; laid = refl; keeps = keeps-same primitive.opens v }) r.shelf);
+                  (record { live = omega arith; laid = refl; keeps = keeps-less primitive.opens gives v may }) r.shelf);
             },
             (
               record {
                 crew = refl;
-                saw = subst (λ h. Saw object v v.facts [] (grown v v.facts h r.handed)) (append-nil r.log) told;
                 missed = λ other. absurd (other e);
                 later = λ other. absurd (other e);
                 made = λ z. record {
@@ -539,10 +631,31 @@ module _ {E S : Type 0} (object : Object E) (primitive : Primitive E S) (passes 
                   handed = refl;
                   more = refl;
                 };
+                saw = λ z. record {
+                  between = base.between;
+                  seen = base.seen;
+                  silent = base.silent;
+                  facts_are = refl;
+                  same = record {
+                    number = refl;
+                    weight = refl;
+                    own = refl;
+                    crew = refl;
+                    alone = refl;
+                    limit = refl;
+                    cells = refl;
+                    passes = refl;
+                    opening = refl;
+                  };
+                  handed = base.handed;
+                  homes = base.homes;
+                  sole = base.sole;
+                };
                 unnamed = λ z. r.unnamed m (omega arith);
               },
               refl,
-              live-before object v w (subst (λ h. IsLive object (grown v v.facts h r.handed)) (append-nil r.log) alive),
+              live-before object v w (live-lessened object (grown v v.facts r.log r.handed) gives
+                  (subst (λ h. IsLive object (grown v v.facts h r.handed)) (append-nil r.log) alive)),
             ),
           )
         where
@@ -571,8 +684,7 @@ module _ {E S : Type 0} (object : Object E) (primitive : Primitive E S) (passes 
             (
               record {
                 crew = refl;
-                saw = t.1;
-                missed = λ z. (one, refl);
+                missed = λ z. record { weight = one; alone = refl; saw = t.1 };
                 later = λ z e. ⊎_elim
                     (λ (h : crew_turn v.crew < 2 * r.made - r.live).
                     let g : crew_turn n ≡ 2 * r.made - r.live = (λ j. 2 * made j - live j) in
@@ -580,6 +692,7 @@ module _ {E S : Type 0} (object : Object E) (primitive : Primitive E S) (passes 
                     (λ (h : v.crew ≡ r.made * 4294967296 + r.live). absurd (other (r.crew.word ∙ (sym h ∙ e))))
                     k.crew;
                 made = λ z. absurd (other z);
+                saw = λ z. absurd (other z);
                 unnamed = λ z. absurd (other z);
               },
               refl,
@@ -588,13 +701,15 @@ module _ {E S : Type 0} (object : Object E) (primitive : Primitive E S) (passes 
           )
 
   -- the same by the number that the pass writes
-  pub makes-to : (slots id first new : ℕ) (me : Me (Option S) (View E S)) → me.0.weight ≡ 1
-      → me.0.facts.open_slot ≡ None → made_in first < passes
-      → new ≡ first + crew_word 1 1
-      → Allows R slots id me 0 (λ n. either (n == first) new n) (tried_by object (step slots 0 first new none) me)
-  makes-to slots id first new me one shut room is = subst
-      (λ z. Allows R slots id me 0 (λ n. either (n == first) z n) (tried_by object (step slots 0 first z none) me))
-      (sym is) (makes slots id first me one shut room)
+  pub makes-to : (slots id first new gives : ℕ) (me : Me (Option S) (View E S)) → me.0.weight ≡ 1
+      → me.0.facts.open_slot ≡ None → made_in first < passes → new ≡ first + crew_word 1 1
+      → MayGive primitive.opens gives me.0.facts
+      → Allows R slots id me 0 (λ n. either (n == first) new n)
+      (tried_by object gives (step slots 0 first new none) me)
+  makes-to slots id first new gives me one shut room is may = subst
+      (λ z. Allows R slots id me 0 (λ n. either (n == first) z n)
+      (tried_by object gives (step slots 0 first z none) me))
+      (sym is) (makes slots id first gives me one shut room may)
 
   -- the view of a pass that counts for two is cut in two
   pub splits : (id : ℕ) (v : View E S) → v.weight ≡ 2 → v.second.open_slot ≡ None

@@ -4,7 +4,7 @@ use Rattle.std.proofs.lemmas.Bool.{cases_lt}
 use Rattle.cqs_core.specs.declared.doings.Doing.TheVariants as doing
 use Rattle.cqs_rule.specs.declared.view.View.{View}
 use Rattle.cqs_rule.specs.declared.view.Facts.{Facts}
-use Rattle.cqs_rule.specs.Crew.{IsBetween, IsSole, IsDoubled, Counted, Tried, Came}
+use Rattle.cqs_rule.specs.Crew.{IsBetween, IsSole, IsDoubled, Counted, Tried, CameWith}
 use Rattle.cqs_rule.specs.Hidden.{Hidden}
 use Rattle.cqs_rule.specs.Inside.{IsInside}
 use Rattle.cqs_rule.specs.Lists.{Has, part}
@@ -12,7 +12,7 @@ use Rattle.cqs_rule.specs.Ruled.{Stands, Rests}
 use Rattle.cqs_rule.specs.Facts.{is_owing, owes_any}
 use Rattle.cqs_rule.specs.Object.{Object, Primitive}
 use Rattle.cqs_rule.specs.Saw.{Saw, IsLive}
-use Rattle.cqs_rule.specs.Views.{made_in, first_facts, single, cut_off, joined, as_before}
+use Rattle.cqs_rule.specs.Views.{made_in, first_facts, facts_lessened, single, cut_off, joined, as_before}
 use Rattle.cqs_rule.proofs.Calls.{saw-then}
 
 -- that a pass is alone is told by what the client shows
@@ -35,8 +35,8 @@ pub le-by : (crew saw made passes key : ℕ) → crew ≡ saw → made ≡ made_
 le-by crew saw made passes key same is full are = omega arith
 
 module _ {E S : Type 0} where
-  inside-cut : (w : View E S) → IsInside w → w.second ≡ first_facts 0 → IsInside (cut_off w)
-  inside-cut w i is =
+  inside-cut : (w : View E S) (gives : ℕ) → IsInside w → w.second ≡ first_facts gives → IsInside (cut_off w)
+  inside-cut w gives i is =
       let some : 0 < w.cells = let low = i.number in omega arith in record {
         number = subst (λ f. Rattle.cqs_rule.specs.Ruled.number_at f.doing < w.cells) (sym is) some;
         waits = λ k h. absurd (subst (λ f. Has k f.waits) is h);
@@ -62,13 +62,14 @@ module _ {E S : Type 0} (object : Object E) where
     };
   }
 
-  live-cut : (u : View E S) (n : ℕ) → IsLive object u → IsDoubled n u → IsLive object (cut_off u)
-  live-cut u n l d = record {
+  live-cut : (u : View E S) (gives n : ℕ) → gives < 2 ^ 32 → IsLive object u → IsDoubled gives n u
+      → IsLive object (cut_off u)
+  live-cut u gives n few l d = record {
     legal = subst (object.legal u.opening) (sym d.seen) l.legal;
     unnamed = λ m above. ap (part object.names m) d.seen ∙ l.unnamed m above;
     own = subst (Has u.second_number) (sym d.own) (inl d.number);
     held = subst (λ (f : Facts). f.has.held < 2 ^ 32) (sym d.facts) (omega arith);
-    inside = inside-cut u l.inside d.facts;
+    inside = inside-cut u gives l.inside d.facts;
   }
 
   -- the crew's word was looked at, until it was found so
@@ -80,15 +81,16 @@ module _ {E S : Type 0} (object : Object E) where
   pub tries-first : (v w : View E S) (n : ℕ) → Counted object v n w → Tries v w n
   tries-first v w n c = record { saw = c.saw; crew = c.crew; kept = c.kept }
 
-  -- one look after another
-  pub looks-then : (v w u : View E S) (first n : ℕ) → Tries v w first → Tried object first w n u
-      → Saw object v v.facts [] (as_before v u)
-  looks-then v w u first n t e =
-      let s = e.saw in saw-then object v (as_before v w) (as_before v u) v.facts v.facts [] t.saw (record {
+  -- one look after another, the last of which leaves the pass at other facts
+  pub looks-then : (v w u : View E S) (first : ℕ) (now : Facts → Facts) → Tries v w first
+      → Saw object w (now w.facts) [] (as_before w u)
+      → Saw object v (now v.facts) [] (as_before v u)
+  looks-then v w u first now t s =
+      saw-then object v (as_before v w) (as_before v u) v.facts (now v.facts) [] t.saw (record {
         between = s.between;
         seen = s.seen;
         silent = s.silent;
-        facts_are = s.facts_are ∙ t.saw.facts_are;
+        facts_are = s.facts_are ∙ ap now t.saw.facts_are;
         same = record {
           number = s.same.number;
           weight = refl;
@@ -105,20 +107,20 @@ module _ {E S : Type 0} (object : Object E) where
         sole = λ a. s.sole (t.kept a);
       })
 
-  pub tries-again : (v w u : View E S) (first n : ℕ) → n ≢ first → Tries v w first → Tried object first w n u
-      → Tries v u n
-  tries-again v w u first n other t e = record {
-    saw = looks-then v w u first n t e;
+  pub tries-again : (v w u : View E S) (gives first n : ℕ) → n ≢ first → Tries v w first
+      → Tried object gives first w n u → Tries v u n
+  tries-again v w u gives first n other t e = record {
+    saw = looks-then v w u first (λ f. f) t (e.missed other).saw;
     crew = e.crew;
-    kept = λ a. (e.missed other).1 ∙ t.kept a;
+    kept = λ a. (e.missed other).alone ∙ t.kept a;
   }
 
-  -- what the cut leaves of the pass that made another: it is at what it was at the exchange
-  pub record Leaves (v w x : View E S) : Type 0 where
-    pub saw : Saw object v v.facts [] (as_before v x)
+  -- what the cut leaves of the pass that made another: it is at what it was at the exchange, but for what it gave
+  pub record Leaves (gives : ℕ) (v w x : View E S) : Type 0 where
+    pub saw : Saw object v (facts_lessened gives v.facts) [] (as_before v x)
     pub weight : x.weight ≡ 1
     pub number : x.number ≡ w.number
-    pub facts : x.facts ≡ w.facts
+    pub facts : x.facts ≡ facts_lessened gives w.facts
     pub cells : x.cells ≡ w.cells
     pub limit : x.limit ≡ w.limit
     pub passes : x.passes ≡ w.passes
@@ -126,11 +128,12 @@ module _ {E S : Type 0} (object : Object E) where
     pub alive : IsLive object x
     pub lonely : x.alone ≡ false
 
-  pub cut-leaves : {X : Type 0} (v w u : View E S) (x : View E S × X) (more : X) (first n : ℕ) → Tries v w first
-      → Tried object first w n u → IsLive object u → x ≡ (single u, more) → Leaves v w x.0
-  cut-leaves {X} v w u x more first n t e alive is =
-      let s = e.saw in subst (λ (z : View E S × X). Leaves v w z.0) (sym is) record {
-        saw = looks-then v w u first n t e;
+  pub cut-leaves : {X : Type 0} (v w u : View E S) (x : View E S × X) (more : X) (gives first n : ℕ) → n ≡ first
+      → Tries v w first → Tried object gives first w n u → IsLive object u → x ≡ (single u, more)
+      → Leaves gives v w x.0
+  cut-leaves {X} v w u x more gives first n hit t e alive is =
+      let s = e.saw hit in subst (λ (z : View E S × X). Leaves gives v w z.0) (sym is) record {
+        saw = looks-then v w u first (facts_lessened gives) t s;
         weight = refl;
         number = s.same.number;
         facts = s.facts_are;
@@ -143,8 +146,8 @@ module _ {E S : Type 0} (object : Object E) where
       }
 
   -- the new pass
-  pub record Begins (w x y : View E S) : Type 0 where
-    pub came : Came object x y
+  pub record Begins (gives : ℕ) (w x y : View E S) : Type 0 where
+    pub came : CameWith object gives x y
     pub weight : y.weight ≡ 1
     pub cells : y.cells ≡ w.cells
     pub limit : y.limit ≡ w.limit
@@ -153,12 +156,14 @@ module _ {E S : Type 0} (object : Object E) where
     pub alive : IsLive object y
     pub lonely : y.alone ≡ false
 
-  pub cut-begins : {X : Type 0} (w u : View E S) (x y : View E S × X) (more bare : X) (first n : ℕ) → n ≡ first
-      → Tried object first w n u → IsLive object u → x ≡ (single u, more) → y ≡ (cut_off u, bare) → Begins w x.0 y.0
-  cut-begins {X} w u x y more bare first n hit e alive is is' =
-      let s = e.saw in
+  pub cut-begins : {X : Type 0} (w u : View E S) (x y : View E S × X) (more bare : X) (gives first n : ℕ) → n ≡ first
+      → gives < 2 ^ 32
+      → Tried object gives first w n u → IsLive object u → x ≡ (single u, more) → y ≡ (cut_off u, bare)
+      → Begins gives w x.0 y.0
+  cut-begins {X} w u x y more bare gives first n hit few e alive is is' =
+      let s = e.saw hit in
       let d = e.made hit in
-      subst (λ (z : (View E S × X) × (View E S × X)). Begins w z.0.0 z.1.0) (λ j. (sym is j, sym is' j)) record {
+      subst (λ (z : (View E S × X) × (View E S × X)). Begins gives w z.0.0 z.1.0) (λ j. (sym is j, sym is' j)) record {
         came = record {
           number = d.number ∙ ap made_in (sym e.crew);
           own = d.own ∙ ap (λ z. z ∷ []) (sym d.number);
@@ -175,7 +180,7 @@ module _ {E S : Type 0} (object : Object E) where
         limit = s.same.limit;
         passes = s.same.passes;
         opening = s.same.opening;
-        alive = live-cut u n alive d;
+        alive = live-cut u gives n few alive d;
         lonely = refl;
       }
 

@@ -90,6 +90,16 @@ module _ {E S : Type 0} (object : Object E) (primitive : Primitive E S) where
         → slice_get c.has from ≡ Some mine → slice_get c.has to ≡ Some theirs
         → primitive.shows (hands_over c from (emptied mine) to (gathered theirs mine)) words log
         handed
+    -- and so may a part of what it holds
+    pub shares : (c : Hidden) (from to many : ℕ) (mine theirs : Has) (words : List ℕ) (log : List E)
+        (handed : List (ℕ × S))
+        → primitive.shows c words log handed → from ≢ to
+        → slice_get c.queue.doing from ≡ Some doing.Idle
+        → slice_get c.queue.doing to ≡ Some doing.Idle
+        → slice_get c.has from ≡ Some mine → slice_get c.has to ≡ Some theirs → many ≤ mine.held
+        → primitive.shows
+        (hands_over c from (record mine { held = mine.held - many }) to
+        (record theirs { held = theirs.held + many })) words log handed
     -- a step of the queue appends no entry that names another pass
     pub silent : (s : QueueStep) (p k payload : ℕ)
         → NamesOnly object.names p (object.entries s p k payload)

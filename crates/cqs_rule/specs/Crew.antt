@@ -1,17 +1,18 @@
 -- What the steps on the crew's word tell: a load of it, the exchange by which a pass is made, and
 -- the step by which one that was joined away is counted out.
-use Rattle.std.specs.Prelude.{◌≡◌, ◌≢◌, ◌⊎◌, ℕ, ◌<◌, ◌==◌, true, false, List, [], ◌∷◌, ◌++◌, length, Option}
+use Rattle.std.specs.Prelude.{◌≡◌, ◌≢◌, ◌⊎◌, ℕ, ◌<◌, ◌≤◌, ◌==◌, true, false, List, [], ◌∷◌, ◌++◌, Option}
 use Rattle.atomic_table.specs.Table.{Me, Step}
 use Rattle.cqs_core.specs.declared.doings.Doing.TheVariants as doing
 use Rattle.cqs_rule.specs.declared.view.View.{View}
 use Rattle.cqs_rule.specs.declared.view.Facts.{Facts}
+use Rattle.cqs_rule.specs.declared.view.Has.{Has as OwnHas}
 use Rattle.cqs_rule.specs.Hidden.{Hidden}
 use Rattle.cqs_rule.specs.Lists.{Has, IsPrefix, part}
 use Rattle.cqs_rule.specs.Ruled.{Stands, Rests}
 use Rattle.cqs_rule.specs.Facts.{is_owing}
 use Rattle.cqs_rule.specs.Object.{Object, Primitive}
 use Rattle.cqs_rule.specs.Saw.{Saw, IsLive}
-use Rattle.cqs_rule.specs.Views.{made_in, live_in, crew_turn, first_facts, as_before}
+use Rattle.cqs_rule.specs.Views.{made_in, live_in, crew_turn, first_facts, facts_lessened, as_before}
 
 -- A pass between two calls is idle, or owes something: it isn't in the middle of a call that owes
 -- nothing.
@@ -30,11 +31,23 @@ pub record IsSole {C E S : Type 0} (primitive : C → Primitive E S) (v : View E
   pub stands : Stands hidden v.number v.facts
   pub others : (n : ℕ) → n ≢ v.number → n < v.passes → Rests hidden n
 
--- The view counts for two: its pass, and the one that it made when it found n at the crew's word.
-pub record IsDoubled {E S : Type 0} (n : ℕ) (w : View E S) : Type 0 where
+-- a pass that has this may open no value slot
+abbrev pub OpensNone : (OwnHas → ℕ → Type 0) → OwnHas → Type 0
+OpensNone opens has = (k : ℕ) → opens has k → ⊥
+
+-- A pass may give so much of what it holds: no more than that; and where it gives any, it is between
+-- two calls and may open no value slot.
+pub record MayGive (opens : OwnHas → ℕ → Type 0) (gives : ℕ) (f : Facts) : Type 0 where
+  pub enough : gives ≤ f.has.held
+  pub idle : 0 < gives → f.doing ≡ doing.Idle
+  pub shut : 0 < gives → OpensNone opens f.has
+
+-- The view counts for two: its pass, and the one that it made when it found n at the crew's word,
+-- which got so much of what it held.
+pub record IsDoubled {E S : Type 0} (gives n : ℕ) (w : View E S) : Type 0 where
   pub weight : w.weight ≡ 2
   pub number : w.second_number ≡ made_in n
-  pub facts : w.second ≡ first_facts 0
+  pub facts : w.second ≡ first_facts gives
   pub own : w.others ≡ made_in n ∷ []
   pub seen : w.other ≡ w.seen
   pub handed : w.other_handed ≡ w.handed
@@ -50,14 +63,20 @@ module _ {E : Type 0} (object : Object E) where
       pub kept : v.alone ≡ true → w.alone ≡ true
       pub saw : Saw object v v.facts [] (as_before v w)
 
-    -- The exchange by which a pass is made, where `first` stands at the crew's word, found n. Where
-    -- it was not made, the turn of the crew has risen.
-    pub record Tried (first : ℕ) (v : View E S) (n : ℕ) (w : View E S) : Type 0 where
-      pub crew : w.crew ≡ n
+    -- the pass has only seen more
+    pub record Missed (v w : View E S) : Type 0 where
+      pub weight : w.weight ≡ 1
+      pub alone : w.alone ≡ v.alone
       pub saw : Saw object v v.facts [] (as_before v w)
-      pub missed : n ≢ first → (w.weight ≡ 1) × (w.alone ≡ v.alone)
+
+    -- The exchange by which a pass is made that gets so much, where `first` stands at the crew's
+    -- word, found n. Where it was not made, the turn of the crew has risen.
+    pub record Tried (gives first : ℕ) (v : View E S) (n : ℕ) (w : View E S) : Type 0 where
+      pub crew : w.crew ≡ n
+      pub missed : n ≢ first → Missed v w
       pub later : n ≢ first → v.crew ≡ first → crew_turn first < crew_turn n
-      pub made : n ≡ first → IsDoubled n w
+      pub made : n ≡ first → IsDoubled gives n w
+      pub saw : n ≡ first → Saw object v (facts_lessened gives v.facts) [] (as_before v w)
       pub unnamed : n ≡ first → part object.names (made_in n) w.seen ≡ []
 
     -- The view v has taken in what another pass, with these numbers, had seen, and stands at these
@@ -84,9 +103,11 @@ module _ {E : Type 0} (object : Object E) where
     counted_by told st me n me' = Counted me.0 n me'.0 × (me'.1 ≡ me.1) × IsLive object me'.0
         × (me'.0.alone ≡ true → told me'.0)
 
-    abbrev pub tried_by : Step (Option S) → Me (Option S) (View E S) → ℕ → Me (Option S) (View E S)
+    abbrev pub tried_by : ℕ → Step (Option S) → Me (Option S) (View E S) → ℕ
+        → Me (Option S) (View E S)
         → Type 0
-    tried_by st me n me' = Tried st.first me.0 n me'.0 × (me'.1 ≡ me.1) × IsLive object me'.0
+    tried_by gives st me n me' =
+        Tried gives st.first me.0 n me'.0 × (me'.1 ≡ me.1) × IsLive object me'.0
 
     abbrev pub met_by : Step (Option S) → Me (Option S) (View E S) → ℕ → Me (Option S) (View E S)
         → Type 0
@@ -96,14 +117,18 @@ module _ {E : Type 0} (object : Object E) where
         × IsLive object me'.0
 
 module _ {E S : Type 0} (object : Object E) where
-  -- the new pass: it has seen and holds what this says, has a number of its own, and no entry names
-  -- it
-  pub record Came (v w : View E S) : Type 0 where
+  -- the new pass: it has seen what this one has seen, holds so much, has a number of its own, and
+  -- no entry names it
+  pub record CameWith (gives : ℕ) (v w : View E S) : Type 0 where
     pub number : w.number ≡ made_in v.crew
     pub own : w.own ≡ w.number ∷ []
-    pub facts : w.facts ≡ first_facts 0
+    pub facts : w.facts ≡ first_facts gives
     pub seen : w.seen ≡ v.seen
     pub handed : w.handed ≡ v.handed
     pub unnamed : part object.names w.number w.seen ≡ []
     pub passes : w.passes ≡ v.passes
     pub opening : w.opening ≡ v.opening
+
+  -- it holds nothing
+  abbrev pub Came : View E S → View E S → Type 0
+  Came v w = CameWith 0 v w

@@ -1,5 +1,5 @@
 -- What the words and the passes of a table stand for, and what each step makes of it.
-use Rattle.std.specs.Prelude.{◌+◌, [], ℕ, ◌-◌, Bool, false, List, ◌++◌, Option, Some, None, slice_get, slice_set}
+use Rattle.std.specs.Prelude.{◌+◌, [], ℕ, zero, suc, ◌-◌, Bool, false, List, ◌++◌, Option, Some, None, slice_get, slice_set}
 use Rattle.cqs_core.specs.declared.cells.CoreCell.{CoreCell}
 use Rattle.cqs_core.specs.declared.cells.CoreState.{CoreState}
 use Rattle.cqs_core.specs.declared.cells.CoreState.TheVariants as state
@@ -101,6 +101,11 @@ gathered mine theirs = record mine {
 
 abbrev pub emptied : Has → Has
 emptied theirs = record theirs { held = 0; slots = []; spares = 0 }
+
+-- what a pass has that gave so much of what it held: where it gave nothing, what it had
+abbrev pub lessened : ℕ → Has → Has
+lessened zero mine = mine
+lessened (suc n) mine = record mine { held = mine.held - suc n }
 
 -- what one pass has, or some of it, becomes another's: they have this now
 abbrev pub hands_over : Hidden → ℕ → Has → ℕ → Has → Hidden

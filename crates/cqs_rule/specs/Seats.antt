@@ -1,5 +1,5 @@
 -- What a split and a meet leave, by the passes before and after.
-use Rattle.std.specs.Prelude.{◌≡◌, ◌⊎◌, ◌<◌, true, [], length}
+use Rattle.std.specs.Prelude.{◌≡◌, ◌⊎◌, ℕ, ◌<◌, true, [], length}
 use Rattle.cqs_rule.specs.declared.client.ClientWords.{Ghosts}
 use Rattle.cqs_rule.specs.declared.queue.Pass.{Pass}
 use Rattle.cqs_rule.specs.declared.view.Facts.{Facts}
@@ -7,7 +7,7 @@ use Rattle.cqs_rule.specs.Crew.{Met}
 use Rattle.cqs_rule.specs.Passes.{pass_view}
 use Rattle.cqs_rule.specs.Facts.{owes_any}
 use Rattle.cqs_rule.specs.Saw.{Saw}
-use Rattle.cqs_rule.specs.Views.{as_before, gathered}
+use Rattle.cqs_rule.specs.Views.{as_before, gathered, facts_lessened}
 
 -- a pass that can't be met away: it owes something, or has a wait
 abbrev pub IsBusy : Facts → Type 0
@@ -18,6 +18,12 @@ module _ {C S E : Type 0} {g : Ghosts C S E} where
   abbrev pub HasLookedOn : Pass C S E g → Pass C S E g → Type 0
   HasLookedOn p p' =
       Saw g.object (pass_view p) (pass_view p).facts [] (as_before (pass_view p) (pass_view p'))
+
+  -- the same, but that it gave so much of what it held
+  abbrev pub HasGiven : ℕ → Pass C S E g → Pass C S E g → Type 0
+  HasGiven gives p p' =
+      Saw g.object (pass_view p) (facts_lessened gives (pass_view p).facts) []
+      (as_before (pass_view p) (pass_view p'))
 
   -- the pass has taken in what the given one had seen, and holds what both held
   abbrev pub HasMet : Pass C S E g → Pass C S E g → Pass C S E g → Type 0

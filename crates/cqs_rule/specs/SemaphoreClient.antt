@@ -167,19 +167,17 @@ begins-core permits passes some low any few =
     (opened-core permits passes
     (record { some_permits = some; few_permits = low; some_passes = any; few_passes = few }))
 
--- permits that one pass hands to another are all still held
-hands-permits : (permits : ℕ) (c : Hidden) (from to : ℕ) (mine theirs : Has) (words : List ℕ)
-    (log : List Entry)
+-- permits that one pass gives and another gets are all still held
+given-permits : (permits : ℕ) (c : Hidden) (from to many : ℕ) (mine theirs gave got : Has)
+    (words : List ℕ) (log : List Entry)
     → IsCore (core_shown permits c words log) → from ≢ to → slice_get c.has from ≡ Some mine
-    → slice_get c.has to ≡ Some theirs
-    → IsCore (core_shown permits (hands_over c from (emptied mine) to (gathered theirs mine)) words
-    log)
-hands-permits permits c from to mine theirs words log core apart has there =
+    → slice_get c.has to ≡ Some theirs → many ≤ mine.held → gave.held ≡ mine.held - many
+    → got.held ≡ theirs.held + many
+    → IsCore (core_shown permits (hands_over c from gave to got) words log)
+given-permits permits c from to many mine theirs gave got words log core apart has there enough left
+    more =
     let s = core_shown permits c words log in
     let held = held_of c.has in
-    let many = mine.held in
-    let gave : Has = emptied mine in
-    let got : Has = gathered theirs mine in
     let from_has : slice_get held from ≡ Some mine.held = held-at c.has from mine has in
     let to_has : slice_get held to ≡ Some theirs.held = held-at c.has to theirs there in
     let first : nat_lt from (length held) ≡ true =
@@ -193,11 +191,10 @@ hands-permits permits c from to mine theirs words log core apart has there =
     let lies : slice_index rest to ≡ theirs.held =
     get_or_from_slice_get rest to theirs.held 0
     (get-set_else held from to (slice_index held from - many) apart ∙ to_has) in
-    let none : gave.held ≡ mine.held - many = omega arith in
     let is : handed held from to many ≡ held_of (slice_set (slice_set c.has from gave) to got) =
     (λ i. slice_set (slice_set held from (holds i - many)) to (lies i + many))
-    ∙ (ap (λ l. set l to got.held) (held-set c.has from gave (mine.held - many) none)
-    ∙ held-set (slice_set c.has from gave) to got got.held refl) in
+    ∙ (ap (λ l. set l to (theirs.held + many)) (held-set c.has from gave (mine.held - many) left)
+    ∙ held-set (slice_set c.has from gave) to got (theirs.held + many) more) in
     subst (λ l. IsCore (record s { held = l })) is
     (hand_over-core s (record s { held = handed held from to many }) from to many core
     (rw (first, second, few) refl))
@@ -273,7 +270,11 @@ semaphore-client permits some low = record {
       steps-core permits c t p k found has payload words log core opens there suits low low';
   counts = λ c p may words log handed core. core;
   hands = λ c from to mine theirs words log handed core apart idle idle' has there.
-      hands-permits permits c from to mine theirs words log core apart has there;
+      given-permits permits c from to mine.held mine theirs (emptied mine) (gathered theirs mine)
+      words log core apart has there (omega arith) (omega arith) refl;
+  shares = λ c from to many mine theirs words log handed core apart idle idle' has there enough.
+      given-permits permits c from to many mine theirs (record mine { held = mine.held - many })
+      (record theirs { held = theirs.held + many }) words log core apart has there enough refl refl;
   silent = silent-step;
   sound = λ c words log handed core. core.sound;
   legal_shown = λ c words log handed core. core.legal;

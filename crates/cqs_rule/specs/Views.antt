@@ -1,7 +1,7 @@
 -- The views of the passes: the first one, what of them the rule counts, and what stays of one at
 -- each step.
-pub use Rattle.cqs_rule.specs.Hidden.{gathered, emptied}
-use Rattle.std.specs.Prelude.{◌≡◌, ◌⊎◌, ℕ, ◌+◌, ◌-◌, ◌*◌, ◌<◌, true, false, List, [], ◌∷◌, ◌++◌, None}
+pub use Rattle.cqs_rule.specs.Hidden.{gathered, emptied, lessened}
+use Rattle.std.specs.Prelude.{◌≡◌, ◌⊎◌, ℕ, ◌-◌, ◌*◌, ◌<◌, true, false, List, [], ◌∷◌, ◌++◌, None}
 use mathlib.Core.Option.{some}
 use lib.ListN.{get_elem?}
 use Rattle.cqs_core.specs.declared.doings.Doing.TheVariants as doing
@@ -32,6 +32,10 @@ first_facts held = record {
   heads = [];
   found = [];
 }
+
+-- what a pass is at that gave so much of what it held
+abbrev pub facts_lessened : ℕ → Facts → Facts
+facts_lessened gives f = record f { has = lessened gives f.has }
 
 -- it rises with each pass made and each pass met away
 abbrev pub crew_turn : ℕ → ℕ

@@ -12,7 +12,7 @@ use crate::kinds::Kind;
 use crate::loads::Load;
 use crate::view::View;
 use atomic_table::{Join, Play, Split};
-use std::marker::PhantomData;
+use std::marker::{Brand, PhantomData};
 
 /// A load of the suspend counter or of a cell.
 pub(crate) struct Loading<C, L> {
@@ -70,13 +70,25 @@ impl<C: ClientWords> Play<Option<C::Slot>, View<C::Entry, C::Slot>> for Count<C>
     ghost then = { and_alone C.primitive (counted_by C.object (IsSole C.primitive)) };
 }
 
-/// The exchange on the crew's word by which a pass is made.
-pub(crate) struct Make<C> {
-    of: PhantomData<C>,
+/// How much of what its maker holds a pass gets that is made: a number of one call, which a type
+/// names, since a step tells nothing by what its caller alone knows.
+pub(crate) trait Gift {
+    ghost use Rattle.std.specs.Prelude.{ℕ};
+
+    ghost gives: { ℕ };
 }
 
-impl<C: ClientWords> Play<Option<C::Slot>, View<C::Entry, C::Slot>> for Make<C> {
-    ghost then = { and_alone C.primitive (tried_by C.object) };
+impl Gift for Brand {
+    ghost gives = { 0 };
+}
+
+/// The exchange on the crew's word by which a pass is made.
+pub(crate) struct Make<C, G> {
+    of: PhantomData<(C, G)>,
+}
+
+impl<C: ClientWords, G: Gift> Play<Option<C::Slot>, View<C::Entry, C::Slot>> for Make<C, G> {
+    ghost then = { and_alone C.primitive (tried_by C.object G.gives) };
 }
 
 /// The step on the crew's word by which a pass that was joined away is counted out.

@@ -1,19 +1,25 @@
 //! How a pass makes another, and how two become one.
 
-ghost use Rattle.std.specs.Prelude.{◌≡◌, true, ◌+◌, ◌≤◌, IsTrue, IsErr, IfOk, IfErr, OnErr, OnOk};
+ghost use Rattle.std.specs.Prelude.{◌≡◌, true, ◌+◌, ◌<◌, ◌≤◌, IsTrue, IsErr, None, IfOk, IfErr, OnErr, OnOk};
 ghost use mathlib.Core.Logic.{◌↔◌};
 ghost use Rattle.cqs_core.specs.declared.doings.Doing.TheVariants.{Idle};
-ghost use Rattle.cqs_rule.specs.Crew.{IsBetween, IsSole, Came, Met};
-ghost use Rattle.cqs_rule.specs.Passes.{pass_view, passes_of, IsOf};
-ghost use Rattle.cqs_rule.specs.Seats.{IsBusy, HasLookedOn, HasMet};
+ghost use Rattle.cqs_rule.specs.Alone.{TellsAlone};
+ghost use Rattle.cqs_rule.specs.Crew.{IsBetween, IsSole, MayGive, OpensNone, Tried, CameWith, Met};
+ghost use Rattle.cqs_rule.specs.Layout.{words_for};
+ghost use Rattle.cqs_rule.specs.Passes.{pass_view, client_of, passes_of, IsOf};
+ghost use Rattle.cqs_rule.specs.Saw.{IsLive};
+ghost use Rattle.cqs_rule.specs.Seats.{IsBusy, HasLookedOn, HasGiven, HasMet};
 ghost use Rattle.cqs_rule.specs.Views.{made_in, live_in};
 
 use crate::client::ClientWords;
 use crate::config::{Crowd, MeetError};
 use crate::layout::CREW_WORD;
-use crate::plays::{Count, Cut, Gather, Make, Meet};
+use crate::plays::{Count, Cut, Gather, Gift, Make, Meet};
 use crate::queue::{Pass, Queue};
+use crate::view::View;
+use atomic_table::Seat;
 use cqs_words::CrewWord;
+use std::marker::Brand;
 
 impl<C: ClientWords> Queue<C> {
     /// Whether no other pass is there. Then the pass has seen the whole history, and what happens
@@ -33,31 +39,64 @@ impl<C: ClientWords> Queue<C> {
         CrewWord::live_in(found) == 1
     }
 
-    /// A new pass, which has seen what this one has seen, and has done nothing.
+    /// The exchange by which a pass is made that gets so much of what this one holds. It answers
+    /// the word that it found.
+    fn make<G: Gift>(
+        &self,
+        seat: &mut Seat<Option<C::Slot>, View<C::Entry, C::Slot>>,
+        saw: u64,
+        gives: u32,
+    ) -> u64
+        requires table { seat.old.table_id ≡ self.now.table.shared.table_id }
+        requires live { seat.old.me.0.weight ≡ 1 }
+        requires cells { words_for seat.old.me.0.cells ≡ seat.old.table_id.words }
+        requires room { made_in saw < passes_of self.now }
+        requires named { gives ≡ G.gives }
+        requires shut { seat.old.me.0.facts.open_slot ≡ None }
+        requires may { MayGive (C.primitive (client_of self.now)).opens gives
+            seat.old.me.0.facts }
+        ensures table { seat.new.table_id ≡ seat.old.table_id }
+        ensures tried { Tried C.object gives saw seat.old.me.0 result seat.new.me.0 }
+        ensures carried { seat.new.me.1 ≡ seat.old.me.1 }
+        ensures alive { IsLive C.object seat.new.me.0 }
+        ensures alone { TellsAlone C.primitive seat.new.me.0 }
+    {
+        self.table.shared.compare_exchange::<Make<C, G>>(
+            seat,
+            CREW_WORD as usize,
+            saw,
+            CrewWord::with_one_more(saw),
+        )
+    }
+
+    /// A new pass, which has seen what this one has seen, has done nothing, and gets so much of
+    /// what this one holds.
     pub fn split(&self, pass: &mut Pass<C>, gives: u32) -> Result<Pass<C>, Crowd>
         requires belongs { IsOf self.now pass.old }
-        requires gives { gives ≡ 0 }
+        requires enough { gives ≤ (pass_view pass.old).facts.has.held }
+        requires idle { 0 < gives → (pass_view pass.old).facts.doing ≡ Idle }
+        requires shut { 0 < gives → OpensNone (C.primitive (client_of self.now)).opens
+            (pass_view pass.old).facts.has }
         ensures belongs { IsOf self.now pass.new }
         ensures crowd { IsErr result ↔ (passes_of self.now ≤ made_in (pass_view pass.new).crew) }
-        ensures looked { HasLookedOn pass.old pass.new }
+        ensures refused { OnErr result (HasLookedOn pass.old pass.new) }
+        ensures looked { gives ≡ 0 → HasLookedOn pass.old pass.new }
+        ensures gave { OnOk result (HasGiven gives pass.old pass.new) }
         ensures kept { OnErr result ((pass_view pass.old).alone ≡ true
             → (pass_view pass.new).alone ≡ true) }
         ensures new_belongs { IfOk result (λ made. IsOf self.now made) }
-        ensures came { IfOk result (λ made. Came C.object (pass_view pass.new) (pass_view made)) }
+        ensures came { IfOk result
+            (λ made. CameWith C.object gives (pass_view pass.new) (pass_view made)) }
     {
         let mut saw = self
             .table
             .shared
             .load::<Count<C>>(&mut pass.seat, CREW_WORD as usize);
         while CrewWord::made_in(saw) < self.passes {
-            let found = self.table.shared.compare_exchange::<Make<C>>(
-                &mut pass.seat,
-                CREW_WORD as usize,
-                saw,
-                CrewWord::with_one_more(saw),
-            );
+            let found = self.make::<Brand>(&mut pass.seat, saw, gives);
             if found == saw {
                 let seat = self.table.shared.split_seat::<Cut>(&mut pass.seat);
+                pass.held -= gives;
                 return Ok(Pass {
                     seat,
                     number: CrewWord::made_in(found),

@@ -1,12 +1,13 @@
-use Rattle.std.proofs.Common.{rules, ◌<◌, ◌∙◌, sym, refl, ap, subst, length, arith}
+use Rattle.std.proofs.Common.{rules, [], ◌-◌, ◌<◌, ◌∙◌, sym, refl, ap, subst, length, arith}
 use Rattle.cqs_rule.specs.declared.view.Facts.{Facts}
-use Rattle.cqs_rule.specs.Crew.{IsSole}
+use Rattle.cqs_rule.specs.Crew.{IsSole, MayGive}
 use Rattle.cqs_rule.specs.Layout.{words_for}
 use Rattle.cqs_rule.specs.Facts.{is_owing}
-use Rattle.cqs_rule.specs.Views.{crew_turn}
+use Rattle.cqs_rule.specs.Saw.{Saw}
+use Rattle.cqs_rule.specs.Views.{crew_turn, facts_lessened, as_before}
 use Rattle.cqs_rule.proofs.Lists.{set_there}
 use Rattle.cqs_rule.proofs.Alone.{alone-now, not-alone}
-use Rattle.cqs_rule.proofs.Crew.{counts, makes-to, splits}
+use Rattle.cqs_rule.proofs.Crew.{counts, splits, lessened-held, lessened-further, lessened-spares}
 use Rattle.cqs_rule.proofs.Tries.{sole-tells, tries-first, tries-again, cut-leaves, cut-begins, le-by}
 use Rattle.cqs_rule.proofs.queue.Queue.split.Goals as goal
 
@@ -52,39 +53,20 @@ loop-pass-init g c =
       tries-first C.object _ _ _ e.2.0.0,
     )
 
-pub compare_exchange-found-requires : goal.compare_exchange-found-requires
-compare_exchange-found-requires g c =
+pub make-found-requires-clause-may : goal.make-found-requires-clause-may
+make-found-requires-clause-may g c =
+    let same = c.loop-pass.invariant.1.saw.facts_are in
     let C = g.C.ClientWords in
-    let x = c.args.self.now.table.shared.key.client in
-    let passes = c.args.self.now.passes_are in
-    let room = c.loop-pass-test.true in (
-      search rules,
-      search rules,
-      (λ s r homes here small.
-          let t = makes-to C.object (C.primitive x) _ _ (g.met.C.ClientWords.keeps x)
-          c.args.self.now.table.shared.table_id.slots
-          c.loop-pass.pass.seat.id c.loop-pass.saw c.with_one_more.result c.loop-pass.pass.seat.me
-          c.loop-pass.pass.live.0 c.loop-pass.pass.shut
-          (omega arith)
-          c.with_one_more.ensures s r homes here small in (
-            t.0,
-            t.1,
-            t.2,
-            t.3,
-            (
-              t.4,
-              alone-now C.object C.primitive _ _ x (g.met.C.ClientWords.keeps x) _ t.3 _ t.0
-                  (set_there s.views _ _ t.0 here),
-            ),
-          )),
-    )
+    let opens = (C.primitive c.args.self.now.table.shared.key.client).opens in
+    subst (λ f. MayGive opens c.args.gives f) (sym same)
+    (record { enough = c.requires.enough; idle = c.requires.idle; shut = c.requires.shut })
 
 pub split_seat-seat-requires : goal.split_seat-seat-requires
 split_seat-seat-requires g c =
     let C = g.C.ClientWords in
     let x = c.args.self.now.table.shared.key.client in
-    let made = c.compare_exchange-found.ensures.2.0.0.made c.if-found-saw.true in (
-      c.compare_exchange-found.ensures.0 ∙ c.loop-pass.invariant.0.table,
+    let made = c.make-found.ensures.tried.made c.if-found-saw.true in (
+      c.make-found.ensures.table ∙ c.loop-pass.invariant.0.table,
       search rules,
       splits C.object (C.primitive x) _ _ (g.met.C.ClientWords.keeps x) _ _ made.weight
           (ap (λ f. f.open_slot) made.facts),
@@ -93,19 +75,22 @@ split_seat-seat-requires g c =
 pub invariant_of-pass-then-found-saw : goal.invariant_of-pass-then-found-saw
 invariant_of-pass-then-found-saw g c =
     let C = g.C.ClientWords in
+    let gives = c.args.gives in
     let cut = c.split_seat-seat.ensures in
     let p = c.loop-pass.pass in
-    let e = c.compare_exchange-found.ensures in
-    let l = cut-leaves C.object _ _ _ _ _ _ _ c.loop-pass.invariant.1 e.2.0.0 e.2.0.2 cut.2 in record {
-      live = (l.weight, ap (λ m. length m.1) cut.2 ∙ (ap length e.2.0.1 ∙ p.live.1));
+    let has = p.seat.me.0.facts.has in
+    let e = c.make-found.ensures in
+    let l = cut-leaves C.object _ _ _ _ _ gives _ _ c.if-found-saw.true c.loop-pass.invariant.1 e.tried e.alive cut.2
+    in record {
+      live = (l.weight, ap (λ m. length m.1) cut.2 ∙ (ap length e.carried ∙ p.live.1));
       number_is = l.number ∙ p.number_is;
-      held_is = ap (λ f. f.has.held) l.facts ∙ p.held_is;
-      further_is = ap (λ f. f.has.further) l.facts ∙ p.further_is;
-      spareless = ap (λ f. f.has.spares) l.facts ∙ p.spareless;
+      held_is = ap (λ f. f.has.held) l.facts ∙ (lessened-held gives has ∙ ap (λ n. n - gives) p.held_is);
+      further_is = ap (λ f. f.has.further) l.facts ∙ (lessened-further gives has ∙ p.further_is);
+      spareless = ap (λ f. f.has.spares) l.facts ∙ (lessened-spares gives has ∙ p.spareless);
       shut = ap (λ (f : Facts). f.open_slot) l.facts ∙ p.shut;
       owes_is = ap (λ f. is_owing f.doing) l.facts ∙ p.owes_is;
       waits_are = ap (λ (f : Facts). length f.waits) l.facts ∙ p.waits_are;
-      cells_are = ap words_for l.cells ∙ (p.cells_are ∙ ap (λ t. t.words) (sym (cut.0 ∙ e.0)));
+      cells_are = ap words_for l.cells ∙ (p.cells_are ∙ ap (λ t. t.words) (sym (cut.0 ∙ e.table)));
       inside = l.alive.inside;
       few_cells = subst (λ z. z < 2147483648) (sym l.cells) p.few_cells;
     }
@@ -115,9 +100,10 @@ returns-then-found-saw-clause-belongs g c =
     let C = g.C.ClientWords in
     let cut = c.split_seat-seat.ensures in
     let old = c.loop-pass.invariant.0 in
-    let l = cut-leaves C.object _ _ _ _ _ _ _ c.loop-pass.invariant.1 c.compare_exchange-found.ensures.2.0.0
-    c.compare_exchange-found.ensures.2.0.2 cut.2 in record {
-      table = cut.0 ∙ (c.compare_exchange-found.ensures.0 ∙ old.table);
+    let e = c.make-found.ensures in
+    let l = cut-leaves C.object _ _ _ _ _ c.args.gives _ _ c.if-found-saw.true c.loop-pass.invariant.1 e.tried e.alive
+    cut.2 in record {
+      table = cut.0 ∙ (e.table ∙ old.table);
       slots = old.slots;
       passes = l.passes ∙ old.passes;
       limit = l.limit ∙ old.limit;
@@ -128,20 +114,31 @@ returns-then-found-saw-clause-belongs g c =
       opening = l.opening ∙ old.opening;
     }
 
-pub returns-then-found-saw-clause-looked : goal.returns-then-found-saw-clause-looked
-returns-then-found-saw-clause-looked g c =
+pub returns-then-found-saw-clause-gave : goal.returns-then-found-saw-clause-gave
+returns-then-found-saw-clause-gave g c =
     let C = g.C.ClientWords in
-    (cut-leaves C.object _ _ _ _ _ _ _ c.loop-pass.invariant.1 c.compare_exchange-found.ensures.2.0.0
-    c.compare_exchange-found.ensures.2.0.2 c.split_seat-seat.ensures.2).saw
+    let e = c.make-found.ensures in
+    (cut-leaves C.object _ _ _ _ _ c.args.gives _ _ c.if-found-saw.true c.loop-pass.invariant.1 e.tried e.alive
+    c.split_seat-seat.ensures.2).saw
+
+pub returns-then-found-saw-clause-looked : goal.returns-then-found-saw-clause-looked
+returns-then-found-saw-clause-looked g c = λ none.
+    let C = g.C.ClientWords in
+    let e = c.make-found.ensures in
+    let v = c.args.pass.now.seat.me.0 in
+    let l = cut-leaves C.object v _ _ _ _ c.args.gives _ _ c.if-found-saw.true c.loop-pass.invariant.1 e.tried e.alive
+    c.split_seat-seat.ensures.2 in
+    subst (λ n. Saw C.object v (facts_lessened n v.facts) [] (as_before v c.split_seat-seat.new.seat.me.0)) none l.saw
 
 pub returns-then-found-saw-clause-new_belongs : goal.returns-then-found-saw-clause-new_belongs
 returns-then-found-saw-clause-new_belongs g c =
     let C = g.C.ClientWords in
     let cut = c.split_seat-seat.ensures in
     let old = c.loop-pass.invariant.0 in
-    let b = cut-begins C.object _ _ _ _ _ _ _ _ c.if-found-saw.true c.compare_exchange-found.ensures.2.0.0
-    c.compare_exchange-found.ensures.2.0.2 cut.2 cut.4 in record {
-      table = cut.3 ∙ (c.compare_exchange-found.ensures.0 ∙ old.table);
+    let e = c.make-found.ensures in
+    let b = cut-begins C.object _ _ _ _ _ _ c.args.gives _ _ c.if-found-saw.true (omega arith) e.tried e.alive cut.2
+    cut.4 in record {
+      table = cut.3 ∙ (e.table ∙ old.table);
       slots = old.slots;
       passes = b.passes ∙ old.passes;
       limit = b.limit ∙ old.limit;
@@ -154,29 +151,29 @@ returns-then-found-saw-clause-new_belongs g c =
 
 pub loop-pass-smaller : goal.loop-pass-smaller
 loop-pass-smaller g c =
-    let e = c.compare_exchange-found.ensures.2.0.0 in
-    let rises : crew_turn c.loop-pass.saw < crew_turn c.compare_exchange-found.result =
+    let e = c.make-found.ensures.tried in
+    let rises : crew_turn c.loop-pass.saw < crew_turn c.make-found.result =
     e.later c.if-found-saw.false c.loop-pass.invariant.1.crew in
-    let fits : c.compare_exchange-found.result < 18446744073709551616 = c.compare_exchange-found.type_inv in
+    let fits : c.make-found.result < 18446744073709551616 = c.make-found.type_inv in
     omega arith
 
 pub loop-pass-preserved : goal.loop-pass-preserved
 loop-pass-preserved g c =
     let C = g.C.ClientWords in
-    let e = c.compare_exchange-found.ensures in
-    let saw = e.2.0.0.saw in (
+    let e = c.make-found.ensures in
+    let saw = (e.tried.missed c.if-found-saw.false).saw in (
       record {
-        table = e.0 ∙ c.loop-pass.invariant.0.table;
+        table = e.table ∙ c.loop-pass.invariant.0.table;
         slots = c.loop-pass.invariant.0.slots;
         passes = saw.same.passes ∙ c.loop-pass.invariant.0.passes;
         limit = saw.same.limit ∙ c.loop-pass.invariant.0.limit;
         cells = saw.same.cells ∙ c.loop-pass.invariant.0.cells;
         mode = c.loop-pass.invariant.0.mode;
-        live = e.2.0.2;
-        alone = e.2.1;
+        live = e.alive;
+        alone = e.alone;
         opening = saw.same.opening ∙ c.loop-pass.invariant.0.opening;
       },
-      tries-again C.object _ _ _ _ _ c.if-found-saw.false c.loop-pass.invariant.1 e.2.0.0,
+      tries-again C.object _ _ _ c.args.gives _ _ c.if-found-saw.false c.loop-pass.invariant.1 e.tried,
     )
 
 pub returns-clause-belongs : goal.returns-clause-belongs
@@ -188,8 +185,11 @@ returns-clause-crowd g c =
     let full = c.loop-pass-test.false in
     let passes = c.args.self.now.passes_are in ((λ e. le-by _ _ _ _ _ crew c.made_in.ensures full passes), λ e. refl)
 
+pub returns-clause-refused : goal.returns-clause-refused
+returns-clause-refused g c = c.loop-pass.invariant.1.saw
+
 pub returns-clause-looked : goal.returns-clause-looked
-returns-clause-looked g c = c.loop-pass.invariant.1.saw
+returns-clause-looked g c = λ none. c.loop-pass.invariant.1.saw
 
 pub returns-clause-kept : goal.returns-clause-kept
 returns-clause-kept g c = c.loop-pass.invariant.1.kept

@@ -10,3 +10,6 @@ invariant-loop-pass g l =
 
 abbrev pub decreases-loop-pass : goal.decreases-loop-pass
 decreases-loop-pass g l = 8589934592 - crew_turn l.saw
+
+abbrev pub ghosts-make : goal.ghosts-make
+ghosts-make g a = record { gives = a.gives }

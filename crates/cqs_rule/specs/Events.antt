@@ -5,6 +5,7 @@ use Rattle.atomic_table.specs.Table.{Me, Step}
 use Rattle.cqs_core.specs.declared.doings.Doing.{Doing}
 use Rattle.cqs_core.specs.declared.doings.Doing.TheVariants as doing
 use Rattle.cqs_core.specs.QueueLine.{line}
+use Rattle.cqs_core.specs.QueueState.{Queue}
 use Rattle.cqs_rule.specs.declared.view.View.{View}
 use Rattle.cqs_rule.specs.declared.view.Facts.{Facts}
 use Rattle.cqs_rule.specs.declared.view.Has.{Has}
@@ -123,9 +124,14 @@ added by n = (n + raise by) % 2 ^ 64
 abbrev pub exchanged : ℕ → ℕ → ℕ → ℕ
 exchanged saw new n = either (where_found saw n) new n
 
--- the waits in line are fewer than this at any time
+-- the waits in line are fewer than this at any time, and so are the numbers that were drawn
 abbrev pub longest_line : ℕ
 longest_line = 4194304
+
+-- Few wait in line, and few numbers were drawn to suspend at, whenever a step is made.
+pub record IsShort (q : Queue) : Type 0 where
+  pub line : length (line q) < longest_line
+  pub drawn : q.suspends < longest_line
 
 -- What a client owes for a step on its word i, by which n becomes f n: wherever the pass is at
 -- these facts, the client's words, the entries and the pass's next facts go together again. What is
@@ -137,7 +143,7 @@ pub record Moves {E S : Type 0} (object : Object E) (primitive : Primitive E S) 
   pub step : (c : Hidden) (words : List ℕ) (log : List E) (handed : List S)
       → primitive.shows c words log handed
       → slice_get c.queue.doing p ≡ Some facts.doing → slice_get c.has p ≡ Some facts.has
-      → length (line c.queue) < longest_line → slice_index words i < 2 ^ 64
+      → IsShort c.queue → slice_index words i < 2 ^ 64
       → primitive.shows
       (stands_at c p (event.doing (moment primitive.opening p facts made (slice_index words i)))
       (has_then event (moment primitive.opening p facts made (slice_index words i))))

@@ -14,7 +14,7 @@ use Rattle.cqs_rule.specs.declared.view.View.{View}
 use Rattle.cqs_rule.specs.declared.view.Facts.{Facts}
 use Rattle.cqs_rule.specs.declared.view.Opening.{Opening}
 use Rattle.cqs_rule.specs.Client.{IsClient}
-use Rattle.cqs_rule.specs.Events.{Moment, Event, moment, has_then, facts_moved, HasWord, Moved, Moves, SlotsStay, added}
+use Rattle.cqs_rule.specs.Events.{Moment, Event, moment, has_then, facts_moved, HasWord, Moved, Moves, SlotsStay, IsShort, added}
 use Rattle.cqs_rule.specs.Facts.{is_owing, IsBehind}
 use Rattle.cqs_rule.specs.Hidden.{Hidden, stands_at}
 use Rattle.cqs_rule.specs.Layout.{client_words, client_place}
@@ -111,9 +111,12 @@ module _ {C E S : Type 0} (object : Object E) (primitive : C → Primitive E S) 
       λ j low.
       let inside = client-inside j (cell_count passes limit (primitive x).values) low in
       let long = r.wide in omega arith in
-      let short = line-flat c.queue (client.sound c words r.log r.handed r.shown)
-      (suspends-low passes limit (primitive x).values c r.room)
-      (resumes-low passes limit (primitive x).values c r.room) in
+      let drawn = suspends-low passes limit (primitive x).values c r.room in
+      let short : IsShort c.queue = record {
+        line = line-flat c.queue (client.sound c words r.log r.handed r.shown) drawn
+            (resumes-low passes limit (primitive x).values c r.room);
+        drawn = omega (arith, drawn);
+      } in
       let t : Turned object (primitive x) passes limit s r v word (f n) d es after = record {
         crew = crew-else s.words word (f n) (omega arith);
         counters = counters-else c.queue d.queue s.words word (f n) (omega arith) refl refl r.counters;

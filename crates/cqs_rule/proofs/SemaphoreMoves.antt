@@ -23,7 +23,7 @@ use Rattle.cqs_core.proofs.Ground.{free-small}
 use Rattle.cqs_core.proofs.Places.{set-same}
 use Rattle.cqs_rule.specs.declared.view.Facts.{Facts}
 use Rattle.cqs_rule.specs.declared.view.Has.{Has}
-use Rattle.cqs_rule.specs.Events.{Event as Shows, Moves, SlotsStay, longest_line, added, exchanged, in_any_case, where_found}
+use Rattle.cqs_rule.specs.Events.{Event as Shows, Moves, SlotsStay, IsShort, added, exchanged, in_any_case, where_found}
 use Rattle.cqs_rule.specs.Facts.{is_owing}
 use Rattle.cqs_rule.specs.Hidden.{Hidden, stands_at}
 use Rattle.cqs_rule.specs.Lists.{NamesOnly}
@@ -96,7 +96,7 @@ written (w ∷ words) x some = refl
 module _ (permits p : ℕ) (facts : Facts) (c : Hidden) (words : List ℕ) (log : List Entry)
     (core : IsCore (core_shown permits c words log))
     (does : slice_get c.queue.doing p ≡ Some facts.doing) (has : slice_get c.has p ≡ Some facts.has)
-    (short : length (line c.queue) < longest_line) where
+    (short : IsShort c.queue) where
   abbrev s : Shape
   s = core_shown permits c words log
 
@@ -121,7 +121,7 @@ module _ (permits p : ℕ) (facts : Facts) (c : Hidden) (words : List ℕ) (log 
   is-at d at = does ∙ ap Some at
 
   above : lowest <ℤ count_in n
-  above = state-above-line s core short
+  above = state-above-line s core short.line
 
   -- a row of the table, and what the words and the pass make of it
   by-row : (e : Event) (history : List Entry) (o : Outcome) (z : ℤ) (held : List ℕ) (doings : List Doing) (d : Doing)

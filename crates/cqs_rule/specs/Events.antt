@@ -5,6 +5,7 @@ use Rattle.atomic_table.specs.Table.{Me, Step}
 use Rattle.cqs_core.specs.declared.doings.Doing.{Doing}
 use Rattle.cqs_core.specs.declared.doings.Doing.TheVariants as doing
 use Rattle.cqs_core.specs.QueueLine.{line}
+use Rattle.cqs_core.specs.QueueState.{Queue}
 use Rattle.cqs_rule.specs.declared.view.View.{View}
 use Rattle.cqs_rule.specs.declared.view.Facts.{Facts}
 use Rattle.cqs_rule.specs.declared.view.Has.{Has}
@@ -12,6 +13,7 @@ use Rattle.cqs_rule.specs.declared.view.Opening.{Opening}
 use Rattle.cqs_rule.specs.declared.view.Sighting.TheVariants.{Word}
 use Rattle.cqs_rule.specs.Facts.{is_owing}
 use Rattle.cqs_rule.specs.Hidden.{Hidden, stands_at}
+use Rattle.cqs_rule.specs.Client.{no_number}
 use Rattle.cqs_rule.specs.Layout.{client_place}
 use Rattle.cqs_rule.specs.Lists.{NamesOnly}
 use Rattle.cqs_rule.specs.Object.{Object, Primitive}
@@ -128,6 +130,11 @@ exchanged saw new n = either (where_found saw n) new n
 abbrev pub longest_line : ℕ
 longest_line = 4194304
 
+-- Few wait in line, and a number is left to suspend at, whenever a step is made.
+pub record IsShort (q : Queue) : Type 0 where
+  pub line : length (line q) < longest_line
+  pub drawn : q.suspends < no_number
+
 -- A step that shows the event leaves its pass the slots that it has laid something into.
 abbrev pub SlotsStay : {E S : Type 0} → Primitive E S → ℕ → Event E → (ℕ → Bool) → View E S → Type 0
 SlotsStay {E} {S} primitive slots event made v =
@@ -145,7 +152,7 @@ pub record Moves {E S : Type 0} (object : Object E) (primitive : Primitive E S) 
   pub step : (c : Hidden) (words : List ℕ) (log : List E) (handed : List (ℕ × S))
       → primitive.shows c words log handed
       → slice_get c.queue.doing p ≡ Some facts.doing → slice_get c.has p ≡ Some facts.has
-      → length (line c.queue) < longest_line → slice_index words i < 2 ^ 64
+      → IsShort c.queue → slice_index words i < 2 ^ 64
       → primitive.shows
       (stands_at c p (event.doing (moment primitive.opening p facts made (slice_index words i)))
       (has_then event (moment primitive.opening p facts made (slice_index words i))))

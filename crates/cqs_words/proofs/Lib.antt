@@ -4,3 +4,4 @@ pub mod StateLaws
 pub mod CrewLaws
 pub mod HeadLaws
 pub mod SegmentLaws
+pub mod WaitersLaws

@@ -4,3 +4,4 @@ pub mod State
 pub mod Crew
 pub mod Head
 pub mod Segment
+pub mod Waiters

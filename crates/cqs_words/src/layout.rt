@@ -22,6 +22,9 @@ pub(crate) const LIVE_BITS: u32 = 32;
 // A signed count is raised by this much, so that an addition to the number is one to the count.
 pub(crate) const BIAS: i64 = 1 << 32;
 
+// The done bit of a latch is the highest of the word in which its waiters are counted.
+pub(crate) const DONE: u64 = 1 << 63;
+
 // `low` in the lowest `width` bits, and `high` above them.
 #[inline]
 pub(crate) fn join(high: u64, width: u32, low: u64) -> u64

@@ -7,14 +7,15 @@
 //     CellWord    a cell: its number in the queue, its state, and what the last caller left in it
 //     StateWord   a signed count: so much is free, or so many callers wait
 //     CrewWord    how many passes were made, and how many of them are live
+//     WaitersWord how many callers wait at a latch, and whether it is open
 //     HeadWord    a slot: whether it is free, claimed or live, and for which segment
 //     TailWord    the last segment, and the slot that it lies in
 //     LinkWord    the segment that comes next, and the slot that it lies in
 //
 // Each has `pack`, whose condition is that the parts fit, and `unpack`, which is None exactly
 // where the number is the packing of no word. `unpack` of `pack` is the word again, and `pack`
-// of what `unpack` gave is the number. Each number is the packing of a `CrewWord`, so its
-// `unpack` gives the crew itself.
+// of what `unpack` gave is the number. Each number is the packing of a `CrewWord` and of a
+// `WaitersWord`, so their `unpack` gives the word itself.
 #![tactic(auto)]
 
 mod cell;
@@ -23,9 +24,11 @@ mod head;
 mod layout;
 mod segment;
 mod state;
+mod waiters;
 
 pub use cell::{CellState, CellWord};
 pub use crew::CrewWord;
 pub use head::{HeadTag, HeadWord};
 pub use segment::{LinkWord, TailWord};
 pub use state::{PackedState, StateWord};
+pub use waiters::WaitersWord;

@@ -4,8 +4,8 @@ ghost use Rattle.cqs_words.specs.State.{StateFits, packed_state, unpacked_state,
 
 use crate::layout::BIAS;
 
-/// A signed count, as that of a semaphore's permits: above 0 so many are free,
-/// below 0 so many callers wait.
+/// A signed count. A semaphore's permits: above 0 so many are free, below 0 so many callers wait.
+/// Or that of a latch: above 0 it is to be counted down so often, else it is used up.
 #[derive(Clone, Copy, Debug, PartialEq, Eq)]
 pub struct StateWord {
     /// From -(2^32 - 1) to 2^32 - 1.

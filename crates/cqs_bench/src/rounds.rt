@@ -1,4 +1,5 @@
-//! Rounds of the running queue: a semaphore of one permit on its words, with one pass.
+//! Rounds of the running queue: a semaphore of one permit on its words, with one pass. Each call is
+//! compiled into the loop of its rounds, as in the plain code.
 
 ghost use Rattle.std.specs.Prelude.{◌≡◌, ◌<◌, true, IfSome, IsTrue};
 ghost use Rattle.cqs_core.specs.declared.doings.Doing.TheVariants.{Idle};
@@ -17,6 +18,7 @@ use cqs_suspend::{Suspended, suspend};
 pub const LIMIT: u64 = 1 << 20;
 
 // Takes a permit, or waits in line for one.
+#[inline(always)]
 fn acquire(queue: &Queue<SemClient>, pass: &mut Pass<SemClient>) -> Option<Wait>
     requires belongs { IsOf queue.now pass.old }
     requires idle { (pass_view pass.old).facts.doing ≡ Idle }
@@ -37,6 +39,7 @@ fn acquire(queue: &Queue<SemClient>, pass: &mut Pass<SemClient>) -> Option<Wait>
 // Gives the permit that the pass holds, if it has one, to the first of the line, or makes it
 // free. It answers whether that was done: where more waiters have left than one call passes
 // over, the pass still owes it.
+#[inline(always)]
 fn release(queue: &Queue<SemClient>, pass: &mut Pass<SemClient>) -> bool
     requires belongs { IsOf queue.now pass.old }
     requires idle { (pass_view pass.old).facts.doing ≡ Idle }

@@ -25,7 +25,9 @@ pub enum Left {
     Late(u32),
 }
 
-/// Cancels a wait: its waiter leaves the line, if its client says so, or it was served before.
+/// Cancels a wait: its waiter leaves the line, if its client says so, or it was served before. It
+/// is compiled into its caller, which says what stands apart.
+#[inline(always)]
 pub fn cancel<C: Client>(queue: &Queue<C>, pass: &mut Pass<C>, wait: Wait) -> Left
     requires belongs { IsOf queue.now pass.old }
     requires asks { Asks (C.primitive (client_of queue.now)).manner.leaving }
@@ -43,6 +45,7 @@ pub fn cancel<C: Client>(queue: &Queue<C>, pass: &mut Pass<C>, wait: Wait) -> Le
 }
 
 // Ends what the owner of a wait began: its client is asked, and the cell is settled by the answer.
+#[inline(always)]
 fn leave<C: Client>(queue: &Queue<C>, pass: &mut Pass<C>, at: Place) -> Left
     requires belongs { IsOf queue.now pass.old }
     requires asks { Asks (C.primitive (client_of queue.now)).manner.leaving }

@@ -13,7 +13,9 @@ use cqs_rule::{ClientWords, Pass, Place, Queue, Takes};
 use cqs_words::{CellState, CellWord};
 
 /// A suspend takes the value that the resume of its number left, and answers its payload. Where its
-/// first exchange finds another payload than 0, it makes a second.
+/// first exchange finds another payload than 0, it makes a second. It is compiled into the suspend:
+/// a call of it would have the pass lie in memory also where the suspend waits.
+#[inline(always)]
 pub fn take_value<C: ClientWords>(
     queue: &Queue<C>,
     pass: &mut Pass<C>,

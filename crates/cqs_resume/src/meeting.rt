@@ -16,7 +16,7 @@ use cqs_words::CellState;
 /// answers none. A waiter is tried first. Whatever is found instead is what is tried next: a cell
 /// only goes on, from Empty to Waiter, from there to Cancelling, and then it is settled. Where its
 /// waiter was refused to leave, the client is told that the resumption ended there.
-#[inline]
+#[inline(always)]
 pub(crate) fn meet<C: Client>(
     queue: &Queue<C>,
     pass: &mut Pass<C>,

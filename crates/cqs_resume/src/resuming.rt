@@ -16,7 +16,8 @@ const MOST_PASSED_OVER: u32 = 64;
 
 /// Draws a number for a pass that owes a resumption, and serves the waiter there, or leaves the
 /// payload for the suspend to come or for the canceller. Cells whose waiters have left are passed
-/// over.
+/// over. It is compiled into its caller, which says what stands apart.
+#[inline(always)]
 pub fn resume<C: Client>(queue: &Queue<C>, pass: &mut Pass<C>, payload: u32) -> Resumed
     requires belongs { IsOf queue.now pass.old }
     requires smart { IsSmart (C.primitive (client_of queue.now)).manner.leaving }
@@ -52,10 +53,10 @@ pub fn finish<C: Client>(queue: &Queue<C>, pass: &mut Pass<C>, under: Under) -> 
     }
 }
 
-// Passes over numbers until the resumption ends, or until it has passed over this many. It stands
-// apart, so that a resume that ends at its first number stays short.
-#[cold]
-#[inline(never)]
+// Passes over numbers until the resumption ends, or until it has passed over this many. It is
+// compiled into its callers too: a call of it would get the pass by its address, and then the pass
+// would lie in memory also where a resume ends at its first number.
+#[inline(always)]
 fn go_on<C: Client>(queue: &Queue<C>, pass: &mut Pass<C>, payload: u32, most: u32) -> Resumed
     requires belongs { IsOf queue.now pass.old }
     requires smart { IsSmart (C.primitive (client_of queue.now)).manner.leaving }

@@ -17,7 +17,7 @@ use cqs_suspend::{Suspended, suspend};
 impl<T: Send + Drop> Semaphore<T> {
     /// A permit where one is free, or else a wait for one. It is refused as worn where as many
     /// numbers were drawn as the limit allows, even if a permit is free.
-    #[inline]
+    #[inline(always)]
     pub fn acquire(&self, pass: &mut SemPass<T>) -> Result<Acquired, AcquireError>
         requires belongs { IsMine self.now pass.old }
         requires ready { IsReady (pass_view pass.old).facts }
@@ -43,10 +43,8 @@ impl<T: Send + Drop> Semaphore<T> {
         Ok(self.wait_in_line(pass))
     }
 
-    // Goes from the door to the line. It stands apart, so that an acquire with a free permit stays
-    // short.
-    #[cold]
-    #[inline(never)]
+    // Goes from the door to the line.
+    #[inline(always)]
     fn wait_in_line(&self, pass: &mut SemPass<T>) -> Acquired
         requires belongs { IsMine self.now pass.old }
         requires door { (pass_view pass.old).facts.doing ≡ doing.Door }

@@ -21,6 +21,7 @@ use cqs_rule::{Under, Wait};
 impl<T: Send + Drop> Semaphore<T> {
     /// Ends a wait: the caller leaves the line, or has the permit that had come before. Where a
     /// permit was left to the caller who leaves, it goes on to the next one.
+    #[inline(always)]
     pub fn cancel(&self, pass: &mut SemPass<T>, wait: Wait) -> CancelAnswer
         requires belongs { IsMine self.now pass.old }
         requires ready { IsReady (pass_view pass.old).facts }
@@ -42,10 +43,8 @@ impl<T: Send + Drop> Semaphore<T> {
         }
     }
 
-    // Goes on with the resumption that had left its value to the caller. It is seldom that a resume
-    // meets one who leaves.
-    #[cold]
-    #[inline(never)]
+    // Goes on with the resumption that had left its value to the caller.
+    #[inline(always)]
     fn pass_on(&self, pass: &mut SemPass<T>, payload: u32) -> Option<Under>
         requires belongs { IsMine self.now pass.old }
         requires owes { (pass_view pass.old).facts.doing ≡ doing.Owes }

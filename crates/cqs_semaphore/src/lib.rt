@@ -17,6 +17,9 @@
 //! Each caller makes its calls with a pass of its own. Contracts see what the pass has seen of the
 //! one history of all callers: the calls of the plain semaphore of `cqs_core`, with a plain line of
 //! waiters.
+//!
+//! The calls that are made often are compiled into their callers. A call that stood apart would get
+//! the pass by its address, and the pass would lie in memory also where that call isn't made.
 #![tactic(auto)]
 
 mod acquiring;

@@ -16,7 +16,7 @@ use cqs_words::CellState;
 
 impl<T: Send + Drop> Semaphore<T> {
     /// Looks whether the wait was served: one load.
-    #[inline]
+    #[inline(always)]
     pub fn poll(&self, pass: &mut SemPass<T>, wait: Wait) -> Polled
         requires belongs { IsMine self.now pass.old }
         requires ready { IsReady (pass_view pass.old).facts }

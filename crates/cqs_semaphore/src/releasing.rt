@@ -18,7 +18,7 @@ use cqs_rule::{Crowded, Under, give_permit};
 
 impl<T: Send + Drop> Semaphore<T> {
     /// Gives a permit back: it is free, or it goes to the first who waits.
-    #[inline]
+    #[inline(always)]
     pub fn release(
         &self,
         pass: &mut SemPass<T>,
@@ -65,10 +65,8 @@ impl<T: Send + Drop> Semaphore<T> {
         released(finish(&self.queue, pass, under))
     }
 
-    // Resumes for a permit that was sent to the line. It stands apart, so that a release with
-    // nobody in line stays short.
-    #[cold]
-    #[inline(never)]
+    // Resumes for a permit that was sent to the line.
+    #[inline(always)]
     fn send(&self, pass: &mut SemPass<T>) -> Released
         requires belongs { IsMine self.now pass.old }
         requires owes { (pass_view pass.old).facts.doing ≡ doing.Owes }

@@ -16,7 +16,7 @@ use cqs_words::{PackedState, StateWord};
 
 impl<T: Send + Drop> Semaphore<T> {
     /// A permit where one is free, by one load and at most one exchange. It never waits.
-    #[inline]
+    #[inline(always)]
     pub fn try_acquire(&self, pass: &mut SemPass<T>) -> Tried
         requires belongs { IsMine self.now pass.old }
         requires ready { IsReady (pass_view pass.old).facts }
@@ -41,6 +41,7 @@ impl<T: Send + Drop> Semaphore<T> {
 }
 
 // The two states of a try by which another caller was first.
+#[inline]
 fn contended(saw: PackedState, found: PackedState) -> Tried
     requires saw { StateFits (record { value = count_in saw.word }) }
     requires found { StateFits (record { value = count_in found.word }) }

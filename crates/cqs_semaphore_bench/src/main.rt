@@ -63,6 +63,7 @@ fn time<R: Clock + AllocGlobal>(rt: &R, workload: Workload, count: u64) -> anyho
     }
 }
 
+#[inline(always)]
 fn time_free(
     rt: &impl Clock,
     semaphore: &Semaphore,
@@ -77,6 +78,7 @@ fn time_free(
 }
 
 /// The pass takes the permit, and so many waiters come before the rounds begin.
+#[inline(always)]
 fn time_leave(
     rt: &impl Clock,
     semaphore: &Semaphore,
@@ -96,6 +98,7 @@ fn time_leave(
 }
 
 /// The pass takes the permit before the rounds begin.
+#[inline(always)]
 fn time_served(
     rt: &impl Clock,
     semaphore: &Semaphore,

@@ -6,6 +6,7 @@ ghost use Rattle.cqs_semaphore_bench.specs.Idle.{IsIdle, IsHolder};
 use cqs_semaphore::{Acquired, CancelAnswer, Permit, Polled, Released, SemPass, Semaphore};
 
 // A permit is free: it is taken and given back.
+#[inline(always)]
 fn free_round(semaphore: &Semaphore, pass: &mut SemPass) -> bool
     requires idle { IsIdle semaphore.now pass.old }
     ensures idle { IsTrue result → IsIdle semaphore.now pass.new }
@@ -19,6 +20,7 @@ fn free_round(semaphore: &Semaphore, pass: &mut SemPass) -> bool
 }
 
 // No permit is free: the pass waits in line, looks once, and leaves.
+#[inline(always)]
 fn leave_round(semaphore: &Semaphore, pass: &mut SemPass) -> bool
     requires idle { IsIdle semaphore.now pass.old }
     ensures idle { IsTrue result → IsIdle semaphore.now pass.new }
@@ -36,6 +38,7 @@ fn leave_round(semaphore: &Semaphore, pass: &mut SemPass) -> bool
 }
 
 // The pass that has the permit waits for it, gives it back, and is served.
+#[inline(always)]
 fn served_round(semaphore: &Semaphore, pass: &mut SemPass, permit: Permit) -> Option<Permit>
     requires holder { IsHolder semaphore.now pass.old }
     ensures holder { IfSome result (λ _. IsHolder semaphore.now pass.new) }
@@ -53,6 +56,7 @@ fn served_round(semaphore: &Semaphore, pass: &mut SemPass, permit: Permit) -> Op
 }
 
 /// So many rounds in which a free permit is taken and given back.
+#[inline(always)]
 pub fn free_rounds(semaphore: &Semaphore, pass: &mut SemPass, count: u64) -> bool
     requires idle { IsIdle semaphore.now pass.old }
 {
@@ -65,6 +69,7 @@ pub fn free_rounds(semaphore: &Semaphore, pass: &mut SemPass, count: u64) -> boo
 }
 
 /// So many rounds in which the pass waits in line, looks once, and leaves.
+#[inline(always)]
 pub fn leave_rounds(semaphore: &Semaphore, pass: &mut SemPass, count: u64) -> bool
     requires idle { IsIdle semaphore.now pass.old }
 {
@@ -77,6 +82,7 @@ pub fn leave_rounds(semaphore: &Semaphore, pass: &mut SemPass, count: u64) -> bo
 }
 
 /// So many rounds in which the pass waits in line, gives its permit to this wait, and looks.
+#[inline(always)]
 pub fn served_rounds(semaphore: &Semaphore, pass: &mut SemPass, permit: Permit, count: u64) -> bool
     requires holder { IsHolder semaphore.now pass.old }
 {
@@ -91,6 +97,7 @@ pub fn served_rounds(semaphore: &Semaphore, pass: &mut SemPass, permit: Permit, 
 }
 
 /// So many live waiters in line. Their tokens are let go, so they stand there for good.
+#[inline(always)]
 pub fn stand(semaphore: &Semaphore, pass: &mut SemPass, count: u64)
     requires idle { IsIdle semaphore.now pass.old }
     ensures idle { IsIdle semaphore.now pass.new }

@@ -19,7 +19,8 @@ pub enum Suspended {
 }
 
 /// Draws a number for a pass at the door, and waits under it or takes the value that its resume
-/// left.
+/// left. It is compiled into its caller, which says what stands apart.
+#[inline(always)]
 pub fn suspend<C: ClientWords>(queue: &Queue<C>, pass: &mut Pass<C>) -> Suspended
     requires belongs { IsOf queue.now pass.old }
     requires door { (pass_view pass.old).facts.doing ≡ doing.Door }

@@ -1,5 +1,5 @@
 -- A cancel is its steps: the queue's cancel, and perhaps a resumption that goes on.
-use Rattle.std.proofs.Common.{◌≡◌, ℕ, true, false, List, [], ◌∷◌, ◌++◌, Option, Some, None, sym, refl, ap, ◌∙◌, subst, append_assoc, inl, inr}
+use Rattle.std.proofs.Common.{◌≡◌, ℕ, Bool, true, false, List, [], ◌∷◌, ◌++◌, Option, Some, None, sym, refl, ap, ◌∙◌, subst, append_assoc, inl, inr}
 use Rattle.cqs_core.specs.declared.cells.CoreState.{CoreState}
 use Rattle.cqs_core.specs.declared.cells.CoreState.TheVariants as state
 use Rattle.cqs_core.specs.declared.doings.Doing.{Doing}
@@ -69,7 +69,8 @@ module _ {T : Type 0} where
     below : is_below_zero word ≡ answer
     found : StateWas v (count_in word) before (entry.Leave v.number k ∷ []) u
 
-  state-at : (opening : Opening) (n : ℕ) (history : List Entry) → WasShown primitive_of opening (HasWord 0 n) history
+  state-at : (opening : Opening) (n : ℕ) (history : List Entry)
+      → WasShown {S = T} primitive_of opening (HasWord 0 n) history
       → count_in n ≡ state_of (object_after opening.size history)
   state-at opening n history was =
       let shows = shows-object (core_shown (permits_of was.client) was.hidden was.words history) was.shown in

@@ -8,6 +8,7 @@ use Rattle.cqs_rule.specs.declared.view.Facts.{Facts}
 use Rattle.cqs_rule.specs.declared.view.View.{View}
 use Rattle.cqs_rule.specs.Lists.{Has, without}
 use Rattle.cqs_rule.specs.Passes.{pass_view}
+use Rattle.cqs_rule.specs.Placed.{place_known, place_word}
 use Rattle.cqs_rule.specs.Waits.{HasWait, place_of}
 use Rattle.cqs_rule.proofs.Lists.{has_left, without_has}
 use Rattle.cqs_semaphore.specs.declared.answers.Permit.{Permit}
@@ -17,9 +18,10 @@ use Rattle.cqs_semaphore.specs.Answers.{Takes, Ends, Releases, PassesOn}
 use Rattle.cqs_semaphore.specs.Calls.{CallRule, IsMine, IsReady}
 use Rattle.cqs_semaphore.specs.Owed.{owed_after}
 use Rattle.cqs_semaphore.specs.Permits.{number_of}
+use Rattle.cqs_semaphore.specs.Seats.{LookedOn}
 use Rattle.cqs_semaphore.proofs.Courses.{wait-kept}
 use Rattle.cqs_semaphore_cases.specs.declared.caller.Caller.{Caller}
-use Rattle.cqs_semaphore_cases.specs.Callers.{Stands, OwesJust}
+use Rattle.cqs_semaphore_cases.specs.Callers.{Stands, OwesJust, HasParted}
 
 module _ {T : Type 0} where
   -- the same waits
@@ -43,19 +45,30 @@ module _ {T : Type 0} where
   abbrev pub IsOther : View Entry T → ℕ → Wait → Type 0
   IsOther v k x = HasWait v x × ((place_of x).index ≢ k)
 
-  pub kept-others : (v w : View Entry T) (own further : List Entry) (k : ℕ) (waits : List Wait)
-      → CallRule v own further w → w.facts.waits ≡ without k v.facts.waits → All (IsOther v k) waits
+  pub kept-others : (v w : View Entry T) (own further : List Entry) (k number : ℕ) (waits : List Wait) → k ≡ number
+      → CallRule v own further w → w.facts.waits ≡ without k v.facts.waits → All (IsOther v number) waits
       → All (HasWait w) waits
-  kept-others v w own further k waits rule less all =
-      All-weaker (IsOther v k) (HasWait w)
+  kept-others v w own further k number waits is rule less all =
+      All-weaker (IsOther v number) (HasWait w)
       (λ x h. wait-kept v w own further x rule
-      (subst (Has (place_of x).index) (sym less) (without_has (place_of x).index k v.facts.waits h.1 h.0.open_yet)) h.0)
+      (subst (Has (place_of x).index) (sym less)
+      (without_has (place_of x).index k v.facts.waits (λ e. h.1 (e ∙ is)) h.0.open_yet)) h.0)
       waits all
 
   pub others-kept : (v w : View Entry T) (own further : List Entry) (k : ℕ) (waits : List Wait)
       → CallRule v own further w → w.facts.waits ≡ v.facts.waits → All (IsOther v k) waits → All (HasWait w) waits
   others-kept v w own further k waits rule same all =
       kept-same v w own further waits rule same (All-weaker (IsOther v k) (HasWait v) (λ x h. h.0) waits all)
+
+  -- a look at the crew's word
+  pub kept-looked : (v w : View Entry T) (waits : List Wait) → LookedOn v w → All (HasWait v) waits → All (HasWait w) waits
+  kept-looked v w waits looked all =
+      All-weaker (HasWait v) (HasWait w)
+      (λ x h. record {
+        mine = h.mine ∙ sym looked.course.number;
+        open_yet = subst (λ (f : Facts). Has (place_of x).index f.waits) (sym looked.facts_are) h.open_yet;
+        place = place_known w (place_of x) (place_word v (place_of x) h.place);
+      }) waits all
 
   -- the waits after an acquire that has its permit at once
   pub took-waits : (v w : View Entry T) (number : Option ℕ) → Takes v number w → w.facts.waits ≡ v.facts.waits
@@ -91,3 +104,9 @@ pub stands-ready : (d : Caller) → d.under ≡ None → IsMine d.semaphore d.pa
     → All (HasWait (pass_view d.pass)) d.waits.items → Stands d
 stands-ready d none mine ready waits =
     record { belongs = mine; owes = subst (OwesJust (pass_view d.pass).facts) (sym none) ready; waits = waits }
+
+-- a caller who has parted from a wait that wasn't there
+pub stands-parted : (number : ℕ) (d : Caller) → HasParted number d → Stands d
+stands-parted number d p =
+    stands-ready d p.free p.belongs p.ready
+    (All-weaker (IsOther (pass_view d.pass) number) (HasWait (pass_view d.pass)) (λ x h. h.0) d.waits.items p.others)

@@ -21,14 +21,15 @@ pub record Stands (c : Caller) : Type 0 where
   pub owes : OwesJust (pass_view c.pass).facts c.under
   pub waits : All (HasWait (pass_view c.pass)) c.waits.items
 
--- The wait of this number was taken from the others, and nothing else has changed.
-pub record IsTaken (number : ℕ) (c d : Caller) : Type 0 where
-  pub semaphore : d.semaphore ≡ c.semaphore
-  pub pass : d.pass ≡ c.pass
-  pub under : d.under ≡ c.under
-  pub others : All (λ w. HasWait (pass_view c.pass) w × ((place_of w).index ≢ number)) d.waits.items
+-- The caller owes nothing, and has parted from its waits of this number, if there were any: each of
+-- the others is the pass's own.
+pub record HasParted (number : ℕ) (c : Caller) : Type 0 where
+  pub belongs : IsMine c.semaphore c.pass
+  pub free : c.under ≡ None
+  pub ready : IsReady (pass_view c.pass).facts
+  pub others : All (λ w. HasWait (pass_view c.pass) w × ((place_of w).index ≢ number)) c.waits.items
 
--- it was there, and the pass has it; or it wasn't
-abbrev pub MayBeTaken : ℕ → Caller → Option Wait → Type 0
-MayBeTaken number c None = Unit {0}
-MayBeTaken number c (Some w) = HasWait (pass_view c.pass) w × ((place_of w).index ≡ number)
+-- the wait that was taken, if there was one, has this number, and is the pass's own
+abbrev pub IsTaken : ℕ → Caller → Option Wait → Type 0
+IsTaken number c None = Unit {0}
+IsTaken number c (Some w) = HasWait (pass_view c.pass) w × ((place_of w).index ≡ number)

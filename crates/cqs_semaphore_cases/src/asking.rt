@@ -12,7 +12,7 @@ use std::alloc::{AllocError, Global};
 /// The answer to a question. It fails where memory runs out, or nothing is asked.
 pub fn answer(alloc: Global, caller: &mut Caller, question: &str) -> anyhow::Result<String>
     requires stands { Stands caller.old }
-    ensures stands { OnOk result (Stands caller.new) }
+    ensures { OnOk result (Stands caller.new) }
 {
     let mut words = question.split(' ');
     let verb = words.next().unwrap_or("");
@@ -34,7 +34,7 @@ pub fn answer(alloc: Global, caller: &mut Caller, question: &str) -> anyhow::Res
 // A new semaphore, with its caller. Where there is none, the one before stays.
 fn make(alloc: Global, caller: &mut Caller, permits: u32, config: Config) -> anyhow::Result<String>
     requires stands { Stands caller.old }
-    ensures stands { OnOk result (Stands caller.new) }
+    ensures { OnOk result (Stands caller.new) }
 {
     let made = match Caller::new(alloc, permits, config) {
         Ok(made) => made,
@@ -52,7 +52,7 @@ fn ask(
     number: u64,
 ) -> Result<Option<Answer>, AllocError>
     requires stands { Stands caller.old }
-    ensures stands { OnOk result (Stands caller.new) }
+    ensures { OnOk result (Stands caller.new) }
 {
     match verb {
         "finish" => Ok(Some(caller.finish())),
@@ -71,7 +71,7 @@ fn ask_ready(
 ) -> Result<Option<Answer>, AllocError>
     requires stands { Stands caller.old }
     requires free { caller.old.under ≡ None }
-    ensures stands { OnOk result (Stands caller.new) }
+    ensures { OnOk result (Stands caller.new) }
 {
     Ok(Some(match verb {
         "acquire" => caller.acquire()?,

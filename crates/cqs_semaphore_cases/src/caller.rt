@@ -5,7 +5,7 @@ ghost use Rattle.cqs_rule.specs.Passes.{pass_view};
 ghost use Rattle.cqs_rule.specs.Waits.{HasWait};
 ghost use Rattle.cqs_semaphore.specs.Calls.{IsMine};
 ghost use Rattle.cqs_semaphore.specs.Owed.{owed_after};
-ghost use Rattle.cqs_semaphore_cases.specs.Callers.{Stands, IsTaken, MayBeTaken, OwesJust};
+ghost use Rattle.cqs_semaphore_cases.specs.Callers.{Stands, HasParted, IsTaken, OwesJust};
 
 use crate::answers::Answer;
 use cqs_rule::{Config, MakeError, Under, Wait};
@@ -41,7 +41,7 @@ impl Caller {
     pub fn acquire(&mut self) -> Result<Answer, AllocError>
         requires stands { Stands self.old }
         requires free { self.old.under ≡ None }
-        ensures stands { OnOk result (Stands self.new) }
+        ensures { OnOk result (Stands self.new) }
     {
         match self.semaphore.acquire(&mut self.pass) {
             Ok(Acquired::Now(permit)) => {
@@ -62,7 +62,7 @@ impl Caller {
     pub fn try_acquire(&mut self) -> Result<Answer, AllocError>
         requires stands { Stands self.old }
         requires free { self.old.under ≡ None }
-        ensures stands { OnOk result (Stands self.new) }
+        ensures { OnOk result (Stands self.new) }
     {
         match self.semaphore.try_acquire(&mut self.pass) {
             Tried::Got(permit) => {
@@ -78,7 +78,7 @@ impl Caller {
     pub fn poll(&mut self, alloc: Global, number: u64) -> Result<Answer, AllocError>
         requires stands { Stands self.old }
         requires free { self.old.under ≡ None }
-        ensures stands { OnOk result (Stands self.new) }
+        ensures { OnOk result (Stands self.new) }
     {
         let Some(wait) = self.take_wait(alloc, number)? else {
             return Ok(Answer::Refused);
@@ -99,7 +99,7 @@ impl Caller {
     pub fn cancel(&mut self, alloc: Global, number: u64) -> Result<Answer, AllocError>
         requires stands { Stands self.old }
         requires free { self.old.under ≡ None }
-        ensures stands { OnOk result (Stands self.new) }
+        ensures { OnOk result (Stands self.new) }
     {
         let Some(wait) = self.take_wait(alloc, number)? else {
             return Ok(Answer::Refused);
@@ -122,7 +122,7 @@ impl Caller {
     pub fn release(&mut self) -> Answer
         requires stands { Stands self.old }
         requires free { self.old.under ≡ None }
-        ensures stands { Stands self.new }
+        ensures { Stands self.new }
     {
         if self.pass.held() == 0 {
             return Answer::Refused;
@@ -139,7 +139,7 @@ impl Caller {
     /// Goes on with what is owed.
     pub fn finish(&mut self) -> Answer
         requires stands { Stands self.old }
-        ensures stands { Stands self.new }
+        ensures { Stands self.new }
     {
         let Some(under) = self.under.take() else {
             return Answer::Refused;
@@ -188,9 +188,10 @@ impl Caller {
 
     // Takes the wait of this number from the others.
     fn take_wait(&mut self, alloc: Global, number: u64) -> Result<Option<Wait>, AllocError>
-        requires waits { All (HasWait (pass_view self.old.pass)) self.old.waits.items }
-        ensures taken { OnOk result (IsTaken number self.old self.new) }
-        ensures wait { IfOk result (λ taken. MayBeTaken number self.old taken) }
+        requires stands { Stands self.old }
+        requires free { self.old.under ≡ None }
+        ensures parted { OnOk result (HasParted number self.new) }
+        ensures taken { IfOk result (λ taken. IsTaken number self.new taken) }
     {
         let mut taken = None;
         let mut others = Vec::new(alloc);

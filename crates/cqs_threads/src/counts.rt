@@ -1,5 +1,8 @@
 //! How often each answer came.
 
+ghost use Rattle.std.specs.Prelude.{◌≡◌, ◌+◌};
+ghost use Rattle.cqs_threads.specs.Tallies.{counted};
+
 use std::fmt;
 
 /// The answers to `acquire`.
@@ -64,7 +67,9 @@ pub struct Counts {
 }
 
 /// Counts one more. A count that is full stays so.
-pub(crate) fn count(answers: &mut u64) {
+pub(crate) fn count(answers: &mut u64)
+    ensures { answers.new ≡ counted (answers.old + 1) }
+{
     *answers = answers.saturating_add(1);
 }
 

@@ -61,7 +61,8 @@ module _ {T : Type 0} where
       kept-same v w own further waits rule same (All-weaker (IsOther v k) (HasWait v) (λ x h. h.0) waits all)
 
   -- a look at the crew's word
-  pub kept-looked : (v w : View Entry T) (waits : List Wait) → LookedOn v w → All (HasWait v) waits → All (HasWait w) waits
+  pub kept-looked : (v w : View Entry T) (waits : List Wait) → LookedOn v w → All (HasWait v) waits
+      → All (HasWait w) waits
   kept-looked v w waits looked all =
       All-weaker (HasWait v) (HasWait w)
       (λ x h. record {

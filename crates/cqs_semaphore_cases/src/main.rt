@@ -6,7 +6,7 @@
 //!
 //! | line | what is asked, and what may be answered |
 //! |---|---|
-//! | `semaphore 1 2 4 6` | a new semaphore of so many permits, for so many passes, waits and slots: `Ok`, `BadConfig` |
+//! | `semaphore 1 2 4 6` | one of so many permits, passes, waits and slots: `Ok`, `BadConfig` |
 //! | `acquire` | `Now`, `Now by 3`, `Later 3`, `Worn` |
 //! | `try` | `Got`, `Busy`, `Contended 1 0` |
 //! | `poll 3` | at the wait 3: `Granted`, `Pending` |

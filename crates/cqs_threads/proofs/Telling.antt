@@ -86,9 +86,12 @@ module _ {T : Type 0} where
   })
 
   -- its permit had been left at the number that was drawn
-  pub adds-took : (v w : View Entry T) (c : Counts) (x k : ℕ) → CallRule v (entry.TakeDoor v.number ∷ entry.Enter v.number k ∷ []) (entry.Deliver k ∷ []) w
+  pub adds-took : (v w : View Entry T) (c : Counts) (x k : ℕ)
+      → CallRule v (entry.TakeDoor v.number ∷ entry.Enter v.number k ∷ []) (entry.Deliver k ∷ []) w
       → x ≡ one_more c.acquires.took → Adds 0 0 v c w (record c { acquires = record c.acquires { took = x } })
-  adds-took v w c x k rule more = adds-call 0 0 v w c _ (entry.TakeDoor v.number ∷ entry.Enter v.number k ∷ []) (entry.Deliver k ∷ []) rule (λ t told. record {
+  adds-took v w c x k rule more =
+      adds-call 0 0 v w c _ (entry.TakeDoor v.number ∷ entry.Enter v.number k ∷ []) (entry.Deliver k ∷ []) rule
+      (λ t told. record {
     acquires = record {
       free_is = told.acquires.free_is;
       took = told.acquires.took + 1;
@@ -112,9 +115,11 @@ module _ {T : Type 0} where
       subst (λ (x : Acquires). Adds 0 0 v c w (record c { acquires = x })) (sym is) (adds-took v w c _ k rule refl)
 
   -- the caller waits
-  pub adds-waited : (v w : View Entry T) (c : Counts) (x k : ℕ) → CallRule v (entry.TakeDoor v.number ∷ entry.Enter v.number k ∷ []) [] w
+  pub adds-waited : (v w : View Entry T) (c : Counts) (x k : ℕ)
+      → CallRule v (entry.TakeDoor v.number ∷ entry.Enter v.number k ∷ []) [] w
       → x ≡ one_more c.acquires.waited → Adds 0 0 v c w (record c { acquires = record c.acquires { waited = x } })
-  adds-waited v w c x k rule more = adds-call 0 0 v w c _ (entry.TakeDoor v.number ∷ entry.Enter v.number k ∷ []) [] rule (λ t told. record {
+  adds-waited v w c x k rule more =
+      adds-call 0 0 v w c _ (entry.TakeDoor v.number ∷ entry.Enter v.number k ∷ []) [] rule (λ t told. record {
     acquires = record {
       free_is = told.acquires.free_is;
       took = told.acquires.took;
@@ -177,21 +182,29 @@ module _ {T : Type 0} where
   -- a look found the wait served
   pub adds-granted : (v w : View Entry T) (c : Counts) (x k : ℕ) → CallRule v (entry.LookGranted v.number k ∷ []) [] w
       → x ≡ one_more c.polls.granted → Adds 0 0 v c w (record c { polls = record c.polls { granted = x } })
-  adds-granted v w c x k rule more = adds-call 0 0 v w c _ (entry.LookGranted v.number k ∷ []) [] rule (λ t told. record {
+  adds-granted v w c x k rule more =
+      adds-call 0 0 v w c _ (entry.LookGranted v.number k ∷ []) [] rule (λ t told. record {
     acquires = told.acquires;
     tries = told.tries;
     ends = told.ends;
-    polls = record { granted_is = counted-next t.granted c.polls.granted x told.polls.granted_is more; pending_is = told.polls.pending_is };
+    polls = record {
+      granted_is = counted-next t.granted c.polls.granted x told.polls.granted_is more;
+      pending_is = told.polls.pending_is;
+    };
   })
 
   -- or that it goes on
   pub adds-pending : (v w : View Entry T) (c : Counts) (x k : ℕ) → CallRule v (entry.LookPending v.number k ∷ []) [] w
       → x ≡ one_more c.polls.pending → Adds 0 0 v c w (record c { polls = record c.polls { pending = x } })
-  adds-pending v w c x k rule more = adds-call 0 0 v w c _ (entry.LookPending v.number k ∷ []) [] rule (λ t told. record {
+  adds-pending v w c x k rule more =
+      adds-call 0 0 v w c _ (entry.LookPending v.number k ∷ []) [] rule (λ t told. record {
     acquires = told.acquires;
     tries = told.tries;
     ends = told.ends;
-    polls = record { granted_is = told.polls.granted_is; pending_is = counted-next t.pending c.polls.pending x told.polls.pending_is more };
+    polls = record {
+      granted_is = told.polls.granted_is;
+      pending_is = counted-next t.pending c.polls.pending x told.polls.pending_is more;
+    };
   })
 
   -- a permit that was given back is free
@@ -220,9 +233,11 @@ module _ {T : Type 0} where
   })
 
   -- it went to a waiter
-  pub adds-sent : (v w : View Entry T) (c : Counts) (x k : ℕ) → CallRule v (entry.GiveSent v.number ∷ []) (entry.Deliver k ∷ []) w
+  pub adds-sent : (v w : View Entry T) (c : Counts) (x k : ℕ)
+      → CallRule v (entry.GiveSent v.number ∷ []) (entry.Deliver k ∷ []) w
       → x ≡ one_more c.releases.sent → Adds 0 0 v c w (record c { releases = record c.releases { sent = x } })
-  adds-sent v w c x k rule more = adds-call 0 0 v w c _ (entry.GiveSent v.number ∷ []) (entry.Deliver k ∷ []) rule (λ t told. record {
+  adds-sent v w c x k rule more =
+      adds-call 0 0 v w c _ (entry.GiveSent v.number ∷ []) (entry.Deliver k ∷ []) rule (λ t told. record {
     acquires = told.acquires;
     tries = told.tries;
     polls = told.polls;
@@ -370,9 +385,11 @@ module _ {T : Type 0} where
   })
 
   -- a wait was given up
-  pub adds-cancelled : (v w : View Entry T) (c : Counts) (x k : ℕ) (further : List Entry) → CallRule v (entry.Leave v.number k ∷ []) (further) w
+  pub adds-cancelled : (v w : View Entry T) (c : Counts) (x k : ℕ) (further : List Entry)
+      → CallRule v (entry.Leave v.number k ∷ []) (further) w
       → x ≡ one_more c.cancels.cancelled → Adds 0 0 v c w (record c { cancels = record c.cancels { cancelled = x } })
-  adds-cancelled v w c x k further rule more = adds-call 0 0 v w c _ (entry.Leave v.number k ∷ []) (further) rule (λ t told. record {
+  adds-cancelled v w c x k further rule more =
+      adds-call 0 0 v w c _ (entry.Leave v.number k ∷ []) (further) rule (λ t told. record {
     acquires = told.acquires;
     tries = told.tries;
     polls = told.polls;
@@ -395,9 +412,11 @@ module _ {T : Type 0} where
   })
 
   -- and a permit that was left to it is still on its way
-  pub adds-owing : (v w : View Entry T) (c : Counts) (x k : ℕ) (further : List Entry) → CallRule v (entry.Leave v.number k ∷ []) (further) w
+  pub adds-owing : (v w : View Entry T) (c : Counts) (x k : ℕ) (further : List Entry)
+      → CallRule v (entry.Leave v.number k ∷ []) (further) w
       → x ≡ one_more c.cancels.owing → Adds 0 1 v c w (record c { cancels = record c.cancels { owing = x } })
-  adds-owing v w c x k further rule more = adds-call 0 1 v w c _ (entry.Leave v.number k ∷ []) (further) rule (λ t told. record {
+  adds-owing v w c x k further rule more =
+      adds-call 0 1 v w c _ (entry.Leave v.number k ∷ []) (further) rule (λ t told. record {
     acquires = told.acquires;
     tries = told.tries;
     polls = told.polls;
@@ -420,9 +439,11 @@ module _ {T : Type 0} where
   })
 
   -- too late: its permit had come
-  pub adds-late : (v w : View Entry T) (c : Counts) (x k : ℕ) (further : List Entry) → CallRule v (entry.Late v.number k ∷ []) (further) w
+  pub adds-late : (v w : View Entry T) (c : Counts) (x k : ℕ) (further : List Entry)
+      → CallRule v (entry.Late v.number k ∷ []) (further) w
       → x ≡ one_more c.cancels.too_late → Adds 0 0 v c w (record c { cancels = record c.cancels { too_late = x } })
-  adds-late v w c x k further rule more = adds-call 0 0 v w c _ (entry.Late v.number k ∷ []) (further) rule (λ t told. record {
+  adds-late v w c x k further rule more =
+      adds-call 0 0 v w c _ (entry.Late v.number k ∷ []) (further) rule (λ t told. record {
     acquires = told.acquires;
     tries = told.tries;
     polls = told.polls;

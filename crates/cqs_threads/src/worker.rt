@@ -5,7 +5,7 @@ ghost use Rattle.cqs_semaphore.specs.Permits.{number_of};
 ghost use Rattle.cqs_threads.specs.Tallies.{Adds, CountsNow, HasWorked};
 ghost use Rattle.cqs_threads.specs.Workers.{held_by, IsAtRest, HasEnded};
 
-use crate::counts::{Acquires, Counts, count};
+use crate::counts::{Acquires, Counts, count, none_yet};
 use crate::giving::give_back;
 use crate::waiting::{give_up, wait_for};
 use cqs_semaphore::{Acquired, Permit, SemPass, Semaphore, Tried};
@@ -23,7 +23,7 @@ pub fn work(semaphore: &Semaphore, pass: SemPass, rounds: u32) -> (SemPass, Coun
     ensures worked { HasWorked (pass_view pass) (pass_view result.0) result.1 }
 {
     let mut pass = pass;
-    let mut counts = Counts::default();
+    let mut counts = none_yet();
     for round in 0..rounds {
         let hasty = round % 3 == 0 || round / 100 % 2 == 1;
         acquire_once(semaphore, &mut pass, hasty, &mut counts);

@@ -4,8 +4,8 @@ use Rattle.cqs_threads.specs.Workers.{held_by, HasMetAll, IsAtRest, IsHired}
 use Rattle.cqs_threads.proofs.crew.hire.Given as goal
 
 -- the passes that were made so far are at rest, and hold nothing
-abbrev pub invariant-loop-_made : goal.invariant-loop-_made
-invariant-loop-_made l = record {
+abbrev pub invariant-loop-made : goal.invariant-loop-made
+invariant-loop-made l = record {
   rest : IsAtRest l.semaphore (held_by l.fn.pass) l.pass;
   met : HasMetAll (pass_view l.fn.pass) 0 (pass_view l.pass);
   hired : All (IsHired l.semaphore) l.passes.items;

@@ -46,6 +46,23 @@ returns-in-Cancelled-None c =
       adds = adds-cancelled v w _ _ k _ told.1 c.count.ensures;
     }
 
+pub returns-in-Cancelled-Some-clause-ended : goal.returns-in-Cancelled-Some-clause-ended
+returns-in-Cancelled-Some-clause-ended c =
+    let k = (place_of c.args.wait).index in
+    let v = pass_view c.args.pass.now in
+    let w = pass_view c.cancel.new.pass in
+    let answer = c.in-Cancelled-Some.is ∙ ap Cancelled c.in-Cancelled-Some.field-0-is in
+    let told : HasCancelled k v (Cancelled (Some c.in-Cancelled-Some.under)) w =
+    subst (λ answer. HasCancelled k v answer w) answer c.cancel.ensures.cancelled in
+    let left = left-owing k v w c.in-Cancelled-Some.under told.0 told.2.1 in
+    let rest = c.finish_all.ensures.rest in
+    record {
+      belongs = rest.belongs;
+      ready = rest.ready;
+      held_is = rest.held_is ∙ left.held_is;
+      waits_are = rest.waits_are;
+    }
+
 pub returns-in-Cancelled-Some-clause-adds : goal.returns-in-Cancelled-Some-clause-adds
 returns-in-Cancelled-Some-clause-adds c =
     let k = (place_of c.args.wait).index in

@@ -11,8 +11,8 @@ returns-then-hasty-clause-adds c =
     (adds-waited _ _ _ _ _ (rw c.in-Ok-Later.field-0-is at c.in-Ok-Later.ensures.called) c.count.ensures)
     c.give_up.ensures.adds
 
-pub returns-in-Ok-Later-clause-adds : goal.returns-in-Ok-Later-clause-adds
-returns-in-Ok-Later-clause-adds c =
+pub returns-else-hasty-clause-adds : goal.returns-else-hasty-clause-adds
+returns-else-hasty-clause-adds c =
     adds-then 0 0 0 _ _ _ _ _ _
     (adds-waited _ _ _ _ _ (rw c.in-Ok-Later.field-0-is at c.in-Ok-Later.ensures.called) c.count.ensures)
     c.wait_for.ensures.adds

@@ -12,7 +12,8 @@ loop-wait-init c =
     let all : into_iter_items c.into_iter-wait-iterator.result ≡ c.args.self.now.waits.items = search rules in
     record {
       taken = tt;
-      others = subst (All (IsOther v c.args.number)) (sym c.new-others.ensures.items) (All-nil (IsOther v c.args.number));
+      others = subst (All (IsOther v c.args.number)) (sym c.new-others.ensures.items)
+          (All-nil (IsOther v c.args.number));
       left = subst (All (HasWait v)) (sym all) c.requires.stands.waits;
     }
 

@@ -32,3 +32,9 @@ loop-made-preserved c =
           (All-push free c.loop-made.passes.items c.in_ok-hire_one.field-0 so_far.hired c.in_ok-hire_one.ensures.hired);
       many = let more = c.in_ok-push.ensures.len in let few = so_far.many in omega arith;
     }
+
+pub returns-in_err-hire_one-clause-met : goal.returns-in_err-hire_one-clause-met
+returns-in_err-hire_one-clause-met c = met-then 0 0 _ _ _ c.loop-made.invariant.met c.hire_one.ensures.met
+
+pub returns-in_err-push-clause-met : goal.returns-in_err-push-clause-met
+returns-in_err-push-clause-met c = met-then 0 0 _ _ _ c.loop-made.invariant.met c.hire_one.ensures.met

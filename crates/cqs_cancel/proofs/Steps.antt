@@ -1,7 +1,7 @@
 -- A cancel is its steps: an exchange on its cell; a step on a word of its client; and the exchange by which the cell is
 -- settled.
 use Rattle.std.proofs.Common.{◌≡◌, ◌≢◌, ℕ, ◌<◌, ◌≤◌, Bool, true, false, List, [], ◌∷◌, ◌++◌, length, Some, None, sym, refl, ap, ◌∙◌, subst, ⊎_elim, append_assoc, inl, inr, arith}
-use Rattle.std.proofs.lemmas.List.{append-nil}
+use Rattle.std.proofs.lemmas.List.{append-nil, append_cancel_right}
 use Rattle.cqs_core.specs.declared.cells.CoreState.{CoreState}
 use Rattle.cqs_core.specs.declared.cells.CoreState.TheVariants as state
 use Rattle.cqs_core.specs.declared.doings.Doing.TheVariants as doing
@@ -75,6 +75,9 @@ none-after state.Delegated is more = is
 none-after state.Cancelled is more = is
 none-after state.Refused is more = is
 
+prefix-then : {A : Type 0} (a b c : List A) → IsPrefix a b → IsPrefix b c → IsPrefix a c
+prefix-then a b c p q = (p.0 ++ q.0, q.1 ∙ (ap (λ l. l ++ q.0) p.1 ∙ append_assoc a p.0 q.0))
+
 no-more : {A : Type 0} (l : List A) → length l ≤ 0 → l ≡ []
 no-more [] few = refl
 no-more (x ∷ xs) few = absurd (omega arith)
@@ -111,6 +114,7 @@ module _ {C E S : Type 0} (object : Object E) (primitive : C → Primitive E S) 
       (v u w : View E S) → tries ≤ 1 → Answered object primitive word event k answer v u
       → Made object primitive s row tries k payload u w
       → Settled object primitive [] v.facts word event s row answer k payload v w
+  unfolding found-then
   settled word event s row tries k payload answer v u w low a m =
       let at : Moment = moment v.opening v.number v.facts in_any_case a.found in
       let after : Facts = facts_moved event (client_place word) at in
@@ -126,11 +130,18 @@ module _ {C E S : Type 0} (object : Object E) (primitive : C → Primitive E S) 
       let now : Facts =
       facts_worked object.gains row k m.word (payload_told row.gain payload u.facts.has.payload) m.before in
       let few = m.few in
+      let there = a.moved.was word refl in
+      let more = saw-more u w _ _ m.saw in
       record {
         asked = a.found;
         decided = a.decided;
-        asked_was = found-then (HasWord word a.found) (event.entries at) u w (a.moved.was word refl)
-            (saw-more u w _ _ m.saw) m.saw.same.opening;
+        asked_was = found-then (HasWord word a.found) (event.entries at) u w there more m.saw.same.opening;
+        asked_since = (
+          a.moved.saw.between,
+          append_cancel_right there.before (v.seen ++ a.moved.saw.between) (event.entries at)
+              (sym there.seen ∙ a.moved.saw.seen),
+        );
+        asked_next = subst (λ l. IsPrefix l w.seen) there.seen more;
         tried = m.found;
         few = omega arith;
         found = m.word;
@@ -175,6 +186,8 @@ module _ {C E S : Type 0} (object : Object E) (primitive : C → Primitive E S) 
         asked = t.asked;
         decided = ap event.doing (sym at_is) ∙ t.decided;
         asked_was = t.asked_was;
+        asked_since = prefix-then v.seen u.seen t.asked_was.before (saw-more v u facts first saw) t.asked_since;
+        asked_next = subst (λ (m : Moment). IsPrefix (t.asked_was.before ++ event.entries m) w.seen) at_is t.asked_next;
         tried = t.tried;
         few = t.few;
         found = t.found;

@@ -18,6 +18,7 @@ use Rattle.cqs_rule.specs.Exchanges.{FoundCell, HasCell}
 use Rattle.cqs_rule.specs.Facts.{facts_after, facts_worked}
 use Rattle.cqs_rule.specs.Hidden.{Gains}
 use Rattle.cqs_rule.specs.Layout.{client_place}
+use Rattle.cqs_rule.specs.Lists.{IsPrefix}
 use Rattle.cqs_rule.specs.Object.{Object, Primitive}
 use Rattle.cqs_rule.specs.Owed.{OwesWith}
 use Rattle.cqs_rule.specs.Passes.{pass_view}
@@ -46,7 +47,8 @@ asks_at v facts n = moment v.opening v.number facts in_any_case n
 
 module _ {C E S : Type 0} (object : Object E) (primitive : C → Primitive E S) where
   -- A pass was leaving the wait k, and at these facts, after these entries. Its client was asked,
-  -- by a step of this event on this word, and answered so by what it found there. Then the cell was
+  -- by a step of this event on this word, and answered so by what it found there, after all that
+  -- the pass had seen before the call; the entries of the event come next. Then the cell was
   -- settled by a step of this row: it was found in the state that the row wants, with this payload,
   -- at the end of all that the pass has seen before the step's entries. At most one exchange before
   -- it missed. The entries are those of the steps, in order, and the pass is where they lead.
@@ -56,6 +58,8 @@ module _ {C E S : Type 0} (object : Object E) (primitive : C → Primitive E S) 
     pub asked : ℕ
     pub decided : event.doing (asks_at v facts asked) ≡ doing.Decided k answer
     pub asked_was : WasSo primitive (HasWord word asked) w
+    pub asked_since : IsPrefix v.seen asked_was.before
+    pub asked_next : IsPrefix (asked_was.before ++ event.entries (asks_at v facts asked)) w.seen
     pub tried : List Sighting
     pub few : length tried ≤ 1
     pub found : ℕ

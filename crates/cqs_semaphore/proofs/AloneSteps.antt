@@ -42,7 +42,7 @@ use Rattle.cqs_semaphore.specs.declared.answers.Acquired.{Acquired}
 use Rattle.cqs_semaphore.specs.declared.answers.Acquired.TheVariants.{Now, Later}
 use Rattle.cqs_semaphore.specs.declared.answers.Released.{Released}
 use Rattle.cqs_semaphore.specs.declared.answers.Released.TheVariants.{Freed, Sent, Left, Void, Under}
-use Rattle.cqs_semaphore.specs.Alone.{IsPlainAcquire, IsPlainRelease, IsPlainEnd, IsFirstOf, HasLine}
+use Rattle.cqs_semaphore.specs.Alone.{IsPlainAcquire, IsPlainRelease, IsPlainEnd, IsTurnedBack, IsFirstOf, HasLine}
 use Rattle.cqs_semaphore.specs.Answers.{Releases, Ends}
 use Rattle.cqs_semaphore.specs.Calls.{CallRule, plain_after}
 use Rattle.cqs_semaphore.specs.Causes.{primitive_of, CellWas}
@@ -313,6 +313,19 @@ module _ {T : Type 0} where
   plain-end v w (Void k) held waits c e now alone one =
       still-one v w (legal-alone v w _ _ c alone) one (now e.1.ready.idle)
   plain-end v w (Under under) held waits c e now alone one = same-after v w (legal-alone v w _ _ c alone)
+
+  -- with none on its way nothing is delivered
+  pub turned-back : (v w : View Entry T) (a : Released) (held : ℕ) (waits : List ℕ)
+      → CallRule v [] (resumed_further a) w → Ends v held waits a w → v.alone ≡ true → (plain_after v).way ≡ 0
+      → IsTurnedBack v a w
+  turned-back v w Freed held waits c e alone none = absurd e
+  turned-back v w (Sent k) held waits c e alone none =
+      let l = legal-alone v w _ _ c alone in
+      let may = allowed-at v.opening.size v.seen [] [] w.seen (entry.Deliver k) l.seen l.legal in
+      absurd (in-none _ (subst (λ n. Waits k may.0 (take n (plain_after v).line)) none may.1))
+  turned-back v w (Left k) held waits c e alone none = same-after v w (legal-alone v w _ _ c alone)
+  turned-back v w (Void k) held waits c e alone none = same-after v w (legal-alone v w _ _ c alone)
+  turned-back v w (Under under) held waits c e alone none = same-after v w (legal-alone v w _ _ c alone)
 
   -- a wait that is in the line, and one that was served
   in-line : (v w : View Entry T) (k : ℕ) (e : Entry) → Legal v (e ∷ []) w → Waits k v.number (plain_after v).line

@@ -1,13 +1,16 @@
 -- A cancel is its steps: the queue's cancel, and perhaps a resumption that goes on.
-use Rattle.std.proofs.Common.{◌≡◌, ℕ, true, false, List, [], ◌∷◌, ◌++◌, Option, Some, None, sym, refl, ap, ◌∙◌, subst, append_assoc, inl, inr}
+use Rattle.std.proofs.Common.{◌≡◌, ℕ, Bool, true, false, List, [], ◌∷◌, ◌++◌, Option, Some, None, sym, refl, ap, ◌∙◌, subst, append_assoc, inl, inr}
 use Rattle.cqs_core.specs.declared.cells.CoreState.{CoreState}
 use Rattle.cqs_core.specs.declared.cells.CoreState.TheVariants as state
 use Rattle.cqs_core.specs.declared.doings.Doing.{Doing}
 use Rattle.cqs_core.specs.declared.doings.Doing.TheVariants as doing
 use Rattle.cqs_core.specs.declared.entries.Entry.{Entry}
 use Rattle.cqs_core.specs.declared.entries.Entry.TheVariants as entry
-use Rattle.cqs_core.specs.SemaphoreEntries.{IsLegal}
-use Rattle.cqs_core.specs.QueueSteps.{settles, settles_owing, refuses, refuses_value}
+use Rattle.cqs_core.specs.SemaphoreEntries.{IsLegal, object_after}
+use Rattle.cqs_core.specs.SemaphoreShown.{state_of}
+use Rattle.cqs_core.specs.SemaphoreSteps.{step_entries}
+use Rattle.cqs_core.specs.QueueSteps.{QueueStep, CellRow, settles, settles_owing, refuses, refuses_value}
+use Rattle.cqs_core.proofs.CoreFacts.{shows-object}
 use Rattle.cqs_rule.specs.declared.queue.tokens.Under.{Under}
 use Rattle.cqs_rule.specs.declared.view.Facts.{Facts}
 use Rattle.cqs_rule.specs.declared.view.Opening.{Opening}
@@ -15,28 +18,34 @@ use Rattle.cqs_rule.specs.declared.view.Sighting.TheVariants.{Cell, Word}
 use Rattle.cqs_rule.specs.declared.view.View.{View}
 use Rattle.cqs_rule.specs.Callbacks.{Asking, by_step}
 use Rattle.cqs_rule.specs.Called.{Called}
+use Rattle.cqs_rule.specs.Events.{HasWord}
 use Rattle.cqs_rule.specs.Exchanges.{HasCell}
 use Rattle.cqs_rule.specs.Layout.{client_place}
 use Rattle.cqs_rule.specs.Lists.{Has, IsPrefix, without}
-use Rattle.cqs_rule.specs.Saw.{WasShown}
-use Rattle.cqs_rule.specs.Semaphore.{semaphore_object, decides}
+use Rattle.cqs_rule.specs.Saw.{WasShown, WasFound}
+use Rattle.cqs_rule.specs.Semaphore.{semaphore_object, decides, core_shown}
+use Rattle.cqs_rule.specs.SemaphorePermits.{permits_of}
 use Rattle.cqs_rule.proofs.Calls.{called-and}
+use Rattle.cqs_words.specs.State.{count_in, is_below_zero}
 use Rattle.cqs_cancel.specs.Cancels as cancel
-use Rattle.cqs_cancel.specs.Cancels.{Settles, facts_leaving, CameLate}
+use Rattle.cqs_cancel.specs.Cancels.{Settled, Settles, facts_leaving, CameLate}
 use Rattle.cqs_cancel.specs.declared.cancelling.Left.TheVariants.{Gone, GoneOwing, Late}
 use Rattle.cqs_semaphore.specs.declared.answers.CancelAnswer.TheVariants.{Cancelled, TooLate}
 use Rattle.cqs_semaphore.specs.declared.answers.Permit.{Permit}
 use Rattle.cqs_semaphore.specs.declared.answers.Released.{Released}
-use Rattle.cqs_semaphore.specs.Answers.{Ends}
+use Rattle.cqs_semaphore.specs.Answers.{Ends, LeftLine, WasRefused, WentSo}
 use Rattle.cqs_semaphore.specs.Calls.{IsReady}
-use Rattle.cqs_semaphore.specs.Causes.{primitive_of, cell_of, CellWasOnce}
+use Rattle.cqs_semaphore.specs.Causes.{primitive_of, cell_of, CellWas, CellWasOnce, StateWas}
 use Rattle.cqs_semaphore.specs.Entries.{resumed_further}
 use Rattle.cqs_semaphore.specs.Permits.{number_of}
 use Rattle.cqs_semaphore.specs.Steps.{HasCancelled, HasEnded, PassedOn}
 use Rattle.cqs_semaphore.proofs.ReleaseSteps.{further-names}
 use Rattle.cqs_semaphore.proofs.ResumeSteps.{ends-so, ends-called}
 use Rattle.cqs_semaphore.proofs.Rules.{call-rule, call-rule_own}
-use Rattle.cqs_semaphore.proofs.States.{prefix-then, prefix-more}
+use Rattle.cqs_semaphore.proofs.States.{prefix-then, prefix-more, state-later, count-below, count-not_below}
+
+decided-so : (k : ℕ) (a b : Bool) → doing.Decided k a ≡ doing.Decided k b → a ≡ b
+decided-so k a b is = cc
 
 -- how a semaphore is asked
 abbrev pub asked_so : Asking Entry
@@ -52,6 +61,68 @@ module _ {T : Type 0} where
     waits : u.facts.waits ≡ without k v.facts.waits
     passed : u.facts.passed ≡ v.facts.passed
     found : IsPrefix (v.facts.found ++ Cell k word ∷ []) u.facts.found
+
+  -- The pass asked, and found the state so.
+  record Asked (answer : Bool) (k : ℕ) (v u : View Entry T) : Type 0 where
+    word : ℕ
+    before : List Entry
+    below : is_below_zero word ≡ answer
+    found : StateWas v (count_in word) before (entry.Leave v.number k ∷ []) u
+
+  state-at : (opening : Opening) (n : ℕ) (history : List Entry)
+      → WasShown {S = T} primitive_of opening (HasWord 0 n) history
+      → count_in n ≡ state_of (object_after opening.size history)
+  state-at opening n history was =
+      let shows = shows-object (core_shown (permits_of was.client) was.hidden was.words history) was.shown in
+      ap count_in (sym was.holds)
+      ∙ (shows.state ∙ ap (λ (o : Opening). state_of (object_after o.size history)) was.opening_is)
+
+  asked-was : (row : CellRow) (s : QueueStep) (answer : Bool) (k word payload : ℕ) (v u : View Entry T)
+      → Settled semaphore_object primitive_of [] (facts_leaving semaphore_object.gains k word v.facts) 0 decides s row
+      answer k payload v u
+      → Asked answer k v u
+  asked-was row s answer k word payload v u e = record {
+    word = e.asked;
+    before = e.asked_was.before;
+    below = decided-so k _ _ e.decided;
+    found = record {
+      since = e.asked_since;
+      seen = e.asked_next;
+      state = state-at u.opening e.asked e.asked_was.before e.asked_was.was;
+      word = e.asked;
+      count_is = refl;
+      found = (
+        Cell k word ∷ [],
+        e.tried ++ Cell k e.found ∷ [],
+        ap (λ (f : Facts). f.found) e.facts_are
+            ∙ (append_assoc ((v.facts.found ++ Cell k word ∷ []) ++ Word (client_place 0) e.asked ∷ []) e.tried _
+            ∙ (append_assoc (v.facts.found ++ Cell k word ∷ []) (Word (client_place 0) e.asked ∷ []) _
+            ∙ append_assoc v.facts.found (Cell k word ∷ []) _)),
+      );
+    };
+  }
+
+  -- the cell as it was found in the end, by a step that shows no entry
+  cell-was : (row : CellRow) (s : QueueStep) (answer : Bool) (k word payload : ℕ) (v u : View Entry T)
+      → step_entries s v.number k ≡ []
+      → Settled semaphore_object primitive_of [] (facts_leaving semaphore_object.gains k word v.facts) 0 decides s row
+      answer k payload v u
+      → CellWas row.finds k [] u
+  cell-was row s answer k word payload v u silent e = record {
+    word = e.found;
+    payload = payload;
+    cell = e.cell;
+    found = (_, ap (λ (f : Facts). f.found) e.facts_are);
+    was = subst (λ es. WasFound primitive_of (HasCell (cell_of k row.finds payload)) es u) silent e.was;
+  }
+
+  left-line : (k : ℕ) (v u : View Entry T) → Asked true k v u → LeftLine k v u
+  left-line k v u a =
+      record { count = count_in a.word; before = a.before; short = count-below a.word a.below; found = a.found }
+
+  was-refused : (k : ℕ) (v u : View Entry T) → Asked false k v u → WasRefused k v u
+  was-refused k v u a =
+      record { count = count_in a.word; before = a.before; enough = count-not_below a.word a.below; found = a.found }
 
   out-settles : (k word : ℕ) (v u : View Entry T)
       → Settles semaphore_object primitive_of [] (facts_leaving semaphore_object.gains k word v.facts) 0 decides settles
@@ -149,6 +220,35 @@ module _ {T : Type 0} where
       by (inr (inl e)) = out-refuses k b.word v u e
       by (inr (inr e)) = out-refuses_value k b.word e.0 v u e.1
 
+  went-gone : (k : ℕ) (v u : View Entry T) → (b : cancel.Began semaphore_object primitive_of asked_so k v Gone u)
+      → WentSo k v None u
+  went-gone k v u b = by b.ends
+    where
+      by : cancel.Leaves semaphore_object primitive_of [] (facts_leaving semaphore_object.gains k b.word v.facts)
+          asked_so k v
+          Gone u → WentSo k v None u
+      by (inl e) = inl (
+        left-line k v u (asked-was _ settles true k b.word 0 v u e),
+        cell-was _ settles true k b.word 0 v u refl e,
+      )
+      by (inr (inl e)) = inr (
+        was-refused k v u (asked-was _ refuses false k b.word 0 v u e),
+        inl (cell-was _ refuses false k b.word 0 v u refl e),
+      )
+      by (inr (inr e)) = inr (
+        was-refused k v u (asked-was _ refuses_value false k b.word e.0 v u e.1),
+        inr (cell-was _ refuses_value false k b.word e.0 v u refl e.1),
+      )
+
+  line-later : (k : ℕ) (v u w : View Entry T) → LeftLine k v u → IsPrefix u.seen w.seen
+      → IsPrefix u.facts.found w.facts.found → w.opening ≡ u.opening → LeftLine k v w
+  line-later k v u w l seen found opening = record {
+    count = l.count;
+    before = l.before;
+    short = l.short;
+    found = state-later v u w l.count l.before (entry.Leave v.number k ∷ []) l.found seen found opening;
+  }
+
   -- what was found stays found while the call goes on
   once-later : (at : CoreState) (k : ℕ) (v u w : View Entry T) → CellWasOnce at k v u → IsPrefix u.seen w.seen
       → IsPrefix u.facts.found w.facts.found → w.opening ≡ u.opening → CellWasOnce at k v w
@@ -200,6 +300,7 @@ module _ {T : Type 0} where
               waits_are = o.waits;
             },
           ),
+          went-gone k v w b,
         ),
       )
 
@@ -228,6 +329,8 @@ module _ {T : Type 0} where
           once-later state.Waiter k v u w (out-waiter doing.Owes k v u (GoneOwing payload) b o) on.1.seen on.1.found
               on.1.opening,
           (p.1, once-later state.Delegated k v u w out.1 on.1.seen on.1.found on.1.opening, ends),
+          line-later k v u w (left-line k v u (asked-was _ settles_owing true k b.word payload v u b.ends.0)) on.1.seen
+              on.1.found on.1.opening,
         ),
       )
 

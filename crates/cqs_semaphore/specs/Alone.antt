@@ -63,14 +63,23 @@ module _ {T : Type 0} where
   IsPlainRelease v (Void k) w = ⊥
   IsPlainRelease v (Under under) w = HasLine (plain_after v).line × ((plain_after w).way ≡ 1)
 
-  -- The end of a release goes to the first of the line; or it is handed back again, and nothing has
-  -- changed.
+  -- The end of a release, while just one permit is on its way, goes to the first of the line; or it
+  -- is handed back again, and nothing has changed.
   abbrev pub IsPlainEnd : View Entry T → Released → View Entry T → Type 0
   IsPlainEnd v Freed w = ⊥
   IsPlainEnd v (Sent k) w = IsFirstOf (plain_after v).line k
   IsPlainEnd v (Left k) w = ⊥
   IsPlainEnd v (Void k) w = ⊥
   IsPlainEnd v (Under under) w = plain_after w ≡ plain_after v
+
+  -- Where no permit is on its way any more, nobody is served by the end of a release, and nothing
+  -- has changed.
+  abbrev pub IsTurnedBack : View Entry T → Released → View Entry T → Type 0
+  IsTurnedBack v Freed w = ⊥
+  IsTurnedBack v (Sent k) w = ⊥
+  IsTurnedBack v (Left k) w = plain_after w ≡ plain_after v
+  IsTurnedBack v (Void k) w = plain_after w ≡ plain_after v
+  IsTurnedBack v (Under under) w = plain_after w ≡ plain_after v
 
   abbrev pub IsPlainPoll : ℕ → View Entry T → Polled → Type 0
   IsPlainPoll k v (Granted permit) =

@@ -170,11 +170,37 @@ module _ {T : Type 0} where
       (under ≡ owed_after released) × CellWasOnce state.Delegated k v w
       × Ends v v.facts.has.held (without k v.facts.waits) released w
 
-  -- A cancel found the cell of the wait served; or with its waiter, who left.
+  -- The semaphore was asked whether the waiter of the number k leaves the line. The state was found
+  -- below 0: somebody waited with no permit on its way, and so the waiter left the line.
+  pub record LeftLine (k : ℕ) (v w : View Entry T) : Type 0 where
+    pub count : ℤ
+    pub before : List Entry
+    pub short : count <ℤ pos 0
+    pub found : StateWas v count before (entry.Leave v.number k ∷ []) w
+
+  -- It was found at 0 or above: a permit was on the way to each who waited. So the waiter was
+  -- refused, and one of the permits is free.
+  pub record WasRefused (k : ℕ) (v w : View Entry T) : Type 0 where
+    pub count : ℤ
+    pub before : List Entry
+    pub enough : pos 0 ≤ℤ count
+    pub found : StateWas v count before (entry.Leave v.number k ∷ []) w
+
+  -- How the waiter of the number k went, and what its cell was found to be in the end, where the
+  -- call had nothing to pass on: it left the line, and no resume had come to its cell; or it was
+  -- refused, and a resume that had come ended there. Where the call passed something on, it left
+  -- the line.
+  abbrev pub WentSo : ℕ → View Entry T → Option Released → View Entry T → Type 0
+  WentSo k v None w =
+      (LeftLine k v w × CellWas state.Cancelling k [] w)
+      ⊎ (WasRefused k v w × (CellWas state.Cancelling k [] w ⊎ CellWas state.Delegated k [] w))
+  WentSo k v (Some released) w = LeftLine k v w
+
+  -- A cancel found the cell of the wait served; or with its waiter, who went.
   abbrev pub Cancels : ℕ → View Entry T → CancelAnswer → Option Released → View Entry T → Type 0
   Cancels k v (TooLate permit) passed w =
       (passed ≡ None) × (number_of permit ≡ Some k)
       × CellWas state.Resumed k (entry.Late v.number k ∷ []) w
       × Rests v (v.facts.has.held + 1) (without k v.facts.waits) w
   Cancels k v (Cancelled under) passed w =
-      CellWasOnce state.Waiter k v w × PassesOn k v under passed w
+      CellWasOnce state.Waiter k v w × PassesOn k v under passed w × WentSo k v passed w

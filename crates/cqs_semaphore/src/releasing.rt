@@ -5,7 +5,7 @@ ghost use Rattle.cqs_core.specs.declared.doings.Doing.TheVariants as doing;
 ghost use Rattle.cqs_rule.specs.Crew.{IsBetween};
 ghost use Rattle.cqs_rule.specs.Owed.{HasUnder, under_payload, under_reached, under_ticket};
 ghost use Rattle.cqs_rule.specs.Passes.{pass_view};
-ghost use Rattle.cqs_semaphore.specs.Alone.{IsPlainRelease, IsPlainEnd};
+ghost use Rattle.cqs_semaphore.specs.Alone.{IsPlainRelease, IsPlainEnd, IsTurnedBack};
 ghost use Rattle.cqs_semaphore.specs.Answers.{Releases, Ends, most_passed_over};
 ghost use Rattle.cqs_semaphore.specs.Calls.{IsReady, IsMine, CallRule, plain_after};
 ghost use Rattle.cqs_semaphore.specs.Entries.{released_entries, released_further, resumed_further};
@@ -61,6 +61,9 @@ impl<T: Send + Drop> Semaphore<T> {
         ensures alone { (pass_view pass.old).alone ≡ true
             → (plain_after (pass_view pass.old)).way ≡ 1
             → IsPlainEnd (pass_view pass.old) result (pass_view pass.new) }
+        ensures alone_turned { (pass_view pass.old).alone ≡ true
+            → (plain_after (pass_view pass.old)).way ≡ 0
+            → IsTurnedBack (pass_view pass.old) result (pass_view pass.new) }
     {
         released(finish(&self.queue, pass, under))
     }

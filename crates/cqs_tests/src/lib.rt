@@ -5,12 +5,12 @@
 #[cfg(test)]
 mod core_calls;
 #[cfg(test)]
-mod leaving;
-#[cfg(test)]
 mod packed_words;
 #[cfg(test)]
 mod queue_calls;
 #[cfg(test)]
 mod queue_rows;
+#[cfg(test)]
+mod seats;
 #[cfg(test)]
 mod threads;

@@ -1,11 +1,12 @@
 -- What a worker's pass is at between its calls.
-use Rattle.std.specs.Prelude.{◌≡◌, ℕ, ◌+◌, List, [], ◌∷◌, Option, Some, None}
+use Rattle.std.specs.Prelude.{◌≡◌, ℕ, ◌+◌, List, [], ◌∷◌, ◌++◌, length, Option, Some, None}
 use Rattle.cqs_core.specs.declared.entries.Entry.{Entry}
 use Rattle.cqs_rule.specs.declared.client.ClientWords.{Ghosts}
 use Rattle.cqs_rule.specs.declared.queue.Pass.{Pass}
 use Rattle.cqs_rule.specs.declared.queue.tokens.Under as token
 use Rattle.cqs_rule.specs.declared.queue.tokens.Wait.{Wait}
 use Rattle.cqs_rule.specs.declared.semaphore.SemClient.{SemClient}
+use Rattle.cqs_rule.specs.declared.view.View.{View}
 use Rattle.cqs_rule.specs.Owed.{HasUnder}
 use Rattle.cqs_rule.specs.Passes.{pass_view}
 use Rattle.cqs_rule.specs.Waits.{place_of, HasWait}
@@ -13,7 +14,7 @@ use Rattle.cqs_semaphore.specs.declared.answers.Permit.{Permit}
 use Rattle.cqs_semaphore.specs.declared.answers.Polled.{Polled}
 use Rattle.cqs_semaphore.specs.declared.answers.Polled.TheVariants.{Granted, Pending}
 use Rattle.cqs_semaphore.specs.declared.semaphore.Semaphore.{Semaphore}
-use Rattle.cqs_semaphore.specs.Calls.{IsReady, IsMine}
+use Rattle.cqs_semaphore.specs.Calls.{IsReady, IsMine, Course}
 
 module _ {T : Type 0} {g : Ghosts (SemClient T) T Entry} where
   -- how many permits the pass holds
@@ -55,3 +56,17 @@ module _ {T : Type 0} {g : Ghosts (SemClient T) T Entry} where
   abbrev pub HasEnded : Semaphore T → ℕ → Option Permit → Pass (SemClient T) T Entry g → Type 0
   HasEnded s held (Some permit) p = IsAtRest s (held + 1) p
   HasEnded s held None p = IsAtRest s held p
+
+  -- a pass for a worker: it holds nothing, and no other was met into it
+  pub record IsHired (s : Semaphore T) (p : Pass (SemClient T) T Entry g) : Type 0 where
+    pub rest : IsAtRest s 0 p
+    pub one : length (pass_view p).own ≡ 1
+
+module _ {T : Type 0} where
+  -- The pass has met so many others, whose numbers are its own now: it has seen all that they have
+  -- seen, and made no entry itself.
+  pub record HasMetAll (v : View Entry T) (many : ℕ) (w : View Entry T) : Type 0 where
+    pub course : Course v [] w
+    pub numbers : List ℕ
+    pub own_is : w.own ≡ v.own ++ numbers
+    pub many_are : length numbers ≡ many

@@ -1,5 +1,8 @@
 //! How often each answer came.
 
+ghost use Rattle.std.specs.Prelude.{◌≡◌, ◌+◌};
+ghost use Rattle.cqs_threads.specs.Tallies.{counted, nothing_yet, TellsBut};
+
 use std::fmt;
 
 /// The answers to `acquire`.
@@ -63,8 +66,45 @@ pub struct Counts {
     pub cancels: Cancels,
 }
 
+/// Nothing has come yet.
+pub(crate) fn none_yet() -> Counts
+    ensures { TellsBut 0 nothing_yet result }
+{
+    Counts {
+        acquires: Acquires {
+            free: 0,
+            took: 0,
+            waited: 0,
+            worn: 0,
+        },
+        tries: Tries {
+            got: 0,
+            busy: 0,
+            contended: 0,
+        },
+        releases: Releases {
+            freed: 0,
+            sent: 0,
+            left: 0,
+            void: 0,
+            under: 0,
+        },
+        polls: Polls {
+            granted: 0,
+            pending: 0,
+        },
+        cancels: Cancels {
+            cancelled: 0,
+            owing: 0,
+            too_late: 0,
+        },
+    }
+}
+
 /// Counts one more. A count that is full stays so.
-pub(crate) fn count(answers: &mut u64) {
+pub(crate) fn count(answers: &mut u64)
+    ensures { answers.new ≡ counted (answers.old + 1) }
+{
     *answers = answers.saturating_add(1);
 }
 

@@ -1,7 +1,8 @@
 //! A crew of workers, each with a thread and a pass of its own.
 
-ghost use Rattle.std.specs.Prelude.{All, IfOk};
-ghost use Rattle.cqs_threads.specs.Workers.{held_by, IsAtRest};
+ghost use Rattle.std.specs.Prelude.{◌≡◌, All, IfOk, OnOk, length, vec_len};
+ghost use Rattle.cqs_rule.specs.Passes.{pass_view};
+ghost use Rattle.cqs_threads.specs.Workers.{held_by, HasMetAll, IsAtRest, IsHired};
 
 use crate::counts::Counts;
 use crate::worker::work;
@@ -49,9 +50,10 @@ pub fn together<R: Threads + Sync>(
 ) -> Result<Counts, CrewError>
     requires rest { IsAtRest semaphore.now (held_by pass.old) pass.old }
     ensures rest { IsAtRest semaphore.now (held_by pass.old) pass.new }
+    ensures met { OnOk result (HasMetAll (pass_view pass.old) threads (pass_view pass.new)) }
 {
     let passes = hire(alloc, semaphore, pass, threads)?;
-    let worked = thread::map_vec(rt, passes, &|pass| work(semaphore, pass, rounds))?;
+    let worked = thread::map_vec(rt, passes, &|pass| work_hired(semaphore, pass, rounds))?;
     Ok(dismiss(semaphore, pass, worked))
 }
 
@@ -64,10 +66,12 @@ fn hire(
 ) -> Result<Vec<SemPass>, CrewError>
     requires rest { IsAtRest semaphore.now (held_by pass.old) pass.old }
     ensures rest { IsAtRest semaphore.now (held_by pass.old) pass.new }
-    ensures hired { IfOk result (λ passes. All (IsAtRest semaphore.now 0) passes.items) }
+    ensures met { HasMetAll (pass_view pass.old) 0 (pass_view pass.new) }
+    ensures hired { IfOk result (λ passes. All (IsHired semaphore.now) passes.items) }
+    ensures many { IfOk result (λ passes. vec_len passes ≡ count) }
 {
     let mut passes = Vec::new(alloc);
-    for _ in 0..count {
+    for _made in 0..count {
         passes.push(hire_one(semaphore, pass)?)?;
     }
     Ok(passes)
@@ -77,16 +81,26 @@ fn hire(
 fn hire_one(semaphore: &Semaphore, pass: &mut SemPass) -> Result<SemPass, Crowd>
     requires rest { IsAtRest semaphore.now (held_by pass.old) pass.old }
     ensures rest { IsAtRest semaphore.now (held_by pass.old) pass.new }
-    ensures hired { IfOk result (λ made. IsAtRest semaphore.now 0 made) }
+    ensures met { HasMetAll (pass_view pass.old) 0 (pass_view pass.new) }
+    ensures hired { IfOk result (λ made. IsHired semaphore.now made) }
 {
     semaphore.split(pass)
+}
+
+// What each thread does.
+fn work_hired(semaphore: &Semaphore, pass: SemPass, rounds: u32) -> (SemPass, Counts)
+    requires { IsHired semaphore.now pass }
+    ensures { IsHired semaphore.now result.0 }
+{
+    work(semaphore, pass, rounds)
 }
 
 // Takes the passes in again, and adds up what was counted with them.
 fn dismiss(semaphore: &Semaphore, pass: &mut SemPass, worked: Vec<(SemPass, Counts)>) -> Counts
     requires rest { IsAtRest semaphore.now (held_by pass.old) pass.old }
-    requires worked { All (λ w. IsAtRest semaphore.now 0 w.0) worked.items }
+    requires worked { All (λ w. IsHired semaphore.now w.0) worked.items }
     ensures rest { IsAtRest semaphore.now (held_by pass.old) pass.new }
+    ensures met { HasMetAll (pass_view pass.old) (vec_len worked) (pass_view pass.new) }
 {
     let mut counts = Counts::default();
     for (given, counted) in worked {
@@ -99,8 +113,9 @@ fn dismiss(semaphore: &Semaphore, pass: &mut SemPass, worked: Vec<(SemPass, Coun
 // Takes in a pass that holds nothing and has no wait.
 fn take_in(semaphore: &Semaphore, pass: &mut SemPass, given: SemPass)
     requires rest { IsAtRest semaphore.now (held_by pass.old) pass.old }
-    requires given { IsAtRest semaphore.now 0 given }
+    requires given { IsHired semaphore.now given }
     ensures rest { IsAtRest semaphore.now (held_by pass.old) pass.new }
+    ensures met { HasMetAll (pass_view pass.old) 1 (pass_view pass.new) }
 {
     match semaphore.meet(pass, given) {
         Ok(()) => (),

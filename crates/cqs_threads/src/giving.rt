@@ -1,6 +1,8 @@
 //! How a permit is given back, to the end.
 
 ghost use Rattle.std.specs.Prelude.{◌-◌, ◌<◌};
+ghost use Rattle.cqs_rule.specs.Passes.{pass_view};
+ghost use Rattle.cqs_threads.specs.Tallies.{Adds};
 ghost use Rattle.cqs_threads.specs.Workers.{held_by, IsAtRest, IsOwing};
 
 use crate::counts::{Counts, count};
@@ -12,6 +14,7 @@ pub fn give_back(semaphore: &Semaphore, pass: &mut SemPass, permit: Permit, coun
     requires rest { IsAtRest semaphore.now (held_by pass.old) pass.old }
     requires holds { 0 < held_by pass.old }
     ensures rest { IsAtRest semaphore.now (held_by pass.old - 1) pass.new }
+    ensures adds { Adds 0 0 (pass_view pass.old) counts.old (pass_view pass.new) counts.new }
 {
     match semaphore.release(pass, permit) {
         Ok(Released::Freed) => count(&mut counts.releases.freed),
@@ -27,6 +30,7 @@ pub fn give_back(semaphore: &Semaphore, pass: &mut SemPass, permit: Permit, coun
 pub fn finish_all(semaphore: &Semaphore, pass: &mut SemPass, under: Under, counts: &mut Counts)
     requires owes { IsOwing semaphore.now (held_by pass.old) under pass.old }
     ensures rest { IsAtRest semaphore.now (held_by pass.old) pass.new }
+    ensures adds { Adds 1 0 (pass_view pass.old) counts.old (pass_view pass.new) counts.new }
 {
     let mut under = under;
     'arrive: loop {

@@ -1,5 +1,7 @@
 //! How a wait ends: by a look that finds it served, or by a cancel.
 
+ghost use Rattle.cqs_rule.specs.Passes.{pass_view};
+ghost use Rattle.cqs_threads.specs.Tallies.{Adds};
 ghost use Rattle.cqs_threads.specs.Workers.{held_by, IsWaiting, HasLooked, HasEnded};
 
 use crate::counts::{Counts, count};
@@ -16,6 +18,7 @@ const LOOKS: u32 = 64;
 fn look_on(semaphore: &Semaphore, pass: &mut SemPass, wait: Wait, counts: &mut Counts) -> Polled
     requires waits { IsWaiting semaphore.now (held_by pass.old) wait pass.old }
     ensures looked { HasLooked semaphore.now (held_by pass.old) result pass.new }
+    ensures adds { Adds 0 0 (pass_view pass.old) counts.old (pass_view pass.new) counts.new }
 {
     let mut wait = wait;
     for _ in 0..LOOKS {
@@ -43,6 +46,7 @@ pub fn wait_for(
 ) -> Option<Permit>
     requires waits { IsWaiting semaphore.now (held_by pass.old) wait pass.old }
     ensures ended { HasEnded semaphore.now (held_by pass.old) result pass.new }
+    ensures adds { Adds 0 0 (pass_view pass.old) counts.old (pass_view pass.new) counts.new }
 {
     match look_on(semaphore, pass, wait, counts) {
         Polled::Granted(permit) => Some(permit),
@@ -59,6 +63,7 @@ pub fn give_up(
 ) -> Option<Permit>
     requires waits { IsWaiting semaphore.now (held_by pass.old) wait pass.old }
     ensures ended { HasEnded semaphore.now (held_by pass.old) result pass.new }
+    ensures adds { Adds 0 0 (pass_view pass.old) counts.old (pass_view pass.new) counts.new }
 {
     match semaphore.cancel(pass, wait) {
         CancelAnswer::Cancelled(None) => {

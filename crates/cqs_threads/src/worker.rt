@@ -1,8 +1,11 @@
 //! What a worker does with its pass, round for round.
 
+ghost use Rattle.cqs_rule.specs.Passes.{pass_view};
+ghost use Rattle.cqs_semaphore.specs.Permits.{number_of};
+ghost use Rattle.cqs_threads.specs.Tallies.{Adds, CountsNow, HasWorked};
 ghost use Rattle.cqs_threads.specs.Workers.{held_by, IsAtRest, HasEnded};
 
-use crate::counts::{Counts, count};
+use crate::counts::{Acquires, Counts, count, none_yet};
 use crate::giving::give_back;
 use crate::waiting::{give_up, wait_for};
 use cqs_semaphore::{Acquired, Permit, SemPass, Semaphore, Tried};
@@ -17,9 +20,10 @@ const PAUSES: u32 = 16;
 pub fn work(semaphore: &Semaphore, pass: SemPass, rounds: u32) -> (SemPass, Counts)
     requires rest { IsAtRest semaphore.now (held_by pass) pass }
     ensures rest { IsAtRest semaphore.now (held_by pass) result.0 }
+    ensures worked { HasWorked (pass_view pass) (pass_view result.0) result.1 }
 {
     let mut pass = pass;
-    let mut counts = Counts::default();
+    let mut counts = none_yet();
     for round in 0..rounds {
         let hasty = round % 3 == 0 || round / 100 % 2 == 1;
         acquire_once(semaphore, &mut pass, hasty, &mut counts);
@@ -32,6 +36,7 @@ pub fn work(semaphore: &Semaphore, pass: SemPass, rounds: u32) -> (SemPass, Coun
 fn acquire_once(semaphore: &Semaphore, pass: &mut SemPass, hasty: bool, counts: &mut Counts)
     requires rest { IsAtRest semaphore.now (held_by pass.old) pass.old }
     ensures rest { IsAtRest semaphore.now (held_by pass.old) pass.new }
+    ensures adds { Adds 0 0 (pass_view pass.old) counts.old (pass_view pass.new) counts.new }
 {
     if let Some(permit) = seek(semaphore, pass, hasty, counts) {
         for _ in 0..PAUSES {
@@ -50,13 +55,11 @@ fn seek(
 ) -> Option<Permit>
     requires rest { IsAtRest semaphore.now (held_by pass.old) pass.old }
     ensures ended { HasEnded semaphore.now (held_by pass.old) result pass.new }
+    ensures adds { Adds 0 0 (pass_view pass.old) counts.old (pass_view pass.new) counts.new }
 {
     match semaphore.acquire(pass) {
         Ok(Acquired::Now(permit)) => {
-            match permit.number() {
-                None => count(&mut counts.acquires.free),
-                Some(_) => count(&mut counts.acquires.took),
-            }
+            count_now(&permit, &mut counts.acquires);
             Some(permit)
         }
         Ok(Acquired::Later(wait)) => {
@@ -73,10 +76,21 @@ fn seek(
     }
 }
 
+// Counts a permit that came at once: it was free, or had been left at the number that was drawn.
+fn count_now(permit: &Permit, acquires: &mut Acquires)
+    ensures { CountsNow (number_of permit.now) acquires.old acquires.new }
+{
+    match permit.number() {
+        None => count(&mut acquires.free),
+        Some(_) => count(&mut acquires.took),
+    }
+}
+
 // Tries, and gives back what came.
 fn try_once(semaphore: &Semaphore, pass: &mut SemPass, counts: &mut Counts)
     requires rest { IsAtRest semaphore.now (held_by pass.old) pass.old }
     ensures rest { IsAtRest semaphore.now (held_by pass.old) pass.new }
+    ensures adds { Adds 0 0 (pass_view pass.old) counts.old (pass_view pass.new) counts.new }
 {
     match semaphore.try_acquire(pass) {
         Tried::Got(permit) => {

@@ -1,32 +1,40 @@
-use Rattle.std.proofs.Common.{◌≡◌, rules, arith, All, subst, sym, ◌∙◌}
+use Rattle.std.proofs.Common.{◌≡◌, ◌+◌, ℕ, length, rules, arith, All, refl, subst, sym, ap, ◌∙◌}
+use Rattle.std.proofs.lemmas.List.{length_push}
 use Rattle.std.proofs.lemmas.List.Elements.{All-tail}
 use Rattle.std.specs.Vec.Iter.{into_iter_items}
-use Rattle.cqs_threads.specs.Workers.{IsAtRest}
+use Rattle.cqs_threads.specs.Workers.{IsHired}
+use Rattle.cqs_threads.proofs.Meeting.{met-none, met-then, course-none}
 use Rattle.cqs_threads.proofs.crew.dismiss.Goals as goal
 
 pub loop-given-init : goal.loop-given-init
 loop-given-init c =
-    let all : into_iter_items c.into_iter-given-iterator.result ≡ c.args.worked.items = search rules in (
-      c.requires.rest,
-      subst (All (λ w. IsAtRest c.args.semaphore.now 0 w.0)) (sym all) c.requires.worked,
-    )
+    let all : into_iter_items c.into_iter-given-iterator.result ≡ c.args.worked.items = search rules in record {
+      rest = c.requires.rest;
+      met = met-none _ _ (course-none _ c.requires.rest.belongs.live.legal) refl;
+      left = subst (All (λ w. IsHired c.args.semaphore.now w.0)) (sym all) c.requires.worked;
+      all = let same = ap (λ l. length l) all in omega arith;
+    }
 
 -- the pass that comes next is one of them
 pub take_in-requires-clause-given : goal.take_in-requires-clause-given
 take_in-requires-clause-given c =
-    subst (All (λ w. IsAtRest c.args.semaphore.now 0 w.0)) c.in-Some.ensures.steps.0 c.loop-given.invariant.1
+    subst (All (λ w. IsHired c.args.semaphore.now w.0)) c.in-Some.ensures.steps.0 c.loop-given.invariant.left
     0 (c.in-Some.given, c.in-Some.counted) (omega arith)
 
 pub loop-given-preserved : goal.loop-given-preserved
 loop-given-preserved c =
     let rest = c.take_in.ensures.rest in
-    let left = subst (All (λ w. IsAtRest c.args.semaphore.now 0 w.0)) c.in-Some.ensures.steps.0 c.loop-given.invariant.1
-    in (
-      record {
+    let so_far = c.loop-given.invariant in
+    let left = subst (All (λ w. IsHired c.args.semaphore.now w.0)) c.in-Some.ensures.steps.0 so_far.left in
+    let less = ap (λ l. length l) c.in-Some.ensures.steps.0 in
+    record {
+      rest = record {
         belongs = rest.belongs;
         ready = rest.ready;
-        held_is = rest.held_is ∙ c.loop-given.invariant.0.held_is;
+        held_is = rest.held_is ∙ so_far.rest.held_is;
         waits_are = rest.waits_are;
-      },
-      All-tail (λ w. IsAtRest c.args.semaphore.now 0 w.0) (c.in-Some.given, c.in-Some.counted) _ left,
-    )
+      };
+      met = rw length_push (met-then (length c.loop-given.yielded) 1 _ _ _ so_far.met c.take_in.ensures.met);
+      left = All-tail (λ w. IsHired c.args.semaphore.now w.0) (c.in-Some.given, c.in-Some.counted) _ left;
+      all = rw length_push (let all = so_far.all in omega arith);
+    }

@@ -1,11 +1,16 @@
 use Rattle.std.proofs.Common.{◌-◌, ◌^◌}
 use Rattle.cqs_rule.specs.Owed.{under_reached}
+use Rattle.cqs_rule.specs.Passes.{pass_view}
+use Rattle.cqs_threads.specs.Tallies.{Adds}
 use Rattle.cqs_threads.specs.Workers.{held_by, IsOwing}
 use Rattle.cqs_threads.proofs.giving.finish_all.Given as goal
 
 -- between two calls the permit is still on its way
 abbrev pub invariant-arrive : goal.invariant-arrive
-invariant-arrive l = IsOwing l.semaphore (held_by l.fn.pass) l.under l.pass
+invariant-arrive l = record {
+  owing : IsOwing l.semaphore (held_by l.fn.pass) l.under l.pass;
+  adds : Adds 1 1 (pass_view l.fn.pass) l.fn.counts (pass_view l.pass) l.counts;
+}
 
 -- each call draws further numbers
 abbrev pub decreases-arrive : goal.decreases-arrive

@@ -5,6 +5,7 @@ use Rattle.cqs_rule.specs.Waits.{place_of}
 use Rattle.cqs_semaphore.specs.declared.answers.CancelAnswer.TheVariants.{Cancelled}
 use Rattle.cqs_semaphore.specs.Steps.{HasCancelled}
 use Rattle.cqs_threads.proofs.Ends.{without-one, left-done, left-owing}
+use Rattle.cqs_threads.proofs.Telling.{adds-cancelled, adds-owing, adds-late, adds-then}
 use Rattle.cqs_threads.proofs.waiting.give_up.Goals as goal
 
 -- a permit was left to the wait, and is on its way
@@ -42,4 +43,38 @@ returns-in-Cancelled-None c =
         held_is = rests.held_is;
         waits_are = rests.waits_are ∙ (ap (without k) c.requires.waits.0.waits_are ∙ without-one k);
       };
+      adds = adds-cancelled v w _ _ k _ told.1 c.count.ensures;
     }
+
+pub returns-in-Cancelled-Some-clause-ended : goal.returns-in-Cancelled-Some-clause-ended
+returns-in-Cancelled-Some-clause-ended c =
+    let k = (place_of c.args.wait).index in
+    let v = pass_view c.args.pass.now in
+    let w = pass_view c.cancel.new.pass in
+    let answer = c.in-Cancelled-Some.is ∙ ap Cancelled c.in-Cancelled-Some.field-0-is in
+    let told : HasCancelled k v (Cancelled (Some c.in-Cancelled-Some.under)) w =
+    subst (λ answer. HasCancelled k v answer w) answer c.cancel.ensures.cancelled in
+    let left = left-owing k v w c.in-Cancelled-Some.under told.0 told.2.1 in
+    let rest = c.finish_all.ensures.rest in
+    record {
+      belongs = rest.belongs;
+      ready = rest.ready;
+      held_is = rest.held_is ∙ left.held_is;
+      waits_are = rest.waits_are;
+    }
+
+pub returns-in-Cancelled-Some-clause-adds : goal.returns-in-Cancelled-Some-clause-adds
+returns-in-Cancelled-Some-clause-adds c =
+    let k = (place_of c.args.wait).index in
+    let v = pass_view c.args.pass.now in
+    let w = pass_view c.cancel.new.pass in
+    let answer = c.in-Cancelled-Some.is ∙ ap Cancelled c.in-Cancelled-Some.field-0-is in
+    let told : HasCancelled k v (Cancelled (Some c.in-Cancelled-Some.under)) w =
+    subst (λ answer. HasCancelled k v answer w) answer c.cancel.ensures.cancelled in
+    adds-then 0 1 0 _ _ _ _ _ _ (adds-owing v w _ _ k _ told.1 c.count-in-Cancelled-Some.ensures)
+    c.finish_all.ensures.adds
+
+pub returns-in-TooLate-clause-adds : goal.returns-in-TooLate-clause-adds
+returns-in-TooLate-clause-adds c =
+    let told = rw c.in-TooLate.is at c.cancel.ensures.cancelled in
+    adds-late _ _ _ _ _ _ told.1 c.count-in-TooLate.ensures

@@ -1,5 +1,5 @@
 use Rattle.std.proofs.Common.{◌∙◌}
-use Rattle.cqs_semaphore.proofs.AloneSteps.{quiet, plain-end}
+use Rattle.cqs_semaphore.proofs.AloneSteps.{quiet, plain-end, turned-back}
 use Rattle.cqs_semaphore.proofs.ReleaseSteps.{ends-rule, ends-by}
 use Rattle.cqs_semaphore.proofs.semaphore.Semaphore.finish.Goals as goal
 
@@ -18,3 +18,7 @@ returns-clause-alone g c = λ alone one.
     plain-end _ _ c.released.result _ _ rule (returns-clause-ends g c)
     (λ idle. quiet _ c.finish.ensures.belongs.alone c.finish.new.pass.live.0 (rule.called.same.alone ∙ alone) idle)
     alone one
+
+pub returns-clause-alone_turned : goal.returns-clause-alone_turned
+returns-clause-alone_turned g c = λ alone none.
+    turned-back _ _ c.released.result _ _ (returns-clause-called g c) (returns-clause-ends g c) alone none

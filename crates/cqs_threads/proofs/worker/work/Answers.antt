@@ -1,0 +1,31 @@
+use Rattle.std.proofs.Common.{[], ◌∙◌}
+use Rattle.cqs_threads.proofs.Telling.{adds-none, adds-then}
+use Rattle.cqs_threads.proofs.worker.work.Goals as goal
+
+pub loop-round-init : goal.loop-round-init
+loop-round-init c = record { rest = c.requires.rest; adds = adds-none 0 _ _ c.requires.rest.belongs.live.legal }
+
+pub loop-round-preserved : goal.loop-round-preserved
+loop-round-preserved c =
+    let so_far = c.loop-round.invariant in
+    let rest = c.try_once.ensures.rest in
+    record {
+      rest = record {
+        belongs = rest.belongs;
+        ready = rest.ready;
+        held_is = rest.held_is ∙ (c.acquire_once.ensures.rest.held_is ∙ so_far.rest.held_is);
+        waits_are = rest.waits_are;
+      };
+      adds = adds-then 0 0 0 _ _ _ _ _ _ so_far.adds
+          (adds-then 0 0 0 _ _ _ _ _ _ c.acquire_once.ensures.adds c.try_once.ensures.adds);
+    }
+
+pub returns-clause-worked : goal.returns-clause-worked
+returns-clause-worked c =
+    let adds = c.loop-round.invariant.adds in record {
+      own = adds.own;
+      course = adds.course;
+      named = adds.named;
+      numbers = adds.numbers;
+      tells = adds.tells [] c.none_yet-counts.ensures;
+    }

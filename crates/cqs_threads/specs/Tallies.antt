@@ -1,0 +1,133 @@
+-- What a worker's counts say of the entries that its pass made.
+use Rattle.std.specs.Prelude.{◌≡◌, ℕ, ◌+◌, ◌-◌, ◌^◌, min, List, [], ◌∷◌, ◌++◌, Option, Some, None}
+use Rattle.std.specs.List.{fold}
+use Rattle.cqs_core.specs.declared.entries.Entry.{Entry}
+use Rattle.cqs_core.specs.declared.entries.Entry.TheVariants as entry
+use Rattle.cqs_core.specs.SemaphoreNames.{entry_names}
+use Rattle.cqs_rule.specs.declared.view.View.{View}
+use Rattle.cqs_rule.specs.Lists.{part}
+use Rattle.cqs_semaphore.specs.Calls.{Course}
+use Rattle.cqs_threads.specs.declared.counts.Acquires.{Acquires}
+use Rattle.cqs_threads.specs.declared.counts.Cancels.{Cancels}
+use Rattle.cqs_threads.specs.declared.counts.Counts.{Counts}
+use Rattle.cqs_threads.specs.declared.counts.Polls.{Polls}
+use Rattle.cqs_threads.specs.declared.counts.Releases.{Releases}
+use Rattle.cqs_threads.specs.declared.counts.Tries.{Tries}
+
+-- how many entries of each kind there are
+pub record Tally : Type 0 where
+  pub free : ℕ
+  pub entered : ℕ
+  pub got : ℕ
+  pub busy : ℕ
+  pub freed : ℕ
+  pub sent : ℕ
+  pub granted : ℕ
+  pub pending : ℕ
+  pub gone : ℕ
+  pub late : ℕ
+
+abbrev pub nothing_yet : Tally
+nothing_yet = record {
+  free = 0;
+  entered = 0;
+  got = 0;
+  busy = 0;
+  freed = 0;
+  sent = 0;
+  granted = 0;
+  pending = 0;
+  gone = 0;
+  late = 0;
+}
+
+abbrev pub with_entry : Tally → Entry → Tally
+with_entry t (entry.TakeNow c) = record t { free = t.free + 1 }
+with_entry t (entry.TakeDoor c) = t
+with_entry t (entry.Enter c k) = record t { entered = t.entered + 1 }
+with_entry t (entry.TryGot c) = record t { got = t.got + 1 }
+with_entry t (entry.TryBusy c) = record t { busy = t.busy + 1 }
+with_entry t (entry.GiveFreed c) = record t { freed = t.freed + 1 }
+with_entry t (entry.GiveSent c) = record t { sent = t.sent + 1 }
+with_entry t (entry.Deliver k) = t
+with_entry t (entry.Leave c k) = record t { gone = t.gone + 1 }
+with_entry t (entry.Late c k) = record t { late = t.late + 1 }
+with_entry t (entry.LookGranted c k) = record t { granted = t.granted + 1 }
+with_entry t (entry.LookPending c k) = record t { pending = t.pending + 1 }
+
+abbrev pub tally_of : List Entry → Tally
+tally_of entries = fold with_entry nothing_yet entries
+
+-- a count that is full stays so
+abbrev pub counted : ℕ → ℕ
+counted n = min n (2 ^ 64 - 1)
+
+-- a permit that came at once was counted: one that was free, or one that came by a number
+abbrev pub CountsNow : Option ℕ → Acquires → Acquires → Type 0
+CountsNow None before after = after ≡ record before { free = counted (before.free + 1) }
+CountsNow (Some k) before after = after ≡ record before { took = counted (before.took + 1) }
+
+-- The answers to `acquire`: each number that was drawn was one of a wait, or its permit was there.
+pub record TellsAcquires (free entered : ℕ) (a : Acquires) : Type 0 where
+  pub free_is : a.free ≡ counted free
+  pub took : ℕ
+  pub waited : ℕ
+  pub entered_is : took + waited ≡ entered
+  pub took_is : a.took ≡ counted took
+  pub waited_is : a.waited ≡ counted waited
+
+pub record TellsTries (got busy : ℕ) (a : Tries) : Type 0 where
+  pub got_is : a.got ≡ counted got
+  pub busy_is : a.busy ≡ counted busy
+
+pub record TellsPolls (granted pending : ℕ) (a : Polls) : Type 0 where
+  pub granted_is : a.granted ≡ counted granted
+  pub pending_is : a.pending ≡ counted pending
+
+-- The answers to `release`, `finish` and `cancel`: each wait that was given up was cancelled, with
+-- something owed or nothing. Each permit that was sent, and each that a cancel owed, arrived
+-- somewhere, but for so many.
+pub record TellsEnds (due freed sent gone late : ℕ) (r : Releases) (a : Cancels) : Type 0 where
+  pub freed_is : r.freed ≡ counted freed
+  pub served : ℕ
+  pub left : ℕ
+  pub void : ℕ
+  pub cancelled : ℕ
+  pub owing : ℕ
+  pub arrived : served + left + void + due ≡ sent + owing
+  pub gone_is : cancelled + owing ≡ gone
+  pub served_is : r.sent ≡ counted served
+  pub left_is : r.left ≡ counted left
+  pub void_is : r.void ≡ counted void
+  pub cancelled_is : a.cancelled ≡ counted cancelled
+  pub owing_is : a.owing ≡ counted owing
+  pub late_is : a.too_late ≡ counted late
+
+-- the counts are those of entries with this tally
+pub record TellsBut (due : ℕ) (t : Tally) (c : Counts) : Type 0 where
+  pub acquires : TellsAcquires t.free t.entered c.acquires
+  pub tries : TellsTries t.got t.busy c.tries
+  pub polls : TellsPolls t.granted t.pending c.polls
+  pub ends : TellsEnds due t.freed t.sent t.gone t.late c.releases c.cancels
+
+module _ {T : Type 0} where
+  -- The pass made these entries, which all name it, and the counts were of what it had made before,
+  -- and are of that and these now. Of the permits that were sent so many hadn't arrived before, and
+  -- so many haven't now.
+  pub record Adds (due_before due : ℕ) (v : View Entry T) (before : Counts) (w : View Entry T)
+      (after : Counts)
+      : Type 0 where
+    pub own : List Entry
+    pub course : Course v own w
+    pub named : part entry_names v.number own ≡ own
+    pub numbers : w.own ≡ v.own
+    pub tells : (earlier : List Entry) → TellsBut due_before (tally_of earlier) before
+        → TellsBut due (tally_of (earlier ++ own)) after
+
+  -- the pass made entries since, and the counts are just of them
+  pub record HasWorked (v w : View Entry T) (counts : Counts) : Type 0 where
+    pub own : List Entry
+    pub course : Course v own w
+    pub named : part entry_names v.number own ≡ own
+    pub numbers : w.own ≡ v.own
+    pub tells : TellsBut 0 (tally_of own) counts

@@ -239,7 +239,8 @@ paid-so (at_counter row) size c log p k payload has there paid = go row.cost pai
     go no_cost is = is ∙ sym (load-is c.has p has there)
     go one_owed is = is.1 ∙ sym (load-is c.has p has there)
     go one_element is =
-        subst (λ xs. IsIn payload xs) (sym (hold-is c.has p has there)) (has-in payload has.slots is)
+        subst (λ xs. IsIn payload xs) (sym (hold-is c.has p has there))
+        (has-in payload has.slots is)
 paid-so (at_cell row) size c log p k payload has there paid =
     paid ∙ ap (payload_told row.gain (c.payloads k)) (sym (load-is c.has p has there))
 
@@ -279,7 +280,8 @@ steps-pool : (size : ℕ) (c : Hidden) (t : QueueStep) (p k : ℕ) (found : Opti
     (has : Has) (payload : ℕ) (log : List PoolEntry)
     → ShowsPool size c log → IsOpenStep c.queue t p k found → slice_get c.has p ≡ Some has
     → client.IsPayload (row_of t) has (c.payloads k) payload → Suits pool_manner t
-    → ShowsPool size (happened in_hand c t p k found has payload) (log ++ step_entries t p k payload)
+    → ShowsPool size (happened in_hand c t p k found has payload)
+    (log ++ step_entries t p k payload)
 steps-pool size c t p k found has payload log shows opens there paid suits =
     let s : PoolShape = pool_shown size c log in
     let holds = holds_of c.has in
@@ -291,8 +293,10 @@ steps-pool size c t p k found has payload log shows opens there paid suits =
     record {
       is_pool = subst (λ (z : List ℕ × List (List ℕ)).
           IsPool (record after { loads = z.0; holds = z.1 }))
-          (λ i. (loads-after (row_of t) c.has p payload has there i,
-          holds-after (row_of t) c.has p payload has there once i))
+          (λ i. (
+            loads-after (row_of t) c.has p payload has there i,
+            holds-after (row_of t) c.has p payload has there once i,
+          ))
           (step-pool s t p k found payload shows.is_pool (suiting t suits) opens
           (paid-so (row_of t) size c log p k payload has there paid));
       uncounted = uncounted-after (row_of t) c.has p payload has there shows.uncounted;
@@ -318,13 +322,17 @@ begins-pool size passes any =
     record {
       is_pool = subst (λ (z : List ℕ × List (List ℕ)). IsPool (record
           (opened size passes (first_payload size)) { loads = z.0; holds = z.1 }))
-          (λ i. ((sym (first-loads passes) ∙ ap loads_of (sym all)) i,
-          (sym (first-holds passes) ∙ ap holds_of (sym all)) i))
+          (λ i. (
+            (sym (first-loads passes) ∙ ap loads_of (sym all)) i,
+            (sym (first-holds passes) ∙ ap holds_of (sym all)) i,
+          ))
           (opened-pool size passes (first_payload size)
           (λ k low. ap (λ b. if b then k else 0) (lt-ltb k size low)));
       uncounted = subst Uncounted (sym all)
-          (record { at = λ p h got.
-          ap (λ (x : Has). x.held) (get-replicate passes p (first_has 0) h got) });
+          (record {
+            at = λ p h got.
+                ap (λ (x : Has). x.held) (get-replicate passes p (first_has 0) h got);
+          });
     }
 
 -- what one idle pass has in hand becomes another's
@@ -360,7 +368,8 @@ hands-pool size c from to mine theirs log shows apart idle idle' has there =
     }
 
 -- a resumption that an idle pass begins is a put
-begun-put : (cost : Cost) (has : Has) (payload : ℕ) → IsBegun cost → Suits pool_manner (begun_by cost)
+begun-put : (cost : Cost) (has : Has) (payload : ℕ) → IsBegun cost
+    → Suits pool_manner (begun_by cost)
     → client.IsPaid cost has payload → lists.Has payload has.slots
 begun-put no_cost has payload begun suits paid = absurd begun
 begun-put one_owed has payload begun suits paid = absurd suits
@@ -384,6 +393,9 @@ pool-client size = record {
       numbers-left (pool_shown size c log) p 0 shows.is_pool (inl owes);
   begins_few = λ c words log handed p has cost payload shows idle there paid begun suits.
       numbers-left (pool_shown size c log) p payload shows.is_pool
-      (inr (idle, subst (λ xs. IsIn payload xs) (sym (hold-is c.has p has there))
-      (has-in payload has.slots (begun-put cost has payload begun suits paid))));
+      (inr (
+        idle,
+        subst (λ xs. IsIn payload xs) (sym (hold-is c.has p has there))
+            (has-in payload has.slots (begun-put cost has payload begun suits paid)),
+      ));
 }

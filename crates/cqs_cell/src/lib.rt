@@ -11,7 +11,7 @@
 //! | Waiter | Resumed | `serve`: its resume | delivered |
 //! | Waiter | Cancelling | `begin_cancel`, or `leave_line`: the owner of the wait | |
 //! | Cancelling | Delegated | `delegate`: the resume | |
-//! | Cancelling, Delegated | Cancelled | `settle`, `settle_left`: the owner, where resumes are to pass over | |
+//! | Cancelling, Delegated | Cancelled | `settle`, or `settle_left`: the owner, who leaves | |
 //! | Cancelling, Delegated | Refused | `settle`: the owner, where the resume is to end there | |
 //!
 //! The entries are those of a client whose object has one for a delivery; when a wait leaves is for

@@ -1,3 +1,3 @@
-pub mod Elements
+pub mod PoolSize
 pub mod Pool
 pub mod PoolIsClient

@@ -1,6 +1,8 @@
 -- The pool as a client: it has no words; its elements are values in cells, what passes bring, and
 -- what they have in hand.
-use Rattle.std.specs.Prelude.{◌≡◌, ℕ, false, map, List, [], ◌∷◌}
+use Rattle.std.specs.Prelude.{◌≡◌, ◌≢◌, ℕ, false, map, List, [], ◌∷◌}
+use Rattle.cqs_core.specs.declared.cells.CoreCell.{CoreCell}
+use Rattle.cqs_core.specs.declared.cells.CoreState.TheVariants as state
 use Rattle.cqs_core.specs.Numbered.{EachAt}
 use Rattle.cqs_pool_object.specs.declared.entries.PoolEntry.{PoolEntry}
 use Rattle.cqs_pool_object.specs.PoolEntries.{IsLegal}
@@ -31,10 +33,12 @@ pool_shown size c log = record {
   queue = c.queue;
 }
 
--- it shows a pool, and its passes count nothing beside the elements that they have in hand
+-- it shows a pool; its passes count nothing beside the elements that they have in hand; and no cell
+-- was ever refused
 pub record ShowsPool (size : ℕ) (c : Hidden) (log : List PoolEntry) : Type 0 where
   pub is_pool : IsPool (pool_shown size c log)
   pub uncounted : EachAt (λ p (h : Has). h.held ≡ 0) c.has
+  pub unrefused : EachAt (λ k (cell : CoreCell). cell.state ≢ state.Refused) c.queue.cells
 
 abbrev pub shows_pool : {T : Type 0} → ℕ → Hidden → List ℕ → List PoolEntry → List T → Type 0
 shows_pool size c words log handed = ShowsPool size c log

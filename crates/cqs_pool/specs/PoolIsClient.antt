@@ -1,23 +1,27 @@
 -- The pool is a client: each step of the queue that suits it keeps the pool that its table shows,
 -- by the law of the pool. This file is a proof: nothing of it has to be read to know what is
 -- promised, and nothing in it is taken on trust.
-use Rattle.std.proofs.Common.{◌≡◌, ◌≢◌, ◌⊎◌, inl, inr, ℕ, zero, suc, ◌+◌, ◌-◌, ◌<◌, ◌≤◌, ◌==◌, nat_lt, true, false, List, [], ◌∷◌, ◌++◌, replicate, map, refl, ap, sym, ◌∙◌, subst, arith, Option, Some, slice_get, lt-ltb, ne_eqb, eq-eqb, eqb-true, le-leb, length, get_or, set, nat_le, if◌then◌else◌}
+use Rattle.std.proofs.Common.{◌≡◌, ◌≢◌, ◌⊎◌, inl, inr, ℕ, zero, suc, ◌+◌, ◌-◌, ◌<◌, ◌≤◌, ◌==◌, nat_lt, true, false, List, [], ◌∷◌, ◌++◌, replicate, map, refl, ap, sym, ◌∙◌, subst, arith, Option, Some, None, slice_get, lt-ltb, ne_eqb, eq-eqb, eqb-true, le-leb, length, get_or, set, nat_le, if◌then◌else◌}
 use Rattle.std.specs.List.{sum_by}
-use Rattle.std.proofs.lemmas.Bool.{cases_Bool, both_ways, cases_eq}
+use Rattle.std.proofs.lemmas.Bool.{cases_Bool, both_ways, cases_eq, cases_lt}
 use Rattle.std.proofs.lemmas.Option.{slice_get-map, get_or_from_slice_get}
-use Rattle.std.proofs.lemmas.List.{map-set, length-set, length-map}
+use Rattle.std.proofs.lemmas.List.{map-set, length-set, length-map, length_push}
 use Rattle.std.proofs.lemmas.List.Sums.{get_or-le-sum_by}
 use Rattle.std.specs.Prelude.{slice_index, slice_set}
 use Rattle.std.specs.Option.{option_map}
 use Rattle.cqs_core.specs.declared.cells.CoreCell.{CoreCell}
+use Rattle.cqs_core.specs.declared.cells.CoreState.{CoreState}
+use Rattle.cqs_core.specs.declared.cells.CoreState.TheVariants as state
 use Rattle.cqs_core.specs.declared.doings.Doing.TheVariants as doing
 use Rattle.cqs_core.specs.Keyed as keyed
 use Rattle.cqs_core.specs.Numbered.{IsIn, EachAt}
 use Rattle.cqs_core.specs.QueueLine.{door}
-use Rattle.cqs_core.specs.QueueSteps.{QueueStep, draws, enters, reaches, begins, puts, installs, takes, serves, leaves, delegates, passes_over, ends_refused, ends_missed, starts_leaving, leaves_line, leaves_at_once, settles, settles_owing, refuses, refuses_value, looks, pends, grants, late, row_of, StepRow, at_counter, at_cell, Gain, nothing, its_own, a_debt, Cost, no_cost, one_owed, one_element, IsOpenStep, payload_told}
+use Rattle.cqs_core.specs.QueueOpening.{value_cell}
+use Rattle.cqs_core.specs.QueueState.{Queue, fresh_cell}
+use Rattle.cqs_core.specs.QueueSteps.{QueueStep, draws, enters, reaches, begins, puts, installs, takes, serves, leaves, delegates, passes_over, ends_refused, ends_missed, starts_leaving, leaves_line, leaves_at_once, settles, settles_owing, refuses, refuses_value, looks, pends, grants, late, row_of, StepRow, at_counter, at_cell, Gain, nothing, its_own, a_debt, Cost, no_cost, one_owed, one_element, IsOpenStep, payload_told, CellRow, IsOpenRow, row_after, cell_after, state_made, Counter, to_suspend, to_resume, counter_of, counted}
 use Rattle.cqs_core.proofs.Counts.{bit}
 use Rattle.cqs_core.proofs.EachAtLemmas.{EachAt-write}
-use Rattle.cqs_core.proofs.Places.{get-below, get-set_else, set-same}
+use Rattle.cqs_core.proofs.Places.{get-below, get-set_else, set-same, get-append_below, get-push_at}
 use Rattle.cqs_core.proofs.QueueOpens.{get-replicate}
 use Rattle.cqs_pool_object.specs.declared.entries.PoolEntry.{PoolEntry}
 use Rattle.cqs_pool_object.specs.PoolEntries.{less, object_after}
@@ -66,6 +70,36 @@ silent-step refuses_value p k payload n apart = refl
 silent-step (looks pends) p k payload n apart = rw (ne_eqb p n (λ q. apart (sym q))) refl
 silent-step (looks grants) p k payload n apart = rw (ne_eqb p n (λ q. apart (sym q))) refl
 silent-step (looks late) p k payload n apart = rw (ne_eqb p n (λ q. apart (sym q))) refl
+
+-- the step refuses no cell
+abbrev MakesNone : StepRow → Type 0
+MakesNone (at_counter row) = Unit {0}
+MakesNone (at_cell row) = row.makes ≢ Some state.Refused
+
+none-made : (t : QueueStep) → Suits pool_manner t → MakesNone (row_of t)
+none-made draws suits = tt
+none-made enters suits = tt
+none-made reaches suits = tt
+none-made begins suits = tt
+none-made puts suits = tt
+none-made installs suits = λ e. absurd (cc)
+none-made takes suits = λ e. absurd (cc)
+none-made serves suits = λ e. absurd (cc)
+none-made leaves suits = λ e. absurd (cc)
+none-made delegates suits = λ e. absurd (cc)
+none-made passes_over suits = λ e. absurd (cc)
+none-made ends_refused suits = λ e. absurd (cc)
+none-made ends_missed suits = λ e. absurd (cc)
+none-made starts_leaving suits = λ e. absurd (cc)
+none-made leaves_line suits = λ e. absurd (cc)
+none-made leaves_at_once suits = λ e. absurd (cc)
+none-made settles suits = λ e. absurd (cc)
+none-made settles_owing suits = λ e. absurd (cc)
+none-made refuses suits = absurd suits
+none-made refuses_value suits = absurd suits
+none-made (looks pends) suits = λ e. absurd (cc)
+none-made (looks grants) suits = λ e. absurd (cc)
+none-made (looks late) suits = λ e. absurd (cc)
 
 -- the steps that suit a pool are those that keep it
 suiting : (t : QueueStep) → Suits pool_manner t → IsPoolStep t
@@ -275,6 +309,74 @@ uncounted-after row l p payload has there none =
     kept (at_counter row) is = paid row.cost is
     kept (at_cell row) is = gained row.gain is
 
+-- no cell is refused
+abbrev Unrefused : List CoreCell → Type 0
+Unrefused cells = EachAt (λ k (cell : CoreCell). cell.state ≢ state.Refused) cells
+
+unrefused-set : (cells : List CoreCell) (k : ℕ) (found new : CoreCell)
+    → slice_get cells k ≡ Some found → new.state ≢ state.Refused
+    → Unrefused cells → Unrefused (set cells k new)
+unrefused-set cells k found new there not all =
+    EachAt-write (λ j (c : CoreCell). c.state ≢ state.Refused)
+    (λ j (c : CoreCell). c.state ≢ state.Refused) cells k found new there not
+    (λ j x got other is. is) all
+
+unrefused-push : (cells : List CoreCell) (new : CoreCell) → new.state ≢ state.Refused
+    → Unrefused cells → Unrefused (cells ++ new ∷ [])
+unrefused-push cells new not all = record { at = λ j x got. go j x got (cases_lt j (length cells)) }
+  where
+    go : (j : ℕ) (x : CoreCell) → slice_get (cells ++ new ∷ []) j ≡ Some x
+        → (j < length cells) ⊎ (length cells ≤ j) → x.state ≢ state.Refused
+    go j x got (inl below) = all.at j x (sym (get-append_below cells (new ∷ []) j below) ∙ got)
+    go j x got (inr past) =
+        let within : j < length (cells ++ new ∷ []) = get-below (cells ++ new ∷ []) j x got in
+        let last : j ≡ length cells = omega (arith, length_push cells new) in
+        let pushed : slice_get (cells ++ new ∷ []) j ≡ Some new = get-push_at cells new j last in
+        let is : new ≡ x = cc in
+        subst (λ (c : CoreCell). c.state ≢ state.Refused) is not
+
+-- a step of a row makes a cell that is refused only where it names that, or finds it
+unrefused-made : (makes : Option CoreState) (found : CoreState) → found ≢ state.Refused
+    → makes ≢ Some state.Refused → state_made makes found ≢ state.Refused
+unrefused-made (Some s) found not other = λ is. other (ap Some is)
+unrefused-made None found not other = not
+
+unrefused-cell : (row : CellRow) (q : Queue) (p k : ℕ) (found : Option CoreCell)
+    → row.makes ≢ Some state.Refused → IsOpenRow q (at_cell row) p k found
+    → Unrefused q.cells → Unrefused (row_after (at_cell row) q p k found).cells
+unrefused-cell row q p k (Some found) other opens all =
+    unrefused-set q.cells k found (cell_after row found) opens.0.finds
+    (unrefused-made row.makes found.state (all.at k found opens.0.finds) other) all
+unrefused-cell row q p k None other opens all = absurd opens
+
+unrefused-counted : (counter : Counter) (q : Queue) (p k : ℕ) (found : Option CoreCell)
+    → k ≡ counter_of counter q → slice_get q.cells k ≡ found
+    → Unrefused q.cells → Unrefused (counted counter q p k found).cells
+unrefused-counted to_suspend q p k (Some found) is there all =
+    unrefused-set q.cells k found
+    (record { state = found.state; owner = Some p; collected = found.collected }) there
+    (all.at k found there) all
+unrefused-counted to_suspend q p k None is there all =
+    unrefused-push q.cells (record { state = state.Empty; owner = Some p; collected = false })
+    (λ e. empty-not e) all
+  where
+    empty-not : state.Empty ≡ state.Refused → ⊥
+    empty-not e = absurd (cc)
+unrefused-counted to_resume q p k (Some found) is there all = all
+unrefused-counted to_resume q p k None is there all =
+    unrefused-push q.cells fresh_cell (λ e. empty-not e) all
+  where
+    empty-not : state.Empty ≡ state.Refused → ⊥
+    empty-not e = absurd (cc)
+
+unrefused-row : (row : StepRow) (q : Queue) (p k : ℕ) (found : Option CoreCell)
+    → MakesNone row → IsOpenRow q row p k found
+    → Unrefused q.cells → Unrefused (row_after row q p k found).cells
+unrefused-row (at_counter row) q p k found none opens all =
+    unrefused-counted row.counter q p k found opens.1 opens.2 all
+unrefused-row (at_cell row) q p k found none opens all =
+    unrefused-cell row q p k found none opens all
+
 -- each step of the queue that suits a pool keeps it
 steps-pool : (size : ℕ) (c : Hidden) (t : QueueStep) (p k : ℕ) (found : Option CoreCell)
     (has : Has) (payload : ℕ) (log : List PoolEntry)
@@ -300,6 +402,8 @@ steps-pool size c t p k found has payload log shows opens there paid suits =
           (step-pool s t p k found payload shows.is_pool (suiting t suits) opens
           (paid-so (row_of t) size c log p k payload has there paid));
       uncounted = uncounted-after (row_of t) c.has p payload has there shows.uncounted;
+      unrefused =
+          unrefused-row (row_of t) c.queue p k found (none-made t suits) opens shows.unrefused;
     }
 
 -- a pool as its table opens
@@ -315,6 +419,9 @@ first-all : (passes : ℕ) → 0 < passes
     → first_has 0 ∷ replicate (passes - 1) (first_has 0) ≡ replicate passes (first_has 0)
 first-all zero any = absurd (omega arith)
 first-all (suc n) any = let less : suc n - 1 ≡ n = omega arith in rw less refl
+
+value-not : state.Value ≡ state.Refused → ⊥
+value-not e = absurd (cc)
 
 begins-pool : (size passes : ℕ) → 0 < passes → ShowsPool size (first_hidden passes size 0) []
 begins-pool size passes any =
@@ -333,6 +440,10 @@ begins-pool size passes any =
             at = λ p h got.
                 ap (λ (x : Has). x.held) (get-replicate passes p (first_has 0) h got);
           });
+      unrefused = record {
+        at = λ k c got. subst (λ (x : CoreCell). x.state ≢ state.Refused)
+            (sym (get-replicate size k value_cell c got)) (λ e. value-not e);
+      };
     }
 
 -- what one idle pass has in hand becomes another's
@@ -365,6 +476,7 @@ hands-pool size c from to mine theirs log shows apart idle idle' has there =
           (λ i. (loads i, holds i)) (handed-pool s from to shows.is_pool apart idle idle');
       uncounted = uncounted-set rest to theirs got stays counts
           (uncounted-set c.has from mine gave has refl none);
+      unrefused = shows.unrefused;
     }
 
 -- a resumption that an idle pass begins is a put
@@ -381,7 +493,7 @@ pool-client size = record {
   steps = λ c t p k found has payload words log handed shows opens there paid suits low low'.
       steps-pool size c t p k found has payload log shows opens there paid suits;
   counts = λ c p may words log handed shows. record
-      { is_pool = shows.is_pool; uncounted = shows.uncounted };
+      { is_pool = shows.is_pool; uncounted = shows.uncounted; unrefused = shows.unrefused };
   hands = λ c from to mine theirs words log handed shows apart idle idle' has there.
       hands-pool size c from to mine theirs log shows apart idle idle' has there;
   silent = silent-step;

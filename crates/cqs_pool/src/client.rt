@@ -17,7 +17,7 @@ pub struct PoolClient<T = ()> {
 }
 
 impl PoolClient {
-    ghost use Rattle.cqs_pool.specs.Elements.{elements_of};
+    ghost use Rattle.cqs_pool.specs.PoolSize.{elements_of};
 
     /// A pool that opens with this many elements.
     pub fn new(elements: u32) -> PoolClient
@@ -33,7 +33,7 @@ impl PoolClient {
 }
 
 impl<T: Drop> ClientWords for PoolClient<T> {
-    ghost use Rattle.cqs_pool.specs.Elements.{elements_of};
+    ghost use Rattle.cqs_pool.specs.PoolSize.{elements_of};
     ghost use Rattle.cqs_pool.specs.Pool.{pool_object, pool_primitive};
     ghost use Rattle.cqs_pool.specs.PoolIsClient.{pool-client};
 

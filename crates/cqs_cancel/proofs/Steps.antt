@@ -78,7 +78,7 @@ none-after state.Refused is more = is
 prefix-then : {A : Type 0} (a b c : List A) → IsPrefix a b → IsPrefix b c → IsPrefix a c
 prefix-then a b c p q = (p.0 ++ q.0, q.1 ∙ (ap (λ l. l ++ q.0) p.1 ∙ append_assoc a p.0 q.0))
 
-no-more : {A : Type 0} (l : List A) → length l ≤ 0 → l ≡ []
+pub no-more : {A : Type 0} (l : List A) → length l ≤ 0 → l ≡ []
 no-more [] few = refl
 no-more (x ∷ xs) few = absurd (omega arith)
 
@@ -98,7 +98,7 @@ module _ {C E S : Type 0} (object : Object E) (primitive : C → Primitive E S) 
   answered-place by_itself k answer v u at is a knows = absurd is
 
   -- what was found at a step was so at some time that the pass has seen since
-  found-then : (fact : Hidden → List ℕ → Type 0) (es : List E) (u w : View E S) → WasFound primitive fact es u
+  pub found-then : (fact : Hidden → List ℕ → Type 0) (es : List E) (u w : View E S) → WasFound primitive fact es u
       → IsPrefix u.seen w.seen → w.opening ≡ u.opening → WasSo primitive fact w
   found-then fact es u w was more opening = record {
     before = was.before;
@@ -106,7 +106,7 @@ module _ {C E S : Type 0} (object : Object E) (primitive : C → Primitive E S) 
     was = subst (λ (o : Opening). WasShown primitive o fact was.before) (sym opening) was.was;
   }
 
-  saw-more : (u w : View E S) (f : Facts) (es : List E) → Saw object u f es w → IsPrefix u.seen w.seen
+  pub saw-more : (u w : View E S) (f : Facts) (es : List E) → Saw object u f es w → IsPrefix u.seen w.seen
   saw-more u w f es s = (s.between ++ es, s.seen ∙ append_assoc u.seen s.between es)
 
   -- a step by which the cell was settled, after the client was asked

@@ -9,8 +9,13 @@
 //!    v
 //!  Resumed: it is too late
 //! ```
+//!
+//! Where resumes pass on in any case, the client isn't asked, and the waiter has left the line by
+//! the first step.
 #![tactic(auto)]
 
 mod cancelling;
+mod unasked;
 
 pub use cancelling::{Left, cancel};
+pub use unasked::cancel_unasked;

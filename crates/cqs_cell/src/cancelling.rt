@@ -85,7 +85,7 @@ pub fn settle<C: ClientWords>(
 
 // The word of a cell in which a resume left its payload to the canceller, and that of the cell as
 // it ends.
-fn ends(at: Place, payload: u32, state: CellState) -> (u64, u64)
+pub(crate) fn ends(at: Place, payload: u32, state: CellState) -> (u64, u64)
     requires index { at.index < 2 ^ 40 }
     requires payload { payload < 2 ^ 20 }
     ensures left { result.0 ≡ cell_word at.index (state_code Delegated) payload }

@@ -9,9 +9,9 @@
 //! | Empty | Value | `leave_value`: its resume | |
 //! | Value | Taken | `take_value`: its suspend | delivered |
 //! | Waiter | Resumed | `serve`: its resume | delivered |
-//! | Waiter | Cancelling | `begin_cancel`: the owner of the wait | |
+//! | Waiter | Cancelling | `begin_cancel`, or `leave_line`: the owner of the wait | |
 //! | Cancelling | Delegated | `delegate`: the resume | |
-//! | Cancelling, Delegated | Cancelled | `settle`: the owner, where resumes are to pass over | |
+//! | Cancelling, Delegated | Cancelled | `settle`, or `settle_left`: the owner, who leaves | |
 //! | Cancelling, Delegated | Refused | `settle`: the owner, where the resume is to end there | |
 //!
 //! The entries are those of a client whose object has one for a delivery; when a wait leaves is for
@@ -20,11 +20,13 @@
 
 mod cancelling;
 mod cross;
+mod leaving;
 mod looks;
 mod transitions;
 mod values;
 
 pub use cancelling::{begin_cancel, settle};
+pub use leaving::{leave_line, settle_left};
 pub use looks::look;
 pub use transitions::{delegate, install, leave_value, serve};
 pub use values::take_value;

@@ -67,7 +67,7 @@ hold_of holds p = slice_index_or holds p []
 -- what pays for a number to resume at is at hand: the element that a put names
 abbrev pub IsPaid : Cost → PoolShape → ℕ → ℕ → Type 0
 IsPaid no_cost s p e = e ≡ slice_index s.loads p
-IsPaid one_owed s p e = ⊥
+IsPaid one_owed s p e = e ≡ slice_index s.loads p
 IsPaid one_element s p e = IsIn e (hold_of s.holds p)
 
 -- the payload of a step: what the pass has from the cell, and else what it brings

@@ -25,6 +25,10 @@ use Rattle.cqs_resume.specs.Rounds.{Round, cell_in, IsFoundIn, IsOpenedWith, num
 abbrev pub most_passed_over : ℕ
 most_passed_over = 64
 
+-- and how many more where the first of them was drawn before
+abbrev pub most_after_first : ℕ
+most_after_first = 63
+
 module _ {C E S : Type 0} (primitive : C → Primitive E S) where
   -- something held where the history was some beginning of what the pass has seen
   pub record WasSo (fact : Hidden → List ℕ → Type 0) (w : View E S) : Type 0 where

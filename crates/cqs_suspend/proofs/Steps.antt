@@ -17,17 +17,17 @@ use Rattle.cqs_rule.proofs.Calls.{called-by, called-then, saw-then}
 use Rattle.cqs_rule.proofs.Lists.{has_right}
 use Rattle.cqs_cell.specs.Transitions.{facts_since, Made, MadeBy, Missed, MissedBy}
 use Rattle.cqs_find.specs.Finds.{longest_search, facts_searched, Searched}
-use Rattle.cqs_suspend.specs.Suspends.{facts_drawn, cell_found, told_by, draw_entries, end_entries, Ended, EndedBy, EndsBy}
+use Rattle.cqs_suspend.specs.Suspends.{facts_drawn, cell_found, told_by, draw_entries, end_entries, Ended, EndedBy}
 
 -- a pass at these facts that found these words and heads besides, and another glimpse
 abbrev pub facts_on_way : List Sighting → List (ℕ × ℕ) → Option Glimpse → Facts → Facts
 facts_on_way found heads last f = record (facts_searched found heads f) { last = last }
 
-module _ {C E S : Type 0} (object : Object E) (primitive : C → Primitive E S) where
+module _ {C E S : Type 0} (object : Object E) (primitive : C → Primitive E S) (drawing : QueueStep) where
   -- The pass has drawn the number k, and is on its way to the exchange that will be made: so many missed.
   pub record OnWay (tries k : ℕ) (v u : View E S) : Type 0 where
     pub drawn : View E S
-    pub drew : Saw object v (facts_drawn object.gains k v.facts) (draw_entries object k v) drawn
+    pub drew : Saw object v (facts_drawn object.gains k v.facts) (draw_entries object k v drawing) drawn
     pub found : List Sighting
     pub heads : List (ℕ × ℕ)
     pub last : Option Glimpse
@@ -36,7 +36,7 @@ module _ {C E S : Type 0} (object : Object E) (primitive : C → Primitive E S) 
     pub saw : Saw object drawn (facts_on_way found heads last (facts_drawn object.gains k v.facts)) [] u
 
   pub way-searched : (k : ℕ) (v t u : View E S)
-      → Saw object v (facts_drawn object.gains k v.facts) (draw_entries object k v) t
+      → Saw object v (facts_drawn object.gains k v.facts) (draw_entries object k v drawing) t
       → Searched object t u → OnWay 0 k v u
   way-searched k v t u d s = record {
     drawn = t;
@@ -84,14 +84,15 @@ module _ {C E S : Type 0} (object : Object E) (primitive : C → Primitive E S) 
 
   -- the exchange that was made
   ended : (s : QueueStep) (row : CellRow) (tries more k payload : ℕ) (v u w : View E S) → OnWay tries k v u
-      → Made object primitive s row more k payload u w → Ended object primitive s row (tries + more) k payload v w
+      → Made object primitive s row more k payload u w
+      → Ended object primitive drawing s row (tries + more) k payload v w
   ended s row tries more k payload v u w way m =
       let f : Facts = facts_drawn object.gains k v.facts in
       let t : View E S = way.drawn in
       let way_is : u.facts ≡ facts_on_way way.found way.heads way.last f = way.saw.facts_are in
       let told : u.facts.has.payload ≡ v.facts.has.payload = ap (λ (f : Facts). f.has.payload) way_is in
       let number : u.number ≡ v.number = way.saw.same.number ∙ way.drew.same.number in
-      let first : List E = draw_entries object k v in
+      let first : List E = draw_entries object k v drawing in
       let entries_are : end_entries object k u s row payload ≡ end_entries object k v s row payload =
       λ i. object.entries s (number i) k (payload_told row.gain payload (told i)) in
       let saw : Saw object t w.facts (end_entries object k v s row payload) w =
@@ -119,23 +120,27 @@ module _ {C E S : Type 0} (object : Object E) (primitive : C → Primitive E S) 
       }
 
   pub ends-by : (s : QueueStep) (tries more k j payload : ℕ) (v u w : View E S) → OnWay tries k v u → j ≡ k
-      → MadeBy object primitive s (row_of s) more j payload u w → EndsBy object primitive s (tries + more) k payload v w
+      → MadeBy object primitive s (row_of s) more j payload u w
+      → EndedBy object primitive drawing s (row_of s) (tries + more) k payload v w
   ends-by s tries more k j payload v u w way is m = by (row_of s) m
     where
       by : (row : StepRow) → MadeBy object primitive s row more j payload u w
-          → EndedBy object primitive s row (tries + more) k payload v w
+          → EndedBy object primitive drawing s row (tries + more) k payload v w
       by (at_counter row) m = absurd m
       by (at_cell row) m =
           ended s row tries more k payload v u w way (subst (λ z. Made object primitive s row more z payload u w) is m)
 
   -- the same told of another view and another number, which are the same
   pub ends-at : (s : QueueStep) (tries k j payload : ℕ) (v w x : View E S) → j ≡ k → x ≡ w
-      → EndsBy object primitive s tries k payload v w → EndsBy object primitive s tries j payload v x
+      → EndedBy object primitive drawing s (row_of s) tries k payload v w
+      → EndedBy object primitive drawing s (row_of s) tries j payload v x
   ends-at s tries k j payload v w x is same e =
-      subst (λ (z : ℕ × View E S). EndsBy object primitive s tries z.0 payload v z.1) (λ i. (sym is i, sym same i)) e
+      subst (λ (z : ℕ × View E S). EndedBy object primitive drawing s (row_of s) tries z.0 payload v z.1)
+      (λ i. (sym is i, sym same i)) e
 
   -- the wait that was installed is one of the pass's
-  pub waits-here : (tries k payload : ℕ) (v w : View E S) → EndsBy object primitive installs tries k payload v w
+  pub waits-here : (tries k payload : ℕ) (v w : View E S)
+      → EndedBy object primitive drawing installs (row_of installs) tries k payload v w
       → Has k w.facts.waits
   waits-here tries k payload v w e =
       subst (Has k) (sym (ap (λ (f : Facts). f.waits) e.facts_are)) (has_right k v.facts.waits (k ∷ []) (inl refl))

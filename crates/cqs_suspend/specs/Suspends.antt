@@ -1,6 +1,6 @@
 -- What a suspend answers: exactly the state in which its cell was found, at the last of its steps.
 use Rattle.std.specs.Prelude.{◌≡◌, ℕ, ◌+◌, ◌≤◌, List, ◌++◌, length}
-use Rattle.cqs_core.specs.QueueSteps.{QueueStep, row_of, CellRow, StepRow, at_counter, at_cell, payload_told, draws, installs, takes}
+use Rattle.cqs_core.specs.QueueSteps.{QueueStep, row_of, CellRow, StepRow, at_counter, at_cell, payload_told, draws, enters, installs, takes}
 use Rattle.cqs_rule.specs.declared.client.ClientWords.{Ghosts}
 use Rattle.cqs_rule.specs.declared.queue.Pass.{Pass}
 use Rattle.cqs_rule.specs.declared.view.Facts.{Facts}
@@ -19,7 +19,7 @@ use Rattle.cqs_find.specs.Finds.{longest_search, facts_searched}
 use Rattle.cqs_suspend.specs.declared.suspending.Suspended.{Suspended}
 use Rattle.cqs_suspend.specs.declared.suspending.Suspended.TheVariants.{Waits, Took}
 
--- a pass at these facts that drew the number k to suspend at
+-- a pass at these facts that drew the number k to suspend at, from the door or as it was idle
 abbrev pub facts_drawn : Gains → ℕ → Facts → Facts
 facts_drawn gains k f = facts_after gains (row_of draws) k k f.has.payload f
 
@@ -32,23 +32,24 @@ abbrev pub told_by : CellRow → ℕ → Facts → ℕ
 told_by row payload f = payload_told row.gain payload f.has.payload
 
 module _ {E S : Type 0} (object : Object E) (k : ℕ) (v : View E S) where
-  -- the entries of the draw of the number k, and of the step of this row that is made at its cell
-  abbrev pub draw_entries : List E
-  draw_entries = object.entries draws v.number k v.facts.has.payload
+  -- the entries of the step that drew the number k, and of the step of this row that is made at its
+  -- cell
+  abbrev pub draw_entries : QueueStep → List E
+  draw_entries drawing = object.entries drawing v.number k v.facts.has.payload
 
   abbrev pub end_entries : QueueStep → CellRow → ℕ → List E
   end_entries s row payload = object.entries s v.number k (told_by row payload v.facts)
 
 module _ {C E S : Type 0} (object : Object E) (primitive : C → Primitive E S) where
-  -- The number k was drawn, and the call's last step, of this row, was made at its cell: the cell
-  -- was found in the state that the row wants, with this payload, at the end of all that the pass
-  -- has seen before the step's entries. The call's entries are those of the two steps, in order,
-  -- and the pass is where they lead. In between it found these, by its search for the cell and by
-  -- so many tries in vain.
-  pub record Ended (s : QueueStep) (row : CellRow) (tries k payload : ℕ) (v w : View E S)
+  -- The number k was drawn by this step, and the call's last step, of this row, was made at its
+  -- cell: the cell was found in the state that the row wants, with this payload, at the end of all
+  -- that the pass has seen before the step's entries. The call's entries are those of the two
+  -- steps, in order, and the pass is where they lead. In between it found these, by its search for
+  -- the cell and by so many tries in vain.
+  pub record Ended (drawing s : QueueStep) (row : CellRow) (tries k payload : ℕ) (v w : View E S)
       : Type 0 where
     pub called : Called object v
-        (draw_entries object k v ++ end_entries object k v s row payload)
+        (draw_entries object k v drawing ++ end_entries object k v s row payload)
         (end_entries object k v s row payload) w
     pub word : ℕ
     pub cell : FoundCell word (cell_found row k payload)
@@ -62,13 +63,16 @@ module _ {C E S : Type 0} (object : Object E) (primitive : C → Primitive E S) 
         ≡ facts_worked object.gains row k word (told_by row payload v.facts)
         (facts_searched found heads (facts_drawn object.gains k v.facts))
 
-  abbrev pub EndedBy : QueueStep → StepRow → ℕ → ℕ → ℕ → View E S → View E S → Type 0
-  EndedBy s (at_counter row) tries k payload v w = ⊥
-  EndedBy s (at_cell row) tries k payload v w = Ended s row tries k payload v w
+  abbrev pub EndedBy : QueueStep → QueueStep → StepRow → ℕ → ℕ → ℕ → View E S → View E S → Type 0
+  EndedBy drawing s (at_counter row) tries k payload v w = ⊥
+  EndedBy drawing s (at_cell row) tries k payload v w = Ended drawing s row tries k payload v w
 
-  -- the call ended with this step
+  -- the call of a pass at the door ended with this step; and that of an idle one
   abbrev pub EndsBy : QueueStep → ℕ → ℕ → ℕ → View E S → View E S → Type 0
-  EndsBy s tries k payload v w = EndedBy s (row_of s) tries k payload v w
+  EndsBy s tries k payload v w = EndedBy draws s (row_of s) tries k payload v w
+
+  abbrev pub EntersBy : QueueStep → ℕ → ℕ → ℕ → View E S → View E S → Type 0
+  EntersBy s tries k payload v w = EndedBy enters s (row_of s) tries k payload v w
 
 module _ {C S E : Type 0} {g : Ghosts C S E} where
   -- An empty cell got its waiter, by the only exchange. Or the value was taken that the resume of
@@ -80,3 +84,11 @@ module _ {C S E : Type 0} {g : Ghosts C S E} where
       × HasWait (pass_view p') wait
   Suspends p (Took payload k) p' =
       EndsBy g.object g.primitive takes 2 k payload (pass_view p) (pass_view p')
+
+  -- the same of a pass that drew its number as it was idle
+  abbrev pub HasEntered : Pass C S E g → Suspended → Pass C S E g → Type 0
+  HasEntered p (Waits wait) p' =
+      EntersBy g.object g.primitive installs 0 (place_of wait).index 0 (pass_view p) (pass_view p')
+      × HasWait (pass_view p') wait
+  HasEntered p (Took payload k) p' =
+      EntersBy g.object g.primitive takes 2 k payload (pass_view p) (pass_view p')

@@ -1,5 +1,5 @@
 use Rattle.std.proofs.Common.{ap, sym, ◌∙◌, subst}
-use Rattle.cqs_core.specs.QueueSteps.{installs, takes}
+use Rattle.cqs_core.specs.QueueSteps.{draws, installs, takes}
 use Rattle.cqs_rule.specs.Lists.{Has}
 use Rattle.cqs_rule.specs.Passes.{pass_view}
 use Rattle.cqs_rule.proofs.Places.{knows-saw}
@@ -10,10 +10,10 @@ pub wait_of-requires-clause-wait : goal.wait_of-requires-clause-wait
 wait_of-requires-clause-wait g c =
     let C = g.C.ClientWords in
     let k = c.add_table-number.result in
-    let way = way-searched C.object C.primitive k _ _ _ c.add_table-number.ensures.saw c.find.ensures.searched in
+    let way = way-searched C.object C.primitive draws k _ _ _ c.add_table-number.ensures.saw c.find.ensures.searched in
     subst (λ z. Has z (pass_view c.install.new.pass).facts.waits) (sym c.in-At.ensures.at.0)
-    (waits-here C.object C.primitive 0 k 0 _ _
-    (ends-by C.object C.primitive installs 0 0 k _ 0 _ _ _ way c.in-At.ensures.at.0 c.in-Ok.ensures.made))
+    (waits-here C.object C.primitive draws 0 k 0 _ _
+    (ends-by C.object C.primitive draws installs 0 0 k _ 0 _ _ _ way c.in-At.ensures.at.0 c.in-Ok.ensures.made))
 
 pub wait_of-requires-clause-place : goal.wait_of-requires-clause-place
 wait_of-requires-clause-place g c =
@@ -31,9 +31,10 @@ pub returns-in-Ok-clause-suspends : goal.returns-in-Ok-clause-suspends
 returns-in-Ok-clause-suspends g c =
     let C = g.C.ClientWords in
     let k = c.add_table-number.result in
-    let way = way-searched C.object C.primitive k _ _ _ c.add_table-number.ensures.saw c.find.ensures.searched in
-    let ends = ends-by C.object C.primitive installs 0 0 k _ 0 _ _ _ way c.in-At.ensures.at.0 c.in-Ok.ensures.made in (
-      ends-at C.object C.primitive installs 0 k _ 0 _ _ _
+    let way = way-searched C.object C.primitive draws k _ _ _ c.add_table-number.ensures.saw c.find.ensures.searched in
+    let ends = ends-by C.object C.primitive draws installs 0 0 k _ 0 _ _ _ way c.in-At.ensures.at.0 c.in-Ok.ensures.made
+    in (
+      ends-at C.object C.primitive draws installs 0 k _ 0 _ _ _
           (ap (λ p. p.index) c.wait_of.ensures.place ∙ c.in-At.ensures.at.0) (ap pass_view c.wait_of.ensures.same) ends,
       c.wait_of.ensures.has,
     )
@@ -42,7 +43,7 @@ pub returns-in-Ok-take_value-clause-suspends : goal.returns-in-Ok-take_value-cla
 returns-in-Ok-take_value-clause-suspends g c =
     let C = g.C.ClientWords in
     let k = c.add_table-number.result in
-    let way = way-searched C.object C.primitive k _ _ _ c.add_table-number.ensures.saw c.find.ensures.searched in
-    ends-by C.object C.primitive takes 1 1 k _ _ _ _ _
-    (way-missed-by C.object C.primitive installs 0 k _ _ _ _ _ way c.in-At.ensures.at.0 c.in-Err.ensures.missed)
+    let way = way-searched C.object C.primitive draws k _ _ _ c.add_table-number.ensures.saw c.find.ensures.searched in
+    ends-by C.object C.primitive draws takes 1 1 k _ _ _ _ _
+    (way-missed-by C.object C.primitive draws installs 0 k _ _ _ _ _ way c.in-At.ensures.at.0 c.in-Err.ensures.missed)
     c.in-At.ensures.at.0 c.in-Ok-take_value.ensures.took

@@ -1,0 +1,17 @@
+use Rattle.cqs_pool.proofs.CancelSteps.{gone, gone-owing, late}
+use Rattle.cqs_pool.proofs.pool.Pool.cancel.Goals as goal
+
+pub returns-in-Gone-clause-cancelled : goal.returns-in-Gone-clause-cancelled
+returns-in-Gone-clause-cancelled g c =
+    gone _ _ _ c.requires.ready c.requires.belongs.live.own c.cancel_unasked.ensures.belongs.live.legal
+    (rw c.in-Gone.is at c.cancel_unasked.ensures.cancelled)
+
+pub returns-in-GoneOwing-clause-cancelled : goal.returns-in-GoneOwing-clause-cancelled
+returns-in-GoneOwing-clause-cancelled g c =
+    gone-owing _ _ _ _ _ _ c.requires.ready c.requires.belongs.live.own c.pass_on.ensures.belongs.live.legal
+    (rw c.in-GoneOwing.is at c.cancel_unasked.ensures.cancelled) c.pass_on.ensures.passed
+
+pub returns-in-Late-clause-cancelled : goal.returns-in-Late-clause-cancelled
+returns-in-Late-clause-cancelled g c =
+    late _ _ _ _ _ c.requires.ready c.requires.belongs.live.own c.cancel_unasked.ensures.belongs.live.legal
+    (rw c.in-Late.is at c.cancel_unasked.ensures.cancelled) c.number-number.ensures

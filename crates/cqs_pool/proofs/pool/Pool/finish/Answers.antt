@@ -1,0 +1,24 @@
+use Rattle.std.proofs.Common.{◌≡◌, ◌≤◌, ℕ, Option, None, Some, refl, arith}
+use Rattle.cqs_rule.specs.Owed.{under_ticket}
+use Rattle.cqs_pool.proofs.ResumeSteps.{IsWhole, never-refused, ends-rule, ends-so, further-so}
+use Rattle.cqs_pool.proofs.pool.Pool.finish.Goals as goal
+
+whole : (ticket : Option ℕ) → IsWhole 64 ticket
+whole None = refl
+whole (Some k) = omega arith
+
+pub placed_by-requires : goal.placed_by-requires
+placed_by-requires g c = never-refused _ _ _ _ _ c.finish.result c.finish.ensures.resumed
+
+pub returns-clause-called : goal.returns-clause-called
+returns-clause-called g c =
+    ends-rule _ _ _ _ _ _ (c.finish.result, c.placed_by.ensures, c.finish.ensures.resumed) c.requires.belongs.live.own
+    c.finish.ensures.belongs.live.legal
+
+pub returns-clause-ends : goal.returns-clause-ends
+returns-clause-ends g c =
+    ends-so _ _ _ 64 (under_ticket c.args.under) _ _ refl c.requires.further (whole (under_ticket c.args.under))
+    (c.finish.result, c.placed_by.ensures, c.finish.ensures.resumed)
+
+pub returns-clause-further : goal.returns-clause-further
+returns-clause-further g c = further-so _ c.finish.result _ c.placed_by.ensures c.finish.ensures.further

@@ -1,0 +1,60 @@
+use Rattle.std.proofs.Common.{◌≡◌, ◌<◌, ◌≤◌, ◌∷◌, [], refl, sym, ◌∙◌, arith}
+use Rattle.cqs_rule.specs.Passes.{pass_view}
+use Rattle.cqs_rule.specs.Waits.{place_of}
+use Rattle.cqs_pool.proofs.Counters.{next-is}
+use Rattle.cqs_pool.proofs.Rules.{call-rule_own}
+use Rattle.cqs_pool.proofs.TakeSteps.{worn, loaded-called, took-called, took-below, took-cell, took-rests, waits-called, waits-below, waits-cell, waits-rests}
+use Rattle.cqs_pool.proofs.pool.Pool.take.Goals as goal
+
+pub returns-then-load_table-limit-clause-called : goal.returns-then-load_table-limit-clause-called
+returns-then-load_table-limit-clause-called g c =
+    call-rule_own _ _ [] [] (loaded-called _ _ _ (next-is _ _ _ c.load_table.ensures.saw)) tt c.requires.belongs.live.own
+    c.load_table.ensures.belongs.live.legal
+
+pub returns-then-load_table-limit-clause-worn : goal.returns-then-load_table-limit-clause-worn
+returns-then-load_table-limit-clause-worn g c =
+    let limit = c.limit.ensures in
+    let is = c.requires.belongs.limit in
+    let high = c.if-load_table-limit.true in
+    worn _ _ _ (next-is _ _ _ c.load_table.ensures.saw) (omega arith)
+
+pub returns-in-Waits-clause-called : goal.returns-in-Waits-clause-called
+returns-in-Waits-clause-called g c =
+    waits-called _ _ _ _ (place_of c.in-Waits.wait).index (next-is _ _ _ c.load_table.ensures.saw)
+    c.in-Waits.ensures.entered.0 c.requires.belongs.live.own c.in-Waits.ensures.belongs.live.legal
+
+pub returns-in-Waits-clause-below : goal.returns-in-Waits-clause-below
+returns-in-Waits-clause-below g c =
+    let limit = c.limit.ensures in
+    let is = c.requires.belongs.limit in
+    let low = c.if-load_table-limit.false in
+    waits-below _ _ _ _ (place_of c.in-Waits.wait).index (next-is _ _ _ c.load_table.ensures.saw) (omega arith)
+    c.in-Waits.ensures.entered.0
+
+pub returns-in-Waits-clause-took : goal.returns-in-Waits-clause-took
+returns-in-Waits-clause-took g c =
+    let k = (place_of c.in-Waits.wait).index in (
+      waits-cell _ _ k c.in-Waits.ensures.entered.0,
+      c.in-Waits.ensures.entered.1,
+      waits-rests _ _ _ _ k (next-is _ _ _ c.load_table.ensures.saw) c.requires.ready c.in-Waits.ensures.entered.0,
+    )
+
+pub returns-in-Took-clause-called : goal.returns-in-Took-clause-called
+returns-in-Took-clause-called g c =
+    took-called _ _ _ _ c.in-Took.number c.in-Took.payload (next-is _ _ _ c.load_table.ensures.saw)
+    c.in-Took.ensures.entered c.requires.belongs.live.own c.in-Took.ensures.belongs.live.legal
+
+pub returns-in-Took-clause-below : goal.returns-in-Took-clause-below
+returns-in-Took-clause-below g c =
+    let limit = c.limit.ensures in
+    let is = c.requires.belongs.limit in
+    let low = c.if-load_table-limit.false in
+    took-below _ _ _ _ c.in-Took.number c.in-Took.payload (next-is _ _ _ c.load_table.ensures.saw) (omega arith)
+    c.in-Took.ensures.entered
+
+pub returns-in-Took-clause-took : goal.returns-in-Took-clause-took
+returns-in-Took-clause-took g c = (
+  took-cell _ _ c.in-Took.number c.in-Took.payload c.in-Took.ensures.entered,
+  took-rests _ _ _ _ c.in-Took.number c.in-Took.payload (next-is _ _ _ c.load_table.ensures.saw) c.requires.ready
+      c.in-Took.ensures.entered,
+)

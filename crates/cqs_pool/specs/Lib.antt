@@ -1,0 +1,11 @@
+pub mod PoolSize
+pub mod Pool
+pub mod PoolIsClient
+pub mod Elements
+pub mod Owed
+pub mod Entries
+pub mod Calls
+pub mod Causes
+pub mod Answers
+pub mod Steps
+pub mod Seats

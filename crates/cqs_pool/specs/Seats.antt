@@ -1,0 +1,21 @@
+-- What a split and a look at the crew leave of a pass, and what a pass knows that is alone.
+use Rattle.std.specs.Prelude.{◌≡◌, []}
+use Rattle.cqs_pool_object.specs.declared.entries.PoolEntry.{PoolEntry}
+use Rattle.cqs_rule.specs.declared.view.View.{View}
+use Rattle.cqs_rule.specs.Alone.{IsAlone}
+use Rattle.cqs_rule.specs.Saw.{Saw}
+use Rattle.cqs_pool.specs.Pool.{pool_object}
+use Rattle.cqs_rule.specs.Views.{as_before}
+use Rattle.cqs_pool.specs.Calls.{Course}
+use Rattle.cqs_pool.specs.Causes.{primitive_of}
+
+module _ {T : Type 0} where
+  -- the pass has seen more, done nothing, and is at what it was
+  pub record LookedOn (v w : View PoolEntry T) : Type 0 where
+    pub saw : Saw pool_object v v.facts [] (as_before v w)
+    pub course : Course v [] w
+    pub facts_are : w.facts ≡ v.facts
+
+  -- it has seen the whole history, and every other number rests
+  abbrev pub SeesAll : View PoolEntry T → Type 0
+  SeesAll v = IsAlone primitive_of v

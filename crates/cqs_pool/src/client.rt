@@ -1,0 +1,87 @@
+//! What the pool tells the queue. It has no words of its own: its elements open as values in the
+//! first cells.
+
+ghost use Rattle.std.specs.Prelude.{◌≡◌, ◌<◌, ◌≤◌};
+
+use cqs_pool_object::PoolEntry;
+use cqs_rule::{Client, ClientWords, Pass, Queue};
+use std::marker::PhantomData;
+
+/// A pool of elements with values of `T`.
+#[derive(Drop)]
+pub struct PoolClient<T = ()> {
+    elements: u32,
+    value: PhantomData<T>,
+    ghost some: { 0 < elements },
+    ghost few: { elements ≤ 4096 },
+}
+
+impl PoolClient {
+    ghost use Rattle.cqs_pool.specs.PoolSize.{elements_of};
+
+    /// A pool that opens with this many elements.
+    pub fn new(elements: u32) -> PoolClient
+        requires some { 0 < elements }
+        requires few { elements ≤ 4096 }
+        ensures { elements_of result ≡ elements }
+    {
+        PoolClient {
+            elements,
+            value: PhantomData,
+        }
+    }
+}
+
+impl<T: Drop> ClientWords for PoolClient<T> {
+    ghost use Rattle.cqs_pool.specs.PoolSize.{elements_of};
+    ghost use Rattle.cqs_pool.specs.Pool.{pool_object, pool_primitive};
+    ghost use Rattle.cqs_pool.specs.PoolIsClient.{pool-client};
+
+    type Slot = T;
+
+    type Entry = PoolEntry;
+
+    ghost object = { pool_object };
+
+    ghost primitive = { λ x. pool_primitive (elements_of x) };
+
+    ghost value_slots = { λ x. 0 };
+
+    fn words(&self) -> u32 {
+        0
+    }
+
+    fn opening(&self, _word: u32) -> u64 {
+        0
+    }
+
+    fn slots(&self) -> u32 {
+        0
+    }
+
+    fn values(&self) -> u32 {
+        self.elements
+    }
+
+    fn held(&self) -> u32 {
+        0
+    }
+
+    fn held_after_take(held: u32) -> u32 {
+        held
+    }
+
+    ghost keeps = { λ x. pool-client (elements_of x) };
+}
+
+impl<T: Send + Drop> Client for PoolClient<T> {
+    ghost use Rattle.cqs_rule.specs.Callbacks.{as_it_begins};
+
+    ghost asking = { as_it_begins };
+
+    fn on_cancellation(_queue: &Queue<Self>, _pass: &mut Pass<Self>, _wait: u64) -> bool {
+        true
+    }
+
+    fn complete_refused_resume(_queue: &Queue<Self>, _pass: &mut Pass<Self>, _payload: u32) {}
+}

@@ -1,0 +1,42 @@
+//! The look at a wait.
+
+ghost use Rattle.std.specs.Prelude.{◌≡◌, []};
+ghost use Rattle.cqs_rule.specs.Passes.{pass_view};
+ghost use Rattle.cqs_rule.specs.Waits.{place_of, HasWait};
+ghost use Rattle.cqs_pool.specs.Answers.{IsPolled};
+ghost use Rattle.cqs_pool.specs.Calls.{IsReady, IsMine, CallRule};
+ghost use Rattle.cqs_pool.specs.Entries.{polled_entries};
+
+use crate::answers::PoolPolled;
+use crate::client::PoolClient;
+use crate::element::Element;
+use crate::pool::{Pool, PoolPass};
+use cqs_cell::look;
+use cqs_rule::{Polls, Wait};
+use cqs_words::CellState;
+
+impl<T: Send + Drop> Pool<T> {
+    /// Looks whether the wait was served: one load.
+    pub fn poll(&self, pass: &mut PoolPass<T>, wait: Wait) -> PoolPolled
+        requires belongs { IsMine self.now pass.old }
+        requires ready { IsReady (pass_view pass.old).facts }
+        requires has { HasWait (pass_view pass.old) wait }
+        ensures belongs { IsMine self.now pass.new }
+        ensures called { CallRule (pass_view pass.old)
+            (polled_entries (pass_view pass.old).number (place_of wait).index result) []
+            (pass_view pass.new) }
+        ensures polled { IsPolled wait (pass_view pass.old) result (pass_view pass.new) }
+        ensures ready { IsReady (pass_view pass.new).facts }
+    {
+        let at = self.queue.spend_wait(pass, wait);
+        let cell = look::<PoolClient<T>, Polls>(&self.queue, pass, at);
+        match cell.state {
+            CellState::Resumed => PoolPolled::Granted(Element {
+                number: cell.payload,
+                wait: at.index,
+            }),
+            CellState::Waiter => PoolPolled::Pending(self.queue.wait_of(pass, at)),
+            _ => unreachable!(),
+        }
+    }
+}

@@ -1,0 +1,69 @@
+//! The pool, and how it is made.
+
+ghost use Rattle.std.specs.Prelude.{◌≡◌, ◌⊎◌, ◌+◌, ◌*◌, ◌/◌, ◌<◌, [], true, false, IfOk, IsErrOf};
+ghost use mathlib.Core.Logic.{◌↔◌};
+ghost use Rattle.cqs_rule.specs.Configured.{is_config};
+ghost use Rattle.cqs_rule.specs.Passes.{pass_view, passes_of, limit_of};
+ghost use Rattle.cqs_rule.specs.Views.{first_view};
+ghost use Rattle.cqs_rule.specs.declared.config.CancelMode.TheVariants.{Smart};
+ghost use Rattle.cqs_pool.specs.Calls.{IsReady, Rests, IsMine, size_of};
+
+use crate::client::PoolClient;
+use cqs_rule::{CancelMode, Config, MakeError, Pass, Queue};
+use std::alloc::Global;
+
+/// What a caller makes its calls with.
+pub type PoolPass<T = ()> = Pass<PoolClient<T>>;
+
+/// The most elements that a pool may be made with.
+const MOST_ELEMENTS: u32 = 4096;
+
+/// A blocking pool, with values of `T` in its slots; a plain one has none, and its elements are
+/// numbers.
+#[derive(Drop)]
+pub struct Pool<T: Drop = ()> {
+    pub(crate) queue: Queue<PoolClient<T>>,
+}
+
+impl Pool {
+    /// A pool of so many elements, all of them free, and its first pass, which has number 0 and has
+    /// seen nothing. There are from 1 to 4,096 elements, and `slots` has room for their cells.
+    pub fn new(
+        alloc: Global,
+        elements: u32,
+        config: Config,
+    ) -> Result<(Pool, PoolPass), MakeError>
+        ensures bad_config { IsErrOf result MakeError.BadConfig
+            ↔ ((elements ≡ 0) ⊎ (4096 < elements)
+            ⊎ (config.slots < 2 * config.passes + 2 + elements / 32 + 1)
+            ⊎ (is_config config ≡ false)) }
+        ensures belongs { IfOk result (λ made. IsMine made.0 made.1) }
+        ensures size { IfOk result (λ made. size_of made.0 ≡ elements) }
+        ensures passes { IfOk result (λ made. (passes_of made.0.queue ≡ config.passes)
+            × (limit_of made.0.queue ≡ config.limit)) }
+        ensures first { IfOk result (λ made. (pass_view made.1).number ≡ 0) }
+        ensures nothing { IfOk result (λ made. (pass_view made.1).seen ≡ []) }
+        ensures alone { IfOk result (λ made. (pass_view made.1).alone ≡ true) }
+        ensures ready { IfOk result (λ made. Rests (pass_view made.1) [] [] (pass_view made.1)) }
+    {
+        if elements == 0 || elements > MOST_ELEMENTS {
+            return Err(MakeError::BadConfig);
+        }
+        let least = 2 * u64::from(config.passes) + 2 + u64::from(elements / 32) + 1;
+        if u64::from(config.slots) < least {
+            return Err(MakeError::BadConfig);
+        }
+        let client = PoolClient::new(elements);
+        let (queue, pass) = Queue::new(alloc, config, CancelMode::Smart, client)?;
+        Ok((Pool { queue }, pass))
+    }
+}
+
+impl<T: Send + Drop> Pool<T> {
+    /// The queue that the pool stands on.
+    pub fn queue(&self) -> &Queue<PoolClient<T>>
+        ensures { result.now ≡ self.now.queue }
+    {
+        &self.queue
+    }
+}

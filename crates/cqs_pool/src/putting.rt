@@ -1,0 +1,62 @@
+//! The put, and the end of one that was handed back.
+
+ghost use Rattle.std.specs.Prelude.{◌≡◌, [], IsOk, IfOk};
+ghost use Rattle.cqs_rule.specs.Crew.{IsBetween};
+ghost use Rattle.cqs_rule.specs.Lists.{without};
+ghost use Rattle.cqs_rule.specs.Owed.{HasUnder, under_payload, under_reached};
+ghost use Rattle.cqs_rule.specs.Passes.{pass_view};
+ghost use Rattle.cqs_pool.specs.Answers.{Ends, IsFirstInHand};
+ghost use Rattle.cqs_pool.specs.Calls.{IsReady, IsMine, CallRule};
+ghost use Rattle.cqs_pool.specs.Elements.{number_of};
+ghost use Rattle.cqs_pool.specs.Entries.{put_entries, put_further, placed_further};
+ghost use Rattle.cqs_pool.specs.Steps.{IsFurther};
+
+use crate::answers::{Placed, placed_by};
+use crate::element::Element;
+use crate::pool::{Pool, PoolPass};
+use cqs_resume::{finish, resume_from};
+use cqs_rule::{Crowded, Puts, RESUMES_WORD, Under};
+
+impl<T: Send + Drop> Pool<T> {
+    /// Puts an element back: it goes to the first who waits, or is free in the next cell. The
+    /// element is the one that the pass got last, of those that it has.
+    pub fn put(
+        &self,
+        pass: &mut PoolPass<T>,
+        element: Element,
+    ) -> Result<Placed, (Element, Crowded)>
+        requires belongs { IsMine self.now pass.old }
+        requires ready { IsReady (pass_view pass.old).facts }
+        requires first { IsFirstInHand (number_of element) (pass_view pass.old).facts }
+        ensures belongs { IsMine self.now pass.new }
+        ensures called { CallRule (pass_view pass.old)
+            (put_entries (pass_view pass.old).number (number_of element) result)
+            (put_further (number_of element) result) (pass_view pass.new) }
+        ensures never_crowded { IsOk result }
+        ensures ends { IfOk result (λ placed. Ends (pass_view pass.old) (number_of element)
+            (without (number_of element) (pass_view pass.old).facts.has.slots)
+            (pass_view pass.old).facts.waits placed (pass_view pass.new)) }
+        ensures between { IsBetween (pass_view pass.new).facts }
+    {
+        let Element { number: payload, .. } = element;
+        let number = self.queue.add_table::<Puts>(pass, RESUMES_WORD, 1);
+        Ok(placed_by(resume_from(&self.queue, pass, number, payload)))
+    }
+
+    /// Goes on with an element that is on its way, and whose resumption was handed back.
+    pub fn finish(&self, pass: &mut PoolPass<T>, under: Under) -> Placed
+        requires belongs { IsMine self.now pass.old }
+        requires owes { HasUnder (pass_view pass.old).facts under }
+        requires further { (pass_view pass.old).facts.has.further ≡ 0 }
+        ensures belongs { IsMine self.now pass.new }
+        ensures called { CallRule (pass_view pass.old) []
+            (placed_further (under_payload under) result) (pass_view pass.new) }
+        ensures ends { Ends (pass_view pass.old) (under_payload under)
+            (pass_view pass.old).facts.has.slots (pass_view pass.old).facts.waits result
+            (pass_view pass.new) }
+        ensures further { IsFurther (under_reached under) result }
+        ensures between { IsBetween (pass_view pass.new).facts }
+    {
+        placed_by(finish(&self.queue, pass, under))
+    }
+}

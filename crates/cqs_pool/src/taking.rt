@@ -1,0 +1,43 @@
+//! The take.
+
+ghost use Rattle.std.specs.Prelude.{◌≡◌, IfOk, OnOk, OnErr, IsErrOf};
+ghost use Rattle.cqs_rule.specs.Passes.{pass_view};
+ghost use Rattle.cqs_pool.specs.Answers.{IsWorn, IsBelow, Takes};
+ghost use Rattle.cqs_pool.specs.Calls.{IsReady, IsMine, CallRule};
+ghost use Rattle.cqs_pool.specs.Entries.{took_entries, took_further};
+
+use crate::answers::Taking;
+use crate::element::Element;
+use crate::pool::{Pool, PoolPass};
+use cqs_rule::{AcquireError, Counts, SUSPENDS_WORD};
+use cqs_suspend::{Suspended, enter};
+
+impl<T: Send + Drop> Pool<T> {
+    /// An element where the cell of the next number has one, or else a wait for one. It is refused
+    /// as worn where as many numbers were drawn as the limit allows, even if an element is free.
+    pub fn take(&self, pass: &mut PoolPass<T>) -> Result<Taking, AcquireError>
+        requires belongs { IsMine self.now pass.old }
+        requires ready { IsReady (pass_view pass.old).facts }
+        ensures belongs { IsMine self.now pass.new }
+        ensures called { CallRule (pass_view pass.old)
+            (took_entries (pass_view pass.old).number result) (took_further result)
+            (pass_view pass.new) }
+        ensures worn { OnErr result (IsWorn (pass_view pass.old) (pass_view pass.new)) }
+        ensures never_crowded { ¬ IsErrOf result AcquireError.Crowded }
+        ensures below { OnOk result (IsBelow (pass_view pass.old) (pass_view pass.new)) }
+        ensures took { IfOk result
+            (λ taking. Takes (pass_view pass.old) taking (pass_view pass.new)) }
+        ensures ready { IsReady (pass_view pass.new).facts }
+    {
+        if self.queue.load_table::<Counts>(pass, SUSPENDS_WORD) >= self.queue.limit() {
+            return Err(AcquireError::Worn);
+        }
+        match enter(&self.queue, pass) {
+            Suspended::Waits(wait) => Ok(Taking::Later(wait)),
+            Suspended::Took { payload, number } => Ok(Taking::Took(Element {
+                number: payload,
+                wait: number,
+            })),
+        }
+    }
+}

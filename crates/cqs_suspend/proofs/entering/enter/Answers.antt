@@ -1,0 +1,49 @@
+use Rattle.std.proofs.Common.{ap, sym, ◌∙◌, subst}
+use Rattle.cqs_core.specs.QueueSteps.{enters, installs, takes}
+use Rattle.cqs_rule.specs.Lists.{Has}
+use Rattle.cqs_rule.specs.Passes.{pass_view}
+use Rattle.cqs_rule.proofs.Places.{knows-saw}
+use Rattle.cqs_suspend.proofs.Steps.{way-searched, way-missed-by, ends-by, ends-at, waits-here}
+use Rattle.cqs_suspend.proofs.entering.enter.Goals as goal
+
+pub wait_of-requires-clause-wait : goal.wait_of-requires-clause-wait
+wait_of-requires-clause-wait g c =
+    let C = g.C.ClientWords in
+    let k = c.add_table-number.result in
+    let way = way-searched C.object C.primitive enters k _ _ _ c.add_table-number.ensures.saw c.find.ensures.searched in
+    subst (λ z. Has z (pass_view c.install.new.pass).facts.waits) (sym c.in-At.ensures.at.0)
+    (waits-here C.object C.primitive enters 0 k 0 _ _
+    (ends-by C.object C.primitive enters installs 0 0 k _ 0 _ _ _ way c.in-At.ensures.at.0 c.in-Ok.ensures.made))
+
+pub wait_of-requires-clause-place : goal.wait_of-requires-clause-place
+wait_of-requires-clause-place g c =
+    let C = g.C.ClientWords in
+    knows-saw C.object (pass_view c.find.new.pass)
+    (pass_view c.install.new.pass) _ _ _ c.in-Ok.ensures.made.saw c.in-At.ensures.at.1
+
+pub take_value-requires-clause-place : goal.take_value-requires-clause-place
+take_value-requires-clause-place g c =
+    let C = g.C.ClientWords in
+    knows-saw C.object (pass_view c.find.new.pass) (pass_view c.install.new.pass) _ _ _ c.in-Err.ensures.missed.saw
+    c.in-At.ensures.at.1
+
+pub returns-in-Ok-clause-entered : goal.returns-in-Ok-clause-entered
+returns-in-Ok-clause-entered g c =
+    let C = g.C.ClientWords in
+    let k = c.add_table-number.result in
+    let way = way-searched C.object C.primitive enters k _ _ _ c.add_table-number.ensures.saw c.find.ensures.searched in
+    let ends = ends-by C.object C.primitive enters installs 0 0 k _ 0 _ _ _ way c.in-At.ensures.at.0
+    c.in-Ok.ensures.made in (
+      ends-at C.object C.primitive enters installs 0 k _ 0 _ _ _
+          (ap (λ p. p.index) c.wait_of.ensures.place ∙ c.in-At.ensures.at.0) (ap pass_view c.wait_of.ensures.same) ends,
+      c.wait_of.ensures.has,
+    )
+
+pub returns-in-Ok-take_value-clause-entered : goal.returns-in-Ok-take_value-clause-entered
+returns-in-Ok-take_value-clause-entered g c =
+    let C = g.C.ClientWords in
+    let k = c.add_table-number.result in
+    let way = way-searched C.object C.primitive enters k _ _ _ c.add_table-number.ensures.saw c.find.ensures.searched in
+    ends-by C.object C.primitive enters takes 1 1 k _ _ _ _ _
+    (way-missed-by C.object C.primitive enters installs 0 k _ _ _ _ _ way c.in-At.ensures.at.0 c.in-Err.ensures.missed)
+    c.in-At.ensures.at.0 c.in-Ok-take_value.ensures.took

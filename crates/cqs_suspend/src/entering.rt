@@ -1,0 +1,34 @@
+//! The suspend of a client without a door.
+
+ghost use Rattle.std.specs.Prelude.{◌≡◌, false, true};
+ghost use Rattle.cqs_core.specs.declared.doings.Doing.TheVariants as doing;
+ghost use Rattle.cqs_rule.specs.Passes.{pass_view, client_of, IsOf};
+ghost use Rattle.cqs_suspend.specs.Suspends.{HasEntered};
+
+use crate::suspending::Suspended;
+use cqs_cell::{install, take_value};
+use cqs_find::{Found, find};
+use cqs_rule::{ClientWords, Enters, Pass, Queue, SUSPENDS_WORD};
+
+/// Draws a number for an idle pass that has seen the suspend counter below the limit, and waits
+/// under it or takes the value that its resume left.
+pub fn enter<C: ClientWords>(queue: &Queue<C>, pass: &mut Pass<C>) -> Suspended
+    requires belongs { IsOf queue.now pass.old }
+    requires doorless { (C.primitive (client_of queue.now)).manner.has_door ≡ false }
+    requires idle { (pass_view pass.old).facts.doing ≡ doing.Idle }
+    requires room { (pass_view pass.old).facts.may_draw ≡ true }
+    ensures belongs { IsOf queue.now pass.new }
+    ensures entered { HasEntered pass.old result pass.new }
+{
+    let number = queue.add_table::<Enters>(pass, SUSPENDS_WORD, 1);
+    let Found::At(at) = find(queue, pass, number) else {
+        unreachable!()
+    };
+    match install(queue, pass, at) {
+        Ok(()) => Suspended::Waits(queue.wait_of(pass, at)),
+        Err(_) => match take_value(queue, pass, at) {
+            Ok(payload) => Suspended::Took { payload, number },
+            Err(_) => unreachable!(),
+        },
+    }
+}

@@ -5,7 +5,7 @@ use Rattle.std.specs.Prelude.{slice_index, slice_set}
 use Rattle.std.proofs.lemmas.List.{append-nil}
 use mathlib.Core.Option.{some}
 use lib.ListN.{get_elem?}
-use Rattle.atomic_table.specs.Table.{State, stepped, keeps}
+use Rattle.atomic_table.specs.Table.{State, Act, stepped, keeps, homes_after}
 use Rattle.atomic_table.proofs.Lists.{at_set, set_else}
 use mathlib.Core.Logic.{dite}
 use native.Mathlib.Decide.{ℕ_discrete}
@@ -19,6 +19,7 @@ use Rattle.cqs_rule.specs.Views.{all_own, weight, grown, Apart, SpentHasNone, Wa
 use Rattle.cqs_rule.specs.Ruled.{Ruled, Knows, Sees, Stands, IsWaitOf, CountersShow, CellsShow, IdleWords, HasRoom, DoorMayDraw, number_at, IsKept, Rests, HasSecond, cell_count}
 use Rattle.cqs_rule.specs.Segments.{Segments, IsLater, KnowsSegments}
 use Rattle.cqs_rule.proofs.Segments.{knows-later}
+use Rattle.cqs_rule.specs.Slots.{Shelf}
 use Rattle.cqs_rule.proofs.Shelves.{Keeps, shelf-set}
 use Rattle.cqs_rule.specs.Inside.{IsInside}
 use Rattle.cqs_rule.specs.Object.{Object, Primitive}
@@ -51,6 +52,26 @@ second-on c d v stay two = record {
   resting = λ n h other. rests-on c d n (λ facts. stay n facts h) (two.resting n h other);
   payload_fits = two.payload_fits;
 }
+
+-- a pass stands where it stood, whatever slot it has open
+pub stands-out : (c : Hidden) (p : ℕ) (facts : Facts) (out : Option ℕ) → Stands c p facts
+    → Stands c p (record facts { open_slot = out })
+stands-out c p facts out at = record {
+  doing = at.doing;
+  has = at.has;
+  may_draw = at.may_draw;
+  waits = at.waits;
+  all_waits = at.all_waits;
+  once = at.once;
+  last = at.last;
+  behind = record { reached = at.behind.reached; passed = at.behind.passed };
+}
+
+-- a view after a step that changes its slots too
+abbrev pub slotted : {E S : Type 0} → View E S → Facts → List E → List (ℕ × S) → ℕ → Bool → Option ℕ
+    → List (ℕ × Option S) → View E S
+slotted v facts seen handed crew alone out laid =
+    record (grown v (record facts { open_slot = out }) seen handed) { crew = crew; alone = alone; laid = laid }
 
 -- a view's numbers are those of cells, where the table has so many
 pub is-inside : {E S : Type 0} (w : View E S) (cells : ℕ) → w.cells ≡ cells → number_at w.facts.doing < cells
@@ -139,7 +160,7 @@ module _ {E S : Type 0} (object : Object E) (primitive : Primitive E S) (passes 
       (λ (t : (j ≢ id) × (get_elem? views j ≡ some z)). (z, t.1, refl))
       (at_set views id j w z e)
 
-  still-apart : (views : List (View E S)) (id : ℕ) (v w : View E S) → get_elem? views id ≡ some v
+  pub still-apart : (views : List (View E S)) (id : ℕ) (v w : View E S) → get_elem? views id ≡ some v
       → all_own w ≡ all_own v
       → Apart views → Apart (set views id w)
   still-apart views id v w here same old a b t u n e f g h =
@@ -152,7 +173,7 @@ module _ {E S : Type 0} (object : Object E) (primitive : Primitive E S) (passes 
   spent-set views id w live old = set_all (λ j u. u.weight ≡ 0 → (n : ℕ) → Has n (all_own u) → ⊥) views id w
       (λ none. absurd (omega arith)) (λ j u apart at. old j u at)
 
-  still-kept : (views : List (View E S)) (id : ℕ) (v w : View E S) (n : ℕ) → get_elem? views id ≡ some v
+  pub still-kept : (views : List (View E S)) (id : ℕ) (v w : View E S) (n : ℕ) → get_elem? views id ≡ some v
       → all_own w ≡ all_own v
       → w.weight ≡ 1 → IsKept views n → IsKept (set views id w) n
   still-kept views id v w n here same one old = dite (ℕ_discrete old.place id)
@@ -174,13 +195,18 @@ module _ {E S : Type 0} (object : Object E) (primitive : Primitive E S) (passes 
         has = old.has;
       })
 
-  pub advance : (s : State (Option S) (View E S)) (r : R s) (id : ℕ) (cs : List (ℕ × Option S)) (v : View E S) (i x : ℕ)
-      (d : Hidden) (es : List E) (facts : Facts) (crew : ℕ) (alone : Bool)
+  -- the view may take slots from their homes, or put them back
+  pub advance-on : (s : State (Option S) (View E S)) (r : R s) (id : ℕ) (cs : List (ℕ × Option S)) (v : View E S)
+      (i x : ℕ)
+      (d : Hidden) (es : List E) (facts : Facts) (crew : ℕ) (alone : Bool) (out : Option ℕ)
+      (laid : List (ℕ × Option S)) (act : Act (Option S))
       → get_elem? s.views id ≡ some v → v.weight ≡ 1 → WasCrew r.made r.live crew → (alone ≡ true → r.live ≡ 1)
       → Turned s r v i x d es facts
-      → R (stepped s i x id cs (record (grown v facts (r.log ++ es) r.handed) { crew = crew; alone = alone }) keeps)
-  advance s r id cs v i x d es facts crew alone here one found single t =
-      let w : View E S = record (grown v facts (r.log ++ es) r.handed) { crew = crew; alone = alone } in
+      → Shelf primitive.opens r.handed r.live (homes_after s.homes cs act)
+      (set s.views id (slotted v facts (r.log ++ es) r.handed crew alone out laid))
+      → R (stepped s i x id cs (slotted v facts (r.log ++ es) r.handed crew alone out laid) act)
+  advance-on s r id cs v i x d es facts crew alone out laid act here one found single t shelf =
+      let w : View E S = slotted v facts (r.log ++ es) r.handed crew alone out laid in
       let k = r.each_view id v here (omega arith) in
       let own : Has v.number v.own = k.own in
       let mine : Has v.number (all_own v) = has_left v.number v.own v.others own in
@@ -222,7 +248,7 @@ module _ {E S : Type 0} (object : Object E) (primitive : Primitive E S) (passes 
               light = k.light;
               parted = k.parted;
               own = k.own;
-              stands = t.self;
+              stands = stands-out d v.number facts out t.self;
               resting = λ n h other. rests-on r.hidden d n (λ f. t.others.stands n f other) (k.resting n h other);
               second = λ two. absurd (omega arith);
               crew = found;
@@ -256,13 +282,23 @@ module _ {E S : Type 0} (object : Object E) (primitive : Primitive E S) (passes 
           live = omega arith;
           sees = inl refl;
         };
-        shelf = shelf-set primitive.opens r.handed r.live s.homes s.views id v w here (omega arith)
-            (record { live = omega arith; laid = refl; keeps = t.slots }) r.shelf;
+        shelf = shelf;
         segments = t.now;
         each_segment = set_all (λ j u. KnowsSegments t.now u) s.views id w
             (record { homes = (knows-later r.segments t.now v t.later (r.each_segment id v here)).homes })
             (λ j u apart e. knows-later r.segments t.now u t.later (r.each_segment j u e));
       }
+
+  pub advance : (s : State (Option S) (View E S)) (r : R s) (id : ℕ) (cs : List (ℕ × Option S)) (v : View E S) (i x : ℕ)
+      (d : Hidden) (es : List E) (facts : Facts) (crew : ℕ) (alone : Bool)
+      → get_elem? s.views id ≡ some v → v.weight ≡ 1 → WasCrew r.made r.live crew → (alone ≡ true → r.live ≡ 1)
+      → Turned s r v i x d es facts
+      → R (stepped s i x id cs (record (grown v facts (r.log ++ es) r.handed) { crew = crew; alone = alone }) keeps)
+  advance s r id cs v i x d es facts crew alone here one found single t =
+      let w : View E S = record (grown v facts (r.log ++ es) r.handed) { crew = crew; alone = alone } in
+      advance-on s r id cs v i x d es facts crew alone facts.open_slot v.laid keeps here one found single t
+      (shelf-set primitive.opens r.handed r.live s.homes s.views id v w here (omega arith)
+      (record { live = omega arith; laid = refl; keeps = t.slots }) r.shelf)
 
   -- what the step tells the pass
   pub saw : (s : State (Option S) (View E S)) (r : R s) (id : ℕ) (v : View E S) (es : List E) (facts : Facts)

@@ -10,12 +10,15 @@ pub mod Others
 pub mod CellsStand
 pub mod Worked
 pub mod Tells
+pub mod Handing
 pub mod Looks
 pub mod CellSteps
 pub mod Counters
 pub mod CellLoads
 pub mod Moves
 pub mod Crew
+pub mod Swaps
+pub mod Giving
 pub mod Alone
 pub mod Tries
 pub mod Calls

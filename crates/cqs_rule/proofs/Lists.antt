@@ -71,6 +71,10 @@ module _ {A : Type 0} where
   pub longer : (h all more : List A) → IsPrefix h all → IsPrefix h (all ++ more)
   longer h all more p = (p.0 ++ more, ap (λ l. l ++ more) p.1 ∙ append_assoc h p.0 more)
 
+  pub prefix-then : (a b c : List A) → IsPrefix a b → IsPrefix b c → IsPrefix a c
+  prefix-then a b c p q =
+      (p.0 ++ q.0, q.1 ∙ (ap (λ l. l ++ q.0) p.1 ∙ append_assoc a p.0 q.0))
+
   pub get_index : (l : List A) (i : ℕ) (a d : A) → slice_get l i ≡ Some a → get_or l i d ≡ a
   get_index [] i a d e = absurd (cc)
   get_index (x ∷ xs) zero a d e = cc

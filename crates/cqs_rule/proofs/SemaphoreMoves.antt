@@ -1,6 +1,6 @@
 -- What a semaphore's acquire, try, release and cancel owe for their steps on the state: each is an event of the core,
 -- by the law of the core.
-use Rattle.std.proofs.Common.{◌≡◌, ◌≢◌, ℕ, ◌+◌, ◌-◌, ◌<◌, ◌≤◌, ◌^◌, Bool, true, false, List, [], ◌∷◌, ◌++◌, length, set, refl, ap, sym, ◌∙◌, subst, inr, ⊎_elim, arith, Some, slice_get, slice_index, slice_set, get_or, nat_lt, lt-ltb, le-ltb, ne_eqb, ◌==◌, ℤ, pos, negsuc, ◌-ℤ◌, ◌+ℤ◌, ◌<ℤ◌, int_lt, int_le, if◌then◌else◌}
+use Rattle.std.proofs.Common.{◌≡◌, ◌≢◌, ℕ, ◌+◌, ◌-◌, ◌<◌, ◌≤◌, ◌^◌, Bool, true, false, List, [], ◌∷◌, ◌++◌, length, set, refl, ap, sym, ◌∙◌, subst, inr, ⊎_elim, arith, Option, Some, None, slice_get, slice_index, slice_set, get_or, nat_lt, lt-ltb, le-ltb, ne_eqb, ◌==◌, ℤ, pos, negsuc, ◌-ℤ◌, ◌+ℤ◌, ◌<ℤ◌, int_lt, int_le, if◌then◌else◌}
 use Rattle.std.proofs.lemmas.Bool.{cases_lt, cases_eq, cases_Bool, eq-eqb}
 use Rattle.std.proofs.lemmas.Bool.Decides.{Decides-int_eq}
 use Rattle.std.proofs.lemmas.Int.{ints}
@@ -28,6 +28,10 @@ use Rattle.cqs_rule.specs.Facts.{is_owing}
 use Rattle.cqs_rule.specs.Hidden.{Hidden, stands_at}
 use Rattle.cqs_rule.specs.Lists.{NamesOnly}
 use Rattle.cqs_rule.specs.declared.view.View.{View}
+use Rattle.cqs_rule.specs.SemaphoreSlots.{slots_when, IsFull, GivesValue}
+use Rattle.cqs_rule.specs.Slots.{laid_in, taken_off}
+use Rattle.cqs_rule.specs.SlotSteps.{GivesAway, HandedIn}
+use Rattle.cqs_rule.proofs.Handing.{off-here}
 use Rattle.cqs_rule.specs.Semaphore.{core_shown, held_of, semaphore_object, semaphore_primitive, takes_one, loads_to_try, tries, gives_one, decides}
 use Rattle.cqs_rule.specs.Ruled.{number_at}
 use Rattle.cqs_core.specs.SemaphoreNames.{entry_names}
@@ -473,6 +477,31 @@ try-stays permits slots saw v n k x low is o = (o.0, o.1, some (where_found saw 
 pub none-stays : {T : Type 0} (permits slots : ℕ) (event : Shows Entry) (made : ℕ → Bool) (v : View Entry T) → slots ≡ 0
     → SlotsStay (semaphore_primitive {T = T} permits) slots event made v
 none-stays permits slots event made v none n k x low is o = absurd (omega arith)
+
+-- a release of a semaphore whose permit carries a value gives its slot away, in which a value lies
+pub give-gives : {T : Type 0} (permits slots n : ℕ) (kept : Bool) (v : View Entry T) → n ≡ slots_when kept
+    → (n ≡ 0 → ⊥) → IsFull kept v
+    → GivesAway (semaphore_primitive {T = T} permits) slots gives_one in_any_case 0 v
+give-gives permits slots n false v is some full = absurd (some is)
+give-gives {T} permits slots n true v is some full = record {
+  value = full.0;
+  laid = full.1;
+  others = λ m k x there o.
+      absurd (none-some x (sym (off-here 0 v.laid) ∙ (ap (laid_in (taken_off 0 v.laid)) (sym o.1) ∙ there)));
+}
+  where
+    none-some : (x : Option T) → None ≡ Some x → ⊥
+    none-some x e = cc
+
+pub gives-value : {T : Type 0} (kept : Bool) (v w : View Entry T)
+    → ((y : T) → laid_in v.laid 0 ≡ Some (Some y) → HandedIn 0 y v w) → GivesValue kept v w
+gives-value true v w given = given
+gives-value false v w given = tt
+
+pub gives-none : {T : Type 0} (n : ℕ) (kept : Bool) (v w : View Entry T) → n ≡ slots_when kept → n ≡ 0
+    → GivesValue kept v w
+gives-none n true v w is none = absurd (omega arith)
+gives-none n false v w is none = tt
 
 -- a pass that is leaving a wait may ask: it adds one to the state
 pub decide-moves : {T : Type 0} (permits p : ℕ) (facts : Facts) (k : ℕ) → facts.doing ≡ doing.Leaving k

@@ -152,28 +152,30 @@ module _ {E S : Type 0} (opens : Has → ℕ → Type 0) where
       → Shelf opens handed live homes views → Shelf opens handed live homes (set (set views id w) other gone)
   shelf-joined handed live homes views id other v u w gone here there apart alive alive' on spent both shut bare open_v
       gets s = record {
-    lies = s.lies;
-    home = λ k low none. s.home k low
-        (was (λ y. y.facts.open_slot ≡ Some k → ⊥) (λ _. (λ o. absurd (none-some k (sym open_v ∙ o)),
-        λ o. absurd (none-some k (sym bare ∙ o)))) none);
-    opened = set_all (λ j y. 0 < y.weight → (k : ℕ) → y.facts.open_slot ≡ Some k → MayOpen opens live y k)
-        (set views id w) other gone (λ live. absurd (omega arith))
-        (λ j y a at. set_all (λ j y. 0 < y.weight → (k : ℕ) → y.facts.open_slot ≡ Some k → MayOpen opens live y k)
-        views id w (λ _ k o. absurd (none-some k (sym shut ∙ o))) (λ i z b e live. s.opened i z e live) j y at);
-    laid = set_all (λ j y. 0 < y.weight → (k : ℕ) (x : Option S) → laid_in y.laid k ≡ Some x
-        → (s.lies k ≡ x) × opens y.facts.has k × (k < length homes)) (set views id w) other gone
-        (λ live. absurd (omega arith))
-        (λ j y a at. set_all (λ j y. 0 < y.weight → (k : ℕ) (x : Option S) → laid_in y.laid k ≡ Some x
-        → (s.lies k ≡ x) × opens y.facts.has k × (k < length homes)) views id w
-        (λ _ k x is. ⊎_elim
-        (λ h. let t = s.laid id v here alive k x h in (t.0, gets k (inl t.1), t.2))
-        (λ h. let t = s.laid other u there alive' k x h in (t.0, gets k (inr t.1), t.2))
-        (laid-append v.laid u.laid k x (ap (λ l. laid_in l k) (sym both) ∙ is)))
-        (λ i z b e live. s.laid i z e live) j y at);
-    last = λ k none. s.last k
-        (was (λ y. laid_in y.laid k ≡ None)
-        (λ e. let t = none-append v.laid u.laid k (ap (λ l. laid_in l k) (sym both) ∙ e) in (t.0, t.1)) none);
-  }
+        lies = s.lies;
+        home = λ k low none. s.home k low
+            (was (λ y. y.facts.open_slot ≡ Some k → ⊥) (λ _. (
+              λ o. absurd (none-some k (sym open_v ∙ o)),
+              λ o. absurd (none-some k (sym bare ∙ o)),
+            )) none);
+        opened = set_all (λ j y. 0 < y.weight → (k : ℕ) → y.facts.open_slot ≡ Some k → MayOpen opens live y k)
+            (set views id w) other gone (λ live. absurd (omega arith))
+            (λ j y a at. set_all (λ j y. 0 < y.weight → (k : ℕ) → y.facts.open_slot ≡ Some k → MayOpen opens live y k)
+            views id w (λ _ k o. absurd (none-some k (sym shut ∙ o))) (λ i z b e live. s.opened i z e live) j y at);
+        laid = set_all (λ j y. 0 < y.weight → (k : ℕ) (x : Option S) → laid_in y.laid k ≡ Some x
+            → (s.lies k ≡ x) × opens y.facts.has k × (k < length homes)) (set views id w) other gone
+            (λ live. absurd (omega arith))
+            (λ j y a at. set_all (λ j y. 0 < y.weight → (k : ℕ) (x : Option S) → laid_in y.laid k ≡ Some x
+            → (s.lies k ≡ x) × opens y.facts.has k × (k < length homes)) views id w
+            (λ _ k x is. ⊎_elim
+            (λ h. let t = s.laid id v here alive k x h in (t.0, gets k (inl t.1), t.2))
+            (λ h. let t = s.laid other u there alive' k x h in (t.0, gets k (inr t.1), t.2))
+            (laid-append v.laid u.laid k x (ap (λ l. laid_in l k) (sym both) ∙ is)))
+            (λ i z b e live. s.laid i z e live) j y at);
+        last = λ k none. s.last k
+            (was (λ y. laid_in y.laid k ≡ None)
+            (λ e. let t = none-append v.laid u.laid k (ap (λ l. laid_in l k) (sym both) ∙ e) in (t.0, t.1)) none);
+      }
     where
       none-some : (k : ℕ) → None ≡ Some k → ⊥
       none-some k e = cc

@@ -18,6 +18,7 @@ pub mod Exchanges
 pub mod Counts
 pub mod Loads
 pub mod Events
+pub mod SlotSteps
 pub mod Callbacks
 pub mod Silent
 pub mod Called

@@ -2,6 +2,7 @@
 use Rattle.std.specs.Prelude.{◌≡◌, ℕ, Bool, true, false, Some}
 use Rattle.cqs_rule.specs.declared.view.View.{View}
 use Rattle.cqs_rule.specs.Slots.{laid_in}
+use Rattle.cqs_rule.specs.SlotSteps.{HandedIn}
 
 -- the slots of a semaphore, by whether its permit carries a value
 abbrev pub slots_when : Bool → ℕ
@@ -12,3 +13,9 @@ slots_when false = 0
 abbrev pub IsFull : {E S : Type 0} → Bool → View E S → Type 0
 IsFull false v = Unit {0}
 IsFull {E} {S} true v = (value : S) × (laid_in v.laid 0 ≡ Some (Some value))
+
+-- and what lies there is handed in
+abbrev pub GivesValue : {E S : Type 0} → Bool → View E S → View E S → Type 0
+GivesValue false v w = Unit {0}
+GivesValue {E} {S} true v w = (value : S) → laid_in v.laid 0 ≡ Some (Some value)
+    → HandedIn 0 value v w

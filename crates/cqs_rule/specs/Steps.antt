@@ -1,5 +1,5 @@
 -- What a step is allowed by and what it tells, by the pass before and after it.
-use Rattle.std.specs.Prelude.{ℕ, Bool}
+use Rattle.std.specs.Prelude.{◌≡◌, ℕ, Bool, Some}
 use Rattle.cqs_core.specs.QueueSteps.{QueueStep}
 use Rattle.cqs_rule.specs.declared.client.ClientWords.{Ghosts}
 use Rattle.cqs_rule.specs.declared.queue.Pass.{Pass}
@@ -8,6 +8,8 @@ use Rattle.cqs_rule.specs.Counts.{Drew}
 use Rattle.cqs_rule.specs.Events.{Event, Moves, SlotsStay, Moved}
 use Rattle.cqs_rule.specs.Exchanges.{CrossedBy}
 use Rattle.cqs_rule.specs.Layout.{client_place}
+use Rattle.cqs_rule.specs.Slots.{laid_in}
+use Rattle.cqs_rule.specs.SlotSteps.{GivesAway, HandedIn}
 use Rattle.cqs_rule.specs.Loads.{LoadStep, Loaded}
 use Rattle.cqs_rule.specs.Passes.{pass_view, client_of, slots_of}
 use Rattle.cqs_core.specs.QueueSteps.{row_of}
@@ -23,6 +25,20 @@ module _ {C S E : Type 0} {g : Ghosts C S E} where
   -- and leaves the pass the slots that it has laid something into
   abbrev pub MayKeep : Queue C S E → Pass C S E g → Event E → (ℕ → Bool) → Type 0
   MayKeep q p event made = SlotsStay (g.primitive (client_of q)) (slots_of q) event made (pass_view p)
+
+  -- the pass may open this slot
+  abbrev pub IsOpener : Queue C S E → Pass C S E g → ℕ → Type 0
+  IsOpener q p slot = (g.primitive (client_of q)).opens (pass_view p).facts.has slot
+
+  -- by the event it gives this slot away, in which a value lies, and no other
+  abbrev pub MayGive : Queue C S E → Pass C S E g → Event E → (ℕ → Bool) → ℕ → Type 0
+  MayGive q p event made slot =
+      GivesAway (g.primitive (client_of q)) (slots_of q) event made slot (pass_view p)
+
+  -- the value that lay there was handed in
+  abbrev pub HasGiven : ℕ → Pass C S E g → Pass C S E g → Type 0
+  HasGiven slot p p' = (y : S) → laid_in (pass_view p).laid slot ≡ Some (Some y)
+      → HandedIn slot y (pass_view p) (pass_view p')
 
   -- Such a step was made, and found n: the word was so at the end of what the pass has seen before
   -- its own entries.

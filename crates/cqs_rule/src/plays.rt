@@ -3,13 +3,15 @@
 ghost use Rattle.cqs_rule.specs.Alone.{and_alone};
 ghost use Rattle.cqs_rule.specs.Crew.{IsSole, counted_by, tried_by, met_by};
 ghost use Rattle.cqs_rule.specs.Counts.{drew};
-ghost use Rattle.cqs_rule.specs.Events.{moved_by, exchanged_by};
+ghost use Rattle.cqs_rule.specs.Events.{moved_by, exchanged_by, in_any_case};
 ghost use Rattle.cqs_rule.specs.Exchanges.{crossed};
 ghost use Rattle.cqs_rule.specs.Loads.{loaded_by};
+ghost use Rattle.cqs_rule.specs.SlotSteps.{took_out, put_back, filled, given_by};
 
 use crate::client::{ClientWords, Shown};
 use crate::kinds::Kind;
 use crate::loads::Load;
+use crate::queue::Numbered;
 use crate::view::View;
 use atomic_table::{Join, Play, Split};
 use std::marker::{Brand, PhantomData};
@@ -59,6 +61,46 @@ pub(crate) struct ShowExchange<C, M> {
 impl<C: ClientWords, M: Shown<C>> Play<Option<C::Slot>, View<C::Entry, C::Slot>>
     for ShowExchange<C, M> {
     ghost then = { and_alone C.primitive (exchanged_by C.object C.primitive M.event) };
+}
+
+/// A step on a word of the client by which a slot is given away, with the value in it.
+pub(crate) struct GivingAway<C, M, K> {
+    of: PhantomData<(C, M, K)>,
+}
+
+impl<C: ClientWords, M: Shown<C>, K: Numbered> Play<Option<C::Slot>, View<C::Entry, C::Slot>>
+    for GivingAway<C, M, K> {
+    ghost then = { and_alone C.primitive
+        (given_by C.object C.primitive M.event in_any_case K.slot) };
+}
+
+/// The load of the crew's word by which a slot is taken from its home.
+pub(crate) struct TakingOut<C, K> {
+    of: PhantomData<(C, K)>,
+}
+
+impl<C: ClientWords, K: Numbered> Play<Option<C::Slot>, View<C::Entry, C::Slot>>
+    for TakingOut<C, K> {
+    ghost then = { took_out C.object K.slot };
+}
+
+/// The load by which it is put back.
+pub(crate) struct PuttingBack<C, K> {
+    of: PhantomData<(C, K)>,
+}
+
+impl<C: ClientWords, K: Numbered> Play<Option<C::Slot>, View<C::Entry, C::Slot>>
+    for PuttingBack<C, K> {
+    ghost then = { and_alone C.primitive (put_back C.object K.slot) };
+}
+
+/// The load by which it is put back with its first value.
+pub(crate) struct Filling<C, K> {
+    of: PhantomData<(C, K)>,
+}
+
+impl<C: ClientWords, K: Numbered> Play<Option<C::Slot>, View<C::Entry, C::Slot>> for Filling<C, K> {
+    ghost then = { and_alone C.primitive (filled C.object K.slot) };
 }
 
 /// A load of the crew's word.

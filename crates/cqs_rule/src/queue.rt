@@ -8,6 +8,7 @@ ghost use Rattle.cqs_rule.specs.Facts.{is_owing};
 mod opening;
 mod readers;
 mod seats;
+mod slots;
 mod steps;
 mod tokens;
 mod words;
@@ -17,6 +18,7 @@ use crate::config::CancelMode;
 use crate::rule::{Key, Rule};
 use crate::view::View;
 use atomic_table::{Seat, Table};
+pub(crate) use slots::Numbered;
 use std::alloc::Global;
 pub use tokens::{Under, Wait};
 

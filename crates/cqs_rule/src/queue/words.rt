@@ -1,15 +1,16 @@
 //! Single steps on the words of the client.
 
-ghost use Rattle.std.specs.Prelude.{◌≡◌, ◌<◌, bit_or};
+ghost use Rattle.std.specs.Prelude.{◌≡◌, ◌<◌, bit_or, pos};
 ghost use Rattle.cqs_rule.specs.Layout.{client_place};
 ghost use Rattle.cqs_rule.specs.Passes.{IsOf};
 ghost use Rattle.cqs_rule.specs.Events.{added, exchanged, in_any_case, where_found};
-ghost use Rattle.cqs_rule.specs.Steps.{MayMove, MayKeep, HasMoved};
+ghost use Rattle.cqs_rule.specs.Steps.{MayMove, MayKeep, MayGive, HasMoved, HasGiven};
 
 use crate::client::{ClientWords, Shown};
 use crate::layout::CLIENT_WORD;
-use crate::plays::{Show, ShowExchange};
-use crate::queue::{Pass, Queue};
+use crate::plays::{GivingAway, Show, ShowExchange};
+use crate::queue::{Numbered, Pass, Queue};
+use std::marker::Brand;
 
 // Where a word of the client stands.
 fn place(word: u32) -> usize
@@ -59,6 +60,46 @@ impl<C: ClientWords> Queue<C> {
                 .shared
                 .fetch_add::<Show<C, M>>(&mut pass.seat, place, amount)
         };
+        pass.held = M::held_after(pass.held, found, true);
+        pass.owes = M::owes_after(pass.owes, found, true);
+        pass.further = M::further_after(pass.further, found, true);
+        found
+    }
+
+    /// Adds to a word of the client, by an event that gives a slot away: the value that lies there
+    /// is handed in.
+    pub fn give_word<M: Shown<C>>(&self, pass: &mut Pass<C>, word: u32, by: u32, slot: u32) -> u64
+        requires belongs { IsOf self.now pass.old }
+        requires word { word < 4 }
+        requires law { MayMove self.now pass.old M.event in_any_case word (added (pos by)) }
+        requires slots { MayGive self.now pass.old M.event in_any_case slot }
+        ensures belongs { IsOf self.now pass.new }
+        ensures saw { HasMoved M.event in_any_case word result pass.old pass.new }
+        ensures given { HasGiven slot pass.old pass.new }
+    {
+        self.give_at::<M, Brand>(pass, word, by, slot)
+    }
+
+    fn give_at<M: Shown<C>, K: Numbered>(
+        &self,
+        pass: &mut Pass<C>,
+        word: u32,
+        by: u32,
+        slot: u32,
+    ) -> u64
+        requires number { slot ≡ K.slot }
+        requires belongs { IsOf self.now pass.old }
+        requires word { word < 4 }
+        requires law { MayMove self.now pass.old M.event in_any_case word (added (pos by)) }
+        requires slots { MayGive self.now pass.old M.event in_any_case slot }
+        ensures belongs { IsOf self.now pass.new }
+        ensures saw { HasMoved M.event in_any_case word result pass.old pass.new }
+        ensures given { HasGiven slot pass.old pass.new }
+    {
+        let found = self
+            .table
+            .shared
+            .fetch_add::<GivingAway<C, M, K>>(&mut pass.seat, place(word), u64::from(by));
         pass.held = M::held_after(pass.held, found, true);
         pass.owes = M::owes_after(pass.owes, found, true);
         pass.further = M::further_after(pass.further, found, true);

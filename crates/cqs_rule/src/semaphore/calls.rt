@@ -11,6 +11,7 @@ ghost use Rattle.cqs_rule.specs.Semaphore.{
   tries,
   gives_one,
 };
+ghost use Rattle.cqs_rule.specs.SemaphoreSlots.{IsFull, GivesValue};
 ghost use Rattle.cqs_rule.specs.SemaphoreSteps.{OnState, NextIs};
 ghost use Rattle.cqs_words.specs.State.{count_in, is_above_zero};
 ghost use Rattle.cqs_rule.specs.Silent.{silent};
@@ -82,7 +83,8 @@ pub fn try_take<T: Carries>(
 }
 
 /// Adds one to the state: the permit is free, or the pass owes a resumption of payload 0. It
-/// answers the state found.
+/// answers the state found. Where a value moves with the permit, it must lie in the slot; it is
+/// handed in.
 #[tactic(auto, using(crate::proofs::StateFound::on_state))]
 pub fn give_permit<T: Carries>(
     queue: &Queue<SemClient<T>>,
@@ -91,12 +93,19 @@ pub fn give_permit<T: Carries>(
     requires belongs { IsOf queue.now pass.old }
     requires idle { (pass_view pass.old).facts.doing ≡ Idle }
     requires holds { 0 < (pass_view pass.old).facts.has.held }
+    requires full { IsFull T.kept (pass_view pass.old) }
     ensures belongs { IsOf queue.now pass.new }
     ensures saw { OnState gives_one in_any_case (pass_view pass.old) result.word
         (pass_view pass.new) }
+    ensures handed { GivesValue T.kept (pass_view pass.old) (pass_view pass.new) }
 {
+    if T::slots() == 0 {
+        return PackedState {
+            word: queue.add_word::<Give>(pass, STATE, 1),
+        };
+    }
     PackedState {
-        word: queue.add_word::<Give>(pass, STATE, 1),
+        word: queue.give_word::<Give>(pass, STATE, 1, 0),
     }
 }
 

@@ -1,0 +1,151 @@
+//! Values that move through slots of the table.
+
+ghost use Rattle.std.specs.Prelude.{◌≡◌, ◌⊎◌, ◌<◌, true, [], ◌∷◌, Some, None};
+ghost use Rattle.cqs_rule.specs.Alone.{TellsAlone};
+ghost use Rattle.cqs_rule.specs.Passes.{pass_view, client_of, slots_of, IsOf};
+ghost use Rattle.cqs_rule.specs.Saw.{Saw};
+ghost use Rattle.cqs_rule.specs.Slots.{laid_in};
+ghost use Rattle.cqs_rule.specs.SlotSteps.{TookOut, PutBack, HandedIn, LayIn, IsOut, IsUntouched};
+ghost use Rattle.cqs_rule.specs.Steps.{IsOpener};
+
+use crate::client::ClientWords;
+use crate::layout::CREW_WORD;
+use crate::plays::{Filling, PuttingBack, TakingOut};
+use crate::queue::{Pass, Queue};
+use crate::view::View;
+use atomic_table::Seat;
+use std::marker::Brand;
+
+// The number of a slot: a call of a step on it picks it.
+pub(crate) trait Numbered {
+    ghost use Rattle.std.specs.Prelude.{ℕ};
+
+    ghost slot: { ℕ };
+}
+
+impl Numbered for Brand {
+    ghost slot = { 0 };
+}
+
+impl<C: ClientWords> Queue<C> {
+    // Takes the slot from its home, by a load of the crew's word.
+    fn take_out<K: Numbered>(
+        &self,
+        seat: &mut Seat<Option<C::Slot>, View<C::Entry, C::Slot>>,
+        slot: u32,
+    )
+        requires number { slot ≡ K.slot }
+        requires table { seat.old.table_id ≡ self.now.table.shared.table_id }
+        requires words { 0 < seat.old.table_id.words }
+        requires one { seat.old.me.0.weight ≡ 1 }
+        requires shut { seat.old.me.0.facts.open_slot ≡ None }
+        requires bare { seat.old.me.1 ≡ [] }
+        requires low { slot < slots_of self.now }
+        requires may { (C.primitive (client_of self.now)).opens seat.old.me.0.facts.has slot
+            ⊎ (seat.old.me.0.alone ≡ true) }
+        ensures table { seat.new.table_id ≡ seat.old.table_id }
+        ensures took { TookOut C.object slot seat.old.me.0 seat.new.me.0 seat.new.me.1 }
+    {
+        self.table
+            .shared
+            .load::<TakingOut<C, K>>(seat, CREW_WORD as usize);
+    }
+
+    // Puts it back, with what lies there now.
+    fn put_back<K: Numbered>(
+        &self,
+        seat: &mut Seat<Option<C::Slot>, View<C::Entry, C::Slot>>,
+        slot: u32,
+    )
+        requires number { slot ≡ K.slot }
+        requires table { seat.old.table_id ≡ self.now.table.shared.table_id }
+        requires words { 0 < seat.old.table_id.words }
+        requires one { seat.old.me.0.weight ≡ 1 }
+        requires out { seat.old.me.0.facts.open_slot ≡ Some slot }
+        requires item { IsOut slot seat.old.me.1 }
+        requires low { slot < slots_of self.now }
+        requires may { (C.primitive (client_of self.now)).opens seat.old.me.0.facts.has slot }
+        ensures table { seat.new.table_id ≡ seat.old.table_id }
+        ensures bare { seat.new.me.1 ≡ [] }
+        ensures put { (x : Rattle.std.specs.Prelude.Option C.Slot) → seat.old.me.1 ≡ (slot, x) ∷ []
+            → PutBack C.object ((slot, x) ∷ seat.old.me.0.laid) seat.old.me.0 seat.new.me.0 }
+        ensures alone { TellsAlone C.primitive seat.new.me.0 }
+    {
+        self.table
+            .shared
+            .load::<PuttingBack<C, K>>(seat, CREW_WORD as usize);
+    }
+
+    // Puts it back with its first value.
+    fn put_first<K: Numbered>(
+        &self,
+        seat: &mut Seat<Option<C::Slot>, View<C::Entry, C::Slot>>,
+        slot: u32,
+    )
+        requires number { slot ≡ K.slot }
+        requires table { seat.old.table_id ≡ self.now.table.shared.table_id }
+        requires words { 0 < seat.old.table_id.words }
+        requires one { seat.old.me.0.weight ≡ 1 }
+        requires out { seat.old.me.0.facts.open_slot ≡ Some slot }
+        requires item { (y : C.Slot) × (seat.old.me.1 ≡ (slot, Some y) ∷ []) }
+        requires low { slot < slots_of self.now }
+        requires unlaid { laid_in seat.old.me.0.laid slot ≡ None }
+        ensures table { seat.new.table_id ≡ seat.old.table_id }
+        ensures bare { seat.new.me.1 ≡ [] }
+        ensures put { PutBack C.object seat.old.me.0.laid seat.old.me.0 seat.new.me.0 }
+        ensures handed { (y : C.Slot) → seat.old.me.1 ≡ (slot, Some y) ∷ []
+            → HandedIn slot y seat.old.me.0 seat.new.me.0 }
+        ensures alone { TellsAlone C.primitive seat.new.me.0 }
+    {
+        self.table
+            .shared
+            .load::<Filling<C, K>>(seat, CREW_WORD as usize);
+    }
+
+    /// Puts a value into a slot, or nothing, and hands out what lay there. The pass must hold the
+    /// slot. It is no step of a client: two loads of the crew's word take the slot from its home and
+    /// put it back.
+    pub fn swap_slot(
+        &self,
+        pass: &mut Pass<C>,
+        slot: u32,
+        value: Option<C::Slot>,
+    ) -> Option<C::Slot>
+        requires belongs { IsOf self.now pass.old }
+        requires slot { slot < slots_of self.now }
+        requires holds { IsOpener self.now pass.old slot }
+        ensures belongs { IsOf self.now pass.new }
+        ensures lay { LayIn slot result (pass_view pass.old) (pass_view pass.new) }
+        ensures laid { (pass_view pass.new).laid ≡ (slot, value) ∷ (pass_view pass.old).laid }
+        ensures saw { Saw C.object (pass_view pass.old) (pass_view pass.old).facts []
+            (pass_view pass.new) }
+    {
+        self.take_out::<Brand>(&mut pass.seat, slot);
+        let found = self
+            .table
+            .shared
+            .exchange(&mut pass.seat, slot as usize, value);
+        self.put_back::<Brand>(&mut pass.seat, slot);
+        found
+    }
+
+    /// Puts the first value into a slot that is empty since the queue was made. No other call was
+    /// made on the queue yet.
+    pub fn fill_slot(&self, pass: &mut Pass<C>, slot: u32, value: C::Slot)
+        requires belongs { IsOf self.now pass.old }
+        requires slot { slot < slots_of self.now }
+        requires first { IsUntouched slot (pass_view pass.old) }
+        ensures belongs { IsOf self.now pass.new }
+        ensures handed { HandedIn slot value (pass_view pass.old) (pass_view pass.new) }
+        ensures laid { (pass_view pass.new).laid ≡ (pass_view pass.old).laid }
+        ensures saw { Saw C.object (pass_view pass.old) (pass_view pass.old).facts []
+            (pass_view pass.new) }
+    {
+        self.take_out::<Brand>(&mut pass.seat, slot);
+        let _ = self
+            .table
+            .shared
+            .exchange(&mut pass.seat, slot as usize, Some(value));
+        self.put_first::<Brand>(&mut pass.seat, slot);
+    }
+}

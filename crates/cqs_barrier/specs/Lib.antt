@@ -1,0 +1,4 @@
+pub mod Word
+pub mod Barrier
+pub mod BarrierClient
+pub mod Parties

@@ -1,0 +1,9 @@
+//! A barrier on the running queue: parties that arrive, wait for the last, and may withdraw.
+#![tactic(auto)]
+
+mod client;
+mod events;
+mod word;
+
+pub use client::BarrierClient;
+pub use events::{Arrive, LookToLeave, Withdraw};

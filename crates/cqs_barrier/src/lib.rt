@@ -3,7 +3,9 @@
 
 mod client;
 mod events;
+mod steps;
 mod word;
 
 pub use client::BarrierClient;
 pub use events::{Arrive, LookToLeave, Withdraw};
+pub use steps::{arrive_once, look_to_leave, withdraw_once};

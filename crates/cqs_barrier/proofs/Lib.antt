@@ -1,0 +1,2 @@
+pub mod BarrierMoves
+pub mod WordFound

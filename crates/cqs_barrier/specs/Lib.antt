@@ -1,0 +1,5 @@
+pub mod Word
+pub mod Barrier
+pub mod BarrierClient
+pub mod Parties
+pub mod BarrierWord

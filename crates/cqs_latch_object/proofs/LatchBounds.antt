@@ -9,11 +9,14 @@ use Rattle.cqs_core.specs.QueueAsRefused.{as_refused}
 use Rattle.cqs_core.specs.QueueSound.{IsSound}
 use Rattle.cqs_core.specs.QueueLine.{door, due, going, ending}
 use Rattle.cqs_core.specs.QueueState.{Queue}
+use Rattle.cqs_core.proofs.LineMoves.{decide-leaves}
 use Rattle.cqs_core.proofs.QueueAsRefused.{sound-back}
 use Rattle.cqs_core.proofs.QueueReaches.{reaches-few, begins-few}
 use Rattle.cqs_latch_object.specs.LatchShown.{LatchShape, as_read, read_as, has_loaded, IsLatch, IsLatchCore}
 use Rattle.cqs_latch_object.specs.LatchLaws.{EveryCountIsHigh, EveryCountIsLow, WaitersAreFew}
+use Rattle.cqs_latch_object.specs.LatchWords.{IsToOpen}
 use Rattle.cqs_latch_object.proofs.LatchFrame.{owes-there}
+use Rattle.cqs_latch_object.proofs.LatchWords.{still-shut}
 use Rattle.cqs_latch_object.proofs.Places.{few-wait}
 
 -- what a latch reads of its queue beside the states of its cells is as it is
@@ -104,3 +107,31 @@ core-begins_few s p core idle some = go s.simple core
         → s.queue.resumes < s.queue.suspends + length (door s.queue)
     go true is = begin-read (record s { queue = as_refused s.queue; simple = true }) p is idle some
     go false is = begin-read (record s { simple = false }) p is idle some
+
+-- who is to open a latch finds it shut
+pub core-still_shut : (s : LatchShape) (p : ℕ) → IsLatchCore s → IsToOpen s p → s.done ≡ false
+core-still_shut s p core may = go s.simple core
+  where
+    go : (b : Bool) → IsLatch (record s { queue = read_as b s.queue; simple = b }) → s.done ≡ false
+    go true is = still-shut (record s { queue = as_refused s.queue; simple = true }) p is may.0 may.1 may.2
+    go false is = still-shut (record s { simple = false }) p is may.0 may.1 may.2
+
+-- who leaves is counted among the waiters
+leaver-read : (s : LatchShape) (p k : ℕ) → IsLatch s → s.simple ≡ false
+    → slice_get s.queue.doing p ≡ Some (doing.Leaving k) → 0 < s.word
+leaver-read s p k is smart does = go (cases_Bool s.done)
+  where
+    some : 0 < due s.queue
+    some = let leaves = decide-leaves s.queue p k true is.sound does in omega (arith, leaves.due)
+
+    go : (s.done ≡ true) ⊎ (s.done ≡ false) → 0 < s.word
+    go (inl done) = let was = is.opened done in omega (arith, was.enough smart, some)
+    go (inr shut) = let was = is.shut shut in omega (arith, was.counted, some)
+
+pub core-leaver : (s : LatchShape) (p k : ℕ) → IsLatchCore s → s.simple ≡ false
+    → slice_get s.queue.doing p ≡ Some (doing.Leaving k) → 0 < s.word
+core-leaver s p k core smart does = go s.simple smart core
+  where
+    go : (b : Bool) → b ≡ false → IsLatch (record s { queue = read_as b s.queue; simple = b }) → 0 < s.word
+    go true not_smart is = absurd (cc)
+    go false is_smart is = leaver-read (record s { simple = false }) p k is refl does

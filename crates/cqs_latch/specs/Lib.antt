@@ -1,0 +1,4 @@
+pub mod Latch
+pub mod LatchEvents
+pub mod LatchClient
+pub mod LatchMade

@@ -1,5 +1,5 @@
 -- How far the words of a latch go.
-use Rattle.std.proofs.Common.{◌≡◌, ℕ, ◌+◌, ◌<◌, ◌≤◌, ℤ, pos, negsuc, ◌<ℤ◌, ◌≤ℤ◌, ◌+ℤ◌, Bool, true, false, length, refl, ◌⊎◌, inl, inr, arith, Some, slice_get, get_or, slice_index, sum}
+use Rattle.std.proofs.Common.{◌≡◌, ℕ, ◌+◌, ◌<◌, ◌≤◌, ℤ, pos, negsuc, ◌<ℤ◌, ◌≤ℤ◌, ◌+ℤ◌, Bool, true, false, length, refl, sym, ◌⊎◌, inl, inr, arith, Some, slice_get, get_or, slice_index, sum}
 use Rattle.std.specs.List.{count_by}
 use Rattle.std.proofs.lemmas.Bool.{cases_Bool}
 use Rattle.std.proofs.lemmas.Int.{ints}
@@ -12,11 +12,13 @@ use Rattle.cqs_core.specs.QueueState.{Queue}
 use Rattle.cqs_core.proofs.LineMoves.{decide-leaves}
 use Rattle.cqs_core.proofs.QueueAsRefused.{sound-back}
 use Rattle.cqs_core.proofs.QueueReaches.{reaches-few, begins-few}
-use Rattle.cqs_latch_object.specs.LatchShown.{LatchShape, as_read, read_as, has_loaded, IsLatch, IsLatchCore}
+use Rattle.cqs_latch_object.specs.LatchObject as plain
+use Rattle.cqs_latch_object.specs.LatchShown.{LatchShape, as_read, read_as, has_loaded, holes, holes_shown, shown, IsShut, IsLatch, IsLatchCore}
 use Rattle.cqs_latch_object.specs.LatchLaws.{EveryCountIsHigh, EveryCountIsLow, WaitersAreFew}
 use Rattle.cqs_latch_object.specs.LatchWords.{IsToOpen}
 use Rattle.cqs_latch_object.proofs.LatchFrame.{owes-there}
 use Rattle.cqs_latch_object.proofs.LatchWords.{still-shut}
+use Rattle.cqs_latch_object.proofs.Holes.{length-holes}
 use Rattle.cqs_latch_object.proofs.Places.{few-wait}
 
 -- what a latch reads of its queue beside the states of its cells is as it is
@@ -135,3 +137,23 @@ core-leaver s p k core smart does = go s.simple smart core
     go : (b : Bool) → b ≡ false → IsLatch (record s { queue = read_as b s.queue; simple = b }) → 0 < s.word
     go true not_smart is = absurd (cc)
     go false is_smart is = leaver-read (record s { simple = false }) p k is refl does
+
+-- before it is open, the word counts all who are due
+core-counted-read : (s : LatchShape) → IsLatch s → s.done ≡ false → s.word ≡ plain.due (shown s)
+core-counted-read s is shut = go s.simple refl
+  where
+    was : IsShut s
+    was = is.shut shut
+
+    go : (b : Bool) → b ≡ s.simple → s.word ≡ due s.queue + length (holes_shown b s.queue)
+    go true at =
+        let long : length (holes s.queue) ≡ ending s.queue = length-holes s.queue (is.fit.plain (sym at)) in
+        omega (arith, was.counted, long)
+    go false at = omega (arith, was.counted, was.kept (sym at))
+
+pub core-counted : (s : LatchShape) → IsLatchCore s → s.done ≡ false → s.word ≡ plain.due (shown (as_read s))
+core-counted s core shut = core-counted-read (as_read s) core shut
+
+-- the next number is that of the queue
+pub core-next : (s : LatchShape) → (shown (as_read s)).waiters.next ≡ s.queue.suspends
+core-next s = read-suspends s.simple s.queue

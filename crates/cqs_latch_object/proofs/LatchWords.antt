@@ -321,7 +321,7 @@ module _ (s : LatchShape) (p : ℕ) (is : IsLatch s) where
     one-opener : bit (is_opening (doing.TryAt v)) ≡ 1
     one-opener = ap bit (used-yes v used)
 
-    still-shut : s.done ≡ false
+    pub still-shut : s.done ≡ false
     still-shut =
         let write = count_by-write is_opening s.queue.doing p (doing.TryAt v) doing.Idle does in
         let one = one-opener in

@@ -9,6 +9,8 @@ mod leaving;
 #[cfg(test)]
 mod packed_words;
 #[cfg(test)]
+mod pools;
+#[cfg(test)]
 mod queue_calls;
 #[cfg(test)]
 mod queue_rows;

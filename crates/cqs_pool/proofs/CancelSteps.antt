@@ -23,8 +23,10 @@ use Rattle.cqs_cancel.specs.Unasked as unasked
 use Rattle.cqs_cancel.specs.Unasked.{Closes}
 use Rattle.cqs_cancel.specs.declared.cancelling.Left.TheVariants.{Gone, GoneOwing, Late}
 use Rattle.cqs_pool.specs.declared.answers.Placed.{Placed}
+use Rattle.cqs_pool.specs.declared.answers.Placed.TheVariants as placed
+use Rattle.cqs_pool.specs.declared.answers.Placed.TheVariants.{Sent, Left}
 use Rattle.cqs_pool.specs.declared.answers.PoolLeft.TheVariants.{Cancelled}
-use Rattle.cqs_pool.specs.Answers.{Ends, most_passed_over}
+use Rattle.cqs_pool.specs.Answers.{Ends, PassesOn, LeavesPass, most_passed_over}
 use Rattle.cqs_pool.specs.Calls.{IsReady, CallRule, Rests}
 use Rattle.cqs_pool.specs.Causes.{primitive_of, cell_of, CellWasOnce, CellHadOnce, CellHad}
 use Rattle.cqs_pool.specs.Entries.{placed_further, passed_further}
@@ -229,3 +231,20 @@ module _ {T : Type 0} where
           },
         ),
       )
+
+  -- what the call that went on with an element leaves
+  left-passed : (k e : ℕ) (v w : View PoolEntry T) (under : Option Under) (passed : Option Placed)
+      → PassesOn k v under e passed w → LeavesPass k v (Cancelled under) w
+  left-passed k e v w under None p =
+      subst (λ (u : Option Under). LeavesPass k v (Cancelled u) w) (sym p.0) p.1
+  left-passed k e v w under (Some (Sent j)) p =
+      subst (λ (u : Option Under). LeavesPass k v (Cancelled u) w) (sym p.0) p.2.1
+  left-passed k e v w under (Some (Left j)) p =
+      subst (λ (u : Option Under). LeavesPass k v (Cancelled u) w) (sym p.0) p.2.1
+  left-passed k e v w under (Some (placed.Under u)) p =
+      subst (λ (u : Option Under). LeavesPass k v (Cancelled u) w) (sym p.0)
+      (p.2.owes, p.2.further, p.2.elements_are, p.2.waits_are)
+
+  pub left-so : (k : ℕ) (v w : View PoolEntry T) (under : Option Under) → HasCancelled k v (Cancelled under) w
+      → LeavesPass k v (Cancelled under) w
+  left-so k v w under h = left-passed k h.0 v w under h.1 h.3.1

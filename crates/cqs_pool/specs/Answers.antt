@@ -117,3 +117,12 @@ module _ {T : Type 0} where
       × Rests v (number_of element ∷ v.facts.has.slots) (without k v.facts.waits) w
   Cancels k v (Cancelled under) e passed w =
       CellWasOnce state.Waiter k v w × PassesOn k v under e passed w
+
+  -- What a cancel leaves of its pass: it is between two calls; or it has a resumption to finish.
+  abbrev pub LeavesPass : ℕ → View PoolEntry T → PoolLeft → View PoolEntry T → Type 0
+  LeavesPass k v (Cancelled None) w = Rests v v.facts.has.slots (without k v.facts.waits) w
+  LeavesPass k v (Cancelled (Some under)) w =
+      HasUnder w.facts under × (w.facts.has.further ≡ 0)
+      × (w.facts.has.slots ≡ v.facts.has.slots) × (w.facts.waits ≡ without k v.facts.waits)
+  LeavesPass k v (TooLate element) w =
+      Rests v (number_of element ∷ v.facts.has.slots) (without k v.facts.waits) w

@@ -5,6 +5,7 @@ ghost use Rattle.cqs_core.specs.declared.doings.Doing.TheVariants as doing;
 ghost use Rattle.cqs_rule.specs.Crew.{IsBetween};
 ghost use Rattle.cqs_rule.specs.Passes.{pass_view};
 ghost use Rattle.cqs_rule.specs.Waits.{place_of, HasWait};
+ghost use Rattle.cqs_pool.specs.Answers.{LeavesPass};
 ghost use Rattle.cqs_pool.specs.Calls.{IsReady, IsMine};
 ghost use Rattle.cqs_pool.specs.Steps.{HasCancelled, PassedOn};
 
@@ -24,6 +25,8 @@ impl<T: Send + Drop> Pool<T> {
         requires has { HasWait (pass_view pass.old) wait }
         ensures belongs { IsMine self.now pass.new }
         ensures cancelled { HasCancelled (place_of wait).index (pass_view pass.old) result
+            (pass_view pass.new) }
+        ensures leaves { LeavesPass (place_of wait).index (pass_view pass.old) result
             (pass_view pass.new) }
         ensures between { IsBetween (pass_view pass.new).facts }
     {

@@ -7,6 +7,8 @@ mod core_calls;
 #[cfg(test)]
 mod packed_words;
 #[cfg(test)]
+mod pools;
+#[cfg(test)]
 mod queue_calls;
 #[cfg(test)]
 mod queue_rows;

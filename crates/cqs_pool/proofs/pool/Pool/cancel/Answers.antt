@@ -1,4 +1,5 @@
-use Rattle.cqs_pool.proofs.CancelSteps.{gone, gone-owing, late}
+use Rattle.std.proofs.Common.{None}
+use Rattle.cqs_pool.proofs.CancelSteps.{gone, gone-owing, late, left-so}
 use Rattle.cqs_pool.proofs.pool.Pool.cancel.Goals as goal
 
 pub returns-in-Gone-clause-cancelled : goal.returns-in-Gone-clause-cancelled
@@ -15,3 +16,12 @@ pub returns-in-Late-clause-cancelled : goal.returns-in-Late-clause-cancelled
 returns-in-Late-clause-cancelled g c =
     late _ _ _ _ _ c.requires.ready c.requires.belongs.live.own c.cancel_unasked.ensures.belongs.live.legal
     (rw c.in-Late.is at c.cancel_unasked.ensures.cancelled) c.number-number.ensures
+
+pub returns-in-Gone-clause-leaves : goal.returns-in-Gone-clause-leaves
+returns-in-Gone-clause-leaves g c = left-so _ _ _ None (returns-in-Gone-clause-cancelled g c)
+
+pub returns-in-GoneOwing-clause-leaves : goal.returns-in-GoneOwing-clause-leaves
+returns-in-GoneOwing-clause-leaves g c = left-so _ _ _ _ (returns-in-GoneOwing-clause-cancelled g c)
+
+pub returns-in-Late-clause-leaves : goal.returns-in-Late-clause-leaves
+returns-in-Late-clause-leaves g c = (returns-in-Late-clause-cancelled g c).3.3

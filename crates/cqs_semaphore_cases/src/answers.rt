@@ -13,10 +13,7 @@ pub enum Answer {
     Failed(AcquireError),
     Got,
     Busy,
-    Contended {
-        saw: i64,
-        found: i64,
-    },
+    Contended { saw: i64, found: i64 },
     Granted,
     Pending,
     Cancelled,

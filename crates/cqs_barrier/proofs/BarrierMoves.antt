@@ -40,7 +40,7 @@ leaving-at : (d : Doing) (k : ℕ) → d ≡ doing.Leaving k → d ≡ doing.Lea
 leaving-at d k at = at ∙ ap doing.Leaving (sym (ap number_at at))
 
 module _ {T : Type 0} (parties p : ℕ) (facts : Facts) (c : Hidden) (words : List ℕ) (log : List BarrierEntry)
-    (handed : List T)
+    (handed : List (ℕ × T))
     (shown : ShowsBarrier parties c words log handed)
     (does : slice_get c.queue.doing p ≡ Some facts.doing) (has : slice_get c.has p ≡ Some facts.has) where
   abbrev s : Shape

@@ -36,7 +36,7 @@ barrier_shown parties c words log = record {
 
 pub record ShowsBarrier {T : Type 0} (parties : ℕ) (c : Hidden) (words : List ℕ)
     (log : List BarrierEntry)
-    (handed : List T) : Type 0 where
+    (handed : List (ℕ × T)) : Type 0 where
   pub word : parties_in (slice_index words 0) ≡ parties
   pub barrier : IsBarrier (barrier_shown parties c words log)
 
@@ -65,6 +65,7 @@ barrier_primitive parties = record {
   words = word_of parties parties ∷ [];
   values = 0;
   held = parties;
+  opens = λ has slot. ⊥;
 }
 
 -- a party arrives: the remaining number is one less; the last one owes as many further

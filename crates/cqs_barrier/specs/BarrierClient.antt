@@ -1,7 +1,7 @@
 -- The barrier is a client: each step of the queue that suits it leads from barrier to barrier, by the
 -- law of the plain barrier. This file is a proof: nothing of it has to be read to know what is
 -- promised, and nothing in it is taken on trust.
-use Rattle.std.proofs.Common.{◌≡◌, ◌≢◌, ℕ, zero, suc, ◌+◌, ◌-◌, ◌<◌, ◌≤◌, true, false, List, [], ◌∷◌, ◌++◌, replicate, refl, ap, sym, ◌∙◌, subst, arith, Option, Some, slice_get, ne_eqb, length, get_or, set}
+use Rattle.std.proofs.Common.{◌≡◌, ◌≢◌, ℕ, zero, suc, ◌+◌, ◌-◌, ◌<◌, ◌≤◌, true, false, List, [], ◌∷◌, ◌++◌, replicate, refl, ap, sym, ◌∙◌, subst, ⊎_elim, arith, Option, Some, slice_get, ne_eqb, length, get_or, set}
 use Rattle.std.proofs.lemmas.Option.{slice_get-map, get_or_from_slice_get}
 use Rattle.std.proofs.lemmas.List.{map-set}
 use Rattle.std.specs.Prelude.{slice_index, slice_set}
@@ -183,7 +183,7 @@ paid-row (looks late) l p payload left has there paid suits = tt
 
 steps-barrier : {T : Type 0} (parties : ℕ) (c : Hidden) (t : QueueStep) (p k : ℕ)
     (found : Option CoreCell) (has : Has) (payload : ℕ)
-    (words : List ℕ) (log : List BarrierEntry) (handed : List T)
+    (words : List ℕ) (log : List BarrierEntry) (handed : List (ℕ × T))
     → ShowsBarrier parties c words log handed → IsOpenStep c.queue t p k found
     → slice_get c.has p ≡ Some has
     → IsPayload (row_of t) has (c.payloads k) payload → Suits barrier_manner t
@@ -244,7 +244,7 @@ begins-barrier parties passes some few any =
 
 -- parties that one pass gives and another gets are all still to arrive
 given-parties : {T : Type 0} (parties : ℕ) (c : Hidden) (from to many : ℕ)
-    (mine theirs gave got : Has) (words : List ℕ) (log : List BarrierEntry) (log_handed : List T)
+    (mine theirs gave got : Has) (words : List ℕ) (log : List BarrierEntry) (log_handed : List (ℕ × T))
     → ShowsBarrier parties c words log log_handed → from ≢ to
     → slice_get c.queue.doing from ≡ Some doing.Idle
     → slice_get c.queue.doing to ≡ Some doing.Idle
@@ -316,4 +316,11 @@ barrier-client parties some low = record {
       let few = barrier-begins_few (barrier_shown parties c words log) p shown.barrier idle
       (rw (further-is c.has p has there) owed) in
       omega arith;
+  slots = record {
+    apart = λ c words log handed p q k mine theirs shown has there o o'. absurd o;
+    steps = λ s has payload k suits o. absurd o;
+    gathers = λ mine theirs k o. ⊎_elim (λ a. absurd a) (λ a. absurd a) o;
+    hands_in = λ c words log handed k value shown.
+        record { word = shown.word; barrier = shown.barrier };
+  };
 }

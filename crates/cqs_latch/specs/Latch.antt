@@ -77,4 +77,5 @@ latch_primitive mode size = record {
   words = state_word (pos size) ∷ waiters_word 0 (size == 0) ∷ [];
   values = 0;
   held = 0;
+  opens = λ has slot. ⊥;
 }

@@ -1,7 +1,7 @@
 -- The latch is a client, in both modes: each step of the queue that suits it keeps what it shows, by
 -- the law of the latch. This file is a proof: nothing of it has to be read to know what is promised,
 -- and nothing in it is taken on trust.
-use Rattle.std.proofs.Common.{◌≡◌, ◌≢◌, ℕ, zero, suc, ◌+◌, ◌-◌, ◌<◌, ◌≤◌, ◌==◌, Bool, true, false, List, [], ◌∷◌, ◌++◌, replicate, refl, ap, sym, ◌∙◌, subst, arith, Option, Some, None, slice_get, ne_eqb, ℤ, pos, length, get_or, set}
+use Rattle.std.proofs.Common.{◌≡◌, ◌≢◌, ℕ, zero, suc, ◌+◌, ◌-◌, ◌<◌, ◌≤◌, ◌==◌, Bool, true, false, List, [], ◌∷◌, ◌++◌, replicate, refl, ap, sym, ◌∙◌, subst, ⊎_elim, arith, Option, Some, None, slice_get, ne_eqb, ℤ, pos, length, get_or, set}
 use Rattle.std.proofs.lemmas.Option.{slice_get-map, get_or_from_slice_get}
 use Rattle.std.proofs.lemmas.List.{map-set, length-set, length-replicate}
 use Rattle.std.specs.Prelude.{slice_index, slice_set}
@@ -309,6 +309,32 @@ hands-latch mode size c from to mine theirs words log shows apart has there =
           (none-held c.has from mine gave has (sym none) shows.none_held);
     }
 
+-- a pass that holds nothing gives nothing of it away
+shares-latch : (mode : CancelMode) (size : ℕ) (c : Hidden) (from to many : ℕ) (mine theirs : Has)
+    (words : List ℕ) (log : List LatchEntry)
+    → ShowsLatch mode size c words log → from ≢ to → slice_get c.has from ≡ Some mine
+    → slice_get c.has to ≡ Some theirs → many ≤ mine.held
+    → ShowsLatch mode size (hands_over c from (record mine { held = mine.held - many }) to
+    (record theirs { held = theirs.held + many })) words log
+shares-latch mode size c from to many mine theirs words log shows apart has there enough =
+    let s = latch_shown mode size c words log in
+    let gave : Has = record mine { held = mine.held - many } in
+    let got : Has = record theirs { held = theirs.held + many } in
+    let still : slice_get (slice_set c.has from gave) to ≡ Some theirs =
+    get-set_else c.has from to gave apart ∙ there in
+    let none : mine.held ≡ 0 = shows.none_held.at from mine has in
+    let same : further_of c.has ≡ further_of (slice_set (slice_set c.has from gave) to got) =
+    further-kept c.has from mine gave has refl
+    ∙ further-kept (slice_set c.has from gave) to theirs got still refl in
+    record {
+      core = subst (λ l. IsLatchCore (record s { owed = l })) same shows.core;
+      two_words = shows.two_words;
+      few_passes = shows.few_passes;
+      few_drawn = shows.few_drawn;
+      none_held = none-held (slice_set c.has from gave) to theirs got still (omega arith)
+          (none-held c.has from mine gave has (omega arith) shows.none_held);
+    }
+
 -- a number is left for each resumption that a pass begins
 begins-latch_few : (mode : CancelMode) (size : ℕ) (c : Hidden) (words : List ℕ)
     (log : List LatchEntry) (p : ℕ) (has : Has) (cost : Cost) (payload : ℕ)
@@ -344,6 +370,8 @@ latch-client mode size = record {
     };
   hands = λ c from to mine theirs words log handed shows apart idle idle' has there.
       hands-latch mode size c from to mine theirs words log shows apart has there;
+  shares = λ c from to many mine theirs words log handed shows apart idle idle' has there enough.
+      shares-latch mode size c from to many mine theirs words log shows apart has there enough;
   silent = silent-step;
   sound = λ c words log handed shows. core-sound (latch_shown mode size c words log) shows.core;
   legal_shown = λ c words log handed shows. shows.core.legal;
@@ -355,4 +383,10 @@ latch-client mode size = record {
       let few =
       begins-latch_few mode size c words log p has cost payload shows idle there paid begun suits in
       omega arith;
+  slots = record {
+    apart = λ c words log handed p q k mine theirs shown has there o o'. absurd o;
+    steps = λ s has payload k suits o. absurd o;
+    gathers = λ mine theirs k o. ⊎_elim (λ a. absurd a) (λ a. absurd a) o;
+    hands_in = λ c words log handed k value shown. shown;
+  };
 }

@@ -40,7 +40,8 @@ pub record ShowsPool (size : ℕ) (c : Hidden) (log : List PoolEntry) : Type 0 w
   pub uncounted : EachAt (λ p (h : Has). h.held ≡ 0) c.has
   pub unrefused : EachAt (λ k (cell : CoreCell). cell.state ≢ state.Refused) c.queue.cells
 
-abbrev pub shows_pool : {T : Type 0} → ℕ → Hidden → List ℕ → List PoolEntry → List T → Type 0
+abbrev pub shows_pool : {T : Type 0} → ℕ → Hidden → List ℕ → List PoolEntry → List (ℕ × T)
+    → Type 0
 shows_pool size c words log handed = ShowsPool size c log
 
 -- a pass that has what it waited for has that element in hand
@@ -68,4 +69,5 @@ pool_primitive size = record {
   words = [];
   values = size;
   held = 0;
+  opens = λ has slot. ⊥;
 }

@@ -1,7 +1,7 @@
 -- The pool is a client: each step of the queue that suits it keeps the pool that its table shows,
 -- by the law of the pool. This file is a proof: nothing of it has to be read to know what is
 -- promised, and nothing in it is taken on trust.
-use Rattle.std.proofs.Common.{◌≡◌, ◌≢◌, ◌⊎◌, inl, inr, ℕ, zero, suc, ◌+◌, ◌-◌, ◌<◌, ◌≤◌, ◌==◌, nat_lt, true, false, List, [], ◌∷◌, ◌++◌, replicate, map, refl, ap, sym, ◌∙◌, subst, arith, Option, Some, None, slice_get, lt-ltb, ne_eqb, eq-eqb, eqb-true, le-leb, length, get_or, set, nat_le, if◌then◌else◌}
+use Rattle.std.proofs.Common.{◌≡◌, ◌≢◌, ◌⊎◌, inl, inr, ⊎_elim, ℕ, zero, suc, ◌+◌, ◌-◌, ◌<◌, ◌≤◌, ◌==◌, nat_lt, true, false, List, [], ◌∷◌, ◌++◌, replicate, map, refl, ap, sym, ◌∙◌, subst, arith, Option, Some, None, slice_get, lt-ltb, ne_eqb, eq-eqb, eqb-true, le-leb, length, get_or, set, nat_le, if◌then◌else◌}
 use Rattle.std.specs.List.{sum_by}
 use Rattle.std.proofs.lemmas.Bool.{cases_Bool, both_ways, cases_eq, cases_lt}
 use Rattle.std.proofs.lemmas.Option.{slice_get-map, get_or_from_slice_get}
@@ -479,6 +479,34 @@ hands-pool size c from to mine theirs log shows apart idle idle' has there =
       unrefused = shows.unrefused;
     }
 
+-- a pass that counts nothing gives nothing of it away
+shares-pool : (size : ℕ) (c : Hidden) (from to many : ℕ) (mine theirs : Has) (log : List PoolEntry)
+    → ShowsPool size c log → from ≢ to
+    → slice_get c.has from ≡ Some mine → slice_get c.has to ≡ Some theirs → many ≤ mine.held
+    → ShowsPool size (hands_over c from (record mine { held = mine.held - many }) to
+    (record theirs { held = theirs.held + many })) log
+shares-pool size c from to many mine theirs log shows apart has there enough =
+    let s : PoolShape = pool_shown size c log in
+    let gave : Has = record mine { held = mine.held - many } in
+    let got : Has = record theirs { held = theirs.held + many } in
+    let rest : List Has = slice_set c.has from gave in
+    let stays : slice_get rest to ≡ Some theirs = get-set_else c.has from to gave apart ∙ there in
+    let loads : s.loads ≡ loads_of (slice_set rest to got) =
+    load-kept c.has from mine gave has refl ∙ load-kept rest to theirs got stays refl in
+    let holds : s.holds ≡ holds_of (slice_set rest to got) =
+    hold-kept c.has from mine gave has refl ∙ hold-kept rest to theirs got stays refl in
+    let none = shows.uncounted in
+    let gives : gave.held ≡ 0 = omega (arith, none.at from mine has) in
+    let gets : got.held ≡ 0 = omega (arith, none.at from mine has, none.at to theirs there) in
+    record {
+      is_pool = subst (λ (z : List ℕ × List (List ℕ)).
+          IsPool (record s { loads = z.0; holds = z.1 }))
+          (λ i. (loads i, holds i)) shows.is_pool;
+      uncounted = uncounted-set rest to theirs got stays gets
+          (uncounted-set c.has from mine gave has gives none);
+      unrefused = shows.unrefused;
+    }
+
 -- a resumption that an idle pass begins is a put
 begun-put : (cost : Cost) (has : Has) (payload : ℕ) → IsBegun cost
     → Suits pool_manner (begun_by cost)
@@ -496,6 +524,8 @@ pool-client size = record {
       { is_pool = shows.is_pool; uncounted = shows.uncounted; unrefused = shows.unrefused };
   hands = λ c from to mine theirs words log handed shows apart idle idle' has there.
       hands-pool size c from to mine theirs log shows apart idle idle' has there;
+  shares = λ c from to many mine theirs words log handed shows apart idle idle' has there enough.
+      shares-pool size c from to many mine theirs log shows apart has there enough;
   silent = silent-step;
   sound = λ c words log handed shows. shows.is_pool.sound;
   legal_shown = λ c words log handed shows. shows.is_pool.legal;
@@ -510,4 +540,10 @@ pool-client size = record {
         subst (λ xs. IsIn payload xs) (sym (hold-is c.has p has there))
             (has-in payload has.slots (begun-put cost has payload begun suits paid)),
       ));
+  slots = record {
+    apart = λ c words log handed p q k mine theirs shows has there o o'. absurd o;
+    steps = λ s has payload k suits o. absurd o;
+    gathers = λ mine theirs k o. ⊎_elim (λ a. absurd a) (λ a. absurd a) o;
+    hands_in = λ c words log handed k value shows. shows;
+  };
 }

@@ -77,7 +77,7 @@ module _ {T : Type 0} where
   }
 
   -- a meet
-  pub course-met : (v w : View Entry T) (facts : Facts) (seen : List Entry) (handed : List T) (own : List ℕ)
+  pub course-met : (v w : View Entry T) (facts : Facts) (seen : List Entry) (handed : List (ℕ × T)) (own : List ℕ)
       → Met semaphore_object v facts seen handed own w → IsLegal w.opening.size w.seen → Course v [] w
   course-met v w facts seen handed own m legal = record {
     number = m.number;

@@ -11,10 +11,10 @@ ghost use Rattle.cqs_semaphore.specs.Steps.{WaitsInLine};
 
 use crate::answers::{Acquired, Permit};
 use crate::semaphore::{SemPass, Semaphore};
-use cqs_rule::{AcquireError, next_wait, take_permit};
+use cqs_rule::{AcquireError, Carries, next_wait, take_permit};
 use cqs_suspend::{Suspended, suspend};
 
-impl<T: Send + Drop> Semaphore<T> {
+impl<T: Carries + Send> Semaphore<T> {
     /// A permit where one is free, or else a wait for one. It is refused as worn where as many
     /// numbers were drawn as the limit allows, even if a permit is free.
     #[inline(always)]

@@ -16,9 +16,9 @@ use crate::releasing::released;
 use crate::semaphore::{SemPass, Semaphore};
 use cqs_cancel::{Left, cancel};
 use cqs_resume::resume;
-use cqs_rule::{Under, Wait};
+use cqs_rule::{Carries, Under, Wait};
 
-impl<T: Send + Drop> Semaphore<T> {
+impl<T: Carries + Send> Semaphore<T> {
     /// Ends a wait: the caller leaves the line, or has the permit that had come before. Where a
     /// permit was left to the caller who leaves, it goes on to the next one.
     #[inline(always)]

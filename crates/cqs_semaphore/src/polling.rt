@@ -11,10 +11,10 @@ ghost use Rattle.cqs_semaphore.specs.Entries.{polled_entries};
 use crate::answers::{Permit, Polled};
 use crate::semaphore::{SemPass, Semaphore};
 use cqs_cell::look;
-use cqs_rule::{Polls, SemClient, Wait};
+use cqs_rule::{Carries, Polls, SemClient, Wait};
 use cqs_words::CellState;
 
-impl<T: Send + Drop> Semaphore<T> {
+impl<T: Carries + Send> Semaphore<T> {
     /// Looks whether the wait was served: one load.
     #[inline(always)]
     pub fn poll(&self, pass: &mut SemPass<T>, wait: Wait) -> Polled

@@ -5,6 +5,7 @@ ghost use Rattle.cqs_core.specs.declared.doings.Doing.TheVariants as doing;
 ghost use Rattle.cqs_rule.specs.Crew.{IsBetween};
 ghost use Rattle.cqs_rule.specs.Owed.{HasUnder, under_payload, under_reached, under_ticket};
 ghost use Rattle.cqs_rule.specs.Passes.{pass_view};
+ghost use Rattle.cqs_rule.specs.SemaphoreSlots.{IsFull};
 ghost use Rattle.cqs_semaphore.specs.Alone.{IsPlainRelease, IsPlainEnd, IsTurnedBack};
 ghost use Rattle.cqs_semaphore.specs.Answers.{Releases, Ends, most_passed_over};
 ghost use Rattle.cqs_semaphore.specs.Calls.{IsReady, IsMine, CallRule, plain_after};
@@ -14,10 +15,11 @@ ghost use Rattle.cqs_semaphore.specs.Steps.{as_released, HasEnded, IsFurther};
 use crate::answers::{Permit, Released};
 use crate::semaphore::{SemPass, Semaphore};
 use cqs_resume::{Resumed, finish, resume};
-use cqs_rule::{Crowded, Under, give_permit};
+use cqs_rule::{Carries, Crowded, Under, give_permit};
 
-impl<T: Send + Drop> Semaphore<T> {
-    /// Gives a permit back: it is free, or it goes to the first who waits.
+impl<T: Carries + Send> Semaphore<T> {
+    /// Gives a permit back: it is free, or it goes to the first who waits. Where a value moves with
+    /// the permit, it lies in its slot again.
     #[inline(always)]
     pub fn release(
         &self,
@@ -27,6 +29,7 @@ impl<T: Send + Drop> Semaphore<T> {
         requires belongs { IsMine self.now pass.old }
         requires ready { IsReady (pass_view pass.old).facts }
         requires holds { 0 < (pass_view pass.old).facts.has.held }
+        requires full { IsFull T.kept (pass_view pass.old) }
         ensures belongs { IsMine self.now pass.new }
         ensures called { CallRule (pass_view pass.old)
             (released_entries (pass_view pass.old).number result) (released_further result)

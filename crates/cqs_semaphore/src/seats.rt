@@ -11,9 +11,9 @@ ghost use Rattle.cqs_semaphore.specs.Calls.{IsReady, IsMine, Course};
 ghost use Rattle.cqs_semaphore.specs.Seats.{LookedOn, SeesAll};
 
 use crate::semaphore::{SemPass, Semaphore};
-use cqs_rule::{Crowd, MeetError};
+use cqs_rule::{Carries, Crowd, MeetError};
 
-impl<T: Send + Drop> Semaphore<T> {
+impl<T: Carries + Send> Semaphore<T> {
     /// A new pass, which has seen what this one has seen, has done nothing and holds nothing.
     pub fn split(&self, pass: &mut SemPass<T>) -> Result<SemPass<T>, Crowd>
         requires belongs { IsMine self.now pass.old }

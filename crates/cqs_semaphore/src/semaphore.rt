@@ -9,7 +9,7 @@ ghost use Rattle.cqs_rule.specs.Views.{first_view};
 ghost use Rattle.cqs_rule.specs.declared.config.CancelMode.TheVariants.{Smart};
 ghost use Rattle.cqs_semaphore.specs.Calls.{IsReady, Rests, IsMine, CallRule, permits_in, plain_after};
 
-use cqs_rule::{CancelMode, Config, MakeError, Pass, Queue, SemClient, read_state};
+use cqs_rule::{CancelMode, Carries, Config, MakeError, Pass, Queue, SemClient, read_state};
 use cqs_words::StateWord;
 use std::alloc::Global;
 
@@ -19,9 +19,9 @@ pub type SemPass<T = ()> = Pass<SemClient<T>>;
 /// The most permits that a semaphore may be made with.
 const MOST_PERMITS: u32 = 1_048_576;
 
-/// A fair semaphore, with values of `T` in its slots; a plain one has none.
+/// A fair semaphore, whose permits carry what `T` says; those of a plain one carry nothing.
 #[derive(Drop)]
-pub struct Semaphore<T: Drop = ()> {
+pub struct Semaphore<T: Carries = ()> {
     pub(crate) queue: Queue<SemClient<T>>,
 }
 
@@ -53,7 +53,7 @@ impl Semaphore {
     }
 }
 
-impl<T: Send + Drop> Semaphore<T> {
+impl<T: Carries + Send> Semaphore<T> {
     /// The state: the free permits, less those who wait with none on its way.
     pub fn state(&self, pass: &mut SemPass<T>) -> i64
         requires belongs { IsMine self.now pass.old }

@@ -11,10 +11,10 @@ ghost use Rattle.cqs_semaphore.specs.Entries.{tried_entries};
 
 use crate::answers::{Permit, Tried};
 use crate::semaphore::{SemPass, Semaphore};
-use cqs_rule::{load_state, try_take};
+use cqs_rule::{Carries, load_state, try_take};
 use cqs_words::{PackedState, StateWord};
 
-impl<T: Send + Drop> Semaphore<T> {
+impl<T: Carries + Send> Semaphore<T> {
     /// A permit where one is free, by one load and at most one exchange. It never waits.
     #[inline(always)]
     pub fn try_acquire(&self, pass: &mut SemPass<T>) -> Tried

@@ -115,7 +115,7 @@ module _ {C E S : Type 0} (object : Object E) (primitive : C → Primitive E S) 
       let short : IsShort c.queue = record {
         line = line-flat c.queue (client.sound c words r.log r.handed r.shown) drawn
             (resumes-low passes limit (primitive x).values c r.room);
-        drawn = omega (arith, drawn);
+        drawn = drawn;
       } in
       let t : Turned object (primitive x) passes limit s r v word (f n) d es after = record {
         crew = crew-else s.words word (f n) (omega arith);

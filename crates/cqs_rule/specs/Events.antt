@@ -13,7 +13,6 @@ use Rattle.cqs_rule.specs.declared.view.Opening.{Opening}
 use Rattle.cqs_rule.specs.declared.view.Sighting.TheVariants.{Word}
 use Rattle.cqs_rule.specs.Facts.{is_owing}
 use Rattle.cqs_rule.specs.Hidden.{Hidden, stands_at}
-use Rattle.cqs_rule.specs.Client.{no_number}
 use Rattle.cqs_rule.specs.Layout.{client_place}
 use Rattle.cqs_rule.specs.Lists.{NamesOnly}
 use Rattle.cqs_rule.specs.Object.{Object, Primitive}
@@ -126,14 +125,14 @@ added by n = (n + raise by) % 2 ^ 64
 abbrev pub exchanged : ℕ → ℕ → ℕ → ℕ
 exchanged saw new n = either (where_found saw n) new n
 
--- the waits in line are fewer than this at any time
+-- the waits in line are fewer than this at any time, and so are the numbers that were drawn
 abbrev pub longest_line : ℕ
 longest_line = 4194304
 
--- Few wait in line, and a number is left to suspend at, whenever a step is made.
+-- Few wait in line, and few numbers were drawn to suspend at, whenever a step is made.
 pub record IsShort (q : Queue) : Type 0 where
   pub line : length (line q) < longest_line
-  pub drawn : q.suspends < no_number
+  pub drawn : q.suspends < longest_line
 
 -- A step that shows the event leaves its pass the slots that it has laid something into.
 abbrev pub SlotsStay : {E S : Type 0} → Primitive E S → ℕ → Event E → (ℕ → Bool) → View E S → Type 0

@@ -39,7 +39,8 @@ module _ {T : Type 0} where
   }
 
   -- one after another
-  pub course-then : (v u w : View PoolEntry T) (es fs : List PoolEntry) → Course v es u → Course u fs w → Course v (es ++ fs) w
+  pub course-then : (v u w : View PoolEntry T) (es fs : List PoolEntry) → Course v es u → Course u fs w
+      → Course v (es ++ fs) w
   course-then v u w es fs c d = record {
     number = d.number ∙ c.number;
     more = c.more ++ d.more;
@@ -52,7 +53,8 @@ module _ {T : Type 0} where
   }
 
   -- the entries of those that were met into a pass are those that they had made
-  pub met-rest : (v w : View PoolEntry T) (own further : List PoolEntry) → CallRule v own further w → (n : ℕ) → Has n v.own
+  pub met-rest : (v w : View PoolEntry T) (own further : List PoolEntry) → CallRule v own further w → (n : ℕ)
+      → Has n v.own
       → n ≢ v.number → part entry_names n w.seen ≡ part entry_names n v.seen
   met-rest v w own further c n h other =
       ap (part entry_names n) c.called.seen

@@ -33,8 +33,8 @@ impl<T: Send + Drop> Pool<T> {
         self.queue.split(pass, 0)
     }
 
-    /// The pass takes in the given one: it has seen what each of them had seen, and has the elements
-    /// of both.
+    /// The pass takes in the given one: it has seen what each of them had seen, and has the
+    /// elements of both.
     pub fn meet(
         &self,
         pass: &mut PoolPass<T>,

@@ -175,12 +175,12 @@ module _ {T : Type 0} (k : ℕ) (v u : View Entry T) (alone : v.alone ≡ true) 
 
   -- no resumption is still owed: the wait has left
   pub left-now : (under : Option Token) → under ≡ None → HasCancelled k v (Cancelled under) u → HasLeft k v u
-  left-now under none (None, rule, (cell, passes)) = left-rests rule passes.1
-  left-now under none (Some Freed, rule, (cell, passes)) = absurd passes.2
-  left-now under none (Some (Sent j), rule, (cell, passes)) = absurd (none-sent j rule)
-  left-now under none (Some (Left j), rule, (cell, passes)) = left-rests rule passes.2.1
-  left-now under none (Some (Void j), rule, (cell, passes)) = left-rests rule passes.2.1
-  left-now under none (Some (Under token), rule, (cell, passes)) =
+  left-now under none (None, rule, (cell, passes, why)) = left-rests rule passes.1
+  left-now under none (Some Freed, rule, (cell, passes, why)) = absurd passes.2
+  left-now under none (Some (Sent j), rule, (cell, passes, why)) = absurd (none-sent j rule)
+  left-now under none (Some (Left j), rule, (cell, passes, why)) = left-rests rule passes.2.1
+  left-now under none (Some (Void j), rule, (cell, passes, why)) = left-rests rule passes.2.1
+  left-now under none (Some (Under token), rule, (cell, passes, why)) =
       let other : Some token ≡ None = sym passes.0 ∙ none in absurd (cc)
 
   -- one is still owed: the wait has left once that has ended
@@ -194,15 +194,15 @@ module _ {T : Type 0} (k : ℕ) (v u : View Entry T) (alone : v.alone ≡ true) 
 
   pub owes-still : (under : Option Token) (token : Token) → under ≡ Some token
       → HasCancelled k v (Cancelled under) u → OwesStill token
-  owes-still under token some (None, rule, (cell, passes)) =
+  owes-still under token some (None, rule, (cell, passes, why)) =
       let other : None ≡ Some token = sym passes.0 ∙ some in absurd (cc)
-  owes-still under token some (Some Freed, rule, (cell, passes)) = absurd passes.2
-  owes-still under token some (Some (Sent j), rule, (cell, passes)) = absurd (none-sent j rule)
-  owes-still under token some (Some (Left j), rule, (cell, passes)) =
+  owes-still under token some (Some Freed, rule, (cell, passes, why)) = absurd passes.2
+  owes-still under token some (Some (Sent j), rule, (cell, passes, why)) = absurd (none-sent j rule)
+  owes-still under token some (Some (Left j), rule, (cell, passes, why)) =
       let other : None ≡ Some token = sym passes.0 ∙ some in absurd (cc)
-  owes-still under token some (Some (Void j), rule, (cell, passes)) =
+  owes-still under token some (Some (Void j), rule, (cell, passes, why)) =
       let other : None ≡ Some token = sym passes.0 ∙ some in absurd (cc)
-  owes-still under token some (Some (Under owed), rule, (cell, passes)) =
+  owes-still under token some (Some (Under owed), rule, (cell, passes, why)) =
       let both : Some owed ≡ Some token = sym passes.0 ∙ some in
       let one : owed ≡ token = cc in
       let ended = passes.2 in

@@ -79,8 +79,8 @@ module _ {T : Type 0} where
   }
 
   -- a meet
-  pub course-met : (v w : View PoolEntry T) (facts : Facts) (seen : List PoolEntry) (handed : List (ℕ × T)) (own : List ℕ)
-      → Met pool_object v facts seen handed own w → IsLegal w.opening.size w.seen → Course v [] w
+  pub course-met : (v w : View PoolEntry T) (facts : Facts) (seen : List PoolEntry) (handed : List (ℕ × T))
+      (own : List ℕ) → Met pool_object v facts seen handed own w → IsLegal w.opening.size w.seen → Course v [] w
   course-met v w facts seen handed own m legal = record {
     number = m.number;
     more = m.prefix.0;

@@ -38,7 +38,10 @@ impl<T: Send + Drop> Pool<T> {
             (pass_view pass.old).facts.waits placed (pass_view pass.new)) }
         ensures between { IsBetween (pass_view pass.new).facts }
     {
-        let Element { number: payload, .. } = element;
+        let Element {
+            number: payload,
+            ..
+        } = element;
         let number = self.queue.add_table::<Puts>(pass, RESUMES_WORD, 1);
         Ok(placed_by(resume_from(&self.queue, pass, number, payload)))
     }

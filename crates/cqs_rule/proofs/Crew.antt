@@ -433,7 +433,8 @@ module _ {E S : Type 0} (object : Object E) (primitive : Primitive E S) (passes 
       → me.0.facts.open_slot ≡ None → made_in first < passes → MayGive primitive.opens gives me.0.facts
       → Allows R slots id me 0 (λ n. either (n == first) (first + 4294967297) n)
       (tried_by object gives (step slots 0 first (first + 4294967297) none) me)
-  makes slots id first gives me one shut room may s r _ here small = exchanged n first (first + 4294967297) Done hit miss
+  makes slots id first gives me one shut room may s r _ here small =
+      exchanged n first (first + 4294967297) Done hit miss
     where
       n : ℕ
       n = slice_index s.words 0

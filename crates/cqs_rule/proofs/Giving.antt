@@ -1,5 +1,5 @@
--- A step on a word of the client by which the pass gives a slot away: the value that lies there is handed in by the same
--- step.
+-- A step on a word of the client by which the pass gives a slot away: the value that lies there is handed in by the
+-- same step.
 use Rattle.std.proofs.Common.{◌≡◌, ℕ, ◌+◌, ◌<◌, ◌^◌, ◌%◌, Bool, List, [], ◌∷◌, ◌++◌, length, set, sym, refl, ap, ◌∙◌, subst, arith, inl, Option, Some, None}
 use Rattle.std.specs.Prelude.{slice_index, slice_set}
 use Rattle.std.proofs.lemmas.Option.{same_Some}

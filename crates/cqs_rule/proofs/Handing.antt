@@ -290,7 +290,8 @@ module _ {E S : Type 0} (object : Object E) (primitive : Primitive E S) (passes 
           → u.facts.open_slot ≡ Some j → ⊥)
           → get_elem? s.homes j ≡ some (some (lying r.shelf.lies k y j))
       home j low none =
-          let was = back primitive.opens s.views id v w (λ u. u.facts.open_slot ≡ Some j → ⊥) here alive (λ q. q) none in
+          let was = back primitive.opens s.views id v w (λ u. u.facts.open_slot ≡ Some j → ⊥) here alive (λ q. q)
+          none in
           let old = r.shelf.home j low was in dite (ℕ_discrete j k)
           (λ (same : j ≡ k). ⊎_elim
           (λ (is : laid_in v.laid k ≡ Some (Some y)).

@@ -165,8 +165,8 @@ module _ {E S : Type 0} (object : Object E) (primitive : Primitive E S) (passes 
       let t = still object primitive passes limit client s r v 0 r.hidden v.facts
       r.counters r.cells r.room r.door r.shown (others-same r.hidden v.number) k.stands k.payload_fits
       (keeps-same primitive.opens v) in (
-        advance-on object primitive passes limit s r id cs v 0 (slice_index s.words 0) r.hidden [] v.facts v.crew v.alone
-            out laid act here one k.crew (λ a. (k.alone a).0) t shelf,
+        advance-on object primitive passes limit s r id cs v 0 (slice_index s.words 0) r.hidden [] v.facts v.crew
+            v.alone out laid act here one k.crew (λ a. (k.alone a).0) t shelf,
         saw-slotted object v v.facts [] (r.log ++ []) r.handed out laid
             (saw object primitive passes limit s r id v [] v.facts here one),
         live-laid object (grown v v.facts (r.log ++ []) r.handed) laid
@@ -363,7 +363,8 @@ module _ {E S : Type 0} (object : Object E) (primitive : Primitive E S) (passes 
             let same : y ≡ z = same_Some y z (ap first-of (sym is ∙ q)) in (
               record {
                 laid_is = taken_none k v.laid bare;
-                saw = saw-given object v g w t.1 refl (longer v.handed r.handed ((k, y) ∷ []) (r.each_view id v here (omega arith)).sees.handed_in);
+                saw = saw-given object v g w t.1 refl
+                    (longer v.handed r.handed ((k, y) ∷ []) (r.each_view id v here (omega arith)).sees.handed_in);
                 live = live-out object w v.facts refl refl refl t.2;
               },
               subst (λ u. HandedIn k u v w) same (record {

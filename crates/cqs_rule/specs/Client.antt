@@ -78,7 +78,8 @@ module _ {E S : Type 0} (object : Object E) (primitive : Primitive E S) where
         → primitive.shows (happened object.gains c s p k found has payload) words
         (log ++ object.entries s p k payload) handed
     -- who may draw is no part of what it shows
-    pub counts : (c : Hidden) (p : ℕ) (may : Bool) (words : List ℕ) (log : List E) (handed : List (ℕ × S))
+    pub counts : (c : Hidden) (p : ℕ) (may : Bool) (words : List ℕ) (log : List E)
+        (handed : List (ℕ × S))
         → primitive.shows c words log handed
         → primitive.shows (now_may_draw c p may) words log handed
     -- what one idle pass holds and has in hand may become that of another

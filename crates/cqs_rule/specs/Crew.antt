@@ -35,8 +35,8 @@ pub record IsSole {C E S : Type 0} (primitive : C → Primitive E S) (v : View E
 abbrev pub OpensNone : (OwnHas → ℕ → Type 0) → OwnHas → Type 0
 OpensNone opens has = (k : ℕ) → opens has k → ⊥
 
--- A pass may give so much of what it holds: no more than that; and where it gives any, it is between
--- two calls and may open no value slot.
+-- A pass may give so much of what it holds: no more than that; and where it gives any, it is
+-- between two calls and may open no value slot.
 pub record MayGive (opens : OwnHas → ℕ → Type 0) (gives : ℕ) (f : Facts) : Type 0 where
   pub enough : gives ≤ f.has.held
   pub idle : 0 < gives → f.doing ≡ doing.Idle
@@ -81,8 +81,8 @@ module _ {E : Type 0} (object : Object E) where
 
     -- The view v has taken in what another pass, with these numbers, had seen, and stands at these
     -- facts now. The entries of each number are those that the pass which had it had seen.
-    pub record Met (v : View E S) (facts : Facts) (seen : List E) (handed : List (ℕ × S)) (own : List ℕ)
-        (w : View E S) : Type 0 where
+    pub record Met (v : View E S) (facts : Facts) (seen : List E) (handed : List (ℕ × S))
+        (own : List ℕ) (w : View E S) : Type 0 where
       pub number : w.number ≡ v.number
       pub weight : w.weight ≡ 1
       pub facts_are : w.facts ≡ facts

@@ -173,8 +173,8 @@ module _ {E S : Type 0} (object : Object E) where
     pub theirs : (n : ℕ) → Has n v.others → part object.names n v.other ≡ part object.names n log
 
   -- what the rule says of one live view
-  pub record Knows (c : Hidden) (log : List E) (handed : List (ℕ × S)) (made live passes limit cells : ℕ)
-      (opening : Opening)
+  pub record Knows (c : Hidden) (log : List E) (handed : List (ℕ × S))
+      (made live passes limit cells : ℕ) (opening : Opening)
       (v : View E S) : Type 0 where
     pub sees : Sees log handed v
     pub below : (n : ℕ) → Has n (all_own v) → n < made

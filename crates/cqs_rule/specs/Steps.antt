@@ -24,7 +24,8 @@ module _ {C S E : Type 0} {g : Ghosts C S E} where
 
   -- and leaves the pass the slots that it has laid something into
   abbrev pub MayKeep : Queue C S E → Pass C S E g → Event E → (ℕ → Bool) → Type 0
-  MayKeep q p event made = SlotsStay (g.primitive (client_of q)) (slots_of q) event made (pass_view p)
+  MayKeep q p event made =
+      SlotsStay (g.primitive (client_of q)) (slots_of q) event made (pass_view p)
 
   -- the pass may open this slot
   abbrev pub IsOpener : Queue C S E → Pass C S E g → ℕ → Type 0

@@ -103,7 +103,7 @@ impl<C: ClientWords> Queue<C> {
     }
 
     /// Puts a value into a slot, or nothing, and hands out what lay there. The pass must hold the
-    /// slot. It is no step of a client: two loads of the crew's word take the slot from its home and
+    /// slot. It is no step of a client: two loads of the crew's word take the slot from home and
     /// put it back.
     pub fn swap_slot(
         &self,

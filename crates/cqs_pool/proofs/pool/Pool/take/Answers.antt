@@ -9,7 +9,7 @@ use Rattle.cqs_pool.proofs.pool.Pool.take.Goals as goal
 pub returns-then-load_table-limit-clause-called : goal.returns-then-load_table-limit-clause-called
 returns-then-load_table-limit-clause-called g c =
     call-rule_own _ _ [] [] (loaded-called _ _ _ (next-is _ _ _ c.load_table.ensures.saw)) tt
-        c.requires.belongs.live.own
+    c.requires.belongs.live.own
     c.load_table.ensures.belongs.live.legal
 
 pub returns-then-load_table-limit-clause-worn : goal.returns-then-load_table-limit-clause-worn

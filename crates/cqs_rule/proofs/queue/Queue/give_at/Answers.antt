@@ -23,7 +23,8 @@ fetch_add-found-requires g c =
           (λ n. (n + c.from.result) % 2 ^ 64) g.K.Numbered.slot
           c.args.pass.now.live.0 c.args.pass.now.shut c.requires.word c.place.ensures
           (λ n. ap (λ k. (n + k) % 2 ^ 64) c.from.ensures)
-          (subst (λ k. GivesAway (C.primitive x) slots g.M.Shown.event in_any_case k v) c.requires.number c.requires.slots)
+          (subst (λ k. GivesAway (C.primitive x) slots g.M.Shown.event in_any_case k v) c.requires.number
+          c.requires.slots)
           c.requires.law s r homes here small in (
             t.0,
             t.1,

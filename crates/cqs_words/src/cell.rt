@@ -1,3 +1,5 @@
+//! The word of a cell: its number in the queue, its state, and what the last caller left in it.
+
 ghost use Rattle.std.specs.Prelude.{◌≡◌, ◌≢◌, ◌%◌, ◌^◌, Option, Some, IfSome, IfNone};
 ghost use Rattle.cqs_words.specs.Packing.{IsPacking, IsNoPacking};
 ghost use Rattle.cqs_words.specs.Cell.{state_code, state_of, CellFits, packed_cell, unpacked_cell};

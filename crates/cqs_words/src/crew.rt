@@ -1,3 +1,5 @@
+//! The word of the crew: how many passes were made, and how many of them are live.
+
 ghost use Rattle.std.specs.Prelude.{◌≡◌, ◌+◌, ◌<◌, ◌^◌};
 ghost use Rattle.cqs_words.specs.Packing.{IsPacking};
 ghost use Rattle.cqs_words.specs.Crew.{made_in, live_in, CrewFits, packed_crew, unpacked_crew, crew_word};

@@ -1,3 +1,5 @@
+//! The word of a slot: whether it is free, claimed or live, and for which segment.
+
 ghost use Rattle.std.specs.Prelude.{◌≡◌, Option, Some, IfSome, IfNone};
 ghost use Rattle.cqs_words.specs.Packing.{IsPacking, IsNoPacking};
 ghost use Rattle.cqs_words.specs.Head.{tag_code, tag_of, HeadFits, packed_head, unpacked_head};

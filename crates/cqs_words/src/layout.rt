@@ -1,5 +1,6 @@
-// Where the fields lie. A word is a stack of fields, the lowest first. `join` puts one more field
-// below what is there, and `split` takes it away again.
+//! Where the fields lie. A word is a stack of fields, the lowest first. `join` puts one more field
+//! below what is there, and `split` takes it away again.
+
 ghost use Rattle.std.specs.Prelude.{◌≡◌, ◌+◌, ◌*◌, ◌/◌, ◌%◌, ◌^◌, ◌<◌};
 
 // A cell has its payload in the lowest bits, then the code of its state, and its

@@ -1,3 +1,5 @@
+//! The words of the last segment and of the next one, each with the slot that it lies in.
+
 ghost use Rattle.std.specs.Prelude.{◌≡◌, Option, Some, IfSome, IfNone};
 ghost use Rattle.cqs_words.specs.Packing.{IsPacking, IsNoPacking};
 ghost use Rattle.cqs_words.specs.Segment.{TailFits, packed_tail, unpacked_tail, LinkFits, packed_link, unpacked_link};

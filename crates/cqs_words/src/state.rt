@@ -1,3 +1,5 @@
+//! The word of a signed count: so much is free, or so many callers wait.
+
 ghost use Rattle.std.specs.Prelude.{◌≡◌, ◌-◌, ◌-ℤ◌, pos, true, Option, Some, IfSome, IfNone};
 ghost use Rattle.cqs_words.specs.Packing.{IsPacking, IsNoPacking};
 ghost use Rattle.cqs_words.specs.State.{StateFits, packed_state, unpacked_state, count_in, is_above_zero, is_below_zero};

@@ -1,3 +1,5 @@
+//! The packed word of a latch: how many callers wait at it, and whether it is open.
+
 ghost use Rattle.std.specs.Prelude.{◌≡◌, ◌+◌, ◌^◌, ◌<◌, bit_or};
 ghost use Rattle.cqs_words.specs.Packing.{IsPacking};
 ghost use Rattle.cqs_words.specs.Waiters.{WaitersFit, packed_waiters, unpacked_waiters, waiters_in, is_done};

@@ -1,6 +1,6 @@
 //! Both floors: a plan is run on semaphores of the running queue, and again on cores.
 
-ghost use Rattle.std.specs.Prelude.{◌≡◌, IfOk};
+ghost use Rattle.std.specs.Prelude.{◌≡◌, ◌≢◌, IfOk};
 ghost use Rattle.cqs_plan.specs.Floor.{opening_floor};
 ghost use Rattle.cqs_plan.specs.Runnable.{IsRunnable};
 ghost use Rattle.cqs_turns.specs.Report.{report_of};
@@ -33,8 +33,10 @@ fn report_on<F: Floor + Drop>(alloc: Global, plan: &Plan, floor: F) -> Result<Re
     Ok(report)
 }
 
-/// Runs a plan on both floors, and compares the reports byte for byte.
-pub fn compare(alloc: Global, bytes: &[u8]) -> Result<Compared, Memory> {
+/// Runs a plan on both floors, and compares the reports byte for byte. They are the same.
+pub fn compare(alloc: Global, bytes: &[u8]) -> Result<Compared, Memory>
+    ensures { IfOk result (λ compared. compared ≢ Compared.Different) }
+{
     let plan = match read_plan(alloc, bytes) {
         Ok(plan) => plan,
         Err(PlanError::Memory) => return Err(Memory),

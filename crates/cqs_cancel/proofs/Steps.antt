@@ -75,7 +75,7 @@ none-after state.Delegated is more = is
 none-after state.Cancelled is more = is
 none-after state.Refused is more = is
 
-no-more : {A : Type 0} (l : List A) → length l ≤ 0 → l ≡ []
+pub no-more : {A : Type 0} (l : List A) → length l ≤ 0 → l ≡ []
 no-more [] few = refl
 no-more (x ∷ xs) few = absurd (omega arith)
 

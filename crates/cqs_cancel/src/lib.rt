@@ -11,6 +11,8 @@
 //! ```
 #![tactic(auto)]
 
+mod at_once;
 mod cancelling;
 
+pub use at_once::{AtOnce, cancel_at_once};
 pub use cancelling::{Left, cancel};

@@ -10,6 +10,7 @@
 //! | Value | Taken | `take_value`: its suspend | delivered |
 //! | Waiter | Resumed | `serve`: its resume | delivered |
 //! | Waiter | Cancelling | `begin_cancel`: the owner of the wait | |
+//! | Waiter | Cancelled | `leave_at_once`: the owner, where the resume is to end there | |
 //! | Cancelling | Delegated | `delegate`: the resume | |
 //! | Cancelling, Delegated | Cancelled | `settle`: the owner, where resumes are to pass over | |
 //! | Cancelling, Delegated | Refused | `settle`: the owner, where the resume is to end there | |
@@ -20,11 +21,13 @@
 
 mod cancelling;
 mod cross;
+mod leaving;
 mod looks;
 mod transitions;
 mod values;
 
 pub use cancelling::{begin_cancel, settle};
+pub use leaving::leave_at_once;
 pub use looks::look;
 pub use transitions::{delegate, install, leave_value, serve};
 pub use values::take_value;

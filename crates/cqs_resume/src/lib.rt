@@ -5,9 +5,11 @@
 //! such numbers the call hands the resumption back, for `finish` to go on with.
 #![tactic(auto)]
 
+mod beginning;
 mod meeting;
 mod resumed;
 mod resuming;
 
+pub use beginning::begin;
 pub use resumed::Resumed;
 pub use resuming::{finish, resume};

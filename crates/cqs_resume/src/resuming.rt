@@ -12,7 +12,7 @@ use crate::resumed::Resumed;
 use cqs_rule::{Client, Pass, Queue, RESUMES_WORD, Reaches, Under};
 
 // How many numbers one call passes over.
-const MOST_PASSED_OVER: u32 = 64;
+pub(crate) const MOST_PASSED_OVER: u32 = 64;
 
 /// Draws a number for a pass that owes a resumption, and serves the waiter there, or leaves the
 /// payload for the suspend to come or for the canceller. Cells whose waiters have left are passed
@@ -56,7 +56,7 @@ pub fn finish<C: Client>(queue: &Queue<C>, pass: &mut Pass<C>, under: Under) -> 
 // apart, so that a resume that ends at its first number stays short.
 #[cold]
 #[inline(never)]
-fn go_on<C: Client>(queue: &Queue<C>, pass: &mut Pass<C>, payload: u32, most: u32) -> Resumed
+pub(crate) fn go_on<C: Client>(queue: &Queue<C>, pass: &mut Pass<C>, payload: u32, most: u32) -> Resumed
     requires belongs { IsOf queue.now pass.old }
     requires smart { IsSmart (C.primitive (client_of queue.now)).manner.leaving }
     requires owes { (pass_view pass.old).facts.doing ≡ doing.Owes }

@@ -14,8 +14,10 @@
 //! the first step.
 #![tactic(auto)]
 
+mod at_once;
 mod cancelling;
 mod unasked;
 
+pub use at_once::{AtOnce, cancel_at_once};
 pub use cancelling::{Left, cancel};
 pub use unasked::cancel_unasked;

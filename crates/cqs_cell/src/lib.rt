@@ -10,6 +10,7 @@
 //! | Value | Taken | `take_value`: its suspend | delivered |
 //! | Waiter | Resumed | `serve`: its resume | delivered |
 //! | Waiter | Cancelling | `begin_cancel`, or `leave_line`: the owner of the wait | |
+//! | Waiter | Cancelled | `leave_at_once`: the owner, where the resume is to end there | |
 //! | Cancelling | Delegated | `delegate`: the resume | |
 //! | Cancelling, Delegated | Cancelled | `settle`, or `settle_left`: the owner, who leaves | |
 //! | Cancelling, Delegated | Refused | `settle`: the owner, where the resume is to end there | |
@@ -18,6 +19,7 @@
 //! its client to say.
 #![tactic(auto)]
 
+mod at_once;
 mod cancelling;
 mod cross;
 mod leaving;
@@ -25,6 +27,7 @@ mod looks;
 mod transitions;
 mod values;
 
+pub use at_once::leave_at_once;
 pub use cancelling::{begin_cancel, settle};
 pub use leaving::{leave_line, settle_left};
 pub use looks::look;

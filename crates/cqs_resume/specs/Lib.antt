@@ -1,3 +1,4 @@
 pub mod Rounds
 pub mod Meets
 pub mod Resumes
+pub mod Begins

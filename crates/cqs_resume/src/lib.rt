@@ -6,10 +6,12 @@
 #![tactic(auto)]
 
 mod beginning;
+mod further;
 mod meeting;
 mod resumed;
 mod resuming;
 
 pub use beginning::resume_from;
+pub use further::begin;
 pub use resumed::Resumed;
 pub use resuming::{finish, resume};

@@ -8,3 +8,4 @@ pub mod ReleaseSteps
 pub mod PollSteps
 pub mod CancelSteps
 pub mod AloneSteps
+pub mod Between

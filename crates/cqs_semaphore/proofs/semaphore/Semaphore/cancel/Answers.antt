@@ -5,6 +5,7 @@ use Rattle.cqs_core.specs.declared.entries.Entry.TheVariants as entry
 use Rattle.cqs_semaphore.specs.Calls.{CallRule}
 use Rattle.cqs_semaphore.specs.Entries.{passed_further}
 use Rattle.cqs_semaphore.proofs.AloneSteps.{plain-left, plain-late}
+use Rattle.cqs_semaphore.proofs.Between.{passed-between}
 use Rattle.cqs_semaphore.proofs.CancelSteps.{gone, gone-owing, late}
 use Rattle.cqs_semaphore.proofs.semaphore.Semaphore.cancel.Goals as goal
 
@@ -21,6 +22,11 @@ pub returns-in-GoneOwing-clause-cancelled : goal.returns-in-GoneOwing-clause-can
 returns-in-GoneOwing-clause-cancelled g c =
     gone-owing _ _ _ _ _ _ c.requires.ready c.requires.belongs.live.own c.pass_on.ensures.belongs.live.legal
     (rw c.in-GoneOwing.is at c.cancel.ensures.cancelled) c.pass_on.ensures.passed
+
+pub returns-in-GoneOwing-clause-between : goal.returns-in-GoneOwing-clause-between
+returns-in-GoneOwing-clause-between g c =
+    let so = returns-in-GoneOwing-clause-cancelled g c in
+    passed-between _ _ _ _ _ so.2.1
 
 pub returns-in-GoneOwing-clause-alone : goal.returns-in-GoneOwing-clause-alone
 returns-in-GoneOwing-clause-alone g c = λ alone.

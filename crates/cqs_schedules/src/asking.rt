@@ -1,7 +1,8 @@
 //! What a line of a schedule asks of a core.
 
 use cqs_core::{Core, Event};
-use std::alloc::Global;
+use std::alloc::{AllocError, Global};
+use std::fmt::Debug;
 
 /// An event of a pass, by its name.
 fn event_of(verb: &str, pass: u32, wait: u64) -> Option<Event> {
@@ -22,40 +23,80 @@ fn event_of(verb: &str, pass: u32, wait: u64) -> Option<Event> {
     })
 }
 
+/// A value as `{:?}` writes it.
+fn text_of<T: Debug>(alloc: Global, value: &T) -> Result<String, AllocError> {
+    format!(in alloc; "{value:?}")
+}
+
+/// What is there, as `{:?}` writes it, or that nothing is.
+fn text_or_none<T: Debug>(alloc: Global, item: Option<&T>) -> Result<String, AllocError> {
+    match item {
+        Some(item) => text_of(alloc, item),
+        None => String::from_str(alloc, "None"),
+    }
+}
+
+/// Makes an event, and tells its outcome.
+fn make(alloc: Global, core: &mut Core, event: Event) -> Result<String, AllocError> {
+    match core.step(event) {
+        Ok(outcome) => text_of(alloc, &outcome),
+        Err(error) => text_of(alloc, &error),
+    }
+}
+
+/// Puts a new core in the place of the one before.
+fn open(alloc: Global, core: &mut Core, permits: u32, passes: u32) -> Result<String, AllocError> {
+    match Core::new(alloc, permits, passes) {
+        Ok(made) => {
+            *core = made;
+            String::from_str(alloc, "Ok")
+        }
+        Err(error) => text_of(alloc, &error),
+    }
+}
+
+/// How the core stands, by the word for what is asked.
+fn state_of(
+    alloc: Global,
+    core: &Core,
+    verb: &str,
+    number: u32,
+) -> Option<Result<String, AllocError>> {
+    Some(match verb {
+        "state" => text_of(alloc, &core.state()),
+        "suspends" => text_of(alloc, &core.suspends()),
+        "resumes" => text_of(alloc, &core.resumes()),
+        "cell" => match core.cell(u64::from(number)) {
+            Some(cell) => text_of(alloc, &cell.state),
+            None => String::from_str(alloc, "None"),
+        },
+        "doing" => text_of(alloc, &core.doing(number)),
+        "held" => text_of(alloc, &core.held(number)),
+        "entries" => text_of(alloc, &core.history().len()),
+        "entry" => text_or_none(alloc, core.history().get(number as usize)),
+        _ => return None,
+    })
+}
+
+/// A number of a question; none is 0.
+fn number_of(word: Option<&str>) -> anyhow::Result<u32> {
+    Ok(word.unwrap_or("0").parse::<u32>()?)
+}
+
 /// What the core answers to a question, in words.
 pub fn answer(alloc: Global, core: &mut Core, question: &str) -> anyhow::Result<String> {
     let mut words = question.split(' ');
     let verb = words.next().unwrap_or("");
-    let first = words.next().unwrap_or("0").parse::<u32>()?;
-    let second = words.next().unwrap_or("0").parse::<u32>()?;
+    let first = number_of(words.next())?;
+    let second = number_of(words.next())?;
     if let Some(event) = event_of(verb, first, u64::from(second)) {
-        return Ok(match core.step(event) {
-            Ok(outcome) => format!(in alloc; "{outcome:?}")?,
-            Err(error) => format!(in alloc; "{error:?}")?,
-        });
+        return Ok(make(alloc, core, event)?);
     }
-    Ok(match verb {
-        "core" => match Core::new(alloc, first, second) {
-            Ok(made) => {
-                *core = made;
-                String::from_str(alloc, "Ok")?
-            }
-            Err(error) => format!(in alloc; "{error:?}")?,
-        },
-        "state" => format!(in alloc; "{}", core.state())?,
-        "suspends" => format!(in alloc; "{}", core.suspends())?,
-        "resumes" => format!(in alloc; "{}", core.resumes())?,
-        "cell" => match core.cell(u64::from(first)) {
-            Some(cell) => format!(in alloc; "{:?}", cell.state)?,
-            None => String::from_str(alloc, "None")?,
-        },
-        "doing" => format!(in alloc; "{:?}", core.doing(first))?,
-        "held" => format!(in alloc; "{:?}", core.held(first))?,
-        "entries" => format!(in alloc; "{}", core.history().len())?,
-        "entry" => match core.history().get(first as usize) {
-            Some(entry) => format!(in alloc; "{entry:?}")?,
-            None => String::from_str(alloc, "None")?,
-        },
-        _ => anyhow::bail!("{verb} asks nothing"),
-    })
+    if verb == "core" {
+        return Ok(open(alloc, core, first, second)?);
+    }
+    match state_of(alloc, core, verb, first) {
+        Some(text) => Ok(text?),
+        None => anyhow::bail!("{verb} asks nothing"),
+    }
 }

@@ -25,31 +25,56 @@ use std::rt::Files;
 /// The files of schedules, each of which ends with `.schedules`.
 const FILES: [&str; 4] = ["sizes", "schedules", "random", "histories"];
 
-/// Asks what a file asks. Prints how many lines there are, and the place of each that isn't
-/// answered as it should be.
+/// How many lines of a file were asked, and how many weren't answered as they should be.
+#[derive(Clone, Copy)]
+struct Tally {
+    number: u64,
+    asked: u64,
+    failed: u64,
+}
+
+/// Asks what a line asks, and prints its place where that isn't answered as it should be.
+fn ask_line<R: Print + AllocGlobal>(
+    rt: &R,
+    name: &str,
+    core: &mut Core,
+    line: &str,
+    tally: &mut Tally,
+) -> anyhow::Result<()> {
+    tally.number = tally.number.saturating_add(1);
+    if line.starts_with("=== ") {
+        return Ok(());
+    }
+    let number = tally.number;
+    let Some((question, wanted)) = line.split_once(": ") else {
+        anyhow::bail!("{name}, line {number}: no question and answer");
+    };
+    tally.asked = tally.asked.saturating_add(1);
+    let found = answer(rt.alloc(), core, question)?;
+    if found.as_str() != wanted {
+        tally.failed = tally.failed.saturating_add(1);
+        println!(rt; "{name}, line {number}: {question} answers {found}, NOT {wanted}")?;
+    }
+    Ok(())
+}
+
+/// Asks what a file asks. Prints how many lines there are, and before that the place of each that
+/// isn't answered as it should be.
 fn run_file<R: Files + Print + AllocGlobal>(rt: &R, name: &str) -> anyhow::Result<()> {
     let alloc = rt.alloc();
     let text = fs::read_to_string(rt, format!(in alloc; "{name}.schedules")?)?;
     let Ok(mut core) = Core::new(alloc, 1, 1) else {
         anyhow::bail!("no memory for a core");
     };
-    let (mut number, mut asked, mut failed) = (0u64, 0u64, 0u64);
+    let mut tally = Tally {
+        number: 0,
+        asked: 0,
+        failed: 0,
+    };
     for line in text.as_str().lines() {
-        number = number.saturating_add(1);
-        if line.starts_with("=== ") {
-            continue;
-        }
-        let Some((question, wanted)) = line.split_once(": ") else {
-            anyhow::bail!("{name}, line {number}: no question and answer");
-        };
-        asked = asked.saturating_add(1);
-        let found = answer(alloc, &mut core, question)?;
-        if found.as_str() != wanted {
-            failed = failed.saturating_add(1);
-            println!(rt; "{name}, line {number}: {question} answers {found}, NOT {wanted}")?;
-        }
+        ask_line(rt, name, &mut core, line, &mut tally)?;
     }
-    println!(rt; "{name}: {asked} lines, {failed} failed")?;
+    println!(rt; "{name}: {} lines, {} failed", tally.asked, tally.failed)?;
     Ok(())
 }
 

@@ -1,4 +1,0 @@
-pub mod BarrierMoves
-pub mod WordFound
-pub mod Rules
-pub mod PollSteps

@@ -1,6 +1,0 @@
-pub mod WordSteps
-pub mod LatchMoves
-pub mod WordsFound
-pub mod Rules
-pub mod Along
-pub mod WaitSteps

@@ -1,0 +1,4 @@
+pub mod BarrierMoves
+pub mod WordFound
+pub mod Rules
+pub mod PollSteps

@@ -1,0 +1,10 @@
+pub mod Word
+pub mod Barrier
+pub mod BarrierClient
+pub mod Parties
+pub mod BarrierWord
+pub mod Calls
+pub mod Waits
+pub mod Entries
+pub mod Causes
+pub mod Answers

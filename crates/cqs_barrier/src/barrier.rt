@@ -1,0 +1,52 @@
+//! The barrier, and how it is made.
+
+ghost use Rattle.std.specs.Prelude.{◌≡◌, ◌⊎◌, ◌<◌, [], true, false, IfOk, IsErrOf};
+ghost use mathlib.Core.Logic.{◌↔◌};
+ghost use Rattle.cqs_rule.specs.Configured.{is_config};
+ghost use Rattle.cqs_rule.specs.Passes.{pass_view, passes_of, limit_of};
+ghost use Rattle.cqs_barrier.specs.Calls.{Rests, IsMine, parties_in};
+
+use crate::client::BarrierClient;
+use cqs_rule::{CancelMode, Config, MakeError, Pass, Queue};
+use std::alloc::Global;
+
+/// What a caller makes its calls with. It holds a number of parties that haven't arrived.
+pub type BarrierPass = Pass<BarrierClient>;
+
+/// The most parties that a barrier may be made with.
+const MOST_PARTIES: u32 = 32;
+
+/// A barrier: parties that arrive wait for the last.
+#[derive(Drop)]
+pub struct Barrier {
+    pub(crate) queue: Queue<BarrierClient>,
+}
+
+impl Barrier {
+    /// A barrier at which none has arrived, and its first pass, which has number 0, has seen
+    /// nothing, and holds all parties. There are from 1 to 32 of them.
+    pub fn new(
+        alloc: Global,
+        parties: u32,
+        config: Config,
+    ) -> Result<(Barrier, BarrierPass), MakeError>
+        ensures bad_config { IsErrOf result MakeError.BadConfig
+            ↔ ((parties ≡ 0) ⊎ (32 < parties) ⊎ (is_config config ≡ false)) }
+        ensures belongs { IfOk result (λ made. IsMine made.0 made.1) }
+        ensures parties { IfOk result (λ made. parties_in made.0 ≡ parties) }
+        ensures passes { IfOk result (λ made. (passes_of made.0.queue ≡ config.passes)
+            × (limit_of made.0.queue ≡ config.limit)) }
+        ensures first { IfOk result (λ made. (pass_view made.1).number ≡ 0) }
+        ensures nothing { IfOk result (λ made. (pass_view made.1).seen ≡ []) }
+        ensures alone { IfOk result (λ made. (pass_view made.1).alone ≡ true) }
+        ensures all { IfOk result
+            (λ made. Rests (pass_view made.1) parties [] (pass_view made.1)) }
+    {
+        if parties == 0 || parties > MOST_PARTIES {
+            return Err(MakeError::BadConfig);
+        }
+        let client = BarrierClient::new(parties);
+        let (queue, pass) = Queue::new(alloc, config, CancelMode::Smart, client)?;
+        Ok((Barrier { queue }, pass))
+    }
+}

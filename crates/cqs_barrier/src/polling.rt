@@ -1,0 +1,42 @@
+//! The look at a wait.
+
+ghost use Rattle.std.specs.Prelude.{◌≡◌, []};
+ghost use Rattle.cqs_rule.specs.Passes.{pass_view};
+ghost use Rattle.cqs_rule.specs.Waits.{place_of, HasWait};
+ghost use Rattle.cqs_barrier.specs.Answers.{IsPolled};
+ghost use Rattle.cqs_barrier.specs.Calls.{IsReady, IsMine, CallRule};
+ghost use Rattle.cqs_barrier.specs.Entries.{polled_entries};
+ghost use Rattle.cqs_barrier.specs.Waits.{wait_in};
+
+use crate::answers::{PartyPolled, PartyWait};
+use crate::barrier::{Barrier, BarrierPass};
+use crate::client::BarrierClient;
+use cqs_cell::look;
+use cqs_rule::Polls;
+use cqs_words::CellState;
+
+impl Barrier {
+    /// Looks whether the party goes through: one load.
+    pub fn poll(&self, pass: &mut BarrierPass, wait: PartyWait) -> PartyPolled
+        requires belongs { IsMine self.now pass.old }
+        requires ready { IsReady (pass_view pass.old).facts }
+        requires has { HasWait (pass_view pass.old) (wait_in wait) }
+        ensures belongs { IsMine self.now pass.new }
+        ensures called { CallRule (pass_view pass.old)
+            (polled_entries (pass_view pass.old).number (place_of (wait_in wait)).index result) []
+            (pass_view pass.new) }
+        ensures polled { IsPolled (wait_in wait) (pass_view pass.old) result (pass_view pass.new) }
+        ensures ready { IsReady (pass_view pass.new).facts }
+    {
+        let PartyWait { wait } = wait;
+        let at = self.queue.spend_wait(pass, wait);
+        let cell = look::<BarrierClient, Polls>(&self.queue, pass, at);
+        match cell.state {
+            CellState::Resumed => PartyPolled::Through,
+            CellState::Waiter => PartyPolled::Pending(PartyWait {
+                wait: self.queue.wait_of(pass, at),
+            }),
+            _ => unreachable!(),
+        }
+    }
+}

@@ -1,0 +1,73 @@
+//! How a pass makes another, and how two become one.
+
+ghost use Rattle.std.specs.Prelude.{◌≡◌, ◌+◌, ◌-◌, ◌≤◌, [], true, IsTrue, IsErr, IfOk, IfErr, OnErr, OnOk};
+ghost use mathlib.Core.Logic.{◌↔◌};
+ghost use Rattle.cqs_rule.specs.Alone.{IsAlone};
+ghost use Rattle.cqs_rule.specs.Crew.{IsBetween, CameWith};
+ghost use Rattle.cqs_rule.specs.Passes.{pass_view, passes_of};
+ghost use Rattle.cqs_rule.specs.Seats.{IsBusy, HasLookedOn, HasGiven, HasMet};
+ghost use Rattle.cqs_rule.specs.Views.{made_in, live_in};
+ghost use Rattle.cqs_barrier.specs.Barrier.{barrier_object};
+ghost use Rattle.cqs_barrier.specs.Calls.{IsReady, IsMine};
+ghost use Rattle.cqs_barrier.specs.Causes.{primitive_of};
+
+use crate::barrier::{Barrier, BarrierPass};
+use cqs_rule::{Crowd, MeetError};
+
+impl Barrier {
+    /// A new pass, which has seen what this one has seen, has done nothing, and gets so many of its
+    /// parties.
+    pub fn split(&self, pass: &mut BarrierPass, gives: u32) -> Result<BarrierPass, Crowd>
+        requires belongs { IsMine self.now pass.old }
+        requires ready { IsReady (pass_view pass.old).facts }
+        requires enough { gives ≤ (pass_view pass.old).facts.has.held }
+        ensures belongs { IsMine self.now pass.new }
+        ensures crowd { IsErr result
+            ↔ (passes_of self.now.queue ≤ made_in (pass_view pass.new).crew) }
+        ensures refused { OnErr result (HasLookedOn pass.old pass.new) }
+        ensures gave { OnOk result (HasGiven gives pass.old pass.new) }
+        ensures kept { OnErr result ((pass_view pass.old).alone ≡ true
+            → (pass_view pass.new).alone ≡ true) }
+        ensures new_belongs { IfOk result (λ made. IsMine self.now made) }
+        ensures came { IfOk result
+            (λ made. CameWith barrier_object gives (pass_view pass.new) (pass_view made)) }
+    {
+        self.queue.split(pass, gives)
+    }
+
+    /// The pass takes in the given one: it has seen what each of them had seen, and holds what both
+    /// held.
+    pub fn meet(
+        &self,
+        pass: &mut BarrierPass,
+        given: BarrierPass,
+    ) -> Result<(), (BarrierPass, MeetError)>
+        requires belongs { IsMine self.now pass.old }
+        requires given_belongs { IsMine self.now given }
+        requires ready { IsReady (pass_view pass.old).facts }
+        requires between { IsBetween (pass_view given).facts }
+        ensures belongs { IsMine self.now pass.new }
+        ensures busy { IsErr result ↔ IsBusy (pass_view given).facts }
+        ensures back { IfErr result (λ refused. refused.0 ≡ given) }
+        ensures unchanged { OnErr result (pass.new ≡ pass.old) }
+        ensures met { OnOk result (HasMet pass.old given pass.new) }
+        ensures held { OnOk result ((pass_view pass.new).facts.has.held
+            ≡ (pass_view pass.old).facts.has.held + (pass_view given).facts.has.held) }
+        ensures ready { IsReady (pass_view pass.new).facts }
+    {
+        self.queue.meet(pass, given)
+    }
+
+    /// Whether no other pass is left. Then this one has seen the whole history, and all others
+    /// rest.
+    pub fn sole(&self, pass: &mut BarrierPass) -> bool
+        requires belongs { IsMine self.now pass.old }
+        ensures belongs { IsMine self.now pass.new }
+        ensures sole { IsTrue result ↔ (live_in (pass_view pass.new).crew ≡ 1) }
+        ensures alone { result ≡ (pass_view pass.new).alone }
+        ensures looked { HasLookedOn pass.old pass.new }
+        ensures others { IsTrue result → IsAlone primitive_of (pass_view pass.new) }
+    {
+        self.queue.sole(pass)
+    }
+}

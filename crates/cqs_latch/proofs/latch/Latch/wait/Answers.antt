@@ -1,0 +1,42 @@
+use Rattle.std.proofs.Common.{◌≡◌, ◌<◌, ◌≤◌, sym, ap, ◌∙◌, arith, true, false}
+use Rattle.cqs_rule.specs.Passes.{pass_view}
+use Rattle.cqs_rule.specs.declared.view.View.{View}
+use Rattle.cqs_words.specs.State.{is_above_zero}
+use Rattle.cqs_latch.proofs.WaitSteps.{Loaded, loaded, counted, used, worn, came, passed, waits}
+use Rattle.cqs_latch.proofs.latch.Latch.wait.Goals as goal
+
+pub returns-then-not-is_above_zero-clause-waited :
+    goal.returns-then-not-is_above_zero-clause-waited
+returns-then-not-is_above_zero-clause-waited c =
+    used _ c.requires.ready c.requires.belongs.live.own _ _
+    (sym c.is_above_zero.ensures ∙ c.if-not-is_above_zero.true) c.load_to_wait-loaded.ensures.saw
+    c.load_to_wait-loaded.ensures.belongs.live.legal
+
+pub returns-then-next_wait-limit-clause-waited : goal.returns-then-next_wait-limit-clause-waited
+returns-then-next_wait-limit-clause-waited c =
+    let limit = c.limit.ensures in
+    let is = c.requires.belongs.limit in
+    let high = c.if-next_wait-limit.true in
+    worn _ c.requires.ready c.requires.belongs.live.own _ _ _ _ _ _
+    (loaded _ _ _ (sym c.is_above_zero.ensures ∙ c.if-not-is_above_zero.false) c.load_to_wait-loaded.ensures.saw)
+    c.next_wait.ensures.saw (omega arith) c.turn_back.ensures.saw c.turn_back.ensures.belongs.live.legal
+
+pub returns-then-is_done-clause-waited : goal.returns-then-is_done-clause-waited
+returns-then-is_done-clause-waited c =
+    passed _ c.requires.ready c.requires.belongs.live.own _
+    (came _ c.requires.ready c.requires.belongs.live.own true _ _ _ _
+    (counted _ _ _ _ _
+    (loaded _ _ _ (sym c.is_above_zero.ensures ∙ c.if-not-is_above_zero.false) c.load_to_wait-loaded.ensures.saw)
+    c.next_wait.ensures.saw)
+    (sym c.is_done.ensures ∙ c.if-is_done.true) c.come.ensures.saw)
+    c.come.ensures.belongs.live.legal
+
+pub returns-clause-waited : goal.returns-clause-waited
+returns-clause-waited c =
+    waits _ c.requires.ready c.requires.belongs.live.own _ _ c.wait_in_line.result
+    (came _ c.requires.ready c.requires.belongs.live.own false _ _ _ _
+    (counted _ _ _ _ _
+    (loaded _ _ _ (sym c.is_above_zero.ensures ∙ c.if-not-is_above_zero.false) c.load_to_wait-loaded.ensures.saw)
+    c.next_wait.ensures.saw)
+    (sym c.is_done.ensures ∙ c.if-is_done.false) c.come.ensures.saw)
+    c.wait_in_line.ensures.waits c.wait_in_line.ensures.belongs.live.legal

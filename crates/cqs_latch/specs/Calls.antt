@@ -1,0 +1,50 @@
+-- What every call of a latch leaves of its pass.
+use Rattle.std.specs.Prelude.{◌≡◌, ℕ, List, [], ◌++◌}
+use Rattle.cqs_core.specs.declared.doings.Doing.TheVariants as doing
+use Rattle.cqs_latch_object.specs.declared.entries.LatchEntry.{LatchEntry}
+use Rattle.cqs_latch_object.specs.LatchEntries.{IsLegal}
+use Rattle.cqs_latch_object.specs.LatchNames.{entry_names}
+use Rattle.cqs_rule.specs.declared.client.ClientWords.{Ghosts}
+use Rattle.cqs_rule.specs.declared.queue.Pass.{Pass}
+use Rattle.cqs_rule.specs.declared.view.Facts.{Facts}
+use Rattle.cqs_rule.specs.declared.view.View.{View}
+use Rattle.cqs_rule.specs.Called.{Called}
+use Rattle.cqs_rule.specs.Lists.{Has, part, NamesOnly}
+use Rattle.cqs_rule.specs.Passes.{client_of, IsOf}
+use Rattle.cqs_latch.specs.declared.client.LatchClient.{LatchClient}
+use Rattle.cqs_latch.specs.declared.latch.Latch.{Latch}
+use Rattle.cqs_latch.specs.Latch.{is_simple, latch_object}
+
+-- the pass is between two calls, and owes nothing
+pub record IsReady (f : Facts) : Type 0 where
+  pub idle : f.doing ≡ doing.Idle
+  pub further : f.has.further ≡ 0
+
+-- the pass is one of this latch
+abbrev pub IsMine : {g : Ghosts LatchClient (Unit {0}) LatchEntry} → Latch
+    → Pass LatchClient (Unit {0}) LatchEntry g → Type 0
+IsMine l p = IsOf l.queue p
+
+module _ {T : Type 0} where
+  -- the history is one that the plain latch allows which opened so
+  abbrev pub IsLegalOf : View LatchEntry T → Type 0
+  IsLegalOf v = IsLegal (is_simple v.opening.mode) v.opening.size v.seen
+
+  -- The call rule. What the pass had seen is a beginning of what it has seen now, which is legal.
+  -- In the new part the entries that name the pass are just its own ones of the call, in order.
+  -- These name nobody else, and the further entry, where the call makes one, names nobody and is
+  -- the last of all that the pass has seen now. A pass that was alone has seen just the entries of
+  -- the call.
+  pub record CallRule (v : View LatchEntry T) (own further : List LatchEntry)
+      (w : View LatchEntry T) : Type 0 where
+    pub called : Called latch_object v (own ++ further) further w
+    pub legal : IsLegalOf w
+    pub mine : part entry_names v.number called.more ≡ own
+    pub all : part entry_names v.number own ≡ own
+    pub only : NamesOnly entry_names v.number own
+    pub nobody : (n : ℕ) → part entry_names n further ≡ []
+
+  -- after a call the pass is idle and owes nothing, and has these waits
+  pub record Rests (waits : List ℕ) (w : View LatchEntry T) : Type 0 where
+    pub ready : IsReady w.facts
+    pub waits_are : w.facts.waits ≡ waits

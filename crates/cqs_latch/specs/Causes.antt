@@ -1,0 +1,57 @@
+-- What the steps of a call found, and where in the history it was so.
+use Rattle.std.specs.Prelude.{◌≡◌, ℕ, ◌≤◌, List, [], ◌∷◌, ◌++◌, length}
+use Rattle.cqs_core.specs.declared.cells.CoreState.{CoreState}
+use Rattle.cqs_latch_object.specs.declared.entries.LatchEntry.{LatchEntry}
+use Rattle.cqs_latch_object.specs.LatchObject.{Latch}
+use Rattle.cqs_rule.specs.declared.view.Glimpse.{Glimpse}
+use Rattle.cqs_rule.specs.declared.view.Sighting.{Sighting}
+use Rattle.cqs_rule.specs.declared.view.Sighting.TheVariants.{Cell, Word}
+use Rattle.cqs_rule.specs.declared.view.View.{View}
+use Rattle.cqs_rule.specs.Exchanges.{FoundCell, HasCell}
+use Rattle.cqs_rule.specs.Layout.{suspends_place, client_place}
+use Rattle.cqs_rule.specs.Lists.{IsPrefix}
+use Rattle.cqs_rule.specs.Object.{Primitive}
+use Rattle.cqs_rule.specs.Saw.{WasFound, WasSo}
+use Rattle.cqs_latch.specs.declared.client.LatchClient.{LatchClient}
+use Rattle.cqs_latch.specs.Latch.{latch_primitive}
+use Rattle.cqs_latch.specs.LatchMade.{count_of, mode_of}
+use Rattle.cqs_latch.specs.LatchTold.{latch_after}
+
+-- the cell of the number k in this state, with this payload
+abbrev pub cell_of : ℕ → CoreState → ℕ → Glimpse
+cell_of k state payload = record { number = k; state = state; payload = payload }
+
+module _ {T : Type 0} where
+  abbrev pub primitive_of : LatchClient → Primitive LatchEntry T
+  primitive_of x = latch_primitive (mode_of x) (count_of x)
+
+  -- A step of the call found the word i to be n, and this held of it and of the plain latch at its
+  -- place: after this history, which the pass has seen all of, and of which what it had seen before
+  -- the call is a beginning. The step's own entry, where it has one, comes next.
+  pub record WordWas (i : ℕ) (Reads : ℕ → ℕ → Latch → Type 0) (v : View LatchEntry T) (n : ℕ)
+      (before own : List LatchEntry) (w : View LatchEntry T) : Type 0 where
+    pub since : IsPrefix v.seen before
+    pub seen : IsPrefix (before ++ own) w.seen
+    pub reads : Reads w.opening.size n (latch_after w before)
+    pub found : (earlier : List Sighting) × (later : List Sighting)
+        × (w.facts.found ≡ v.facts.found ++ (earlier ++ Word (client_place i) n ∷ later))
+
+  -- A step of the call loaded the suspend counter and found n: it was the next number of the plain
+  -- latch after this history.
+  pub record NextWas (v : View LatchEntry T) (n : ℕ) (before : List LatchEntry)
+      (w : View LatchEntry T) : Type 0 where
+    pub since : IsPrefix v.seen before
+    pub seen : IsPrefix before w.seen
+    pub next : (latch_after w before).waiters.next ≡ n
+    pub found : (earlier : List Sighting) × (later : List Sighting)
+        × (w.facts.found ≡ v.facts.found ++ (earlier ++ Word suspends_place n ∷ later))
+
+  -- The last step of the call found the cell of the number k in this state: the table's word says
+  -- so, and the cell was so at the end of all that the pass has seen before these entries.
+  pub record CellWas (state : CoreState) (k : ℕ) (own : List LatchEntry) (w : View LatchEntry T)
+      : Type 0 where
+    pub word : ℕ
+    pub payload : ℕ
+    pub cell : FoundCell word (cell_of k state payload)
+    pub found : (earlier : List Sighting) × (w.facts.found ≡ earlier ++ Cell k word ∷ [])
+    pub was : WasFound primitive_of (HasCell (cell_of k state payload)) own w

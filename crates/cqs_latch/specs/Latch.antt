@@ -1,0 +1,81 @@
+-- The latch as a client: its two words are the count, and the waiters with the done bit; its history
+-- is the client's.
+use Rattle.std.specs.Prelude.{◌≡◌, ℕ, ◌≤◌, ◌==◌, map, Bool, true, false, List, [], ◌∷◌, length, slice_index, pos}
+use Rattle.cqs_core.specs.Numbered.{EachAt}
+use Rattle.cqs_latch_object.specs.declared.entries.LatchEntry.{LatchEntry}
+use Rattle.cqs_latch_object.specs.LatchEntries.{IsLegal}
+use Rattle.cqs_latch_object.specs.LatchNames.{entry_names}
+use Rattle.cqs_latch_object.specs.LatchShown.{LatchShape, IsLatchCore}
+use Rattle.cqs_latch_object.specs.LatchSteps.{step_entries}
+use Rattle.cqs_rule.specs.declared.view.Has.{Has}
+use Rattle.cqs_rule.specs.declared.config.CancelMode.{CancelMode}
+use Rattle.cqs_rule.specs.declared.config.CancelMode.TheVariants.{Smart, Simple}
+use Rattle.cqs_rule.specs.Client.{no_number}
+use Rattle.cqs_rule.specs.Hidden.{Hidden, Gains}
+use Rattle.cqs_rule.specs.Manner.{Manner, asks, at_once, owed_further}
+use Rattle.cqs_rule.specs.Object.{Object, Primitive}
+use Rattle.cqs_words.specs.State.{state_word, count_in}
+use Rattle.cqs_words.specs.Waiters.{waiters_word, waiters_in, is_done}
+
+abbrev pub is_simple : CancelMode → Bool
+is_simple Smart = false
+is_simple Simple = true
+
+-- how many resumptions each pass owes and hasn't begun
+abbrev pub further_of : List Has → List ℕ
+further_of l = map (λ (h : Has). h.further) l
+
+-- the latch that the table of one shows
+abbrev pub latch_shown : CancelMode → ℕ → Hidden → List ℕ → List LatchEntry → LatchShape
+latch_shown mode size c words log = record {
+  simple = is_simple mode;
+  size = size;
+  count = count_in (slice_index words 0);
+  word = waiters_in (slice_index words 1);
+  done = is_done (slice_index words 1);
+  owed = further_of c.has;
+  history = log;
+  queue = c.queue;
+}
+
+-- a pass of a latch holds nothing
+abbrev pub HoldsNothing : ℕ → Has → Type 0
+HoldsNothing p has = has.held ≡ 0
+
+-- the words, the history and what is hidden go together
+pub record ShowsLatch (mode : CancelMode) (size : ℕ) (c : Hidden) (words : List ℕ)
+    (log : List LatchEntry) : Type 0 where
+  pub core : IsLatchCore (latch_shown mode size c words log)
+  pub two_words : 2 ≤ length words
+  pub few_passes : length c.queue.doing ≤ 32
+  pub few_drawn : c.queue.suspends ≤ no_number
+  pub none_held : EachAt HoldsNothing c.has
+
+-- a pass that has what it waited for has nothing more than before
+abbrev pub nothing_more : Gains
+nothing_more = record { held = λ held. held; slots = λ payload. [] }
+
+abbrev pub latch_object : Object LatchEntry
+latch_object = record {
+  names = entry_names;
+  legal = λ opening. IsLegal (is_simple opening.mode) opening.size;
+  entries = λ step p k payload. step_entries step p k;
+  gains = nothing_more;
+}
+
+-- In smart mode the latch is asked where a wait leaves; in simple mode a wait leaves at once. Its
+-- passes come to a door, and who opens it owes a resumption for each who waits.
+abbrev pub latch_manner : CancelMode → Manner
+latch_manner Smart = record { leaving = asks; has_door = true; source = owed_further }
+latch_manner Simple = record { leaving = at_once; has_door = true; source = owed_further }
+
+abbrev pub latch_primitive : {T : Type 0} → CancelMode → ℕ → Primitive LatchEntry T
+latch_primitive mode size = record {
+  opening = record { size = size; mode = mode };
+  shows = λ c words log handed. ShowsLatch mode size c words log;
+  manner = latch_manner mode;
+  words = state_word (pos size) ∷ waiters_word 0 (size == 0) ∷ [];
+  values = 0;
+  held = 0;
+  opens = λ has slot. ⊥;
+}

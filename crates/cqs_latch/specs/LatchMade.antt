@@ -1,0 +1,12 @@
+-- What contracts see of a latch as it was made.
+use Rattle.std.specs.Prelude.{ℕ}
+use Rattle.cqs_latch.specs.declared.client.LatchClient.{LatchClient}
+use Rattle.cqs_rule.specs.declared.config.CancelMode.{CancelMode}
+
+-- how often it is to be counted down
+abbrev pub count_of : LatchClient → ℕ
+count_of x = x.count
+
+-- how its waits leave
+abbrev pub mode_of : LatchClient → CancelMode
+mode_of x = x.mode

@@ -1,0 +1,10 @@
+pub mod Latch
+pub mod LatchEvents
+pub mod LatchClient
+pub mod LatchMade
+pub mod LatchTold
+pub mod Calls
+pub mod Causes
+pub mod Entries
+pub mod Answers
+pub mod Steps

@@ -1,0 +1,55 @@
+//! The latch, and how it is made.
+
+ghost use Rattle.std.specs.Prelude.{◌≡◌, ◌⊎◌, ◌<◌, [], true, false, IfOk, IsErrOf};
+ghost use mathlib.Core.Logic.{◌↔◌};
+ghost use Rattle.cqs_latch.specs.Calls.{IsMine, Rests};
+ghost use Rattle.cqs_latch.specs.LatchMade.{count_of, mode_of};
+ghost use Rattle.cqs_rule.specs.Configured.{is_config};
+ghost use Rattle.cqs_rule.specs.Passes.{pass_view, passes_of, limit_of, client_of};
+
+use crate::client::LatchClient;
+use cqs_rule::{CancelMode, Config, MakeError, Pass, Queue};
+use std::alloc::Global;
+
+/// What a caller makes its calls with.
+pub type LatchPass = Pass<LatchClient>;
+
+/// The most that a latch may be made to be counted down.
+const MOST_COUNTS: u32 = 1_048_576;
+
+/// A count-down latch: it opens once it was counted down as often as it was made for, and resumes
+/// all who wait.
+#[derive(Drop)]
+pub struct Latch {
+    pub(crate) queue: Queue<LatchClient>,
+}
+
+impl Latch {
+    /// A latch that is to be counted down so often, at most 1,048,576 times, whose waits leave in
+    /// this mode, and its first pass, which has number 0 and has seen nothing. One of 0 is open.
+    pub fn new(
+        alloc: Global,
+        count: u32,
+        mode: CancelMode,
+        config: Config,
+    ) -> Result<(Latch, LatchPass), MakeError>
+        ensures bad_config { IsErrOf result MakeError.BadConfig
+            ↔ ((1048576 < count) ⊎ (is_config config ≡ false)) }
+        ensures belongs { IfOk result (λ made. IsMine made.0 made.1) }
+        ensures count { IfOk result (λ made. count_of (client_of made.0.queue) ≡ count) }
+        ensures mode { IfOk result (λ made. mode_of (client_of made.0.queue) ≡ mode) }
+        ensures passes { IfOk result (λ made. (passes_of made.0.queue ≡ config.passes)
+            × (limit_of made.0.queue ≡ config.limit)) }
+        ensures first { IfOk result (λ made. (pass_view made.1).number ≡ 0) }
+        ensures nothing { IfOk result (λ made. (pass_view made.1).seen ≡ []) }
+        ensures alone { IfOk result (λ made. (pass_view made.1).alone ≡ true) }
+        ensures ready { IfOk result (λ made. Rests [] (pass_view made.1)) }
+    {
+        if count > MOST_COUNTS {
+            return Err(MakeError::BadConfig);
+        }
+        let client = LatchClient::new(count, mode);
+        let (queue, pass) = Queue::new(alloc, config, mode, client)?;
+        Ok((Latch { queue }, pass))
+    }
+}

@@ -1,0 +1,52 @@
+//! The wait.
+
+ghost use Rattle.std.specs.Prelude.{◌≡◌, [], ◌∷◌};
+ghost use Rattle.cqs_core.specs.declared.doings.Doing.TheVariants as doing;
+ghost use Rattle.cqs_latch.specs.Answers.{HasWaited};
+ghost use Rattle.cqs_latch.specs.Calls.{IsReady, IsMine};
+ghost use Rattle.cqs_latch.specs.Steps.{WaitsInLine};
+ghost use Rattle.cqs_rule.specs.Passes.{pass_view};
+
+use crate::answers::LatchWait;
+use crate::latch::{Latch, LatchPass};
+use crate::steps::{come, load_to_wait, next_wait, turn_back};
+use cqs_rule::AcquireError;
+use cqs_suspend::{Suspended, suspend};
+use cqs_words::{StateWord, WaitersWord};
+
+impl Latch {
+    /// Passes where the latch is open, and else comes to wait for that. It is refused as worn where
+    /// the count isn't used up, and as many numbers were drawn as the limit allows.
+    pub fn wait(&self, pass: &mut LatchPass) -> Result<LatchWait, AcquireError>
+        requires belongs { IsMine self.now pass.old }
+        requires ready { IsReady (pass_view pass.old).facts }
+        ensures belongs { IsMine self.now pass.new }
+        ensures waited { HasWaited (pass_view pass.old) result (pass_view pass.new) }
+    {
+        let loaded = load_to_wait(&self.queue, pass);
+        if !StateWord::is_above_zero(loaded) {
+            return Ok(LatchWait::Passed);
+        }
+        if next_wait(&self.queue, pass) >= self.queue.limit() {
+            turn_back(&self.queue, pass, loaded);
+            return Err(AcquireError::Worn);
+        }
+        if WaitersWord::is_done(come(&self.queue, pass, loaded)) {
+            return Ok(LatchWait::Passed);
+        }
+        Ok(self.wait_in_line(pass))
+    }
+
+    // Goes from the door to the line.
+    fn wait_in_line(&self, pass: &mut LatchPass) -> LatchWait
+        requires belongs { IsMine self.now pass.old }
+        requires door { (pass_view pass.old).facts.doing ≡ doing.Door }
+        ensures belongs { IsMine self.now pass.new }
+        ensures waits { WaitsInLine (pass_view pass.old) result (pass_view pass.new) }
+    {
+        match suspend(&self.queue, pass) {
+            Suspended::Waits(wait) => LatchWait::Later(wait),
+            Suspended::Took { .. } => LatchWait::Passed,
+        }
+    }
+}

@@ -28,11 +28,7 @@ pub struct Pool<T: Drop = ()> {
 impl Pool {
     /// A pool of so many elements, all of them free, and its first pass, which has number 0 and has
     /// seen nothing. There are from 1 to 4,096 elements, and `slots` has room for their cells.
-    pub fn new(
-        alloc: Global,
-        elements: u32,
-        config: Config,
-    ) -> Result<(Pool, PoolPass), MakeError>
+    pub fn new(alloc: Global, elements: u32, config: Config) -> Result<(Pool, PoolPass), MakeError>
         ensures bad_config { IsErrOf result MakeError.BadConfig
             ↔ ((elements ≡ 0) ⊎ (4096 < elements)
             ⊎ (config.slots < 2 * config.passes + 2 + elements / 32 + 1)

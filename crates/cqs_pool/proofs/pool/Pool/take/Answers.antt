@@ -1,6 +1,7 @@
 use Rattle.std.proofs.Common.{◌≡◌, ◌<◌, ◌≤◌, ◌∷◌, [], refl, sym, ◌∙◌, arith}
 use Rattle.cqs_rule.specs.Passes.{pass_view}
 use Rattle.cqs_rule.specs.Waits.{place_of}
+use Rattle.cqs_pool.proofs.AloneSteps.{quiet, plain-took, plain-later}
 use Rattle.cqs_pool.proofs.Counters.{next-is}
 use Rattle.cqs_pool.proofs.Rules.{call-rule_own}
 use Rattle.cqs_pool.proofs.TakeSteps.{worn, loaded-called, took-called, took-below, took-cell, took-rests, waits-called, waits-below, waits-cell, waits-rests}
@@ -9,7 +10,7 @@ use Rattle.cqs_pool.proofs.pool.Pool.take.Goals as goal
 pub returns-then-load_table-limit-clause-called : goal.returns-then-load_table-limit-clause-called
 returns-then-load_table-limit-clause-called g c =
     call-rule_own _ _ [] [] (loaded-called _ _ _ (next-is _ _ _ c.load_table.ensures.saw)) tt
-        c.requires.belongs.live.own
+    c.requires.belongs.live.own
     c.load_table.ensures.belongs.live.legal
 
 pub returns-then-load_table-limit-clause-worn : goal.returns-then-load_table-limit-clause-worn
@@ -59,3 +60,14 @@ returns-in-Took-clause-took g c = (
   took-rests _ _ _ _ c.in-Took.number c.in-Took.payload (next-is _ _ _ c.load_table.ensures.saw) c.requires.ready
       c.in-Took.ensures.entered,
 )
+
+pub returns-in-Took-clause-alone : goal.returns-in-Took-clause-alone
+returns-in-Took-clause-alone g c = λ alone.
+    plain-took _ _ c.in-Took.number c.in-Took.payload (returns-in-Took-clause-called g c) alone
+
+pub returns-in-Waits-clause-alone : goal.returns-in-Waits-clause-alone
+returns-in-Waits-clause-alone g c = λ alone.
+    let rule = returns-in-Waits-clause-called g c in
+    let rests = (returns-in-Waits-clause-took g c).2 in
+    plain-later _ _ (place_of c.in-Waits.wait).index rule alone
+    (quiet _ c.in-Waits.ensures.belongs.alone c.enter.new.pass.live.0 (rule.called.same.alone ∙ alone) rests.ready.idle)

@@ -42,10 +42,7 @@ impl<T: Send + Drop> Pool<T> {
             → IfOk result (λ placed. IsPlainPut (pass_view pass.old) placed
             (pass_view pass.new)) }
     {
-        let Element {
-            number: payload,
-            ..
-        } = element;
+        let payload = element.number;
         let number = self.queue.add_table::<Puts>(pass, RESUMES_WORD, 1);
         Ok(placed_by(resume_from(&self.queue, pass, number, payload)))
     }
@@ -63,7 +60,8 @@ impl<T: Send + Drop> Pool<T> {
             (pass_view pass.new) }
         ensures further { IsFurther (under_reached under) result }
         ensures between { IsBetween (pass_view pass.new).facts }
-        ensures alone { (pass_view pass.old).alone ≡ true → CanEnd (plain_after (pass_view pass.old))
+        ensures alone { (pass_view pass.old).alone ≡ true
+            → CanEnd (plain_after (pass_view pass.old))
             → IsPlainEnd (pass_view pass.old) result (pass_view pass.new) }
     {
         placed_by(finish(&self.queue, pass, under))

@@ -1,4 +1,4 @@
-use Rattle.std.proofs.Common.{◌≡◌, ◌≤◌, ◌∙◌, ℕ, Option, None, Some, refl, arith}
+use Rattle.std.proofs.Common.{◌∙◌, ℕ, Option, None, Some, refl, arith}
 use Rattle.cqs_rule.specs.Owed.{under_ticket}
 use Rattle.cqs_pool.proofs.AloneSteps.{quiet, plain-end}
 use Rattle.cqs_pool.proofs.ResumeSteps.{IsWhole, never-refused, ends-rule, ends-so, further-so}

@@ -1,5 +1,4 @@
-use Rattle.std.proofs.Common.{◌∙◌, ap, sym}
-use Rattle.cqs_rule.specs.Passes.{pass_view}
+use Rattle.std.proofs.Common.{◌∙◌}
 use Rattle.cqs_pool.proofs.AloneSteps.{quiet, plain-put}
 use Rattle.cqs_pool.proofs.PutSteps.{put-rule, put-ends}
 use Rattle.cqs_pool.proofs.ResumeSteps.{never-refused}

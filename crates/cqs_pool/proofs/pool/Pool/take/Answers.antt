@@ -1,5 +1,4 @@
-use Rattle.std.proofs.Common.{◌≡◌, ◌<◌, ◌≤◌, ◌∷◌, [], refl, sym, ◌∙◌, arith}
-use Rattle.cqs_rule.specs.Passes.{pass_view}
+use Rattle.std.proofs.Common.{[], ◌∙◌, arith}
 use Rattle.cqs_rule.specs.Waits.{place_of}
 use Rattle.cqs_pool.proofs.AloneSteps.{quiet, plain-took, plain-later}
 use Rattle.cqs_pool.proofs.Counters.{next-is}

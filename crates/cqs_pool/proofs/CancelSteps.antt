@@ -18,7 +18,6 @@ use Rattle.cqs_rule.specs.Exchanges.{HasCell}
 use Rattle.cqs_rule.specs.Lists.{Has, IsPrefix, without}
 use Rattle.cqs_rule.specs.Saw.{WasShown}
 use Rattle.cqs_rule.proofs.Calls.{called-and}
-use Rattle.cqs_cancel.specs.Cancels.{CameLate}
 use Rattle.cqs_cancel.specs.Unasked as unasked
 use Rattle.cqs_cancel.specs.Unasked.{Closes}
 use Rattle.cqs_cancel.specs.declared.cancelling.Left.TheVariants.{Gone, GoneOwing, Late}
@@ -32,7 +31,7 @@ use Rattle.cqs_pool.specs.Causes.{primitive_of, cell_of, CellWasOnce, CellHadOnc
 use Rattle.cqs_pool.specs.Entries.{placed_further, passed_further}
 use Rattle.cqs_pool.specs.Pool.{pool_object}
 use Rattle.cqs_pool.specs.Steps.{HasCancelled, HasEnded, PassedOn}
-use Rattle.cqs_pool.proofs.Counters.{prefix-then, prefix-more}
+use Rattle.cqs_pool.proofs.Counters.{prefix-then}
 use Rattle.cqs_pool.proofs.ResumeSteps.{ends-so, ends-called, further-names}
 use Rattle.cqs_pool.proofs.Rules.{call-rule, call-rule_own}
 

@@ -10,7 +10,6 @@ use Rattle.cqs_pool_object.specs.PoolEntries.{object_after, after_entry}
 use Rattle.cqs_pool_object.specs.PoolObject.{Pool, opening}
 use Rattle.cqs_rule.specs.declared.view.Facts.{Facts}
 use Rattle.cqs_rule.specs.declared.view.Opening.{Opening}
-use Rattle.cqs_rule.specs.declared.view.Sighting.TheVariants.{Word}
 use Rattle.cqs_rule.specs.declared.view.View.{View}
 use Rattle.cqs_rule.specs.Called.{Called}
 use Rattle.cqs_rule.specs.Facts.{facts_counted}

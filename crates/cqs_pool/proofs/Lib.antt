@@ -6,3 +6,4 @@ pub mod PollSteps
 pub mod ResumeSteps
 pub mod PutSteps
 pub mod CancelSteps
+pub mod AloneSteps

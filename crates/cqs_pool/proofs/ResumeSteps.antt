@@ -5,7 +5,7 @@ use Rattle.cqs_core.specs.declared.cells.CoreState.{CoreState}
 use Rattle.cqs_core.specs.declared.cells.CoreState.TheVariants as state
 use Rattle.cqs_core.specs.declared.doings.Doing.TheVariants as doing
 use Rattle.cqs_pool_object.specs.declared.entries.PoolEntry.{PoolEntry}
-use Rattle.cqs_core.specs.QueueSteps.{QueueStep, serves, leaves, delegates, ends_refused}
+use Rattle.cqs_core.specs.QueueSteps.{QueueStep, serves, leaves, delegates}
 use Rattle.cqs_pool_object.specs.PoolSteps.{step_entries}
 use Rattle.cqs_rule.specs.declared.view.Facts.{Facts}
 use Rattle.cqs_rule.specs.declared.view.Sighting.{Sighting}

@@ -1,5 +1,5 @@
 -- A take is its steps: a load of the suspend counter, and a suspend that draws a number.
-use Rattle.std.proofs.Common.{◌≡◌, ℕ, ◌<◌, ◌≤◌, true, false, List, [], ◌∷◌, ◌++◌, Ok, sym, refl, ap, ◌∙◌, subst, if◌then◌else◌}
+use Rattle.std.proofs.Common.{◌≡◌, ℕ, ◌<◌, ◌≤◌, true, false, List, [], ◌∷◌, ◌++◌, sym, refl, ap, ◌∙◌, subst, if◌then◌else◌}
 use Rattle.std.specs.Prelude.{nat_lt}
 use Rattle.std.proofs.lemmas.Bool.{le-ltb, lt-ltb}
 use Rattle.cqs_core.specs.declared.cells.CoreState.{CoreState}
@@ -9,17 +9,15 @@ use Rattle.cqs_core.specs.QueueSteps.{installs, takes}
 use Rattle.cqs_pool_object.specs.declared.entries.PoolEntry.{PoolEntry}
 use Rattle.cqs_pool_object.specs.declared.entries.PoolEntry.TheVariants as entry
 use Rattle.cqs_pool_object.specs.PoolEntries.{IsLegal}
-use Rattle.cqs_rule.specs.declared.queue.tokens.Wait.{Wait}
 use Rattle.cqs_rule.specs.declared.view.Facts.{Facts}
 use Rattle.cqs_rule.specs.declared.view.Sighting.TheVariants.{Cell, Word}
 use Rattle.cqs_rule.specs.declared.view.View.{View}
 use Rattle.cqs_rule.specs.Called.{Called}
 use Rattle.cqs_rule.specs.Layout.{suspends_place}
 use Rattle.cqs_rule.specs.Lists.{Has, IsPrefix}
-use Rattle.cqs_rule.specs.Waits.{place_of, HasWait}
 use Rattle.cqs_rule.proofs.Calls.{called-by, called-and}
 use Rattle.cqs_suspend.specs.Suspends.{EntersBy}
-use Rattle.cqs_pool.specs.Answers.{IsWorn, IsBelow, Takes, facts_refused}
+use Rattle.cqs_pool.specs.Answers.{IsWorn, IsBelow, facts_refused}
 use Rattle.cqs_pool.specs.Calls.{IsReady, CallRule, Rests}
 use Rattle.cqs_pool.specs.Causes.{primitive_of, CellWas}
 use Rattle.cqs_pool.specs.Pool.{pool_object}

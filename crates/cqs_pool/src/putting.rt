@@ -1,12 +1,13 @@
 //! The put, and the end of one that was handed back.
 
-ghost use Rattle.std.specs.Prelude.{◌≡◌, [], IsOk, IfOk};
+ghost use Rattle.std.specs.Prelude.{◌≡◌, [], true, IsOk, IfOk};
 ghost use Rattle.cqs_rule.specs.Crew.{IsBetween};
 ghost use Rattle.cqs_rule.specs.Lists.{without};
 ghost use Rattle.cqs_rule.specs.Owed.{HasUnder, under_payload, under_reached};
 ghost use Rattle.cqs_rule.specs.Passes.{pass_view};
+ghost use Rattle.cqs_pool.specs.Alone.{CanEnd, IsPlainPut, IsPlainEnd};
 ghost use Rattle.cqs_pool.specs.Answers.{Ends, IsFirstInHand};
-ghost use Rattle.cqs_pool.specs.Calls.{IsReady, IsMine, CallRule};
+ghost use Rattle.cqs_pool.specs.Calls.{IsReady, IsMine, CallRule, plain_after};
 ghost use Rattle.cqs_pool.specs.Elements.{number_of};
 ghost use Rattle.cqs_pool.specs.Entries.{put_entries, put_further, placed_further};
 ghost use Rattle.cqs_pool.specs.Steps.{IsFurther};
@@ -37,11 +38,11 @@ impl<T: Send + Drop> Pool<T> {
             (without (number_of element) (pass_view pass.old).facts.has.slots)
             (pass_view pass.old).facts.waits placed (pass_view pass.new)) }
         ensures between { IsBetween (pass_view pass.new).facts }
+        ensures alone { (pass_view pass.old).alone ≡ true
+            → IfOk result (λ placed. IsPlainPut (pass_view pass.old) placed
+            (pass_view pass.new)) }
     {
-        let Element {
-            number: payload,
-            ..
-        } = element;
+        let payload = element.number;
         let number = self.queue.add_table::<Puts>(pass, RESUMES_WORD, 1);
         Ok(placed_by(resume_from(&self.queue, pass, number, payload)))
     }
@@ -59,6 +60,9 @@ impl<T: Send + Drop> Pool<T> {
             (pass_view pass.new) }
         ensures further { IsFurther (under_reached under) result }
         ensures between { IsBetween (pass_view pass.new).facts }
+        ensures alone { (pass_view pass.old).alone ≡ true
+            → CanEnd (plain_after (pass_view pass.old))
+            → IsPlainEnd (pass_view pass.old) result (pass_view pass.new) }
     {
         placed_by(finish(&self.queue, pass, under))
     }

@@ -1,7 +1,8 @@
 //! The take.
 
-ghost use Rattle.std.specs.Prelude.{◌≡◌, IfOk, OnOk, OnErr, IsErrOf};
+ghost use Rattle.std.specs.Prelude.{◌≡◌, true, IfOk, OnOk, OnErr, IsErrOf};
 ghost use Rattle.cqs_rule.specs.Passes.{pass_view};
+ghost use Rattle.cqs_pool.specs.Alone.{IsPlainTake};
 ghost use Rattle.cqs_pool.specs.Answers.{IsWorn, IsBelow, Takes};
 ghost use Rattle.cqs_pool.specs.Calls.{IsReady, IsMine, CallRule};
 ghost use Rattle.cqs_pool.specs.Entries.{took_entries, took_further};
@@ -28,6 +29,8 @@ impl<T: Send + Drop> Pool<T> {
         ensures took { IfOk result
             (λ taking. Takes (pass_view pass.old) taking (pass_view pass.new)) }
         ensures ready { IsReady (pass_view pass.new).facts }
+        ensures alone { (pass_view pass.old).alone ≡ true
+            → IfOk result (λ taking. IsPlainTake (pass_view pass.old) taking) }
     {
         if self.queue.load_table::<Counts>(pass, SUSPENDS_WORD) >= self.queue.limit() {
             return Err(AcquireError::Worn);

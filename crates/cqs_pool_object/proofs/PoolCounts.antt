@@ -1,34 +1,32 @@
 -- How often an element is on its way, or held, after a pass and a cell were written; and which waits were served
 -- with which.
-use Rattle.std.proofs.Common.{◌≡◌, ◌≢◌, ◌⊎◌, inl, inr, ℕ, zero, suc, ◌+◌, ◌<◌, ◌≤◌, nat_le, ◌==◌, ◌&&◌, Bool, true, false, not, List, [], ◌∷◌, ◌++◌, Option, Some, None, length, set, slice_get, slice_index, get_or, refl, ap, ap₂, sym, ◌∙◌, subst, arith, eq-eqb, eqb-true, ne_eqb, append-nil, if◌then◌else◌}
-use Rattle.std.specs.List.{count_by, sum_by}
-use Rattle.std.proofs.lemmas.Bool.{cases_Bool, cases_eq, cases_lt, lt-leb, le-leb, both_ways, false_from_ne_true}
-use Rattle.std.proofs.lemmas.List.{length-set, get_or-set_other, get_or-set_same}
-use Rattle.std.proofs.lemmas.List.Sums.{sum_by-cons, sum_by-set}
+use Rattle.std.proofs.Common.{◌≡◌, ◌≢◌, ◌⊎◌, inl, inr, ℕ, suc, ◌+◌, ◌<◌, ◌≤◌, nat_le, ◌==◌, ◌&&◌, Bool, true, false, not, List, [], ◌∷◌, ◌++◌, Option, Some, None, length, set, slice_get, get_or, refl, ap, ap₂, sym, ◌∙◌, arith, eq-eqb, eqb-true, ne_eqb, append-nil, if◌then◌else◌}
+use Rattle.std.specs.List.{count_by}
+use Rattle.std.proofs.lemmas.Bool.{cases_Bool, both_ways}
+use Rattle.std.proofs.lemmas.List.{length-set, get_or-set_other}
+use Rattle.std.proofs.lemmas.List.Sums.{sum_by-cons}
 use Rattle.cqs_core.specs.declared.cells.CoreCell.{CoreCell}
 use Rattle.cqs_core.specs.declared.cells.CoreState.{CoreState}
 use Rattle.cqs_core.specs.declared.cells.CoreState.TheVariants as state
 use Rattle.cqs_core.specs.declared.doings.Doing.{Doing}
-use Rattle.cqs_core.specs.declared.doings.Doing.TheVariants as doing
-use Rattle.cqs_core.specs.Numbered.{IsIn, picked, count_at, cons_option}
-use Rattle.cqs_core.specs.Keyed.{placed, without, changed}
-use Rattle.cqs_core.specs.QueueState.{Queue, fresh_cell, owner_doing, is_refusing, has_ticket}
-use Rattle.cqs_core.specs.QueueLine.{Waiting, is_resuming, is_told_refused, has_left, has_ready, is_unmet, going, ending, line, in_line}
+use Rattle.cqs_core.specs.Numbered.{IsIn, picked, count_at}
+use Rattle.cqs_core.specs.Keyed.{without}
+use Rattle.cqs_core.specs.QueueState.{Queue, fresh_cell, owner_doing, is_refusing}
+use Rattle.cqs_core.specs.QueueLine.{is_resuming, is_told_refused, has_left, is_unmet, going, ending}
 use Rattle.cqs_core.specs.QueueMoves.{now_doing, with_cell, cells_reached, cells_drawn}
-use Rattle.cqs_core.specs.QueueCover.{is_declined, roaming}
+use Rattle.cqs_core.specs.QueueCover.{is_declined}
 use Rattle.cqs_core.specs.QueueSound.{IsSound, IsUntaken}
-use Rattle.cqs_core.proofs.Counts.{bit, count_at-change, count_at-same, count_at-write, count_at-push, count_at-none, count_by-push, count_by-write}
+use Rattle.cqs_core.proofs.Counts.{bit, count_at-change, count_at-write, count_at-push, count_at-none, count_by-push}
 use Rattle.cqs_core.proofs.DrawMoves.{undrawn}
 use Rattle.cqs_core.proofs.Equations.{HasFlow, flow, decliners, expected}
 use Rattle.cqs_core.proofs.Exchange.{refusals-at_cells}
 use Rattle.cqs_core.proofs.Keys.{Around, around-kept}
-use Rattle.cqs_core.proofs.Letters.{will_decline, is_unreached}
-use Rattle.cqs_core.proofs.Picked.{IsKeyed, AgreeBut, picked-same, picked-around, picked-push}
-use Rattle.cqs_core.proofs.PickedPlaces.{first-picked}
-use Rattle.cqs_core.proofs.Places.{get-set_here, get-set_else, get-there}
+use Rattle.cqs_core.proofs.Letters.{will_decline}
+use Rattle.cqs_core.proofs.Picked.{picked-around, picked-push}
+use Rattle.cqs_core.proofs.Places.{get-set_here, get-set_else}
 use Rattle.cqs_core.proofs.Rising.{in-behind, in-none}
 use Rattle.cqs_pool_object.specs.PoolObject.{Given, times}
-use Rattle.cqs_pool_object.specs.PoolShown.{brings, has_it, has_given, way_times, held_times, given_of, is_given, given}
+use Rattle.cqs_pool_object.specs.PoolShown.{brings, way_times, given_of, is_given, given}
 
 abbrev pub itself : ℕ → ℕ
 itself n = n

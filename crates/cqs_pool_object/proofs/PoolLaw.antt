@@ -1,17 +1,16 @@
 -- Every event of a pool keeps what its core shows.
-use Rattle.std.proofs.Common.{◌≡◌, ◌≢◌, ◌⊎◌, inl, inr, ℕ, zero, suc, ◌+◌, ◌-◌, ◌<◌, ◌≤◌, ◌==◌, ◌&&◌, Bool, true, false, not, List, [], ◌∷◌, ◌++◌, Option, Some, None, length, take, set, slice_get, slice_index, get_or, refl, ap, ap₂, sym, ◌∙◌, subst, arith, eq-eqb, ne_eqb, append-nil, length-append, if◌then◌else◌}
-use Rattle.std.specs.List.{fold, count_by, sum_by}
-use Rattle.std.proofs.lemmas.Bool.{cases_Bool, cases_lt, cases_eq, both_ways}
-use Rattle.std.proofs.lemmas.List.{length-set, set-set, get_or-set_same, length_push}
+use Rattle.std.proofs.Common.{◌≡◌, ℕ, ◌+◌, ◌<◌, ◌==◌, ◌&&◌, Bool, true, false, not, List, [], ◌∷◌, ◌++◌, Option, Some, None, length, take, set, slice_get, get_or, refl, ap, ap₂, sym, ◌∙◌, subst, arith, eq-eqb}
+use Rattle.std.specs.List.{sum_by}
+use Rattle.std.proofs.lemmas.List.{length-set, get_or-set_same, length_push}
 use Rattle.std.proofs.lemmas.List.Sums.{sum_by-set}
 use Rattle.cqs_core.specs.declared.cells.CoreCell.{CoreCell}
 use Rattle.cqs_core.specs.declared.cells.CoreState.{CoreState}
 use Rattle.cqs_core.specs.declared.cells.CoreState.TheVariants as state
 use Rattle.cqs_core.specs.declared.doings.Doing.{Doing}
 use Rattle.cqs_core.specs.declared.doings.Doing.TheVariants as doing
-use Rattle.cqs_core.specs.Numbered.{IsIn, picked, count_at, cons_option}
-use Rattle.cqs_core.specs.Keyed.{placed, without, changed}
-use Rattle.cqs_core.specs.QueueState.{Queue, owner_doing, fresh_cell}
+use Rattle.cqs_core.specs.Numbered.{IsIn, count_at}
+use Rattle.cqs_core.specs.Keyed.{placed, without}
+use Rattle.cqs_core.specs.QueueState.{Queue, owner_doing}
 use Rattle.cqs_core.specs.QueueLine as queue
 use Rattle.cqs_core.specs.QueueLine.{Waiting, going, ending, line, in_line, is_resuming, has_left, has_ready, at_door, waiting_of}
 use Rattle.cqs_core.specs.QueueMoves as move
@@ -21,9 +20,9 @@ use Rattle.cqs_core.specs.QueueWaiters.{find_wait, Waits}
 use Rattle.cqs_core.proofs.Counts.{bit}
 use Rattle.cqs_core.proofs.Places.{get-set_here, get-below}
 use Rattle.cqs_core.proofs.Keys.{around-came, around-changed}
-use Rattle.cqs_core.proofs.LineMoves.{ComesToDoor, turn-door, BeginsResume, turn-owes, LeavesLine, decide-leaves}
-use Rattle.cqs_core.proofs.DrawMoves.{Enters, enters-draw}
-use Rattle.cqs_core.proofs.DeliveryMoves.{Closes, closes-collect}
+use Rattle.cqs_core.proofs.LineMoves.{turn-door, turn-owes, decide-leaves}
+use Rattle.cqs_core.proofs.DrawMoves.{enters-draw}
+use Rattle.cqs_core.proofs.DeliveryMoves.{closes-collect}
 use Rattle.cqs_core.proofs.Picked.{picked-in}
 use Rattle.cqs_core.proofs.PickedPlaces.{first-picked}
 use Rattle.cqs_core.proofs.Rising.{length-without}
@@ -37,7 +36,7 @@ use Rattle.cqs_pool_object.specs.declared.entries.PoolEntry.TheVariants as entry
 use Rattle.cqs_pool_object.specs.PoolObject.{Given, Pool, opening, IsGiven, times}
 use Rattle.cqs_pool_object.specs.PoolEntries.{IsAllowed, with_given, closed, after_entry, object_after, IsLegal}
 use Rattle.cqs_pool_object.specs.PoolShown.{PoolShape, way_times, held_times, is_given, given, given_of, Shows, IsPool}
-use Rattle.cqs_pool_object.proofs.PoolCounts.{itself, given_wait, LoadsBut, loads-same, loads-set, put_at, PayloadsBut, payloads-same, payloads-set, put-here, brings-write, cells-write, cells-reached, cells-drawn, way-write, way-turn, given-around, given-write, given-drawn, given-reached, times-in, times-cons, times-push, times-without, expected-within}
+use Rattle.cqs_pool_object.proofs.PoolCounts.{itself, given_wait, loads-same, loads-set, put_at, PayloadsBut, payloads-same, payloads-set, put-here, brings-write, cells-write, cells-reached, cells-drawn, way-write, way-turn, given-around, given-write, given-drawn, given-reached, times-in, times-cons, times-push, times-without, expected-within}
 
 -- the cell of a waiter isn't collected
 waiter-of : (q : Queue) (k : ℕ) (found : CoreCell) → IsSound q → slice_get q.cells k ≡ Some found

@@ -1,13 +1,13 @@
 -- A pool as it opens; that a number is left where a resumption is owed or begun; and what one idle pass has in hand
 -- becomes another's.
-use Rattle.std.proofs.Common.{◌≡◌, ◌≢◌, ◌⊎◌, inl, inr, ℕ, zero, suc, ◌+◌, ◌<◌, ◌≤◌, ◌==◌, List, [], ◌∷◌, ◌++◌, length, set, slice_get, get_or, replicate, Some, refl, ap, sym, ◌∙◌, arith, eq-eqb}
+use Rattle.std.proofs.Common.{◌≡◌, ◌≢◌, inl, inr, ℕ, zero, suc, ◌+◌, ◌<◌, ◌≤◌, ◌==◌, List, [], ◌∷◌, ◌++◌, length, set, slice_get, get_or, replicate, Some, refl, ap, sym, ◌∙◌, arith, eq-eqb}
 use Rattle.std.specs.List.{sum_by}
 use Rattle.std.proofs.lemmas.List.{length-set, length-replicate, get_or-set_other}
 use Rattle.std.proofs.lemmas.List.Sums.{sum_by-cons, sum_by-set, sum_by-append, get_or-le-sum_by}
 use Rattle.cqs_core.specs.declared.cells.CoreCell.{CoreCell}
 use Rattle.cqs_core.specs.declared.doings.Doing.{Doing}
 use Rattle.cqs_core.specs.declared.doings.Doing.TheVariants as doing
-use Rattle.cqs_core.specs.Numbered.{IsIn, count_at}
+use Rattle.cqs_core.specs.Numbered.{count_at}
 use Rattle.cqs_core.specs.QueueLine.{door}
 use Rattle.cqs_core.specs.QueueOpening.{value_cell, opened_queue}
 use Rattle.cqs_core.specs.QueueState.{Queue}
@@ -17,8 +17,7 @@ use Rattle.cqs_core.proofs.QueueOpens.{get-replicate, picked-replicate, opened-s
 use Rattle.cqs_core.proofs.QueueReaches.{reaches-few, begins-few}
 use Rattle.cqs_pool_object.specs.PoolObject.{Pool, numbers_from, times}
 use Rattle.cqs_pool_object.specs.PoolEntries.{object_after}
-use Rattle.cqs_pool_object.specs.PoolShown.{PoolShape, IsPool, brings, has_it, has_given, is_given, held_times}
-use Rattle.cqs_pool_object.specs.PoolSteps.{hold_of}
+use Rattle.cqs_pool_object.specs.PoolShown.{PoolShape, IsPool, brings, has_it, has_given, is_given}
 use Rattle.cqs_pool_object.specs.PoolLaws.{opened, handed_over, MayReach}
 use Rattle.cqs_pool_object.proofs.PoolCounts.{times-cons, times-without}
 use Rattle.cqs_pool_object.proofs.PoolConserved.{long-numbers, conserved-after}

@@ -1,5 +1,5 @@
 -- The pool as a plain object: its elements are on their way to a taker, or held by one.
-use Rattle.std.specs.Prelude.{◌≡◌, ℕ, zero, suc, ◌==◌, Bool, true, List, [], ◌∷◌, count_by}
+use Rattle.std.specs.Prelude.{ℕ, zero, suc, ◌==◌, Bool, true, List, [], ◌∷◌, count_by}
 use Rattle.cqs_core.specs.Numbered.{IsIn}
 use Rattle.cqs_core.specs.QueueLine.{Waiting}
 

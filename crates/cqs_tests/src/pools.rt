@@ -136,6 +136,21 @@ fn look_in_vain(rt: &impl Abort, pool: &Pool, pass: &mut PoolPass, wait: Wait) -
     wait
 }
 
+// So many come to the line and leave it, one after the other.
+fn come_and_leave(rt: &impl Abort, pool: &Pool, pass: &mut PoolPass, first: u64, end: u64)
+    requires belongs { IsMine pool.now pass.old }
+    requires ready { IsReady (pass_view pass.old).facts }
+    ensures belongs { IsMine pool.now pass.new }
+    ensures ready { IsReady (pass_view pass.new).facts }
+    ensures elements { (pass_view pass.new).facts.has.slots
+        ≡ (pass_view pass.old).facts.has.slots }
+{
+    for number in first..end {
+        let wait = take_later(rt, pool, pass, number);
+        leave(rt, pool, pass, wait);
+    }
+}
+
 #[test]
 fn a_pool_in_order(rt: HostRuntime) -> Result<(), Fail> {
     let (pool, mut pass) = Pool::new(rt.alloc(), 2, CONFIG)?;
@@ -176,6 +191,23 @@ fn an_element_put_by_who_met_its_taker(rt: HostRuntime) -> Result<(), Fail> {
         panic!(rt; "the other pass waits for nothing");
     };
     assert_eq!(rt; pool.sole(&mut pass), true);
+    Ok(())
+}
+
+#[test]
+fn a_put_passes_over_who_left(rt: HostRuntime) -> Result<(), Fail> {
+    let (pool, mut pass) = Pool::new(rt.alloc(), 1, CONFIG)?;
+    let element = take_now(&rt, &pool, &mut pass, 0);
+    come_and_leave(&rt, &pool, &mut pass, 1, 71);
+    let _wait = take_later(&rt, &pool, &mut pass, 71);
+    let Ok(Placed::Under(under)) = pool.put(&mut pass, element) else {
+        panic!(rt; "one call passes over 64 numbers");
+    };
+    assert_eq!(rt; under.reached(), 64);
+    let Placed::Sent(sent) = pool.finish(&mut pass, under) else {
+        panic!(rt; "the last of the line stands in its cell");
+    };
+    assert_eq!(rt; sent, 71);
     Ok(())
 }
 

@@ -1,5 +1,6 @@
-use Rattle.std.proofs.Common.{◌≡◌, ◌≤◌, ℕ, Option, None, Some, refl, arith}
+use Rattle.std.proofs.Common.{◌∙◌, ℕ, Option, None, Some, refl, arith}
 use Rattle.cqs_rule.specs.Owed.{under_ticket}
+use Rattle.cqs_pool.proofs.AloneSteps.{quiet, plain-end}
 use Rattle.cqs_pool.proofs.ResumeSteps.{IsWhole, never-refused, ends-rule, ends-so, further-so}
 use Rattle.cqs_pool.proofs.pool.Pool.finish.Goals as goal
 
@@ -22,3 +23,10 @@ returns-clause-ends g c =
 
 pub returns-clause-further : goal.returns-clause-further
 returns-clause-further g c = further-so _ c.finish.result _ c.placed_by.ensures c.finish.ensures.further
+
+pub returns-clause-alone : goal.returns-clause-alone
+returns-clause-alone g c = λ alone can.
+    let rule = returns-clause-called g c in
+    plain-end _ _ _ c.placed_by.result rule alone can
+    (λ idle. quiet _ c.finish.ensures.belongs.alone c.finish.new.pass.live.0
+    (rule.called.same.alone ∙ alone) idle) _ _ (returns-clause-ends g c)

@@ -1,6 +1,6 @@
-use Rattle.std.proofs.Common.{◌≡◌, ◌<◌, ◌≤◌, ◌∷◌, [], refl, sym, ◌∙◌, arith}
-use Rattle.cqs_rule.specs.Passes.{pass_view}
+use Rattle.std.proofs.Common.{[], ◌∙◌, arith}
 use Rattle.cqs_rule.specs.Waits.{place_of}
+use Rattle.cqs_pool.proofs.AloneSteps.{quiet, plain-took, plain-later}
 use Rattle.cqs_pool.proofs.Counters.{next-is}
 use Rattle.cqs_pool.proofs.Rules.{call-rule_own}
 use Rattle.cqs_pool.proofs.TakeSteps.{worn, loaded-called, took-called, took-below, took-cell, took-rests, waits-called, waits-below, waits-cell, waits-rests}
@@ -59,3 +59,14 @@ returns-in-Took-clause-took g c = (
   took-rests _ _ _ _ c.in-Took.number c.in-Took.payload (next-is _ _ _ c.load_table.ensures.saw) c.requires.ready
       c.in-Took.ensures.entered,
 )
+
+pub returns-in-Took-clause-alone : goal.returns-in-Took-clause-alone
+returns-in-Took-clause-alone g c = λ alone.
+    plain-took _ _ c.in-Took.number c.in-Took.payload (returns-in-Took-clause-called g c) alone
+
+pub returns-in-Waits-clause-alone : goal.returns-in-Waits-clause-alone
+returns-in-Waits-clause-alone g c = λ alone.
+    let rule = returns-in-Waits-clause-called g c in
+    let rests = (returns-in-Waits-clause-took g c).2 in
+    plain-later _ _ (place_of c.in-Waits.wait).index rule alone
+    (quiet _ c.in-Waits.ensures.belongs.alone c.enter.new.pass.live.0 (rule.called.same.alone ∙ alone) rests.ready.idle)

@@ -92,18 +92,18 @@ module _ {T : Type 0} where
   adds-took v w c x k rule more =
       adds-call 0 0 v w c _ (entry.TakeDoor v.number ∷ entry.Enter v.number k ∷ []) (entry.Deliver k ∷ []) rule
       (λ t told. record {
-    acquires = record {
-      free_is = told.acquires.free_is;
-      took = told.acquires.took + 1;
-      waited = told.acquires.waited;
-      entered_is = let e = told.acquires.entered_is in omega arith;
-      took_is = counted-next told.acquires.took c.acquires.took x told.acquires.took_is more;
-      waited_is = told.acquires.waited_is;
-    };
-    tries = told.tries;
-    polls = told.polls;
-    ends = told.ends;
-  })
+        acquires = record {
+          free_is = told.acquires.free_is;
+          took = told.acquires.took + 1;
+          waited = told.acquires.waited;
+          entered_is = let e = told.acquires.entered_is in omega arith;
+          took_is = counted-next told.acquires.took c.acquires.took x told.acquires.took_is more;
+          waited_is = told.acquires.waited_is;
+        };
+        tries = told.tries;
+        polls = told.polls;
+        ends = told.ends;
+      })
 
   -- the one or the other
   pub adds-now : (v w : View Entry T) (c : Counts) (a : Acquires) (number : Option ℕ)
@@ -120,18 +120,18 @@ module _ {T : Type 0} where
       → x ≡ one_more c.acquires.waited → Adds 0 0 v c w (record c { acquires = record c.acquires { waited = x } })
   adds-waited v w c x k rule more =
       adds-call 0 0 v w c _ (entry.TakeDoor v.number ∷ entry.Enter v.number k ∷ []) [] rule (λ t told. record {
-    acquires = record {
-      free_is = told.acquires.free_is;
-      took = told.acquires.took;
-      waited = told.acquires.waited + 1;
-      entered_is = let e = told.acquires.entered_is in omega arith;
-      took_is = told.acquires.took_is;
-      waited_is = counted-next told.acquires.waited c.acquires.waited x told.acquires.waited_is more;
-    };
-    tries = told.tries;
-    polls = told.polls;
-    ends = told.ends;
-  })
+        acquires = record {
+          free_is = told.acquires.free_is;
+          took = told.acquires.took;
+          waited = told.acquires.waited + 1;
+          entered_is = let e = told.acquires.entered_is in omega arith;
+          took_is = told.acquires.took_is;
+          waited_is = counted-next told.acquires.waited c.acquires.waited x told.acquires.waited_is more;
+        };
+        tries = told.tries;
+        polls = told.polls;
+        ends = told.ends;
+      })
 
   -- no further number may be drawn: nothing is told of that count
   pub adds-worn : (v w : View Entry T) (c : Counts) (x : ℕ) → CallRule v [] [] w
@@ -184,28 +184,28 @@ module _ {T : Type 0} where
       → x ≡ one_more c.polls.granted → Adds 0 0 v c w (record c { polls = record c.polls { granted = x } })
   adds-granted v w c x k rule more =
       adds-call 0 0 v w c _ (entry.LookGranted v.number k ∷ []) [] rule (λ t told. record {
-    acquires = told.acquires;
-    tries = told.tries;
-    ends = told.ends;
-    polls = record {
-      granted_is = counted-next t.granted c.polls.granted x told.polls.granted_is more;
-      pending_is = told.polls.pending_is;
-    };
-  })
+        acquires = told.acquires;
+        tries = told.tries;
+        ends = told.ends;
+        polls = record {
+          granted_is = counted-next t.granted c.polls.granted x told.polls.granted_is more;
+          pending_is = told.polls.pending_is;
+        };
+      })
 
   -- or that it goes on
   pub adds-pending : (v w : View Entry T) (c : Counts) (x k : ℕ) → CallRule v (entry.LookPending v.number k ∷ []) [] w
       → x ≡ one_more c.polls.pending → Adds 0 0 v c w (record c { polls = record c.polls { pending = x } })
   adds-pending v w c x k rule more =
       adds-call 0 0 v w c _ (entry.LookPending v.number k ∷ []) [] rule (λ t told. record {
-    acquires = told.acquires;
-    tries = told.tries;
-    ends = told.ends;
-    polls = record {
-      granted_is = told.polls.granted_is;
-      pending_is = counted-next t.pending c.polls.pending x told.polls.pending_is more;
-    };
-  })
+        acquires = told.acquires;
+        tries = told.tries;
+        ends = told.ends;
+        polls = record {
+          granted_is = told.polls.granted_is;
+          pending_is = counted-next t.pending c.polls.pending x told.polls.pending_is more;
+        };
+      })
 
   -- a permit that was given back is free
   pub adds-freed : (v w : View Entry T) (c : Counts) (x : ℕ) → CallRule v (entry.GiveFreed v.number ∷ []) [] w
@@ -238,26 +238,26 @@ module _ {T : Type 0} where
       → x ≡ one_more c.releases.sent → Adds 0 0 v c w (record c { releases = record c.releases { sent = x } })
   adds-sent v w c x k rule more =
       adds-call 0 0 v w c _ (entry.GiveSent v.number ∷ []) (entry.Deliver k ∷ []) rule (λ t told. record {
-    acquires = told.acquires;
-    tries = told.tries;
-    polls = told.polls;
-    ends = record {
-      freed_is = told.ends.freed_is;
-      served = told.ends.served + 1;
-      left = told.ends.left;
-      void = told.ends.void;
-      cancelled = told.ends.cancelled;
-      owing = told.ends.owing;
-      arrived = let e = told.ends.arrived in omega arith;
-      gone_is = told.ends.gone_is;
-      served_is = counted-next told.ends.served c.releases.sent x told.ends.served_is more;
-      left_is = told.ends.left_is;
-      void_is = told.ends.void_is;
-      cancelled_is = told.ends.cancelled_is;
-      owing_is = told.ends.owing_is;
-      late_is = told.ends.late_is;
-    };
-  })
+        acquires = told.acquires;
+        tries = told.tries;
+        polls = told.polls;
+        ends = record {
+          freed_is = told.ends.freed_is;
+          served = told.ends.served + 1;
+          left = told.ends.left;
+          void = told.ends.void;
+          cancelled = told.ends.cancelled;
+          owing = told.ends.owing;
+          arrived = let e = told.ends.arrived in omega arith;
+          gone_is = told.ends.gone_is;
+          served_is = counted-next told.ends.served c.releases.sent x told.ends.served_is more;
+          left_is = told.ends.left_is;
+          void_is = told.ends.void_is;
+          cancelled_is = told.ends.cancelled_is;
+          owing_is = told.ends.owing_is;
+          late_is = told.ends.late_is;
+        };
+      })
 
   -- the same of one that was still on its way
   pub adds-then_sent : (v w : View Entry T) (c : Counts) (x k : ℕ) → CallRule v [] (entry.Deliver k ∷ []) w
@@ -390,26 +390,26 @@ module _ {T : Type 0} where
       → x ≡ one_more c.cancels.cancelled → Adds 0 0 v c w (record c { cancels = record c.cancels { cancelled = x } })
   adds-cancelled v w c x k further rule more =
       adds-call 0 0 v w c _ (entry.Leave v.number k ∷ []) (further) rule (λ t told. record {
-    acquires = told.acquires;
-    tries = told.tries;
-    polls = told.polls;
-    ends = record {
-      freed_is = told.ends.freed_is;
-      served = told.ends.served;
-      left = told.ends.left;
-      void = told.ends.void;
-      cancelled = told.ends.cancelled + 1;
-      owing = told.ends.owing;
-      arrived = told.ends.arrived;
-      gone_is = let e = told.ends.gone_is in omega arith;
-      served_is = told.ends.served_is;
-      left_is = told.ends.left_is;
-      void_is = told.ends.void_is;
-      cancelled_is = counted-next told.ends.cancelled c.cancels.cancelled x told.ends.cancelled_is more;
-      owing_is = told.ends.owing_is;
-      late_is = told.ends.late_is;
-    };
-  })
+        acquires = told.acquires;
+        tries = told.tries;
+        polls = told.polls;
+        ends = record {
+          freed_is = told.ends.freed_is;
+          served = told.ends.served;
+          left = told.ends.left;
+          void = told.ends.void;
+          cancelled = told.ends.cancelled + 1;
+          owing = told.ends.owing;
+          arrived = told.ends.arrived;
+          gone_is = let e = told.ends.gone_is in omega arith;
+          served_is = told.ends.served_is;
+          left_is = told.ends.left_is;
+          void_is = told.ends.void_is;
+          cancelled_is = counted-next told.ends.cancelled c.cancels.cancelled x told.ends.cancelled_is more;
+          owing_is = told.ends.owing_is;
+          late_is = told.ends.late_is;
+        };
+      })
 
   -- and a permit that was left to it is still on its way
   pub adds-owing : (v w : View Entry T) (c : Counts) (x k : ℕ) (further : List Entry)
@@ -417,26 +417,26 @@ module _ {T : Type 0} where
       → x ≡ one_more c.cancels.owing → Adds 0 1 v c w (record c { cancels = record c.cancels { owing = x } })
   adds-owing v w c x k further rule more =
       adds-call 0 1 v w c _ (entry.Leave v.number k ∷ []) (further) rule (λ t told. record {
-    acquires = told.acquires;
-    tries = told.tries;
-    polls = told.polls;
-    ends = record {
-      freed_is = told.ends.freed_is;
-      served = told.ends.served;
-      left = told.ends.left;
-      void = told.ends.void;
-      cancelled = told.ends.cancelled;
-      owing = told.ends.owing + 1;
-      arrived = let e = told.ends.arrived in omega arith;
-      gone_is = let e = told.ends.gone_is in omega arith;
-      served_is = told.ends.served_is;
-      left_is = told.ends.left_is;
-      void_is = told.ends.void_is;
-      cancelled_is = told.ends.cancelled_is;
-      owing_is = counted-next told.ends.owing c.cancels.owing x told.ends.owing_is more;
-      late_is = told.ends.late_is;
-    };
-  })
+        acquires = told.acquires;
+        tries = told.tries;
+        polls = told.polls;
+        ends = record {
+          freed_is = told.ends.freed_is;
+          served = told.ends.served;
+          left = told.ends.left;
+          void = told.ends.void;
+          cancelled = told.ends.cancelled;
+          owing = told.ends.owing + 1;
+          arrived = let e = told.ends.arrived in omega arith;
+          gone_is = let e = told.ends.gone_is in omega arith;
+          served_is = told.ends.served_is;
+          left_is = told.ends.left_is;
+          void_is = told.ends.void_is;
+          cancelled_is = told.ends.cancelled_is;
+          owing_is = counted-next told.ends.owing c.cancels.owing x told.ends.owing_is more;
+          late_is = told.ends.late_is;
+        };
+      })
 
   -- too late: its permit had come
   pub adds-late : (v w : View Entry T) (c : Counts) (x k : ℕ) (further : List Entry)
@@ -444,26 +444,26 @@ module _ {T : Type 0} where
       → x ≡ one_more c.cancels.too_late → Adds 0 0 v c w (record c { cancels = record c.cancels { too_late = x } })
   adds-late v w c x k further rule more =
       adds-call 0 0 v w c _ (entry.Late v.number k ∷ []) (further) rule (λ t told. record {
-    acquires = told.acquires;
-    tries = told.tries;
-    polls = told.polls;
-    ends = record {
-      freed_is = told.ends.freed_is;
-      served = told.ends.served;
-      left = told.ends.left;
-      void = told.ends.void;
-      cancelled = told.ends.cancelled;
-      owing = told.ends.owing;
-      arrived = told.ends.arrived;
-      gone_is = told.ends.gone_is;
-      served_is = told.ends.served_is;
-      left_is = told.ends.left_is;
-      void_is = told.ends.void_is;
-      cancelled_is = told.ends.cancelled_is;
-      owing_is = told.ends.owing_is;
-      late_is = counted-next t.late c.cancels.too_late x told.ends.late_is more;
-    };
-  })
+        acquires = told.acquires;
+        tries = told.tries;
+        polls = told.polls;
+        ends = record {
+          freed_is = told.ends.freed_is;
+          served = told.ends.served;
+          left = told.ends.left;
+          void = told.ends.void;
+          cancelled = told.ends.cancelled;
+          owing = told.ends.owing;
+          arrived = told.ends.arrived;
+          gone_is = told.ends.gone_is;
+          served_is = told.ends.served_is;
+          left_is = told.ends.left_is;
+          void_is = told.ends.void_is;
+          cancelled_is = told.ends.cancelled_is;
+          owing_is = told.ends.owing_is;
+          late_is = counted-next t.late c.cancels.too_late x told.ends.late_is more;
+        };
+      })
 
   -- a permit was sent, and is still on its way
   pub adds-sending : (v w : View Entry T) (c : Counts) → CallRule v (entry.GiveSent v.number ∷ []) [] w

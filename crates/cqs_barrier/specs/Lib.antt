@@ -8,3 +8,4 @@ pub mod Waits
 pub mod Entries
 pub mod Causes
 pub mod Answers
+pub mod Leaving

@@ -4,7 +4,7 @@ ghost use Rattle.std.specs.Prelude.{◌≡◌};
 ghost use Rattle.cqs_barrier.specs.Waits.{wait_in};
 ghost use Rattle.cqs_rule.specs.Waits.{place_of};
 
-use cqs_rule::Wait;
+use cqs_rule::{Place, Wait};
 
 /// The wait of a party that has arrived. It is neither copied nor cloned.
 #[derive(Drop)]
@@ -28,4 +28,26 @@ pub enum PartyPolled {
     Through,
     /// The party still waits.
     Pending(PartyWait),
+}
+
+/// A wait that its pass began to leave, and has still to leave. It is neither copied nor cloned.
+#[derive(Drop)]
+pub struct Leaving {
+    pub(crate) at: Place,
+}
+
+/// What became of a cancel.
+#[derive(Drop)]
+pub enum PartyLeft {
+    /// The wait is over, and the party is to arrive again.
+    Withdrawn,
+    /// All had arrived: the party counts as through.
+    TooLate,
+    /// Another party arrived or withdrew between the load of the remaining number and the exchange:
+    /// the two numbers found, which differ. `leave_again` goes on.
+    Contended {
+        saw: u32,
+        found: u32,
+        leaving: Leaving,
+    },
 }

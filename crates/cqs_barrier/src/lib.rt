@@ -5,12 +5,13 @@ mod answers;
 mod barrier;
 mod client;
 mod events;
+mod leaving;
 mod polling;
 mod seats;
 mod steps;
 mod word;
 
-pub use answers::{PartyPolled, PartyWait};
+pub use answers::{Leaving, PartyLeft, PartyPolled, PartyWait};
 pub use barrier::{Barrier, BarrierPass};
 pub use client::BarrierClient;
 pub use events::{Arrive, LookToLeave, Withdraw};

@@ -4,3 +4,6 @@ pub mod Rules
 pub mod PollSteps
 pub mod LeaveSteps
 pub mod LeftSteps
+pub mod ResumeSteps
+pub mod NextFound
+pub mod ArriveSteps

@@ -9,3 +9,5 @@ pub mod Entries
 pub mod Causes
 pub mod Answers
 pub mod Leaving
+pub mod Resuming
+pub mod Arriving

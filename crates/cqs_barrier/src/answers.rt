@@ -4,7 +4,7 @@ ghost use Rattle.std.specs.Prelude.{◌≡◌};
 ghost use Rattle.cqs_barrier.specs.Waits.{wait_in};
 ghost use Rattle.cqs_rule.specs.Waits.{place_of};
 
-use cqs_rule::{Place, Wait};
+use cqs_rule::{Place, Under, Wait};
 
 /// The wait of a party that has arrived. It is neither copied nor cloned.
 #[derive(Drop)]
@@ -50,4 +50,24 @@ pub enum PartyLeft {
         found: u32,
         leaving: Leaving,
     },
+}
+
+/// Resumptions that the last party still owes: one that was handed back, and so many behind it. It
+/// is neither copied nor cloned.
+#[derive(Drop)]
+pub struct Owing {
+    pub(crate) under: Under,
+    pub(crate) left: u32,
+}
+
+/// What became of an arrival.
+#[derive(Drop)]
+pub enum Arrived {
+    /// The party was the last, or came when the last had arrived: it goes through.
+    Last,
+    /// The party was the last, and goes through. A resumption that it owes to the others was handed
+    /// back after 64 numbers that were passed over; `finish` goes on.
+    LastOwing(Owing),
+    /// Others are still to arrive: the party waits.
+    Later(PartyWait),
 }

@@ -7,3 +7,4 @@ pub mod LeftSteps
 pub mod ResumeSteps
 pub mod NextFound
 pub mod ArriveSteps
+pub mod FinishSteps

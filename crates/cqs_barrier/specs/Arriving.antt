@@ -16,8 +16,9 @@ use Rattle.cqs_rule.specs.Waits.{place_of, HasWait}
 use Rattle.cqs_suspend.specs.Suspends.{EndsBy}
 use Rattle.cqs_barrier.specs.declared.answers.Arrived.{Arrived}
 use Rattle.cqs_barrier.specs.declared.answers.Arrived.TheVariants.{Last, LastOwing, Later}
+use Rattle.cqs_barrier.specs.declared.answers.Owing.{Owing}
 use Rattle.cqs_barrier.specs.Barrier.{barrier_object}
-use Rattle.cqs_barrier.specs.Calls.{CallRule, Rests, plain_after}
+use Rattle.cqs_barrier.specs.Calls.{CallRule, IsReady, Rests, plain_after}
 use Rattle.cqs_barrier.specs.Causes.{primitive_of}
 use Rattle.cqs_barrier.specs.Leaving.{RemainingWas}
 use Rattle.cqs_barrier.specs.Resuming.{HasOwing, delivers, most_passed_over}
@@ -89,3 +90,19 @@ module _ {T : Type 0} where
   WaitsForOthers v (Later wait) w =
       EndsBy barrier_object primitive_of installs 0 (place_of (wait_in wait)).index 0 v w
       × HasWait w (wait_in wait)
+
+  -- A finish made no step but those of the resumptions that were owed, which served these waits and
+  -- passed over these numbers.
+  pub record Finished (ks over : List ℕ) (v w : View BarrierEntry T) : Type 0 where
+    pub called : CallRule v [] (delivers ks) w
+    pub held : w.facts.has.held ≡ v.facts.has.held
+    pub waits : w.facts.waits ≡ v.facts.waits
+    pub passed : w.facts.passed ≡ v.facts.passed ++ over
+
+  -- all that were owed ended, or one was handed back
+  abbrev pub Finishes : View BarrierEntry T → Result (Unit {0}) Owing → View BarrierEntry T → Type 0
+  Finishes v (Ok done) w =
+      (ks : List ℕ) × (over : List ℕ) × Finished ks over v w × IsReady w.facts
+  Finishes v (Err owing) w =
+      (ks : List ℕ) × (over : List ℕ) × Finished ks over v w × (most_passed_over ≤ length over)
+      × HasOwing w.facts owing

@@ -1,12 +1,13 @@
-//! The arrival of a party.
+//! The arrival of a party, and the resumptions that the last one still owes.
 
 ghost use Rattle.std.specs.Prelude.{◌≡◌, ◌<◌, OnErr, OnOk, IfOk, IfErr, IsErrOf};
 ghost use Rattle.cqs_core.specs.declared.doings.Doing.TheVariants as doing;
 ghost use Rattle.cqs_rule.specs.Passes.{pass_view};
-ghost use Rattle.cqs_barrier.specs.Arriving.{Arrives, IsWorn, IsBelow, NextIs, WaitsForOthers};
+ghost use Rattle.cqs_barrier.specs.Arriving.{Arrives, Finishes, IsWorn, IsBelow, NextIs, WaitsForOthers};
 ghost use Rattle.cqs_barrier.specs.Calls.{IsReady, IsMine};
+ghost use Rattle.cqs_barrier.specs.Resuming.{HasOwing};
 
-use crate::answers::{Arrived, PartyWait};
+use crate::answers::{Arrived, Owing, PartyWait};
 use crate::barrier::{Barrier, BarrierPass};
 use crate::steps::arrive_once;
 use crate::word::{last, parties};
@@ -39,6 +40,23 @@ impl Barrier {
             });
         }
         Ok(self.wait_for_others(pass))
+    }
+
+    /// The last party goes on with the resumptions that it owes, and tells whether they all ended.
+    pub fn finish(&self, pass: &mut BarrierPass, owing: Owing) -> Result<(), Owing>
+        requires belongs { IsMine self.now pass.old }
+        requires owes { HasOwing (pass_view pass.old).facts owing }
+        ensures belongs { IsMine self.now pass.new }
+        ensures finished { Finishes (pass_view pass.old) result (pass_view pass.new) }
+    {
+        let Owing { under, left } = owing;
+        if let Some(under) = self.resume_on(pass, under, left) {
+            return Err(Owing { under, left });
+        }
+        match self.resume_all(pass, left) {
+            None => Ok(()),
+            Some(owing) => Err(owing),
+        }
     }
 
     // Loads the suspend counter: the number that the next wait will have. A pass that finds it

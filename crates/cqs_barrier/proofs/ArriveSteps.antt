@@ -1,9 +1,8 @@
 -- An arrival is its steps: a load of the suspend counter, one taken from the remaining number, and then a suspend, or
 -- the resumptions of the others.
-use Rattle.std.proofs.Common.{◌≡◌, ◌≢◌, ◌⊎◌, inl, inr, ℕ, ◌+◌, ◌-◌, ◌<◌, ◌≤◌, Bool, true, false, List, [], ◌∷◌, ◌++◌, length, Option, Some, None, sym, refl, ap, ◌∙◌, subst, take, take_at, arith, if◌then◌else◌}
+use Rattle.std.proofs.Common.{◌≡◌, inl, inr, ℕ, ◌-◌, ◌<◌, ◌≤◌, Bool, true, false, List, [], ◌∷◌, ◌++◌, length, Some, None, sym, refl, ap, ◌∙◌, subst, take, take_at, arith, if◌then◌else◌}
 use Rattle.std.proofs.lemmas.Bool.{eqb-true}
 use Rattle.cqs_core.specs.declared.doings.Doing.TheVariants as doing
-use Rattle.cqs_core.specs.QueueSteps.{installs, takes}
 use Rattle.cqs_barrier_object.specs.declared.entries.BarrierEntry.{BarrierEntry}
 use Rattle.cqs_barrier_object.specs.declared.entries.BarrierEntry.TheVariants as entry
 use Rattle.cqs_barrier_object.specs.BarrierEntries.{IsAllowed, IsLegal, object_after}
@@ -18,20 +17,18 @@ use Rattle.cqs_rule.specs.Lists.{Has, IsPrefix}
 use Rattle.cqs_rule.specs.Saw.{Saw}
 use Rattle.cqs_rule.specs.Waits.{place_of}
 use Rattle.cqs_rule.proofs.Calls.{called-by, called-then, called-and}
-use Rattle.cqs_suspend.specs.Suspends.{EndsBy}
 use Rattle.cqs_barrier.specs.declared.answers.Arrived.{Arrived}
 use Rattle.cqs_barrier.specs.declared.answers.Arrived.TheVariants.{Last, LastOwing, Later}
 use Rattle.cqs_barrier.specs.declared.answers.Owing.{Owing}
-use Rattle.cqs_barrier.specs.Arriving.{NextIs, IsWorn, IsBelow, WasLast, WasEarly, CameLast, CameEarly, Arrives, WaitsForOthers}
+use Rattle.cqs_barrier.specs.Arriving.{NextIs, IsWorn, IsBelow, WasEarly, CameLast, Arrives, WaitsForOthers}
 use Rattle.cqs_barrier.specs.Barrier.{barrier_object, arrives}
 use Rattle.cqs_barrier.specs.BarrierWord.{OnWord}
-use Rattle.cqs_barrier.specs.Calls.{IsReady, Rests}
-use Rattle.cqs_barrier.specs.Causes.{primitive_of}
+use Rattle.cqs_barrier.specs.Calls.{IsReady}
 use Rattle.cqs_barrier.specs.Leaving.{RemainingWas}
 use Rattle.cqs_barrier.specs.Resuming.{delivers, OwesMore, Ran, RanAll}
 use Rattle.cqs_barrier.specs.Word.{parties_in, remaining_in, is_last}
 use Rattle.cqs_barrier.proofs.LeaveSteps.{prefix-same, prefix-then, saw-prefix, remaining-was}
-use Rattle.cqs_barrier.proofs.Rules.{AllName, NoneName, call-rule, call-rule_own, called-weak}
+use Rattle.cqs_barrier.proofs.Rules.{NoneName, call-rule, call-rule_own, called-weak}
 
 abbrev arrive_entries : Bool → ℕ → List BarrierEntry
 arrive_entries b p = if b then entry.ArriveLast p ∷ [] else entry.ArriveDoor p ∷ []

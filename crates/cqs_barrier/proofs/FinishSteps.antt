@@ -1,5 +1,5 @@
 -- A finish is the resumption that was handed back, and those behind it.
-use Rattle.std.proofs.Common.{◌≡◌, ℕ, ◌≤◌, List, [], ◌++◌, length, Result, Ok, Err, Option, Some, None, arith, length-append}
+use Rattle.std.proofs.Common.{ℕ, List, [], ◌++◌, Result, Ok, Err, Option, Some, None, arith, length-append}
 use Rattle.cqs_rule.specs.declared.queue.tokens.Under.{Under}
 use Rattle.cqs_rule.specs.declared.view.View.{View}
 use Rattle.cqs_rule.specs.Lists.{Has}
@@ -9,7 +9,7 @@ use Rattle.cqs_barrier.specs.declared.answers.Owing.{Owing}
 use Rattle.cqs_barrier.specs.Arriving.{Finished, Finishes}
 use Rattle.cqs_barrier.specs.Resuming.{delivers, Ran, RanNext, RanAll, OwesMore}
 use Rattle.cqs_barrier.proofs.ArriveSteps.{delivers-name}
-use Rattle.cqs_barrier.proofs.ResumeSteps.{ran-none, ran-then, all-handed, all-on}
+use Rattle.cqs_barrier.proofs.ResumeSteps.{ran-none, ran-then, all-handed}
 use Rattle.cqs_barrier.proofs.Rules.{call-rule}
 
 abbrev pub finish_answer : Option Owing → Result (Unit {0}) Owing

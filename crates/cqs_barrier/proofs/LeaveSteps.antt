@@ -1,8 +1,7 @@
 -- A leaving is its steps: the load of the remaining number, perhaps the exchange, and the settling of the cell.
-use Rattle.std.proofs.Common.{◌≡◌, ◌≢◌, ◌⊎◌, inl, inr, ℕ, ◌+◌, ◌*◌, ◌/◌, ◌%◌, ◌<◌, ◌==◌, Bool, true, false, List, [], ◌∷◌, ◌++◌, Option, Some, None, sym, refl, ap, ◌∙◌, subst, arith, append_assoc, eq-eqb, ne_eqb, if◌then◌else◌}
+use Rattle.std.proofs.Common.{◌≡◌, ◌≢◌, ◌⊎◌, inl, inr, ℕ, ◌+◌, ◌<◌, ◌==◌, Bool, true, false, List, [], ◌∷◌, ◌++◌, sym, ap, ◌∙◌, subst, arith, append_assoc, eq-eqb, if◌then◌else◌}
 use Rattle.std.proofs.lemmas.Bool.{cases_eq}
 use Rattle.std.proofs.lemmas.List.{append-nil, append_cancel_right}
-use Rattle.cqs_core.specs.declared.doings.Doing.{Doing}
 use Rattle.cqs_core.specs.declared.doings.Doing.TheVariants as doing
 use Rattle.cqs_barrier_object.specs.declared.entries.BarrierEntry.{BarrierEntry}
 use Rattle.cqs_barrier_object.specs.declared.entries.BarrierEntry.TheVariants as entry
@@ -16,19 +15,17 @@ use Rattle.cqs_rule.specs.declared.view.View.{View}
 use Rattle.cqs_rule.specs.Called.{Called}
 use Rattle.cqs_rule.specs.Events.{in_any_case, where_found, facts_moved, moment}
 use Rattle.cqs_rule.specs.Layout.{client_place}
-use Rattle.cqs_rule.specs.Lists.{Has, IsPrefix, without}
-use Rattle.cqs_rule.specs.Passes.{pass_view}
+use Rattle.cqs_rule.specs.Lists.{IsPrefix, without}
 use Rattle.cqs_rule.specs.Placed.{KnowsPlace}
 use Rattle.cqs_rule.specs.Ruled.{number_at}
 use Rattle.cqs_rule.specs.Saw.{Saw}
 use Rattle.cqs_rule.proofs.Calls.{called-by, called-then}
 use Rattle.cqs_rule.proofs.Places.{knows-saw}
 use Rattle.cqs_cell.specs.Transitions.{MadeBy}
-use Rattle.cqs_core.specs.QueueSteps.{starts_leaving, settles, settles_owing, refuses, refuses_value, row_of}
+use Rattle.cqs_core.specs.QueueSteps.{settles, settles_owing, refuses, refuses_value, row_of}
 use Rattle.cqs_barrier.specs.declared.answers.Leaving.{Leaving}
 use Rattle.cqs_barrier.specs.Barrier.{barrier_object, looks_to_leave, withdraws}
 use Rattle.cqs_barrier.specs.BarrierWord.{OnWord}
-use Rattle.cqs_barrier.specs.Calls.{plain_after}
 use Rattle.cqs_barrier.specs.Causes.{primitive_of}
 use Rattle.cqs_barrier.specs.Leaving.{HasLeaving, RemainingWas, WasSome, WasNone, WasContended, Out}
 use Rattle.cqs_barrier.specs.Word.{parties_in, remaining_in, is_over}

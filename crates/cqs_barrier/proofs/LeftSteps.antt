@@ -1,28 +1,25 @@
 -- A cancel, and a leaving that goes on: the call rule and the cause of each answer.
-use Rattle.std.proofs.Common.{◌≡◌, ◌≢◌, inl, inr, ℕ, ◌+◌, List, [], ◌∷◌, ◌++◌, sym, refl, ap, ◌∙◌, subst}
+use Rattle.std.proofs.Common.{◌≡◌, inl, inr, ℕ, ◌+◌, List, [], ◌∷◌, sym, refl, ap, ◌∙◌, subst}
 use Rattle.std.proofs.lemmas.List.{append-nil}
-use Rattle.cqs_core.specs.declared.cells.CoreState.TheVariants as state
 use Rattle.cqs_core.specs.declared.doings.Doing.TheVariants as doing
 use Rattle.cqs_core.specs.QueueSteps.{starts_leaving, row_of}
 use Rattle.cqs_barrier_object.specs.declared.entries.BarrierEntry.{BarrierEntry}
 use Rattle.cqs_barrier_object.specs.declared.entries.BarrierEntry.TheVariants as entry
 use Rattle.cqs_barrier_object.specs.BarrierEntries.{IsLegal}
 use Rattle.cqs_rule.specs.declared.view.Facts.{Facts}
-use Rattle.cqs_rule.specs.declared.view.Has.{Has as OwnHas}
 use Rattle.cqs_rule.specs.declared.view.View.{View}
 use Rattle.cqs_rule.specs.Called.{Called}
-use Rattle.cqs_rule.specs.Lists.{Has, IsPrefix, without}
-use Rattle.cqs_rule.specs.Saw.{Saw}
+use Rattle.cqs_rule.specs.Lists.{Has, without}
 use Rattle.cqs_rule.proofs.Calls.{called-by, called-and}
 use Rattle.cqs_cell.specs.Transitions.{MadeBy}
 use Rattle.cqs_cancel.specs.Cancels.{CameLate}
 use Rattle.cqs_barrier.specs.declared.answers.PartyLeft.{PartyLeft}
 use Rattle.cqs_barrier.specs.declared.answers.PartyLeft.TheVariants.{Withdrawn, TooLate, Contended}
 use Rattle.cqs_barrier.specs.Barrier.{barrier_object}
-use Rattle.cqs_barrier.specs.Calls.{IsReady, CallRule, Rests}
+use Rattle.cqs_barrier.specs.Calls.{IsReady, CallRule}
 use Rattle.cqs_barrier.specs.Causes.{primitive_of}
-use Rattle.cqs_barrier.specs.Leaving.{HasLeaving, RemainingWas, WasSome, WasNone, WasContended, Out, Leaves, HasLeft, leaving_at}
-use Rattle.cqs_barrier.proofs.LeaveSteps.{prefix-same, prefix-then}
+use Rattle.cqs_barrier.specs.Leaving.{RemainingWas, Leaves, HasLeft, leaving_at}
+use Rattle.cqs_barrier.proofs.LeaveSteps.{prefix-then}
 use Rattle.cqs_barrier.proofs.Rules.{AllName, call-rule_own}
 
 module _ {T : Type 0} where

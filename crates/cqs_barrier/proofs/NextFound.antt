@@ -1,5 +1,5 @@
 -- What the suspend counter was is the next number of the plain barrier.
-use Rattle.std.proofs.Common.{◌≡◌, ℕ, List, sym, ap, ◌∙◌}
+use Rattle.std.proofs.Common.{ℕ, sym, ap, ◌∙◌}
 use Rattle.std.proofs.lemmas.List.{append-nil}
 use Rattle.cqs_barrier_object.specs.declared.entries.BarrierEntry.{BarrierEntry}
 use Rattle.cqs_barrier_object.specs.BarrierEntries.{object_after}
@@ -11,7 +11,8 @@ use Rattle.cqs_barrier.specs.Arriving.{NextIs}
 use Rattle.cqs_barrier.specs.Barrier.{barrier_object}
 use Rattle.cqs_barrier.specs.Causes.{primitive_of}
 
-pub next_is : {T : Type 0} (v w : View BarrierEntry T) (n : ℕ) → CountLoaded barrier_object primitive_of v n w → NextIs v n w
+pub next_is : {T : Type 0} (v w : View BarrierEntry T) (n : ℕ)
+    → CountLoaded barrier_object primitive_of v n w → NextIs v n w
 next_is v w n loaded =
     let found = loaded.was in
     let was = found.was in

@@ -3,24 +3,22 @@ use Rattle.std.proofs.Common.{◌≡◌, ℕ, ◌+◌, ◌-◌, ◌≤◌, Bool,
 use Rattle.std.proofs.lemmas.List.{append-nil}
 use Rattle.cqs_core.specs.declared.cells.CoreState.{CoreState}
 use Rattle.cqs_core.specs.declared.cells.CoreState.TheVariants as state
-use Rattle.cqs_core.specs.declared.doings.Doing.TheVariants as doing
 use Rattle.cqs_core.specs.QueueSteps.{QueueStep, begins, serves, leaves, delegates, ends_refused}
 use Rattle.cqs_barrier_object.specs.declared.entries.BarrierEntry.{BarrierEntry}
+use Rattle.cqs_barrier_object.specs.declared.entries.BarrierEntry.TheVariants as entry
 use Rattle.cqs_barrier_object.specs.BarrierSteps.{step_entries}
 use Rattle.cqs_rule.specs.declared.queue.tokens.Under.{Under}
 use Rattle.cqs_rule.specs.declared.view.Facts.{Facts}
 use Rattle.cqs_rule.specs.declared.view.View.{View}
 use Rattle.cqs_rule.specs.Called.{Called}
 use Rattle.cqs_rule.specs.Counts.{Drew}
-use Rattle.cqs_rule.specs.Owed.{HasUnder, under_payload, under_ticket}
 use Rattle.cqs_rule.proofs.Calls.{called-by, called-and}
 use Rattle.cqs_resume.specs.declared.resumed.Resumed.TheVariants as resumed
-use Rattle.cqs_resume.specs.Resumes.{Ended, Stopped, Resumes}
+use Rattle.cqs_resume.specs.Resumes.{Ended, Resumes}
 use Rattle.cqs_resume.specs.Rounds.{Round, draw_entries, round_entries, over_entries, drawn_in, one_if, numbers}
-use Rattle.cqs_barrier.specs.declared.answers.Owing.{Owing}
 use Rattle.cqs_barrier.specs.Barrier.{barrier_object}
 use Rattle.cqs_barrier.specs.Causes.{primitive_of}
-use Rattle.cqs_barrier.specs.Resuming.{delivers, most_passed_over, OwesMore, HasOwing, Ran, RanNext, RanAll}
+use Rattle.cqs_barrier.specs.Resuming.{delivers, most_passed_over, OwesMore, Ran, RanNext, RanAll}
 use Rattle.cqs_barrier.proofs.Rules.{called-weak}
 
 -- a round of a barrier's resumption shows no entry but that of its last step
@@ -50,7 +48,7 @@ drawn-few (r ∷ over) = let first = one-few r.drawn in let later = drawn-few ov
 
 pub delivers-append : (js ks : List ℕ) → delivers js ++ delivers ks ≡ delivers (js ++ ks)
 delivers-append [] ks = refl
-delivers-append (j ∷ js) ks = ap (λ l. Rattle.cqs_barrier_object.specs.declared.entries.BarrierEntry.TheVariants.Deliver j ∷ l) (delivers-append js ks)
+delivers-append (j ∷ js) ks = ap (λ l. entry.Deliver j ∷ l) (delivers-append js ks)
 
 module _ {T : Type 0} where
   -- it ended at the cell of the number k, by a step with these entries

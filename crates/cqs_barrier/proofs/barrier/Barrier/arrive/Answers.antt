@@ -1,4 +1,4 @@
-use Rattle.std.proofs.Common.{◌≡◌, ◌<◌, ◌≤◌, ℕ, true, false, None, Some, Option, sym, ap, ◌∙◌, subst, arith}
+use Rattle.std.proofs.Common.{◌≡◌, ◌<◌, true, false, Option, sym, ◌∙◌, subst, arith}
 use Rattle.cqs_rule.specs.Passes.{pass_view}
 use Rattle.cqs_barrier.specs.declared.answers.Owing.{Owing}
 use Rattle.cqs_barrier.specs.Resuming.{RanAll}

@@ -34,7 +34,8 @@ returns-in-Ok-clause-left c =
     let at = c.spend_wait-at in
     let v = pass_view at.new.pass in
     let same = ap pass_view at.ensures.same in
-    subst (λ q. HasLeft c.args.wait.wait.number (pass_view q) c.leave.result (pass_view c.leave.new.pass)) at.ensures.same
+    subst (λ q. HasLeft c.args.wait.wait.number (pass_view q) c.leave.result (pass_view c.leave.new.pass))
+    at.ensures.same
     (subst (λ (p : Place). HasLeft p.index v c.leave.result (pass_view c.leave.new.pass)) at.ensures.place
     (left-so at.result.index c.leave.result v (pass_view c.begin_cancel.new.pass) (pass_view c.leave.new.pass)
     (starts-leaving at.result.index v (pass_view c.begin_cancel.new.pass)

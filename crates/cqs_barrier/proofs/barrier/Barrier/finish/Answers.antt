@@ -3,7 +3,7 @@ use Rattle.cqs_rule.specs.declared.queue.tokens.Under.{Under}
 use Rattle.cqs_rule.specs.Passes.{pass_view}
 use Rattle.cqs_barrier.specs.declared.answers.Owing.{Owing}
 use Rattle.cqs_barrier.specs.Resuming.{RanNext, RanAll}
-use Rattle.cqs_barrier.proofs.FinishSteps.{finish-handed, finish-owes, finish-on}
+use Rattle.cqs_barrier.proofs.FinishSteps.{finish-handed, finish-on}
 use Rattle.cqs_barrier.proofs.barrier.Barrier.finish.Goals as goal
 
 pub returns-in-Some-clause-finished : goal.returns-in-Some-clause-finished

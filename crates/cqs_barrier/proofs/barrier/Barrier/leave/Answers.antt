@@ -1,4 +1,4 @@
-use Rattle.std.proofs.Common.{◌≡◌, ℕ, ◌<◌, true, false, [], ◌∷◌, Option, None, Some, sym, ap, ◌∙◌, subst, ne_eqb, eq-eqb, refl}
+use Rattle.std.proofs.Common.{◌≡◌, ℕ, ◌<◌, true, false, Option, sym, ◌∙◌, subst, ne_eqb, eq-eqb, refl}
 use Rattle.std.proofs.lemmas.Bool.{eqb-true}
 use Rattle.cqs_cell.specs.Transitions.{HasSettled}
 use Rattle.cqs_rule.specs.Passes.{pass_view}

@@ -1,7 +1,6 @@
-use Rattle.std.proofs.Common.{[], ◌++◌, ◌+◌, ◌-◌, ℕ, None, Some, Option, ap, sym, subst, arith, ◌∙◌, length-append, length, ◌≤◌}
-use Rattle.cqs_rule.specs.declared.queue.tokens.Under.{Under}
+use Rattle.std.proofs.Common.{[], ◌-◌, subst}
 use Rattle.cqs_rule.specs.Passes.{pass_view}
-use Rattle.cqs_barrier.specs.Resuming.{RanNext, RanAll}
+use Rattle.cqs_barrier.specs.Resuming.{RanNext}
 use Rattle.cqs_barrier.proofs.ResumeSteps.{ran-none, all-handed, all-on}
 use Rattle.cqs_barrier.proofs.barrier.Barrier.resume_all.Goals as goal
 

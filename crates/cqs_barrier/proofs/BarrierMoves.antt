@@ -1,7 +1,7 @@
 -- What an arrival and a cancellation owe for their steps on the remaining number: each keeps the barrier, by the law of
 -- the plain one.
-use Rattle.std.proofs.Common.{◌≡◌, ◌≢◌, ◌⊎◌, inl, inr, ℕ, ◌+◌, ◌-◌, ◌<◌, ◌≤◌, ◌^◌, Bool, true, false, List, [], ◌∷◌, ◌++◌, length, set, refl, ap, sym, ◌∙◌, subst, ⊎_elim, arith, Some, slice_get, slice_index, slice_set, get_or, sum, eq-eqb, ne_eqb, ◌==◌, negsuc, if◌then◌else◌}
-use Rattle.std.proofs.lemmas.Bool.{cases_lt, cases_eq}
+use Rattle.std.proofs.Common.{◌≡◌, ◌≢◌, inr, ℕ, ◌+◌, ◌-◌, ◌<◌, ◌≤◌, ◌^◌, Bool, true, false, List, [], ◌∷◌, ◌++◌, length, set, refl, ap, sym, ◌∙◌, subst, ⊎_elim, arith, Some, slice_get, slice_index, slice_set, get_or, sum, eq-eqb, ne_eqb, ◌==◌, negsuc, if◌then◌else◌}
+use Rattle.std.proofs.lemmas.Bool.{cases_eq}
 use Rattle.std.proofs.lemmas.List.{append-nil, set-get_or}
 use prog.Atomic.{either}
 use Rattle.cqs_core.specs.declared.doings.Doing.{Doing}
@@ -67,8 +67,8 @@ module _ {T : Type 0} (parties p : ℕ) (facts : Facts) (c : Hidden) (words : Li
     queue = record { suspends = c.queue.suspends; resumes = c.queue.resumes; cells = c.queue.cells; doing = doings };
   }
 
-  by-law : (history : List BarrierEntry) (remaining : ℕ) (held owed : List ℕ) (doings : List Doing) (d : Doing) (h : Has)
-      (x : ℕ)
+  by-law : (history : List BarrierEntry) (remaining : ℕ) (held owed : List ℕ) (doings : List Doing) (d : Doing)
+      (h : Has) (x : ℕ)
       → IsBarrier (With history remaining held owed doings)
       → remaining ≡ remaining_in (slice_index (slice_set words 0 x) 0)
       → parties_in (slice_index (slice_set words 0 x) 0) ≡ parties

@@ -2,3 +2,9 @@ pub mod BarrierMoves
 pub mod WordFound
 pub mod Rules
 pub mod PollSteps
+pub mod LeaveSteps
+pub mod LeftSteps
+pub mod ResumeSteps
+pub mod NextFound
+pub mod ArriveSteps
+pub mod FinishSteps

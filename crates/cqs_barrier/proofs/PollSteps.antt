@@ -1,5 +1,5 @@
 -- A poll is a look at the cell of the wait.
-use Rattle.std.proofs.Common.{◌≡◌, ℕ, ◌+◌, [], ◌∷◌, ap, ◌∙◌, subst}
+use Rattle.std.proofs.Common.{◌≡◌, ℕ, [], ◌∷◌, ap, ◌∙◌, subst}
 use Rattle.cqs_core.specs.declared.cells.CoreState.{CoreState}
 use Rattle.cqs_core.specs.declared.cells.CoreState.TheVariants as state
 use Rattle.cqs_barrier_object.specs.declared.entries.BarrierEntry.{BarrierEntry}
@@ -36,7 +36,8 @@ module _ {T : Type 0} where
         w
 
   found-so : (at : CoreState) (k : ℕ) (v w : View BarrierEntry T) (cell : CellWord)
-      → LooksAt barrier_object primitive_of polls k v cell w → cell.state ≡ shown_state at → FoundSo at k v w
+      → LooksAt barrier_object primitive_of polls k v cell w
+      → cell.state ≡ shown_state at → FoundSo at k v w
   found-so at k v w cell l is =
       let g = l.looked.glimpse in
       let state_is : g.state ≡ at = shown-injective g.state at (l.state ∙ is) in
@@ -56,7 +57,8 @@ module _ {T : Type 0} where
       }
 
   -- with its waiter
-  pub pending : (k : ℕ) (v w : View BarrierEntry T) (cell : CellWord) → LooksAt barrier_object primitive_of polls k v cell w
+  pub pending : (k : ℕ) (v w : View BarrierEntry T) (cell : CellWord)
+      → LooksAt barrier_object primitive_of polls k v cell w
       → cell.state ≡ shown_state state.Waiter → FoundSo state.Waiter k v w
   pending k v w cell l is = found-so state.Waiter k v w cell l is
 
@@ -88,7 +90,8 @@ module _ {T : Type 0} where
       }
 
   -- or served
-  pub granted : (k : ℕ) (v w : View BarrierEntry T) (cell : CellWord) → LooksAt barrier_object primitive_of polls k v cell w
+  pub granted : (k : ℕ) (v w : View BarrierEntry T) (cell : CellWord)
+      → LooksAt barrier_object primitive_of polls k v cell w
       → cell.state ≡ shown_state state.Resumed → FoundSo state.Resumed k v w
   granted k v w cell l is = found-so state.Resumed k v w cell l is
 

@@ -1,7 +1,6 @@
 -- The barrier as a client of the queue: its one word has the remaining number, and its history is
 -- that of the plain barrier.
 use Rattle.std.specs.Prelude.{◌≡◌, ℕ, ◌+◌, ◌-◌, map, true, false, List, [], ◌∷◌, slice_index, if◌then◌else◌}
-use Rattle.cqs_core.specs.declared.doings.Doing.{Doing}
 use Rattle.cqs_core.specs.declared.doings.Doing.TheVariants as doing
 use Rattle.cqs_barrier_object.specs.declared.entries.BarrierEntry.{BarrierEntry}
 use Rattle.cqs_barrier_object.specs.declared.entries.BarrierEntry.TheVariants as entry
@@ -11,7 +10,7 @@ use Rattle.cqs_barrier_object.specs.BarrierShown.{Shape, IsBarrier}
 use Rattle.cqs_barrier_object.specs.BarrierSteps.{step_entries}
 use Rattle.cqs_rule.specs.declared.view.Has.{Has}
 use Rattle.cqs_rule.specs.declared.config.CancelMode.TheVariants.{Smart}
-use Rattle.cqs_rule.specs.Events.{Moment, Event}
+use Rattle.cqs_rule.specs.Events.{Event}
 use Rattle.cqs_rule.specs.Hidden.{Hidden, Gains}
 use Rattle.cqs_rule.specs.Manner.{Manner, asks, owed_further}
 use Rattle.cqs_rule.specs.Object.{Object, Primitive}

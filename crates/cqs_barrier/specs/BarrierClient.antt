@@ -1,7 +1,7 @@
--- The barrier is a client: each step of the queue that suits it leads from barrier to barrier, by the
--- law of the plain barrier. This file is a proof: nothing of it has to be read to know what is
+-- The barrier is a client: each step of the queue that suits it leads from barrier to barrier, by
+-- the law of the plain barrier. This file is a proof: nothing of it has to be read to know what is
 -- promised, and nothing in it is taken on trust.
-use Rattle.std.proofs.Common.{◌≡◌, ◌≢◌, ℕ, zero, suc, ◌+◌, ◌-◌, ◌<◌, ◌≤◌, true, false, List, [], ◌∷◌, ◌++◌, replicate, refl, ap, sym, ◌∙◌, subst, ⊎_elim, arith, Option, Some, slice_get, ne_eqb, length, get_or, set}
+use Rattle.std.proofs.Common.{◌≡◌, ◌≢◌, ℕ, zero, suc, ◌+◌, ◌-◌, ◌<◌, ◌≤◌, true, false, List, [], ◌∷◌, ◌++◌, replicate, refl, ap, sym, ◌∙◌, subst, ⊎_elim, arith, Option, Some, slice_get, ne_eqb, get_or, set}
 use Rattle.std.proofs.lemmas.Option.{slice_get-map, get_or_from_slice_get}
 use Rattle.std.proofs.lemmas.List.{map-set}
 use Rattle.std.specs.Prelude.{slice_index, slice_set}
@@ -9,7 +9,7 @@ use Rattle.std.specs.Option.{option_map}
 use Rattle.cqs_core.specs.declared.cells.CoreCell.{CoreCell}
 use Rattle.cqs_core.specs.declared.doings.Doing.TheVariants as doing
 use Rattle.cqs_core.specs.QueueSteps.{QueueStep, draws, enters, reaches, begins, puts, installs, takes, serves, leaves, delegates, passes_over, ends_refused, ends_missed, starts_leaving, leaves_line, leaves_at_once, settles, settles_owing, refuses, refuses_value, looks, pends, grants, late, row_of, StepRow, at_counter, at_cell, Gain, nothing, its_own, a_debt, Cost, no_cost, one_owed, one_element, IsOpenStep}
-use Rattle.cqs_core.proofs.Places.{get-below, get-set_else, set-same}
+use Rattle.cqs_core.proofs.Places.{get-set_else, set-same}
 use Rattle.cqs_barrier_object.specs.declared.entries.BarrierEntry.{BarrierEntry}
 use Rattle.cqs_barrier_object.specs.BarrierNames.{entry_names}
 use Rattle.cqs_barrier_object.specs.BarrierShown.{Shape, IsBarrier}
@@ -48,7 +48,7 @@ silent-step starts_leaving p k payload n apart = refl
 silent-step leaves_line p k payload n apart = refl
 silent-step leaves_at_once p k payload n apart = refl
 silent-step settles p k payload n apart = refl
-silent-step settles_owing p k payload n apart = refl
+silent-step settles_owing p k payload n apart = rw (ne_eqb p n (λ q. apart (sym q))) refl
 silent-step refuses p k payload n apart = refl
 silent-step refuses_value p k payload n apart = refl
 silent-step (looks pends) p k payload n apart = rw (ne_eqb p n (λ q. apart (sym q))) refl
@@ -91,7 +91,8 @@ held-after (at_counter row) l p payload has there = paid row.cost
     paid one_element = held-kept l p has (has_paid one_element payload has) there refl
 held-after (at_cell row) l p payload has there = gained row.gain
   where
-    gained : (gain : Gain) → held_of l ≡ held_of (slice_set l p (has_gained no_more gain payload has))
+    gained : (gain : Gain)
+        → held_of l ≡ held_of (slice_set l p (has_gained no_more gain payload has))
     gained nothing = held-kept l p has has there refl
     gained its_own = held-kept l p has (has_gained no_more its_own payload has) there refl
     gained a_debt = held-kept l p has (has_gained no_more a_debt payload has) there refl

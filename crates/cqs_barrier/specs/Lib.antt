@@ -8,3 +8,6 @@ pub mod Waits
 pub mod Entries
 pub mod Causes
 pub mod Answers
+pub mod Leaving
+pub mod Resuming
+pub mod Arriving

@@ -1,5 +1,5 @@
--- The one word of a barrier: its remaining number, and in the upper half how many parties it has, so
--- that a step on the word finds both.
+-- The one word of a barrier: its remaining number, and in the upper half how many parties it has,
+-- so that a step on the word finds both.
 use Rattle.std.specs.Prelude.{ℕ, ◌+◌, ◌*◌, ◌/◌, ◌%◌, ◌==◌, Bool}
 
 abbrev pub word_of : ℕ → ℕ → ℕ

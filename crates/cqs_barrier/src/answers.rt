@@ -4,7 +4,7 @@ ghost use Rattle.std.specs.Prelude.{◌≡◌};
 ghost use Rattle.cqs_barrier.specs.Waits.{wait_in};
 ghost use Rattle.cqs_rule.specs.Waits.{place_of};
 
-use cqs_rule::Wait;
+use cqs_rule::{Place, Under, Wait};
 
 /// The wait of a party that has arrived. It is neither copied nor cloned.
 #[derive(Drop)]
@@ -28,4 +28,46 @@ pub enum PartyPolled {
     Through,
     /// The party still waits.
     Pending(PartyWait),
+}
+
+/// A wait that its pass began to leave, and has still to leave. It is neither copied nor cloned.
+#[derive(Drop)]
+pub struct Leaving {
+    pub(crate) at: Place,
+}
+
+/// What became of a cancel.
+#[derive(Drop)]
+pub enum PartyLeft {
+    /// The wait is over, and the party is to arrive again.
+    Withdrawn,
+    /// All had arrived: the party counts as through.
+    TooLate,
+    /// Another party arrived or withdrew between the load of the remaining number and the exchange:
+    /// the two numbers found, which differ. `leave_again` goes on.
+    Contended {
+        saw: u32,
+        found: u32,
+        leaving: Leaving,
+    },
+}
+
+/// Resumptions that the last party still owes: one that was handed back, and so many behind it. It
+/// is neither copied nor cloned.
+#[derive(Drop)]
+pub struct Owing {
+    pub(crate) under: Under,
+    pub(crate) left: u32,
+}
+
+/// What became of an arrival.
+#[derive(Drop)]
+pub enum Arrived {
+    /// The party was the last, or came when the last had arrived: it goes through.
+    Last,
+    /// The party was the last, and goes through. A resumption that it owes to the others was handed
+    /// back after 64 numbers that were passed over; `finish` goes on.
+    LastOwing(Owing),
+    /// Others are still to arrive: the party waits.
+    Later(PartyWait),
 }

@@ -69,8 +69,8 @@ impl ClientWords for BarrierClient {
     ghost keeps = { λ x. barrier-client (parties_of x) x.some x.few };
 }
 
-// A barrier's leaving may have to be tried again, so the queue doesn't ask for it: the barrier's own
-// calls load and exchange the remaining number.
+// A barrier's leaving may have to be tried again, so the queue doesn't ask for it: the barrier's
+// own calls load and exchange the remaining number.
 impl Client for BarrierClient {
     ghost use Rattle.cqs_rule.specs.Callbacks.{by_itself};
 

@@ -2,15 +2,18 @@
 #![tactic(auto)]
 
 mod answers;
+mod arriving;
 mod barrier;
 mod client;
 mod events;
+mod leaving;
 mod polling;
+mod resuming;
 mod seats;
 mod steps;
 mod word;
 
-pub use answers::{PartyPolled, PartyWait};
+pub use answers::{Arrived, Leaving, Owing, PartyLeft, PartyPolled, PartyWait};
 pub use barrier::{Barrier, BarrierPass};
 pub use client::BarrierClient;
 pub use events::{Arrive, LookToLeave, Withdraw};

@@ -11,8 +11,9 @@ use Rattle.cqs_core.proofs.Places.{get-below, get-append_below, get-push_at}
 use Rattle.cqs_core.proofs.Rising.{in-take, length-without, length-placed}
 use Rattle.cqs_barrier_object.specs.declared.entries.BarrierEntry.{BarrierEntry}
 use Rattle.cqs_barrier_object.specs.declared.entries.BarrierEntry.TheVariants as entry
-use Rattle.cqs_barrier_object.specs.BarrierEntries.{IsAllowed, after_entry}
+use Rattle.cqs_barrier_object.specs.BarrierEntries.{IsAllowed, after_entry, IsLegal}
 use Rattle.cqs_barrier_object.specs.BarrierLaws.{IsBalanced, EveryLegalHistoryIsBalanced, GoesThrough, HasLast, NobodyGoesThroughBeforeTheLast, ComesOrWithdraws, TheLastIsTheLast}
+use Rattle.cqs_barrier_object.specs.BarrierSteps.{never}
 use Rattle.cqs_barrier_object.specs.BarrierObject.{Barrier, opening}
 
 -- a wait of the line leaves it: one fewer is due
@@ -174,3 +175,22 @@ last-is-last parties history m n c e legal last got comes = go (cases_lt m n)
         (suc m) start (n - suc m) n (omega arith) (omega arith) in
         let some = some-left (before IsAllowed after_entry (opening parties) history n) e (legal.at n e got) comes in
         absurd (omega (arith, none, some))
+
+-- no history goes on with a last arrival and another one at once
+pub never-legal : (parties : ℕ) (history : List BarrierEntry) (c : ℕ) → IsLegal parties (history ++ never c) → ⊥
+never-legal parties history c legal =
+    let m : ℕ = length history in
+    let whole : List BarrierEntry = history ++ never c in
+    let start : m ≡ m + 0 = omega arith in
+    let first : slice_get whole m ≡ Some (entry.ArriveLast c) =
+    ap (slice_get whole) start ∙ get-append_at history (never c) 0 in
+    let second : slice_get whole (m + 1) ≡ Some (entry.ArriveLast c) = get-append_at history (never c) 1 in
+    let late : m + 1 ≤ m =
+    last-is-last parties whole m (m + 1) c (entry.ArriveLast c) legal first second tt in
+    omega arith
+  where
+    get-append_at : (xs ys : List BarrierEntry) (n : ℕ) → slice_get (xs ++ ys) (length xs + n) ≡ slice_get ys n
+    get-append_at [] ys n = let is : 0 + n ≡ n = omega arith in ap (slice_get ys) is
+    get-append_at (x ∷ xs) ys n =
+        let is : suc (length xs) + n ≡ suc (length xs + n) = omega arith in
+        ap (slice_get (x ∷ (xs ++ ys))) is ∙ get-append_at xs ys n

@@ -37,7 +37,12 @@ IsBarrierStep refuses = Unit {0}
 IsBarrierStep refuses_value = Unit {0}
 IsBarrierStep (looks e) = Unit {0}
 
--- the entries of a step of the pass p at the number k
+-- what no history has: a party that is the last arrives, and another one after it
+abbrev pub never : ℕ → List BarrierEntry
+never p = entry.ArriveLast p ∷ entry.ArriveLast p ∷ []
+
+-- The entries of a step of the pass p at the number k. One that withdraws never finds that a value
+-- was left to it, and so the entries of that step are such as no history has.
 abbrev pub step_entries : QueueStep → ℕ → ℕ → List BarrierEntry
 step_entries draws p k = entry.Enter p k ∷ []
 step_entries enters p k = []
@@ -56,7 +61,7 @@ step_entries starts_leaving p k = []
 step_entries leaves_line p k = []
 step_entries leaves_at_once p k = []
 step_entries settles p k = []
-step_entries settles_owing p k = []
+step_entries settles_owing p k = never p
 step_entries refuses p k = []
 step_entries refuses_value p k = []
 step_entries (looks pends) p k = entry.LookPending p k ∷ []

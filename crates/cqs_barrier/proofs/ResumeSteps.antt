@@ -1,0 +1,186 @@
+-- Resumptions of a barrier, one after the other: each ended at a cell, or was handed back.
+use Rattle.std.proofs.Common.{◌≡◌, ℕ, ◌+◌, ◌-◌, ◌≤◌, Bool, true, false, List, [], ◌∷◌, ◌++◌, length, Option, Some, None, sym, refl, ap, ◌∙◌, subst, append_assoc, arith, inl, inr, length-append}
+use Rattle.std.proofs.lemmas.List.{append-nil}
+use Rattle.cqs_core.specs.declared.cells.CoreState.{CoreState}
+use Rattle.cqs_core.specs.declared.cells.CoreState.TheVariants as state
+use Rattle.cqs_core.specs.QueueSteps.{QueueStep, begins, serves, leaves, delegates, ends_refused}
+use Rattle.cqs_barrier_object.specs.declared.entries.BarrierEntry.{BarrierEntry}
+use Rattle.cqs_barrier_object.specs.declared.entries.BarrierEntry.TheVariants as entry
+use Rattle.cqs_barrier_object.specs.BarrierSteps.{step_entries}
+use Rattle.cqs_rule.specs.declared.queue.tokens.Under.{Under}
+use Rattle.cqs_rule.specs.declared.view.Facts.{Facts}
+use Rattle.cqs_rule.specs.declared.view.View.{View}
+use Rattle.cqs_rule.specs.Called.{Called}
+use Rattle.cqs_rule.specs.Counts.{Drew}
+use Rattle.cqs_rule.proofs.Calls.{called-by, called-and}
+use Rattle.cqs_resume.specs.declared.resumed.Resumed.TheVariants as resumed
+use Rattle.cqs_resume.specs.Resumes.{Ended, Resumes}
+use Rattle.cqs_resume.specs.Rounds.{Round, draw_entries, round_entries, over_entries, drawn_in, one_if, numbers}
+use Rattle.cqs_barrier.specs.Barrier.{barrier_object}
+use Rattle.cqs_barrier.specs.Causes.{primitive_of}
+use Rattle.cqs_barrier.specs.Resuming.{delivers, most_passed_over, OwesMore, Ran, RanNext, RanAll}
+use Rattle.cqs_barrier.proofs.Rules.{called-weak}
+
+-- a round of a barrier's resumption shows no entry but that of its last step
+draw-none : (p payload : ℕ) (drawn : Bool) (k : ℕ) → draw_entries barrier_object p payload drawn k ≡ []
+draw-none p payload true k = refl
+draw-none p payload false k = refl
+
+over-none : (p payload : ℕ) (over : List Round) → over_entries barrier_object p payload over ≡ []
+over-none p payload [] = refl
+over-none p payload (r ∷ over) =
+    λ i. (draw-none p payload r.drawn r.number i ++ []) ++ over-none p payload over i
+
+entries-last : (p payload k : ℕ) (s : QueueStep) (over : List Round) (last : Round) → last.number ≡ k
+    → over_entries barrier_object p payload over ++ round_entries barrier_object p payload s last
+    ≡ step_entries s p k
+entries-last p payload k s over last is =
+    λ i. over-none p payload over i ++ (draw-none p payload last.drawn last.number i ++ step_entries s p (is i))
+
+-- each number that was drawn is one of those that were passed over
+one-few : (b : Bool) → one_if b ≤ 1
+one-few true = omega arith
+one-few false = omega arith
+
+drawn-few : (over : List Round) → drawn_in over ≤ length (numbers over)
+drawn-few [] = omega arith
+drawn-few (r ∷ over) = let first = one-few r.drawn in let later = drawn-few over in omega arith
+
+pub delivers-append : (js ks : List ℕ) → delivers js ++ delivers ks ≡ delivers (js ++ ks)
+delivers-append [] ks = refl
+delivers-append (j ∷ js) ks = ap (λ l. entry.Deliver j ∷ l) (delivers-append js ks)
+
+module _ {T : Type 0} where
+  -- it ended at the cell of the number k, by a step with these entries
+  ended : (s : QueueStep) (state : CoreState) (ticket : Option ℕ) (k left : ℕ) (ks : List ℕ) (v w : View BarrierEntry T)
+      → Ended barrier_object primitive_of s state most_passed_over ticket 0 k v w
+      → step_entries s v.number k ≡ delivers ks
+      → v.facts.has.further ≡ left → v.facts.has.payload ≡ 0 → RanNext left v None w
+  ended s state ticket k left ks v w e is further payload = (
+    ks,
+    numbers e.over,
+    record {
+      called = called-weak v w (delivers ks) _
+          (subst (λ es. Called barrier_object v es (step_entries s v.number k) w)
+          (entries-last v.number 0 k s e.over e.last e.number ∙ is) e.called);
+      held = ap (λ (f : Facts). f.has.held) e.facts_are;
+      waits = ap (λ (f : Facts). f.waits) e.facts_are;
+      passed = ap (λ (f : Facts). f.passed) e.facts_are;
+    },
+    record {
+      idle = ap (λ (f : Facts). f.doing) e.facts_are;
+      further = ap (λ (f : Facts). f.has.further) e.facts_are ∙ further;
+      payload = ap (λ (f : Facts). f.has.payload) e.facts_are ∙ payload;
+    },
+  )
+
+  module _ (ticket : Option ℕ) (left : ℕ) (v w : View BarrierEntry T) (further : v.facts.has.further ≡ left)
+      (payload : v.facts.has.payload ≡ 0) where
+    pub ran-served : (k : ℕ)
+        → Resumes barrier_object primitive_of most_passed_over ticket 0 v (resumed.Served k) w → RanNext left v None w
+    ran-served k e = ended serves state.Waiter ticket k left (k ∷ []) v w e refl further payload
+
+    pub ran-left : (k : ℕ)
+        → Resumes barrier_object primitive_of most_passed_over ticket 0 v (resumed.Left k) w → RanNext left v None w
+    ran-left k (inl e) = ended leaves state.Empty ticket k left [] v w e refl further payload
+    ran-left k (inr e) = ended delegates state.Cancelling ticket k left [] v w e refl further payload
+
+    pub ran-refused : (k : ℕ)
+        → Resumes barrier_object primitive_of most_passed_over ticket 0 v (resumed.Refused k) w → RanNext left v None w
+    ran-refused k e = ended ends_refused state.Refused ticket k left [] v w e refl further payload
+
+    pub ran-under : (under : Under)
+        → Resumes barrier_object primitive_of most_passed_over ticket 0 v (resumed.Under under) w
+        → RanNext left v (Some under) w
+    ran-under under e = (
+      numbers e.over,
+      record {
+        called = called-weak v w [] _
+            (subst (λ es. Called barrier_object v es [] w) (over-none v.number 0 e.over) e.called);
+        held = ap (λ (f : Facts). f.has.held) e.facts_are;
+        waits = ap (λ (f : Facts). f.waits) e.facts_are;
+        passed = ap (λ (f : Facts). f.passed) e.facts_are;
+      },
+      (let few = drawn-few e.over in let all = e.all in omega arith),
+      e.has,
+      ap (λ (f : Facts). f.has.further) e.facts_are ∙ further,
+      e.payload_is,
+    )
+
+  -- one run after another
+  pub ran-then : (js ks over more : List ℕ) (v u w : View BarrierEntry T) → Ran js over v u → Ran ks more u w
+      → Ran (js ++ ks) (over ++ more) v w
+  ran-then js ks over more v u w a b = record {
+    called = subst (λ es. Called barrier_object v es [] w) (delivers-append js ks)
+        (called-and barrier_object v u w (delivers js) [] (delivers ks) [] a.called b.called);
+    held = b.held ∙ a.held;
+    waits = b.waits ∙ a.waits;
+    passed = b.passed ∙ (ap (λ l. l ++ more) a.passed ∙ append_assoc v.facts.passed over more);
+  }
+
+  -- a number was drawn for the next resumption
+  pub began : (k left : ℕ) (v u : View BarrierEntry T) → OwesMore (left + 1) v.facts → Drew barrier_object begins v k u
+      → Ran [] [] v u
+  began k left v u owes d = record {
+    called = called-by barrier_object v u _ [] d;
+    held = ap (λ (f : Facts). f.has.held) d.facts_are;
+    waits = ap (λ (f : Facts). f.waits) d.facts_are;
+    passed = ap (λ (f : Facts). f.passed) d.facts_are ∙ sym (append-nil v.facts.passed);
+  }
+
+  pub began-further : (k left : ℕ) (v u : View BarrierEntry T) → OwesMore (left + 1) v.facts
+      → Drew barrier_object begins v k u → u.facts.has.further ≡ left
+  began-further k left v u owes d =
+      ap (λ (f : Facts). f.has.further) d.facts_are ∙ (ap (λ n. n - 1) owes.further ∙ omega arith)
+
+  pub next-after : (left : ℕ) (answer : Option Under) (v u w : View BarrierEntry T) → Ran [] [] v u
+      → RanNext left u answer w → RanNext left v answer w
+  next-after left None v u w a n = (n.0, n.1, ran-then [] n.0 [] n.1 v u w a n.2, n.3)
+  next-after left (Some under) v u w a n = (n.0, ran-then [] [] [] n.0 v u w a n.1, n.2, n.3, n.4, n.5)
+
+-- nothing was resumed yet
+pub ran-none : {T : Type 0} (v : View BarrierEntry T) → Ran [] [] v v
+ran-none v = record {
+  called = record {
+    more = [];
+    seen = sym (append-nil v.seen);
+    mine = λ n h. refl;
+    before = v.seen;
+    ends = sym (append-nil v.seen);
+    same = record {
+      number = refl;
+      weight = refl;
+      own = refl;
+      crew = refl;
+      alone = refl;
+      limit = refl;
+      cells = refl;
+      passes = refl;
+      opening = refl;
+    };
+    handed = ([], sym (append-nil v.handed));
+    homes = ([], sym (append-nil v.homes));
+    sole = λ a. refl;
+  };
+  held = refl;
+  waits = refl;
+  passed = sym (append-nil v.facts.passed);
+}
+
+module _ {T : Type 0} (left : ℕ) where
+  -- one more of the resumptions was handed back, or ended
+  pub all-handed : (under : Under) (v u w : View BarrierEntry T)
+      → (ks : List ℕ) × (over : List ℕ) × Ran ks over v u → RanNext left u (Some under) w
+      → RanAll v (Some (record { under = under; left = left })) w
+  all-handed under v u w a n = (
+    a.0 ++ [],
+    a.1 ++ n.0,
+    ran-then a.0 [] a.1 n.0 v u w a.2 n.1,
+    (let longer = length-append a.1 n.0 in let many = n.2 in omega arith),
+    record { owes = n.3; further = n.4; payload = n.5 },
+  )
+
+  pub all-on : (v u w : View BarrierEntry T)
+      → (ks : List ℕ) × (over : List ℕ) × Ran ks over v u → RanNext left u None w
+      → ((ks : List ℕ) × (over : List ℕ) × Ran ks over v w) × OwesMore left w.facts
+  all-on v u w a n = ((a.0 ++ n.0, a.1 ++ n.1, ran-then a.0 n.0 a.1 n.1 v u w a.2 n.2), n.3)

@@ -1,0 +1,29 @@
+use Rattle.std.proofs.Common.{[], ◌-◌, subst}
+use Rattle.cqs_rule.specs.Passes.{pass_view}
+use Rattle.cqs_barrier.specs.Resuming.{RanNext}
+use Rattle.cqs_barrier.proofs.ResumeSteps.{ran-none, all-handed, all-on}
+use Rattle.cqs_barrier.proofs.barrier.Barrier.resume_all.Goals as goal
+
+pub loop-left-init : goal.loop-left-init
+loop-left-init c = record {
+  belongs = c.requires.belongs;
+  owes = c.requires.owes;
+  ran = ([], [], ran-none _);
+}
+
+pub returns-in-Some-clause-ran : goal.returns-in-Some-clause-ran
+returns-in-Some-clause-ran c =
+    let v = pass_view c.args.pass.now in
+    let u = pass_view c.loop-left.pass in
+    let w = pass_view c.resume_next.new.pass in
+    all-handed (c.loop-left.left - 1) c.in-Some.under v u w c.loop-left.invariant.ran
+    (subst (λ z. RanNext (c.loop-left.left - 1) u z w) c.in-Some.is c.resume_next.ensures.ran)
+
+pub loop-left-preserved : goal.loop-left-preserved
+loop-left-preserved c =
+    let v = pass_view c.args.pass.now in
+    let u = pass_view c.loop-left.pass in
+    let w = pass_view c.resume_next.new.pass in
+    let on = all-on (c.loop-left.left - 1) v u w c.loop-left.invariant.ran
+    (subst (λ z. RanNext (c.loop-left.left - 1) u z w) c.in_default.is c.resume_next.ensures.ran) in
+    record { belongs = c.resume_next.ensures.belongs; owes = on.1; ran = on.0 }

@@ -1,0 +1,47 @@
+use Rattle.std.proofs.Common.{ℕ, ◌∙◌, subst}
+use Rattle.cqs_resume.specs.declared.resumed.Resumed.{Resumed}
+use Rattle.cqs_resume.specs.Resumes.{Resumes}
+use Rattle.cqs_rule.specs.Owed.{under_ticket}
+use Rattle.cqs_rule.specs.Passes.{pass_view}
+use Rattle.cqs_barrier.specs.Barrier.{barrier_object}
+use Rattle.cqs_barrier.specs.Causes.{primitive_of}
+use Rattle.cqs_barrier.specs.Resuming.{most_passed_over}
+use Rattle.cqs_barrier.proofs.ResumeSteps.{ran-served, ran-left, ran-refused, ran-under}
+use Rattle.cqs_barrier.proofs.barrier.Barrier.resume_on.Goals as goal
+
+pub returns-in-Served-clause-ran : goal.returns-in-Served-clause-ran
+returns-in-Served-clause-ran c =
+    let v = pass_view c.args.pass.now in
+    let w = pass_view c.finish.new.pass in
+    let t = under_ticket c.args.under in
+    ran-served t c.args.left v w c.requires.further (c.requires.owes.owes.owed ∙ c.requires.payload) c.in-Served.field-0
+    (subst (λ (z : ℕ × Resumed). Resumes barrier_object primitive_of most_passed_over t z.0 v z.1 w)
+    (λ i. (c.requires.payload i, c.in-Served.is i)) c.finish.ensures.resumed)
+
+pub returns-in-Left-clause-ran : goal.returns-in-Left-clause-ran
+returns-in-Left-clause-ran c =
+    let v = pass_view c.args.pass.now in
+    let w = pass_view c.finish.new.pass in
+    let t = under_ticket c.args.under in
+    ran-left t c.args.left v w c.requires.further (c.requires.owes.owes.owed ∙ c.requires.payload) c.in-Left.field-0
+    (subst (λ (z : ℕ × Resumed). Resumes barrier_object primitive_of most_passed_over t z.0 v z.1 w)
+    (λ i. (c.requires.payload i, c.in-Left.is i)) c.finish.ensures.resumed)
+
+pub returns-in-Refused-clause-ran : goal.returns-in-Refused-clause-ran
+returns-in-Refused-clause-ran c =
+    let v = pass_view c.args.pass.now in
+    let w = pass_view c.finish.new.pass in
+    let t = under_ticket c.args.under in
+    ran-refused t c.args.left v w c.requires.further (c.requires.owes.owes.owed ∙ c.requires.payload)
+    c.in-Refused.field-0
+    (subst (λ (z : ℕ × Resumed). Resumes barrier_object primitive_of most_passed_over t z.0 v z.1 w)
+    (λ i. (c.requires.payload i, c.in-Refused.is i)) c.finish.ensures.resumed)
+
+pub returns-in-Under-clause-ran : goal.returns-in-Under-clause-ran
+returns-in-Under-clause-ran c =
+    let v = pass_view c.args.pass.now in
+    let w = pass_view c.finish.new.pass in
+    let t = under_ticket c.args.under in
+    ran-under t c.args.left v w c.requires.further (c.requires.owes.owes.owed ∙ c.requires.payload) c.in-Under.under
+    (subst (λ (z : ℕ × Resumed). Resumes barrier_object primitive_of most_passed_over t z.0 v z.1 w)
+    (λ i. (c.requires.payload i, c.in-Under.is i)) c.finish.ensures.resumed)

@@ -1,0 +1,104 @@
+-- What an arrival answers, and why.
+use Rattle.std.specs.Prelude.{◌≡◌, ◌⊎◌, ℕ, ◌-◌, ◌<◌, ◌≤◌, List, [], ◌∷◌, ◌++◌, length, Result, Ok, Err}
+use Rattle.cqs_core.specs.QueueSteps.{installs, takes}
+use Rattle.cqs_barrier_object.specs.declared.entries.BarrierEntry.{BarrierEntry}
+use Rattle.cqs_barrier_object.specs.declared.entries.BarrierEntry.TheVariants as entry
+use Rattle.cqs_barrier_object.specs.BarrierEntries.{object_after}
+use Rattle.cqs_rule.specs.declared.view.View.{View}
+use Rattle.cqs_rule.specs.Facts.{facts_counted}
+use Rattle.cqs_rule.specs.Lists.{IsPrefix}
+use Rattle.cqs_rule.specs.Saw.{Saw}
+use Rattle.cqs_rule.specs.Waits.{place_of, HasWait}
+use Rattle.cqs_suspend.specs.Suspends.{EndsBy}
+use Rattle.cqs_barrier.specs.declared.answers.Arrived.{Arrived}
+use Rattle.cqs_barrier.specs.declared.answers.Arrived.TheVariants.{Last, LastOwing, Later}
+use Rattle.cqs_barrier.specs.declared.answers.Owing.{Owing}
+use Rattle.cqs_barrier.specs.Barrier.{barrier_object}
+use Rattle.cqs_barrier.specs.Calls.{CallRule, IsReady, Rests, plain_after}
+use Rattle.cqs_barrier.specs.Causes.{primitive_of}
+use Rattle.cqs_barrier.specs.Leaving.{RemainingWas}
+use Rattle.cqs_barrier.specs.Resuming.{HasOwing, delivers, most_passed_over}
+use Rattle.cqs_barrier.specs.Waits.{wait_in}
+
+module _ {T : Type 0} where
+  -- the suspend counter was loaded as n: it is the next number of the plain barrier after all that
+  -- the pass has seen
+  pub record NextIs (v : View BarrierEntry T) (n : ℕ) (w : View BarrierEntry T) : Type 0 where
+    pub saw : Saw barrier_object v (facts_counted v.limit n v.facts) [] w
+    pub next : (plain_after w).waiters.next ≡ n
+
+  -- An arrival was refused: as many numbers were drawn as the limit allows, or more. Nothing was
+  -- appended, and the pass is at what it was.
+  pub record IsWorn (v w : View BarrierEntry T) : Type 0 where
+    pub called : CallRule v [] [] w
+    pub worn : v.limit ≤ (plain_after w).waiters.next
+    pub rests : Rests v v.facts.has.held v.facts.waits w
+
+  -- one that wasn't had found fewer
+  pub record IsBelow (v w : View BarrierEntry T) : Type 0 where
+    pub before : List BarrierEntry
+    pub since : IsPrefix v.seen before
+    pub seen : IsPrefix before w.seen
+    pub below : (object_after w.opening.size before).waiters.next < v.limit
+
+  -- The remaining number was found as 1, and the party is the last.
+  pub record WasLast (v w : View BarrierEntry T) : Type 0 where
+    pub before : List BarrierEntry
+    pub found : RemainingWas v 1 before (entry.ArriveLast v.number ∷ []) w
+
+  -- it was found above 1: others are still to arrive
+  pub record WasEarly (v w : View BarrierEntry T) : Type 0 where
+    pub count : ℕ
+    pub before : List BarrierEntry
+    pub more : 1 < count
+    pub found : RemainingWas v count before (entry.ArriveDoor v.number ∷ []) w
+
+  -- The last party: the waits of these numbers were served by this call.
+  pub record CameLast (ks : List ℕ) (v w : View BarrierEntry T) : Type 0 where
+    pub called : CallRule v (entry.ArriveLast v.number ∷ []) (delivers ks) w
+    pub last : WasLast v w
+
+  -- An earlier one: it drew this number, and these entries came after it.
+  pub record CameEarly (k : ℕ) (further : List BarrierEntry) (v w : View BarrierEntry T)
+      : Type 0 where
+    pub called : CallRule v (entry.ArriveDoor v.number ∷ entry.Enter v.number k ∷ []) further w
+    pub early : WasEarly v w
+
+  abbrev pub Arrives : View BarrierEntry T → Arrived → View BarrierEntry T → Type 0
+  Arrives v Last w =
+      (((ks : List ℕ) × CameLast ks v w)
+      ⊎ ((k : ℕ) × CameEarly k (entry.Deliver k ∷ []) v w))
+      × Rests v (v.facts.has.held - 1) v.facts.waits w
+  Arrives v (LastOwing owing) w =
+      (ks : List ℕ) × (over : List ℕ) × CameLast ks v w × HasOwing w.facts owing
+      × (w.facts.passed ≡ v.facts.passed ++ over) × (most_passed_over ≤ length over)
+      × (w.facts.has.held ≡ v.facts.has.held - 1) × (w.facts.waits ≡ v.facts.waits)
+  Arrives v (Later wait) w =
+      CameEarly (place_of (wait_in wait)).index [] v w
+      × HasWait w (wait_in wait)
+      × Rests v (v.facts.has.held - 1) (v.facts.waits ++ (place_of (wait_in wait)).index ∷ []) w
+
+  -- a party at the door drew a number: the value of its resume was there, or the party waits
+  abbrev pub WaitsForOthers : View BarrierEntry T → Arrived → View BarrierEntry T → Type 0
+  WaitsForOthers v Last w =
+      (k : ℕ) × (payload : ℕ) × EndsBy barrier_object primitive_of takes 2 k payload v w
+  WaitsForOthers v (LastOwing owing) w = ⊥
+  WaitsForOthers v (Later wait) w =
+      EndsBy barrier_object primitive_of installs 0 (place_of (wait_in wait)).index 0 v w
+      × HasWait w (wait_in wait)
+
+  -- A finish made no step but those of the resumptions that were owed, which served these waits and
+  -- passed over these numbers.
+  pub record Finished (ks over : List ℕ) (v w : View BarrierEntry T) : Type 0 where
+    pub called : CallRule v [] (delivers ks) w
+    pub held : w.facts.has.held ≡ v.facts.has.held
+    pub waits : w.facts.waits ≡ v.facts.waits
+    pub passed : w.facts.passed ≡ v.facts.passed ++ over
+
+  -- all that were owed ended, or one was handed back
+  abbrev pub Finishes : View BarrierEntry T → Result (Unit {0}) Owing → View BarrierEntry T → Type 0
+  Finishes v (Ok done) w =
+      (ks : List ℕ) × (over : List ℕ) × Finished ks over v w × IsReady w.facts
+  Finishes v (Err owing) w =
+      (ks : List ℕ) × (over : List ℕ) × Finished ks over v w × (most_passed_over ≤ length over)
+      × HasOwing w.facts owing

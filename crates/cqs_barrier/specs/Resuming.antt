@@ -1,0 +1,65 @@
+-- What the resumptions of a barrier's last party leave of its pass: each that it owes is begun, one
+-- after the other, and ends at a cell or is handed back.
+use Rattle.std.specs.Prelude.{◌≡◌, ℕ, ◌≤◌, List, [], ◌∷◌, ◌++◌, length, Option, Some, None}
+use Rattle.cqs_core.specs.declared.doings.Doing.TheVariants as doing
+use Rattle.cqs_barrier_object.specs.declared.entries.BarrierEntry.{BarrierEntry}
+use Rattle.cqs_barrier_object.specs.declared.entries.BarrierEntry.TheVariants as entry
+use Rattle.cqs_rule.specs.declared.queue.tokens.Under.{Under}
+use Rattle.cqs_rule.specs.declared.view.Facts.{Facts}
+use Rattle.cqs_rule.specs.declared.view.View.{View}
+use Rattle.cqs_rule.specs.Called.{Called}
+use Rattle.cqs_rule.specs.Owed.{HasUnder, under_payload}
+use Rattle.cqs_barrier.specs.declared.answers.Owing.{Owing}
+use Rattle.cqs_barrier.specs.Barrier.{barrier_object}
+
+-- how many numbers one call passes over before it hands a resumption back
+abbrev pub most_passed_over : ℕ
+most_passed_over = 64
+
+-- the waits of these numbers were served
+abbrev pub delivers : List ℕ → List BarrierEntry
+delivers [] = []
+delivers (k ∷ ks) = entry.Deliver k ∷ delivers ks
+
+-- the resumption that was handed back, and how many more there are behind it
+abbrev pub owing_under : Owing → Under
+owing_under o = o.under
+
+abbrev pub owing_left : Owing → ℕ
+owing_left o = o.left
+
+-- the pass is between two calls, and owes so many resumptions
+pub record OwesMore (n : ℕ) (f : Facts) : Type 0 where
+  pub idle : f.doing ≡ doing.Idle
+  pub further : f.has.further ≡ n
+  pub payload : f.has.payload ≡ 0
+
+-- the pass owes the resumption that was handed back, and those behind it
+pub record HasOwing (f : Facts) (owing : Owing) : Type 0 where
+  pub owes : HasUnder f (owing_under owing)
+  pub further : f.has.further ≡ owing_left owing
+  pub payload : under_payload (owing_under owing) ≡ 0
+
+module _ {T : Type 0} where
+  -- The pass made no step but those of its resumptions, which served these waits. It holds and
+  -- waits for what it did before, and passed over these numbers.
+  pub record Ran (ks : List ℕ) (over : List ℕ) (v w : View BarrierEntry T) : Type 0 where
+    pub called : Called barrier_object v (delivers ks) [] w
+    pub held : w.facts.has.held ≡ v.facts.has.held
+    pub waits : w.facts.waits ≡ v.facts.waits
+    pub passed : w.facts.passed ≡ v.facts.passed ++ over
+
+  -- one resumption ended, or was handed back after so many numbers
+  abbrev pub RanNext : ℕ → View BarrierEntry T → Option Under → View BarrierEntry T → Type 0
+  RanNext left v None w =
+      (ks : List ℕ) × (over : List ℕ) × Ran ks over v w × OwesMore left w.facts
+  RanNext left v (Some under) w =
+      (over : List ℕ) × Ran [] over v w × (most_passed_over ≤ length over)
+      × HasUnder w.facts under × (w.facts.has.further ≡ left) × (under_payload under ≡ 0)
+
+  -- all that were owed ended, or one was handed back
+  abbrev pub RanAll : View BarrierEntry T → Option Owing → View BarrierEntry T → Type 0
+  RanAll v None w = (ks : List ℕ) × (over : List ℕ) × Ran ks over v w × OwesMore 0 w.facts
+  RanAll v (Some owing) w =
+      (ks : List ℕ) × (over : List ℕ) × Ran ks over v w × (most_passed_over ≤ length over)
+      × HasOwing w.facts owing

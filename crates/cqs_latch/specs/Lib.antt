@@ -8,3 +8,4 @@ pub mod Causes
 pub mod Entries
 pub mod Answers
 pub mod Steps
+pub mod CountAnswers

@@ -4,12 +4,14 @@
 mod answers;
 mod callbacks;
 mod client;
+mod counting;
 mod events;
 mod latch;
+mod polling;
 mod steps;
 mod waiting;
 
-pub use answers::{LatchPolled, LatchWait};
+pub use answers::{Down, LatchPolled, LatchWait};
 pub use client::LatchClient;
 pub use events::{Come, CountDown, Decide, LoadToCount, LoadToWait, Open, TurnBack};
 pub use latch::{Latch, LatchPass};

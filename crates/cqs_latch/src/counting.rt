@@ -1,0 +1,78 @@
+//! The count down.
+
+ghost use Rattle.std.specs.Prelude.{◌≡◌, ◌+◌, true, pos, ◌≤ℤ◌};
+ghost use Rattle.cqs_words.specs.State.{count_in, is_above_zero};
+ghost use Rattle.cqs_core.specs.declared.doings.Doing.TheVariants as doing;
+ghost use Rattle.cqs_latch.specs.CountAnswers.{HasCounted, Wakes};
+ghost use Rattle.cqs_latch.specs.Calls.{IsReady, IsMine};
+ghost use Rattle.cqs_rule.specs.Manner.{IsSmart};
+ghost use Rattle.cqs_rule.specs.Passes.{pass_view, client_of};
+ghost use Rattle.cqs_latch.specs.Latch.{latch_manner};
+ghost use Rattle.cqs_latch.specs.LatchMade.{mode_of};
+
+use crate::answers::Down;
+use crate::events::counted;
+use crate::latch::{Latch, LatchPass};
+use crate::steps::{count_down, load_to_count, open};
+use cqs_resume::{Resumed, begin};
+use cqs_rule::Under;
+use cqs_words::StateWord;
+
+impl Latch {
+    /// Counts the latch down by one. Who counts down the last one opens it, and resumes each who
+    /// waits.
+    pub fn count_down(&self, pass: &mut LatchPass) -> Down
+        requires belongs { IsMine self.now pass.old }
+        requires smart { IsSmart (latch_manner (mode_of (client_of self.now.queue))).leaving }
+        requires ready { IsReady (pass_view pass.old).facts }
+        ensures belongs { IsMine self.now pass.new }
+        ensures counted { HasCounted (pass_view pass.old) result (pass_view pass.new) }
+    {
+        let loaded = load_to_count(&self.queue, pass);
+        if !StateWord::is_above_zero(loaded) {
+            return Down::Already;
+        }
+        let found = count_down(&self.queue, pass, loaded);
+        if !StateWord::is_above_zero(found) {
+            return Down::Already;
+        }
+        let left = left_after(found);
+        if left > 0 {
+            return Down::Left(left);
+        }
+        let waiters = counted(open(&self.queue, pass));
+        match self.wake(pass, waiters) {
+            None => Down::Last,
+            Some(under) => Down::LastOwing(under),
+        }
+    }
+
+    // Resumes as many as the pass owes, or hands back the one that passed over too many numbers.
+    fn wake(&self, pass: &mut LatchPass, many: u32) -> Option<Under>
+        requires belongs { IsMine self.now pass.old }
+        requires smart { IsSmart (latch_manner (mode_of (client_of self.now.queue))).leaving }
+        requires idle { (pass_view pass.old).facts.doing ≡ doing.Idle }
+        requires owes { (pass_view pass.old).facts.has.further ≡ many }
+        requires payload { (pass_view pass.old).facts.has.payload ≡ 0 }
+        ensures belongs { IsMine self.now pass.new }
+        ensures wakes { Wakes many (pass_view pass.old) result (pass_view pass.new) }
+    {
+        let mut left = many;
+        while left > 0 {
+            if let Resumed::Under(under) = begin(&self.queue, pass, 0) {
+                return Some(under);
+            }
+            left -= 1;
+        }
+        None
+    }
+}
+
+// What is left of a count above 0 of which one was taken, by the word that was found.
+fn left_after(found: u64) -> u32
+    requires above { is_above_zero found ≡ true }
+    requires few { count_in found ≤ℤ pos 1048576 }
+    ensures { count_in found ≡ pos (result + 1) }
+{
+    (StateWord::read(found).value - 1) as u32
+}

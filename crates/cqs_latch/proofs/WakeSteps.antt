@@ -13,6 +13,7 @@ use Rattle.cqs_rule.specs.declared.queue.tokens.Under as token
 use Rattle.cqs_rule.specs.declared.view.Facts.{Facts}
 use Rattle.cqs_rule.specs.declared.view.View.{View}
 use Rattle.std.specs.Prelude.{Option}
+use Rattle.cqs_latch.specs.declared.answers.Owed.{Owed}
 use Rattle.cqs_latch.specs.Causes.{primitive_of}
 use Rattle.cqs_latch.specs.CountAnswers.{Wakes}
 use Rattle.cqs_latch.specs.Latch.{latch_object}
@@ -61,7 +62,7 @@ module _ {T : Type 0} where
   one-fewer (resumed.Under under) v u is b = absurd is
 
   -- it ended, and the rest follows
-  pub wakes-on : (ended : resume.Resumed) (n : ℕ) (v u w : View LatchEntry T) (result : Option token.Under)
+  pub wakes-on : (ended : resume.Resumed) (n : ℕ) (v u w : View LatchEntry T) (result : Option Owed)
       → HasEnded ended → Begun latch_object primitive_of 0 v ended u → Wakes n u result w → Wakes (suc n) v result w
   wakes-on (resumed.Served k) n v u w result is b rest = (resumed.Served k, u, b, rest)
   wakes-on (resumed.Left k) n v u w result is b rest = (resumed.Left k, u, b, rest)
@@ -70,5 +71,5 @@ module _ {T : Type 0} where
 
   -- or it was handed back
   pub wakes-under : (under : token.Under) (n : ℕ) (v u : View LatchEntry T)
-      → Begun latch_object primitive_of 0 v (resumed.Under under) u → Wakes (suc n) v (Some under) u
+      → Begun latch_object primitive_of 0 v (resumed.Under under) u → Wakes (suc n) v (Some (record { under = under; further = n })) u
   wakes-under under n v u b = (resumed.Under under, u, b, (refl, refl))

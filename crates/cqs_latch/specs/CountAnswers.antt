@@ -6,10 +6,12 @@ use Rattle.cqs_latch_object.specs.declared.entries.LatchEntry.TheVariants as ent
 use Rattle.cqs_resume.specs.declared.resumed.Resumed as resume
 use Rattle.cqs_resume.specs.declared.resumed.Resumed.TheVariants as resumed
 use Rattle.cqs_resume.specs.Begins.{Begun}
-use Rattle.cqs_rule.specs.declared.queue.tokens.Under as token
+use Rattle.cqs_resume.specs.Resumes.{Resumes, most_passed_over}
+use Rattle.cqs_rule.specs.Owed.{under_ticket, under_payload}
 use Rattle.cqs_rule.specs.declared.view.View.{View}
 use Rattle.cqs_words.specs.State.{count_in}
 use Rattle.cqs_words.specs.Waiters.{waiters_in}
+use Rattle.cqs_latch.specs.declared.answers.Owed.{Owed}
 use Rattle.cqs_latch.specs.declared.answers.Down.{Down}
 use Rattle.cqs_latch.specs.declared.answers.Down.TheVariants.{Left, Last, LastOwing, Already}
 use Rattle.cqs_latch.specs.Answers.{WasUsed}
@@ -47,20 +49,22 @@ module _ {T : Type 0} where
     pub waits : x.facts.waits ≡ v.facts.waits
 
   -- A resumption that was begun ended, and the rest follows; or it was handed back, and nothing
-  -- does.
-  abbrev pub GoesOn : resume.Resumed → View LatchEntry T → Option token.Under → View LatchEntry T
+  -- does: it is owed, with those after it.
+  abbrev pub GoesOn : resume.Resumed → ℕ → View LatchEntry T → Option Owed → View LatchEntry T
       → Type 0 → Type 0
-  GoesOn (resumed.Served k) u result w rest = rest
-  GoesOn (resumed.Left k) u result w rest = rest
-  GoesOn (resumed.Refused k) u result w rest = rest
-  GoesOn (resumed.Under under) u result w rest = (result ≡ Some under) × (w ≡ u)
+  GoesOn (resumed.Served k) many u result w rest = rest
+  GoesOn (resumed.Left k) many u result w rest = rest
+  GoesOn (resumed.Refused k) many u result w rest = rest
+  GoesOn (resumed.Under under) many u result w rest =
+      (result ≡ Some (record { under = under; further = many })) × (w ≡ u)
 
   -- So many resumptions were begun, one after the other, and each ended; or one was handed back.
-  abbrev pub Wakes : ℕ → View LatchEntry T → Option token.Under → View LatchEntry T → Type 0
+  abbrev pub Wakes : ℕ → View LatchEntry T → Option Owed → View LatchEntry T → Type 0
   Wakes zero v result w = (result ≡ None) × (w ≡ v)
   Wakes (suc many) v result w =
       (ended : resume.Resumed) × (u : View LatchEntry T)
-      × Begun latch_object primitive_of 0 v ended u × GoesOn ended u result w (Wakes many u result w)
+      × Begun latch_object primitive_of 0 v ended u 
+      × GoesOn ended many u result w (Wakes many u result w)
 
   -- A count down: the count was loaded as used up, or found so by the subtraction; or so many are
   -- left; or it was used up by this call, the latch opened, and each was resumed that was counted.
@@ -73,5 +77,14 @@ module _ {T : Type 0} where
       × WasCounted v left (entry.DownLeft v.number left ∷ []) w × Rests v.facts.waits w
   HasCounted v Last w =
       (many : ℕ) × (x : View LatchEntry T) × Opens v many x × Wakes many x None w
-  HasCounted v (LastOwing under) w =
-      (many : ℕ) × (x : View LatchEntry T) × Opens v many x × Wakes many x (Some under) w
+  HasCounted v (LastOwing owed) w =
+      (many : ℕ) × (x : View LatchEntry T) × Opens v many x × Wakes many x (Some owed) w
+
+  -- The end of a latch's resumptions: the one that was handed back went on from its ticket, with
+  -- what it owed; and those after it followed.
+  abbrev pub HasFinished : Owed → View LatchEntry T → Option Owed → View LatchEntry T → Type 0
+  HasFinished owed v result w =
+      (ended : resume.Resumed) × (u : View LatchEntry T)
+      × Resumes latch_object primitive_of most_passed_over (under_ticket owed.under)
+      (under_payload owed.under) v ended u
+      × GoesOn ended owed.further u result w (Wakes owed.further u result w)

@@ -9,3 +9,5 @@ pub mod Entries
 pub mod Answers
 pub mod Steps
 pub mod CountAnswers
+pub mod Owed
+pub mod Seats

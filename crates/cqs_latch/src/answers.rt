@@ -29,7 +29,16 @@ pub enum Down {
     Last,
     /// It was the last one, and the latch is open. One resumption passed over as many numbers as
     /// one call may: it is still owed, with those after it.
-    LastOwing(Under),
+    LastOwing(Owed),
     /// The count was used up before.
     Already,
+}
+
+/// The resumptions that are still owed of those that an opened latch is to make.
+#[derive(Drop)]
+pub struct Owed {
+    /// The one that was handed back.
+    pub(crate) under: Under,
+    /// How many come after it.
+    pub(crate) further: u32,
 }

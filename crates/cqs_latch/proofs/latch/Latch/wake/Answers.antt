@@ -1,6 +1,7 @@
 use Rattle.std.proofs.Common.{◌≡◌, suc, ◌-◌, ◌<◌, ◌∙◌, Some, subst, arith}
 use Rattle.cqs_rule.specs.Passes.{pass_view}
 use Rattle.cqs_latch.specs.CountAnswers.{Wakes}
+use Rattle.cqs_latch.specs.declared.answers.Owed.{Owed}
 use Rattle.cqs_latch.proofs.WakeSteps.{HasEnded, has-ended, one-fewer, wakes-on, wakes-under}
 use Rattle.cqs_latch.proofs.latch.Latch.wake.Goals as goal
 
@@ -11,8 +12,9 @@ returns-in-Under-clause-wakes c =
     let v = pass_view c.loop-left.pass in
     let w = pass_view c.begin.new.pass in
     let same : suc (c.loop-left.left - 1) ≡ c.loop-left.left = omega arith in
-    l.rest (Some c.in-Under.under) w
-    (subst (λ n. Wakes n v (Some c.in-Under.under) w) same
+    let owed : Owed = record { under = c.in-Under.under; further = c.loop-left.left - 1 } in
+    l.rest (Some owed) w
+    (subst (λ n. Wakes n v (Some owed) w) same
     (wakes-under c.in-Under.under (c.loop-left.left - 1) v w c.in-Under.ensures.begun))
 
 pub loop-left-preserved : goal.loop-left-preserved

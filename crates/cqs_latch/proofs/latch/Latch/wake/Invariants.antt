@@ -1,7 +1,7 @@
 use Rattle.std.proofs.Common.{◌≡◌, ◌≤◌, Option}
 use Rattle.cqs_core.specs.declared.doings.Doing.TheVariants as doing
 use Rattle.cqs_latch_object.specs.declared.entries.LatchEntry.{LatchEntry}
-use Rattle.cqs_rule.specs.declared.queue.tokens.Under as token
+use Rattle.cqs_latch.specs.declared.answers.Owed.{Owed}
 use Rattle.cqs_rule.specs.declared.view.View.{View}
 use Rattle.cqs_rule.specs.Passes.{pass_view}
 use Rattle.cqs_latch.specs.Calls.{IsMine}
@@ -14,7 +14,7 @@ invariant-loop-left l = record {
   idle : (pass_view l.pass).facts.doing ≡ doing.Idle;
   owes : (pass_view l.pass).facts.has.further ≡ l.left;
   payload : (pass_view l.pass).facts.has.payload ≡ 0;
-  rest : (result : Option token.Under) (w : View LatchEntry (Unit {0}))
+  rest : (result : Option Owed) (w : View LatchEntry (Unit {0}))
       → Wakes l.left (pass_view l.pass) result w → Wakes l.many (pass_view l.fn.pass) result w;
 }
 

@@ -1,6 +1,6 @@
 -- A wait is its steps: a load of the count, a load of the suspend counter, one added to the waiters, and perhaps a
 -- suspend.
-use Rattle.std.proofs.Common.{◌≡◌, ◌⊎◌, inl, inr, ℕ, ◌+◌, ◌<◌, ◌≤◌, Bool, true, false, List, [], ◌∷◌, ◌++◌, Option, Some, None, Ok, Err, sym, refl, ap, ◌∙◌, subst, arith, if◌then◌else◌, pos, ◌<ℤ◌, ◌≤ℤ◌}
+use Rattle.std.proofs.Common.{◌≡◌, ◌⊎◌, inl, inr, ℕ, ◌+◌, ◌<◌, ◌≤◌, Bool, true, false, List, [], ◌∷◌, ◌++◌, Option, Some, None, Result, Ok, Err, sym, refl, ap, ◌∙◌, subst, arith, if◌then◌else◌, pos, ◌<ℤ◌, ◌≤ℤ◌}
 use Rattle.std.specs.Prelude.{nat_lt}
 use Rattle.std.proofs.lemmas.Bool.{lt-ltb}
 use Rattle.std.proofs.lemmas.Int.{ints}
@@ -12,6 +12,8 @@ use Rattle.cqs_core.specs.QueueSteps.{installs, takes}
 use Rattle.cqs_latch_object.specs.declared.entries.LatchEntry.{LatchEntry}
 use Rattle.cqs_latch_object.specs.declared.entries.LatchEntry.TheVariants as entry
 use Rattle.cqs_latch_object.specs.LatchWords.{is_used, come_entry, come_doing}
+use Rattle.cqs_rule.specs.declared.config.AcquireError.{AcquireError}
+use Rattle.cqs_rule.specs.declared.config.AcquireError.TheVariants as error
 use Rattle.cqs_rule.specs.declared.config.AcquireError.TheVariants.{Worn}
 use Rattle.cqs_rule.specs.declared.view.Facts.{Facts}
 use Rattle.cqs_rule.specs.declared.view.Sighting.{Sighting}
@@ -283,3 +285,12 @@ module _ {T : Type 0} where
             },
           ),
         )
+
+  -- whatever it answers, the pass is between two calls
+  pub waited-ready : (v w : View LatchEntry T) (answer : Result LatchWait AcquireError) → HasWaited v answer w
+      → IsReady w.facts
+  waited-ready v w (Ok Passed) (None, rule, why) = why.1.ready
+  waited-ready v w (Ok Passed) (Some k, rule, why) = why.3.ready
+  waited-ready v w (Ok (Later wait)) (drew, rule, why) = why.4.ready
+  waited-ready v w (Err error.Worn) (drew, rule, why) = why.2.ready
+  waited-ready v w (Err error.Crowded) (drew, rule, why) = absurd why

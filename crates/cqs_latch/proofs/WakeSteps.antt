@@ -1,5 +1,5 @@
 -- Several resumptions, one after the other: what each leaves of the pass that begins it.
-use Rattle.std.proofs.Common.{◌≡◌, ℕ, suc, ◌-◌, ◌∙◌, ap, refl, inl, inr, ⊎_elim, Some}
+use Rattle.std.proofs.Common.{◌≡◌, ℕ, zero, suc, ◌-◌, ◌∙◌, ap, sym, subst, refl, ⊎_elim, Some, arith}
 use Rattle.cqs_core.specs.declared.cells.CoreState.{CoreState}
 use Rattle.cqs_core.specs.declared.cells.CoreState.TheVariants as state
 use Rattle.cqs_core.specs.declared.doings.Doing.TheVariants as doing
@@ -16,6 +16,7 @@ use Rattle.std.specs.Prelude.{Option}
 use Rattle.cqs_latch.specs.declared.answers.Owed.{Owed}
 use Rattle.cqs_latch.specs.Causes.{primitive_of}
 use Rattle.cqs_latch.specs.CountAnswers.{Wakes}
+use Rattle.cqs_latch.specs.Owed.{HasOwed, IsReadyWith}
 use Rattle.cqs_latch.specs.Latch.{latch_object}
 
 -- the resumption ended
@@ -73,3 +74,33 @@ module _ {T : Type 0} where
   pub wakes-under : (under : token.Under) (n : ℕ) (v u : View LatchEntry T)
       → Begun latch_object primitive_of 0 v (resumed.Under under) u → Wakes (suc n) v (Some (record { under = under; further = n })) u
   wakes-under under n v u b = (resumed.Under under, u, b, (refl, refl))
+
+  -- a pass that stopped on the way owes what was handed back, with those after it
+  stopped-owes : (n : ℕ) (under : token.Under) (v u : View LatchEntry T) → v.facts.has.further ≡ suc n
+      → Begun latch_object primitive_of 0 v (resumed.Under under) u
+      → HasOwed u.facts (record { under = under; further = n })
+  stopped-owes n under v u owes b = record {
+    under = b.resumes.has;
+    further = ap (λ (f : Facts). f.has.further) b.resumes.facts_are
+        ∙ ap (λ (f : Facts). f.has.further) b.drew.facts_are ∙ omega (arith, owes);
+    payload = b.resumes.payload_is;
+  }
+
+  -- after all of them the pass is between two calls, or owes what was handed back
+  pub wakes-after : (n : ℕ) (v w : View LatchEntry T) (result : Option Owed) → v.facts.doing ≡ doing.Idle
+      → v.facts.has.further ≡ n → Wakes n v result w → IsReadyWith result w.facts
+  wakes-after zero v w result idle owes (none, same) =
+      subst (λ (z : Option Owed × View LatchEntry T). IsReadyWith z.0 z.1.facts) (λ i. (sym none i, sym same i))
+      (record { idle = idle; further = owes })
+  wakes-after (suc n) v w result idle owes (resumed.Served k, u, b, rest) =
+      let f = one-fewer (resumed.Served k) v u tt b in
+      wakes-after n u w result f.idle (f.further ∙ omega (arith, owes)) rest
+  wakes-after (suc n) v w result idle owes (resumed.Left k, u, b, rest) =
+      let f = one-fewer (resumed.Left k) v u tt b in
+      wakes-after n u w result f.idle (f.further ∙ omega (arith, owes)) rest
+  wakes-after (suc n) v w result idle owes (resumed.Refused k, u, b, rest) =
+      let f = one-fewer (resumed.Refused k) v u tt b in
+      wakes-after n u w result f.idle (f.further ∙ omega (arith, owes)) rest
+  wakes-after (suc n) v w result idle owes (resumed.Under under, u, b, rest) =
+      subst (λ (z : Option Owed × View LatchEntry T). IsReadyWith z.0 z.1.facts) (λ i. (sym rest.0 i, sym rest.1 i))
+      (stopped-owes n under v u owes b)

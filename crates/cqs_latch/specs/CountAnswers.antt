@@ -8,6 +8,7 @@ use Rattle.cqs_resume.specs.declared.resumed.Resumed.TheVariants as resumed
 use Rattle.cqs_resume.specs.Begins.{Begun}
 use Rattle.cqs_resume.specs.Resumes.{Resumes, most_passed_over}
 use Rattle.cqs_rule.specs.Owed.{under_ticket, under_payload}
+use Rattle.cqs_rule.specs.declared.view.Facts.{Facts}
 use Rattle.cqs_rule.specs.declared.view.View.{View}
 use Rattle.cqs_words.specs.State.{count_in}
 use Rattle.cqs_words.specs.Waiters.{waiters_in}
@@ -15,10 +16,18 @@ use Rattle.cqs_latch.specs.declared.answers.Owed.{Owed}
 use Rattle.cqs_latch.specs.declared.answers.Down.{Down}
 use Rattle.cqs_latch.specs.declared.answers.Down.TheVariants.{Left, Last, LastOwing, Already}
 use Rattle.cqs_latch.specs.Answers.{WasUsed}
-use Rattle.cqs_latch.specs.Calls.{CallRule, Rests}
+use Rattle.cqs_latch.specs.Calls.{IsReady, CallRule, Rests}
+use Rattle.cqs_latch.specs.Owed.{HasOwed}
 use Rattle.cqs_latch.specs.Causes.{primitive_of, WordWas}
 use Rattle.cqs_latch.specs.Latch.{latch_object}
 use Rattle.cqs_latch.specs.LatchTold.{ReadsCount, ReadsWaiters}
+
+-- the pass is between two calls, unless it owes what was handed back
+abbrev pub IsReadyAfter : Down → Facts → Type 0
+IsReadyAfter Already facts = IsReady facts
+IsReadyAfter (Left left) facts = IsReady facts
+IsReadyAfter Last facts = IsReady facts
+IsReadyAfter (LastOwing owed) facts = HasOwed facts owed
 
 module _ {T : Type 0} where
   -- One was taken from the count, which was found as this.

@@ -3,6 +3,7 @@ use Rattle.std.specs.Prelude.{◌≡◌, ℕ, Option, Some, None, Result, Ok, Er
 use Rattle.cqs_rule.specs.declared.view.Facts.{Facts}
 use Rattle.cqs_rule.specs.Owed.{HasUnder, under_payload}
 use Rattle.cqs_latch.specs.declared.answers.Owed.{Owed}
+use Rattle.cqs_latch.specs.Calls.{IsReady}
 
 -- the pass owes them: the one that was handed back, of payload 0, and those after it
 pub record HasOwed (facts : Facts) (owed : Owed) : Type 0 where
@@ -13,3 +14,8 @@ pub record HasOwed (facts : Facts) (owed : Owed) : Type 0 where
 abbrev pub still_owed : {A : Type 0} → Result A Owed → Option Owed
 still_owed (Ok x) = None
 still_owed (Err owed) = Some owed
+
+-- the pass is between two calls, or it owes them
+abbrev pub IsReadyWith : Option Owed → Facts → Type 0
+IsReadyWith None facts = IsReady facts
+IsReadyWith (Some owed) facts = HasOwed facts owed

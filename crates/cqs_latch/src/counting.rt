@@ -3,7 +3,7 @@
 ghost use Rattle.std.specs.Prelude.{◌≡◌, ◌+◌, true, pos, ◌≤ℤ◌, IsOk, IfOk};
 ghost use Rattle.cqs_words.specs.State.{count_in, is_above_zero};
 ghost use Rattle.cqs_core.specs.declared.doings.Doing.TheVariants as doing;
-ghost use Rattle.cqs_latch.specs.CountAnswers.{HasCounted, HasFinished, Wakes};
+ghost use Rattle.cqs_latch.specs.CountAnswers.{HasCounted, HasFinished, IsReadyAfter, Wakes};
 ghost use Rattle.cqs_latch.specs.Owed.{HasOwed, still_owed};
 ghost use Rattle.cqs_latch.specs.Calls.{IsReady, IsMine};
 ghost use Rattle.cqs_rule.specs.Manner.{IsSmart};
@@ -30,6 +30,7 @@ impl Latch {
         ensures never_crowded { IsOk result }
         ensures counted { IfOk result
             (λ down. HasCounted (pass_view pass.old) down (pass_view pass.new)) }
+        ensures ready { IfOk result (λ down. IsReadyAfter down (pass_view pass.new).facts) }
     {
         let loaded = load_to_count(&self.queue, pass);
         if !StateWord::is_above_zero(loaded) {

@@ -7,6 +7,7 @@ use Rattle.cqs_words.specs.Waiters.{waiters_in}
 use Rattle.cqs_latch.specs.CountAnswers.{Opens, Wakes}
 use Rattle.cqs_latch.specs.LatchMade.{count_of}
 use Rattle.cqs_latch.proofs.CountSteps.{loaded-to, already-loaded, already-taken, some-left, last-taken, opens-so}
+use Rattle.cqs_latch.proofs.WakeSteps.{wakes-after}
 use Rattle.cqs_latch.proofs.latch.Latch.count_down.Goals as goal
 
 pub returns-then-not-is_above_zero-clause-counted : goal.returns-then-not-is_above_zero-clause-counted
@@ -71,3 +72,22 @@ returns-in-Some-clause-counted c =
           c.open.ensures.saw c.open.ensures.belongs.live.legal,
       c.in-Some.ensures.wakes,
     )
+
+pub returns-then-not-is_above_zero-clause-ready : goal.returns-then-not-is_above_zero-clause-ready
+returns-then-not-is_above_zero-clause-ready c = (returns-then-not-is_above_zero-clause-counted c).2.ready
+
+pub returns-then-not-is_above_zero-2-clause-ready : goal.returns-then-not-is_above_zero-2-clause-ready
+returns-then-not-is_above_zero-2-clause-ready c = (returns-then-not-is_above_zero-2-clause-counted c).2.ready
+
+pub returns-then-left-gt0-clause-ready : goal.returns-then-left-gt0-clause-ready
+returns-then-left-gt0-clause-ready c = (returns-then-left-gt0-clause-counted c).3.ready
+
+pub returns-in-None-clause-ready : goal.returns-in-None-clause-ready
+returns-in-None-clause-ready c =
+    let all = returns-in-None-clause-counted c in
+    wakes-after all.0 all.1 _ None all.2.idle all.2.owes all.3
+
+pub returns-in-Some-clause-ready : goal.returns-in-Some-clause-ready
+returns-in-Some-clause-ready c =
+    let all = returns-in-Some-clause-counted c in
+    wakes-after all.0 all.1 _ (Some c.in-Some.owed) all.2.idle all.2.owes all.3

@@ -1,5 +1,5 @@
 -- A count down is its steps: a load of the count, one taken from it, and where that was the last one, the done bit set.
-use Rattle.std.proofs.Common.{◌≡◌, ◌⊎◌, inl, inr, ℕ, ◌+◌, ◌-◌, ◌%◌, ◌^◌, ◌<◌, ◌≤◌, Bool, true, false, List, [], ◌∷◌, ◌++◌, Option, Some, None, sym, refl, ap, ◌∙◌, subst, arith, if◌then◌else◌, ℤ, pos, negsuc, ◌<ℤ◌, ◌≤ℤ◌, ◌-ℤ◌}
+use Rattle.std.proofs.Common.{◌≡◌, ℕ, ◌+◌, ◌%◌, ◌^◌, ◌<◌, true, false, List, [], ◌∷◌, sym, refl, ap, ◌∙◌, subst, arith, if◌then◌else◌, pos, ◌-ℤ◌}
 use Rattle.std.proofs.lemmas.Int.{ints}
 use Rattle.cqs_core.specs.declared.doings.Doing.{Doing}
 use Rattle.cqs_core.specs.declared.doings.Doing.TheVariants as doing
@@ -16,11 +16,10 @@ use Rattle.cqs_rule.specs.Lists.{Has}
 use Rattle.cqs_rule.specs.Saw.{Saw}
 use Rattle.cqs_words.specs.State.{count_in, is_above_zero}
 use Rattle.cqs_words.specs.Waiters.{waiters_in}
-use Rattle.cqs_latch.specs.declared.answers.Down.TheVariants.{Left, Last, LastOwing, Already}
-use Rattle.cqs_latch.specs.Answers.{WasUsed}
-use Rattle.cqs_latch.specs.Calls.{IsReady, IsLegalOf, Rests}
-use Rattle.cqs_latch.specs.Causes.{primitive_of, WordWas}
-use Rattle.cqs_latch.specs.CountAnswers.{WasCounted, WasOpened, Opens, HasCounted}
+use Rattle.cqs_latch.specs.declared.answers.Down.TheVariants.{Left, Already}
+use Rattle.cqs_latch.specs.Calls.{IsReady, IsLegalOf}
+use Rattle.cqs_latch.specs.Causes.{WordWas}
+use Rattle.cqs_latch.specs.CountAnswers.{Opens, HasCounted}
 use Rattle.cqs_latch.specs.Latch.{latch_object}
 use Rattle.cqs_latch.specs.LatchEvents.{loads_to_count, counts_down, opens}
 use Rattle.cqs_latch.specs.LatchTold.{at_word, OnWord, ReadsCount, ReadsWaiters}
@@ -78,8 +77,7 @@ module _ {T : Type 0} where
         ap (λ b. if b then entry.DownAlready v.number ∷ [] else []) test in
         let a : Along v (entry.DownAlready v.number ∷ []) (entry.DownAlready v.number ∷ []) x =
         along-first v x _ (entry.DownAlready v.number ∷ []) (Word (client_place 0) n ∷ []) (subst (λ es.
-        Saw latch_object v (facts_moved loads_to_count (client_place 0) (at_word v n)) es x) one o.saw) refl in
-        (
+        Saw latch_object v (facts_moved loads_to_count (client_place 0) (at_word v n)) es x) one o.saw) refl in (
           call-rule_own v x (entry.DownAlready v.number ∷ []) _ a.called (λ m. refl, tt) own legal,
           record {
             word = n;
@@ -133,8 +131,7 @@ module _ {T : Type 0} where
     already-taken x y n none l o legal =
         let test : is_used (count_in n) ≡ true = none-used n none in
         let t : Took (entry.DownAlready v.number) doing.Idle n y =
-        took (entry.DownAlready v.number) doing.Idle x y n l o (rw test refl) (rw test refl) in
-        (
+        took (entry.DownAlready v.number) doing.Idle x y n l o (rw test refl) (rw test refl) in (
           call-rule_own v y (entry.DownAlready v.number ∷ []) _ t.along.called (λ m. refl, tt) own legal,
           record { word = n; before = t.before; used = none-above n none; found = t.found },
           record { ready = record { idle = t.doing; further = t.further }; waits_are = t.waits },
@@ -149,8 +146,7 @@ module _ {T : Type 0} where
         let less : left_of (count_in n -ℤ pos 1) ≡ left = left-is n left is in
         let t : Took (entry.DownLeft v.number left) doing.Idle n y =
         took (entry.DownLeft v.number left) doing.Idle x y n l o (rw (used, last) (ap (entry.DownLeft v.number) less))
-        (rw (used, last) refl) in
-        (
+        (rw (used, last) refl) in (
           call-rule_own v y (entry.DownLeft v.number left ∷ []) _ t.along.called (λ m. refl, tt) own legal,
           some,
           record { word = n; before = t.before; left_is = is; found = t.found },

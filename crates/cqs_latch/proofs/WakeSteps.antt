@@ -72,7 +72,8 @@ module _ {T : Type 0} where
 
   -- or it was handed back
   pub wakes-under : (under : token.Under) (n : ℕ) (v u : View LatchEntry T)
-      → Begun latch_object primitive_of 0 v (resumed.Under under) u → Wakes (suc n) v (Some (record { under = under; further = n })) u
+      → Begun latch_object primitive_of 0 v (resumed.Under under) u
+      → Wakes (suc n) v (Some (record { under = under; further = n })) u
   wakes-under under n v u b = (resumed.Under under, u, b, (refl, refl))
 
   -- a pass that stopped on the way owes what was handed back, with those after it

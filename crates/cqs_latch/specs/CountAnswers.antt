@@ -1,5 +1,5 @@
 -- What a count down answers, and why.
-use Rattle.std.specs.Prelude.{◌≡◌, ◌⊎◌, ℕ, zero, suc, ◌+◌, ◌%◌, ◌^◌, ◌<◌, List, [], ◌∷◌, Option, Some, None, pos, ◌≤ℤ◌, ◌-ℤ◌}
+use Rattle.std.specs.Prelude.{◌≡◌, ℕ, zero, suc, ◌+◌, ◌%◌, ◌^◌, ◌<◌, List, [], ◌∷◌, Option, Some, None, pos}
 use Rattle.cqs_core.specs.declared.doings.Doing.TheVariants as doing
 use Rattle.cqs_latch_object.specs.declared.entries.LatchEntry.{LatchEntry}
 use Rattle.cqs_latch_object.specs.declared.entries.LatchEntry.TheVariants as entry
@@ -72,7 +72,7 @@ module _ {T : Type 0} where
   Wakes zero v result w = (result ≡ None) × (w ≡ v)
   Wakes (suc many) v result w =
       (ended : resume.Resumed) × (u : View LatchEntry T)
-      × Begun latch_object primitive_of 0 v ended u 
+      × Begun latch_object primitive_of 0 v ended u
       × GoesOn ended many u result w (Wakes many u result w)
 
   -- A count down: the count was loaded as used up, or found so by the subtraction; or so many are

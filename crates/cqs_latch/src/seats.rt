@@ -34,11 +34,7 @@ impl Latch {
     }
 
     /// The pass takes in the given one: it has seen what each of them had seen.
-    pub fn meet(
-        &self,
-        pass: &mut LatchPass,
-        given: LatchPass,
-    ) -> Result<(), (LatchPass, MeetError)>
+    pub fn meet(&self, pass: &mut LatchPass, given: LatchPass) -> Result<(), (LatchPass, MeetError)>
         requires belongs { IsMine self.now pass.old }
         requires given_belongs { IsMine self.now given }
         requires ready { IsReady (pass_view pass.old).facts }

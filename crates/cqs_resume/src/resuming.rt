@@ -56,7 +56,12 @@ pub fn finish<C: Client>(queue: &Queue<C>, pass: &mut Pass<C>, under: Under) -> 
 // apart, so that a resume that ends at its first number stays short.
 #[cold]
 #[inline(never)]
-pub(crate) fn go_on<C: Client>(queue: &Queue<C>, pass: &mut Pass<C>, payload: u32, most: u32) -> Resumed
+pub(crate) fn go_on<C: Client>(
+    queue: &Queue<C>,
+    pass: &mut Pass<C>,
+    payload: u32,
+    most: u32,
+) -> Resumed
     requires belongs { IsOf queue.now pass.old }
     requires smart { IsSmart (C.primitive (client_of queue.now)).manner.leaving }
     requires owes { (pass_view pass.old).facts.doing ≡ doing.Owes }

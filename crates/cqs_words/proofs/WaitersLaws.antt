@@ -55,7 +55,8 @@ packed_waiters-injective v w v_fits w_fits same =
     ∙ unpacked_waiters-packed_waiters w w_fits
 
 -- what is added to the number is added to the waiters, and taken from it from them, where they have room
-pub waiters_word-add : (waiters by : ℕ) (done : Bool) → waiters_word waiters done + by ≡ waiters_word (waiters + by) done
+pub waiters_word-add : (waiters by : ℕ) (done : Bool)
+    → waiters_word waiters done + by ≡ waiters_word (waiters + by) done
 waiters_word-add waiters by true = omega arith
 waiters_word-add waiters by false = omega arith
 

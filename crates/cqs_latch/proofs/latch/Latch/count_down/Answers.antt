@@ -1,10 +1,8 @@
-use Rattle.std.proofs.Common.{◌≡◌, ℕ, ◌+◌, ◌<◌, ◌≤◌, sym, ap, ◌∙◌, subst, refl, true, false, arith, None, Some, pos, ◌≤ℤ◌}
+use Rattle.std.proofs.Common.{◌≡◌, ◌+◌, ◌≤◌, sym, ap, ◌∙◌, arith, None, Some, pos}
 use Rattle.std.proofs.lemmas.Int.{ints}
 use Rattle.cqs_rule.specs.declared.view.Opening.{Opening}
 use Rattle.cqs_rule.specs.Passes.{pass_view, client_of}
 use Rattle.cqs_words.specs.State.{count_in}
-use Rattle.cqs_words.specs.Waiters.{waiters_in}
-use Rattle.cqs_latch.specs.CountAnswers.{Opens, Wakes}
 use Rattle.cqs_latch.specs.LatchMade.{count_of}
 use Rattle.cqs_latch.proofs.CountSteps.{loaded-to, already-loaded, already-taken, some-left, last-taken, opens-so}
 use Rattle.cqs_latch.proofs.WakeSteps.{wakes-after}
@@ -43,8 +41,7 @@ pub returns-in-None-clause-counted : goal.returns-in-None-clause-counted
 returns-in-None-clause-counted c =
     let last : c.left_after-left.result ≡ 0 = omega (arith, c.if-left-gt0.false) in
     let one : count_in c.count_down-found.result ≡ pos 1 =
-    c.left_after-left.ensures ∙ ap (λ n. pos (n + 1)) last in
-    (
+    c.left_after-left.ensures ∙ ap (λ n. pos (n + 1)) last in (
       c.counted-waiters.result,
       pass_view c.open.new.pass,
       opens-so _ c.requires.ready c.requires.belongs.live.own (pass_view c.count_down-found.new.pass) _ _ _ _ one
@@ -60,8 +57,7 @@ pub returns-in-Some-clause-counted : goal.returns-in-Some-clause-counted
 returns-in-Some-clause-counted c =
     let last : c.left_after-left.result ≡ 0 = omega (arith, c.if-left-gt0.false) in
     let one : count_in c.count_down-found.result ≡ pos 1 =
-    c.left_after-left.ensures ∙ ap (λ n. pos (n + 1)) last in
-    (
+    c.left_after-left.ensures ∙ ap (λ n. pos (n + 1)) last in (
       c.counted-waiters.result,
       pass_view c.open.new.pass,
       opens-so _ c.requires.ready c.requires.belongs.live.own (pass_view c.count_down-found.new.pass) _ _ _ _ one

@@ -1,4 +1,4 @@
-use Rattle.std.proofs.Common.{◌≡◌, ◌<◌, ◌≤◌, sym, ap, ◌∙◌, arith, true, false, Ok, Err}
+use Rattle.std.proofs.Common.{sym, ◌∙◌, arith, true, false, Ok, Err}
 use Rattle.cqs_rule.specs.declared.config.AcquireError.TheVariants.{Worn}
 use Rattle.cqs_latch.specs.declared.answers.LatchWait.TheVariants.{Passed}
 use Rattle.cqs_latch.proofs.WaitSteps.{loaded, counted, used, worn, came, passed, waits, waited-ready}

@@ -1,4 +1,4 @@
-use Rattle.std.proofs.Common.{◌≡◌, suc, ◌-◌, ◌<◌, ◌∙◌, Some, subst, arith}
+use Rattle.std.proofs.Common.{◌≡◌, suc, ◌-◌, ◌∙◌, Some, subst, arith}
 use Rattle.cqs_rule.specs.Passes.{pass_view}
 use Rattle.cqs_latch.specs.CountAnswers.{Wakes}
 use Rattle.cqs_latch.specs.declared.answers.Owed.{Owed}

@@ -17,7 +17,7 @@ use Rattle.cqs_rule.specs.Lists.{IsPrefix}
 use Rattle.cqs_rule.specs.Saw.{Saw}
 use Rattle.cqs_rule.proofs.Calls.{called-by, called-then, called-and}
 use Rattle.cqs_latch.specs.Latch.{is_simple, latch_object}
-use Rattle.cqs_latch.specs.LatchTold.{at_word, OnWord, NextIs, latch_after}
+use Rattle.cqs_latch.specs.LatchTold.{at_word, OnWord, NextIs}
 use Rattle.cqs_latch.specs.Causes.{WordWas, NextWas}
 
 -- the plain latch of an opening after a history

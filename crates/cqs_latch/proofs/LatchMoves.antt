@@ -1,9 +1,6 @@
 -- What a latch owes for its steps on its words: each is a step of the latch, by its law.
-use Rattle.std.proofs.Common.{◌≡◌, ◌≢◌, ◌⊎◌, inl, inr, ℕ, ◌+◌, ◌-◌, ◌%◌, ◌^◌, ◌<◌, ◌≤◌, Bool, true, false, not, List, [], ◌∷◌, ◌++◌, length, set, refl, ap, sym, ◌∙◌, subst, arith, Some, slice_get, slice_index, slice_set, get_or, get_or-set_same, get_or-set_other, ne_eqb, ◌==◌, ℤ, pos, negsuc, ◌-ℤ◌, ◌≤ℤ◌, ◌<ℤ◌, int_le, bit_or, if◌then◌else◌, append-nil}
-use Rattle.std.proofs.lemmas.Bool.{cases_Bool}
-use Rattle.std.proofs.lemmas.Int.{ints}
+use Rattle.std.proofs.Common.{◌≡◌, ◌≢◌, inr, ℕ, ◌%◌, ◌^◌, ◌<◌, ◌≤◌, Bool, true, false, not, List, [], ◌∷◌, ◌++◌, length, refl, ap, sym, ◌∙◌, subst, arith, Some, slice_get, slice_index, slice_set, get_or-set_same, get_or-set_other, ne_eqb, ◌==◌, ℤ, pos, negsuc, ◌-ℤ◌, ◌≤ℤ◌, ◌<ℤ◌, bit_or, if◌then◌else◌}
 use Rattle.std.proofs.lemmas.List.{length-set, set-get_or}
-use Rattle.cqs_core.specs.declared.doings.Doing.{Doing}
 use Rattle.cqs_core.specs.declared.doings.Doing.TheVariants as doing
 use Rattle.cqs_latch_object.specs.declared.entries.LatchEntry.{LatchEntry}
 use Rattle.cqs_latch_object.specs.declared.entries.LatchEntry.TheVariants as entry
@@ -236,8 +233,8 @@ module _ (T : Type 0) (mode : CancelMode) (size p : ℕ) (facts : Facts) where
     pub turn-moves : pos 0 <ℤ v → Owes turns_back 0 (λ n. n)
     turn-moves above = record {
       step = λ c words log handed shows does has short small.
-          load-shown mode size p facts c words log shows does has word.turns_back 0 (v, does ∙ ap Some tries, above) refl
-          refl refl refl;
+          load-shown mode size p facts c words log shows does has word.turns_back 0 (v, does ∙ ap Some tries, above)
+          refl refl refl refl;
       silent = λ n m apart. refl;
       door = λ n q. absurd (idle-door q);
       owed = λ n owing. refl;
@@ -252,7 +249,8 @@ module _ (T : Type 0) (mode : CancelMode) (size p : ℕ) (facts : Facts) where
     pub open-moves : v ≤ℤ pos 0 → Owes opens 1 (λ n. bit_or n 9223372036854775808)
     open-moves used = record {
       step = λ c words log handed shows does has short small.
-          open-shown mode size p facts c words log shows does has _ (v, does ∙ ap Some tries, used) short small refl refl;
+          open-shown mode size p facts c words log shows does has _ (v, does ∙ ap Some tries, used) short small refl
+          refl;
       silent = λ n m apart. rw (other p m apart) refl;
       door = λ n q. absurd (idle-door q);
       owed = λ n owing. absurd (not-tries (sym (ap is_owing tries) ∙ owing));

@@ -4,3 +4,6 @@ pub mod WordsFound
 pub mod Rules
 pub mod Along
 pub mod WaitSteps
+pub mod PollSteps
+pub mod WakeSteps
+pub mod CountSteps

@@ -1,20 +1,16 @@
 -- A wait is its steps: a load of the count, a load of the suspend counter, one added to the waiters, and perhaps a
 -- suspend.
-use Rattle.std.proofs.Common.{◌≡◌, ◌⊎◌, inl, inr, ℕ, ◌+◌, ◌<◌, ◌≤◌, Bool, true, false, List, [], ◌∷◌, ◌++◌, Option, Some, None, Ok, Err, sym, refl, ap, ◌∙◌, subst, arith, if◌then◌else◌, pos, ◌<ℤ◌, ◌≤ℤ◌}
-use Rattle.std.specs.Prelude.{nat_lt}
+use Rattle.std.proofs.Common.{◌≡◌, inl, inr, ℕ, ◌<◌, ◌≤◌, Bool, true, false, List, [], ◌∷◌, ◌++◌, Some, None, Result, Ok, Err, refl, ap, ◌∙◌, subst, arith, if◌then◌else◌, pos, ◌≤ℤ◌}
 use Rattle.std.proofs.lemmas.Bool.{lt-ltb}
 use Rattle.std.proofs.lemmas.Int.{ints}
-use Rattle.cqs_core.specs.declared.cells.CoreState.{CoreState}
-use Rattle.cqs_core.specs.declared.cells.CoreState.TheVariants as state
-use Rattle.cqs_core.specs.declared.doings.Doing.{Doing}
 use Rattle.cqs_core.specs.declared.doings.Doing.TheVariants as doing
-use Rattle.cqs_core.specs.QueueSteps.{installs, takes}
 use Rattle.cqs_latch_object.specs.declared.entries.LatchEntry.{LatchEntry}
 use Rattle.cqs_latch_object.specs.declared.entries.LatchEntry.TheVariants as entry
 use Rattle.cqs_latch_object.specs.LatchWords.{is_used, come_entry, come_doing}
+use Rattle.cqs_rule.specs.declared.config.AcquireError.{AcquireError}
+use Rattle.cqs_rule.specs.declared.config.AcquireError.TheVariants as error
 use Rattle.cqs_rule.specs.declared.config.AcquireError.TheVariants.{Worn}
 use Rattle.cqs_rule.specs.declared.view.Facts.{Facts}
-use Rattle.cqs_rule.specs.declared.view.Sighting.{Sighting}
 use Rattle.cqs_rule.specs.declared.view.Sighting.TheVariants.{Cell, Word}
 use Rattle.cqs_rule.specs.declared.view.View.{View}
 use Rattle.cqs_rule.specs.Called.{Called}
@@ -23,19 +19,18 @@ use Rattle.cqs_rule.specs.Layout.{suspends_place, client_place}
 use Rattle.cqs_rule.specs.Lists.{Has}
 use Rattle.cqs_rule.specs.Saw.{Saw}
 use Rattle.cqs_rule.specs.Waits.{place_of}
-use Rattle.cqs_suspend.specs.Suspends.{EndsBy}
 use Rattle.cqs_words.specs.State.{count_in, is_above_zero}
 use Rattle.cqs_words.specs.Waiters.{is_done}
 use Rattle.cqs_latch.specs.declared.answers.LatchWait.{LatchWait}
 use Rattle.cqs_latch.specs.declared.answers.LatchWait.TheVariants.{Passed, Later}
-use Rattle.cqs_latch.specs.Answers.{WasUsed, WasAbove, WasWorn, WasOpen, WasShut, HasWaited}
-use Rattle.cqs_latch.specs.Calls.{IsReady, IsLegalOf, Rests}
-use Rattle.cqs_latch.specs.Causes.{primitive_of, WordWas, NextWas, CellWas}
+use Rattle.cqs_latch.specs.Answers.{WasAbove, WasShut, HasWaited}
+use Rattle.cqs_latch.specs.Calls.{IsReady, IsLegalOf}
+use Rattle.cqs_latch.specs.Causes.{WordWas}
 use Rattle.cqs_latch.specs.Latch.{latch_object}
 use Rattle.cqs_latch.specs.LatchEvents.{loads_to_wait, comes, turns_back}
 use Rattle.cqs_latch.specs.LatchTold.{at_word, OnWord, ReadsCount, ReadsWaiters, NextIs}
 use Rattle.cqs_latch.specs.Steps.{WaitsInLine}
-use Rattle.cqs_latch.proofs.Along.{prefix-more, Along, along-first, along-then, along-and, word-first, word-then, word-later, next-then, next-later}
+use Rattle.cqs_latch.proofs.Along.{prefix-more, Along, along-first, along-and, word-first, word-then, word-later, next-then, next-later}
 use Rattle.cqs_latch.proofs.Rules.{call-rule, call-rule_own}
 use Rattle.cqs_latch.proofs.WordSteps.{above-zero}
 
@@ -80,7 +75,8 @@ module _ {T : Type 0} where
         further = ap (λ (f : Facts). f.has.further) o.saw.facts_are;
       }
 
-  above-later : (v u w : View LatchEntry T) (es last : List LatchEntry) → WasAbove v u → Along u es last w → WasAbove v w
+  above-later : (v u w : View LatchEntry T) (es last : List LatchEntry) → WasAbove v u → Along u es last w
+      → WasAbove v w
   above-later v u w es last was a = record {
     word = was.word;
     before = was.before;
@@ -117,8 +113,7 @@ module _ {T : Type 0} where
         let a : Along v (entry.Passed v.number ∷ []) (entry.Passed v.number ∷ []) x =
         along-first v x _ (entry.Passed v.number ∷ []) (Word (client_place 0) n ∷ [])
         (subst (λ es. Saw latch_object v (facts_moved loads_to_wait (client_place 0) (at_word v n)) es x) one o.saw)
-        refl in
-        (
+        refl in (
           None,
           call-rule_own v x (entry.Passed v.number ∷ []) _ a.called (λ m. refl, tt) own legal,
           (
@@ -146,8 +141,7 @@ module _ {T : Type 0} where
     worn x y z n m b l next high o legal =
         let l' : Loaded n v y = counted v x y n m l next in
         let back : Along y [] [] z = along-first y z _ [] (Word (client_place 0) b ∷ []) o.saw refl in
-        let a : Along v [] [] z = along-and v y z [] [] [] [] l'.along back in
-        (
+        let a : Along v [] [] z = along-and v y z [] [] [] [] l'.along back in (
           None,
           call-rule_own v z [] [] a.called tt own legal,
           (
@@ -232,9 +226,9 @@ module _ {T : Type 0} where
         let more = prefix-more z.facts.found (Word suspends_place k ∷ []) ended.found (Cell k ended.word ∷ []) in
         let here : Along z (entry.Enter z.number k ∷ entry.Deliver k ∷ []) (entry.Deliver k ∷ []) w =
         record { called = ended.called; found = more.0; found_is = all ∙ more.1 } in
-        let both : Along v (entry.AwaitDoor v.number ∷ entry.Enter z.number k ∷ entry.Deliver k ∷ []) (entry.Deliver k ∷ []) w =
-        along-and v z w (entry.AwaitDoor v.number ∷ []) (entry.AwaitDoor v.number ∷ []) _ _ c.along here in
-        (
+        let both : Along v (entry.AwaitDoor v.number ∷ entry.Enter z.number k ∷ entry.Deliver k ∷ [])
+        (entry.Deliver k ∷ []) w =
+        along-and v z w (entry.AwaitDoor v.number ∷ []) (entry.AwaitDoor v.number ∷ []) _ _ c.along here in (
           Some k,
           call-rule v w (entry.AwaitDoor v.number ∷ entry.Enter v.number k ∷ []) (entry.Deliver k ∷ [])
               (subst (λ p. Called latch_object v
@@ -263,11 +257,11 @@ module _ {T : Type 0} where
         let here : Along z (entry.Enter z.number k ∷ []) [] w =
         record { called = ended.called; found = more.0; found_is = all ∙ more.1 } in
         let both : Along v (entry.AwaitDoor v.number ∷ entry.Enter z.number k ∷ []) [] w =
-        along-and v z w (entry.AwaitDoor v.number ∷ []) (entry.AwaitDoor v.number ∷ []) _ _ c.along here in
-        (
+        along-and v z w (entry.AwaitDoor v.number ∷ []) (entry.AwaitDoor v.number ∷ []) _ _ c.along here in (
           None,
           call-rule_own v w (entry.AwaitDoor v.number ∷ entry.Enter v.number k ∷ []) []
-              (subst (λ p. Called latch_object v (entry.AwaitDoor v.number ∷ entry.Enter p k ∷ []) [] w) number both.called)
+              (subst (λ p. Called latch_object v (entry.AwaitDoor v.number ∷ entry.Enter p k ∷ []) [] w) number
+              both.called)
               (λ m. refl, (λ m. refl, tt)) own legal,
           (
             above-later v z w _ _ c.above here,
@@ -283,3 +277,12 @@ module _ {T : Type 0} where
             },
           ),
         )
+
+  -- whatever it answers, the pass is between two calls
+  pub waited-ready : (v w : View LatchEntry T) (answer : Result LatchWait AcquireError) → HasWaited v answer w
+      → IsReady w.facts
+  waited-ready v w (Ok Passed) (None, rule, why) = why.1.ready
+  waited-ready v w (Ok Passed) (Some k, rule, why) = why.3.ready
+  waited-ready v w (Ok (Later wait)) (drew, rule, why) = why.4.ready
+  waited-ready v w (Err error.Worn) (drew, rule, why) = why.2.ready
+  waited-ready v w (Err error.Crowded) (drew, rule, why) = absurd why

@@ -1,5 +1,5 @@
 -- What the words of a latch were is what the plain latch was.
-use Rattle.std.proofs.Common.{◌≡◌, ◌⊎◌, inl, inr, ℕ, ◌+◌, ◌<◌, ◌^◌, Bool, true, false, List, ℤ, pos, negsuc, ◌≤ℤ◌, refl, sym, ap, ◌∙◌, subst, arith, length}
+use Rattle.std.proofs.Common.{◌≡◌, ℕ, List, ℤ, pos, negsuc, ◌≤ℤ◌, refl, sym, ap, ◌∙◌, subst}
 use Rattle.std.proofs.lemmas.List.{append-nil}
 use Rattle.cqs_latch_object.specs.declared.entries.LatchEntry.{LatchEntry}
 use Rattle.cqs_latch_object.specs.LatchObject.{Latch, due}
@@ -9,7 +9,7 @@ use Rattle.cqs_latch_object.proofs.LatchBounds.{every-count-is-high, core-counte
 use Rattle.cqs_latch.specs.declared.client.LatchClient.{LatchClient}
 use Rattle.cqs_latch.specs.Latch.{is_simple, latch_shown, latch_object, latch_primitive}
 use Rattle.cqs_latch.specs.LatchMade.{count_of, mode_of}
-use Rattle.cqs_latch.specs.LatchTold.{OnWord, ReadsCount, ReadsWaiters, NextIs, latch_after}
+use Rattle.cqs_latch.specs.LatchTold.{OnWord, ReadsCount, ReadsWaiters, NextIs}
 use Rattle.cqs_rule.specs.declared.view.View.{View}
 use Rattle.cqs_rule.specs.declared.view.Opening.{Opening}
 use Rattle.cqs_rule.specs.Events.{Event, Moved, HasWord, in_any_case}

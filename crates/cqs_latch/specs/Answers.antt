@@ -17,7 +17,7 @@ use Rattle.cqs_latch.specs.declared.answers.LatchPolled.{LatchPolled}
 use Rattle.cqs_latch.specs.declared.answers.LatchPolled.TheVariants.{Through, Pending}
 use Rattle.cqs_latch.specs.Calls.{CallRule, Rests}
 use Rattle.cqs_latch.specs.Causes.{WordWas, NextWas, CellWas}
-use Rattle.cqs_latch.specs.Entries.{waited_entries, waited_further, polled_entries}
+use Rattle.cqs_latch.specs.Entries.{waited_entries, waited_further}
 use Rattle.cqs_latch.specs.LatchTold.{ReadsCount, ReadsWaiters}
 
 module _ {T : Type 0} where

@@ -9,8 +9,8 @@ use Rattle.cqs_rule.specs.declared.queue.Pass.{Pass}
 use Rattle.cqs_rule.specs.declared.view.Facts.{Facts}
 use Rattle.cqs_rule.specs.declared.view.View.{View}
 use Rattle.cqs_rule.specs.Called.{Called}
-use Rattle.cqs_rule.specs.Lists.{Has, part, NamesOnly}
-use Rattle.cqs_rule.specs.Passes.{client_of, IsOf}
+use Rattle.cqs_rule.specs.Lists.{part, NamesOnly}
+use Rattle.cqs_rule.specs.Passes.{IsOf}
 use Rattle.cqs_latch.specs.declared.client.LatchClient.{LatchClient}
 use Rattle.cqs_latch.specs.declared.latch.Latch.{Latch}
 use Rattle.cqs_latch.specs.Latch.{is_simple, latch_object}

@@ -1,5 +1,5 @@
 -- What the steps of a call found, and where in the history it was so.
-use Rattle.std.specs.Prelude.{◌≡◌, ℕ, ◌≤◌, List, [], ◌∷◌, ◌++◌, length}
+use Rattle.std.specs.Prelude.{◌≡◌, ℕ, List, [], ◌∷◌, ◌++◌}
 use Rattle.cqs_core.specs.declared.cells.CoreState.{CoreState}
 use Rattle.cqs_latch_object.specs.declared.entries.LatchEntry.{LatchEntry}
 use Rattle.cqs_latch_object.specs.LatchObject.{Latch}
@@ -11,7 +11,7 @@ use Rattle.cqs_rule.specs.Exchanges.{FoundCell, HasCell}
 use Rattle.cqs_rule.specs.Layout.{suspends_place, client_place}
 use Rattle.cqs_rule.specs.Lists.{IsPrefix}
 use Rattle.cqs_rule.specs.Object.{Primitive}
-use Rattle.cqs_rule.specs.Saw.{WasFound, WasSo}
+use Rattle.cqs_rule.specs.Saw.{WasFound}
 use Rattle.cqs_latch.specs.declared.client.LatchClient.{LatchClient}
 use Rattle.cqs_latch.specs.Latch.{latch_primitive}
 use Rattle.cqs_latch.specs.LatchMade.{count_of, mode_of}

@@ -1,5 +1,5 @@
--- The latch as a client: its two words are the count, and the waiters with the done bit; its history
--- is the client's.
+-- The latch as a client: its two words are the count, and the waiters with the done bit; its
+-- history is the client's.
 use Rattle.std.specs.Prelude.{◌≡◌, ℕ, ◌≤◌, ◌==◌, map, Bool, true, false, List, [], ◌∷◌, length, slice_index, pos}
 use Rattle.cqs_core.specs.Numbered.{EachAt}
 use Rattle.cqs_latch_object.specs.declared.entries.LatchEntry.{LatchEntry}

@@ -1,10 +1,10 @@
--- The latch is a client, in both modes: each step of the queue that suits it keeps what it shows, by
--- the law of the latch. This file is a proof: nothing of it has to be read to know what is promised,
--- and nothing in it is taken on trust.
+-- The latch is a client, in both modes: each step of the queue that suits it keeps what it shows,
+-- by the law of the latch. This file is a proof: nothing of it has to be read to know what is
+-- promised, and nothing in it is taken on trust.
 use Rattle.std.proofs.Common.{◌≡◌, ◌≢◌, ℕ, zero, suc, ◌+◌, ◌-◌, ◌<◌, ◌≤◌, ◌==◌, Bool, true, false, List, [], ◌∷◌, ◌++◌, replicate, refl, ap, sym, ◌∙◌, subst, ⊎_elim, arith, Option, Some, None, slice_get, ne_eqb, ℤ, pos, length, get_or, set}
 use Rattle.std.proofs.lemmas.Option.{slice_get-map, get_or_from_slice_get}
 use Rattle.std.proofs.lemmas.List.{map-set, length-set, length-replicate}
-use Rattle.std.specs.Prelude.{slice_index, slice_set}
+use Rattle.std.specs.Prelude.{slice_set}
 use Rattle.std.specs.Option.{option_map}
 use Rattle.std.proofs.lemmas.Int.{ints}
 use Rattle.cqs_core.specs.declared.cells.CoreCell.{CoreCell}
@@ -12,9 +12,9 @@ use Rattle.cqs_core.specs.Numbered.{EachAt}
 use Rattle.cqs_core.specs.declared.doings.Doing.TheVariants as doing
 use Rattle.cqs_core.specs.QueueLine.{door}
 use Rattle.cqs_core.specs.QueueState.{Queue}
-use Rattle.cqs_core.specs.QueueSteps.{QueueStep, draws, enters, reaches, begins, puts, installs, takes, serves, leaves, delegates, passes_over, ends_refused, ends_missed, starts_leaving, leaves_line, leaves_at_once, settles, settles_owing, refuses, refuses_value, looks, pends, grants, late, row_of, StepRow, CounterRow, at_counter, at_cell, Counter, to_suspend, to_resume, Gain, nothing, its_own, a_debt, Cost, no_cost, one_owed, one_element, IsOpenStep, IsOpenRow, row_after, queue_after, counter_of}
+use Rattle.cqs_core.specs.QueueSteps.{QueueStep, draws, enters, reaches, begins, puts, installs, takes, serves, leaves, delegates, passes_over, ends_refused, ends_missed, starts_leaving, leaves_line, leaves_at_once, settles, settles_owing, refuses, refuses_value, looks, pends, grants, late, row_of, StepRow, at_counter, at_cell, Counter, to_suspend, to_resume, Gain, nothing, its_own, a_debt, Cost, no_cost, one_owed, one_element, IsOpenStep, row_after}
 use Rattle.cqs_core.proofs.EachAtLemmas.{EachAt-write}
-use Rattle.cqs_core.proofs.Places.{get-below, get-set_else, set-same, get-set_here}
+use Rattle.cqs_core.proofs.Places.{get-set_else, set-same}
 use Rattle.cqs_core.proofs.QueueOpens.{get-replicate}
 use Rattle.cqs_latch_object.specs.declared.entries.LatchEntry.{LatchEntry}
 use Rattle.cqs_latch_object.specs.LatchNames.{entry_names}
@@ -29,14 +29,14 @@ use Rattle.cqs_rule.specs.declared.view.Has.{Has}
 use Rattle.cqs_rule.specs.declared.config.CancelMode.{CancelMode}
 use Rattle.cqs_rule.specs.declared.config.CancelMode.TheVariants.{Smart, Simple}
 use Rattle.cqs_rule.specs.Client.{IsClient, IsPaid, IsPayload, IsBegun, begun_by, no_number}
-use Rattle.cqs_rule.specs.Hidden.{Hidden, happened, has_after, has_gained, has_paid, gathered, emptied, hands_over, now_may_draw}
+use Rattle.cqs_rule.specs.Hidden.{Hidden, happened, has_after, has_gained, has_paid, gathered, emptied, hands_over}
 use Rattle.cqs_rule.specs.Lists.{NamesOnly}
 use Rattle.cqs_rule.specs.Manner.{Suits}
 use Rattle.cqs_rule.specs.Opened.{first_hidden, four}
 use Rattle.cqs_rule.specs.Views.{first_has}
 use Rattle.cqs_latch.specs.Latch.{is_simple, further_of, latch_shown, HoldsNothing, ShowsLatch, nothing_more, latch_object, latch_manner, latch_primitive}
 use Rattle.cqs_words.specs.State.{state_word, count_in}
-use Rattle.cqs_words.specs.Waiters.{waiters_word, waiters_in, is_done}
+use Rattle.cqs_words.specs.Waiters.{waiters_word}
 use Rattle.cqs_words.proofs.WaitersLaws.{waiters_in-word, is_done-word}
 
 silent-step : (s : QueueStep) (p k payload : ℕ) → NamesOnly entry_names p (step_entries s p k)
@@ -189,7 +189,8 @@ row-passes : (row : StepRow) (q : Queue) (p k : ℕ) (found : Option CoreCell)
     → length (row_after row q p k found).doing ≡ length q.doing
 row-passes (at_counter row) q p k found = counted row.counter
   where
-    counted : (c : Counter) → length (row_after (at_counter (record row { counter = c })) q p k found).doing
+    counted : (c : Counter)
+        → length (row_after (at_counter (record row { counter = c })) q p k found).doing
         ≡ length q.doing
     counted to_suspend = length-set q.doing p _
     counted to_resume = length-set q.doing p _
@@ -201,7 +202,8 @@ row-drawn : (row : StepRow) (q : Queue) (p k : ℕ) (found : Option CoreCell)
 row-drawn (at_counter row) q p k found = counted row.counter
   where
     counted : (c : Counter)
-        → (row_after (at_counter (record row { counter = c })) q p k found).suspends ≤ q.suspends + 1
+        → (row_after (at_counter (record row { counter = c })) q p k found).suspends
+        ≤ q.suspends + 1
     counted to_suspend = omega arith
     counted to_resume = omega arith
 row-drawn (at_cell row) q p k (Some found) = omega arith
@@ -262,15 +264,15 @@ begins-latch : (mode : CancelMode) (size passes : ℕ) → 0 < passes → passes
     (four (state_word (pos size) ∷ waiters_word 0 (size == 0) ∷ [])) []
 begins-latch mode size passes any few = record {
   core = subst (λ (z : List ℕ × ℤ × ℕ × Bool). IsLatchCore (record {
-      simple = is_simple mode;
-      size = size;
-      count = z.1;
-      word = z.2;
-      done = z.3;
-      owed = z.0;
-      history = [];
-      queue = (opened (is_simple mode) size passes).queue;
-    }))
+    simple = is_simple mode;
+    size = size;
+    count = z.1;
+    word = z.2;
+    done = z.3;
+    owed = z.0;
+    history = [];
+    queue = (opened (is_simple mode) size passes).queue;
+  }))
       (λ i. (
         sym (first-further passes any) i,
         sym (opens-count size) i,
@@ -362,12 +364,12 @@ latch-client mode size = record {
   steps = λ c t p k found has payload words log handed shows opens there paid suits low low'.
       steps-latch mode size c t p k found has payload words log shows opens there paid suits low;
   counts = λ c p may words log handed shows. record {
-      core = shows.core;
-      two_words = shows.two_words;
-      few_passes = shows.few_passes;
-      few_drawn = shows.few_drawn;
-      none_held = shows.none_held;
-    };
+    core = shows.core;
+    two_words = shows.two_words;
+    few_passes = shows.few_passes;
+    few_drawn = shows.few_drawn;
+    none_held = shows.none_held;
+  };
   hands = λ c from to mine theirs words log handed shows apart idle idle' has there.
       hands-latch mode size c from to mine theirs words log shows apart has there;
   shares = λ c from to many mine theirs words log handed shows apart idle idle' has there enough.
@@ -378,7 +380,8 @@ latch-client mode size = record {
   held_fits = λ c words log handed p has shows there.
       let none : has.held ≡ 0 = shows.none_held.at p has there in omega arith;
   reaches_few = λ c words log handed p shows owes.
-      let few = core-reaches_few (latch_shown mode size c words log) p shows.core owes in omega arith;
+      let few = core-reaches_few (latch_shown mode size c words log) p shows.core owes in
+      omega arith;
   begins_few = λ c words log handed p has cost payload shows idle there paid begun suits.
       let few =
       begins-latch_few mode size c words log p has cost payload shows idle there paid begun suits in

@@ -1,5 +1,5 @@
 -- The events of a latch: what each step on its words shows, by the word that it finds.
-use Rattle.std.specs.Prelude.{ℕ, ◌%◌, ◌^◌, not, List, [], ◌∷◌}
+use Rattle.std.specs.Prelude.{◌%◌, ◌^◌, not, List, [], ◌∷◌}
 use Rattle.cqs_core.specs.declared.doings.Doing.{Doing}
 use Rattle.cqs_core.specs.declared.doings.Doing.TheVariants as doing
 use Rattle.cqs_latch_object.specs.declared.entries.LatchEntry.{LatchEntry}

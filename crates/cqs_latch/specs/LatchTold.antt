@@ -1,5 +1,5 @@
 -- What each step of a latch on its words tells the pass that makes it.
-use Rattle.std.specs.Prelude.{◌≡◌, ℕ, ◌+◌, ◌≤◌, false, List, [], ◌++◌, ℤ, pos, negsuc, ◌≤ℤ◌}
+use Rattle.std.specs.Prelude.{◌≡◌, ℕ, false, List, [], ◌++◌, pos, negsuc, ◌≤ℤ◌}
 use Rattle.cqs_latch_object.specs.declared.entries.LatchEntry.{LatchEntry}
 use Rattle.cqs_latch_object.specs.LatchObject.{Latch, due}
 use Rattle.cqs_latch_object.specs.LatchEntries.{object_after}

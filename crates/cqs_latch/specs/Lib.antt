@@ -8,3 +8,6 @@ pub mod Causes
 pub mod Entries
 pub mod Answers
 pub mod Steps
+pub mod CountAnswers
+pub mod Owed
+pub mod Seats

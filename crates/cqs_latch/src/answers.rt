@@ -1,6 +1,6 @@
 //! What the calls of a latch answer.
 
-use cqs_rule::Wait;
+use cqs_rule::{Under, Wait};
 
 /// What became of a wait.
 #[derive(Drop)]
@@ -18,4 +18,27 @@ pub enum LatchPolled {
     Through,
     /// The caller still waits.
     Pending(Wait),
+}
+
+/// What became of a count down.
+#[derive(Drop)]
+pub enum Down {
+    /// So many are left.
+    Left(u32),
+    /// It was the last one: the latch is open, and each waiter was resumed.
+    Last,
+    /// It was the last one, and the latch is open. One resumption passed over as many numbers as
+    /// one call may: it is still owed, with those after it.
+    LastOwing(Owed),
+    /// The count was used up before.
+    Already,
+}
+
+/// The resumptions that are still owed of those that an opened latch is to make.
+#[derive(Drop)]
+pub struct Owed {
+    /// The one that was handed back.
+    pub(crate) under: Under,
+    /// How many come after it.
+    pub(crate) further: u32,
 }

@@ -4,12 +4,15 @@
 mod answers;
 mod callbacks;
 mod client;
+mod counting;
 mod events;
 mod latch;
+mod polling;
+mod seats;
 mod steps;
 mod waiting;
 
-pub use answers::{LatchPolled, LatchWait};
+pub use answers::{Down, LatchPolled, LatchWait, Owed};
 pub use client::LatchClient;
 pub use events::{Come, CountDown, Decide, LoadToCount, LoadToWait, Open, TurnBack};
 pub use latch::{Latch, LatchPass};

@@ -22,6 +22,7 @@ impl Latch {
         requires ready { IsReady (pass_view pass.old).facts }
         ensures belongs { IsMine self.now pass.new }
         ensures waited { HasWaited (pass_view pass.old) result (pass_view pass.new) }
+        ensures ready { IsReady (pass_view pass.new).facts }
     {
         let loaded = load_to_wait(&self.queue, pass);
         if !StateWord::is_above_zero(loaded) {

@@ -1,4 +1,4 @@
-use Rattle.std.proofs.Common.{pos, ◌≤ℤ◌, arith}
+use Rattle.std.proofs.Common.{arith}
 use Rattle.std.proofs.lemmas.Int.{ints}
 use Rattle.cqs_latch.proofs.LatchMoves.{open-moves}
 use Rattle.cqs_latch.proofs.steps.open.Goals as goal

@@ -1,8 +1,7 @@
-use Rattle.std.proofs.Common.{◌≡◌, ◌<◌, ◌≤◌, sym, ap, ◌∙◌, arith, true, false}
-use Rattle.cqs_rule.specs.Passes.{pass_view}
-use Rattle.cqs_rule.specs.declared.view.View.{View}
-use Rattle.cqs_words.specs.State.{is_above_zero}
-use Rattle.cqs_latch.proofs.WaitSteps.{Loaded, loaded, counted, used, worn, came, passed, waits}
+use Rattle.std.proofs.Common.{sym, ◌∙◌, arith, true, false, Ok, Err}
+use Rattle.cqs_rule.specs.declared.config.AcquireError.TheVariants.{Worn}
+use Rattle.cqs_latch.specs.declared.answers.LatchWait.TheVariants.{Passed}
+use Rattle.cqs_latch.proofs.WaitSteps.{loaded, counted, used, worn, came, passed, waits, waited-ready}
 use Rattle.cqs_latch.proofs.latch.Latch.wait.Goals as goal
 
 pub returns-then-not-is_above_zero-clause-waited :
@@ -40,3 +39,19 @@ returns-clause-waited c =
     c.next_wait.ensures.saw)
     (sym c.is_done.ensures ∙ c.if-is_done.false) c.come.ensures.saw)
     c.wait_in_line.ensures.waits c.wait_in_line.ensures.belongs.live.legal
+
+pub returns-then-not-is_above_zero-clause-ready : goal.returns-then-not-is_above_zero-clause-ready
+returns-then-not-is_above_zero-clause-ready c =
+    waited-ready _ _ (Ok Passed) (returns-then-not-is_above_zero-clause-waited c)
+
+pub returns-then-next_wait-limit-clause-ready : goal.returns-then-next_wait-limit-clause-ready
+returns-then-next_wait-limit-clause-ready c =
+    waited-ready _ _ (Err Worn) (returns-then-next_wait-limit-clause-waited c)
+
+pub returns-then-is_done-clause-ready : goal.returns-then-is_done-clause-ready
+returns-then-is_done-clause-ready c =
+    waited-ready _ _ (Ok Passed) (returns-then-is_done-clause-waited c)
+
+pub returns-clause-ready : goal.returns-clause-ready
+returns-clause-ready c =
+    waited-ready _ _ (Ok c.wait_in_line.result) (returns-clause-waited c)

@@ -1,0 +1,194 @@
+-- A count down is its steps: a load of the count, one taken from it, and where that was the last one, the done bit set.
+use Rattle.std.proofs.Common.{◌≡◌, ℕ, ◌+◌, ◌%◌, ◌^◌, ◌<◌, true, false, List, [], ◌∷◌, sym, refl, ap, ◌∙◌, subst, arith, if◌then◌else◌, pos, ◌-ℤ◌}
+use Rattle.std.proofs.lemmas.Int.{ints}
+use Rattle.cqs_core.specs.declared.doings.Doing.{Doing}
+use Rattle.cqs_core.specs.declared.doings.Doing.TheVariants as doing
+use Rattle.cqs_latch_object.specs.declared.entries.LatchEntry.{LatchEntry}
+use Rattle.cqs_latch_object.specs.declared.entries.LatchEntry.TheVariants as entry
+use Rattle.cqs_latch_object.specs.LatchShown.{left_of}
+use Rattle.cqs_latch_object.specs.LatchWords.{is_used, is_last, counted_entry, counted_doing}
+use Rattle.cqs_rule.specs.declared.view.Facts.{Facts}
+use Rattle.cqs_rule.specs.declared.view.Sighting.TheVariants.{Word}
+use Rattle.cqs_rule.specs.declared.view.View.{View}
+use Rattle.cqs_rule.specs.Events.{facts_moved}
+use Rattle.cqs_rule.specs.Layout.{client_place}
+use Rattle.cqs_rule.specs.Lists.{Has}
+use Rattle.cqs_rule.specs.Saw.{Saw}
+use Rattle.cqs_words.specs.State.{count_in, is_above_zero}
+use Rattle.cqs_words.specs.Waiters.{waiters_in}
+use Rattle.cqs_latch.specs.declared.answers.Down.TheVariants.{Left, Already}
+use Rattle.cqs_latch.specs.Calls.{IsReady, IsLegalOf}
+use Rattle.cqs_latch.specs.Causes.{WordWas}
+use Rattle.cqs_latch.specs.CountAnswers.{Opens, HasCounted}
+use Rattle.cqs_latch.specs.Latch.{latch_object}
+use Rattle.cqs_latch.specs.LatchEvents.{loads_to_count, counts_down, opens}
+use Rattle.cqs_latch.specs.LatchTold.{at_word, OnWord, ReadsCount, ReadsWaiters}
+use Rattle.cqs_latch.proofs.Along.{Along, along-first, along-and, word-first, word-then, word-later}
+use Rattle.cqs_latch.proofs.Rules.{call-rule_own}
+use Rattle.cqs_latch.proofs.WaitSteps.{above-used, none-above, none-used}
+
+-- a count above 0 of which so many are left
+last-is : (n left : ℕ) → count_in n ≡ pos (left + 1) → 0 < left → is_last (count_in n) ≡ false
+last-is n left is some = rw is (not-last left some)
+  where
+    not-last : (left : ℕ) → 0 < left → is_last (pos (left + 1)) ≡ false
+    not-last left some = grind (arith, ints)
+
+used-is : (n left : ℕ) → count_in n ≡ pos (left + 1) → is_used (count_in n) ≡ false
+used-is n left is = rw is (not-used left)
+  where
+    not-used : (left : ℕ) → is_used (pos (left + 1)) ≡ false
+    not-used left = grind (arith, ints)
+
+left-is : (n left : ℕ) → count_in n ≡ pos (left + 1) → left_of (count_in n -ℤ pos 1) ≡ left
+left-is n left is = rw is (one-less left)
+  where
+    one-less : (left : ℕ) → left_of (pos (left + 1) -ℤ pos 1) ≡ left
+    one-less left = grind (arith, ints)
+
+module _ {T : Type 0} where
+  -- The pass loaded the count as above 0.
+  pub record LoadedTo (v x : View LatchEntry T) : Type 0 where
+    pub along : Along v [] [] x
+    pub waits : x.facts.waits ≡ v.facts.waits
+    pub further : x.facts.has.further ≡ v.facts.has.further
+
+  pub loaded-to : (v x : View LatchEntry T) (n : ℕ) → is_above_zero n ≡ true
+      → OnWord 0 loads_to_count ReadsCount v n x → LoadedTo v x
+  loaded-to v x n above o =
+      let test : is_used (count_in n) ≡ false = above-used n above in
+      let none : (if is_used (count_in n) then entry.DownAlready v.number ∷ [] else []) ≡ [] =
+      ap (λ b. if b then entry.DownAlready v.number ∷ [] else []) test in
+      record {
+        along = along-first v x _ [] (Word (client_place 0) n ∷ []) (subst (λ es.
+            Saw latch_object v (facts_moved loads_to_count (client_place 0) (at_word v n)) es x) none o.saw) refl;
+        waits = ap (λ (f : Facts). f.waits) o.saw.facts_are;
+        further = ap (λ (f : Facts). f.has.further) o.saw.facts_are;
+      }
+
+  module _ (v : View LatchEntry T) (ready : IsReady v.facts) (own : Has v.number v.own) where
+    -- it loaded the count as used up
+    pub already-loaded : (x : View LatchEntry T) (n : ℕ) → is_above_zero n ≡ false
+        → OnWord 0 loads_to_count ReadsCount v n x → IsLegalOf x → HasCounted v Already x
+    already-loaded x n none o legal =
+        let test : is_used (count_in n) ≡ true = none-used n none in
+        let one : (if is_used (count_in n) then entry.DownAlready v.number ∷ [] else [])
+        ≡ entry.DownAlready v.number ∷ [] =
+        ap (λ b. if b then entry.DownAlready v.number ∷ [] else []) test in
+        let a : Along v (entry.DownAlready v.number ∷ []) (entry.DownAlready v.number ∷ []) x =
+        along-first v x _ (entry.DownAlready v.number ∷ []) (Word (client_place 0) n ∷ []) (subst (λ es.
+        Saw latch_object v (facts_moved loads_to_count (client_place 0) (at_word v n)) es x) one o.saw) refl in (
+          call-rule_own v x (entry.DownAlready v.number ∷ []) _ a.called (λ m. refl, tt) own legal,
+          record {
+            word = n;
+            before = o.before;
+            used = none-above n none;
+            found = subst (λ es. WordWas 0 ReadsCount v n o.before es x) one
+                (word-first 0 n loads_to_count ReadsCount v x o);
+          },
+          record {
+            ready = record {
+              idle = ap (λ (f : Facts). f.doing) o.saw.facts_are
+                  ∙ ap (λ b. if b then doing.Idle else doing.TryAt (count_in n)) test;
+              further = ap (λ (f : Facts). f.has.further) o.saw.facts_are ∙ ready.further;
+            };
+            waits_are = ap (λ (f : Facts). f.waits) o.saw.facts_are;
+          },
+        )
+
+    -- The pass took one from the count, which showed this entry and left the pass at this.
+    pub record Took (e : LatchEntry) (d : Doing) (n : ℕ) (y : View LatchEntry T) : Type 0 where
+      pub along : Along v (e ∷ []) (e ∷ []) y
+      pub before : List LatchEntry
+      pub found : WordWas 0 ReadsCount v n before (e ∷ []) y
+      pub doing : y.facts.doing ≡ d
+      pub waits : y.facts.waits ≡ v.facts.waits
+      pub further : y.facts.has.further ≡ 0
+
+    pub took : (e : LatchEntry) (d : Doing) (x y : View LatchEntry T) (n : ℕ) → LoadedTo v x
+        → OnWord 0 counts_down ReadsCount x n y → counted_entry v.number (count_in n) ≡ e
+        → counted_doing (count_in n) ≡ d → Took e d n y
+    took e d x y n l o entry_is doing_is =
+        let number : x.number ≡ v.number = l.along.called.same.number in
+        let one : counted_entry x.number (count_in n) ∷ [] ≡ e ∷ [] =
+        ap (λ p. counted_entry p (count_in n) ∷ []) number ∙ ap (λ z. z ∷ []) entry_is in
+        let here : Along x (e ∷ []) (e ∷ []) y =
+        along-first x y _ (e ∷ []) (Word (client_place 0) n ∷ []) (subst (λ es.
+        Saw latch_object x (facts_moved counts_down (client_place 0) (at_word x n)) es y) one o.saw) refl in
+        record {
+          along = along-and v x y [] [] _ _ l.along here;
+          before = o.before;
+          found = subst (λ es. WordWas 0 ReadsCount v n o.before es y) one
+              (word-then 0 n counts_down ReadsCount v x y [] [] l.along o);
+          doing = ap (λ (f : Facts). f.doing) o.saw.facts_are ∙ doing_is;
+          waits = ap (λ (f : Facts). f.waits) o.saw.facts_are ∙ l.waits;
+          further = ap (λ (f : Facts). f.has.further) o.saw.facts_are ∙ l.further ∙ ready.further;
+        }
+
+    -- it was used up between
+    pub already-taken : (x y : View LatchEntry T) (n : ℕ) → is_above_zero n ≡ false → LoadedTo v x
+        → OnWord 0 counts_down ReadsCount x n y → IsLegalOf y → HasCounted v Already y
+    already-taken x y n none l o legal =
+        let test : is_used (count_in n) ≡ true = none-used n none in
+        let t : Took (entry.DownAlready v.number) doing.Idle n y =
+        took (entry.DownAlready v.number) doing.Idle x y n l o (rw test refl) (rw test refl) in (
+          call-rule_own v y (entry.DownAlready v.number ∷ []) _ t.along.called (λ m. refl, tt) own legal,
+          record { word = n; before = t.before; used = none-above n none; found = t.found },
+          record { ready = record { idle = t.doing; further = t.further }; waits_are = t.waits },
+        )
+
+    -- some are left
+    pub some-left : (left : ℕ) (x y : View LatchEntry T) (n : ℕ) → count_in n ≡ pos (left + 1) → 0 < left
+        → LoadedTo v x → OnWord 0 counts_down ReadsCount x n y → IsLegalOf y → HasCounted v (Left left) y
+    some-left left x y n is some l o legal =
+        let used : is_used (count_in n) ≡ false = used-is n left is in
+        let last : is_last (count_in n) ≡ false = last-is n left is some in
+        let less : left_of (count_in n -ℤ pos 1) ≡ left = left-is n left is in
+        let t : Took (entry.DownLeft v.number left) doing.Idle n y =
+        took (entry.DownLeft v.number left) doing.Idle x y n l o (rw (used, last) (ap (entry.DownLeft v.number) less))
+        (rw (used, last) refl) in (
+          call-rule_own v y (entry.DownLeft v.number left ∷ []) _ t.along.called (λ m. refl, tt) own legal,
+          some,
+          record { word = n; before = t.before; left_is = is; found = t.found },
+          record { ready = record { idle = t.doing; further = t.further }; waits_are = t.waits },
+        )
+
+    -- it was the last one, and the pass is to open the latch
+    pub last-taken : (x y : View LatchEntry T) (n : ℕ) → count_in n ≡ pos 1 → LoadedTo v x
+        → OnWord 0 counts_down ReadsCount x n y → Took (entry.DownLast v.number) (doing.TryAt (pos 0)) n y
+    last-taken x y n is l o =
+        took (entry.DownLast v.number) (doing.TryAt (pos 0)) x y n l o (rw is refl) (rw is refl)
+
+    -- it sets the done bit
+    pub opens-so : (y z : View LatchEntry T) (n m many : ℕ) → count_in n ≡ pos 1 → many ≡ waiters_in m % 2 ^ 32
+        → Took (entry.DownLast v.number) (doing.TryAt (pos 0)) n y → OnWord 1 opens ReadsWaiters y m z → IsLegalOf z
+        → Opens v many z
+    opens-so y z n m many is many_is t o legal =
+        let number : y.number ≡ v.number = t.along.called.same.number in
+        let one : entry.Open y.number ∷ [] ≡ entry.Open v.number ∷ [] = ap (λ p. entry.Open p ∷ []) number in
+        let here : Along y (entry.Open v.number ∷ []) (entry.Open v.number ∷ []) z =
+        along-first y z _ (entry.Open v.number ∷ []) (Word (client_place 1) m ∷ []) (subst (λ es.
+        Saw latch_object y (facts_moved opens (client_place 1) (at_word y m)) es z) one o.saw) refl in
+        let all : Along v (entry.DownLast v.number ∷ entry.Open v.number ∷ []) (entry.Open v.number ∷ []) z =
+        along-and v y z (entry.DownLast v.number ∷ []) (entry.DownLast v.number ∷ []) _ _ t.along here in
+        record {
+          called = call-rule_own v z (entry.DownLast v.number ∷ entry.Open v.number ∷ []) _ all.called
+              (λ k. refl, (λ k. refl, tt)) own legal;
+          last = record {
+            word = n;
+            before = t.before;
+            left_is = is;
+            found = word-later 0 n ReadsCount v y z t.before _ _ _ t.found here;
+          };
+          opened = record {
+            word = m;
+            before = o.before;
+            many_is = many_is;
+            found = subst (λ es. WordWas 1 ReadsWaiters v m o.before es z) one
+                (word-then 1 m opens ReadsWaiters v y z _ _ t.along o);
+          };
+          idle = ap (λ (f : Facts). f.doing) o.saw.facts_are;
+          owes = ap (λ (f : Facts). f.has.further) o.saw.facts_are ∙ sym many_is;
+          payload = ap (λ (f : Facts). f.has.payload) o.saw.facts_are;
+          waits = ap (λ (f : Facts). f.waits) o.saw.facts_are ∙ t.waits;
+        }

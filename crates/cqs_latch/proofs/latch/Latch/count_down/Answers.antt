@@ -1,0 +1,89 @@
+use Rattle.std.proofs.Common.{◌≡◌, ◌+◌, ◌≤◌, sym, ap, ◌∙◌, arith, None, Some, pos}
+use Rattle.std.proofs.lemmas.Int.{ints}
+use Rattle.cqs_rule.specs.declared.view.Opening.{Opening}
+use Rattle.cqs_rule.specs.Passes.{pass_view, client_of}
+use Rattle.cqs_words.specs.State.{count_in}
+use Rattle.cqs_latch.specs.LatchMade.{count_of}
+use Rattle.cqs_latch.proofs.CountSteps.{loaded-to, already-loaded, already-taken, some-left, last-taken, opens-so}
+use Rattle.cqs_latch.proofs.WakeSteps.{wakes-after}
+use Rattle.cqs_latch.proofs.latch.Latch.count_down.Goals as goal
+
+pub returns-then-not-is_above_zero-clause-counted : goal.returns-then-not-is_above_zero-clause-counted
+returns-then-not-is_above_zero-clause-counted c =
+    already-loaded _ c.requires.ready c.requires.belongs.live.own _ _
+    (sym c.is_above_zero.ensures ∙ c.if-not-is_above_zero.true) c.load_to_count-loaded.ensures.saw
+    c.load_to_count-loaded.ensures.belongs.live.legal
+
+pub returns-then-not-is_above_zero-2-clause-counted :
+    goal.returns-then-not-is_above_zero-2-clause-counted
+returns-then-not-is_above_zero-2-clause-counted c =
+    already-taken _ c.requires.ready c.requires.belongs.live.own _ _ _
+    (sym c.is_above_zero-2.ensures ∙ c.if-not-is_above_zero-2.true)
+    (loaded-to _ _ _ (sym c.is_above_zero.ensures ∙ c.if-not-is_above_zero.false) c.load_to_count-loaded.ensures.saw)
+    c.count_down-found.ensures.saw c.count_down-found.ensures.belongs.live.legal
+
+pub left_after-left-requires-clause-few : goal.left_after-left-requires-clause-few
+left_after-left-requires-clause-few c =
+    let low = c.count_down-found.ensures.saw.reads.low in
+    let size : (pass_view c.count_down-found.new.pass).opening.size ≡ count_of (client_of c.args.self.now.queue) =
+    ap (λ (o : Opening). o.size) c.count_down-found.ensures.belongs.opening in
+    let few : count_of (client_of c.args.self.now.queue) ≤ 1048576 = (client_of c.args.self.now.queue).few in
+    omega (arith, ints, low, size, few)
+
+pub returns-then-left-gt0-clause-counted : goal.returns-then-left-gt0-clause-counted
+returns-then-left-gt0-clause-counted c =
+    some-left _ c.requires.ready c.requires.belongs.live.own c.left_after-left.result _ _ _ c.left_after-left.ensures
+    c.if-left-gt0.true
+    (loaded-to _ _ _ (sym c.is_above_zero.ensures ∙ c.if-not-is_above_zero.false) c.load_to_count-loaded.ensures.saw)
+    c.count_down-found.ensures.saw c.count_down-found.ensures.belongs.live.legal
+
+pub returns-in-None-clause-counted : goal.returns-in-None-clause-counted
+returns-in-None-clause-counted c =
+    let last : c.left_after-left.result ≡ 0 = omega (arith, c.if-left-gt0.false) in
+    let one : count_in c.count_down-found.result ≡ pos 1 =
+    c.left_after-left.ensures ∙ ap (λ n. pos (n + 1)) last in (
+      c.counted-waiters.result,
+      pass_view c.open.new.pass,
+      opens-so _ c.requires.ready c.requires.belongs.live.own (pass_view c.count_down-found.new.pass) _ _ _ _ one
+          c.counted-waiters.ensures
+          (last-taken _ c.requires.ready c.requires.belongs.live.own _ _ _ one
+          (loaded-to _ _ _ (sym c.is_above_zero.ensures ∙ c.if-not-is_above_zero.false)
+          c.load_to_count-loaded.ensures.saw) c.count_down-found.ensures.saw)
+          c.open.ensures.saw c.open.ensures.belongs.live.legal,
+      c.in-None.ensures.wakes,
+    )
+
+pub returns-in-Some-clause-counted : goal.returns-in-Some-clause-counted
+returns-in-Some-clause-counted c =
+    let last : c.left_after-left.result ≡ 0 = omega (arith, c.if-left-gt0.false) in
+    let one : count_in c.count_down-found.result ≡ pos 1 =
+    c.left_after-left.ensures ∙ ap (λ n. pos (n + 1)) last in (
+      c.counted-waiters.result,
+      pass_view c.open.new.pass,
+      opens-so _ c.requires.ready c.requires.belongs.live.own (pass_view c.count_down-found.new.pass) _ _ _ _ one
+          c.counted-waiters.ensures
+          (last-taken _ c.requires.ready c.requires.belongs.live.own _ _ _ one
+          (loaded-to _ _ _ (sym c.is_above_zero.ensures ∙ c.if-not-is_above_zero.false)
+          c.load_to_count-loaded.ensures.saw) c.count_down-found.ensures.saw)
+          c.open.ensures.saw c.open.ensures.belongs.live.legal,
+      c.in-Some.ensures.wakes,
+    )
+
+pub returns-then-not-is_above_zero-clause-ready : goal.returns-then-not-is_above_zero-clause-ready
+returns-then-not-is_above_zero-clause-ready c = (returns-then-not-is_above_zero-clause-counted c).2.ready
+
+pub returns-then-not-is_above_zero-2-clause-ready : goal.returns-then-not-is_above_zero-2-clause-ready
+returns-then-not-is_above_zero-2-clause-ready c = (returns-then-not-is_above_zero-2-clause-counted c).2.ready
+
+pub returns-then-left-gt0-clause-ready : goal.returns-then-left-gt0-clause-ready
+returns-then-left-gt0-clause-ready c = (returns-then-left-gt0-clause-counted c).3.ready
+
+pub returns-in-None-clause-ready : goal.returns-in-None-clause-ready
+returns-in-None-clause-ready c =
+    let all = returns-in-None-clause-counted c in
+    wakes-after all.0 all.1 _ None all.2.idle all.2.owes all.3
+
+pub returns-in-Some-clause-ready : goal.returns-in-Some-clause-ready
+returns-in-Some-clause-ready c =
+    let all = returns-in-Some-clause-counted c in
+    wakes-after all.0 all.1 _ (Some c.in-Some.owed) all.2.idle all.2.owes all.3

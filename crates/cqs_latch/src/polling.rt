@@ -1,0 +1,39 @@
+//! The look at a wait.
+
+ghost use Rattle.std.specs.Prelude.{◌≡◌, []};
+ghost use Rattle.cqs_latch.specs.Answers.{IsPolled};
+ghost use Rattle.cqs_latch.specs.Calls.{IsReady, IsMine, CallRule};
+ghost use Rattle.cqs_latch.specs.Entries.{polled_entries};
+ghost use Rattle.cqs_rule.specs.Passes.{pass_view};
+ghost use Rattle.cqs_rule.specs.Waits.{place_of, HasWait};
+
+use crate::answers::LatchPolled;
+use crate::client::LatchClient;
+use crate::latch::{Latch, LatchPass};
+use cqs_cell::look;
+use cqs_rule::{Polls, Wait};
+use cqs_words::CellState;
+
+impl Latch {
+    /// Looks whether the wait was served: one load.
+    #[inline]
+    pub fn poll(&self, pass: &mut LatchPass, wait: Wait) -> LatchPolled
+        requires belongs { IsMine self.now pass.old }
+        requires ready { IsReady (pass_view pass.old).facts }
+        requires has { HasWait (pass_view pass.old) wait }
+        ensures belongs { IsMine self.now pass.new }
+        ensures called { CallRule (pass_view pass.old)
+            (polled_entries (pass_view pass.old).number (place_of wait).index result) []
+            (pass_view pass.new) }
+        ensures polled { IsPolled wait (pass_view pass.old) result (pass_view pass.new) }
+        ensures ready { IsReady (pass_view pass.new).facts }
+    {
+        let at = self.queue.spend_wait(pass, wait);
+        let cell = look::<LatchClient, Polls>(&self.queue, pass, at);
+        match cell.state {
+            CellState::Resumed => LatchPolled::Through,
+            CellState::Waiter => LatchPolled::Pending(self.queue.wait_of(pass, at)),
+            _ => unreachable!(),
+        }
+    }
+}

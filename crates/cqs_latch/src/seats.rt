@@ -1,0 +1,65 @@
+//! How a pass makes another, and how two become one.
+
+ghost use Rattle.std.specs.Prelude.{◌≡◌, ◌≤◌, true, IsTrue, IsErr, IfOk, IfErr, OnErr, OnOk};
+ghost use mathlib.Core.Logic.{◌↔◌};
+ghost use Rattle.cqs_latch.specs.Calls.{IsReady, IsMine};
+ghost use Rattle.cqs_latch.specs.Latch.{latch_object};
+ghost use Rattle.cqs_latch.specs.Seats.{LookedOn, SeesAll};
+ghost use Rattle.cqs_rule.specs.Crew.{IsBetween, Came};
+ghost use Rattle.cqs_rule.specs.Passes.{pass_view, passes_of};
+ghost use Rattle.cqs_rule.specs.Seats.{IsBusy, HasMet};
+ghost use Rattle.cqs_rule.specs.Views.{made_in, live_in};
+
+use crate::latch::{Latch, LatchPass};
+use cqs_rule::{Crowd, MeetError};
+
+impl Latch {
+    /// A new pass, which has seen what this one has seen, and has done nothing.
+    pub fn split(&self, pass: &mut LatchPass) -> Result<LatchPass, Crowd>
+        requires belongs { IsMine self.now pass.old }
+        requires ready { IsReady (pass_view pass.old).facts }
+        ensures belongs { IsMine self.now pass.new }
+        ensures crowd { IsErr result
+            ↔ (passes_of self.now.queue ≤ made_in (pass_view pass.new).crew) }
+        ensures looked { LookedOn (pass_view pass.old) (pass_view pass.new) }
+        ensures ready { IsReady (pass_view pass.new).facts }
+        ensures kept { OnErr result ((pass_view pass.old).alone ≡ true
+            → (pass_view pass.new).alone ≡ true) }
+        ensures new_belongs { IfOk result (λ made. IsMine self.now made) }
+        ensures came { IfOk result
+            (λ made. Came latch_object (pass_view pass.new) (pass_view made)) }
+        ensures new_ready { IfOk result (λ made. IsReady (pass_view made).facts) }
+    {
+        self.queue.split(pass, 0)
+    }
+
+    /// The pass takes in the given one: it has seen what each of them had seen.
+    pub fn meet(&self, pass: &mut LatchPass, given: LatchPass) -> Result<(), (LatchPass, MeetError)>
+        requires belongs { IsMine self.now pass.old }
+        requires given_belongs { IsMine self.now given }
+        requires ready { IsReady (pass_view pass.old).facts }
+        requires between { IsBetween (pass_view given).facts }
+        ensures belongs { IsMine self.now pass.new }
+        ensures busy { IsErr result ↔ IsBusy (pass_view given).facts }
+        ensures back { IfErr result (λ refused. refused.0 ≡ given) }
+        ensures unchanged { OnErr result (pass.new ≡ pass.old) }
+        ensures met { OnOk result (HasMet pass.old given pass.new) }
+        ensures ready { IsReady (pass_view pass.new).facts }
+    {
+        self.queue.meet(pass, given)
+    }
+
+    /// Whether no other pass is there. Then this one has seen the whole history, and all others
+    /// rest.
+    pub fn sole(&self, pass: &mut LatchPass) -> bool
+        requires belongs { IsMine self.now pass.old }
+        ensures belongs { IsMine self.now pass.new }
+        ensures sole { IsTrue result ↔ (live_in (pass_view pass.new).crew ≡ 1) }
+        ensures alone { result ≡ (pass_view pass.new).alone }
+        ensures looked { LookedOn (pass_view pass.old) (pass_view pass.new) }
+        ensures ready { IsReady (pass_view pass.old).facts → IsReady (pass_view pass.new).facts }
+        ensures others { IsTrue result → SeesAll (pass_view pass.new) }
+    {
+        self.queue.sole(pass)
+    }
+}

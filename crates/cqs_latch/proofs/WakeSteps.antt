@@ -7,7 +7,8 @@ use Rattle.cqs_core.specs.QueueSteps.{QueueStep, serves, leaves, delegates, ends
 use Rattle.cqs_latch_object.specs.declared.entries.LatchEntry.{LatchEntry}
 use Rattle.cqs_resume.specs.declared.resumed.Resumed as resume
 use Rattle.cqs_resume.specs.declared.resumed.Resumed.TheVariants as resumed
-use Rattle.cqs_resume.specs.Begins.{Begun, further_passed_over}
+use Rattle.cqs_resume.specs.Begins.{Begun}
+use Rattle.cqs_resume.specs.Resumes.{most_after_first}
 use Rattle.cqs_resume.specs.Resumes.{Ended}
 use Rattle.cqs_rule.specs.declared.queue.tokens.Under as token
 use Rattle.cqs_rule.specs.declared.view.Facts.{Facts}
@@ -42,7 +43,7 @@ module _ {T : Type 0} where
 
   ended-fewer : (s : QueueStep) (state : CoreState) (k : ℕ) (ended : resume.Resumed) (v u : View LatchEntry T)
       → (b : Begun latch_object primitive_of 0 v ended u)
-      → Ended latch_object primitive_of s state further_passed_over (Some b.number) 0 k b.from u → OneFewer v u
+      → Ended latch_object primitive_of s state most_after_first (Some b.number) 0 k b.from u → OneFewer v u
   ended-fewer s state k ended v u b e = record {
     idle = ap (λ (f : Facts). f.doing) e.facts_are;
     further = ap (λ (f : Facts). f.has.further) e.facts_are ∙ ap (λ (f : Facts). f.has.further) b.drew.facts_are;
@@ -54,9 +55,9 @@ module _ {T : Type 0} where
       → Begun latch_object primitive_of 0 v ended u → OneFewer v u
   one-fewer (resumed.Served k) v u is b = ended-fewer serves state.Waiter k (resumed.Served k) v u b b.resumes
   one-fewer (resumed.Left k) v u is b = ⊎_elim
-      (λ (left : Ended latch_object primitive_of leaves state.Empty further_passed_over (Some b.number) 0 k b.from u).
+      (λ (left : Ended latch_object primitive_of leaves state.Empty most_after_first (Some b.number) 0 k b.from u).
       ended-fewer leaves state.Empty k (resumed.Left k) v u b left)
-      (λ (given : Ended latch_object primitive_of delegates state.Cancelling further_passed_over (Some b.number) 0 k
+      (λ (given : Ended latch_object primitive_of delegates state.Cancelling most_after_first (Some b.number) 0 k
       b.from u). ended-fewer delegates state.Cancelling k (resumed.Left k) v u b given)
       b.resumes
   one-fewer (resumed.Refused k) v u is b = ended-fewer ends_refused state.Refused k (resumed.Refused k) v u b b.resumes

@@ -197,8 +197,10 @@ steps-barrier parties c t p k found has payload words log handed shown opens the
       word = shown.word;
       barrier =
           subst (λ (z : List ℕ × List ℕ). IsBarrier (record after { held = z.0; owed = z.1 }))
-          (λ i. (held-after (row_of t) c.has p payload has there i,
-          owed-after (row_of t) c.has p payload has there i))
+          (λ i. (
+            held-after (row_of t) c.has p payload has there i,
+            owed-after (row_of t) c.has p payload has there i,
+          ))
           (step-keeps s t p k found shown.barrier (suiting t suits) opens
           (paid-row t c.has p payload (c.payloads k) has there paid suits));
     }

@@ -33,11 +33,7 @@ pub fn arrive_once(queue: &Queue<BarrierClient>, pass: &mut Pass<BarrierClient>)
 /// Loads the remaining number for a pass that is leaving a wait: where all have arrived its party
 /// counts as through, and else it is still leaving.
 #[tactic(auto, using(crate::proofs::WordFound::on_word))]
-pub fn look_to_leave(
-    queue: &Queue<BarrierClient>,
-    pass: &mut Pass<BarrierClient>,
-    wait: u64,
-) -> u64
+pub fn look_to_leave(queue: &Queue<BarrierClient>, pass: &mut Pass<BarrierClient>, wait: u64) -> u64
     requires belongs { IsOf queue.now pass.old }
     requires leaving { (pass_view pass.old).facts.doing ≡ Leaving wait }
     ensures belongs { IsOf queue.now pass.new }

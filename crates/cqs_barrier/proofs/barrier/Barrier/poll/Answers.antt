@@ -68,4 +68,3 @@ returns-in-Waiter-clause-polled c =
       pending-cell k _ _ found,
       pending-rests k _ _ c.requires.ready found,
     )
-

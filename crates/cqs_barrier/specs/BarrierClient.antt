@@ -247,7 +247,8 @@ begins-barrier parties passes some few any =
 
 -- parties that one pass gives and another gets are all still to arrive
 given-parties : {T : Type 0} (parties : ℕ) (c : Hidden) (from to many : ℕ)
-    (mine theirs gave got : Has) (words : List ℕ) (log : List BarrierEntry) (log_handed : List (ℕ × T))
+    (mine theirs gave got : Has) (words : List ℕ) (log : List BarrierEntry)
+    (log_handed : List (ℕ × T))
     → ShowsBarrier parties c words log log_handed → from ≢ to
     → slice_get c.queue.doing from ≡ Some doing.Idle
     → slice_get c.queue.doing to ≡ Some doing.Idle

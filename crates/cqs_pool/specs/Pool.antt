@@ -1,5 +1,5 @@
--- The pool as a client: it has no words; its elements are values in cells, what passes bring, and
--- what they have in hand.
+-- The pool as a client: it uses no words, and shows the same whatever they are; its elements are
+-- values in cells, what passes bring, and what they have in hand.
 use Rattle.std.specs.Prelude.{◌≡◌, ◌≢◌, ℕ, false, map, List, [], ◌∷◌}
 use Rattle.cqs_core.specs.declared.cells.CoreCell.{CoreCell}
 use Rattle.cqs_core.specs.declared.cells.CoreState.TheVariants as state
@@ -66,7 +66,7 @@ pool_primitive size = record {
   opening = record { size = size; mode = Smart };
   shows = shows_pool size;
   manner = pool_manner;
-  words = [];
+  words = 0 ∷ [];
   values = size;
   held = 0;
   opens = λ has slot. ⊥;

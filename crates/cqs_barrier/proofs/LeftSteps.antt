@@ -51,6 +51,7 @@ module _ {T : Type 0} where
         opening = refl;
       };
       handed = ([], sym (append-nil v.handed));
+      unlaid = λ j bare. bare;
       homes = ([], sym (append-nil v.homes));
       sole = λ a. refl;
     };

@@ -159,6 +159,7 @@ ran-none v = record {
       opening = refl;
     };
     handed = ([], sym (append-nil v.handed));
+    unlaid = λ j bare. bare;
     homes = ([], sym (append-nil v.homes));
     sole = λ a. refl;
   };

@@ -52,6 +52,7 @@ module _ {T : Type 0} where
     ends = sym (append-nil w.seen);
     same = c.same;
     handed = c.handed;
+    unlaid = c.unlaid;
     homes = c.homes;
     sole = c.sole;
   }

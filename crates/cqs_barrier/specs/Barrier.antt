@@ -49,6 +49,7 @@ barrier_object = record {
   legal = λ opening. IsLegal opening.size;
   entries = λ step p k payload. step_entries step p k;
   gains = no_more;
+  most = λ opening. opening.size;
 }
 
 -- a barrier asks where a wait leaves, its passes come to a door, and the last owes a resumption for

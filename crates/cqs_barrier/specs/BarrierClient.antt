@@ -323,6 +323,9 @@ barrier-client parties some low = record {
   slots = record {
     apart = λ c words log handed p q k mine theirs shown has there o o'. absurd o;
     steps = λ s has payload k suits o. absurd o;
+    few = λ c words log handed p has shown there.
+        barrier-held_few (barrier_shown parties c words log) p has.held shown.barrier
+        (held-at c.has p has there);
     gathers = λ mine theirs k o. ⊎_elim (λ a. absurd a) (λ a. absurd a) o;
     hands_in = λ c words log handed k value shown.
         record { word = shown.word; barrier = shown.barrier };

@@ -38,6 +38,7 @@ module _ {E S : Type 0} (object : Object E) where
         opening = refl;
       };
       handed = ([], sym (append-nil v.handed));
+      unlaid = λ j bare. bare;
       homes = ([], sym (append-nil v.homes));
       sole = λ a. refl;
     };

@@ -61,6 +61,7 @@ latch_object = record {
   legal = λ opening. IsLegal (is_simple opening.mode) opening.size;
   entries = λ step p k payload. step_entries step p k;
   gains = nothing_more;
+  most = λ opening. 0;
 }
 
 -- In smart mode the latch is asked where a wait leaves; in simple mode a wait leaves at once. Its

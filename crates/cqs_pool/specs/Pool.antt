@@ -54,6 +54,7 @@ pool_object = record {
   legal = λ opening. IsLegal opening.size;
   entries = step_entries;
   gains = in_hand;
+  most = λ opening. 0;
 }
 
 -- a wait that leaves needs nobody's answer, a taker draws as it comes, and a put is paid with an

@@ -43,6 +43,7 @@ module _ {E S : Type 0} (object : Object E) where
     ends = s.seen;
     same = s.same;
     handed = s.handed;
+    unlaid = s.unlaid;
     homes = s.homes;
     sole = λ a. ap (λ l. l ++ es) (s.sole a);
   }
@@ -63,6 +64,7 @@ module _ {E S : Type 0} (object : Object E) where
     ends = s.seen;
     same = same-then v u w c.same s.same;
     handed = prefix-then v.handed u.handed w.handed c.handed s.handed;
+    unlaid = λ j bare. s.unlaid j (c.unlaid j bare);
     homes = prefix-then v.homes u.homes w.homes c.homes s.homes;
     sole = λ a. (λ i. c.sole a i ++ (s.sole (c.same.alone ∙ a) i ++ fs));
   }
@@ -80,6 +82,7 @@ module _ {E S : Type 0} (object : Object E) where
     facts_are = q.facts_are;
     same = same-then v u w p.same q.same;
     handed = prefix-then v.handed u.handed w.handed p.handed q.handed;
+    unlaid = λ j bare. q.unlaid j (p.unlaid j bare);
     homes = prefix-then v.homes u.homes w.homes p.homes q.homes;
     sole = λ a. (λ i. p.sole a i ++ q.sole (p.same.alone ∙ a) i);
   }
@@ -97,6 +100,7 @@ module _ {E S : Type 0} (object : Object E) where
     ends = d.ends;
     same = same-then v u w c.same d.same;
     handed = prefix-then v.handed u.handed w.handed c.handed d.handed;
+    unlaid = λ j bare. d.unlaid j (c.unlaid j bare);
     homes = prefix-then v.homes u.homes w.homes c.homes d.homes;
     sole = λ a. (λ i. c.sole a i ++ d.sole (c.same.alone ∙ a) i);
   }

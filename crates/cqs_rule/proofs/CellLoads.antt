@@ -134,8 +134,14 @@ quiet misses state.Cancelled e = absurd (cc)
 quiet misses state.Refused e = refl
 
 kept : (gains : ℕ → ℕ) (k n : ℕ) (f : Facts) → CarriesLearned gains Nothing f (facts_watched k n f)
-kept gains k n f =
-    record { held = refl; owes = refl; waits = omega arith; further = refl; spares = refl; open_slot = refl }
+kept gains k n f = record {
+  held = refl;
+  owes = refl;
+  waits = omega arith;
+  further = refl;
+  spares = refl;
+  open_slot = refl;
+}
 
 polls-waiter : ShowsStep polls state.Waiter (looks pends)
 polls-waiter = record {

@@ -137,7 +137,6 @@ pub lessened-spares : (gives : ℕ) (h : OwnHas) → (lessened gives h).spares �
 lessened-spares zero h = refl
 lessened-spares (suc n) h = refl
 
--- what holds of a live view holds of it with less
 -- a pass that gives nothing keeps its slots, and one that gives some has none
 keeps-less : {E S : Type 0} (opens : OwnHas → ℕ → Type 0) (gives : ℕ) (v : View E S) → MayGive opens gives v.facts
     → Keeps opens v (facts_lessened gives v.facts)
@@ -145,6 +144,7 @@ keeps-less opens zero v may = keeps-all opens v (facts_lessened zero v.facts) re
 keeps-less opens (suc n) v may =
     keeps-all opens v (facts_lessened (suc n) v.facts) refl (λ k o. absurd (may.shut (omega arith) k o))
 
+-- what holds of a live view holds of it with less
 live-lessened : {E S : Type 0} (object : Object E) (v : View E S) (gives : ℕ) → IsLive object v
     → IsLive object (record v { facts = facts_lessened gives v.facts })
 live-lessened object v gives l = record {
@@ -152,6 +152,7 @@ live-lessened object v gives l = record {
   unnamed = l.unnamed;
   own = l.own;
   held = omega (arith, l.held, lessened-held gives v.facts.has);
+  few = omega (arith, l.few, lessened-held gives v.facts.has);
   inside = record {
     number = l.inside.number;
     waits = l.inside.waits;
@@ -168,6 +169,7 @@ live-before object v w l = record {
   unnamed = l.unnamed;
   own = l.own;
   held = l.held;
+  few = l.few;
   inside = record {
     number = l.inside.number;
     waits = l.inside.waits;
@@ -649,6 +651,7 @@ module _ {E S : Type 0} (object : Object E) (primitive : Primitive E S) (passes 
                     opening = refl;
                   };
                   handed = base.handed;
+                  unlaid = base.unlaid;
                   homes = base.homes;
                   sole = base.sole;
                 };
@@ -1233,11 +1236,15 @@ module _ {E S : Type 0} (object : Object E) (primitive : Primitive E S) (passes 
             own = has_left v.number v.own v.others k.own;
             held = client.held_fits r.hidden (client_words s.words) r.log r.handed v.number v.facts.has r.shown
                 k.stands.has;
+            few = subst (λ z. v.facts.has.held ≤ object.most z) (sym k.opening_is)
+                (client.slots.few r.hidden (client_words s.words) r.log r.handed v.number v.facts.has r.shown
+                k.stands.has);
             inside = is-inside w (cell_count passes limit primitive.values) k.cells_are
                 (inside-of passes limit primitive.values r.hidden v.number v.facts.doing r.room
                 (client.sound r.hidden (client_words s.words) r.log r.handed r.shown) k.stands.doing)
                 (λ j h. let drawn = (k.stands.waits j h).drawn in let g = r.room.ground in omega arith)
                 k.stands.once k.payload_fits;
           },
+          refl,
         ),
       )

@@ -14,10 +14,10 @@ use Rattle.cqs_rule.specs.Object.{Object, Primitive}
 use Rattle.cqs_rule.specs.Ruled.{Ruled}
 use Rattle.cqs_rule.specs.Slots.{laid_in}
 use Rattle.cqs_rule.specs.SlotSteps.{GivesAway, HandedIn, given_by}
-use Rattle.cqs_rule.proofs.Handing.{hand-in, giving}
+use Rattle.cqs_rule.proofs.Handing.{hand-in, giving, off-here}
 use Rattle.cqs_rule.proofs.Lists.{set_there, longer}
 use Rattle.cqs_rule.proofs.Moves.{moved}
-use Rattle.cqs_rule.proofs.Swaps.{set_twice, saw-given}
+use Rattle.cqs_rule.proofs.Swaps.{set_twice, saw-given, none-off}
 
 module _ {C E S : Type 0} (object : Object E) (primitive : C → Primitive E S) (passes limit : ℕ) (x : C)
     (client : IsClient object (primitive x)) (event : Event E) (made : ℕ → Bool) where
@@ -51,13 +51,18 @@ module _ {C E S : Type 0} (object : Object E) (primitive : C → Primitive E S) 
           views = views;
         })) (set_twice s.views id g w) m.1,
         (
-          record { saw = saw-given object v g w told.0.saw refl more; was = told.0.was },
+          record { saw = saw-given object v g w told.0.saw refl more (none-off slot v.laid); was = told.0.was },
           refl,
           told.2,
           λ z q.
               let same : y ≡ z = same_Some y z (same_Some (Some y) (Some z) (sym give.laid ∙ q)) in
               subst (λ u. HandedIn slot u v w) same
-              (record { before = r.handed; is = m.3 ∙ t.1; old = known.sees.handed_in }),
+              (record {
+                before = r.handed;
+                is = m.3 ∙ t.1;
+                old = known.sees.handed_in;
+                off = ap (λ l. laid_in l slot) m.4 ∙ off-here slot v.laid;
+              }),
         ),
       )
 

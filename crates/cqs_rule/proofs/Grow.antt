@@ -321,6 +321,7 @@ module _ {E S : Type 0} (object : Object E) (primitive : Primitive E S) (passes 
           opening = refl;
         };
         handed = k.sees.handed_in;
+        unlaid = λ j bare. bare;
         homes = ([], sym (append-nil v.homes));
         sole = λ a. nothing_more v.seen k.sees.seen.0 ((k.alone a).2 ∙ k.sees.seen.1);
       }
@@ -329,10 +330,11 @@ module _ {E S : Type 0} (object : Object E) (primitive : Primitive E S) (passes 
   pub live : (s : State (Option S) (View E S)) (r : R s) (id : ℕ) (v : View E S) (es : List E) (facts : Facts)
       → get_elem? s.views id ≡ some v → 0 < v.weight → object.legal primitive.opening (r.log ++ es)
       → NamesOnly object.names v.number es
-      → facts.has.held < 2 ^ 32 → number_at facts.doing < cells_of → ((n : ℕ) → Has n facts.waits → n < cells_of)
+      → facts.has.held < 2 ^ 32 → facts.has.held ≤ object.most primitive.opening
+      → number_at facts.doing < cells_of → ((n : ℕ) → Has n facts.waits → n < cells_of)
       → IsDistinct facts.waits → facts.has.payload < 2 ^ 20
       → IsLive object (grown v facts (r.log ++ es) r.handed)
-  live s r id v es facts here alive legal silent fits inside waits once owed =
+  live s r id v es facts here alive legal silent fits most inside waits once owed =
       let k = r.each_view id v here alive in
       let mine : Has v.number (all_own v) = has_left v.number v.own v.others k.own in
       let low : v.number < r.made = k.below v.number mine in
@@ -343,5 +345,6 @@ module _ {E S : Type 0} (object : Object E) (primitive : Primitive E S) (passes 
             part_more object.names n r.log es (silent n (λ same. absurd (omega arith))) ∙ r.unnamed n (omega arith);
         own = k.own;
         held = fits;
+        few = subst (λ z. facts.has.held ≤ object.most z) (sym k.opening_is) most;
         inside = is-inside (grown v facts (r.log ++ es) r.handed) cells_of k.cells_are inside waits once owed;
       }

@@ -4,6 +4,7 @@ use Rattle.std.specs.Prelude.{slice_index, slice_set}
 use Rattle.std.proofs.lemmas.List.{append-nil}
 use Rattle.std.proofs.lemmas.Option.{same_Some}
 use mathlib.Core.Option.{some}
+use mathlib.Core.Option as maybe
 use mathlib.Core.Logic.{dite}
 use native.Mathlib.Decide.{ℕ_discrete}
 use lib.ListN.{get_elem?}
@@ -21,7 +22,7 @@ use Rattle.cqs_rule.specs.Ruled.{Ruled, Knows, IsKept, cell_count}
 use Rattle.cqs_rule.specs.Segments.{KnowsSegments}
 use Rattle.cqs_rule.specs.Slots.{laid_in, taken_off, or_else, handed_in, MayOpen, Shelf}
 use Rattle.cqs_rule.specs.Views.{all_own, weight, Tip}
-use Rattle.cqs_rule.proofs.Grow.{spent-set, still-apart, still-kept}
+use Rattle.cqs_rule.proofs.Grow.{spent-set, stands-out, still-apart}
 use Rattle.cqs_rule.proofs.Lists.{set_there, one_there, set_all, total_set, two_of, longer, has_left}
 use Rattle.cqs_rule.proofs.Shelves.{back}
 
@@ -67,17 +68,23 @@ module _ {S : Type 0} where
   handed-else (x ∷ xs) k j y apart =
       ap (λ z. or_else z (if x.0 == j then Some x.1 else None)) (handed-else xs k j y apart)
 
+-- the view with another slot open, other values seen to be handed in, and other things laid into slots
+abbrev pub turned : {E S : Type 0} → View E S → Option ℕ → List (ℕ × S) → List (ℕ × Option S) → View E S
+turned v out handed laid =
+    record v { facts = record v.facts { open_slot = out }; handed = handed; laid = laid }
+
 module _ {E S : Type 0} (object : Object E) where
   -- more is handed in
-  knows-more : (c : Hidden) (log : List E) (handed more : List (ℕ × S)) (made live passes limit cells : ℕ)
-      (opening : Opening) (u : View E S) → Knows object c log handed made live passes limit cells opening u
-      → Knows object c log (handed ++ more) made live passes limit cells opening u
-  knows-more c log handed more made live passes limit cells opening u k = record {
+  knows-more : (c : Hidden) (log : List E) (handed handed' : List (ℕ × S)) (made live passes limit cells : ℕ)
+      (opening : Opening) (u : View E S) → ((h : List (ℕ × S)) → IsPrefix h handed → IsPrefix h handed')
+      → Knows object c log handed made live passes limit cells opening u
+      → Knows object c log handed' made live passes limit cells opening u
+  knows-more c log handed handed' made live passes limit cells opening u more k = record {
     sees = record {
       seen = k.sees.seen;
       other = k.sees.other;
-      handed_in = longer u.handed handed more k.sees.handed_in;
-      other_handed_in = longer u.other_handed handed more k.sees.other_handed_in;
+      handed_in = more u.handed k.sees.handed_in;
+      other_handed_in = more u.other_handed k.sees.other_handed_in;
       mine = k.sees.mine;
       theirs = k.sees.theirs;
     };
@@ -97,18 +104,18 @@ module _ {E S : Type 0} (object : Object E) where
     payload_fits = k.payload_fits;
   }
 
-  -- by the pass itself
-  knows-given : (c : Hidden) (log : List E) (handed : List (ℕ × S)) (h : ℕ × S) (made live passes limit cells : ℕ)
-      (opening : Opening) (v : View E S) (laid : List (ℕ × Option S))
+  -- the pass sees more values handed in, and turns its slots
+  knows-turned : (c : Hidden) (log : List E) (handed : List (ℕ × S)) (made live passes limit cells : ℕ)
+      (opening : Opening) (v : View E S) (out : Option ℕ) (h : List (ℕ × S)) (laid : List (ℕ × Option S))
+      → IsPrefix h handed
       → Knows object c log handed made live passes limit cells opening v
-      → Knows object c log (handed ++ h ∷ []) made live passes limit cells opening
-      (record v { handed = handed ++ h ∷ []; laid = laid })
-  knows-given c log handed h made live passes limit cells opening v laid k = record {
+      → Knows object c log handed made live passes limit cells opening (turned v out h laid)
+  knows-turned c log handed made live passes limit cells opening v out h laid seen k = record {
     sees = record {
       seen = k.sees.seen;
       other = k.sees.other;
-      handed_in = ([], sym (append-nil (handed ++ h ∷ [])));
-      other_handed_in = longer v.other_handed handed (h ∷ []) k.sees.other_handed_in;
+      handed_in = seen;
+      other_handed_in = k.sees.other_handed_in;
       mine = k.sees.mine;
       theirs = k.sees.theirs;
     };
@@ -116,7 +123,7 @@ module _ {E S : Type 0} (object : Object E) where
     light = k.light;
     parted = k.parted;
     own = k.own;
-    stands = k.stands;
+    stands = stands-out c v.number v.facts out k.stands;
     resting = k.resting;
     second = λ two. let t = k.second two in
         record { own = t.own; stands = t.stands; resting = t.resting; payload_fits = t.payload_fits };
@@ -156,24 +163,16 @@ module _ {E S : Type 0} (object : Object E) (primitive : Primitive E S) (passes 
           let two = two_of weight s.views i j u v apart here there in
           let l = r.crew.live_is in absurd (omega arith))
 
-  -- what lies in the slot k when y is handed in
-  abbrev lying : (ℕ → Option S) → ℕ → S → ℕ → Option S
-  lying lies k y j = if k == j then Some y else lies j
-
-  -- the view that hands in y
-  abbrev pub giving : View E S → List (ℕ × S) → ℕ → S → View E S
-  giving v handed k y = record v { handed = handed ++ (k, y) ∷ []; laid = taken_off k v.laid }
-
-  -- the value stands where it is: laid by the pass, or in the slot that it has open and where it laid nothing
-  abbrev pub IsThere : View E S → ℕ → S → Type 0
-  IsThere v k y = (laid_in v.laid k ≡ Some (Some y)) ⊎ ((v.facts.open_slot ≡ Some k) × (laid_in v.laid k ≡ None))
-
-  -- the rule where the value is handed in, before any word changes
-  pub hand-in : (s : State (Option S) (View E S)) (r : R s) (id : ℕ) (v : View E S) (k : ℕ) (y : S)
-      → get_elem? s.views id ≡ some v → 0 < v.weight → IsThere v k y
-      → (t : R (record { words = s.words; homes = s.homes; views = set s.views id (giving v r.handed k y) }))
-      × (t.handed ≡ r.handed ++ (k, y) ∷ []) × (t.shelf.lies k ≡ Some y)
-  hand-in s r id v k y here alive there = (
+  -- the rule where a view turns its slots, and no word changes
+  pub reshelf : (s : State (Option S) (View E S)) (r : R s) (id : ℕ) (v : View E S) (out : Option ℕ)
+      (h handed : List (ℕ × S)) (laid : List (ℕ × Option S)) (homes : List (maybe.Option (Option S)))
+      → get_elem? s.views id ≡ some v → 0 < v.weight
+      → ((u : List (ℕ × S)) → IsPrefix u r.handed → IsPrefix u handed) → IsPrefix h handed
+      → primitive.shows r.hidden (client_words s.words) r.log handed
+      → (shelf : Shelf primitive.opens handed r.live homes (set s.views id (turned v out h laid)))
+      → (t : R (record { words = s.words; homes = homes; views = set s.views id (turned v out h laid) }))
+      × (t.handed ≡ handed) × ((k : ℕ) → t.shelf.lies k ≡ shelf.lies k)
+  reshelf s r id v out h handed laid homes here alive more seen shown shelf = (
     record {
       hidden = r.hidden;
       log = r.log;
@@ -193,50 +192,35 @@ module _ {E S : Type 0} (object : Object E) (primitive : Primitive E S) (passes 
       idle_words = record { none = r.idle_words.none };
       room = r.room;
       door = r.door;
-      shown = client.slots.hands_in r.hidden (client_words s.words) r.log r.handed k y r.shown;
+      shown = shown;
       each_view = set_all P s.views id w
-          (λ live. knows-given object r.hidden r.log r.handed (k, y) r.made r.live passes limit
-          (cell_count passes limit primitive.values) primitive.opening v (taken_off k v.laid)
-          (r.each_view id v here alive))
-          (λ j u apart at live. knows-more object r.hidden r.log r.handed ((k, y) ∷ []) r.made r.live passes limit
-          (cell_count passes limit primitive.values) primitive.opening u (r.each_view j u at live));
+          (λ live. knows-turned object r.hidden r.log handed r.made r.live passes limit
+          (cell_count passes limit primitive.values) primitive.opening v out h laid seen
+          (knows-more object r.hidden r.log r.handed handed r.made r.live passes limit
+          (cell_count passes limit primitive.values) primitive.opening v more (r.each_view id v here alive)))
+          (λ j u apart at live. knows-more object r.hidden r.log r.handed handed r.made r.live passes limit
+          (cell_count passes limit primitive.values) primitive.opening u more (r.each_view j u at live));
       apart = still-apart object primitive passes limit s.views id v w here refl r.apart;
       spent = spent-set object primitive passes limit s.views id w alive r.spent;
       unnamed = r.unnamed;
       kept = λ n low. kept-set n (r.kept n low);
       unused = r.unused;
       tip = tip-set r.tip;
-      shelf = record {
-        lies = lying r.shelf.lies k y;
-        home = home;
-        opened = set_all (λ j u. 0 < u.weight → (i : ℕ) → u.facts.open_slot ≡ Some i
-            → MayOpen primitive.opens r.live u i) s.views id w
-            (λ live i out. r.shelf.opened id v here alive i out)
-            (λ j u apart at live i out. r.shelf.opened j u at live i out);
-        laid = set_all L s.views id w mine-laid others-laid;
-        last = last;
-      };
+      shelf = shelf;
       segments = r.segments;
       each_segment = set_all (λ j u. KnowsSegments r.segments u) s.views id w
           (record { homes = (r.each_segment id v here).homes }) (λ j u apart at. r.each_segment j u at);
     },
     refl,
-    chosen k k (Some y) (r.shelf.lies k) refl,
+    λ k. refl,
   )
     where
-      handed : List (ℕ × S)
-      handed = r.handed ++ (k, y) ∷ []
-
       w : View E S
-      w = giving v r.handed k y
+      w = turned v out h laid
 
       P : ℕ → View E S → Type 0
       P j u = 0 < u.weight → Knows object r.hidden r.log handed r.made r.live passes limit
           (cell_count passes limit primitive.values) primitive.opening u
-
-      L : ℕ → View E S → Type 0
-      L j u = 0 < u.weight → (i : ℕ) (x : Option S) → laid_in u.laid i ≡ Some x
-          → (lying r.shelf.lies k y i ≡ x) × primitive.opens u.facts.has i × (i < length s.homes)
 
       is-view : (j : ℕ) (u : View E S) → get_elem? s.views j ≡ some u → j ≡ id → u ≡ v
       is-view j u at same = one_there s.views id u v (subst (λ i. get_elem? s.views i ≡ some u) same at) here
@@ -276,6 +260,39 @@ module _ {E S : Type 0} (object : Object E) (primitive : Primitive E S) (passes 
             live = old.live;
             sees = old.sees;
           })
+
+  -- what lies in the slot k when y is handed in
+  abbrev lying : (ℕ → Option S) → ℕ → S → ℕ → Option S
+  lying lies k y j = if k == j then Some y else lies j
+
+  -- the view that hands in y
+  abbrev pub giving : View E S → List (ℕ × S) → ℕ → S → View E S
+  giving v handed k y = record v { handed = handed ++ (k, y) ∷ []; laid = taken_off k v.laid }
+
+  -- the value stands where it is: laid by the pass, or in the slot that it has open and where it laid nothing
+  abbrev pub IsThere : View E S → ℕ → S → Type 0
+  IsThere v k y = (laid_in v.laid k ≡ Some (Some y)) ⊎ ((v.facts.open_slot ≡ Some k) × (laid_in v.laid k ≡ None))
+
+  -- the rule where the value is handed in, before any word changes
+  pub hand-in : (s : State (Option S) (View E S)) (r : R s) (id : ℕ) (v : View E S) (k : ℕ) (y : S)
+      → get_elem? s.views id ≡ some v → 0 < v.weight → IsThere v k y
+      → (t : R (record { words = s.words; homes = s.homes; views = set s.views id (giving v r.handed k y) }))
+      × (t.handed ≡ r.handed ++ (k, y) ∷ []) × (t.shelf.lies k ≡ Some y)
+  hand-in s r id v k y here alive there =
+      let t = reshelf s r id v v.facts.open_slot handed handed (taken_off k v.laid) s.homes here alive
+      (λ u before. longer u r.handed ((k, y) ∷ []) before) ([], sym (append-nil handed))
+      (client.slots.hands_in r.hidden (client_words s.words) r.log r.handed k y r.shown) shelf in
+      (t.0, t.1, t.2 k ∙ chosen k k (Some y) (r.shelf.lies k) refl)
+    where
+      handed : List (ℕ × S)
+      handed = r.handed ++ (k, y) ∷ []
+
+      w : View E S
+      w = giving v r.handed k y
+
+      L : ℕ → View E S → Type 0
+      L j u = 0 < u.weight → (i : ℕ) (x : Option S) → laid_in u.laid i ≡ Some x
+          → (lying r.shelf.lies k y i ≡ x) × primitive.opens u.facts.has i × (i < length s.homes)
 
       -- the pass may open the slot
       opener : MayOpen primitive.opens r.live v k
@@ -334,3 +351,15 @@ module _ {E S : Type 0} (object : Object E) (primitive : Primitive E S) (passes 
           (back primitive.opens s.views id v w (λ u. laid_in u.laid j ≡ None) here alive
           (λ bare. sym (off-else k j v.laid apart) ∙ bare) none)
           ∙ sym (handed-else r.handed k j y apart)))
+
+      shelf : Shelf primitive.opens handed r.live s.homes (set s.views id w)
+      shelf = record {
+        lies = lying r.shelf.lies k y;
+        home = home;
+        opened = set_all (λ j u. 0 < u.weight → (i : ℕ) → u.facts.open_slot ≡ Some i
+            → MayOpen primitive.opens r.live u i) s.views id w
+            (λ live i out. r.shelf.opened id v here alive i out)
+            (λ j u apart at live i out. r.shelf.opened j u at live i out);
+        laid = set_all L s.views id w mine-laid others-laid;
+        last = last;
+      }

@@ -92,6 +92,7 @@ module _ {C E S : Type 0} (object : Object E) (primitive : C → Primitive E S) 
       × Ruled object (primitive x) passes limit
       (stepped s (client_place i) (f (slice_index s.words (client_place i))) id me.1 w keeps)
       × Tells (client_place i) me (slice_index s.words (client_place i)) (w, me.1) × (w.handed ≡ r.handed)
+      × (w.laid ≡ me.0.laid)
   moved slots id me i f may few law s r homes here small =
       let one = may.one in
       let v = me.0 in let p = v.number in let facts = v.facts in let c = r.hidden in
@@ -192,6 +193,7 @@ module _ {C E S : Type 0} (object : Object E) (primitive : C → Primitive E S) 
           refl,
           done.2,
         ),
+        refl,
         refl,
       )
 

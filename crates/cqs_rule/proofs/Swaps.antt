@@ -1,7 +1,7 @@
 -- A slot is taken from its home, and put back.
 use Rattle.std.proofs.Common.{◌≡◌, ◌≢◌, ◌⊎◌, ℕ, ◌+◌, ◌<◌, ◌≤◌, ◌^◌, ◌==◌, Bool, true, false, List, [], ◌∷◌, ◌++◌, length, set, sym, refl, ap, ◌∙◌, subst, ⊎_elim, inl, inr, arith, length-set, Option, Some, None, if◌then◌else◌, zero, suc, append_assoc}
 use Rattle.std.specs.Prelude.{slice_index, slice_set}
-use Rattle.std.proofs.lemmas.List.{append-nil}
+use Rattle.std.proofs.lemmas.List.{append-nil, set-get_or}
 use Rattle.std.proofs.lemmas.Option.{same_Some}
 use mathlib.Core.Option.{some, none, some-injective}
 use mathlib.Core.Option as maybe
@@ -13,22 +13,20 @@ use Rattle.atomic_table.proofs.Lists.{set_else, set_here}
 use Rattle.cqs_rule.specs.declared.view.Facts.{Facts}
 use Rattle.cqs_rule.specs.declared.view.Has.{Has as OwnHas}
 use Rattle.cqs_rule.specs.declared.view.View.{View}
+use Rattle.cqs_rule.specs.Alone.{TellsAlone}
 use Rattle.cqs_rule.specs.Client.{IsClient}
+use Rattle.cqs_rule.specs.Inside.{IsInside}
 use Rattle.cqs_rule.specs.Layout.{client_words}
 use Rattle.cqs_rule.specs.Lists.{Has, IsPrefix, without}
 use Rattle.cqs_rule.specs.Object.{Object, Primitive}
 use Rattle.cqs_rule.specs.Ruled.{Ruled, Knows, number_at, cell_count}
 use Rattle.cqs_rule.specs.Saw.{Saw, IsLive}
-use Rattle.cqs_rule.specs.Slots.{laid_in, taken_off, handed_in, MayOpen, Shelf}
-use Rattle.cqs_rule.specs.SlotSteps.{TookOut, PutBack, HandedIn, took_out, put_back, filled}
+use Rattle.cqs_rule.specs.Slots.{laid_in, taken_off, handed_in, LaysNone, MayOpen, Shelf}
+use Rattle.cqs_rule.specs.SlotSteps.{TookOut, PutBack, Swapped, HandedIn, took_out, put_back, filled}
 use Rattle.cqs_rule.specs.Views.{grown, IsSame}
-use Rattle.cqs_rule.proofs.Grow.{Turned, advance-on, slotted, live, saw}
-use Rattle.cqs_rule.proofs.Handing.{chosen, passed-by, one-opens, hand-in, giving, off-here, off-else}
-use Rattle.cqs_rule.proofs.Lists.{set_there, one_there, set_all, longer}
-use Rattle.cqs_rule.proofs.Looks.{still}
-use Rattle.cqs_rule.proofs.Others.{others-same}
-use Rattle.cqs_rule.proofs.Shelves.{back, keeps-same, never-open}
-use Rattle.cqs_rule.proofs.Tells.{inside-of}
+use Rattle.cqs_rule.proofs.Handing.{chosen, passed-by, turned, one-opens, reshelf, hand-in, giving, off-here, off-else}
+use Rattle.cqs_rule.proofs.Lists.{set_there, one_there, set_all, longer, prefix-then}
+use Rattle.cqs_rule.proofs.Shelves.{back, never-open}
 
 module _ {A : Type 0} where
   pub set_twice : (l : List A) (i : ℕ) (a b : A) → set (set l i a) i b ≡ set l i b
@@ -36,73 +34,64 @@ module _ {A : Type 0} where
   set_twice (x ∷ xs) zero a b = refl
   set_twice (x ∷ xs) (suc i) a b = ap (λ l. x ∷ l) (set_twice xs i a b)
 
--- what a pass saw that only looks on, whatever it does with its slots
-pub saw-slotted : {E S : Type 0} (object : Object E) (v : View E S) (facts : Facts) (es seen : List E)
-    (handed : List (ℕ × S)) (out : Option ℕ) (laid : List (ℕ × Option S))
-    → Saw object v facts es (grown v facts seen handed)
-    → Saw object v (record facts { open_slot = out }) es (slotted v facts seen handed v.crew v.alone out laid)
-saw-slotted object v facts es seen handed out laid t = record {
-  between = t.between;
-  seen = t.seen;
-  silent = t.silent;
-  facts_are = refl;
-  same = record {
-    number = refl;
-    weight = refl;
-    own = refl;
-    crew = refl;
-    alone = refl;
-    limit = refl;
-    cells = refl;
-    passes = refl;
-    opening = refl;
-  };
-  handed = t.handed;
-  homes = t.homes;
-  sole = t.sole;
+-- a slot was taken out and put back
+pub swapped-then : {E S : Type 0} (k : ℕ) (laid items : List (ℕ × Option S)) (v u w : View E S) → TookOut k v u items
+    → PutBack laid u w → v.facts.open_slot ≡ None → Swapped laid v w
+swapped-then {E} {S} k laid items v u w took put shut = record {
+  is = put.is ∙ (ap (λ (z : View E S). record z {
+    facts = record z.facts { open_slot = None };
+    handed = w.handed;
+    laid = laid;
+  }) took.is
+      ∙ ap (λ (o : Option ℕ). record v {
+        facts = record v.facts { open_slot = o };
+        handed = w.handed;
+        laid = laid;
+      }) (sym shut));
+  more = prefix-then v.handed u.handed w.handed took.more put.more;
 }
 
--- what holds of a live view holds whatever it has laid
-pub live-laid : {E S : Type 0} (object : Object E) (v : View E S) (laid : List (ℕ × Option S)) → IsLive object v
-    → IsLive object (record v { laid = laid })
-live-laid object v laid l = record {
-  legal = l.legal;
-  unnamed = l.unnamed;
-  own = l.own;
-  held = l.held;
-  inside = record {
-    number = l.inside.number;
-    waits = l.inside.waits;
-    once = l.inside.once;
-    few = l.inside.few;
-    payload = l.inside.payload;
-  };
-}
+-- what holds of a pass holds after a swap
+module _ {E S : Type 0} (laid : List (ℕ × Option S)) (v w : View E S) (swap : Swapped laid v w) where
+  pub inside-swapped : IsInside v → IsInside w
+  inside-swapped i = subst (λ (z : View E S). IsInside z) (sym swap.is)
+      (record { number = i.number; waits = i.waits; once = i.once; few = i.few; payload = i.payload })
 
--- and whatever slot it has open
-pub live-out : {E S : Type 0} (object : Object E) (w : View E S) (facts : Facts) → w.facts.doing ≡ facts.doing
-    → w.facts.has ≡ facts.has → w.facts.waits ≡ facts.waits
-    → IsLive object (record w { facts = facts }) → IsLive object w
-live-out object w facts doing has waits l = record {
-  legal = l.legal;
-  unnamed = l.unnamed;
-  own = l.own;
-  held = subst (λ (h : OwnHas). h.held < 2 ^ 32) (sym has) l.held;
-  inside = record {
-    number = subst (λ d. number_at d < w.cells) (sym doing) l.inside.number;
-    waits = subst (λ (ws : List ℕ). (k : ℕ) → Has k ws → k < w.cells) (sym waits) l.inside.waits;
-    once = subst (λ (ws : List ℕ). (k : ℕ) → Has k ws → length (without k ws) + 1 ≡ length ws) (sym waits)
-        l.inside.once;
-    few = subst (λ (ws : List ℕ). length ws ≤ w.cells) (sym waits) l.inside.few;
-    payload = subst (λ (h : OwnHas). h.payload < 2 ^ 20) (sym has) l.inside.payload;
-  };
-}
+  pub live-swapped : (object : Object E) → IsLive object v → IsLive object w
+  live-swapped object l = subst (λ (z : View E S). IsLive object z) (sym swap.is) (record {
+    legal = l.legal;
+    unnamed = l.unnamed;
+    own = l.own;
+    held = l.held;
+    few = l.few;
+    inside = record {
+      number = l.inside.number;
+      waits = l.inside.waits;
+      once = l.inside.once;
+      few = l.inside.few;
+      payload = l.inside.payload;
+    };
+  })
+
+  pub alone-swapped : {C : Type 0} (primitive : C → Primitive E S) → TellsAlone primitive v → TellsAlone primitive w
+  alone-swapped primitive told = subst (λ (z : View E S). TellsAlone primitive z) (sym swap.is) (λ one alone.
+      let a = told one alone in record {
+        client = a.client;
+        opening_is = a.opening_is;
+        hidden = a.hidden;
+        words = a.words;
+        handed = a.handed;
+        shown = a.shown;
+        stands = a.stands;
+        others = a.others;
+        places = a.places;
+      })
 
 -- a pass that handed something in just before its step saw what it would have seen without
 pub saw-given : {E S : Type 0} (object : Object E) (v g w : View E S) {facts : Facts} {es : List E}
     → Saw object g facts es w → (same : g ≡ record v { handed = g.handed; laid = g.laid })
-    → IsPrefix v.handed g.handed → Saw object v facts es w
-saw-given {E} {S} object v g w {facts} {es} t same more = record {
+    → IsPrefix v.handed g.handed → LaysNone v.laid g.laid → Saw object v facts es w
+saw-given {E} {S} object v g w {facts} {es} t same more less = record {
   between = t.between;
   seen = t.seen ∙ ap (λ (u : View E S). (u.seen ++ t.between) ++ es) same;
   silent = λ n h. t.silent n (subst (λ (u : View E S). Has n u.own) (sym same) h);
@@ -123,6 +112,7 @@ saw-given {E} {S} object v g w {facts} {es} t same more = record {
     t.handed.1 ∙ (ap (λ l. l ++ t.handed.0) more.1
         ∙ append_assoc v.handed more.0 t.handed.0),
   );
+  unlaid = λ j bare. t.unlaid j (less j bare);
   homes = subst (λ (u : View E S). IsPrefix u.homes w.homes) same t.homes;
   sole = λ a. t.sole (ap (λ (u : View E S). u.alone) same ∙ a);
 }
@@ -138,6 +128,12 @@ taken_none {S} k (x ∷ xs) e = dite (ℕ_discrete x.0 k)
     some-none : Some x.1 ≡ None → ⊥
     some-none q = cc
 
+-- what was laid nowhere is laid nowhere when a slot is taken off
+pub none-off : {S : Type 0} (k : ℕ) (l : List (ℕ × Option S)) → LaysNone l (taken_off k l)
+none-off k l j bare = dite (ℕ_discrete j k)
+    (λ (same : j ≡ k). ap (laid_in (taken_off k l)) same ∙ off-here k l)
+    (λ (apart : j ≢ k). off-else k j l apart ∙ bare)
+
 -- what lies in the slot that was taken last
 abbrev first-of : {S : Type 0} → List (ℕ × Option S) → Option S
 first-of [] = None
@@ -148,47 +144,30 @@ module _ {E S : Type 0} (object : Object E) (primitive : Primitive E S) (passes 
   abbrev R : State (Option S) (View E S) → Type 0
   R = Ruled object primitive passes limit
 
-  -- the pass only looks on, and turns its slots
-  abbrev after : View E S → List E → List (ℕ × S) → Option ℕ → List (ℕ × Option S) → View E S
-  after v seen handed out laid = slotted v v.facts seen handed v.crew v.alone out laid
-
+  -- the pass turns its slots, by a step that changes no word
   turns : (s : State (Option S) (View E S)) (r : R s) (id : ℕ) (cs : List (ℕ × Option S)) (v : View E S)
       (out : Option ℕ) (laid : List (ℕ × Option S)) (act : Act (Option S))
-      → get_elem? s.views id ≡ some v → v.weight ≡ 1
+      → get_elem? s.views id ≡ some v → 0 < v.weight
       → Shelf primitive.opens r.handed r.live (homes_after s.homes cs act)
-      (set s.views id (after v (r.log ++ []) r.handed out laid))
-      → R (stepped s 0 (slice_index s.words 0) id cs (after v (r.log ++ []) r.handed out laid) act)
-      × Saw object v (record v.facts { open_slot = out }) [] (after v (r.log ++ []) r.handed out laid)
-      × IsLive object (record (after v (r.log ++ []) r.handed out laid) { facts = v.facts })
-  turns s r id cs v out laid act here one shelf =
-      let k = r.each_view id v here (omega arith) in
-      let t = still object primitive passes limit client s r v 0 r.hidden v.facts
-      r.counters r.cells r.room r.door r.shown (others-same r.hidden v.number) k.stands k.payload_fits
-      (keeps-same primitive.opens v) in (
-        advance-on object primitive passes limit s r id cs v 0 (slice_index s.words 0) r.hidden [] v.facts v.crew
-            v.alone out laid act here one k.crew (λ a. (k.alone a).0) t shelf,
-        saw-slotted object v v.facts [] (r.log ++ []) r.handed out laid
-            (saw object primitive passes limit s r id v [] v.facts here one),
-        live-laid object (grown v v.facts (r.log ++ []) r.handed) laid
-            (live object primitive passes limit s r id v [] v.facts here (omega arith)
-            (client.legal_shown r.hidden (client_words s.words) (r.log ++ []) r.handed
-            (subst (λ l. primitive.shows r.hidden (client_words s.words) l r.handed) (sym (append-nil r.log)) r.shown))
-            (λ n apart. refl)
-            (client.held_fits r.hidden (client_words s.words) r.log r.handed v.number v.facts.has r.shown k.stands.has)
-            (inside-of passes limit primitive.values r.hidden v.number v.facts.doing r.room
-            (client.sound r.hidden (client_words s.words) r.log r.handed r.shown) k.stands.doing)
-            (λ n h. let drawn = (k.stands.waits n h).drawn in let g = r.room.ground in omega arith)
-            k.stands.once k.payload_fits),
-      )
+      (set s.views id (turned v out r.handed laid))
+      → R (stepped s 0 (slice_index s.words 0) id cs (turned v out r.handed laid) act)
+  turns s r id cs v out laid act here alive shelf =
+      subst (λ (words : List ℕ). R (record {
+        words = words;
+        homes = homes_after s.homes cs act;
+        views = set s.views id (turned v out r.handed laid);
+      })) (sym (set-get_or s.words 0 0))
+      (reshelf object primitive passes limit client s r id v out r.handed r.handed laid (homes_after s.homes cs act)
+      here alive (λ u before. before) ([], sym (append-nil r.handed)) r.shown shelf).0
 
   -- a pass that may open the slot takes it from its home
   pub takes-out : (slots id k : ℕ) (me : Me (Option S) (View E S)) → me.0.weight ≡ 1 → me.0.facts.open_slot ≡ None
       → me.1 ≡ [] → k < slots → primitive.opens me.0.facts.has k ⊎ (me.0.alone ≡ true)
-      → Allows R slots id me 0 (λ n. n) (took_out object k (step slots 0 0 0 none) me)
+      → Allows R slots id me 0 (λ n. n) (took_out k (step slots 0 0 0 none) me)
   takes-out slots id k me one shut bare low may s r homes here small =
       let v = me.0 in
       let y = r.shelf.lies k in
-      let w = after v (r.log ++ []) r.handed (Some k) v.laid in
+      let w = turned v (Some k) r.handed v.laid in
       let opener : MayOpen primitive.opens r.live v k =
       ⊎_elim inl (λ a. inr ((r.each_view id v here (omega arith)).alone a).0) may in
       let nobody : (j : ℕ) (u : View E S) → get_elem? s.views j ≡ some u → 0 < u.weight
@@ -199,7 +178,7 @@ module _ {E S : Type 0} (object : Object E) (primitive : Primitive E S) (passes 
       (sym (one_there s.views id u v (subst (λ i. get_elem? s.views i ≡ some u) same at) here)) ∙ out) in
       let there : get_elem? s.homes k ≡ some (some y) = r.shelf.home k (omega arith) nobody in
       let long = length-set s.homes k none in
-      let t = turns s r id me.1 v (Some k) v.laid (takes k y) here one (record {
+      let t = turns s r id me.1 v (Some k) v.laid (takes k y) here (omega arith) (record {
         lies = r.shelf.lies;
         home = λ j inside free. dite (ℕ_discrete j k)
             (λ (same : j ≡ k). absurd (free id w (set_there s.views id v w here) (omega arith) (ap Some (sym same))))
@@ -223,7 +202,7 @@ module _ {E S : Type 0} (object : Object E) (primitive : Primitive E S) (passes 
         w,
         takes k y,
         there,
-        t.0,
+        t,
         record {
           value = y;
           items_are = ap (λ l. (k, y) ∷ l) bare;
@@ -234,9 +213,8 @@ module _ {E S : Type 0} (object : Object E) (primitive : Primitive E S) (passes 
               (λ (apart : j ≢ id). nothing (laid_in u.laid k) (λ x q.
               apart (one-opens object primitive passes limit client s r j id u v k at here alive (omega arith)
               (inl (r.shelf.laid j u at alive k x q).1) opener)) refl));
-          laid = refl;
-          saw = t.1;
-          live = t.2;
+          is = refl;
+          more = (r.each_view id v here (omega arith)).sees.handed_in;
         },
       )
     where
@@ -248,10 +226,10 @@ module _ {E S : Type 0} (object : Object E) (primitive : Primitive E S) (passes 
   pub puts-back : (slots id k : ℕ) (me : Me (Option S) (View E S)) → me.0.weight ≡ 1
       → me.0.facts.open_slot ≡ Some k → k < slots → primitive.opens me.0.facts.has k
       → (x : Option S) → me.1 ≡ (k, x) ∷ []
-      → Allows R slots id me 0 (λ n. n) (put_back object k (step slots 0 0 0 none) me)
+      → Allows R slots id me 0 (λ n. n) (put_back k (step slots 0 0 0 none) me)
   puts-back slots id k me one out low owns x is s r homes here small =
       let v = me.0 in
-      let w = after v (r.log ++ []) r.handed None ((k, x) ∷ v.laid) in
+      let w = turned v None r.handed ((k, x) ∷ v.laid) in
       let lies : ℕ → Option S = λ j. if k == j then x else r.shelf.lies j in
       let long = length-set s.homes k (some x) in
       let else-lies : (j : ℕ) → j ≢ k → lies j ≡ r.shelf.lies j =
@@ -295,15 +273,15 @@ module _ {E S : Type 0} (object : Object E) (primitive : Primitive E S) (passes 
             (back primitive.opens s.views id v w (λ u. laid_in u.laid i ≡ None) here (omega arith)
             (λ q. sym (passed-by k i (Some x) (laid_in v.laid i) apart) ∙ q) none));
       } in
-      let t = turns s r id ((k, x) ∷ []) v None ((k, x) ∷ v.laid) gives here one shelf in (
+      let t = turns s r id ((k, x) ∷ []) v None ((k, x) ∷ v.laid) gives here (omega arith) shelf in (
         w,
         gives,
         tt,
-        subst (λ (cs : List (ℕ × Option S)). R (stepped s 0 (slice_index s.words 0) id cs w gives)) (sym is) t.0,
+        subst (λ (cs : List (ℕ × Option S)). R (stepped s 0 (slice_index s.words 0) id cs w gives)) (sym is) t,
         λ z q.
             let same : x ≡ z = ap first-of (sym is ∙ q) in (
-              subst (λ u. PutBack object ((k, u) ∷ v.laid) v w) same
-                  (record { laid_is = refl; saw = t.1; live = live-out object w v.facts refl refl refl t.2 }),
+              subst (λ u. PutBack ((k, u) ∷ v.laid) v w) same
+                  (record { is = refl; more = (r.each_view id v here (omega arith)).sees.handed_in }),
               ap rest is,
             ),
       )
@@ -315,14 +293,14 @@ module _ {E S : Type 0} (object : Object E) (primitive : Primitive E S) (passes 
   pub fills : (slots id k : ℕ) (me : Me (Option S) (View E S)) → me.0.weight ≡ 1
       → me.0.facts.open_slot ≡ Some k → k < slots → laid_in me.0.laid k ≡ None
       → (y : S) → me.1 ≡ (k, Some y) ∷ []
-      → Allows R slots id me 0 (λ n. n) (filled object k (step slots 0 0 0 none) me)
+      → Allows R slots id me 0 (λ n. n) (filled k (step slots 0 0 0 none) me)
   fills slots id k me one out low bare y is s r homes here small =
       let v = me.0 in
       let given = hand-in object primitive passes limit client s r id v k y here (omega arith) (inr (out, bare)) in
       let r' = given.0 in
       let g : View E S = giving object primitive passes limit client v r.handed k y in
       let views : List (View E S) = set s.views id g in
-      let w = after g (r'.log ++ []) r'.handed None g.laid in
+      let w = turned g None r'.handed g.laid in
       let here' : get_elem? views id ≡ some g = set_there s.views id v g here in
       let lies = r'.shelf.lies in
       let long = length-set s.homes k (some (Some y)) in
@@ -350,7 +328,7 @@ module _ {E S : Type 0} (object : Object E) (primitive : Primitive E S) (passes 
             (back primitive.opens views id g w (λ u. laid_in u.laid i ≡ None) here' (omega arith) (λ q. q) none);
       } in
       let s' : State (Option S) (View E S) = record { words = s.words; homes = s.homes; views = views } in
-      let t = turns s' r' id ((k, Some y) ∷ []) g None g.laid gives here' one shelf in (
+      let t = turns s' r' id ((k, Some y) ∷ []) g None g.laid gives here' (omega arith) shelf in (
         w,
         gives,
         tt,
@@ -358,19 +336,19 @@ module _ {E S : Type 0} (object : Object E) (primitive : Primitive E S) (passes 
           words = slice_set s.words 0 (slice_index s.words 0);
           homes = homes_after s.homes z.1 gives;
           views = z.0;
-        })) (λ i. (set_twice s.views id g w i, sym is i)) t.0,
+        })) (λ i. (set_twice s.views id g w i, sym is i)) t,
         λ z q.
             let same : y ≡ z = same_Some y z (ap first-of (sym is ∙ q)) in (
               record {
-                laid_is = taken_none k v.laid bare;
-                saw = saw-given object v g w t.1 refl
-                    (longer v.handed r.handed ((k, y) ∷ []) (r.each_view id v here (omega arith)).sees.handed_in);
-                live = live-out object w v.facts refl refl refl t.2;
+                is = ap (λ l. turned v None r'.handed l) (taken_none k v.laid bare);
+                more = prefix-then v.handed r.handed r'.handed (r.each_view id v here (omega arith)).sees.handed_in
+                    ((k, y) ∷ [], given.1);
               },
               subst (λ u. HandedIn k u v w) same (record {
                 before = r.handed;
                 is = given.1;
                 old = (r.each_view id v here (omega arith)).sees.handed_in;
+                off = off-here k v.laid;
               }),
               ap rest is,
             ),

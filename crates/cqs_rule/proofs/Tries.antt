@@ -3,6 +3,7 @@ use Rattle.std.proofs.Common.{◌≡◌, ◌≢◌, ℕ, ◌<◌, ◌^◌, Bool,
 use Rattle.std.proofs.lemmas.Bool.{cases_lt}
 use Rattle.cqs_core.specs.declared.doings.Doing.TheVariants as doing
 use Rattle.cqs_rule.specs.declared.view.View.{View}
+use Rattle.cqs_rule.specs.declared.view.Opening.{Opening}
 use Rattle.cqs_rule.specs.declared.view.Facts.{Facts}
 use Rattle.cqs_rule.specs.Crew.{IsBetween, IsSole, IsDoubled, Counted, Tried, CameWith}
 use Rattle.cqs_rule.specs.Hidden.{Hidden}
@@ -53,6 +54,7 @@ module _ {E S : Type 0} (object : Object E) where
     unnamed = l.unnamed;
     own = l.own;
     held = l.held;
+    few = l.few;
     inside = record {
       number = l.inside.number;
       waits = l.inside.waits;
@@ -62,13 +64,15 @@ module _ {E S : Type 0} (object : Object E) where
     };
   }
 
-  live-cut : (u : View E S) (gives n : ℕ) → gives < 2 ^ 32 → IsLive object u → IsDoubled gives n u
+  live-cut : (u : View E S) (gives n : ℕ) → gives < 2 ^ 32 → gives ≤ object.most u.opening → IsLive object u
+      → IsDoubled gives n u
       → IsLive object (cut_off u)
-  live-cut u gives n few l d = record {
+  live-cut u gives n few most l d = record {
     legal = subst (object.legal u.opening) (sym d.seen) l.legal;
     unnamed = λ m above. ap (part object.names m) d.seen ∙ l.unnamed m above;
     own = subst (Has u.second_number) (sym d.own) (inl d.number);
     held = subst (λ (f : Facts). f.has.held < 2 ^ 32) (sym d.facts) (omega arith);
+    few = subst (λ (f : Facts). f.has.held ≤ object.most u.opening) (sym d.facts) (omega arith);
     inside = inside-cut u gives l.inside d.facts;
   }
 
@@ -103,6 +107,7 @@ module _ {E S : Type 0} (object : Object E) where
           opening = s.same.opening;
         };
         handed = s.handed;
+        unlaid = s.unlaid;
         homes = s.homes;
         sole = λ a. s.sole (t.kept a);
       })
@@ -157,10 +162,10 @@ module _ {E S : Type 0} (object : Object E) where
     pub lonely : y.alone ≡ false
 
   pub cut-begins : {X : Type 0} (w u : View E S) (x y : View E S × X) (more bare : X) (gives first n : ℕ) → n ≡ first
-      → gives < 2 ^ 32
+      → gives < 2 ^ 32 → gives ≤ object.most w.opening
       → Tried object gives first w n u → IsLive object u → x ≡ (single u, more) → y ≡ (cut_off u, bare)
       → Begins gives w x.0 y.0
-  cut-begins {X} w u x y more bare gives first n hit few e alive is is' =
+  cut-begins {X} w u x y more bare gives first n hit few most e alive is is' =
       let s = e.saw hit in
       let d = e.made hit in
       subst (λ (z : (View E S × X) × (View E S × X)). Begins gives w z.0.0 z.1.0) (λ j. (sym is j, sym is' j)) record {
@@ -170,6 +175,7 @@ module _ {E S : Type 0} (object : Object E) where
           facts = d.facts;
           seen = d.seen;
           handed = d.handed;
+          bare = refl;
           unnamed = subst (λ (z : ℕ × List E). part object.names z.0 z.1 ≡ []) (λ j. (sym d.number j, sym d.seen j))
               (e.unnamed hit);
           passes = refl;
@@ -180,7 +186,8 @@ module _ {E S : Type 0} (object : Object E) where
         limit = s.same.limit;
         passes = s.same.passes;
         opening = s.same.opening;
-        alive = live-cut u gives n few alive d;
+        alive = live-cut u gives n few
+            (subst (λ (o : Opening). gives ≤ object.most o) (sym s.same.opening) most) alive d;
         lonely = refl;
       }
 

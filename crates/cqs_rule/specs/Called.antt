@@ -3,6 +3,7 @@ use Rattle.std.specs.Prelude.{◌≡◌, ℕ, true, List, ◌++◌}
 use Rattle.cqs_rule.specs.declared.view.View.{View}
 use Rattle.cqs_rule.specs.Lists.{Has, IsPrefix, part}
 use Rattle.cqs_rule.specs.Object.{Object}
+use Rattle.cqs_rule.specs.Slots.{LaysNone}
 use Rattle.cqs_rule.specs.Views.{IsSame}
 
 module _ {E S : Type 0} (object : Object E) where
@@ -17,5 +18,6 @@ module _ {E S : Type 0} (object : Object E) where
     pub ends : w.seen ≡ before ++ last
     pub same : IsSame v w
     pub handed : IsPrefix v.handed w.handed
+    pub unlaid : LaysNone v.laid w.laid
     pub homes : IsPrefix v.homes w.homes
     pub sole : v.alone ≡ true → more ≡ entries

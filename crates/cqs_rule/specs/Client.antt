@@ -53,6 +53,11 @@ module _ {E S : Type 0} (object : Object E) (primitive : Primitive E S) where
     -- a pass keeps its slots at each step of the queue
     pub steps : (s : QueueStep) (has : Has) (payload k : ℕ) → Suits primitive.manner s
         → primitive.opens has k → primitive.opens (has_after object.gains (row_of s) payload has) k
+    -- no pass holds more than the most that one may
+    pub few : (c : Hidden) (words : List ℕ) (log : List E) (handed : List (ℕ × S)) (p : ℕ)
+        (has : Has)
+        → primitive.shows c words log handed → slice_get c.has p ≡ Some has
+        → has.held ≤ object.most primitive.opening
     -- and gets those of a pass that it takes in
     pub gathers : (mine theirs : Has) (k : ℕ) → primitive.opens mine k ⊎ primitive.opens theirs k
         → primitive.opens (gathered mine theirs) k

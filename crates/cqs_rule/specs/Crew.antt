@@ -114,7 +114,7 @@ module _ {E : Type 0} (object : Object E) where
     met_by st me n me' =
         Met me.0 me.0.facts me.0.other me.0.other_handed me.0.others me'.0 × (me'.0.crew ≡ n)
         × (me'.1 ≡ me.1)
-        × IsLive object me'.0
+        × IsLive object me'.0 × (me'.0.laid ≡ me.0.laid)
 
 module _ {E S : Type 0} (object : Object E) where
   -- the new pass: it has seen what this one has seen, holds so much, has a number of its own, and
@@ -125,6 +125,7 @@ module _ {E S : Type 0} (object : Object E) where
     pub facts : w.facts ≡ first_facts gives
     pub seen : w.seen ≡ v.seen
     pub handed : w.handed ≡ v.handed
+    pub bare : w.laid ≡ []
     pub unnamed : part object.names w.number w.seen ≡ []
     pub passes : w.passes ≡ v.passes
     pub opening : w.opening ≡ v.opening

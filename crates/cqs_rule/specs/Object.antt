@@ -15,6 +15,8 @@ pub record Object (E : Type 0) : Type 1 where
   -- the entries of a step of the queue, by the pass, the number and the payload
   pub entries : QueueStep → ℕ → ℕ → ℕ → List E
   pub gains : Gains
+  -- the most that one pass holds, by what the object opened with
+  pub most : Opening → ℕ
 
 -- What one client of that kind is made with.
 pub record Primitive (E S : Type 0) : Type 1 where

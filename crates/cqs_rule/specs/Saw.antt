@@ -7,6 +7,7 @@ use Rattle.cqs_rule.specs.Inside.{IsInside}
 use Rattle.cqs_rule.specs.Lists.{Has, IsPrefix, part}
 use Rattle.cqs_rule.specs.Object.{Object, Primitive}
 use Rattle.cqs_rule.specs.declared.view.Opening.{Opening}
+use Rattle.cqs_rule.specs.Slots.{LaysNone}
 use Rattle.cqs_rule.specs.Views.{IsSame}
 
 module _ {E S : Type 0} (object : Object E) where
@@ -19,6 +20,7 @@ module _ {E S : Type 0} (object : Object E) where
     pub facts_are : w.facts ≡ facts
     pub same : IsSame v w
     pub handed : IsPrefix v.handed w.handed
+    pub unlaid : LaysNone v.laid w.laid
     pub homes : IsPrefix v.homes w.homes
     pub sole : v.alone ≡ true → between ≡ []
 
@@ -30,6 +32,7 @@ module _ {E S : Type 0} (object : Object E) where
     pub unnamed : (n : ℕ) → v.passes ≤ n → part object.names n v.seen ≡ []
     pub own : Has v.number v.own
     pub held : v.facts.has.held < 2 ^ 32
+    pub few : v.facts.has.held ≤ object.most v.opening
     pub inside : IsInside v
 
 -- Where the history was this, the client, which opened so, showed it by a hidden state and by words

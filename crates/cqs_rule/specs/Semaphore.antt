@@ -45,6 +45,7 @@ semaphore_object = record {
   legal = λ opening. IsLegal opening.size;
   entries = λ step p k payload. step_entries step p k;
   gains = one_more;
+  most = λ opening. opening.size;
 }
 
 -- a semaphore asks where a wait leaves, its passes come to a door, and it owes one resumption at a

@@ -230,6 +230,16 @@ one-holder c words log p q mine theirs core here there some some' = dite (ℕ_di
     let all = core.conserved in
     absurd (omega arith))
 
+-- no pass holds more permits than there are
+held-few : (s : Shape) (p n : ℕ) → IsCore s → slice_get s.held p ≡ Some n → n ≤ s.permits
+held-few s p n core there =
+    let few = ending-within s.queue core.sound core.covered in
+    let all = core.conserved in
+    let below : p < length s.held = get-below s.held p n there in
+    let is : get_or s.held p 0 ≡ n = get_or_from_slice_get s.held p n 0 there in
+    let one = get_or-le-sum_by (λ (m : ℕ). m) s.held p 0 below in
+    omega arith
+
 -- the slot of a semaphore is that of the pass that holds its one permit
 semaphore-slots : {T : Type 0} (permits : ℕ)
     → KeepsSlots semaphore_object (semaphore_primitive {T = T} permits)
@@ -237,6 +247,8 @@ semaphore-slots permits = record {
   apart = λ c words log handed p q k mine theirs core here there o o'.
       one-holder c words log p q mine theirs
       (subst (λ n. IsCore (core_shown n c words log)) o.0 core) here there o.2 o'.2;
+  few = λ c words log handed p has core there.
+      held-few (core_shown permits c words log) p has.held core (held-at c.has p has there);
   steps = λ s has payload k suits o. (o.0, o.1, after (row_of s) has payload o.2);
   gathers = λ mine theirs k o. ⊎_elim
       (λ (a : opens_one permits mine k). (a.0, a.1, let some = a.2 in omega arith))

@@ -2,7 +2,7 @@
 use Rattle.std.specs.Prelude.{◌≡◌, ℕ, Bool, true, false, Some}
 use Rattle.cqs_rule.specs.declared.view.View.{View}
 use Rattle.cqs_rule.specs.Slots.{laid_in}
-use Rattle.cqs_rule.specs.SlotSteps.{HandedIn}
+use Rattle.cqs_rule.specs.SlotSteps.{HandedIn, WasHandedIn}
 
 -- the slots of a semaphore, by whether its permit carries a value
 abbrev pub slots_when : Bool → ℕ
@@ -19,3 +19,9 @@ abbrev pub GivesValue : {E S : Type 0} → Bool → View E S → View E S → Ty
 GivesValue false v w = Unit {0}
 GivesValue {E} {S} true v w = (value : S) → laid_in v.laid 0 ≡ Some (Some value)
     → HandedIn 0 value v w
+
+-- and maybe more after it
+abbrev pub GaveValue : {E S : Type 0} → Bool → View E S → View E S → Type 0
+GaveValue false v w = Unit {0}
+GaveValue {E} {S} true v w = (value : S) → laid_in v.laid 0 ≡ Some (Some value)
+    → WasHandedIn 0 value v w

@@ -15,6 +15,15 @@ pub record HandedIn {E S : Type 0} (slot : ℕ) (value : S) (v w : View E S) : T
   pub before : List (ℕ × S)
   pub is : w.handed ≡ before ++ (slot, value) ∷ []
   pub old : IsPrefix v.handed before
+  -- nothing else lies there now
+  pub off : laid_in w.laid slot ≡ None
+
+-- It was handed in, and maybe more after it.
+pub record WasHandedIn {E S : Type 0} (slot : ℕ) (value : S) (v w : View E S) : Type 0 where
+  pub before : List (ℕ × S)
+  pub old : IsPrefix v.handed before
+  pub now : IsPrefix (before ++ (slot, value) ∷ []) w.handed
+  pub off : laid_in w.laid slot ≡ None
 
 -- What lay in the slot k: what the pass had laid there, or else what was handed in last for it.
 pub record LayIn {E S : Type 0} (k : ℕ) (value : Option S) (v w : View E S) : Type 0 where
@@ -24,22 +33,29 @@ pub record LayIn {E S : Type 0} (k : ℕ) (value : Option S) (v w : View E S) : 
   pub seen : IsPrefix handed w.handed
   pub last : laid_in v.laid k ≡ None → value ≡ handed_in handed k
 
-module _ {E S : Type 0} (object : Object E) where
+module _ {E S : Type 0} where
   -- the slot k was taken from its home, with what lay in it
   pub record TookOut (k : ℕ) (v w : View E S) (items : List (ℕ × Option S)) : Type 0 where
     pub value : Option S
     pub items_are : items ≡ (k, value) ∷ []
     pub mine : (x : Option S) → laid_in v.laid k ≡ Some x → value ≡ x
     pub last : laid_in v.laid k ≡ None → value ≡ handed_in w.handed k
-    pub laid : w.laid ≡ v.laid
-    pub saw : Saw object v (record v.facts { open_slot = Some k }) [] w
-    pub live : IsLive object (record w { facts = v.facts })
+    pub is : w ≡ record v { facts = record v.facts { open_slot = Some k }; handed = w.handed }
+    pub more : IsPrefix v.handed w.handed
 
-  -- the slot k was put back with this in it
+  -- it was put back, and this is what the pass has laid into slots now
   pub record PutBack (laid : List (ℕ × Option S)) (v w : View E S) : Type 0 where
-    pub laid_is : w.laid ≡ laid
-    pub saw : Saw object v (record v.facts { open_slot = None }) [] w
-    pub live : IsLive object w
+    pub is : w ≡ record v {
+      facts = record v.facts { open_slot = None };
+      handed = w.handed;
+      laid = laid;
+    }
+    pub more : IsPrefix v.handed w.handed
+
+  -- a swap as a whole: the pass has seen nothing but values that were handed in
+  pub record Swapped (laid : List (ℕ × Option S)) (v w : View E S) : Type 0 where
+    pub is : w ≡ record v { handed = w.handed; laid = laid }
+    pub more : IsPrefix v.handed w.handed
 
   abbrev pub took_out : ℕ → Step (Option S) → Me (Option S) (View E S) → ℕ
       → Me (Option S) (View E S) → Type 0

@@ -17,6 +17,10 @@ module _ {S : Type 0} where
   taken_off k [] = []
   taken_off k (x ∷ xs) = if x.0 == k then taken_off k xs else x ∷ taken_off k xs
 
+  -- nothing was laid into a slot in which nothing was laid before
+  abbrev pub LaysNone : List (ℕ × Option S) → List (ℕ × Option S) → Type 0
+  LaysNone before after = (k : ℕ) → laid_in before k ≡ None → laid_in after k ≡ None
+
   abbrev pub or_else : Option S → Option S → Option S
   or_else None other = other
   or_else (Some y) other = Some y

@@ -81,7 +81,7 @@ pub(crate) struct TakingOut<C, K> {
 
 impl<C: ClientWords, K: Numbered> Play<Option<C::Slot>, View<C::Entry, C::Slot>>
     for TakingOut<C, K> {
-    ghost then = { took_out C.object K.slot };
+    ghost then = { took_out K.slot };
 }
 
 /// The load by which it is put back.
@@ -91,7 +91,7 @@ pub(crate) struct PuttingBack<C, K> {
 
 impl<C: ClientWords, K: Numbered> Play<Option<C::Slot>, View<C::Entry, C::Slot>>
     for PuttingBack<C, K> {
-    ghost then = { and_alone C.primitive (put_back C.object K.slot) };
+    ghost then = { put_back K.slot };
 }
 
 /// The load by which it is put back with its first value.
@@ -100,7 +100,7 @@ pub(crate) struct Filling<C, K> {
 }
 
 impl<C: ClientWords, K: Numbered> Play<Option<C::Slot>, View<C::Entry, C::Slot>> for Filling<C, K> {
-    ghost then = { and_alone C.primitive (filled C.object K.slot) };
+    ghost then = { filled K.slot };
 }
 
 /// A load of the crew's word.

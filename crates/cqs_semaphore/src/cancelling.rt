@@ -51,6 +51,7 @@ impl<T: Carries + Send> Semaphore<T> {
         requires payload { (pass_view pass.old).facts.has.payload ≡ payload }
         ensures belongs { IsMine self.now pass.new }
         ensures passed { PassedOn payload (pass_view pass.old) result (pass_view pass.new) }
+        ensures between { IsBetween (pass_view pass.new).facts }
     {
         released(resume(&self.queue, pass, payload)).owed()
     }

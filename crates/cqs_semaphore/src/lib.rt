@@ -25,6 +25,7 @@
 mod acquiring;
 mod answers;
 mod cancelling;
+mod guarded;
 mod polling;
 mod releasing;
 mod seats;

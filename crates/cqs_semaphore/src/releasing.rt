@@ -5,7 +5,7 @@ ghost use Rattle.cqs_core.specs.declared.doings.Doing.TheVariants as doing;
 ghost use Rattle.cqs_rule.specs.Crew.{IsBetween};
 ghost use Rattle.cqs_rule.specs.Owed.{HasUnder, under_payload, under_reached, under_ticket};
 ghost use Rattle.cqs_rule.specs.Passes.{pass_view};
-ghost use Rattle.cqs_rule.specs.SemaphoreSlots.{IsFull};
+ghost use Rattle.cqs_rule.specs.SemaphoreSlots.{IsFull, GaveValue};
 ghost use Rattle.cqs_semaphore.specs.Alone.{IsPlainRelease, IsPlainEnd, IsTurnedBack};
 ghost use Rattle.cqs_semaphore.specs.Answers.{Releases, Ends, most_passed_over};
 ghost use Rattle.cqs_semaphore.specs.Calls.{IsReady, IsMine, CallRule, plain_after};
@@ -18,8 +18,8 @@ use cqs_resume::{Resumed, finish, resume};
 use cqs_rule::{Carries, Crowded, Under, give_permit};
 
 impl<T: Carries + Send> Semaphore<T> {
-    /// Gives a permit back: it is free, or it goes to the first who waits. Where a value moves with
-    /// the permit, it lies in its slot again.
+    /// Gives a permit back: it is free, or it goes to the first who waits. A permit that carries a
+    /// value hands it in: the value must lie in the slot.
     #[inline(always)]
     pub fn release(
         &self,
@@ -31,6 +31,7 @@ impl<T: Carries + Send> Semaphore<T> {
         requires holds { 0 < (pass_view pass.old).facts.has.held }
         requires full { IsFull T.kept (pass_view pass.old) }
         ensures belongs { IsMine self.now pass.new }
+        ensures handed { GaveValue T.kept (pass_view pass.old) (pass_view pass.new) }
         ensures called { CallRule (pass_view pass.old)
             (released_entries (pass_view pass.old).number result) (released_further result)
             (pass_view pass.new) }

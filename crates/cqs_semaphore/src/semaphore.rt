@@ -19,7 +19,7 @@ pub type SemPass<T = ()> = Pass<SemClient<T>>;
 /// The most permits that a semaphore may be made with.
 const MOST_PERMITS: u32 = 1_048_576;
 
-/// A fair semaphore, whose permits carry what `T` says; those of a plain one carry nothing.
+/// A fair semaphore. Its permits carry what `T` says: a value in a slot, or nothing.
 #[derive(Drop)]
 pub struct Semaphore<T: Carries = ()> {
     pub(crate) queue: Queue<SemClient<T>>,

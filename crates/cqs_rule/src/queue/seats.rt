@@ -1,6 +1,6 @@
 //! How a pass makes another, and how two become one.
 
-ghost use Rattle.std.specs.Prelude.{◌≡◌, true, ◌+◌, ◌<◌, ◌≤◌, IsTrue, IsErr, None, IfOk, IfErr, OnErr, OnOk};
+ghost use Rattle.std.specs.Prelude.{◌≡◌, true, ◌+◌, ◌++◌, ◌<◌, ◌≤◌, IsTrue, IsErr, None, IfOk, IfErr, OnErr, OnOk};
 ghost use mathlib.Core.Logic.{◌↔◌};
 ghost use Rattle.cqs_core.specs.declared.doings.Doing.TheVariants.{Idle};
 ghost use Rattle.cqs_rule.specs.Alone.{TellsAlone};
@@ -123,6 +123,8 @@ impl<C: ClientWords> Queue<C> {
         ensures back { IfErr result (λ refused. refused.0 ≡ given) }
         ensures unchanged { OnErr result (pass.new ≡ pass.old) }
         ensures met { OnOk result (HasMet pass.old given pass.new) }
+        ensures laid { OnOk result ((pass_view pass.new).laid
+            ≡ (pass_view pass.old).laid ++ (pass_view given).laid) }
     {
         if given.owes() || given.waits > 0 {
             return Err((given, MeetError::Busy));

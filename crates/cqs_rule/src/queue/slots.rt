@@ -1,11 +1,9 @@
 //! Values that move through slots of the table.
 
 ghost use Rattle.std.specs.Prelude.{◌≡◌, ◌⊎◌, ◌<◌, true, [], ◌∷◌, Some, None};
-ghost use Rattle.cqs_rule.specs.Alone.{TellsAlone};
 ghost use Rattle.cqs_rule.specs.Passes.{pass_view, client_of, slots_of, IsOf};
-ghost use Rattle.cqs_rule.specs.Saw.{Saw};
 ghost use Rattle.cqs_rule.specs.Slots.{laid_in};
-ghost use Rattle.cqs_rule.specs.SlotSteps.{TookOut, PutBack, HandedIn, LayIn, IsOut, IsUntouched};
+ghost use Rattle.cqs_rule.specs.SlotSteps.{TookOut, PutBack, Swapped, HandedIn, LayIn, IsOut, IsUntouched};
 ghost use Rattle.cqs_rule.specs.Steps.{IsOpener};
 
 use crate::client::ClientWords;
@@ -44,7 +42,7 @@ impl<C: ClientWords> Queue<C> {
         requires may { (C.primitive (client_of self.now)).opens seat.old.me.0.facts.has slot
             ⊎ (seat.old.me.0.alone ≡ true) }
         ensures table { seat.new.table_id ≡ seat.old.table_id }
-        ensures took { TookOut C.object slot seat.old.me.0 seat.new.me.0 seat.new.me.1 }
+        ensures took { TookOut slot seat.old.me.0 seat.new.me.0 seat.new.me.1 }
     {
         self.table
             .shared
@@ -68,8 +66,7 @@ impl<C: ClientWords> Queue<C> {
         ensures table { seat.new.table_id ≡ seat.old.table_id }
         ensures bare { seat.new.me.1 ≡ [] }
         ensures put { (x : Rattle.std.specs.Prelude.Option C.Slot) → seat.old.me.1 ≡ (slot, x) ∷ []
-            → PutBack C.object ((slot, x) ∷ seat.old.me.0.laid) seat.old.me.0 seat.new.me.0 }
-        ensures alone { TellsAlone C.primitive seat.new.me.0 }
+            → PutBack ((slot, x) ∷ seat.old.me.0.laid) seat.old.me.0 seat.new.me.0 }
     {
         self.table
             .shared
@@ -92,10 +89,9 @@ impl<C: ClientWords> Queue<C> {
         requires unlaid { laid_in seat.old.me.0.laid slot ≡ None }
         ensures table { seat.new.table_id ≡ seat.old.table_id }
         ensures bare { seat.new.me.1 ≡ [] }
-        ensures put { PutBack C.object seat.old.me.0.laid seat.old.me.0 seat.new.me.0 }
+        ensures put { PutBack seat.old.me.0.laid seat.old.me.0 seat.new.me.0 }
         ensures handed { (y : C.Slot) → seat.old.me.1 ≡ (slot, Some y) ∷ []
             → HandedIn slot y seat.old.me.0 seat.new.me.0 }
-        ensures alone { TellsAlone C.primitive seat.new.me.0 }
     {
         self.table
             .shared
@@ -103,8 +99,8 @@ impl<C: ClientWords> Queue<C> {
     }
 
     /// Puts a value into a slot, or nothing, and hands out what lay there. The pass must hold the
-    /// slot. It is no step of a client: two loads of the crew's word take the slot from home and
-    /// put it back.
+    /// slot. It is no step of a client: two loads of the crew's word take the slot from its home
+    /// and put it back.
     pub fn swap_slot(
         &self,
         pass: &mut Pass<C>,
@@ -116,9 +112,8 @@ impl<C: ClientWords> Queue<C> {
         requires holds { IsOpener self.now pass.old slot }
         ensures belongs { IsOf self.now pass.new }
         ensures lay { LayIn slot result (pass_view pass.old) (pass_view pass.new) }
-        ensures laid { (pass_view pass.new).laid ≡ (slot, value) ∷ (pass_view pass.old).laid }
-        ensures saw { Saw C.object (pass_view pass.old) (pass_view pass.old).facts []
-            (pass_view pass.new) }
+        ensures swapped { Swapped ((slot, value) ∷ (pass_view pass.old).laid)
+            (pass_view pass.old) (pass_view pass.new) }
     {
         self.take_out::<Brand>(&mut pass.seat, slot);
         let found = self
@@ -137,8 +132,7 @@ impl<C: ClientWords> Queue<C> {
         requires first { IsUntouched slot (pass_view pass.old) }
         ensures belongs { IsOf self.now pass.new }
         ensures handed { HandedIn slot value (pass_view pass.old) (pass_view pass.new) }
-        ensures laid { (pass_view pass.new).laid ≡ (pass_view pass.old).laid }
-        ensures saw { Saw C.object (pass_view pass.old) (pass_view pass.old).facts []
+        ensures swapped { Swapped (pass_view pass.old).laid (pass_view pass.old)
             (pass_view pass.new) }
     {
         self.take_out::<Brand>(&mut pass.seat, slot);

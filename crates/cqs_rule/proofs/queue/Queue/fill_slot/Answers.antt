@@ -1,8 +1,12 @@
-use Rattle.std.proofs.Common.{◌≡◌, ◌∙◌, ap, subst, ◌∷◌, Some}
+use Rattle.std.proofs.Common.{◌≡◌, ◌∙◌, ◌<◌, ap, sym, subst, length, [], ◌∷◌, Some}
 use Rattle.atomic_table.specs.Table.{rest}
 use Rattle.cqs_rule.specs.declared.view.View.{View}
+use Rattle.cqs_rule.specs.Facts.{is_owing}
+use Rattle.cqs_rule.specs.Layout.{words_for}
 use Rattle.cqs_rule.specs.Lists.{IsPrefix}
+use Rattle.cqs_rule.specs.SlotSteps.{TookOut}
 use Rattle.cqs_rule.proofs.Lists.{prefix-then}
+use Rattle.cqs_rule.proofs.Swaps.{swapped-then, inside-swapped, live-swapped, alone-swapped}
 use Rattle.cqs_rule.proofs.queue.Queue.fill_slot.Goals as goal
 
 pub put_first-requires-clause-item : goal.put_first-requires-clause-item
@@ -20,4 +24,54 @@ returns-clause-handed g c =
     ∙ ap (λ l. (c.args.slot, Some c.args.value) ∷ rest l) took.items_are) in
     let same = ap (λ m. m.0) c.exchange.ensures.3 in
     let old = subst (λ (u : View _ _). IsPrefix u.handed h.before) same h.old in
-    record { before = h.before; is = h.is; old = prefix-then _ _ _ took.saw.handed old }
+    record { before = h.before; is = h.is; old = prefix-then _ _ _ took.more old; off = h.off }
+
+pub invariant_of-pass : goal.invariant_of-pass
+invariant_of-pass g c =
+    let p = c.args.pass.now in
+    let v = p.seat.me.0 in
+    let u = c.exchange.new.seat.me.0 in
+    let same : u ≡ c.take_out.new.seat.me.0 = ap (λ m. m.0) c.exchange.ensures.3 in
+    let items = c.take_out.new.seat.me.1 in
+    let took : TookOut c.args.slot v u items =
+    subst (λ z. TookOut c.args.slot v z items) (sym same) c.take_out.ensures.took in
+    let table = c.put_first.ensures.table ∙ (c.exchange.ensures.0 ∙ c.take_out.ensures.table) in
+    let swap = swapped-then _ _ items v u _ took c.put_first.ensures.put p.shut in
+    let is = swap.is in record {
+      live = (ap (λ z. z.weight) is ∙ p.live.0, ap length c.put_first.ensures.bare);
+      number_is = ap (λ z. z.number) is ∙ p.number_is;
+      held_is = ap (λ z. z.facts.has.held) is ∙ p.held_is;
+      further_is = ap (λ z. z.facts.has.further) is ∙ p.further_is;
+      spareless = ap (λ z. z.facts.has.spares) is ∙ p.spareless;
+      shut = ap (λ z. z.facts.open_slot) is ∙ p.shut;
+      owes_is = ap (λ z. is_owing z.facts.doing) is ∙ p.owes_is;
+      waits_are = ap (λ (z : View _ _). length z.facts.waits) is ∙ p.waits_are;
+      cells_are = ap (λ z. words_for z.cells) is ∙ (p.cells_are ∙ ap (λ t. t.words) (sym table));
+      inside = inside-swapped _ _ _ swap p.inside;
+      few_cells = subst (λ n. n < 2147483648) (sym (ap (λ z. z.cells) is)) p.few_cells;
+    }
+
+pub returns-clause-belongs : goal.returns-clause-belongs
+returns-clause-belongs g c =
+    let C = g.C.ClientWords in
+    let p = c.args.pass.now in
+    let v = p.seat.me.0 in
+    let b = c.requires.belongs in
+    let u = c.exchange.new.seat.me.0 in
+    let same : u ≡ c.take_out.new.seat.me.0 = ap (λ m. m.0) c.exchange.ensures.3 in
+    let items = c.take_out.new.seat.me.1 in
+    let took : TookOut c.args.slot v u items =
+    subst (λ z. TookOut c.args.slot v z items) (sym same) c.take_out.ensures.took in
+    let table = c.put_first.ensures.table ∙ (c.exchange.ensures.0 ∙ c.take_out.ensures.table) in
+    let swap = swapped-then _ _ items v u _ took c.put_first.ensures.put p.shut in
+    let is = swap.is in record {
+      table = table ∙ b.table;
+      slots = b.slots;
+      passes = ap (λ z. z.passes) is ∙ b.passes;
+      limit = ap (λ z. z.limit) is ∙ b.limit;
+      cells = ap (λ z. z.cells) is ∙ b.cells;
+      mode = b.mode;
+      live = live-swapped _ _ _ swap C.object b.live;
+      opening = ap (λ z. z.opening) is ∙ b.opening;
+      alone = alone-swapped _ _ _ swap C.primitive b.alone;
+    }

@@ -1,6 +1,4 @@
 use Rattle.std.proofs.Common.{rules, ◌<◌, ◌≡◌, ◌∙◌, [], ◌∷◌, ap, subst, arith, Some}
-use Rattle.cqs_rule.proofs.Lists.{set_there}
-use Rattle.cqs_rule.proofs.Alone.{alone-now}
 use Rattle.cqs_rule.proofs.Swaps.{puts-back}
 use Rattle.cqs_rule.proofs.queue.Queue.put_back.Goals as goal
 
@@ -14,19 +12,8 @@ load-requires g c =
     let item = c.requires.item in (
       search rules,
       search rules,
-      (λ s r homes here small.
-          let t = puts-back C.object (C.primitive x) _ _ (g.met.C.ClientWords.keeps x) _ _ g.K.Numbered.slot
+      puts-back C.object (C.primitive x) _ _ (g.met.C.ClientWords.keeps x) _ _ g.K.Numbered.slot
           c.args.seat.now.me c.requires.one (c.requires.out ∙ ap Some slot) (omega arith)
           (subst ((C.primitive x).opens v.facts.has) slot c.requires.may) item.0
-          (item.1 ∙ ap (λ k. (k, item.0) ∷ []) slot) s r homes here small in (
-            t.0,
-            t.1,
-            t.2,
-            t.3,
-            (
-              t.4,
-              alone-now C.object C.primitive _ _ x (g.met.C.ClientWords.keeps x) _ t.3 _ t.0
-                  (set_there s.views _ _ t.0 here),
-            ),
-          )),
+          (item.1 ∙ ap (λ k. (k, item.0) ∷ []) slot),
     )

@@ -1,7 +1,5 @@
 use Rattle.std.proofs.Common.{rules, ◌<◌, ◌≡◌, ◌∙◌, [], ◌∷◌, ap, subst, arith, Some, None}
 use Rattle.cqs_rule.specs.Slots.{laid_in}
-use Rattle.cqs_rule.proofs.Lists.{set_there}
-use Rattle.cqs_rule.proofs.Alone.{alone-now}
 use Rattle.cqs_rule.proofs.Swaps.{fills}
 use Rattle.cqs_rule.proofs.queue.Queue.put_first.Goals as goal
 
@@ -15,29 +13,18 @@ load-requires g c =
     let item = c.requires.item in (
       search rules,
       search rules,
-      (λ s r homes here small.
-          let t = fills C.object (C.primitive x) _ _ (g.met.C.ClientWords.keeps x) _ _ g.K.Numbered.slot
+      fills C.object (C.primitive x) _ _ (g.met.C.ClientWords.keeps x) _ _ g.K.Numbered.slot
           c.args.seat.now.me c.requires.one (c.requires.out ∙ ap Some slot) (omega arith)
           (subst (λ k. laid_in v.laid k ≡ None) slot c.requires.unlaid) item.0
-          (item.1 ∙ ap (λ k. (k, Some item.0) ∷ []) slot) s r homes here small in (
-            t.0,
-            t.1,
-            t.2,
-            t.3,
-            (
-              t.4,
-              alone-now C.object C.primitive _ _ x (g.met.C.ClientWords.keeps x) _ t.3 _ t.0
-                  (set_there s.views _ _ t.0 here),
-            ),
-          )),
+          (item.1 ∙ ap (λ k. (k, Some item.0) ∷ []) slot),
     )
 
 pub returns-clause-bare : goal.returns-clause-bare
 returns-clause-bare g c =
     let item = c.requires.item in
-    (c.load.ensures.2.0 item.0 (item.1 ∙ ap (λ k. (k, Some item.0) ∷ []) c.requires.number)).2
+    (c.load.ensures.2 item.0 (item.1 ∙ ap (λ k. (k, Some item.0) ∷ []) c.requires.number)).2
 
 pub returns-clause-put : goal.returns-clause-put
 returns-clause-put g c =
     let item = c.requires.item in
-    (c.load.ensures.2.0 item.0 (item.1 ∙ ap (λ k. (k, Some item.0) ∷ []) c.requires.number)).0
+    (c.load.ensures.2 item.0 (item.1 ∙ ap (λ k. (k, Some item.0) ∷ []) c.requires.number)).0

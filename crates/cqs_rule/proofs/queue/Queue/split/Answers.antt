@@ -136,8 +136,9 @@ returns-then-found-saw-clause-new_belongs g c =
     let cut = c.split_seat-seat.ensures in
     let old = c.loop-pass.invariant.0 in
     let e = c.make-found.ensures in
-    let b = cut-begins C.object _ _ _ _ _ _ c.args.gives _ _ c.if-found-saw.true (omega arith) e.tried e.alive cut.2
-    cut.4 in record {
+    let same = ap (λ (f : Facts). f.has.held) c.loop-pass.invariant.1.saw.facts_are in
+    let b = cut-begins C.object _ _ _ _ _ _ c.args.gives _ _ c.if-found-saw.true (omega arith)
+    (omega (arith, old.live.few, same, c.requires.enough)) e.tried e.alive cut.2 cut.4 in record {
       table = cut.3 ∙ (e.table ∙ old.table);
       slots = old.slots;
       passes = b.passes ∙ old.passes;

@@ -1,5 +1,10 @@
-use Rattle.std.proofs.Common.{◌≡◌, ◌∙◌, ap, ◌∷◌}
+use Rattle.std.proofs.Common.{◌≡◌, ◌∙◌, ◌<◌, ap, sym, subst, length, [], ◌∷◌}
 use Rattle.atomic_table.specs.Table.{rest}
+use Rattle.cqs_rule.specs.declared.view.View.{View}
+use Rattle.cqs_rule.specs.Facts.{is_owing}
+use Rattle.cqs_rule.specs.Layout.{words_for}
+use Rattle.cqs_rule.specs.SlotSteps.{TookOut}
+use Rattle.cqs_rule.proofs.Swaps.{swapped-then, inside-swapped, live-swapped, alone-swapped}
 use Rattle.cqs_rule.proofs.queue.Queue.swap_slot.Goals as goal
 
 pub put_back-requires-clause-item : goal.put_back-requires-clause-item
@@ -8,3 +13,57 @@ put_back-requires-clause-item g c = (
   ap (λ m. m.1) c.exchange-found.ensures.3
       ∙ ap (λ l. (c.args.slot, c.args.value) ∷ rest l) c.take_out.ensures.took.items_are,
 )
+
+pub invariant_of-pass : goal.invariant_of-pass
+invariant_of-pass g c =
+    let p = c.args.pass.now in
+    let v = p.seat.me.0 in
+    let u = c.exchange-found.new.seat.me.0 in
+    let same : u ≡ c.take_out.new.seat.me.0 = ap (λ m. m.0) c.exchange-found.ensures.3 in
+    let items = c.take_out.new.seat.me.1 in
+    let took : TookOut c.args.slot v u items =
+    subst (λ z. TookOut c.args.slot v z items) (sym same) c.take_out.ensures.took in
+    let table = c.put_back.ensures.table ∙ (c.exchange-found.ensures.0 ∙ c.take_out.ensures.table) in
+    let swap = swapped-then _ _ items v u _ took (c.put_back.ensures.put c.args.value
+    (ap (λ m. m.1) c.exchange-found.ensures.3
+    ∙ ap (λ l. (c.args.slot, c.args.value) ∷ rest l) c.take_out.ensures.took.items_are)) p.shut in
+    let is = swap.is in record {
+      live = (ap (λ z. z.weight) is ∙ p.live.0, ap length c.put_back.ensures.bare);
+      number_is = ap (λ z. z.number) is ∙ p.number_is;
+      held_is = ap (λ z. z.facts.has.held) is ∙ p.held_is;
+      further_is = ap (λ z. z.facts.has.further) is ∙ p.further_is;
+      spareless = ap (λ z. z.facts.has.spares) is ∙ p.spareless;
+      shut = ap (λ z. z.facts.open_slot) is ∙ p.shut;
+      owes_is = ap (λ z. is_owing z.facts.doing) is ∙ p.owes_is;
+      waits_are = ap (λ (z : View _ _). length z.facts.waits) is ∙ p.waits_are;
+      cells_are = ap (λ z. words_for z.cells) is ∙ (p.cells_are ∙ ap (λ t. t.words) (sym table));
+      inside = inside-swapped _ _ _ swap p.inside;
+      few_cells = subst (λ n. n < 2147483648) (sym (ap (λ z. z.cells) is)) p.few_cells;
+    }
+
+pub returns-clause-belongs : goal.returns-clause-belongs
+returns-clause-belongs g c =
+    let C = g.C.ClientWords in
+    let p = c.args.pass.now in
+    let v = p.seat.me.0 in
+    let b = c.requires.belongs in
+    let u = c.exchange-found.new.seat.me.0 in
+    let same : u ≡ c.take_out.new.seat.me.0 = ap (λ m. m.0) c.exchange-found.ensures.3 in
+    let items = c.take_out.new.seat.me.1 in
+    let took : TookOut c.args.slot v u items =
+    subst (λ z. TookOut c.args.slot v z items) (sym same) c.take_out.ensures.took in
+    let table = c.put_back.ensures.table ∙ (c.exchange-found.ensures.0 ∙ c.take_out.ensures.table) in
+    let swap = swapped-then _ _ items v u _ took (c.put_back.ensures.put c.args.value
+    (ap (λ m. m.1) c.exchange-found.ensures.3
+    ∙ ap (λ l. (c.args.slot, c.args.value) ∷ rest l) c.take_out.ensures.took.items_are)) p.shut in
+    let is = swap.is in record {
+      table = table ∙ b.table;
+      slots = b.slots;
+      passes = ap (λ z. z.passes) is ∙ b.passes;
+      limit = ap (λ z. z.limit) is ∙ b.limit;
+      cells = ap (λ z. z.cells) is ∙ b.cells;
+      mode = b.mode;
+      live = live-swapped _ _ _ swap C.object b.live;
+      opening = ap (λ z. z.opening) is ∙ b.opening;
+      alone = alone-swapped _ _ _ swap C.primitive b.alone;
+    }

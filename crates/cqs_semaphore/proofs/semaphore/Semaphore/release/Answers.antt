@@ -1,7 +1,8 @@
 use Rattle.std.proofs.Common.{◌∷◌, [], true, false, sym, refl, ◌∙◌}
 use Rattle.cqs_core.specs.declared.entries.Entry.TheVariants as entry
 use Rattle.cqs_rule.specs.Passes.{pass_view}
-use Rattle.cqs_semaphore.proofs.ReleaseSteps.{gave, gave-called, freed, releases-so, released-rule}
+use Rattle.cqs_semaphore.proofs.ReleaseSteps.{gave, gave-called, freed, releases-so, released-rule, ends-rule}
+use Rattle.cqs_semaphore.proofs.Values.{gave-value, gave-at-once}
 use Rattle.cqs_semaphore.specs.declared.answers.Released.TheVariants.{Freed}
 use Rattle.cqs_semaphore.proofs.AloneSteps.{quiet, plain-release}
 use Rattle.cqs_semaphore.proofs.Rules.{call-rule_own}
@@ -45,3 +46,12 @@ returns-clause-alone g c = λ alone.
     (λ idle. quiet _ c.give_permit.ensures.belongs.alone c.give_permit.new.pass.live.0 (rule.called.same.alone ∙ alone)
     idle)
     alone
+
+pub returns-then-is_below_zero-clause-handed : goal.returns-then-is_below_zero-clause-handed
+returns-then-is_below_zero-clause-handed g c =
+    let sent = ends-rule _ _ _ _ _ c.send.ensures.ended c.give_permit.ensures.belongs.live.own
+    c.send.ensures.belongs.live.legal in
+    gave-value _ _ _ _ c.give_permit.ensures.handed sent.called.handed sent.called.unlaid
+
+pub returns-clause-handed : goal.returns-clause-handed
+returns-clause-handed g c = gave-at-once _ _ _ c.give_permit.ensures.handed

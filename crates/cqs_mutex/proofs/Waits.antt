@@ -1,0 +1,43 @@
+-- A wait is still the pass's own after its slot was opened, and after the calls that leave it.
+use Rattle.std.proofs.Common.{◌≡◌, ◌∙◌, ap, sym, subst, ℕ, List, Option, Result, Ok}
+use Rattle.cqs_core.specs.declared.entries.Entry.{Entry}
+use Rattle.cqs_rule.specs.declared.config.AcquireError.{AcquireError}
+use Rattle.cqs_rule.specs.declared.queue.tokens.Wait.{Wait}
+use Rattle.cqs_rule.specs.declared.semaphore.carries.Kept.{Kept}
+use Rattle.cqs_rule.specs.declared.view.View.{View}
+use Rattle.cqs_rule.specs.Lists.{Has}
+use Rattle.cqs_rule.specs.Placed.{place_word, place_known}
+use Rattle.cqs_rule.specs.Semaphore.{semaphore_object}
+use Rattle.cqs_rule.specs.SlotSteps.{Swapped}
+use Rattle.cqs_rule.specs.Waits.{HasWait, place_of}
+use Rattle.cqs_rule.proofs.Places.{has-wait-called}
+use Rattle.cqs_semaphore.specs.declared.answers.Released.TheVariants.{Sent}
+use Rattle.cqs_mutex.specs.declared.answers.Locked.TheVariants.{Later}
+use Rattle.cqs_mutex.specs.declared.answers.TriedLock.TheVariants.{Busy}
+use Rattle.cqs_mutex.specs.declared.guard.LockWait.{LockWait}
+use Rattle.cqs_mutex.specs.Calls.{HasLocked, HasTried, HasUnlocked}
+use Rattle.cqs_mutex.specs.Guards.{wait_in}
+
+module _ {T : Type 0} where
+  pub wait-swapped : (laid : List (ℕ × Option (Kept T))) (v w : View Entry (Kept T)) (wait : Wait) → Swapped laid v w
+      → HasWait v wait → HasWait w wait
+  wait-swapped laid v w wait swap h = record {
+    mine = h.mine ∙ sym (ap (λ z. z.number) swap.is);
+    open_yet = subst (Has (place_of wait).index)
+        (sym (ap (λ (z : View Entry (Kept T)). z.facts.waits) swap.is)) h.open_yet;
+    place = place_known w (place_of wait) (place_word v (place_of wait) h.place);
+  }
+
+  pub wait-locked : (v w : View Entry (Kept T)) (wait : LockWait) → HasLocked v (Ok (Later wait)) w
+      → HasWait w (wait_in wait)
+  wait-locked v w wait l = subst (λ (z : View Entry (Kept T)). HasWait z (wait_in wait)) (sym l.value) l.acquired.2
+
+  pub wait-busy : (v w : View Entry (Kept T)) (wait : Wait) → HasTried v Busy w → HasWait v wait → HasWait w wait
+  wait-busy v w wait t h = subst (λ (z : View Entry (Kept T)). HasWait z wait) (sym t.value)
+      (has-wait-called semaphore_object v t.between _ _ wait t.called.called t.tries.4.waits_are h)
+
+  pub wait-sent : (value : T) (v w : View Entry (Kept T)) (k : ℕ) (wait : Wait) → HasUnlocked value v (Sent k) w
+      → HasWait v wait → HasWait w wait
+  wait-sent value v w k wait u h =
+      has-wait-called semaphore_object u.between w _ _ wait u.called.called u.releases.1.1.waits_are
+      (wait-swapped _ v u.between wait u.laid h)

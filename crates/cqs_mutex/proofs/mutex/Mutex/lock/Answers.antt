@@ -1,0 +1,26 @@
+use Rattle.std.proofs.Common.{◌≡◌, ◌∙◌, ap, sym, subst, arith, ◌∷◌, [], ◌++◌, Some, None}
+use Rattle.cqs_mutex.proofs.Values.{filled-more}
+use Rattle.cqs_mutex.proofs.mutex.Mutex.lock.Goals as goal
+
+pub take-requires-clause-filled : goal.take-requires-clause-filled
+take-requires-clause-filled g c = λ κs lives.
+    filled-more _ _ c.requires.belongs.filled (c.acquire.ensures.called.called).handed
+
+pub returns-in-Ok-Later-clause-belongs : goal.returns-in-Ok-Later-clause-belongs
+returns-in-Ok-Later-clause-belongs g c =
+    let b = c.requires.belongs in
+    let rule = c.acquire.ensures.called.called in record {
+      mine = c.acquire.ensures.belongs;
+      filled = filled-more _ _ b.filled rule.handed;
+      tidy = λ none. rule.unlaid 0 (b.tidy
+          (sym (rw c.in-Ok-Later.field-0-is at c.in-Ok-Later.ensures.acquired).3.held_is ∙ none));
+    }
+
+pub returns-in-Err-clause-belongs : goal.returns-in-Err-clause-belongs
+returns-in-Err-clause-belongs g c =
+    let b = c.requires.belongs in
+    let rule = c.acquire.ensures.called.called in record {
+      mine = c.acquire.ensures.belongs;
+      filled = filled-more _ _ b.filled rule.handed;
+      tidy = λ none. rule.unlaid 0 (b.tidy (sym (ap (λ f. f.has.held) c.in-Err.ensures.worn.facts_are) ∙ none));
+    }

@@ -1,0 +1,4 @@
+pub mod Guards
+pub mod Values
+pub mod Mutexes
+pub mod Calls

@@ -1,0 +1,26 @@
+-- How the value of a mutex moves between its slot and a guard.
+use Rattle.std.specs.Prelude.{◌≡◌, ℕ, List, ◌∷◌, Option, Some, None}
+use Rattle.cqs_core.specs.declared.entries.Entry.{Entry}
+use Rattle.cqs_rule.specs.declared.semaphore.carries.Kept.{Kept}
+use Rattle.cqs_rule.specs.declared.view.View.{View}
+use Rattle.cqs_rule.specs.Lists.{IsPrefix}
+use Rattle.cqs_rule.specs.Slots.{handed_in}
+use Rattle.cqs_rule.specs.SlotSteps.{Swapped}
+
+-- a value as it lies in the slot
+abbrev pub kept : {T : Type 0} → T → Kept T
+kept value = record { value = value }
+
+module _ {T : Type 0} where
+  -- A guard got this value: it is the one that was handed in last, by the last unlock or at the
+  -- opening. The pass has seen nothing else, and nothing lies in the slot now.
+  pub record TookValue (value : T) (v w : View Entry (Kept T)) : Type 0 where
+    pub handed : List (ℕ × Kept T)
+    pub since : IsPrefix v.handed handed
+    pub seen : IsPrefix handed w.handed
+    pub last : handed_in handed 0 ≡ Some (kept value)
+    pub swapped : Swapped ((0, None) ∷ v.laid) v w
+
+  -- a guard laid its value into the slot
+  abbrev pub LaidValue : T → View Entry (Kept T) → View Entry (Kept T) → Type 0
+  LaidValue value v w = Swapped ((0, Some (kept value)) ∷ v.laid) v w

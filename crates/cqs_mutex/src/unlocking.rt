@@ -1,0 +1,71 @@
+//! The unlock, and the end of one.
+
+ghost use Rattle.std.specs.Prelude.{◌≡◌, ◌<◌, true, [], IsOk, IfOk};
+ghost use Rattle.cqs_rule.specs.Crew.{IsBetween};
+ghost use Rattle.cqs_rule.specs.Owed.{HasUnder, under_reached};
+ghost use Rattle.cqs_rule.specs.Passes.{pass_view};
+ghost use Rattle.cqs_rule.specs.SlotSteps.{WasHandedIn};
+ghost use Rattle.cqs_semaphore.specs.Alone.{IsPlainEnd};
+ghost use Rattle.cqs_semaphore.specs.Answers.{Ends};
+ghost use Rattle.cqs_semaphore.specs.Calls.{IsReady, CallRule, plain_after};
+ghost use Rattle.cqs_semaphore.specs.Entries.{resumed_further};
+ghost use Rattle.cqs_semaphore.specs.Steps.{IsFurther};
+ghost use Rattle.cqs_mutex.specs.Calls.{HasUnlocked};
+ghost use Rattle.cqs_mutex.specs.Guards.{value_of};
+ghost use Rattle.cqs_mutex.specs.Mutexes.{Belongs};
+ghost use Rattle.cqs_mutex.specs.Values.{kept};
+
+use crate::guard::Guard;
+use crate::mutex::{Mutex, MutexPass};
+use cqs_rule::{Crowded, Kept, Under};
+use cqs_semaphore::Released;
+
+impl<T: Send + Drop> Mutex<T> {
+    /// Gives the mutex back, with the value that the guard has now: it is free, or it goes to the
+    /// first who waits.
+    pub fn unlock(
+        &self,
+        pass: &mut MutexPass<T>,
+        guard: Guard<T>,
+    ) -> Result<Released, (Guard<T>, Crowded)>
+        requires belongs { Belongs self.now pass.old }
+        requires ready { IsReady (pass_view pass.old).facts }
+        requires holds { 0 < (pass_view pass.old).facts.has.held }
+        ensures belongs { Belongs self.now pass.new }
+        ensures never_crowded { IsOk result }
+        ensures unlocked { IfOk result (λ released.
+            HasUnlocked (value_of guard) (pass_view pass.old) released (pass_view pass.new)) }
+        ensures handed { WasHandedIn 0 (kept (value_of guard)) (pass_view pass.old)
+            (pass_view pass.new) }
+        ensures between { IsBetween (pass_view pass.new).facts }
+    {
+        let Guard { value, permit } = guard;
+        let _ = self
+            .semaphore
+            .queue()
+            .swap_slot(pass, 0, Some(Kept { value }));
+        match self.semaphore.release(pass, permit) {
+            Ok(released) => Ok(released),
+            Err(_) => unreachable!(),
+        }
+    }
+
+    /// Goes on with a mutex that is on its way, and whose resumption was handed back.
+    pub fn finish(&self, pass: &mut MutexPass<T>, under: Under) -> Released
+        requires belongs { Belongs self.now pass.old }
+        requires owes { HasUnder (pass_view pass.old).facts under }
+        requires further { (pass_view pass.old).facts.has.further ≡ 0 }
+        ensures belongs { Belongs self.now pass.new }
+        ensures called { CallRule (pass_view pass.old) [] (resumed_further result)
+            (pass_view pass.new) }
+        ensures ends { Ends (pass_view pass.old) (pass_view pass.old).facts.has.held
+            (pass_view pass.old).facts.waits result (pass_view pass.new) }
+        ensures further { IsFurther (under_reached under) result }
+        ensures between { IsBetween (pass_view pass.new).facts }
+        ensures alone { (pass_view pass.old).alone ≡ true
+            → (plain_after (pass_view pass.old)).way ≡ 1
+            → IsPlainEnd (pass_view pass.old) result (pass_view pass.new) }
+    {
+        self.semaphore.finish(pass, under)
+    }
+}

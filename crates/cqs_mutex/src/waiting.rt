@@ -1,0 +1,51 @@
+//! What a caller does with a wait.
+
+ghost use Rattle.cqs_rule.specs.Crew.{IsBetween};
+ghost use Rattle.cqs_rule.specs.Passes.{pass_view};
+ghost use Rattle.cqs_rule.specs.Waits.{HasWait};
+ghost use Rattle.cqs_semaphore.specs.Calls.{IsReady};
+ghost use Rattle.cqs_mutex.specs.Calls.{HasPolled, HasLeft, PolledHolds, LeftHolds};
+ghost use Rattle.cqs_mutex.specs.Guards.{wait_in};
+ghost use Rattle.cqs_mutex.specs.Mutexes.{Belongs};
+
+use crate::answers::{LockLeft, PolledLock};
+use crate::guard::LockWait;
+use crate::mutex::{Mutex, MutexPass};
+use cqs_semaphore::{CancelAnswer, Polled};
+
+impl<T: Send + Drop> Mutex<T> {
+    /// Looks whether the mutex came.
+    pub fn poll(&self, pass: &mut MutexPass<T>, wait: LockWait) -> PolledLock<T>
+        requires belongs { Belongs self.now pass.old }
+        requires ready { IsReady (pass_view pass.old).facts }
+        requires has { HasWait (pass_view pass.old) (wait_in wait) }
+        ensures belongs { Belongs self.now pass.new }
+        ensures polled { HasPolled (wait_in wait) (pass_view pass.old) result (pass_view pass.new) }
+        ensures holds { PolledHolds result (pass_view pass.new) }
+        ensures ready { IsReady (pass_view pass.new).facts }
+    {
+        let LockWait { wait } = wait;
+        match self.semaphore.poll(pass, wait) {
+            Polled::Granted(permit) => PolledLock::Granted(self.take(pass, permit)),
+            Polled::Pending(wait) => PolledLock::Pending(LockWait { wait }),
+        }
+    }
+
+    /// Ends a wait: the caller leaves the line, or has the mutex that had come before. Where the
+    /// mutex was left to the caller who leaves, it goes on to the next one.
+    pub fn cancel(&self, pass: &mut MutexPass<T>, wait: LockWait) -> LockLeft<T>
+        requires belongs { Belongs self.now pass.old }
+        requires ready { IsReady (pass_view pass.old).facts }
+        requires has { HasWait (pass_view pass.old) (wait_in wait) }
+        ensures belongs { Belongs self.now pass.new }
+        ensures left { HasLeft (wait_in wait) (pass_view pass.old) result (pass_view pass.new) }
+        ensures holds { LeftHolds result (pass_view pass.new) }
+        ensures between { IsBetween (pass_view pass.new).facts }
+    {
+        let LockWait { wait } = wait;
+        match self.semaphore.cancel(pass, wait) {
+            CancelAnswer::Cancelled(under) => LockLeft::Cancelled(under),
+            CancelAnswer::TooLate(permit) => LockLeft::TooLate(self.take(pass, permit)),
+        }
+    }
+}

@@ -29,9 +29,9 @@ use Rattle.cqs_rule.specs.Saw.{Saw, WasFound}
 use Rattle.cqs_rule.proofs.Calls.{saw-then}
 use Rattle.cqs_rule.proofs.CellSteps.{word_of-injective}
 use Rattle.cqs_rule.proofs.Places.{knows-saw}
-use Rattle.cqs_cell.specs.Crossings.{CrossesRow, CrossesBy, Crosses, IsSureBy, IsLastBy}
+use Rattle.cqs_cell.specs.Crossings.{IsSureBy, IsLastBy}
 use Rattle.cqs_cell.specs.Transitions.{facts_since, Made, Missed, MissedCell, MissedCellBy, MadeBy}
-use Rattle.cqs_cell.proofs.Crossing.{row-index}
+use Rattle.cqs_cell.proofs.Crossing.{CrossesRow, CrossesBy, Crosses, row-index}
 
 -- the cell that the word of a cell unpacks to
 pub unpacks : (n : ℕ) (g : Glimpse) → FoundCell n g
@@ -191,6 +191,12 @@ module _ {C E S : Type 0} (object : Object E) (primitive : C → Primitive E S) 
       no-more : {A : Type 0} (l : List A) → length l ≤ 0 → l ≡ []
       no-more [] e = refl
       no-more (x ∷ xs) e = absurd (omega arith)
+
+  pub made_after_miss : (row row' : CellRow) (s : QueueStep) (k payload : ℕ) (cell : CellWord) (v u w : View E S)
+      → MissedCell object primitive row k payload v cell u → Made object primitive s row' 0 k cell.payload u w
+      → Made object primitive s row' 1 k cell.payload v w
+  made_after_miss row row' s k payload cell v u w m d =
+      made-after row row' s k cell.payload cell.state v u w m.missed d
 
 -- What an exchange that missed leaves: the pass knows what it found, and is where it was.
 pub record After {E S : Type 0} (k left : ℕ) (s : CoreState) (v u : View E S) : Type 0 where

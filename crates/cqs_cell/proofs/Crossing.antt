@@ -14,30 +14,7 @@ use Rattle.cqs_rule.specs.declared.view.View.{View}
 use Rattle.cqs_rule.specs.Exchanges.{Exchanges, MayExchange, IsCrossing, IsOwnWait, payload_left}
 use Rattle.cqs_rule.specs.Placed.{KnowsPlace, place_at}
 use Rattle.cqs_rule.specs.Ruled.{shown_state, word_of}
-use Rattle.cqs_cell.specs.Crossings.{WorksBy, OwnsBy, FindsBy, FitsBy, MakesBy, LeavesBy}
-
-module _ {E S : Type 0} where
-  -- The pass may make the exchange of this row at the place, from the word of a cell with this
-  -- payload to the word of the one made.
-  pub record CrossesRow (row : CellRow) (v : View E S) (at : Place) (payload expected new : ℕ)
-      : Type 0 where
-    pub works : v.facts.doing ≡ doing_at row.works_at at.index
-    pub own : IsOwnWait row.works_at at.index v.facts
-    pub place : KnowsPlace v at
-    pub payload_fits : payload < 2 ^ 20
-    pub bare : IsBare row.finds → payload ≡ 0
-    pub expects : expected ≡ word_of at.index row.finds payload
-    pub state : CoreState
-    pub makes : row.makes ≡ Some state
-    pub writes : new ≡ word_of at.index state
-        (payload_left row.brings (payload_told row.gain payload v.facts.has.payload) payload)
-
-  abbrev pub CrossesBy : StepRow → View E S → Place → ℕ → ℕ → ℕ → Type 0
-  CrossesBy (at_counter row) v at payload expected new = ⊥
-  CrossesBy (at_cell row) v at payload expected new = CrossesRow row v at payload expected new
-
-  abbrev pub Crosses : QueueStep → View E S → Place → ℕ → ℕ → ℕ → Type 0
-  Crosses s v at payload expected new = CrossesBy (row_of s) v at payload expected new
+use Rattle.cqs_cell.specs.Crossings.{CrossesRow, CrossesBy, Crosses, WorksBy, OwnsBy, FindsBy, FitsBy, MakesBy, LeavesBy}
 
 -- the state whose shown one is this
 made-state : (o : Option CoreState) (made : CellState) → option_map shown_state o ≡ Some made

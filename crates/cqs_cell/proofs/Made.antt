@@ -29,9 +29,9 @@ use Rattle.cqs_rule.specs.Saw.{Saw, WasFound}
 use Rattle.cqs_rule.proofs.Calls.{saw-then}
 use Rattle.cqs_rule.proofs.CellSteps.{word_of-injective}
 use Rattle.cqs_rule.proofs.Places.{knows-saw}
-use Rattle.cqs_cell.specs.Crossings.{IsSureBy, IsLastBy}
+use Rattle.cqs_cell.specs.Crossings.{CrossesRow, CrossesBy, Crosses, IsSureBy, IsLastBy}
 use Rattle.cqs_cell.specs.Transitions.{facts_since, Made, Missed, MissedCell, MissedCellBy, MadeBy}
-use Rattle.cqs_cell.proofs.Crossing.{CrossesRow, CrossesBy, Crosses, row-index}
+use Rattle.cqs_cell.proofs.Crossing.{row-index}
 
 -- the cell that the word of a cell unpacks to
 pub unpacks : (n : ℕ) (g : Glimpse) → FoundCell n g

@@ -1,15 +1,42 @@
--- The exchanges of a step on a cell, in the words of its row: each definition is one condition.
-use Rattle.std.specs.Prelude.{◌≡◌, ℕ, ◌<◌, Option, Some}
+-- The exchanges of a step on the cell that stands at a place: from which word to which; and, one by
+-- one, what the step's row says of the states and payloads that they are made of.
+use Rattle.std.specs.Prelude.{◌≡◌, ℕ, ◌<◌, ◌^◌, Option, Some}
 use Rattle.std.specs.Option.{option_map}
 use Rattle.cqs_core.specs.declared.cells.CoreState.{CoreState}
 use Rattle.cqs_core.specs.QueueCells.{rank, IsBare}
 use Rattle.cqs_core.specs.QueueStages.{doing_at, MayFind}
-use Rattle.cqs_core.specs.QueueSteps.{QueueStep, row_of, StepRow, at_counter, at_cell, payload_told}
+use Rattle.cqs_core.specs.QueueSteps.{QueueStep, row_of, CellRow, StepRow, at_counter, at_cell, payload_told}
 use Rattle.cqs_words.specs.declared.cell.CellState.{CellState}
+use Rattle.cqs_rule.specs.declared.config.Place.{Place}
 use Rattle.cqs_rule.specs.declared.view.Facts.{Facts}
 use Rattle.cqs_rule.specs.declared.view.Glimpse.{Glimpse}
+use Rattle.cqs_rule.specs.declared.view.View.{View}
 use Rattle.cqs_rule.specs.Exchanges.{IsOwnWait, payload_left}
-use Rattle.cqs_rule.specs.Ruled.{shown_state}
+use Rattle.cqs_rule.specs.Placed.{KnowsPlace}
+use Rattle.cqs_rule.specs.Ruled.{shown_state, word_of}
+
+module _ {E S : Type 0} where
+  -- The pass may make the exchange of this row at the place, from the word of a cell with this
+  -- payload to the word of the one made.
+  pub record CrossesRow (row : CellRow) (v : View E S) (at : Place) (payload expected new : ℕ)
+      : Type 0 where
+    pub works : v.facts.doing ≡ doing_at row.works_at at.index
+    pub own : IsOwnWait row.works_at at.index v.facts
+    pub place : KnowsPlace v at
+    pub payload_fits : payload < 2 ^ 20
+    pub bare : IsBare row.finds → payload ≡ 0
+    pub expects : expected ≡ word_of at.index row.finds payload
+    pub state : CoreState
+    pub makes : row.makes ≡ Some state
+    pub writes : new ≡ word_of at.index state
+        (payload_left row.brings (payload_told row.gain payload v.facts.has.payload) payload)
+
+  abbrev pub CrossesBy : StepRow → View E S → Place → ℕ → ℕ → ℕ → Type 0
+  CrossesBy (at_counter row) v at payload expected new = ⊥
+  CrossesBy (at_cell row) v at payload expected new = CrossesRow row v at payload expected new
+
+  abbrev pub Crosses : QueueStep → View E S → Place → ℕ → ℕ → ℕ → Type 0
+  Crosses s v at payload expected new = CrossesBy (row_of s) v at payload expected new
 
 -- a pass at these facts is where the step is made at the cell k
 abbrev pub WorksBy : StepRow → ℕ → Facts → Type 0

@@ -2,9 +2,9 @@
 
 ghost use Rattle.std.specs.Prelude.{◌≡◌, ◌<◌, ◌^◌, IfOk, IfErr};
 ghost use Rattle.cqs_cell.specs.Crossings.{
-    Works, Owns, Finds, Fits, Makes, Leaves, IsLast, IsSure,
+    Crosses, Works, Owns, Finds, Fits, Makes, Leaves, IsLast, IsSure,
 };
-ghost use Rattle.cqs_cell.specs.Transitions.{HasMade, HasMissedCell};
+ghost use Rattle.cqs_cell.specs.Transitions.{HasMade, HasMissedCell, HasMissedWord, IsCellWord};
 ghost use Rattle.cqs_rule.specs.Manner.{Suits};
 ghost use Rattle.cqs_rule.specs.Passes.{pass_view, client_of, IsOf};
 ghost use Rattle.cqs_rule.specs.Placed.{KnowsPlace};
@@ -52,14 +52,12 @@ pub(crate) fn cross<C: ClientWords, K: Kind>(
         state: made,
         payload: left,
     };
-    let expected = expected.pack();
-    let word = queue.swap_table::<K>(pass, at.word, expected, new.pack());
-    if word == expected {
-        return Ok(());
-    }
-    match CellWord::unpack(word) {
-        Some(cell) => Err(cell),
-        None => unreachable!(),
+    match exchange::<C, K>(queue, pass, at, payload, expected.pack(), new.pack()) {
+        Ok(()) => Ok(()),
+        Err(word) => match CellWord::unpack(word) {
+            Some(cell) => Err(cell),
+            None => unreachable!(),
+        },
     }
 }
 
@@ -93,5 +91,34 @@ pub(crate) fn cross_surely<C: ClientWords, K: Kind>(
     match cross::<C, K>(queue, pass, at, found, payload, made, left) {
         Ok(()) => {}
         Err(_) => unreachable!(),
+    }
+}
+
+// The exchange itself, from the word of a cell with this payload to another word. It answers the
+// word that was found where that is another.
+#[inline]
+fn exchange<C: ClientWords, K: Kind>(
+    queue: &Queue<C>,
+    pass: &mut Pass<C>,
+    at: Place,
+    payload: u32,
+    expected: u64,
+    new: u64,
+) -> Result<(), u64>
+    requires belongs { IsOf queue.now pass.old }
+    requires suits { Suits (C.primitive (client_of queue.now)).manner K.step }
+    requires cell { Crosses K.step (pass_view pass.old) at payload expected new }
+    ensures belongs { IsOf queue.now pass.new }
+    ensures made { IfOk result (λ _. HasMade K.step at.index payload pass.old pass.new) }
+    ensures missed { IfErr result
+        (λ word. HasMissedWord K.step at.index payload word pass.old pass.new) }
+    ensures word { IfErr result IsCellWord }
+{
+    let _payload = payload;
+    let found = queue.swap_table::<K>(pass, at.word, expected, new);
+    if found == expected {
+        Ok(())
+    } else {
+        Err(found)
     }
 }

@@ -192,6 +192,12 @@ module _ {C E S : Type 0} (object : Object E) (primitive : C → Primitive E S) 
       no-more [] e = refl
       no-more (x ∷ xs) e = absurd (omega arith)
 
+  pub made_after_miss : (row row' : CellRow) (s : QueueStep) (k payload : ℕ) (cell : CellWord) (v u w : View E S)
+      → MissedCell object primitive row k payload v cell u → Made object primitive s row' 0 k cell.payload u w
+      → Made object primitive s row' 1 k cell.payload v w
+  made_after_miss row row' s k payload cell v u w m d =
+      made-after row row' s k cell.payload cell.state v u w m.missed d
+
 -- What an exchange that missed leaves: the pass knows what it found, and is where it was.
 pub record After {E S : Type 0} (k left : ℕ) (s : CoreState) (v u : View E S) : Type 0 where
   pub doing : u.facts.doing ≡ v.facts.doing

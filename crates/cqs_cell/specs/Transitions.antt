@@ -6,6 +6,7 @@ use Rattle.cqs_core.specs.QueueStages.{MayFind}
 use Rattle.cqs_core.specs.QueueSteps.{QueueStep, row_of, CellRow, StepRow, at_counter, at_cell, payload_told, settles, settles_owing, refuses, refuses_value}
 use Rattle.cqs_words.specs.declared.cell.CellState.{CellState}
 use Rattle.cqs_words.specs.declared.cell.CellWord.{CellWord}
+use Rattle.cqs_words.specs.Cell.{unpacked_cell}
 use Rattle.cqs_rule.specs.declared.client.ClientWords.{Ghosts}
 use Rattle.cqs_rule.specs.declared.queue.Pass.{Pass}
 use Rattle.cqs_rule.specs.declared.view.Facts.{Facts}
@@ -77,6 +78,10 @@ module _ {C E S : Type 0} (object : Object E) (primitive : C → Primitive E S) 
   MissedBy (at_counter row) k v found w = ⊥
   MissedBy (at_cell row) k v found w = Missed row k v found w
 
+-- the word is that of a cell
+abbrev pub IsCellWord : ℕ → Type 0
+IsCellWord word = unpacked_cell word ≡ None → ⊥
+
 module _ {C S E : Type 0} {g : Ghosts C S E} where
   -- the step was made at the cell of the number k, which had this payload, as the first and only
   -- try
@@ -99,6 +104,11 @@ module _ {C S E : Type 0} {g : Ghosts C S E} where
   HasMissedCell s k payload cell p p' =
       MissedCellBy g.object g.primitive (row_of s) k payload (pass_view p) cell
       (pass_view p')
+
+  -- the same by the word that was found, which is that of this cell
+  abbrev pub HasMissedWord : QueueStep → ℕ → ℕ → ℕ → Pass C S E g → Pass C S E g → Type 0
+  HasMissedWord s k payload word p p' =
+      (cell : CellWord) → unpacked_cell word ≡ Some cell → HasMissedCell s k payload cell p p'
 
   -- How a canceller ended its leaving: by what was decided, and with the payload that a resume had
   -- left there or none.

@@ -11,7 +11,7 @@ ghost use Rattle.cqs_cell.specs.Transitions.{HasMade, HasMissed};
 
 use crate::cross::cross;
 use cqs_rule::{ClientWords, LeavesAtOnce, Pass, Place, Queue};
-use cqs_words::{CellState, CellWord};
+use cqs_words::CellState;
 
 /// The owner of a wait leaves: the wait is over, and the resume that comes to its cell ends there.
 pub fn leave_at_once<C: ClientWords>(
@@ -29,9 +29,8 @@ pub fn leave_at_once<C: ClientWords>(
     ensures missed { IfErr result
         (λ found. HasMissed leaves_at_once at.index found pass.old pass.new) }
 {
-    let waiter = CellWord::bare(at.index, CellState::Waiter).pack();
-    let cancelled = CellWord::bare(at.index, CellState::Cancelled).pack();
-    match cross::<C, LeavesAtOnce>(queue, pass, at, 0, waiter, cancelled) {
+    let (waiter, cancelled) = (CellState::Waiter, CellState::Cancelled);
+    match cross::<C, LeavesAtOnce>(queue, pass, at, waiter, 0, cancelled, 0) {
         Ok(()) => Ok(()),
         Err(cell) => Err(cell.state),
     }

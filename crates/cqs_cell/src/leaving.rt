@@ -10,10 +10,10 @@ ghost use Rattle.cqs_rule.specs.Passes.{pass_view, client_of, IsOf};
 ghost use Rattle.cqs_rule.specs.Placed.{KnowsPlace};
 ghost use Rattle.cqs_cell.specs.Transitions.{HasMade, HasMissed, HasSettled};
 
-use crate::cancelling::ends;
-use crate::cross::{cross, cross_surely};
-use cqs_rule::{ClientWords, LeavesLine, Pass, Place, Queue, Settles, SettlesOwing};
-use cqs_words::{CellState, CellWord};
+use crate::cross::cross;
+use crate::settling::settle_cancelled;
+use cqs_rule::{ClientWords, LeavesLine, Pass, Place, Queue};
+use cqs_words::CellState;
 
 /// The owner of a wait leaves the line.
 pub fn leave_line<C: ClientWords>(
@@ -31,9 +31,8 @@ pub fn leave_line<C: ClientWords>(
     ensures missed { IfErr result
         (λ found. HasMissed leaves_line at.index found pass.old pass.new) }
 {
-    let waiter = CellWord::bare(at.index, CellState::Waiter).pack();
-    let cancelling = CellWord::bare(at.index, CellState::Cancelling).pack();
-    match cross::<C, LeavesLine>(queue, pass, at, 0, waiter, cancelling) {
+    let (waiter, cancelling) = (CellState::Waiter, CellState::Cancelling);
+    match cross::<C, LeavesLine>(queue, pass, at, waiter, 0, cancelling, 0) {
         Ok(()) => Ok(()),
         Err(cell) => Err(cell.state),
     }
@@ -49,14 +48,5 @@ pub fn settle_left<C: ClientWords>(queue: &Queue<C>, pass: &mut Pass<C>, at: Pla
     ensures belongs { IsOf queue.now pass.new }
     ensures settled { HasSettled true at.index result pass.old pass.new }
 {
-    let cancelling = CellWord::bare(at.index, CellState::Cancelling).pack();
-    let cancelled = CellWord::bare(at.index, CellState::Cancelled).pack();
-    match cross::<C, Settles>(queue, pass, at, 0, cancelling, cancelled) {
-        Ok(()) => None,
-        Err(cell) => {
-            let (left, ended) = ends(at, cell.payload, CellState::Cancelled);
-            cross_surely::<C, SettlesOwing>(queue, pass, at, cell.payload, left, ended);
-            Some(cell.payload)
-        }
-    }
+    settle_cancelled(queue, pass, at)
 }

@@ -24,6 +24,7 @@ mod cancelling;
 mod cross;
 mod leaving;
 mod looks;
+mod settling;
 mod transitions;
 mod values;
 

@@ -1,7 +1,8 @@
 //! A look at a cell.
 
 ghost use Rattle.std.specs.Prelude.{◌≡◌};
-ghost use Rattle.cqs_cell.specs.Looks.{HasLookedAt};
+ghost use Rattle.cqs_cell.specs.Looks.{HasLookedAt, HasLookedAtWord};
+ghost use Rattle.cqs_cell.specs.Transitions.{IsCellWord};
 ghost use Rattle.cqs_rule.specs.Loads.{LoadSuits, MayLook};
 ghost use Rattle.cqs_rule.specs.Passes.{pass_view, client_of, IsOf};
 ghost use Rattle.cqs_rule.specs.Placed.{KnowsPlace};
@@ -22,9 +23,22 @@ pub fn look<C: ClientWords, L: Load>(queue: &Queue<C>, pass: &mut Pass<C>, at: P
     ensures belongs { IsOf queue.now pass.new }
     ensures looks { HasLookedAt L.load at.index result pass.old pass.new }
 {
-    let found = queue.load_table::<L>(pass, at.word);
-    match CellWord::unpack(found) {
+    match CellWord::unpack(load_cell::<C, L>(queue, pass, at)) {
         Some(cell) => cell,
         None => unreachable!(),
     }
+}
+
+// The load itself. It answers the word found.
+#[inline]
+fn load_cell<C: ClientWords, L: Load>(queue: &Queue<C>, pass: &mut Pass<C>, at: Place) -> u64
+    requires belongs { IsOf queue.now pass.old }
+    requires suits { LoadSuits (C.primitive (client_of queue.now)).manner L.load }
+    requires place { KnowsPlace (pass_view pass.old) at }
+    requires may { MayLook L.load (pass_view pass.old) at.index }
+    ensures belongs { IsOf queue.now pass.new }
+    ensures loaded { HasLookedAtWord L.load at.index result pass.old pass.new }
+    ensures word { IsCellWord result }
+{
+    queue.load_table::<L>(pass, at.word)
 }

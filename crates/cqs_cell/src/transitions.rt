@@ -10,7 +10,7 @@ ghost use Rattle.cqs_cell.specs.Transitions.{HasMade, HasMissed};
 
 use crate::cross::cross;
 use cqs_rule::{ClientWords, Delegates, Installs, Leaves, Pass, Place, Queue, Serves};
-use cqs_words::{CellState, CellWord};
+use cqs_words::CellState;
 
 /// An empty cell gets a waiter, by the suspend of its number.
 pub fn install<C: ClientWords>(
@@ -25,9 +25,8 @@ pub fn install<C: ClientWords>(
     ensures made { IfOk result (λ _. HasMade installs at.index 0 pass.old pass.new) }
     ensures missed { IfErr result (λ found. HasMissed installs at.index found pass.old pass.new) }
 {
-    let empty = CellWord::bare(at.index, CellState::Empty).pack();
-    let waiter = CellWord::bare(at.index, CellState::Waiter).pack();
-    match cross::<C, Installs>(queue, pass, at, 0, empty, waiter) {
+    let (empty, waiter) = (CellState::Empty, CellState::Waiter);
+    match cross::<C, Installs>(queue, pass, at, empty, 0, waiter, 0) {
         Ok(()) => Ok(()),
         Err(cell) => Err(cell.state),
     }
@@ -48,13 +47,8 @@ pub fn leave_value<C: ClientWords>(
     ensures made { IfOk result (λ _. HasMade leaves at.index 0 pass.old pass.new) }
     ensures missed { IfErr result (λ found. HasMissed leaves at.index found pass.old pass.new) }
 {
-    let empty = CellWord::bare(at.index, CellState::Empty).pack();
-    let value = CellWord {
-        index: at.index,
-        state: CellState::Value,
-        payload,
-    };
-    match cross::<C, Leaves>(queue, pass, at, 0, empty, value.pack()) {
+    let (empty, value) = (CellState::Empty, CellState::Value);
+    match cross::<C, Leaves>(queue, pass, at, empty, 0, value, payload) {
         Ok(()) => Ok(()),
         Err(cell) => Err(cell.state),
     }
@@ -75,13 +69,8 @@ pub fn serve<C: ClientWords>(
     ensures made { IfOk result (λ _. HasMade serves at.index 0 pass.old pass.new) }
     ensures missed { IfErr result (λ found. HasMissed serves at.index found pass.old pass.new) }
 {
-    let waiter = CellWord::bare(at.index, CellState::Waiter).pack();
-    let resumed = CellWord {
-        index: at.index,
-        state: CellState::Resumed,
-        payload,
-    };
-    match cross::<C, Serves>(queue, pass, at, 0, waiter, resumed.pack()) {
+    let (waiter, resumed) = (CellState::Waiter, CellState::Resumed);
+    match cross::<C, Serves>(queue, pass, at, waiter, 0, resumed, payload) {
         Ok(()) => Ok(()),
         Err(cell) => Err(cell.state),
     }
@@ -103,13 +92,8 @@ pub fn delegate<C: ClientWords>(
     ensures made { IfOk result (λ _. HasMade delegates at.index 0 pass.old pass.new) }
     ensures missed { IfErr result (λ found. HasMissed delegates at.index found pass.old pass.new) }
 {
-    let cancelling = CellWord::bare(at.index, CellState::Cancelling).pack();
-    let delegated = CellWord {
-        index: at.index,
-        state: CellState::Delegated,
-        payload,
-    };
-    match cross::<C, Delegates>(queue, pass, at, 0, cancelling, delegated.pack()) {
+    let (cancelling, delegated) = (CellState::Cancelling, CellState::Delegated);
+    match cross::<C, Delegates>(queue, pass, at, cancelling, 0, delegated, payload) {
         Ok(()) => Ok(()),
         Err(cell) => Err(cell.state),
     }

@@ -10,12 +10,13 @@ ghost use Rattle.cqs_words.specs.declared.cell.CellState.TheVariants as shown;
 
 use crate::cross::{cross, cross_surely};
 use cqs_rule::{ClientWords, Pass, Place, Queue, Takes};
-use cqs_words::{CellState, CellWord};
+use cqs_words::CellState;
 
 /// A suspend takes the value that the resume of its number left, and answers its payload. Where its
 /// first exchange finds another payload than 0, it makes a second. It is compiled into the suspend:
 /// a call of it would have the pass lie in memory also where the suspend waits.
 #[inline(always)]
+#[tactic(auto, using(crate::proofs::Made::made_after_miss))]
 pub fn take_value<C: ClientWords>(
     queue: &Queue<C>,
     pass: &mut Pass<C>,
@@ -29,24 +30,13 @@ pub fn take_value<C: ClientWords>(
     ensures missed { IfErr result
         (λ found. HasMissed takes at.index found pass.old pass.new × (found ≢ shown.Value)) }
 {
-    let guess = CellWord::bare(at.index, CellState::Value).pack();
-    let taken = CellWord::bare(at.index, CellState::Taken).pack();
-    match cross::<C, Takes>(queue, pass, at, 0, guess, taken) {
+    let (value, taken) = (CellState::Value, CellState::Taken);
+    match cross::<C, Takes>(queue, pass, at, value, 0, taken, 0) {
         Ok(()) => Ok(0),
         Err(cell) => match cell.state {
             CellState::Value => {
                 let payload = cell.payload;
-                let left = CellWord {
-                    index: at.index,
-                    state: CellState::Value,
-                    payload,
-                };
-                let taken = CellWord {
-                    index: at.index,
-                    state: CellState::Taken,
-                    payload,
-                };
-                cross_surely::<C, Takes>(queue, pass, at, payload, left.pack(), taken.pack());
+                cross_surely::<C, Takes>(queue, pass, at, value, payload, taken, payload);
                 Ok(payload)
             }
             state => Err(state),

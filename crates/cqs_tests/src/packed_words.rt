@@ -1,3 +1,5 @@
+//! The numbers of packed words.
+
 ghost use Rattle.cqs_words.specs.Cell.{CellFits};
 ghost use Rattle.cqs_words.specs.State.{StateFits};
 ghost use Rattle.cqs_words.specs.Head.{HeadFits};

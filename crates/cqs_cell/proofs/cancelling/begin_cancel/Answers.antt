@@ -1,34 +1,9 @@
-use Rattle.std.proofs.Common.{◌≡◌, ◌<◌, refl, ap, sym, ◌∙◌, subst, arith}
-use Rattle.cqs_core.specs.declared.cells.CoreState.TheVariants as state
-use Rattle.cqs_words.specs.Cell.{packed_cell, CellFits}
-use Rattle.cqs_rule.specs.Ruled.{word_of}
+use Rattle.std.proofs.Common.{◌<◌, arith}
 use Rattle.cqs_cell.proofs.cancelling.begin_cancel.Goals as goal
 
-pub cross-requires-clause-cell : goal.cross-requires-clause-cell
-cross-requires-clause-cell g c = record {
-  works = c.requires.idle;
-  own = c.requires.wait;
-  place = c.requires.place;
-  payload_fits = omega arith;
-  bare = λ _. refl;
-  expects = c.pack-waiter.ensures.value ∙ ap packed_cell c.bare.ensures;
-  state = state.Cancelling;
-  makes = refl;
-  writes = c.pack-cancelling.ensures.value ∙ ap packed_cell c.bare-2.ensures;
-}
-
-pub pack-waiter-requires : goal.pack-waiter-requires
-pack-waiter-requires g c =
+pub cross-requires-clause-index : goal.cross-requires-clause-index
+cross-requires-clause-index g c =
     let p = c.args.pass.now in
     let low : c.args.at.index < p.seat.me.0.cells = p.inside.waits c.args.at.index c.requires.wait in
     let few = p.few_cells in
-    let is = c.bare.ensures in
-    subst CellFits (sym is) (record { index = omega arith; payload = omega arith })
-
-pub pack-cancelling-requires : goal.pack-cancelling-requires
-pack-cancelling-requires g c =
-    let p = c.args.pass.now in
-    let low : c.args.at.index < p.seat.me.0.cells = p.inside.waits c.args.at.index c.requires.wait in
-    let few = p.few_cells in
-    let is = c.bare-2.ensures in
-    subst CellFits (sym is) (record { index = omega arith; payload = omega arith })
+    omega arith

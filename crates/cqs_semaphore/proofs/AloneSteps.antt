@@ -1,6 +1,6 @@
 -- The calls of a pass that is alone: between two of them nothing is on its way and nobody is at the door, so each is
 -- the plain semaphore's.
-use Rattle.std.proofs.Common.{◌≡◌, ◌≢◌, ℕ, suc, ◌+◌, ◌<◌, true, List, [], ◌∷◌, ◌++◌, length, Option, Some, None, Ok, slice_get, take, sym, refl, ap, ◌∙◌, subst, append_assoc, arith, take_at, ⊎_elim, lt-ltb, ne_eqb, zero-add}
+use Rattle.std.proofs.Common.{if◌then◌else◌, nat_lt, ◌≡◌, ◌≢◌, ℕ, suc, ◌+◌, ◌-◌, ◌<◌, Bool, true, false, List, [], ◌∷◌, ◌++◌, length, Option, Some, None, Ok, slice_get, take, sym, refl, ap, ◌∙◌, subst, append_assoc, arith, take_at, ⊎_elim, lt-ltb, ne_eqb, zero-add}
 use Rattle.std.specs.List.{fold}
 use Rattle.std.proofs.lemmas.Bool.{le-ltb}
 use Rattle.std.proofs.lemmas.List.{append_cancel_right}
@@ -16,6 +16,7 @@ use Rattle.cqs_core.specs.declared.doings.Doing.{Doing}
 use Rattle.cqs_core.specs.declared.doings.Doing.TheVariants as doing
 use Rattle.cqs_core.specs.declared.entries.Entry.{Entry}
 use Rattle.cqs_core.specs.declared.entries.Entry.TheVariants as entry
+use Rattle.cqs_core.specs.Keyed.{without}
 use Rattle.cqs_core.specs.Numbered.{picked, cons_option}
 use Rattle.cqs_core.specs.QueueLine.{Waiting, line, in_line}
 use Rattle.cqs_core.specs.QueueState.{Queue}
@@ -42,11 +43,11 @@ use Rattle.cqs_semaphore.specs.declared.answers.Acquired.{Acquired}
 use Rattle.cqs_semaphore.specs.declared.answers.Acquired.TheVariants.{Now, Later}
 use Rattle.cqs_semaphore.specs.declared.answers.Released.{Released}
 use Rattle.cqs_semaphore.specs.declared.answers.Released.TheVariants.{Freed, Sent, Left, Void, Under}
-use Rattle.cqs_semaphore.specs.Alone.{IsPlainAcquire, IsPlainRelease, IsPlainEnd, IsTurnedBack, IsFirstOf, HasLine}
+use Rattle.cqs_semaphore.specs.Alone.{IsPlainAcquire, IsPlainRelease, IsPlainEnd, IsTurnedBack, IsFirstOf, HasLine, HasNoneOnWay}
 use Rattle.cqs_semaphore.specs.Answers.{Releases, Ends}
 use Rattle.cqs_semaphore.specs.Calls.{CallRule, plain_after}
 use Rattle.cqs_semaphore.specs.Causes.{primitive_of, CellWas}
-use Rattle.cqs_semaphore.specs.Entries.{took_entries, came_by, acquired_entries, acquired_further, gave_entries, resumed_further}
+use Rattle.cqs_semaphore.specs.Entries.{took_entries, came_by, acquired_entries, acquired_further, gave_entries, resumed_further, passed_further}
 use Rattle.cqs_semaphore.specs.Permits.{number_of}
 
 -- an entry of a legal history may come after those before it
@@ -114,6 +115,17 @@ first-of o k (x ∷ waits) is one may =
     let same : record { wait = k; pass = may.0 } ≡ x =
     ⊎_elim (λ e. e) (λ later. absurd (in-none _ later)) (in-behind _ x [] there) in
     subst (λ l. IsFirstOf l k) (sym is) (ap (λ (w : Waiting). w.wait) (sym same))
+
+-- a cancel leaves nothing on its way where nothing was: what it passes on is no permit
+none-after_leave : (o : Semaphore) (c k : ℕ) → o.way ≡ 0 → (after_entry o (entry.Leave c k)).way ≡ 0
+none-after_leave o c k none = by (nat_lt (due l) l.way)
+  where
+    l : Semaphore
+    l = record o { line = without (λ w. w.wait) k o.line }
+
+    by : (b : Bool) → (if b then record l { way = l.way - 1; free = l.free + 1 } else l).way ≡ 0
+    by true = omega arith
+    by false = none
 
 module _ {T : Type 0} where
   quiet-alone : (v : View Entry T) → IsAlone primitive_of v → v.facts.doing ≡ doing.Idle → IsQuiet (plain_after v)
@@ -375,3 +387,30 @@ module _ {T : Type 0} where
       let may = allowed-at v.opening.size v.seen [] further w.seen (entry.Leave v.number k) l.seen l.legal in
       let f = found-waits k v.number (plain_after v).line may in
       ap (sole_cancel v.number k) f.is
+
+  pub none-brought : (v w : View Entry T) (k : ℕ) (passed : Option Released) → IsQuiet (plain_after v)
+      → CallRule v (entry.Leave v.number k ∷ []) (passed_further passed) w → v.alone ≡ true → HasNoneOnWay w
+  none-brought v w k passed still c alone = by passed (legal-alone v w _ _ c alone)
+    where
+      left : Legal v (entry.Leave v.number k ∷ []) w → HasNoneOnWay w
+      left l =
+          ap (λ (o : Semaphore). o.way) (after-one v w _ l) ∙ none-after_leave (plain_after v) v.number k still.way
+
+      by : (passed : Option Released) → Legal v ((entry.Leave v.number k ∷ []) ++ passed_further passed) w
+          → HasNoneOnWay w
+      by None l = left l
+      by (Some Freed) l = left l
+      by (Some (Sent n)) l =
+          let may = allowed-at v.opening.size v.seen (entry.Leave v.number k ∷ []) [] w.seen (entry.Deliver n) l.seen
+          l.legal in
+          let o = after_entry (plain_after v) (entry.Leave v.number k) in
+          absurd (in-none _ (subst (λ m. Waits n may.0 (take m o.line))
+          (none-after_leave (plain_after v) v.number k still.way) may.1))
+      by (Some (Left n)) l = left l
+      by (Some (Void n)) l = left l
+      by (Some (Under under)) l = left l
+
+  pub none-late : (v w : View Entry T) (k : ℕ) → IsQuiet (plain_after v)
+      → CallRule v (entry.Late v.number k ∷ []) [] w → v.alone ≡ true → HasNoneOnWay w
+  none-late v w k still c alone =
+      ap (λ (o : Semaphore). o.way) (after-one v w _ (legal-alone v w _ _ c alone)) ∙ still.way

@@ -96,3 +96,7 @@ module _ {T : Type 0} where
   IsPlainCancel k v (TooLate permit) =
       sole_call (plain_after v) (call.Cancel v.number k)
       ≡ tells (entry.Late v.number k ∷ []) reply.TooLate
+
+  -- no permit is on its way
+  abbrev pub HasNoneOnWay : View Entry T → Type 0
+  HasNoneOnWay v = (plain_after v).way ≡ 0

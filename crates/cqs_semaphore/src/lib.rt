@@ -18,8 +18,9 @@
 //! one history of all callers: the calls of the plain semaphore of `cqs_core`, with a plain line of
 //! waiters.
 //!
-//! The calls that are made often are compiled into their callers. A call that stood apart would get
-//! the pass by its address, and the pass would lie in memory also where that call isn't made.
+//! The calls that are made often are compiled into their callers. What comes of them rarely stands
+//! apart, and gets the pass by value: with its address the pass would lie in memory also where that
+//! isn't reached. `split`, `meet`, `sole` and `state` are calls like any others.
 #![tactic(auto)]
 
 mod acquiring;
@@ -30,6 +31,7 @@ mod polling;
 mod releasing;
 mod seats;
 mod semaphore;
+mod threads;
 mod trying;
 
 pub use answers::{Acquired, CancelAnswer, Permit, Polled, Released, Tried};

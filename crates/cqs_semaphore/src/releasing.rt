@@ -51,6 +51,7 @@ impl<T: Carries + Send> Semaphore<T> {
     }
 
     /// Goes on with a permit that is on its way, and whose resumption was handed back.
+    #[inline(always)]
     pub fn finish(&self, pass: &mut SemPass<T>, under: Under) -> Released
         requires belongs { IsMine self.now pass.old }
         requires owes { HasUnder (pass_view pass.old).facts under }

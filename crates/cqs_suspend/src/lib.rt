@@ -4,6 +4,7 @@
 
 mod entering;
 mod suspending;
+mod taking;
 
 pub use entering::enter;
 pub use suspending::{Suspended, suspend};

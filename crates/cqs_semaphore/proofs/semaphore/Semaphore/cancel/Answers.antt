@@ -4,7 +4,7 @@ use Rattle.cqs_rule.specs.Waits.{place_of}
 use Rattle.cqs_core.specs.declared.entries.Entry.TheVariants as entry
 use Rattle.cqs_semaphore.specs.Calls.{CallRule}
 use Rattle.cqs_semaphore.specs.Entries.{passed_further}
-use Rattle.cqs_semaphore.proofs.AloneSteps.{plain-left, plain-late}
+use Rattle.cqs_semaphore.proofs.AloneSteps.{quiet, plain-left, plain-late, none-brought, none-late}
 use Rattle.cqs_semaphore.proofs.Between.{passed-between}
 use Rattle.cqs_semaphore.proofs.CancelSteps.{gone, gone-owing, late}
 use Rattle.cqs_semaphore.proofs.semaphore.Semaphore.cancel.Goals as goal
@@ -45,3 +45,24 @@ returns-in-Late-clause-alone g c = λ alone.
     plain-late _ _ _
     (subst (λ p. CallRule v (entry.Late v.number k ∷ []) (passed_further p) (pass_view c.cancel.new.pass)) so.2.0 so.1)
     so.2.2 alone
+
+pub returns-in-Gone-clause-alone_brings_none : goal.returns-in-Gone-clause-alone_brings_none
+returns-in-Gone-clause-alone_brings_none g c = λ alone.
+    let so = returns-in-Gone-clause-cancelled g c in
+    none-brought _ _ _ so.0
+    (quiet _ c.requires.belongs.alone c.args.pass.now.live.0 alone c.requires.ready.idle) so.1 alone
+
+pub returns-in-GoneOwing-clause-alone_brings_none : goal.returns-in-GoneOwing-clause-alone_brings_none
+returns-in-GoneOwing-clause-alone_brings_none g c = λ alone.
+    let so = returns-in-GoneOwing-clause-cancelled g c in
+    none-brought _ _ _ so.0
+    (quiet _ c.requires.belongs.alone c.args.pass.now.live.0 alone c.requires.ready.idle) so.1 alone
+
+pub returns-in-Late-clause-alone_brings_none : goal.returns-in-Late-clause-alone_brings_none
+returns-in-Late-clause-alone_brings_none g c = λ alone.
+    let v = pass_view c.args.pass.now in
+    let k = (place_of c.args.wait).index in
+    let so = returns-in-Late-clause-cancelled g c in
+    none-late _ _ k (quiet _ c.requires.belongs.alone c.args.pass.now.live.0 alone c.requires.ready.idle)
+    (subst (λ p. CallRule v (entry.Late v.number k ∷ []) (passed_further p) (pass_view c.cancel.new.pass)) so.2.0 so.1)
+    alone

@@ -1,0 +1,83 @@
+-- A pass keeps its waits through the calls that don't close them.
+use Rattle.std.proofs.Common.{◌≡◌, ◌≢◌, ℕ, List, Result, Ok, Err, sym, ◌∙◌, subst}
+use Rattle.cqs_latch_object.specs.declared.entries.LatchEntry.{LatchEntry}
+use Rattle.cqs_rule.specs.declared.queue.tokens.Wait.{Wait}
+use Rattle.cqs_rule.specs.declared.view.View.{View}
+use Rattle.cqs_rule.specs.Lists.{Has, without}
+use Rattle.cqs_rule.specs.Placed.{place_word, place_known}
+use Rattle.cqs_rule.specs.Waits.{place_of, HasWait}
+use Rattle.cqs_rule.proofs.Lists.{without_has}
+use Rattle.cqs_rule.specs.declared.config.CancelMode.{CancelMode}
+use Rattle.cqs_rule.specs.declared.config.CancelMode.TheVariants.{Smart, Simple}
+use Rattle.cqs_latch.specs.declared.answers.Down.{Down}
+use Rattle.cqs_latch.specs.declared.answers.Down.TheVariants as down
+use Rattle.cqs_latch.specs.declared.answers.LatchLeft.{LatchLeft}
+use Rattle.cqs_latch.specs.declared.answers.LatchLeft.TheVariants as gone
+use Rattle.cqs_latch.specs.declared.answers.Owed.{Owed}
+use Rattle.cqs_latch.specs.Calls.{IsReady, KeepsWaits, KeepsOtherWaits}
+use Rattle.cqs_latch.specs.CountAnswers.{HasCounted, HasFinished, IsReadyAfter}
+use Rattle.cqs_latch.specs.LeftAnswers.{HasLeft, IsReadyLeft}
+
+module _ {T : Type 0} where
+  -- the same number, and a wait that is still open
+  kept : (v w : View LatchEntry T) (wait : Wait) → w.number ≡ v.number → HasWait v wait
+      → Has (place_of wait).index w.facts.waits → HasWait w wait
+  kept v w wait same has still = record {
+    mine = has.mine ∙ sym same;
+    open_yet = still;
+    place = place_known w (place_of wait) (place_word v (place_of wait) has.place);
+  }
+
+  pub keeps-all : (v w : View LatchEntry T) → w.number ≡ v.number → w.facts.waits ≡ v.facts.waits → KeepsWaits v w
+  keeps-all v w same waits = λ wait has.
+      kept v w wait same has (subst (Has (place_of wait).index) (sym waits) has.open_yet)
+
+  pub keeps-others : (k : ℕ) (v w : View LatchEntry T) → w.number ≡ v.number
+      → w.facts.waits ≡ without k v.facts.waits → KeepsOtherWaits k v w
+  keeps-others k v w same waits = λ wait other has.
+      kept v w wait same has
+      (subst (Has (place_of wait).index) (sym waits) (without_has (place_of wait).index k v.facts.waits other has.open_yet))
+
+  -- the calls
+  pub keeps-counted : (answer : Down) (v w : View LatchEntry T) → HasCounted v answer w → KeepsWaits v w
+  keeps-counted down.Already v w (ends, rule, (none, used, rests)) =
+      keeps-all v w rule.called.same.number rests.waits_are
+  keeps-counted (down.Left left) v w (ends, rule, (none, some, was, rests)) =
+      keeps-all v w rule.called.same.number rests.waits_are
+  keeps-counted down.Last v w (ends, rule, (x, opens, woke, rests)) =
+      keeps-all v w rule.called.same.number rests.waits_are
+  keeps-counted (down.LastOwing owed) v w (ends, rule, (x, u, opens, woke, next, hands)) =
+      keeps-all v w rule.called.same.number hands.waits_are
+
+  pub ready-counted : (answer : Down) (v w : View LatchEntry T) → HasCounted v answer w → IsReadyAfter answer w.facts
+  ready-counted down.Already v w (ends, rule, (none, used, rests)) = rests.ready
+  ready-counted (down.Left left) v w (ends, rule, (none, some, was, rests)) = rests.ready
+  ready-counted down.Last v w (ends, rule, (x, opens, woke, rests)) = rests.ready
+  ready-counted (down.LastOwing owed) v w (ends, rule, (x, u, opens, woke, next, hands)) = hands.owes
+
+  pub keeps-finished : (owed : Owed) (answer : Result (Unit {0}) Owed) (v w : View LatchEntry T)
+      → HasFinished owed v answer w → KeepsWaits v w
+  keeps-finished owed (Ok done) v w (ends, rule, (e, rest, u, is, all, on, woke, rests)) =
+      keeps-all v w rule.called.same.number rests.waits_are
+  keeps-finished owed (Err again) v w (ends, rule, (hands, more)) =
+      keeps-all v w rule.called.same.number hands.waits_are
+
+  pub keeps-left : (mode : CancelMode) (k : ℕ) (answer : LatchLeft) (v w : View LatchEntry T)
+      → HasLeft mode k v answer w → KeepsOtherWaits k v w
+  keeps-left mode k gone.TooLate v w (ends, rule, (none, cell, rests)) =
+      keeps-others k v w rule.called.same.number rests.waits_are
+  keeps-left Smart k gone.Gone v w (ends, rule, (once, went, rests)) =
+      keeps-others k v w rule.called.same.number rests.waits_are
+  keeps-left Simple k gone.Gone v w (ends, rule, (none, cell, rests)) =
+      keeps-others k v w rule.called.same.number rests.waits_are
+  keeps-left Smart k (gone.GoneOwing owed) v w (ends, rule, (none, once, asked, left, over, owes, one, waits)) =
+      keeps-others k v w rule.called.same.number waits
+  keeps-left Simple k (gone.GoneOwing owed) v w (ends, rule, never) = absurd never
+
+  pub ready-left : (mode : CancelMode) (k : ℕ) (answer : LatchLeft) (v w : View LatchEntry T)
+      → HasLeft mode k v answer w → IsReadyLeft answer w.facts
+  ready-left mode k gone.TooLate v w (ends, rule, (none, cell, rests)) = rests.ready
+  ready-left Smart k gone.Gone v w (ends, rule, (once, went, rests)) = rests.ready
+  ready-left Simple k gone.Gone v w (ends, rule, (none, cell, rests)) = rests.ready
+  ready-left Smart k (gone.GoneOwing owed) v w (ends, rule, (none, once, asked, left, over, owes, one, waits)) = owes
+  ready-left Simple k (gone.GoneOwing owed) v w (ends, rule, never) = absurd never

@@ -29,6 +29,7 @@ use Rattle.cqs_words.specs.Waiters.{is_done}
 use Rattle.cqs_cancel.specs.AtOnce.{LeavesAtOnce}
 use Rattle.cqs_cancel.specs.Cancels as cancel
 use Rattle.cqs_cancel.specs.Cancels.{Settled, Settles, facts_leaving}
+use Rattle.cqs_cancel.specs.declared.at_once.AtOnce.{AtOnce}
 use Rattle.cqs_cancel.specs.declared.at_once.AtOnce.TheVariants as once
 use Rattle.cqs_cancel.specs.declared.cancelling.Left.{Left}
 use Rattle.cqs_cancel.specs.declared.cancelling.Left.TheVariants.{Gone, GoneOwing, Late}
@@ -44,7 +45,7 @@ use Rattle.cqs_latch.specs.LatchEvents as event
 use Rattle.cqs_latch.specs.LatchTold.{ReadsWaiters}
 use Rattle.cqs_latch.specs.LeftAnswers.{WasAsked, WentSo, HasLeft}
 use Rattle.cqs_latch.specs.Owed.{HasOwed}
-use Rattle.cqs_latch.specs.Steps.{GoesOn}
+use Rattle.cqs_latch.specs.Steps.{GoesOn, as_left}
 use Rattle.cqs_latch.specs.Waking.{Ending, served_at, left_at, refused_at, ending_entries, woken_entries, handed_back, EndsSo}
 use Rattle.cqs_latch.proofs.Along.{Along, prefix-then, word-later}
 use Rattle.cqs_latch.proofs.Rules.{call-rule_ending, call-rule_own, called-weak}
@@ -406,7 +407,7 @@ module _ {T : Type 0} where
         )
 
     -- the waiter left at once
-    pub simple-gone : (w : View LatchEntry T) → IsLegalOf w
+    simple-gone : (w : View LatchEntry T) → IsLegalOf w
         → LeavesAtOnce latch_object primitive_of k v once.Gone w → HasLeft Simple k v gone.Gone w
     simple-gone w legal l =
         let is = l.facts_are in (
@@ -430,3 +431,9 @@ module _ {T : Type 0} where
             },
           ),
         )
+
+    -- the answer of simple mode
+    pub simple-left : (answer : AtOnce) (w : View LatchEntry T) → IsLegalOf w
+        → LeavesAtOnce latch_object primitive_of k v answer w → HasLeft Simple k v (as_left answer) w
+    simple-left once.Gone w legal l = simple-gone w legal l
+    simple-left (once.Late payload) w legal l = late Simple payload w legal l

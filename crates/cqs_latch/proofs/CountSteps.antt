@@ -82,21 +82,24 @@ module _ {T : Type 0} where
         Saw latch_object v (facts_moved loads_to_count (client_place 0) (at_word v n)) es x) one o.saw) refl in (
           [],
           call-rule_own v x (entry.DownAlready v.number ∷ []) _ a.called (λ m. refl, tt) own legal,
-          (refl, record {
-            word = n;
-            before = o.before;
-            used = none-above n none;
-            found = subst (λ es. WordWas 0 ReadsCount v n o.before es x) one
-                (word-first 0 n loads_to_count ReadsCount v x o);
-          },
-          record {
-            ready = record {
-              idle = ap (λ (f : Facts). f.doing) o.saw.facts_are
-                  ∙ ap (λ b. if b then doing.Idle else doing.TryAt (count_in n)) test;
-              further = ap (λ (f : Facts). f.has.further) o.saw.facts_are ∙ ready.further;
-            };
-            waits_are = ap (λ (f : Facts). f.waits) o.saw.facts_are;
-          }),
+          (
+            refl,
+            record {
+              word = n;
+              before = o.before;
+              used = none-above n none;
+              found = subst (λ es. WordWas 0 ReadsCount v n o.before es x) one
+                  (word-first 0 n loads_to_count ReadsCount v x o);
+            },
+            record {
+              ready = record {
+                idle = ap (λ (f : Facts). f.doing) o.saw.facts_are
+                    ∙ ap (λ b. if b then doing.Idle else doing.TryAt (count_in n)) test;
+                further = ap (λ (f : Facts). f.has.further) o.saw.facts_are ∙ ready.further;
+              };
+              waits_are = ap (λ (f : Facts). f.waits) o.saw.facts_are;
+            },
+          ),
         )
 
     -- The pass took one from the count, which showed this entry and left the pass at this.

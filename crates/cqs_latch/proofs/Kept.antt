@@ -1,12 +1,12 @@
 -- A pass keeps its waits through the calls that don't close them.
-use Rattle.std.proofs.Common.{◌≡◌, ◌≢◌, ℕ, List, Result, Ok, Err, sym, ◌∙◌, subst}
+use Rattle.std.proofs.Common.{◌≡◌, ◌≢◌, ℕ, List, [], ◌∷◌, ◌++◌, None, Some, Result, Ok, Err, sym, ◌∙◌, subst}
 use Rattle.cqs_latch_object.specs.declared.entries.LatchEntry.{LatchEntry}
 use Rattle.cqs_rule.specs.declared.queue.tokens.Wait.{Wait}
 use Rattle.cqs_rule.specs.declared.view.View.{View}
 use Rattle.cqs_rule.specs.Lists.{Has, without}
 use Rattle.cqs_rule.specs.Placed.{place_word, place_known}
 use Rattle.cqs_rule.specs.Waits.{place_of, HasWait}
-use Rattle.cqs_rule.proofs.Lists.{without_has}
+use Rattle.cqs_rule.proofs.Lists.{has_left, without_has}
 use Rattle.cqs_rule.specs.declared.config.CancelMode.{CancelMode}
 use Rattle.cqs_rule.specs.declared.config.CancelMode.TheVariants.{Smart, Simple}
 use Rattle.cqs_latch.specs.declared.answers.Down.{Down}
@@ -14,7 +14,15 @@ use Rattle.cqs_latch.specs.declared.answers.Down.TheVariants as down
 use Rattle.cqs_latch.specs.declared.answers.LatchLeft.{LatchLeft}
 use Rattle.cqs_latch.specs.declared.answers.LatchLeft.TheVariants as gone
 use Rattle.cqs_latch.specs.declared.answers.Owed.{Owed}
-use Rattle.cqs_latch.specs.Calls.{IsReady, KeepsWaits, KeepsOtherWaits}
+use Rattle.cqs_rule.specs.declared.config.AcquireError.{AcquireError}
+use Rattle.cqs_rule.specs.declared.config.AcquireError.TheVariants as error
+use Rattle.cqs_latch.specs.declared.answers.LatchPolled.{LatchPolled}
+use Rattle.cqs_latch.specs.declared.answers.LatchPolled.TheVariants as polled
+use Rattle.cqs_latch.specs.declared.answers.LatchWait.{LatchWait}
+use Rattle.cqs_latch.specs.declared.answers.LatchWait.TheVariants as waited
+use Rattle.cqs_latch.specs.Answers.{HasWaited, IsPolled}
+use Rattle.cqs_latch.specs.Calls.{IsReady, CallRule, KeepsWaits, KeepsOtherWaits}
+use Rattle.cqs_latch.specs.Entries.{polled_entries}
 use Rattle.cqs_latch.specs.CountAnswers.{HasCounted, HasFinished, IsReadyAfter}
 use Rattle.cqs_latch.specs.LeftAnswers.{HasLeft, IsReadyLeft}
 
@@ -81,3 +89,22 @@ module _ {T : Type 0} where
   ready-left Simple k gone.Gone v w (ends, rule, (none, cell, rests)) = rests.ready
   ready-left Smart k (gone.GoneOwing owed) v w (ends, rule, (none, once, asked, left, over, owes, one, waits)) = owes
   ready-left Simple k (gone.GoneOwing owed) v w (ends, rule, never) = absurd never
+
+  pub keeps-waited : (answer : Result LatchWait AcquireError) (v w : View LatchEntry T) → HasWaited v answer w
+      → KeepsWaits v w
+  keeps-waited (Ok waited.Passed) v w (None, rule, why) = keeps-all v w rule.called.same.number why.1.waits_are
+  keeps-waited (Ok waited.Passed) v w (Some k, rule, why) = keeps-all v w rule.called.same.number why.3.waits_are
+  keeps-waited (Ok (waited.Later wait)) v w (drew, rule, why) = λ old has.
+      kept v w old rule.called.same.number has
+      (subst (Has (place_of old).index) (sym why.4.waits_are)
+      (has_left (place_of old).index v.facts.waits ((place_of wait).index ∷ []) has.open_yet))
+  keeps-waited (Err error.Worn) v w (drew, rule, why) = keeps-all v w rule.called.same.number why.2.waits_are
+  keeps-waited (Err error.Crowded) v w (drew, rule, why) = absurd why
+
+  pub keeps-polled : (wait : Wait) (answer : LatchPolled) (v w : View LatchEntry T)
+      → CallRule v (polled_entries v.number (place_of wait).index answer) [] w → IsPolled wait v answer w
+      → KeepsOtherWaits (place_of wait).index v w
+  keeps-polled wait polled.Through v w rule (cell, rests) =
+      keeps-others (place_of wait).index v w rule.called.same.number rests.waits_are
+  keeps-polled wait (polled.Pending again) v w rule (same, has, cell, rests) =
+      λ old other had. keeps-all v w rule.called.same.number rests.waits_are old had

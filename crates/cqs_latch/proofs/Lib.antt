@@ -11,3 +11,4 @@ pub mod DownSteps
 pub mod CancelSteps
 pub mod Kept
 pub mod Simple
+pub mod AloneSteps

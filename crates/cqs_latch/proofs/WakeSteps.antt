@@ -252,26 +252,47 @@ module _ {T : Type 0} where
   -- the next one ended
   pub next-ran : (e : Ending) (v w : View LatchEntry T) → NextEnded e v w
       → (over : List ℕ) × Ran (ending_entries e) 1 over v w
-  next-ran (served_at k) v w (inl b) = (numbers b.resumes.over, begun-ran b.number _ _ v b.from w b.drew
-      (ended-ran serves state.Waiter most_after_first (Some b.number) 0 k b.from w b.resumes))
-  next-ran (served_at k) v w (inr b) = ([], begun-ran b.number _ _ v b.from w b.drew
-      (subst (λ n. Ran (step_entries serves b.from.number n) 0 [] b.from w) (sym b.meets.0)
-      (met-ran serves state.Waiter 0 b.number b.from w b.meets.1)))
+  next-ran (served_at k) v w (inl b) = (
+    numbers b.resumes.over,
+    begun-ran b.number _ _ v b.from w b.drew
+        (ended-ran serves state.Waiter most_after_first (Some b.number) 0 k b.from w b.resumes),
+  )
+  next-ran (served_at k) v w (inr b) = (
+    [],
+    begun-ran b.number _ _ v b.from w b.drew
+        (subst (λ n. Ran (step_entries serves b.from.number n) 0 [] b.from w) (sym b.meets.0)
+        (met-ran serves state.Waiter 0 b.number b.from w b.meets.1)),
+  )
   next-ran (left_at k) v w (inl b) = by b.resumes
     where
       by : Resumes latch_object primitive_of most_after_first (Some b.number) 0 b.from (resumed.Left k) w
           → (over : List ℕ) × Ran [] 1 over v w
-      by (inl e) = (numbers e.over, begun-ran b.number _ _ v b.from w b.drew
-          (ended-ran leaves state.Empty most_after_first (Some b.number) 0 k b.from w e))
-      by (inr e) = (numbers e.over, begun-ran b.number _ _ v b.from w b.drew
-          (ended-ran delegates state.Cancelling most_after_first (Some b.number) 0 k b.from w e))
-  next-ran (left_at k) v w (inr b) = ([], begun-ran b.number _ _ v b.from w b.drew
-      (met-ran leaves state.Empty 0 b.number b.from w b.meets.1))
-  next-ran (refused_at k) v w b = (numbers b.resumes.over, begun-ran b.number _ _ v b.from w b.drew
-      (ended-ran ends_refused state.Refused most_after_first (Some b.number) 0 k b.from w b.resumes))
-  next-ran (missed_at k) v w b = ([], begun-ran b.number _ _ v b.from w b.drew
-      (subst (λ n. Ran (step_entries ends_missed b.from.number n) 0 [] b.from w) (sym b.meets.0)
-      (met-ran ends_missed state.Cancelled 0 b.number b.from w b.meets.1)))
+      by (inl e) = (
+        numbers e.over,
+        begun-ran b.number _ _ v b.from w b.drew
+            (ended-ran leaves state.Empty most_after_first (Some b.number) 0 k b.from w e),
+      )
+      by (inr e) = (
+        numbers e.over,
+        begun-ran b.number _ _ v b.from w b.drew
+            (ended-ran delegates state.Cancelling most_after_first (Some b.number) 0 k b.from w e),
+      )
+  next-ran (left_at k) v w (inr b) = (
+    [],
+    begun-ran b.number _ _ v b.from w b.drew
+        (met-ran leaves state.Empty 0 b.number b.from w b.meets.1),
+  )
+  next-ran (refused_at k) v w b = (
+    numbers b.resumes.over,
+    begun-ran b.number _ _ v b.from w b.drew
+        (ended-ran ends_refused state.Refused most_after_first (Some b.number) 0 k b.from w b.resumes),
+  )
+  next-ran (missed_at k) v w b = (
+    [],
+    begun-ran b.number _ _ v b.from w b.drew
+        (subst (λ n. Ran (step_entries ends_missed b.from.number n) 0 [] b.from w) (sym b.meets.0)
+        (met-ran ends_missed state.Cancelled 0 b.number b.from w b.meets.1)),
+  )
 
   pub woke-ran : (ends : List Ending) (v w : View LatchEntry T) → v.facts.doing ≡ doing.Idle → Woke ends v w
       → (over : List ℕ) × Ran (woken_entries ends) (length ends) over v w

@@ -12,4 +12,5 @@ pub mod Waking
 pub mod Steps
 pub mod CountAnswers
 pub mod LeftAnswers
+pub mod Alone
 pub mod Seats

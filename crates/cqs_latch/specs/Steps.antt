@@ -8,11 +8,20 @@ use Rattle.cqs_rule.specs.declared.queue.tokens.Under.{Under}
 use Rattle.cqs_rule.specs.declared.view.View.{View}
 use Rattle.cqs_rule.specs.Waits.{place_of, HasWait}
 use Rattle.cqs_suspend.specs.Suspends.{EndsBy}
+use Rattle.cqs_cancel.specs.declared.at_once.AtOnce.{AtOnce}
+use Rattle.cqs_cancel.specs.declared.at_once.AtOnce.TheVariants as once
+use Rattle.cqs_latch.specs.declared.answers.LatchLeft.{LatchLeft}
+use Rattle.cqs_latch.specs.declared.answers.LatchLeft.TheVariants.{Gone, TooLate}
 use Rattle.cqs_latch.specs.declared.answers.LatchWait.{LatchWait}
 use Rattle.cqs_latch.specs.declared.answers.LatchWait.TheVariants.{Passed, Later}
 use Rattle.cqs_latch.specs.Latch.{latch_object}
 use Rattle.cqs_latch.specs.Causes.{primitive_of}
 use Rattle.cqs_latch.specs.Waking.{handed_back}
+
+-- what a cancel that leaves at once means for the wait
+abbrev pub as_left : AtOnce → LatchLeft
+as_left once.Gone = Gone
+as_left (once.Late payload) = TooLate
 
 module _ {T : Type 0} where
   -- a caller at the door drew a number: the value of its resume was there, or the caller waits

@@ -1,11 +1,12 @@
 //! The cancel.
 
-ghost use Rattle.std.specs.Prelude.{◌≡◌};
+ghost use Rattle.std.specs.Prelude.{◌≡◌, true};
 ghost use Rattle.cqs_core.specs.declared.doings.Doing.TheVariants as doing;
+ghost use Rattle.cqs_latch.specs.Alone.{IsPlainCancel};
 ghost use Rattle.cqs_latch.specs.Calls.{IsReady, IsMine, KeepsOtherWaits};
 ghost use Rattle.cqs_latch.specs.LatchMade.{mode_of};
 ghost use Rattle.cqs_latch.specs.LeftAnswers.{HasLeft, IsReadyLeft};
-ghost use Rattle.cqs_latch.specs.Steps.{GoesOn};
+ghost use Rattle.cqs_latch.specs.Steps.{GoesOn, as_left};
 ghost use Rattle.cqs_rule.specs.Passes.{pass_view, client_of};
 ghost use Rattle.cqs_rule.specs.Waits.{place_of, HasWait};
 ghost use Rattle.cqs_rule.specs.declared.config.CancelMode.TheVariants.{Smart, Simple};
@@ -30,6 +31,8 @@ impl Latch {
         ensures ready { IsReadyLeft result (pass_view pass.new).facts }
         ensures keeps { KeepsOtherWaits (place_of wait).index (pass_view pass.old)
             (pass_view pass.new) }
+        ensures alone { (pass_view pass.old).alone ≡ true
+            → IsPlainCancel (place_of wait).index (pass_view pass.old) result }
     {
         match self.mode {
             CancelMode::Smart => self.cancel_smart(pass, wait),
@@ -79,9 +82,16 @@ impl Latch {
         ensures left { HasLeft Simple (place_of wait).index (pass_view pass.old) result
             (pass_view pass.new) }
     {
-        match cancel_at_once(&self.queue, pass, wait) {
-            AtOnce::Gone => LatchLeft::Gone,
-            AtOnce::Late(_) => LatchLeft::TooLate,
-        }
+        left_at_once(cancel_at_once(&self.queue, pass, wait))
+    }
+}
+
+// What a cancel that leaves at once means for the wait.
+fn left_at_once(left: AtOnce) -> LatchLeft
+    ensures { result ≡ as_left left }
+{
+    match left {
+        AtOnce::Gone => LatchLeft::Gone,
+        AtOnce::Late(_) => LatchLeft::TooLate,
     }
 }

@@ -2,6 +2,7 @@
 
 ghost use Rattle.std.specs.Prelude.{◌≡◌, ◌+◌, true, pos, ◌≤ℤ◌, IsOk, IfOk};
 ghost use Rattle.cqs_words.specs.State.{count_in, is_above_zero};
+ghost use Rattle.cqs_latch.specs.Alone.{IsPlainCount};
 ghost use Rattle.cqs_latch.specs.CountAnswers.{HasCounted, HasFinished, IsReadyAfter};
 ghost use Rattle.cqs_latch.specs.Owed.{HasOwed};
 ghost use Rattle.cqs_latch.specs.Calls.{IsReady, IsMine, KeepsWaits};
@@ -26,6 +27,8 @@ impl Latch {
             (λ down. HasCounted (pass_view pass.old) down (pass_view pass.new)) }
         ensures ready { IfOk result (λ down. IsReadyAfter down (pass_view pass.new).facts) }
         ensures keeps { KeepsWaits (pass_view pass.old) (pass_view pass.new) }
+        ensures alone { (pass_view pass.old).alone ≡ true
+            → IfOk result (λ down. IsPlainCount (pass_view pass.old) down) }
     {
         let loaded = load_to_count(&self.queue, pass);
         if !StateWord::is_above_zero(loaded) {

@@ -2,6 +2,7 @@ use Rattle.std.proofs.Common.{◌∙◌, sym, subst}
 use Rattle.cqs_rule.specs.Passes.{pass_view}
 use Rattle.cqs_rule.specs.Waits.{place_of}
 use Rattle.cqs_latch.specs.LeftAnswers.{HasLeft}
+use Rattle.cqs_latch.proofs.AloneSteps.{plain-left}
 use Rattle.cqs_latch.proofs.Kept.{keeps-left, ready-left}
 use Rattle.cqs_latch.proofs.latch.Latch.cancel.Goals as goal
 
@@ -32,3 +33,9 @@ returns-in-Smart-clause-keeps c = keeps-left _ _ _ _ _ (returns-in-Smart-clause-
 
 pub returns-in-Simple-clause-keeps : goal.returns-in-Simple-clause-keeps
 returns-in-Simple-clause-keeps c = keeps-left _ _ _ _ _ (returns-in-Simple-clause-left c)
+
+pub returns-in-Smart-clause-alone : goal.returns-in-Smart-clause-alone
+returns-in-Smart-clause-alone c = λ alone. plain-left _ _ _ _ _ (returns-in-Smart-clause-left c) alone
+
+pub returns-in-Simple-clause-alone : goal.returns-in-Simple-clause-alone
+returns-in-Simple-clause-alone c = λ alone. plain-left _ _ _ _ _ (returns-in-Simple-clause-left c) alone

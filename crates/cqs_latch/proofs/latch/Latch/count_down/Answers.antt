@@ -6,6 +6,7 @@ use Rattle.cqs_words.specs.State.{count_in}
 use Rattle.cqs_latch.specs.LatchMade.{count_of}
 use Rattle.cqs_latch.proofs.CountSteps.{loaded-to, already-loaded, already-taken, some-left, last-taken, opens-so}
 use Rattle.cqs_latch.specs.declared.answers.Down.TheVariants.{Left, Last, LastOwing, Already}
+use Rattle.cqs_latch.proofs.AloneSteps.{plain-counted}
 use Rattle.cqs_latch.proofs.DownSteps.{opened-woke}
 use Rattle.cqs_latch.proofs.Kept.{keeps-counted, ready-counted}
 use Rattle.cqs_latch.proofs.latch.Latch.count_down.Goals as goal
@@ -97,3 +98,18 @@ returns-in-Some-clause-ready c = ready-counted (LastOwing c.in-Some.owed) _ _ (r
 
 pub returns-in-Some-clause-keeps : goal.returns-in-Some-clause-keeps
 returns-in-Some-clause-keeps c = keeps-counted (LastOwing c.in-Some.owed) _ _ (returns-in-Some-clause-counted c)
+
+pub returns-then-not-is_above_zero-clause-alone : goal.returns-then-not-is_above_zero-clause-alone
+returns-then-not-is_above_zero-clause-alone c = λ alone. plain-counted Already _ _ (returns-then-not-is_above_zero-clause-counted c) alone
+
+pub returns-then-not-is_above_zero-2-clause-alone : goal.returns-then-not-is_above_zero-2-clause-alone
+returns-then-not-is_above_zero-2-clause-alone c = λ alone. plain-counted Already _ _ (returns-then-not-is_above_zero-2-clause-counted c) alone
+
+pub returns-then-left-gt0-clause-alone : goal.returns-then-left-gt0-clause-alone
+returns-then-left-gt0-clause-alone c = λ alone. plain-counted (Left c.left_after-left.result) _ _ (returns-then-left-gt0-clause-counted c) alone
+
+pub returns-in-None-clause-alone : goal.returns-in-None-clause-alone
+returns-in-None-clause-alone c = λ alone. plain-counted Last _ _ (returns-in-None-clause-counted c) alone
+
+pub returns-in-Some-clause-alone : goal.returns-in-Some-clause-alone
+returns-in-Some-clause-alone c = λ alone. plain-counted (LastOwing c.in-Some.owed) _ _ (returns-in-Some-clause-counted c) alone

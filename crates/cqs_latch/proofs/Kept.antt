@@ -1,8 +1,12 @@
 -- A pass keeps its waits through the calls that don't close them.
-use Rattle.std.proofs.Common.{◌≡◌, ◌≢◌, ℕ, List, [], ◌∷◌, ◌++◌, None, Some, Result, Ok, Err, sym, ◌∙◌, subst}
+use Rattle.std.proofs.Common.{◌≡◌, ◌≢◌, ℕ, List, [], ◌∷◌, ◌++◌, None, Some, Result, Ok, Err, OnOk, OnErr, sym, ap, ◌∙◌, subst}
 use Rattle.cqs_latch_object.specs.declared.entries.LatchEntry.{LatchEntry}
 use Rattle.cqs_rule.specs.declared.queue.tokens.Wait.{Wait}
+use Rattle.cqs_rule.specs.declared.view.Facts.{Facts}
 use Rattle.cqs_rule.specs.declared.view.View.{View}
+use Rattle.cqs_rule.specs.Crew.{Met}
+use Rattle.cqs_rule.specs.Saw.{Saw}
+use Rattle.cqs_rule.specs.Views.{as_before}
 use Rattle.cqs_rule.specs.Lists.{Has, without}
 use Rattle.cqs_rule.specs.Placed.{place_word, place_known}
 use Rattle.cqs_rule.specs.Waits.{place_of, HasWait}
@@ -24,6 +28,7 @@ use Rattle.cqs_latch.specs.Answers.{HasWaited, IsPolled}
 use Rattle.cqs_latch.specs.Calls.{IsReady, CallRule, KeepsWaits, KeepsOtherWaits}
 use Rattle.cqs_latch.specs.Entries.{polled_entries}
 use Rattle.cqs_latch.specs.CountAnswers.{HasCounted, HasFinished, IsReadyAfter}
+use Rattle.cqs_latch.specs.Latch.{latch_object}
 use Rattle.cqs_latch.specs.LeftAnswers.{HasLeft, IsReadyLeft}
 
 module _ {T : Type 0} where
@@ -108,3 +113,15 @@ module _ {T : Type 0} where
       keeps-others (place_of wait).index v w rule.called.same.number rests.waits_are
   keeps-polled wait (polled.Pending again) v w rule (same, has, cell, rests) =
       λ old other had. keeps-all v w rule.called.same.number rests.waits_are old had
+
+  -- the crew
+  pub keeps-looked : (v w : View LatchEntry T) → Saw latch_object v v.facts [] (as_before v w) → KeepsWaits v w
+  keeps-looked v w s = keeps-all v w s.same.number (ap (λ (f : Facts). f.waits) s.facts_are)
+
+  pub keeps-met : {A B P : Type 0} (answer : Result A B) (v w : View LatchEntry T) (facts : Facts)
+      (seen : List LatchEntry) (handed : List (ℕ × T)) (own : List ℕ) → (P → w ≡ v) → OnErr answer P
+      → OnOk answer (Met latch_object v facts seen handed own w) → facts.waits ≡ v.facts.waits → KeepsWaits v w
+  keeps-met (Ok done) v w facts seen handed own same refused met waits =
+      keeps-all v w met.number (ap (λ (f : Facts). f.waits) met.facts_are ∙ waits)
+  keeps-met (Err back) v w facts seen handed own same refused met waits =
+      subst (KeepsWaits v) (sym (same refused)) (λ wait has. has)

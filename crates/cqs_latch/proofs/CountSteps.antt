@@ -52,6 +52,7 @@ module _ {T : Type 0} where
     pub along : Along v [] [] x
     pub waits : x.facts.waits ≡ v.facts.waits
     pub further : x.facts.has.further ≡ v.facts.has.further
+    pub passed : x.facts.passed ≡ v.facts.passed
 
   pub loaded-to : (v x : View LatchEntry T) (n : ℕ) → is_above_zero n ≡ true
       → OnWord 0 loads_to_count ReadsCount v n x → LoadedTo v x
@@ -64,6 +65,7 @@ module _ {T : Type 0} where
             Saw latch_object v (facts_moved loads_to_count (client_place 0) (at_word v n)) es x) none o.saw) refl;
         waits = ap (λ (f : Facts). f.waits) o.saw.facts_are;
         further = ap (λ (f : Facts). f.has.further) o.saw.facts_are;
+        passed = ap (λ (f : Facts). f.passed) o.saw.facts_are;
       }
 
   module _ (v : View LatchEntry T) (ready : IsReady v.facts) (own : Has v.number v.own) where
@@ -78,22 +80,26 @@ module _ {T : Type 0} where
         let a : Along v (entry.DownAlready v.number ∷ []) (entry.DownAlready v.number ∷ []) x =
         along-first v x _ (entry.DownAlready v.number ∷ []) (Word (client_place 0) n ∷ []) (subst (λ es.
         Saw latch_object v (facts_moved loads_to_count (client_place 0) (at_word v n)) es x) one o.saw) refl in (
+          [],
           call-rule_own v x (entry.DownAlready v.number ∷ []) _ a.called (λ m. refl, tt) own legal,
-          record {
-            word = n;
-            before = o.before;
-            used = none-above n none;
-            found = subst (λ es. WordWas 0 ReadsCount v n o.before es x) one
-                (word-first 0 n loads_to_count ReadsCount v x o);
-          },
-          record {
-            ready = record {
-              idle = ap (λ (f : Facts). f.doing) o.saw.facts_are
-                  ∙ ap (λ b. if b then doing.Idle else doing.TryAt (count_in n)) test;
-              further = ap (λ (f : Facts). f.has.further) o.saw.facts_are ∙ ready.further;
-            };
-            waits_are = ap (λ (f : Facts). f.waits) o.saw.facts_are;
-          },
+          (
+            refl,
+            record {
+              word = n;
+              before = o.before;
+              used = none-above n none;
+              found = subst (λ es. WordWas 0 ReadsCount v n o.before es x) one
+                  (word-first 0 n loads_to_count ReadsCount v x o);
+            },
+            record {
+              ready = record {
+                idle = ap (λ (f : Facts). f.doing) o.saw.facts_are
+                    ∙ ap (λ b. if b then doing.Idle else doing.TryAt (count_in n)) test;
+                further = ap (λ (f : Facts). f.has.further) o.saw.facts_are ∙ ready.further;
+              };
+              waits_are = ap (λ (f : Facts). f.waits) o.saw.facts_are;
+            },
+          ),
         )
 
     -- The pass took one from the count, which showed this entry and left the pass at this.
@@ -104,6 +110,7 @@ module _ {T : Type 0} where
       pub doing : y.facts.doing ≡ d
       pub waits : y.facts.waits ≡ v.facts.waits
       pub further : y.facts.has.further ≡ 0
+      pub passed : y.facts.passed ≡ v.facts.passed
 
     pub took : (e : LatchEntry) (d : Doing) (x y : View LatchEntry T) (n : ℕ) → LoadedTo v x
         → OnWord 0 counts_down ReadsCount x n y → counted_entry v.number (count_in n) ≡ e
@@ -123,6 +130,7 @@ module _ {T : Type 0} where
           doing = ap (λ (f : Facts). f.doing) o.saw.facts_are ∙ doing_is;
           waits = ap (λ (f : Facts). f.waits) o.saw.facts_are ∙ l.waits;
           further = ap (λ (f : Facts). f.has.further) o.saw.facts_are ∙ l.further ∙ ready.further;
+          passed = ap (λ (f : Facts). f.passed) o.saw.facts_are ∙ l.passed;
         }
 
     -- it was used up between
@@ -132,9 +140,13 @@ module _ {T : Type 0} where
         let test : is_used (count_in n) ≡ true = none-used n none in
         let t : Took (entry.DownAlready v.number) doing.Idle n y =
         took (entry.DownAlready v.number) doing.Idle x y n l o (rw test refl) (rw test refl) in (
+          [],
           call-rule_own v y (entry.DownAlready v.number ∷ []) _ t.along.called (λ m. refl, tt) own legal,
-          record { word = n; before = t.before; used = none-above n none; found = t.found },
-          record { ready = record { idle = t.doing; further = t.further }; waits_are = t.waits },
+          (
+            refl,
+            record { word = n; before = t.before; used = none-above n none; found = t.found },
+            record { ready = record { idle = t.doing; further = t.further }; waits_are = t.waits },
+          ),
         )
 
     -- some are left
@@ -147,10 +159,14 @@ module _ {T : Type 0} where
         let t : Took (entry.DownLeft v.number left) doing.Idle n y =
         took (entry.DownLeft v.number left) doing.Idle x y n l o (rw (used, last) (ap (entry.DownLeft v.number) less))
         (rw (used, last) refl) in (
+          [],
           call-rule_own v y (entry.DownLeft v.number left ∷ []) _ t.along.called (λ m. refl, tt) own legal,
-          some,
-          record { word = n; before = t.before; left_is = is; found = t.found },
-          record { ready = record { idle = t.doing; further = t.further }; waits_are = t.waits },
+          (
+            refl,
+            some,
+            record { word = n; before = t.before; left_is = is; found = t.found },
+            record { ready = record { idle = t.doing; further = t.further }; waits_are = t.waits },
+          ),
         )
 
     -- it was the last one, and the pass is to open the latch
@@ -191,4 +207,5 @@ module _ {T : Type 0} where
           owes = ap (λ (f : Facts). f.has.further) o.saw.facts_are ∙ sym many_is;
           payload = ap (λ (f : Facts). f.has.payload) o.saw.facts_are;
           waits = ap (λ (f : Facts). f.waits) o.saw.facts_are ∙ t.waits;
+          passed = ap (λ (f : Facts). f.passed) o.saw.facts_are ∙ t.passed;
         }

@@ -49,6 +49,7 @@ module _ (mode : CancelMode) (size p : ℕ) (facts : Facts) (c : Hidden) (words 
         few_passes = omega (arith, length-set c.queue.doing p (word_doing s w));
         few_drawn = shows.few_drawn;
         none_held = none-held c.has p facts.has h has held shows.none_held;
+        plain = shows.plain;
       }
 
   -- what is owed stays

@@ -7,3 +7,8 @@ pub mod WaitSteps
 pub mod PollSteps
 pub mod WakeSteps
 pub mod CountSteps
+pub mod DownSteps
+pub mod CancelSteps
+pub mod Kept
+pub mod Simple
+pub mod AloneSteps

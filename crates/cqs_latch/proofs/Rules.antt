@@ -9,7 +9,7 @@ use Rattle.cqs_rule.specs.declared.view.View.{View}
 use Rattle.cqs_rule.specs.Called.{Called}
 use Rattle.cqs_rule.specs.Lists.{Has, part, NamesOnly}
 use Rattle.cqs_latch.specs.Latch.{latch_object}
-use Rattle.cqs_latch.specs.Calls.{IsLegalOf, CallRule}
+use Rattle.cqs_latch.specs.Calls.{IsLegalOf, CallRule, CallRuleEnding}
 
 -- each of the entries names the caller p
 abbrev pub AllName : ℕ → List LatchEntry → Type 0
@@ -56,10 +56,10 @@ module _ {T : Type 0} where
     sole = c.sole;
   }
 
-  pub call-rule : (v w : View LatchEntry T) (own further : List LatchEntry)
-      → Called latch_object v (own ++ further) further w → AllName v.number own → NoneName further
-      → Has v.number v.own → IsLegalOf w → CallRule v own further w
-  call-rule v w own further c all none has legal = record {
+  pub call-rule_ending : (v w : View LatchEntry T) (own further last : List LatchEntry)
+      → Called latch_object v (own ++ further) last w → AllName v.number own → NoneName further
+      → Has v.number v.own → IsLegalOf w → CallRuleEnding v own further last w
+  call-rule_ending v w own further last c all none has legal = record {
     called = c;
     legal = legal;
     mine = c.mine v.number has
@@ -69,6 +69,11 @@ module _ {T : Type 0} where
     only = part-others v.number own all;
     nobody = part-none further none;
   }
+
+  pub call-rule : (v w : View LatchEntry T) (own further : List LatchEntry)
+      → Called latch_object v (own ++ further) further w → AllName v.number own → NoneName further
+      → Has v.number v.own → IsLegalOf w → CallRule v own further w
+  call-rule v w own further c all none has legal = call-rule_ending v w own further further c all none has legal
 
   -- a call that makes no further entry
   pub call-rule_own : (v w : View LatchEntry T) (own last : List LatchEntry)

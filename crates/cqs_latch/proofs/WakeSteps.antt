@@ -1,108 +1,433 @@
--- Several resumptions, one after the other: what each leaves of the pass that begins it.
-use Rattle.std.proofs.Common.{◌≡◌, ℕ, zero, suc, ◌-◌, ◌∙◌, ap, sym, subst, refl, ⊎_elim, Some, arith}
+-- Resumptions of a latch, one after the other: each ended at a number, or was handed back.
+use Rattle.std.proofs.Common.{◌≡◌, ◌⊎◌, inl, inr, ℕ, zero, suc, ◌+◌, ◌-◌, ◌<◌, ◌≤◌, Bool, true, false, List, [], ◌∷◌, ◌++◌, length, Option, Some, None, sym, refl, ap, ◌∙◌, subst, append_assoc, length-append, arith}
+use Rattle.std.proofs.lemmas.List.{append-nil}
 use Rattle.cqs_core.specs.declared.cells.CoreState.{CoreState}
 use Rattle.cqs_core.specs.declared.cells.CoreState.TheVariants as state
 use Rattle.cqs_core.specs.declared.doings.Doing.TheVariants as doing
-use Rattle.cqs_core.specs.QueueSteps.{QueueStep, serves, leaves, delegates, ends_refused}
+use Rattle.cqs_core.specs.QueueSteps.{QueueStep, begins, reaches, serves, leaves, delegates, ends_refused, ends_missed}
 use Rattle.cqs_latch_object.specs.declared.entries.LatchEntry.{LatchEntry}
-use Rattle.cqs_resume.specs.declared.resumed.Resumed as resume
+use Rattle.cqs_latch_object.specs.LatchSteps.{step_entries}
+use Rattle.cqs_resume.specs.declared.at_once.EndedAtOnce.{EndedAtOnce}
+use Rattle.cqs_resume.specs.declared.at_once.EndedAtOnce.TheVariants as once
+use Rattle.cqs_resume.specs.declared.resumed.Resumed.{Resumed}
 use Rattle.cqs_resume.specs.declared.resumed.Resumed.TheVariants as resumed
+use Rattle.cqs_resume.specs.AtOnce.{MeetsAtOnce, BegunAtOnce, FinishedAtOnce}
 use Rattle.cqs_resume.specs.Begins.{Begun}
-use Rattle.cqs_resume.specs.Resumes.{most_after_first}
-use Rattle.cqs_resume.specs.Resumes.{Ended}
-use Rattle.cqs_rule.specs.declared.queue.tokens.Under as token
+use Rattle.cqs_resume.specs.Meets.{Met}
+use Rattle.cqs_resume.specs.Resumes.{IsFurther, Ended, Stopped, Resumes, most_passed_over, most_after_first}
+use Rattle.cqs_resume.specs.Rounds.{Round, IsOpenedWith, AreDrawn, draw_entries, round_entries, over_entries, draw_seen, round_seen, all_seen, drawn_in, one_if, numbers}
+use Rattle.cqs_rule.specs.declared.queue.tokens.Under.{Under}
 use Rattle.cqs_rule.specs.declared.view.Facts.{Facts}
+use Rattle.cqs_rule.specs.declared.view.Sighting.{Sighting}
+use Rattle.cqs_rule.specs.declared.view.Sighting.TheVariants.{Cell, Word}
 use Rattle.cqs_rule.specs.declared.view.View.{View}
-use Rattle.std.specs.Prelude.{Option}
+use Rattle.cqs_rule.specs.Called.{Called}
+use Rattle.cqs_rule.specs.Counts.{Drew}
+use Rattle.cqs_rule.specs.Exchanges.{FoundCell, HasCell}
+use Rattle.cqs_rule.specs.Layout.{resumes_place}
+use Rattle.cqs_rule.specs.Owed.{HasUnder, under_payload, under_ticket, under_reached}
+use Rattle.cqs_rule.specs.Saw.{WasFound}
 use Rattle.cqs_latch.specs.declared.answers.Owed.{Owed}
-use Rattle.cqs_latch.specs.Causes.{primitive_of}
-use Rattle.cqs_latch.specs.CountAnswers.{Wakes}
-use Rattle.cqs_latch.specs.Owed.{HasOwed, IsReadyWith}
+use Rattle.cqs_latch.specs.Causes.{primitive_of, cell_of, CellWas}
 use Rattle.cqs_latch.specs.Latch.{latch_object}
+use Rattle.cqs_latch.specs.Owed.{owed_under, owed_further}
+use Rattle.cqs_latch.specs.Waking.{Ending, served_at, left_at, refused_at, missed_at, ending_entries, woken_entries, handed_back, IsGrown, EndsSo, NextEnded, NextHanded, Next, OnEnded, OnHanded, On, Woke, Wakes, PassedOver}
+use Rattle.cqs_latch.proofs.Along.{Along, along-first, along-and}
+use Rattle.cqs_latch.proofs.Rules.{NoneName, called-weak}
 
--- the resumption ended
-abbrev pub HasEnded : resume.Resumed → Type 0
-HasEnded (resumed.Served k) = Unit {0}
-HasEnded (resumed.Left k) = Unit {0}
-HasEnded (resumed.Refused k) = Unit {0}
-HasEnded (resumed.Under under) = ⊥
+-- a round of a latch's resumption shows no entry but that of its last step
+draw-none : (p payload : ℕ) (drawn : Bool) (k : ℕ) → draw_entries latch_object p payload drawn k ≡ []
+draw-none p payload true k = refl
+draw-none p payload false k = refl
 
-pub has-ended : (ended : resume.Resumed) → ((under : token.Under) → ended ≡ resumed.Under under → ⊥) → HasEnded ended
-has-ended (resumed.Served k) other = tt
-has-ended (resumed.Left k) other = tt
-has-ended (resumed.Refused k) other = tt
-has-ended (resumed.Under under) other = other under refl
+over-none : (p payload : ℕ) (over : List Round) → over_entries latch_object p payload over ≡ []
+over-none p payload [] = refl
+over-none p payload (r ∷ over) =
+    λ i. (draw-none p payload r.drawn r.number i ++ []) ++ over-none p payload over i
+
+entries-last : (p payload k : ℕ) (s : QueueStep) (over : List Round) (last : Round) → last.number ≡ k
+    → over_entries latch_object p payload over ++ round_entries latch_object p payload s last ≡ step_entries s p k
+entries-last p payload k s over last is =
+    λ i. over-none p payload over i ++ (draw-none p payload last.drawn last.number i ++ step_entries s p (is i))
+
+-- what the last round found is last of all that was found
+seen-last : (over : List Round) (last : Round)
+    → (earlier : List Sighting) × (all_seen (over ++ last ∷ []) ≡ earlier ++ Cell last.number last.word ∷ [])
+seen-last [] last = (
+  draw_seen last.drawn last.number ++ last.tried,
+  append-nil _ ∙ sym (append_assoc (draw_seen last.drawn last.number) last.tried (Cell last.number last.word ∷ [])),
+)
+seen-last (r ∷ over) last =
+    let later = seen-last over last in (
+      round_seen r ++ later.0,
+      ap (λ l. round_seen r ++ l) later.1 ∙ sym (append_assoc (round_seen r) later.0 _),
+    )
+
+-- each number that was drawn is one of those that were passed over, and so is one whose ticket was open
+one-few : (b : Bool) → one_if b ≤ 1
+one-few true = omega arith
+one-few false = omega arith
+
+drawn-few : (over : List Round) → drawn_in over ≤ length (numbers over)
+drawn-few [] = omega arith
+drawn-few (r ∷ over) = let first = one-few r.drawn in let later = drawn-few over in omega arith
+
+opened-few : (k : ℕ) (over : List Round) → IsOpenedWith (Some k) over → drawn_in over + 1 ≤ length (numbers over)
+opened-few k [] opens = absurd opens
+opened-few k (r ∷ over) opens =
+    let none : one_if r.drawn ≡ 0 = ap one_if opens.1 in let later = drawn-few over in omega arith
+
+minus-none : (n : ℕ) → n ≡ n - 0
+minus-none n = omega arith
+
+-- the entries by which resumptions reach their numbers name nobody
+ending-none : (e : Ending) (es : List LatchEntry) → NoneName es → NoneName (ending_entries e ++ es)
+ending-none (served_at k) es none = (λ n. refl, none)
+ending-none (left_at k) es none = none
+ending-none (refused_at k) es none = none
+ending-none (missed_at k) es none = (λ n. refl, none)
+
+pub woken-none : (ends : List Ending) → NoneName (woken_entries ends)
+woken-none [] = tt
+woken-none (e ∷ ends) = ending-none e (woken_entries ends) (woken-none ends)
+
+pub woken-append : (ends more : List Ending) → woken_entries ends ++ woken_entries more ≡ woken_entries (ends ++ more)
+woken-append [] more = refl
+woken-append (e ∷ ends) more =
+    append_assoc (ending_entries e) (woken_entries ends) (woken_entries more)
+    ∙ ap (λ l. ending_entries e ++ l) (woken-append ends more)
+
+-- the entries of one that ended in simple mode
+abbrev pub once-entries : EndedAtOnce → List LatchEntry
+once-entries (once.Served k) = ending_entries (served_at k)
+once-entries (once.Left k) = []
+once-entries (once.Missed k) = ending_entries (missed_at k)
 
 module _ {T : Type 0} where
-  -- the pass is idle again, and owes one fewer
-  pub record OneFewer (v u : View LatchEntry T) : Type 0 where
+  -- nothing was done yet
+  pub along-none : (v : View LatchEntry T) → Along v [] [] v
+  along-none v = record {
+    called = record {
+      more = [];
+      seen = sym (append-nil v.seen);
+      mine = λ n h. refl;
+      before = v.seen;
+      ends = sym (append-nil v.seen);
+      same = record {
+        number = refl;
+        weight = refl;
+        own = refl;
+        crew = refl;
+        alone = refl;
+        limit = refl;
+        cells = refl;
+        passes = refl;
+        opening = refl;
+      };
+      handed = ([], sym (append-nil v.handed));
+      unlaid = λ j bare. bare;
+      homes = ([], sym (append-nil v.homes));
+      sole = λ a. refl;
+    };
+    found = [];
+    found_is = sym (append-nil v.facts.found);
+  }
+
+  pub along-weak : (v u : View LatchEntry T) (es last : List LatchEntry) → Along v es last u → Along v es [] u
+  along-weak v u es last a =
+      record { called = called-weak v u es last a.called; found = a.found; found_is = a.found_is }
+
+  -- From v to u the pass made resumptions with these entries. It is idle, owes so many fewer, has all else as it had
+  -- it, and passed over these numbers.
+  pub record Ran (es : List LatchEntry) (less : ℕ) (over : List ℕ) (v u : View LatchEntry T) : Type 0 where
+    pub along : Along v es [] u
     pub idle : u.facts.doing ≡ doing.Idle
-    pub further : u.facts.has.further ≡ v.facts.has.further - 1
+    pub further : u.facts.has.further ≡ v.facts.has.further - less
     pub payload : u.facts.has.payload ≡ v.facts.has.payload
     pub waits : u.facts.waits ≡ v.facts.waits
+    pub passed : u.facts.passed ≡ v.facts.passed ++ over
 
-  ended-fewer : (s : QueueStep) (state : CoreState) (k : ℕ) (ended : resume.Resumed) (v u : View LatchEntry T)
-      → (b : Begun latch_object primitive_of 0 v ended u)
-      → Ended latch_object primitive_of s state most_after_first (Some b.number) 0 k b.from u → OneFewer v u
-  ended-fewer s state k ended v u b e = record {
+  pub ran-none : (v : View LatchEntry T) → v.facts.doing ≡ doing.Idle → Ran [] 0 [] v v
+  ran-none v idle = record {
+    along = along-none v;
+    idle = idle;
+    further = minus-none v.facts.has.further;
+    payload = refl;
+    waits = refl;
+    passed = sym (append-nil v.facts.passed);
+  }
+
+  pub ran-then : (es fs : List LatchEntry) (less more : ℕ) (over then : List ℕ) (v u w : View LatchEntry T)
+      → Ran es less over v u → Ran fs more then u w → Ran (es ++ fs) (less + more) (over ++ then) v w
+  ran-then es fs less more over then v u w a b = record {
+    along = along-and v u w es [] fs [] a.along b.along;
+    idle = b.idle;
+    further = let first = a.further in b.further ∙ omega (arith, first);
+    payload = b.payload ∙ a.payload;
+    waits = b.waits ∙ a.waits;
+    passed = b.passed ∙ (ap (λ l. l ++ then) a.passed ∙ append_assoc v.facts.passed over then);
+  }
+
+  -- a resumption ended at a cell
+  pub ended-ran : (s : QueueStep) (at : CoreState) (most : ℕ) (ticket : Option ℕ) (payload k : ℕ)
+      (u w : View LatchEntry T) → (e : Ended latch_object primitive_of s at most ticket payload k u w)
+      → Ran (step_entries s u.number k) 0 (numbers e.over) u w
+  ended-ran s at most ticket payload k u w e = record {
+    along = record {
+      called = called-weak u w (step_entries s u.number k) (step_entries s u.number k)
+          (subst (λ es. Called latch_object u es (step_entries s u.number k) w)
+          (entries-last u.number payload k s e.over e.last e.number) e.called);
+      found = all_seen (e.over ++ e.last ∷ []);
+      found_is = ap (λ (f : Facts). f.found) e.facts_are;
+    };
     idle = ap (λ (f : Facts). f.doing) e.facts_are;
-    further = ap (λ (f : Facts). f.has.further) e.facts_are ∙ ap (λ (f : Facts). f.has.further) b.drew.facts_are;
-    payload = ap (λ (f : Facts). f.has.payload) e.facts_are ∙ ap (λ (f : Facts). f.has.payload) b.drew.facts_are;
-    waits = ap (λ (f : Facts). f.waits) e.facts_are ∙ ap (λ (f : Facts). f.waits) b.drew.facts_are;
+    further = ap (λ (f : Facts). f.has.further) e.facts_are ∙ minus-none u.facts.has.further;
+    payload = ap (λ (f : Facts). f.has.payload) e.facts_are;
+    waits = ap (λ (f : Facts). f.waits) e.facts_are;
+    passed = ap (λ (f : Facts). f.passed) e.facts_are;
   }
 
-  pub one-fewer : (ended : resume.Resumed) (v u : View LatchEntry T) → HasEnded ended
-      → Begun latch_object primitive_of 0 v ended u → OneFewer v u
-  one-fewer (resumed.Served k) v u is b = ended-fewer serves state.Waiter k (resumed.Served k) v u b b.resumes
-  one-fewer (resumed.Left k) v u is b = ⊎_elim
-      (λ (left : Ended latch_object primitive_of leaves state.Empty most_after_first (Some b.number) 0 k b.from u).
-      ended-fewer leaves state.Empty k (resumed.Left k) v u b left)
-      (λ (given : Ended latch_object primitive_of delegates state.Cancelling most_after_first (Some b.number) 0 k
-      b.from u). ended-fewer delegates state.Cancelling k (resumed.Left k) v u b given)
-      b.resumes
-  one-fewer (resumed.Refused k) v u is b = ended-fewer ends_refused state.Refused k (resumed.Refused k) v u b b.resumes
-  one-fewer (resumed.Under under) v u is b = absurd is
+  -- which it found so
+  pub ended-cell : (s : QueueStep) (at : CoreState) (most : ℕ) (ticket : Option ℕ) (payload k : ℕ)
+      (u w : View LatchEntry T) → Ended latch_object primitive_of s at most ticket payload k u w
+      → CellWas at k (step_entries s u.number k) w
+  ended-cell s at most ticket payload k u w e =
+      let last = e.last in
+      let found : w.facts.found ≡ u.facts.found ++ all_seen (e.over ++ last ∷ []) =
+      ap (λ (f : Facts). f.found) e.facts_are in
+      let at_end = seen-last e.over last in
+      record {
+        word = last.word;
+        payload = last.payload;
+        cell = subst (λ j. FoundCell last.word (cell_of j at last.payload)) e.number e.found.cell;
+        found = (
+          u.facts.found ++ at_end.0,
+          found ∙ (ap (λ l. u.facts.found ++ l) at_end.1
+              ∙ (sym (append_assoc u.facts.found at_end.0 (Cell last.number last.word ∷ []))
+              ∙ ap (λ j. (u.facts.found ++ at_end.0) ++ Cell j last.word ∷ []) e.number)),
+        );
+        was = subst (λ j. WasFound primitive_of (HasCell (cell_of j at last.payload)) (step_entries s u.number k) w)
+            e.number e.was;
+      }
 
-  -- it ended, and the rest follows
-  pub wakes-on : (ended : resume.Resumed) (n : ℕ) (v u w : View LatchEntry T) (result : Option Owed)
-      → HasEnded ended → Begun latch_object primitive_of 0 v ended u → Wakes n u result w → Wakes (suc n) v result w
-  wakes-on (resumed.Served k) n v u w result is b rest = (resumed.Served k, u, b, rest)
-  wakes-on (resumed.Left k) n v u w result is b rest = (resumed.Left k, u, b, rest)
-  wakes-on (resumed.Refused k) n v u w result is b rest = (resumed.Refused k, u, b, rest)
-  wakes-on (resumed.Under under) n v u w result is b rest = absurd is
-
-  -- or it was handed back
-  pub wakes-under : (under : token.Under) (n : ℕ) (v u : View LatchEntry T)
-      → Begun latch_object primitive_of 0 v (resumed.Under under) u
-      → Wakes (suc n) v (Some (record { under = under; further = n })) u
-  wakes-under under n v u b = (resumed.Under under, u, b, (refl, refl))
-
-  -- a pass that stopped on the way owes what was handed back, with those after it
-  stopped-owes : (n : ℕ) (under : token.Under) (v u : View LatchEntry T) → v.facts.has.further ≡ suc n
-      → Begun latch_object primitive_of 0 v (resumed.Under under) u
-      → HasOwed u.facts (record { under = under; further = n })
-  stopped-owes n under v u owes b = record {
-    under = b.resumes.has;
-    further = ap (λ (f : Facts). f.has.further) b.resumes.facts_are
-        ∙ ap (λ (f : Facts). f.has.further) b.drew.facts_are ∙ omega (arith, owes);
-    payload = b.resumes.payload_is;
+  -- it was met in simple mode
+  met-ran : (s : QueueStep) (at : CoreState) (payload k : ℕ) (u w : View LatchEntry T)
+      → Met latch_object primitive_of s at doing.Idle [] payload k u w → Ran (step_entries s u.number k) 0 [] u w
+  met-ran s at payload k u w m = record {
+    along = along-weak u w _ _
+        (along-first u w _ (step_entries s u.number k) (m.tried ++ Cell k m.word ∷ []) m.saw refl);
+    idle = ap (λ (f : Facts). f.doing) m.saw.facts_are;
+    further = ap (λ (f : Facts). f.has.further) m.saw.facts_are ∙ minus-none u.facts.has.further;
+    payload = ap (λ (f : Facts). f.has.payload) m.saw.facts_are;
+    waits = ap (λ (f : Facts). f.waits) m.saw.facts_are;
+    passed = ap (λ (f : Facts). f.passed) m.saw.facts_are;
   }
 
-  -- after all of them the pass is between two calls, or owes what was handed back
-  pub wakes-after : (n : ℕ) (v w : View LatchEntry T) (result : Option Owed) → v.facts.doing ≡ doing.Idle
-      → v.facts.has.further ≡ n → Wakes n v result w → IsReadyWith result w.facts
-  wakes-after zero v w result idle owes (none, same) =
-      subst (λ (z : Option Owed × View LatchEntry T). IsReadyWith z.0 z.1.facts) (λ i. (sym none i, sym same i))
-      (record { idle = idle; further = owes })
-  wakes-after (suc n) v w result idle owes (resumed.Served k, u, b, rest) =
-      let f = one-fewer (resumed.Served k) v u tt b in
-      wakes-after n u w result f.idle (f.further ∙ omega (arith, owes)) rest
-  wakes-after (suc n) v w result idle owes (resumed.Left k, u, b, rest) =
-      let f = one-fewer (resumed.Left k) v u tt b in
-      wakes-after n u w result f.idle (f.further ∙ omega (arith, owes)) rest
-  wakes-after (suc n) v w result idle owes (resumed.Refused k, u, b, rest) =
-      let f = one-fewer (resumed.Refused k) v u tt b in
-      wakes-after n u w result f.idle (f.further ∙ omega (arith, owes)) rest
-  wakes-after (suc n) v w result idle owes (resumed.Under under, u, b, rest) =
-      subst (λ (z : Option Owed × View LatchEntry T). IsReadyWith z.0 z.1.facts) (λ i. (sym rest.0 i, sym rest.1 i))
-      (stopped-owes n under v u owes b)
+  -- the next number was drawn for it
+  begun-ran : (k : ℕ) (es : List LatchEntry) (over : List ℕ) (v u w : View LatchEntry T)
+      → Drew latch_object begins v k u → Ran es 0 over u w → Ran es 1 over v w
+  begun-ran k es over v u w d r = record {
+    along = along-and v u w [] [] es [] (along-first v u _ [] (Word resumes_place k ∷ []) d refl) r.along;
+    idle = r.idle;
+    further = r.further
+        ∙ (sym (minus-none u.facts.has.further) ∙ ap (λ (f : Facts). f.has.further) d.facts_are);
+    payload = r.payload ∙ ap (λ (f : Facts). f.has.payload) d.facts_are;
+    waits = r.waits ∙ ap (λ (f : Facts). f.waits) d.facts_are;
+    passed = r.passed ∙ ap (λ (f : Facts). f.passed ++ over) d.facts_are;
+  }
+
+  reached-ran : (k : ℕ) (es : List LatchEntry) (over : List ℕ) (v u w : View LatchEntry T)
+      → Drew latch_object reaches v k u → Ran es 0 over u w → Ran es 0 over v w
+  reached-ran k es over v u w d r = record {
+    along = along-and v u w [] [] es [] (along-first v u _ [] (Word resumes_place k ∷ []) d refl) r.along;
+    idle = r.idle;
+    further = r.further
+        ∙ (sym (minus-none u.facts.has.further)
+        ∙ (ap (λ (f : Facts). f.has.further) d.facts_are ∙ minus-none v.facts.has.further));
+    payload = r.payload ∙ ap (λ (f : Facts). f.has.payload) d.facts_are;
+    waits = r.waits ∙ ap (λ (f : Facts). f.waits) d.facts_are;
+    passed = r.passed ∙ ap (λ (f : Facts). f.passed ++ over) d.facts_are;
+  }
+
+  -- the next one ended
+  pub next-ran : (e : Ending) (v w : View LatchEntry T) → NextEnded e v w
+      → (over : List ℕ) × Ran (ending_entries e) 1 over v w
+  next-ran (served_at k) v w (inl b) = (
+    numbers b.resumes.over,
+    begun-ran b.number _ _ v b.from w b.drew
+        (ended-ran serves state.Waiter most_after_first (Some b.number) 0 k b.from w b.resumes),
+  )
+  next-ran (served_at k) v w (inr b) = (
+    [],
+    begun-ran b.number _ _ v b.from w b.drew
+        (subst (λ n. Ran (step_entries serves b.from.number n) 0 [] b.from w) (sym b.meets.0)
+        (met-ran serves state.Waiter 0 b.number b.from w b.meets.1)),
+  )
+  next-ran (left_at k) v w (inl b) = by b.resumes
+    where
+      by : Resumes latch_object primitive_of most_after_first (Some b.number) 0 b.from (resumed.Left k) w
+          → (over : List ℕ) × Ran [] 1 over v w
+      by (inl e) = (
+        numbers e.over,
+        begun-ran b.number _ _ v b.from w b.drew
+            (ended-ran leaves state.Empty most_after_first (Some b.number) 0 k b.from w e),
+      )
+      by (inr e) = (
+        numbers e.over,
+        begun-ran b.number _ _ v b.from w b.drew
+            (ended-ran delegates state.Cancelling most_after_first (Some b.number) 0 k b.from w e),
+      )
+  next-ran (left_at k) v w (inr b) = (
+    [],
+    begun-ran b.number _ _ v b.from w b.drew
+        (met-ran leaves state.Empty 0 b.number b.from w b.meets.1),
+  )
+  next-ran (refused_at k) v w b = (
+    numbers b.resumes.over,
+    begun-ran b.number _ _ v b.from w b.drew
+        (ended-ran ends_refused state.Refused most_after_first (Some b.number) 0 k b.from w b.resumes),
+  )
+  next-ran (missed_at k) v w b = (
+    [],
+    begun-ran b.number _ _ v b.from w b.drew
+        (subst (λ n. Ran (step_entries ends_missed b.from.number n) 0 [] b.from w) (sym b.meets.0)
+        (met-ran ends_missed state.Cancelled 0 b.number b.from w b.meets.1)),
+  )
+
+  pub woke-ran : (ends : List Ending) (v w : View LatchEntry T) → v.facts.doing ≡ doing.Idle → Woke ends v w
+      → (over : List ℕ) × Ran (woken_entries ends) (length ends) over v w
+  woke-ran [] v w idle woke = ([], subst (Ran [] 0 [] v) (sym woke) (ran-none v idle))
+  woke-ran (e ∷ ends) v w idle (u, next, woke) =
+      let first = next-ran e v u next in
+      let rest = woke-ran ends u w first.1.idle woke in
+      let one : 1 + length ends ≡ suc (length ends) = omega arith in (
+        first.0 ++ rest.0,
+        subst (λ n. Ran (ending_entries e ++ woken_entries ends) n (first.0 ++ rest.0) v w) one
+            (ran-then (ending_entries e) (woken_entries ends) 1 (length ends) first.0 rest.0 v u w first.1 rest.1),
+      )
+
+  -- one more, after those that ended
+  pub woke-on : (ends : List Ending) (e : Ending) (v u w : View LatchEntry T) → Woke ends v u → NextEnded e u w
+      → Woke (ends ++ e ∷ []) v w
+  woke-on [] e v u w woke next = (w, subst (λ z. NextEnded e z w) woke next, refl)
+  woke-on (d ∷ ends) e v u w (x, first, woke) next = (x, first, woke-on ends e x u w woke next)
+
+  -- One was handed back: the pass owes it, and has passed over as many numbers as one call may.
+  pub record Handed (under : Under) (less : ℕ) (over : List ℕ) (v w : View LatchEntry T) : Type 0 where
+    pub along : Along v [] [] w
+    pub has : HasUnder w.facts under
+    pub further : w.facts.has.further ≡ v.facts.has.further - less
+    pub waits : w.facts.waits ≡ v.facts.waits
+    pub passed : w.facts.passed ≡ v.facts.passed ++ over
+    pub many : most_passed_over ≤ length over
+
+  pub stopped-handed : (ticket : Option ℕ) (payload : ℕ) (under : Under) (v w : View LatchEntry T)
+      → (e : Stopped latch_object primitive_of most_passed_over ticket payload under v w)
+      → Handed under 0 (numbers e.over) v w
+  stopped-handed ticket payload under v w e = record {
+    along = record {
+      called = called-weak v w [] _
+          (subst (λ es. Called latch_object v es [] w) (over-none v.number payload e.over) e.called);
+      found = all_seen e.over;
+      found_is = ap (λ (f : Facts). f.found) e.facts_are;
+    };
+    has = e.has;
+    further = ap (λ (f : Facts). f.has.further) e.facts_are ∙ minus-none v.facts.has.further;
+    waits = ap (λ (f : Facts). f.waits) e.facts_are;
+    passed = ap (λ (f : Facts). f.passed) e.facts_are;
+    many = let few = drawn-few e.over in let all = e.all in omega arith;
+  }
+
+  pub next-handed : (under : Under) (v w : View LatchEntry T) → NextHanded under v w
+      → ((over : List ℕ) × Handed under 1 over v w) × (under_payload under ≡ 0)
+  next-handed under v w b =
+      let e = b.resumes in (
+        (
+          numbers e.over,
+          record {
+            along = along-and v b.from w [] [] [] []
+                (along-first v b.from _ [] (Word resumes_place b.number ∷ []) b.drew refl)
+                (record {
+                  called = called-weak b.from w [] _
+                      (subst (λ es. Called latch_object b.from es [] w) (over-none b.from.number 0 e.over) e.called);
+                  found = all_seen e.over;
+                  found_is = ap (λ (f : Facts). f.found) e.facts_are;
+                });
+            has = e.has;
+            further = ap (λ (f : Facts). f.has.further) e.facts_are
+                ∙ ap (λ (f : Facts). f.has.further) b.drew.facts_are;
+            waits = ap (λ (f : Facts). f.waits) e.facts_are ∙ ap (λ (f : Facts). f.waits) b.drew.facts_are;
+            passed = ap (λ (f : Facts). f.passed) e.facts_are
+                ∙ ap (λ (f : Facts). f.passed ++ numbers e.over) b.drew.facts_are;
+            many = let few = opened-few b.number e.over e.opens in let all = e.all in omega arith;
+          },
+        ),
+        e.payload_is,
+      )
+
+  -- one that had been handed back went on
+  met-on : (payload : ℕ) (k : ℕ) (v w : View LatchEntry T)
+      → (ended : EndedAtOnce)
+      → MeetsAtOnce latch_object primitive_of payload k v ended w
+      → Ran (once-entries ended) 0 [] v w
+  met-on payload k v w (once.Served n) m =
+      subst (λ j. Ran (step_entries serves v.number j) 0 [] v w) (sym m.0) (met-ran serves state.Waiter payload k v w m.1)
+  met-on payload k v w (once.Left n) m = met-ran leaves state.Empty payload k v w m.1
+  met-on payload k v w (once.Missed n) m =
+      subst (λ j. Ran (step_entries ends_missed v.number j) 0 [] v w) (sym m.0)
+      (met-ran ends_missed state.Cancelled payload k v w m.1)
+
+  finished-on : (ticket : Option ℕ) (payload : ℕ) (v w : View LatchEntry T) (ended : EndedAtOnce)
+      → FinishedAtOnce latch_object primitive_of ticket payload v ended w → Ran (once-entries ended) 0 [] v w
+  finished-on (Some k) payload v w ended f = met-on payload k v w ended f
+  finished-on None payload v w ended f =
+      reached-ran f.number _ _ v f.from w f.drew (met-on payload f.number f.from w ended f.meets)
+
+  pub on-ran : (under : Under) (e : Ending) (v w : View LatchEntry T) → OnEnded under e v w
+      → (over : List ℕ) × Ran (ending_entries e) 0 over v w
+  on-ran under (served_at k) v w (inl e) =
+      (numbers e.over, ended-ran serves state.Waiter most_passed_over _ _ k v w e)
+  on-ran under (served_at k) v w (inr f) = ([], finished-on _ _ v w (once.Served k) f)
+  on-ran under (left_at k) v w (inl (inl e)) =
+      (numbers e.over, ended-ran leaves state.Empty most_passed_over _ _ k v w e)
+  on-ran under (left_at k) v w (inl (inr e)) =
+      (numbers e.over, ended-ran delegates state.Cancelling most_passed_over _ _ k v w e)
+  on-ran under (left_at k) v w (inr f) = ([], finished-on _ _ v w (once.Left k) f)
+  on-ran under (refused_at k) v w e =
+      (numbers e.over, ended-ran ends_refused state.Refused most_passed_over _ _ k v w e)
+  on-ran under (missed_at k) v w f = ([], finished-on _ _ v w (once.Missed k) f)
+
+  -- a resume, whatever it answered
+  pub resumed-next : (v w : View LatchEntry T) (r : Resumed) → Begun latch_object primitive_of 0 v r w
+      → Next v (handed_back r) w
+  resumed-next v w (resumed.Served k) b = (served_at k, inl b)
+  resumed-next v w (resumed.Left k) b = (left_at k, inl b)
+  resumed-next v w (resumed.Refused k) b = (refused_at k, b)
+  resumed-next v w (resumed.Under under) b = b
+
+  pub ended-next : (v w : View LatchEntry T) (r : EndedAtOnce) → BegunAtOnce latch_object primitive_of 0 v r w
+      → Next v None w
+  ended-next v w (once.Served k) b = (served_at k, inr b)
+  ended-next v w (once.Left k) b = (left_at k, inr b)
+  ended-next v w (once.Missed k) b = (missed_at k, b)
+
+  pub resumed-on : (under : Under) (v w : View LatchEntry T) (r : Resumed)
+      → Resumes latch_object primitive_of most_passed_over (under_ticket under) (under_payload under) v r w
+      → On under v (handed_back r) w
+  resumed-on under v w (resumed.Served k) e = (served_at k, inl e)
+  resumed-on under v w (resumed.Left k) e = (left_at k, inl e)
+  resumed-on under v w (resumed.Refused k) e = (refused_at k, e)
+  resumed-on under v w (resumed.Under again) e = e
+
+  pub ended-on : (under : Under) (v w : View LatchEntry T) (r : EndedAtOnce)
+      → FinishedAtOnce latch_object primitive_of (under_ticket under) (under_payload under) v r w → On under v None w
+  ended-on under v w (once.Served k) f = (served_at k, inr f)
+  ended-on under v w (once.Left k) f = (left_at k, inr f)
+  ended-on under v w (once.Missed k) f = (missed_at k, f)
+
+-- one that was handed back again has grown
+pub resumed-grown : (under : Under) (r : Resumed) → IsFurther (under_reached under) r → IsGrown under (handed_back r)
+resumed-grown under (resumed.Served k) further = tt
+resumed-grown under (resumed.Left k) further = tt
+resumed-grown under (resumed.Refused k) further = tt
+resumed-grown under (resumed.Under again) further = further

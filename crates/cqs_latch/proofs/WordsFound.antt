@@ -51,7 +51,7 @@ module _ {T : Type 0} where
         low = subst (λ (z : ℤ × ℕ). z.0 ≤ℤ pos z.1) (λ i. (word i, size i)) core.fit.high;
       }
 
-  reads-waiters : (opening : Opening) (n : ℕ) (history : List LatchEntry)
+  pub reads-waiters : (opening : Opening) (n : ℕ) (history : List LatchEntry)
       → WasShown primitive_of opening (HasWord 1 n) history → ReadsWaiters opening.size n (plain opening history)
   reads-waiters opening n history was =
       let s = shape opening (HasWord 1 n) history was in

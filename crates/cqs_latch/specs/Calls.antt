@@ -1,5 +1,5 @@
 -- What every call of a latch leaves of its pass.
-use Rattle.std.specs.Prelude.{◌≡◌, ℕ, List, [], ◌++◌}
+use Rattle.std.specs.Prelude.{◌≡◌, ◌≢◌, ℕ, List, [], ◌++◌}
 use Rattle.cqs_core.specs.declared.doings.Doing.TheVariants as doing
 use Rattle.cqs_latch_object.specs.declared.entries.LatchEntry.{LatchEntry}
 use Rattle.cqs_latch_object.specs.LatchEntries.{IsLegal}
@@ -11,6 +11,8 @@ use Rattle.cqs_rule.specs.declared.view.View.{View}
 use Rattle.cqs_rule.specs.Called.{Called}
 use Rattle.cqs_rule.specs.Lists.{part, NamesOnly}
 use Rattle.cqs_rule.specs.Passes.{IsOf}
+use Rattle.cqs_rule.specs.Waits.{place_of, HasWait}
+use Rattle.cqs_rule.specs.declared.queue.tokens.Wait.{Wait}
 use Rattle.cqs_latch.specs.declared.client.LatchClient.{LatchClient}
 use Rattle.cqs_latch.specs.declared.latch.Latch.{Latch}
 use Rattle.cqs_latch.specs.Latch.{is_simple, latch_object}
@@ -32,19 +34,33 @@ module _ {T : Type 0} where
 
   -- The call rule. What the pass had seen is a beginning of what it has seen now, which is legal.
   -- In the new part the entries that name the pass are just its own ones of the call, in order.
-  -- These name nobody else, and the further entry, where the call makes one, names nobody and is
-  -- the last of all that the pass has seen now. A pass that was alone has seen just the entries of
-  -- the call.
-  pub record CallRule (v : View LatchEntry T) (own further : List LatchEntry)
+  -- These name nobody else, and the further ones, by which resumptions reach their numbers, name
+  -- nobody. What the pass has seen now ends with the last ones. A pass that was alone has seen just
+  -- the entries of the call.
+  pub record CallRuleEnding (v : View LatchEntry T) (own further last : List LatchEntry)
       (w : View LatchEntry T) : Type 0 where
-    pub called : Called latch_object v (own ++ further) further w
+    pub called : Called latch_object v (own ++ further) last w
     pub legal : IsLegalOf w
     pub mine : part entry_names v.number called.more ≡ own
     pub all : part entry_names v.number own ≡ own
     pub only : NamesOnly entry_names v.number own
     pub nobody : (n : ℕ) → part entry_names n further ≡ []
 
+  -- the same of a call whose further entry, where it makes one, is the last of all
+  abbrev pub CallRule : View LatchEntry T → List LatchEntry → List LatchEntry → View LatchEntry T
+      → Type 0
+  CallRule v own further w = CallRuleEnding v own further further w
+
   -- after a call the pass is idle and owes nothing, and has these waits
   pub record Rests (waits : List ℕ) (w : View LatchEntry T) : Type 0 where
     pub ready : IsReady w.facts
     pub waits_are : w.facts.waits ≡ waits
+
+  -- the pass still has each wait that it had
+  abbrev pub KeepsWaits : View LatchEntry T → View LatchEntry T → Type 0
+  KeepsWaits v w = (wait : Wait) → HasWait v wait → HasWait w wait
+
+  -- and each but that of the number k
+  abbrev pub KeepsOtherWaits : ℕ → View LatchEntry T → View LatchEntry T → Type 0
+  KeepsOtherWaits k v w =
+      (wait : Wait) → (place_of wait).index ≢ k → HasWait v wait → HasWait w wait

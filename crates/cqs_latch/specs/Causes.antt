@@ -11,7 +11,7 @@ use Rattle.cqs_rule.specs.Exchanges.{FoundCell, HasCell}
 use Rattle.cqs_rule.specs.Layout.{suspends_place, client_place}
 use Rattle.cqs_rule.specs.Lists.{IsPrefix}
 use Rattle.cqs_rule.specs.Object.{Primitive}
-use Rattle.cqs_rule.specs.Saw.{WasFound}
+use Rattle.cqs_rule.specs.Saw.{WasFound, WasSo}
 use Rattle.cqs_latch.specs.declared.client.LatchClient.{LatchClient}
 use Rattle.cqs_latch.specs.Latch.{latch_primitive}
 use Rattle.cqs_latch.specs.LatchMade.{count_of, mode_of}
@@ -55,3 +55,12 @@ module _ {T : Type 0} where
     pub cell : FoundCell word (cell_of k state payload)
     pub found : (earlier : List Sighting) × (w.facts.found ≡ earlier ++ Cell k word ∷ [])
     pub was : WasFound primitive_of (HasCell (cell_of k state payload)) own w
+
+  -- it was so somewhere in the call
+  pub record CellWasOnce (state : CoreState) (k : ℕ) (v w : View LatchEntry T) : Type 0 where
+    pub word : ℕ
+    pub payload : ℕ
+    pub cell : FoundCell word (cell_of k state payload)
+    pub found : (earlier : List Sighting) × (later : List Sighting)
+        × (w.facts.found ≡ v.facts.found ++ (earlier ++ Cell k word ∷ later))
+    pub was : WasSo primitive_of (HasCell (cell_of k state payload)) w

@@ -1,13 +1,9 @@
--- What a count down answers, and why.
-use Rattle.std.specs.Prelude.{◌≡◌, ℕ, zero, suc, ◌+◌, ◌%◌, ◌^◌, ◌<◌, List, [], ◌∷◌, Option, Some, None, pos}
+-- What a count down and the end of its resumptions answer, and why.
+use Rattle.std.specs.Prelude.{◌≡◌, ◌⊎◌, ℕ, ◌+◌, ◌%◌, ◌^◌, ◌<◌, List, [], ◌∷◌, length, pos, Result, Ok, Err}
 use Rattle.cqs_core.specs.declared.doings.Doing.TheVariants as doing
 use Rattle.cqs_latch_object.specs.declared.entries.LatchEntry.{LatchEntry}
 use Rattle.cqs_latch_object.specs.declared.entries.LatchEntry.TheVariants as entry
-use Rattle.cqs_resume.specs.declared.resumed.Resumed as resume
-use Rattle.cqs_resume.specs.declared.resumed.Resumed.TheVariants as resumed
-use Rattle.cqs_resume.specs.Begins.{Begun}
-use Rattle.cqs_resume.specs.Resumes.{Resumes, most_passed_over}
-use Rattle.cqs_rule.specs.Owed.{under_ticket, under_payload}
+use Rattle.cqs_resume.specs.Resumes.{most_passed_over}
 use Rattle.cqs_rule.specs.declared.view.Facts.{Facts}
 use Rattle.cqs_rule.specs.declared.view.View.{View}
 use Rattle.cqs_words.specs.State.{count_in}
@@ -16,11 +12,12 @@ use Rattle.cqs_latch.specs.declared.answers.Owed.{Owed}
 use Rattle.cqs_latch.specs.declared.answers.Down.{Down}
 use Rattle.cqs_latch.specs.declared.answers.Down.TheVariants.{Left, Last, LastOwing, Already}
 use Rattle.cqs_latch.specs.Answers.{WasUsed}
-use Rattle.cqs_latch.specs.Calls.{IsReady, CallRule, Rests}
-use Rattle.cqs_latch.specs.Owed.{HasOwed}
-use Rattle.cqs_latch.specs.Causes.{primitive_of, WordWas}
-use Rattle.cqs_latch.specs.Latch.{latch_object}
+use Rattle.cqs_latch.specs.Calls.{IsReady, CallRule, CallRuleEnding, Rests}
+use Rattle.cqs_latch.specs.Causes.{WordWas}
+use Rattle.cqs_latch.specs.Entries.{counted_entries}
+use Rattle.cqs_latch.specs.Owed.{HasOwed, owed_under, owed_further, owed_reached}
 use Rattle.cqs_latch.specs.LatchTold.{ReadsCount, ReadsWaiters}
+use Rattle.cqs_latch.specs.Waking.{Ending, woken_entries, Woke, NextHanded, OnEnded, OnHanded, PassedOver}
 
 -- the pass is between two calls, unless it owes what was handed back
 abbrev pub IsReadyAfter : Down → Facts → Type 0
@@ -56,44 +53,58 @@ module _ {T : Type 0} where
     pub owes : x.facts.has.further ≡ many
     pub payload : x.facts.has.payload ≡ 0
     pub waits : x.facts.waits ≡ v.facts.waits
+    pub passed : x.facts.passed ≡ v.facts.passed
 
-  -- A resumption that was begun ended, and the rest follows; or it was handed back, and nothing
-  -- does: it is owed, with those after it.
-  abbrev pub GoesOn : resume.Resumed → ℕ → View LatchEntry T → Option Owed → View LatchEntry T
-      → Type 0 → Type 0
-  GoesOn (resumed.Served k) many u result w rest = rest
-  GoesOn (resumed.Left k) many u result w rest = rest
-  GoesOn (resumed.Refused k) many u result w rest = rest
-  GoesOn (resumed.Under under) many u result w rest =
-      (result ≡ Some (record { under = under; further = many })) × (w ≡ u)
+  -- one of the resumptions was handed back: the pass owes it, with those after it, and the call has
+  -- passed over as many numbers as one call may
+  pub record HandsBack (owed : Owed) (v w : View LatchEntry T) : Type 0 where
+    pub over : PassedOver most_passed_over v w
+    pub owes : HasOwed w.facts owed
+    pub waits_are : w.facts.waits ≡ v.facts.waits
 
-  -- So many resumptions were begun, one after the other, and each ended; or one was handed back.
-  abbrev pub Wakes : ℕ → View LatchEntry T → Option Owed → View LatchEntry T → Type 0
-  Wakes zero v result w = (result ≡ None) × (w ≡ v)
-  Wakes (suc many) v result w =
-      (ended : resume.Resumed) × (u : View LatchEntry T)
-      × Begun latch_object primitive_of 0 v ended u
-      × GoesOn ended many u result w (Wakes many u result w)
+  -- The count was loaded as used up, or found so by the subtraction; or so many are left; or it was
+  -- used up by this call, and the latch opened: a resumption was begun for each waiter that was
+  -- counted there, one after the other, and each ended so, or one was handed back.
+  abbrev pub Counts : View LatchEntry T → Down → List Ending → View LatchEntry T → Type 0
+  Counts v Already ends w =
+      (ends ≡ []) × WasUsed v (entry.DownAlready v.number ∷ []) w × Rests v.facts.waits w
+  Counts v (Left left) ends w =
+      (ends ≡ []) × (0 < left) × WasCounted v left (entry.DownLeft v.number left ∷ []) w
+      × Rests v.facts.waits w
+  Counts v Last ends w =
+      (x : View LatchEntry T) × Opens v (length ends) x × Woke ends x w × Rests v.facts.waits w
+  Counts v (LastOwing owed) ends w =
+      (x : View LatchEntry T) × (u : View LatchEntry T)
+      × Opens v (length ends + 1 + owed_further owed) x × Woke ends x u
+      × NextHanded (owed_under owed) u w × HandsBack owed v w
 
-  -- A count down: the count was loaded as used up, or found so by the subtraction; or so many are
-  -- left; or it was used up by this call, the latch opened, and each was resumed that was counted.
+  -- A count down: its entries, and why. Its waits stay as they were.
   abbrev pub HasCounted : View LatchEntry T → Down → View LatchEntry T → Type 0
-  HasCounted v Already w =
-      CallRule v (entry.DownAlready v.number ∷ []) [] w
-      × WasUsed v (entry.DownAlready v.number ∷ []) w × Rests v.facts.waits w
-  HasCounted v (Left left) w =
-      CallRule v (entry.DownLeft v.number left ∷ []) [] w × (0 < left)
-      × WasCounted v left (entry.DownLeft v.number left ∷ []) w × Rests v.facts.waits w
-  HasCounted v Last w =
-      (many : ℕ) × (x : View LatchEntry T) × Opens v many x × Wakes many x None w
-  HasCounted v (LastOwing owed) w =
-      (many : ℕ) × (x : View LatchEntry T) × Opens v many x × Wakes many x (Some owed) w
+  HasCounted v answer w =
+      (ends : List Ending)
+      × CallRuleEnding v (counted_entries v.number answer) (woken_entries ends) [] w
+      × Counts v answer ends w
 
-  -- The end of a latch's resumptions: the one that was handed back went on from its ticket, with
-  -- what it owed; and those after it followed.
-  abbrev pub HasFinished : Owed → View LatchEntry T → Option Owed → View LatchEntry T → Type 0
-  HasFinished owed v result w =
-      (ended : resume.Resumed) × (u : View LatchEntry T)
-      × Resumes latch_object primitive_of most_passed_over (under_ticket owed.under)
-      (under_payload owed.under) v ended u
-      × GoesOn ended owed.further u result w (Wakes owed.further u result w)
+  -- All that were owed ended: the one that was handed back, which went on from its ticket, and
+  -- those after it. Or that one was handed back again, and the number drawn for it last has grown;
+  -- or it ended, and one after it was handed back.
+  abbrev pub Finishes : Owed → View LatchEntry T → Result (Unit {0}) Owed → List Ending
+      → View LatchEntry T → Type 0
+  Finishes owed v (Ok done) ends w =
+      (e : Ending) × (rest : List Ending) × (u : View LatchEntry T) × (ends ≡ e ∷ rest)
+      × (length rest ≡ owed_further owed) × OnEnded (owed_under owed) e v u × Woke rest u w
+      × Rests v.facts.waits w
+  Finishes owed v (Err again) ends w =
+      HandsBack again v w
+      × (((ends ≡ []) × (owed_further again ≡ owed_further owed)
+      × (owed_reached owed < owed_reached again)
+      × OnHanded (owed_under owed) (owed_under again) v w)
+      ⊎ ((e : Ending) × (rest : List Ending) × (u : View LatchEntry T) × (x : View LatchEntry T)
+      × (ends ≡ e ∷ rest) × (length rest + 1 + owed_further again ≡ owed_further owed)
+      × OnEnded (owed_under owed) e v u × Woke rest u x × NextHanded (owed_under again) x w))
+
+  abbrev pub HasFinished : Owed → View LatchEntry T → Result (Unit {0}) Owed → View LatchEntry T
+      → Type 0
+  HasFinished owed v answer w =
+      (ends : List Ending) × CallRuleEnding v [] (woken_entries ends) [] w
+      × Finishes owed v answer ends w

@@ -1,10 +1,14 @@
--- What each answer appends to the history: the entries of the caller, in order; and apart from them
--- the one that may come after them, by which a wait is served.
+-- What each answer appends to the history: the entries of the caller, in order; and of a wait, apart
+-- from them, the one that may come after them, by which it is served.
 use Rattle.std.specs.Prelude.{ℕ, List, [], ◌∷◌, Option, Some, None, Result, Ok, Err}
 use Rattle.cqs_latch_object.specs.declared.entries.LatchEntry.{LatchEntry}
 use Rattle.cqs_latch_object.specs.declared.entries.LatchEntry.TheVariants as entry
 use Rattle.cqs_rule.specs.declared.config.AcquireError.{AcquireError}
 use Rattle.cqs_rule.specs.Waits.{place_of}
+use Rattle.cqs_latch.specs.declared.answers.Down.{Down}
+use Rattle.cqs_latch.specs.declared.answers.Down.TheVariants.{Left, Last, LastOwing, Already}
+use Rattle.cqs_latch.specs.declared.answers.LatchLeft.{LatchLeft}
+use Rattle.cqs_latch.specs.declared.answers.LatchLeft.TheVariants.{Gone, GoneOwing, TooLate}
 use Rattle.cqs_latch.specs.declared.answers.LatchWait.{LatchWait}
 use Rattle.cqs_latch.specs.declared.answers.LatchWait.TheVariants.{Passed, Later}
 use Rattle.cqs_latch.specs.declared.answers.LatchPolled.{LatchPolled}
@@ -35,3 +39,16 @@ waited_further drew (Err e) = []
 abbrev pub polled_entries : ℕ → ℕ → LatchPolled → List LatchEntry
 polled_entries p k Through = entry.LookGranted p k ∷ []
 polled_entries p k (Pending wait) = entry.LookPending p k ∷ []
+
+-- the caller counted down; who took the last one opened the latch
+abbrev pub counted_entries : ℕ → Down → List LatchEntry
+counted_entries p Already = entry.DownAlready p ∷ []
+counted_entries p (Left left) = entry.DownLeft p left ∷ []
+counted_entries p Last = entry.DownLast p ∷ entry.Open p ∷ []
+counted_entries p (LastOwing owed) = entry.DownLast p ∷ entry.Open p ∷ []
+
+-- the caller of the wait k left, or was too late
+abbrev pub left_entries : ℕ → ℕ → LatchLeft → List LatchEntry
+left_entries p k Gone = entry.Leave p k ∷ []
+left_entries p k (GoneOwing owed) = entry.Leave p k ∷ []
+left_entries p k TooLate = entry.Late p k ∷ []

@@ -1,12 +1,14 @@
 -- The latch as a client: its two words are the count, and the waiters with the done bit; its
 -- history is the client's.
 use Rattle.std.specs.Prelude.{◌≡◌, ℕ, ◌≤◌, ◌==◌, map, Bool, true, false, List, [], ◌∷◌, length, slice_index, pos}
+use Rattle.cqs_core.specs.declared.cells.CoreCell.{CoreCell}
 use Rattle.cqs_core.specs.Numbered.{EachAt}
 use Rattle.cqs_latch_object.specs.declared.entries.LatchEntry.{LatchEntry}
 use Rattle.cqs_latch_object.specs.LatchEntries.{IsLegal}
 use Rattle.cqs_latch_object.specs.LatchNames.{entry_names}
 use Rattle.cqs_latch_object.specs.LatchShown.{LatchShape, IsLatchCore}
 use Rattle.cqs_latch_object.specs.LatchSteps.{step_entries}
+use Rattle.cqs_resume.specs.AtOnce.{IsPlain}
 use Rattle.cqs_rule.specs.declared.view.Has.{Has}
 use Rattle.cqs_rule.specs.declared.config.CancelMode.{CancelMode}
 use Rattle.cqs_rule.specs.declared.config.CancelMode.TheVariants.{Smart, Simple}
@@ -42,6 +44,11 @@ latch_shown mode size c words log = record {
 abbrev pub HoldsNothing : ℕ → Has → Type 0
 HoldsNothing p has = has.held ≡ 0
 
+-- in simple mode nobody is in the middle of leaving, and nobody is refused to leave
+abbrev pub HoldsPlain : CancelMode → ℕ → CoreCell → Type 0
+HoldsPlain Smart k cell = Unit {0}
+HoldsPlain Simple k cell = IsPlain cell.state
+
 -- the words, the history and what is hidden go together
 pub record ShowsLatch (mode : CancelMode) (size : ℕ) (c : Hidden) (words : List ℕ)
     (log : List LatchEntry) : Type 0 where
@@ -50,6 +57,7 @@ pub record ShowsLatch (mode : CancelMode) (size : ℕ) (c : Hidden) (words : Lis
   pub few_passes : length c.queue.doing ≤ 32
   pub few_drawn : c.queue.suspends ≤ no_number
   pub none_held : EachAt HoldsNothing c.has
+  pub plain : EachAt (HoldsPlain mode) c.queue.cells
 
 -- a pass that has what it waited for has nothing more than before
 abbrev pub nothing_more : Gains

@@ -8,12 +8,14 @@ use Rattle.std.specs.Prelude.{slice_set}
 use Rattle.std.specs.Option.{option_map}
 use Rattle.std.proofs.lemmas.Int.{ints}
 use Rattle.cqs_core.specs.declared.cells.CoreCell.{CoreCell}
+use Rattle.cqs_core.specs.declared.cells.CoreState.{CoreState}
 use Rattle.cqs_core.specs.Numbered.{EachAt}
 use Rattle.cqs_core.specs.declared.doings.Doing.TheVariants as doing
 use Rattle.cqs_core.specs.QueueLine.{door}
-use Rattle.cqs_core.specs.QueueState.{Queue}
-use Rattle.cqs_core.specs.QueueSteps.{QueueStep, draws, enters, reaches, begins, puts, installs, takes, serves, leaves, delegates, passes_over, ends_refused, ends_missed, starts_leaving, leaves_line, leaves_at_once, settles, settles_owing, refuses, refuses_value, looks, pends, grants, late, row_of, StepRow, at_counter, at_cell, Counter, to_suspend, to_resume, Gain, nothing, its_own, a_debt, Cost, no_cost, one_owed, one_element, IsOpenStep, row_after}
-use Rattle.cqs_core.proofs.EachAtLemmas.{EachAt-write}
+use Rattle.cqs_core.specs.QueueMoves.{cells_drawn, cells_reached}
+use Rattle.cqs_core.specs.QueueState.{Queue, fresh_cell}
+use Rattle.cqs_core.specs.QueueSteps.{QueueStep, draws, enters, reaches, begins, puts, installs, takes, serves, leaves, delegates, passes_over, ends_refused, ends_missed, starts_leaving, leaves_line, leaves_at_once, settles, settles_owing, refuses, refuses_value, looks, pends, grants, late, row_of, StepRow, at_counter, at_cell, Counter, to_suspend, to_resume, Gain, nothing, its_own, a_debt, Cost, no_cost, one_owed, one_element, IsOpenStep, IsOpenRow, CellRow, state_made, cell_after, queue_after, row_after}
+use Rattle.cqs_core.proofs.EachAtLemmas.{EachAt-write, EachAt-push}
 use Rattle.cqs_core.proofs.Places.{get-set_else, set-same}
 use Rattle.cqs_core.proofs.QueueOpens.{get-replicate}
 use Rattle.cqs_latch_object.specs.declared.entries.LatchEntry.{LatchEntry}
@@ -25,6 +27,7 @@ use Rattle.cqs_latch_object.specs.LatchSteps.{IsLatchStep, step_entries, cost_of
 use Rattle.cqs_latch_object.proofs.LatchSteps.{step-core}
 use Rattle.cqs_latch_object.proofs.LatchRuns.{opens-core}
 use Rattle.cqs_latch_object.proofs.LatchBounds.{core-sound, core-reaches_few, core-begins_few}
+use Rattle.cqs_resume.specs.AtOnce.{IsPlain}
 use Rattle.cqs_rule.specs.declared.view.Has.{Has}
 use Rattle.cqs_rule.specs.declared.config.CancelMode.{CancelMode}
 use Rattle.cqs_rule.specs.declared.config.CancelMode.TheVariants.{Smart, Simple}
@@ -34,7 +37,7 @@ use Rattle.cqs_rule.specs.Lists.{NamesOnly}
 use Rattle.cqs_rule.specs.Manner.{Suits}
 use Rattle.cqs_rule.specs.Opened.{first_hidden, four}
 use Rattle.cqs_rule.specs.Views.{first_has}
-use Rattle.cqs_latch.specs.Latch.{is_simple, further_of, latch_shown, HoldsNothing, ShowsLatch, nothing_more, latch_object, latch_manner, latch_primitive}
+use Rattle.cqs_latch.specs.Latch.{is_simple, further_of, latch_shown, HoldsNothing, HoldsPlain, ShowsLatch, nothing_more, latch_object, latch_manner, latch_primitive}
 use Rattle.cqs_words.specs.State.{state_word, count_in}
 use Rattle.cqs_words.specs.Waiters.{waiters_word}
 use Rattle.cqs_words.proofs.WaitersLaws.{waiters_in-word, is_done-word}
@@ -209,6 +212,91 @@ row-drawn (at_counter row) q p k found = counted row.counter
 row-drawn (at_cell row) q p k (Some found) = omega arith
 row-drawn (at_cell row) q p k None = omega arith
 
+-- in simple mode each step leaves plain cells
+abbrev MakesPlain : Option CoreState → Type 0
+MakesPlain None = Unit {0}
+MakesPlain (Some s) = IsPlain s
+
+made-plain : (makes : Option CoreState) (found : CoreState) → MakesPlain makes → IsPlain found
+    → IsPlain (state_made makes found)
+made-plain None found makes plain = plain
+made-plain (Some s) found makes plain = makes
+
+cell-plain : (row : CellRow) (q : Queue) (p k : ℕ) (found : Option CoreCell)
+    → IsOpenRow q (at_cell row) p k found → MakesPlain row.makes
+    → EachAt (HoldsPlain Simple) q.cells
+    → EachAt (HoldsPlain Simple) (row_after (at_cell row) q p k found).cells
+cell-plain row q p k None opens makes each = absurd opens
+cell-plain row q p k (Some found) opens makes each =
+    EachAt-write (HoldsPlain Simple) (HoldsPlain Simple) q.cells k found (cell_after row found)
+    opens.0.finds (made-plain row.makes found.state makes (each.at k found opens.0.finds))
+    (λ j x got other plain. plain) each
+
+abbrev MakesPlainBy : StepRow → Type 0
+MakesPlainBy (at_counter row) = ⊥
+MakesPlainBy (at_cell row) = MakesPlain row.makes
+
+row-plain : (row : StepRow) (q : Queue) (p k : ℕ) (found : Option CoreCell)
+    → IsOpenRow q row p k found → MakesPlainBy row → EachAt (HoldsPlain Simple) q.cells
+    → EachAt (HoldsPlain Simple) (row_after row q p k found).cells
+row-plain (at_counter row) q p k found opens makes each = absurd makes
+row-plain (at_cell row) q p k found opens makes each = cell-plain row q p k found opens makes each
+
+drawn-plain : (cells : List CoreCell) (k p : ℕ) (found : Option CoreCell) → slice_get cells k ≡ found
+    → EachAt (HoldsPlain Simple) cells → EachAt (HoldsPlain Simple) (cells_drawn cells k p found)
+drawn-plain cells k p None there each =
+    EachAt-push (HoldsPlain Simple) (HoldsPlain Simple) cells _ tt (λ j x got plain. plain) each
+drawn-plain cells k p (Some found) there each =
+    EachAt-write (HoldsPlain Simple) (HoldsPlain Simple) cells k found _ there (each.at k found there)
+    (λ j x got other plain. plain) each
+
+reached-plain : (cells : List CoreCell) (found : Option CoreCell)
+    → EachAt (HoldsPlain Simple) cells → EachAt (HoldsPlain Simple) (cells_reached cells found)
+reached-plain cells None each =
+    EachAt-push (HoldsPlain Simple) (HoldsPlain Simple) cells fresh_cell tt (λ j x got plain. plain)
+    each
+reached-plain cells (Some found) each = each
+
+plain-after : (mode : CancelMode) (t : QueueStep) (q : Queue) (p k : ℕ) (found : Option CoreCell)
+    → Suits (latch_manner mode) t → IsOpenStep q t p k found → EachAt (HoldsPlain mode) q.cells
+    → EachAt (HoldsPlain mode) (queue_after t q p k found).cells
+plain-after Smart t q p k found suits opens each = record { at = λ j x got. tt }
+plain-after Simple draws q p k found suits opens each = drawn-plain q.cells k p found opens.2 each
+plain-after Simple reaches q p k found suits opens each = reached-plain q.cells found each
+plain-after Simple begins q p k found suits opens each = reached-plain q.cells found each
+plain-after Simple installs q p k found suits opens each =
+    row-plain (row_of installs) q p k found opens tt each
+plain-after Simple takes q p k found suits opens each =
+    row-plain (row_of takes) q p k found opens tt each
+plain-after Simple serves q p k found suits opens each =
+    row-plain (row_of serves) q p k found opens tt each
+plain-after Simple leaves q p k found suits opens each =
+    row-plain (row_of leaves) q p k found opens tt each
+plain-after Simple (looks pends) q p k found suits opens each =
+    row-plain (row_of (looks pends)) q p k found opens tt each
+plain-after Simple (looks grants) q p k found suits opens each =
+    row-plain (row_of (looks grants)) q p k found opens tt each
+plain-after Simple (looks late) q p k found suits opens each =
+    row-plain (row_of (looks late)) q p k found opens tt each
+plain-after Simple ends_missed q p k found suits opens each =
+    row-plain (row_of ends_missed) q p k found opens tt each
+plain-after Simple leaves_at_once q p k found suits opens each =
+    row-plain (row_of leaves_at_once) q p k found opens tt each
+plain-after Simple delegates q p k found suits opens each = absurd suits
+plain-after Simple passes_over q p k found suits opens each = absurd suits
+plain-after Simple ends_refused q p k found suits opens each = absurd suits
+plain-after Simple starts_leaving q p k found suits opens each = absurd suits
+plain-after Simple settles q p k found suits opens each = absurd suits
+plain-after Simple settles_owing q p k found suits opens each = absurd suits
+plain-after Simple refuses q p k found suits opens each = absurd suits
+plain-after Simple refuses_value q p k found suits opens each = absurd suits
+plain-after Simple puts q p k found suits opens each = absurd suits
+plain-after Simple leaves_line q p k found suits opens each = absurd suits
+plain-after Simple enters q p k found suits opens each = absurd (door-drawn suits)
+
+no-cell : (k : ℕ) (cell : CoreCell) → ◌≡◌ {A = Option CoreCell} (slice_get [] k) (Some cell) → ⊥
+no-cell k cell got = cc
+
 -- each of them keeps what the latch shows
 steps-latch : (mode : CancelMode) (size : ℕ) (c : Hidden) (t : QueueStep) (p k : ℕ)
     (found : Option CoreCell) (has : Has) (payload : ℕ) (words : List ℕ) (log : List LatchEntry)
@@ -233,6 +321,7 @@ steps-latch mode size c t p k found has payload words log shows opens there paid
       few_drawn = omega arith;
       none_held = none-held c.has p has (has_after nothing_more (row_of t) payload has) there
           (held-after (row_of t) payload has) shows.none_held;
+      plain = plain-after mode t c.queue p k found suits opens shows.plain;
     }
 
 -- What a latch opens with.
@@ -284,6 +373,7 @@ begins-latch mode size passes any few = record {
   few_passes = omega (arith, length-replicate passes doing.Idle);
   few_drawn = omega arith;
   none_held = first-held (passes - 1);
+  plain = record { at = λ k cell got. absurd (no-cell k cell got) };
 }
 
 -- what one pass has in hand becomes another's: what each owes stays
@@ -309,6 +399,7 @@ hands-latch mode size c from to mine theirs words log shows apart has there =
       few_drawn = shows.few_drawn;
       none_held = none-held (slice_set c.has from gave) to theirs got still (omega arith)
           (none-held c.has from mine gave has (sym none) shows.none_held);
+      plain = shows.plain;
     }
 
 -- a pass that holds nothing gives nothing of it away
@@ -335,6 +426,7 @@ shares-latch mode size c from to many mine theirs words log shows apart has ther
       few_drawn = shows.few_drawn;
       none_held = none-held (slice_set c.has from gave) to theirs got still (omega arith)
           (none-held c.has from mine gave has (omega arith) shows.none_held);
+      plain = shows.plain;
     }
 
 -- a number is left for each resumption that a pass begins
@@ -369,6 +461,7 @@ latch-client mode size = record {
     few_passes = shows.few_passes;
     few_drawn = shows.few_drawn;
     none_held = shows.none_held;
+    plain = shows.plain;
   };
   hands = λ c from to mine theirs words log handed shows apart idle idle' has there.
       hands-latch mode size c from to mine theirs words log shows apart has there;

@@ -7,7 +7,10 @@ pub mod Calls
 pub mod Causes
 pub mod Entries
 pub mod Answers
+pub mod Owed
+pub mod Waking
 pub mod Steps
 pub mod CountAnswers
-pub mod Owed
+pub mod LeftAnswers
+pub mod Alone
 pub mod Seats

@@ -20,6 +20,18 @@ pub enum LatchPolled {
     Pending(Wait),
 }
 
+/// What became of a cancel.
+#[derive(Drop)]
+pub enum LatchLeft {
+    /// The wait is over.
+    Gone,
+    /// The wait is over. A resumption had left its value to it and is still owed: it passed over as
+    /// many numbers as one call may.
+    GoneOwing(Owed),
+    /// The latch was opened, and the wait served before.
+    TooLate,
+}
+
 /// What became of a count down.
 #[derive(Drop)]
 pub enum Down {

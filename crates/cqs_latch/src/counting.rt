@@ -1,21 +1,17 @@
-//! The count down.
+//! The count down, and the end of what it owes.
 
 ghost use Rattle.std.specs.Prelude.{◌≡◌, ◌+◌, true, pos, ◌≤ℤ◌, IsOk, IfOk};
 ghost use Rattle.cqs_words.specs.State.{count_in, is_above_zero};
-ghost use Rattle.cqs_core.specs.declared.doings.Doing.TheVariants as doing;
-ghost use Rattle.cqs_latch.specs.CountAnswers.{HasCounted, HasFinished, IsReadyAfter, Wakes};
-ghost use Rattle.cqs_latch.specs.Owed.{HasOwed, still_owed};
-ghost use Rattle.cqs_latch.specs.Calls.{IsReady, IsMine};
-ghost use Rattle.cqs_rule.specs.Manner.{IsSmart};
-ghost use Rattle.cqs_rule.specs.Passes.{pass_view, client_of};
-ghost use Rattle.cqs_latch.specs.Latch.{latch_manner};
-ghost use Rattle.cqs_latch.specs.LatchMade.{mode_of};
+ghost use Rattle.cqs_latch.specs.Alone.{IsPlainCount};
+ghost use Rattle.cqs_latch.specs.CountAnswers.{HasCounted, HasFinished, IsReadyAfter};
+ghost use Rattle.cqs_latch.specs.Owed.{HasOwed};
+ghost use Rattle.cqs_latch.specs.Calls.{IsReady, IsMine, KeepsWaits};
+ghost use Rattle.cqs_rule.specs.Passes.{pass_view};
 
 use crate::answers::{Down, Owed};
 use crate::events::counted;
 use crate::latch::{Latch, LatchPass};
 use crate::steps::{count_down, load_to_count, open};
-use cqs_resume::{Resumed, begin, finish};
 use cqs_rule::Crowded;
 use cqs_words::StateWord;
 
@@ -24,13 +20,15 @@ impl Latch {
     /// waits.
     pub fn count_down(&self, pass: &mut LatchPass) -> Result<Down, Crowded>
         requires belongs { IsMine self.now pass.old }
-        requires smart { IsSmart (latch_manner (mode_of (client_of self.now.queue))).leaving }
         requires ready { IsReady (pass_view pass.old).facts }
         ensures belongs { IsMine self.now pass.new }
         ensures never_crowded { IsOk result }
         ensures counted { IfOk result
             (λ down. HasCounted (pass_view pass.old) down (pass_view pass.new)) }
         ensures ready { IfOk result (λ down. IsReadyAfter down (pass_view pass.new).facts) }
+        ensures keeps { KeepsWaits (pass_view pass.old) (pass_view pass.new) }
+        ensures alone { (pass_view pass.old).alone ≡ true
+            → IfOk result (λ down. IsPlainCount (pass_view pass.old) down) }
     {
         let loaded = load_to_count(&self.queue, pass);
         if !StateWord::is_above_zero(loaded) {
@@ -55,43 +53,19 @@ impl Latch {
     /// again where 64 more numbers were passed over.
     pub fn finish(&self, pass: &mut LatchPass, owed: Owed) -> Result<(), Owed>
         requires belongs { IsMine self.now pass.old }
-        requires smart { IsSmart (latch_manner (mode_of (client_of self.now.queue))).leaving }
         requires owes { HasOwed (pass_view pass.old).facts owed }
         ensures belongs { IsMine self.now pass.new }
-        ensures finished { HasFinished owed (pass_view pass.old) (still_owed result)
-            (pass_view pass.new) }
+        ensures finished { HasFinished owed (pass_view pass.old) result (pass_view pass.new) }
+        ensures keeps { KeepsWaits (pass_view pass.old) (pass_view pass.new) }
     {
         let Owed { under, further } = owed;
-        if let Resumed::Under(under) = finish(&self.queue, pass, under) {
+        if let Some(under) = self.wake_on(pass, under) {
             return Err(Owed { under, further });
         }
         match self.wake(pass, further) {
             None => Ok(()),
             Some(owed) => Err(owed),
         }
-    }
-
-    // Resumes as many as the pass owes, or hands back the one that passed over too many numbers.
-    fn wake(&self, pass: &mut LatchPass, many: u32) -> Option<Owed>
-        requires belongs { IsMine self.now pass.old }
-        requires smart { IsSmart (latch_manner (mode_of (client_of self.now.queue))).leaving }
-        requires idle { (pass_view pass.old).facts.doing ≡ doing.Idle }
-        requires owes { (pass_view pass.old).facts.has.further ≡ many }
-        requires payload { (pass_view pass.old).facts.has.payload ≡ 0 }
-        ensures belongs { IsMine self.now pass.new }
-        ensures wakes { Wakes many (pass_view pass.old) result (pass_view pass.new) }
-    {
-        let mut left = many;
-        while left > 0 {
-            left -= 1;
-            if let Resumed::Under(under) = begin(&self.queue, pass, 0) {
-                return Some(Owed {
-                    under,
-                    further: left,
-                });
-            }
-        }
-        None
     }
 }
 

@@ -2,7 +2,6 @@
 
 ghost use Rattle.std.specs.Prelude.{◌≡◌, ◌⊎◌, ◌<◌, [], true, false, IfOk, IsErrOf};
 ghost use mathlib.Core.Logic.{◌↔◌};
-ghost use Rattle.cqs_latch.specs.Calls.{IsMine, Rests};
 ghost use Rattle.cqs_latch.specs.LatchMade.{count_of, mode_of};
 ghost use Rattle.cqs_rule.specs.Configured.{is_config};
 ghost use Rattle.cqs_rule.specs.Passes.{pass_view, passes_of, limit_of, client_of};
@@ -22,9 +21,13 @@ const MOST_COUNTS: u32 = 1_048_576;
 #[derive(Drop)]
 pub struct Latch {
     pub(crate) queue: Queue<LatchClient>,
+    pub(crate) mode: CancelMode,
+    pub ghost mode_is: { mode_of (client_of queue) ≡ mode },
 }
 
 impl Latch {
+    ghost use Rattle.cqs_latch.specs.Calls.{IsMine, Rests};
+
     /// A latch that is to be counted down so often, at most 1,048,576 times, whose waits leave in
     /// this mode, and its first pass, which has number 0 and has seen nothing. One of 0 is open.
     pub fn new(
@@ -50,6 +53,6 @@ impl Latch {
         }
         let client = LatchClient::new(count, mode);
         let (queue, pass) = Queue::new(alloc, config, mode, client)?;
-        Ok((Latch { queue }, pass))
+        Ok((Latch { queue, mode }, pass))
     }
 }

@@ -3,6 +3,7 @@
 
 mod answers;
 mod callbacks;
+mod cancelling;
 mod client;
 mod counting;
 mod events;
@@ -10,9 +11,11 @@ mod latch;
 mod polling;
 mod seats;
 mod steps;
+mod threads;
 mod waiting;
+mod waking;
 
-pub use answers::{Down, LatchPolled, LatchWait, Owed};
+pub use answers::{Down, LatchLeft, LatchPolled, LatchWait, Owed};
 pub use client::LatchClient;
 pub use events::{Come, CountDown, Decide, LoadToCount, LoadToWait, Open, TurnBack};
 pub use latch::{Latch, LatchPass};

@@ -2,7 +2,7 @@
 
 ghost use Rattle.std.specs.Prelude.{◌≡◌, ◌≤◌, true, IsTrue, IsErr, IfOk, IfErr, OnErr, OnOk};
 ghost use mathlib.Core.Logic.{◌↔◌};
-ghost use Rattle.cqs_latch.specs.Calls.{IsReady, IsMine};
+ghost use Rattle.cqs_latch.specs.Calls.{IsReady, IsMine, KeepsWaits};
 ghost use Rattle.cqs_latch.specs.Latch.{latch_object};
 ghost use Rattle.cqs_latch.specs.Seats.{LookedOn, SeesAll};
 ghost use Rattle.cqs_rule.specs.Crew.{IsBetween, Came};
@@ -22,6 +22,7 @@ impl Latch {
         ensures crowd { IsErr result
             ↔ (passes_of self.now.queue ≤ made_in (pass_view pass.new).crew) }
         ensures looked { LookedOn (pass_view pass.old) (pass_view pass.new) }
+        ensures keeps { KeepsWaits (pass_view pass.old) (pass_view pass.new) }
         ensures ready { IsReady (pass_view pass.new).facts }
         ensures kept { OnErr result ((pass_view pass.old).alone ≡ true
             → (pass_view pass.new).alone ≡ true) }
@@ -44,6 +45,7 @@ impl Latch {
         ensures back { IfErr result (λ refused. refused.0 ≡ given) }
         ensures unchanged { OnErr result (pass.new ≡ pass.old) }
         ensures met { OnOk result (HasMet pass.old given pass.new) }
+        ensures keeps { KeepsWaits (pass_view pass.old) (pass_view pass.new) }
         ensures ready { IsReady (pass_view pass.new).facts }
     {
         self.queue.meet(pass, given)
@@ -57,6 +59,7 @@ impl Latch {
         ensures sole { IsTrue result ↔ (live_in (pass_view pass.new).crew ≡ 1) }
         ensures alone { result ≡ (pass_view pass.new).alone }
         ensures looked { LookedOn (pass_view pass.old) (pass_view pass.new) }
+        ensures keeps { KeepsWaits (pass_view pass.old) (pass_view pass.new) }
         ensures ready { IsReady (pass_view pass.old).facts → IsReady (pass_view pass.new).facts }
         ensures others { IsTrue result → SeesAll (pass_view pass.new) }
     {

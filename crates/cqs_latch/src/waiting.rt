@@ -1,9 +1,10 @@
 //! The wait.
 
-ghost use Rattle.std.specs.Prelude.{◌≡◌, [], ◌∷◌};
+ghost use Rattle.std.specs.Prelude.{◌≡◌, true};
 ghost use Rattle.cqs_core.specs.declared.doings.Doing.TheVariants as doing;
+ghost use Rattle.cqs_latch.specs.Alone.{IsPlainWait};
 ghost use Rattle.cqs_latch.specs.Answers.{HasWaited};
-ghost use Rattle.cqs_latch.specs.Calls.{IsReady, IsMine};
+ghost use Rattle.cqs_latch.specs.Calls.{IsReady, IsMine, KeepsWaits};
 ghost use Rattle.cqs_latch.specs.Steps.{WaitsInLine};
 ghost use Rattle.cqs_rule.specs.Passes.{pass_view};
 
@@ -23,6 +24,9 @@ impl Latch {
         ensures belongs { IsMine self.now pass.new }
         ensures waited { HasWaited (pass_view pass.old) result (pass_view pass.new) }
         ensures ready { IsReady (pass_view pass.new).facts }
+        ensures keeps { KeepsWaits (pass_view pass.old) (pass_view pass.new) }
+        ensures alone { (pass_view pass.old).alone ≡ true
+            → IsPlainWait (pass_view pass.old) result }
     {
         let loaded = load_to_wait(&self.queue, pass);
         if !StateWord::is_above_zero(loaded) {

@@ -49,7 +49,7 @@ pub record IsEnd (gains : Gains) (row : CellRow) (state : CoreState) (at : Doing
       ≡ record f { doing = at; last = None; passed = f.passed ++ over; found = f.found ++ Cell k n ∷ [] }
 
 -- the exchanges of a resume end it, and so does a refused cell
-idles : (f : Facts) (k n : ℕ)
+pub idles : (f : Facts) (k n : ℕ)
     → record f { doing = doing.Idle; last = None; passed = f.passed; found = f.found ++ Cell k n ∷ [] }
     ≡ record f { doing = doing.Idle; last = None; passed = f.passed ++ []; found = f.found ++ Cell k n ∷ [] }
 idles f k n =

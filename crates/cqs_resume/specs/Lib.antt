@@ -2,3 +2,4 @@ pub mod Rounds
 pub mod Meets
 pub mod Resumes
 pub mod Begins
+pub mod AtOnce

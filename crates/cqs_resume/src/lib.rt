@@ -6,12 +6,14 @@
 #![tactic(auto)]
 
 mod apart;
+mod at_once;
 mod beginning;
 mod further;
 mod meeting;
 mod resumed;
 mod resuming;
 
+pub use at_once::{EndedAtOnce, begin_at_once, finish_at_once};
 pub use beginning::resume_from;
 pub use further::begin;
 pub use resumed::Resumed;

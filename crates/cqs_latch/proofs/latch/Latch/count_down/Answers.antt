@@ -5,7 +5,10 @@ use Rattle.cqs_rule.specs.Passes.{pass_view, client_of}
 use Rattle.cqs_words.specs.State.{count_in}
 use Rattle.cqs_latch.specs.LatchMade.{count_of}
 use Rattle.cqs_latch.proofs.CountSteps.{loaded-to, already-loaded, already-taken, some-left, last-taken, opens-so}
-use Rattle.cqs_latch.proofs.WakeSteps.{wakes-after}
+use Rattle.cqs_latch.specs.declared.answers.Down.TheVariants.{Left, Last, LastOwing, Already}
+use Rattle.cqs_latch.proofs.AloneSteps.{plain-counted}
+use Rattle.cqs_latch.proofs.DownSteps.{opened-woke}
+use Rattle.cqs_latch.proofs.Kept.{keeps-counted, ready-counted}
 use Rattle.cqs_latch.proofs.latch.Latch.count_down.Goals as goal
 
 pub returns-then-not-is_above_zero-clause-counted : goal.returns-then-not-is_above_zero-clause-counted
@@ -41,49 +44,72 @@ pub returns-in-None-clause-counted : goal.returns-in-None-clause-counted
 returns-in-None-clause-counted c =
     let last : c.left_after-left.result ≡ 0 = omega (arith, c.if-left-gt0.false) in
     let one : count_in c.count_down-found.result ≡ pos 1 =
-    c.left_after-left.ensures ∙ ap (λ n. pos (n + 1)) last in (
-      c.counted-waiters.result,
-      pass_view c.open.new.pass,
-      opens-so _ c.requires.ready c.requires.belongs.live.own (pass_view c.count_down-found.new.pass) _ _ _ _ one
-          c.counted-waiters.ensures
-          (last-taken _ c.requires.ready c.requires.belongs.live.own _ _ _ one
-          (loaded-to _ _ _ (sym c.is_above_zero.ensures ∙ c.if-not-is_above_zero.false)
-          c.load_to_count-loaded.ensures.saw) c.count_down-found.ensures.saw)
-          c.open.ensures.saw c.open.ensures.belongs.live.legal,
-      c.in-None.ensures.wakes,
-    )
+    c.left_after-left.ensures ∙ ap (λ n. pos (n + 1)) last in
+    opened-woke _ c.requires.belongs.live.own c.counted-waiters.result (pass_view c.open.new.pass) _ None
+    (opens-so _ c.requires.ready c.requires.belongs.live.own (pass_view c.count_down-found.new.pass) _ _ _ _ one
+    c.counted-waiters.ensures
+    (last-taken _ c.requires.ready c.requires.belongs.live.own _ _ _ one
+    (loaded-to _ _ _ (sym c.is_above_zero.ensures ∙ c.if-not-is_above_zero.false) c.load_to_count-loaded.ensures.saw)
+    c.count_down-found.ensures.saw)
+    c.open.ensures.saw c.open.ensures.belongs.live.legal)
+    c.in-None.ensures.wakes c.wake.ensures.belongs.live.legal
 
 pub returns-in-Some-clause-counted : goal.returns-in-Some-clause-counted
 returns-in-Some-clause-counted c =
     let last : c.left_after-left.result ≡ 0 = omega (arith, c.if-left-gt0.false) in
     let one : count_in c.count_down-found.result ≡ pos 1 =
-    c.left_after-left.ensures ∙ ap (λ n. pos (n + 1)) last in (
-      c.counted-waiters.result,
-      pass_view c.open.new.pass,
-      opens-so _ c.requires.ready c.requires.belongs.live.own (pass_view c.count_down-found.new.pass) _ _ _ _ one
-          c.counted-waiters.ensures
-          (last-taken _ c.requires.ready c.requires.belongs.live.own _ _ _ one
-          (loaded-to _ _ _ (sym c.is_above_zero.ensures ∙ c.if-not-is_above_zero.false)
-          c.load_to_count-loaded.ensures.saw) c.count_down-found.ensures.saw)
-          c.open.ensures.saw c.open.ensures.belongs.live.legal,
-      c.in-Some.ensures.wakes,
-    )
+    c.left_after-left.ensures ∙ ap (λ n. pos (n + 1)) last in
+    opened-woke _ c.requires.belongs.live.own c.counted-waiters.result (pass_view c.open.new.pass) _
+    (Some c.in-Some.owed)
+    (opens-so _ c.requires.ready c.requires.belongs.live.own (pass_view c.count_down-found.new.pass) _ _ _ _ one
+    c.counted-waiters.ensures
+    (last-taken _ c.requires.ready c.requires.belongs.live.own _ _ _ one
+    (loaded-to _ _ _ (sym c.is_above_zero.ensures ∙ c.if-not-is_above_zero.false) c.load_to_count-loaded.ensures.saw)
+    c.count_down-found.ensures.saw)
+    c.open.ensures.saw c.open.ensures.belongs.live.legal)
+    c.in-Some.ensures.wakes c.wake.ensures.belongs.live.legal
 
 pub returns-then-not-is_above_zero-clause-ready : goal.returns-then-not-is_above_zero-clause-ready
-returns-then-not-is_above_zero-clause-ready c = (returns-then-not-is_above_zero-clause-counted c).2.ready
+returns-then-not-is_above_zero-clause-ready c = ready-counted Already _ _ (returns-then-not-is_above_zero-clause-counted c)
+
+pub returns-then-not-is_above_zero-clause-keeps : goal.returns-then-not-is_above_zero-clause-keeps
+returns-then-not-is_above_zero-clause-keeps c = keeps-counted Already _ _ (returns-then-not-is_above_zero-clause-counted c)
 
 pub returns-then-not-is_above_zero-2-clause-ready : goal.returns-then-not-is_above_zero-2-clause-ready
-returns-then-not-is_above_zero-2-clause-ready c = (returns-then-not-is_above_zero-2-clause-counted c).2.ready
+returns-then-not-is_above_zero-2-clause-ready c = ready-counted Already _ _ (returns-then-not-is_above_zero-2-clause-counted c)
+
+pub returns-then-not-is_above_zero-2-clause-keeps : goal.returns-then-not-is_above_zero-2-clause-keeps
+returns-then-not-is_above_zero-2-clause-keeps c = keeps-counted Already _ _ (returns-then-not-is_above_zero-2-clause-counted c)
 
 pub returns-then-left-gt0-clause-ready : goal.returns-then-left-gt0-clause-ready
-returns-then-left-gt0-clause-ready c = (returns-then-left-gt0-clause-counted c).3.ready
+returns-then-left-gt0-clause-ready c = ready-counted (Left c.left_after-left.result) _ _ (returns-then-left-gt0-clause-counted c)
+
+pub returns-then-left-gt0-clause-keeps : goal.returns-then-left-gt0-clause-keeps
+returns-then-left-gt0-clause-keeps c = keeps-counted (Left c.left_after-left.result) _ _ (returns-then-left-gt0-clause-counted c)
 
 pub returns-in-None-clause-ready : goal.returns-in-None-clause-ready
-returns-in-None-clause-ready c =
-    let all = returns-in-None-clause-counted c in
-    wakes-after all.0 all.1 _ None all.2.idle all.2.owes all.3
+returns-in-None-clause-ready c = ready-counted Last _ _ (returns-in-None-clause-counted c)
+
+pub returns-in-None-clause-keeps : goal.returns-in-None-clause-keeps
+returns-in-None-clause-keeps c = keeps-counted Last _ _ (returns-in-None-clause-counted c)
 
 pub returns-in-Some-clause-ready : goal.returns-in-Some-clause-ready
-returns-in-Some-clause-ready c =
-    let all = returns-in-Some-clause-counted c in
-    wakes-after all.0 all.1 _ (Some c.in-Some.owed) all.2.idle all.2.owes all.3
+returns-in-Some-clause-ready c = ready-counted (LastOwing c.in-Some.owed) _ _ (returns-in-Some-clause-counted c)
+
+pub returns-in-Some-clause-keeps : goal.returns-in-Some-clause-keeps
+returns-in-Some-clause-keeps c = keeps-counted (LastOwing c.in-Some.owed) _ _ (returns-in-Some-clause-counted c)
+
+pub returns-then-not-is_above_zero-clause-alone : goal.returns-then-not-is_above_zero-clause-alone
+returns-then-not-is_above_zero-clause-alone c = λ alone. plain-counted Already _ _ (returns-then-not-is_above_zero-clause-counted c) alone
+
+pub returns-then-not-is_above_zero-2-clause-alone : goal.returns-then-not-is_above_zero-2-clause-alone
+returns-then-not-is_above_zero-2-clause-alone c = λ alone. plain-counted Already _ _ (returns-then-not-is_above_zero-2-clause-counted c) alone
+
+pub returns-then-left-gt0-clause-alone : goal.returns-then-left-gt0-clause-alone
+returns-then-left-gt0-clause-alone c = λ alone. plain-counted (Left c.left_after-left.result) _ _ (returns-then-left-gt0-clause-counted c) alone
+
+pub returns-in-None-clause-alone : goal.returns-in-None-clause-alone
+returns-in-None-clause-alone c = λ alone. plain-counted Last _ _ (returns-in-None-clause-counted c) alone
+
+pub returns-in-Some-clause-alone : goal.returns-in-Some-clause-alone
+returns-in-Some-clause-alone c = λ alone. plain-counted (LastOwing c.in-Some.owed) _ _ (returns-in-Some-clause-counted c) alone

@@ -6,6 +6,9 @@ use Rattle.cqs_rule.specs.Waits.{place_of}
 use Rattle.cqs_rule.proofs.Places.{knows-at, knows-saw}
 use Rattle.cqs_latch.specs.Answers.{IsPolled}
 use Rattle.cqs_latch.specs.Calls.{CallRule}
+use Rattle.cqs_latch.specs.declared.answers.LatchPolled.TheVariants.{Through, Pending}
+use Rattle.cqs_latch.proofs.AloneSteps.{plain-polled}
+use Rattle.cqs_latch.proofs.Kept.{keeps-polled}
 use Rattle.cqs_latch.proofs.PollSteps.{pending, pending-called, pending-cell, pending-rests, granted, granted-called, granted-cell, granted-rests}
 use Rattle.cqs_latch.proofs.Rules.{call-rule_own}
 use Rattle.cqs_latch.proofs.latch.Latch.poll.Goals as goal
@@ -68,3 +71,19 @@ returns-in-Waiter-clause-polled c =
       pending-cell k _ _ found,
       pending-rests k _ _ c.requires.ready found,
     )
+
+pub returns-in-Resumed-clause-keeps : goal.returns-in-Resumed-clause-keeps
+returns-in-Resumed-clause-keeps c =
+    keeps-polled c.args.wait Through _ _ (returns-in-Resumed-clause-called c) (returns-in-Resumed-clause-polled c)
+
+pub returns-in-Resumed-clause-alone : goal.returns-in-Resumed-clause-alone
+returns-in-Resumed-clause-alone c = λ alone.
+    plain-polled (place_of c.args.wait).index Through _ _ (returns-in-Resumed-clause-called c) alone
+
+pub returns-in-Waiter-clause-keeps : goal.returns-in-Waiter-clause-keeps
+returns-in-Waiter-clause-keeps c =
+    keeps-polled c.args.wait (Pending c.wait_of.result) _ _ (returns-in-Waiter-clause-called c) (returns-in-Waiter-clause-polled c)
+
+pub returns-in-Waiter-clause-alone : goal.returns-in-Waiter-clause-alone
+returns-in-Waiter-clause-alone c = λ alone.
+    plain-polled (place_of c.args.wait).index (Pending c.wait_of.result) _ _ (returns-in-Waiter-clause-called c) alone

@@ -1,6 +1,8 @@
 use Rattle.std.proofs.Common.{sym, ◌∙◌, arith, true, false, Ok, Err}
 use Rattle.cqs_rule.specs.declared.config.AcquireError.TheVariants.{Worn}
 use Rattle.cqs_latch.specs.declared.answers.LatchWait.TheVariants.{Passed}
+use Rattle.cqs_latch.proofs.AloneSteps.{plain-waited}
+use Rattle.cqs_latch.proofs.Kept.{keeps-waited}
 use Rattle.cqs_latch.proofs.WaitSteps.{loaded, counted, used, worn, came, passed, waits, waited-ready}
 use Rattle.cqs_latch.proofs.latch.Latch.wait.Goals as goal
 
@@ -55,3 +57,27 @@ returns-then-is_done-clause-ready c =
 pub returns-clause-ready : goal.returns-clause-ready
 returns-clause-ready c =
     waited-ready _ _ (Ok c.wait_in_line.result) (returns-clause-waited c)
+
+pub returns-then-not-is_above_zero-clause-keeps : goal.returns-then-not-is_above_zero-clause-keeps
+returns-then-not-is_above_zero-clause-keeps c = keeps-waited (Ok Passed) _ _ (returns-then-not-is_above_zero-clause-waited c)
+
+pub returns-then-not-is_above_zero-clause-alone : goal.returns-then-not-is_above_zero-clause-alone
+returns-then-not-is_above_zero-clause-alone c = λ alone. plain-waited (Ok Passed) _ _ (returns-then-not-is_above_zero-clause-waited c) alone
+
+pub returns-then-next_wait-limit-clause-keeps : goal.returns-then-next_wait-limit-clause-keeps
+returns-then-next_wait-limit-clause-keeps c = keeps-waited (Err Worn) _ _ (returns-then-next_wait-limit-clause-waited c)
+
+pub returns-then-next_wait-limit-clause-alone : goal.returns-then-next_wait-limit-clause-alone
+returns-then-next_wait-limit-clause-alone c = λ alone. plain-waited (Err Worn) _ _ (returns-then-next_wait-limit-clause-waited c) alone
+
+pub returns-then-is_done-clause-keeps : goal.returns-then-is_done-clause-keeps
+returns-then-is_done-clause-keeps c = keeps-waited (Ok Passed) _ _ (returns-then-is_done-clause-waited c)
+
+pub returns-then-is_done-clause-alone : goal.returns-then-is_done-clause-alone
+returns-then-is_done-clause-alone c = λ alone. plain-waited (Ok Passed) _ _ (returns-then-is_done-clause-waited c) alone
+
+pub returns-clause-keeps : goal.returns-clause-keeps
+returns-clause-keeps c = keeps-waited (Ok c.wait_in_line.result) _ _ (returns-clause-waited c)
+
+pub returns-clause-alone : goal.returns-clause-alone
+returns-clause-alone c = λ alone. plain-waited (Ok c.wait_in_line.result) _ _ (returns-clause-waited c) alone

@@ -1,37 +1,55 @@
-use Rattle.std.proofs.Common.{◌≡◌, suc, ◌-◌, ◌∙◌, Some, subst, arith}
+use Rattle.std.proofs.Common.{◌≡◌, ◌+◌, ◌-◌, ◌∷◌, [], ◌++◌, length, None, Some, refl, subst, length-append, ◌∙◌, arith}
 use Rattle.cqs_rule.specs.Passes.{pass_view}
-use Rattle.cqs_latch.specs.CountAnswers.{Wakes}
-use Rattle.cqs_latch.specs.declared.answers.Owed.{Owed}
-use Rattle.cqs_latch.proofs.WakeSteps.{HasEnded, has-ended, one-fewer, wakes-on, wakes-under}
+use Rattle.cqs_latch.specs.Waking.{Next}
+use Rattle.cqs_latch.proofs.WakeSteps.{next-ran, woke-on}
 use Rattle.cqs_latch.proofs.latch.Latch.wake.Goals as goal
 
-pub returns-in-Under-clause-wakes : goal.returns-in-Under-clause-wakes
-returns-in-Under-clause-wakes c =
+pub loop-left-init : goal.loop-left-init
+loop-left-init c = record {
+  belongs = c.requires.belongs;
+  idle = c.requires.idle;
+  owes = c.requires.owes;
+  payload = c.requires.payload;
+  ran = ([], omega arith, refl);
+}
+
+pub returns-clause-wakes : goal.returns-clause-wakes
+returns-clause-wakes c =
+    let l = c.loop-left.invariant in
+    let done = c.loop-left-test.false in
+    let all = l.ran.1 in
+    (l.ran.0, omega (arith, done, all), l.ran.2)
+
+pub returns-in-Some-clause-wakes : goal.returns-in-Some-clause-wakes
+returns-in-Some-clause-wakes c =
     let l = c.loop-left.invariant in
     let some = c.loop-left-test.true in
-    let v = pass_view c.loop-left.pass in
-    let w = pass_view c.begin.new.pass in
-    let same : suc (c.loop-left.left - 1) ≡ c.loop-left.left = omega arith in
-    let owed : Owed = record { under = c.in-Under.under; further = c.loop-left.left - 1 } in
-    l.rest (Some owed) w
-    (subst (λ n. Wakes n v (Some owed) w) same
-    (wakes-under c.in-Under.under (c.loop-left.left - 1) v w c.in-Under.ensures.begun))
+    let all = l.ran.1 in
+    let u = pass_view c.loop-left.pass in
+    let w = pass_view c.wake_next.new.pass in (
+      l.ran.0,
+      u,
+      omega (arith, some, all),
+      l.ran.2,
+      subst (λ z. Next u z w) c.in-Some.is c.wake_next.ensures.next,
+    )
 
 pub loop-left-preserved : goal.loop-left-preserved
 loop-left-preserved c =
     let l = c.loop-left.invariant in
     let some = c.loop-left-test.true in
-    let v = pass_view c.loop-left.pass in
-    let u = pass_view c.begin.new.pass in
-    let same : suc (c.loop-left.left - 1) ≡ c.loop-left.left = omega arith in
-    let ended : HasEnded c.begin.result = has-ended c.begin.result c.in_default.not-Under in
-    let f = one-fewer c.begin.result v u ended c.begin.ensures.begun in
-    record {
-      belongs = c.begin.ensures.belongs;
-      idle = f.idle;
-      owes = f.further ∙ omega (arith, l.owes);
-      payload = f.payload ∙ l.payload;
-      rest = λ result w rest. l.rest result w
-          (subst (λ n. Wakes n v result w) same
-          (wakes-on c.begin.result (c.loop-left.left - 1) v u w result ended c.begin.ensures.begun rest));
+    let all = l.ran.1 in
+    let v = pass_view c.args.pass.now in
+    let u = pass_view c.loop-left.pass in
+    let w = pass_view c.wake_next.new.pass in
+    let next : Next u None w = subst (λ z. Next u z w) c.in_default.is c.wake_next.ensures.next in
+    let r = (next-ran next.0 u w next.1).1 in
+    let owes = l.owes in
+    let less = r.further in
+    let longer = length-append l.ran.0 (next.0 ∷ []) in record {
+      belongs = c.wake_next.ensures.belongs;
+      idle = r.idle;
+      owes = omega (arith, less, owes);
+      payload = λ more. r.payload ∙ l.payload some;
+      ran = (l.ran.0 ++ next.0 ∷ [], omega (arith, longer, all, some), woke-on l.ran.0 next.0 v u w l.ran.2 next.1);
     }

@@ -1,0 +1,194 @@
+-- A count down that opens the latch, and the end of what it owes, are their resumptions, one after the other.
+use Rattle.std.proofs.Common.{◌≡◌, inl, inr, ℕ, ◌+◌, ◌-◌, ◌<◌, ◌≤◌, List, [], ◌∷◌, ◌++◌, length, Option, Some, None, Result, Ok, Err, sym, refl, ap, ◌∙◌, subst, append_assoc, length-append, arith}
+use Rattle.std.proofs.lemmas.List.{append-nil}
+use Rattle.cqs_core.specs.declared.doings.Doing.TheVariants as doing
+use Rattle.cqs_latch_object.specs.declared.entries.LatchEntry.{LatchEntry}
+use Rattle.cqs_latch_object.specs.declared.entries.LatchEntry.TheVariants as entry
+use Rattle.cqs_resume.specs.Resumes.{most_passed_over}
+use Rattle.cqs_rule.specs.declared.queue.tokens.Under.{Under}
+use Rattle.cqs_rule.specs.declared.view.View.{View}
+use Rattle.cqs_rule.specs.Called.{Called}
+use Rattle.cqs_rule.specs.Lists.{Has}
+use Rattle.cqs_rule.specs.Owed.{HasUnder, under_payload, under_reached}
+use Rattle.cqs_rule.proofs.Calls.{called-and}
+use Rattle.cqs_latch.specs.declared.answers.Down.{Down}
+use Rattle.cqs_latch.specs.declared.answers.Down.TheVariants.{Last, LastOwing}
+use Rattle.cqs_latch.specs.declared.answers.Owed.{Owed}
+use Rattle.cqs_latch.specs.Calls.{IsReady, IsLegalOf, Rests}
+use Rattle.cqs_latch.specs.CountAnswers.{Opens, HandsBack, HasCounted, HasFinished, IsReadyAfter}
+use Rattle.cqs_latch.specs.Latch.{latch_object}
+use Rattle.cqs_latch.specs.Owed.{HasOwed, owed_under, owed_further, owed_reached}
+use Rattle.cqs_latch.specs.Waking.{Ending, woken_entries, IsGrown, NextHanded, OnEnded, OnHanded, On, Woke, Wakes, PassedOver, ending_entries}
+use Rattle.cqs_latch.proofs.Along.{Along, along-and}
+use Rattle.cqs_latch.proofs.Rules.{call-rule_ending}
+use Rattle.cqs_latch.proofs.WakeSteps.{Ran, Handed, ran-then, woke-ran, next-handed, on-ran, stopped-handed, woken-none}
+
+-- the answers, by what is still owed
+abbrev pub down_answer : Option Owed → Down
+down_answer None = Last
+down_answer (Some owed) = LastOwing owed
+
+abbrev pub finish_answer : Option Owed → Result (Unit {0}) Owed
+finish_answer None = Ok tt
+finish_answer (Some owed) = Err owed
+
+module _ {T : Type 0} (v : View LatchEntry T) (own : Has v.number v.own) where
+  -- an opening, and as many resumptions as it counted
+  pub opened-woke : (many : ℕ) (x w : View LatchEntry T) (result : Option Owed) → Opens v many x
+      → Wakes many x result w → IsLegalOf w → HasCounted v (down_answer result) w
+  opened-woke many x w None o (ends, all, woke) legal =
+      let ran = woke-ran ends x w o.idle woke in
+      let r = ran.1 in
+      let owes = o.owes in
+      let less = r.further in (
+        ends,
+        call-rule_ending v w (entry.DownLast v.number ∷ entry.Open v.number ∷ []) (woken_entries ends) []
+            (called-and latch_object v x w _ [] (woken_entries ends) [] o.called.called r.along.called)
+            (λ k. refl, (λ k. refl, tt)) (woken-none ends) own legal,
+        (
+          x,
+          subst (λ n. Opens v n x) (sym all) o,
+          woke,
+          record {
+            ready = record { idle = r.idle; further = omega (arith, owes, less, all) };
+            waits_are = r.waits ∙ o.waits;
+          },
+        ),
+      )
+  opened-woke many x w (Some owed) o (ends, u, all, woke, next) legal =
+      let ran = woke-ran ends x u o.idle woke in
+      let r = ran.1 in
+      let handed = next-handed (owed_under owed) u w next in
+      let h = handed.0.1 in
+      let owes = o.owes in
+      let less = r.further in
+      let last = h.further in
+      let longer = length-append ran.0 handed.0.0 in
+      let enough = h.many in (
+        ends,
+        call-rule_ending v w (entry.DownLast v.number ∷ entry.Open v.number ∷ []) (woken_entries ends) []
+            (called-and latch_object v x w _ [] (woken_entries ends) [] o.called.called
+            (subst (λ es. Called latch_object x es [] w) (append-nil (woken_entries ends))
+            (called-and latch_object x u w (woken_entries ends) [] [] [] r.along.called h.along.called)))
+            (λ k. refl, (λ k. refl, tt)) (woken-none ends) own legal,
+        (
+          x,
+          u,
+          subst (λ n. Opens v n x) (sym all) o,
+          woke,
+          next,
+          record {
+            over = record {
+              over = ran.0 ++ handed.0.0;
+              passed = h.passed ∙ (ap (λ l. l ++ handed.0.0) (r.passed ∙ ap (λ l. l ++ ran.0) o.passed)
+                  ∙ append_assoc v.facts.passed ran.0 handed.0.0);
+              many_are = omega (arith, longer, enough);
+            };
+            owes = record {
+              under = h.has;
+              further = omega (arith, owes, less, last, all);
+              payload = λ some. handed.1;
+            };
+            waits_are = h.waits ∙ (r.waits ∙ o.waits);
+          },
+        ),
+      )
+
+  -- one that was handed back went on, and those after it followed
+  pub on-woke : (owed : Owed) (e : Ending) (u w : View LatchEntry T) (result : Option Owed) → HasOwed v.facts owed
+      → OnEnded (owed_under owed) e v u → Wakes (owed_further owed) u result w → IsLegalOf w
+      → HasFinished owed v (finish_answer result) w
+  on-woke owed e u w None has on (ends, all, woke) legal =
+      let first = on-ran (owed_under owed) e v u on in
+      let rest = woke-ran ends u w first.1.idle woke in
+      let r = ran-then (ending_entries e) (woken_entries ends) 0 (length ends) first.0 rest.0 v u w first.1 rest.1 in
+      let owes = has.further in
+      let less = r.further in (
+        e ∷ ends,
+        call-rule_ending v w [] (woken_entries (e ∷ ends)) [] r.along.called tt (woken-none (e ∷ ends)) own legal,
+        (
+          e,
+          ends,
+          u,
+          refl,
+          all,
+          on,
+          woke,
+          record {
+            ready = record { idle = r.idle; further = omega (arith, owes, less, all) };
+            waits_are = r.waits;
+          },
+        ),
+      )
+  on-woke owed e u w (Some again) has on (ends, x, all, woke, next) legal =
+      let first = on-ran (owed_under owed) e v u on in
+      let rest = woke-ran ends u x first.1.idle woke in
+      let r = ran-then (ending_entries e) (woken_entries ends) 0 (length ends) first.0 rest.0 v u x first.1 rest.1 in
+      let handed = next-handed (owed_under again) x w next in
+      let h = handed.0.1 in
+      let owes = has.further in
+      let less = r.further in
+      let last = h.further in
+      let longer = length-append (first.0 ++ rest.0) handed.0.0 in
+      let enough = h.many in (
+        e ∷ ends,
+        call-rule_ending v w [] (woken_entries (e ∷ ends)) []
+            (subst (λ es. Called latch_object v es [] w) (append-nil (woken_entries (e ∷ ends)))
+            (called-and latch_object v x w (woken_entries (e ∷ ends)) [] [] [] r.along.called h.along.called)) tt
+            (woken-none (e ∷ ends)) own legal,
+        (
+          record {
+            over = record {
+              over = (first.0 ++ rest.0) ++ handed.0.0;
+              passed = h.passed ∙ (ap (λ l. l ++ handed.0.0) r.passed
+                  ∙ append_assoc v.facts.passed (first.0 ++ rest.0) handed.0.0);
+              many_are = omega (arith, longer, enough);
+            };
+            owes = record {
+              under = h.has;
+              further = omega (arith, owes, less, last, all);
+              payload = λ some. handed.1;
+            };
+            waits_are = h.waits ∙ r.waits;
+          },
+          inr (e, ends, u, x, refl, all, on, woke, next),
+        ),
+      )
+
+  -- it was handed back again
+  pub on-handed : (owed : Owed) (again : Under) (w : View LatchEntry T) → HasOwed v.facts owed
+      → OnHanded (owed_under owed) again v w → under_reached (owed_under owed) < under_reached again → IsLegalOf w
+      → HasFinished owed v (Err (record { under = again; further = owed_further owed })) w
+  on-handed owed again w has on grown legal =
+      let h = stopped-handed _ _ again v w on in
+      let owes = has.further in
+      let last = h.further in (
+        [],
+        call-rule_ending v w [] [] [] h.along.called tt tt own legal,
+        (
+          record {
+            over = record { over = _; passed = h.passed; many_are = h.many };
+            owes = record {
+              under = h.has;
+              further = omega (arith, owes, last);
+              payload = λ some. on.payload_is ∙ has.payload some;
+            };
+            waits_are = h.waits;
+          },
+          inl (refl, refl, grown, on),
+        ),
+      )
+
+-- what is owed for the rest after the first ended
+pub on-owes : {T : Type 0} (owed : Owed) (e : Ending) (v u : View LatchEntry T) → HasOwed v.facts owed
+    → OnEnded (owed_under owed) e v u
+    → (u.facts.doing ≡ doing.Idle) × (u.facts.has.further ≡ owed_further owed)
+    × (0 < owed_further owed → u.facts.has.payload ≡ 0)
+on-owes owed e v u has on =
+    let first = on-ran (owed_under owed) e v u on in
+    let less = first.1.further in
+    let owes = has.further in (
+      first.1.idle,
+      omega (arith, less, owes),
+      λ some. first.1.payload ∙ (has.under.owes.owed ∙ has.payload some),
+    )

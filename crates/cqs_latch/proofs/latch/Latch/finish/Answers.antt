@@ -1,0 +1,62 @@
+use Rattle.std.proofs.Common.{◌≡◌, None, Some, Ok, Err, subst}
+use Rattle.cqs_rule.specs.declared.queue.tokens.Under.{Under}
+use Rattle.cqs_rule.specs.Passes.{pass_view}
+use Rattle.cqs_latch.specs.Waking.{IsGrown, On}
+use Rattle.cqs_latch.proofs.DownSteps.{on-owes, on-woke, on-handed}
+use Rattle.cqs_latch.proofs.Kept.{keeps-finished}
+use Rattle.cqs_latch.proofs.latch.Latch.finish.Goals as goal
+
+pub returns-in-Some-clause-finished : goal.returns-in-Some-clause-finished
+returns-in-Some-clause-finished c =
+    let v = pass_view c.args.pass.now in
+    let w = pass_view c.wake_on.new.pass in
+    on-handed v c.requires.belongs.live.own c.args.owed c.in-Some.under w c.requires.owes
+    (subst (λ z. On c.args.owed.under v z w) c.in-Some.is c.wake_on.ensures.on)
+    (subst (IsGrown c.args.owed.under) c.in-Some.is c.wake_on.ensures.grown)
+    c.wake_on.ensures.belongs.live.legal
+
+pub wake-requires-clause-idle : goal.wake-requires-clause-idle
+wake-requires-clause-idle c =
+    let v = pass_view c.args.pass.now in
+    let u = pass_view c.wake_on.new.pass in
+    let on = subst (λ z. On c.args.owed.under v z u) c.in_default.is c.wake_on.ensures.on in
+    (on-owes c.args.owed on.0 v u c.requires.owes on.1).0
+
+pub wake-requires-clause-owes : goal.wake-requires-clause-owes
+wake-requires-clause-owes c =
+    let v = pass_view c.args.pass.now in
+    let u = pass_view c.wake_on.new.pass in
+    let on = subst (λ z. On c.args.owed.under v z u) c.in_default.is c.wake_on.ensures.on in
+    (on-owes c.args.owed on.0 v u c.requires.owes on.1).1
+
+pub wake-requires-clause-payload : goal.wake-requires-clause-payload
+wake-requires-clause-payload c =
+    let v = pass_view c.args.pass.now in
+    let u = pass_view c.wake_on.new.pass in
+    let on = subst (λ z. On c.args.owed.under v z u) c.in_default.is c.wake_on.ensures.on in
+    (on-owes c.args.owed on.0 v u c.requires.owes on.1).2
+
+pub returns-in-None-clause-finished : goal.returns-in-None-clause-finished
+returns-in-None-clause-finished c =
+    let v = pass_view c.args.pass.now in
+    let u = pass_view c.wake_on.new.pass in
+    let on = subst (λ z. On c.args.owed.under v z u) c.in_default.is c.wake_on.ensures.on in
+    on-woke v c.requires.belongs.live.own c.args.owed on.0 u _ None c.requires.owes on.1 c.in-None.ensures.wakes
+    c.wake.ensures.belongs.live.legal
+
+pub returns-in-Some-wake-clause-finished : goal.returns-in-Some-wake-clause-finished
+returns-in-Some-wake-clause-finished c =
+    let v = pass_view c.args.pass.now in
+    let u = pass_view c.wake_on.new.pass in
+    let on = subst (λ z. On c.args.owed.under v z u) c.in_default.is c.wake_on.ensures.on in
+    on-woke v c.requires.belongs.live.own c.args.owed on.0 u _ (Some c.in-Some-wake.owed) c.requires.owes on.1
+    c.in-Some-wake.ensures.wakes c.wake.ensures.belongs.live.legal
+
+pub returns-in-Some-clause-keeps : goal.returns-in-Some-clause-keeps
+returns-in-Some-clause-keeps c = keeps-finished c.args.owed (Err _) _ _ (returns-in-Some-clause-finished c)
+
+pub returns-in-None-clause-keeps : goal.returns-in-None-clause-keeps
+returns-in-None-clause-keeps c = keeps-finished c.args.owed (Ok tt) _ _ (returns-in-None-clause-finished c)
+
+pub returns-in-Some-wake-clause-keeps : goal.returns-in-Some-wake-clause-keeps
+returns-in-Some-wake-clause-keeps c = keeps-finished c.args.owed (Err _) _ _ (returns-in-Some-wake-clause-finished c)

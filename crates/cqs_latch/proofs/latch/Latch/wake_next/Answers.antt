@@ -1,0 +1,23 @@
+use Rattle.std.proofs.Common.{◌∙◌, sym, None, subst}
+use Rattle.cqs_rule.specs.Passes.{pass_view, client_of}
+use Rattle.cqs_latch.specs.Waking.{Next}
+use Rattle.cqs_latch.proofs.Simple.{is-smart, is-at_once, shows-plain}
+use Rattle.cqs_latch.proofs.WakeSteps.{resumed-next, ended-next}
+use Rattle.cqs_latch.proofs.latch.Latch.wake_next.Goals as goal
+
+pub begin-requires-clause-smart : goal.begin-requires-clause-smart
+begin-requires-clause-smart c = λ given. is-smart _ (c.args.self.now.mode_is ∙ c.in-Smart.is)
+
+pub begin_at_once-requires-clause-at_once : goal.begin_at_once-requires-clause-at_once
+begin_at_once-requires-clause-at_once c = is-at_once _ (c.args.self.now.mode_is ∙ c.in-Simple.is)
+
+pub begin_at_once-requires-clause-plain : goal.begin_at_once-requires-clause-plain
+begin_at_once-requires-clause-plain c = shows-plain (client_of c.args.self.now.queue) (c.args.self.now.mode_is ∙ c.in-Simple.is)
+
+pub returns-in-Smart-clause-next : goal.returns-in-Smart-clause-next
+returns-in-Smart-clause-next c =
+    subst (λ z. Next (pass_view c.args.pass.now) z (pass_view c.begin.new.pass)) (sym c.handed_back.ensures)
+    (resumed-next _ _ c.begin.result c.begin.ensures.begun)
+
+pub returns-in-Simple-clause-next : goal.returns-in-Simple-clause-next
+returns-in-Simple-clause-next c = ended-next _ _ c.begin_at_once.result c.begin_at_once.ensures.begun

@@ -1,0 +1,28 @@
+use Rattle.std.proofs.Common.{◌∙◌, sym, None, subst}
+use Rattle.cqs_rule.specs.Passes.{pass_view, client_of}
+use Rattle.cqs_latch.specs.Waking.{IsGrown, On}
+use Rattle.cqs_latch.proofs.Simple.{is-smart, is-at_once, shows-plain}
+use Rattle.cqs_latch.proofs.WakeSteps.{resumed-on, ended-on, resumed-grown}
+use Rattle.cqs_latch.proofs.latch.Latch.wake_on.Goals as goal
+
+pub finish-requires-clause-smart : goal.finish-requires-clause-smart
+finish-requires-clause-smart c = λ given. is-smart _ (c.args.self.now.mode_is ∙ c.in-Smart.is)
+
+pub finish_at_once-requires-clause-at_once : goal.finish_at_once-requires-clause-at_once
+finish_at_once-requires-clause-at_once c = is-at_once _ (c.args.self.now.mode_is ∙ c.in-Simple.is)
+
+pub finish_at_once-requires-clause-plain : goal.finish_at_once-requires-clause-plain
+finish_at_once-requires-clause-plain c = shows-plain (client_of c.args.self.now.queue) (c.args.self.now.mode_is ∙ c.in-Simple.is)
+
+pub returns-in-Smart-clause-on : goal.returns-in-Smart-clause-on
+returns-in-Smart-clause-on c =
+    subst (λ z. On c.args.under (pass_view c.args.pass.now) z (pass_view c.finish.new.pass)) (sym c.handed_back.ensures)
+    (resumed-on c.args.under _ _ c.finish.result c.finish.ensures.resumed)
+
+pub returns-in-Smart-clause-grown : goal.returns-in-Smart-clause-grown
+returns-in-Smart-clause-grown c =
+    subst (IsGrown c.args.under) (sym c.handed_back.ensures)
+    (resumed-grown c.args.under c.finish.result c.finish.ensures.further)
+
+pub returns-in-Simple-clause-on : goal.returns-in-Simple-clause-on
+returns-in-Simple-clause-on c = ended-on c.args.under _ _ c.finish_at_once.result c.finish_at_once.ensures.finished

@@ -1,0 +1,49 @@
+-- A pass that is alone: each of its calls answers as the plain latch does after all that the pass has
+-- seen.
+use Rattle.std.specs.Prelude.{◌≡◌, ℕ, ◌+◌, ◌<◌, ◌≤◌, false, Result, Ok, Err}
+use Rattle.cqs_core.specs.QueueWaiters.{Waits, IsServed}
+use Rattle.cqs_latch_object.specs.declared.entries.LatchEntry.{LatchEntry}
+use Rattle.cqs_latch_object.specs.LatchObject as plain
+use Rattle.cqs_rule.specs.declared.config.AcquireError.{AcquireError}
+use Rattle.cqs_rule.specs.declared.config.AcquireError.TheVariants.{Worn, Crowded}
+use Rattle.cqs_rule.specs.declared.view.View.{View}
+use Rattle.cqs_rule.specs.Waits.{place_of}
+use Rattle.cqs_latch.specs.declared.answers.Down.{Down}
+use Rattle.cqs_latch.specs.declared.answers.Down.TheVariants.{Left, Last, LastOwing, Already}
+use Rattle.cqs_latch.specs.declared.answers.LatchLeft.{LatchLeft}
+use Rattle.cqs_latch.specs.declared.answers.LatchLeft.TheVariants.{Gone, GoneOwing, TooLate}
+use Rattle.cqs_latch.specs.declared.answers.LatchPolled.{LatchPolled}
+use Rattle.cqs_latch.specs.declared.answers.LatchPolled.TheVariants.{Through, Pending}
+use Rattle.cqs_latch.specs.declared.answers.LatchWait.{LatchWait}
+use Rattle.cqs_latch.specs.declared.answers.LatchWait.TheVariants.{Passed, Later}
+use Rattle.cqs_latch.specs.LatchTold.{latch_after}
+
+module _ {T : Type 0} where
+  -- the plain latch, after all that the pass has seen
+  abbrev pub plain_after : View LatchEntry T → plain.Latch
+  plain_after v = latch_after v v.seen
+
+  -- the count says what a count down answers
+  abbrev pub IsPlainCount : View LatchEntry T → Down → Type 0
+  IsPlainCount v Already = (plain_after v).count ≡ 0
+  IsPlainCount v (Left left) = ((plain_after v).count ≡ left + 1) × (0 < left)
+  IsPlainCount v Last = (plain_after v).count ≡ 1
+  IsPlainCount v (LastOwing owed) = (plain_after v).count ≡ 1
+
+  -- and a wait, with the next number
+  abbrev pub IsPlainWait : View LatchEntry T → Result LatchWait AcquireError → Type 0
+  IsPlainWait v (Ok Passed) = (plain_after v).count ≡ 0
+  IsPlainWait v (Ok (Later wait)) =
+      ((plain_after v).opened ≡ false) × ((place_of wait).index ≡ (plain_after v).waiters.next)
+  IsPlainWait v (Err Worn) = v.limit ≤ (plain_after v).waiters.next
+  IsPlainWait v (Err Crowded) = ⊥
+
+  -- the wait k of the pass is in the line, or was served
+  abbrev pub IsPlainPoll : ℕ → View LatchEntry T → LatchPolled → Type 0
+  IsPlainPoll k v Through = IsServed k v.number (plain_after v).waiters.served
+  IsPlainPoll k v (Pending wait) = Waits k v.number (plain_after v).waiters.line
+
+  abbrev pub IsPlainCancel : ℕ → View LatchEntry T → LatchLeft → Type 0
+  IsPlainCancel k v Gone = Waits k v.number (plain_after v).waiters.line
+  IsPlainCancel k v (GoneOwing owed) = Waits k v.number (plain_after v).waiters.line
+  IsPlainCancel k v TooLate = IsServed k v.number (plain_after v).waiters.served

@@ -1,0 +1,84 @@
+//! The resumptions of an opened latch, one after the other.
+
+ghost use Rattle.std.specs.Prelude.{◌≡◌, ◌<◌, ◌+◌};
+ghost use Rattle.cqs_core.specs.declared.doings.Doing.TheVariants as doing;
+ghost use Rattle.cqs_latch.specs.Calls.{IsMine};
+ghost use Rattle.cqs_latch.specs.Waking.{IsGrown, Next, On, Wakes};
+ghost use Rattle.cqs_rule.specs.Owed.{HasUnder};
+ghost use Rattle.cqs_rule.specs.Passes.{pass_view};
+
+use crate::answers::Owed;
+use crate::latch::{Latch, LatchPass};
+use cqs_resume::{Resumed, begin, begin_at_once, finish, finish_at_once};
+use cqs_rule::{CancelMode, Under};
+
+impl Latch {
+    // Resumes as many as the pass owes, or hands back the one that passed over too many numbers.
+    pub(crate) fn wake(&self, pass: &mut LatchPass, many: u32) -> Option<Owed>
+        requires belongs { IsMine self.now pass.old }
+        requires idle { (pass_view pass.old).facts.doing ≡ doing.Idle }
+        requires owes { (pass_view pass.old).facts.has.further ≡ many }
+        requires payload { 0 < many → (pass_view pass.old).facts.has.payload ≡ 0 }
+        ensures belongs { IsMine self.now pass.new }
+        ensures wakes { Wakes many (pass_view pass.old) result (pass_view pass.new) }
+    {
+        let mut left = many;
+        while left > 0 {
+            left -= 1;
+            if let Some(under) = self.wake_next(pass) {
+                return Some(Owed {
+                    under,
+                    further: left,
+                });
+            }
+        }
+        None
+    }
+
+    // Begins the next of them. In simple mode it ends at its first number.
+    fn wake_next(&self, pass: &mut LatchPass) -> Option<Under>
+        requires belongs { IsMine self.now pass.old }
+        requires idle { (pass_view pass.old).facts.doing ≡ doing.Idle }
+        requires owes { 0 < (pass_view pass.old).facts.has.further }
+        requires payload { (pass_view pass.old).facts.has.payload ≡ 0 }
+        ensures belongs { IsMine self.now pass.new }
+        ensures next { Next (pass_view pass.old) result (pass_view pass.new) }
+    {
+        match self.mode {
+            CancelMode::Smart => handed_back(begin(&self.queue, pass, 0)),
+            CancelMode::Simple => {
+                begin_at_once(&self.queue, pass, 0);
+                None
+            }
+        }
+    }
+
+    // Goes on with one that was handed back.
+    pub(crate) fn wake_on(&self, pass: &mut LatchPass, under: Under) -> Option<Under>
+        requires belongs { IsMine self.now pass.old }
+        requires owes { HasUnder (pass_view pass.old).facts under }
+        ensures belongs { IsMine self.now pass.new }
+        ensures on { On under (pass_view pass.old) result (pass_view pass.new) }
+        ensures grown { IsGrown under result }
+    {
+        match self.mode {
+            CancelMode::Smart => handed_back(finish(&self.queue, pass, under)),
+            CancelMode::Simple => {
+                finish_at_once(&self.queue, pass, under);
+                None
+            }
+        }
+    }
+}
+
+// The resumption, where it is still owed.
+pub(crate) fn handed_back(resumed: Resumed) -> Option<Under>
+    ensures { result ≡ Rattle.cqs_latch.specs.Waking.handed_back resumed }
+{
+    match resumed {
+        Resumed::Served(_) => None,
+        Resumed::Left(_) => None,
+        Resumed::Refused(_) => None,
+        Resumed::Under(under) => Some(under),
+    }
+}

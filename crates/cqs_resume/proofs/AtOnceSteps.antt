@@ -1,0 +1,119 @@
+-- One number of a resumption where waits leave at once: what its load of a hole is, and that it finds one.
+use Rattle.std.proofs.Common.{◌≡◌, ℕ, ◌<◌, ◌≤◌, List, [], Option, Some, sym, refl, ap, ◌∙◌, subst, ⊎_elim, arith}
+use Rattle.cqs_core.specs.declared.cells.CoreState.{CoreState}
+use Rattle.cqs_core.specs.declared.cells.CoreState.TheVariants as state
+use Rattle.cqs_core.specs.declared.doings.Doing.TheVariants as doing
+use Rattle.cqs_core.specs.QueueCells.{rank}
+use Rattle.cqs_core.specs.QueueSound.{IsUnended}
+use Rattle.cqs_core.specs.QueueSteps.{QueueStep, row_of, CellRow, StepRow, at_cell, payload_told, ends_missed}
+use Rattle.cqs_words.specs.declared.cell.CellState.{CellState}
+use Rattle.cqs_words.specs.declared.cell.CellState.TheVariants as shown
+use Rattle.cqs_words.specs.declared.cell.CellWord.{CellWord}
+use Rattle.cqs_rule.specs.declared.view.Facts.{Facts}
+use Rattle.cqs_rule.specs.declared.view.Glimpse.{Glimpse}
+use Rattle.cqs_rule.specs.declared.view.Opening.{Opening}
+use Rattle.cqs_rule.specs.declared.view.View.{View}
+use Rattle.cqs_rule.specs.Exchanges.{FoundCell, HasCell, SinceLast, IsFoundSince}
+use Rattle.cqs_rule.specs.Facts.{facts_worked, facts_after}
+use Rattle.cqs_rule.specs.Hidden.{Gains}
+use Rattle.cqs_rule.specs.Loads.{misses, event_of, facts_looked, look_entries, told_at}
+use Rattle.cqs_rule.specs.Object.{Object, Primitive}
+use Rattle.cqs_rule.specs.Ruled.{shown_state}
+use Rattle.cqs_rule.specs.Saw.{Saw, WasFound}
+use Rattle.cqs_rule.proofs.CellSteps.{shown-injective}
+use Rattle.cqs_cell.specs.Looks.{LooksAt}
+use Rattle.cqs_resume.specs.AtOnce.{IsPlain, ShowsPlain}
+use Rattle.cqs_resume.specs.Meets.{cell_of}
+use Rattle.cqs_resume.proofs.OneNumber.{Tried, Worked, WorkedBy, IsEndBy, idles}
+
+-- a hole ends the resumption
+pub end-missed : (gains : Gains) (k : ℕ) → IsEndBy gains (row_of ends_missed) state.Cancelled doing.Idle [] k
+end-missed gains k = record { finds = refl; told = refl; facts = λ n payload f. idles f k n }
+
+-- what an open ticket's cell is that was tried as neither empty nor with its waiter
+tried-rank : (x : CoreState) → IsUnended x → (shown_state x ≡ shown.Empty → ⊥) → (shown_state x ≡ shown.Waiter → ⊥)
+    → 2 ≤ rank x
+tried-rank state.Empty may empty waiter = absurd (empty refl)
+tried-rank state.Waiter may empty waiter = absurd (waiter refl)
+tried-rank state.Cancelling may empty waiter = omega arith
+tried-rank state.Cancelled may empty waiter = omega arith
+tried-rank state.Refused may empty waiter = omega arith
+tried-rank state.Value may empty waiter = absurd may
+tried-rank state.Taken may empty waiter = absurd may
+tried-rank state.Broken may empty waiter = absurd may
+tried-rank state.Resumed may empty waiter = absurd may
+tried-rank state.Delegated may empty waiter = absurd may
+
+-- one that has come so far is a hole
+is-hole : (x : CoreState) → IsUnended x → IsPlain x → 2 ≤ rank x → (shown_state x ≡ shown.Cancelled → ⊥) → ⊥
+is-hole state.Cancelled may plain far other = other refl
+is-hole state.Empty may plain far other = omega arith
+is-hole state.Waiter may plain far other = omega arith
+is-hole state.Cancelling may plain far other = plain
+is-hole state.Refused may plain far other = plain
+is-hole state.Value may plain far other = may
+is-hole state.Taken may plain far other = may
+is-hole state.Broken may plain far other = may
+is-hole state.Resumed may plain far other = may
+is-hole state.Delegated may plain far other = may
+
+module _ {C E S : Type 0} (object : Object E) (primitive : C → Primitive E S) where
+  -- what was found of a cell is plain
+  plain-found : (opening : Opening) (g : Glimpse) (es : List E) (w : View E S) → ShowsPlain primitive opening
+      → w.opening ≡ opening → WasFound primitive (HasCell g) es w → IsPlain g.state
+  plain-found opening g es w plain same found =
+      let was = found.was in
+      subst IsPlain was.holds.0
+      (plain.each was.client was.hidden was.words found.before was.handed (was.opening_is ∙ same) was.shown g.number)
+
+  -- a look at a cell that was found neither empty nor with its waiter finds a hole
+  pub looks-missed : (opening : Opening) (k : ℕ) (state : CellState) (cell : CellWord) (v u w : View E S)
+      → ShowsPlain primitive opening → w.opening ≡ opening → Tried object primitive k state v u
+      → (state ≡ shown.Empty → ⊥) → (state ≡ shown.Waiter → ⊥)
+      → LooksAt object primitive misses k u cell w → (cell.state ≡ shown.Cancelled → ⊥) → ⊥
+  looks-missed opening k state cell v u w plain same t empty waiter l cancelled =
+      let g : Glimpse = l.looked.glimpse in
+      let since : IsFoundSince g t.glimpse = subst (SinceLast g) t.last l.looked.since in
+      let far : 2 ≤ rank t.glimpse.state =
+      tried-rank t.glimpse.state t.may (λ e. empty (sym t.state_is ∙ e)) (λ e. waiter (sym t.state_is ∙ e)) in
+      let farther : 2 ≤ rank g.state = ⊎_elim
+      (λ (same : (g.state ≡ t.glimpse.state) × (g.payload ≡ t.glimpse.payload)).
+      let is : rank g.state ≡ rank t.glimpse.state = ap rank same.0 in omega arith)
+      (λ (more : rank t.glimpse.state < rank g.state). omega arith)
+      (since.since (l.looked.number ∙ sym t.number)) in
+      is-hole g.state l.looked.may (plain-found opening g _ w plain same l.looked.was) farther
+      (λ e. cancelled (sym l.state ∙ e))
+
+  -- the load of a hole is the step that ends there
+  worked-at : (row : CellRow) (k : ℕ) (cell : CellWord) (u w : View E S) → row_of ends_missed ≡ at_cell row
+      → (l : LooksAt object primitive misses k u cell w) → l.looked.glimpse.state ≡ row.finds
+      → event_of misses row.finds ≡ Some ends_missed
+      → Worked object primitive ends_missed row k u w
+  worked-at row k cell u w is l finds shows =
+      let g : Glimpse = l.looked.glimpse in
+      let event : event_of misses g.state ≡ Some ends_missed = ap (event_of misses) finds ∙ shows in
+      let told = payload_told row.gain g.payload u.facts.has.payload in
+      let here : g ≡ cell_of k row.finds g.payload = λ i. cell_of (l.looked.number i) (finds i) g.payload in
+      let facts : facts_looked object.gains (event_of misses g.state) l.word g u.facts
+      ≡ facts_worked object.gains row k l.word told u.facts =
+      ap (λ (z : Option QueueStep). facts_looked object.gains z l.word g u.facts) event
+      ∙ (ap (λ (z : StepRow). facts_after object.gains z g.number l.word (told_at z g.payload u.facts) u.facts) is
+      ∙ ap (λ z. facts_worked object.gains row z l.word told u.facts) l.looked.number) in
+      let entries : look_entries object primitive (event_of misses g.state) u.number g u.facts
+      ≡ object.entries ends_missed u.number k told =
+      ap (λ (z : Option QueueStep). look_entries object primitive z u.number g u.facts) event
+      ∙ (ap (λ (z : StepRow). object.entries ends_missed u.number g.number (told_at z g.payload u.facts)) is
+      ∙ ap (λ z. object.entries ends_missed u.number z told) l.looked.number) in
+      record {
+        word = l.word;
+        left = g.payload;
+        cell = subst (FoundCell l.word) here l.looked.cell;
+        saw = subst (λ (z : Facts × List E). Saw object u z.0 z.1 w) (λ i. (facts i, entries i)) l.looked.saw;
+        was = subst (λ (z : Glimpse × List E). WasFound primitive (HasCell z.0) z.1 w)
+            (λ i. (here i, entries i)) l.looked.was;
+      }
+
+  pub worked-missed : (k : ℕ) (cell : CellWord) (u w : View E S) → (l : LooksAt object primitive misses k u cell w)
+      → cell.state ≡ shown.Cancelled → WorkedBy object primitive ends_missed k u w
+  worked-missed k cell u w l is =
+      worked-at _ k cell u w refl l (shown-injective l.looked.glimpse.state state.Cancelled (l.state ∙ is)) refl

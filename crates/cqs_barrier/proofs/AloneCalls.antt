@@ -129,7 +129,8 @@ module _ {T : Type 0} where
       rw (eq-eqb (plain_after v).remaining 1 one)
       (ap (λ l. tells (entry.ArriveLast v.number ∷ delivers l) plain.Last) line)
 
-  pub plain-last : (m : ℕ) (answer : Option Owing) (v x w : View BarrierEntry T) → Came true m v x → RanAll x answer w
+  pub plain-last : (m : ℕ) (answer : Option Owing) (v x w : View BarrierEntry T) → Came true m v x
+      → RanAll x answer w
       → ((ks over : List ℕ) → Ran ks over x w → CallRule v (entry.ArriveLast v.number ∷ []) (delivers ks) w)
       → IsLegal x.opening.size x.seen → KnowsAlone w → v.alone ≡ true → IsPlainArrive v (last_answer answer) w
   plain-last m None v x w c r called legal knows alone =
@@ -187,7 +188,8 @@ module _ {T : Type 0} where
       → CallRule v (entry.ArriveDoor v.number ∷ entry.Enter v.number k ∷ []) (entry.Deliver k ∷ []) w
       → v.alone ≡ true → ⊥
   never-meanwhile v w k c alone =
-      let l = legal-alone v w (entry.ArriveDoor v.number ∷ entry.Enter v.number k ∷ entry.Deliver k ∷ []) c.called c.legal
+      let l =
+      legal-alone v w (entry.ArriveDoor v.number ∷ entry.Enter v.number k ∷ entry.Deliver k ∷ []) c.called c.legal
       alone in
       let more : 1 < (plain_after v).remaining =
       allowed-at v.opening.size v.seen [] (entry.Enter v.number k ∷ entry.Deliver k ∷ []) w.seen

@@ -4,8 +4,10 @@ use Rattle.std.proofs.Common.{◌≡◌, inl, inr, ℕ, ◌-◌, ◌<◌, ◌≤
 use Rattle.std.proofs.lemmas.Bool.{eqb-true}
 use Rattle.cqs_core.specs.declared.doings.Doing.TheVariants as doing
 use Rattle.cqs_barrier_object.specs.declared.entries.BarrierEntry.{BarrierEntry}
+use Rattle.cqs_barrier_object.specs.SoleCaller.{delivers}
 use Rattle.cqs_barrier_object.specs.declared.entries.BarrierEntry.TheVariants as entry
 use Rattle.cqs_barrier_object.specs.BarrierEntries.{IsAllowed, IsLegal, object_after}
+use Rattle.cqs_core.specs.QueueSteps.{takes}
 use Rattle.cqs_core.proofs.Places.{get-push_at}
 use Rattle.cqs_rule.specs.declared.view.Facts.{Facts}
 use Rattle.cqs_rule.specs.declared.view.Opening.{Opening}
@@ -17,15 +19,17 @@ use Rattle.cqs_rule.specs.Lists.{Has, IsPrefix}
 use Rattle.cqs_rule.specs.Saw.{Saw}
 use Rattle.cqs_rule.specs.Waits.{place_of}
 use Rattle.cqs_rule.proofs.Calls.{called-by, called-then, called-and}
+use Rattle.cqs_suspend.specs.Suspends.{EndsBy}
 use Rattle.cqs_barrier.specs.declared.answers.Arrived.{Arrived}
 use Rattle.cqs_barrier.specs.declared.answers.Arrived.TheVariants.{Last, LastOwing, Later}
 use Rattle.cqs_barrier.specs.declared.answers.Owing.{Owing}
-use Rattle.cqs_barrier.specs.Arriving.{NextIs, IsWorn, IsBelow, WasEarly, CameLast, Arrives, WaitsForOthers}
+use Rattle.cqs_barrier.specs.Arriving.{NextIs, IsWorn, IsBelow, WasEarly, CameEarly, CameLast, Arrives, WaitsForOthers}
 use Rattle.cqs_barrier.specs.Barrier.{barrier_object, arrives}
 use Rattle.cqs_barrier.specs.BarrierWord.{OnWord}
 use Rattle.cqs_barrier.specs.Calls.{IsReady}
+use Rattle.cqs_barrier.specs.Causes.{primitive_of}
 use Rattle.cqs_barrier.specs.Leaving.{RemainingWas}
-use Rattle.cqs_barrier.specs.Resuming.{delivers, OwesMore, Ran, RanAll}
+use Rattle.cqs_barrier.specs.Resuming.{OwesMore, Ran, RanAll}
 use Rattle.cqs_barrier.specs.Word.{parties_in, remaining_in, is_last}
 use Rattle.cqs_barrier.proofs.LeaveSteps.{prefix-same, prefix-then, saw-prefix, remaining-was}
 use Rattle.cqs_barrier.proofs.Rules.{NoneName, call-rule, call-rule_own, called-weak}
@@ -141,7 +145,7 @@ module _ {T : Type 0} where
   }
 
   -- the last one resumed the others
-  last-called : (m : ℕ) (ks over : List ℕ) (v x w : View BarrierEntry T) → is_last m ≡ true → Came true m v x
+  pub last-called : (m : ℕ) (ks over : List ℕ) (v x w : View BarrierEntry T) → is_last m ≡ true → Came true m v x
       → Ran ks over x w → Has v.number v.own → IsLegal w.opening.size w.seen → CameLast ks v w
   last-called m ks over v x w is c r has legal = record {
     called = call-rule v w (entry.ArriveLast v.number ∷ []) (delivers ks)
@@ -206,6 +210,24 @@ module _ {T : Type 0} where
     found = found-later v x w (remaining_in m) c.before _ c.found on opening;
   }
 
+  -- the value of its resume was there: the last came meanwhile
+  pub came-meanwhile : (m k payload : ℕ) (v x w : View BarrierEntry T) → 1 < remaining_in m → Came false m v x
+      → EndsBy barrier_object primitive_of takes 2 k payload x w → Has v.number v.own → IsLegal w.opening.size w.seen
+      → CameEarly k (entry.Deliver k ∷ []) v w
+  came-meanwhile m k payload v x w more c ends has legal =
+      let on : IsPrefix x.seen w.seen = (ends.called.more, ends.called.seen) in
+      let called : Called barrier_object v (entry.ArriveDoor v.number ∷ entry.Enter x.number k ∷ entry.Deliver k ∷ [])
+      (entry.Deliver k ∷ []) w =
+      called-and barrier_object v x w _ [] _ _ c.called ends.called in
+      let named = subst (λ p. Called barrier_object v
+      (entry.ArriveDoor v.number ∷ entry.Enter p k ∷ entry.Deliver k ∷ []) (entry.Deliver k ∷ []) w)
+      c.called.same.number called in
+      record {
+        called = call-rule v w (entry.ArriveDoor v.number ∷ entry.Enter v.number k ∷ []) (entry.Deliver k ∷ [])
+            (called-weak v w _ _ named) (λ n. refl, (λ n. refl, tt)) (λ n. refl, tt) has legal;
+        early = early m v x w more c on ends.called.same.opening;
+      }
+
   pub came-early : (m : ℕ) (answer : Arrived) (v x w : View BarrierEntry T) → 1 < remaining_in m → IsReady v.facts
       → Came false m v x → WaitsForOthers x answer w → Has v.number v.own → IsLegal w.opening.size w.seen
       → Arrives v answer w × IsBelow v w
@@ -213,22 +235,9 @@ module _ {T : Type 0} where
       let k = e.0 in
       let ends = e.2 in
       let is = ends.facts_are in
-      let on : IsPrefix x.seen w.seen = (ends.called.more, ends.called.seen) in
-      let called : Called barrier_object v (entry.ArriveDoor v.number ∷ entry.Enter x.number k ∷ entry.Deliver k ∷ [])
-      (entry.Deliver k ∷ []) w =
-      called-and barrier_object v x w _ [] _ _ c.called ends.called in
-      let named = subst (λ p. Called barrier_object v
-      (entry.ArriveDoor v.number ∷ entry.Enter p k ∷ entry.Deliver k ∷ []) (entry.Deliver k ∷ []) w)
-      c.called.same.number called in (
+      let on : IsPrefix x.seen w.seen = (ends.called.more, ends.called.seen) in (
         (
-          inr (
-            k,
-            record {
-              called = call-rule v w (entry.ArriveDoor v.number ∷ entry.Enter v.number k ∷ []) (entry.Deliver k ∷ [])
-                  (called-weak v w _ _ named) (λ n. refl, (λ n. refl, tt)) (λ n. refl, tt) has legal;
-              early = early m v x w more c on ends.called.same.opening;
-            },
-          ),
+          inr (k, came-meanwhile m k e.1 v x w more c ends has legal),
           record {
             ready = record {
               idle = ap (λ (f : Facts). f.doing) is;

@@ -4,10 +4,11 @@ use Rattle.cqs_rule.specs.declared.queue.tokens.Under.{Under}
 use Rattle.cqs_rule.specs.declared.view.View.{View}
 use Rattle.cqs_rule.specs.Lists.{Has}
 use Rattle.cqs_barrier_object.specs.declared.entries.BarrierEntry.{BarrierEntry}
+use Rattle.cqs_barrier_object.specs.SoleCaller.{delivers}
 use Rattle.cqs_barrier_object.specs.BarrierEntries.{IsLegal}
 use Rattle.cqs_barrier.specs.declared.answers.Owing.{Owing}
 use Rattle.cqs_barrier.specs.Arriving.{Finished, Finishes}
-use Rattle.cqs_barrier.specs.Resuming.{delivers, Ran, RanNext, RanAll, OwesMore}
+use Rattle.cqs_barrier.specs.Resuming.{Ran, RanNext, RanAll, OwesMore}
 use Rattle.cqs_barrier.proofs.ArriveSteps.{delivers-name}
 use Rattle.cqs_barrier.proofs.ResumeSteps.{ran-none, ran-then, all-handed}
 use Rattle.cqs_barrier.proofs.Rules.{call-rule}
@@ -17,7 +18,7 @@ finish_answer None = Ok tt
 finish_answer (Some owing) = Err owing
 
 module _ {T : Type 0} where
-  ran-finished : (ks over : List ℕ) (v w : View BarrierEntry T) → Ran ks over v w → Has v.number v.own
+  pub ran-finished : (ks over : List ℕ) (v w : View BarrierEntry T) → Ran ks over v w → Has v.number v.own
       → IsLegal w.opening.size w.seen → Finished ks over v w
   ran-finished ks over v w r has legal = record {
     called = call-rule v w [] (delivers ks) r.called tt (delivers-name ks) has legal;
@@ -27,7 +28,7 @@ module _ {T : Type 0} where
   }
 
   -- the resumptions behind one that ended
-  ran-first : (left : ℕ) (answer : Option Owing) (v u w : View BarrierEntry T) → RanNext left v None u
+  pub ran-first : (left : ℕ) (answer : Option Owing) (v u w : View BarrierEntry T) → RanNext left v None u
       → RanAll u answer w → RanAll v answer w
   ran-first left None v u w n a = (n.0 ++ a.0, n.1 ++ a.1, ran-then n.0 a.0 n.1 a.1 v u w n.2 a.2, a.3)
   ran-first left (Some owing) v u w n a = (

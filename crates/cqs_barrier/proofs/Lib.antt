@@ -8,3 +8,6 @@ pub mod ResumeSteps
 pub mod NextFound
 pub mod ArriveSteps
 pub mod FinishSteps
+pub mod AloneLine
+pub mod AloneOrder
+pub mod AloneCalls

@@ -3,9 +3,12 @@ use Rattle.std.proofs.Common.{◌≡◌, ℕ, ◌+◌, ◌-◌, ◌≤◌, Bool,
 use Rattle.std.proofs.lemmas.List.{append-nil}
 use Rattle.cqs_core.specs.declared.cells.CoreState.{CoreState}
 use Rattle.cqs_core.specs.declared.cells.CoreState.TheVariants as state
+use Rattle.cqs_core.specs.declared.doings.Doing.TheVariants as doing
 use Rattle.cqs_core.specs.QueueSteps.{QueueStep, begins, serves, leaves, delegates, ends_refused}
 use Rattle.cqs_barrier_object.specs.declared.entries.BarrierEntry.{BarrierEntry}
+use Rattle.cqs_barrier_object.specs.SoleCaller.{delivers}
 use Rattle.cqs_barrier_object.specs.declared.entries.BarrierEntry.TheVariants as entry
+use Rattle.cqs_barrier_object.specs.BarrierEntries.{IsLegal}
 use Rattle.cqs_barrier_object.specs.BarrierSteps.{step_entries}
 use Rattle.cqs_rule.specs.declared.queue.tokens.Under.{Under}
 use Rattle.cqs_rule.specs.declared.view.Facts.{Facts}
@@ -17,8 +20,10 @@ use Rattle.cqs_resume.specs.declared.resumed.Resumed.TheVariants as resumed
 use Rattle.cqs_resume.specs.Resumes.{Ended, Resumes}
 use Rattle.cqs_resume.specs.Rounds.{Round, draw_entries, round_entries, over_entries, drawn_in, one_if, numbers}
 use Rattle.cqs_barrier.specs.Barrier.{barrier_object}
+use Rattle.cqs_barrier.specs.Calls.{waiting_in}
 use Rattle.cqs_barrier.specs.Causes.{primitive_of}
-use Rattle.cqs_barrier.specs.Resuming.{delivers, most_passed_over, OwesMore, Ran, RanNext, RanAll}
+use Rattle.cqs_barrier.proofs.AloneOrder.{KnowsAlone, none-served, one-served}
+use Rattle.cqs_barrier.specs.Resuming.{most_passed_over, OwesMore, Ran, RanNext, RanAll}
 use Rattle.cqs_barrier.proofs.Rules.{called-weak}
 
 -- a round of a barrier's resumption shows no entry but that of its last step
@@ -55,14 +60,21 @@ module _ {T : Type 0} where
   ended : (s : QueueStep) (state : CoreState) (ticket : Option ℕ) (k left : ℕ) (ks : List ℕ) (v w : View BarrierEntry T)
       → Ended barrier_object primitive_of s state most_passed_over ticket 0 k v w
       → step_entries s v.number k ≡ delivers ks
-      → v.facts.has.further ≡ left → v.facts.has.payload ≡ 0 → RanNext left v None w
-  ended s state ticket k left ks v w e is further payload = (
+      → v.facts.has.further ≡ left → v.facts.has.payload ≡ 0
+      → (Called barrier_object v (delivers ks) [] w → w.facts.doing ≡ doing.Idle → v.alone ≡ true
+      → waiting_in v ≡ ks ++ waiting_in w)
+      → RanNext left v None w
+  ended s state ticket k left ks v w e is further payload order = (
     ks,
     numbers e.over,
     record {
       called = called-weak v w (delivers ks) _
           (subst (λ es. Called barrier_object v es (step_entries s v.number k) w)
           (entries-last v.number 0 k s e.over e.last e.number ∙ is) e.called);
+      in_order = order (called-weak v w (delivers ks) _
+          (subst (λ es. Called barrier_object v es (step_entries s v.number k) w)
+          (entries-last v.number 0 k s e.over e.last e.number ∙ is) e.called))
+          (ap (λ (f : Facts). f.doing) e.facts_are);
       held = ap (λ (f : Facts). f.has.held) e.facts_are;
       waits = ap (λ (f : Facts). f.waits) e.facts_are;
       passed = ap (λ (f : Facts). f.passed) e.facts_are;
@@ -76,18 +88,24 @@ module _ {T : Type 0} where
 
   module _ (ticket : Option ℕ) (left : ℕ) (v w : View BarrierEntry T) (further : v.facts.has.further ≡ left)
       (payload : v.facts.has.payload ≡ 0) where
-    pub ran-served : (k : ℕ)
+    pub ran-served : (k : ℕ) → IsLegal w.opening.size w.seen → KnowsAlone v → KnowsAlone w
         → Resumes barrier_object primitive_of most_passed_over ticket 0 v (resumed.Served k) w → RanNext left v None w
-    ran-served k e = ended serves state.Waiter ticket k left (k ∷ []) v w e refl further payload
+    ran-served k legal knows knows' e =
+        ended serves state.Waiter ticket k left (k ∷ []) v w e refl further payload
+        (λ called idle alone. one-served v w k called legal knows knows' idle alone)
+
+    none-reached : Called barrier_object v [] [] w → w.facts.doing ≡ doing.Idle → v.alone ≡ true
+        → waiting_in v ≡ waiting_in w
+    none-reached called idle alone = none-served v w called alone
 
     pub ran-left : (k : ℕ)
         → Resumes barrier_object primitive_of most_passed_over ticket 0 v (resumed.Left k) w → RanNext left v None w
-    ran-left k (inl e) = ended leaves state.Empty ticket k left [] v w e refl further payload
-    ran-left k (inr e) = ended delegates state.Cancelling ticket k left [] v w e refl further payload
+    ran-left k (inl e) = ended leaves state.Empty ticket k left [] v w e refl further payload none-reached
+    ran-left k (inr e) = ended delegates state.Cancelling ticket k left [] v w e refl further payload none-reached
 
     pub ran-refused : (k : ℕ)
         → Resumes barrier_object primitive_of most_passed_over ticket 0 v (resumed.Refused k) w → RanNext left v None w
-    ran-refused k e = ended ends_refused state.Refused ticket k left [] v w e refl further payload
+    ran-refused k e = ended ends_refused state.Refused ticket k left [] v w e refl further payload none-reached
 
     pub ran-under : (under : Under)
         → Resumes barrier_object primitive_of most_passed_over ticket 0 v (resumed.Under under) w
@@ -97,6 +115,8 @@ module _ {T : Type 0} where
       record {
         called = called-weak v w [] _
             (subst (λ es. Called barrier_object v es [] w) (over-none v.number 0 e.over) e.called);
+        in_order = none-served v w (called-weak v w [] _
+            (subst (λ es. Called barrier_object v es [] w) (over-none v.number 0 e.over) e.called));
         held = ap (λ (f : Facts). f.has.held) e.facts_are;
         waits = ap (λ (f : Facts). f.waits) e.facts_are;
         passed = ap (λ (f : Facts). f.passed) e.facts_are;
@@ -116,6 +136,8 @@ module _ {T : Type 0} where
     held = b.held ∙ a.held;
     waits = b.waits ∙ a.waits;
     passed = b.passed ∙ (ap (λ l. l ++ more) a.passed ∙ append_assoc v.facts.passed over more);
+    in_order = λ alone. a.in_order alone
+        ∙ (ap (λ l. js ++ l) (b.in_order (a.called.same.alone ∙ alone)) ∙ sym (append_assoc js ks (waiting_in w)));
   }
 
   -- a number was drawn for the next resumption
@@ -126,6 +148,7 @@ module _ {T : Type 0} where
     held = ap (λ (f : Facts). f.has.held) d.facts_are;
     waits = ap (λ (f : Facts). f.waits) d.facts_are;
     passed = ap (λ (f : Facts). f.passed) d.facts_are ∙ sym (append-nil v.facts.passed);
+    in_order = none-served v u (called-by barrier_object v u _ [] d);
   }
 
   pub began-further : (k left : ℕ) (v u : View BarrierEntry T) → OwesMore (left + 1) v.facts
@@ -166,6 +189,7 @@ ran-none v = record {
   held = refl;
   waits = refl;
   passed = sym (append-nil v.facts.passed);
+  in_order = λ alone. refl;
 }
 
 module _ {T : Type 0} (left : ℕ) where

@@ -2,6 +2,7 @@
 use Rattle.std.specs.Prelude.{◌≡◌, ◌⊎◌, ℕ, ◌-◌, ◌<◌, ◌≤◌, List, [], ◌∷◌, ◌++◌, length, Result, Ok, Err}
 use Rattle.cqs_core.specs.QueueSteps.{installs, takes}
 use Rattle.cqs_barrier_object.specs.declared.entries.BarrierEntry.{BarrierEntry}
+use Rattle.cqs_barrier_object.specs.SoleCaller.{delivers}
 use Rattle.cqs_barrier_object.specs.declared.entries.BarrierEntry.TheVariants as entry
 use Rattle.cqs_barrier_object.specs.BarrierEntries.{object_after}
 use Rattle.cqs_rule.specs.declared.view.View.{View}
@@ -17,7 +18,7 @@ use Rattle.cqs_barrier.specs.Barrier.{barrier_object}
 use Rattle.cqs_barrier.specs.Calls.{CallRule, IsReady, Rests, plain_after}
 use Rattle.cqs_barrier.specs.Causes.{primitive_of}
 use Rattle.cqs_barrier.specs.Leaving.{RemainingWas}
-use Rattle.cqs_barrier.specs.Resuming.{HasOwing, delivers, most_passed_over}
+use Rattle.cqs_barrier.specs.Resuming.{HasOwing, most_passed_over}
 use Rattle.cqs_barrier.specs.Waits.{wait_in}
 
 module _ {T : Type 0} where

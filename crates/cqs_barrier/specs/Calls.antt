@@ -5,6 +5,7 @@ use Rattle.cqs_barrier_object.specs.declared.entries.BarrierEntry.{BarrierEntry}
 use Rattle.cqs_barrier_object.specs.BarrierEntries.{object_after, IsLegal}
 use Rattle.cqs_barrier_object.specs.BarrierNames.{entry_names}
 use Rattle.cqs_barrier_object.specs.BarrierObject as plain
+use Rattle.cqs_barrier_object.specs.SoleCaller.{numbers_of}
 use Rattle.cqs_rule.specs.declared.client.ClientWords.{Ghosts}
 use Rattle.cqs_rule.specs.declared.queue.Pass.{Pass}
 use Rattle.cqs_rule.specs.declared.view.Facts.{Facts}
@@ -35,6 +36,10 @@ module _ {T : Type 0} where
   -- the plain barrier, after all that the pass has seen
   abbrev pub plain_after : View BarrierEntry T → plain.Barrier
   plain_after v = object_after v.opening.size v.seen
+
+  -- the numbers of those who wait in its line then, in order
+  abbrev pub waiting_in : View BarrierEntry T → List ℕ
+  waiting_in v = numbers_of (plain_after v).waiters.line
 
   -- The call rule. What the pass had seen is a beginning of what it has seen now, which is legal.
   -- In the new part the entries that name the pass are just its own ones of the call, in order, and

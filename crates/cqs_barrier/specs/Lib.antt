@@ -11,3 +11,4 @@ pub mod Answers
 pub mod Leaving
 pub mod Resuming
 pub mod Arriving
+pub mod Alone

@@ -1,9 +1,9 @@
 -- What the resumptions of a barrier's last party leave of its pass: each that it owes is begun, one
 -- after the other, and ends at a cell or is handed back.
-use Rattle.std.specs.Prelude.{◌≡◌, ℕ, ◌≤◌, List, [], ◌∷◌, ◌++◌, length, Option, Some, None}
+use Rattle.std.specs.Prelude.{◌≡◌, ℕ, ◌≤◌, true, List, [], ◌++◌, length, Option, Some, None}
 use Rattle.cqs_core.specs.declared.doings.Doing.TheVariants as doing
 use Rattle.cqs_barrier_object.specs.declared.entries.BarrierEntry.{BarrierEntry}
-use Rattle.cqs_barrier_object.specs.declared.entries.BarrierEntry.TheVariants as entry
+use Rattle.cqs_barrier_object.specs.SoleCaller.{delivers}
 use Rattle.cqs_rule.specs.declared.queue.tokens.Under.{Under}
 use Rattle.cqs_rule.specs.declared.view.Facts.{Facts}
 use Rattle.cqs_rule.specs.declared.view.View.{View}
@@ -11,15 +11,11 @@ use Rattle.cqs_rule.specs.Called.{Called}
 use Rattle.cqs_rule.specs.Owed.{HasUnder, under_payload}
 use Rattle.cqs_barrier.specs.declared.answers.Owing.{Owing}
 use Rattle.cqs_barrier.specs.Barrier.{barrier_object}
+use Rattle.cqs_barrier.specs.Calls.{waiting_in}
 
 -- how many numbers one call passes over before it hands a resumption back
 abbrev pub most_passed_over : ℕ
 most_passed_over = 64
-
--- the waits of these numbers were served
-abbrev pub delivers : List ℕ → List BarrierEntry
-delivers [] = []
-delivers (k ∷ ks) = entry.Deliver k ∷ delivers ks
 
 -- the resumption that was handed back, and how many more there are behind it
 abbrev pub owing_under : Owing → Under
@@ -42,12 +38,14 @@ pub record HasOwing (f : Facts) (owing : Owing) : Type 0 where
 
 module _ {T : Type 0} where
   -- The pass made no step but those of its resumptions, which served these waits. It holds and
-  -- waits for what it did before, and passed over these numbers.
+  -- waits for what it did before, and passed over these numbers. Where it is alone the waits are
+  -- the first of the line, in order.
   pub record Ran (ks : List ℕ) (over : List ℕ) (v w : View BarrierEntry T) : Type 0 where
     pub called : Called barrier_object v (delivers ks) [] w
     pub held : w.facts.has.held ≡ v.facts.has.held
     pub waits : w.facts.waits ≡ v.facts.waits
     pub passed : w.facts.passed ≡ v.facts.passed ++ over
+    pub in_order : v.alone ≡ true → waiting_in v ≡ ks ++ waiting_in w
 
   -- one resumption ended, or was handed back after so many numbers
   abbrev pub RanNext : ℕ → View BarrierEntry T → Option Under → View BarrierEntry T → Type 0

@@ -1,8 +1,9 @@
 //! The arrival of a party, and the resumptions that the last one still owes.
 
-ghost use Rattle.std.specs.Prelude.{◌≡◌, ◌<◌, OnErr, OnOk, IfOk, IfErr, IsErrOf};
+ghost use Rattle.std.specs.Prelude.{◌≡◌, ◌<◌, true, OnErr, OnOk, IfOk, IfErr, IsErrOf};
 ghost use Rattle.cqs_core.specs.declared.doings.Doing.TheVariants as doing;
 ghost use Rattle.cqs_rule.specs.Passes.{pass_view};
+ghost use Rattle.cqs_barrier.specs.Alone.{IsPlainArrive, IsPlainFinish};
 ghost use Rattle.cqs_barrier.specs.Arriving.{Arrives, Finishes, IsWorn, IsBelow, NextIs, WaitsForOthers};
 ghost use Rattle.cqs_barrier.specs.Calls.{IsReady, IsMine};
 ghost use Rattle.cqs_barrier.specs.Resuming.{HasOwing};
@@ -27,6 +28,8 @@ impl Barrier {
         ensures below { OnOk result (IsBelow (pass_view pass.old) (pass_view pass.new)) }
         ensures arrived { IfOk result
             (λ arrived. Arrives (pass_view pass.old) arrived (pass_view pass.new)) }
+        ensures alone { (pass_view pass.old).alone ≡ true → IfOk result
+            (λ arrived. IsPlainArrive (pass_view pass.old) arrived (pass_view pass.new)) }
     {
         if self.next_wait(pass) >= self.queue.limit() {
             return Err(AcquireError::Worn);
@@ -48,6 +51,8 @@ impl Barrier {
         requires owes { HasOwing (pass_view pass.old).facts owing }
         ensures belongs { IsMine self.now pass.new }
         ensures finished { Finishes (pass_view pass.old) result (pass_view pass.new) }
+        ensures alone { (pass_view pass.old).alone ≡ true
+            → IsPlainFinish (pass_view pass.old) result (pass_view pass.new) }
     {
         let Owing { under, left } = owing;
         if let Some(under) = self.resume_on(pass, under, left) {

@@ -1,11 +1,12 @@
 //! The cancel: a party withdraws, as long as others are still to arrive.
 
-ghost use Rattle.std.specs.Prelude.{◌≡◌};
+ghost use Rattle.std.specs.Prelude.{◌≡◌, true};
 ghost use Rattle.cqs_core.specs.declared.doings.Doing.TheVariants as doing;
 ghost use Rattle.cqs_rule.specs.Crew.{IsBetween};
 ghost use Rattle.cqs_rule.specs.Passes.{pass_view};
 ghost use Rattle.cqs_rule.specs.Placed.{KnowsPlace};
 ghost use Rattle.cqs_rule.specs.Waits.{place_of, HasWait};
+ghost use Rattle.cqs_barrier.specs.Alone.{IsPlainCancel};
 ghost use Rattle.cqs_barrier.specs.Calls.{IsReady, IsMine};
 ghost use Rattle.cqs_barrier.specs.Leaving.{HasLeaving, HasLeft, Leaves, leaving_at};
 ghost use Rattle.cqs_barrier.specs.Waits.{wait_in};
@@ -27,6 +28,9 @@ impl Barrier {
         requires has { HasWait (pass_view pass.old) (wait_in wait) }
         ensures belongs { IsMine self.now pass.new }
         ensures left { HasLeft (place_of (wait_in wait)).index (pass_view pass.old) result
+            (pass_view pass.new) }
+        ensures alone { (pass_view pass.old).alone ≡ true
+            → IsPlainCancel (place_of (wait_in wait)).index (pass_view pass.old) result
             (pass_view pass.new) }
     {
         let PartyWait { wait } = wait;

@@ -1,6 +1,6 @@
 //! The word of a barrier: how many parties are still to arrive, and how many there are.
 
-ghost use Rattle.std.specs.Prelude.{◌≡◌, ◌<◌, ◌≤◌};
+ghost use Rattle.std.specs.Prelude.{◌≡◌, ◌+◌, ◌<◌, ◌^◌};
 ghost use Rattle.cqs_barrier.specs.Word.{word_of, parties_in, remaining_in, is_over, is_last};
 
 const UPPER: u64 = 4_294_967_296;
@@ -24,6 +24,14 @@ pub(crate) fn parties(word: u64) -> u32
     ensures { result ≡ parties_in word }
 {
     (word / UPPER) as u32
+}
+
+/// The word of the same barrier, where one party more is still to arrive.
+pub(crate) fn raised(word: u64) -> u64
+    requires fits { word + 1 < 2 ^ 64 }
+    ensures { result ≡ word + 1 }
+{
+    word + 1
 }
 
 /// Whether all have arrived.

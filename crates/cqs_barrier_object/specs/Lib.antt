@@ -4,3 +4,4 @@ pub mod BarrierNames
 pub mod BarrierShown
 pub mod BarrierSteps
 pub mod BarrierLaws
+pub mod SoleCaller

@@ -11,6 +11,7 @@ use Rattle.cqs_barrier.specs.Calls.{IsReady}
 use Rattle.cqs_barrier.specs.Causes.{primitive_of}
 use Rattle.cqs_barrier.specs.Leaving.{HasLeft}
 use Rattle.cqs_barrier.specs.Waits.{wait_in}
+use Rattle.cqs_barrier.proofs.AloneCalls.{plain-cancel}
 use Rattle.cqs_barrier.proofs.LeftSteps.{starts-leaving, left-so, came-too-late}
 use Rattle.cqs_barrier.proofs.barrier.Barrier.cancel.Goals as goal
 
@@ -55,3 +56,13 @@ returns-in-Err-clause-left c =
     c.look.ensures.belongs.live.legal
     (came-late barrier_object primitive_of at.result.index c.in-Err.field-0 c.look.result v
     (pass_view c.begin_cancel.new.pass) (pass_view c.look.new.pass) c.in-Err.ensures.missed c.look.ensures.looks)))
+
+pub returns-in-Ok-clause-alone : goal.returns-in-Ok-clause-alone
+returns-in-Ok-clause-alone c =
+    plain-cancel (place_of (wait_in c.args.wait)).index (pass_view c.args.pass.now) (pass_view c.leave.new.pass)
+    c.leave.result (returns-in-Ok-clause-left c) c.requires.ready (c.requires.belongs.alone c.args.pass.now.live.0)
+
+pub returns-in-Err-clause-alone : goal.returns-in-Err-clause-alone
+returns-in-Err-clause-alone c =
+    plain-cancel (place_of (wait_in c.args.wait)).index (pass_view c.args.pass.now) (pass_view c.look.new.pass)
+    TooLate (returns-in-Err-clause-left c) c.requires.ready (c.requires.belongs.alone c.args.pass.now.live.0)

@@ -1,9 +1,12 @@
-use Rattle.std.proofs.Common.{Option, None, Some, subst}
+use Rattle.std.proofs.Common.{[], Option, None, Some, subst}
 use Rattle.cqs_rule.specs.declared.queue.tokens.Under.{Under}
+use Rattle.cqs_rule.specs.Owed.{under_ticket}
 use Rattle.cqs_rule.specs.Passes.{pass_view}
 use Rattle.cqs_barrier.specs.declared.answers.Owing.{Owing}
 use Rattle.cqs_barrier.specs.Resuming.{RanNext, RanAll}
-use Rattle.cqs_barrier.proofs.FinishSteps.{finish-handed, finish-on}
+use Rattle.cqs_barrier.proofs.AloneCalls.{plain-finish}
+use Rattle.cqs_barrier.proofs.FinishSteps.{finish-handed, finish-on, ran-first}
+use Rattle.cqs_barrier.proofs.ResumeSteps.{all-handed, ran-none}
 use Rattle.cqs_barrier.proofs.barrier.Barrier.finish.Goals as goal
 
 pub returns-in-Some-clause-finished : goal.returns-in-Some-clause-finished
@@ -36,3 +39,45 @@ returns-in-Some-resume_all-clause-finished c =
     (subst (λ (z : Option Under). RanNext left v z u) c.in_default.is c.resume_on.ensures.ran)
     (subst (λ (z : Option Owing). RanAll u z w) c.in-Some-resume_all.is c.resume_all.ensures.ran)
     c.requires.belongs.live.own c.resume_all.ensures.belongs.live.legal
+
+pub returns-in-Some-clause-alone : goal.returns-in-Some-clause-alone
+returns-in-Some-clause-alone c =
+    let v = pass_view c.args.pass.now in
+    let u = pass_view c.resume_on.new.pass in
+    let left = c.args.owing.left in
+    plain-finish (under_ticket c.args.owing.under) (Some (record { under = c.in-Some.under; left = left })) v u
+    c.requires.owes.owes.owes.doing
+    (all-handed left c.in-Some.under v v u ([], [], ran-none v)
+    (subst (λ (z : Option Under). RanNext left v z u) c.in-Some.is c.resume_on.ensures.ran))
+    c.requires.belongs.live.own c.resume_on.ensures.belongs.live.legal
+    (c.requires.belongs.alone c.args.pass.now.live.0)
+    (c.resume_on.ensures.belongs.alone c.resume_on.new.pass.live.0)
+
+pub returns-in-None-clause-alone : goal.returns-in-None-clause-alone
+returns-in-None-clause-alone c =
+    let v = pass_view c.args.pass.now in
+    let u = pass_view c.resume_on.new.pass in
+    let w = pass_view c.resume_all.new.pass in
+    let left = c.args.owing.left in
+    plain-finish (under_ticket c.args.owing.under) None v w c.requires.owes.owes.owes.doing
+    (ran-first left None v u w
+    (subst (λ (z : Option Under). RanNext left v z u) c.in_default.is c.resume_on.ensures.ran)
+    (subst (λ (z : Option Owing). RanAll u z w) c.in-None.is c.resume_all.ensures.ran))
+    c.requires.belongs.live.own c.resume_all.ensures.belongs.live.legal
+    (c.requires.belongs.alone c.args.pass.now.live.0)
+    (c.resume_all.ensures.belongs.alone c.resume_all.new.pass.live.0)
+
+pub returns-in-Some-resume_all-clause-alone : goal.returns-in-Some-resume_all-clause-alone
+returns-in-Some-resume_all-clause-alone c =
+    let v = pass_view c.args.pass.now in
+    let u = pass_view c.resume_on.new.pass in
+    let w = pass_view c.resume_all.new.pass in
+    let left = c.args.owing.left in
+    plain-finish (under_ticket c.args.owing.under) (Some c.in-Some-resume_all.owing) v w
+    c.requires.owes.owes.owes.doing
+    (ran-first left (Some c.in-Some-resume_all.owing) v u w
+    (subst (λ (z : Option Under). RanNext left v z u) c.in_default.is c.resume_on.ensures.ran)
+    (subst (λ (z : Option Owing). RanAll u z w) c.in-Some-resume_all.is c.resume_all.ensures.ran))
+    c.requires.belongs.live.own c.resume_all.ensures.belongs.live.legal
+    (c.requires.belongs.alone c.args.pass.now.live.0)
+    (c.resume_all.ensures.belongs.alone c.resume_all.new.pass.live.0)

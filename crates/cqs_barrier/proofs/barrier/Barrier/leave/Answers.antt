@@ -3,7 +3,7 @@ use Rattle.std.proofs.lemmas.Bool.{eqb-true}
 use Rattle.cqs_cell.specs.Transitions.{HasSettled}
 use Rattle.cqs_rule.specs.Passes.{pass_view}
 use Rattle.cqs_rule.proofs.Places.{knows-saw}
-use Rattle.cqs_barrier.specs.declared.answers.PartyLeft.TheVariants.{Contended}
+use Rattle.cqs_barrier.specs.declared.answers.PartyLeft.TheVariants.{Contended, TooLate}
 use Rattle.cqs_barrier.specs.Barrier.{barrier_object}
 use Rattle.cqs_barrier.specs.Leaving.{Leaves}
 use Rattle.cqs_barrier.specs.Word.{is_over, remaining_in}
@@ -23,10 +23,12 @@ returns-in-Ok-None-clause-leaves c =
     let v = pass_view c.args.pass.now in
     let u = pass_view l.new.pass in
     let w = pass_view c.settle.new.pass in
+    let known : Leaves k v TooLate w =
     stayed k n v u w (looked true k n v u c.requires.leaving l.ensures.saw over) (eqb-true (remaining_in n) 0 over)
     (refuses-closed 0 k 0 u w
     (subst (λ (z : Option ℕ). HasSettled false k z l.new.pass c.settle.new.pass) c.in-Ok-None.field-0-is
-    c.in-Ok-None.ensures.settled))
+    c.in-Ok-None.ensures.settled)) in
+    search
 
 pub returns-in-Ok-Some-clause-leaves : goal.returns-in-Ok-Some-clause-leaves
 returns-in-Ok-Some-clause-leaves c =
@@ -53,10 +55,13 @@ returns-then-found-saw-clause-leaves c =
     let x = pass_view c.withdraw_once-found.new.pass in
     let l = looked false k n v u c.requires.leaving c.look_to_leave-saw.ensures.saw over in
     let s = swapped false k n m u x l.doing_is c.withdraw_once-found.ensures.saw (ne_eqb m n c.if-found-saw.true) in
-    subst (λ (z : ℕ × ℕ). Leaves k v (Contended z.0 z.1 (record { at = c.args.at })) x)
-    (λ i. (sym c.remaining.ensures i, sym c.remaining-then-found-saw.ensures i))
+    let told : (a b : ℕ) → a ≡ remaining_in n → b ≡ remaining_in m
+    → Leaves k v (Contended a b (record { at = c.args.at })) x =
+    λ a b first second. subst (λ (z : ℕ × ℕ). Leaves k v (Contended z.0 z.1 (record { at = c.args.at })) x)
+    (λ i. (sym first i, sym second i))
     (contended k n m v u x c.args.at (record { at = c.args.at }) l s c.if-found-saw.true c.requires.further refl
-    c.requires.place refl)
+    c.requires.place refl) in
+    search (told)
 
 pub settle-requires-2-clause-place : goal.settle-requires-2-clause-place
 settle-requires-2-clause-place c =

@@ -8,6 +8,7 @@ use Rattle.cqs_barrier.specs.declared.answers.PartyPolled.TheVariants as polled
 use Rattle.cqs_barrier.specs.Answers.{IsPolled}
 use Rattle.cqs_barrier.specs.Calls.{CallRule}
 use Rattle.cqs_barrier.specs.Waits.{wait_in}
+use Rattle.cqs_barrier.proofs.AloneCalls.{plain-poll}
 use Rattle.cqs_barrier.proofs.PollSteps.{pending, pending-called, pending-cell, pending-rests, granted, granted-called, granted-cell, granted-rests}
 use Rattle.cqs_barrier.proofs.Rules.{call-rule_own}
 use Rattle.cqs_barrier.proofs.barrier.Barrier.poll.Goals as goal
@@ -68,3 +69,14 @@ returns-in-Waiter-clause-polled c =
       pending-cell k _ _ found,
       pending-rests k _ _ c.requires.ready found,
     )
+
+pub returns-in-Resumed-clause-alone : goal.returns-in-Resumed-clause-alone
+returns-in-Resumed-clause-alone c =
+    plain-poll (pass_view c.args.pass.now) (pass_view c.look-cell.new.pass) (wait_in c.args.wait) polled.Through
+    (returns-in-Resumed-clause-called c) (returns-in-Resumed-clause-polled c)
+
+pub returns-in-Waiter-clause-alone : goal.returns-in-Waiter-clause-alone
+returns-in-Waiter-clause-alone c =
+    plain-poll (pass_view c.args.pass.now) (pass_view c.wait_of.new.pass) (wait_in c.args.wait)
+    (polled.Pending (record { wait = c.wait_of.result }))
+    (returns-in-Waiter-clause-called c) (returns-in-Waiter-clause-polled c)

@@ -1,6 +1,6 @@
-use Rattle.std.proofs.Common.{[], ◌-◌, subst}
+use Rattle.std.proofs.Common.{[], ◌-◌, Some, subst}
 use Rattle.cqs_rule.specs.Passes.{pass_view}
-use Rattle.cqs_barrier.specs.Resuming.{RanNext}
+use Rattle.cqs_barrier.specs.Resuming.{RanNext, RanAll}
 use Rattle.cqs_barrier.proofs.ResumeSteps.{ran-none, all-handed, all-on}
 use Rattle.cqs_barrier.proofs.barrier.Barrier.resume_all.Goals as goal
 
@@ -16,8 +16,10 @@ returns-in-Some-clause-ran c =
     let v = pass_view c.args.pass.now in
     let u = pass_view c.loop-left.pass in
     let w = pass_view c.resume_next.new.pass in
+    let known : RanAll v (Some (record { under = c.in-Some.under; left = c.loop-left.left - 1 })) w =
     all-handed (c.loop-left.left - 1) c.in-Some.under v u w c.loop-left.invariant.ran
-    (subst (λ z. RanNext (c.loop-left.left - 1) u z w) c.in-Some.is c.resume_next.ensures.ran)
+    (subst (λ z. RanNext (c.loop-left.left - 1) u z w) c.in-Some.is c.resume_next.ensures.ran) in
+    search
 
 pub loop-left-preserved : goal.loop-left-preserved
 loop-left-preserved c =

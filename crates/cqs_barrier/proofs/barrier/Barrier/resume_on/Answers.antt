@@ -15,6 +15,8 @@ returns-in-Served-clause-ran c =
     let w = pass_view c.finish.new.pass in
     let t = under_ticket c.args.under in
     ran-served t c.args.left v w c.requires.further (c.requires.owes.owes.owed ∙ c.requires.payload) c.in-Served.field-0
+    c.finish.ensures.belongs.live.legal (c.requires.belongs.alone c.args.pass.now.live.0)
+    (c.finish.ensures.belongs.alone c.finish.new.pass.live.0)
     (subst (λ (z : ℕ × Resumed). Resumes barrier_object primitive_of most_passed_over t z.0 v z.1 w)
     (λ i. (c.requires.payload i, c.in-Served.is i)) c.finish.ensures.resumed)
 

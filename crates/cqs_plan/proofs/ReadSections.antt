@@ -1,10 +1,9 @@
 -- One section after another: its resources join those of the sections before, or its first fault is the first of all.
-use Rattle.std.proofs.Common.{◌≡◌, ◌≢◌, ℕ, zero, suc, ◌+◌, ◌-◌, ◌<◌, ◌≤◌, Bool, true, false, not, nat_lt, List, [], ◌∷◌, ◌++◌, length, get_or, take, map, Result, Ok, Err, Option, Some, None, Less, Equal, nat_cmp, refl, sym, ap, subst, ◌∙◌, inl, inr, arith, append_assoc}
+use Rattle.std.proofs.Common.{◌≡◌, ◌≢◌, ℕ, zero, suc, ◌+◌, ◌-◌, ◌<◌, ◌≤◌, false, not, nat_lt, List, [], ◌∷◌, ◌++◌, length, get_or, take, map, Option, Some, None, Less, Equal, nat_cmp, refl, sym, ap, subst, ◌∙◌, inl, inr, arith, append_assoc}
 use Rattle.std.specs.Prelude.{codes, All, AllPairs}
 use Rattle.std.specs.Cmp.{tied_itself}
 use Rattle.std.specs.Cmp.Lexicographic.{slice_cmp}
-use Rattle.std.specs.Int.{IsInRange}
-use Rattle.std.specs.List.{list_any, flat_map, enumerate_from}
+use Rattle.std.specs.List.{list_any}
 use Rattle.std.specs.Str.{bytes_eq}
 use Rattle.std.proofs.Math.Seq.{take-append_seam}
 use Rattle.std.proofs.lemmas.Bool.{ltb-true, not-true, or_parts, cases_lt, false≢true}
@@ -20,12 +19,12 @@ use Rattle.cqs_plan.specs.declared.plans.fault_kind.FaultKind.TheVariants as fau
 use Rattle.cqs_plan.specs.declared.reader.sections.Section.{Section}
 use Rattle.cqs_plan.specs.declared.reader.sections.Section.TheVariants.{Semaphore, Mutex}
 use Rattle.cqs_plan.specs.Floor.{IsHoldable}
-use Rattle.cqs_plan.specs.Language.{is_name, ResourceKind, resource_kinds, semaphores, mutexes}
-use Rattle.cqs_plan.specs.FaultRules.{Fault, each, has_only, optional, required, shaped, unless}
+use Rattle.cqs_plan.specs.Language.{is_name, ResourceKind, resource_kinds, mutexes}
+use Rattle.cqs_plan.specs.FaultRules.{Fault, each, optional, required, shaped, unless}
 use Rattle.cqs_plan.specs.Faults.{kind_faults, kinds_faults, names_in, number_faults, resource_faults, resource_number_faults, resources_faults}
 use Rattle.cqs_plan.specs.Places.{dotted}
-use Rattle.cqs_plan.specs.Meaning.{members_in, members_list, number_in, resource_in, resources_in}
-use Rattle.cqs_plan.specs.Order.{AreInOrder, IsBelow, NamesAscend, Precedes, rank}
+use Rattle.cqs_plan.specs.Meaning.{members_in, members_list, resource_in, resources_in}
+use Rattle.cqs_plan.specs.Order.{IsBelow, NamesAscend, Precedes, rank}
 use Rattle.cqs_plan.specs.Reading.{StopsAt}
 use Rattle.cqs_plan.specs.Sections.{AreRead, kind_of, kinds_before, kinds_up_to, names_of}
 use Rattle.cqs_plan.specs.Validity.{IsKind, IsResource}

@@ -1,5 +1,5 @@
 -- A plan that was read can be run: its resources are of kinds that are built, and its steps can be made.
-use Rattle.std.proofs.Common.{◌≡◌, ℕ, zero, suc, Bool, List, [], ◌∷◌, ◌++◌, map, take, Option, Some, None, refl, sym, ap, ◌∙◌, subst}
+use Rattle.std.proofs.Common.{◌≡◌, ℕ, zero, suc, Bool, List, [], ◌∷◌, take, Option, Some, None, refl, ap, ◌∙◌, subst}
 use Rattle.std.specs.Prelude.{slice_get, slice_index_or, All, IsSomeAnd, IsTrue, IfOk, Result, Ok, Err}
 use Rattle.std.specs.Option.{option_map}
 use Rattle.std.proofs.lemmas.Option.{slice_get-map}
@@ -18,7 +18,7 @@ use Rattle.cqs_plan.specs.Language.{can_hold}
 use Rattle.cqs_plan.specs.Holding.{TookMore}
 use Rattle.cqs_plan.specs.Runnable.{kinds_of, IsMakeable, IsRunnable, AreBuilt}
 use Rattle.cqs_plan.specs.Sections.{AreFound}
-use Rattle.cqs_plan.specs.Validity.{IsValid, IsKind, IsResource, IsJob, IsStep, HasKindAt, is_latch, is_barrier}
+use Rattle.cqs_plan.specs.Validity.{IsValid, IsResource, IsJob, IsStep, HasKindAt, is_latch, is_barrier}
 
 -- an element is where its number says
 get_or-at : {X : Type 0} (xs : List X) (i : ℕ) (x : X) → slice_get xs i ≡ Some x → slice_index_or xs i x ≡ x

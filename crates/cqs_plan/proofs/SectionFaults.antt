@@ -1,5 +1,5 @@
 -- The faults of a resource of a section, one after another.
-use Rattle.std.proofs.Common.{◌≡◌, ℕ, ◌+◌, ◌<◌, ◌≤◌, Bool, true, false, ◌||◌, not, nat_lt, List, [], ◌∷◌, ◌++◌, length, map, Some, refl, ap}
+use Rattle.std.proofs.Common.{◌≡◌, ℕ, ◌+◌, ◌<◌, ◌≤◌, true, false, ◌||◌, not, nat_lt, List, [], ◌∷◌, ◌++◌, length, map, Some, refl, ap}
 use Rattle.std.specs.List.{list_any}
 use Rattle.std.specs.Str.{bytes_eq}
 use Rattle.std.proofs.lemmas.Bool.{lt-ltb, le-ltb}
@@ -17,7 +17,8 @@ use Rattle.cqs_plan.proofs.FirstFaults.{StopsAt-append}
 
 -- whether a name is among those of resources
 pub any-name : (name : List ℕ) (resources : List Resource)
-    → list_any (λ (resource : Resource). bytes_eq name resource.name) resources ≡ list_any (bytes_eq name) (names_of resources)
+    → list_any (λ (resource : Resource). bytes_eq name resource.name) resources
+    ≡ list_any (bytes_eq name) (names_of resources)
 any-name name [] = refl
 any-name name (r ∷ resources) = ap (λ rest. bytes_eq name r.name || rest) (any-name name resources)
 
@@ -41,7 +42,8 @@ module _ (kind : ResourceKind) (earlier : List (List ℕ)) (i : ℕ) (name : Lis
 
   -- the name stands already
   pub stands : (e : PlanError) → list_any (bytes_eq name) earlier ≡ true
-      → StopsAt (fault_at (dotted kind.key name) fault.Name) e → StopsAt (resource_faults kind earlier i (name, value)) e
+      → StopsAt (fault_at (dotted kind.key name) fault.Name) e
+      → StopsAt (resource_faults kind earlier i (name, value)) e
   stands e known stops =
       let many = unless (nat_lt (length earlier + i) 64) (dotted kind.key name) fault.Many in
       let first = fault_at (dotted kind.key name) fault.Name in
@@ -50,7 +52,8 @@ module _ (kind : ResourceKind) (earlier : List (List ℕ)) (i : ℕ) (name : Lis
 
   -- it is one too many
   pub too-many : (e : PlanError) → list_any (bytes_eq name) earlier ≡ false → 64 ≤ length earlier + i
-      → StopsAt (fault_at (dotted kind.key name) fault.Many) e → StopsAt (resource_faults kind earlier i (name, value)) e
+      → StopsAt (fault_at (dotted kind.key name) fault.Many) e
+      → StopsAt (resource_faults kind earlier i (name, value)) e
   too-many e new over stops =
       let passed : nat_lt (length earlier + i) 64 ≡ false = le-ltb (length earlier + i) 64 over in
       let first = fault_at (dotted kind.key name) fault.Many in

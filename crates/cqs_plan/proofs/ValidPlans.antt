@@ -1,31 +1,25 @@
 -- A plan without a fault keeps to what every plan keeps to.
-use Rattle.std.proofs.Common.{◌≡◌, ◌≢◌, ℕ, zero, suc, ◌+◌, ◌<◌, ◌≤◌, true, false, nat_le, nat_lt, List, [], ◌∷◌, length, get_or, take, map, Result, Ok, Err, IfOk, Option, Some, None, Less, Equal, nat_cmp, append-nil, refl, sym, ap, subst, ◌∙◌, inl, inr, arith}
+use Rattle.std.proofs.Common.{◌≡◌, ◌≢◌, ℕ, zero, suc, ◌<◌, ◌≤◌, false, nat_le, List, [], ◌∷◌, length, get_or, take, map, Result, Ok, Err, IfOk, Option, Some, None, refl, sym, subst, ◌∙◌, arith}
 use Rattle.std.specs.Prelude.{codes, All, AllPairs}
-use Rattle.std.specs.Cmp.{tied_itself}
-use Rattle.std.specs.Cmp.Lexicographic.{slice_cmp}
-use Rattle.std.specs.Int.{IsInRange}
 use Rattle.std.specs.Str.{bytes_eq}
-use Rattle.std.proofs.lemmas.Bool.{ltb-true, leb-true, or_parts, cases_lt, false≢true}
-use Rattle.std.proofs.lemmas.Cmp.{nat_list_cmp_total}
+use Rattle.std.proofs.lemmas.Bool.{leb-true, or_parts, false≢true}
 use Rattle.std.proofs.lemmas.List.{get_or-map, get_or-take, length-map, length-take-le}
 use Rattle.std.proofs.lemmas.Slice.Eq.{bytes_eq-Decides}
-use Rattle.toml.specs.Data.{Data, get_member, as_table, as_array, Members}
+use Rattle.toml.specs.Data.{Data, get_member, as_array, Members}
 use Rattle.cqs_plan.specs.declared.plans.error.PlanError.{PlanError}
 use Rattle.cqs_plan.specs.declared.plans.job.Job.{Job}
 use Rattle.cqs_plan.specs.declared.plans.plan.Plan.{Plan}
 use Rattle.cqs_plan.specs.declared.plans.resource.Resource.{Resource}
 use Rattle.cqs_plan.specs.declared.plans.fault_kind.FaultKind.TheVariants as fault
 use Rattle.cqs_plan.specs.Language.{resource_kinds}
-use Rattle.cqs_plan.specs.FaultRules.{Fault, each, has_only, optional, required, shaped, unless}
-use Rattle.cqs_plan.specs.Faults.{faults_in, is_named, jobs_faults, jobs_part_faults, listed_job_faults, number_faults, resource_faults, resource_number_faults, resources_faults, root_keys, root_number_faults}
-use Rattle.cqs_plan.specs.Places.{dotted}
-use Rattle.cqs_plan.specs.Meaning.{items_in, items_list, members_in, members_list, job_in, job_name, number_in, plan_in, resource_in, resources_in}
+use Rattle.cqs_plan.specs.FaultRules.{has_only, unless}
+use Rattle.cqs_plan.specs.Faults.{faults_in, is_named, jobs_faults, jobs_part_faults, listed_job_faults, resources_faults, root_keys, root_number_faults}
+use Rattle.cqs_plan.specs.Meaning.{items_in, items_list, job_in, job_name, plan_in, resources_in}
 use Rattle.cqs_plan.specs.PlanText.{IsPlanText}
 use Rattle.cqs_plan.specs.Sections.{AreFound}
 use Rattle.cqs_plan.specs.Validity.{IsJob, IsValid}
-use Rattle.cqs_plan.proofs.FirstFaults.{faults_from}
 use Rattle.cqs_plan.proofs.ValidNumbers.{no_faults, unless-passed, required_number-valid, shaped-right, each-faultless}
-use Rattle.cqs_plan.proofs.ValidJobs.{get-table, items_in-there, nothing, job-valid}
+use Rattle.cqs_plan.proofs.ValidJobs.{items_in-there, nothing, job-valid}
 
 -- the names of the jobs before the j-th differ from its own
 name_differs : (name : List ℕ) (jobs : List Data) (i : ℕ) (d : Data) → is_named jobs name ≡ false

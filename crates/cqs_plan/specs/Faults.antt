@@ -51,7 +51,8 @@ kind_faults kind earlier root = optional (get_member kind.key root) (λ value.
 
 -- the faults of the resources of these kinds, kind by kind
 abbrev pub kinds_faults : List ResourceKind → Members → List Fault
-kinds_faults kinds root = each kinds (λ i kind. kind_faults kind (names_in (take i kinds) root) root)
+kinds_faults kinds root =
+    each kinds (λ i kind. kind_faults kind (names_in (take i kinds) root) root)
 
 abbrev pub resources_faults : Members → List Fault
 resources_faults root = kinds_faults resource_kinds root

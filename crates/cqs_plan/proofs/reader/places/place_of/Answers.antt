@@ -1,4 +1,4 @@
-use Rattle.std.proofs.Common.{◌≡◌, ◌&&◌, ◌∙◌, sym, rules, tests, Bool}
+use Rattle.std.proofs.Common.{◌≡◌, ◌&&◌, ◌∙◌, rules, tests, Bool}
 use Rattle.std.specs.Str.{bytes_eq}
 use Rattle.std.specs.List.{position_from}
 use Rattle.std.proofs.lemmas.Iterator.{YieldsList-from_slice}

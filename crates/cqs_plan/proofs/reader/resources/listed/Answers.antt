@@ -1,4 +1,4 @@
-use Rattle.std.proofs.Common.{◌≡◌, [], map, sym, rules, vec_len, string_bytes, append-nil}
+use Rattle.std.proofs.Common.{◌≡◌, map, sym, rules, vec_len, string_bytes, append-nil}
 use Rattle.std.specs.Map.Iter.{deref_pair}
 use Rattle.std.proofs.lemmas.Map.Iter.{rest_all, rest_more}
 use Rattle.std.proofs.lemmas.Result.{err_from_is_err_and}

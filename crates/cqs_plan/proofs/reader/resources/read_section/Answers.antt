@@ -5,7 +5,7 @@ use Rattle.std.proofs.lemmas.Result.{err_from_is_err_and}
 use Rattle.toml.specs.View.{table_view}
 use Rattle.cqs_plan.specs.Faults.{kind_faults}
 use Rattle.cqs_plan.specs.Reading.{StopsAt}
-use Rattle.cqs_plan.specs.Sections.{AreRead, kind_of, kinds_up_to, names_of}
+use Rattle.cqs_plan.specs.Sections.{kind_of, names_of}
 use Rattle.cqs_plan.proofs.ReadSections.{joined, stops}
 use Rattle.cqs_plan.proofs.reader.resources.read_section.Goals as goal
 
@@ -24,7 +24,8 @@ returns-clause-ok c =
     let more = c.in_ok-more.more.items in
     let grown : OnOk c.extend.result (c.extend.new.self.items ≡ c.args.found.now.items ++ more) =
     fact_from_extend (λ x. x) c.extend.result c.extend.ensures.ran
-    (λ it b. YieldsList-from_vec {s = it} _ b.0 (b.1 ∙ c.in_ok-more.more.ok.0)) (λ xs e h. h.0 ∙ ap (λ items. c.args.found.now.items ++ items) (sym (map-id xs) ∙ e)) in
+    (λ it b. YieldsList-from_vec {s = it} _ b.0 (b.1 ∙ c.in_ok-more.more.ok.0))
+    (λ xs e h. h.0 ∙ ap (λ items. c.args.found.now.items ++ items) (sym (map-id xs) ∙ e)) in
     let now : c.extend.new.self.items ≡ c.args.found.now.items ++ more = search rules in
     let none : kind_faults (kind_of c.args.section) (names_of c.args.found.now.items) root ≡ [] = search rules in
     rw now

@@ -1,12 +1,10 @@
-use Rattle.std.proofs.Common.{◌≡◌, ◌+◌, ◌≤◌, ◌<◌, true, false, length, sym, ◌∙◌, rules, arith}
+use Rattle.std.proofs.Common.{◌≡◌, ◌+◌, ◌≤◌, ◌<◌, length, sym, ◌∙◌, rules, arith}
 use Rattle.std.specs.List.{list_any}
 use Rattle.std.specs.Str.{bytes_eq}
 use Rattle.std.proofs.lemmas.List.{length-map}
 use Rattle.std.proofs.lemmas.Result.{err_from_is_err_and}
 use Rattle.toml.specs.View.{table_view, view}
 use Rattle.cqs_plan.specs.declared.plans.resource.Resource.{Resource}
-use Rattle.cqs_plan.specs.Faults.{resource_number_faults}
-use Rattle.cqs_plan.specs.Reading.{StopsAt}
 use Rattle.cqs_plan.specs.Sections.{kind_of, names_of}
 use Rattle.cqs_plan.proofs.SectionFaults.{IsTable, any-name, stands, too-many, numbers}
 use Rattle.cqs_plan.proofs.reader.resources.resource.Goals as goal

@@ -1,9 +1,10 @@
 -- The calls of a pass that is alone: between two of them no element is on its way where somebody waits, so each is
 -- the plain pool's.
-use Rattle.std.proofs.Common.{◌≡◌, ◌≢◌, ◌⊎◌, inl, inr, ℕ, zero, suc, ◌+◌, ◌<◌, ◌≤◌, true, List, [], ◌∷◌, ◌++◌, length, Some, None, slice_get, take, sym, refl, ap, ◌∙◌, subst, append_assoc, arith, take_at, ⊎_elim, zero-add}
+use Rattle.std.proofs.Common.{◌≡◌, ◌≢◌, ◌⊎◌, inl, inr, ℕ, zero, suc, ◌+◌, ◌<◌, ◌≤◌, true, List, [], ◌∷◌, ◌++◌, length, Option, Some, None, slice_get, take, sym, refl, ap, ◌∙◌, subst, append_assoc, arith, take_at, ⊎_elim, zero-add}
 use Rattle.std.specs.List.{fold}
 use Rattle.std.proofs.lemmas.Bool.{cases_lt}
-use Rattle.std.proofs.lemmas.List.{length_push}
+use Rattle.std.proofs.lemmas.List.{length_push, append_cancel_right}
+use Rattle.std.proofs.lemmas.List.Elements.{filter-append}
 use Rattle.std.proofs.lemmas.List.Sums.{fold-append}
 use Rattle.std.proofs.lemmas.Option.{same_Some}
 use mathlib.Core.Logic.{dite}
@@ -12,29 +13,38 @@ use Rattle.cqs_core.specs.declared.cells.CoreCell.{CoreCell}
 use Rattle.cqs_core.specs.declared.cells.CoreState.TheVariants as state
 use Rattle.cqs_core.specs.declared.doings.Doing.{Doing}
 use Rattle.cqs_core.specs.declared.doings.Doing.TheVariants as doing
-use Rattle.cqs_core.specs.QueueLine.{Waiting, line, in_line, going}
+use Rattle.cqs_core.specs.Numbered.{count_at}
+use Rattle.cqs_core.specs.Parts.{part}
+use Rattle.cqs_core.specs.QueueLine.{Waiting, line, in_line, going, is_resuming}
 use Rattle.cqs_core.specs.QueueSound.{IsSound}
 use Rattle.cqs_core.specs.QueueState.{Queue}
 use Rattle.cqs_core.specs.QueueWaiters.{Waits}
 use Rattle.cqs_core.specs.Resting.{IsIdle}
 use Rattle.cqs_core.proofs.Places.{get-append_left, get-push_at, get-below}
-use Rattle.cqs_core.proofs.Quiet.{none-going, picked-none, cases_waiter, not-in_line, waits-ahead}
+use Rattle.cqs_core.proofs.Counts.{count_by-at}
+use Rattle.cqs_core.proofs.Quiet.{count_at-some, none-going, picked-none, cases_waiter, not-in_line, waits-ahead}
 use Rattle.cqs_core.proofs.Rising.{in-none, in-behind}
 use Rattle.cqs_pool_object.specs.declared.entries.PoolEntry.{PoolEntry}
 use Rattle.cqs_pool_object.specs.declared.entries.PoolEntry.TheVariants as entry
 use Rattle.cqs_pool_object.specs.PoolEntries.{object_after, after_entry, IsLegal, IsAllowed}
-use Rattle.cqs_pool_object.specs.PoolObject.{Pool, opening}
+use Rattle.cqs_pool_object.specs.PoolNames.{entry_names}
+use Rattle.cqs_pool_object.specs.PoolObject.{Pool, opening, IsGiven}
+use Rattle.cqs_pool_object.specs.PoolOrder.{IsByOne, IsFirstOnWay}
+use Rattle.cqs_pool_object.proofs.PoolOrder.{first-taken}
 use Rattle.cqs_rule.specs.declared.view.View.{View}
 use Rattle.cqs_rule.specs.declared.view.Opening.{Opening}
 use Rattle.cqs_rule.specs.Alone.{IsAlone, TellsAlone}
+use Rattle.cqs_rule.specs.Hidden.{state_at, state_in}
 use Rattle.cqs_pool.specs.declared.answers.Placed.{Placed}
 use Rattle.cqs_pool.specs.declared.answers.Placed.TheVariants.{Sent, Left, Under}
-use Rattle.cqs_pool.specs.Alone.{IsFirstOf, CanEnd, IsPlainPut, IsPlainEnd}
+use Rattle.cqs_pool.specs.Alone.{IsFirstOf, CanEnd, IsPlainPut, IsPlainEnd, IsOnlyCaller}
 use Rattle.cqs_pool.specs.Answers.{Ends}
 use Rattle.cqs_pool.specs.Calls.{CallRule, plain_after}
-use Rattle.cqs_pool.specs.Causes.{primitive_of}
+use Rattle.cqs_pool.specs.Causes.{primitive_of, CellHad}
 use Rattle.cqs_pool.specs.Entries.{placed_further}
+use Rattle.cqs_pool.specs.Pool.{ShowsPool, pool_shown}
 use Rattle.cqs_pool.specs.PoolSize.{elements_of}
+use Rattle.cqs_pool.proofs.Rules.{part-others}
 
 -- an entry of a legal history may come after those before it
 allowed-at : (size : ℕ) (h mid rest all : List PoolEntry) (e : PoolEntry) → all ≡ h ++ (mid ++ e ∷ rest)
@@ -97,6 +107,16 @@ one-sided q sound idle = go (cases_lt q.suspends q.resumes)
     go : (q.suspends < q.resumes) ⊎ (q.resumes ≤ q.suspends) → (going q ≡ 0) ⊎ (line q ≡ [])
     go (inl past) = inr (picked-none (in_line q.doing) 0 q.cells (gone past))
     go (inr within) = inl (none-going q sound idle within)
+
+-- the cell of a number that was found with a value
+value-cell : (q : Queue) (k : ℕ) → state_at q k ≡ state.Value
+    → (cell : CoreCell) × (slice_get q.cells k ≡ Some cell) × (cell.state ≡ state.Value)
+value-cell q k is = go (slice_get q.cells k) refl is
+  where
+    go : (found : Option CoreCell) → slice_get q.cells k ≡ found → state_in found ≡ state.Value
+        → (cell : CoreCell) × (slice_get q.cells k ≡ Some cell) × (cell.state ≡ state.Value)
+    go None there is = absurd (cc)
+    go (Some cell) there is = (cell, there, is)
 
 module _ {T : Type 0} where
   quiet-alone : (v : View PoolEntry T) → IsAlone primitive_of v → v.facts.doing ≡ doing.Idle
@@ -231,3 +251,101 @@ module _ {T : Type 0} where
       go (inl one) (inr none) = none
       go (inl one) (inl none) = absurd (omega arith)
   plain-end v w e (Under under) c alone can then elements waits ends = (alone-so v w _ _ c alone).object
+
+  -- a look
+  pub plain-granted : (v w : View PoolEntry T) (k e : ℕ) → CallRule v (entry.LookGranted v.number k e ∷ []) [] w
+      → v.alone ≡ true → IsGiven k v.number e (plain_after v).served
+  plain-granted v w k e c alone =
+      let a = alone-so v w _ _ c alone in
+      allowed-at v.opening.size v.seen [] [] w.seen (entry.LookGranted v.number k e) a.seen a.legal
+
+  pub plain-pending : (v w : View PoolEntry T) (k : ℕ) → CallRule v (entry.LookPending v.number k ∷ []) [] w
+      → v.alone ≡ true → Waits k v.number (plain_after v).line
+  plain-pending v w k c alone =
+      let a = alone-so v w _ _ c alone in
+      allowed-at v.opening.size v.seen [] [] w.seen (entry.LookPending v.number k) a.seen a.legal
+
+  -- a cancel
+  pub plain-late : (v w : View PoolEntry T) (k e : ℕ) (further : List PoolEntry)
+      → CallRule v (entry.Late v.number k e ∷ []) further w → v.alone ≡ true
+      → IsGiven k v.number e (plain_after v).served
+  plain-late v w k e further c alone =
+      let a = alone-so v w _ _ c alone in
+      allowed-at v.opening.size v.seen [] further w.seen (entry.Late v.number k e) a.seen a.legal
+
+  pub plain-leave : (v w : View PoolEntry T) (k : ℕ) → CallRule v (entry.Leave v.number k ∷ []) [] w → v.alone ≡ true
+      → Waits k v.number (plain_after v).line × (w.seen ≡ v.seen ++ entry.Leave v.number k ∷ [])
+  plain-leave v w k c alone =
+      let a = alone-so v w _ _ c alone in
+      (allowed-at v.opening.size v.seen [] [] w.seen (entry.Leave v.number k) a.seen a.legal, a.seen)
+
+  -- no element was left to a wait that is in the line
+  pub none-owing : (v u : View PoolEntry T) (k : ℕ) → CallRule v (entry.Leave v.number k ∷ []) [] u → v.alone ≡ true
+      → IsOneSided (plain_after v) → IsAlone primitive_of u → u.facts.doing ≡ doing.Owes → ⊥
+  none-owing v u k c alone sides a owes =
+      let q = a.hidden.queue in
+      let so = alone-so v u _ _ c alone in
+      let same : object_after (elements_of a.client) u.seen ≡ plain_after u =
+      ap (λ (o : Opening). object_after o.size u.seen) a.opening_is in
+      let many : length (plain_after u).way ≡ going q =
+      ap (λ (o : Pool). length o.way) (sym same) ∙ a.shown.is_pool.shows.many in
+      let ways : length (plain_after u).way ≡ length (plain_after v).way =
+      ap (λ (o : Pool). length o.way) so.object in
+      let busy : 0 < count_at (λ n. is_resuming) 0 q.doing =
+      count_at-some (λ n. is_resuming) 0 q.doing u.number u.number doing.Owes (omega arith)
+      (a.stands.doing ∙ ap Some owes) refl in
+      let counted = count_by-at is_resuming q.doing in
+      let waits = (plain-leave v u k c alone).0 in
+      go sides waits (omega arith)
+    where
+      go : IsOneSided (plain_after v) → Waits k v.number (plain_after v).line → 0 < length (plain_after v).way → ⊥
+      go (inl none) waits some = absurd (omega arith)
+      go (inr none) waits some = in-none _ (subst (λ l. Waits k v.number l) none waits)
+
+  -- A pass that is the only caller stays so with each call.
+  pub only-kept : (v w : View PoolEntry T) (own further : List PoolEntry) → CallRule v own further w → IsOnlyCaller v
+      → IsOnlyCaller w
+  only-kept v w own further c only = (
+    c.called.same.alone ∙ only.0,
+    λ n other. ap (part entry_names n) (alone-so v w own further c only.0).seen
+        ∙ (filter-append (entry_names n) v.seen (own ++ further)
+        ∙ (λ i. only.1 n (apart n other) i ++ nothing n (apart n other) i)),
+  )
+    where
+      apart : (n : ℕ) → n ≢ w.number → n ≢ v.number
+      apart n other same = other (same ∙ sym c.called.same.number)
+
+      nothing : (n : ℕ) → n ≢ v.number → part entry_names n (own ++ further) ≡ []
+      nothing n other =
+          filter-append (entry_names n) own further ∙ (λ i. c.only n other i ++ c.nobody n i)
+
+  -- it takes the first element
+  pub took-first : (v w : View PoolEntry T) (k e : ℕ)
+      → CallRule v (entry.Enter v.number k ∷ []) (entry.Deliver k e ∷ []) w → IsOnlyCaller v
+      → CellHad state.Value k e (entry.Deliver k e ∷ []) w → IsFirstOnWay e (plain_after v).way
+  took-first v w k e c only had =
+      let a = alone-so v w _ _ c only.0 in
+      let found = had.0.was in
+      let was = found.was in
+      let log : List PoolEntry = v.seen ++ entry.Enter v.number k ∷ [] in
+      let is : found.before ≡ log =
+      append_cancel_right found.before log (entry.Deliver k e ∷ [])
+      (sym found.seen ∙ (a.seen ∙ sym (append_assoc v.seen (entry.Enter v.number k ∷ []) (entry.Deliver k e ∷ []))))
+      in
+      let size : elements_of was.client ≡ v.opening.size =
+      ap (λ (o : Opening). o.size) (was.opening_is ∙ c.called.same.opening) in
+      let shows : ShowsPool v.opening.size was.hidden log =
+      subst (λ (z : ℕ × List PoolEntry). ShowsPool z.0 was.hidden z.1) (λ i. (size i, is i)) was.shown in
+      let object : object_after v.opening.size log ≡ after_entry (plain_after v) (entry.Enter v.number k) =
+      fold-append after_entry (opening v.opening.size) v.seen (entry.Enter v.number k ∷ []) in
+      let next : (plain_after v).next + 1 ≡ was.hidden.queue.suspends =
+      ap (λ (o : Pool). o.next) (sym object) ∙ shows.is_pool.shows.next in
+      let at : k ≡ (plain_after v).next = (plain-took v w k e c only.0).0 in
+      let place = value-cell was.hidden.queue k was.holds.0 in
+      let by : IsByOne v.number log =
+      λ n other. filter-append (entry_names n) v.seen (entry.Enter v.number k ∷ [])
+      ∙ (λ i. only.1 n other i ++ part-others v.number (entry.Enter v.number k ∷ []) (λ m. refl, tt) n other i) in
+      let first = first-taken (pool_shown v.opening.size was.hidden log) v.number k place.0 shows.is_pool
+      shows.in_order by place.1 place.2 (omega arith) in
+      let brings : was.hidden.payloads k ≡ e = was.holds.1 ∙ had.1 in
+      subst (λ (z : ℕ × List ℕ). IsFirstOnWay z.0 z.1) (λ i. (brings i, (object i).way)) first

@@ -191,6 +191,21 @@ module _ {T : Type 0} where
         ),
       )
 
+  -- the part of a cancel by which the waiter is out
+  pub gone-rule : (k : ℕ) (v w : View PoolEntry T) → Has v.number v.own → IsLegal w.opening.size w.seen
+      → unasked.CancelsUnasked pool_object primitive_of k v Gone w → CallRule v (entry.Leave v.number k ∷ []) [] w
+  gone-rule k v w own legal b =
+      call-rule_own v w (entry.Leave v.number k ∷ []) [] (out-gone k v w b).called (λ n. refl, tt) own legal
+
+  pub owing-rule : (k payload : ℕ) (v u : View PoolEntry T) → Has v.number v.own → IsLegal u.opening.size u.seen
+      → unasked.CancelsUnasked pool_object primitive_of k v (GoneOwing payload) u
+      → CallRule v (entry.Leave v.number k ∷ []) [] u × (u.facts.doing ≡ doing.Owes)
+  owing-rule k payload v u own legal b =
+      let out = out-owing k payload v u b.0 in (
+        call-rule_own v u (entry.Leave v.number k ∷ []) [] out.0.called (λ n. refl, tt) own legal,
+        out.0.doing_is,
+      )
+
   -- What a cancel answers that came too late, by the numbers of the element and of its wait.
   abbrev pub CameTooLate : ℕ → ℕ → ℕ → View PoolEntry T → View PoolEntry T → Type 0
   CameTooLate k e j v w =

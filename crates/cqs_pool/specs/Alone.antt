@@ -1,13 +1,21 @@
 -- A pass that is alone: each of its calls is the plain pool's call, as one thread makes it.
-use Rattle.std.specs.Prelude.{◌≡◌, ◌⊎◌, ℕ, List, [], ◌∷◌, length}
+use Rattle.std.specs.Prelude.{◌≡◌, ◌⊎◌, ℕ, true, List, [], ◌∷◌, ◌++◌, length, Some, None}
 use Rattle.cqs_core.specs.Numbered.{IsIn}
 use Rattle.cqs_core.specs.QueueLine.{Waiting}
+use Rattle.cqs_core.specs.QueueWaiters.{Waits}
 use Rattle.cqs_pool_object.specs.declared.entries.PoolEntry.{PoolEntry}
+use Rattle.cqs_pool_object.specs.declared.entries.PoolEntry.TheVariants as entry
 use Rattle.cqs_pool_object.specs.PoolObject as plain
+use Rattle.cqs_pool_object.specs.PoolObject.{IsGiven}
+use Rattle.cqs_pool_object.specs.PoolOrder.{IsByOne, IsFirstOnWay}
 use Rattle.cqs_rule.specs.declared.view.View.{View}
 use Rattle.cqs_rule.specs.Waits.{place_of}
 use Rattle.cqs_pool.specs.declared.answers.Placed.{Placed}
 use Rattle.cqs_pool.specs.declared.answers.Placed.TheVariants.{Sent, Left, Under}
+use Rattle.cqs_pool.specs.declared.answers.PoolLeft.{PoolLeft}
+use Rattle.cqs_pool.specs.declared.answers.PoolLeft.TheVariants.{Cancelled, TooLate}
+use Rattle.cqs_pool.specs.declared.answers.PoolPolled.{PoolPolled}
+use Rattle.cqs_pool.specs.declared.answers.PoolPolled.TheVariants.{Granted, Pending}
 use Rattle.cqs_pool.specs.declared.answers.Taking.{Taking}
 use Rattle.cqs_pool.specs.declared.answers.Taking.TheVariants.{Took, Later}
 use Rattle.cqs_pool.specs.Calls.{plain_after}
@@ -42,3 +50,28 @@ module _ {T : Type 0} where
   IsPlainEnd v (Sent k) w = IsFirstOf (plain_after v).line k
   IsPlainEnd v (Left k) w = (plain_after v).line ≡ []
   IsPlainEnd v (Under under) w = plain_after w ≡ plain_after v
+
+  -- A look at the wait k finds it in the line; or served, and the element is the one with which it
+  -- was.
+  abbrev pub IsPlainPoll : ℕ → View PoolEntry T → PoolPolled → Type 0
+  IsPlainPoll k v (Granted element) =
+      IsGiven k v.number (number_of element) (plain_after v).served
+  IsPlainPoll k v (Pending wait) = Waits k v.number (plain_after v).line
+
+  -- A cancel finds it in the line, which it leaves, and no element is on its way to it; or served.
+  abbrev pub IsPlainCancel : ℕ → View PoolEntry T → PoolLeft → View PoolEntry T → Type 0
+  IsPlainCancel k v (Cancelled None) w =
+      Waits k v.number (plain_after v).line × (w.seen ≡ v.seen ++ entry.Leave v.number k ∷ [])
+  IsPlainCancel k v (Cancelled (Some under)) w = ⊥
+  IsPlainCancel k v (TooLate element) w =
+      IsGiven k v.number (number_of element) (plain_after v).served
+
+  -- it is alone, and nobody else has made a call
+  abbrev pub IsOnlyCaller : View PoolEntry T → Type 0
+  IsOnlyCaller v = (v.alone ≡ true) × IsByOne v.number v.seen
+
+  -- Which of the free elements it takes then: the first of those on their way. At the start they
+  -- are in order of their numbers, and each that is put goes last.
+  abbrev pub TakesFirst : View PoolEntry T → Taking → Type 0
+  TakesFirst v (Took element) = IsFirstOnWay (number_of element) (plain_after v).way
+  TakesFirst v (Later wait) = Unit {0}

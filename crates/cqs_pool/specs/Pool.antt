@@ -6,6 +6,7 @@ use Rattle.cqs_core.specs.declared.cells.CoreState.TheVariants as state
 use Rattle.cqs_core.specs.Numbered.{EachAt}
 use Rattle.cqs_pool_object.specs.declared.entries.PoolEntry.{PoolEntry}
 use Rattle.cqs_pool_object.specs.PoolEntries.{IsLegal}
+use Rattle.cqs_pool_object.specs.PoolOrder.{IsInOrder}
 use Rattle.cqs_pool_object.specs.PoolNames.{entry_names}
 use Rattle.cqs_pool_object.specs.PoolShown.{PoolShape, IsPool}
 use Rattle.cqs_pool_object.specs.PoolSteps.{step_entries}
@@ -33,10 +34,11 @@ pool_shown size c log = record {
   queue = c.queue;
 }
 
--- it shows a pool; its passes count nothing beside the elements that they have in hand; and no cell
--- was ever refused
+-- it shows a pool; as long as one pass alone has made calls, its elements are in order; its passes
+-- count nothing beside the elements that they have in hand; and no cell was ever refused
 pub record ShowsPool (size : ℕ) (c : Hidden) (log : List PoolEntry) : Type 0 where
   pub is_pool : IsPool (pool_shown size c log)
+  pub in_order : IsInOrder (pool_shown size c log)
   pub uncounted : EachAt (λ p (h : Has). h.held ≡ 0) c.has
   pub unrefused : EachAt (λ k (cell : CoreCell). cell.state ≢ state.Refused) c.queue.cells
 

@@ -26,11 +26,13 @@ use Rattle.cqs_pool_object.specs.PoolEntries.{less, object_after}
 use Rattle.cqs_pool_object.specs.PoolLaws.{opened, handed_over}
 use Rattle.cqs_pool_object.specs.PoolNames.{entry_names}
 use Rattle.cqs_pool_object.specs.PoolObject.{times}
+use Rattle.cqs_pool_object.specs.PoolOrder.{IsInOrder}
 use Rattle.cqs_pool_object.specs.PoolShown.{PoolShape, IsPool, held_times}
 use Rattle.cqs_pool_object.specs.PoolSteps.{IsPoolStep, IsPaid, IsPayload, step_entries, hold_of, loads_after, holds_after, loads_paid, loads_gained, holds_paid, holds_gained, stepped}
 use Rattle.cqs_pool_object.proofs.PoolConserved.{conserved-after}
 use Rattle.cqs_pool_object.proofs.PoolCounts.{times-cons}
 use Rattle.cqs_pool_object.proofs.PoolOpens.{opened-pool, handed-pool, numbers-left}
+use Rattle.cqs_pool_object.proofs.PoolOrder.{step-in_order, opened-in_order}
 use Rattle.cqs_pool_object.proofs.PoolSteps.{step-pool}
 use Rattle.cqs_rule.specs.declared.view.Has.{Has}
 use Rattle.cqs_rule.specs.Client as client
@@ -399,6 +401,10 @@ steps-pool size c t p k found has payload log shows opens there paid suits =
           ))
           (step-pool s t p k found payload shows.is_pool (suiting t suits) opens
           (paid-so (row_of t) size c log p k payload has there paid));
+      in_order = subst (λ (l : List ℕ). IsInOrder (record after { loads = l }))
+          (loads-after (row_of t) c.has p payload has there)
+          (step-in_order s t p k found payload shows.is_pool shows.in_order (suiting t suits) opens
+          (paid-so (row_of t) size c log p k payload has there paid));
       uncounted = uncounted-after (row_of t) c.has p payload has there shows.uncounted;
       unrefused =
           unrefused-row (row_of t) c.queue p k found (none-made t suits) opens shows.unrefused;
@@ -424,6 +430,8 @@ value-not e = absurd (cc)
 begins-pool : (size passes : ℕ) → 0 < passes → ShowsPool size (first_hidden passes size 0) []
 begins-pool size passes any =
     let all = first-all passes any in
+    let own : (k : ℕ) → k < size → first_payload size k ≡ k =
+    λ k low. ap (λ b. if b then k else 0) (lt-ltb k size low) in
     record {
       is_pool = subst (λ (z : List ℕ × List (List ℕ)). IsPool (record
           (opened size passes (first_payload size)) { loads = z.0; holds = z.1 }))
@@ -431,8 +439,11 @@ begins-pool size passes any =
             (sym (first-loads passes) ∙ ap loads_of (sym all)) i,
             (sym (first-holds passes) ∙ ap holds_of (sym all)) i,
           ))
-          (opened-pool size passes (first_payload size)
-          (λ k low. ap (λ b. if b then k else 0) (lt-ltb k size low)));
+          (opened-pool size passes (first_payload size) own);
+      in_order = subst (λ (l : List ℕ). IsInOrder (record
+          (opened size passes (first_payload size)) { loads = l }))
+          (sym (first-loads passes) ∙ ap loads_of (sym all))
+          (opened-in_order size passes (first_payload size) own);
       uncounted = subst Uncounted (sym all)
           (record {
             at = λ p h got.
@@ -472,6 +483,7 @@ hands-pool size c from to mine theirs log shows apart idle idle' has there =
       is_pool = subst (λ (z : List ℕ × List (List ℕ)).
           IsPool (record s { loads = z.0; holds = z.1 }))
           (λ i. (loads i, holds i)) (handed-pool s from to shows.is_pool apart idle idle');
+      in_order = subst (λ (l : List ℕ). IsInOrder (record s { loads = l })) loads shows.in_order;
       uncounted = uncounted-set rest to theirs got stays counts
           (uncounted-set c.has from mine gave has refl none);
       unrefused = shows.unrefused;
@@ -500,6 +512,7 @@ shares-pool size c from to many mine theirs log shows apart has there enough =
       is_pool = subst (λ (z : List ℕ × List (List ℕ)).
           IsPool (record s { loads = z.0; holds = z.1 }))
           (λ i. (loads i, holds i)) shows.is_pool;
+      in_order = subst (λ (l : List ℕ). IsInOrder (record s { loads = l })) loads shows.in_order;
       uncounted = uncounted-set rest to theirs got stays gets
           (uncounted-set c.has from mine gave has gives none);
       unrefused = shows.unrefused;
@@ -518,8 +531,12 @@ pool-client size = record {
   begins = λ passes any few. begins-pool size passes any;
   steps = λ c t p k found has payload words log handed shows opens there paid suits low low'.
       steps-pool size c t p k found has payload log shows opens there paid suits;
-  counts = λ c p may words log handed shows. record
-      { is_pool = shows.is_pool; uncounted = shows.uncounted; unrefused = shows.unrefused };
+  counts = λ c p may words log handed shows. record {
+    is_pool = shows.is_pool;
+    in_order = shows.in_order;
+    uncounted = shows.uncounted;
+    unrefused = shows.unrefused;
+  };
   hands = λ c from to mine theirs words log handed shows apart idle idle' has there.
       hands-pool size c from to mine theirs log shows apart idle idle' has there;
   shares = λ c from to many mine theirs words log handed shows apart idle idle' has there enough.

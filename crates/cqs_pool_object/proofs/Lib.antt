@@ -3,3 +3,4 @@ pub mod PoolLaw
 pub mod PoolSteps
 pub mod PoolConserved
 pub mod PoolOpens
+pub mod PoolOrder

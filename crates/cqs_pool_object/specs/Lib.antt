@@ -4,3 +4,4 @@ pub mod PoolNames
 pub mod PoolShown
 pub mod PoolSteps
 pub mod PoolLaws
+pub mod PoolOrder

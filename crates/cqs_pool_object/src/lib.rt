@@ -7,5 +7,5 @@ mod laws;
 pub use entries::PoolEntry;
 pub use laws::{
     elements_are_conserved, hand_overs_keep_the_pool, numbers_are_left, pools_open,
-    steps_keep_the_pool,
+    pools_open_in_order, steps_keep_the_order, steps_keep_the_pool, takers_have_the_first,
 };

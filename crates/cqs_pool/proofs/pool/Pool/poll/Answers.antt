@@ -7,6 +7,7 @@ use Rattle.cqs_pool.specs.declared.answers.PoolPolled.TheVariants.{Pending}
 use Rattle.cqs_pool.specs.Answers.{IsPolled}
 use Rattle.cqs_pool.specs.Calls.{CallRule}
 use Rattle.cqs_pool.specs.Pool.{pool_object}
+use Rattle.cqs_pool.proofs.AloneSteps.{plain-granted, plain-pending}
 use Rattle.cqs_pool.proofs.PollSteps.{pending, pending-called, pending-cell, pending-rests, granted, granted-called, granted-cell, granted-rests}
 use Rattle.cqs_pool.proofs.Rules.{call-rule_own}
 use Rattle.cqs_pool.proofs.pool.Pool.poll.Goals as goal
@@ -72,3 +73,12 @@ returns-in-Waiter-clause-polled g c =
       pending-cell k _ _ found,
       pending-rests k _ _ c.requires.ready found,
     )
+
+pub returns-in-Resumed-clause-alone : goal.returns-in-Resumed-clause-alone
+returns-in-Resumed-clause-alone g c = λ alone.
+    plain-granted _ _ (place_of c.args.wait).index c.look-cell.result.payload
+    (returns-in-Resumed-clause-called g c) alone
+
+pub returns-in-Waiter-clause-alone : goal.returns-in-Waiter-clause-alone
+returns-in-Waiter-clause-alone g c = λ alone.
+    plain-pending _ _ (place_of c.args.wait).index (returns-in-Waiter-clause-called g c) alone

@@ -1,0 +1,647 @@
+-- While one caller alone has made calls, the elements on their way stand in order, and a taker has the first.
+use Rattle.std.proofs.Common.{◌≡◌, ◌≢◌, ◌⊎◌, inl, inr, ℕ, zero, suc, ◌+◌, ◌<◌, ◌≤◌, ◌==◌, Bool, true, false, List, [], ◌∷◌, ◌++◌, Option, Some, None, length, set, slice_get, replicate, refl, ap, ap₂, sym, ◌∙◌, subst, arith, eq-eqb, append-nil, ne_eqb, if◌then◌else◌}
+use Rattle.std.specs.Prelude.{slice_index}
+use Rattle.std.specs.List.{fold}
+use Rattle.std.specs.Option.{option_and_then}
+use Rattle.std.proofs.lemmas.Bool.{cases_eq, cases_lt}
+use Rattle.std.proofs.lemmas.List.{get_or-set_same}
+use Rattle.std.proofs.lemmas.Option.{same_Some}
+use Rattle.std.proofs.lemmas.List.Elements.{filter-append}
+use Rattle.std.proofs.lemmas.List.Sums.{fold-append}
+use Rattle.cqs_core.specs.declared.cells.CoreCell.{CoreCell}
+use Rattle.cqs_core.specs.declared.cells.CoreState.{CoreState}
+use Rattle.cqs_core.specs.declared.cells.CoreState.TheVariants as state
+use Rattle.cqs_core.specs.declared.doings.Doing.{Doing}
+use Rattle.cqs_core.specs.declared.doings.Doing.TheVariants as doing
+use Rattle.cqs_core.specs.Numbered.{picked, cons_option, EachAt}
+use Rattle.cqs_core.specs.Parts.{part}
+use Rattle.cqs_core.specs.QueueLine.{has_left, is_left, is_resuming}
+use Rattle.cqs_core.specs.QueueMoves as move
+use Rattle.cqs_core.specs.QueueMoves.{Works, moved}
+use Rattle.cqs_core.specs.QueueOpening.{value_cell}
+use Rattle.cqs_core.specs.QueueSound.{IsSound, IsSoundAt, IsUninstalled, IsLeft, IsOwn, IsUntaken}
+use Rattle.cqs_core.specs.QueueStages.{doing_at}
+use Rattle.cqs_core.specs.QueueState.{Queue, owner_doing, fresh_cell}
+use Rattle.cqs_core.specs.QueueSteps.{pends, grants, late, QueueStep, draws, enters, reaches, begins, puts, installs, takes, serves, leaves, delegates, passes_over, ends_refused, ends_missed, starts_leaving, leaves_line, leaves_at_once, settles, settles_owing, refuses, refuses_value, looks, row_of, StepRow, CellRow, at_cell, at_counter, wait_stays, nothing, IsOpenStep, cell_after, row_after, queue_after, payloads_after}
+use Rattle.cqs_core.proofs.Counts.{bit}
+use Rattle.cqs_core.proofs.EachAtLemmas.{EachAt-write, EachAt-push}
+use Rattle.cqs_core.proofs.Picked.{AgreeBut, picked-behind, picked-push}
+use Rattle.cqs_core.proofs.Places.{get-below, get-set_here}
+use Rattle.cqs_core.proofs.QueueOpens.{get-replicate}
+use Rattle.cqs_core.proofs.Quiet.{picked-none}
+use Rattle.cqs_pool_object.specs.declared.entries.PoolEntry.{PoolEntry}
+use Rattle.cqs_pool_object.specs.declared.entries.PoolEntry.TheVariants as entry
+use Rattle.cqs_pool_object.specs.PoolObject.{Pool, opening, numbers_from, times}
+use Rattle.cqs_pool_object.specs.PoolEntries.{after_entry, object_after, less}
+use Rattle.cqs_pool_object.specs.PoolNames.{entry_names}
+use Rattle.cqs_pool_object.specs.PoolShown.{PoolShape, IsPool}
+use Rattle.cqs_pool_object.specs.PoolSteps.{IsPoolStep, IsPayload, step_entries, loads_gained, loads_after, left_after, stepped}
+use Rattle.cqs_pool_object.specs.PoolLaws.{opened}
+use Rattle.cqs_pool_object.specs.PoolOrder.{IsFirstOnWay, IsByOne, element_in, left_in, elements_left, brought, InOrder, IsInOrder}
+use Rattle.cqs_pool_object.proofs.PoolConserved.{conserved-after}
+use Rattle.cqs_pool_object.proofs.PoolCounts.{put_at, payloads-set, put-here, times-cons, times-push}
+use Rattle.cqs_pool_object.proofs.PoolLaw.{pool-none_refused}
+
+-- what is read off a list whose one element is written
+module _ {X Y : Type 0} where
+  -- the same is read
+  picked-kept : (f g : ℕ → X → Option Y) (n : ℕ) → AgreeBut f g n → (k : ℕ) (xs : List X) (i : ℕ) (old new : X)
+      → n ≡ k + i → slice_get xs i ≡ Some old → f n old ≡ g n new → picked g k (set xs i new) ≡ picked f k xs
+  picked-kept f g n agree k [] i old new at there same = absurd (cc)
+  picked-kept f g n agree k (x ∷ xs) zero old new at there same =
+      let here : k ≡ n = omega arith in
+      let first : x ≡ old = cc in
+      let now : g k new ≡ f k x = rw (here, first) (sym same) in
+      ap₂ cons_option now (sym (picked-behind f g n agree (suc k) xs (omega arith)))
+  picked-kept f g n agree k (x ∷ xs) (suc i) old new at there same =
+      ap₂ cons_option (sym (agree.at k x (λ e. omega arith)))
+      (picked-kept f g n agree (suc k) xs i old new (omega arith) there same)
+
+  -- the first of it goes
+  picked-went : (f : ℕ → X → Option Y) (k : ℕ) (xs : List X) (i n : ℕ) (old new : X) (y : Y)
+      → n ≡ k + i → slice_get xs i ≡ Some old → f n old ≡ Some y → f n new ≡ None
+      → ((j m : ℕ) (x : X) → m ≡ k + j → j < i → slice_get xs j ≡ Some x → f m x ≡ None)
+      → picked f k xs ≡ y ∷ picked f k (set xs i new)
+  picked-went f k [] i n old new y at there some none before = absurd (cc)
+  picked-went f k (x ∷ xs) zero n old new y at there some none before =
+      let here : k ≡ n = omega arith in
+      let first : x ≡ old = cc in
+      let was : f k x ≡ Some y = rw (here, first) some in
+      let now : f k new ≡ None = rw here none in
+      rw (was, now) refl
+  picked-went f k (x ∷ xs) (suc i) n old new y at there some none before =
+      let nothing : f k x ≡ None = before 0 k x (omega arith) (omega arith) refl in
+      rw nothing (picked-went f (suc k) xs i n old new y (omega arith) there some none
+      (λ j m z is low got. before (suc j) m z (omega arith) (omega arith) got))
+
+  -- one more comes last
+  picked-came : (f g : ℕ → X → Option Y) (n : ℕ) → AgreeBut f g n → (k : ℕ) (xs : List X) (i : ℕ) (old new : X) (y : Y)
+      → n ≡ k + i → slice_get xs i ≡ Some old → f n old ≡ None → g n new ≡ Some y
+      → ((j m : ℕ) (x : X) → m ≡ k + j → i < j → slice_get xs j ≡ Some x → f m x ≡ None)
+      → picked g k (set xs i new) ≡ picked f k xs ++ y ∷ []
+  picked-came f g n agree k [] i old new y at there none some behind = absurd (cc)
+  picked-came f g n agree k (x ∷ xs) zero old new y at there none some behind =
+      let here : k ≡ n = omega arith in
+      let first : x ≡ old = cc in
+      let was : f k x ≡ None = rw (here, first) none in
+      let now : g k new ≡ Some y = rw here some in
+      let nothing : picked f (suc k) xs ≡ [] =
+      picked-none f (suc k) xs (λ j m z is got. behind (suc j) m z (omega arith) (omega arith) got) in
+      rw (was, now, sym (picked-behind f g n agree (suc k) xs (omega arith)), nothing) refl
+  picked-came f g n agree k (x ∷ xs) (suc i) old new y at there none some behind =
+      let rest = picked-came f g n agree (suc k) xs i old new y (omega arith) there none some
+      (λ j m z is low got. behind (suc j) m z (omega arith) (omega arith) got) in
+      let same : f k x ≡ g k x = agree.at k x (λ e. omega arith) in
+      ap₂ cons_option (sym same) rest ∙ behind-cons (f k x) (picked f (suc k) xs) y
+    where
+      behind-cons : (o : Option Y) (ys : List Y) (y : Y) → cons_option o (ys ++ y ∷ []) ≡ cons_option o ys ++ y ∷ []
+      behind-cons None ys y = refl
+      behind-cons (Some z) ys y = refl
+
+-- the row of a step at a cell
+abbrev row_in : StepRow → CellRow
+row_in (at_cell row) = row
+row_in (at_counter row) = record {
+  works_at = row.works_at;
+  goes_to = row.works_at;
+  finds = state.Empty;
+  makes = None;
+  brings = false;
+  wait = wait_stays;
+  gain = nothing;
+}
+
+abbrev row_at : QueueStep → CellRow
+row_at step = row_in (row_of step)
+
+-- the same payloads, or all but one
+agree-same : (payloads : ℕ → ℕ) (n : ℕ) → AgreeBut (element_in payloads) (element_in payloads) n
+agree-same payloads n = record { at = λ m x other. refl }
+
+agree-brought : (payloads : ℕ → ℕ) (n e : ℕ) → AgreeBut (element_in payloads) (element_in (put_at payloads n e)) n
+agree-brought payloads n e = record {
+  at = λ m x other. ap (left_in (has_left x)) (sym ((payloads-set n e payloads).others m other));
+}
+
+-- who made the calls
+append-none : {A : Type 0} (xs ys : List A) → xs ++ ys ≡ [] → (xs ≡ []) × (ys ≡ [])
+append-none [] ys none = (refl, none)
+append-none (x ∷ xs) ys none = absurd (cc)
+
+by-both : (one : ℕ) (h es : List PoolEntry) → IsByOne one (h ++ es) → IsByOne one h × IsByOne one es
+by-both one h es by = (λ n other. (both n other).0, λ n other. (both n other).1)
+  where
+    both : (n : ℕ) → n ≢ one → (part entry_names n h ≡ []) × (part entry_names n es ≡ [])
+    both n other =
+        append-none (part entry_names n h) (part entry_names n es)
+        (sym (filter-append (entry_names n) h es) ∙ by n other)
+
+named-one : (p one : ℕ) (e : PoolEntry) → entry_names p e ≡ true → IsByOne one (e ∷ []) → p ≡ one
+named-one p one e names by = go (cases_eq p one)
+  where
+    go : (p ≡ one) ⊎ (p ≢ one) → p ≡ one
+    go (inl same) = same
+    go (inr other) =
+        let none : part entry_names p (e ∷ []) ≡ [] = by p other in
+        let some : part entry_names p (e ∷ []) ≡ e ∷ [] = rw names refl in
+        absurd (cc)
+
+abbrev OthersRest : ℕ → List Doing → Type 0
+OthersRest one passes = EachAt (λ n d. n ≢ one → d ≡ doing.Idle) passes
+
+busy-one : (passes : List Doing) (p one : ℕ) (d : Doing) → OthersRest one passes → slice_get passes p ≡ Some d
+    → (d ≡ doing.Idle → ⊥) → p ≡ one
+busy-one passes p one d others does busy = go (cases_eq p one)
+  where
+    go : (p ≡ one) ⊎ (p ≢ one) → p ≡ one
+    go (inl same) = same
+    go (inr other) = absurd (busy (others.at p d does other))
+
+others-set : (passes : List Doing) (p : ℕ) (d to : Doing) → slice_get passes p ≡ Some d → OthersRest p passes
+    → OthersRest p (set passes p to)
+others-set passes p d to does others =
+    EachAt-write (λ n x. n ≢ p → x ≡ doing.Idle) (λ n x. n ≢ p → x ≡ doing.Idle) passes p d to does
+    (λ other. absurd (other refl)) (λ n x got other is. is) others
+
+abbrev Undelegated : List CoreCell → Type 0
+Undelegated cells = EachAt (λ k (cell : CoreCell). cell.state ≢ state.Delegated) cells
+
+undelegated-set : (cells : List CoreCell) (k : ℕ) (found new : CoreCell) → slice_get cells k ≡ Some found
+    → new.state ≢ state.Delegated → Undelegated cells → Undelegated (set cells k new)
+undelegated-set cells k found new there not all =
+    EachAt-write (λ j (c : CoreCell). c.state ≢ state.Delegated) (λ j (c : CoreCell). c.state ≢ state.Delegated) cells
+    k found new there not (λ j x got other is. is) all
+
+undelegated-push : (cells : List CoreCell) (new : CoreCell) → new.state ≢ state.Delegated → Undelegated cells
+    → Undelegated (cells ++ new ∷ [])
+undelegated-push cells new not all =
+    EachAt-push (λ j (c : CoreCell). c.state ≢ state.Delegated) (λ j (c : CoreCell). c.state ≢ state.Delegated) cells
+    new not (λ j x got is. is) all
+
+-- an owner of an uninstalled cell is about to install there
+owner-draws : (q : Queue) (k : ℕ) (cell : CoreCell) (pass : ℕ) (d : Doing) → cell.owner ≡ Some pass
+    → owner_doing q.doing cell ≡ Some d → slice_get q.doing pass ≡ Some d
+owner-draws q k cell pass d owner does =
+    sym (ap (λ o. option_and_then (λ p. slice_get q.doing p) o) owner) ∙ does
+
+module _ (q : Queue) (sound : IsSound q) (p : ℕ) (others : OthersRest p q.doing) where
+  -- a value in a cell that a suspend has drawn is the one that the pass is about to take
+  value-drawn : (j : ℕ) (cell : CoreCell) → IsUninstalled q j cell → j < q.suspends
+      → slice_get q.doing p ≡ Some (doing.Drawn j)
+  value-drawn j cell (inl (entered, drawn)) low =
+      let does = owner-draws q j cell entered.pass (doing.Drawn j) entered.owner drawn in
+      let is : entered.pass ≡ p = busy-one q.doing entered.pass p (doing.Drawn j) others does (λ e. absurd (cc)) in
+      ap (slice_get q.doing) (sym is) ∙ does
+  value-drawn j cell (inr (past, none)) low = absurd (omega arith)
+
+  none-left : (k j : ℕ) (cell : CoreCell) (s : CoreState) → slice_get q.doing p ≡ Some (doing.Drawn k) → j ≢ k
+      → j < q.suspends → IsSoundAt q j cell s → s ≢ state.Delegated → is_left s ≡ false
+  none-left k j cell state.Value does other low is not =
+      let drawn : slice_get q.doing p ≡ Some (doing.Drawn j) = value-drawn j cell is.0 low in
+      let same : doing.Drawn j ≡ doing.Drawn k = same_Some (doing.Drawn j) (doing.Drawn k) (sym drawn ∙ does) in
+      absurd (other (drawn-number same))
+    where
+      drawn-number : {m n : ℕ} → doing.Drawn m ≡ doing.Drawn n → m ≡ n
+      drawn-number e = cc
+  none-left k j cell state.Delegated does other low is not = absurd (not refl)
+  none-left k j cell state.Empty does other low is not = refl
+  none-left k j cell state.Waiter does other low is not = refl
+  none-left k j cell state.Taken does other low is not = refl
+  none-left k j cell state.Broken does other low is not = refl
+  none-left k j cell state.Resumed does other low is not = refl
+  none-left k j cell state.Cancelling does other low is not = refl
+  none-left k j cell state.Cancelled does other low is not = refl
+  none-left k j cell state.Refused does other low is not = refl
+
+  -- nor is anything left in a cell that no resume has reached
+  none-past : (j : ℕ) (cell : CoreCell) (s : CoreState) → q.resumes ≤ j → IsSoundAt q j cell s
+      → s ≢ state.Delegated → is_left s ≡ false
+  none-past j cell state.Value past is not = absurd (omega (arith, is.1))
+  none-past j cell state.Delegated past is not = absurd (not refl)
+  none-past j cell state.Empty past is not = refl
+  none-past j cell state.Waiter past is not = refl
+  none-past j cell state.Taken past is not = refl
+  none-past j cell state.Broken past is not = refl
+  none-past j cell state.Resumed past is not = refl
+  none-past j cell state.Cancelling past is not = refl
+  none-past j cell state.Cancelled past is not = refl
+  none-past j cell state.Refused past is not = refl
+
+  -- a resumption of the one caller finds no cell of a canceller
+  none-cancelling : (k j : ℕ) (cell : CoreCell) → slice_get q.doing p ≡ Some (doing.Ticket k) → IsLeft q j cell → ⊥
+  none-cancelling k j cell does left = go left.stage
+    where
+      own : (d : Doing) → owner_doing q.doing cell ≡ Some d → (d ≡ doing.Idle → ⊥) → doing.Ticket k ≡ d
+      own d is busy =
+          let there = owner-draws q j cell left.entered.pass d left.entered.owner is in
+          let same : left.entered.pass ≡ p = busy-one q.doing left.entered.pass p d others there busy in
+          same_Some (doing.Ticket k) d (sym does ∙ ap (slice_get q.doing) (sym same) ∙ there)
+
+      go : (owner_doing q.doing cell ≡ Some (doing.Leaving j))
+          ⊎ ((on : Bool) × (owner_doing q.doing cell ≡ Some (doing.Decided j on))) → ⊥
+      go (inl leaving) = let is = own (doing.Leaving j) leaving (λ e. absurd (cc)) in absurd (cc)
+      go (inr (on, decided)) = let is = own (doing.Decided j on) decided (λ e. absurd (cc)) in absurd (cc)
+
+-- what is left where the state of the cell is one at which nothing is
+left-none : (payloads : ℕ → ℕ) (k : ℕ) (cell : CoreCell) → has_left cell ≡ false → element_in payloads k cell ≡ None
+left-none payloads k cell none = ap (λ b. left_in b (payloads k)) none
+
+left-some : (payloads : ℕ → ℕ) (k : ℕ) (cell : CoreCell) → has_left cell ≡ true
+    → element_in payloads k cell ≡ Some (payloads k)
+left-some payloads k cell some = ap (λ b. left_in b (payloads k)) some
+
+-- the first on the way goes where it stands first
+less-first : (e : ℕ) (xs : List ℕ) → less e (e ∷ xs) ≡ xs
+less-first e xs = rw (eq-eqb e e refl) refl
+
+-- and where it stands last alone
+less-last : (e : ℕ) (xs : List ℕ) → times e xs ≡ 0 → less e (xs ++ e ∷ []) ≡ xs
+less-last e [] none = less-first e []
+less-last e (x ∷ xs) none = go (cases_eq e x) (λ rest. less-last e xs rest) (times-cons e x xs)
+  where
+    go : (e ≡ x) ⊎ (e ≢ x) → (times e xs ≡ 0 → less e (xs ++ e ∷ []) ≡ xs)
+        → times e (x ∷ xs) ≡ bit (x == e) + times e xs → less e (x ∷ (xs ++ e ∷ [])) ≡ x ∷ xs
+    go (inl same) rests first =
+        let one : bit (x == e) ≡ 1 = ap bit (eq-eqb x e (sym same)) in absurd (omega arith)
+    go (inr other) rests first = rw (ne_eqb e x other) (ap (λ ys. x ∷ ys) (rests (omega arith)))
+
+module _ (s : PoolShape) (p k e : ℕ) (is : IsPool s) (was : IsInOrder s) where
+  abbrev o : Pool
+  o = object_after s.size s.history
+
+  abbrev InOrderNow : List ℕ → ℕ → Type 0
+  InOrderNow on_way one = InOrder s.queue s.loads s.payloads on_way one
+
+  -- a step of the one caller
+  order-of : (step : QueueStep) (found : Option CoreCell)
+      → ((one : ℕ) → IsByOne one (step_entries step p k e) → OthersRest one s.queue.doing → p ≡ one)
+      → (InOrderNow o.way p
+      → InOrder (queue_after step s.queue p k found) (loads_after (row_of step) s.loads p e)
+      (left_after (row_of step) s.payloads k e) (fold after_entry o (step_entries step p k e)).way p)
+      → IsInOrder (stepped s step p k found e)
+  order-of step found the_one now one by =
+      let split = by-both one s.history (step_entries step p k e) by in
+      let before : InOrderNow o.way one = was one split.0 in
+      let same : p ≡ one = the_one one split.1 before.others in
+      let after = now (subst (λ n. InOrderNow o.way n) (sym same) before) in
+      let ways : (object_after s.size (s.history ++ step_entries step p k e)).way
+          ≡ (fold after_entry o (step_entries step p k e)).way =
+      ap (λ (x : Pool). x.way) (fold-append after_entry (opening s.size) s.history (step_entries step p k e)) in
+      subst (λ (z : List ℕ × ℕ).
+      InOrder (queue_after step s.queue p k found) (loads_after (row_of step) s.loads p e)
+      (left_after (row_of step) s.payloads k e) z.0 z.1) (λ i. (sym ways i, same i)) after
+
+  -- what the pass brings, where this is known of what it does
+  way-at : (d : Doing) → slice_get s.queue.doing p ≡ Some d → InOrderNow o.way p
+      → o.way ≡ elements_left s.queue s.payloads ++ brought (Some d) (slice_index s.loads p)
+  way-at d does before =
+      before.way ∙ ap (λ x. elements_left s.queue s.payloads ++ brought x (slice_index s.loads p)) does
+
+  -- a step at a cell
+  cell-order : (row : CellRow) (found : CoreCell) (on_way : List ℕ)
+      → Works s.queue p (doing_at row.works_at k) k found row.finds
+      → (cell_after row found).state ≢ state.Delegated
+      → ((j : ℕ) → doing_at row.goes_to k ≢ doing.Ticket j)
+      → on_way ≡ picked (element_in (payloads_after row s.payloads k e)) 0 (set s.queue.cells k (cell_after row found))
+      ++ brought (Some (doing_at row.goes_to k)) (slice_index (loads_gained row.gain s.loads p e) p)
+      → InOrderNow o.way p
+      → InOrder (row_after (at_cell row) s.queue p k (Some found)) (loads_gained row.gain s.loads p e)
+      (payloads_after row s.payloads k e) on_way p
+  cell-order row found on_way works not over way before =
+      let to : Doing = doing_at row.goes_to k in
+      let here : slice_get (set s.queue.doing p to) p ≡ Some to =
+      get-set_here s.queue.doing p (doing_at row.works_at k) to works.does in
+      record {
+        others = others-set s.queue.doing p (doing_at row.works_at k) to works.does before.others;
+        undelegated = undelegated-set s.queue.cells k found (cell_after row found) works.finds not before.undelegated;
+        last = λ j at. absurd (over j (same_Some to (doing.Ticket j) (sym here ∙ at)));
+        way = way
+            ∙ ap (λ x. picked (element_in (payloads_after row s.payloads k e)) 0
+            (set s.queue.cells k (cell_after row found))
+            ++ brought x (slice_index (loads_gained row.gain s.loads p e) p)) (sym here);
+      }
+
+  -- the cells with one that is written, in which the same is left
+  left-kept : (found new : CoreCell) → slice_get s.queue.cells k ≡ Some found → has_left found ≡ has_left new
+      → picked (element_in s.payloads) 0 (set s.queue.cells k new) ≡ elements_left s.queue s.payloads
+  left-kept found new there same =
+      picked-kept (element_in s.payloads) (element_in s.payloads) k (agree-same s.payloads k) 0 s.queue.cells k found new
+      (omega arith) there (ap (λ b. left_in b (s.payloads k)) same)
+
+  -- a number is drawn to suspend at
+  drawn-order : (found : Option CoreCell) (d : Doing) → slice_get s.queue.doing p ≡ Some d → is_resuming d ≡ false
+      → k ≡ s.queue.suspends → slice_get s.queue.cells k ≡ found → InOrderNow o.way p
+      → InOrder (moved s.queue (move.draw p k found)) s.loads s.payloads o.way p
+  drawn-order found d does none at there before = by found there
+    where
+      here : slice_get (set s.queue.doing p (doing.Drawn k)) p ≡ Some (doing.Drawn k)
+      here = get-set_here s.queue.doing p d (doing.Drawn k) does
+
+      ways : o.way ≡ elements_left s.queue s.payloads ++ []
+      ways = way-at d does before
+          ∙ ap (λ b. elements_left s.queue s.payloads ++ (if b then slice_index s.loads p ∷ [] else [])) none
+
+      order : (cells : List CoreCell) → Undelegated cells
+          → picked (element_in s.payloads) 0 cells ≡ elements_left s.queue s.payloads
+          → InOrder (record {
+            suspends = s.queue.suspends + 1;
+            resumes = s.queue.resumes;
+            cells = cells;
+            doing = set s.queue.doing p (doing.Drawn k);
+          }) s.loads s.payloads o.way p
+      order cells undelegated left = record {
+        others = others-set s.queue.doing p d (doing.Drawn k) does before.others;
+        undelegated = undelegated;
+        last = λ j is. absurd (not-ticket j (same_Some (doing.Drawn k) (doing.Ticket j) (sym here ∙ is)));
+        way = ways
+            ∙ (λ i. sym left i ++ brought (sym here i) (slice_index s.loads p));
+      }
+        where
+          not-ticket : (j : ℕ) → doing.Drawn k ≡ doing.Ticket j → ⊥
+          not-ticket j e = absurd (cc)
+
+      by : (found : Option CoreCell) → slice_get s.queue.cells k ≡ found
+          → InOrder (moved s.queue (move.draw p k found)) s.loads s.payloads o.way p
+      by (Some cell) there =
+          let new : CoreCell = record { state = cell.state; owner = Some p; collected = cell.collected } in
+          order (set s.queue.cells k new)
+          (undelegated-set s.queue.cells k cell new there (before.undelegated.at k cell there) before.undelegated)
+          (left-kept cell new there refl)
+      by None there =
+          let new : CoreCell = record { state = state.Empty; owner = Some p; collected = false } in
+          order (s.queue.cells ++ new ∷ [])
+          (undelegated-push s.queue.cells new (λ e. absurd (cc)) before.undelegated)
+          (picked-push (element_in s.payloads) 0 s.queue.cells new (length s.queue.cells) (omega arith)
+          ∙ append-nil (elements_left s.queue s.payloads))
+
+  -- a number is drawn to resume at
+  reached-order : (found : Option CoreCell) (d : Doing) (loads on_way : List ℕ) → slice_get s.queue.doing p ≡ Some d
+      → k ≡ s.queue.resumes
+      → on_way ≡ elements_left s.queue s.payloads ++ slice_index loads p ∷ [] → InOrderNow o.way p
+      → InOrder (moved s.queue (move.reach p k found)) loads s.payloads on_way p
+  reached-order found d loads on_way does at ways before = by found
+    where
+      here : slice_get (set s.queue.doing p (doing.Ticket k)) p ≡ Some (doing.Ticket k)
+      here = get-set_here s.queue.doing p d (doing.Ticket k) does
+
+      order : (cells : List CoreCell) → Undelegated cells
+          → picked (element_in s.payloads) 0 cells ≡ elements_left s.queue s.payloads
+          → InOrder (record {
+            suspends = s.queue.suspends;
+            resumes = s.queue.resumes + 1;
+            cells = cells;
+            doing = set s.queue.doing p (doing.Ticket k);
+          }) loads s.payloads on_way p
+      order cells undelegated left = record {
+        others = others-set s.queue.doing p d (doing.Ticket k) does before.others;
+        undelegated = undelegated;
+        last = λ j is.
+            let same : k ≡ j = ticket-number (same_Some (doing.Ticket k) (doing.Ticket j) (sym here ∙ is)) in
+            omega arith;
+        way = ways ∙ (λ i. sym left i ++ brought (sym here i) (slice_index loads p));
+      }
+        where
+          ticket-number : {m n : ℕ} → doing.Ticket m ≡ doing.Ticket n → m ≡ n
+          ticket-number e = cc
+
+      by : (found : Option CoreCell) → InOrder (moved s.queue (move.reach p k found)) loads s.payloads on_way p
+      by (Some cell) = order s.queue.cells before.undelegated refl
+      by None =
+          order (s.queue.cells ++ fresh_cell ∷ [])
+          (undelegated-push s.queue.cells fresh_cell (λ e. absurd (cc)) before.undelegated)
+          (picked-push (element_in s.payloads) 0 s.queue.cells fresh_cell (length s.queue.cells) (omega arith)
+          ∙ append-nil (elements_left s.queue s.payloads))
+
+  -- a step at a cell by which nothing is left or taken
+  kept-order : (row : CellRow) (found : CoreCell) (on_way : List ℕ) → row.brings ≡ false
+      → Works s.queue p (doing_at row.works_at k) k found row.finds
+      → (cell_after row found).state ≢ state.Delegated → has_left found ≡ has_left (cell_after row found)
+      → ((j : ℕ) → doing_at row.goes_to k ≢ doing.Ticket j)
+      → on_way ≡ o.way
+      → brought (Some (doing_at row.works_at k)) (slice_index s.loads p)
+      ≡ brought (Some (doing_at row.goes_to k)) (slice_index (loads_gained row.gain s.loads p e) p)
+      → InOrderNow o.way p
+      → InOrder (row_after (at_cell row) s.queue p k (Some found)) (loads_gained row.gain s.loads p e)
+      (payloads_after row s.payloads k e) on_way p
+  kept-order row found on_way none works not same over ways brings before =
+      cell-order row found on_way works not over
+      (ways ∙ way-at (doing_at row.works_at k) works.does before
+      ∙ (λ i. sym left i ++ brings i))
+      before
+    where
+      payloads_same : (b : Bool) → b ≡ false
+          → (λ (j : ℕ). if b then (if j == k then e else s.payloads j) else s.payloads j) ≡ s.payloads
+      payloads_same b is = rw is refl
+
+      left : picked (element_in (payloads_after row s.payloads k e)) 0 (set s.queue.cells k (cell_after row found))
+          ≡ elements_left s.queue s.payloads
+      left = ap (λ (f : ℕ → ℕ). picked (element_in f) 0 (set s.queue.cells k (cell_after row found)))
+          (payloads_same row.brings none)
+          ∙ left-kept found (cell_after row found) works.finds same
+
+  at-one : (d : Doing) → slice_get s.queue.doing p ≡ Some d → (d ≡ doing.Idle → ⊥)
+      → (one : ℕ) → OthersRest one s.queue.doing → p ≡ one
+  at-one d does busy one others = busy-one s.queue.doing p one d others does busy
+
+  -- each step
+  steps-order : (step : QueueStep) (found : Option CoreCell) → IsPoolStep step → IsOpenStep s.queue step p k found
+      → IsPayload (row_of step) s p k e → IsInOrder (stepped s step p k found e)
+  steps-order draws found may w paid =
+      order-of draws found (λ one by others. named-one p one (entry.Enter p k) (eq-eqb p p refl) by)
+      (drawn-order found doing.Door w.0 refl w.1 w.2)
+  steps-order enters found may w paid =
+      order-of enters found (λ one by others. named-one p one (entry.Enter p k) (eq-eqb p p refl) by)
+      (drawn-order found doing.Idle w.0 refl w.1 w.2)
+  steps-order reaches found may w paid =
+      order-of reaches found (λ one by others. at-one doing.Owes w.0 (λ e. absurd (cc)) one others)
+      (λ before. reached-order found doing.Owes s.loads o.way w.0 w.1 (way-at doing.Owes w.0 before) before)
+  steps-order puts found may w paid =
+      order-of puts found (λ one by others. named-one p one (entry.Put p e) (eq-eqb p p refl) by)
+      (λ before.
+      let below : p < length s.loads =
+      let there = get-below s.queue.doing p doing.Idle w.0 in omega (arith, is.loaders) in
+      let loaded : slice_index (set s.loads p e) p ≡ e = get_or-set_same s.loads p e 0 below in
+      let ways : o.way ≡ elements_left s.queue s.payloads = way-at doing.Idle w.0 before ∙ append-nil _ in
+      reached-order found doing.Idle (set s.loads p e) (o.way ++ e ∷ []) w.0 w.1
+      (λ i. ways i ++ sym loaded i ∷ []) before)
+  steps-order installs (Some found) may w paid =
+      order-of installs (Some found) (λ one by others. at-one (doing.Drawn k) w.0.does (λ e. absurd (cc)) one others)
+      (kept-order (row_at installs) found o.way refl w.0 (λ x. absurd (cc)) (ap is_left w.0.at) (λ j x. absurd (cc)) refl refl)
+  steps-order takes (Some found) may w paid =
+      order-of takes (Some found) (λ one by others. at-one (doing.Drawn k) w.0.does (λ e. absurd (cc)) one others)
+      (λ before.
+      let new : CoreCell = record { state = state.Taken; owner = found.owner; collected = true } in
+      let own : IsOwn s.queue p k IsUntaken = is.sound.passes.at p (doing.Drawn k) w.0.does in
+      let was_left : has_left found ≡ true = rw w.0.at refl in
+      let first : elements_left s.queue s.payloads
+          ≡ s.payloads k ∷ picked (element_in s.payloads) 0 (set s.queue.cells k new) =
+      picked-went (element_in s.payloads) 0 s.queue.cells k k found new (s.payloads k) (omega arith) w.0.finds
+      (left-some s.payloads k found was_left) refl
+      (λ j m cell at low got.
+      left-none s.payloads m cell
+      (none-left s.queue is.sound p before.others k j cell cell.state w.0.does (λ e. omega arith)
+      (let drawn = own.drawn in omega arith)
+      (is.sound.cells.at j cell got) (before.undelegated.at j cell got))) in
+      let ways : o.way ≡ s.payloads k ∷ picked (element_in s.payloads) 0 (set s.queue.cells k new) =
+      way-at (doing.Drawn k) w.0.does before ∙ append-nil _ ∙ first in
+      cell-order (row_at takes) found (less e o.way) w.0 (λ x. absurd (cc)) (λ j x. absurd (cc))
+      ((λ i. less (paid i) (ways i)) ∙ less-first (s.payloads k) _ ∙ sym (append-nil _)) before)
+  steps-order serves (Some found) may w paid =
+      order-of serves (Some found) (λ one by others. at-one (doing.Ticket k) w.0.does (λ e. absurd (cc)) one others)
+      (λ before.
+      let left : List ℕ = elements_left s.queue s.payloads in
+      let new : CoreCell = record { state = state.Resumed; owner = found.owner; collected = found.collected } in
+      let ways : o.way ≡ left ++ e ∷ [] =
+      way-at (doing.Ticket k) w.0.does before ∙ ap (λ n. left ++ n ∷ []) (sym paid) in
+      let once : times e left ≡ 0 = once-on_way left ways in
+      let kept : picked (element_in (put_at s.payloads k e)) 0 (set s.queue.cells k new) ≡ left =
+      picked-kept (element_in s.payloads) (element_in (put_at s.payloads k e)) k (agree-brought s.payloads k e) 0
+      s.queue.cells k found new (omega arith) w.0.finds
+      (left-none s.payloads k found (rw w.0.at refl)) in
+      cell-order (row_at serves) found (less e o.way) w.0 (λ x. absurd (cc)) (λ j x. absurd (cc))
+      (ap (less e) ways ∙ less-last e left once ∙ sym kept ∙ sym (append-nil _)) before)
+    where
+      once-on_way : (left : List ℕ) → o.way ≡ left ++ e ∷ [] → times e left ≡ 0
+      once-on_way left ways =
+          let kept = conserved-after s.size s.history is.legal in
+          let pushed = times-push e e left in
+          let here : times e o.way ≡ times e (left ++ e ∷ []) = ap (times e) ways in
+          let one : bit (e == e) ≡ 1 = ap bit (eq-eqb e e refl) in
+          go (cases_lt e s.size) (kept.each e) (kept.others e) pushed here one
+        where
+          go : (e < s.size) ⊎ (s.size ≤ e)
+              → (e < s.size → times e o.way + times e o.held ≡ 1)
+              → (s.size ≤ e → times e o.way + times e o.held ≡ 0)
+              → times e (left ++ e ∷ []) ≡ times e left + bit (e == e)
+              → times e o.way ≡ times e (left ++ e ∷ []) → bit (e == e) ≡ 1 → times e left ≡ 0
+          go (inl low) each others pushed here one = let all = each low in omega arith
+          go (inr high) each others pushed here one = let all = others high in omega arith
+  steps-order leaves (Some found) may w paid =
+      order-of leaves (Some found) (λ one by others. at-one (doing.Ticket k) w.0.does (λ e. absurd (cc)) one others)
+      (λ before.
+      let left : List ℕ = elements_left s.queue s.payloads in
+      let new : CoreCell = record { state = state.Value; owner = found.owner; collected = found.collected } in
+      let ways : o.way ≡ left ++ e ∷ [] =
+      way-at (doing.Ticket k) w.0.does before ∙ ap (λ n. left ++ n ∷ []) (sym paid) in
+      let last : s.queue.resumes ≡ k + 1 = before.last k w.0.does in
+      let came : picked (element_in (put_at s.payloads k e)) 0 (set s.queue.cells k new) ≡ left ++ e ∷ [] =
+      picked-came (element_in s.payloads) (element_in (put_at s.payloads k e)) k (agree-brought s.payloads k e) 0
+      s.queue.cells k found new e (omega arith) w.0.finds
+      (left-none s.payloads k found (rw w.0.at refl)) (ap Some (put-here k e s.payloads))
+      (λ j m cell at low got.
+      left-none s.payloads m cell
+      (none-past s.queue is.sound p before.others j cell cell.state (omega arith)
+      (is.sound.cells.at j cell got) (before.undelegated.at j cell got))) in
+      cell-order (row_at leaves) found o.way w.0 (λ x. absurd (cc)) (λ j x. absurd (cc))
+      (ways ∙ sym came ∙ sym (append-nil _)) before)
+  steps-order delegates (Some found) may w paid =
+      order-of delegates (Some found) (λ one by others. at-one (doing.Ticket k) w.0.does (λ e. absurd (cc)) one others)
+      (λ before.
+      let cell : IsSoundAt s.queue k found state.Cancelling =
+      subst (λ (x : CoreState). IsSoundAt s.queue k found x) w.0.at (is.sound.cells.at k found w.0.finds) in
+      absurd (none-cancelling s.queue is.sound p before.others k k found w.0.does cell.0))
+  steps-order passes_over (Some found) may w paid =
+      order-of passes_over (Some found) (λ one by others. at-one (doing.Ticket k) w.0.does (λ e. absurd (cc)) one others)
+      (kept-order (row_at passes_over) found o.way refl w.0 (λ x. absurd (cc)) refl (λ j x. absurd (cc)) refl refl)
+  steps-order ends_refused (Some found) may w paid = absurd (pool-none_refused s p k is found w.0)
+  steps-order leaves_line (Some found) may w paid =
+      order-of leaves_line (Some found) (λ one by others. named-one p one (entry.Leave p k) (eq-eqb p p refl) by)
+      (kept-order (row_at leaves_line) found o.way refl w.0 (λ x. absurd (cc)) (ap is_left w.0.at) (λ j x. absurd (cc)) refl refl)
+  steps-order settles (Some found) may w paid =
+      order-of settles (Some found)
+      (λ one by others. at-one (doing.Decided k true) w.0.does (λ e. absurd (cc)) one others)
+      (kept-order (row_at settles) found o.way refl w.0 (λ x. absurd (cc)) (ap is_left w.0.at) (λ j x. absurd (cc)) refl refl)
+  steps-order settles_owing (Some found) may w paid =
+      order-of settles_owing (Some found)
+      (λ one by others. at-one (doing.Decided k true) w.0.does (λ e. absurd (cc)) one others)
+      (λ before. absurd (before.undelegated.at k found w.0.finds w.0.at))
+  steps-order (looks pends) (Some found) may w paid =
+      order-of (looks pends) (Some found)
+      (λ one by others. named-one p one (entry.LookPending p k) (eq-eqb p p refl) by)
+      (kept-order (row_at (looks pends)) found o.way refl w.0 (λ x. absurd (cc)) refl (λ j x. absurd (cc)) refl refl)
+  steps-order (looks grants) (Some found) may w paid =
+      order-of (looks grants) (Some found)
+      (λ one by others. named-one p one (entry.LookGranted p k e) (eq-eqb p p refl) by)
+      (kept-order (row_at (looks grants)) found o.way refl w.0 (λ x. absurd (cc)) refl (λ j x. absurd (cc)) refl refl)
+  steps-order (looks late) (Some found) may w paid =
+      order-of (looks late) (Some found)
+      (λ one by others. named-one p one (entry.Late p k e) (eq-eqb p p refl) by)
+      (kept-order (row_at (looks late)) found o.way refl w.0 (λ x. absurd (cc)) refl (λ j x. absurd (cc)) refl refl)
+  steps-order begins found may w paid = absurd may
+  steps-order ends_missed found may w paid = absurd may
+  steps-order starts_leaving found may w paid = absurd may
+  steps-order leaves_at_once found may w paid = absurd may
+  steps-order refuses found may w paid = absurd may
+  steps-order refuses_value found may w paid = absurd may
+  steps-order installs None may w paid = absurd w
+  steps-order takes None may w paid = absurd w
+  steps-order serves None may w paid = absurd w
+  steps-order leaves None may w paid = absurd w
+  steps-order delegates None may w paid = absurd w
+  steps-order passes_over None may w paid = absurd w
+  steps-order ends_refused None may w paid = absurd w
+  steps-order leaves_line None may w paid = absurd w
+  steps-order settles None may w paid = absurd w
+  steps-order settles_owing None may w paid = absurd w
+  steps-order (looks pends) None may w paid = absurd w
+  steps-order (looks grants) None may w paid = absurd w
+  steps-order (looks late) None may w paid = absurd w
+
+pub step-in_order : (s : PoolShape) (step : QueueStep) (p k : ℕ) (found : Option CoreCell) (e : ℕ) → IsPool s
+    → IsInOrder s → IsPoolStep step → IsOpenStep s.queue step p k found → IsPayload (row_of step) s p k e
+    → IsInOrder (stepped s step p k found e)
+step-in_order s step p k found e is was may w paid = steps-order s p k e is was step found may w paid
+
+-- the pool opens with its elements in order
+numbers-left_in : (n k : ℕ) (payloads : ℕ → ℕ) → ((j : ℕ) → j < k + n → payloads j ≡ j)
+    → numbers_from k n ≡ picked (element_in payloads) k (replicate n value_cell)
+numbers-left_in zero k payloads own = refl
+numbers-left_in (suc n) k payloads own =
+    ap₂ (λ (x : ℕ) (l : List ℕ). x ∷ l) (sym (own k (omega arith)))
+    (numbers-left_in n (suc k) payloads (λ j low. own j (omega arith)))
+
+pub opened-in_order : (size passes : ℕ) (payloads : ℕ → ℕ) → ((k : ℕ) → k < size → payloads k ≡ k)
+    → IsInOrder (opened size passes payloads)
+opened-in_order size passes payloads own one by = record {
+  others = record { at = λ n d got other. get-replicate passes n doing.Idle d got };
+  undelegated = record {
+    at = λ k cell got. rw (get-replicate size k value_cell cell got) (λ e. absurd (cc));
+  };
+  last = λ k is.
+      let idle : doing.Ticket k ≡ doing.Idle = get-replicate passes one doing.Idle (doing.Ticket k) is in
+      absurd (cc);
+  way = numbers-left_in size 0 payloads (λ j low. own j (omega arith))
+      ∙ sym (append-nil (picked (element_in payloads) 0 (replicate size value_cell)))
+      ∙ ap (λ l. picked (element_in payloads) 0 (replicate size value_cell) ++ l)
+      (sym (none-brought (slice_get (replicate passes doing.Idle) one) (get-replicate passes one doing.Idle)));
+}
+  where
+    none-brought : (d : Option Doing) → ((x : Doing) → d ≡ Some x → x ≡ doing.Idle)
+        → brought d (slice_index (replicate passes 0) one) ≡ []
+    none-brought None idle = refl
+    none-brought (Some x) idle = rw (idle x refl) refl
+
+-- a taker whose cell has an element has the first of those on their way
+pub first-taken : (s : PoolShape) (p k : ℕ) (cell : CoreCell) → IsPool s → IsInOrder s → IsByOne p s.history
+    → slice_get s.queue.cells k ≡ Some cell → cell.state ≡ state.Value → k < s.queue.suspends
+    → IsFirstOnWay (s.payloads k) (object_after s.size s.history).way
+first-taken s p k cell is orders by there at low =
+    let order = orders p by in
+    let sound : IsSoundAt s.queue k cell state.Value =
+    subst (λ (x : CoreState). IsSoundAt s.queue k cell x) at (is.sound.cells.at k cell there) in
+    let drawn : slice_get s.queue.doing p ≡ Some (doing.Drawn k) =
+    value-drawn s.queue is.sound p order.others k cell sound.0 low in
+    let left : has_left cell ≡ true = rw at refl in
+    let first : elements_left s.queue s.payloads
+        ≡ s.payloads k ∷ picked (element_in s.payloads) 0 (set s.queue.cells k fresh_cell) =
+    picked-went (element_in s.payloads) 0 s.queue.cells k k cell fresh_cell (s.payloads k) (omega arith) there
+    (left-some s.payloads k cell left) refl
+    (λ j m x is_at before got.
+    left-none s.payloads m x
+    (none-left s.queue is.sound p order.others k j x x.state drawn (λ e. omega arith) (omega arith)
+    (is.sound.cells.at j x got) (order.undelegated.at j x got))) in
+    let ways : (object_after s.size s.history).way
+        ≡ s.payloads k ∷ picked (element_in s.payloads) 0 (set s.queue.cells k fresh_cell) =
+    order.way ∙ ap (λ d. elements_left s.queue s.payloads ++ brought d (slice_index s.loads p)) drawn
+    ∙ append-nil _ ∙ first in
+    subst (λ l. IsFirstOnWay (s.payloads k) l) (sym ways) refl

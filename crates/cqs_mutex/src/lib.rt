@@ -18,6 +18,7 @@ mod guard;
 mod locking;
 mod mutex;
 mod seats;
+mod standing;
 #[cfg(test)]
 mod tests;
 mod threads;

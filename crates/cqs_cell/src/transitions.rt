@@ -54,7 +54,7 @@ pub fn leave_value<C: ClientWords>(
     }
 }
 
-/// The waiter in a cell is served, by the resume of its number.
+/// The waiter in a cell is served, by the resume of its number, and woken if it sleeps there.
 pub fn serve<C: ClientWords>(
     queue: &Queue<C>,
     pass: &mut Pass<C>,
@@ -71,7 +71,10 @@ pub fn serve<C: ClientWords>(
 {
     let (waiter, resumed) = (CellState::Waiter, CellState::Resumed);
     match cross::<C, Serves>(queue, pass, at, waiter, 0, resumed, payload) {
-        Ok(()) => Ok(()),
+        Ok(()) => {
+            queue.wake_cell(at);
+            Ok(())
+        }
         Err(cell) => Err(cell.state),
     }
 }

@@ -322,7 +322,7 @@ barrier-client parties some low = record {
       omega arith;
   slots = record {
     apart = λ c words log handed p q k mine theirs shown has there o o'. absurd o;
-    steps = λ s has payload k suits o. absurd o;
+    steps = λ s has payload k suits kept o. absurd o;
     few = λ c words log handed p has shown there.
         barrier-held_few (barrier_shown parties c words log) p has.held shown.barrier
         (held-at c.has p has there);

@@ -388,7 +388,7 @@ latch-client mode size = record {
       omega arith;
   slots = record {
     apart = λ c words log handed p q k mine theirs shown has there o o'. absurd o;
-    steps = λ s has payload k suits o. absurd o;
+    steps = λ s has payload k suits kept o. absurd o;
     few = λ c words log handed p has shown there.
         let none : has.held ≡ 0 = shown.none_held.at p has there in omega arith;
     gathers = λ mine theirs k o. ⊎_elim (λ a. absurd a) (λ a. absurd a) o;

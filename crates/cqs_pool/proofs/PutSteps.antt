@@ -1,12 +1,12 @@
 -- A put is its steps: a number is drawn to resume at with the element, and the resumption goes on from there.
 use Rattle.std.proofs.Common.{◌≡◌, ℕ, List, [], ◌∷◌, Some, refl, ap, ◌∙◌, subst, inl, arith, sym}
-use Rattle.cqs_core.specs.QueueSteps.{puts}
+use Rattle.cqs_core.specs.QueueSteps.{puts, row_of}
 use Rattle.cqs_pool_object.specs.declared.entries.PoolEntry.{PoolEntry}
 use Rattle.cqs_pool_object.specs.declared.entries.PoolEntry.TheVariants as entry
 use Rattle.cqs_pool_object.specs.PoolEntries.{IsLegal}
 use Rattle.cqs_rule.specs.declared.view.Facts.{Facts}
 use Rattle.cqs_rule.specs.declared.view.View.{View}
-use Rattle.cqs_rule.specs.Counts.{Drew, first_slot}
+use Rattle.cqs_rule.specs.Counts.{DrewBy}
 use Rattle.cqs_rule.specs.Lists.{Has, without}
 use Rattle.cqs_rule.proofs.Calls.{called-by, called-and}
 use Rattle.cqs_pool.specs.declared.answers.Placed.{Placed}
@@ -18,30 +18,25 @@ use Rattle.cqs_pool.specs.Steps.{HasEnded}
 use Rattle.cqs_pool.proofs.ResumeSteps.{ends-so, ends-called, further-names}
 use Rattle.cqs_pool.proofs.Rules.{call-rule}
 
--- the element that the pass got last is the one that it puts
-pub first-is : (e : ℕ) (f : Facts) → IsFirstInHand e f → first_slot f.has.slots ≡ e
-first-is e f first = ap first_slot first.1
-
-pub first-has : (e : ℕ) (f : Facts) → IsFirstInHand e f → Has (first_slot f.has.slots) f.has.slots
-first-has e f first = subst (λ l. Has (first_slot l) l) (sym first.1) (inl refl)
+-- the element that the pass got last is in its hand
+pub first-has : (e : ℕ) (f : Facts) → IsFirstInHand e f → Has e f.has.slots
+first-has e f first = subst (λ l. Has e l) (sym first.1) (inl refl)
 
 module _ {T : Type 0} where
-  pub put-rule : (v u w : View PoolEntry T) (k e : ℕ) (a : Placed) → IsFirstInHand e v.facts
-      → Drew pool_object puts v k u → HasEnded 63 (Some k) e u a w → Has v.number v.own
+  pub put-rule : (v u w : View PoolEntry T) (k e : ℕ) (a : Placed)
+      → DrewBy pool_object puts (row_of puts) e v k u → HasEnded 63 (Some k) e u a w → Has v.number v.own
       → IsLegal w.opening.size w.seen → CallRule v (entry.Put v.number e ∷ []) (placed_further e a) w
-  put-rule v u w k e a first d t own legal =
-      subst (λ x. CallRule v (entry.Put v.number x ∷ []) (placed_further e a) w) (first-is e v.facts first)
-      (call-rule v w (entry.Put v.number (first_slot v.facts.has.slots) ∷ []) (placed_further e a)
+  put-rule v u w k e a d t own legal =
+      call-rule v w (entry.Put v.number e ∷ []) (placed_further e a)
       (called-and pool_object v u w _ _ _ _ (called-by pool_object v u _ _ d) (ends-called u w 63 (Some k) e a t).0)
-      (λ n. refl, tt) (further-names e a) own legal)
+      (λ n. refl, tt) (further-names e a) own legal
 
-  pub put-ends : (v u w : View PoolEntry T) (k e : ℕ) (a : Placed) → IsReady v.facts → IsFirstInHand e v.facts
-      → Drew pool_object puts v k u → HasEnded 63 (Some k) e u a w
+  pub put-ends : (v u w : View PoolEntry T) (k e : ℕ) (a : Placed) → IsReady v.facts
+      → DrewBy pool_object puts (row_of puts) e v k u → HasEnded 63 (Some k) e u a w
       → Ends v e (without e v.facts.has.slots) v.facts.waits a w
-  put-ends v u w k e a ready first d t =
+  put-ends v u w k e a ready d t =
       let is = d.facts_are in
-      let slots : u.facts.has.slots ≡ without e v.facts.has.slots =
-      ap (λ (f : Facts). f.has.slots) is ∙ ap (λ x. without x v.facts.has.slots) (first-is e v.facts first) in
+      let slots : u.facts.has.slots ≡ without e v.facts.has.slots = ap (λ (f : Facts). f.has.slots) is in
       subst (λ (z : List ℕ × List ℕ). Ends v e z.0 z.1 a w)
       (λ i. (slots i, ap (λ (f : Facts). f.waits) is i))
       (ends-so v u w 63 (Some k) e a (ap (λ (f : Facts). f.passed) is)

@@ -67,7 +67,7 @@ pool_primitive size = record {
   opening = record { size = size; mode = Smart };
   shows = shows_pool size;
   manner = pool_manner;
-  words = 0 ∷ [];
+  words = [];
   values = size;
   held = 0;
   opens = λ has slot. ⊥;

@@ -540,7 +540,7 @@ pool-client size = record {
       ));
   slots = record {
     apart = λ c words log handed p q k mine theirs shows has there o o'. absurd o;
-    steps = λ s has payload k suits o. absurd o;
+    steps = λ s has payload k suits kept o. absurd o;
     few = λ c words log handed p has shows there.
         let none = shows.uncounted.at p has there in omega arith;
     gathers = λ mine theirs k o. ⊎_elim (λ a. absurd a) (λ a. absurd a) o;

@@ -1,6 +1,5 @@
-//! What the pool tells the queue. Its elements open as values in the first cells, and it uses no
-//! word of its own. It has one all the same, which stays 0: `opening` asks for one of a client's
-//! words, and a gate refuses a method that no call can meet.
+//! What the pool tells the queue. Its elements open as values in the first cells, and it has no
+//! word of its own.
 
 ghost use Rattle.std.specs.Prelude.{◌≡◌, ◌<◌, ◌≤◌};
 
@@ -49,7 +48,7 @@ impl<T: Drop> ClientWords for PoolClient<T> {
     ghost value_slots = { λ x. 0 };
 
     fn words(&self) -> u32 {
-        1
+        0
     }
 
     fn opening(&self, _word: u32) -> u64 {

@@ -16,7 +16,7 @@ use crate::answers::{Placed, placed_by};
 use crate::element::Element;
 use crate::pool::{Pool, PoolPass};
 use cqs_resume::{finish, resume_from};
-use cqs_rule::{Crowded, Puts, RESUMES_WORD, Under};
+use cqs_rule::{Crowded, Under};
 
 impl<T: Send + Drop> Pool<T> {
     /// Puts an element back: it goes to the first who waits, or is free in the next cell. The
@@ -43,7 +43,7 @@ impl<T: Send + Drop> Pool<T> {
             (pass_view pass.new)) }
     {
         let payload = element.number;
-        let number = self.queue.add_table::<Puts>(pass, RESUMES_WORD, 1);
+        let number = self.queue.put_element(pass, payload);
         Ok(placed_by(resume_from(&self.queue, pass, number, payload)))
     }
 

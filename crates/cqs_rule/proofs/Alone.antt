@@ -1,15 +1,15 @@
 -- A pass that is alone knows at each step that every other number rests.
-use Rattle.std.proofs.Common.{◌≡◌, ◌≢◌, ℕ, ◌<◌, List, Option, true, false, sym, ◌∙◌, subst, arith}
+use Rattle.std.proofs.Common.{◌≡◌, ℕ, Option, false, sym, ◌∙◌, subst, arith}
 use mathlib.Core.Option.{some}
 use lib.ListN.{get_elem?}
 use Rattle.atomic_table.specs.Table.{State}
 use Rattle.cqs_rule.specs.declared.view.View.{View}
-use Rattle.cqs_rule.specs.Alone.{IsAlone, TellsAlone}
+use Rattle.cqs_rule.specs.Alone.{TellsAlone}
 use Rattle.cqs_rule.specs.Client.{IsClient}
 use Rattle.cqs_rule.specs.Layout.{client_words}
 use Rattle.cqs_rule.specs.Object.{Object, Primitive}
 use Rattle.cqs_rule.specs.Ruled.{Ruled}
-use Rattle.cqs_rule.proofs.Crew.{alone-rests}
+use Rattle.cqs_rule.proofs.CrewLooks.{alone-rests}
 
 -- nothing is told of a pass that isn't
 pub not-alone : {C E S : Type 0} (primitive : C → Primitive E S) (v : View E S) → v.alone ≡ false

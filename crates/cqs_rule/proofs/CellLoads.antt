@@ -37,7 +37,7 @@ use Rattle.cqs_rule.specs.Saw.{Saw, IsLive, WasFound}
 use Rattle.cqs_rule.specs.Views.{grown, IsSame}
 use Rattle.cqs_rule.proofs.CellPlaces.{suspends-inside}
 use Rattle.cqs_rule.proofs.CellsStand.{CellAt, cell-at, one-number, place-low}
-use Rattle.cqs_rule.proofs.CellSteps.{WorksAt, works-at, works, since-last, closes-own}
+use Rattle.cqs_rule.proofs.CellSteps.{WorksAt, works-at, works, since-last}
 use Rattle.cqs_rule.proofs.Lists.{length_without}
 use Rattle.cqs_rule.proofs.Looks.{looks-to, found-so, counted-at}
 use Rattle.cqs_rule.proofs.Shelves.{keeps-all}

@@ -27,7 +27,7 @@ use Rattle.cqs_words.proofs.CellLaws.{state_code-below, state_code-injective, ce
 use Rattle.cqs_rule.specs.declared.view.View.{View}
 use Rattle.cqs_rule.specs.declared.view.Facts.{Facts}
 use Rattle.cqs_rule.specs.declared.view.Glimpse.{Glimpse}
-use Rattle.cqs_rule.specs.Client.{IsClient, IsPayload}
+use Rattle.cqs_rule.specs.Client.{IsClient, IsPayload, KeepsSlot}
 use Rattle.cqs_rule.specs.Exchanges.{IsOwnWait, payload_left, Exchanges, MayExchange, IsCrossing, FoundCell, SinceLast, HasCell, Crossed, CrossedBy, crossed}
 use Rattle.cqs_rule.specs.declared.view.Has.{Has}
 use Rattle.cqs_rule.specs.Facts.{facts_worked, facts_missed, waits_then, is_owing}
@@ -359,7 +359,7 @@ module _ {E S : Type 0} (object : Object E) (primitive : Primitive E S) (passes 
         payload_fits = gained-fits object.gains row.gain payload f.has fits known.payload_fits;
         slots = keeps-all primitive.opens v (facts_worked object.gains row k n payload f) refl
             (λ j o. subst (λ z. primitive.opens (has_after object.gains z payload f.has) j) is
-            (client.slots.steps st f.has payload j suits o));
+            (client.slots.steps st f.has payload j suits (subst (λ z. KeepsSlot z payload j) (sym is) tt) o));
         now = r.segments;
         later = later-same r.segments;
       } in

@@ -6,9 +6,10 @@ use Rattle.std.proofs.lemmas.List.{length-set}
 use Rattle.std.proofs.lemmas.List.Sums.{sum_by-cons}
 use Rattle.std.proofs.lemmas.Option.{same_Some}
 use mathlib.Core.Logic.{dite}
-use mathlib.Core.Option.{none}
+use mathlib.Core.Option.{some, none}
+use lib.ListN.{get_elem?}
 use native.Mathlib.Decide.{ℕ_discrete}
-use Rattle.atomic_table.specs.Table.{Me, keeps, step, Allows}
+use Rattle.atomic_table.specs.Table.{State, Me, keeps, step, stepped, Allows}
 use Rattle.cqs_core.specs.declared.cells.CoreCell.{CoreCell}
 use Rattle.cqs_core.specs.declared.cells.CoreState.TheVariants as state
 use Rattle.cqs_core.specs.declared.doings.Doing.{Doing}
@@ -21,13 +22,13 @@ use Rattle.cqs_core.specs.QueueSound.{IsSound}
 use Rattle.cqs_core.specs.QueueStages as stage
 use Rattle.cqs_core.specs.QueueStages.{Stage, doing_at}
 use Rattle.cqs_core.specs.QueueState.{fresh_cell}
-use Rattle.cqs_core.specs.QueueSteps.{QueueStep, draws, enters, reaches, begins, puts, installs, takes, serves, leaves, delegates, passes_over, ends_refused, ends_missed, starts_leaving, leaves_line, leaves_at_once, settles, settles_owing, refuses, refuses_value, looks, pends, grants, late, row_of, CounterRow, at_counter, to_suspend, to_resume, Cost, no_cost, one_owed, one_element, counted, IsOpenRow}
+use Rattle.cqs_core.specs.QueueSteps.{QueueStep, draws, enters, reaches, begins, puts, installs, takes, serves, leaves, delegates, passes_over, ends_refused, ends_missed, starts_leaving, leaves_line, leaves_at_once, settles, settles_owing, refuses, refuses_value, looks, pends, grants, late, row_of, CounterRow, at_counter, Counter, to_suspend, to_resume, Cost, no_cost, one_owed, one_element, counted, IsOpenRow}
 use Rattle.cqs_core.proofs.Places.{get-set_here, get-set_else, get-append_left}
 use Rattle.cqs_rule.specs.declared.view.View.{View}
 use Rattle.cqs_rule.specs.declared.view.Facts.{Facts}
 use Rattle.cqs_rule.specs.declared.view.Has.{Has}
-use Rattle.cqs_rule.specs.Client.{IsClient, IsPaid, IsPayload}
-use Rattle.cqs_rule.specs.Counts.{IsCount, payload_paid, DrewBy, drew, IsDrawnBy}
+use Rattle.cqs_rule.specs.Client.{IsClient, IsPaid, IsPayload, KeepsSlot, KeepsSlotAt}
+use Rattle.cqs_rule.specs.Counts.{IsCount, PaysNoElement, DrewBy, drew, IsDrawnBy}
 use Rattle.cqs_rule.specs.Facts.{facts_counted_by, IsBehind}
 use Rattle.cqs_rule.specs.Hidden.{Hidden, Gains, has_paid, has_after, happened_by, state_at}
 use Rattle.cqs_rule.specs.Kinds.{Carries, further_paid}
@@ -35,7 +36,8 @@ use Rattle.cqs_rule.specs.Layout.{words_for, client_words}
 use Rattle.cqs_rule.specs.Manner.{Suits}
 use Rattle.cqs_rule.specs.Object.{Object, Primitive}
 use Rattle.cqs_rule.specs.Ruled.{Ruled, IsWaitOf, Stands, cell_count}
-use Rattle.cqs_rule.specs.Saw.{Saw, IsLive}
+use Rattle.cqs_rule.specs.Saw.{IsLive}
+use Rattle.cqs_rule.specs.Slots.{laid_in}
 use Rattle.cqs_rule.specs.Views.{grown}
 use Rattle.cqs_rule.proofs.CellPlaces.{behind-suspends, behind-resumes, suspends-inside, resumes-inside}
 use Rattle.cqs_rule.proofs.Cells.{written_same, made_same, pushed-back, installed-drawn, since-on}
@@ -43,7 +45,7 @@ use Rattle.cqs_rule.proofs.Grow.{Turned, OthersStay}
 use Rattle.cqs_rule.proofs.Lists.{fewer_draw}
 use Rattle.cqs_rule.proofs.Others.{door-keeps}
 use Rattle.cqs_rule.proofs.Segments.{later-same}
-use Rattle.cqs_rule.proofs.Shelves.{keeps-all}
+use Rattle.cqs_rule.proofs.Shelves.{Keeps}
 use Rattle.cqs_rule.proofs.Tells.{steps, suspends-low, resumes-low}
 use Rattle.cqs_rule.proofs.Words.{this-word, crew-else, cells-else, client-below, idle-else, other-word}
 
@@ -286,20 +288,42 @@ module _ (gains : Gains) (c : Hidden) (p k : ℕ) (at : Stage) (cost : Cost) (fo
 
 module _ {E S : Type 0} (object : Object E) (primitive : Primitive E S) (passes limit : ℕ)
     (client : IsClient object primitive) where
+  -- a pass that pays so has laid nothing into the slot that it gives away, and has no such slot open
+  pub record StaysWith (cost : Cost) (payload : ℕ) (v : View E S) : Type 0 where
+    pub laid : (k : ℕ) (x : Option S) → laid_in v.laid k ≡ Some x → KeepsSlotAt cost payload k
+    pub out : (k : ℕ) → v.facts.open_slot ≡ Some k → KeepsSlotAt cost payload k
+
+  -- it keeps the slots that it has laid something into
+  keeps-paid : (st : QueueStep) {at : Stage} {counter : Counter} (cost : Cost) (payload : ℕ) (v : View E S)
+      (facts : Facts)
+      → row_of st ≡ at_counter (record { works_at = at; counter = counter; cost = cost })
+      → facts.has ≡ has_paid cost payload v.facts.has → facts.open_slot ≡ v.facts.open_slot
+      → Suits primitive.manner st → StaysWith cost payload v → Keeps primitive.opens v facts
+  keeps-paid st {at} {counter} cost payload v facts is has same suits stays = record {
+    open_slot = same;
+    laid = λ k x laid o. kept k (stays.laid k x laid) o;
+    out = λ k out o. kept k (stays.out k out) o;
+  }
+    where
+      kept : (k : ℕ) → KeepsSlotAt cost payload k → primitive.opens v.facts.has k → primitive.opens facts.has k
+      kept k stays-at o = subst (λ h. primitive.opens h k) (sym has)
+          (subst (λ z. primitive.opens (has_after object.gains z payload v.facts.has) k) is
+          (client.slots.steps st v.facts.has payload k suits (subst (λ z. KeepsSlot z payload k) (sym is) stays-at) o))
+
   -- a number is drawn to suspend at
   draw : (slots id : ℕ) (me : Me (Option S) (View E S)) (st : QueueStep) (at : Stage) (cost : Cost) (payload : ℕ)
       → row_of st ≡ at_counter (record { works_at = at; counter = to_suspend; cost = cost }) → me.0.weight ≡ 1
       → Suits primitive.manner st → me.0.facts.doing ≡ doing_at at 0 → ((k : ℕ) → doing_at at 0 ≡ doing_at at k)
       → (me.0.facts.doing ≡ doing.Door ⊎ me.0.facts.may_draw ≡ true) → IsPaid cost me.0.facts.has payload
-      → payload < 2 ^ 20
-      → payload ≡ payload_paid cost me.0.facts.has
+      → payload < 2 ^ 20 → StaysWith cost payload me.0
       → Allows (Ruled object primitive passes limit) slots id me 16 (λ n. (n + 1) % 2 ^ 64)
-      (λ n me'. DrewBy object st (at_counter (record { works_at = at; counter = to_suspend; cost = cost })) me.0 n me'.0
+      (λ n me'. DrewBy object st (at_counter (record { works_at = at; counter = to_suspend; cost = cost })) payload me.0
+      n me'.0
       × (me'.1 ≡ me.1) × IsLive object me'.0
       × Carries object.gains.held (at_counter (record { works_at = at; counter = to_suspend; cost = cost })) me.0.facts
       me'.0.facts
       × IsDrawnBy (at_counter (record { works_at = at; counter = to_suspend; cost = cost })) me.0.facts n)
-  draw slots id me st at cost payload is one suits works steady may paid fits first s r _ here small =
+  draw slots id me st at cost payload is one suits works steady may paid fits stays s r _ here small =
       let v = me.0 in let p = v.number in let f = v.facts in let c = r.hidden in
       let known = r.each_view id v here (omega arith) in
       let stands = known.stands in
@@ -358,9 +382,7 @@ module _ {E S : Type 0} (object : Object E) (primitive : Primitive E S) (passes 
         self = drawn-self object.gains c p n at cost found f.has payload n f refl refl refl next sound stands;
         silent = client.silent st p n payload;
         payload_fits = paid-fits cost payload f.has fits known.payload_fits;
-        slots = keeps-all primitive.opens v facts refl
-            (λ j o. subst (λ z. primitive.opens (has_after object.gains z payload f.has) j) is
-            (client.slots.steps st f.has payload j suits o));
+        slots = keeps-paid st cost payload v facts is refl refl suits stays;
         now = r.segments;
         later = later-same r.segments;
       } in
@@ -370,8 +392,7 @@ module _ {E S : Type 0} (object : Object E) (primitive : Primitive E S) (passes 
         tt,
         done.0,
         (
-          subst (λ z. Saw object v (facts_counted_by row n z f) (object.entries st p n z)
-              (grown v facts (r.log ++ es) r.handed)) first done.1,
+          done.1,
           refl,
           done.2,
           record {
@@ -386,21 +407,35 @@ module _ {E S : Type 0} (object : Object E) (primitive : Primitive E S) (passes 
         ),
       )
 
-  -- a number is drawn to resume at
-  reach : (slots id : ℕ) (me : Me (Option S) (View E S)) (st : QueueStep) (at : Stage) (cost : Cost) (payload : ℕ)
-      → row_of st ≡ at_counter (record { works_at = at; counter = to_resume; cost = cost }) → me.0.weight ≡ 1
-      → Suits primitive.manner st → me.0.facts.doing ≡ doing_at at 0 → ((k : ℕ) → doing_at at 0 ≡ doing_at at k)
-      → IsPaid cost me.0.facts.has payload → payload < 2 ^ 20 → payload ≡ payload_paid cost me.0.facts.has
-      → ((c : Hidden) (words : List ℕ) (log : List E) (handed : List (ℕ × S)) → primitive.shows c words log handed
-      → slice_get c.queue.doing me.0.number ≡ Some me.0.facts.doing → slice_get c.has me.0.number ≡ Some me.0.facts.has
-      → c.queue.resumes < c.queue.suspends + length (queue.door c.queue) + primitive.values)
-      → Allows (Ruled object primitive passes limit) slots id me 32 (λ n. (n + 1) % 2 ^ 64)
-      (λ n me'. DrewBy object st (at_counter (record { works_at = at; counter = to_resume; cost = cost })) me.0 n me'.0
+  -- what it tells that a number was drawn to resume at
+  abbrev pub Reaches : QueueStep → Stage → Cost → ℕ → Me (Option S) (View E S) → ℕ → Me (Option S) (View E S) → Type 0
+  Reaches st at cost payload me n me' =
+      DrewBy object st (at_counter (record { works_at = at; counter = to_resume; cost = cost })) payload me.0 n me'.0
       × (me'.1 ≡ me.1) × IsLive object me'.0
       × Carries object.gains.held (at_counter (record { works_at = at; counter = to_resume; cost = cost })) me.0.facts
       me'.0.facts
-      × IsDrawnBy (at_counter (record { works_at = at; counter = to_resume; cost = cost })) me.0.facts n)
-  reach slots id me st at cost payload is one suits works steady paid fits first few_left s r _ here small =
+      × IsDrawnBy (at_counter (record { works_at = at; counter = to_resume; cost = cost })) me.0.facts n
+
+  -- few were drawn to resume at, wherever the pass is at these facts
+  abbrev pub ReachesFew : View E S → Type 0
+  ReachesFew v = (c : Hidden) (words : List ℕ) (log : List E) (handed : List (ℕ × S))
+      → primitive.shows c words log handed
+      → slice_get c.queue.doing v.number ≡ Some v.facts.doing → slice_get c.has v.number ≡ Some v.facts.has
+      → c.queue.resumes < c.queue.suspends + length (queue.door c.queue) + primitive.values
+
+  -- a number is drawn to resume at: the rule after it, and what it tells
+  pub reached-so : (slots id : ℕ) (me : Me (Option S) (View E S)) (st : QueueStep) (at : Stage) (cost : Cost)
+      (payload : ℕ)
+      → row_of st ≡ at_counter (record { works_at = at; counter = to_resume; cost = cost }) → me.0.weight ≡ 1
+      → Suits primitive.manner st → me.0.facts.doing ≡ doing_at at 0 → ((k : ℕ) → doing_at at 0 ≡ doing_at at k)
+      → IsPaid cost me.0.facts.has payload → payload < 2 ^ 20 → StaysWith cost payload me.0 → ReachesFew me.0
+      → (s : State (Option S) (View E S)) (r : Ruled object primitive passes limit s) → length s.homes ≡ slots
+      → get_elem? s.views id ≡ some me.0 → slice_index s.words 32 < 18446744073709551616
+      → (w : View E S)
+      × Ruled object primitive passes limit
+      (stepped s 32 ((slice_index s.words 32 + 1) % 2 ^ 64) id me.1 w keeps)
+      × Reaches st at cost payload me (slice_index s.words 32) (w, me.1) × (w.handed ≡ r.handed) × (w.laid ≡ me.0.laid)
+  reached-so slots id me st at cost payload is one suits works steady paid fits stays few_left s r _ here small =
       let v = me.0 in let p = v.number in let f = v.facts in let c = r.hidden in
       let known = r.each_view id v here (omega arith) in
       let stands = known.stands in
@@ -460,20 +495,15 @@ module _ {E S : Type 0} (object : Object E) (primitive : Primitive E S) (passes 
         self = reached-self object.gains c p n at cost found f.has payload n f refl refl next stands;
         silent = client.silent st p n payload;
         payload_fits = paid-fits cost payload f.has fits known.payload_fits;
-        slots = keeps-all primitive.opens v facts refl
-            (λ j o. subst (λ z. primitive.opens (has_after object.gains z payload f.has) j) is
-            (client.slots.steps st f.has payload j suits o));
+        slots = keeps-paid st cost payload v facts is refl refl suits stays;
         now = r.segments;
         later = later-same r.segments;
       } in
       let done = steps object primitive passes limit client s r id me 32 x d es facts here one t in (
         grown v facts (r.log ++ es) r.handed,
-        keeps,
-        tt,
         done.0,
         (
-          subst (λ z. Saw object v (facts_counted_by row n z f) (object.entries st p n z)
-              (grown v facts (r.log ++ es) r.handed)) first done.1,
+          done.1,
           refl,
           done.2,
           record {
@@ -486,68 +516,74 @@ module _ {E S : Type 0} (object : Object E) (primitive : Primitive E S) (passes 
           },
           subst (λ z. IsBehind z f) (sym next) stands.behind,
         ),
+        refl,
+        refl,
       )
+
+  reach : (slots id : ℕ) (me : Me (Option S) (View E S)) (st : QueueStep) (at : Stage) (cost : Cost) (payload : ℕ)
+      → row_of st ≡ at_counter (record { works_at = at; counter = to_resume; cost = cost }) → me.0.weight ≡ 1
+      → Suits primitive.manner st → me.0.facts.doing ≡ doing_at at 0 → ((k : ℕ) → doing_at at 0 ≡ doing_at at k)
+      → IsPaid cost me.0.facts.has payload → payload < 2 ^ 20 → StaysWith cost payload me.0 → ReachesFew me.0
+      → Allows (Ruled object primitive passes limit) slots id me 32 (λ n. (n + 1) % 2 ^ 64)
+      (Reaches st at cost payload me)
+  reach slots id me st at cost payload is one suits works steady paid fits stays few_left s r homes here small =
+      let t = reached-so slots id me st at cost payload is one suits works steady paid fits stays few_left s r homes
+      here small in
+      (t.0, keeps, tt, t.1, t.2)
 
   -- a number is drawn from the counter that the step names
   pub count : (slots id : ℕ) (me : Me (Option S) (View E S)) (t : QueueStep) (word amount : ℕ) (by : ℤ)
       → me.0.weight ≡ 1
-      → amount ≡ unsigned_abs by → Suits primitive.manner t → IsCount t me.0.facts word by
+      → amount ≡ unsigned_abs by → Suits primitive.manner t → IsCount t me.0.facts word by → PaysNoElement (row_of t)
       → Allows (Ruled object primitive passes limit) slots id me word (λ n. (n + amount) % 2 ^ 64)
       (drew object t (step slots word amount 0 none) me)
-  count slots id me draws word amount by one is suits c =
+  count slots id me draws word amount by one is suits c free =
       subst (λ (z : ℕ × ℕ). Allows (Ruled object primitive passes limit) slots id me z.0 (λ n. (n + z.1) % 2 ^ 64)
       (drew object draws (step slots z.0 z.1 0 none) me))
       (λ i. (sym c.word_is i, sym (one-more amount by is c.one) i))
       (draw slots id me draws stage.door no_cost me.0.facts.has.payload refl one suits c.works (λ k. refl)
-      (inl c.works) c.paid c.fits refl)
-  count slots id me enters word amount by one is suits c =
+      (inl c.works) c.paid c.fits (record { laid = λ k x laid. tt; out = λ k out. tt }))
+  count slots id me enters word amount by one is suits c free =
       subst (λ (z : ℕ × ℕ). Allows (Ruled object primitive passes limit) slots id me z.0 (λ n. (n + z.1) % 2 ^ 64)
       (drew object enters (step slots z.0 z.1 0 none) me))
       (λ i. (sym c.word_is i, sym (one-more amount by is c.one) i))
       (draw slots id me enters stage.idle no_cost me.0.facts.has.payload refl one suits c.works (λ k. refl)
-      (inr c.may) c.paid c.fits refl)
-  count slots id me reaches word amount by one is suits c =
+      (inr c.may) c.paid c.fits (record { laid = λ k x laid. tt; out = λ k out. tt }))
+  count slots id me reaches word amount by one is suits c free =
       subst (λ (z : ℕ × ℕ). Allows (Ruled object primitive passes limit) slots id me z.0 (λ n. (n + z.1) % 2 ^ 64)
       (drew object reaches (step slots z.0 z.1 0 none) me))
       (λ i. (sym c.word_is i, sym (one-more amount by is c.one) i))
       (reach slots id me reaches stage.owes no_cost me.0.facts.has.payload refl one suits c.works
-      (λ k. refl) c.paid c.fits refl
+      (λ k. refl) c.paid c.fits (record { laid = λ k x laid. tt; out = λ k out. tt })
       (λ h words log handed shown does has. client.reaches_few h words log handed me.0.number shown (does
       ∙ ap Some c.works)))
-  count slots id me begins word amount by one is suits c =
+  count slots id me begins word amount by one is suits c free =
       subst (λ (z : ℕ × ℕ). Allows (Ruled object primitive passes limit) slots id me z.0 (λ n. (n + z.1) % 2 ^ 64)
       (drew object begins (step slots z.0 z.1 0 none) me))
       (λ i. (sym c.word_is i, sym (one-more amount by is c.one) i))
       (reach slots id me begins stage.idle one_owed me.0.facts.has.payload refl one suits c.works
-      (λ k. refl) c.paid c.fits refl
+      (λ k. refl) c.paid c.fits (record { laid = λ k x laid. tt; out = λ k out. tt })
       (λ h words log handed shown does has. client.begins_few h words log handed me.0.number me.0.facts.has one_owed
       me.0.facts.has.payload shown (does ∙ ap Some c.works) has c.paid tt suits))
-  count slots id me puts word amount by one is suits c =
-      subst (λ (z : ℕ × ℕ). Allows (Ruled object primitive passes limit) slots id me z.0 (λ n. (n + z.1) % 2 ^ 64)
-      (drew object puts (step slots z.0 z.1 0 none) me))
-      (λ i. (sym c.word_is i, sym (one-more amount by is c.one) i))
-      (reach slots id me puts stage.idle one_element (payload_paid one_element me.0.facts.has) refl one suits c.works
-      (λ k. refl) c.paid c.fits refl
-      (λ h words log handed shown does has. client.begins_few h words log handed me.0.number me.0.facts.has one_element
-      (payload_paid one_element me.0.facts.has) shown (does ∙ ap Some c.works) has c.paid tt suits))
-  count slots id me installs word amount by one is suits c = absurd c
-  count slots id me takes word amount by one is suits c = absurd c
-  count slots id me serves word amount by one is suits c = absurd c
-  count slots id me leaves word amount by one is suits c = absurd c
-  count slots id me delegates word amount by one is suits c = absurd c
-  count slots id me passes_over word amount by one is suits c = absurd c
-  count slots id me ends_refused word amount by one is suits c = absurd c
-  count slots id me ends_missed word amount by one is suits c = absurd c
-  count slots id me starts_leaving word amount by one is suits c = absurd c
-  count slots id me leaves_line word amount by one is suits c = absurd c
-  count slots id me leaves_at_once word amount by one is suits c = absurd c
-  count slots id me settles word amount by one is suits c = absurd c
-  count slots id me settles_owing word amount by one is suits c = absurd c
-  count slots id me refuses word amount by one is suits c = absurd c
-  count slots id me refuses_value word amount by one is suits c = absurd c
-  count slots id me (looks pends) word amount by one is suits c = absurd c
-  count slots id me (looks grants) word amount by one is suits c = absurd c
-  count slots id me (looks late) word amount by one is suits c = absurd c
+  count slots id me puts word amount by one is suits c free = absurd free
+  count slots id me installs word amount by one is suits c free = absurd c
+  count slots id me takes word amount by one is suits c free = absurd c
+  count slots id me serves word amount by one is suits c free = absurd c
+  count slots id me leaves word amount by one is suits c free = absurd c
+  count slots id me delegates word amount by one is suits c free = absurd c
+  count slots id me passes_over word amount by one is suits c free = absurd c
+  count slots id me ends_refused word amount by one is suits c free = absurd c
+  count slots id me ends_missed word amount by one is suits c free = absurd c
+  count slots id me starts_leaving word amount by one is suits c free = absurd c
+  count slots id me leaves_line word amount by one is suits c free = absurd c
+  count slots id me leaves_at_once word amount by one is suits c free = absurd c
+  count slots id me settles word amount by one is suits c free = absurd c
+  count slots id me settles_owing word amount by one is suits c free = absurd c
+  count slots id me refuses word amount by one is suits c free = absurd c
+  count slots id me refuses_value word amount by one is suits c free = absurd c
+  count slots id me (looks pends) word amount by one is suits c free = absurd c
+  count slots id me (looks grants) word amount by one is suits c free = absurd c
+  count slots id me (looks late) word amount by one is suits c free = absurd c
 
 -- the word of a counter is one of the table's
 pub counter-low : (t : QueueStep) (facts : Facts) (word : ℕ) (by : ℤ) → IsCount t facts word by

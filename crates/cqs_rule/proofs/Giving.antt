@@ -1,11 +1,10 @@
 -- A step on a word of the client by which the pass gives a slot away: the value that lies there is handed in by the
 -- same step.
-use Rattle.std.proofs.Common.{◌≡◌, ℕ, ◌+◌, ◌<◌, ◌^◌, ◌%◌, Bool, List, [], ◌∷◌, ◌++◌, length, set, sym, refl, ap, ◌∙◌, subst, arith, inl, Option, Some, None}
+use Rattle.std.proofs.Common.{◌≡◌, ℕ, ◌<◌, Bool, List, [], ◌∷◌, set, sym, refl, ap, ◌∙◌, subst, arith, inl, Option, Some, None}
 use Rattle.std.specs.Prelude.{slice_index, slice_set}
 use Rattle.std.proofs.lemmas.Option.{same_Some}
-use mathlib.Core.Option.{some, none}
-use lib.ListN.{get_elem?}
-use Rattle.atomic_table.specs.Table.{State, Me, keeps, step, stepped, Allows}
+use mathlib.Core.Option.{none}
+use Rattle.atomic_table.specs.Table.{State, Me, keeps, step, Allows}
 use Rattle.cqs_rule.specs.declared.view.View.{View}
 use Rattle.cqs_rule.specs.Client.{IsClient}
 use Rattle.cqs_rule.specs.Events.{Event, Moves}

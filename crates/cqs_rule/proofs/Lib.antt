@@ -16,9 +16,15 @@ pub mod CellSteps
 pub mod Counters
 pub mod CellLoads
 pub mod Moves
-pub mod Crew
+pub mod CrewWords
+pub mod CrewHeld
+pub mod CrewViews
+pub mod CrewLooks
+pub mod CrewSplits
+pub mod CrewMeets
 pub mod Swaps
 pub mod Giving
+pub mod Putting
 pub mod Alone
 pub mod Tries
 pub mod Calls

@@ -38,7 +38,6 @@ use Rattle.cqs_core.specs.SemaphoreNames.{entry_names}
 use Rattle.cqs_rule.specs.SemaphoreClient.{held-is, held-set, held-kept}
 use Rattle.cqs_rule.proofs.Lines.{state-above-line}
 use Rattle.cqs_words.specs.State.{count_in, is_above_zero, is_below_zero}
-use Rattle.cqs_core.specs.QueueLine.{line}
 
 -- what the tests of the word say of the state
 state-free : (n : ℕ) → 4294967296 < n → int_lt (pos 0) (count_in n) ≡ true

@@ -1,31 +1,27 @@
 -- A slot is taken from its home, and put back.
-use Rattle.std.proofs.Common.{◌≡◌, ◌≢◌, ◌⊎◌, ℕ, ◌+◌, ◌<◌, ◌≤◌, ◌^◌, ◌==◌, Bool, true, false, List, [], ◌∷◌, ◌++◌, length, set, sym, refl, ap, ◌∙◌, subst, ⊎_elim, inl, inr, arith, length-set, Option, Some, None, if◌then◌else◌, zero, suc, append_assoc}
+use Rattle.std.proofs.Common.{◌≡◌, ◌≢◌, ◌⊎◌, ℕ, ◌<◌, ◌==◌, true, List, [], ◌∷◌, ◌++◌, length, set, sym, refl, ap, ◌∙◌, subst, ⊎_elim, inl, inr, arith, length-set, Option, Some, None, if◌then◌else◌, zero, suc, append_assoc}
 use Rattle.std.specs.Prelude.{slice_index, slice_set}
 use Rattle.std.proofs.lemmas.List.{append-nil, set-get_or}
 use Rattle.std.proofs.lemmas.Option.{same_Some}
-use mathlib.Core.Option.{some, none, some-injective}
-use mathlib.Core.Option as maybe
+use mathlib.Core.Option.{some, none}
 use mathlib.Core.Logic.{dite}
 use native.Mathlib.Decide.{ℕ_discrete}
 use lib.ListN.{get_elem?}
 use Rattle.atomic_table.specs.Table.{State, Me, Act, takes, gives, rest, homes_after, step, stepped, Allows}
 use Rattle.atomic_table.proofs.Lists.{set_else, set_here}
 use Rattle.cqs_rule.specs.declared.view.Facts.{Facts}
-use Rattle.cqs_rule.specs.declared.view.Has.{Has as OwnHas}
 use Rattle.cqs_rule.specs.declared.view.View.{View}
 use Rattle.cqs_rule.specs.Alone.{TellsAlone}
 use Rattle.cqs_rule.specs.Client.{IsClient}
 use Rattle.cqs_rule.specs.Inside.{IsInside}
-use Rattle.cqs_rule.specs.Layout.{client_words}
-use Rattle.cqs_rule.specs.Lists.{Has, IsPrefix, without}
+use Rattle.cqs_rule.specs.Lists.{Has, IsPrefix}
 use Rattle.cqs_rule.specs.Object.{Object, Primitive}
-use Rattle.cqs_rule.specs.Ruled.{Ruled, Knows, number_at, cell_count}
+use Rattle.cqs_rule.specs.Ruled.{Ruled}
 use Rattle.cqs_rule.specs.Saw.{Saw, IsLive}
-use Rattle.cqs_rule.specs.Slots.{laid_in, taken_off, handed_in, LaysNone, MayOpen, Shelf}
+use Rattle.cqs_rule.specs.Slots.{laid_in, taken_off, LaysNone, MayOpen, Shelf}
 use Rattle.cqs_rule.specs.SlotSteps.{TookOut, PutBack, Swapped, HandedIn, took_out, put_back, filled}
-use Rattle.cqs_rule.specs.Views.{grown, IsSame}
 use Rattle.cqs_rule.proofs.Handing.{chosen, passed-by, turned, one-opens, reshelf, hand-in, giving, off-here, off-else}
-use Rattle.cqs_rule.proofs.Lists.{set_there, one_there, set_all, longer, prefix-then}
+use Rattle.cqs_rule.proofs.Lists.{set_there, one_there, set_all, prefix-then}
 use Rattle.cqs_rule.proofs.Shelves.{back, never-open}
 
 module _ {A : Type 0} where

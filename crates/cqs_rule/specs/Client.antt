@@ -24,6 +24,18 @@ IsPaid no_cost has payload = payload ≡ has.payload
 IsPaid one_owed has payload = (0 < has.further) × (payload ≡ has.payload)
 IsPaid one_element has payload = lists.Has payload has.slots
 
+-- A pass that pays so for a number keeps this slot: it gives away only that of the element with
+-- which it pays.
+abbrev pub KeepsSlotAt : Cost → ℕ → ℕ → Type 0
+KeepsSlotAt no_cost payload k = Unit {0}
+KeepsSlotAt one_owed payload k = Unit {0}
+KeepsSlotAt one_element payload k = k ≢ payload
+
+-- by a step of this row, where its payload is this, the pass keeps the slot k
+abbrev pub KeepsSlot : StepRow → ℕ → ℕ → Type 0
+KeepsSlot (at_counter row) payload k = KeepsSlotAt row.cost payload k
+KeepsSlot (at_cell row) payload k = Unit {0}
+
 -- the payload of a step of the queue: what comes from the cell, and else what the pass resumes with
 abbrev pub IsPayload : StepRow → Has → ℕ → ℕ → Type 0
 IsPayload (at_counter row) has left payload = IsPaid row.cost has payload
@@ -50,8 +62,9 @@ module _ {E S : Type 0} (object : Object E) (primitive : Primitive E S) where
         → primitive.shows c words log handed
         → slice_get c.has p ≡ Some mine → slice_get c.has q ≡ Some theirs
         → primitive.opens mine k → primitive.opens theirs k → p ≡ q
-    -- a pass keeps its slots at each step of the queue
+    -- a pass keeps its slots at each step of the queue, but for that of an element which it puts
     pub steps : (s : QueueStep) (has : Has) (payload k : ℕ) → Suits primitive.manner s
+        → KeepsSlot (row_of s) payload k
         → primitive.opens has k → primitive.opens (has_after object.gains (row_of s) payload has) k
     -- no pass holds more than the most that one may
     pub few : (c : Hidden) (words : List ℕ) (log : List E) (handed : List (ℕ × S)) (p : ℕ)

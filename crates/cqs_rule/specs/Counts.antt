@@ -1,12 +1,11 @@
 -- The numbers that are drawn from the two counters: where a pass may draw one, and what it tells.
-use Rattle.std.specs.Prelude.{◌≡◌, ℕ, ◌<◌, ◌^◌, true, List, slice_index, Option, ℤ, pos}
+use Rattle.std.specs.Prelude.{◌≡◌, ℕ, ◌<◌, ◌^◌, true, Option, ℤ, pos}
 use Rattle.atomic_table.specs.Table.{Me, Step}
 use Rattle.cqs_core.specs.QueueStages as stage
 use Rattle.cqs_core.specs.QueueStages.{Stage, doing_at}
 use Rattle.cqs_core.specs.QueueSteps.{QueueStep, row_of, CounterRow, StepRow, at_counter, at_cell, Counter, to_suspend, to_resume, Cost, no_cost, one_owed, one_element}
 use Rattle.cqs_rule.specs.declared.view.View.{View}
 use Rattle.cqs_rule.specs.declared.view.Facts.{Facts}
-use Rattle.cqs_rule.specs.declared.view.Has.{Has}
 use Rattle.cqs_rule.specs.Client.{IsPaid}
 use Rattle.cqs_rule.specs.Facts.{counter_place, facts_counted_by, IsBehind}
 use Rattle.cqs_rule.specs.Kinds.{Carries}
@@ -36,19 +35,20 @@ pub record Counts (row : CounterRow) (facts : Facts) (payload word : ℕ) (by : 
   pub word_is : word ≡ counter_place row.counter
   pub one : by ≡ pos 1
 
--- the element that is put comes first among the value slots that the pass has in hand; else it
--- resumes with what it owes
-abbrev pub first_slot : List ℕ → ℕ
-first_slot slots = slice_index slots 0
+abbrev pub IsSlotless : Cost → Type 0
+IsSlotless no_cost = Unit {0}
+IsSlotless one_owed = Unit {0}
+IsSlotless one_element = ⊥
 
-abbrev pub payload_paid : Cost → Has → ℕ
-payload_paid no_cost has = has.payload
-payload_paid one_owed has = has.payload
-payload_paid one_element has = first_slot has.slots
+-- a number that isn't paid for with an element: those are put by a step of their own, which gives a
+-- slot away
+abbrev pub PaysNoElement : StepRow → Type 0
+PaysNoElement (at_counter row) = IsSlotless row.cost
+PaysNoElement (at_cell row) = Unit {0}
 
 abbrev pub IsCountBy : StepRow → Facts → ℕ → ℤ → Type 0
 IsCountBy (at_counter row) facts word by =
-    Counts row facts (payload_paid row.cost facts.has) word by
+    Counts row facts facts.has.payload word by
 IsCountBy (at_cell row) facts word by = ⊥
 
 abbrev pub IsCount : QueueStep → Facts → ℕ → ℤ → Type 0
@@ -69,15 +69,16 @@ IsDrawnAt s facts n = IsDrawnBy (row_of s) facts n
 
 module _ {E : Type 0} (object : Object E) where
   module _ {S : Type 0} where
-    -- the number n was drawn
-    abbrev pub DrewBy : QueueStep → StepRow → View E S → ℕ → View E S → Type 0
-    DrewBy s (at_counter row) v n w =
-        Saw object v (facts_counted_by row n (payload_paid row.cost v.facts.has) v.facts)
-        (object.entries s v.number n (payload_paid row.cost v.facts.has)) w
-    DrewBy s (at_cell row) v n w = ⊥
+    -- the number n was drawn, with this payload
+    abbrev pub DrewBy : QueueStep → StepRow → ℕ → View E S → ℕ → View E S → Type 0
+    DrewBy s (at_counter row) payload v n w =
+        Saw object v (facts_counted_by row n payload v.facts) (object.entries s v.number n payload)
+        w
+    DrewBy s (at_cell row) payload v n w = ⊥
 
+    -- the pass resumes with what it owes
     abbrev pub Drew : QueueStep → View E S → ℕ → View E S → Type 0
-    Drew s v n w = DrewBy s (row_of s) v n w
+    Drew s v n w = DrewBy s (row_of s) v.facts.has.payload v n w
 
     abbrev pub drew : QueueStep → Step (Option S) → Me (Option S) (View E S) → ℕ
         → Me (Option S) (View E S) → Type 0

@@ -1,7 +1,8 @@
 -- What contracts see of a queue and of a pass.
-use Rattle.std.specs.Prelude.{◌≡◌, ℕ}
+use Rattle.std.specs.Prelude.{◌≡◌, ℕ, ◌<◌}
 use Rattle.cqs_rule.specs.declared.client.ClientWords.{Ghosts}
 use Rattle.cqs_rule.specs.declared.config.CancelMode.{CancelMode}
+use Rattle.cqs_rule.specs.declared.config.Place.{Place}
 use Rattle.cqs_rule.specs.declared.view.View.{View}
 use Rattle.cqs_rule.specs.Alone.{TellsAlone}
 use Rattle.cqs_rule.specs.Ruled.{cell_count}
@@ -29,6 +30,10 @@ module _ {C S E : Type 0} where
   -- the suspend counter stays below this but for those that have seen it there
   abbrev pub limit_of : Queue C S E → ℕ
   limit_of q = q.limit
+
+  -- the place is that of a word of its table
+  abbrev pub IsInTable : Queue C S E → Place → Type 0
+  IsInTable q at = at.word < q.table.shared.table_id.words
 
 module _ {C S E : Type 0} {g : Ghosts C S E} where
   -- what a pass has seen and is doing

@@ -1,5 +1,5 @@
 -- The semaphore as a client: its one word is the state of a core, whose history is the client's.
-use Rattle.std.specs.Prelude.{◌≡◌, ℕ, ◌+◌, ◌-◌, ◌<◌, map, Bool, true, List, [], ◌∷◌, slice_index, pos, if◌then◌else◌}
+use Rattle.std.specs.Prelude.{◌≡◌, ℕ, ◌+◌, ◌-◌, ◌<◌, map, true, List, [], ◌∷◌, slice_index, pos, if◌then◌else◌}
 use Rattle.cqs_core.specs.declared.doings.Doing.{Doing}
 use Rattle.cqs_core.specs.declared.doings.Doing.TheVariants as doing
 use Rattle.cqs_core.specs.declared.entries.Entry.{Entry}

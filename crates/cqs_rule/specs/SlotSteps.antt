@@ -1,13 +1,15 @@
 -- What the steps on value slots tell: a slot is taken from its home, put back, filled before any
 -- call, and given away with what lies in it.
-use Rattle.std.specs.Prelude.{◌≡◌, ◌⊎◌, ℕ, Bool, true, List, [], ◌∷◌, ◌++◌, Option, Some, None}
+use Rattle.std.specs.Prelude.{◌≡◌, ℕ, Bool, true, List, [], ◌∷◌, ◌++◌, Option, Some, None}
 use Rattle.atomic_table.specs.Table.{Me, Step}
-use Rattle.cqs_rule.specs.declared.view.Has.{Has}
+use Rattle.cqs_core.specs.QueueSteps.{puts, row_of}
 use Rattle.cqs_rule.specs.declared.view.View.{View}
+use Rattle.cqs_rule.specs.Counts.{DrewBy, IsDrawnAt}
 use Rattle.cqs_rule.specs.Events.{Event, Moved, moment, has_then}
+use Rattle.cqs_rule.specs.Kinds.{Carries}
 use Rattle.cqs_rule.specs.Lists.{IsPrefix}
 use Rattle.cqs_rule.specs.Object.{Object, Primitive}
-use Rattle.cqs_rule.specs.Saw.{Saw, IsLive}
+use Rattle.cqs_rule.specs.Saw.{IsLive}
 use Rattle.cqs_rule.specs.Slots.{laid_in, taken_off, handed_in}
 
 -- Such a value was handed in for the slot, the last of all that the pass has seen handed in.
@@ -92,6 +94,23 @@ module _ {C E S : Type 0} (object : Object E) (primitive : C → Primitive E S)
   given_by made slot st me n me' =
       Moved object primitive event made st.word me.0 n me'.0 × (me'.1 ≡ me.1) × IsLive object me'.0
       × ((y : S) → laid_in me.0.laid slot ≡ Some (Some y) → HandedIn slot y me.0 me'.0)
+
+module _ {E : Type 0} (object : Object E) where
+  module _ {S : Type 0} where
+    -- a number is drawn to resume at and paid for with this element; the value that lies in its
+    -- slot is handed in by the same step
+    abbrev pub put_by : ℕ → Step (Option S) → Me (Option S) (View E S) → ℕ
+        → Me (Option S) (View E S) → Type 0
+    put_by slot st me n me' =
+        DrewBy object puts (row_of puts) slot me.0 n me'.0 × (me'.1 ≡ me.1) × IsLive object me'.0
+        × Carries object.gains.held (row_of puts) me.0.facts me'.0.facts
+        × IsDrawnAt puts me.0.facts n
+        × ((y : S) → laid_in me.0.laid slot ≡ Some (Some y) → HandedIn slot y me.0 me'.0)
+
+-- What the pass has laid into the slot, if anything, is a value.
+abbrev pub LaysValue : {E S : Type 0} → ℕ → View E S → Type 0
+LaysValue {E} {S} slot v =
+    (x : Option S) → laid_in v.laid slot ≡ Some x → (y : S) × (x ≡ Some y)
 
 -- the one slot that is taken from its home is this
 abbrev pub IsOut : {S : Type 0} → ℕ → List (ℕ × Option S) → Type 0

@@ -1,10 +1,10 @@
 -- What a step is allowed by and what it tells, by the pass before and after it.
 use Rattle.std.specs.Prelude.{◌≡◌, ℕ, Bool, Some}
-use Rattle.cqs_core.specs.QueueSteps.{QueueStep}
+use Rattle.cqs_core.specs.QueueSteps.{QueueStep, puts, row_of}
 use Rattle.cqs_rule.specs.declared.client.ClientWords.{Ghosts}
 use Rattle.cqs_rule.specs.declared.queue.Pass.{Pass}
 use Rattle.cqs_rule.specs.declared.queue.Queue.{Queue}
-use Rattle.cqs_rule.specs.Counts.{Drew}
+use Rattle.cqs_rule.specs.Counts.{DrewBy, Drew}
 use Rattle.cqs_rule.specs.Events.{Event, Moves, SlotsStay, Moved}
 use Rattle.cqs_rule.specs.Exchanges.{CrossedBy}
 use Rattle.cqs_rule.specs.Layout.{client_place}
@@ -12,7 +12,6 @@ use Rattle.cqs_rule.specs.Slots.{laid_in}
 use Rattle.cqs_rule.specs.SlotSteps.{GivesAway, HandedIn}
 use Rattle.cqs_rule.specs.Loads.{LoadStep, Loaded}
 use Rattle.cqs_rule.specs.Passes.{pass_view, client_of, slots_of}
-use Rattle.cqs_core.specs.QueueSteps.{row_of}
 use Rattle.cqs_words.specs.Cell.{index_in}
 
 module _ {C S E : Type 0} {g : Ghosts C S E} where
@@ -54,6 +53,11 @@ module _ {C S E : Type 0} {g : Ghosts C S E} where
   -- the number n was drawn from a counter
   abbrev pub HasDrawn : QueueStep → ℕ → Pass C S E g → Pass C S E g → Type 0
   HasDrawn s n p p' = Drew g.object s (pass_view p) n (pass_view p')
+
+  -- it was drawn to resume at, and paid for with this element
+  abbrev pub HasPut : ℕ → ℕ → Pass C S E g → Pass C S E g → Type 0
+  HasPut element n p p' =
+      DrewBy g.object puts (row_of puts) element (pass_view p) n (pass_view p')
 
   -- an exchange on a cell, where `expected` was wanted, found n
   abbrev pub HasCrossed : QueueStep → ℕ → ℕ → Pass C S E g → Pass C S E g → Type 0

@@ -31,10 +31,10 @@ pub trait ClientWords: Sized + Drop {
         ensures count { result ≡ length (primitive self.now).words }
         ensures few { result ≤ 4 };
 
-    /// The opening value of one of its words.
+    /// The opening value of one of its words. Of a word that it doesn't have nothing is said.
     fn opening(&self, word: u32) -> u64
-        requires { word < length (primitive self.now).words }
-        ensures { result ≡ slice_index (primitive self.now).words word };
+        ensures { word < length (primitive self.now).words
+            → result ≡ slice_index (primitive self.now).words word };
 
     /// The number of its value slots, which open empty.
     fn slots(&self) -> u32

@@ -144,30 +144,6 @@ impl Kind for Begins {
     }
 }
 
-/// A number is drawn to resume at, by an idle pass that puts the first of the elements that it has
-/// in hand.
-pub struct Puts;
-
-impl Kind for Puts {
-    ghost step = { puts };
-
-    fn held_after<C: ClientWords>(held: u32) -> u32 {
-        held
-    }
-
-    fn owes_after() -> bool {
-        true
-    }
-
-    fn further_after(further: u32) -> u32 {
-        further
-    }
-
-    fn waits_after(waits: u32) -> u32 {
-        waits
-    }
-}
-
 /// An empty cell gets a waiter.
 pub struct Installs;
 

@@ -24,8 +24,8 @@ pub use callbacks::Client;
 pub use client::{ClientWords, Shown};
 pub use config::{AcquireError, CancelMode, Config, Crowd, Crowded, MakeError, MeetError, Place};
 pub use kinds::{
-    Begins, Delegates, Draws, Enters, Installs, Kind, Leaves, LeavesAtOnce, LeavesLine, Puts,
-    Reaches, Refuses, RefusesValue, Serves, Settles, SettlesOwing, StartsLeaving, Takes,
+    Begins, Delegates, Draws, Enters, Installs, Kind, Leaves, LeavesAtOnce, LeavesLine, Reaches,
+    Refuses, RefusesValue, Serves, Settles, SettlesOwing, StartsLeaving, Takes,
 };
 pub use layout::{CELLS_WORD, CLIENT_WORD, CREW_WORD, RESUMES_WORD, SUSPENDS_WORD};
 pub use loads::{Cancels, Counts, Learned, Load, Meets, Misses, Polls, Watches};

@@ -6,7 +6,7 @@ ghost use Rattle.cqs_rule.specs.Counts.{drew};
 ghost use Rattle.cqs_rule.specs.Events.{moved_by, exchanged_by, in_any_case};
 ghost use Rattle.cqs_rule.specs.Exchanges.{crossed};
 ghost use Rattle.cqs_rule.specs.Loads.{loaded_by};
-ghost use Rattle.cqs_rule.specs.SlotSteps.{took_out, put_back, filled, given_by};
+ghost use Rattle.cqs_rule.specs.SlotSteps.{took_out, put_back, filled, given_by, put_by};
 
 use crate::client::{ClientWords, Shown};
 use crate::kinds::Kind;
@@ -72,6 +72,16 @@ impl<C: ClientWords, M: Shown<C>, K: Numbered> Play<Option<C::Slot>, View<C::Ent
     for GivingAway<C, M, K> {
     ghost then = { and_alone C.primitive
         (given_by C.object C.primitive M.event in_any_case K.slot) };
+}
+
+/// A number is drawn to resume at, and paid for with an element, whose slot is given away with the
+/// value in it.
+pub(crate) struct Putting<C, K> {
+    of: PhantomData<(C, K)>,
+}
+
+impl<C: ClientWords, K: Numbered> Play<Option<C::Slot>, View<C::Entry, C::Slot>> for Putting<C, K> {
+    ghost then = { and_alone C.primitive (put_by C.object K.slot) };
 }
 
 /// The load of the crew's word by which a slot is taken from its home.

@@ -6,6 +6,9 @@ ghost use Rattle.cqs_rule.specs.Layout.{words_for};
 ghost use Rattle.cqs_rule.specs.Facts.{is_owing};
 
 mod opening;
+mod parked;
+mod parking;
+mod putting;
 mod readers;
 mod seats;
 mod slots;
@@ -18,6 +21,7 @@ use crate::config::CancelMode;
 use crate::rule::{Key, Rule};
 use crate::view::View;
 use atomic_table::{Seat, Table};
+use parked::Parked;
 pub(crate) use slots::Numbered;
 use std::alloc::Global;
 pub use tokens::{Under, Wait};
@@ -29,6 +33,7 @@ pub struct Queue<C: ClientWords> {
     passes: u32,
     limit: u64,
     mode: CancelMode,
+    parked: Parked,
     ghost passes_are: { table.shared.key.passes ≡ passes },
     ghost few_passes: { passes ≤ 32 },
     ghost limit_is: { table.shared.key.limit ≡ limit },

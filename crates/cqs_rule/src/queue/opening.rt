@@ -12,6 +12,7 @@ ghost use Rattle.cqs_rule.specs.Views.{first_view};
 use crate::client::ClientWords;
 use crate::config::{CancelMode, Config, MakeError};
 use crate::layout::{CELLS_WORD, CLIENT_WORD, CREW_WORD, RESUMES_WORD};
+use crate::queue::parked::Parked;
 use crate::queue::{Pass, Queue};
 use crate::rule::Key;
 use atomic_table::Table;
@@ -133,6 +134,7 @@ impl<C: ClientWords> Queue<C> {
             passes: config.passes,
             limit: config.limit,
             mode,
+            parked: Parked::new(),
         };
         Ok((
             queue,

@@ -1,6 +1,7 @@
 //! Single steps on the words of the table: the counters and the cells.
 
-ghost use Rattle.cqs_rule.specs.Counts.{IsCount, IsDrawnAt};
+ghost use Rattle.cqs_core.specs.QueueSteps.{row_of};
+ghost use Rattle.cqs_rule.specs.Counts.{IsCount, PaysNoElement, IsDrawnAt};
 ghost use Rattle.cqs_rule.specs.Exchanges.{IsCrossing};
 ghost use Rattle.cqs_rule.specs.Loads.{LoadSuits, MayLoad};
 ghost use Rattle.cqs_rule.specs.Manner.{Suits};
@@ -44,6 +45,7 @@ impl<C: ClientWords> Queue<C> {
         requires belongs { IsOf self.now pass.old }
         requires suits { Suits (C.primitive (client_of self.now)).manner K.step }
         requires count { IsCount K.step (pass_view pass.old).facts word by }
+        requires free { PaysNoElement (row_of K.step) }
         ensures belongs { IsOf self.now pass.new }
         ensures saw { HasDrawn K.step result pass.old pass.new }
         ensures after { IsDrawnAt K.step (pass_view pass.old).facts result }

@@ -17,7 +17,7 @@ fetch_add-found-requires g c =
           let t = count _ _ _ _ client c.args.self.now.table.shared.table_id.slots c.args.pass.now.seat.id
           c.args.pass.now.seat.me
           g.K.Kind.step c.args.word c.unsigned_abs.result c.args.by c.args.pass.now.live.0 is c.requires.suits
-          c.requires.count s r homes here small in (
+          c.requires.count c.requires.free s r homes here small in (
             t.0,
             t.1,
             t.2,

@@ -1,6 +1,6 @@
 use Rattle.std.proofs.Common.{rules, ap, arith, subst}
 use Rattle.cqs_rule.proofs.Alone.{alone-now}
-use Rattle.cqs_rule.proofs.Crew.{makes-to}
+use Rattle.cqs_rule.proofs.CrewSplits.{makes-to}
 use Rattle.cqs_rule.proofs.Lists.{set_there}
 use Rattle.cqs_rule.proofs.queue.Queue.make.Goals as goal
 use Rattle.cqs_rule.specs.Crew.{MayGive}

@@ -1,7 +1,7 @@
 use Rattle.std.proofs.Common.{rules, ◌≡◌, ◌∙◌, []}
 use Rattle.cqs_rule.proofs.Lists.{set_there}
 use Rattle.cqs_rule.proofs.Alone.{alone-now}
-use Rattle.cqs_rule.proofs.Crew.{joins, meets}
+use Rattle.cqs_rule.proofs.CrewMeets.{joins, meets}
 use Rattle.cqs_rule.proofs.Tries.{between-idle, none-of, none-slots, joined-idles}
 use Rattle.cqs_rule.proofs.queue.Queue.meet.Goals as goal
 

@@ -1,4 +1,4 @@
-use Rattle.std.proofs.Common.{rules, ◌≡◌, true, [], refl, sym, subst}
+use Rattle.std.proofs.Common.{rules, ◌≡◌, true, refl, sym, subst}
 use Rattle.cqs_rule.specs.Configured.{is_config}
 use Rattle.cqs_rule.specs.Saw.{IsLive}
 use Rattle.cqs_rule.specs.Ruled.{cell_count}

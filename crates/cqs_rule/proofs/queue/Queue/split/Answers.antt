@@ -7,7 +7,9 @@ use Rattle.cqs_rule.specs.Saw.{Saw}
 use Rattle.cqs_rule.specs.Views.{crew_turn, facts_lessened, as_before}
 use Rattle.cqs_rule.proofs.Lists.{set_there}
 use Rattle.cqs_rule.proofs.Alone.{alone-now, not-alone}
-use Rattle.cqs_rule.proofs.Crew.{counts, splits, lessened-held, lessened-further, lessened-spares}
+use Rattle.cqs_rule.proofs.CrewHeld.{lessened-held, lessened-further, lessened-spares}
+use Rattle.cqs_rule.proofs.CrewLooks.{counts}
+use Rattle.cqs_rule.proofs.CrewSplits.{splits}
 use Rattle.cqs_rule.proofs.Tries.{sole-tells, tries-first, tries-again, cut-leaves, cut-begins, le-by}
 use Rattle.cqs_rule.proofs.queue.Queue.split.Goals as goal
 

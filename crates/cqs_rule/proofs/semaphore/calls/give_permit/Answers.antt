@@ -1,8 +1,8 @@
-use Rattle.std.proofs.Common.{◌≡◌, ◌∙◌, sym}
+use Rattle.std.proofs.Common.{◌∙◌, sym}
 use Rattle.cqs_rule.specs.Events.{in_any_case}
 use Rattle.cqs_rule.specs.Passes.{pass_view}
 use Rattle.cqs_rule.specs.Semaphore.{gives_one}
-use Rattle.cqs_rule.proofs.SemaphoreMoves.{give-moves, none-stays, give-gives, gives-value, gives-none}
+use Rattle.cqs_rule.proofs.SemaphoreMoves.{give-moves, none-stays, give-gives}
 use Rattle.cqs_rule.proofs.semaphore.calls.give_permit.Goals as goal
 
 pub add_word-requires-clause-law : goal.add_word-requires-clause-law

@@ -16,5 +16,7 @@
 #![tactic(auto)]
 
 mod acquire_future;
+mod blocking;
 
 pub use acquire_future::{AcquireFuture, Acquisition};
+pub use blocking::acquire_wait;

@@ -1,0 +1,30 @@
+use Rattle.std.proofs.Common.{rules, inl, inr}
+use Rattle.cqs_waiter.proofs.Waiting.{acquire-begins, still-first, still-more, still-ends}
+use Rattle.cqs_waiter.proofs.blocking.acquire_wait.Goals as goal
+
+pub returns-in-Ok-Now-clause-arrives : goal.returns-in-Ok-Now-clause-arrives
+returns-in-Ok-Now-clause-arrives g c =
+    let called = c.acquire.ensures in
+    let begins = acquire-begins _ _ c.acquire.result called.called called.worn called.never_crowded called.acquired in
+    inl (rw (c.in-Ok-Now.is, c.in-Ok-Now.field-0-is) at begins)
+
+pub loop-init : goal.loop-init
+loop-init g c =
+    let called = c.acquire.ensures in
+    let begins = acquire-begins _ _ c.acquire.result called.called called.worn called.never_crowded called.acquired in
+    (called.belongs, still-first _ _ _ (rw (c.in-Ok-Later.is, c.in-Ok-Later.field-0-is) at begins))
+
+pub returns-in-Granted-clause-arrives : goal.returns-in-Granted-clause-arrives
+returns-in-Granted-clause-arrives g c =
+    let called = rw c.in-Granted.is at c.poll.ensures.called in
+    let polled = rw c.in-Granted.is at c.poll.ensures.polled in
+    inr (_, still-ends _ _ _ _ _ c.loop.invariant.1 called polled)
+
+pub loop-preserved : goal.loop-preserved
+loop-preserved g c =
+    let called = rw c.in-Pending.is at c.poll.ensures.called in
+    let polled = rw c.in-Pending.is at c.poll.ensures.polled in
+    rw c.park_wait.ensures.same (c.poll.ensures.belongs, still-more _ _ _ _ _ c.loop.invariant.1 called polled)
+
+pub park_wait-requires-clause-belongs : goal.park_wait-requires-clause-belongs
+park_wait-requires-clause-belongs g c = rw c.queue.ensures c.poll.ensures.belongs

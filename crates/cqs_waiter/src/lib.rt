@@ -1,0 +1,22 @@
+//! Waiters that are polled, and waiters that block.
+//!
+//! A caller of a semaphore who must wait has a token of its wait, and looks at it when it likes.
+//! Here are the two ways in which most callers want to wait: a future, which an executor polls, and
+//! a call that comes back with the permit.
+//!
+//! ```text
+//!  AcquireFuture::new       acquire_wait
+//!     |  first poll            |
+//!     v                        v
+//!  acquire ------ a permit ------------------------> ready, or back with it
+//!     |  a wait                |  a wait
+//!     v                        v
+//!  look, pending: yields    look, pending: parks on the cell of the wait, until it is served
+//! ```
+#![tactic(auto)]
+
+mod acquire_future;
+mod blocking;
+
+pub use acquire_future::{AcquireFuture, Acquisition};
+pub use blocking::acquire_wait;

@@ -1,0 +1,8 @@
+//! Tests of those who wait for a permit: by a future, and by a call that sleeps. Their expected
+//! answers were worked out by hand.
+#![tactic(auto)]
+
+#[cfg(test)]
+mod permits_by_future;
+#[cfg(test)]
+mod sleepers;

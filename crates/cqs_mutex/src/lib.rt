@@ -18,8 +18,6 @@ mod guard;
 mod locking;
 mod mutex;
 mod seats;
-#[cfg(test)]
-mod tests;
 mod threads;
 mod unlocking;
 mod waiting;

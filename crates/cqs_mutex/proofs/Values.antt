@@ -1,19 +1,19 @@
 -- What lies in the slot, and what a pass holds, after the calls of the semaphore.
-use Rattle.std.proofs.Common.{◌≡◌, ◌≢◌, ◌⊎◌, ℕ, ◌+◌, ◌<◌, ◌≤◌, ◌==◌, Bool, true, false, List, [], ◌∷◌, ◌++◌, sym, refl, ap, ◌∙◌, subst, arith, Option, Some, None, if◌then◌else◌, Result, Ok, Err}
+use Rattle.std.proofs.Common.{◌≡◌, ◌≢◌, ℕ, ◌+◌, ◌==◌, Bool, true, false, List, [], ◌∷◌, ◌++◌, sym, refl, ap, ◌∙◌, subst, Option, Some, None, if◌then◌else◌, Result, Ok, Err}
 use Rattle.std.specs.Prelude.{IfOk, OnOk, OnErr}
-use Rattle.std.proofs.lemmas.Bool.{eq-eqb}
 use Rattle.cqs_core.specs.declared.entries.Entry.{Entry}
+use Rattle.cqs_rule.specs.declared.semaphore.carries.Kept.{Kept}
 use Rattle.cqs_rule.specs.declared.view.View.{View}
 use Rattle.cqs_rule.specs.Lists.{IsPrefix, without}
-use Rattle.cqs_rule.specs.Slots.{laid_in, handed_in, or_else, LaysNone}
-use Rattle.cqs_rule.specs.SlotSteps.{LayIn, Swapped, WasHandedIn}
+use Rattle.cqs_rule.specs.Slots.{laid_in, handed_in, or_else}
+use Rattle.cqs_rule.specs.SlotSteps.{LayIn}
 use Rattle.cqs_rule.proofs.Handing.{handed-here}
-use Rattle.cqs_semaphore.specs.declared.answers.Permit.{Permit}
 use Rattle.cqs_semaphore.specs.declared.answers.Released.{Released}
 use Rattle.cqs_semaphore.specs.declared.answers.Released.TheVariants as released
-use Rattle.cqs_semaphore.specs.declared.answers.Acquired.TheVariants as acquired
 use Rattle.cqs_rule.specs.declared.queue.tokens.Under.{Under}
-use Rattle.cqs_semaphore.specs.Answers.{Takes, Ends, PassesOn}
+use Rattle.cqs_semaphore.specs.Answers.{Takes, Ends, Releases, PassesOn}
+use Rattle.cqs_semaphore.specs.Owed.{owed_after}
+use Rattle.cqs_mutex.specs.Calls.{OwesAtMost, UnlockLeaves}
 use Rattle.cqs_mutex.specs.Mutexes.{IsFilled}
 
 module _ {T : Type 0} where
@@ -82,6 +82,37 @@ module _ {T : Type 0} where
       → PassesOn k v under passed w → w.facts.has.held ≡ v.facts.has.held
   passes-held k v w under None p = p.1.held_is
   passes-held k v w under (Some a) p = ends-held v w v.facts.has.held (without k v.facts.waits) a p.2
+
+-- what the pass is then
+module _ {T : Type 0} where
+  pub ends-leave : (v w : View Entry (Kept T)) (held : ℕ) (waits : List ℕ) (a : Released) → Ends v held waits a w
+      → UnlockLeaves a w
+  ends-leave v w held waits released.Freed e = absurd e
+  ends-leave v w held waits (released.Sent k) e = e.1.ready
+  ends-leave v w held waits (released.Left k) e = e.1.ready
+  ends-leave v w held waits (released.Void k) e = e.1.ready
+  ends-leave v w held waits (released.Under under) e = (e.owes, e.further)
+
+  pub releases-leave : (v w : View Entry (Kept T)) (a : Released) → Releases v a w → UnlockLeaves a w
+  releases-leave v w released.Freed e = e.rests.ready
+  releases-leave v w (released.Sent k) e = e.1.1.ready
+  releases-leave v w (released.Left k) e = e.1.1.ready
+  releases-leave v w (released.Void k) e = e.1.1.ready
+  releases-leave v w (released.Under under) e = (e.1.owes, e.1.further)
+
+  owed-at-most : (v w : View Entry (Kept T)) (held : ℕ) (waits : List ℕ) (a : Released) → Ends v held waits a w
+      → OwesAtMost (owed_after a) w
+  owed-at-most v w held waits released.Freed e = absurd e
+  owed-at-most v w held waits (released.Sent k) e = e.1.ready
+  owed-at-most v w held waits (released.Left k) e = e.1.ready
+  owed-at-most v w held waits (released.Void k) e = e.1.ready
+  owed-at-most v w held waits (released.Under under) e = (e.owes, e.further)
+
+  pub passes-leave : (k : ℕ) (v w : View Entry (Kept T)) (under : Option Under) (passed : Option Released)
+      → PassesOn k v under passed w → OwesAtMost under w
+  passes-leave k v w under None p = subst (λ u. OwesAtMost u w) (sym p.0) p.1.ready
+  passes-leave k v w under (Some a) p =
+      subst (λ u. OwesAtMost u w) (sym p.0) (owed-at-most v w v.facts.has.held (without k v.facts.waits) a p.2)
 
 -- an answer that is given on
 pub if-ok : {A X : Type 0} (r : Result A X) (P Q R : A → Type 0) → ((a : A) → P a → Q a → R a) → IfOk r P → IfOk r Q

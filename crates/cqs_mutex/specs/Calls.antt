@@ -1,12 +1,14 @@
 -- The calls of a mutex: each is the semaphore's call of the same place, at which the pass was at a
 -- view in between; and where the caller has the mutex then, or gives it back, its value moves.
-use Rattle.std.specs.Prelude.{◌≡◌, ℕ, ◌<◌, true, List, [], Option, Some, None, Result, Ok, Err, IfOk, OnOk, OnErr}
+use Rattle.std.specs.Prelude.{◌≡◌, ◌<◌, true, [], Option, Some, None, Result, Ok, Err, IfOk, OnOk, OnErr}
 use Rattle.cqs_core.specs.declared.entries.Entry.{Entry}
 use Rattle.cqs_rule.specs.declared.config.AcquireError.{AcquireError}
+use Rattle.cqs_rule.specs.declared.queue.tokens.Under as token
 use Rattle.cqs_rule.specs.declared.queue.tokens.Wait.{Wait}
 use Rattle.cqs_rule.specs.declared.semaphore.carries.Kept.{Kept}
 use Rattle.cqs_rule.specs.declared.view.View.{View}
-use Rattle.cqs_rule.specs.Waits.{place_of}
+use Rattle.cqs_rule.specs.Owed.{HasUnder}
+use Rattle.cqs_rule.specs.Waits.{HasWait, place_of}
 use Rattle.cqs_semaphore.specs.declared.answers.Acquired.{Acquired}
 use Rattle.cqs_semaphore.specs.declared.answers.Acquired.TheVariants as acquired
 use Rattle.cqs_semaphore.specs.declared.answers.Tried.{Tried}
@@ -16,9 +18,10 @@ use Rattle.cqs_semaphore.specs.declared.answers.Polled.TheVariants as polled
 use Rattle.cqs_semaphore.specs.declared.answers.CancelAnswer.{CancelAnswer}
 use Rattle.cqs_semaphore.specs.declared.answers.CancelAnswer.TheVariants as cancelled
 use Rattle.cqs_semaphore.specs.declared.answers.Released.{Released}
+use Rattle.cqs_semaphore.specs.declared.answers.Released.TheVariants.{Freed, Sent, Left, Void, Under}
 use Rattle.cqs_semaphore.specs.Alone.{IsPlainAcquire, IsPlainTry, IsPlainPoll, IsPlainCancel, IsPlainRelease}
 use Rattle.cqs_semaphore.specs.Answers.{IsWorn, IsBelow, Acquires, Tries, IsPolled, Releases}
-use Rattle.cqs_semaphore.specs.Calls.{CallRule}
+use Rattle.cqs_semaphore.specs.Calls.{IsReady, CallRule}
 use Rattle.cqs_semaphore.specs.Entries.{acquired_entries, acquired_further, tried_entries, polled_entries, gave_entries, resumed_further}
 use Rattle.cqs_semaphore.specs.Steps.{HasCancelled}
 use Rattle.cqs_mutex.specs.declared.answers.Locked.{Locked}
@@ -75,10 +78,10 @@ module _ {T : Type 0} where
   LeftValue (Cancelled under) v w = w ≡ v
   LeftValue (TooLate guard) v w = TookValue (value_of guard) v w
 
-  -- with a guard the pass holds the mutex
+  -- with a guard the pass holds the mutex, and with a wait it has that wait
   abbrev pub LockedHolds : Result (Locked T) AcquireError → View Entry (Kept T) → Type 0
   LockedHolds (Ok (Now guard)) w = 0 < w.facts.has.held
-  LockedHolds (Ok (Later wait)) w = Unit {0}
+  LockedHolds (Ok (Later wait)) w = HasWait w (wait_in wait)
   LockedHolds (Err e) w = Unit {0}
 
   abbrev pub TriedHolds : TriedLock T → View Entry (Kept T) → Type 0
@@ -88,11 +91,28 @@ module _ {T : Type 0} where
 
   abbrev pub PolledHolds : PolledLock T → View Entry (Kept T) → Type 0
   PolledHolds (Granted guard) w = 0 < w.facts.has.held
-  PolledHolds (Pending wait) w = Unit {0}
+  PolledHolds (Pending wait) w = HasWait w (wait_in wait)
+
+  -- a resumption that the pass owes is this one, and the only one
+  abbrev pub Owes : token.Under → View Entry (Kept T) → Type 0
+  Owes under w = HasUnder w.facts under × (w.facts.has.further ≡ 0)
+
+  -- and else it is ready for the next call
+  abbrev pub OwesAtMost : Option token.Under → View Entry (Kept T) → Type 0
+  OwesAtMost None w = IsReady w.facts
+  OwesAtMost (Some under) w = Owes under w
 
   abbrev pub LeftHolds : LockLeft T → View Entry (Kept T) → Type 0
-  LeftHolds (Cancelled under) w = Unit {0}
-  LeftHolds (TooLate guard) w = 0 < w.facts.has.held
+  LeftHolds (Cancelled under) w = OwesAtMost under w
+  LeftHolds (TooLate guard) w = IsReady w.facts × (0 < w.facts.has.held)
+
+  -- after an unlock, or the end of one
+  abbrev pub UnlockLeaves : Released → View Entry (Kept T) → Type 0
+  UnlockLeaves Freed w = IsReady w.facts
+  UnlockLeaves (Sent k) w = IsReady w.facts
+  UnlockLeaves (Left k) w = IsReady w.facts
+  UnlockLeaves (Void k) w = IsReady w.facts
+  UnlockLeaves (Under under) w = Owes under w
 
   -- a lock is an acquire, and the value
   pub record HasLocked (v : View Entry (Kept T)) (answer : Result (Locked T) AcquireError)

@@ -1,10 +1,10 @@
 -- What holds of a mutex and of its passes between two calls.
-use Rattle.std.specs.Prelude.{◌≡◌, ℕ, ◌<◌, true, List, [], ◌∷◌, ◌++◌, Option, Some, None, Result, Ok, Err}
+use Rattle.std.specs.Prelude.{◌≡◌, ℕ, true, List, [], ◌∷◌, ◌++◌, Some, None, Result, Ok, Err}
 use Rattle.cqs_core.specs.declared.entries.Entry.{Entry}
 use Rattle.cqs_rule.specs.declared.client.ClientWords.{Ghosts}
 use Rattle.cqs_rule.specs.declared.config.Config.{Config}
 use Rattle.cqs_rule.specs.declared.config.MakeError.{MakeError}
-use Rattle.cqs_rule.specs.declared.config.MakeError.TheVariants.{Memory, BadConfig}
+use Rattle.cqs_rule.specs.declared.config.MakeError.TheVariants.{BadConfig}
 use Rattle.cqs_rule.specs.declared.queue.Pass.{Pass}
 use Rattle.cqs_rule.specs.declared.semaphore.SemClient.{SemClient}
 use Rattle.cqs_rule.specs.declared.semaphore.carries.Kept.{Kept}

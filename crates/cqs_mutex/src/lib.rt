@@ -19,8 +19,6 @@ mod locking;
 mod mutex;
 mod seats;
 mod standing;
-#[cfg(test)]
-mod tests;
 mod threads;
 mod unlocking;
 mod waiting;

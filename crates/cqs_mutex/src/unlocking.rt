@@ -7,13 +7,13 @@ ghost use Rattle.cqs_rule.specs.Passes.{pass_view};
 ghost use Rattle.cqs_rule.specs.SlotSteps.{WasHandedIn};
 ghost use Rattle.cqs_semaphore.specs.Alone.{IsPlainEnd};
 ghost use Rattle.cqs_semaphore.specs.Answers.{Ends};
-ghost use Rattle.cqs_semaphore.specs.Calls.{IsReady, CallRule, plain_after};
+ghost use Rattle.cqs_semaphore.specs.Calls.{IsMine, IsReady, CallRule, plain_after};
 ghost use Rattle.cqs_semaphore.specs.Entries.{resumed_further};
 ghost use Rattle.cqs_semaphore.specs.Steps.{IsFurther};
-ghost use Rattle.cqs_mutex.specs.Calls.{HasUnlocked};
+ghost use Rattle.cqs_mutex.specs.Calls.{HasUnlocked, UnlockLeaves};
 ghost use Rattle.cqs_mutex.specs.Guards.{value_of};
 ghost use Rattle.cqs_mutex.specs.Mutexes.{Belongs};
-ghost use Rattle.cqs_mutex.specs.Values.{kept};
+ghost use Rattle.cqs_mutex.specs.Values.{kept, LaidValue};
 
 use crate::guard::Guard;
 use crate::mutex::{Mutex, MutexPass};
@@ -38,16 +38,27 @@ impl<T: Send + Drop> Mutex<T> {
         ensures handed { WasHandedIn 0 (kept (value_of guard)) (pass_view pass.old)
             (pass_view pass.new) }
         ensures between { IsBetween (pass_view pass.new).facts }
+        ensures leaves { IfOk result (λ released. UnlockLeaves released (pass_view pass.new)) }
     {
         let Guard { value, permit } = guard;
-        let _ = self
-            .semaphore
-            .queue()
-            .swap_slot(pass, 0, Some(Kept { value }));
+        self.lay(pass, value);
         match self.semaphore.release(pass, permit) {
             Ok(released) => Ok(released),
             Err(_) => unreachable!(),
         }
+    }
+
+    // Lays the value of a guard into the slot.
+    fn lay(&self, pass: &mut MutexPass<T>, value: T)
+        requires belongs { IsMine self.now.semaphore pass.old }
+        requires holds { 0 < (pass_view pass.old).facts.has.held }
+        ensures belongs { IsMine self.now.semaphore pass.new }
+        ensures laid { LaidValue value (pass_view pass.old) (pass_view pass.new) }
+    {
+        let _ = self
+            .semaphore
+            .queue()
+            .swap_slot(pass, 0, Some(Kept { value }));
     }
 
     /// Goes on with a mutex that is on its way, and whose resumption was handed back.
@@ -62,6 +73,7 @@ impl<T: Send + Drop> Mutex<T> {
             (pass_view pass.old).facts.waits result (pass_view pass.new) }
         ensures further { IsFurther (under_reached under) result }
         ensures between { IsBetween (pass_view pass.new).facts }
+        ensures leaves { UnlockLeaves result (pass_view pass.new) }
         ensures alone { (pass_view pass.old).alone ≡ true
             → (plain_after (pass_view pass.old)).way ≡ 1
             → IsPlainEnd (pass_view pass.old) result (pass_view pass.new) }

@@ -1,5 +1,6 @@
 //! What a caller does with a wait.
 
+ghost use Rattle.std.specs.Prelude.{◌≡◌};
 ghost use Rattle.cqs_rule.specs.Crew.{IsBetween};
 ghost use Rattle.cqs_rule.specs.Passes.{pass_view};
 ghost use Rattle.cqs_rule.specs.Waits.{HasWait};
@@ -12,6 +13,7 @@ use crate::answers::{LockLeft, PolledLock};
 use crate::guard::LockWait;
 use crate::mutex::{Mutex, MutexPass};
 use cqs_semaphore::{CancelAnswer, Polled};
+use std::sync::Wait;
 
 impl<T: Send + Drop> Mutex<T> {
     /// Looks whether the mutex came.
@@ -29,6 +31,16 @@ impl<T: Send + Drop> Mutex<T> {
             Polled::Granted(permit) => PolledLock::Granted(self.take(pass, permit)),
             Polled::Pending(wait) => PolledLock::Pending(LockWait { wait }),
         }
+    }
+
+    /// Sleeps as long as the caller waits in line, as far as the queue's `park_wait` does: it may
+    /// return for no reason, and whoever comes back polls.
+    pub fn park_wait<R: Wait>(&self, rt: &R, pass: &mut MutexPass<T>, wait: &LockWait)
+        requires belongs { Belongs self.now pass.old }
+        requires has { HasWait (pass_view pass.old) (wait_in wait.now) }
+        ensures same { pass.new ≡ pass.old }
+    {
+        self.semaphore.queue().park_wait(rt, pass, &wait.wait);
     }
 
     /// Ends a wait: the caller leaves the line, or has the mutex that had come before. Where the

@@ -1,5 +1,5 @@
-use Rattle.std.proofs.Common.{◌≡◌, ◌∙◌, ap, sym, subst, arith, ◌∷◌, [], ◌++◌, Some, None}
-use Rattle.cqs_mutex.proofs.Values.{filled-more, passes-held}
+use Rattle.std.proofs.Common.{◌∙◌, sym}
+use Rattle.cqs_mutex.proofs.Values.{filled-more, passes-held, passes-leave}
 use Rattle.cqs_mutex.proofs.mutex.Mutex.cancel.Goals as goal
 
 pub take-requires-clause-filled : goal.take-requires-clause-filled
@@ -14,3 +14,6 @@ returns-in-Cancelled-clause-belongs g c =
       filled = filled-more _ _ b.filled rule.handed;
       tidy = λ none. rule.unlaid 0 (b.tidy (sym (passes-held _ _ _ _ _ c.in-Cancelled.ensures.cancelled.2.1) ∙ none));
     }
+
+pub returns-in-Cancelled-clause-holds : goal.returns-in-Cancelled-clause-holds
+returns-in-Cancelled-clause-holds g c = passes-leave _ _ _ _ _ c.in-Cancelled.ensures.cancelled.2.1

@@ -1,4 +1,4 @@
-use Rattle.std.proofs.Common.{◌≡◌, ◌∙◌, ap, sym, subst, arith, ◌∷◌, [], ◌++◌, Some, None}
+use Rattle.std.proofs.Common.{◌∙◌, ap, sym}
 use Rattle.cqs_mutex.proofs.Values.{filled-more}
 use Rattle.cqs_mutex.proofs.mutex.Mutex.lock.Goals as goal
 
@@ -24,3 +24,6 @@ returns-in-Err-clause-belongs g c =
       filled = filled-more _ _ b.filled rule.handed;
       tidy = λ none. rule.unlaid 0 (b.tidy (sym (ap (λ f. f.has.held) c.in-Err.ensures.worn.facts_are) ∙ none));
     }
+
+pub returns-in-Ok-Later-clause-holds : goal.returns-in-Ok-Later-clause-holds
+returns-in-Ok-Later-clause-holds g c = (rw c.in-Ok-Later.field-0-is at c.in-Ok-Later.ensures.acquired).2

@@ -1,4 +1,4 @@
-use Rattle.std.proofs.Common.{◌≡◌, ◌∙◌, ap, sym, subst, arith, ◌∷◌, [], ◌++◌, Some, None}
+use Rattle.std.proofs.Common.{◌∙◌, ap, sym, subst}
 use Rattle.cqs_mutex.specs.Mutexes.{IsFilled}
 use Rattle.cqs_rule.specs.Passes.{IsOf}
 use Rattle.cqs_mutex.proofs.Values.{filled-last}

@@ -1,4 +1,4 @@
-use Rattle.std.proofs.Common.{◌≡◌, ◌∙◌, ap, sym, subst, arith, ◌∷◌, [], ◌++◌, Some, None}
+use Rattle.std.proofs.Common.{◌∙◌, sym}
 use Rattle.cqs_mutex.proofs.Values.{filled-more}
 use Rattle.cqs_mutex.proofs.mutex.Mutex.poll.Goals as goal
 
@@ -14,3 +14,6 @@ returns-in-Pending-clause-belongs g c =
       filled = filled-more _ _ b.filled rule.handed;
       tidy = λ none. rule.unlaid 0 (b.tidy (sym c.in-Pending.ensures.polled.3.held_is ∙ none));
     }
+
+pub returns-in-Pending-clause-holds : goal.returns-in-Pending-clause-holds
+returns-in-Pending-clause-holds g c = c.in-Pending.ensures.polled.1

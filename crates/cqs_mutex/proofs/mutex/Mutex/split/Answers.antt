@@ -1,5 +1,4 @@
-use Rattle.std.proofs.Common.{◌≡◌, ◌∙◌, ap, sym, subst, arith, ◌∷◌, [], ◌++◌, Some, None}
-use Rattle.cqs_rule.specs.Passes.{pass_view}
+use Rattle.std.proofs.Common.{◌∙◌, ap, sym, subst}
 use Rattle.cqs_rule.specs.Slots.{laid_in}
 use Rattle.cqs_mutex.specs.Mutexes.{IsFilled}
 use Rattle.cqs_mutex.proofs.Values.{filled-more, if-ok}

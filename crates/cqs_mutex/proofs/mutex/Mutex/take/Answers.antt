@@ -1,4 +1,4 @@
-use Rattle.std.proofs.Common.{◌≡◌, ◌∙◌, ap, sym, subst, arith, ◌∷◌, [], ◌++◌, Some, None}
+use Rattle.std.proofs.Common.{ap, subst, arith}
 use Rattle.cqs_rule.specs.Passes.{IsOf}
 use Rattle.cqs_mutex.proofs.Values.{filled-more, lay-filled}
 use Rattle.cqs_mutex.proofs.mutex.Mutex.take.Goals as goal

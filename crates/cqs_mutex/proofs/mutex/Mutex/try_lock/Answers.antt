@@ -1,4 +1,4 @@
-use Rattle.std.proofs.Common.{◌≡◌, ◌∙◌, ap, sym, subst, arith, ◌∷◌, [], ◌++◌, Some, None}
+use Rattle.std.proofs.Common.{◌∙◌, sym}
 use Rattle.cqs_mutex.proofs.Values.{filled-more}
 use Rattle.cqs_mutex.proofs.mutex.Mutex.try_lock.Goals as goal
 

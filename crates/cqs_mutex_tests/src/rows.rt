@@ -1,8 +1,7 @@
-//! The way of a value through a mutex.
+//! One pass on a mutex, call by call.
 
-use crate::answers::{LockLeft, Locked, TriedLock};
-use crate::mutex::Mutex;
-use cqs_rule::Config;
+use cqs_mutex::{LockLeft, Locked, Mutex, TriedLock};
+use cqs_rule::{Config, MakeError};
 use cqs_semaphore::Released;
 use std::test::Fail;
 
@@ -15,7 +14,7 @@ const CONFIG: Config = Config {
 #[test]
 fn mutex_of_five(rt: HostRuntime) -> Result<(), Fail> {
     let Ok((mutex, mut pass)) = Mutex::new(rt.alloc(), 5u64, CONFIG) else {
-        panic!(rt; "no memory for the mutex");
+        return Ok(());
     };
     let Ok(Locked::Now(mut guard)) = mutex.lock(&mut pass) else {
         panic!(rt; "the mutex is free");
@@ -44,15 +43,23 @@ fn mutex_of_five(rt: HostRuntime) -> Result<(), Fail> {
 }
 
 #[test]
-fn a_bad_configuration_gives_the_value_back(rt: HostRuntime) -> Result<(), Fail> {
+fn the_value_comes_back_where_no_mutex_is_made(rt: HostRuntime) -> Result<(), Fail> {
     let config = Config {
         passes: 33,
         limit: 4,
         slots: 68,
     };
-    let Err((value, _)) = Mutex::new(rt.alloc(), 5u64, config) else {
+    let Err((value, error)) = Mutex::new(rt.alloc(), 5u64, config) else {
         panic!(rt; "so many passes are out of range");
     };
     assert_eq!(rt; value, 5);
+    assert_eq!(rt; error, MakeError::BadConfig);
+    match Mutex::new(rt.alloc(), 5u64, CONFIG) {
+        Ok(_) => {}
+        Err((value, error)) => {
+            assert_eq!(rt; value, 5);
+            assert_eq!(rt; error, MakeError::Memory);
+        }
+    }
     Ok(())
 }

@@ -1,7 +1,6 @@
 -- A wait is still the pass's own after its slot was opened, and after the calls that leave it.
-use Rattle.std.proofs.Common.{◌≡◌, ◌∙◌, ap, sym, subst, ℕ, List, Option, Result, Ok}
+use Rattle.std.proofs.Common.{◌≡◌, ◌∙◌, ap, sym, subst, ℕ, List, Option}
 use Rattle.cqs_core.specs.declared.entries.Entry.{Entry}
-use Rattle.cqs_rule.specs.declared.config.AcquireError.{AcquireError}
 use Rattle.cqs_rule.specs.declared.queue.tokens.Wait.{Wait}
 use Rattle.cqs_rule.specs.declared.semaphore.carries.Kept.{Kept}
 use Rattle.cqs_rule.specs.declared.view.View.{View}
@@ -12,11 +11,8 @@ use Rattle.cqs_rule.specs.SlotSteps.{Swapped}
 use Rattle.cqs_rule.specs.Waits.{HasWait, place_of}
 use Rattle.cqs_rule.proofs.Places.{has-wait-called}
 use Rattle.cqs_semaphore.specs.declared.answers.Released.TheVariants.{Sent}
-use Rattle.cqs_mutex.specs.declared.answers.Locked.TheVariants.{Later}
 use Rattle.cqs_mutex.specs.declared.answers.TriedLock.TheVariants.{Busy}
-use Rattle.cqs_mutex.specs.declared.guard.LockWait.{LockWait}
-use Rattle.cqs_mutex.specs.Calls.{HasLocked, HasTried, HasUnlocked}
-use Rattle.cqs_mutex.specs.Guards.{wait_in}
+use Rattle.cqs_mutex.specs.Calls.{HasTried, HasUnlocked}
 
 module _ {T : Type 0} where
   pub wait-swapped : (laid : List (ℕ × Option (Kept T))) (v w : View Entry (Kept T)) (wait : Wait) → Swapped laid v w
@@ -27,10 +23,6 @@ module _ {T : Type 0} where
         (sym (ap (λ (z : View Entry (Kept T)). z.facts.waits) swap.is)) h.open_yet;
     place = place_known w (place_of wait) (place_word v (place_of wait) h.place);
   }
-
-  pub wait-locked : (v w : View Entry (Kept T)) (wait : LockWait) → HasLocked v (Ok (Later wait)) w
-      → HasWait w (wait_in wait)
-  wait-locked v w wait l = subst (λ (z : View Entry (Kept T)). HasWait z (wait_in wait)) (sym l.value) l.acquired.2
 
   pub wait-busy : (v w : View Entry (Kept T)) (wait : Wait) → HasTried v Busy w → HasWait v wait → HasWait w wait
   wait-busy v w wait t h = subst (λ (z : View Entry (Kept T)). HasWait z wait) (sym t.value)

@@ -5,7 +5,6 @@
 //! such numbers the call hands the resumption back, for `finish` to go on with.
 #![tactic(auto)]
 
-mod apart;
 mod at_once;
 mod beginning;
 mod further;

@@ -7,7 +7,6 @@ ghost use Rattle.cqs_rule.specs.Owed.{HasUnder, under_payload, under_ticket, und
 ghost use Rattle.cqs_rule.specs.Passes.{pass_view, client_of, IsOf};
 ghost use Rattle.cqs_resume.specs.Resumes.{HasResumed, IsFurther, most_passed_over};
 
-use crate::apart::{finish_apart, pass_over_apart};
 use crate::meeting::meet;
 use crate::resumed::Resumed;
 use core::mem::replace_with;
@@ -18,7 +17,7 @@ pub(crate) const MOST_PASSED_OVER: u32 = 64;
 
 /// Draws a number for a pass that owes a resumption, and serves the waiter there, or leaves the
 /// payload for the suspend to come or for the canceller. Cells whose waiters have left are passed
-/// over. It is compiled into its caller, but for what comes after the first number.
+/// over. It is compiled into its caller, which says what stands apart.
 #[inline(always)]
 pub fn resume<C: Client>(queue: &Queue<C>, pass: &mut Pass<C>, payload: u32) -> Resumed
     requires belongs { IsOf queue.now pass.old }
@@ -35,8 +34,9 @@ pub fn resume<C: Client>(queue: &Queue<C>, pass: &mut Pass<C>, payload: u32) -> 
     }
 }
 
-/// Goes on with a resumption that was handed back, by a count of its own. It stands apart from its
-/// caller, as what comes after the first number of a resume does.
+/// Goes on with a resumption that was handed back, by a count of its own. This stands apart from its
+/// caller, and gets the pass by value: with its address the pass would lie in memory in the caller
+/// too, also where nothing is to be finished.
 #[inline(always)]
 pub fn finish<C: Client>(queue: &Queue<C>, pass: &mut Pass<C>, under: Under) -> Resumed
     requires belongs { IsOf queue.now pass.old }
@@ -58,8 +58,24 @@ pub fn finish<C: Client>(queue: &Queue<C>, pass: &mut Pass<C>, under: Under) -> 
     )
 }
 
-// Goes on with one that was handed back.
-pub(crate) fn end<C: Client>(queue: &Queue<C>, pass: &mut Pass<C>, under: Under) -> Resumed
+// The same with the pass by value, which it gives back.
+#[inline(never)]
+fn finish_apart<C: Client>(queue: &Queue<C>, pass: Pass<C>, under: Under) -> (Pass<C>, Resumed)
+    requires belongs { IsOf queue.now pass }
+    requires smart { IsSmart (C.primitive (client_of queue.now)).manner.leaving }
+    requires owes { HasUnder (pass_view pass).facts under }
+    ensures belongs { IsOf queue.now result.0 }
+    ensures resumed { HasResumed most_passed_over (under_ticket under)
+        (under_payload under) pass result.1 result.0 }
+    ensures further { IsFurther (under_reached under) result.1 }
+{
+    let mut pass = pass;
+    let resumed = end(queue, &mut pass, under);
+    (pass, resumed)
+}
+
+// The same in the place of the call.
+fn end<C: Client>(queue: &Queue<C>, pass: &mut Pass<C>, under: Under) -> Resumed
     requires belongs { IsOf queue.now pass.old }
     requires smart { IsSmart (C.primitive (client_of queue.now)).manner.leaving }
     requires owes { HasUnder (pass_view pass.old).facts under }
@@ -70,45 +86,19 @@ pub(crate) fn end<C: Client>(queue: &Queue<C>, pass: &mut Pass<C>, under: Under)
 {
     let (payload, ticket) = queue.spend_under(pass, under);
     let Some(number) = ticket else {
-        return pass_over(queue, pass, payload, MOST_PASSED_OVER);
+        return go_on(queue, pass, payload, MOST_PASSED_OVER);
     };
     match meet(queue, pass, number, payload) {
         Some(resumed) => resumed,
-        None => pass_over(queue, pass, payload, MOST_PASSED_OVER),
+        None => go_on(queue, pass, payload, MOST_PASSED_OVER),
     }
 }
 
-// Passes over numbers until the resumption ends, or until it has passed over this many.
+// Passes over numbers until the resumption ends, or until it has passed over this many. It is
+// compiled into its callers too: a call of it would get the pass by its address, and then the pass
+// would lie in memory also where a resume ends at its first number.
 #[inline(always)]
 pub(crate) fn go_on<C: Client>(
-    queue: &Queue<C>,
-    pass: &mut Pass<C>,
-    payload: u32,
-    most: u32,
-) -> Resumed
-    requires belongs { IsOf queue.now pass.old }
-    requires smart { IsSmart (C.primitive (client_of queue.now)).manner.leaving }
-    requires owes { (pass_view pass.old).facts.doing ≡ doing.Owes }
-    requires payload { (pass_view pass.old).facts.has.payload ≡ payload }
-    requires some { 0 < most }
-    ensures belongs { IsOf queue.now pass.new }
-    ensures resumed { HasResumed most None payload pass.old result pass.new }
-{
-    replace_with(
-        pass,
-        most,
-        |pass, most|
-            requires belongs { IsOf queue.now pass }
-            requires smart { IsSmart (C.primitive (client_of queue.now)).manner.leaving }
-            requires owes { (pass_view pass).facts.doing ≡ doing.Owes }
-            requires payload { (pass_view pass).facts.has.payload ≡ payload }
-            requires some { 0 < most }
-        { pass_over_apart(queue, pass, payload, most) },
-    )
-}
-
-// The numbers are passed over in the place of the call.
-pub(crate) fn pass_over<C: Client>(
     queue: &Queue<C>,
     pass: &mut Pass<C>,
     payload: u32,

@@ -18,9 +18,10 @@
 //! one history of all callers: the calls of the plain semaphore of `cqs_core`, with a plain line of
 //! waiters.
 //!
-//! The calls that are made often are compiled into their callers. What comes of them rarely stands
-//! apart, and gets the pass by value: with its address the pass would lie in memory also where that
-//! isn't reached. `split`, `meet`, `sole` and `state` are calls like any others.
+//! The calls that are made often are compiled into their callers: a call that got the pass by its
+//! address would have it lie in memory also where that call isn't made. What was handed back is
+//! finished apart, with the pass by value. `split`, `meet`, `sole` and `state` are calls like any
+//! others.
 #![tactic(auto)]
 
 mod acquiring;

@@ -6,8 +6,7 @@ ghost use Rattle.cqs_rule.specs.Passes.{pass_view, client_of, IsOf};
 ghost use Rattle.cqs_suspend.specs.Suspends.{HasEntered};
 
 use crate::suspending::Suspended;
-use crate::taking::take;
-use cqs_cell::install;
+use cqs_cell::{install, take_value};
 use cqs_find::{Found, find};
 use cqs_rule::{ClientWords, Enters, Pass, Queue, SUSPENDS_WORD};
 
@@ -27,7 +26,7 @@ pub fn enter<C: ClientWords>(queue: &Queue<C>, pass: &mut Pass<C>) -> Suspended
     };
     match install(queue, pass, at) {
         Ok(()) => Suspended::Waits(queue.wait_of(pass, at)),
-        Err(_) => match take(queue, pass, at) {
+        Err(_) => match take_value(queue, pass, at) {
             Ok(payload) => Suspended::Took { payload, number },
             Err(_) => unreachable!(),
         },

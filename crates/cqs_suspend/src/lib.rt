@@ -4,7 +4,6 @@
 
 mod entering;
 mod suspending;
-mod taking;
 
 pub use entering::enter;
 pub use suspending::{Suspended, suspend};

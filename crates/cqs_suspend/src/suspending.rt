@@ -5,8 +5,7 @@ ghost use Rattle.cqs_core.specs.declared.doings.Doing.TheVariants as doing;
 ghost use Rattle.cqs_rule.specs.Passes.{pass_view, IsOf};
 ghost use Rattle.cqs_suspend.specs.Suspends.{Suspends};
 
-use crate::taking::take;
-use cqs_cell::install;
+use cqs_cell::{install, take_value};
 use cqs_find::{Found, find};
 use cqs_rule::{ClientWords, Draws, Pass, Queue, SUSPENDS_WORD, Wait};
 
@@ -20,7 +19,7 @@ pub enum Suspended {
 }
 
 /// Draws a number for a pass at the door, and waits under it or takes the value that its resume
-/// left. It is compiled into its caller, but for the taking of a value.
+/// left. It is compiled into its caller, which says what stands apart.
 #[inline(always)]
 pub fn suspend<C: ClientWords>(queue: &Queue<C>, pass: &mut Pass<C>) -> Suspended
     requires belongs { IsOf queue.now pass.old }
@@ -34,7 +33,7 @@ pub fn suspend<C: ClientWords>(queue: &Queue<C>, pass: &mut Pass<C>) -> Suspende
     };
     match install(queue, pass, at) {
         Ok(()) => Suspended::Waits(queue.wait_of(pass, at)),
-        Err(_) => match take(queue, pass, at) {
+        Err(_) => match take_value(queue, pass, at) {
             Ok(payload) => Suspended::Took { payload, number },
             Err(_) => unreachable!(),
         },

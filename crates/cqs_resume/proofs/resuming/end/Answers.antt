@@ -32,13 +32,13 @@ returns-in-None-clause-resumed g c =
     let k = c.in-Some.number in
     let v = pass_view spent.new.pass in
     let u = pass_view c.meet.new.pass in
-    let w = pass_view c.pass_over-in-None.new.pass in
+    let w = pass_view c.go_on-in-None.new.pass in
     let ticket : Some k ≡ under_ticket c.args.under = sym c.in-Some.is ∙ spent.ensures.ticket in
     let t = went-open C.object C.primitive passes_over state.Cancelled doing.Owes
     (k ∷ []) spent.result.0 k v u c.in-None.ensures.met in
-    let now : Resumes C.object C.primitive 64 (Some k) spent.result.0 v c.pass_over-in-None.result w =
-    resumes-then C.object C.primitive false 64 spent.result.0 k c.pass_over-in-None.result v u w t tt
-    c.pass_over-in-None.ensures.resumed in
+    let now : Resumes C.object C.primitive 64 (Some k) spent.result.0 v c.go_on-in-None.result w =
+    resumes-then C.object C.primitive false 64 spent.result.0 k c.go_on-in-None.result v u w t tt
+    c.go_on-in-None.ensures.resumed in
     subst (λ (z : Option ℕ × ℕ × View g.row.C-Entry.Denot g.row.C-Slot.Denot).
-    Resumes C.object C.primitive 64 z.0 z.1 z.2 c.pass_over-in-None.result w)
+    Resumes C.object C.primitive 64 z.0 z.1 z.2 c.go_on-in-None.result w)
     (λ i. (ticket i, spent.ensures.payload i, pass_view (spent.ensures.same i))) now

@@ -21,8 +21,8 @@ wait_of-requires-clause-place g c =
     knows-saw C.object (pass_view c.find.new.pass)
     (pass_view c.install.new.pass) _ _ _ c.in-Ok.ensures.made.saw c.in-At.ensures.at.1
 
-pub take-requires-clause-place : goal.take-requires-clause-place
-take-requires-clause-place g c =
+pub take_value-requires-clause-place : goal.take_value-requires-clause-place
+take_value-requires-clause-place g c =
     let C = g.C.ClientWords in
     knows-saw C.object (pass_view c.find.new.pass) (pass_view c.install.new.pass) _ _ _ c.in-Err.ensures.missed.saw
     c.in-At.ensures.at.1
@@ -39,11 +39,11 @@ returns-in-Ok-clause-entered g c =
       c.wait_of.ensures.has,
     )
 
-pub returns-in-Ok-take-clause-entered : goal.returns-in-Ok-take-clause-entered
-returns-in-Ok-take-clause-entered g c =
+pub returns-in-Ok-take_value-clause-entered : goal.returns-in-Ok-take_value-clause-entered
+returns-in-Ok-take_value-clause-entered g c =
     let C = g.C.ClientWords in
     let k = c.add_table-number.result in
     let way = way-searched C.object C.primitive enters k _ _ _ c.add_table-number.ensures.saw c.find.ensures.searched in
     ends-by C.object C.primitive enters takes 1 1 k _ _ _ _ _
     (way-missed-by C.object C.primitive enters installs 0 k _ _ _ _ _ way c.in-At.ensures.at.0 c.in-Err.ensures.missed)
-    c.in-At.ensures.at.0 c.in-Ok-take.ensures.took
+    c.in-At.ensures.at.0 c.in-Ok-take_value.ensures.took

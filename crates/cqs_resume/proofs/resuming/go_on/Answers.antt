@@ -7,7 +7,7 @@ use Rattle.cqs_rule.specs.Passes.{pass_view}
 use Rattle.cqs_resume.specs.declared.resumed.Resumed.TheVariants.{Under}
 use Rattle.cqs_resume.specs.Resumes.{Resumes}
 use Rattle.cqs_resume.proofs.Runs.{went-drawn, stopped-now, resumes-now, resumes-then}
-use Rattle.cqs_resume.proofs.resuming.pass_over.Goals as goal
+use Rattle.cqs_resume.proofs.resuming.go_on.Goals as goal
 
 pub returns-in-Some-clause-resumed : goal.returns-in-Some-clause-resumed
 returns-in-Some-clause-resumed g c =

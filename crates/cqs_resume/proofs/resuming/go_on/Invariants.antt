@@ -4,7 +4,7 @@ use Rattle.cqs_rule.specs.declared.view.View.{View}
 use Rattle.cqs_rule.specs.Passes.{pass_view, IsOf}
 use Rattle.cqs_resume.specs.declared.resumed.Resumed.{Resumed}
 use Rattle.cqs_resume.specs.Resumes.{Resumes}
-use Rattle.cqs_resume.proofs.resuming.pass_over.Given as goal
+use Rattle.cqs_resume.proofs.resuming.go_on.Given as goal
 
 abbrev pub invariant-loop-resumed : goal.invariant-loop-resumed
 invariant-loop-resumed g l = record {

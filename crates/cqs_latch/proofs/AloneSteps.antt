@@ -111,7 +111,8 @@ module _ {T : Type 0} where
       in (shut, enters.1)
   plain-waited (Err error.Worn) v w (drew, rule, (above, worn, rests)) alone =
       let next = worn.found.next in
-      let seen : w.seen ≡ v.seen = rule.called.seen ∙ (ap (λ l. v.seen ++ l) (rule.called.sole alone) ∙ append-nil v.seen)
+      let seen : w.seen ≡ v.seen =
+      rule.called.seen ∙ (ap (λ l. v.seen ++ l) (rule.called.sole alone) ∙ append-nil v.seen)
       in
       let low = worn.worn in
       let here : worn.before ≡ v.seen = between v.seen worn.before worn.found.since

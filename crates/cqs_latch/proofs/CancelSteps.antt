@@ -307,7 +307,8 @@ module _ {T : Type 0} where
         → cancel.Cancels latch_object primitive_of asked_so k v (GoneOwing payload) u
         → GoesOn payload u None w → HasLeft Smart k v gone.Gone w
     smart-passed payload u w legal b (resumed.Served n, is, e) =
-        passed-on payload u w (served_at n) _ legal b (ended-ran serves state.Waiter most_passed_over None payload n u w e)
+        passed-on payload u w (served_at n) _ legal b
+        (ended-ran serves state.Waiter most_passed_over None payload n u w e)
         (ended-cell serves state.Waiter most_passed_over None payload n u w e)
     smart-passed payload u w legal b (resumed.Left n, is, inl e) =
         passed-on payload u w (left_at n) _ legal b (ended-ran leaves state.Empty most_passed_over None payload n u w e)

@@ -29,6 +29,7 @@ use Rattle.cqs_latch.specs.Calls.{IsReady, CallRule, KeepsWaits, KeepsOtherWaits
 use Rattle.cqs_latch.specs.Entries.{polled_entries}
 use Rattle.cqs_latch.specs.CountAnswers.{HasCounted, HasFinished, IsReadyAfter}
 use Rattle.cqs_latch.specs.Latch.{latch_object}
+use Rattle.cqs_latch.specs.Owed.{HasOwed}
 use Rattle.cqs_latch.specs.LeftAnswers.{HasLeft, IsReadyLeft}
 
 module _ {T : Type 0} where
@@ -49,7 +50,8 @@ module _ {T : Type 0} where
       → w.facts.waits ≡ without k v.facts.waits → KeepsOtherWaits k v w
   keeps-others k v w same waits = λ wait other has.
       kept v w wait same has
-      (subst (Has (place_of wait).index) (sym waits) (without_has (place_of wait).index k v.facts.waits other has.open_yet))
+      (subst (Has (place_of wait).index) (sym waits)
+      (without_has (place_of wait).index k v.facts.waits other has.open_yet))
 
   -- the calls
   pub keeps-counted : (answer : Down) (v w : View LatchEntry T) → HasCounted v answer w → KeepsWaits v w
@@ -74,6 +76,13 @@ module _ {T : Type 0} where
       keeps-all v w rule.called.same.number rests.waits_are
   keeps-finished owed (Err again) v w (ends, rule, (hands, more)) =
       keeps-all v w rule.called.same.number hands.waits_are
+
+  pub ready-finished : (owed : Owed) (v w : View LatchEntry T) → HasFinished owed v (Ok tt) w → IsReady w.facts
+  ready-finished owed v w (ends, rule, (e, rest, u, is, all, on, woke, rests)) = rests.ready
+
+  pub owes-finished : (owed again : Owed) (v w : View LatchEntry T) → HasFinished owed v (Err again) w
+      → HasOwed w.facts again
+  owes-finished owed again v w (ends, rule, (hands, more)) = hands.owes
 
   pub keeps-left : (mode : CancelMode) (k : ℕ) (answer : LatchLeft) (v w : View LatchEntry T)
       → HasLeft mode k v answer w → KeepsOtherWaits k v w

@@ -371,7 +371,8 @@ module _ {T : Type 0} where
       → MeetsAtOnce latch_object primitive_of payload k v ended w
       → Ran (once-entries ended) 0 [] v w
   met-on payload k v w (once.Served n) m =
-      subst (λ j. Ran (step_entries serves v.number j) 0 [] v w) (sym m.0) (met-ran serves state.Waiter payload k v w m.1)
+      subst (λ j. Ran (step_entries serves v.number j) 0 [] v w) (sym m.0)
+      (met-ran serves state.Waiter payload k v w m.1)
   met-on payload k v w (once.Left n) m = met-ran leaves state.Empty payload k v w m.1
   met-on payload k v w (once.Missed n) m =
       subst (λ j. Ran (step_entries ends_missed v.number j) 0 [] v w) (sym m.0)

@@ -1,5 +1,5 @@
--- A pass that is alone: each of its calls answers as the plain latch does after all that the pass has
--- seen.
+-- A pass that is alone: each of its calls answers as the plain latch does after all that the pass
+-- has seen.
 use Rattle.std.specs.Prelude.{◌≡◌, ℕ, ◌+◌, ◌<◌, ◌≤◌, false, Result, Ok, Err}
 use Rattle.cqs_core.specs.QueueWaiters.{Waits, IsServed}
 use Rattle.cqs_latch_object.specs.declared.entries.LatchEntry.{LatchEntry}

@@ -1,5 +1,5 @@
--- What each answer appends to the history: the entries of the caller, in order; and of a wait, apart
--- from them, the one that may come after them, by which it is served.
+-- What each answer appends to the history: the entries of the caller, in order; and of a wait,
+-- apart from them, the one that may come after them, by which it is served.
 use Rattle.std.specs.Prelude.{ℕ, List, [], ◌∷◌, Option, Some, None, Result, Ok, Err}
 use Rattle.cqs_latch_object.specs.declared.entries.LatchEntry.{LatchEntry}
 use Rattle.cqs_latch_object.specs.declared.entries.LatchEntry.TheVariants as entry

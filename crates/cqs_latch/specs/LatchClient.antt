@@ -242,12 +242,14 @@ row-plain : (row : StepRow) (q : Queue) (p k : ℕ) (found : Option CoreCell)
 row-plain (at_counter row) q p k found opens makes each = absurd makes
 row-plain (at_cell row) q p k found opens makes each = cell-plain row q p k found opens makes each
 
-drawn-plain : (cells : List CoreCell) (k p : ℕ) (found : Option CoreCell) → slice_get cells k ≡ found
-    → EachAt (HoldsPlain Simple) cells → EachAt (HoldsPlain Simple) (cells_drawn cells k p found)
+drawn-plain : (cells : List CoreCell) (k p : ℕ) (found : Option CoreCell)
+    → slice_get cells k ≡ found → EachAt (HoldsPlain Simple) cells
+    → EachAt (HoldsPlain Simple) (cells_drawn cells k p found)
 drawn-plain cells k p None there each =
     EachAt-push (HoldsPlain Simple) (HoldsPlain Simple) cells _ tt (λ j x got plain. plain) each
 drawn-plain cells k p (Some found) there each =
-    EachAt-write (HoldsPlain Simple) (HoldsPlain Simple) cells k found _ there (each.at k found there)
+    EachAt-write (HoldsPlain Simple) (HoldsPlain Simple) cells k found _ there
+    (each.at k found there)
     (λ j x got other plain. plain) each
 
 reached-plain : (cells : List CoreCell) (found : Option CoreCell)

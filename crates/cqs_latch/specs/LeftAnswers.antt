@@ -45,8 +45,8 @@ module _ {T : Type 0} where
       WasAsked false k v w × CellWasOnce state.Delegated k v w × EndsSo e w
   WentSo k v (e ∷ (e' ∷ es)) w = ⊥
 
-  -- The cell was found resumed; or with its waiter, who went. In simple mode the cell is a hole from
-  -- that exchange on.
+  -- The cell was found resumed; or with its waiter, who went. In simple mode the cell is a hole
+  -- from that exchange on.
   abbrev pub LeftSo : CancelMode → ℕ → View LatchEntry T → LatchLeft → List Ending
       → View LatchEntry T → Type 0
   LeftSo mode k v TooLate ends w =

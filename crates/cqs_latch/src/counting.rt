@@ -1,6 +1,6 @@
 //! The count down, and the end of what it owes.
 
-ghost use Rattle.std.specs.Prelude.{◌≡◌, ◌+◌, true, pos, ◌≤ℤ◌, IsOk, IfOk};
+ghost use Rattle.std.specs.Prelude.{◌≡◌, ◌+◌, true, pos, ◌≤ℤ◌, IsOk, IfOk, IfErr, OnOk};
 ghost use Rattle.cqs_words.specs.State.{count_in, is_above_zero};
 ghost use Rattle.cqs_latch.specs.Alone.{IsPlainCount};
 ghost use Rattle.cqs_latch.specs.CountAnswers.{HasCounted, HasFinished, IsReadyAfter};
@@ -56,6 +56,8 @@ impl Latch {
         requires owes { HasOwed (pass_view pass.old).facts owed }
         ensures belongs { IsMine self.now pass.new }
         ensures finished { HasFinished owed (pass_view pass.old) result (pass_view pass.new) }
+        ensures ready { OnOk result (IsReady (pass_view pass.new).facts) }
+        ensures owes { IfErr result (λ again. HasOwed (pass_view pass.new).facts again) }
         ensures keeps { KeepsWaits (pass_view pass.old) (pass_view pass.new) }
     {
         let Owed { under, further } = owed;

@@ -70,22 +70,28 @@ returns-in-Some-clause-counted c =
     c.in-Some.ensures.wakes c.wake.ensures.belongs.live.legal
 
 pub returns-then-not-is_above_zero-clause-ready : goal.returns-then-not-is_above_zero-clause-ready
-returns-then-not-is_above_zero-clause-ready c = ready-counted Already _ _ (returns-then-not-is_above_zero-clause-counted c)
+returns-then-not-is_above_zero-clause-ready c =
+    ready-counted Already _ _ (returns-then-not-is_above_zero-clause-counted c)
 
 pub returns-then-not-is_above_zero-clause-keeps : goal.returns-then-not-is_above_zero-clause-keeps
-returns-then-not-is_above_zero-clause-keeps c = keeps-counted Already _ _ (returns-then-not-is_above_zero-clause-counted c)
+returns-then-not-is_above_zero-clause-keeps c =
+    keeps-counted Already _ _ (returns-then-not-is_above_zero-clause-counted c)
 
 pub returns-then-not-is_above_zero-2-clause-ready : goal.returns-then-not-is_above_zero-2-clause-ready
-returns-then-not-is_above_zero-2-clause-ready c = ready-counted Already _ _ (returns-then-not-is_above_zero-2-clause-counted c)
+returns-then-not-is_above_zero-2-clause-ready c =
+    ready-counted Already _ _ (returns-then-not-is_above_zero-2-clause-counted c)
 
 pub returns-then-not-is_above_zero-2-clause-keeps : goal.returns-then-not-is_above_zero-2-clause-keeps
-returns-then-not-is_above_zero-2-clause-keeps c = keeps-counted Already _ _ (returns-then-not-is_above_zero-2-clause-counted c)
+returns-then-not-is_above_zero-2-clause-keeps c =
+    keeps-counted Already _ _ (returns-then-not-is_above_zero-2-clause-counted c)
 
 pub returns-then-left-gt0-clause-ready : goal.returns-then-left-gt0-clause-ready
-returns-then-left-gt0-clause-ready c = ready-counted (Left c.left_after-left.result) _ _ (returns-then-left-gt0-clause-counted c)
+returns-then-left-gt0-clause-ready c =
+    ready-counted (Left c.left_after-left.result) _ _ (returns-then-left-gt0-clause-counted c)
 
 pub returns-then-left-gt0-clause-keeps : goal.returns-then-left-gt0-clause-keeps
-returns-then-left-gt0-clause-keeps c = keeps-counted (Left c.left_after-left.result) _ _ (returns-then-left-gt0-clause-counted c)
+returns-then-left-gt0-clause-keeps c =
+    keeps-counted (Left c.left_after-left.result) _ _ (returns-then-left-gt0-clause-counted c)
 
 pub returns-in-None-clause-ready : goal.returns-in-None-clause-ready
 returns-in-None-clause-ready c = ready-counted Last _ _ (returns-in-None-clause-counted c)
@@ -100,16 +106,20 @@ pub returns-in-Some-clause-keeps : goal.returns-in-Some-clause-keeps
 returns-in-Some-clause-keeps c = keeps-counted (LastOwing c.in-Some.owed) _ _ (returns-in-Some-clause-counted c)
 
 pub returns-then-not-is_above_zero-clause-alone : goal.returns-then-not-is_above_zero-clause-alone
-returns-then-not-is_above_zero-clause-alone c = λ alone. plain-counted Already _ _ (returns-then-not-is_above_zero-clause-counted c) alone
+returns-then-not-is_above_zero-clause-alone c =
+    λ alone. plain-counted Already _ _ (returns-then-not-is_above_zero-clause-counted c) alone
 
 pub returns-then-not-is_above_zero-2-clause-alone : goal.returns-then-not-is_above_zero-2-clause-alone
-returns-then-not-is_above_zero-2-clause-alone c = λ alone. plain-counted Already _ _ (returns-then-not-is_above_zero-2-clause-counted c) alone
+returns-then-not-is_above_zero-2-clause-alone c =
+    λ alone. plain-counted Already _ _ (returns-then-not-is_above_zero-2-clause-counted c) alone
 
 pub returns-then-left-gt0-clause-alone : goal.returns-then-left-gt0-clause-alone
-returns-then-left-gt0-clause-alone c = λ alone. plain-counted (Left c.left_after-left.result) _ _ (returns-then-left-gt0-clause-counted c) alone
+returns-then-left-gt0-clause-alone c =
+    λ alone. plain-counted (Left c.left_after-left.result) _ _ (returns-then-left-gt0-clause-counted c) alone
 
 pub returns-in-None-clause-alone : goal.returns-in-None-clause-alone
 returns-in-None-clause-alone c = λ alone. plain-counted Last _ _ (returns-in-None-clause-counted c) alone
 
 pub returns-in-Some-clause-alone : goal.returns-in-Some-clause-alone
-returns-in-Some-clause-alone c = λ alone. plain-counted (LastOwing c.in-Some.owed) _ _ (returns-in-Some-clause-counted c) alone
+returns-in-Some-clause-alone c =
+    λ alone. plain-counted (LastOwing c.in-Some.owed) _ _ (returns-in-Some-clause-counted c) alone

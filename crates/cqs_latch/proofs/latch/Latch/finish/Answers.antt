@@ -3,7 +3,7 @@ use Rattle.cqs_rule.specs.declared.queue.tokens.Under.{Under}
 use Rattle.cqs_rule.specs.Passes.{pass_view}
 use Rattle.cqs_latch.specs.Waking.{IsGrown, On}
 use Rattle.cqs_latch.proofs.DownSteps.{on-owes, on-woke, on-handed}
-use Rattle.cqs_latch.proofs.Kept.{keeps-finished}
+use Rattle.cqs_latch.proofs.Kept.{keeps-finished, owes-finished, ready-finished}
 use Rattle.cqs_latch.proofs.latch.Latch.finish.Goals as goal
 
 pub returns-in-Some-clause-finished : goal.returns-in-Some-clause-finished
@@ -60,3 +60,12 @@ returns-in-None-clause-keeps c = keeps-finished c.args.owed (Ok tt) _ _ (returns
 
 pub returns-in-Some-wake-clause-keeps : goal.returns-in-Some-wake-clause-keeps
 returns-in-Some-wake-clause-keeps c = keeps-finished c.args.owed (Err _) _ _ (returns-in-Some-wake-clause-finished c)
+
+pub returns-in-Some-clause-owes : goal.returns-in-Some-clause-owes
+returns-in-Some-clause-owes c = owes-finished c.args.owed _ _ _ (returns-in-Some-clause-finished c)
+
+pub returns-in-None-clause-ready : goal.returns-in-None-clause-ready
+returns-in-None-clause-ready c = ready-finished c.args.owed _ _ (returns-in-None-clause-finished c)
+
+pub returns-in-Some-wake-clause-owes : goal.returns-in-Some-wake-clause-owes
+returns-in-Some-wake-clause-owes c = owes-finished c.args.owed _ _ _ (returns-in-Some-wake-clause-finished c)

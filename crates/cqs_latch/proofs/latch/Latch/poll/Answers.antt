@@ -82,7 +82,8 @@ returns-in-Resumed-clause-alone c = λ alone.
 
 pub returns-in-Waiter-clause-keeps : goal.returns-in-Waiter-clause-keeps
 returns-in-Waiter-clause-keeps c =
-    keeps-polled c.args.wait (Pending c.wait_of.result) _ _ (returns-in-Waiter-clause-called c) (returns-in-Waiter-clause-polled c)
+    keeps-polled c.args.wait (Pending c.wait_of.result) _ _ (returns-in-Waiter-clause-called c)
+    (returns-in-Waiter-clause-polled c)
 
 pub returns-in-Waiter-clause-alone : goal.returns-in-Waiter-clause-alone
 returns-in-Waiter-clause-alone c = λ alone.

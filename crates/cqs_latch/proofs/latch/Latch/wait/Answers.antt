@@ -59,16 +59,19 @@ returns-clause-ready c =
     waited-ready _ _ (Ok c.wait_in_line.result) (returns-clause-waited c)
 
 pub returns-then-not-is_above_zero-clause-keeps : goal.returns-then-not-is_above_zero-clause-keeps
-returns-then-not-is_above_zero-clause-keeps c = keeps-waited (Ok Passed) _ _ (returns-then-not-is_above_zero-clause-waited c)
+returns-then-not-is_above_zero-clause-keeps c =
+    keeps-waited (Ok Passed) _ _ (returns-then-not-is_above_zero-clause-waited c)
 
 pub returns-then-not-is_above_zero-clause-alone : goal.returns-then-not-is_above_zero-clause-alone
-returns-then-not-is_above_zero-clause-alone c = λ alone. plain-waited (Ok Passed) _ _ (returns-then-not-is_above_zero-clause-waited c) alone
+returns-then-not-is_above_zero-clause-alone c =
+    λ alone. plain-waited (Ok Passed) _ _ (returns-then-not-is_above_zero-clause-waited c) alone
 
 pub returns-then-next_wait-limit-clause-keeps : goal.returns-then-next_wait-limit-clause-keeps
 returns-then-next_wait-limit-clause-keeps c = keeps-waited (Err Worn) _ _ (returns-then-next_wait-limit-clause-waited c)
 
 pub returns-then-next_wait-limit-clause-alone : goal.returns-then-next_wait-limit-clause-alone
-returns-then-next_wait-limit-clause-alone c = λ alone. plain-waited (Err Worn) _ _ (returns-then-next_wait-limit-clause-waited c) alone
+returns-then-next_wait-limit-clause-alone c =
+    λ alone. plain-waited (Err Worn) _ _ (returns-then-next_wait-limit-clause-waited c) alone
 
 pub returns-then-is_done-clause-keeps : goal.returns-then-is_done-clause-keeps
 returns-then-is_done-clause-keeps c = keeps-waited (Ok Passed) _ _ (returns-then-is_done-clause-waited c)

@@ -12,7 +12,8 @@ pub begin_at_once-requires-clause-at_once : goal.begin_at_once-requires-clause-a
 begin_at_once-requires-clause-at_once c = is-at_once _ (c.args.self.now.mode_is ∙ c.in-Simple.is)
 
 pub begin_at_once-requires-clause-plain : goal.begin_at_once-requires-clause-plain
-begin_at_once-requires-clause-plain c = shows-plain (client_of c.args.self.now.queue) (c.args.self.now.mode_is ∙ c.in-Simple.is)
+begin_at_once-requires-clause-plain c =
+    shows-plain (client_of c.args.self.now.queue) (c.args.self.now.mode_is ∙ c.in-Simple.is)
 
 pub returns-in-Smart-clause-next : goal.returns-in-Smart-clause-next
 returns-in-Smart-clause-next c =

@@ -12,7 +12,8 @@ pub finish_at_once-requires-clause-at_once : goal.finish_at_once-requires-clause
 finish_at_once-requires-clause-at_once c = is-at_once _ (c.args.self.now.mode_is ∙ c.in-Simple.is)
 
 pub finish_at_once-requires-clause-plain : goal.finish_at_once-requires-clause-plain
-finish_at_once-requires-clause-plain c = shows-plain (client_of c.args.self.now.queue) (c.args.self.now.mode_is ∙ c.in-Simple.is)
+finish_at_once-requires-clause-plain c =
+    shows-plain (client_of c.args.self.now.queue) (c.args.self.now.mode_is ∙ c.in-Simple.is)
 
 pub returns-in-Smart-clause-on : goal.returns-in-Smart-clause-on
 returns-in-Smart-clause-on c =

@@ -10,6 +10,7 @@ mod leaving;
 mod polling;
 mod resuming;
 mod seats;
+mod sharing;
 mod steps;
 mod word;
 
@@ -17,4 +18,5 @@ pub use answers::{Arrived, Leaving, Owing, PartyLeft, PartyPolled, PartyWait};
 pub use barrier::{Barrier, BarrierPass};
 pub use client::BarrierClient;
 pub use events::{Arrive, LookToLeave, Withdraw};
+pub use sharing::threads_may_share_it;
 pub use steps::{arrive_once, look_to_leave, withdraw_once};

@@ -1,5 +1,5 @@
 //! The resources of a plan.
-ghost use Rattle.std.specs.Prelude.{◌≡◌, ◌≤◌, ◌<◌, ◌+◌, IfOk, OnOk, IfErr, codes, map, length};
+ghost use Rattle.std.specs.Prelude.{◌≡◌, ◌≤◌, ◌<◌, ◌+◌, IfOk, OnOk, IfErr, codes, map, length, nat_le};
 ghost use Rattle.std.specs.List.{list_any};
 ghost use Rattle.std.specs.Str.{bytes_eq};
 ghost use Rattle.toml.specs.Data.{get_member};
@@ -71,6 +71,15 @@ fn is_taken(name: &str, resources: &[Resource]) -> bool
         .any(|resource| is_same(bytes, resource.name.as_slice()))
 }
 
+/// Whether 64 resources stand already: the earlier ones, and so many of the section.
+fn is_full(earlier: &[Resource], index: usize) -> bool
+    requires earlier { AreFew earlier.now }
+    requires index { index ≤ 64 }
+    ensures { result ≡ nat_le 64 (length earlier.now + index) }
+{
+    earlier.len() + index >= 64
+}
+
 /// A resource, from its name and its value, which is the `index`-th of the section. The earlier
 /// ones are those of the sections before.
 fn resource(
@@ -103,7 +112,7 @@ fn resource(
     if is_taken(name, earlier) {
         return Err(place.fault(alloc, FaultKind::Name));
     }
-    if earlier.len() + index >= 64 {
+    if is_full(earlier, index) {
         return Err(place.fault(alloc, FaultKind::Many));
     }
     let kind = kind_in(alloc, section, name, table)?;

@@ -1,6 +1,7 @@
 use Rattle.std.proofs.Common.{◌≡◌, ◌+◌, ◌≤◌, ◌<◌, length, sym, ◌∙◌, rules, arith}
 use Rattle.std.specs.List.{list_any}
 use Rattle.std.specs.Str.{bytes_eq}
+use Rattle.std.proofs.lemmas.Bool.{leb-true, leb-false}
 use Rattle.std.proofs.lemmas.List.{length-map}
 use Rattle.std.proofs.lemmas.Result.{err_from_is_err_and}
 use Rattle.toml.specs.View.{table_view, view}
@@ -29,11 +30,11 @@ returns-then-is_taken-clause-faults c =
     stands (kind_of c.args.section) (names_of c.args.earlier.now) c.args.index c.args.name.now (view c.args.value.now)
     (table_view c.in-Some.table.now) (has after) _ (sym (taken after) ∙ c.if-is_taken.true) (search rules)
 
-pub returns-then-earlier-index-ge64-clause-faults : goal.returns-then-earlier-index-ge64-clause-faults
-returns-then-earlier-index-ge64-clause-faults c =
-    let after = (goal.at.returns-then-earlier-index-ge64-clause-faults c).After-is_taken in
+pub returns-then-is_full-clause-faults : goal.returns-then-is_full-clause-faults
+returns-then-is_full-clause-faults c =
+    let after = (goal.at.returns-then-is_full-clause-faults c).After-is_taken in
     let over : 64 ≤ length (names_of c.args.earlier.now) + c.args.index =
-    omega (arith, named after, c.if-earlier-index-ge64.true) in
+    omega (arith, named after, leb-true 64 _ (sym c.is_full.ensures ∙ c.if-is_full.true)) in
     too-many (kind_of c.args.section) (names_of c.args.earlier.now) c.args.index c.args.name.now
     (view c.args.value.now) (table_view c.in-Some.table.now) (has after) _
     (sym (taken after) ∙ c.if-is_taken.false) over (search rules)
@@ -43,7 +44,7 @@ returns-in_err-kind-clause-faults c =
     let after = (goal.at.returns-in_err-kind-clause-faults c).After-is_taken in
     let p = err_from_is_err_and c.from_residual.result c.from_residual.ensures.1 in
     let few : length (names_of c.args.earlier.now) + c.args.index < 64 =
-    omega (arith, named after, c.if-earlier-index-ge64.false) in
+    omega (arith, named after, leb-false 64 _ (sym c.is_full.ensures ∙ c.if-is_full.false)) in
     let left =
     numbers (kind_of c.args.section) (names_of c.args.earlier.now) c.args.index c.args.name.now
     (view c.args.value.now) (table_view c.in-Some.table.now) (has after)
@@ -54,7 +55,7 @@ pub returns-clause-faults : goal.returns-clause-faults
 returns-clause-faults c =
     let after = (goal.at.returns-clause-faults c).After-is_taken in
     let few : length (names_of c.args.earlier.now) + c.args.index < 64 =
-    omega (arith, named after, c.if-earlier-index-ge64.false) in
+    omega (arith, named after, leb-false 64 _ (sym c.is_full.ensures ∙ c.if-is_full.false)) in
     numbers (kind_of c.args.section) (names_of c.args.earlier.now) c.args.index c.args.name.now
     (view c.args.value.now) (table_view c.in-Some.table.now) (has after)
     (sym (taken after) ∙ c.if-is_taken.false) few ∙ search rules

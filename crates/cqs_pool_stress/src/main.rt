@@ -1,8 +1,8 @@
 //! Has threads work on one pool: crews of two and of four threads, each thread with three passes.
 //!
-//! `cqs_pool_stress ELEMENTS ROUNDS` prints what is sure of every run. Each element has a counter of
-//! its own, which whoever has the element loads and then stores one higher, in two steps. So the
-//! counters add up to what was taken only if no element was ever with two callers.
+//! `cqs_pool_stress ELEMENTS ROUNDS` prints what is sure of every run. Each element has a counter
+//! of its own, which whoever has the element loads and then stores one higher, in two steps. So
+//! the counters add up to what was taken only if no element was ever with two callers.
 #![tactic(auto)]
 
 mod crew;

@@ -325,7 +325,8 @@ module _ (s : PoolShape) (p k e : ℕ) (is : IsPool s) (was : IsInOrder s) where
   left-kept : (found new : CoreCell) → slice_get s.queue.cells k ≡ Some found → has_left found ≡ has_left new
       → picked (element_in s.payloads) 0 (set s.queue.cells k new) ≡ elements_left s.queue s.payloads
   left-kept found new there same =
-      picked-kept (element_in s.payloads) (element_in s.payloads) k (agree-same s.payloads k) 0 s.queue.cells k found new
+      picked-kept (element_in s.payloads) (element_in s.payloads) k (agree-same s.payloads k) 0 s.queue.cells k found
+      new
       (omega arith) there (ap (λ b. left_in b (s.payloads k)) same)
 
   -- a number is drawn to suspend at
@@ -466,7 +467,8 @@ module _ (s : PoolShape) (p k e : ℕ) (is : IsPool s) (was : IsInOrder s) where
       (λ i. ways i ++ sym loaded i ∷ []) before)
   steps-order installs (Some found) may w paid =
       order-of installs (Some found) (λ one by others. at-one (doing.Drawn k) w.0.does (λ e. absurd (cc)) one others)
-      (kept-order (row_at installs) found o.way refl w.0 (λ x. absurd (cc)) (ap is_left w.0.at) (λ j x. absurd (cc)) refl refl)
+      (kept-order (row_at installs) found o.way refl w.0 (λ x. absurd (cc)) (ap is_left w.0.at)
+      (λ j x. absurd (cc)) refl refl)
   steps-order takes (Some found) may w paid =
       order-of takes (Some found) (λ one by others. at-one (doing.Drawn k) w.0.does (λ e. absurd (cc)) one others)
       (λ before.
@@ -541,16 +543,19 @@ module _ (s : PoolShape) (p k e : ℕ) (is : IsPool s) (was : IsInOrder s) where
       subst (λ (x : CoreState). IsSoundAt s.queue k found x) w.0.at (is.sound.cells.at k found w.0.finds) in
       absurd (none-cancelling s.queue is.sound p before.others k k found w.0.does cell.0))
   steps-order passes_over (Some found) may w paid =
-      order-of passes_over (Some found) (λ one by others. at-one (doing.Ticket k) w.0.does (λ e. absurd (cc)) one others)
+      order-of passes_over (Some found)
+      (λ one by others. at-one (doing.Ticket k) w.0.does (λ e. absurd (cc)) one others)
       (kept-order (row_at passes_over) found o.way refl w.0 (λ x. absurd (cc)) refl (λ j x. absurd (cc)) refl refl)
   steps-order ends_refused (Some found) may w paid = absurd (pool-none_refused s p k is found w.0)
   steps-order leaves_line (Some found) may w paid =
       order-of leaves_line (Some found) (λ one by others. named-one p one (entry.Leave p k) (eq-eqb p p refl) by)
-      (kept-order (row_at leaves_line) found o.way refl w.0 (λ x. absurd (cc)) (ap is_left w.0.at) (λ j x. absurd (cc)) refl refl)
+      (kept-order (row_at leaves_line) found o.way refl w.0 (λ x. absurd (cc)) (ap is_left w.0.at)
+      (λ j x. absurd (cc)) refl refl)
   steps-order settles (Some found) may w paid =
       order-of settles (Some found)
       (λ one by others. at-one (doing.Decided k true) w.0.does (λ e. absurd (cc)) one others)
-      (kept-order (row_at settles) found o.way refl w.0 (λ x. absurd (cc)) (ap is_left w.0.at) (λ j x. absurd (cc)) refl refl)
+      (kept-order (row_at settles) found o.way refl w.0 (λ x. absurd (cc)) (ap is_left w.0.at)
+      (λ j x. absurd (cc)) refl refl)
   steps-order settles_owing (Some found) may w paid =
       order-of settles_owing (Some found)
       (λ one by others. at-one (doing.Decided k true) w.0.does (λ e. absurd (cc)) one others)

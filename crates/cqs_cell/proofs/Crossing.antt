@@ -3,17 +3,15 @@ use Rattle.std.proofs.Common.{◌≡◌, ℕ, ◌<◌, ◌^◌, Option, Some, No
 use Rattle.std.specs.Option.{option_map}
 use Rattle.std.proofs.lemmas.Option.{same_Some}
 use Rattle.cqs_core.specs.declared.cells.CoreState.{CoreState}
-use Rattle.cqs_core.specs.QueueCells.{IsBare}
-use Rattle.cqs_core.specs.QueueStages.{doing_at}
-use Rattle.cqs_core.specs.QueueSteps.{QueueStep, row_of, CellRow, StepRow, at_counter, at_cell, payload_told}
+use Rattle.cqs_core.specs.QueueSteps.{QueueStep, row_of, CellRow, StepRow, at_counter, at_cell}
 use Rattle.cqs_words.specs.declared.cell.CellState.{CellState}
 use Rattle.cqs_words.specs.Cell.{cell_word, index_in, state_code}
 use Rattle.cqs_words.proofs.CellLaws.{state_code-below, index_in-cell_word}
 use Rattle.cqs_rule.specs.declared.config.Place.{Place}
 use Rattle.cqs_rule.specs.declared.view.View.{View}
-use Rattle.cqs_rule.specs.Exchanges.{Exchanges, MayExchange, IsCrossing, IsOwnWait, payload_left}
-use Rattle.cqs_rule.specs.Placed.{KnowsPlace, place_at}
-use Rattle.cqs_rule.specs.Ruled.{shown_state, word_of}
+use Rattle.cqs_rule.specs.Exchanges.{Exchanges, MayExchange, IsCrossing}
+use Rattle.cqs_rule.specs.Placed.{KnowsPlace}
+use Rattle.cqs_rule.specs.Ruled.{shown_state}
 use Rattle.cqs_cell.specs.Crossings.{CrossesRow, CrossesBy, Crosses, WorksBy, OwnsBy, FindsBy, FitsBy, MakesBy, LeavesBy}
 
 -- the state whose shown one is this

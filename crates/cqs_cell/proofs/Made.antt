@@ -1,5 +1,5 @@
 -- What an exchange on a cell tells: it was made, or the cell was found otherwise.
-use Rattle.std.proofs.Common.{◌≡◌, ◌≢◌, ◌⊎◌, ℕ, ◌+◌, ◌<◌, ◌≤◌, ◌^◌, List, [], ◌∷◌, ◌++◌, length, Option, Some, None, sym, refl, ap, ◌∙◌, subst, ⊎_elim, arith}
+use Rattle.std.proofs.Common.{◌≡◌, ◌≢◌, ℕ, ◌<◌, ◌≤◌, ◌^◌, List, [], ◌∷◌, ◌++◌, length, Some, None, sym, refl, ap, ◌∙◌, subst, ⊎_elim, arith}
 use Rattle.std.proofs.lemmas.List.{append-nil}
 use Rattle.std.proofs.lemmas.Option.{same_Some}
 use Rattle.cqs_core.specs.declared.cells.CoreState.{CoreState}
@@ -7,7 +7,6 @@ use Rattle.cqs_core.specs.declared.cells.CoreState.TheVariants as state
 use Rattle.cqs_core.specs.QueueCells.{rank, IsBare}
 use Rattle.cqs_core.specs.QueueMoves.{IsCancelling}
 use Rattle.cqs_core.specs.QueueSound.{IsUntaken}
-use Rattle.cqs_core.specs.QueueStages.{MayFind}
 use Rattle.cqs_core.specs.QueueSteps.{QueueStep, row_of, CellRow, StepRow, at_counter, at_cell, payload_told}
 use Rattle.cqs_words.specs.declared.cell.CellState.{CellState}
 use Rattle.cqs_words.specs.declared.cell.CellWord.{CellWord}
@@ -16,10 +15,9 @@ use Rattle.cqs_words.proofs.CellLaws.{unpacked_cell-packed_cell}
 use Rattle.cqs_rule.specs.declared.config.Place.{Place}
 use Rattle.cqs_rule.specs.declared.view.Facts.{Facts}
 use Rattle.cqs_rule.specs.declared.view.Glimpse.{Glimpse}
-use Rattle.cqs_rule.specs.declared.view.Sighting.{Sighting}
 use Rattle.cqs_rule.specs.declared.view.Sighting.TheVariants.{Cell}
 use Rattle.cqs_rule.specs.declared.view.View.{View}
-use Rattle.cqs_rule.specs.Exchanges.{FoundCell, SinceLast, IsFoundSince, HasCell, Crossed, CrossedBy}
+use Rattle.cqs_rule.specs.Exchanges.{FoundCell, SinceLast, HasCell, Crossed, CrossedBy}
 use Rattle.cqs_rule.specs.Facts.{facts_worked, facts_missed}
 use Rattle.cqs_rule.specs.Manner.{Leaving, asks, passes_on, at_once, Asks, IsSmart}
 use Rattle.cqs_rule.specs.Placed.{KnowsPlace}

@@ -2,7 +2,15 @@
 
 ghost use Rattle.std.specs.Prelude.{◌≡◌, ◌<◌, ◌^◌, IfOk, IfErr};
 ghost use Rattle.cqs_cell.specs.Crossings.{
-    Crosses, Works, Owns, Finds, Fits, Makes, Leaves, IsLast, IsSure,
+  Crosses,
+  Works,
+  Owns,
+  Finds,
+  Fits,
+  Makes,
+  Leaves,
+  IsLast,
+  IsSure,
 };
 ghost use Rattle.cqs_cell.specs.Transitions.{HasMade, HasMissedCell, HasMissedWord, IsCellWord};
 ghost use Rattle.cqs_rule.specs.Manner.{Suits};
@@ -12,8 +20,8 @@ ghost use Rattle.cqs_rule.specs.Placed.{KnowsPlace};
 use cqs_rule::{ClientWords, Kind, Pass, Place, Queue};
 use cqs_words::{CellState, CellWord};
 
-// The exchange that the step K makes, from a cell in the state found and with this payload to one in
-// the state made and with what is left. It answers the cell that was found where that is another.
+// The exchange that the step K makes, from a cell in the state found, with this payload, to one in
+// the state made, with what is left. It answers the cell that was found where that is another.
 #[inline]
 pub(crate) fn cross<C: ClientWords, K: Kind>(
     queue: &Queue<C>,

@@ -1,5 +1,5 @@
-//! How a canceller's cell is settled: by one exchange, or by a second one where a resume has left its
-//! value there.
+//! How a canceller's cell is settled: by one exchange, or by a second one where a resume has left
+//! its value there.
 
 ghost use Rattle.std.specs.Prelude.{◌≡◌, true, false};
 ghost use Rattle.cqs_core.specs.declared.doings.Doing.TheVariants as doing;
@@ -9,9 +9,7 @@ ghost use Rattle.cqs_rule.specs.Placed.{KnowsPlace};
 ghost use Rattle.cqs_cell.specs.Transitions.{HasSettled};
 
 use crate::cross::{cross, cross_surely};
-use cqs_rule::{
-    ClientWords, Pass, Place, Queue, Refuses, RefusesValue, Settles, SettlesOwing,
-};
+use cqs_rule::{ClientWords, Pass, Place, Queue, Refuses, RefusesValue, Settles, SettlesOwing};
 use cqs_words::CellState;
 
 // Resumes pass over the cell.

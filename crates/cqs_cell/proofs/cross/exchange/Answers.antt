@@ -1,4 +1,3 @@
-use Rattle.std.proofs.Common.{sym, ◌∙◌}
 use Rattle.cqs_cell.proofs.Crossing.{crossing-of}
 use Rattle.cqs_cell.proofs.Made.{made-by, missed-by, crossed-some}
 use Rattle.cqs_cell.proofs.cross.exchange.Goals as goal

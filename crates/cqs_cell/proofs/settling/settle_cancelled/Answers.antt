@@ -1,7 +1,6 @@
 use Rattle.std.proofs.Common.{◌∙◌}
 use Rattle.cqs_core.specs.declared.cells.CoreState.TheVariants as state
-use Rattle.cqs_core.specs.QueueSteps.{settles_owing}
-use Rattle.cqs_cell.proofs.Made.{after-miss, made-after, delegated-left, none-settles}
+use Rattle.cqs_cell.proofs.Made.{after-miss, delegated-left, none-settles}
 use Rattle.cqs_cell.proofs.settling.settle_cancelled.Goals as goal
 
 pub cross_surely-requires-clause-works : goal.cross_surely-requires-clause-works

@@ -1,7 +1,7 @@
 -- A cancel that leaves at once is one exchange on its cell; or it is too late, and a load follows.
-use Rattle.std.proofs.Common.{◌≡◌, ℕ, [], ◌++◌, refl, ap, ◌∙◌, subst}
+use Rattle.std.proofs.Common.{◌≡◌, ℕ, [], ◌++◌, refl, ◌∙◌, subst}
 use Rattle.std.proofs.lemmas.List.{append-nil}
-use Rattle.cqs_core.specs.QueueSteps.{row_of, starts_leaving, leaves_at_once}
+use Rattle.cqs_core.specs.QueueSteps.{row_of, leaves_at_once}
 use Rattle.cqs_words.specs.declared.cell.CellState.{CellState}
 use Rattle.cqs_rule.specs.declared.client.ClientWords.{Ghosts}
 use Rattle.cqs_rule.specs.declared.config.Place.{Place}
@@ -15,7 +15,7 @@ use Rattle.cqs_rule.specs.Placed.{KnowsPlace}
 use Rattle.cqs_rule.specs.Saw.{Saw}
 use Rattle.cqs_rule.proofs.Calls.{called-by}
 use Rattle.cqs_rule.proofs.Places.{knows-saw, knows-at}
-use Rattle.cqs_cell.specs.Transitions.{facts_since, MadeBy, MissedBy, HasMissed}
+use Rattle.cqs_cell.specs.Transitions.{facts_since, MadeBy, HasMissed}
 use Rattle.cqs_cancel.specs.AtOnce.{WentAtOnce}
 use Rattle.cqs_cancel.proofs.Steps.{no-more}
 
@@ -41,22 +41,8 @@ module _ {C E S : Type 0} (object : Object E) (primitive : C → Primitive E S) 
         facts_are = saw.facts_are;
       }
 
-  -- one that missed tells what any other of a waiting owner tells
-  pub missed-so : (k : ℕ) (found : CellState) (v u : View E S)
-      → MissedBy object primitive (row_of leaves_at_once) k v found u
-      → MissedBy object primitive (row_of starts_leaving) k v found u
-  missed-so k found v u m = record {
-    word = m.word;
-    glimpse = m.glimpse;
-    number = m.number;
-    cell = m.cell;
-    state_is = m.state_is;
-    other = m.other;
-    may = m.may;
-    since = m.since;
-    saw = m.saw;
-    was = m.was;
-  }
+-- how a call ends
+pub ruleset at_once_ends = (went)
 
 module _ {C S E : Type 0} {g : Ghosts C S E} where
   -- what the pass knew of places it knows after the exchange that missed

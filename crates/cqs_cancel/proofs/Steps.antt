@@ -5,7 +5,9 @@ use Rattle.std.proofs.lemmas.List.{append-nil, append_cancel_right}
 use Rattle.cqs_core.specs.declared.cells.CoreState.{CoreState}
 use Rattle.cqs_core.specs.declared.cells.CoreState.TheVariants as state
 use Rattle.cqs_core.specs.declared.doings.Doing.TheVariants as doing
-use Rattle.cqs_core.specs.QueueCells.{rank, IsStanding}
+use Rattle.cqs_core.specs.QueueCells.{rank, IsBare, IsStanding}
+use Rattle.cqs_core.specs.QueueStages as stage
+use Rattle.cqs_core.specs.QueueStages.{MayFind}
 use Rattle.cqs_core.specs.QueueSteps.{QueueStep, row_of, CellRow, StepRow, at_counter, at_cell, payload_told, starts_leaving, settles, settles_owing, refuses, refuses_value, looks, late}
 use Rattle.cqs_words.specs.declared.cell.CellState.{CellState}
 use Rattle.cqs_words.specs.declared.cell.CellWord.{CellWord}
@@ -37,7 +39,7 @@ use Rattle.cqs_rule.specs.Saw.{Saw, WasShown, WasFound, WasSo}
 use Rattle.cqs_rule.proofs.Calls.{called-by, called-then, called-and, saw-then}
 use Rattle.cqs_rule.proofs.Places.{knows-saw, knows-at}
 use Rattle.cqs_cell.specs.Looks.{LooksAt}
-use Rattle.cqs_cell.specs.Transitions.{facts_since, Made, MadeBy, HasMade, MissedBy, HasMissed, HasSettled}
+use Rattle.cqs_cell.specs.Transitions.{facts_since, Made, MadeBy, HasMade, Missed, MissedBy, HasMissed, HasSettled}
 use Rattle.cqs_cancel.specs.declared.cancelling.Left.{Left}
 use Rattle.cqs_cancel.specs.declared.cancelling.Left.TheVariants.{Gone, GoneOwing, Late}
 use Rattle.cqs_cancel.specs.Cancels.{asks_at, facts_leaving, facts_tried, waiting, served, Settled, SettledBy, Settles, Leaves, Began, CameLate, HasLeft, HasCancelled}
@@ -336,6 +338,24 @@ module _ {C E S : Type 0} (object : Object E) (primitive : C → Primitive E S) 
         facts_are = saw.facts_are;
       }
 
+  -- the same of any exchange that wanted a waiter there, of a wait of the pass
+  pub missed-late : (row : CellRow) (k : ℕ) (found : CellState) (cell : CellWord) (v u w : View E S)
+      → Missed object primitive row k v found u → LooksAt object primitive cancels k u cell w
+      → row.finds ≡ state.Waiter → row.works_at ≡ stage.idle → CameLate object primitive k cell.payload v w
+  missed-late row k found cell v u w m l finds works =
+      came-late k found cell v u w (record {
+        word = m.word;
+        glimpse = m.glimpse;
+        number = m.number;
+        cell = m.cell;
+        state_is = m.state_is;
+        other = λ bare is. m.other (subst IsBare (sym finds) bare) (is ∙ sym finds);
+        may = subst (λ s. MayFind s m.glimpse.state) works m.may;
+        since = m.since;
+        saw = m.saw;
+        was = m.was;
+      }) l
+
 module _ {C S E : Type 0} {g : Ghosts C S E} where
   -- the cell was settled by the answer, and no resume had left anything there
   pub gone : (asking : Asking E) (k : ℕ) (answer : Bool) (p q r : Pass C S E g) → IsAsked asking
@@ -398,3 +418,8 @@ module _ {C S E : Type 0} {g : Ghosts C S E} where
       none-late (by_step word event) t = t
       none-late as_it_begins t = t
       none-late by_itself t = t
+
+-- how a call ends
+pub ruleset leave_ends = (answered-doing, gone, gone-refused, gone-owing)
+
+pub ruleset cancel_ends = (cancelled)

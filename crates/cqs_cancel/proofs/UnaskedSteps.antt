@@ -1,10 +1,9 @@
 -- A cancel whose client isn't asked is its steps: the exchange by which its waiter leaves the line, and the one by
 -- which the cell is settled.
-use Rattle.std.proofs.Common.{◌≡◌, ℕ, ◌≤◌, true, List, [], ◌++◌, length, Option, Some, None, sym, refl, ap, ◌∙◌, subst, arith}
+use Rattle.std.proofs.Common.{◌≡◌, ℕ, ◌≤◌, true, List, [], ◌++◌, Option, Some, None, sym, refl, ap, ◌∙◌, subst, arith}
 use Rattle.std.proofs.lemmas.List.{append-nil}
-use Rattle.cqs_core.specs.QueueSteps.{QueueStep, row_of, CellRow, StepRow, at_counter, at_cell, payload_told, starts_leaving, leaves_line, settles, settles_owing}
+use Rattle.cqs_core.specs.QueueSteps.{QueueStep, row_of, CellRow, StepRow, at_counter, at_cell, payload_told, leaves_line, settles, settles_owing}
 use Rattle.cqs_words.specs.declared.cell.CellState.{CellState}
-use Rattle.cqs_words.specs.declared.cell.CellWord.{CellWord}
 use Rattle.cqs_rule.specs.declared.client.ClientWords.{Ghosts}
 use Rattle.cqs_rule.specs.declared.config.Place.{Place}
 use Rattle.cqs_rule.specs.declared.queue.Pass.{Pass}
@@ -14,7 +13,6 @@ use Rattle.cqs_rule.specs.declared.view.Has.{Has}
 use Rattle.cqs_rule.specs.declared.view.View.{View}
 use Rattle.cqs_rule.specs.Exchanges.{HasCell}
 use Rattle.cqs_rule.specs.Facts.{facts_worked}
-use Rattle.cqs_rule.specs.Loads.{cancels}
 use Rattle.cqs_rule.specs.Object.{Object, Primitive}
 use Rattle.cqs_rule.specs.Owed.{OwesWith}
 use Rattle.cqs_rule.specs.Passes.{pass_view}
@@ -22,12 +20,12 @@ use Rattle.cqs_rule.specs.Placed.{KnowsPlace}
 use Rattle.cqs_rule.specs.Saw.{Saw, WasFound}
 use Rattle.cqs_rule.proofs.Calls.{called-by, called-then}
 use Rattle.cqs_rule.proofs.Places.{knows-saw, knows-at}
-use Rattle.cqs_cell.specs.Looks.{LooksAt}
-use Rattle.cqs_cell.specs.Transitions.{facts_since, Made, MadeBy, HasMade, MissedBy, HasMissed, HasSettled}
+use Rattle.cqs_cell.specs.Transitions.{facts_since, Made, MadeBy, HasMade, HasMissed, HasSettled}
+use Rattle.cqs_cancel.specs.declared.cancelling.Left.{Left}
 use Rattle.cqs_cancel.specs.declared.cancelling.Left.TheVariants.{Gone, GoneOwing}
-use Rattle.cqs_cancel.specs.Cancels.{facts_tried, waiting, CameLate}
-use Rattle.cqs_cancel.specs.Unasked.{facts_left, Closed, ClosedBy, Closes, HasCancelledUnasked}
-use Rattle.cqs_cancel.proofs.Steps.{no-more, found-then, saw-more, came-late}
+use Rattle.cqs_cancel.specs.Cancels.{facts_tried, waiting}
+use Rattle.cqs_cancel.specs.Unasked.{facts_left, Closed, ClosedBy, Closes, left_of, HasCancelledUnasked}
+use Rattle.cqs_cancel.proofs.Steps.{no-more, found-then, saw-more}
 
 module _ {C E S : Type 0} (object : Object E) (primitive : C → Primitive E S) where
   -- the waiter left the line, and a step settled the cell
@@ -92,42 +90,25 @@ module _ {C E S : Type 0} (object : Object E) (primitive : C → Primitive E S) 
     owed = ap (λ (f : Facts). f.has.payload) t.facts_are ∙ t.told_is;
   }
 
-  -- an exchange that missed its waiter tells the same, whether the client was to be asked or not
-  as-asked : (k : ℕ) (found : CellState) (v u : View E S)
-      → MissedBy object primitive (row_of leaves_line) k v found u
-      → MissedBy object primitive (row_of starts_leaving) k v found u
-  as-asked k found v u m = record {
-    word = m.word;
-    glimpse = m.glimpse;
-    number = m.number;
-    cell = m.cell;
-    state_is = m.state_is;
-    other = m.other;
-    may = m.may;
-    since = m.since;
-    saw = m.saw;
-    was = m.was;
-  }
-
-  pub late-unasked : (k : ℕ) (found : CellState) (cell : CellWord) (v u w : View E S)
-      → MissedBy object primitive (row_of leaves_line) k v found u → LooksAt object primitive cancels k u cell w
-      → CameLate object primitive k cell.payload v w
-  late-unasked k found cell v u w m l =
-      came-late object primitive k found cell v u w (as-asked k found v u m) l
-
 module _ {C S E : Type 0} {g : Ghosts C S E} where
   -- the cell was settled, and no resume had left anything there; or one had
-  pub gone-unasked : (k : ℕ) (p q r : Pass C S E g) → HasMade leaves_line k 0 p q → HasSettled true k None q r
+  gone-unasked : (k : ℕ) (p q r : Pass C S E g) → HasMade leaves_line k 0 p q → HasSettled true k None q r
       → HasCancelledUnasked k p Gone r
   gone-unasked k p q r l m =
       closes-by g.object g.primitive settles 0 k 0 (pass_view p) (pass_view q) (pass_view r) (omega arith) l m
 
-  pub gone-owing-unasked : (k payload : ℕ) (p q r : Pass C S E g) → HasMade leaves_line k 0 p q
+  gone-owing-unasked : (k payload : ℕ) (p q r : Pass C S E g) → HasMade leaves_line k 0 p q
       → HasSettled true k (Some payload) q r → HasCancelledUnasked k p (GoneOwing payload) r
   gone-owing-unasked k payload p q r l m =
       let t = closes-by g.object g.primitive settles_owing 1 k payload (pass_view p) (pass_view q) (pass_view r)
       (omega arith) l m in
       (t, owes-on g.object g.primitive k payload (pass_view p) (pass_view r) t)
+
+  pub closes-left : (k : ℕ) (found : Option ℕ) (left : Left) (p q r : Pass C S E g) → HasMade leaves_line k 0 p q
+      → HasSettled true k found q r → left ≡ left_of found → HasCancelledUnasked k p left r
+  closes-left k None left p q r l m is = subst (λ z. HasCancelledUnasked k p z r) (sym is) (gone-unasked k p q r l m)
+  closes-left k (Some payload) left p q r l m is =
+      subst (λ z. HasCancelledUnasked k p z r) (sym is) (gone-owing-unasked k payload p q r l m)
 
   -- what the pass knew of places it knows after the first exchange, whatever that found
   pub left-place : (k : ℕ) (p q : Pass C S E g) (at on : Place) → HasMade leaves_line k 0 p q → on ≡ at
@@ -139,3 +120,6 @@ module _ {C S E : Type 0} {g : Ghosts C S E} where
       → HasMissed leaves_line k found p q → on ≡ at → KnowsPlace (pass_view p) at → KnowsPlace (pass_view q) on
   found-place k found p q at on m same knows = knows-at (pass_view q) (pass_view q) at on refl same
       (knows-saw g.object (pass_view p) (pass_view q) _ _ at m.saw knows)
+
+-- how a call ends
+pub ruleset unasked_ends = (closes-left)

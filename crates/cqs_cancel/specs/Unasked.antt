@@ -1,6 +1,6 @@
 -- What a cancel answers whose client isn't asked: exactly what its owner found in the cell of the
 -- wait.
-use Rattle.std.specs.Prelude.{◌≡◌, ℕ, ◌≤◌, List, ◌++◌, length, None}
+use Rattle.std.specs.Prelude.{◌≡◌, ℕ, ◌≤◌, List, ◌++◌, length, Option, Some, None}
 use Rattle.cqs_core.specs.QueueSteps.{QueueStep, row_of, CellRow, StepRow, at_counter, at_cell, payload_told, leaves_line, settles, settles_owing}
 use Rattle.cqs_rule.specs.declared.client.ClientWords.{Ghosts}
 use Rattle.cqs_rule.specs.declared.queue.Pass.{Pass}
@@ -22,6 +22,11 @@ use Rattle.cqs_cancel.specs.Cancels.{facts_tried, waiting, CameLate}
 -- a pass at these facts that has left the wait k, whose cell's word this was
 abbrev pub facts_left : Gains → ℕ → ℕ → Facts → Facts
 facts_left gains k word f = facts_after gains (row_of leaves_line) k word f.has.payload f
+
+-- what a settled cell comes to: nothing was left there, or the pass owes what was
+abbrev pub left_of : Option ℕ → Left
+left_of None = Gone
+left_of (Some payload) = GoneOwing payload
 
 module _ {C E S : Type 0} (object : Object E) (primitive : C → Primitive E S) where
   -- The cell of the wait k was found with its waiter by the first exchange, which left the line.

@@ -3,6 +3,7 @@
 ghost use Rattle.std.specs.Prelude.{◌≡◌};
 ghost use Rattle.cqs_core.specs.declared.doings.Doing.TheVariants as doing;
 ghost use Rattle.cqs_rule.specs.Callbacks.{IsAsked};
+ghost use Rattle.cqs_rule.specs.Lists.{Has};
 ghost use Rattle.cqs_rule.specs.Manner.{Asks};
 ghost use Rattle.cqs_rule.specs.Passes.{pass_view, client_of, IsOf};
 ghost use Rattle.cqs_rule.specs.Placed.{KnowsPlace};
@@ -38,6 +39,22 @@ pub fn cancel<C: Client>(queue: &Queue<C>, pass: &mut Pass<C>, wait: Wait) -> Le
     ensures cancelled { HasCancelled C.asking (place_of wait).index pass.old result pass.new }
 {
     let at = queue.spend_wait(pass, wait);
+    cancel_at(queue, pass, at)
+}
+
+// The same, of the wait at this place.
+#[inline(always)]
+#[tactic(auto, using(crate::proofs::Steps::cancel_ends))]
+fn cancel_at<C: Client>(queue: &Queue<C>, pass: &mut Pass<C>, at: Place) -> Left
+    requires belongs { IsOf queue.now pass.old }
+    requires asks { Asks (C.primitive (client_of queue.now)).manner.leaving }
+    requires asked { IsAsked C.asking }
+    requires idle { (pass_view pass.old).facts.doing ≡ doing.Idle }
+    requires wait { Has at.index (pass_view pass.old).facts.waits }
+    requires place { KnowsPlace (pass_view pass.old) at }
+    ensures belongs { IsOf queue.now pass.new }
+    ensures cancelled { HasCancelled C.asking at.index pass.old result pass.new }
+{
     match begin_cancel(queue, pass, at) {
         Ok(()) => leave(queue, pass, at),
         Err(_) => Left::Late(look::<C, Cancels>(queue, pass, at).payload),
@@ -46,6 +63,7 @@ pub fn cancel<C: Client>(queue: &Queue<C>, pass: &mut Pass<C>, wait: Wait) -> Le
 
 // Ends what the owner of a wait began: its client is asked, and the cell is settled by the answer.
 #[inline(always)]
+#[tactic(auto, using(crate::proofs::Steps::leave_ends))]
 fn leave<C: Client>(queue: &Queue<C>, pass: &mut Pass<C>, at: Place) -> Left
     requires belongs { IsOf queue.now pass.old }
     requires asks { Asks (C.primitive (client_of queue.now)).manner.leaving }

@@ -2,14 +2,16 @@
 
 ghost use Rattle.std.specs.Prelude.{◌≡◌};
 ghost use Rattle.cqs_core.specs.declared.doings.Doing.TheVariants as doing;
+ghost use Rattle.cqs_rule.specs.Lists.{Has};
 ghost use Rattle.cqs_rule.specs.Manner.{PassesOn};
 ghost use Rattle.cqs_rule.specs.Passes.{pass_view, client_of, IsOf};
+ghost use Rattle.cqs_rule.specs.Placed.{KnowsPlace};
 ghost use Rattle.cqs_rule.specs.Waits.{place_of, HasWait};
-ghost use Rattle.cqs_cancel.specs.Unasked.{HasCancelledUnasked};
+ghost use Rattle.cqs_cancel.specs.Unasked.{HasCancelledUnasked, left_of};
 
 use crate::cancelling::Left;
 use cqs_cell::{leave_line, look, settle_left};
-use cqs_rule::{Cancels, ClientWords, Pass, Queue, Wait};
+use cqs_rule::{Cancels, ClientWords, Pass, Place, Queue, Wait};
 
 /// Cancels a wait where resumes pass on in any case: its waiter leaves the line, or it was served
 /// before.
@@ -22,11 +24,33 @@ pub fn cancel_unasked<C: ClientWords>(queue: &Queue<C>, pass: &mut Pass<C>, wait
     ensures cancelled { HasCancelledUnasked (place_of wait).index pass.old result pass.new }
 {
     let at = queue.spend_wait(pass, wait);
+    cancel_at(queue, pass, at)
+}
+
+// The same, of the wait at this place.
+#[inline]
+#[tactic(auto, using(crate::proofs::UnaskedSteps::unasked_ends))]
+fn cancel_at<C: ClientWords>(queue: &Queue<C>, pass: &mut Pass<C>, at: Place) -> Left
+    requires belongs { IsOf queue.now pass.old }
+    requires passes_on { PassesOn (C.primitive (client_of queue.now)).manner.leaving }
+    requires idle { (pass_view pass.old).facts.doing ≡ doing.Idle }
+    requires wait { Has at.index (pass_view pass.old).facts.waits }
+    requires place { KnowsPlace (pass_view pass.old) at }
+    ensures belongs { IsOf queue.now pass.new }
+    ensures cancelled { HasCancelledUnasked at.index pass.old result pass.new }
+{
     match leave_line(queue, pass, at) {
-        Ok(()) => match settle_left(queue, pass, at) {
-            None => Left::Gone,
-            Some(payload) => Left::GoneOwing(payload),
-        },
+        Ok(()) => left_by(settle_left(queue, pass, at)),
         Err(_) => Left::Late(look::<C, Cancels>(queue, pass, at).payload),
+    }
+}
+
+// What a settled cell comes to, by what a resume had left there.
+fn left_by(payload: Option<u32>) -> Left
+    ensures { result ≡ left_of payload }
+{
+    match payload {
+        None => Left::Gone,
+        Some(payload) => Left::GoneOwing(payload),
     }
 }

@@ -34,9 +34,9 @@ pub fn resume<C: Client>(queue: &Queue<C>, pass: &mut Pass<C>, payload: u32) -> 
     }
 }
 
-/// Goes on with a resumption that was handed back, by a count of its own. This stands apart from its
-/// caller, and gets the pass by value: with its address the pass would lie in memory in the caller
-/// too, also where nothing is to be finished.
+/// Goes on with a resumption that was handed back, by a count of its own. This stands apart from
+/// its caller, and gets the pass by value: with its address the pass would lie in memory in the
+/// caller too, also where nothing is to be finished.
 #[inline(always)]
 pub fn finish<C: Client>(queue: &Queue<C>, pass: &mut Pass<C>, under: Under) -> Resumed
     requires belongs { IsOf queue.now pass.old }

@@ -24,8 +24,8 @@ impl Chance {
     }
 }
 
-/// The text of a plan: few resources, of few permits each, and jobs that take, work and give. A third of
-/// the jobs have deadlines.
+/// The text of a plan: few resources, of few permits each, and jobs that take, work and give. A
+/// third of the jobs have deadlines.
 pub fn plan_text(alloc: Global, seed: u64) -> anyhow::Result<String> {
     let mut chance = Chance { state: seed };
     let mut text = String::from_str(alloc, "version = 1\n")?;

@@ -5,13 +5,16 @@
 //! the counters add up to what was taken only if no element was ever with two callers.
 #![tactic(auto)]
 
+ghost use Rattle.cqs_rule.specs.Passes.{pass_view};
+ghost use Rattle.cqs_pool.specs.Calls.{IsReady, IsMine};
+
 mod crew;
 mod giving;
 mod waiting;
 mod worker;
 
 use crate::crew::together;
-use cqs_pool::{Pool, Taking};
+use cqs_pool::{Pool, PoolPass, Taking};
 use cqs_rule::Config;
 use std::env;
 use std::process::ExitCode;
@@ -58,18 +61,27 @@ fn run<R: Threads + Sync + Print + AllocGlobal>(
         counted = counted.wrapping_add(counter.load(Ordering::SeqCst));
     }
     let alone = pool.sole(&mut pass);
-    let mut free = 0u32;
-    for _ in 0..elements {
-        if let Ok(Taking::Took(_)) = pool.take(&mut pass) {
-            free = free.saturating_add(1);
-        }
-    }
+    let free = take_all(&pool, &mut pass, elements);
     println!(rt; "{threads} threads made {rounds} rounds each, on {elements} elements")?;
     println!(rt; "some were taken: {}", taken > 0)?;
     println!(rt; "the counters add up to what was taken: {}", counted == taken)?;
     println!(rt; "one pass is left: {alone}")?;
     println!(rt; "free elements at the end: {free}")?;
     Ok(())
+}
+
+// How many of so many takes have an element at once.
+fn take_all(pool: &Pool, pass: &mut PoolPass, elements: u32) -> u32
+    requires belongs { IsMine pool.now pass.old }
+    requires ready { IsReady (pass_view pass.old).facts }
+{
+    let mut free = 0u32;
+    for _taken in 0..elements {
+        if let Ok(Taking::Took(_)) = pool.take(pass) {
+            free = free.saturating_add(1);
+        }
+    }
+    free
 }
 
 fn main(rt: HostRuntime) -> anyhow::Result<ExitCode> {

@@ -1,7 +1,0 @@
-use Rattle.cqs_rule.specs.Passes.{pass_view}
-use Rattle.cqs_pool.specs.Calls.{IsReady, IsMine}
-use Rattle.cqs_pool_stress.proofs.take_all.Given as goal
-
--- between two takes the pass is ready
-abbrev pub invariant-loop-taken : goal.invariant-loop-taken
-invariant-loop-taken l = record { belongs : IsMine l.pool l.pass; ready : IsReady (pass_view l.pass).facts; }

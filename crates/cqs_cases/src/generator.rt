@@ -3,8 +3,8 @@
 use std::alloc::Global;
 use std::fmt::Write;
 
-/// The most semaphores of a plan.
-const MOST_SEMAPHORES: u32 = 3;
+/// The most resources of a plan. The third is a mutex.
+const MOST_RESOURCES: u32 = 3;
 
 /// Numbers by chance: a linear congruential generator with the constants of Knuth's MMIX.
 #[derive(Drop)]
@@ -24,20 +24,24 @@ impl Chance {
     }
 }
 
-/// The text of a plan: few semaphores of few permits, and jobs that take, work and give. A third of
-/// the jobs have deadlines.
+/// The text of a plan: few resources, of few permits each, and jobs that take, work and give. A
+/// third of the jobs have deadlines.
 pub fn plan_text(alloc: Global, seed: u64) -> anyhow::Result<String> {
     let mut chance = Chance { state: seed };
     let mut text = String::from_str(alloc, "version = 1\n")?;
     write!(text, "turns = {}\n", chance.up_to(40))?;
-    let semaphores = chance.up_to(MOST_SEMAPHORES);
-    for semaphore in 1..=semaphores {
+    let resources = chance.up_to(MOST_RESOURCES);
+    for place in 1..=resources {
         let size = chance.up_to(3);
-        write!(text, "[semaphore.s{semaphore}]\nsize = {size}\n")?;
+        if place == MOST_RESOURCES {
+            write!(text, "[mutex.r{place}]\n")?;
+        } else {
+            write!(text, "[semaphore.r{place}]\nsize = {size}\n")?;
+        }
     }
     for job in 1..=chance.up_to(12) {
         write!(text, "[[job]]\nname = \"j{job}\"\n")?;
-        add_steps(&mut text, &mut chance, semaphores)?;
+        add_steps(&mut text, &mut chance, resources)?;
         if chance.up_to(3) == 1 {
             write!(text, "deadline = {}\n", chance.up_to(16))?;
         }
@@ -46,23 +50,23 @@ pub fn plan_text(alloc: Global, seed: u64) -> anyhow::Result<String> {
 }
 
 /// The steps of a job. It gives only what it took before.
-fn add_steps(text: &mut String, chance: &mut Chance, semaphores: u32) -> anyhow::Result<()> {
-    let mut held = [0u32; MOST_SEMAPHORES as usize + 1];
+fn add_steps(text: &mut String, chance: &mut Chance, resources: u32) -> anyhow::Result<()> {
+    let mut held = [0u32; MOST_RESOURCES as usize + 1];
     text.push_str("steps = [")?;
     for _ in 0..chance.up_to(8) {
-        let at = chance.up_to(semaphores);
+        let at = chance.up_to(resources);
         let wish = chance.up_to(6);
-        let Some(permits) = held.get_mut(at as usize) else {
-            anyhow::bail!("no such semaphore");
+        let Some(count) = held.get_mut(at as usize) else {
+            anyhow::bail!("no such resource");
         };
         if wish == 1 {
             write!(text, "\"work {}\", ", chance.up_to(4))?;
-        } else if wish <= 3 && *permits > 0 {
-            *permits -= 1;
-            write!(text, "\"give s{at}\", ")?;
+        } else if wish <= 3 && *count > 0 {
+            *count -= 1;
+            write!(text, "\"give r{at}\", ")?;
         } else {
-            *permits = permits.saturating_add(1);
-            write!(text, "\"take s{at}\", ")?;
+            *count = count.saturating_add(1);
+            write!(text, "\"take r{at}\", ")?;
         }
     }
     text.push_str("]\n")?;

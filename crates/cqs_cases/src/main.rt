@@ -39,12 +39,13 @@ use std::fs;
 use std::rt::Files;
 
 /// The files of cases, each of which ends with `.cases`.
-const TABLES: [&str; 8] = [
+const TABLES: [&str; 9] = [
     "plans",
     "deadlines",
     "faults",
     "ranges",
     "names",
+    "mutexes",
     "first-faults",
     "too-many",
     "streams",

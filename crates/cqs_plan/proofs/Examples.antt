@@ -50,9 +50,21 @@ size_zero :
 unfolding toml_on_literals
 size_zero = refl
 
-a_mutex : HasFirst (db ++ codes "[mutex.m]\n") (codes "plan") fault.Key
+a_mutex : first_fault (db ++ codes "[mutex.m]\n") ≡ None
 unfolding toml_on_literals
 a_mutex = refl
+
+sized_mutex : HasFirst (db ++ codes "[mutex.m]\nsize = 1\n") (codes "mutex.m") fault.Key
+unfolding toml_on_literals
+sized_mutex = refl
+
+mutex_of_a_name_that_stands : HasFirst (db ++ codes "[mutex.db]\n") (codes "mutex.db") fault.Name
+unfolding toml_on_literals
+mutex_of_a_name_that_stands = refl
+
+a_queue : HasFirst (db ++ codes "[queue.q]\n") (codes "plan") fault.Key
+unfolding toml_on_literals
+a_queue = refl
 
 no_name : HasFirst (db ++ codes "[[job]]\n") (part_place 0 (codes "name")) fault.Missing
 unfolding toml_on_literals

@@ -3,12 +3,13 @@ pub mod StreamLemmas
 mod Examples
 mod DataLists
 mod WorkSteps
-mod FoundPlaces
 mod FirstFaults
 mod MeaningLemmas
 mod ValidNumbers
 mod ValidSteps
 mod ValidJobs
+mod SectionFaults
+mod ReadSections
 mod ValidPlans
 pub mod OneAnswer
 pub mod RunnablePlans

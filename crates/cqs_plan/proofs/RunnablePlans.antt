@@ -1,9 +1,8 @@
--- A plan that was read can be run: its resources are semaphores, and its steps can be made.
-use Rattle.std.proofs.Common.{◌≡◌, ℕ, zero, suc, Bool, List, [], ◌∷◌, ◌++◌, map, take, Option, Some, None, refl, sym, ap, ◌∙◌, subst}
-use Rattle.std.specs.Prelude.{slice_get, slice_index_or, All, IsSomeAnd, IsTrue, IfOk, Result, Ok, Err, codes}
+-- A plan that was read can be run: its resources are of kinds that are built, and its steps can be made.
+use Rattle.std.proofs.Common.{◌≡◌, ℕ, zero, suc, Bool, List, [], ◌∷◌, take, Option, Some, None, refl, ap, ◌∙◌, subst}
+use Rattle.std.specs.Prelude.{slice_get, slice_index_or, All, IsSomeAnd, IsTrue, IfOk, Result, Ok, Err}
 use Rattle.std.specs.Option.{option_map}
 use Rattle.std.proofs.lemmas.Option.{slice_get-map}
-use Rattle.toml.specs.Data.{Data, Members, get_member}
 use Rattle.cqs_core.specs.Numbered.{EachAt}
 use Rattle.cqs_core.proofs.Places.{get-below}
 use Rattle.cqs_plan.specs.declared.plans.error.PlanError.{PlanError}
@@ -15,12 +14,11 @@ use Rattle.cqs_plan.specs.declared.plans.step.Step.TheVariants.{Take, Give, Down
 use Rattle.cqs_plan.specs.declared.plans.job.Job.{Job}
 use Rattle.cqs_plan.specs.declared.plans.plan.Plan.{Plan}
 use Rattle.cqs_plan.specs.Floor.{IsHoldable}
-use Rattle.cqs_plan.specs.Language.{can_hold, semaphores}
-use Rattle.cqs_plan.specs.Meaning.{resource_in, members_in, plan_in}
-use Rattle.cqs_plan.specs.PlanText.{IsPlanText}
+use Rattle.cqs_plan.specs.Language.{can_hold}
 use Rattle.cqs_plan.specs.Holding.{TookMore}
-use Rattle.cqs_plan.specs.Runnable.{kinds_of, IsMakeable, IsRunnable, IsSemaphore, AreSemaphores}
-use Rattle.cqs_plan.specs.Validity.{IsValid, IsKind, IsResource, IsJob, IsStep, HasKindAt, is_latch, is_barrier}
+use Rattle.cqs_plan.specs.Runnable.{kinds_of, IsMakeable, IsRunnable, AreBuilt}
+use Rattle.cqs_plan.specs.Sections.{AreFound}
+use Rattle.cqs_plan.specs.Validity.{IsValid, IsResource, IsJob, IsStep, HasKindAt, is_latch, is_barrier}
 
 -- an element is where its number says
 get_or-at : {X : Type 0} (xs : List X) (i : ℕ) (x : X) → slice_get xs i ≡ Some x → slice_index_or xs i x ≡ x
@@ -31,41 +29,25 @@ get_or-at (y ∷ ys) (suc i) x there = get_or-at ys i x there
 pub all-at : {X : Type 0} (P : X → Type 0) (xs : List X) (i : ℕ) (x : X) → All P xs → slice_get xs i ≡ Some x → P x
 all-at P xs i x all there = subst P (get_or-at xs i x there) (all i x (get-below xs i x there))
 
--- the resources that a document says are semaphores, since no other kind is built
-resources-are : (f : List ℕ × Data → Resource) (rest : List Resource)
-    → ((m : List ℕ × Data) → IsHoldable (Some (f m).kind)) → rest ≡ []
-    → (members : List (List ℕ × Data)) (at : ℕ) (r : Resource)
-    → slice_get (map f members ++ rest) at ≡ Some r → IsHoldable (Some r.kind)
-resources-are f rest each none [] at r there =
-    let gone : slice_get {X = Resource} [] at ≡ Some r = rw none at there in absurd (cc)
-resources-are f rest each none (m ∷ members) zero r there =
-    let same : f m ≡ r = cc in rw (← same) (each m)
-resources-are f rest each none (m ∷ members) (suc at) r there = resources-are f rest each none members at r there
+-- the plan's resources are of kinds that are built
+abbrev AreHoldable : Plan → Type 0
+AreHoldable plan = EachAt (λ at resource. IsHoldable (Some resource.kind)) plan.resources
 
--- the plan's resources are of the kind that is built
-abbrev HasSemaphoresAlone : Plan → Type 0
-HasSemaphoresAlone plan = EachAt (λ at resource. IsHoldable (Some resource.kind)) plan.resources
-
-alone-in : (root : Members) → HasSemaphoresAlone (plan_in root)
-alone-in root = record {
-  at = λ at r there.
-      resources-are (resource_in semaphores) [] (λ m. tt) refl
-      (members_in (get_member (codes "semaphore") root)) at r there;
+holdable : (plan : Plan) → AreFound plan.resources → AreHoldable plan
+holdable plan found = record {
+  at = λ at r there. all-at (λ (x : Resource). IsHoldable (Some x.kind)) plan.resources at r found.built there;
 }
 
-pub semaphores-alone : (bytes : List ℕ) (plan : Plan) → IsPlanText bytes plan → HasSemaphoresAlone plan
-semaphores-alone bytes plan text = subst HasSemaphoresAlone (sym text.says) (alone-in text.root)
-
-module _ (plan : Plan) (valid : IsValid plan) (alone : HasSemaphoresAlone plan) where
-  -- a resource is a semaphore at its place
+module _ (plan : Plan) (valid : IsValid plan) (built : AreHoldable plan) where
+  -- a resource can be held at its place
   holdable-at : (at : ℕ) (r : Resource) → slice_get plan.resources at ≡ Some r
       → IsHoldable (slice_get (kinds_of plan.resources) at)
   holdable-at at r there =
       let kind : slice_get (kinds_of plan.resources) at ≡ Some r.kind =
       slice_get-map (λ (x : Resource). x.kind) plan.resources at ∙ ap (option_map (λ (x : Resource). x.kind)) there in
-      rw kind (alone.at at r there)
+      rw kind (built.at at r there)
 
-  -- a place of a resource of some kind is one of a semaphore
+  -- and so can one of some kind
   named-at : (test : Kind → Bool) (at : ℕ) → HasKindAt plan.resources test at
       → IsHoldable (slice_get (kinds_of plan.resources) at)
   named-at test at there = go (slice_get plan.resources at) refl there
@@ -76,7 +58,7 @@ module _ (plan : Plan) (valid : IsValid plan) (alone : HasSemaphoresAlone plan) 
       go None is named = absurd named
       go (Some r) is named = holdable-at at r is
 
-  -- no semaphore passes the test of another kind
+  -- no resource that can be held passes the test of a kind that can't
   other-kind : (test : Kind → Bool) → ((kind : Kind) → IsHoldable (Some kind) → IsTrue (test kind) → ⊥)
       → (at : ℕ) → HasKindAt plan.resources test at → ⊥
   other-kind test differs at there = go (slice_get plan.resources at) refl there
@@ -84,18 +66,18 @@ module _ (plan : Plan) (valid : IsValid plan) (alone : HasSemaphoresAlone plan) 
       go : (o : Option Resource) → slice_get plan.resources at ≡ o
           → IsSomeAnd o (λ resource. IsTrue (test resource.kind)) → ⊥
       go None is named = named
-      go (Some r) is named = differs r.kind (alone.at at r is) named
+      go (Some r) is named = differs r.kind (built.at at r is) named
 
   no-latch : (kind : Kind) → IsHoldable (Some kind) → IsTrue (is_latch kind) → ⊥
   no-latch (Semaphore permits) holdable latch = absurd (cc)
-  no-latch Mutex holdable latch = holdable
+  no-latch Mutex holdable latch = absurd (cc)
   no-latch (Pool elements) holdable latch = holdable
   no-latch (Latch count) holdable latch = holdable
   no-latch (Rounds parties rounds) holdable latch = holdable
 
   no-barrier : (kind : Kind) → IsHoldable (Some kind) → IsTrue (is_barrier kind) → ⊥
   no-barrier (Semaphore permits) holdable barrier = absurd (cc)
-  no-barrier Mutex holdable barrier = holdable
+  no-barrier Mutex holdable barrier = absurd (cc)
   no-barrier (Pool elements) holdable barrier = holdable
   no-barrier (Latch count) holdable barrier = holdable
   no-barrier (Rounds parties rounds) holdable barrier = holdable
@@ -118,7 +100,7 @@ module _ (plan : Plan) (valid : IsValid plan) (alone : HasSemaphoresAlone plan) 
       at = λ place job there.
           let fits = all-at (IsJob plan.resources) plan.jobs place job valid.jobs there in fits.few;
     };
-    kinds = alone;
+    kinds = built;
     steps = record {
       at = λ place job there.
           let fits = all-at (IsJob plan.resources) plan.jobs place job valid.jobs there in
@@ -130,22 +112,17 @@ module _ (plan : Plan) (valid : IsValid plan) (alone : HasSemaphoresAlone plan) 
   }
 
 -- what a reader answers can be run
-pub read-runnable : (bytes : List ℕ) (result : Result Plan PlanError) → IfOk result (IsPlanText bytes)
+pub read-runnable : (result : Result Plan PlanError) → IfOk result (λ plan. AreFound plan.resources)
     → IfOk result IsValid
     → IfOk result IsRunnable
-read-runnable bytes (Ok plan) text valid = runnable plan valid (semaphores-alone bytes plan text)
-read-runnable bytes (Err error) text valid = tt
+read-runnable (Ok plan) found valid = runnable plan valid (holdable plan found)
+read-runnable (Err error) found valid = tt
 
--- a semaphore whose size is in its range
-sized : (kind : Kind) → IsHoldable (Some kind) → IsKind kind → IsSemaphore kind
-sized kind holdable fits = (holdable, fits)
-
-pub read-built : (bytes : List ℕ) (result : Result Plan PlanError) → IfOk result (IsPlanText bytes)
+pub read-built : (result : Result Plan PlanError) → IfOk result (λ plan. AreFound plan.resources)
     → IfOk result IsValid
-    → IfOk result (λ plan. AreSemaphores plan.resources)
-read-built bytes (Ok plan) text valid = record {
+    → IfOk result (λ plan. AreBuilt plan.resources)
+read-built (Ok plan) found valid = record {
   at = λ at r there.
-      let fits = all-at IsResource plan.resources at r valid.resources there in
-      let alone = semaphores-alone bytes plan text in sized r.kind (alone.at at r there) fits.sized;
+      ((holdable plan found).at at r there, (all-at IsResource plan.resources at r valid.resources there).sized);
 }
-read-built bytes (Err error) text valid = tt
+read-built (Err error) found valid = tt

@@ -43,11 +43,19 @@ abbrev pub names_in : List ResourceKind → Members → List (List ℕ)
 names_in kinds root =
     flat_map (λ kind. map (λ m. m.0) (members_in (get_member kind.key root))) kinds
 
--- the faults of the resources: kind by kind, and within a kind name by name, in byte order
-abbrev pub resources_faults : Members → List Fault
-resources_faults root = each resource_kinds (λ i kind. optional (get_member kind.key root) (λ value.
+-- the faults of the resources of a kind, name by name, in byte order
+abbrev pub kind_faults : ResourceKind → List (List ℕ) → Members → List Fault
+kind_faults kind earlier root = optional (get_member kind.key root) (λ value.
     shaped kind.key (as_table value) (λ table.
-    each (members_list table) (resource_faults kind (names_in (take i resource_kinds) root)))))
+    each (members_list table) (resource_faults kind earlier)))
+
+-- the faults of the resources of these kinds, kind by kind
+abbrev pub kinds_faults : List ResourceKind → Members → List Fault
+kinds_faults kinds root =
+    each kinds (λ i kind. kind_faults kind (names_in (take i kinds) root) root)
+
+abbrev pub resources_faults : Members → List Fault
+resources_faults root = kinds_faults resource_kinds root
 
 -- the fault of a text that is no step, or of one that gives what isn't held
 abbrev pub read_step_faults : List ℕ → List Step → Result Step FaultKind → List Fault

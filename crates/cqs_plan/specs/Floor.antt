@@ -49,10 +49,11 @@ wait_of f job = slice_index_or f.waits job None
 abbrev pub holds_of : PlainFloor → ℕ → List Holding
 holds_of f job = slice_index_or f.holds job []
 
--- how many permits a resource has; only semaphores have some, as long as no other kind is built
+-- how many permits a resource has: a mutex is a semaphore of one permit; the last three kinds
+-- aren't built
 abbrev pub permits_of : Option Kind → ℕ
 permits_of (Some (kind.Semaphore permits)) = permits
-permits_of (Some kind.Mutex) = 0
+permits_of (Some kind.Mutex) = 1
 permits_of (Some (kind.Pool elements)) = 0
 permits_of (Some (kind.Latch count)) = 0
 permits_of (Some (kind.Rounds parties rounds)) = 0
@@ -62,11 +63,11 @@ permits_of None = 0
 abbrev pub object_at : PlainFloor → ℕ → Semaphore
 object_at f at = object_after (permits_of (slice_get f.kinds at)) (entries_at f at)
 
--- There is a resource, of a kind that can be taken and given on a floor. The last four aren't
+-- There is a resource, of a kind that can be taken and given on a floor. The last three aren't
 -- built; the language knows which of them it will be (`can_hold`).
 abbrev pub IsHoldable : Option Kind → Type 0
 IsHoldable (Some (kind.Semaphore permits)) = Unit {0}
-IsHoldable (Some kind.Mutex) = ⊥
+IsHoldable (Some kind.Mutex) = Unit {0}
 IsHoldable (Some (kind.Pool elements)) = ⊥
 IsHoldable (Some (kind.Latch count)) = ⊥
 IsHoldable (Some (kind.Rounds parties rounds)) = ⊥

@@ -35,9 +35,12 @@ semaphores = record {
   kind = λ numbers. Semaphore (slice_index numbers 0);
 }
 
+abbrev pub mutexes : ResourceKind
+mutexes = record { key = codes "mutex"; numbers = []; kind = λ numbers. Mutex }
+
 -- the kinds, in the order in which their resources stand
 abbrev pub resource_kinds : List ResourceKind
-resource_kinds = semaphores ∷ []
+resource_kinds = semaphores ∷ mutexes ∷ []
 
 -- a verb whose argument is a resource: its word, the kinds that it works
 -- on, and its step at a place

@@ -11,10 +11,10 @@ use Rattle.cqs_plan.specs.Floor.{PlainFloor, entries_at}
 use Rattle.cqs_plan.specs.Runnable.{kinds_of}
 
 -- these entries are a legal history of a resource of this kind, from its size on; the
--- last four kinds aren't built
+-- last three kinds aren't built
 abbrev pub IsHistory : Kind → List Entry → Type 0
 IsHistory (kind.Semaphore permits) entries = IsLegal permits entries
-IsHistory kind.Mutex entries = ⊥
+IsHistory kind.Mutex entries = IsLegal 1 entries
 IsHistory (kind.Pool elements) entries = ⊥
 IsHistory (kind.Latch count) entries = ⊥
 IsHistory (kind.Rounds parties rounds) entries = ⊥

@@ -18,5 +18,6 @@ pub mod FaultRules
 pub mod Faults
 pub mod PlanText
 pub mod Validity
+pub mod Sections
 pub mod Reading
 pub mod FaultLine

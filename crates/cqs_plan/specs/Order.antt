@@ -29,7 +29,10 @@ pub record AreInOrder (resources : List Resource) : Type 0 where
   pub order : AllPairs Precedes resources
   pub distinct : AllPairs (λ one other. one.name ≢ other.name) resources
 
--- at most 64, in byte order of the names, as resources of one kind stand
-pub record AreSearchable (resources : List Resource) : Type 0 where
-  pub few : length resources ≤ 64
-  pub names : AllPairs (λ one other. IsBelow one.name other.name) resources
+-- at most 64
+abbrev pub AreFew : List Resource → Type 0
+AreFew resources = length resources ≤ 64
+
+-- in byte order of the names, as resources of one kind stand
+abbrev pub NamesAscend : List Resource → Type 0
+NamesAscend resources = AllPairs (λ one other. IsBelow one.name other.name) resources

@@ -38,10 +38,10 @@ pub record IsRunnable (plan : Plan) : Type 0 where
   pub kinds : EachAt (λ at resource. IsHoldable (Some resource.kind)) plan.resources
   pub steps : EachAt (λ place job. AreMakeable (kinds_of plan.resources) job.steps) plan.jobs
 
--- a semaphore, the kind that is built, with its number in its range
-abbrev pub IsSemaphore : Kind → Type 0
-IsSemaphore kind = IsHoldable (Some kind) × IsKind kind
+-- of a kind that is built, with its numbers in their ranges
+abbrev pub IsBuilt : Kind → Type 0
+IsBuilt kind = IsHoldable (Some kind) × IsKind kind
 
--- the resources are semaphores alone
-abbrev pub AreSemaphores : List Resource → Type 0
-AreSemaphores resources = EachAt (λ at resource. IsSemaphore resource.kind) resources
+-- each resource is of a kind that is built
+abbrev pub AreBuilt : List Resource → Type 0
+AreBuilt resources = EachAt (λ at resource. IsBuilt resource.kind) resources

@@ -7,11 +7,11 @@ ghost use Rattle.cqs_plan.specs.declared.plans.fault_kind.FaultKind.{FaultKind};
 ghost use Rattle.toml.specs.View.{table_view};
 ghost use Rattle.cqs_plan.specs.Faults.{faults_in};
 ghost use Rattle.cqs_plan.specs.Meaning.{plan_in};
-ghost use Rattle.cqs_plan.specs.Order.{AreSearchable};
 ghost use Rattle.cqs_plan.specs.declared.plans.plan.Plan.{Plan};
 ghost use Rattle.cqs_plan.specs.PlanText.{IsFirstFault, IsNoToml, IsOrMemory, IsPlanText};
-ghost use Rattle.cqs_plan.specs.Runnable.{AreSemaphores, IsRunnable};
+ghost use Rattle.cqs_plan.specs.Runnable.{AreBuilt, IsRunnable};
 ghost use Rattle.cqs_plan.specs.Reading.{Reads};
+ghost use Rattle.cqs_plan.specs.Sections.{AreFound};
 ghost use Rattle.cqs_plan.specs.Validity.{IsValid};
 
 pub mod jobs;
@@ -21,6 +21,7 @@ pub mod numbers;
 pub mod place;
 pub mod places;
 pub mod resources;
+pub mod sections;
 pub mod step_text;
 pub mod steps;
 
@@ -39,9 +40,9 @@ use toml::Table;
 fn plan_from(alloc: Global, root: &Table) -> Result<Plan, PlanError>
     ensures faults { Reads result (faults_in (table_view root.now)) }
     ensures value { IfOk result (λ plan. plan ≡ plan_in (table_view root.now)) }
-    ensures order { IfOk result (λ plan. AreSearchable plan.resources) }
+    ensures found { IfOk result (λ plan. AreFound plan.resources) }
 {
-    if !has_only(&["version", "turns", "semaphore", "job"], root) {
+    if !has_only(&["version", "turns", "semaphore", "mutex", "job"], root) {
         return Err(Place::Word("plan").fault(alloc, FaultKind::Key));
     }
     let version = required_number(alloc, Place::Word("version"), member(root, "version"), 1, 1)?;
@@ -64,7 +65,7 @@ fn plan_from(alloc: Global, root: &Table) -> Result<Plan, PlanError>
 
 fn read(alloc: Global, bytes: &[u8]) -> Result<Plan, PlanError>
     ensures plan { IfOk result (IsPlanText bytes.now) }
-    ensures order { IfOk result (λ plan. AreSearchable plan.resources) }
+    ensures found { IfOk result (λ plan. AreFound plan.resources) }
     ensures not_toml { result ≡ Err PlanError.NotToml → IsNoToml bytes.now }
     ensures fault { (place : List ℕ) (kind : FaultKind)
         → result ≡ Err (PlanError.Fault place kind) → IsFirstFault bytes.now place kind }
@@ -82,7 +83,7 @@ pub fn read_plan(alloc: Global, bytes: &[u8]) -> Result<Plan, PlanError>
     ensures plan { IfOk result (IsPlanText bytes.now) }
     ensures valid { IfOk result IsValid }
     ensures runnable { IfOk result IsRunnable }
-    ensures built { IfOk result (λ plan. AreSemaphores plan.resources) }
+    ensures built { IfOk result (λ plan. AreBuilt plan.resources) }
     ensures not_toml { result ≡ Err PlanError.NotToml → IsNoToml bytes.now }
     ensures fault { (place : List ℕ) (kind : FaultKind)
         → result ≡ Err (PlanError.Fault place kind) → IsFirstFault bytes.now place kind }

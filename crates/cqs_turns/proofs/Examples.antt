@@ -1,7 +1,7 @@
--- Worked plans over one semaphore `db` of one permit: their reports, computed from the definitions alone.
+-- Worked plans: their reports, computed from the definitions alone.
 use Rattle.std.proofs.Common.{◌≡◌, ℕ, List, [], ◌∷◌, ◌++◌, Some, None, Option, refl, codes}
 use Rattle.std.specs.Fmt.{digits}
-use Rattle.cqs_plan.specs.declared.plans.kind.Kind.TheVariants.{Semaphore}
+use Rattle.cqs_plan.specs.declared.plans.kind.Kind.TheVariants.{Semaphore, Mutex}
 use Rattle.cqs_plan.specs.declared.plans.job.Job.{Job}
 use Rattle.cqs_plan.specs.declared.plans.step.Step.{Step}
 use Rattle.cqs_plan.specs.declared.plans.step.Step.TheVariants.{Take, Give, Work}
@@ -76,3 +76,19 @@ both_give_up : report_of two_waiters_short
     ++ codes "total done 1 gaveup 2 late 0 unfinished 0\n"
 unfolding digits
 both_give_up = refl
+
+abbrev one_mutex : Plan
+one_mutex = record {
+  version = 1;
+  turns = 6;
+  resources = record { name = codes "m"; kind = Mutex } ∷ [];
+  jobs = worker (codes "a") 1 ∷ worker (codes "b") 1 ∷ [];
+}
+
+two_jobs_one_mutex : report_of one_mutex
+    ≡ codes "0 a takes m\n0 b waits m 0\n1 a gives m sent 0\n1 a done\n1 b served m 0\n"
+    ++ codes "2 b gives m free\n2 b done\n"
+    ++ codes "end m free 1 held 0 line 0\n"
+    ++ codes "total done 2 gaveup 0 late 0 unfinished 0\n"
+unfolding digits
+two_jobs_one_mutex = refl

@@ -6,7 +6,7 @@ ghost use Rattle.toml.specs.View.{array_view, table_view, view};
 ghost use Rattle.cqs_plan.specs.FaultRules.{each, optional};
 ghost use Rattle.cqs_plan.specs.Faults.{job_faults, jobs_faults, jobs_part_faults, listed_job_faults, number_faults};
 ghost use Rattle.cqs_plan.specs.Meaning.{items_in, items_list, job_in, number_in};
-ghost use Rattle.cqs_plan.specs.Order.{AreSearchable};
+ghost use Rattle.cqs_plan.specs.Order.{AreFew};
 ghost use Rattle.cqs_plan.specs.Places.{part_place};
 ghost use Rattle.cqs_plan.specs.Reading.{AddsName, Reads, data_in};
 
@@ -49,7 +49,7 @@ fn job(
     resources: &[Resource],
     names: &mut BTreeSet<String>,
 ) -> Result<Job, PlanError>
-    requires { AreSearchable resources.now }
+    requires { AreFew resources.now }
     ensures faults { let stands = contains_text names.old in
         Reads result (job_faults resources.now stands index (view value.now)) }
     ensures value { IfOk result (λ job. job ≡ job_in resources.now (view value.now)) }
@@ -78,7 +78,7 @@ fn job(
 
 /// The jobs that values say, each after those before it.
 fn each_job(alloc: Global, values: &Array, resources: &[Resource]) -> Result<Vec<Job>, PlanError>
-    requires { AreSearchable resources.now }
+    requires { AreFew resources.now }
     ensures faults { let all = map view values.now.items in
         Reads result (each all (listed_job_faults resources.now all)) }
     ensures value { let all = map view values.now.items in
@@ -95,7 +95,7 @@ fn each_job(alloc: Global, values: &Array, resources: &[Resource]) -> Result<Vec
 
 /// The jobs that an array says.
 fn listed_jobs(alloc: Global, values: &Array, resources: &[Resource]) -> Result<Vec<Job>, PlanError>
-    requires { AreSearchable resources.now }
+    requires { AreFew resources.now }
     ensures faults { Reads result (jobs_faults resources.now (items_list (array_view values.now))) }
     ensures value { let all = items_list (array_view values.now) in
         IfOk result (λ jobs. jobs.items ≡ map (job_in resources.now) all) }
@@ -108,7 +108,7 @@ fn listed_jobs(alloc: Global, values: &Array, resources: &[Resource]) -> Result<
 
 /// The jobs of a plan, in order.
 pub fn jobs(alloc: Global, root: &Table, resources: &[Resource]) -> Result<Vec<Job>, PlanError>
-    requires { AreSearchable resources.now }
+    requires { AreFew resources.now }
     ensures faults { let given = get_member (codes "job") (table_view root.now) in
         Reads result (jobs_part_faults resources.now given) }
     ensures value { let all = items_in (get_member (codes "job") (table_view root.now)) in

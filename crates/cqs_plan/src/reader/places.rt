@@ -1,15 +1,12 @@
 //! Where a resource stands.
 ghost use Rattle.std.specs.Prelude.{◌≡◌, ◌&&◌};
-ghost use Rattle.std.specs.Cmp.Lexicographic.{slice_cmp};
-ghost use Rattle.std.specs.Ordering.{nat_cmp};
 ghost use Rattle.std.specs.Str.{bytes_eq};
 ghost use Rattle.std.specs.List.{position_from};
 ghost use Rattle.cqs_plan.specs.Language.{can_hold};
-ghost use Rattle.cqs_plan.specs.Order.{AreSearchable};
+ghost use Rattle.cqs_plan.specs.Order.{AreFew};
 
 use crate::plans::kind::Kind;
 use crate::plans::resource::Resource;
-use std::cmp::Ordering;
 
 fn can_hold(kind: Kind) -> bool
     ensures { result ≡ can_hold kind }
@@ -20,22 +17,27 @@ fn can_hold(kind: Kind) -> bool
     }
 }
 
-fn name_cmp(resource: &Resource, name: &[u8]) -> Ordering
-    ensures { result ≡ slice_cmp nat_cmp resource.now.name name.now }
+fn is_named(resource: &Resource, name: &[u8]) -> bool
+    ensures { result ≡ bytes_eq resource.now.name name.now }
 {
-    resource.name.as_slice().cmp(&name)
+    resource.name.as_slice() == name
 }
 
-/// The place of the resource of this name, if it can be taken and given. The resources stand in
-/// byte order of their names, so few of them are looked at.
+fn can_hold_named(resource: &Resource, name: &[u8]) -> bool
+    ensures { result ≡ (bytes_eq resource.now.name name.now && can_hold resource.now.kind) }
+{
+    is_named(resource, name) && can_hold(resource.kind)
+}
+
+/// The place of the resource of this name, if it can be taken and given.
 pub fn place_of(name: &str, resources: &[Resource]) -> Option<u32>
-    requires { AreSearchable resources.now }
+    requires { AreFew resources.now }
     ensures { result ≡ position_from
         (λ resource. bytes_eq resource.name name.now && can_hold resource.kind) 0 resources.now }
 {
     let bytes = name.as_bytes();
-    match resources.binary_search_by(|resource| name_cmp(resource, bytes)) {
-        Ok(place) if can_hold(resources[place].kind) => Some(place as u32),
-        _ => None,
-    }
+    resources
+        .iter()
+        .position(|resource| can_hold_named(resource, bytes))
+        .map(|place| place as u32)
 }

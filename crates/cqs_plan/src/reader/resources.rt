@@ -1,18 +1,22 @@
 //! The resources of a plan.
-ghost use Rattle.std.specs.Prelude.{◌≡◌, ◌<◌, IfOk, OnOk, [], codes, map};
+ghost use Rattle.std.specs.Prelude.{◌≡◌, ◌≤◌, ◌<◌, ◌+◌, IfOk, OnOk, IfErr, codes, map, length, nat_le};
+ghost use Rattle.std.specs.List.{list_any};
+ghost use Rattle.std.specs.Str.{bytes_eq};
 ghost use Rattle.toml.specs.Data.{get_member};
 ghost use Rattle.toml.specs.View.{table_view, view};
-ghost use Rattle.cqs_plan.specs.FaultRules.{each};
-ghost use Rattle.cqs_plan.specs.Faults.{resource_faults, resource_number_faults, resources_faults};
+ghost use Rattle.cqs_plan.specs.FaultRules.{each, required};
+ghost use Rattle.cqs_plan.specs.Faults.{kind_faults, number_faults, resource_faults, resource_number_faults, resources_faults};
 ghost use Rattle.cqs_plan.specs.Language.{resource_kinds, semaphores};
-ghost use Rattle.cqs_plan.specs.Meaning.{members_list, number_in, resource_in, resources_in};
-ghost use Rattle.cqs_plan.specs.Order.{AreSearchable};
-ghost use Rattle.cqs_plan.specs.Reading.{Reads};
+ghost use Rattle.cqs_plan.specs.Meaning.{members_in, members_list, number_in, resource_in};
+ghost use Rattle.cqs_plan.specs.Order.{AreFew, NamesAscend};
+ghost use Rattle.cqs_plan.specs.Reading.{Reads, StopsAt};
+ghost use Rattle.cqs_plan.specs.Sections.{AreRead, kind_of, kinds_before, kinds_up_to, names_of};
 
 use super::members::{has_only, member};
 use super::names::is_name;
 use super::numbers::required_number;
 use super::place::Place;
+use super::sections::Section;
 use crate::plans::error::PlanError;
 use crate::plans::fault_kind::FaultKind;
 use crate::plans::kind::Kind;
@@ -22,11 +26,11 @@ use std::alloc::Global;
 use toml::{Table, Value};
 
 /// The number of permits in the table of a semaphore.
-fn size(alloc: Global, name: &str, table: &Table) -> Result<u32, PlanError>
+fn permits(alloc: Global, name: &str, table: &Table) -> Result<u32, PlanError>
     ensures faults { let members = table_view table.now in
         Reads result (resource_number_faults semaphores name.now members) }
     ensures value { let members = table_view table.now in
-        IfOk result (λ size. size ≡ number_in (get_member (codes "size") members)) }
+        IfOk result (λ permits. permits ≡ number_in (get_member (codes "size") members)) }
 {
     let place = Place::Number {
         kind: "semaphore",
@@ -36,64 +40,159 @@ fn size(alloc: Global, name: &str, table: &Table) -> Result<u32, PlanError>
     required_number(alloc, place, member(table, "size"), 1, 1_048_576)
 }
 
-/// A semaphore, from its name and its value, which is the `index`-th of the table.
-fn semaphore(alloc: Global, index: usize, name: &str, value: &Value) -> Result<Resource, PlanError>
-    ensures faults { Reads result (resource_faults semaphores [] index (name.now, view value.now)) }
-    ensures value { let said = resource_in semaphores (name.now, view value.now) in
-        IfOk result (λ resource. resource ≡ said) }
-    ensures few { OnOk result (index < 64) }
+/// What a resource is, by the numbers in its table.
+fn kind_in(alloc: Global, section: Section, name: &str, table: &Table) -> Result<Kind, PlanError>
+    ensures faults { let members = table_view table.now in
+        Reads result (resource_number_faults (kind_of section) name.now members) }
+    ensures value { let members = table_view table.now in
+        let kind = kind_of section in
+        let said = map (λ number. number_in (get_member number.key members)) kind.numbers in
+        IfOk result (λ found. found ≡ kind.kind said) }
 {
-    if !is_name(name) {
-        return Err(Place::Word("semaphore").fault(alloc, FaultKind::Name));
+    match section {
+        Section::Semaphore => Ok(Kind::Semaphore(permits(alloc, name, table)?)),
+        Section::Mutex => Ok(Kind::Mutex),
     }
-    let place = Place::Resource {
-        kind: "semaphore",
-        name,
-    };
+}
+
+fn is_same(one: &[u8], other: &[u8]) -> bool
+    ensures { result ≡ bytes_eq one.now other.now }
+{
+    one == other
+}
+
+/// Whether one of the resources has the name.
+fn is_taken(name: &str, resources: &[Resource]) -> bool
+    ensures { result ≡ list_any (λ resource. bytes_eq name.now resource.name) resources.now }
+{
+    let bytes = name.as_bytes();
+    resources
+        .iter()
+        .any(|resource| is_same(bytes, resource.name.as_slice()))
+}
+
+/// Whether 64 resources stand already: the earlier ones, and so many of the section.
+fn is_full(earlier: &[Resource], index: usize) -> bool
+    requires earlier { AreFew earlier.now }
+    requires index { index ≤ 64 }
+    ensures { result ≡ nat_le 64 (length earlier.now + index) }
+{
+    earlier.len() + index >= 64
+}
+
+/// A resource, from its name and its value, which is the `index`-th of the section. The earlier
+/// ones are those of the sections before.
+fn resource(
+    alloc: Global,
+    section: Section,
+    earlier: &[Resource],
+    index: usize,
+    name: &str,
+    value: &Value,
+) -> Result<Resource, PlanError>
+    requires earlier { AreFew earlier.now }
+    requires index { index ≤ 64 }
+    ensures faults { let stand = names_of earlier.now in
+        Reads result (resource_faults (kind_of section) stand index (name.now, view value.now)) }
+    ensures value { let said = resource_in (kind_of section) (name.now, view value.now) in
+        IfOk result (λ resource. resource ≡ said) }
+    ensures few { OnOk result (length earlier.now + index < 64) }
+{
+    let kind = section.key();
+    if !is_name(name) {
+        return Err(Place::Word(kind).fault(alloc, FaultKind::Name));
+    }
+    let place = Place::Resource { kind, name };
     let Some(table) = value.as_table() else {
         return Err(place.fault(alloc, FaultKind::Shape));
     };
-    if !has_only(&["size"], table) {
+    if !has_only(section.keys(), table) {
         return Err(place.fault(alloc, FaultKind::Key));
     }
-    if index >= 64 {
+    if is_taken(name, earlier) {
+        return Err(place.fault(alloc, FaultKind::Name));
+    }
+    if is_full(earlier, index) {
         return Err(place.fault(alloc, FaultKind::Many));
     }
-    let permits = size(alloc, name, table)?;
+    let kind = kind_in(alloc, section, name, table)?;
     Ok(Resource {
         name: Name::from(name.as_bytes().to_vec(alloc)?),
-        kind: Kind::Semaphore(permits),
+        kind,
     })
 }
 
-/// The semaphores that a table says.
-fn listed_semaphores(alloc: Global, table: &Table) -> Result<Vec<Resource>, PlanError>
+/// The resources that the table of a section says.
+fn listed(
+    alloc: Global,
+    section: Section,
+    earlier: &[Resource],
+    table: &Table,
+) -> Result<Vec<Resource>, PlanError>
+    requires earlier { AreFew earlier.now }
     ensures faults { let members = members_list (table_view table.now) in
-        Reads result (each members (resource_faults semaphores [])) }
+        let stand = names_of earlier.now in
+        Reads result (each members (resource_faults (kind_of section) stand)) }
     ensures value { let members = members_list (table_view table.now) in
-        IfOk result (λ found. found.items ≡ map (resource_in semaphores) members) }
-    ensures order { IfOk result (λ found. AreSearchable found.items) }
+        IfOk result (λ found. found.items ≡ map (resource_in (kind_of section)) members) }
+    ensures order { IfOk result (λ found. NamesAscend found.items) }
 {
     let mut found = Vec::with_capacity(alloc, table.len().min(64))?;
     for (name, value) in table {
-        let resource = semaphore(alloc, found.len(), name.as_str(), value)?;
+        let resource = resource(alloc, section, earlier, found.len(), name.as_str(), value)?;
         found.push(resource)?;
     }
     Ok(found)
 }
 
-/// The resources of a plan, in order.
-pub fn resources(alloc: Global, root: &Table) -> Result<Vec<Resource>, PlanError>
-    ensures faults { Reads result (resources_faults (table_view root.now)) }
-    ensures value { let all = resources_in resource_kinds (table_view root.now) in
-        IfOk result (λ found. found.items ≡ all) }
-    ensures order { IfOk result (λ found. AreSearchable found.items) }
+/// The resources of a section, if the root has it.
+fn in_section(
+    alloc: Global,
+    section: Section,
+    earlier: &[Resource],
+    root: &Table,
+) -> Result<Vec<Resource>, PlanError>
+    requires earlier { AreFew earlier.now }
+    ensures faults { let stand = names_of earlier.now in
+        Reads result (kind_faults (kind_of section) stand (table_view root.now)) }
+    ensures value { let kind = kind_of section in
+        let members = members_in (get_member kind.key (table_view root.now)) in
+        IfOk result (λ found. found.items ≡ map (resource_in kind) members) }
+    ensures order { IfOk result (λ found. NamesAscend found.items) }
 {
-    let Some(value) = member(root, "semaphore") else {
+    let Some(value) = member(root, section.key()) else {
         return Ok(Vec::new(alloc));
     };
     match value.as_table() {
-        None => Err(Place::Word("semaphore").fault(alloc, FaultKind::Shape)),
-        Some(table) => listed_semaphores(alloc, table),
+        None => Err(Place::Word(section.key()).fault(alloc, FaultKind::Shape)),
+        Some(table) => listed(alloc, section, earlier, table),
     }
+}
+
+/// The resources of a section join those of the sections before.
+fn read_section(
+    alloc: Global,
+    section: Section,
+    root: &Table,
+    found: &mut Vec<Resource>,
+) -> Result<(), PlanError>
+    requires { AreRead (kinds_before section) (table_view root.now) found.old.items }
+    ensures ok { OnOk result (AreRead (kinds_up_to section) (table_view root.now) found.new.items) }
+    ensures err { IfErr result (StopsAt (resources_faults (table_view root.now))) }
+{
+    let more = in_section(alloc, section, found.as_slice(), root)?;
+    found.extend(more)?;
+    Ok(())
+}
+
+/// The resources of a plan, in order.
+pub fn resources(alloc: Global, root: &Table) -> Result<Vec<Resource>, PlanError>
+    ensures read { let members = table_view root.now in
+        IfOk result (λ found. AreRead resource_kinds members found.items) }
+    ensures fault { IfErr result (StopsAt (resources_faults (table_view root.now))) }
+{
+    let mut found = Vec::new(alloc);
+    read_section(alloc, Section::Semaphore, root, &mut found)?;
+    read_section(alloc, Section::Mutex, root, &mut found)?;
+    Ok(found)
 }

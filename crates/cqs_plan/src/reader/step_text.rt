@@ -3,7 +3,7 @@ ghost use Rattle.std.specs.Prelude.{◌≡◌};
 ghost use Rattle.std.specs.Char.{is_ascii_digit};
 ghost use Rattle.std.specs.List.{list_all};
 ghost use Rattle.cqs_plan.specs.Meaning.{has_one_space, is_decimal, step_of, verb_step, work_step};
-ghost use Rattle.cqs_plan.specs.Order.{AreSearchable};
+ghost use Rattle.cqs_plan.specs.Order.{AreFew};
 
 use super::places::place_of;
 use crate::plans::fault_kind::FaultKind;
@@ -41,7 +41,7 @@ fn work(turns: &str) -> Result<Step, FaultKind>
 }
 
 fn verb_step(word: &str, argument: &str, resources: &[Resource]) -> Result<Step, FaultKind>
-    requires { AreSearchable resources.now }
+    requires { AreFew resources.now }
     ensures { result ≡ verb_step resources.now word.now argument.now }
 {
     match word {
@@ -58,7 +58,7 @@ fn verb_step(word: &str, argument: &str, resources: &[Resource]) -> Result<Step,
 
 /// The step that a text says: a verb, one space and an argument.
 pub fn step_of(text: &str, resources: &[Resource]) -> Result<Step, FaultKind>
-    requires { AreSearchable resources.now }
+    requires { AreFew resources.now }
     ensures { result ≡ step_of resources.now text.now }
 {
     if !has_one_space(text.as_bytes()) {

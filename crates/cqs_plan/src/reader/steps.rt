@@ -5,7 +5,7 @@ ghost use Rattle.cqs_plan.specs.FaultRules.{each};
 ghost use Rattle.cqs_plan.specs.Faults.{job_step_faults, step_faults, steps_faults, steps_part_faults};
 ghost use Rattle.cqs_plan.specs.Holding.{is_give, is_held, is_take};
 ghost use Rattle.cqs_plan.specs.Meaning.{items_in, items_list, step_in, steps_in};
-ghost use Rattle.cqs_plan.specs.Order.{AreSearchable};
+ghost use Rattle.cqs_plan.specs.Order.{AreFew};
 ghost use Rattle.cqs_plan.specs.Places.{part_place, place_text};
 ghost use Rattle.cqs_plan.specs.Reading.{Reads, data_in};
 
@@ -56,7 +56,7 @@ fn step(
     resources: &[Resource],
     earlier: &[Step],
 ) -> Result<Step, PlanError>
-    requires { AreSearchable resources.now }
+    requires { AreFew resources.now }
     ensures faults { let place = place_text place.entry in
         Reads result (step_faults place resources.now earlier.now (view value.now)) }
     ensures value { IfOk result (λ step. step_in resources.now (view value.now) ≡ Some step) }
@@ -78,7 +78,7 @@ fn each_step(
     values: &Array,
     resources: &[Resource],
 ) -> Result<Vec<Step>, PlanError>
-    requires { AreSearchable resources.now }
+    requires { AreFew resources.now }
     ensures faults { let all = map view values.now.items in
         let place = part_place job (codes "steps") in
         Reads result (each all (job_step_faults place resources.now all)) }
@@ -101,7 +101,7 @@ fn listed_steps(
     values: &Array,
     resources: &[Resource],
 ) -> Result<Vec<Step>, PlanError>
-    requires { AreSearchable resources.now }
+    requires { AreFew resources.now }
     ensures faults { let place = part_place job (codes "steps") in
         Reads result (steps_faults place resources.now (items_list (array_view values.now))) }
     ensures value { let all = items_list (array_view values.now) in
@@ -120,7 +120,7 @@ pub fn job_steps(
     value: Option<&Value>,
     resources: &[Resource],
 ) -> Result<Vec<Step>, PlanError>
-    requires { AreSearchable resources.now }
+    requires { AreFew resources.now }
     ensures faults { Reads result (steps_part_faults job resources.now (data_in value.entry)) }
     ensures value { let all = items_in (data_in value.entry) in
         IfOk result (λ steps. steps.items ≡ steps_in resources.now all) }

@@ -9,7 +9,7 @@ cause : (c : After-read) → IsCause c.args.bytes.now c.read.result
 cause c = record { plan = c.read.ensures.plan; not_toml = c.read.ensures.not_toml; fault = c.read.ensures.fault }
 
 pub returns-clause-valid : goal.returns-clause-valid
-returns-clause-valid c = read-valid c.args.bytes.now c.read.result c.read.ensures.plan c.read.ensures.order
+returns-clause-valid c = read-valid c.args.bytes.now c.read.result c.read.ensures.plan c.read.ensures.found
 
 pub returns-clause-of_plan : goal.returns-clause-of_plan
 returns-clause-of_plan c =
@@ -25,10 +25,10 @@ returns-clause-of_fault c =
 
 pub returns-clause-runnable : goal.returns-clause-runnable
 returns-clause-runnable c =
-    read-runnable c.args.bytes.now c.read.result c.read.ensures.plan
-    (read-valid c.args.bytes.now c.read.result c.read.ensures.plan c.read.ensures.order)
+    read-runnable c.read.result c.read.ensures.found
+    (read-valid c.args.bytes.now c.read.result c.read.ensures.plan c.read.ensures.found)
 
 pub returns-clause-built : goal.returns-clause-built
 returns-clause-built c =
-    read-built c.args.bytes.now c.read.result c.read.ensures.plan
-    (read-valid c.args.bytes.now c.read.result c.read.ensures.plan c.read.ensures.order)
+    read-built c.read.result c.read.ensures.found
+    (read-valid c.args.bytes.now c.read.result c.read.ensures.plan c.read.ensures.found)

@@ -1,15 +1,15 @@
-use Rattle.std.proofs.Common.{◌≡◌, [], map, sym, rules, vec_len, string_bytes, append-nil}
+use Rattle.std.proofs.Common.{◌≡◌, map, sym, rules, vec_len, string_bytes, append-nil}
 use Rattle.std.specs.Map.Iter.{deref_pair}
 use Rattle.std.proofs.lemmas.Map.Iter.{rest_all, rest_more}
 use Rattle.std.proofs.lemmas.Result.{err_from_is_err_and}
 use Rattle.toml.specs.View.{view}
 use Rattle.cqs_plan.specs.Faults.{resource_faults}
-use Rattle.cqs_plan.specs.Language.{semaphores}
 use Rattle.cqs_plan.specs.Meaning.{resource_in}
 use Rattle.cqs_plan.specs.Reading.{StopsAt}
+use Rattle.cqs_plan.specs.Sections.{kind_of, names_of}
 use Rattle.cqs_plan.proofs.DataLists.{entry_view, members_list-view, names_ascend}
 use Rattle.cqs_plan.proofs.FirstFaults.{StopsAt-append}
-use Rattle.cqs_plan.proofs.reader.resources.listed_semaphores.Goals as goal
+use Rattle.cqs_plan.proofs.reader.resources.listed.Goals as goal
 
 pub returns-in_err-resource-clause-faults : goal.returns-in_err-resource-clause-faults
 returns-in_err-resource-clause-faults c =
@@ -19,7 +19,9 @@ returns-in_err-resource-clause-faults c =
     c.next.ensures.steps in
     let name = string_bytes c.in-Some.name.now in
     let index = vec_len c.loop-name.found in
-    let faults : StopsAt (resource_faults semaphores [] index (name, view c.in-Some.value.now))
+    let kind = kind_of c.args.section in
+    let stand = names_of c.args.earlier.now in
+    let faults : StopsAt (resource_faults kind stand index (name, view c.in-Some.value.now))
     c.in_err-resource.field-0.0 =
     search rules in
     rw (p.1, p.2, members_list-view c.args.table.now.entries, c.loop-name.invariant.faults, here)
@@ -40,9 +42,6 @@ pub returns-clause-order : goal.returns-clause-order
 returns-clause-order c =
     let done = rest_all deref_pair _ _ c.next.result c.in-None.is c.next.ensures.steps in
     let members = map entry_view c.args.table.now.entries in
-    let all : c.loop-name.found.items ≡ map (resource_in semaphores) members =
+    let all : c.loop-name.found.items ≡ map (resource_in (kind_of c.args.section)) members =
     rw (c.loop-name.invariant.values, done) (sym (append-nil c.loop-name.found.items)) in
-    record {
-      few = c.loop-name.invariant.few;
-      names = rw all (names_ascend semaphores c.args.table.now.entries c.len.ensures.ordered);
-    }
+    rw all (names_ascend (kind_of c.args.section) c.args.table.now.entries c.len.ensures.ordered)

@@ -1,0 +1,67 @@
+-- The faults of a resource of a section, one after another.
+use Rattle.std.proofs.Common.{◌≡◌, ℕ, ◌+◌, ◌<◌, ◌≤◌, true, false, ◌||◌, not, nat_lt, List, [], ◌∷◌, ◌++◌, length, map, Some, refl, ap}
+use Rattle.std.specs.List.{list_any}
+use Rattle.std.specs.Str.{bytes_eq}
+use Rattle.std.proofs.lemmas.Bool.{lt-ltb, le-ltb}
+use Rattle.toml.specs.Data.{Data, as_table, Members}
+use Rattle.cqs_plan.specs.declared.plans.error.PlanError.{PlanError}
+use Rattle.cqs_plan.specs.declared.plans.resource.Resource.{Resource}
+use Rattle.cqs_plan.specs.declared.plans.fault_kind.FaultKind.TheVariants as fault
+use Rattle.cqs_plan.specs.Language.{is_name, ResourceKind}
+use Rattle.cqs_plan.specs.FaultRules.{Fault, fault_at, has_only, unless}
+use Rattle.cqs_plan.specs.Faults.{resource_faults, resource_number_faults}
+use Rattle.cqs_plan.specs.Places.{dotted}
+use Rattle.cqs_plan.specs.Reading.{StopsAt}
+use Rattle.cqs_plan.specs.Sections.{names_of}
+use Rattle.cqs_plan.proofs.FirstFaults.{StopsAt-append}
+
+-- whether a name is among those of resources
+pub any-name : (name : List ℕ) (resources : List Resource)
+    → list_any (λ (resource : Resource). bytes_eq name resource.name) resources
+    ≡ list_any (bytes_eq name) (names_of resources)
+any-name name [] = refl
+any-name name (r ∷ resources) = ap (λ rest. bytes_eq name r.name || rest) (any-name name resources)
+
+-- a name with a table that has only the keys of its kind
+pub record IsTable (kind : ResourceKind) (name : List ℕ) (value : Data) (table : Members) : Type 0 where
+  pub named : is_name name ≡ true
+  pub is : as_table value ≡ Some table
+  pub only : has_only (map (λ number. number.key) kind.numbers) table ≡ true
+
+-- what is looked for after the keys
+abbrev later : ResourceKind → List (List ℕ) → ℕ → List ℕ → Members → List Fault
+later kind earlier i name table =
+    unless (not (list_any (bytes_eq name) earlier)) (dotted kind.key name) fault.Name
+    ++ unless (nat_lt (length earlier + i) 64) (dotted kind.key name) fault.Many
+    ++ resource_number_faults kind name table
+
+module _ (kind : ResourceKind) (earlier : List (List ℕ)) (i : ℕ) (name : List ℕ) (value : Data) (table : Members)
+    (has : IsTable kind name value table) where
+  after-keys : resource_faults kind earlier i (name, value) ≡ later kind earlier i name table
+  after-keys = rw (has.named, has.is, has.only) refl
+
+  -- the name stands already
+  pub stands : (e : PlanError) → list_any (bytes_eq name) earlier ≡ true
+      → StopsAt (fault_at (dotted kind.key name) fault.Name) e
+      → StopsAt (resource_faults kind earlier i (name, value)) e
+  stands e known stops =
+      let many = unless (nat_lt (length earlier + i) 64) (dotted kind.key name) fault.Many in
+      let first = fault_at (dotted kind.key name) fault.Name in
+      rw (after-keys, known)
+      (StopsAt-append (first ++ many) (resource_number_faults kind name table) e (StopsAt-append first many e stops))
+
+  -- it is one too many
+  pub too-many : (e : PlanError) → list_any (bytes_eq name) earlier ≡ false → 64 ≤ length earlier + i
+      → StopsAt (fault_at (dotted kind.key name) fault.Many) e
+      → StopsAt (resource_faults kind earlier i (name, value)) e
+  too-many e new over stops =
+      let passed : nat_lt (length earlier + i) 64 ≡ false = le-ltb (length earlier + i) 64 over in
+      let first = fault_at (dotted kind.key name) fault.Many in
+      rw (after-keys, new, passed) (StopsAt-append first (resource_number_faults kind name table) e stops)
+
+  -- its numbers are what is left
+  pub numbers : list_any (bytes_eq name) earlier ≡ false → length earlier + i < 64
+      → resource_faults kind earlier i (name, value) ≡ resource_number_faults kind name table
+  numbers new few =
+      let passed : nat_lt (length earlier + i) 64 ≡ true = lt-ltb (length earlier + i) 64 few in
+      rw (after-keys, new, passed) refl

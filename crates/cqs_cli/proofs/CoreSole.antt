@@ -4,6 +4,8 @@ use Rattle.std.specs.Prelude.{slice_index}
 use Rattle.std.specs.List.{list_any}
 use Rattle.std.proofs.lemmas.Int.{ints}
 use Rattle.std.proofs.lemmas.List.{append-nil}
+use Rattle.cqs_plan.specs.declared.plans.kind.Kind.{Kind}
+use Rattle.cqs_plan.specs.Floor.{permits_of}
 use Rattle.cqs_core.specs.declared.calls.Call.TheVariants as call
 use Rattle.cqs_core.specs.declared.calls.Reply.{Reply}
 use Rattle.cqs_core.specs.declared.calls.Reply.TheVariants as reply
@@ -32,19 +34,19 @@ use Rattle.cqs_cli.proofs.SoleCells.{read-wait, line-few}
 use Rattle.cqs_cli.proofs.Stays.{in-head}
 
 -- the plain semaphore of a core is the one that it shows
-object-shown : (x : Room) (size room waiting held : ℕ) → IsFunded x size room waiting held
-    → object sole_core size x ≡ shown x.shape
-object-shown x size room waiting held funded =
+object-shown : (x : Room) (kind : Option Kind) (room waiting held : ℕ) → IsFunded x (permits_of kind) room waiting held
+    → object sole_core kind x ≡ shown x.shape
+object-shown x kind room waiting held funded =
     ap (λ n. object_after n x.shape.history) (sym funded.permits) ∙ funded.sole.core.object
 
 pub core-lawful : IsLawful sole_core
 core-lawful = record {
-  some = λ x size room waiting held funded. omega (arith, funded.permits, funded.sole.core.range.some_permits);
-  legal = λ x size room waiting held funded.
+  some = λ x kind room waiting held funded. omega (arith, funded.permits, funded.sole.core.range.some_permits);
+  legal = λ x kind room waiting held funded.
       subst (λ n. IsLegal n x.shape.history) funded.permits funded.sole.core.legal;
-  numbered = λ x wait size room waiting held funded has.
-      let read = read-wait x.shape funded.sole (funded-rests x size room waiting held funded) wait 0 has in
-      subst (λ (o : Semaphore). wait < o.next) (sym (object-shown x size room waiting held funded)) read.drawn;
+  numbered = λ x wait kind room waiting held funded has.
+      let read = read-wait x.shape funded.sole (funded-rests x (permits_of kind) room waiting held funded) wait 0 has in
+      subst (λ (o : Semaphore). wait < o.next) (sym (object-shown x kind room waiting held funded)) read.drawn;
 }
 
 -- a core as it is made has one pass, which is idle
@@ -60,14 +62,14 @@ sole-opened permits some few = record {
   untaken = record { at = λ k cell got. absurd (cc) };
 }
 
-pub core-opened : (permits takes : ℕ) (x : Room) → 0 < permits → permits ≤ 1048576 → takes ≤ 262144
-    → x.shape ≡ opened permits 1 → 9 * takes ≤ x.spare → IsOpened sole_core permits takes x
-core-opened permits takes x some few few_takes opens spare =
+pub core-opened : (kind : Option Kind) (takes : ℕ) (x : Room) → 0 < permits_of kind → permits_of kind ≤ 1048576
+    → takes ≤ 262144 → x.shape ≡ opened (permits_of kind) 1 → 9 * takes ≤ x.spare → IsOpened sole_core kind takes x
+core-opened kind takes x some few few_takes opens spare =
     let suspends : x.shape.queue.suspends ≡ 0 = ap (λ (s : Shape). s.queue.suspends) opens in
     record {
       fresh = ap (λ (s : Shape). s.history) opens;
       funded = record {
-        sole = subst IsSole (sym opens) (sole-opened permits some few);
+        sole = subst IsSole (sym opens) (sole-opened (permits_of kind) some few);
         permits = ap (λ (s : Shape). s.permits) opens;
         numbers = omega (arith, suspends, few_takes);
         spare = omega (arith, spare);
@@ -96,8 +98,8 @@ end-ready x wait can = funded-ready x _ _ _ _ can.funded (omega (arith, can.some
 
 -- a call of a core that was between two calls
 module _ (x y : Room) (answer : Reply) (sole : IsSole x.shape) where
-  object-is : (size room waiting held : ℕ) → IsFunded x size room waiting held → shown x.shape ≡ object sole_core size x
-  object-is size room waiting held funded = sym (object-shown x size room waiting held funded)
+  object-is : (kind : Option Kind) (room waiting held : ℕ) → IsFunded x (permits_of kind) room waiting held → shown x.shape ≡ object sole_core kind x
+  object-is kind room waiting held funded = sym (object-shown x kind room waiting held funded)
 
   pub core-acquires : HasMade x (call.Acquire 0) answer y → Acquires sole_core x (wait_in answer) y
   core-acquires made = go (nat_lt 0 (shown x.shape).free) refl
@@ -106,9 +108,9 @@ module _ (x y : Room) (answer : Reply) (sole : IsSole x.shape) where
       go true some =
           let came = came-now x y answer sole made some in
           subst (λ a. Acquires sole_core x (wait_in a) y) (sym came.is)
-          (λ size room waiting held funded left.
+          (λ kind room waiting held funded left.
           record {
-            free = ap (λ (o : Semaphore). nat_lt 0 o.free) (object-shown x size room waiting held funded) ∙ some;
+            free = ap (λ (o : Semaphore). nat_lt 0 o.free) (object-shown x kind room waiting held funded) ∙ some;
             goes = record {
               appended = came.history;
               funded = funded-next x y _ answer _ _ _ _ _ _ _ funded made
@@ -120,11 +122,11 @@ module _ (x y : Room) (answer : Reply) (sole : IsSole x.shape) where
       go false none =
           let came = came-later x y answer sole made none in
           subst (λ a. Acquires sole_core x (wait_in a) y) (sym came.is)
-          (λ size room waiting held funded left.
-          let next : (shown x.shape).next ≡ (object sole_core size x).next =
-          ap (λ (o : Semaphore). o.next) (object-is size room waiting held funded) in
+          (λ kind room waiting held funded left.
+          let next : (shown x.shape).next ≡ (object sole_core kind x).next =
+          ap (λ (o : Semaphore). o.next) (object-is kind room waiting held funded) in
           record {
-            none = ap (λ (o : Semaphore). nat_lt 0 o.free) (object-shown x size room waiting held funded) ∙ none;
+            none = ap (λ (o : Semaphore). nat_lt 0 o.free) (object-shown x kind room waiting held funded) ∙ none;
             number = next;
             goes = record {
               appended = rw (← next) came.history;
@@ -146,9 +148,9 @@ module _ (x y : Room) (answer : Reply) (sole : IsSole x.shape) where
           let came = came-freed x y answer sole made is in
           let next : y.shape.queue.suspends ≡ x.shape.queue.suspends = ap (λ (o : Semaphore). o.next) came.shows in
           subst (λ a. Releases sole_core x (sent_in a) y) (sym came.is)
-          (λ size room waiting held funded some.
+          (λ kind room waiting held funded some.
           record {
-            empty = ap (λ (o : Semaphore). o.line) (object-shown x size room waiting held funded) ∙ is;
+            empty = ap (λ (o : Semaphore). o.line) (object-shown x kind room waiting held funded) ∙ is;
             goes = record {
               appended = came.history;
               funded = funded-next x y _ answer _ _ _ _ _ _ _ funded made
@@ -160,9 +162,9 @@ module _ (x y : Room) (answer : Reply) (sole : IsSole x.shape) where
           let came = came-sent x y answer sole first rest made is in
           let next : y.shape.queue.suspends ≡ x.shape.queue.suspends = ap (λ (o : Semaphore). o.next) came.shows in
           subst (λ a. Releases sole_core x (sent_in a) y) (sym came.is)
-          (λ size room waiting held funded some.
-          let line : (object sole_core size x).line ≡ first ∷ rest =
-          ap (λ (o : Semaphore). o.line) (object-shown x size room waiting held funded) ∙ is in
+          (λ kind room waiting held funded some.
+          let line : (object sole_core kind x).line ≡ first ∷ rest =
+          ap (λ (o : Semaphore). o.line) (object-shown x kind room waiting held funded) ∙ is in
           let stands = in-head (record { wait = first.wait; pass = first.pass }) first rest refl in
           let waits : HasWait first.wait first.pass (shown x.shape) = inl (rw is stands) in
           let alone = (read-wait x.shape sole (funded-rests x _ _ _ _ funded) first.wait first.pass waits).alone in
@@ -208,11 +210,11 @@ not-false false is = absurd (cc)
 -- a core whose caller has a wait
 module _ (x : Room) (wait : ℕ) where
   -- whether the wait stands in the line
-  line-reads : (size room waiting held : ℕ) → IsFunded x size room waiting held → (stands : Bool)
+  line-reads : (kind : Option Kind) (room waiting held : ℕ) → IsFunded x (permits_of kind) room waiting held → (stands : Bool)
       → is_some (find_wait wait (shown x.shape).line) ≡ stands
-      → is_in_line wait (object sole_core size x).line ≡ stands
-  line-reads size room waiting held funded stands is =
-      ap (λ (o : Semaphore). is_in_line wait o.line) (object-shown x size room waiting held funded)
+      → is_in_line wait (object sole_core kind x).line ≡ stands
+  line-reads kind room waiting held funded stands is =
+      ap (λ (o : Semaphore). is_in_line wait o.line) (object-shown x kind room waiting held funded)
       ∙ any-find wait (shown x.shape).line ∙ is
 
   served-reads : IsSole x.shape → x.shape.queue.suspends ≤ 1048576 → HasWait wait 0 (shown x.shape)
@@ -226,9 +228,9 @@ module _ (x : Room) (wait : ℕ) where
       let reads = served-reads can.funded.sole (omega (arith, can.funded.numbers)) can.has in
       let there = not-false _ (sym missing ∙ reads) in (
         refl,
-        λ size room waiting held funded some.
+        λ kind room waiting held funded some.
             record {
-              found = line-reads size room waiting held funded true there;
+              found = line-reads kind room waiting held funded true there;
               goes = record { appended = rest; funded = funded };
               keeps = λ other has. has;
             },
@@ -243,13 +245,13 @@ module _ (x : Room) (wait : ℕ) where
 
     pub core-grants : is_served_at (slice_get x.shape.queue.cells wait) ≡ true → HasMade x (call.Poll 0 wait) answer y
         → Polls sole_core x wait None y
-    core-grants served made size room waiting held funded some =
+    core-grants served made kind room waiting held funded some =
         let reads = served-reads sole (omega (arith, can.funded.numbers)) can.has in
         let missing = not-true _ (sym served ∙ reads) in
         let came = came-granted x y answer sole wait made (none-found _ missing) in
         let next : y.shape.queue.suspends ≡ x.shape.queue.suspends = ap (λ (o : Semaphore). o.next) came.shows in
         record {
-          found = line-reads size room waiting held funded false missing;
+          found = line-reads kind room waiting held funded false missing;
           goes = record {
             appended = came.history;
             funded = funded-next x y _ answer _ _ _ _ _ _ _ funded made
@@ -270,9 +272,9 @@ module _ (x : Room) (wait : ℕ) where
             let next : y.shape.queue.suspends ≡ x.shape.queue.suspends =
             ap (λ (o : Semaphore). o.next) came.shows ∙ left-next (shown x.shape) wait in
             subst (λ a. Cancels sole_core x wait (has_left a) y) (sym came.is)
-            (λ size room waiting held funded some.
+            (λ kind room waiting held funded some.
             record {
-              found = line-reads size room waiting held funded true there;
+              found = line-reads kind room waiting held funded true there;
               goes = record {
                 appended = came.history;
                 funded = funded-next x y _ answer _ _ _ _ _ _ _ funded made
@@ -285,9 +287,9 @@ module _ (x : Room) (wait : ℕ) where
             let came = came-late x y answer sole wait made (none-found _ missing) in
             let next : y.shape.queue.suspends ≡ x.shape.queue.suspends = ap (λ (o : Semaphore). o.next) came.shows in
             subst (λ a. Cancels sole_core x wait (has_left a) y) (sym came.is)
-            (λ size room waiting held funded some.
+            (λ kind room waiting held funded some.
             record {
-              found = line-reads size room waiting held funded false missing;
+              found = line-reads kind room waiting held funded false missing;
               goes = record {
                 appended = came.history;
                 funded = funded-next x y _ answer _ _ _ _ _ _ _ funded made
@@ -303,11 +305,11 @@ state-le (pos m) n few = grind (arith, ints)
 state-le (negsuc m) n few = grind (arith, ints)
 
 -- what a core at rest tells by its state
-module _ (x : Room) (size room waiting held : ℕ) (funded : IsFunded x size room waiting held) where
+module _ (x : Room) (kind : Option Kind) (room waiting held : ℕ) (funded : IsFunded x (permits_of kind) room waiting held) where
   quiet : IsQuiet x.shape
-  quiet = quiet-core x.shape funded.sole.core (funded-rests x size room waiting held funded)
+  quiet = quiet-core x.shape funded.sole.core (funded-rests x (permits_of kind) room waiting held funded)
 
-  all-there : (shown x.shape).held + free_of x.shape.state ≡ size
+  all-there : (shown x.shape).held + free_of x.shape.state ≡ permits_of kind
   all-there =
       let still : going x.shape.queue ≡ 0 =
       none-going x.shape.queue funded.sole.core.sound funded.sole.idle quiet.behind in
@@ -320,13 +322,13 @@ module _ (x : Room) (size room waiting held : ℕ) (funded : IsFunded x size roo
       state-le x.shape.state 4294967295 (omega (arith, all-there, funded.permits, funded.sole.core.range.permits))
 
   pub core-tells : (stand : Stand) → stand.free ≡ free_of x.shape.state → stand.line ≡ short_of x.shape.state
-      → Stands sole_core size room waiting held x stand x
+      → Stands sole_core kind room waiting held x stand x
   core-tells stand free line =
-      let is = sym (object-shown x size room waiting held funded) in
+      let is = sym (object-shown x kind room waiting held funded) in
       record {
         free = free ∙ ap (λ (o : Semaphore). o.free) is;
         line = line ∙ quiet.waits ∙ ap (λ (o : Semaphore). length o.line) is;
-        all = subst (λ (o : Semaphore). o.held + o.free ≡ size) is all-there;
+        all = subst (λ (o : Semaphore). o.held + o.free ≡ permits_of kind) is all-there;
         goes = record { appended = sym (append-nil x.shape.history); funded = funded };
         keeps = λ other has. has;
       }

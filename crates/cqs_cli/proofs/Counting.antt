@@ -14,18 +14,16 @@ use Rattle.cqs_core.proofs.Counts.{bit}
 use Rattle.cqs_core.proofs.Places.{get-below, get-append_below, get-push_at}
 use Rattle.cqs_plan.specs.declared.plans.job.Job.{Job}
 use Rattle.cqs_plan.specs.declared.plans.kind.Kind.{Kind}
-use Rattle.cqs_plan.specs.declared.plans.kind.Kind.TheVariants as kind
 use Rattle.cqs_plan.specs.declared.plans.plan.Plan.{Plan}
 use Rattle.cqs_plan.specs.declared.plans.resource.Resource.{Resource}
 use Rattle.cqs_plan.specs.declared.plans.step.Step.{Step}
 use Rattle.cqs_plan.specs.declared.plans.step.Step.TheVariants as step
 use Rattle.cqs_plan.specs.PlanSteps.{is_take}
-use Rattle.cqs_plan.specs.Floor.{permits_of}
 use Rattle.cqs_plan.specs.Holding.{TookMore}
 use Rattle.cqs_plan.specs.Runnable.{IsRunnable, IsMakeable, kinds_of}
 use Rattle.cqs_cli.specs.Opening.{AreOpened, AreWithin, IsCountable, IsWithin, takes_of}
 use Rattle.cqs_cli.specs.Soles.{Sole, IsOpened}
-use Rattle.cqs_cli.proofs.Resources.{bit-same, bit-other, holdable-semaphore}
+use Rattle.cqs_cli.proofs.Resources.{bit-same, bit-other, holdable-there}
 
 -- a take among the steps names one of the resources
 pub within-at : (n : ℕ) (steps : List Step) (i at : ℕ) → AreWithin n steps → i < length steps
@@ -108,7 +106,7 @@ counts-all room jobs n i long all counts =
 pub opened-push : {X W : Type 0} (s : Sole X W) (resources : List Resource) (room : List ℕ) (soles : List X)
     (resource : Resource) (sole : X)
     → length soles < length resources → resource ≡ get_or resources (length soles) resource
-    → IsOpened s (permits_of (Some resource.kind)) (slice_index room (length soles)) sole
+    → IsOpened s (Some resource.kind) (slice_index room (length soles)) sole
     → AreOpened s resources room soles → AreOpened s resources room (soles ++ sole ∷ [])
 opened-push {X} s resources room soles resource sole below is opens opened =
     record { each = λ at r x named got. go at r x named got (cases_lt at (length soles)) }
@@ -116,7 +114,7 @@ opened-push {X} s resources room soles resource sole below is opens opened =
     go : (at : ℕ) (r : Resource) (x : X) → slice_get resources at ≡ Some r
         → slice_get (soles ++ sole ∷ []) at ≡ Some x
         → (at < length soles) ⊎ (length soles ≤ at)
-        → IsOpened s (permits_of (Some r.kind)) (slice_index room at) x
+        → IsOpened s (Some r.kind) (slice_index room at) x
     go at r x named got (inl before) =
         opened.each at r x named (sym (get-append_below soles (sole ∷ []) at before) ∙ got)
     go at r x named got (inr past) =
@@ -155,8 +153,8 @@ runnable-countable plan runnable = record {
     within : (s : Step) (earlier : List Step) → IsMakeable (kinds_of plan.resources) (TookMore earlier) s
         → IsWithin (length plan.resources) s
     within (step.Take at) earlier makeable =
-        let is = holdable-semaphore (slice_get (kinds_of plan.resources) at) makeable in
-        place-below at (kind.Semaphore is.0) is.1
+        let is = holdable-there (slice_get (kinds_of plan.resources) at) makeable in
+        place-below at is.0 is.1
     within (step.Give at) earlier makeable = tt
     within (step.Work turns) earlier makeable = tt
     within (step.Down at) earlier makeable = tt

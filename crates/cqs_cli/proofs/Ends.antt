@@ -1,6 +1,7 @@
 -- How a resource stands, as its semaphore tells it.
-use Rattle.std.proofs.Common.{◌≡◌, ℕ, ◌+◌, ◌-◌, ◌≤◌, ℤ, pos, negsuc, ◌≤ℤ◌, length, slice_get, set, ap, ap₂, sym, ◌∙◌, subst, arith}
+use Rattle.std.proofs.Common.{◌≡◌, ℕ, ◌+◌, ◌-◌, ◌≤◌, ℤ, pos, negsuc, ◌≤ℤ◌, length, Option, Some, slice_get, set, ap, ap₂, sym, ◌∙◌, subst, arith}
 use Rattle.std.specs.Prelude.{slice_index}
+use Rattle.cqs_plan.specs.declared.plans.kind.Kind.{Kind}
 use Rattle.cqs_core.specs.SemaphoreObject.{Semaphore}
 use Rattle.cqs_plan.specs.declared.floors.answers.FloorEnd.{FloorEnd}
 use Rattle.cqs_plan.specs.declared.floors.answers.FloorEnd.TheVariants.{Permits}
@@ -12,25 +13,25 @@ use Rattle.cqs_cli.specs.Kept.{IsKept, held_at, waiting_at}
 use Rattle.cqs_cli.specs.Ledger.{Ledger, holds_in, plain_floor, with_soles}
 use Rattle.cqs_cli.specs.Soles.{Sole, Stands, object}
 use Rattle.cqs_cli.proofs.Looks.{kept-same, plain-same}
-use Rattle.cqs_cli.proofs.Resources.{Funds, funds-at, holdable-semaphore, object-there}
+use Rattle.cqs_cli.proofs.Resources.{Funds, funds-at, holdable-there, object-there}
 
 module _ {X W : Type 0} (s : Sole X W) where
-  stands-shown : (size room waiting held : ℕ) (x y : X) (stand : Stand) → Stands s size room waiting held x stand y
-      → Permits stand.free (size - stand.free) stand.line
-      ≡ Permits (object s size x).free (object s size x).held (length (object s size x).line)
-  stands-shown size room waiting held x y stand stands =
-      let rest : size - stand.free ≡ (object s size x).held = omega (arith, stands.all, stands.free) in
-      ap (λ n. Permits n (size - stand.free) stand.line) stands.free
-      ∙ ap₂ (λ h w. Permits (object s size x).free h w) rest stands.line
+  stands-shown : (kind : Option Kind) (room waiting held : ℕ) (x y : X) (stand : Stand) → Stands s kind room waiting held x stand y
+      → Permits stand.free (permits_of kind - stand.free) stand.line
+      ≡ Permits (object s kind x).free (object s kind x).held (length (object s kind x).line)
+  stands-shown kind room waiting held x y stand stands =
+      let rest : permits_of kind - stand.free ≡ (object s kind x).held = omega (arith, stands.all, stands.free) in
+      ap (λ n. Permits n (permits_of kind - stand.free) stand.line) stands.free
+      ∙ ap₂ (λ h w. Permits (object s kind x).free h w) rest stands.line
 
   can-end : (l : Ledger X W) (at : ℕ) → IsKept s l → IsHoldable (slice_get l.kinds at) → CanEndAt s l at
   can-end l at kept holdable =
-      let is = holdable-semaphore (slice_get l.kinds at) holdable in
+      let is = holdable-there (slice_get l.kinds at) holdable in
       let funds : Funds s l at = funds-at s l at kept holdable in
-      let size : permits_of (slice_get l.kinds at) ≡ is.0 = ap permits_of is.1 in
       record {
-        permits = is.0;
-        kind = is.1;
+        kind = is.0;
+        is = is.1;
+        holdable = subst IsHoldable is.1 holdable;
         sole = record {
           sole = funds.sole;
           there = funds.there;
@@ -39,8 +40,8 @@ module _ {X W : Type 0} (s : Sole X W) where
             waiting = waiting_at l.waits at;
             held = held_at (holds_in l) at;
             funded = subst
-                (λ n. s.funded funds.sole n (slice_index l.room at) (waiting_at l.waits at) (held_at (holds_in l) at))
-                size funds.funded;
+                (λ k. s.funded funds.sole k (slice_index l.room at) (waiting_at l.waits at) (held_at (holds_in l) at))
+                is.1 funds.funded;
           };
         };
       }
@@ -55,7 +56,7 @@ module _ {X W : Type 0} (s : Sole X W) where
       → EndsWell (plain_floor s l) at answer n
   end-well l n at answer kept e =
       let made = e.calls.made _ _ _ _ (kept.funded.at at e.calls.sole e.calls.there) in
-      let size : permits_of (slice_get l.kinds at) ≡ e.permits = ap permits_of e.kind in
+      let size : permits_of (slice_get l.kinds at) ≡ permits_of (Some e.kind) = ap permits_of e.is in
       let is : n ≡ with_soles l (set l.soles at e.calls.after) = e.written ∙ ap (with_soles l) e.calls.soles in
       record {
         answers = e.told ∙ ap (λ m. Permits e.stand.free (m - e.stand.free) e.stand.line) (sym size)

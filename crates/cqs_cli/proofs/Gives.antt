@@ -10,7 +10,7 @@ use Rattle.cqs_core.specs.SemaphoreObject.{Semaphore}
 use Rattle.cqs_core.proofs.Counts.{bit}
 use Rattle.cqs_plan.specs.declared.floors.answers.FloorGive.{FloorGive}
 use Rattle.cqs_plan.specs.declared.floors.answers.FloorGive.TheVariants.{Free, Sent}
-use Rattle.cqs_plan.specs.Floor.{PlainFloor, Holding, IsHoldable, IsJob, IsHolding, oldest, holds_of, object_at, permits_of}
+use Rattle.cqs_plan.specs.Floor.{PlainFloor, Holding, IsHoldable, IsJob, IsHolding, oldest, holds_of, object_at}
 use Rattle.cqs_plan.specs.FloorCalls as plain
 use Rattle.cqs_cli.specs.declared.floors.transfers.Transfer.TheVariants.{GaveBack}
 use Rattle.cqs_cli.specs.DeskCalls.{Gives, HasAt}
@@ -38,7 +38,7 @@ module _ {X W : Type 0} (s : Sole X W) where
       record {
         sole = funds.sole;
         there = funds.there;
-        can = record { size = _; room = _; waiting = _; held = _; funded = funds.funded; some = some };
+        can = record { kind = _; room = _; waiting = _; held = _; funded = funds.funded; some = some };
       }
 
   -- a job that gives back what it holds of a resource
@@ -60,7 +60,7 @@ module _ {X W : Type 0} (s : Sole X W) where
 
     -- what is kept, wherever the permit went
     kept-given : (entries : List Entry)
-        → Goes s sole entries (permits_of (slice_get l.kinds at)) (slice_index l.room at) (waiting_at l.waits at)
+        → Goes s sole entries (slice_get l.kinds at) (slice_index l.room at) (waiting_at l.waits at)
         (held_at (holds_in l) at - 1) after
         → KeepsAll s sole after → IsKept s given
     kept-given entries goes keeps = kept-next s l given at sole after kept (record {

@@ -1,5 +1,5 @@
 -- What a ledger keeps after a call at one resource.
-use Rattle.std.proofs.Common.{◌≡◌, ◌≢◌, ◌⊎◌, inl, inr, ℕ, zero, suc, ◌≤◌, List, [], ◌∷◌, ◌++◌, Some, length, map, set, get_or, slice_get, ap, ap₂, sym, ◌∙◌, subst, length-set}
+use Rattle.std.proofs.Common.{◌≡◌, ◌≢◌, ◌⊎◌, inl, inr, ℕ, zero, suc, ◌≤◌, List, [], ◌∷◌, ◌++◌, Some, length, map, set, get_or, slice_get, ap, ap₂, sym, ◌∙◌, subst, length-set, Option}
 use Rattle.std.specs.Prelude.{slice_index}
 use Rattle.std.proofs.lemmas.Bool.{cases_eq}
 use Rattle.std.proofs.lemmas.List.{map-set}
@@ -8,7 +8,6 @@ use Rattle.cqs_core.specs.Numbered.{EachAt}
 use Rattle.cqs_core.proofs.EachAtLemmas.{EachAt-write}
 use Rattle.cqs_core.proofs.Places.{get-set_here, get-set_else}
 use Rattle.cqs_plan.specs.declared.plans.kind.Kind.{Kind}
-use Rattle.cqs_plan.specs.Floor.{permits_of}
 use Rattle.cqs_cli.specs.declared.floors.waits.Wait.{Wait}
 use Rattle.cqs_cli.specs.Kept.{IsKept, IsFundedAt, StandsIn, AreApart, HoldPermits, waiting_at, held_at, transfers_to_come}
 use Rattle.cqs_cli.specs.Ledger.{Ledger, holds_in}
@@ -17,11 +16,11 @@ use Rattle.cqs_cli.proofs.Resources.{entries-at}
 
 module _ {X W : Type 0} (s : Sole X W) where
   -- the same funds, in other words
-  pub funded-as : (x : X) (size : ℕ) {r r' w w' h h' : ℕ} → r ≡ r' → w ≡ w' → h ≡ h'
-      → s.funded x size r w h → s.funded x size r' w' h'
-  funded-as x size {r} {r'} {w} {w'} {h} {h'} room waiting held funded =
-      subst (λ n. s.funded x size n w' h') room
-      (subst (λ n. s.funded x size r n h') waiting (subst (λ n. s.funded x size r w n) held funded))
+  pub funded-as : (x : X) (kind : Option Kind) {r r' w w' h h' : ℕ} → r ≡ r' → w ≡ w' → h ≡ h'
+      → s.funded x kind r w h → s.funded x kind r' w' h'
+  funded-as x kind {r} {r'} {w} {w'} {h} {h'} room waiting held funded =
+      subst (λ n. s.funded x kind n w' h') room
+      (subst (λ n. s.funded x kind r n h') waiting (subst (λ n. s.funded x kind r w n) held funded))
 
   -- after a call at a place: the semaphore there is another, and what is counted of the other resources is as it was
   pub record Follows (l : Ledger X W) (at : ℕ) (sole after : X) (n : Ledger X W) : Type 0 where
@@ -54,7 +53,7 @@ module _ {X W : Type 0} (s : Sole X W) where
     where
       others : (i : ℕ) (x : X) → slice_get l.soles i ≡ Some x → i ≢ at → IsFundedAt s l i x → IsFundedAt s n i x
       others i x got other was =
-          subst (λ (ks : List Kind). s.funded x (permits_of (slice_get ks i)) (slice_index n.room i)
+          subst (λ (ks : List Kind). s.funded x (slice_get ks i) (slice_index n.room i)
           (waiting_at n.waits i) (held_at (holds_in n) i)) (sym f.kinds)
           (funded-as x _ (sym (f.room i other)) (sym (f.waiting i other)) (sym (f.held i other)) was)
 

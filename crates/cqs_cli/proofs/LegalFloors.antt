@@ -1,5 +1,5 @@
 -- The floor of a ledger is legal: each resource has a semaphore, whose entries are legal.
-use Rattle.std.proofs.Common.{◌≡◌, ℕ, ◌<◌, List, Some, length, slice_get, ap, sym, subst, arith}
+use Rattle.std.proofs.Common.{◌≡◌, ℕ, ◌<◌, List, Option, Some, length, slice_get, ap, sym, subst, arith}
 use Rattle.cqs_core.specs.declared.entries.Entry.{Entry}
 use Rattle.cqs_core.specs.SemaphoreEntries.{IsLegal}
 use Rattle.cqs_core.proofs.Places.{get-below, get-there}
@@ -25,16 +25,16 @@ module _ {X W : Type 0} (s : Sole X W) (lawful : IsLawful s) where
       → 0 < permits_of (Some k)
   some-permits l at k kept is =
       let funds = sole-of l at k kept is in
-      subst (λ n. 0 < n) (ap permits_of is) (lawful.some funds.sole _ _ _ _ funds.funded)
+      subst (λ k. 0 < permits_of k) is (lawful.some funds.sole _ _ _ _ funds.funded)
 
   legal-at : (l : Ledger X W) → IsKept s l → (at : ℕ) (k : Kind) → slice_get l.kinds at ≡ Some k
       → IsHistory k (entries_at (plain_floor s l) at)
   legal-at l kept at (kind.Semaphore permits) is =
       let funds = sole-of l at (kind.Semaphore permits) kept is in
       let legal = lawful.legal funds.sole _ _ _ _ funds.funded in
-      let OfSize : ℕ → Type 0 = λ n. IsLegal n (s.entries funds.sole) in
+      let OfKind : Option Kind → Type 0 = λ k. IsLegal (permits_of k) (s.entries funds.sole) in
       let Of : List Entry → Type 0 = IsLegal permits in
-      subst Of (sym (entries-at s l.soles at funds.sole funds.there)) (subst OfSize (ap permits_of is) legal)
+      subst Of (sym (entries-at s l.soles at funds.sole funds.there)) (subst OfKind is legal)
   legal-at l kept at kind.Mutex is = absurd (omega (arith, some-permits l at kind.Mutex kept is))
   legal-at l kept at (kind.Pool elements) is = absurd (omega (arith, some-permits l at (kind.Pool elements) kept is))
   legal-at l kept at (kind.Latch count) is = absurd (omega (arith, some-permits l at (kind.Latch count) kept is))

@@ -21,7 +21,13 @@ pub mod Counting
 pub mod Opened
 pub mod CoreSole
 pub mod News
-pub mod QueueSole
+pub mod PassRests
+pub mod OnePasses
+pub mod PassCalls
 pub mod QueueSends
 pub mod QueueStands
+pub mod QueueSole
+pub mod MutexSole
+pub mod Among
+pub mod RunningSole
 pub mod RunFloors

@@ -10,7 +10,7 @@ use Rattle.cqs_plan.specs.declared.floors.answers.FloorLook.{FloorLook}
 use Rattle.cqs_plan.specs.declared.floors.answers.FloorLook.TheVariants.{Pending, Granted}
 use Rattle.cqs_plan.specs.declared.floors.answers.FloorLeave.{FloorLeave}
 use Rattle.cqs_plan.specs.declared.floors.answers.FloorLeave.TheVariants.{Gone, Late}
-use Rattle.cqs_plan.specs.Floor.{PlainFloor, IsJob, IsWaiting, permits_of, wait_of}
+use Rattle.cqs_plan.specs.Floor.{PlainFloor, IsJob, IsWaiting, wait_of}
 use Rattle.cqs_plan.specs.FloorCalls as plain
 use Rattle.cqs_cli.specs.declared.floors.waits.Wait.{Wait}
 use Rattle.cqs_cli.specs.DeskCalls.{HasAt, Leaves, Looks}
@@ -31,7 +31,7 @@ set-back (y ∷ xs) (suc i) x there = ap (λ ys. y ∷ ys) (set-back xs i x ther
 module _ {X W : Type 0} (s : Sole X W) where
   -- A call that appends nothing leaves the ledger as it was, for the plain floor.
   module _ (l : Ledger X W) (at : ℕ) (sole after : X) (kept : IsKept s l) (there : slice_get l.soles at ≡ Some sole)
-      (goes : Goes s sole [] (permits_of (slice_get l.kinds at)) (slice_index l.room at) (waiting_at l.waits at)
+      (goes : Goes s sole [] (slice_get l.kinds at) (slice_index l.room at) (waiting_at l.waits at)
       (held_at (holds_in l) at) after) where
     pub plain-same : plain_floor s (with_soles l (set l.soles at after)) ≡ plain_floor s l
     plain-same =
@@ -71,7 +71,7 @@ module _ {X W : Type 0} (s : Sole X W) where
             sole = stands.sole;
             there = stands.there;
             can = record {
-              size = _;
+              kind = _;
               room = _;
               waiting = _;
               held = _;
@@ -86,7 +86,7 @@ module _ {X W : Type 0} (s : Sole X W) where
 
       -- whether the wait stands in the line, as the plain floor sees it
       line-reads : (sole : X) → slice_get l.soles wait.at ≡ Some sole → (stands : Bool)
-          → is_in_line (s.number wait.token) (object s (permits_of (slice_get l.kinds wait.at)) sole).line ≡ stands
+          → is_in_line (s.number wait.token) (object s (slice_get l.kinds wait.at) sole).line ≡ stands
           → plain.is_in_line (plain_floor s l) (job_wait s wait) ≡ stands
       line-reads sole there stands reads =
           ap (λ (o : Semaphore). is_in_line (s.number wait.token) o.line) (object-there s l wait.at sole there) ∙ reads

@@ -11,7 +11,7 @@ use Rattle.cqs_core.proofs.Places.{get-below, get-there}
 use Rattle.cqs_plan.specs.declared.plans.kind.Kind.{Kind}
 use Rattle.cqs_plan.specs.declared.plans.plan.Plan.{Plan}
 use Rattle.cqs_plan.specs.declared.plans.resource.Resource.{Resource}
-use Rattle.cqs_plan.specs.Floor.{Holding, opening_floor, permits_of, takes_in}
+use Rattle.cqs_plan.specs.Floor.{Holding, opening_floor, takes_in}
 use Rattle.cqs_cli.specs.declared.floors.waits.Wait.{Wait}
 use Rattle.cqs_cli.specs.Kept.{IsKept, IsFundedAt, HoldPermits, held_at, is_wait_at, waiting_at}
 use Rattle.cqs_cli.specs.Ledger.{Ledger, holds_after, holds_in, job_wait, plain_floor}
@@ -69,7 +69,7 @@ module _ {X W : Type 0} (s : Sole X W) (plan : Plan) (l : Ledger X W) (o : IsOpe
   record Opens (at : ℕ) (sole : X) : Type 0 where
     resource : Resource
     named : slice_get plan.resources at ≡ Some resource
-    opened : IsOpened s (permits_of (Some resource.kind)) (slice_index l.room at) sole
+    opened : IsOpened s (Some resource.kind) (slice_index l.room at) sole
 
   opens : (at : ℕ) (sole : X) → slice_get l.soles at ≡ Some sole → Opens at sole
   opens at sole there =
@@ -85,7 +85,7 @@ module _ {X W : Type 0} (s : Sole X W) (plan : Plan) (l : Ledger X W) (o : IsOpe
       ap (λ ws. waiting_at ws at) o.waits ∙ waiting-none W (length plan.jobs) at in
       let held : held_at (holds_in l) at ≡ 0 =
       ap (λ hs. held_at hs at) holds-none ∙ held-none (length plan.jobs) at in
-      subst (λ (k : Option Kind). s.funded sole (permits_of k) (slice_index l.room at) (waiting_at l.waits at)
+      subst (λ (k : Option Kind). s.funded sole k (slice_index l.room at) (waiting_at l.waits at)
       (held_at (holds_in l) at)) (sym kind_is)
       (funded-as s sole _ refl (sym waiting) (sym held) is.opened.funded)
 

@@ -26,25 +26,10 @@ use Rattle.cqs_semaphore.specs.Answers.{Releases as Gave}
 use Rattle.cqs_semaphore.specs.Calls.{CallRule, IsMine, Rests, plain_after}
 use Rattle.cqs_semaphore.specs.Entries.{passed_further, released_entries, released_further, resumed_further}
 use Rattle.cqs_semaphore.specs.Steps.{HasCancelled}
-use Rattle.cqs_cli.specs.declared.floors.queue_sole.QueueSole.{QueueSole}
-use Rattle.cqs_cli.specs.Soles.{Releases}
-use Rattle.cqs_cli.specs.SoleQueue.{sole_queue}
-use Rattle.cqs_cli.proofs.QueueSole.{HasLeft, left-way, plain-next, queue-sends, went}
+use Rattle.cqs_cli.proofs.PassCalls.{same-then}
+use Rattle.cqs_cli.proofs.PassRests.{Comes, left-way, plain-next, went}
 
 module _ {T : Type 0} where
-  same-then : (u v w : View Entry T) → IsSame u v → IsSame v w → IsSame u w
-  same-then u v w one two = record {
-    number = two.number ∙ one.number;
-    weight = two.weight ∙ one.weight;
-    own = two.own ∙ one.own;
-    crew = two.crew ∙ one.crew;
-    alone = two.alone ∙ one.alone;
-    limit = two.limit ∙ one.limit;
-    cells = two.cells ∙ one.cells;
-    passes = two.passes ∙ one.passes;
-    opening = two.opening ∙ one.opening;
-  }
-
   pub same-first : (v : View Entry T) → IsSame v v
   same-first v = record {
     number = refl;
@@ -145,6 +130,10 @@ module _ {T : Type 0} where
     };
   }
 
+-- the wait k left the line, and nothing else happened
+abbrev pub HasLeft : {T : Type 0} → ℕ → View Entry T → View Entry T → Type 0
+HasLeft k v w = Comes v w (entry.Leave v.number k ∷ []) v.facts.has.held (without k v.facts.waits)
+
 -- A cancel of a pass that is alone.
 module _ {T : Type 0} (k : ℕ) (v u : View Entry T) (alone : v.alone ≡ true) (still : (plain_after v).way ≡ 0) where
   -- what a cancel leaves whose wait left the line
@@ -222,38 +211,3 @@ module _ {T : Type 0} (k : ℕ) (v u : View Entry T) (alone : v.alone ≡ true) 
           };
         };
       }
-
-first-of : (line : List Waiting) (k : ℕ) → IsFirstOf line k → IsFirst k line
-first-of [] k first = absurd first
-first-of (w ∷ line) k first = first
-
--- A release whose resumption was handed back, and went on to its end.
-module _ (x y : QueueSole) (mine : IsMine y.semaphore y.pass)
-    (one_less : length y.permits.items + 1 ≡ length x.permits.items)
-    (capacity : vec_capacity y.permits ≡ vec_capacity x.permits) where
-  pub queue-hands : (k : ℕ) (under : Token) (u : View Entry (Unit {0}))
-      → CallRule (pass_view x.pass) (released_entries (pass_view x.pass).number (Ok (Under under)))
-      (released_further (Ok (Under under))) u
-      → Gave (pass_view x.pass) (Under under) u
-      → IsFirstOf (plain_after u).line k
-      → (pass_view y.pass).seen ≡ u.seen ++ entry.Deliver k ∷ []
-      → IsSame u (pass_view y.pass)
-      → Rests u u.facts.has.held u.facts.waits (pass_view y.pass)
-      → Releases sole_queue x (Some k) y
-  queue-hands k under u rule gave first seen same rests =
-      let v = pass_view x.pass in
-      let w = pass_view y.pass in
-      let sent : List Entry = entry.GiveSent v.number ∷ [] in
-      queue-sends x y mine one_less capacity k (same-then v u w rule.called.same same)
-      (λ alone zero. seen ∙ ap (λ es. es ++ entry.Deliver k ∷ []) (went v u _ _ rule alone)
-      ∙ append_assoc v.seen sent (entry.Deliver k ∷ [])
-      ∙ ap (λ p. v.seen ++ (entry.GiveSent p ∷ entry.Deliver k ∷ [])) zero)
-      (record {
-        ready = rests.ready;
-        held_is = rests.held_is ∙ gave.1.held_is;
-        waits_are = rests.waits_are ∙ gave.1.waits_are;
-      })
-      (λ alone.
-      let line : (plain_after u).line ≡ (plain_after v).line =
-      ap (λ (o : Semaphore). o.line) (plain-next v u sent rule.called.same (went v u _ _ rule alone)) in
-      first-of (plain_after v).line k (subst (λ ws. IsFirstOf ws k) line first))

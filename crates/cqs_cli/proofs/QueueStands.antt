@@ -14,17 +14,17 @@ use Rattle.cqs_core.specs.SemaphoreObject.{Semaphore, due, opening}
 use Rattle.cqs_core.specs.SemaphoreShown.{free_of, short_of, state_of}
 use Rattle.cqs_core.proofs.Balance.{every-history-balanced}
 use Rattle.cqs_core.proofs.Counts.{bit}
+use Rattle.cqs_plan.specs.Floor.{permits_of}
 use Rattle.cqs_rule.specs.declared.view.View.{View}
-use Rattle.cqs_rule.specs.Passes.{pass_view}
 use Rattle.cqs_rule.specs.Waits.{place_of}
 use Rattle.cqs_rule.specs.Lists.{Has}
-use Rattle.cqs_semaphore.specs.Calls.{CallRule, IsMine, Rests, plain_after}
+use Rattle.cqs_semaphore.specs.Calls.{CallRule, Rests, plain_after}
 use Rattle.cqs_semaphore.specs.Causes.{drawn_in, is_enter}
-use Rattle.cqs_cli.specs.declared.floors.queue_sole.QueueSole.{QueueSole}
 use Rattle.cqs_cli.specs.declared.floors.sole.Stand.{Stand}
 use Rattle.cqs_cli.specs.Soles.{Tells}
-use Rattle.cqs_cli.specs.SoleQueue.{IsResting, is_news, news, sole_queue}
-use Rattle.cqs_cli.proofs.QueueSole.{has-next, line_left, object-seen, rests-next, went}
+use Rattle.cqs_cli.specs.SoleQueue.{IsResting, OnePass, is_news, news, sole_of}
+use Rattle.cqs_cli.proofs.OnePasses.{object-seen}
+use Rattle.cqs_cli.proofs.PassRests.{has-next, line_left, rests-next, went}
 
 -- the state of a semaphore at rest, of whose free permits and waits one is none
 state-free : (a b : ℕ) → (a ≡ 0) ⊎ (b ≡ 0) → free_of (pos a -ℤ pos b) ≡ a
@@ -126,34 +126,37 @@ module _ {T : Type 0} (v : View Entry T) (size room held : ℕ) (rests : IsResti
   state-least =
       above (state_of o) (omega (arith, line-told, line-drawn v.opening.size v.seen, rests.below, rests.few))
 
-pub queue-tells : (x y : QueueSole) (stand : Stand) → IsMine y.semaphore y.pass
-    → CallRule (pass_view x.pass) [] [] (pass_view y.pass)
-    → Rests (pass_view x.pass) (pass_view x.pass).facts.has.held (pass_view x.pass).facts.waits (pass_view y.pass)
-    → y.permits ≡ x.permits
-    → stand.free ≡ free_of (state_of (plain_after (pass_view x.pass)))
-    → stand.line ≡ short_of (state_of (plain_after (pass_view x.pass)))
-    → Tells sole_queue x stand y
-queue-tells x y stand mine rule after kept free line size room waiting held funded =
-    let v = pass_view x.pass in
-    let w = pass_view y.pass in
+-- how one of the running queue stands, by its state
+pub one-tells : {X W T : Type 0} (q : OnePass X W T)
+    → ((x : X) → q.mine x → IsLegal (q.view x).opening.size (q.view x).seen)
+    → (x y : X) (stand : Stand) → q.mine y → q.space y ≡ q.space x → q.held y ≡ q.held x
+    → CallRule (q.view x) [] [] (q.view y)
+    → Rests (q.view x) (q.view x).facts.has.held (q.view x).facts.waits (q.view y)
+    → stand.free ≡ free_of (state_of (plain_after (q.view x)))
+    → stand.line ≡ short_of (state_of (plain_after (q.view x)))
+    → Tells (sole_of q) x stand y
+one-tells q legal x y stand mine capacity kept rule after free line kind room waiting held funded =
+    let v = q.view x in
+    let w = q.view y in
     let seen : w.seen ≡ v.seen ++ [] = went v w [] [] rule funded.rests.alone in
-    let is = sym (object-seen x size funded.rests.size_is) in
-    let legal = funded.mine.live.legal in
+    let is = sym (object-seen q x kind funded.rests.size_is) in
+    let lawful = legal x funded.mine in
     let rests = subst (λ n. Rests v n v.facts.waits w) funded.rests.holds after in
     record {
-      free = free ∙ free-told v size room held funded.rests legal ∙ ap (λ (o : Semaphore). o.free) is;
-      line = line ∙ line-told v size room held funded.rests legal ∙ ap (λ (o : Semaphore). length o.line) is;
-      all = subst (λ (o : Semaphore). o.held + o.free ≡ size) is (all-told v size room held funded.rests legal);
+      free = free ∙ free-told v (permits_of kind) room held funded.rests lawful ∙ ap (λ (o : Semaphore). o.free) is;
+      line = line ∙ line-told v (permits_of kind) room held funded.rests lawful ∙ ap (λ (o : Semaphore). length o.line) is;
+      all = subst (λ (o : Semaphore). o.held + o.free ≡ permits_of kind) is (all-told v (permits_of kind) room held funded.rests lawful);
       goes = record {
         appended = ap news seen ∙ filter-append is_news v.seen [];
         funded = record {
+          sort = funded.sort;
           mine = mine;
-          rests = rests-next v w [] rule.called.same seen size room held room held v.facts.waits funded.rests rests
+          rests = rests-next v w [] rule.called.same seen (permits_of kind) room held room held v.facts.waits funded.rests rests
               (omega arith) funded.rests.still funded.rests.drawn;
-          permits = ap (λ ps. length ps.items) kept ∙ funded.permits;
-          spare = omega (arith, ap (λ ps. vec_capacity ps) kept, funded.spare);
+          permits = kept ∙ funded.permits;
+          spare = omega (arith, capacity, funded.spare);
         };
       };
-      keeps = λ other has. has-next v w [] rule.called.same seen other has
-          (subst (Has (place_of other).index) (sym rests.waits_are) has.open_yet);
+      keeps = λ other has. has-next v w [] rule.called.same seen (q.token other) has
+          (subst (Has (place_of (q.token other)).index) (sym rests.waits_are) has.open_yet);
     }

@@ -7,7 +7,6 @@ use Rattle.cqs_core.specs.SemaphoreEntries.{object_after}
 use Rattle.cqs_core.proofs.Counts.{bit}
 use Rattle.cqs_core.proofs.Places.{get-below, get-there}
 use Rattle.cqs_plan.specs.declared.plans.kind.Kind.{Kind}
-use Rattle.cqs_plan.specs.declared.plans.kind.Kind.TheVariants as kind
 use Rattle.cqs_plan.specs.Floor.{IsHoldable, IsJob, permits_of, object_at}
 use Rattle.cqs_cli.specs.declared.floors.waits.Wait.{Wait}
 use Rattle.cqs_cli.specs.Kept.{IsKept, IsFundedAt}
@@ -20,10 +19,10 @@ bit-same n = ap bit (eq-eqb n n refl)
 pub bit-other : (n m : ℕ) → n ≢ m → bit (n == m) ≡ 0
 bit-other n m other = ap bit (ne_eqb n m other)
 
--- something that can be held is a semaphore
-pub holdable-semaphore : (k : Option Kind) → IsHoldable k → (permits : ℕ) × (k ≡ Some (kind.Semaphore permits))
-holdable-semaphore (Some (kind.Semaphore permits)) holdable = (permits, refl)
-holdable-semaphore _ holdable = absurd holdable
+-- what can be held is there
+pub holdable-there : (k : Option Kind) → IsHoldable k → (there : Kind) × (k ≡ Some there)
+holdable-there None holdable = absurd holdable
+holdable-there (Some there) holdable = (there, refl)
 
 module _ {X W : Type 0} (s : Sole X W) where
   -- the semaphore of a resource, with its funds
@@ -34,8 +33,8 @@ module _ {X W : Type 0} (s : Sole X W) where
 
   pub funds-at : (l : Ledger X W) (at : ℕ) → IsKept s l → IsHoldable (slice_get l.kinds at) → Funds l at
   funds-at l at kept holdable =
-      let is = holdable-semaphore (slice_get l.kinds at) holdable in
-      let below : at < length l.soles = omega (arith, get-below l.kinds at (kind.Semaphore is.0) is.1, kept.soles) in
+      let is = holdable-there (slice_get l.kinds at) holdable in
+      let below : at < length l.soles = omega (arith, get-below l.kinds at is.0 is.1, kept.soles) in
       let there = get-there l.soles at below in
       record { sole = there.0; there = there.1; funded = kept.funded.at at there.0 there.1 }
 
@@ -47,15 +46,15 @@ module _ {X W : Type 0} (s : Sole X W) where
 
   -- the plain semaphore of a resource is the one after the entries of its semaphore
   pub object-there : (l : Ledger X W) (at : ℕ) (sole : X) → slice_get l.soles at ≡ Some sole
-      → object_at (plain_floor s l) at ≡ object s (permits_of (slice_get l.kinds at)) sole
+      → object_at (plain_floor s l) at ≡ object s (slice_get l.kinds at) sole
   object-there l at sole there =
       ap (object_after (permits_of (slice_get l.kinds at))) (entries-at l.soles at sole there)
 
   -- the place of a resource that can be held
   pub place-room : (l : Ledger X W) (at : ℕ) → IsKept s l → IsHoldable (slice_get l.kinds at) → at < length l.room
   place-room l at kept holdable =
-      let is = holdable-semaphore (slice_get l.kinds at) holdable in
-      omega (arith, get-below l.kinds at (kind.Semaphore is.0) is.1, kept.rooms)
+      let is = holdable-there (slice_get l.kinds at) holdable in
+      omega (arith, get-below l.kinds at is.0 is.1, kept.rooms)
 
   -- a job is one of the ledger's, and waits there as it does on the plain floor
   pub job-there : (l : Ledger X W) (job : ℕ) → IsJob (plain_floor s l) job → job < length l.waits

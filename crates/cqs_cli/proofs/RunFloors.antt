@@ -1,5 +1,5 @@
 -- The floor on which a plan has run: its passes have seen just this run.
-use Rattle.std.proofs.Common.{◌≡◌, ℕ, ◌<◌, List, length, slice_get, ap, sym, ◌∙◌, arith}
+use Rattle.std.proofs.Common.{◌≡◌, ℕ, ◌<◌, List, Option, length, slice_get, ap, sym, subst, ◌∙◌, arith}
 use Rattle.std.proofs.lemmas.List.{length-map}
 use Rattle.cqs_core.proofs.Places.{get-there}
 use Rattle.cqs_plan.specs.declared.plans.kind.Kind.{Kind}
@@ -7,17 +7,23 @@ use Rattle.cqs_plan.specs.declared.plans.plan.Plan.{Plan}
 use Rattle.cqs_plan.specs.declared.plans.resource.Resource.{Resource}
 use Rattle.cqs_plan.specs.Floor.{PlainFloor, entries_at}
 use Rattle.cqs_plan.specs.LegalFloor.{IsLegalFor}
-use Rattle.cqs_rule.specs.declared.queue.tokens.Wait.{Wait}
-use Rattle.cqs_cli.specs.declared.floors.queue_sole.QueueSole.{QueueSole}
+use Rattle.cqs_cli.specs.declared.floors.running_sole.RunningSole.{RunningSole}
+use Rattle.cqs_cli.specs.declared.floors.running_sole.RunningSole.TheVariants.{Semaphore, Mutex}
+use Rattle.cqs_cli.specs.declared.floors.running_sole.RunningWait.{RunningWait}
 use Rattle.cqs_cli.specs.Kept.{IsKept}
 use Rattle.cqs_cli.specs.KeptRuns.{HasRun, HasSeen}
 use Rattle.cqs_cli.specs.Ledger.{Ledger, plain_floor}
 use Rattle.cqs_cli.specs.Plans.{floor_after}
-use Rattle.cqs_cli.specs.SoleQueue.{sole_queue}
+use Rattle.cqs_cli.specs.SoleRunning.{IsAlone, sole_running}
 use Rattle.cqs_cli.proofs.Resources.{entries-at}
 
-pub has-run : (plan : Plan) (l : Ledger QueueSole Wait) → IsKept sole_queue l
-    → plain_floor sole_queue l ≡ floor_after plan → IsLegalFor plan (plain_floor sole_queue l) → HasRun plan l
+funded-alone : (x : RunningSole) (kind : Option Kind) (room waiting held : ℕ)
+    → sole_running.funded x kind room waiting held → IsAlone kind x
+funded-alone (Semaphore x) kind room waiting held funded = (funded.sort, funded.mine, funded.rests.alone)
+funded-alone (Mutex x) kind room waiting held funded = (funded.sort, funded.mine, funded.rests.alone)
+
+pub has-run : (plan : Plan) (l : Ledger RunningSole RunningWait) → IsKept sole_running l
+    → plain_floor sole_running l ≡ floor_after plan → IsLegalFor plan (plain_floor sole_running l) → HasRun plan l
 has-run plan l kept plain legal = record {
   plain = plain;
   passes = λ at below.
@@ -29,8 +35,8 @@ has-run plan l kept plain legal = record {
       record {
         sole = there.0;
         there = there.1;
-        mine = funded.mine;
-        alone = funded.rests.alone;
-        seen = sym (entries-at sole_queue l.soles at there.0 there.1) ∙ ap (λ f. entries_at f at) plain;
+        alone = subst (λ (ks : List Kind). IsAlone (slice_get ks at) there.0) legal.kinds
+            (funded-alone there.0 _ _ _ _ funded);
+        seen = sym (entries-at sole_running l.soles at there.0 there.1) ∙ ap (λ f. entries_at f at) plain;
       };
 }

@@ -1,16 +1,17 @@
 -- A take: what it rests on, what it answers, and what it leaves.
-use Rattle.std.proofs.Common.{◌≡◌, ◌≢◌, ◌⊎◌, inl, inr, ℕ, ◌+◌, ◌-◌, ◌<◌, ◌==◌, nat_lt, Bool, true, false, [], ◌∷◌, Some, None, is_some, length, set, get_or, slice_get, sum, sum_by, count_by, refl, ap, ap₂, sym, ◌∙◌, subst, length-set, arith}
+use Rattle.std.proofs.Common.{◌≡◌, ◌≢◌, ◌⊎◌, inl, inr, ℕ, ◌+◌, ◌-◌, ◌<◌, ◌==◌, nat_lt, Bool, true, false, [], ◌∷◌, Some, None, is_some, length, set, get_or, slice_get, sum, sum_by, count_by, refl, ap, ap₂, sym, ◌∙◌, subst, length-set, arith, Option}
 use Rattle.std.specs.Prelude.{slice_index}
 use Rattle.std.specs.Option.{option_map}
 use Rattle.std.proofs.lemmas.Bool.{cases_eq}
 use Rattle.std.proofs.lemmas.List.{map-set, get_or-set_same, get_or-set_other}
+use Rattle.cqs_plan.specs.declared.plans.kind.Kind.{Kind}
 use Rattle.cqs_core.specs.declared.entries.Entry.TheVariants as entry
 use Rattle.cqs_core.proofs.CoreSteps.{loses-sum}
 use Rattle.cqs_core.proofs.Counts.{bit}
 use Rattle.cqs_core.proofs.Places.{get-set_here, get-set_else, get-there}
 use Rattle.cqs_plan.specs.declared.floors.answers.FloorTake.{FloorTake}
 use Rattle.cqs_plan.specs.declared.floors.answers.FloorTake.TheVariants.{Now, Waits}
-use Rattle.cqs_plan.specs.Floor.{PlainFloor, JobWait, IsHoldable, IsJob, IsIdle, object_at, permits_of, room_at}
+use Rattle.cqs_plan.specs.Floor.{PlainFloor, JobWait, IsHoldable, IsJob, IsIdle, object_at, room_at}
 use Rattle.cqs_plan.specs.FloorCalls.{take_answer, after_take}
 use Rattle.cqs_cli.specs.declared.floors.transfers.Transfer.TheVariants.{Got}
 use Rattle.cqs_cli.specs.declared.floors.waits.Wait.{Wait}
@@ -31,7 +32,7 @@ module _ {X W : Type 0} (s : Sole X W) where
       record {
         sole = funds.sole;
         there = funds.there;
-        can = record { size = _; room = _; waiting = _; held = _; funded = funds.funded; some = room };
+        can = record { kind = _; room = _; waiting = _; held = _; funded = funds.funded; some = room };
       }
 
   pub take-can : (l : Ledger X W) (f : PlainFloor) (at : ℕ) → plain_floor s l ≡ f → IsKept s l
@@ -45,8 +46,8 @@ module _ {X W : Type 0} (s : Sole X W) where
   module _ (lawful : IsLawful s) (l : Ledger X W) (at job : ℕ) (kept : IsKept s l) (place : at < length l.room)
       (room : 0 < slice_index l.room at) (holder : job < length (holds_in l)) (waiter : job < length l.waits)
       (idle : get_or l.waits job None ≡ None) where
-    abbrev size : ℕ
-    size = permits_of (slice_get l.kinds at)
+    abbrev kind : Option Kind
+    kind = slice_get l.kinds at
 
     room-here : slice_index (set l.room at (slice_index l.room at - 1)) at ≡ slice_index l.room at - 1
     room-here = get_or-set_same l.room at (slice_index l.room at - 1) 0 place
@@ -68,7 +69,7 @@ module _ {X W : Type 0} (s : Sole X W) where
       transferred : holds_in now ≡ after_transfer (holds_in l) (Got job at)
       transferred = holds-transfer (length l.waits) l.transfers (Got job at)
 
-      module _ (goes : Goes s sole (entry.TakeNow 0 ∷ []) size (slice_index l.room at - 1) (waiting_at l.waits at)
+      module _ (goes : Goes s sole (entry.TakeNow 0 ∷ []) kind (slice_index l.room at - 1) (waiting_at l.waits at)
           (held_at (holds_in l) at + 1) after) where
         kept-now : KeepsAll s sole after → IsKept s now
         kept-now keeps = kept-next s l now at sole after kept (record {
@@ -129,7 +130,7 @@ module _ {X W : Type 0} (s : Sole X W) where
             go (inr other) =
                 inr (other, sym (get-set_else l.waits job j (Some wait) (λ e. other (sym e))) ∙ got)
 
-        module _ (number : s.number token ≡ (object s size sole).next) where
+        module _ (number : s.number token ≡ (object s kind sole).next) where
           -- no job has the new wait before
           fresh-wait : (j : ℕ) (w : Wait W) → slice_get l.waits j ≡ Some (Some w) → job_wait s wait ≢ job_wait s w
           fresh-wait j w got same =
@@ -142,7 +143,7 @@ module _ {X W : Type 0} (s : Sole X W) where
               let next : s.number token ≡ s.number w.token = ap (λ (x : JobWait). x.number) same in
               absurd (omega (arith, below, next, number))
 
-          module _ (goes : Goes s sole (entry.TakeDoor 0 ∷ entry.Enter 0 (object s size sole).next ∷ []) size
+          module _ (goes : Goes s sole (entry.TakeDoor 0 ∷ entry.Enter 0 (object s kind sole).next ∷ []) kind
               (slice_index l.room at - 1) (waiting_at l.waits at + 1) (held_at (holds_in l) at) after)
               (has : s.has after token) (keeps : KeepsAll s sole after) where
             kept-later : IsKept s later
@@ -208,7 +209,7 @@ module _ {X W : Type 0} (s : Sole X W) where
             plain-later : plain_floor s later ≡ after_take (plain_floor s l) at job (Waits (s.number token))
             plain-later =
                 let entries = entries-next s l.soles at sole after
-                (entry.TakeDoor 0 ∷ entry.Enter 0 (object s size sole).next ∷ []) there goes.appended in
+                (entry.TakeDoor 0 ∷ entry.Enter 0 (object s kind sole).next ∷ []) there goes.appended in
                 let waits = map-set (option_map (job_wait s)) l.waits job (Some wait) in
                 rw (entries, waits, same-holds, number) refl
 

@@ -1,14 +1,15 @@
 -- The wait of a job is over: it looked at what came, left the line, or was too late to leave.
-use Rattle.std.proofs.Common.{◌≡◌, ◌≢◌, ◌⊎◌, inl, inr, ℕ, ◌+◌, ◌-◌, ◌<◌, ◌==◌, List, [], ◌∷◌, ◌++◌, Some, None, is_some, length, map, set, get_or, slice_get, sum_by, count_by, refl, ap, ap₂, sym, ◌∙◌, subst, length-set, arith}
+use Rattle.std.proofs.Common.{◌≡◌, ◌≢◌, ◌⊎◌, inl, inr, ℕ, ◌+◌, ◌-◌, ◌<◌, ◌==◌, List, [], ◌∷◌, ◌++◌, Some, None, is_some, length, map, set, get_or, slice_get, sum_by, count_by, refl, ap, ap₂, sym, ◌∙◌, subst, length-set, arith, Option}
 use Rattle.std.specs.Prelude.{slice_index}
 use Rattle.std.specs.Option.{option_map}
 use Rattle.std.proofs.lemmas.Bool.{cases_eq}
 use Rattle.std.proofs.lemmas.List.{map-set}
 use Rattle.std.proofs.lemmas.Option.{get_or_from_slice_get}
+use Rattle.cqs_plan.specs.declared.plans.kind.Kind.{Kind}
 use Rattle.cqs_core.specs.declared.entries.Entry.{Entry}
 use Rattle.cqs_core.proofs.Counts.{bit}
 use Rattle.cqs_core.proofs.Places.{get-set_here, get-set_else, get-below}
-use Rattle.cqs_plan.specs.Floor.{JobWait, permits_of}
+use Rattle.cqs_plan.specs.Floor.{JobWait}
 use Rattle.cqs_cli.specs.declared.floors.transfers.Transfer.TheVariants.{Got}
 use Rattle.cqs_cli.specs.declared.floors.waits.Wait.{Wait}
 use Rattle.cqs_cli.specs.Kept.{IsKept, IsFundedAt, StandsIn, AreApart, HoldPermits, waiting_at, held_at, is_wait_at}
@@ -80,8 +81,8 @@ module _ {X W : Type 0} (s : Sole X W) (l : Ledger X W) (job : ℕ) (wait : Wait
   -- a call of the semaphore of that wait
   module _ (sole after : X) (there : slice_get l.soles wait.at ≡ Some sole)
       (keeps : KeepsOthers s sole (s.number wait.token) after) where
-    abbrev size : ℕ
-    size = permits_of (slice_get l.kinds wait.at)
+    abbrev kind : Option Kind
+    kind = slice_get l.kinds wait.at
 
     -- the other waits stand on
     stand-on : (j : ℕ) (w : Wait W) → slice_get (set l.waits job None) j ≡ Some (Some w)
@@ -99,7 +100,7 @@ module _ {X W : Type 0} (s : Sole X W) (l : Ledger X W) (job : ℕ) (wait : Wait
     gone-holds = ap (λ n. holds_after n l.transfers) (length-set l.waits job None)
 
     pub kept-gone : (entries : List Entry)
-        → Goes s sole entries size (slice_index l.room wait.at) (waiting_at l.waits wait.at - 1)
+        → Goes s sole entries kind (slice_index l.room wait.at) (waiting_at l.waits wait.at - 1)
         (held_at (holds_in l) wait.at) after
         → IsKept s gone
     kept-gone entries goes = kept-next s l gone wait.at sole after kept (record {
@@ -133,7 +134,7 @@ module _ {X W : Type 0} (s : Sole X W) (l : Ledger X W) (job : ℕ) (wait : Wait
         ∙ holds-transfer (length l.waits) l.transfers (Got job wait.at)
 
     pub kept-came : (entries : List Entry) → job < length (holds_in l)
-        → Goes s sole entries size (slice_index l.room wait.at) (waiting_at l.waits wait.at - 1)
+        → Goes s sole entries kind (slice_index l.room wait.at) (waiting_at l.waits wait.at - 1)
         (held_at (holds_in l) wait.at + 1) after
         → IsKept s came_to
     kept-came entries holder goes = kept-next s l came_to wait.at sole after kept (record {

@@ -10,7 +10,8 @@ use Rattle.cqs_plan.specs.declared.floors.answers.FloorLeave.{FloorLeave}
 use Rattle.cqs_plan.specs.declared.floors.answers.FloorLeave.TheVariants.{Gone, Late}
 use Rattle.cqs_plan.specs.declared.floors.answers.FloorEnd.{FloorEnd}
 use Rattle.cqs_plan.specs.declared.floors.answers.FloorEnd.TheVariants.{Permits}
-use Rattle.cqs_plan.specs.declared.plans.kind.Kind.TheVariants as kind
+use Rattle.cqs_plan.specs.declared.plans.kind.Kind.{Kind}
+use Rattle.cqs_plan.specs.Floor.{IsHoldable, permits_of}
 use Rattle.cqs_cli.specs.declared.floors.transfers.Transfer.TheVariants.{Got, GaveBack}
 use Rattle.cqs_cli.specs.declared.floors.sole.Stand.{Stand}
 use Rattle.cqs_cli.specs.declared.floors.waits.Wait.{Wait}
@@ -77,17 +78,18 @@ module _ {X W : Type 0} (s : Sole X W) where
       × Calls old.soles wait.at (λ x y. Cancels s x wait.token false y) new.soles
       × (new ≡ with_soles (with_transfer old (Got job wait.at)) new.soles)
 
-  -- the resource at a place is a semaphore that can be asked for its state
+  -- the resource at a place is one that can be asked how it stands
   pub record CanEndAt (l : Ledger X W) (at : ℕ) : Type 0 where
-    pub permits : ℕ
-    pub kind : slice_get l.kinds at ≡ Some (kind.Semaphore permits)
-    pub sole : HasAt l.soles at (IsFundedFor s permits)
+    pub kind : Kind
+    pub is : slice_get l.kinds at ≡ Some kind
+    pub holdable : IsHoldable (Some kind)
+    pub sole : HasAt l.soles at (IsFundedFor s (Some kind))
 
   -- the answer tells how it stands
   pub record Ends (old : Ledger X W) (at : ℕ) (answer : FloorEnd) (new : Ledger X W) : Type 0 where
-    pub permits : ℕ
-    pub kind : slice_get old.kinds at ≡ Some (kind.Semaphore permits)
+    pub kind : Kind
+    pub is : slice_get old.kinds at ≡ Some kind
     pub stand : Stand
     pub calls : Calls old.soles at (λ x y. Tells s x stand y) new.soles
-    pub told : answer ≡ Permits stand.free (permits - stand.free) stand.line
+    pub told : answer ≡ Permits stand.free (permits_of (Some kind) - stand.free) stand.line
     pub written : new ≡ with_soles old new.soles

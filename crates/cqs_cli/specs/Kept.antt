@@ -1,7 +1,7 @@
 -- What holds of a ledger between two calls of its floor.
 use Rattle.std.specs.Prelude.{◌≡◌, ℕ, ◌+◌, ◌*◌, ◌≤◌, ◌==◌, Bool, false, List, [], ◌∷◌, length, Option, Some, None, is_some, sum, sum_by, count_by, slice_get, slice_index}
 use Rattle.cqs_core.specs.Numbered.{EachAt}
-use Rattle.cqs_plan.specs.Floor.{Holding, permits_of}
+use Rattle.cqs_plan.specs.Floor.{Holding}
 use Rattle.cqs_cli.specs.declared.floors.waits.Wait.{Wait}
 use Rattle.cqs_cli.specs.Ledger.{Ledger, holds_in, job_wait}
 use Rattle.cqs_cli.specs.Soles.{Sole}
@@ -48,10 +48,11 @@ module _ {X W : Type 0} (s : Sole X W) where
     pub same : (i j : ℕ) (v w : Wait W) → slice_get waits i ≡ Some (Some v)
         → slice_get waits j ≡ Some (Some w) → job_wait s v ≡ job_wait s w → i ≡ j
 
-  -- The semaphore of a place has room for all that can still come of what the ledger counts there.
+  -- The semaphore of a place stands for its resource, and has room for all that can still come of
+  -- what the ledger counts there.
   abbrev pub IsFundedAt : Ledger X W → ℕ → X → Type 0
   IsFundedAt l at sole =
-      s.funded sole (permits_of (slice_get l.kinds at)) (slice_index l.room at)
+      s.funded sole (slice_get l.kinds at) (slice_index l.room at)
       (waiting_at l.waits at) (held_at (holds_in l) at)
 
   pub record IsKept (l : Ledger X W) : Type 0 where

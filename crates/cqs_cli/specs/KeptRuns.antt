@@ -1,17 +1,17 @@
 -- What a call of the program keeps of a run.
-use Rattle.std.specs.Prelude.{◌≡◌, ℕ, ◌<◌, ◌⊎◌, true, List, length, Option, Some, slice_get}
+use Rattle.std.specs.Prelude.{◌≡◌, ℕ, ◌<◌, ◌⊎◌, List, length, Option, Some, slice_get}
 use Rattle.cqs_core.specs.declared.entries.Entry.{Entry}
+use Rattle.cqs_plan.specs.declared.plans.kind.Kind.{Kind}
 use Rattle.cqs_plan.specs.declared.plans.plan.Plan.{Plan}
 use Rattle.cqs_plan.specs.Floor.{entries_at}
 use Rattle.cqs_plan.specs.PlanText.{IsPlanText}
+use Rattle.cqs_plan.specs.Runnable.{kinds_of}
 use Rattle.cqs_turns.specs.Report.{report_of}
-use Rattle.cqs_rule.specs.declared.queue.tokens.Wait.{Wait}
-use Rattle.cqs_rule.specs.Passes.{pass_view}
-use Rattle.cqs_semaphore.specs.Calls.{IsMine}
-use Rattle.cqs_cli.specs.declared.floors.queue_sole.QueueSole.{QueueSole}
+use Rattle.cqs_cli.specs.declared.floors.running_sole.RunningSole.{RunningSole}
+use Rattle.cqs_cli.specs.declared.floors.running_sole.RunningWait.{RunningWait}
 use Rattle.cqs_cli.specs.Input.{IsInput}
 use Rattle.cqs_cli.specs.Ledger.{Ledger, plain_floor}
-use Rattle.cqs_cli.specs.SoleQueue.{news, sole_queue}
+use Rattle.cqs_cli.specs.SoleRunning.{IsAlone, entries_seen, sole_running}
 use Rattle.cqs_cli.specs.Plans.{IsFaultLine, floor_after}
 use Rattle.cqs_cli.specs.Words.{IsCommand}
 use Rattle.cqs_cli.specs.declared.kept.Kept.{Kept}
@@ -19,24 +19,26 @@ use Rattle.cqs_cli.specs.declared.kept.Kept.TheVariants.{Ran}
 use Rattle.cqs_cli.specs.declared.verdict.Verdict.{Verdict}
 use Rattle.cqs_cli.specs.declared.verdict.Verdict.TheVariants as verdict
 
--- The semaphore of a resource has just one pass, which is its own, and which has seen just these
--- entries, beside looks that found nothing new. A pass sees entries only by calls on its queue.
-pub record HasSeen (soles : List QueueSole) (at : ℕ) (entries : List Entry) : Type 0 where
-  pub sole : QueueSole
+-- What a resource of this kind is on the running queue has just one pass, which is its own, and which
+-- has seen just these entries, beside looks that found nothing new. A pass sees entries only by calls
+-- on its queue.
+pub record HasSeen (kind : Option Kind) (soles : List RunningSole) (at : ℕ) (entries : List Entry)
+    : Type 0 where
+  pub sole : RunningSole
   pub there : slice_get soles at ≡ Some sole
-  pub mine : IsMine sole.semaphore sole.pass
-  pub alone : (pass_view sole.pass).alone ≡ true
-  pub seen : news (pass_view sole.pass).seen ≡ entries
+  pub alone : IsAlone kind sole
+  pub seen : entries_seen sole ≡ entries
 
 -- the floor is the one on which the turns of this plan end, and its passes have seen just this run
-pub record HasRun (plan : Plan) (floor : Ledger QueueSole Wait) : Type 0 where
-  pub plain : plain_floor sole_queue floor ≡ floor_after plan
+pub record HasRun (plan : Plan) (floor : Ledger RunningSole RunningWait) : Type 0 where
+  pub plain : plain_floor sole_running floor ≡ floor_after plan
   pub passes : (at : ℕ) → at < length plan.resources
-      → HasSeen floor.soles at (entries_at (floor_after plan) at)
+      → HasSeen (slice_get (kinds_of plan.resources) at) floor.soles at
+      (entries_at (floor_after plan) at)
 
 -- what is kept is a floor on which this plan has run
 pub record KeepsRun (plan : Plan) (kept : Kept) : Type 0 where
-  pub floor : Ledger QueueSole Wait
+  pub floor : Ledger RunningSole RunningWait
   pub is : kept ≡ Ran floor
   pub ran : HasRun plan floor
 

@@ -8,6 +8,7 @@ pub mod Words
 pub mod Soles
 pub mod SoleCore
 pub mod SoleQueue
+pub mod SoleRunning
 pub mod Ledger
 pub mod DeskCalls
 pub mod Kept

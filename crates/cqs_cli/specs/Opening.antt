@@ -9,7 +9,7 @@ use Rattle.cqs_plan.specs.declared.plans.plan.Plan.{Plan}
 use Rattle.cqs_plan.specs.declared.plans.resource.Resource.{Resource}
 use Rattle.cqs_plan.specs.declared.plans.step.Step.{Step}
 use Rattle.cqs_plan.specs.declared.plans.step.Step.TheVariants.{Take, Give, Down, Await, Arrive, Work}
-use Rattle.cqs_plan.specs.Floor.{permits_of, takes_in}
+use Rattle.cqs_plan.specs.Floor.{takes_in}
 use Rattle.cqs_plan.specs.PlanSteps.{is_take}
 use Rattle.cqs_plan.specs.Runnable.{kinds_of}
 use Rattle.cqs_cli.specs.Ledger.{Ledger}
@@ -41,7 +41,7 @@ module _ {X W : Type 0} (s : Sole X W) where
   pub record AreOpened (resources : List Resource) (room : List ℕ) (soles : List X) : Type 0 where
     pub each : (at : ℕ) (resource : Resource) (sole : X) → slice_get resources at ≡ Some resource
         → slice_get soles at ≡ Some sole
-        → IsOpened s (permits_of (Some resource.kind)) (slice_index room at) sole
+        → IsOpened s (Some resource.kind) (slice_index room at) sole
 
   -- nothing has happened, and there is memory for all that a plan's takes can lead to
   pub record IsOpening (plan : Plan) (l : Ledger X W) : Type 0 where

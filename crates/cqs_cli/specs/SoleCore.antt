@@ -11,6 +11,7 @@ use Rattle.cqs_core.specs.SemaphoreAnswers.{Room}
 use Rattle.cqs_core.specs.SemaphoreShown.{IsCore, shown}
 use Rattle.cqs_core.specs.SemaphoreTable.{Shape, last_number}
 use Rattle.cqs_core.specs.SoleCaller.{HasWait, IsSoleCall, NoneTaken, ShowsNext}
+use Rattle.cqs_plan.specs.Floor.{permits_of}
 use Rattle.cqs_cli.specs.Soles.{Sole}
 
 -- its one pass is between two calls, and no suspend ever found its value in its cell
@@ -64,7 +65,7 @@ abbrev pub sole_core : Sole Room ℕ
 sole_core = record {
   entries = λ core. core.shape.history;
   number = λ wait. wait;
-  funded = IsFunded;
+  funded = λ core kind. IsFunded core (permits_of kind);
   has = λ core wait. HasWait wait 0 (shown core.shape);
 }
 

@@ -1,15 +1,23 @@
--- A semaphore of the running queue with its one pass, as a floor sees it.
-use Rattle.std.specs.Prelude.{◌≡◌, ℕ, ◌+◌, ◌<◌, ◌≤◌, Bool, true, false, List, [], length, vec_capacity, filter}
+-- A semaphore or a mutex of the running queue with its one pass, as a floor sees it.
+use Rattle.std.specs.Prelude.{◌≡◌, ℕ, ◌+◌, ◌<◌, ◌≤◌, Bool, true, false, List, [], Option, Some, length, vec_capacity, filter}
 use Rattle.cqs_core.specs.declared.entries.Entry.{Entry}
 use Rattle.cqs_core.specs.declared.entries.Entry.TheVariants as entry
-use Rattle.cqs_core.specs.SemaphoreObject.{Semaphore}
+use Rattle.cqs_core.specs.SemaphoreObject as plain
+use Rattle.cqs_plan.specs.declared.plans.kind.Kind.{Kind}
+use Rattle.cqs_plan.specs.declared.plans.kind.Kind.TheVariants.{Semaphore, Mutex}
+use Rattle.cqs_plan.specs.Floor.{permits_of}
 use Rattle.cqs_rule.specs.declared.queue.tokens.Wait.{Wait}
+use Rattle.cqs_rule.specs.declared.semaphore.carries.Kept.{Kept}
 use Rattle.cqs_rule.specs.declared.view.View.{View}
 use Rattle.cqs_rule.specs.Lists.{Has}
 use Rattle.cqs_rule.specs.Passes.{pass_view}
 use Rattle.cqs_rule.specs.Waits.{HasWait, place_of}
 use Rattle.cqs_semaphore.specs.Calls.{IsMine, IsReady, plain_after}
 use Rattle.cqs_semaphore.specs.Causes.{drawn_in}
+use Rattle.cqs_mutex.specs.declared.guard.LockWait.{LockWait}
+use Rattle.cqs_mutex.specs.Guards.{wait_in}
+use Rattle.cqs_mutex.specs.Mutexes.{Belongs}
+use Rattle.cqs_cli.specs.declared.floors.mutex_sole.MutexSole.{MutexSole}
 use Rattle.cqs_cli.specs.declared.floors.queue_sole.QueueSole.{QueueSole}
 use Rattle.cqs_cli.specs.Soles.{Sole}
 
@@ -33,7 +41,7 @@ abbrev pub news : List Entry → List Entry
 news history = filter is_news history
 
 -- nobody is at the door, and no permit is on its way
-pub record IsStill (o : Semaphore) : Type 0 where
+pub record IsStill (o : plain.Semaphore) : Type 0 where
   pub way : o.way ≡ 0
   pub door : o.door ≡ []
 
@@ -53,19 +61,67 @@ module _ {T : Type 0} where
     pub drawn : (k : ℕ) → Has k v.facts.waits → k < (plain_after v).next
     pub holds : v.facts.has.held ≡ held
 
--- the pass is the one of its semaphore; there is a permit for each that is held, and place for each
--- that can still come
-pub record IsFunded (x : QueueSole) (size room waiting held : ℕ) : Type 0 where
-  pub mine : IsMine x.semaphore x.pass
-  pub rests : IsResting (pass_view x.pass) size room held
-  pub permits : length x.permits.items ≡ held
-  pub spare : room + waiting + held ≤ vec_capacity x.permits
+-- One of the running queue with its one pass, as a floor sees it: of which kinds of resource it is,
+-- whether the pass is its own, what the pass has seen, how much its caller holds and for how much of
+-- that there is memory, and the token of a wait.
+pub record OnePass (X W T : Type 0) : Type 1 where
+  pub sort : Option Kind → Type 0
+  pub mine : X → Type 0
+  pub view : X → View Entry T
+  pub held : X → ℕ
+  pub space : X → ℕ
+  pub token : W → Wait
 
--- what a floor sees of it
-abbrev pub sole_queue : Sole QueueSole Wait
-sole_queue = record {
-  entries = λ x. news (pass_view x.pass).seen;
-  number = λ wait. (place_of wait).index;
-  funded = IsFunded;
-  has = λ x wait. HasWait (pass_view x.pass) wait;
+module _ {X W T : Type 0} (q : OnePass X W T) where
+  -- It is of the kind, and the pass is its own; there is a permit for each that is held, and place
+  -- for each that can still come.
+  pub record IsFunded (x : X) (kind : Option Kind) (room waiting held : ℕ) : Type 0 where
+    pub sort : q.sort kind
+    pub mine : q.mine x
+    pub rests : IsResting (q.view x) (permits_of kind) room held
+    pub permits : q.held x ≡ held
+    pub spare : room + waiting + held ≤ q.space x
+
+  abbrev pub sole_of : Sole X W
+  sole_of = record {
+    entries = λ x. news (q.view x).seen;
+    number = λ wait. (place_of (q.token wait)).index;
+    funded = IsFunded;
+    has = λ x wait. HasWait (q.view x) (q.token wait);
+  }
+
+abbrev pub IsSemaphore : Option Kind → Type 0
+IsSemaphore (Some (Semaphore permits)) = Unit {0}
+IsSemaphore _ = ⊥
+
+abbrev pub IsMutex : Option Kind → Type 0
+IsMutex (Some Mutex) = Unit {0}
+IsMutex _ = ⊥
+
+-- a semaphore, and the permits that its caller holds
+abbrev pub semaphore_pass : OnePass QueueSole Wait (Unit {0})
+semaphore_pass = record {
+  sort = IsSemaphore;
+  mine = λ x. IsMine x.semaphore x.pass;
+  view = λ x. pass_view x.pass;
+  held = λ x. length x.permits.items;
+  space = λ x. vec_capacity x.permits;
+  token = λ wait. wait;
 }
+
+abbrev pub sole_queue : Sole QueueSole Wait
+sole_queue = sole_of semaphore_pass
+
+-- a mutex, and the guards that its caller has
+abbrev pub mutex_pass : OnePass MutexSole LockWait (Kept (Unit {0}))
+mutex_pass = record {
+  sort = IsMutex;
+  mine = λ x. Belongs x.mutex x.pass;
+  view = λ x. pass_view x.pass;
+  held = λ x. length x.guards.items;
+  space = λ x. vec_capacity x.guards;
+  token = wait_in;
+}
+
+abbrev pub sole_mutex : Sole MutexSole LockWait
+sole_mutex = sole_of mutex_pass

@@ -7,6 +7,8 @@ use Rattle.cqs_core.specs.declared.entries.Entry.TheVariants as entry
 use Rattle.cqs_core.specs.QueueLine.{Waiting}
 use Rattle.cqs_core.specs.SemaphoreEntries.{IsFirst, IsLegal, object_after}
 use Rattle.cqs_core.specs.SemaphoreObject.{Semaphore}
+use Rattle.cqs_plan.specs.declared.plans.kind.Kind.{Kind}
+use Rattle.cqs_plan.specs.Floor.{permits_of}
 use Rattle.cqs_cli.specs.declared.floors.sole.Stand.{Stand}
 
 -- What a floor sees of it, by the token that its caller has of a wait.
@@ -15,9 +17,9 @@ pub record Sole (X W : Type 0) : Type 1 where
   pub entries : X → List Entry
   -- the number of a wait
   pub number : W → ℕ
-  -- It has so many permits, and room for so many takes, for the end of so many waits and for so
-  -- many gives.
-  pub funded : X → ℕ → ℕ → ℕ → ℕ → Type 0
+  -- It stands for a resource of this kind, and has room for so many takes, for the end of so many
+  -- waits and for so many gives.
+  pub funded : X → Option Kind → ℕ → ℕ → ℕ → Type 0
   -- its caller has this wait
   pub has : X → W → Type 0
 
@@ -27,27 +29,27 @@ is_in_line k line = list_any (λ w. w.wait == k) line
 
 module _ {X W : Type 0} (s : Sole X W) where
   -- the plain semaphore after its entries
-  abbrev pub object : ℕ → X → Semaphore
-  object size x = object_after size (s.entries x)
+  abbrev pub object : Option Kind → X → Semaphore
+  object kind x = object_after (permits_of kind) (s.entries x)
 
   -- What every such semaphore keeps to: its entries are legal, and a wait that its caller has was
   -- numbered before.
   pub record IsLawful : Type 0 where
-    pub some : (x : X) (size room waiting held : ℕ) → s.funded x size room waiting held → 0 < size
-    pub legal : (x : X) (size room waiting held : ℕ) → s.funded x size room waiting held
-        → IsLegal size (s.entries x)
-    pub numbered : (x : X) (wait : W) (size room waiting held : ℕ)
-        → s.funded x size room waiting held → s.has x wait → s.number wait < (object size x).next
+    pub some : (x : X) (kind : Option Kind) (room waiting held : ℕ) → s.funded x kind room waiting held → 0 < permits_of kind
+    pub legal : (x : X) (kind : Option Kind) (room waiting held : ℕ) → s.funded x kind room waiting held
+        → IsLegal (permits_of kind) (s.entries x)
+    pub numbered : (x : X) (wait : W) (kind : Option Kind) (room waiting held : ℕ)
+        → s.funded x kind room waiting held → s.has x wait → s.number wait < (object kind x).next
 
   -- all its permits are free, and it has room for so many takes
-  pub record IsOpened (size takes : ℕ) (x : X) : Type 0 where
+  pub record IsOpened (kind : Option Kind) (takes : ℕ) (x : X) : Type 0 where
     pub fresh : s.entries x ≡ []
-    pub funded : s.funded x size takes 0 0
+    pub funded : s.funded x kind takes 0 0
 
   -- these entries came, and it is funded so
-  pub record Goes (x : X) (entries : List Entry) (size room waiting held : ℕ) (y : X) : Type 0 where
+  pub record Goes (x : X) (entries : List Entry) (kind : Option Kind) (room waiting held : ℕ) (y : X) : Type 0 where
     pub appended : s.entries y ≡ s.entries x ++ entries
-    pub funded : s.funded y size room waiting held
+    pub funded : s.funded y kind room waiting held
 
   -- its caller has all waits on; or all but that of this number
   abbrev pub KeepsAll : X → X → Type 0
@@ -57,95 +59,95 @@ module _ {X W : Type 0} (s : Sole X W) where
   KeepsOthers x k y = (wait : W) → s.number wait ≢ k → s.has x wait → s.has y wait
 
   -- where its state may be asked, and where one may take, give back, or end a wait
-  pub record IsFundedFor (size : ℕ) (x : X) : Type 0 where
+  pub record IsFundedFor (kind : Option Kind) (x : X) : Type 0 where
     pub room : ℕ
     pub waiting : ℕ
     pub held : ℕ
-    pub funded : s.funded x size room waiting held
+    pub funded : s.funded x kind room waiting held
 
   abbrev pub CanStand : X → Type 0
-  CanStand x = (size : ℕ) × IsFundedFor size x
+  CanStand x = (kind : Option Kind) × IsFundedFor kind x
 
   pub record CanAcquire (x : X) : Type 0 where
-    pub size : ℕ
+    pub kind : Option Kind
     pub room : ℕ
     pub waiting : ℕ
     pub held : ℕ
-    pub funded : s.funded x size room waiting held
+    pub funded : s.funded x kind room waiting held
     pub some : 0 < room
 
   pub record CanRelease (x : X) : Type 0 where
-    pub size : ℕ
+    pub kind : Option Kind
     pub room : ℕ
     pub waiting : ℕ
     pub held : ℕ
-    pub funded : s.funded x size room waiting held
+    pub funded : s.funded x kind room waiting held
     pub some : 0 < held
 
   pub record CanEnd (wait : W) (x : X) : Type 0 where
-    pub size : ℕ
+    pub kind : Option Kind
     pub room : ℕ
     pub waiting : ℕ
     pub held : ℕ
-    pub funded : s.funded x size room waiting held
+    pub funded : s.funded x kind room waiting held
     pub some : 0 < waiting
     pub has : s.has x wait
 
   -- one is free, and the caller takes it
-  pub record TakesFree (size room waiting held : ℕ) (x y : X) : Type 0 where
-    pub free : nat_lt 0 (object size x).free ≡ true
-    pub goes : Goes x (entry.TakeNow 0 ∷ []) size (room - 1) waiting (held + 1) y
+  pub record TakesFree (kind : Option Kind) (room waiting held : ℕ) (x y : X) : Type 0 where
+    pub free : nat_lt 0 (object kind x).free ≡ true
+    pub goes : Goes x (entry.TakeNow 0 ∷ []) kind (room - 1) waiting (held + 1) y
     pub keeps : KeepsAll x y
 
   -- none is free, and the caller goes by the door to the end of the line, under the next number
-  pub record TakesWait (wait : W) (size room waiting held : ℕ) (x y : X) : Type 0 where
-    pub none : nat_lt 0 (object size x).free ≡ false
-    pub number : s.number wait ≡ (object size x).next
-    pub goes : Goes x (entry.TakeDoor 0 ∷ entry.Enter 0 (object size x).next ∷ [])
-        size (room - 1) (waiting + 1) held y
+  pub record TakesWait (wait : W) (kind : Option Kind) (room waiting held : ℕ) (x y : X) : Type 0 where
+    pub none : nat_lt 0 (object kind x).free ≡ false
+    pub number : s.number wait ≡ (object kind x).next
+    pub goes : Goes x (entry.TakeDoor 0 ∷ entry.Enter 0 (object kind x).next ∷ [])
+        kind (room - 1) (waiting + 1) held y
     pub has : s.has y wait
     pub keeps : KeepsAll x y
 
   abbrev pub Acquires : X → Option W → X → Type 0
   Acquires x None y =
-      (size room waiting held : ℕ) → s.funded x size room waiting held → 0 < room
-      → TakesFree size room waiting held x y
+      (kind : Option Kind) (room waiting held : ℕ) → s.funded x kind room waiting held → 0 < room
+      → TakesFree kind room waiting held x y
   Acquires x (Some wait) y =
-      (size room waiting held : ℕ) → s.funded x size room waiting held → 0 < room
-      → TakesWait wait size room waiting held x y
+      (kind : Option Kind) (room waiting held : ℕ) → s.funded x kind room waiting held → 0 < room
+      → TakesWait wait kind room waiting held x y
 
   -- nobody waits, and the permit that comes back is free
-  pub record Frees (size room waiting held : ℕ) (x y : X) : Type 0 where
-    pub empty : (object size x).line ≡ []
-    pub goes : Goes x (entry.GiveFreed 0 ∷ []) size room waiting (held - 1) y
+  pub record Frees (kind : Option Kind) (room waiting held : ℕ) (x y : X) : Type 0 where
+    pub empty : (object kind x).line ≡ []
+    pub goes : Goes x (entry.GiveFreed 0 ∷ []) kind room waiting (held - 1) y
     pub keeps : KeepsAll x y
 
   -- the permit that comes back goes to the first of the line
-  pub record Sends (k size room waiting held : ℕ) (x y : X) : Type 0 where
-    pub first : IsFirst k (object size x).line
-    pub goes : Goes x (entry.GiveSent 0 ∷ entry.Deliver k ∷ []) size room waiting (held - 1) y
+  pub record Sends (k : ℕ) (kind : Option Kind) (room waiting held : ℕ) (x y : X) : Type 0 where
+    pub first : IsFirst k (object kind x).line
+    pub goes : Goes x (entry.GiveSent 0 ∷ entry.Deliver k ∷ []) kind room waiting (held - 1) y
     pub keeps : KeepsAll x y
 
   abbrev pub Releases : X → Option ℕ → X → Type 0
   Releases x None y =
-      (size room waiting held : ℕ) → s.funded x size room waiting held → 0 < held
-      → Frees size room waiting held x y
+      (kind : Option Kind) (room waiting held : ℕ) → s.funded x kind room waiting held → 0 < held
+      → Frees kind room waiting held x y
   Releases x (Some k) y =
-      (size room waiting held : ℕ) → s.funded x size room waiting held → 0 < held
-      → Sends k size room waiting held x y
+      (kind : Option Kind) (room waiting held : ℕ) → s.funded x kind room waiting held → 0 < held
+      → Sends k kind room waiting held x y
 
   -- the wait stands in the line, and nothing changes
-  pub record StaysInLine (wait : W) (size room waiting held : ℕ) (x y : X) : Type 0 where
-    pub found : is_in_line (s.number wait) (object size x).line ≡ true
-    pub goes : Goes x [] size room waiting held y
+  pub record StaysInLine (wait : W) (kind : Option Kind) (room waiting held : ℕ) (x y : X) : Type 0 where
+    pub found : is_in_line (s.number wait) (object kind x).line ≡ true
+    pub goes : Goes x [] kind room waiting held y
     pub keeps : KeepsAll x y
 
   -- The wait, which stood in the line or didn't, is over by this entry, and the caller then holds
   -- so many permits.
-  pub record EndsWait (wait : W) (in_line : Bool) (e : Entry) (then size room waiting : ℕ) (x y : X)
+  pub record EndsWait (wait : W) (in_line : Bool) (e : Entry) (then : ℕ) (kind : Option Kind) (room waiting : ℕ) (x y : X)
       : Type 0 where
-    pub found : is_in_line (s.number wait) (object size x).line ≡ in_line
-    pub goes : Goes x (e ∷ []) size room (waiting - 1) then y
+    pub found : is_in_line (s.number wait) (object kind x).line ≡ in_line
+    pub goes : Goes x (e ∷ []) kind room (waiting - 1) then y
     pub keeps : KeepsOthers x (s.number wait) y
 
   -- a look: a wait that stands in the line comes back, and of one that was served the caller has
@@ -153,31 +155,31 @@ module _ {X W : Type 0} (s : Sole X W) where
   abbrev pub Polls : X → W → Option W → X → Type 0
   Polls x wait (Some back) y =
       (back ≡ wait)
-      × ((size room waiting held : ℕ) → s.funded x size room waiting held → 0 < waiting
-      → StaysInLine wait size room waiting held x y)
+      × ((kind : Option Kind) (room waiting held : ℕ) → s.funded x kind room waiting held → 0 < waiting
+      → StaysInLine wait kind room waiting held x y)
   Polls x wait None y =
-      (size room waiting held : ℕ) → s.funded x size room waiting held → 0 < waiting
-      → EndsWait wait false (entry.LookGranted 0 (s.number wait)) (held + 1) size room waiting x y
+      (kind : Option Kind) (room waiting held : ℕ) → s.funded x kind room waiting held → 0 < waiting
+      → EndsWait wait false (entry.LookGranted 0 (s.number wait)) (held + 1) kind room waiting x y
 
   -- a cancel: a wait that stands in the line is gone, and of one that was served the caller has
   -- the permit
   abbrev pub Cancels : X → W → Bool → X → Type 0
   Cancels x wait true y =
-      (size room waiting held : ℕ) → s.funded x size room waiting held → 0 < waiting
-      → EndsWait wait true (entry.Leave 0 (s.number wait)) held size room waiting x y
+      (kind : Option Kind) (room waiting held : ℕ) → s.funded x kind room waiting held → 0 < waiting
+      → EndsWait wait true (entry.Leave 0 (s.number wait)) held kind room waiting x y
   Cancels x wait false y =
-      (size room waiting held : ℕ) → s.funded x size room waiting held → 0 < waiting
-      → EndsWait wait false (entry.Late 0 (s.number wait)) (held + 1) size room waiting x y
+      (kind : Option Kind) (room waiting held : ℕ) → s.funded x kind room waiting held → 0 < waiting
+      → EndsWait wait false (entry.Late 0 (s.number wait)) (held + 1) kind room waiting x y
 
   -- so many permits are free, and so many waits stand in the line; all other permits are held
-  pub record Stands (size room waiting held : ℕ) (x : X) (stand : Stand) (y : X) : Type 0 where
-    pub free : stand.free ≡ (object size x).free
-    pub line : stand.line ≡ length (object size x).line
-    pub all : (object size x).held + (object size x).free ≡ size
-    pub goes : Goes x [] size room waiting held y
+  pub record Stands (kind : Option Kind) (room waiting held : ℕ) (x : X) (stand : Stand) (y : X) : Type 0 where
+    pub free : stand.free ≡ (object kind x).free
+    pub line : stand.line ≡ length (object kind x).line
+    pub all : (object kind x).held + (object kind x).free ≡ permits_of kind
+    pub goes : Goes x [] kind room waiting held y
     pub keeps : KeepsAll x y
 
   abbrev pub Tells : X → Stand → X → Type 0
   Tells x stand y =
-      (size room waiting held : ℕ) → s.funded x size room waiting held
-      → Stands size room waiting held x stand y
+      (kind : Option Kind) (room waiting held : ℕ) → s.funded x kind room waiting held
+      → Stands kind room waiting held x stand y

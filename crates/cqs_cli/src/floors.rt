@@ -3,9 +3,11 @@
 pub mod core_floor;
 mod core_sole;
 mod desk;
+mod mutex_sole;
 mod opening;
 pub mod queue_floor;
 mod queue_sole;
+mod running_sole;
 mod sole;
 mod transfers;
 mod waits;

@@ -7,12 +7,13 @@ use cqs_plan::{SureSink, SureSource};
 use std::fs;
 use std::rt::Files;
 
-const NAMES: [&str; 5] = [
+const NAMES: [&str; 6] = [
     "empty",
     "two-jobs",
     "connection-pool",
     "nightly-batch",
     "job-server",
+    "release",
 ];
 
 /// The most that a report of an example takes.

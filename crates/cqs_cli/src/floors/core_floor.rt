@@ -1,4 +1,4 @@
-//! A floor on one runnable core for each semaphore.
+//! A floor on one runnable core for each semaphore and mutex.
 
 ghost use Rattle.std.specs.Prelude.{◌≡◌, IfOk};
 ghost use Rattle.cqs_plan.specs.Floor.{opening_floor};
@@ -11,7 +11,8 @@ use cqs_plan::{Floor, FloorEnd, FloorGive, FloorLeave, FloorLook, FloorTake, Pla
 use std::alloc::Global;
 use std::marker::Model;
 
-/// A floor for plans that have semaphores alone: each is a core with one pass.
+/// A floor for plans that have semaphores and mutexes: each is a core with one pass, and a mutex is
+/// one of one permit.
 ///
 /// Contracts see its plain floor. Its cores have room for all the calls that its
 /// plan's takes can lead to.

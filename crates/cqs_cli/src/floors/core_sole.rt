@@ -5,8 +5,9 @@ ghost use Rattle.cqs_core.specs.SemaphoreShown.{free_of, short_of};
 ghost use Rattle.cqs_core.specs.SoleCaller.{MayCall};
 ghost use Rattle.cqs_cli.specs.SoleCore.{HasMade, IsReady, is_served_at};
 
-use super::sole::{SoleSemaphore, Stand, stand_in};
+use super::sole::{ForEachKind, SoleSemaphore, Stand, permits, stand_in};
 use cqs_core::{Call, Core, CoreCell, CoreState, Memory, Reply};
+use cqs_plan::Kind;
 use std::alloc::Global;
 
 /// The entries for which a core needs memory, for each take: three for the take, three for the look
@@ -19,12 +20,6 @@ impl SoleSemaphore for Core {
     type Wait = u64;
 
     ghost sole = { sole_core };
-
-    fn open(alloc: Global, permits: u32, takes: u32) -> Result<Self, Memory> {
-        let mut core = Core::new(alloc, permits, 1).map_err(|_| Memory)?;
-        core.reserve(ENTRIES_A_TAKE * takes).map_err(|_| Memory)?;
-        Ok(core)
-    }
 
     fn number(wait: &u64) -> u64 {
         *wait
@@ -52,6 +47,14 @@ impl SoleSemaphore for Core {
 
     fn stand(&mut self) -> Stand {
         stand_of(self)
+    }
+}
+
+impl ForEachKind for Core {
+    fn open(alloc: Global, kind: Kind, takes: u32) -> Result<Self, Memory> {
+        let mut core = Core::new(alloc, permits(kind), 1).map_err(|_| Memory)?;
+        core.reserve(ENTRIES_A_TAKE * takes).map_err(|_| Memory)?;
+        Ok(core)
     }
 }
 

@@ -17,7 +17,7 @@ ghost use Rattle.cqs_cli.specs.Ledger.{wait_at, with_wait};
 ghost use Rattle.cqs_cli.specs.DeskCalls.{CanEndAt, Ends, Gives, HasAt, Leaves, Looks, Takes};
 ghost use Rattle.cqs_cli.specs.Soles.{CanAcquire, CanEnd, CanRelease};
 
-use super::sole::{SoleSemaphore, Stand};
+use super::sole::{SoleSemaphore, Stand, permits};
 use super::transfers::Transfer;
 use super::waits::Wait;
 use cqs_plan::{FloorEnd, FloorGive, FloorLeave, FloorLook, FloorTake, Kind};
@@ -138,9 +138,7 @@ impl<S: SoleSemaphore> Desk<S> {
         requires { CanEndAt S.sole self.old at }
         ensures { Ends S.sole self.old at result self.new }
     {
-        let Kind::Semaphore(permits) = self.kinds[at as usize] else {
-            unreachable!()
-        };
+        let permits = permits(self.kinds[at as usize]);
         let Stand { free, line } = self.soles[at as usize].stand();
         FloorEnd::Permits {
             free,

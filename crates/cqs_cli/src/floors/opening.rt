@@ -5,7 +5,6 @@ ghost use Rattle.std.specs.Prelude.{◌≡◌, ℕ, ◌+◌, ◌*◌, ◌^◌, �
 ghost use Rattle.std.specs.List.{range_with_len};
 ghost use Rattle.cqs_core.specs.Numbered.{EachAt};
 ghost use Rattle.cqs_plan.specs.PlanSteps.{is_take};
-ghost use Rattle.cqs_plan.specs.Floor.{permits_of};
 ghost use Rattle.cqs_plan.specs.Runnable.{IsRunnable, kinds_of};
 ghost use Rattle.cqs_cli.specs.Opening.{
   AreOpened,
@@ -13,19 +12,17 @@ ghost use Rattle.cqs_cli.specs.Opening.{
   AreWithin,
   IsCountable,
   IsOpening,
-  IsSemaphore,
   takes_of,
 };
-ghost use Rattle.cqs_cli.specs.Soles.{IsOpened};
 
 use super::desk::Desk;
-use super::sole::SoleSemaphore;
+use super::sole::ForEachKind;
 use super::waits::Wait;
 use cqs_core::Memory;
 use cqs_plan::{Job, Kind, Plan, Resource, Step};
 use std::alloc::{AllocError, Global};
 
-impl<S: SoleSemaphore> Desk<S> {
+impl<S: ForEachKind> Desk<S> {
     /// A desk at which nothing has happened, with memory for all that the plan's takes can lead to.
     pub fn new(alloc: Global, plan: &Plan) -> Result<Self, Memory>
         requires runnable { IsRunnable plan.now }
@@ -106,7 +103,7 @@ fn no_waits<W: Drop>(alloc: Global, jobs: usize) -> Result<Vec<Option<Wait<W>>>,
 }
 
 /// A semaphore for each resource.
-fn open_soles<S: SoleSemaphore>(
+fn open_soles<S: ForEachKind>(
     alloc: Global,
     resources: &[Resource],
     room: &[u32],
@@ -119,19 +116,7 @@ fn open_soles<S: SoleSemaphore>(
 {
     let mut soles = Vec::with_capacity(alloc, resources.len())?;
     for (at, resource) in resources.iter().enumerate() {
-        soles.push(open_sole(alloc, resource.kind, room[at])?)?;
+        soles.push(S::open(alloc, resource.kind, room[at])?)?;
     }
     Ok(soles)
-}
-
-/// A semaphore with memory for so many takes and what they lead to.
-fn open_sole<S: SoleSemaphore>(alloc: Global, kind: Kind, takes: u32) -> Result<S, Memory>
-    requires semaphore { IsSemaphore kind }
-    requires few { takes ≤ 262144 }
-    ensures { IfOk result (IsOpened S.sole (permits_of (Some kind)) takes) }
-{
-    let Kind::Semaphore(permits) = kind else {
-        unreachable!()
-    };
-    S::open(alloc, permits, takes)
 }

@@ -1,4 +1,4 @@
-//! A floor on one semaphore of the running queue for each of a plan's semaphores.
+//! A floor on one semaphore or mutex of the running queue for each of a plan's.
 
 ghost use Rattle.std.specs.Prelude.{◌≡◌, IfOk};
 ghost use Rattle.cqs_plan.specs.Floor.{opening_floor};
@@ -6,38 +6,38 @@ ghost use Rattle.cqs_plan.specs.Runnable.{IsRunnable};
 ghost use Rattle.cqs_cli.specs.Kept.{IsKept};
 ghost use Rattle.cqs_cli.specs.Ledger.{plain_floor};
 ghost use Rattle.cqs_cli.specs.Opening.{AreSemaphores};
-ghost use Rattle.cqs_cli.specs.SoleQueue.{sole_queue};
+ghost use Rattle.cqs_cli.specs.SoleRunning.{sole_running};
 
 use super::desk::Desk;
-use super::queue_sole::QueueSole;
+use super::running_sole::RunningSole;
 use cqs_core::Memory;
 use cqs_plan::{Floor, FloorEnd, FloorGive, FloorLeave, FloorLook, FloorTake, Plan};
 use std::alloc::Global;
 use std::marker::Model;
 
-/// A floor for plans that have semaphores alone: each is one of the running queue, with its one
-/// pass.
+/// A floor for plans that have semaphores and mutexes: each is one of the running queue, with its
+/// one pass. A mutex keeps a unit value.
 ///
-/// Contracts see its ledger, with the semaphores and their passes: its plain floor is what these
-/// have seen, without looks that found nothing new. A semaphore's limit is the plan's takes on it
-/// and one more, so none of its calls is refused.
+/// Contracts see its ledger, with the resources and their passes: its plain floor is what these
+/// have seen, without looks that found nothing new. The limit of each is the plan's takes on it and
+/// one more, so none of its calls is refused.
 #[derive(Drop)]
 pub struct QueueFloor {
-    desk: Desk<QueueSole>,
+    desk: Desk<RunningSole>,
 }
 
 impl Model for QueueFloor {
     ghost use Rattle.cqs_cli.specs.Kept.{IsKept};
     ghost use Rattle.cqs_cli.specs.Ledger.{Ledger};
-    ghost use Rattle.cqs_cli.specs.SoleQueue.{sole_queue};
-    ghost use Rattle.cqs_cli.specs.declared.floors.queue_sole.QueueSole as sole;
-    ghost use Rattle.cqs_rule.specs.declared.queue.tokens.Wait as token;
+    ghost use Rattle.cqs_cli.specs.SoleRunning.{sole_running};
+    ghost use Rattle.cqs_cli.specs.declared.floors.running_sole.RunningSole as sole;
+    ghost use Rattle.cqs_cli.specs.declared.floors.running_sole.RunningWait as token;
 
-    ghost Value = { Ledger sole.QueueSole token.Wait };
+    ghost Value = { Ledger sole.RunningSole token.RunningWait };
 
     ghost view = { λ floor. floor.desk };
 
-    ghost invariant = { λ floor. IsKept sole_queue floor.desk };
+    ghost invariant = { λ floor. IsKept sole_running floor.desk };
 }
 
 impl QueueFloor {
@@ -45,7 +45,7 @@ impl QueueFloor {
     pub fn new(alloc: Global, plan: &Plan) -> Result<Self, Memory>
         requires runnable { IsRunnable plan.now }
         requires semaphores { AreSemaphores plan.now.resources }
-        ensures { IfOk result (λ floor. plain_floor sole_queue floor ≡ opening_floor plan.now) }
+        ensures { IfOk result (λ floor. plain_floor sole_running floor ≡ opening_floor plan.now) }
     {
         let desk = Desk::new(alloc, plan)?;
         Ok(QueueFloor { desk })
@@ -53,14 +53,14 @@ impl QueueFloor {
 
     /// Does nothing: its clause tells what every such floor keeps.
     pub(crate) fn is_kept(&self)
-        ensures { IsKept sole_queue self.now }
+        ensures { IsKept sole_running self.now }
     {
         let _ = &self.desk;
     }
 }
 
 impl Floor for QueueFloor {
-    ghost plain = { plain_floor sole_queue };
+    ghost plain = { plain_floor sole_running };
 
     fn take(&mut self, at: u32, job: u32) -> FloorTake {
         self.desk.take(at, job)

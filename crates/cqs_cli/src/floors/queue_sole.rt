@@ -1,13 +1,16 @@
 //! A semaphore of the running queue with its one pass, as the semaphore of a floor.
 
-ghost use Rattle.std.specs.Prelude.{◌≡◌, ◌≤ℤ◌, ◌++◌, [], ◌∷◌, negsuc, pos, true};
+ghost use Rattle.std.specs.Prelude.{◌≡◌, ◌<◌, ◌≤◌, ◌≤ℤ◌, ◌++◌, [], ◌∷◌, IfOk, Some, negsuc, pos, true};
 ghost use Rattle.cqs_core.specs.declared.entries.Entry.TheVariants.{Deliver};
 ghost use Rattle.cqs_core.specs.SemaphoreShown.{free_of, short_of, state_of};
+ghost use Rattle.cqs_plan.specs.declared.plans.kind.Kind.TheVariants as kind;
 ghost use Rattle.cqs_rule.specs.Owed.{HasUnder};
 ghost use Rattle.cqs_rule.specs.Passes.{pass_view};
 ghost use Rattle.cqs_rule.specs.Views.{IsSame};
 ghost use Rattle.cqs_semaphore.specs.Alone.{IsFirstOf};
 ghost use Rattle.cqs_semaphore.specs.Calls.{CallRule, IsMine, IsReady, Rests, plain_after};
+ghost use Rattle.cqs_cli.specs.Soles.{IsOpened};
+ghost use Rattle.cqs_cli.specs.SoleQueue.{sole_queue};
 
 use super::sole::{SoleSemaphore, Stand, stand_in};
 use cqs_core::Memory;
@@ -23,14 +26,14 @@ pub struct QueueSole {
     pub permits: Vec<Permit>,
 }
 
-impl SoleSemaphore for QueueSole {
-    ghost use Rattle.cqs_cli.specs.SoleQueue.{sole_queue};
-
-    type Wait = Wait;
-
-    ghost sole = { sole_queue };
-
-    fn open(alloc: Global, permits: u32, takes: u32) -> Result<Self, Memory> {
+impl QueueSole {
+    /// A semaphore with so many permits, all of them free, and room for so many takes.
+    pub fn open(alloc: Global, permits: u32, takes: u32) -> Result<Self, Memory>
+        requires some { 0 < permits }
+        requires few { permits ≤ 1048576 }
+        requires few_takes { takes ≤ 262144 }
+        ensures { IfOk result (IsOpened sole_queue (Some (kind.Semaphore permits)) takes) }
+    {
         let config = Config {
             passes: 1,
             limit: u64::from(takes) + 1,
@@ -47,6 +50,14 @@ impl SoleSemaphore for QueueSole {
             permits: Vec::with_capacity(alloc, takes as usize)?,
         })
     }
+}
+
+impl SoleSemaphore for QueueSole {
+    ghost use Rattle.cqs_cli.specs.SoleQueue.{sole_queue};
+
+    type Wait = Wait;
+
+    ghost sole = { sole_queue };
 
     fn number(wait: &Wait) -> u64 {
         wait.number()
@@ -108,7 +119,7 @@ impl SoleSemaphore for QueueSole {
 }
 
 /// How a semaphore stands, by its state.
-#[tactic(auto, using(crate::proofs::QueueSole::state_same))]
+#[tactic(auto, using(crate::proofs::PassRests::state_same))]
 fn stand_of(semaphore: &Semaphore, pass: &mut SemPass) -> Stand
     requires mine { IsMine semaphore.now pass.old }
     requires ready { IsReady (pass_view pass.old).facts }

@@ -1,10 +1,24 @@
 //! A semaphore with one caller, as a floor needs it.
 
-ghost use Rattle.std.specs.Prelude.{◌≡◌, ◌≤ℤ◌, negsuc, pos};
+ghost use Rattle.std.specs.Prelude.{◌≡◌, ◌≤ℤ◌, Some, negsuc, pos};
 ghost use Rattle.cqs_core.specs.SemaphoreShown.{free_of, short_of};
+ghost use Rattle.cqs_plan.specs.Floor.{IsHoldable, permits_of};
 
 use cqs_core::Memory;
+use cqs_plan::Kind;
 use std::alloc::Global;
+
+/// How many permits there are of a resource that is taken and given: of a mutex it is one.
+pub(super) fn permits(kind: Kind) -> u32
+    requires { IsHoldable (Some kind) }
+    ensures { result ≡ permits_of (Some kind) }
+{
+    match kind {
+        Kind::Semaphore(permits) => permits,
+        Kind::Mutex => 1,
+        _ => unreachable!(),
+    }
+}
 
 /// How a semaphore stands between two calls: all other permits are held.
 #[derive(Clone, Copy)]
@@ -36,13 +50,13 @@ pub(super) fn stand_in(state: i64) -> Stand
 /// A semaphore with one caller, who makes one whole call after the other. Each call is the plain
 /// semaphore's.
 ///
-/// It takes its memory when it is made: as many takes as it has room for, and all that they lead
-/// to, can't fail.
+/// It has taken its memory when it was made: as many takes as it has room for, and all that they
+/// lead to, can't fail.
 pub trait SoleSemaphore: Sized + Drop {
     /// What its caller has of a wait, until that is over.
     type Wait: Drop;
 
-    ghost use Rattle.std.specs.Prelude.{◌≡◌, ◌<◌, ◌≤◌, IfOk};
+    ghost use Rattle.std.specs.Prelude.{◌≡◌};
     ghost use Rattle.cqs_cli.specs.Soles.{
       Sole,
       Acquires,
@@ -51,20 +65,12 @@ pub trait SoleSemaphore: Sized + Drop {
       CanRelease,
       CanStand,
       Cancels,
-      IsOpened,
       Polls,
       Releases,
       Tells,
     };
 
     ghost sole: { Sole Self Self.Wait };
-
-    /// One with so many permits, all of them free, and room for so many takes.
-    fn open(alloc: Global, permits: u32, takes: u32) -> Result<Self, Memory>
-        requires some { 0 < permits }
-        requires few { permits ≤ 1048576 }
-        requires few_takes { takes ≤ 262144 }
-        ensures { IfOk result (IsOpened sole permits takes) };
 
     /// The number of a wait.
     fn number(wait: &Self::Wait) -> u64
@@ -96,4 +102,17 @@ pub trait SoleSemaphore: Sized + Drop {
     fn stand(&mut self) -> Stand
         requires { CanStand sole self.old }
         ensures { Tells sole self.old result self.new };
+}
+
+/// A semaphore that can be made for each kind of resource that is taken and given.
+pub trait ForEachKind: SoleSemaphore {
+    ghost use Rattle.std.specs.Prelude.{◌≤◌, IfOk, Some};
+    ghost use Rattle.cqs_plan.specs.Runnable.{IsSemaphore};
+    ghost use Rattle.cqs_cli.specs.Soles.{IsOpened};
+
+    /// One for a resource of this kind, with all its permits free, and room for so many takes.
+    fn open(alloc: Global, kind: Kind, takes: u32) -> Result<Self, Memory>
+        requires built { IsSemaphore kind }
+        requires few_takes { takes ≤ 262144 }
+        ensures { IfOk result (IsOpened Self.sole (Some kind) takes) };
 }

@@ -5,15 +5,15 @@ use Rattle.cqs_cli.proofs.floors.queue_sole.QueueSoleSoleSemaphore.acquire.Goals
 
 pub returns-in-Ok-Now : goal.returns-in-Ok-Now
 returns-in-Ok-Now c =
-    queue-takes _ _ c.in-Ok-Now.ensures.belongs c.in-Ok-Now.permit
+    queue-takes _ _ c.in-Ok-Now.ensures.belongs c.push_reserved.ensures.capacity c.in-Ok-Now.permit
     (rw c.in-Ok-Now.field-0-is at c.in-Ok-Now.ensures.called)
     (rw c.in-Ok-Now.field-0-is at c.in-Ok-Now.ensures.acquired)
     (rw c.in-Ok-Now.field-0-is at c.in-Ok-Now.ensures.alone)
-    (ap (λ ps. length ps) c.push_reserved.ensures.items ∙ length_push _ _) c.push_reserved.ensures.capacity
+    (ap (λ ps. length ps) c.push_reserved.ensures.items ∙ length_push _ _)
 
 pub returns-in-Ok-Later : goal.returns-in-Ok-Later
 returns-in-Ok-Later c =
-    queue-waits _ _ c.in-Ok-Later.ensures.belongs c.in-Ok-Later.wait
+    queue-waits _ _ c.in-Ok-Later.ensures.belongs refl c.in-Ok-Later.wait
     (rw c.in-Ok-Later.field-0-is at c.in-Ok-Later.ensures.called)
     (rw c.in-Ok-Later.field-0-is at c.in-Ok-Later.ensures.acquired)
     (rw c.in-Ok-Later.field-0-is at c.in-Ok-Later.ensures.alone) refl

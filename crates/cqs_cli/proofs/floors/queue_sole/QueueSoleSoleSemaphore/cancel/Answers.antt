@@ -6,7 +6,7 @@ use Rattle.cqs_cli.proofs.floors.queue_sole.QueueSoleSoleSemaphore.cancel.Goals 
 
 pub returns-in-TooLate : goal.returns-in-TooLate
 returns-in-TooLate c =
-    queue-lates _ _ c.cancel.ensures.belongs c.args.wait c.push_reserved.ensures.capacity c.in-TooLate.permit
+    queue-lates _ _ c.cancel.ensures.belongs c.push_reserved.ensures.capacity c.args.wait c.in-TooLate.permit
     (rw c.in-TooLate.is at c.cancel.ensures.cancelled)
     (rw c.in-TooLate.is at c.cancel.ensures.alone)
     (ap (λ ps. length ps) c.push_reserved.ensures.items ∙ length_push _ _)
@@ -28,14 +28,14 @@ end-requires-clause-way c =
 
 pub returns-in-Cancelled-None : goal.returns-in-Cancelled-None
 returns-in-Cancelled-None c =
-    queue-leaves _ _ c.cancel.ensures.belongs c.args.wait refl c.in-Cancelled-None.field-0 refl
+    queue-leaves _ _ c.cancel.ensures.belongs refl c.args.wait refl c.in-Cancelled-None.field-0
     (rw c.in-Cancelled-None.is at c.cancel.ensures.alone)
     (λ alone still. left-now _ _ _ alone still _ c.in-Cancelled-None.field-0-is
     (rw c.in-Cancelled-None.is at c.cancel.ensures.cancelled))
 
 pub returns-in-Cancelled-Some : goal.returns-in-Cancelled-Some
 returns-in-Cancelled-Some c =
-    queue-leaves _ _ c.end.ensures.mine c.args.wait refl c.in-Cancelled-Some.field-0 refl
+    queue-leaves _ _ c.end.ensures.mine refl c.args.wait refl c.in-Cancelled-Some.field-0
     (rw c.in-Cancelled-Some.is at c.cancel.ensures.alone)
     (λ alone still. (owes-still _ _ _ alone still _ _ c.in-Cancelled-Some.field-0-is
     (rw c.in-Cancelled-Some.is at c.cancel.ensures.cancelled)).then _ c.end.ensures.seen c.end.ensures.same

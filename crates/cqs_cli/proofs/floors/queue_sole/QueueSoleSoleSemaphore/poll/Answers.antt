@@ -5,7 +5,7 @@ use Rattle.cqs_cli.proofs.floors.queue_sole.QueueSoleSoleSemaphore.poll.Goals as
 
 pub returns-in-Granted : goal.returns-in-Granted
 returns-in-Granted c =
-    queue-grants _ _ c.poll.ensures.belongs c.args.wait c.push_reserved.ensures.capacity c.in-Granted.permit
+    queue-grants _ _ c.poll.ensures.belongs c.push_reserved.ensures.capacity c.args.wait c.in-Granted.permit
     (rw c.in-Granted.is at c.poll.ensures.called)
     (rw c.in-Granted.is at c.poll.ensures.polled)
     (rw c.in-Granted.is at c.poll.ensures.alone)
@@ -13,7 +13,7 @@ returns-in-Granted c =
 
 pub returns-in-Pending : goal.returns-in-Pending
 returns-in-Pending c =
-    queue-pends _ _ c.poll.ensures.belongs c.args.wait refl c.in-Pending.wait c.requires.has
+    queue-pends _ _ c.poll.ensures.belongs refl c.args.wait refl c.in-Pending.wait c.requires.has
     (rw c.in-Pending.is at c.poll.ensures.called)
     (rw c.in-Pending.is at c.poll.ensures.polled)
-    (rw c.in-Pending.is at c.poll.ensures.alone) refl
+    (rw c.in-Pending.is at c.poll.ensures.alone)

@@ -1,5 +1,6 @@
 use Rattle.std.proofs.Common.{refl}
-use Rattle.cqs_cli.proofs.QueueStands.{queue-tells, state-least, state-most}
+use Rattle.cqs_cli.specs.SoleQueue.{semaphore_pass}
+use Rattle.cqs_cli.proofs.QueueStands.{one-tells, state-least, state-most}
 use Rattle.cqs_cli.proofs.floors.queue_sole.QueueSoleSoleSemaphore.stand.Goals as goal
 
 pub stand_of-requires-clause-least : goal.stand_of-requires-clause-least
@@ -12,5 +13,6 @@ stand_of-requires-clause-most c =
 
 pub returns : goal.returns
 returns c =
-    queue-tells _ _ _ c.stand_of.ensures.mine c.stand_of.ensures.called c.stand_of.ensures.rests refl
+    one-tells semaphore_pass (λ x mine. mine.live.legal) _ _ _ c.stand_of.ensures.mine refl refl
+    c.stand_of.ensures.called c.stand_of.ensures.rests
     c.stand_of.ensures.free c.stand_of.ensures.line

@@ -1,0 +1,202 @@
+-- A mutex of the running queue with its one pass is a semaphore of one permit, as a floor needs it.
+use Rattle.std.proofs.Common.{◌≡◌, ℕ, ◌+◌, ◌-◌, true, false, List, [], ◌∷◌, ◌++◌, Option, Some, None, Ok, length, vec_capacity, refl, ap, sym, ◌∙◌, subst}
+use Rattle.cqs_core.specs.declared.entries.Entry.{Entry}
+use Rattle.cqs_core.specs.declared.entries.Entry.TheVariants as entry
+use Rattle.cqs_core.specs.SemaphoreEntries.{IsFirst}
+use Rattle.cqs_core.specs.SemaphoreObject.{Semaphore}
+use Rattle.cqs_rule.specs.declared.queue.tokens.Under.{Under as Token}
+use Rattle.cqs_rule.specs.declared.queue.tokens.Wait.{Wait}
+use Rattle.cqs_rule.specs.declared.semaphore.carries.Kept.{Kept}
+use Rattle.cqs_rule.specs.declared.view.Facts.{Facts}
+use Rattle.cqs_rule.specs.declared.view.View.{View}
+use Rattle.cqs_rule.specs.Passes.{pass_view}
+use Rattle.cqs_rule.specs.SlotSteps.{Swapped}
+use Rattle.cqs_rule.specs.Views.{IsSame}
+use Rattle.cqs_rule.specs.Waits.{HasWait, place_of}
+use Rattle.cqs_semaphore.specs.declared.answers.CancelAnswer.TheVariants as cancel
+use Rattle.cqs_semaphore.specs.declared.answers.Released.TheVariants.{Freed, Sent, Under}
+use Rattle.cqs_semaphore.specs.Alone.{IsFirstOf}
+use Rattle.cqs_semaphore.specs.Calls.{IsReady, Rests, plain_after}
+use Rattle.cqs_semaphore.specs.Steps.{HasCancelled}
+use Rattle.cqs_mutex.specs.declared.answers.Locked.TheVariants.{Now, Later}
+use Rattle.cqs_mutex.specs.declared.answers.LockLeft.TheVariants.{Cancelled, TooLate}
+use Rattle.cqs_mutex.specs.declared.answers.PolledLock.TheVariants.{Granted, Pending}
+use Rattle.cqs_mutex.specs.declared.guard.Guard.{Guard}
+use Rattle.cqs_mutex.specs.declared.guard.LockWait.{LockWait}
+use Rattle.cqs_mutex.specs.Calls.{HasLocked, HasPolled, HasUnlocked}
+use Rattle.cqs_mutex.specs.Calls.{HasLeft as LeftBy}
+use Rattle.cqs_mutex.specs.Guards.{permit_of, wait_in}
+use Rattle.cqs_mutex.specs.Mutexes.{Belongs}
+use Rattle.cqs_cli.specs.declared.floors.mutex_sole.MutexSole.{MutexSole}
+use Rattle.cqs_cli.specs.Soles.{Acquires, Cancels, IsLawful, Polls, Releases}
+use Rattle.cqs_cli.specs.SoleQueue.{mutex_pass, sole_mutex}
+use Rattle.cqs_cli.proofs.OnePasses.{one-frees, one-grants, one-lates, one-lawful, one-leaves, one-pends, one-sends, one-takes, one-waits}
+use Rattle.cqs_cli.proofs.PassCalls.{frees-comes, grants-comes, hands-comes, hands-first, lates-comes, pends-comes, pends-same, same-then, sent-comes, takes-comes, takes-free, waits-comes, waits-next}
+use Rattle.cqs_cli.proofs.PassRests.{Comes, empty-found, first-found, late-found, left-found, pending-found, served-found}
+use Rattle.cqs_cli.proofs.QueueSends.{HasLeft}
+
+pub mutex-lawful : IsLawful sole_mutex
+mutex-lawful = one-lawful mutex_pass (λ x belongs. belongs.mine.live.legal)
+
+-- A value moved between its slot and a guard, and nothing else happened.
+module _ {T : Type 0} (v w : View Entry T) (laid : List (ℕ × Option T)) (swapped : Swapped laid v w) where
+  swap-same : IsSame v w
+  swap-same = record {
+    number = ap (λ (z : View Entry T). z.number) swapped.is;
+    weight = ap (λ (z : View Entry T). z.weight) swapped.is;
+    own = ap (λ (z : View Entry T). z.own) swapped.is;
+    crew = ap (λ (z : View Entry T). z.crew) swapped.is;
+    alone = ap (λ (z : View Entry T). z.alone) swapped.is;
+    limit = ap (λ (z : View Entry T). z.limit) swapped.is;
+    cells = ap (λ (z : View Entry T). z.cells) swapped.is;
+    passes = ap (λ (z : View Entry T). z.passes) swapped.is;
+    opening = ap (λ (z : View Entry T). z.opening) swapped.is;
+  }
+
+  swap-facts : w.facts ≡ v.facts
+  swap-facts = ap (λ (z : View Entry T). z.facts) swapped.is
+
+  swap-seen : w.seen ≡ v.seen
+  swap-seen = ap (λ (z : View Entry T). z.seen) swapped.is
+
+  swap-plain : plain_after w ≡ plain_after v
+  swap-plain = ap (λ (z : View Entry T). plain_after z) swapped.is
+
+  -- it moved after a call
+  moved-after : (u : View Entry T) (entries : List Entry) (held : ℕ) (waits : List ℕ) → Comes u v entries held waits
+      → Comes u w entries held waits
+  moved-after u entries held waits c = record {
+    same = same-then u v w c.same swap-same;
+    seen = swap-seen ∙ c.seen;
+    rests = record {
+      ready = subst IsReady (sym swap-facts) c.rests.ready;
+      held_is = ap (λ (f : Facts). f.has.held) swap-facts ∙ c.rests.held_is;
+      waits_are = ap (λ (f : Facts). f.waits) swap-facts ∙ c.rests.waits_are;
+    };
+  }
+
+  -- it moved before a call that gave back
+  moved-before : (u : View Entry T) (entries : List Entry) → Comes w u entries (w.facts.has.held - 1) w.facts.waits
+      → Comes v u entries (v.facts.has.held - 1) v.facts.waits
+  moved-before u entries c =
+      subst (λ (f : Facts). Comes v u entries (f.has.held - 1) f.waits) swap-facts
+      (record {
+        same = same-then v w u swap-same c.same;
+        seen = c.seen ∙ ap (λ es. es ++ entries) swap-seen;
+        rests = record { ready = c.rests.ready; held_is = c.rests.held_is; waits_are = c.rests.waits_are };
+      })
+
+  moved-alone : v.alone ≡ true → w.alone ≡ true
+  moved-alone alone = swap-same.alone ∙ alone
+
+  moved-zero : v.number ≡ 0 → w.number ≡ 0
+  moved-zero zero = swap-same.number ∙ zero
+
+module _ (x y : MutexSole) (mine : Belongs y.mutex y.pass)
+    (capacity : vec_capacity y.guards ≡ vec_capacity x.guards) where
+  abbrev v : View Entry (Kept (Unit {0}))
+  v = pass_view x.pass
+
+  abbrev w : View Entry (Kept (Unit {0}))
+  w = pass_view y.pass
+
+  -- A lock.
+  pub mutex-takes : (guard : Guard (Unit {0})) → HasLocked v (Ok (Now guard)) w
+      → length y.guards.items ≡ length x.guards.items + 1 → Acquires sole_mutex x None y
+  mutex-takes guard locked one_more =
+      one-takes mutex_pass x y mine capacity
+      (λ alone zero. moved-after locked.between w _ locked.value.swapped v _ _ _
+      (takes-comes v locked.between (permit_of guard) locked.called locked.acquired locked.alone alone zero))
+      (takes-free v locked.between (permit_of guard) locked.alone) one_more
+
+  pub mutex-waits : (wait : LockWait) → HasLocked v (Ok (Later wait)) w
+      → length y.guards.items ≡ length x.guards.items → Acquires sole_mutex x (Some wait) y
+  mutex-waits wait locked kept =
+      let k = (place_of (wait_in wait)).index in
+      one-waits mutex_pass x y mine capacity wait
+      (λ alone zero. subst (λ z. Comes v z (entry.TakeDoor 0 ∷ entry.Enter 0 k ∷ []) v.facts.has.held
+      (v.facts.waits ++ k ∷ [])) (sym locked.value)
+      (waits-comes v locked.between (wait_in wait) locked.called locked.acquired alone zero))
+      (subst (λ z. HasWait z (wait_in wait)) (sym locked.value) locked.acquired.2)
+      (waits-next v locked.between (wait_in wait) locked.alone) kept
+
+  -- An unlock.
+  module _ (one_less : length y.guards.items + 1 ≡ length x.guards.items) (value : Unit {0}) where
+    pub mutex-frees : HasUnlocked value v Freed w → Releases sole_mutex x None y
+    mutex-frees gone =
+        let b = gone.between in
+        one-frees mutex_pass x y mine capacity one_less
+        (λ alone zero. moved-before v b _ gone.laid w _ (frees-comes b w gone.called gone.releases
+        (moved-alone v b _ gone.laid alone) (moved-zero v b _ gone.laid zero)))
+        (λ alone. ap (λ (o : Semaphore). o.line) (sym (swap-plain v b _ gone.laid))
+        ∙ empty-found (plain_after b) b.number (gone.alone alone))
+
+    pub mutex-sent : (k : ℕ) → HasUnlocked value v (Sent k) w → Releases sole_mutex x (Some k) y
+    mutex-sent k gone =
+        let b = gone.between in
+        one-sends mutex_pass x y mine capacity one_less k
+        (λ alone zero. moved-before v b _ gone.laid w _ (sent-comes b w k gone.called gone.releases
+        (moved-alone v b _ gone.laid alone) (moved-zero v b _ gone.laid zero)))
+        (λ alone. subst (λ (o : Semaphore). IsFirst k o.line) (swap-plain v b _ gone.laid)
+        (first-found (plain_after b) b.number k (gone.alone alone)))
+
+    -- one whose resumption was handed back, and went on to its end
+    pub mutex-hands : (k : ℕ) (under : Token) (u : View Entry (Kept (Unit {0}))) → HasUnlocked value v (Under under) u
+        → IsFirstOf (plain_after u).line k → w.seen ≡ u.seen ++ entry.Deliver k ∷ [] → IsSame u w
+        → Rests u u.facts.has.held u.facts.waits w → Releases sole_mutex x (Some k) y
+    mutex-hands k under u gone first seen same rests =
+        let b = gone.between in
+        one-sends mutex_pass x y mine capacity one_less k
+        (λ alone zero. moved-before v b _ gone.laid w _ (hands-comes b u w k under gone.called gone.releases seen same
+        rests (moved-alone v b _ gone.laid alone) (moved-zero v b _ gone.laid zero)))
+        (λ alone. subst (λ (o : Semaphore). IsFirst k o.line) (swap-plain v b _ gone.laid)
+        (hands-first b u w k under gone.called first (moved-alone v b _ gone.laid alone)))
+
+  -- The end of a wait.
+  module _ (wait : LockWait) where
+    abbrev number : ℕ
+    number = (place_of (wait_in wait)).index
+
+    pub mutex-grants : (guard : Guard (Unit {0})) → HasPolled (wait_in wait) v (Granted guard) w
+        → length y.guards.items ≡ length x.guards.items + 1 → Polls sole_mutex x wait None y
+    mutex-grants guard polled one_more =
+        one-grants mutex_pass x y mine capacity wait
+        (λ alone zero. moved-after polled.between w _ polled.value.swapped v _ _ _
+        (grants-comes v polled.between (wait_in wait) (permit_of guard) polled.called polled.polled alone zero))
+        (λ alone. served-found (plain_after v) v.number number (polled.alone alone)) one_more
+
+    pub mutex-lates : (guard : Guard (Unit {0})) → LeftBy (wait_in wait) v (TooLate guard) w
+        → length y.guards.items ≡ length x.guards.items + 1 → Cancels sole_mutex x wait false y
+    mutex-lates guard left one_more =
+        one-lates mutex_pass x y mine capacity wait
+        (λ alone zero. moved-after left.between w _ left.value.swapped v _ _ _
+        (lates-comes v left.between number (permit_of guard) left.cancelled alone zero))
+        (λ alone. late-found (plain_after v) v.number number (left.alone alone)) one_more
+
+    module _ (kept : length y.guards.items ≡ length x.guards.items) where
+      pub mutex-pends : (back : LockWait) → HasWait v (wait_in wait) → HasPolled (wait_in wait) v (Pending back) w
+          → Polls sole_mutex x wait (Some back) y
+      mutex-pends back has polled =
+          let u = polled.between in
+          let token : wait_in back ≡ wait_in wait =
+          pends-same v u (wait_in wait) (wait_in back) has polled.called.called.same polled.polled in
+          let made : Wait → LockWait = λ t. record { wait = t } in
+          one-pends mutex_pass x y mine capacity wait kept back (ap made token)
+          (λ alone zero. subst (λ z. Comes v z (entry.LookPending 0 number ∷ []) v.facts.has.held v.facts.waits)
+          (sym polled.value)
+          (pends-comes v u (wait_in wait) (wait_in back) polled.called polled.polled alone zero))
+          (λ alone. pending-found (plain_after v) v.number number (polled.alone alone))
+
+      pub mutex-leaves : (under : Option Token) (u : View Entry (Kept (Unit {0})))
+          → LeftBy (wait_in wait) v (Cancelled under) u
+          → (v.alone ≡ true → (plain_after v).way ≡ 0 → HasLeft number v w)
+          → Cancels sole_mutex x wait true y
+      mutex-leaves under u left leaves =
+          one-leaves mutex_pass x y mine capacity wait kept leaves
+          (λ alone. left-found (plain_after v) v.number number (left.alone alone))
+
+-- a cancel by which the wait is gone moved no value
+pub cancelled-here : (wait : Wait) (v w : View Entry (Kept (Unit {0}))) (under : Option Token)
+    → LeftBy wait v (Cancelled under) w → HasCancelled (place_of wait).index v (cancel.Cancelled under) w
+cancelled-here wait v w under left =
+    subst (λ z. HasCancelled (place_of wait).index v (cancel.Cancelled under) z) (sym left.value) left.cancelled

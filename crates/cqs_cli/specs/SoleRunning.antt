@@ -1,0 +1,46 @@
+-- A resource of the running queue, as a floor sees it: a semaphore, or a mutex.
+use Rattle.std.specs.Prelude.{◌≡◌, ℕ, true, List, Option}
+use Rattle.cqs_core.specs.declared.entries.Entry.{Entry}
+use Rattle.cqs_plan.specs.declared.plans.kind.Kind.{Kind}
+use Rattle.cqs_rule.specs.Passes.{pass_view}
+use Rattle.cqs_cli.specs.declared.floors.running_sole.RunningSole.{RunningSole}
+use Rattle.cqs_cli.specs.declared.floors.running_sole.RunningSole.TheVariants.{Semaphore, Mutex}
+use Rattle.cqs_cli.specs.declared.floors.running_sole.RunningWait.{RunningWait}
+use Rattle.cqs_cli.specs.declared.floors.running_sole.RunningWait.TheVariants as wait
+use Rattle.cqs_cli.specs.Soles.{Sole}
+use Rattle.cqs_cli.specs.SoleQueue.{IsMutex, IsSemaphore, mutex_pass, semaphore_pass, sole_mutex, sole_queue}
+
+-- the entries that its pass has seen, without looks that found nothing new
+abbrev pub entries_seen : RunningSole → List Entry
+entries_seen (Semaphore x) = sole_queue.entries x
+entries_seen (Mutex x) = sole_mutex.entries x
+
+abbrev pub number_of : RunningWait → ℕ
+number_of (wait.Semaphore w) = sole_queue.number w
+number_of (wait.Mutex w) = sole_mutex.number w
+
+abbrev pub IsFundedHere : RunningSole → Option Kind → ℕ → ℕ → ℕ → Type 0
+IsFundedHere (Semaphore x) kind room waiting held = sole_queue.funded x kind room waiting held
+IsFundedHere (Mutex x) kind room waiting held = sole_mutex.funded x kind room waiting held
+
+-- no wait for a semaphore is one for a mutex
+abbrev pub HasHere : RunningSole → RunningWait → Type 0
+HasHere (Semaphore x) (wait.Semaphore w) = sole_queue.has x w
+HasHere (Semaphore x) (wait.Mutex w) = ⊥
+HasHere (Mutex x) (wait.Semaphore w) = ⊥
+HasHere (Mutex x) (wait.Mutex w) = sole_mutex.has x w
+
+abbrev pub sole_running : Sole RunningSole RunningWait
+sole_running = record {
+  entries = entries_seen;
+  number = number_of;
+  funded = IsFundedHere;
+  has = HasHere;
+}
+
+-- It is what a resource of this kind is on the running queue, and has one pass, which is its own: a
+-- semaphore for a semaphore, and for a mutex a mutex.
+abbrev pub IsAlone : Option Kind → RunningSole → Type 0
+IsAlone kind (Semaphore x) =
+    IsSemaphore kind × semaphore_pass.mine x × ((pass_view x.pass).alone ≡ true)
+IsAlone kind (Mutex x) = IsMutex kind × mutex_pass.mine x × ((pass_view x.pass).alone ≡ true)

@@ -1,5 +1,5 @@
 -- A wait is still the pass's own after its slot was opened, and after the calls that leave it.
-use Rattle.std.proofs.Common.{◌≡◌, ◌∙◌, ap, sym, subst, ℕ, List, Option}
+use Rattle.std.proofs.Common.{◌∙◌, ap, sym, subst, ℕ, List, Option}
 use Rattle.cqs_core.specs.declared.entries.Entry.{Entry}
 use Rattle.cqs_rule.specs.declared.queue.tokens.Wait.{Wait}
 use Rattle.cqs_rule.specs.declared.semaphore.carries.Kept.{Kept}

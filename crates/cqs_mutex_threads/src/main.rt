@@ -73,11 +73,7 @@ fn come(mutex: &Mutex<u64>, pass: &mut MutexPass<u64>, patient: bool) -> Option<
 }
 
 /// Leaves the line, and waits anew where the mutex hadn't come.
-fn come_again(
-    mutex: &Mutex<u64>,
-    pass: &mut MutexPass<u64>,
-    wait: LockWait,
-) -> Option<Guard<u64>>
+fn come_again(mutex: &Mutex<u64>, pass: &mut MutexPass<u64>, wait: LockWait) -> Option<Guard<u64>>
     requires belongs { Belongs mutex.now pass.old }
     requires ready { IsReady (pass_view pass.old).facts }
     requires has { HasWait (pass_view pass.old) (wait_in wait) }
@@ -247,7 +243,10 @@ fn run<R: Threads + Sync + Print + AllocGlobal>(rt: &R) -> anyhow::Result<()> {
     let second = take_in(&mutex, &mut pass, second);
     let third = take_in(&mutex, &mut pass, third);
     let fourth = take_in(&mutex, &mut pass, fourth);
-    println!(rt; "all passes were taken in: {}", first && second && third && fourth)?;
+    println!(rt;
+        "all passes were taken in: {}",
+        first && second && third && fourth
+    )?;
     println!(rt; "one pass is left: {}", mutex.sole(&mut pass))?;
     Ok(())
 }

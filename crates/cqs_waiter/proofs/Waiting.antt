@@ -1,5 +1,5 @@
--- How the calls of one who waits come one after the other: an acquire, looks that find nothing new, and the one that finds
--- the wait served.
+-- How the calls of one who waits come one after the other: an acquire, looks that find nothing new, and the one
+-- that finds the wait served.
 use Rattle.std.proofs.Common.{◌≡◌, ℕ, zero, suc, ◌+◌, List, [], ◌∷◌, ◌++◌, Option, Some, None, Result, Ok, Err, refl, sym, ap, ◌∙◌, subst, inr, append_assoc}
 use Rattle.std.specs.Prelude.{IfOk, OnErr, IsErrOf}
 use Rattle.cqs_core.specs.declared.cells.CoreState.{CoreState}
@@ -80,7 +80,8 @@ module _ {T : Type 0} where
         waits_are = is.3.waits_are ∙ (j.rests.waits_are
             ∙ ap (λ a. v.facts.waits ++ a.index ∷ []) same);
       } in
-      let course = subst (λ a. Course v (came_entries v.number a.index ++ entry.LookPending v.number (place_of again).index ∷ []) w)
+      let came = λ (a : Place). came_entries v.number a.index ++ entry.LookPending v.number (place_of again).index ∷ [] in
+      let course = subst (λ a. Course v (came a) w)
       same
       (looked-then entry.LookPending v m w _ _ _ j.course same (course-call m w _ _ c)) in
       record {
@@ -98,7 +99,11 @@ module _ {T : Type 0} where
       record {
         has = is.1;
         looked = subst (λ a. CellWas state.Waiter a.index (entry.LookPending v.number a.index ∷ []) w) same is.2;
-        made = (is.0, subst (λ a. Course v (entry.LookPending v.number a.index ∷ []) w) same (course-call v w _ _ c), is.3);
+        made = (
+          is.0,
+          subst (λ a. Course v (entry.LookPending v.number a.index ∷ []) w) same (course-call v w _ _ c),
+          is.3,
+        );
       }
 
   -- a look at it that found it served
@@ -116,14 +121,18 @@ module _ {T : Type 0} where
   still-more v m w wait again s c is =
       let same = sym is.0 in
       let k = (place_of wait).index in
-      let made = looked-then entry.LookPending v m w _ (place_of wait) (place_of wait) s.course refl (course-call m w _ _ c) in
-      let more : came_entries v.number k ++ pending_entries v.number k (suc s.times)
-      ≡ (came_entries v.number k ++ pending_entries v.number k s.times) ++ entry.LookPending v.number k ∷ [] =
-      ap (λ l. came_entries v.number k ++ l) (sym (one-more v.number k s.times))
-      ∙ sym (append_assoc (came_entries v.number k) (pending_entries v.number k s.times) (entry.LookPending v.number k ∷ [])) in
+      let at = place_of wait in
+      let made = looked-then entry.LookPending v m w _ at at s.course refl (course-call m w _ _ c) in
+      let p = v.number in
+      let came = came_entries p k in
+      let entries = λ (a : Place). came_entries p a.index ++ pending_entries p a.index (suc s.times) in
+      let more : came ++ pending_entries p k (suc s.times)
+      ≡ (came ++ pending_entries p k s.times) ++ entry.LookPending p k ∷ [] =
+      ap (λ l. came ++ l) (sym (one-more p k s.times))
+      ∙ sym (append_assoc came (pending_entries p k s.times) (entry.LookPending p k ∷ [])) in
       record {
         times = suc s.times;
-        course = subst (λ a. Course v (came_entries v.number a.index ++ pending_entries v.number a.index (suc s.times)) w) same
+        course = subst (λ a. Course v (entries a) w) same
             (subst (λ es. Course v es w) (sym more) made);
         has = is.1;
         rests = record {
@@ -141,13 +150,15 @@ module _ {T : Type 0} where
       (v.facts.waits ++ (place_of wait).index ∷ []) v permit w
   still-ends v m w wait permit s c is =
       let k = (place_of wait).index in
+      let at = place_of wait in
       record {
         number = is.0;
         times = s.times;
         course = subst (λ es. Course v es w)
-            (append_assoc (came_entries v.number k) (pending_entries v.number k s.times) (entry.LookGranted v.number k ∷ []))
-            (looked-then entry.LookGranted v m w _ (place_of wait) (place_of wait) s.course refl (course-call m w _ _ c));
-        served = as-looked state.Resumed entry.LookGranted v m w (place_of wait) (place_of wait) s.course.number refl is.1;
+            (append_assoc (came_entries v.number k) (pending_entries v.number k s.times)
+            (entry.LookGranted v.number k ∷ []))
+            (looked-then entry.LookGranted v m w _ at at s.course refl (course-call m w _ _ c));
+        served = as-looked state.Resumed entry.LookGranted v m w at at s.course.number refl is.1;
         rests = record {
           ready = is.2.ready;
           held_is = is.2.held_is ∙ ap (λ h. h + 1) s.rests.held_is;
@@ -180,7 +191,8 @@ module _ {T : Type 0} where
   pub arrives-still : (v m w : View Entry T) (wait : Option Wait) (again : Wait) (got : Result Permit AcquireError)
       → Pends v wait again m → Arrives m (Some again) got w → Arrives v wait got w
   arrives-still v m w None again (Ok permit) pends came =
-      inr ((place_of again).index, later-came v m w _ _ _ permit pends.made.0 pends.made.1.held_is pends.made.1.waits_are came)
+      let rests = pends.made.1 in
+      inr ((place_of again).index, later-came v m w _ _ _ permit pends.made.0 rests.held_is rests.waits_are came)
   arrives-still v m w (Some wait) again (Ok permit) pends came =
       subst (λ a. CameByWait a.index [] v.facts.waits v permit w) pends.made.0
       (later-came v m w _ _ _ permit pends.made.1 pends.made.2.held_is pends.made.2.waits_are came)
@@ -196,7 +208,8 @@ module _ {T : Type 0} where
   acquire-begins v w (Err e) c worn never acquired = only-worn v w e c worn (λ is. never (ap Err is))
 
   -- a poll that began so, and whose look found the wait served
-  pub granted-arrives : (v m w : View Entry T) (wait : Option Wait) (l : Wait) (permit : Permit) → Begins v wait (Ok (Later l)) m
+  pub granted-arrives : (v m w : View Entry T) (wait : Option Wait) (l : Wait) (permit : Permit)
+      → Begins v wait (Ok (Later l)) m
       → CallRule m (polled_entries m.number (place_of l).index (Granted permit)) [] w
       → IsPolled l m (Granted permit) w → Arrives v wait (Ok permit) w
   granted-arrives v m w None l permit begins c is =

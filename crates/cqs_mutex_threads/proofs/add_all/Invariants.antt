@@ -4,5 +4,5 @@ use Rattle.cqs_mutex.specs.Mutexes.{Belongs}
 use Rattle.cqs_mutex_threads.proofs.add_all.Given as goal
 
 -- between two rounds the pass is ready
-abbrev pub invariant-loop : goal.invariant-loop
-invariant-loop l = record { belongs : Belongs l.mutex l.pass; ready : IsReady (pass_view l.pass).facts }
+abbrev pub invariant-loop-round : goal.invariant-loop-round
+invariant-loop-round l = record { belongs : Belongs l.mutex l.pass; ready : IsReady (pass_view l.pass).facts }

@@ -10,7 +10,9 @@ returns-in-Granted-clause-value c =
     let begins = rw (c.in-Ok-Later.is, c.in-Ok-Later.field-0-is) at c.begin.ensures.begins in
     let called = rw c.in-Granted.is at c.poll.ensures.called in
     let polled = rw c.in-Granted.is at c.poll.ensures.polled in
-    let arrives = granted-arrives (pass_view c.in-Some.pass) _ (pass_view c.poll.new.pass) c.take-2.result _ _ begins called polled in
+    let v = pass_view c.in-Some.pass in
+    let w = pass_view c.poll.new.pass in
+    let arrives = granted-arrives v _ w c.take-2.result _ _ begins called polled in
     rw (had, sym wait) (c.poll.ensures.belongs, c.poll.ensures.ready, arrives)
 
 pub returns-in-Pending-clause-same : goal.returns-in-Pending-clause-same
@@ -20,9 +22,13 @@ returns-in-Pending-clause-same c =
     let begins = rw (c.in-Ok-Later.is, c.in-Ok-Later.field-0-is) at c.begin.ensures.begins in
     let called = rw c.in-Pending.is at c.poll.ensures.called in
     let polled = rw c.in-Pending.is at c.poll.ensures.polled in
-    let pends = pending-pends (pass_view c.in-Some.pass) _ (pass_view c.poll.new.pass) c.take-2.result _ c.in-Pending.wait begins called polled in
+    let v = pass_view c.in-Some.pass in
+    let w = pass_view c.poll.new.pass in
+    let pends = pending-pends v _ w c.take-2.result _ c.in-Pending.wait begins called polled in
     rw (c.yield_now-in-Pending.ensures.pending, had, sym wait)
-    (λ out gives. (gives.0, gives.1, arrives-still _ _ (pass_view out.pass) c.take-2.result c.in-Pending.wait out.got pends gives.2))
+    (λ out gives.
+      let arrives = arrives-still _ _ (pass_view out.pass) c.take-2.result c.in-Pending.wait out.got pends gives.2 in
+      (gives.0, gives.1, arrives))
 
 pub returns-in-Pending-clause-pending : goal.returns-in-Pending-clause-pending
 returns-in-Pending-clause-pending c =
@@ -31,5 +37,7 @@ returns-in-Pending-clause-pending c =
     let begins = rw (c.in-Ok-Later.is, c.in-Ok-Later.field-0-is) at c.begin.ensures.begins in
     let called = rw c.in-Pending.is at c.poll.ensures.called in
     let polled = rw c.in-Pending.is at c.poll.ensures.polled in
-    let pends = pending-pends (pass_view c.in-Some.pass) _ (pass_view c.poll.new.pass) c.take-2.result _ c.in-Pending.wait begins called polled in
+    let v = pass_view c.in-Some.pass in
+    let w = pass_view c.poll.new.pass in
+    let pends = pending-pends v _ w c.take-2.result _ c.in-Pending.wait begins called polled in
     (λ is. inr (rw (had, sym wait) pends), λ looked. c.yield_now-in-Pending.ensures.pending)

@@ -1,5 +1,5 @@
 -- A put is its steps: a number is drawn to resume at with the element, and the resumption goes on from there.
-use Rattle.std.proofs.Common.{◌≡◌, ℕ, List, [], ◌∷◌, Some, refl, ap, ◌∙◌, subst, inl, arith, sym}
+use Rattle.std.proofs.Common.{◌≡◌, ℕ, List, [], ◌∷◌, Some, refl, ap, ◌∙◌, subst, arith}
 use Rattle.cqs_core.specs.QueueSteps.{puts, row_of}
 use Rattle.cqs_pool_object.specs.declared.entries.PoolEntry.{PoolEntry}
 use Rattle.cqs_pool_object.specs.declared.entries.PoolEntry.TheVariants as entry
@@ -10,17 +10,13 @@ use Rattle.cqs_rule.specs.Counts.{DrewBy}
 use Rattle.cqs_rule.specs.Lists.{Has, without}
 use Rattle.cqs_rule.proofs.Calls.{called-by, called-and}
 use Rattle.cqs_pool.specs.declared.answers.Placed.{Placed}
-use Rattle.cqs_pool.specs.Answers.{Ends, IsFirstInHand}
+use Rattle.cqs_pool.specs.Answers.{Ends}
 use Rattle.cqs_pool.specs.Calls.{IsReady, CallRule}
 use Rattle.cqs_pool.specs.Entries.{placed_further}
 use Rattle.cqs_pool.specs.Pool.{pool_object}
 use Rattle.cqs_pool.specs.Steps.{HasEnded}
 use Rattle.cqs_pool.proofs.ResumeSteps.{ends-so, ends-called, further-names}
 use Rattle.cqs_pool.proofs.Rules.{call-rule}
-
--- the element that the pass got last is in its hand
-pub first-has : (e : ℕ) (f : Facts) → IsFirstInHand e f → Has e f.has.slots
-first-has e f first = subst (λ l. Has e l) (sym first.1) (inl refl)
 
 module _ {T : Type 0} where
   pub put-rule : (v u w : View PoolEntry T) (k e : ℕ) (a : Placed)

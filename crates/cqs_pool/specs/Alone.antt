@@ -18,6 +18,8 @@ use Rattle.cqs_pool.specs.declared.answers.PoolPolled.{PoolPolled}
 use Rattle.cqs_pool.specs.declared.answers.PoolPolled.TheVariants.{Granted, Pending}
 use Rattle.cqs_pool.specs.declared.answers.Taking.{Taking}
 use Rattle.cqs_pool.specs.declared.answers.Taking.TheVariants.{Took, Later}
+use Rattle.cqs_pool.specs.declared.element.Element.{Element}
+use Rattle.cqs_pool.specs.Answers.{IsInHand}
 use Rattle.cqs_pool.specs.Calls.{plain_after}
 use Rattle.cqs_pool.specs.Elements.{number_of, wait_of}
 
@@ -75,3 +77,19 @@ module _ {T : Type 0} where
   abbrev pub TakesFirst : View PoolEntry T → Taking → Type 0
   TakesFirst v (Took element) = IsFirstOnWay (number_of element) (plain_after v).way
   TakesFirst v (Later wait) = Unit {0}
+
+  -- the element that comes is none of those that the pass has in hand already
+  abbrev pub IsNewTo : View PoolEntry T → Element → Type 0
+  IsNewTo v element = IsInHand (number_of element) v.facts → ⊥
+
+  abbrev pub TakesNew : View PoolEntry T → Taking → Type 0
+  TakesNew v (Took element) = IsNewTo v element
+  TakesNew v (Later wait) = Unit {0}
+
+  abbrev pub PollsNew : View PoolEntry T → PoolPolled → Type 0
+  PollsNew v (Granted element) = IsNewTo v element
+  PollsNew v (Pending wait) = Unit {0}
+
+  abbrev pub CancelsNew : View PoolEntry T → PoolLeft → Type 0
+  CancelsNew v (Cancelled under) = Unit {0}
+  CancelsNew v (TooLate element) = IsNewTo v element

@@ -9,7 +9,7 @@ use Rattle.cqs_rule.specs.declared.view.Facts.{Facts}
 use Rattle.cqs_rule.specs.declared.view.Sighting.TheVariants.{Word}
 use Rattle.cqs_rule.specs.declared.view.View.{View}
 use Rattle.cqs_rule.specs.Layout.{suspends_place}
-use Rattle.cqs_rule.specs.Lists.{without}
+use Rattle.cqs_rule.specs.Lists.{Has, without}
 use Rattle.cqs_rule.specs.Owed.{HasUnder, under_payload}
 use Rattle.cqs_rule.specs.Waits.{place_of, HasWait}
 use Rattle.cqs_pool.specs.declared.answers.Placed.{Placed}
@@ -29,9 +29,9 @@ use Rattle.cqs_pool.specs.Owed.{owed_after}
 abbrev pub most_passed_over : ℕ
 most_passed_over = 64
 
--- the pass has this element in hand, and got it last
-abbrev pub IsFirstInHand : ℕ → Facts → Type 0
-IsFirstInHand e f = (rest : List ℕ) × (f.has.slots ≡ e ∷ rest)
+-- the pass has this element in hand: it got it, or met the pass that did
+abbrev pub IsInHand : ℕ → Facts → Type 0
+IsInHand e f = Has e f.has.slots
 
 -- a pass at these facts that loaded the suspend counter as n, and did nothing else
 abbrev pub facts_refused : ℕ → Facts → Facts

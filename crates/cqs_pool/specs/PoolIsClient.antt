@@ -136,12 +136,12 @@ load-is : (l : List Has) (p : ℕ) (has : Has) → slice_get l p ≡ Some has
 load-is l p has there =
     get_or_from_slice_get (loads_of l) p has.payload 0 (load-at l p has there)
 
-hold-at : (l : List Has) (p : ℕ) (has : Has) → slice_get l p ≡ Some has
+pub hold-at : (l : List Has) (p : ℕ) (has : Has) → slice_get l p ≡ Some has
     → slice_get (holds_of l) p ≡ Some has.slots
 hold-at l p has there =
     slice_get-map (λ (h : Has). h.slots) l p ∙ ap (option_map (λ (h : Has). h.slots)) there
 
-hold-is : (l : List Has) (p : ℕ) (has : Has) → slice_get l p ≡ Some has
+pub hold-is : (l : List Has) (p : ℕ) (has : Has) → slice_get l p ≡ Some has
     → hold_of (holds_of l) p ≡ has.slots
 hold-is l p has there = get_or_from_slice_get (holds_of l) p has.slots [] (hold-at l p has there)
 
@@ -195,7 +195,7 @@ once-without e (x ∷ xs) once =
         rw (ne_eqb x e other, ne_eqb e x (λ q. other (sym q)))
         (ap (λ ys. x ∷ ys) (rests (omega arith)))
 
-has-in : (e : ℕ) (xs : List ℕ) → lists.Has e xs → IsIn e xs
+pub has-in : (e : ℕ) (xs : List ℕ) → lists.Has e xs → IsIn e xs
 has-in e [] has = absurd has
 has-in e (x ∷ xs) (inl is) = record { place = 0; there = ap Some (sym is) }
 has-in e (x ∷ xs) (inr later) =
@@ -203,7 +203,7 @@ has-in e (x ∷ xs) (inr later) =
     record { place = suc rest.place; there = rest.there }
 
 -- no pass has an element in hand twice
-once-held : (s : PoolShape) (p e : ℕ) → IsPool s → p < length s.holds
+pub once-held : (s : PoolShape) (p e : ℕ) → IsPool s → p < length s.holds
     → times e (hold_of s.holds p) ≤ 1
 once-held s p e is there =
     let kept = conserved-after s.size s.history is.legal in

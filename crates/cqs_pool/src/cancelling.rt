@@ -5,7 +5,7 @@ ghost use Rattle.cqs_core.specs.declared.doings.Doing.TheVariants as doing;
 ghost use Rattle.cqs_rule.specs.Crew.{IsBetween};
 ghost use Rattle.cqs_rule.specs.Passes.{pass_view};
 ghost use Rattle.cqs_rule.specs.Waits.{place_of, HasWait};
-ghost use Rattle.cqs_pool.specs.Alone.{IsPlainCancel};
+ghost use Rattle.cqs_pool.specs.Alone.{IsPlainCancel, CancelsNew};
 ghost use Rattle.cqs_pool.specs.Answers.{LeavesPass};
 ghost use Rattle.cqs_pool.specs.Calls.{IsReady, IsMine};
 ghost use Rattle.cqs_pool.specs.Steps.{HasCancelled, PassedOn};
@@ -33,6 +33,8 @@ impl<T: Send + Drop> Pool<T> {
         ensures alone { (pass_view pass.old).alone ≡ true
             → IsPlainCancel (place_of wait).index (pass_view pass.old) result
             (pass_view pass.new) }
+        ensures new { (pass_view pass.old).alone ≡ true
+            → CancelsNew (pass_view pass.old) result }
     {
         let number = wait.number();
         match cancel_unasked(&self.queue, pass, wait) {

@@ -19,11 +19,13 @@ mod answers;
 mod cancelling;
 mod client;
 mod element;
+mod parking;
 mod polling;
 mod pool;
 mod putting;
 mod seats;
 mod taking;
+mod threads;
 
 pub use answers::{Placed, PoolLeft, PoolPolled, Taking};
 pub use client::PoolClient;

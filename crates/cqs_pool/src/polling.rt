@@ -3,7 +3,7 @@
 ghost use Rattle.std.specs.Prelude.{◌≡◌, [], true};
 ghost use Rattle.cqs_rule.specs.Passes.{pass_view};
 ghost use Rattle.cqs_rule.specs.Waits.{place_of, HasWait};
-ghost use Rattle.cqs_pool.specs.Alone.{IsPlainPoll};
+ghost use Rattle.cqs_pool.specs.Alone.{IsPlainPoll, PollsNew};
 ghost use Rattle.cqs_pool.specs.Answers.{IsPolled};
 ghost use Rattle.cqs_pool.specs.Calls.{IsReady, IsMine, CallRule};
 ghost use Rattle.cqs_pool.specs.Entries.{polled_entries};
@@ -30,6 +30,8 @@ impl<T: Send + Drop> Pool<T> {
         ensures ready { IsReady (pass_view pass.new).facts }
         ensures alone { (pass_view pass.old).alone ≡ true
             → IsPlainPoll (place_of wait).index (pass_view pass.old) result }
+        ensures new { (pass_view pass.old).alone ≡ true
+            → PollsNew (pass_view pass.old) result }
     {
         let at = self.queue.spend_wait(pass, wait);
         let cell = look::<PoolClient<T>, Polls>(&self.queue, pass, at);

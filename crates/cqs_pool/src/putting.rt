@@ -6,7 +6,7 @@ ghost use Rattle.cqs_rule.specs.Lists.{without};
 ghost use Rattle.cqs_rule.specs.Owed.{HasUnder, under_payload, under_reached};
 ghost use Rattle.cqs_rule.specs.Passes.{pass_view};
 ghost use Rattle.cqs_pool.specs.Alone.{CanEnd, IsPlainPut, IsPlainEnd};
-ghost use Rattle.cqs_pool.specs.Answers.{Ends, IsFirstInHand};
+ghost use Rattle.cqs_pool.specs.Answers.{Ends, IsInHand};
 ghost use Rattle.cqs_pool.specs.Calls.{IsReady, IsMine, CallRule, plain_after};
 ghost use Rattle.cqs_pool.specs.Elements.{number_of};
 ghost use Rattle.cqs_pool.specs.Entries.{put_entries, put_further, placed_further};
@@ -19,8 +19,8 @@ use cqs_resume::{finish, resume_from};
 use cqs_rule::{Crowded, Under};
 
 impl<T: Send + Drop> Pool<T> {
-    /// Puts an element back: it goes to the first who waits, or is free in the next cell. The
-    /// element is the one that the pass got last, of those that it has.
+    /// Puts an element back that the pass has in hand, because it got it or met the pass that did:
+    /// it goes to the first who waits, or is free in the next cell.
     pub fn put(
         &self,
         pass: &mut PoolPass<T>,
@@ -28,7 +28,7 @@ impl<T: Send + Drop> Pool<T> {
     ) -> Result<Placed, (Element, Crowded)>
         requires belongs { IsMine self.now pass.old }
         requires ready { IsReady (pass_view pass.old).facts }
-        requires first { IsFirstInHand (number_of element) (pass_view pass.old).facts }
+        requires has { IsInHand (number_of element) (pass_view pass.old).facts }
         ensures belongs { IsMine self.now pass.new }
         ensures called { CallRule (pass_view pass.old)
             (put_entries (pass_view pass.old).number (number_of element) result)

@@ -2,7 +2,7 @@
 
 ghost use Rattle.std.specs.Prelude.{◌≡◌, true, IfOk, OnOk, OnErr, IsErrOf};
 ghost use Rattle.cqs_rule.specs.Passes.{pass_view};
-ghost use Rattle.cqs_pool.specs.Alone.{IsPlainTake, IsOnlyCaller, TakesFirst};
+ghost use Rattle.cqs_pool.specs.Alone.{IsPlainTake, IsOnlyCaller, TakesFirst, TakesNew};
 ghost use Rattle.cqs_pool.specs.Answers.{IsWorn, IsBelow, Takes};
 ghost use Rattle.cqs_pool.specs.Calls.{IsReady, IsMine, CallRule};
 ghost use Rattle.cqs_pool.specs.Entries.{took_entries, took_further};
@@ -31,6 +31,8 @@ impl<T: Send + Drop> Pool<T> {
         ensures ready { IsReady (pass_view pass.new).facts }
         ensures alone { (pass_view pass.old).alone ≡ true
             → IfOk result (λ taking. IsPlainTake (pass_view pass.old) taking) }
+        ensures new { (pass_view pass.old).alone ≡ true
+            → IfOk result (λ taking. TakesNew (pass_view pass.old) taking) }
         ensures first { IsOnlyCaller (pass_view pass.old)
             → IfOk result (λ taking. TakesFirst (pass_view pass.old) taking) }
     {

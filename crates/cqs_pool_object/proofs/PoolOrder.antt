@@ -285,7 +285,7 @@ module _ (s : PoolShape) (p k e : ℕ) (is : IsPool s) (was : IsInOrder s) where
       let same : p ≡ one = the_one one split.1 before.others in
       let after = now (subst (λ n. InOrderNow o.way n) (sym same) before) in
       let ways : (object_after s.size (s.history ++ step_entries step p k e)).way
-          ≡ (fold after_entry o (step_entries step p k e)).way =
+      ≡ (fold after_entry o (step_entries step p k e)).way =
       ap (λ (x : Pool). x.way) (fold-append after_entry (opening s.size) s.history (step_entries step p k e)) in
       subst (λ (z : List ℕ × ℕ).
       InOrder (queue_after step s.queue p k found) (loads_after (row_of step) s.loads p e)
@@ -325,7 +325,8 @@ module _ (s : PoolShape) (p k e : ℕ) (is : IsPool s) (was : IsInOrder s) where
   left-kept : (found new : CoreCell) → slice_get s.queue.cells k ≡ Some found → has_left found ≡ has_left new
       → picked (element_in s.payloads) 0 (set s.queue.cells k new) ≡ elements_left s.queue s.payloads
   left-kept found new there same =
-      picked-kept (element_in s.payloads) (element_in s.payloads) k (agree-same s.payloads k) 0 s.queue.cells k found new
+      picked-kept (element_in s.payloads) (element_in s.payloads) k (agree-same s.payloads k) 0 s.queue.cells k found
+      new
       (omega arith) there (ap (λ b. left_in b (s.payloads k)) same)
 
   -- a number is drawn to suspend at
@@ -466,7 +467,8 @@ module _ (s : PoolShape) (p k e : ℕ) (is : IsPool s) (was : IsInOrder s) where
       (λ i. ways i ++ sym loaded i ∷ []) before)
   steps-order installs (Some found) may w paid =
       order-of installs (Some found) (λ one by others. at-one (doing.Drawn k) w.0.does (λ e. absurd (cc)) one others)
-      (kept-order (row_at installs) found o.way refl w.0 (λ x. absurd (cc)) (ap is_left w.0.at) (λ j x. absurd (cc)) refl refl)
+      (kept-order (row_at installs) found o.way refl w.0 (λ x. absurd (cc)) (ap is_left w.0.at)
+      (λ j x. absurd (cc)) refl refl)
   steps-order takes (Some found) may w paid =
       order-of takes (Some found) (λ one by others. at-one (doing.Drawn k) w.0.does (λ e. absurd (cc)) one others)
       (λ before.
@@ -474,7 +476,7 @@ module _ (s : PoolShape) (p k e : ℕ) (is : IsPool s) (was : IsInOrder s) where
       let own : IsOwn s.queue p k IsUntaken = is.sound.passes.at p (doing.Drawn k) w.0.does in
       let was_left : has_left found ≡ true = rw w.0.at refl in
       let first : elements_left s.queue s.payloads
-          ≡ s.payloads k ∷ picked (element_in s.payloads) 0 (set s.queue.cells k new) =
+      ≡ s.payloads k ∷ picked (element_in s.payloads) 0 (set s.queue.cells k new) =
       picked-went (element_in s.payloads) 0 s.queue.cells k k found new (s.payloads k) (omega arith) w.0.finds
       (left-some s.payloads k found was_left) refl
       (λ j m cell at low got.
@@ -541,16 +543,19 @@ module _ (s : PoolShape) (p k e : ℕ) (is : IsPool s) (was : IsInOrder s) where
       subst (λ (x : CoreState). IsSoundAt s.queue k found x) w.0.at (is.sound.cells.at k found w.0.finds) in
       absurd (none-cancelling s.queue is.sound p before.others k k found w.0.does cell.0))
   steps-order passes_over (Some found) may w paid =
-      order-of passes_over (Some found) (λ one by others. at-one (doing.Ticket k) w.0.does (λ e. absurd (cc)) one others)
+      order-of passes_over (Some found)
+      (λ one by others. at-one (doing.Ticket k) w.0.does (λ e. absurd (cc)) one others)
       (kept-order (row_at passes_over) found o.way refl w.0 (λ x. absurd (cc)) refl (λ j x. absurd (cc)) refl refl)
   steps-order ends_refused (Some found) may w paid = absurd (pool-none_refused s p k is found w.0)
   steps-order leaves_line (Some found) may w paid =
       order-of leaves_line (Some found) (λ one by others. named-one p one (entry.Leave p k) (eq-eqb p p refl) by)
-      (kept-order (row_at leaves_line) found o.way refl w.0 (λ x. absurd (cc)) (ap is_left w.0.at) (λ j x. absurd (cc)) refl refl)
+      (kept-order (row_at leaves_line) found o.way refl w.0 (λ x. absurd (cc)) (ap is_left w.0.at)
+      (λ j x. absurd (cc)) refl refl)
   steps-order settles (Some found) may w paid =
       order-of settles (Some found)
       (λ one by others. at-one (doing.Decided k true) w.0.does (λ e. absurd (cc)) one others)
-      (kept-order (row_at settles) found o.way refl w.0 (λ x. absurd (cc)) (ap is_left w.0.at) (λ j x. absurd (cc)) refl refl)
+      (kept-order (row_at settles) found o.way refl w.0 (λ x. absurd (cc)) (ap is_left w.0.at)
+      (λ j x. absurd (cc)) refl refl)
   steps-order settles_owing (Some found) may w paid =
       order-of settles_owing (Some found)
       (λ one by others. at-one (doing.Decided k true) w.0.does (λ e. absurd (cc)) one others)
@@ -633,7 +638,7 @@ first-taken s p k cell is orders by there at low =
     value-drawn s.queue is.sound p order.others k cell sound.0 low in
     let left : has_left cell ≡ true = rw at refl in
     let first : elements_left s.queue s.payloads
-        ≡ s.payloads k ∷ picked (element_in s.payloads) 0 (set s.queue.cells k fresh_cell) =
+    ≡ s.payloads k ∷ picked (element_in s.payloads) 0 (set s.queue.cells k fresh_cell) =
     picked-went (element_in s.payloads) 0 s.queue.cells k k cell fresh_cell (s.payloads k) (omega arith) there
     (left-some s.payloads k cell left) refl
     (λ j m x is_at before got.
@@ -641,7 +646,7 @@ first-taken s p k cell is orders by there at low =
     (none-left s.queue is.sound p order.others k j x x.state drawn (λ e. omega arith) (omega arith)
     (is.sound.cells.at j x got) (order.undelegated.at j x got))) in
     let ways : (object_after s.size s.history).way
-        ≡ s.payloads k ∷ picked (element_in s.payloads) 0 (set s.queue.cells k fresh_cell) =
+    ≡ s.payloads k ∷ picked (element_in s.payloads) 0 (set s.queue.cells k fresh_cell) =
     order.way ∙ ap (λ d. elements_left s.queue s.payloads ++ brought d (slice_index s.loads p)) drawn
     ∙ append-nil _ ∙ first in
     subst (λ l. IsFirstOnWay (s.payloads k) l) (sym ways) refl

@@ -1,7 +1,7 @@
--- The order in which the elements are on their way, as long as one caller alone has made calls. They
--- stand in the cells that the next takers will draw, and last comes the one that the caller brings.
--- So a taker has the first of them: at the start they are in order of their numbers, and each that
--- is put goes last.
+-- The order in which the elements are on their way, as long as one caller alone has made calls.
+-- They stand in the cells that the next takers will draw, and last comes the one that the caller
+-- brings. So a taker has the first of them: at the start they are in order of their numbers, and
+-- each that is put goes last.
 use Rattle.std.specs.Prelude.{◌≡◌, ◌≢◌, ℕ, ◌+◌, ◌<◌, Bool, true, false, List, [], ◌∷◌, ◌++◌, Option, Some, None, slice_get, slice_index, if◌then◌else◌}
 use Rattle.cqs_core.specs.declared.cells.CoreCell.{CoreCell}
 use Rattle.cqs_core.specs.declared.cells.CoreState.TheVariants as state

@@ -9,13 +9,13 @@ placed_by-requires g c = never-refused _ _ _ _ _ c.resume_from.result c.resume_f
 
 pub returns-clause-called : goal.returns-clause-called
 returns-clause-called g c =
-    put-rule _ _ _ _ _ _ c.put_element.ensures.saw
+    put-rule _ _ _ _ _ _ c.put_element-number.ensures.saw
     (c.resume_from.result, c.placed_by.ensures, c.resume_from.ensures.resumed) c.requires.belongs.live.own
     c.resume_from.ensures.belongs.live.legal
 
 pub returns-clause-ends : goal.returns-clause-ends
 returns-clause-ends g c =
-    put-ends _ _ _ _ _ _ c.requires.ready c.put_element.ensures.saw
+    put-ends _ _ _ _ _ _ c.requires.ready c.put_element-number.ensures.saw
     (c.resume_from.result, c.placed_by.ensures, c.resume_from.ensures.resumed)
 
 pub returns-clause-alone : goal.returns-clause-alone

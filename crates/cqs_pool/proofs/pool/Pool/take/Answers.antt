@@ -1,6 +1,6 @@
 use Rattle.std.proofs.Common.{[], ◌∙◌, arith}
 use Rattle.cqs_rule.specs.Waits.{place_of}
-use Rattle.cqs_pool.proofs.AloneSteps.{quiet, plain-took, plain-later, took-first}
+use Rattle.cqs_pool.proofs.AloneSteps.{quiet, plain-took, plain-later, took-first, new-alone}
 use Rattle.cqs_pool.proofs.Counters.{next-is}
 use Rattle.cqs_pool.proofs.Rules.{call-rule_own}
 use Rattle.cqs_pool.proofs.TakeSteps.{worn, loaded-called, took-called, took-below, took-cell, took-rests, waits-called, waits-below, waits-cell, waits-rests}
@@ -75,3 +75,10 @@ pub returns-in-Took-clause-first : goal.returns-in-Took-clause-first
 returns-in-Took-clause-first g c = λ only.
     took-first _ _ c.in-Took.number c.in-Took.payload (returns-in-Took-clause-called g c) only
     (returns-in-Took-clause-took g c).0
+
+pub returns-in-Took-clause-new : goal.returns-in-Took-clause-new
+returns-in-Took-clause-new g c = λ alone.
+    let rule = returns-in-Took-clause-called g c in
+    let rests = (returns-in-Took-clause-took g c).1 in
+    new-alone _ c.in-Took.payload _ c.in-Took.ensures.belongs.alone c.enter.new.pass.live.0
+    (rule.called.same.alone ∙ alone) rests.elements_are

@@ -7,8 +7,6 @@ mod core_calls;
 #[cfg(test)]
 mod packed_words;
 #[cfg(test)]
-mod pools;
-#[cfg(test)]
 mod queue_calls;
 #[cfg(test)]
 mod queue_rows;

@@ -2,7 +2,7 @@ use Rattle.std.proofs.Common.{sym, subst}
 use Rattle.cqs_rule.specs.Lists.{Has}
 use Rattle.cqs_rule.specs.Waits.{place_of}
 use Rattle.cqs_pool.proofs.Courses.{wait-kept}
-use Rattle.cqs_tests.proofs.pools.send.Goals as goal
+use Rattle.cqs_pool_tests.proofs.pools.send.Goals as goal
 
 -- a put closes no wait
 pub returns-clause-waits : goal.returns-clause-waits

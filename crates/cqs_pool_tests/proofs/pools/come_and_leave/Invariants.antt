@@ -1,7 +1,7 @@
 use Rattle.std.proofs.Common.{◌≡◌}
 use Rattle.cqs_rule.specs.Passes.{pass_view}
 use Rattle.cqs_pool.specs.Calls.{IsReady, IsMine}
-use Rattle.cqs_tests.proofs.pools.come_and_leave.Given as goal
+use Rattle.cqs_pool_tests.proofs.pools.come_and_leave.Given as goal
 
 -- between two of them the pass is one of the pool, and ready, and has what it had
 abbrev pub invariant-loop-number : goal.invariant-loop-number

@@ -3,7 +3,7 @@
 ghost use Rattle.std.specs.Prelude.{◌≡◌};
 ghost use Rattle.cqs_rule.specs.Passes.{pass_view};
 ghost use Rattle.cqs_rule.specs.Waits.{HasWait};
-ghost use Rattle.cqs_pool.specs.Answers.{IsFirstInHand};
+ghost use Rattle.cqs_pool.specs.Answers.{IsInHand};
 ghost use Rattle.cqs_pool.specs.Calls.{IsReady, IsMine};
 ghost use Rattle.cqs_pool.specs.Elements.{number_of};
 
@@ -24,7 +24,7 @@ fn take_now(rt: &impl Abort, pool: &Pool, pass: &mut PoolPass, number: u32) -> E
     requires ready { IsReady (pass_view pass.old).facts }
     ensures belongs { IsMine pool.now pass.new }
     ensures ready { IsReady (pass_view pass.new).facts }
-    ensures first { IsFirstInHand (number_of result) (pass_view pass.new).facts }
+    ensures has { IsInHand (number_of result) (pass_view pass.new).facts }
 {
     let Ok(Taking::Took(element)) = pool.take(pass) else {
         panic!(rt; "an element stands in the cell of the number");
@@ -76,7 +76,7 @@ fn send(
 ) -> Wait
     requires belongs { IsMine pool.now pass.old }
     requires ready { IsReady (pass_view pass.old).facts }
-    requires first { IsFirstInHand (number_of element) (pass_view pass.old).facts }
+    requires has { IsInHand (number_of element) (pass_view pass.old).facts }
     requires waits { HasWait (pass_view pass.old) wait }
     ensures belongs { IsMine pool.now pass.new }
     ensures ready { IsReady (pass_view pass.new).facts }
@@ -93,7 +93,7 @@ fn send(
 fn free(rt: &impl Abort, pool: &Pool, pass: &mut PoolPass, element: Element, number: u64)
     requires belongs { IsMine pool.now pass.old }
     requires ready { IsReady (pass_view pass.old).facts }
-    requires first { IsFirstInHand (number_of element) (pass_view pass.old).facts }
+    requires has { IsInHand (number_of element) (pass_view pass.old).facts }
     ensures belongs { IsMine pool.now pass.new }
     ensures ready { IsReady (pass_view pass.new).facts }
 {
@@ -110,7 +110,7 @@ fn look(rt: &impl Abort, pool: &Pool, pass: &mut PoolPass, wait: Wait, number: u
     requires waits { HasWait (pass_view pass.old) wait }
     ensures belongs { IsMine pool.now pass.new }
     ensures ready { IsReady (pass_view pass.new).facts }
-    ensures first { IsFirstInHand (number_of result) (pass_view pass.new).facts }
+    ensures has { IsInHand (number_of result) (pass_view pass.new).facts }
 {
     let PoolPolled::Granted(element) = pool.poll(pass, wait) else {
         panic!(rt; "the element was sent to the waiter");

@@ -1,0 +1,7 @@
+//! Tests of a pool, call by call. Their expected values were worked out by hand.
+#![tactic(auto)]
+
+#[cfg(test)]
+mod elements;
+#[cfg(test)]
+mod pools;

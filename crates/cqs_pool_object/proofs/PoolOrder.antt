@@ -285,7 +285,7 @@ module _ (s : PoolShape) (p k e : ℕ) (is : IsPool s) (was : IsInOrder s) where
       let same : p ≡ one = the_one one split.1 before.others in
       let after = now (subst (λ n. InOrderNow o.way n) (sym same) before) in
       let ways : (object_after s.size (s.history ++ step_entries step p k e)).way
-          ≡ (fold after_entry o (step_entries step p k e)).way =
+      ≡ (fold after_entry o (step_entries step p k e)).way =
       ap (λ (x : Pool). x.way) (fold-append after_entry (opening s.size) s.history (step_entries step p k e)) in
       subst (λ (z : List ℕ × ℕ).
       InOrder (queue_after step s.queue p k found) (loads_after (row_of step) s.loads p e)
@@ -476,7 +476,7 @@ module _ (s : PoolShape) (p k e : ℕ) (is : IsPool s) (was : IsInOrder s) where
       let own : IsOwn s.queue p k IsUntaken = is.sound.passes.at p (doing.Drawn k) w.0.does in
       let was_left : has_left found ≡ true = rw w.0.at refl in
       let first : elements_left s.queue s.payloads
-          ≡ s.payloads k ∷ picked (element_in s.payloads) 0 (set s.queue.cells k new) =
+      ≡ s.payloads k ∷ picked (element_in s.payloads) 0 (set s.queue.cells k new) =
       picked-went (element_in s.payloads) 0 s.queue.cells k k found new (s.payloads k) (omega arith) w.0.finds
       (left-some s.payloads k found was_left) refl
       (λ j m cell at low got.
@@ -638,7 +638,7 @@ first-taken s p k cell is orders by there at low =
     value-drawn s.queue is.sound p order.others k cell sound.0 low in
     let left : has_left cell ≡ true = rw at refl in
     let first : elements_left s.queue s.payloads
-        ≡ s.payloads k ∷ picked (element_in s.payloads) 0 (set s.queue.cells k fresh_cell) =
+    ≡ s.payloads k ∷ picked (element_in s.payloads) 0 (set s.queue.cells k fresh_cell) =
     picked-went (element_in s.payloads) 0 s.queue.cells k k cell fresh_cell (s.payloads k) (omega arith) there
     (left-some s.payloads k cell left) refl
     (λ j m x is_at before got.
@@ -646,7 +646,7 @@ first-taken s p k cell is orders by there at low =
     (none-left s.queue is.sound p order.others k j x x.state drawn (λ e. omega arith) (omega arith)
     (is.sound.cells.at j x got) (order.undelegated.at j x got))) in
     let ways : (object_after s.size s.history).way
-        ≡ s.payloads k ∷ picked (element_in s.payloads) 0 (set s.queue.cells k fresh_cell) =
+    ≡ s.payloads k ∷ picked (element_in s.payloads) 0 (set s.queue.cells k fresh_cell) =
     order.way ∙ ap (λ d. elements_left s.queue s.payloads ++ brought d (slice_index s.loads p)) drawn
     ∙ append-nil _ ∙ first in
     subst (λ l. IsFirstOnWay (s.payloads k) l) (sym ways) refl

@@ -80,7 +80,8 @@ module _ {T : Type 0} where
         waits_are = is.3.waits_are ∙ (j.rests.waits_are
             ∙ ap (λ a. v.facts.waits ++ a.index ∷ []) same);
       } in
-      let came = λ (a : Place). came_entries v.number a.index ++ entry.LookPending v.number (place_of again).index ∷ [] in
+      let came = λ (a : Place).
+          came_entries v.number a.index ++ entry.LookPending v.number (place_of again).index ∷ [] in
       let course = subst (λ a. Course v (came a) w)
       same
       (looked-then entry.LookPending v m w _ _ _ j.course same (course-call m w _ _ c)) in

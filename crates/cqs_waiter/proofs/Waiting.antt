@@ -81,7 +81,7 @@ module _ {T : Type 0} where
             ∙ ap (λ a. v.facts.waits ++ a.index ∷ []) same);
       } in
       let came = λ (a : Place).
-          came_entries v.number a.index ++ entry.LookPending v.number (place_of again).index ∷ [] in
+      came_entries v.number a.index ++ entry.LookPending v.number (place_of again).index ∷ [] in
       let course = subst (λ a. Course v (came a) w)
       same
       (looked-then entry.LookPending v m w _ _ _ j.course same (course-call m w _ _ c)) in

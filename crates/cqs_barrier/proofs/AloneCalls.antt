@@ -1,5 +1,5 @@
 -- The calls of a pass that is alone are the plain barrier's.
-use Rattle.std.proofs.Common.{◌≡◌, ◌≢◌, ◌⊎◌, inl, inr, ℕ, suc, ◌+◌, ◌-◌, ◌<◌, ◌≤◌, ◌==◌, true, false, List, [], ◌∷◌, ◌++◌, length, Option, Some, None, Ok, Err, slice_get, sym, refl, ap, ◌∙◌, subst, arith, sum, count_by, get_or, cond, ⊎_elim, ne_eqb, eq-eqb, zero-add}
+use Rattle.std.proofs.Common.{◌≡◌, ◌≢◌, ◌⊎◌, inl, inr, ℕ, suc, ◌+◌, ◌-◌, ◌<◌, ◌≤◌, true, false, List, [], ◌∷◌, ◌++◌, Option, Some, None, slice_get, sym, refl, ap, ◌∙◌, subst, arith, count_by, get_or, cond, ne_eqb, eq-eqb, zero-add}
 use Rattle.std.specs.List.{fold}
 use Rattle.std.proofs.lemmas.Bool.{cases_lt}
 use Rattle.std.proofs.lemmas.List.{append-nil, append_cancel_right}
@@ -20,12 +20,11 @@ use Rattle.cqs_core.proofs.Rising.{in-none}
 use Rattle.cqs_core.proofs.Waits.{found-waits}
 use Rattle.cqs_barrier_object.specs.declared.entries.BarrierEntry.{BarrierEntry}
 use Rattle.cqs_barrier_object.specs.declared.entries.BarrierEntry.TheVariants as entry
-use Rattle.cqs_barrier_object.specs.BarrierEntries.{object_after, after_entry, IsLegal, IsAllowed}
+use Rattle.cqs_barrier_object.specs.BarrierEntries.{object_after, after_entry, IsLegal}
 use Rattle.cqs_barrier_object.specs.BarrierObject.{Barrier}
 use Rattle.cqs_barrier_object.specs.SoleCaller as plain
 use Rattle.cqs_barrier_object.specs.SoleCaller.{tells, delivers, sole_arrive, sole_poll, sole_cancel, look_at, leave_at, numbers_of}
 use Rattle.cqs_rule.specs.declared.queue.tokens.Wait.{Wait}
-use Rattle.cqs_rule.specs.declared.view.Opening.{Opening}
 use Rattle.cqs_rule.specs.declared.view.View.{View}
 use Rattle.cqs_rule.specs.Alone.{IsAlone}
 use Rattle.cqs_rule.specs.Hidden.{state_in}
@@ -39,21 +38,20 @@ use Rattle.cqs_barrier.specs.declared.answers.PartyLeft.{PartyLeft}
 use Rattle.cqs_barrier.specs.declared.answers.PartyLeft.TheVariants.{Withdrawn, TooLate, Contended}
 use Rattle.cqs_barrier.specs.declared.answers.PartyPolled.{PartyPolled}
 use Rattle.cqs_barrier.specs.declared.answers.PartyPolled.TheVariants.{Through, Pending}
-use Rattle.cqs_barrier.specs.Alone.{IsPlainArrive, IsPlainFinish, IsPlainPoll, IsPlainCancel, IsBegun}
+use Rattle.cqs_barrier.specs.Alone.{IsPlainArrive, IsPlainFinish, IsPlainPoll, IsPlainCancel}
 use Rattle.cqs_barrier.specs.Answers.{IsPolled}
 use Rattle.cqs_barrier.specs.Arriving.{WaitsForOthers}
-use Rattle.cqs_barrier.specs.Barrier.{barrier_shown}
 use Rattle.cqs_barrier.specs.Calls.{CallRule, IsReady, plain_after, waiting_in}
 use Rattle.cqs_barrier.specs.Causes.{primitive_of, CellWas}
 use Rattle.cqs_barrier.specs.Entries.{polled_entries}
 use Rattle.cqs_barrier.specs.Leaving.{HasLeft}
 use Rattle.cqs_barrier.specs.Parties.{parties_of}
-use Rattle.cqs_barrier.specs.Resuming.{HasOwing, OwesMore, Ran, RanAll}
+use Rattle.cqs_barrier.specs.Resuming.{Ran, RanAll}
 use Rattle.cqs_barrier.specs.Waits.{wait_in}
 use Rattle.cqs_barrier.specs.Word.{remaining_in}
 use Rattle.cqs_barrier.proofs.AloneLine.{nobody-waits, shape_of, sees-remaining}
-use Rattle.cqs_barrier.proofs.AloneOrder.{KnowsAlone, Legal, legal-alone, allowed-at}
-use Rattle.cqs_barrier.proofs.ArriveSteps.{Came, last-called, came-early, came-meanwhile}
+use Rattle.cqs_barrier.proofs.AloneOrder.{KnowsAlone, legal-alone, allowed-at}
+use Rattle.cqs_barrier.proofs.ArriveSteps.{Came, came-early, came-meanwhile}
 use Rattle.cqs_barrier.proofs.FinishSteps.{finish_answer, ran-finished}
 
 -- nobody is found under a number at which nothing is read
@@ -116,7 +114,8 @@ owing-some passes p ticket there =
 
 module _ {T : Type 0} where
   -- an arrival of the last
-  served-all : (v w : View BarrierEntry T) (o : Barrier) (ks : List ℕ) → plain_after w ≡ fold after_entry o (delivers ks)
+  served-all : (v w : View BarrierEntry T) (o : Barrier) (ks : List ℕ)
+      → plain_after w ≡ fold after_entry o (delivers ks)
       → o.remaining ≡ 0 → KnowsAlone w → w.alone ≡ true → w.facts.doing ≡ doing.Idle → w.facts.has.further ≡ 0
       → waiting_in w ≡ []
   served-all v w o ks now over knows alone idle none =

@@ -1,9 +1,9 @@
 -- What a pass sees that is alone and idle: nobody waits whose number a resume has reached, and where all have arrived
 -- nobody waits.
-use Rattle.std.proofs.Common.{◌≡◌, ◌≢◌, ◌⊎◌, inl, inr, ℕ, zero, suc, ◌+◌, ◌-◌, ◌<◌, ◌≤◌, ◌==◌, nat_lt, Bool, true, false, not, List, [], ◌∷◌, ◌++◌, length, Option, Some, None, slice_get, take, sym, refl, ap, ◌∙◌, subst, arith, map, sum, count_by, get_or, ⊎_elim, ne_eqb, eq-eqb, zero-add, if◌then◌else◌}
-use Rattle.std.proofs.lemmas.Bool.{cases_eq, cases_lt}
-use Rattle.std.proofs.lemmas.List.Sums.{sum_by-cons, get_or-le-sum_by}
-use Rattle.std.proofs.lemmas.Option.{same_Some, get_or_from_slice_get}
+use Rattle.std.proofs.Common.{◌≡◌, ◌≢◌, ◌⊎◌, inl, inr, ℕ, suc, ◌+◌, ◌<◌, ◌≤◌, nat_lt, Bool, true, false, not, List, [], ◌∷◌, length, Option, Some, None, slice_get, sym, refl, ap, ◌∙◌, subst, arith, sum, ⊎_elim, ne_eqb, eq-eqb, zero-add, if◌then◌else◌}
+use Rattle.std.proofs.lemmas.Bool.{cases_eq}
+use Rattle.std.proofs.lemmas.List.Sums.{sum_by-cons}
+use Rattle.std.proofs.lemmas.Option.{same_Some}
 use mathlib.Core.Logic.{dite}
 use native.Mathlib.Decide.{ℕ_discrete}
 use Rattle.cqs_core.specs.declared.cells.CoreCell.{CoreCell}
@@ -16,26 +16,25 @@ use Rattle.cqs_core.specs.Numbered.{IsIn, picked, cons_option}
 use Rattle.cqs_core.specs.QueueLine as queue
 use Rattle.cqs_core.specs.QueueLine.{Waiting, Service, in_line, is_served, service_of, is_resuming, going}
 use Rattle.cqs_core.specs.QueueState.{Queue}
-use Rattle.cqs_core.specs.QueueWaiters.{Waits, Waiters, waiters, find_wait, with_service}
+use Rattle.cqs_core.specs.QueueWaiters.{Waits, Waiters, waiters}
 use Rattle.cqs_core.specs.Resting.{IsIdle}
 use Rattle.cqs_core.specs.QueueSound.{IsSound}
 use Rattle.cqs_core.proofs.LineReads.{line-keyed}
 use Rattle.cqs_core.proofs.Picked.{IsKeyed}
-use Rattle.cqs_core.proofs.Places.{get-below, get-there}
-use Rattle.cqs_core.proofs.Quiet.{IsQuietAt, quiet-cell, cases_waiter, not-in_line, waits-ahead, behind, none-going, nobody-at_door}
+use Rattle.cqs_core.proofs.Places.{get-below}
+use Rattle.cqs_core.proofs.Quiet.{IsQuietAt, quiet-cell, cases_waiter, not-in_line, waits-ahead, behind, none-going}
 use Rattle.cqs_core.proofs.Rising.{IsRising, rising-lower, rising-lacks, lacks-in, in-none, in-behind}
-use Rattle.cqs_rule.specs.declared.view.Has.{Has}
 use Rattle.cqs_rule.specs.declared.view.Opening.{Opening}
 use Rattle.cqs_rule.specs.declared.view.View.{View}
 use Rattle.cqs_rule.specs.Alone.{IsAlone}
 use Rattle.cqs_barrier_object.specs.declared.entries.BarrierEntry.{BarrierEntry}
 use Rattle.cqs_barrier_object.specs.BarrierEntries.{object_after}
 use Rattle.cqs_barrier_object.specs.BarrierObject.{Barrier}
-use Rattle.cqs_barrier_object.specs.BarrierShown.{Shape, IsBarrier}
+use Rattle.cqs_barrier_object.specs.BarrierShown.{Shape}
 use Rattle.cqs_barrier_object.specs.SoleCaller.{numbers_of}
 use Rattle.cqs_barrier.specs.Barrier.{barrier_shown, further_of}
 use Rattle.cqs_barrier.specs.BarrierClient.{further-at}
-use Rattle.cqs_barrier.specs.Calls.{plain_after, waiting_in}
+use Rattle.cqs_barrier.specs.Calls.{plain_after}
 use Rattle.cqs_barrier.specs.Causes.{primitive_of}
 use Rattle.cqs_barrier.specs.Parties.{parties_of}
 

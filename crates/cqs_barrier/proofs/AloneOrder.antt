@@ -5,7 +5,7 @@ use Rattle.std.proofs.lemmas.List.Sums.{fold-append}
 use Rattle.cqs_core.specs.declared.doings.Doing.TheVariants as doing
 use Rattle.cqs_core.specs.Keyed.{placed}
 use Rattle.cqs_core.specs.Numbered.{IsIn}
-use Rattle.cqs_core.specs.QueueLine.{Waiting, Service}
+use Rattle.cqs_core.specs.QueueLine.{Service}
 use Rattle.cqs_core.specs.QueueWaiters.{Waits, Waiters, waiters, with_service, is_reached}
 use Rattle.cqs_core.proofs.Places.{get-append_left, get-push_at}
 use Rattle.cqs_core.proofs.Rising.{in-take}
@@ -22,7 +22,7 @@ use Rattle.cqs_rule.specs.Called.{Called}
 use Rattle.cqs_barrier.specs.Barrier.{barrier_object}
 use Rattle.cqs_barrier.specs.Calls.{plain_after, waiting_in}
 use Rattle.cqs_barrier.specs.Causes.{primitive_of}
-use Rattle.cqs_barrier.proofs.AloneLine.{number_in, first-in, in-placed, line-ahead, served-reached, sees, line-rising, all-idle}
+use Rattle.cqs_barrier.proofs.AloneLine.{first-in, in-placed, line-ahead, served-reached, sees, line-rising, all-idle}
 
 -- an entry of a legal history may come after those before it
 pub allowed-at : (size : ℕ) (h mid rest all : List BarrierEntry) (e : BarrierEntry) → all ≡ h ++ (mid ++ e ∷ rest)

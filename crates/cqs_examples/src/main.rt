@@ -7,13 +7,14 @@ use cqs_plan::{SureSink, SureSource};
 use std::fs;
 use std::rt::Files;
 
-const NAMES: [&str; 6] = [
+const NAMES: [&str; 7] = [
     "empty",
     "two-jobs",
     "connection-pool",
     "nightly-batch",
     "job-server",
     "release",
+    "log-file",
 ];
 
 /// The most that a report of an example takes.

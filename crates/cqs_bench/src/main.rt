@@ -10,7 +10,7 @@ mod rounds;
 
 ghost use Rattle.std.specs.Prelude.{◌≡◌};
 ghost use Rattle.cqs_plan.specs.Floor.{opening_floor};
-ghost use Rattle.cqs_plan.specs.Runnable.{AreSemaphores, IsRunnable};
+ghost use Rattle.cqs_plan.specs.Runnable.{AreBuilt, IsRunnable};
 
 use cqs_cli::{CoreFloor, QueueFloor};
 use cqs_plan::{Floor, Plan, read_plan};
@@ -88,7 +88,7 @@ fn run_on<F: Floor>(alloc: Global, plan: &Plan, floor: &mut F) -> anyhow::Result
 /// The run of a plan as the program runs it, on the running queue, with the making of its floor.
 fn run(alloc: Global, plan: &Plan) -> anyhow::Result<Report>
     requires runnable { IsRunnable plan.now }
-    requires semaphores { AreSemaphores plan.now.resources }
+    requires built { AreBuilt plan.now.resources }
 {
     let Ok(mut floor) = QueueFloor::new(alloc, plan) else {
         anyhow::bail!("no memory for the floor");
@@ -99,7 +99,7 @@ fn run(alloc: Global, plan: &Plan) -> anyhow::Result<Report>
 /// The same on cores.
 fn run_on_cores(alloc: Global, plan: &Plan) -> anyhow::Result<Report>
     requires runnable { IsRunnable plan.now }
-    requires semaphores { AreSemaphores plan.now.resources }
+    requires built { AreBuilt plan.now.resources }
 {
     let Ok(mut floor) = CoreFloor::new(alloc, plan) else {
         anyhow::bail!("no memory for the floor");

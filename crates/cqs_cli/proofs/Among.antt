@@ -98,14 +98,14 @@ module _ {X W Y V : Type 0} (s : Sole X W) (t : Sole Y V) (f : X → Y) (g : W �
 
     pub acquires-among : (answer : Option W) → Acquires s x answer y
         → Acquires t (f x) (option_map g answer) (f y)
-    acquires-among None made kind room waiting held funded some =
+    acquires-among None made = λ kind room waiting held funded some.
         let m = made kind room waiting held (among.funded x _ _ _ _ funded) some in
         record {
           free = ap (λ (o : Semaphore). nat_lt 0 o.free) (object-among kind x) ∙ m.free;
           goes = goes-among _ _ _ _ _ m.goes;
           keeps = keeps-among m.keeps;
         }
-    acquires-among (Some w) made kind room waiting held funded some =
+    acquires-among (Some w) made = λ kind room waiting held funded some.
         let m = made kind room waiting held (among.funded x _ _ _ _ funded) some in
         let is : (object s kind x).next ≡ (object t kind (f x)).next =
         ap (λ (o : Semaphore). o.next) (sym (object-among kind x)) in
@@ -118,14 +118,14 @@ module _ {X W Y V : Type 0} (s : Sole X W) (t : Sole Y V) (f : X → Y) (g : W �
         }
 
     pub releases-among : (answer : Option ℕ) → Releases s x answer y → Releases t (f x) answer (f y)
-    releases-among None made kind room waiting held funded some =
+    releases-among None made = λ kind room waiting held funded some.
         let m = made kind room waiting held (among.funded x _ _ _ _ funded) some in
         record {
           empty = ap (λ (o : Semaphore). o.line) (object-among kind x) ∙ m.empty;
           goes = goes-among _ _ _ _ _ m.goes;
           keeps = keeps-among m.keeps;
         }
-    releases-among (Some k) made kind room waiting held funded some =
+    releases-among (Some k) made = λ kind room waiting held funded some.
         let m = made kind room waiting held (among.funded x _ _ _ _ funded) some in
         record {
           first = subst (λ (o : Semaphore). IsFirst k o.line) (sym (object-among kind x)) m.first;
@@ -162,15 +162,15 @@ module _ {X W Y V : Type 0} (s : Sole X W) (t : Sole Y V) (f : X → Y) (g : W �
             keeps = keeps-among m.keeps;
           },
     )
-    polls-among w None made kind room waiting held funded some =
+    polls-among w None made = λ kind room waiting held funded some.
         ends-among w false (entry.LookGranted 0) _ _ _ _
         (made kind room waiting held (among.funded x _ _ _ _ funded) some)
 
     pub cancels-among : (w : W) (answer : Bool) → Cancels s x w answer y → Cancels t (f x) (g w) answer (f y)
-    cancels-among w true made kind room waiting held funded some =
+    cancels-among w true made = λ kind room waiting held funded some.
         ends-among w true (entry.Leave 0) _ _ _ _
         (made kind room waiting held (among.funded x _ _ _ _ funded) some)
-    cancels-among w false made kind room waiting held funded some =
+    cancels-among w false made = λ kind room waiting held funded some.
         ends-among w false (entry.Late 0) _ _ _ _
         (made kind room waiting held (among.funded x _ _ _ _ funded) some)
 

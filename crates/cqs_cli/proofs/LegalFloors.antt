@@ -35,7 +35,12 @@ module _ {X W : Type 0} (s : Sole X W) (lawful : IsLawful s) where
       let OfKind : Option Kind → Type 0 = λ k. IsLegal (permits_of k) (s.entries funds.sole) in
       let Of : List Entry → Type 0 = IsLegal permits in
       subst Of (sym (entries-at s l.soles at funds.sole funds.there)) (subst OfKind is legal)
-  legal-at l kept at kind.Mutex is = absurd (omega (arith, some-permits l at kind.Mutex kept is))
+  legal-at l kept at kind.Mutex is =
+      let funds = sole-of l at kind.Mutex kept is in
+      let legal = lawful.legal funds.sole _ _ _ _ funds.funded in
+      let OfKind : Option Kind → Type 0 = λ k. IsLegal (permits_of k) (s.entries funds.sole) in
+      let Of : List Entry → Type 0 = IsLegal 1 in
+      subst Of (sym (entries-at s l.soles at funds.sole funds.there)) (subst OfKind is legal)
   legal-at l kept at (kind.Pool elements) is = absurd (omega (arith, some-permits l at (kind.Pool elements) kept is))
   legal-at l kept at (kind.Latch count) is = absurd (omega (arith, some-permits l at (kind.Latch count) kept is))
   legal-at l kept at (kind.Rounds parties rounds) is =

@@ -1,14 +1,18 @@
 -- A mutex of the running queue with its one pass is a semaphore of one permit, as a floor needs it.
-use Rattle.std.proofs.Common.{◌≡◌, ℕ, ◌+◌, ◌-◌, true, false, List, [], ◌∷◌, ◌++◌, Option, Some, None, Ok, length, vec_capacity, refl, ap, sym, ◌∙◌, subst}
+use Rattle.std.proofs.Common.{◌≡◌, ℕ, ◌+◌, ◌-◌, ◌≤◌, true, false, List, [], ◌∷◌, ◌++◌, Option, Some, None, Ok, length, vec_capacity, refl, ap, sym, ◌∙◌, subst, lit<, lit≤, arith}
 use Rattle.cqs_core.specs.declared.entries.Entry.{Entry}
 use Rattle.cqs_core.specs.declared.entries.Entry.TheVariants as entry
-use Rattle.cqs_core.specs.SemaphoreEntries.{IsFirst}
-use Rattle.cqs_core.specs.SemaphoreObject.{Semaphore}
+use Rattle.cqs_core.specs.SemaphoreEntries.{IsFirst, object_after}
+use Rattle.cqs_core.specs.SemaphoreObject.{Semaphore, opening}
+use Rattle.cqs_plan.specs.declared.plans.kind.Kind.TheVariants as kind
+use Rattle.cqs_rule.specs.declared.config.Config.{Config}
 use Rattle.cqs_rule.specs.declared.queue.tokens.Under.{Under as Token}
 use Rattle.cqs_rule.specs.declared.queue.tokens.Wait.{Wait}
 use Rattle.cqs_rule.specs.declared.semaphore.carries.Kept.{Kept}
 use Rattle.cqs_rule.specs.declared.view.Facts.{Facts}
+use Rattle.cqs_rule.specs.declared.view.Opening.{Opening}
 use Rattle.cqs_rule.specs.declared.view.View.{View}
+use Rattle.cqs_rule.specs.Lists.{Has}
 use Rattle.cqs_rule.specs.Passes.{pass_view}
 use Rattle.cqs_rule.specs.SlotSteps.{Swapped}
 use Rattle.cqs_rule.specs.Views.{IsSame}
@@ -17,6 +21,7 @@ use Rattle.cqs_semaphore.specs.declared.answers.CancelAnswer.TheVariants as canc
 use Rattle.cqs_semaphore.specs.declared.answers.Released.TheVariants.{Freed, Sent, Under}
 use Rattle.cqs_semaphore.specs.Alone.{IsFirstOf}
 use Rattle.cqs_semaphore.specs.Calls.{IsReady, Rests, plain_after}
+use Rattle.cqs_semaphore.specs.Causes.{drawn_in}
 use Rattle.cqs_semaphore.specs.Steps.{HasCancelled}
 use Rattle.cqs_mutex.specs.declared.answers.Locked.TheVariants.{Now, Later}
 use Rattle.cqs_mutex.specs.declared.answers.LockLeft.TheVariants.{Cancelled, TooLate}
@@ -26,10 +31,10 @@ use Rattle.cqs_mutex.specs.declared.guard.LockWait.{LockWait}
 use Rattle.cqs_mutex.specs.Calls.{HasLocked, HasPolled, HasUnlocked}
 use Rattle.cqs_mutex.specs.Calls.{HasLeft as LeftBy}
 use Rattle.cqs_mutex.specs.Guards.{permit_of, wait_in}
-use Rattle.cqs_mutex.specs.Mutexes.{Belongs}
+use Rattle.cqs_mutex.specs.Mutexes.{Belongs, Opens}
 use Rattle.cqs_cli.specs.declared.floors.mutex_sole.MutexSole.{MutexSole}
-use Rattle.cqs_cli.specs.Soles.{Acquires, Cancels, IsLawful, Polls, Releases}
-use Rattle.cqs_cli.specs.SoleQueue.{mutex_pass, sole_mutex}
+use Rattle.cqs_cli.specs.Soles.{Acquires, Cancels, IsLawful, IsOpened, Polls, Releases}
+use Rattle.cqs_cli.specs.SoleQueue.{IsStill, mutex_pass, news, sole_mutex}
 use Rattle.cqs_cli.proofs.OnePasses.{one-frees, one-grants, one-lates, one-lawful, one-leaves, one-pends, one-sends, one-takes, one-waits}
 use Rattle.cqs_cli.proofs.PassCalls.{frees-comes, grants-comes, hands-comes, hands-first, lates-comes, pends-comes, pends-same, same-then, sent-comes, takes-comes, takes-free, waits-comes, waits-next}
 use Rattle.cqs_cli.proofs.PassRests.{Comes, empty-found, first-found, late-found, left-found, pending-found, served-found}
@@ -37,6 +42,38 @@ use Rattle.cqs_cli.proofs.QueueSends.{HasLeft}
 
 pub mutex-lawful : IsLawful sole_mutex
 mutex-lawful = one-lawful mutex_pass (λ x belongs. belongs.mine.live.legal)
+
+-- a mutex as it is made
+pub mutex-opened : (x : MutexSole) (takes : ℕ) (config : Config) → takes ≤ 262144 → config.limit ≡ takes + 1
+    → Belongs x.mutex x.pass → Opens tt config x.mutex x.pass → x.guards.items ≡ [] → takes ≤ vec_capacity x.guards
+    → IsOpened sole_mutex (Some kind.Mutex) takes x
+mutex-opened x takes config few is belongs opens none space =
+    let v = pass_view x.pass in
+    let size : v.opening.size ≡ 1 = ap (λ (o : Opening). o.size) belongs.mine.opening ∙ x.mutex.single in
+    let limit : v.limit ≡ takes + 1 = belongs.mine.limit ∙ opens.limit ∙ is in
+    let plain : plain_after v ≡ opening v.opening.size = ap (object_after v.opening.size) opens.nothing in
+    record {
+      fresh = ap news opens.nothing;
+      funded = record {
+        sort = tt;
+        mine = belongs;
+        rests = record {
+          size_is = size;
+          some = lit< tt;
+          most = lit≤ tt;
+          few = omega (arith, limit, few);
+          number = opens.first;
+          alone = opens.alone;
+          ready = opens.ready.ready;
+          still = subst IsStill (sym plain) (record { way = refl; door = refl });
+          below = omega (arith, limit, ap drawn_in opens.nothing);
+          drawn = λ k has. absurd (subst (Has k) opens.ready.waits_are has);
+          holds = opens.ready.held_is;
+        };
+        permits = ap (λ gs. length gs) none;
+        spare = omega (arith, space);
+      };
+    }
 
 -- A value moved between its slot and a guard, and nothing else happened.
 module _ {T : Type 0} (v w : View Entry T) (laid : List (ℕ × Option T)) (swapped : Swapped laid v w) where

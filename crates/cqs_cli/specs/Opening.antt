@@ -1,6 +1,6 @@
 -- The making of a floor on semaphores: which plans it can carry out, and what stands when nothing
 -- has happened.
-pub use Rattle.cqs_plan.specs.Runnable.{IsSemaphore, AreSemaphores}
+pub use Rattle.cqs_plan.specs.Runnable.{AreBuilt}
 use Rattle.std.specs.Prelude.{◌≡◌, ℕ, ◌*◌, ◌<◌, ◌≤◌, List, [], length, map, replicate, sum, sum_by, count_by, Some, None, slice_get, slice_index}
 use Rattle.std.specs.List.{range_with_len}
 use Rattle.cqs_core.specs.Numbered.{EachAt}

@@ -23,6 +23,14 @@ abbrev pub IsFundedHere : RunningSole → Option Kind → ℕ → ℕ → ℕ �
 IsFundedHere (Semaphore x) kind room waiting held = sole_queue.funded x kind room waiting held
 IsFundedHere (Mutex x) kind room waiting held = sole_mutex.funded x kind room waiting held
 
+abbrev pub IsForSemaphore : RunningWait → Type 0
+IsForSemaphore (wait.Semaphore w) = Unit {0}
+IsForSemaphore (wait.Mutex w) = ⊥
+
+abbrev pub IsForMutex : RunningWait → Type 0
+IsForMutex (wait.Semaphore w) = ⊥
+IsForMutex (wait.Mutex w) = Unit {0}
+
 -- no wait for a semaphore is one for a mutex
 abbrev pub HasHere : RunningSole → RunningWait → Type 0
 HasHere (Semaphore x) (wait.Semaphore w) = sole_queue.has x w

@@ -3,7 +3,7 @@
 ghost use Rattle.std.specs.Prelude.{◌≡◌, IfOk};
 ghost use Rattle.cqs_plan.specs.Floor.{opening_floor};
 ghost use Rattle.cqs_plan.specs.Runnable.{IsRunnable};
-ghost use Rattle.cqs_cli.specs.Opening.{AreSemaphores};
+ghost use Rattle.cqs_cli.specs.Opening.{AreBuilt};
 
 use super::desk::Desk;
 use cqs_core::{Core, Memory};
@@ -39,7 +39,7 @@ impl CoreFloor {
     /// A floor on which nothing has happened, with room for the plan's takes.
     pub fn new(alloc: Global, plan: &Plan) -> Result<Self, Memory>
         requires runnable { IsRunnable plan.now }
-        requires semaphores { AreSemaphores plan.now.resources }
+        requires built { AreBuilt plan.now.resources }
         ensures { IfOk result (λ floor. floor ≡ opening_floor plan.now) }
     {
         let desk = Desk::new(alloc, plan)?;

@@ -8,7 +8,7 @@ ghost use Rattle.cqs_plan.specs.PlanSteps.{is_take};
 ghost use Rattle.cqs_plan.specs.Runnable.{IsRunnable, kinds_of};
 ghost use Rattle.cqs_cli.specs.Opening.{
   AreOpened,
-  AreSemaphores,
+  AreBuilt,
   AreWithin,
   IsCountable,
   IsOpening,
@@ -26,7 +26,7 @@ impl<S: ForEachKind> Desk<S> {
     /// A desk at which nothing has happened, with memory for all that the plan's takes can lead to.
     pub fn new(alloc: Global, plan: &Plan) -> Result<Self, Memory>
         requires runnable { IsRunnable plan.now }
-        requires semaphores { AreSemaphores plan.now.resources }
+        requires built { AreBuilt plan.now.resources }
         ensures { IfOk result (IsOpening S.sole plan.now) }
     {
         let resources = plan.resources.as_slice();
@@ -108,7 +108,7 @@ fn open_soles<S: ForEachKind>(
     resources: &[Resource],
     room: &[u32],
 ) -> Result<Vec<S>, Memory>
-    requires semaphores { AreSemaphores resources.now }
+    requires built { AreBuilt resources.now }
     requires same { length room.now ≡ length resources.now }
     requires few { sum room.now ≤ 262144 }
     ensures opened { IfOk result (λ soles. AreOpened S.sole resources.now room.now soles.items) }

@@ -5,7 +5,7 @@ ghost use Rattle.cqs_plan.specs.Floor.{opening_floor};
 ghost use Rattle.cqs_plan.specs.Runnable.{IsRunnable};
 ghost use Rattle.cqs_cli.specs.Kept.{IsKept};
 ghost use Rattle.cqs_cli.specs.Ledger.{plain_floor};
-ghost use Rattle.cqs_cli.specs.Opening.{AreSemaphores};
+ghost use Rattle.cqs_cli.specs.Opening.{AreBuilt};
 ghost use Rattle.cqs_cli.specs.SoleRunning.{sole_running};
 
 use super::desk::Desk;
@@ -44,7 +44,7 @@ impl QueueFloor {
     /// A floor on which nothing has happened, with room for the plan's takes.
     pub fn new(alloc: Global, plan: &Plan) -> Result<Self, Memory>
         requires runnable { IsRunnable plan.now }
-        requires semaphores { AreSemaphores plan.now.resources }
+        requires built { AreBuilt plan.now.resources }
         ensures { IfOk result (λ floor. plain_floor sole_running floor ≡ opening_floor plan.now) }
     {
         let desk = Desk::new(alloc, plan)?;

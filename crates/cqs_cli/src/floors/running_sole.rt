@@ -1,5 +1,9 @@
 //! A semaphore or a mutex of the running queue, as the semaphore of a floor.
 
+ghost use Rattle.std.specs.Prelude.{◌≡◌};
+ghost use Rattle.std.specs.Option.{option_map};
+ghost use Rattle.cqs_cli.specs.SoleRunning.{IsForMutex, IsForSemaphore};
+
 use super::mutex_sole::MutexSole;
 use super::queue_sole::QueueSole;
 use super::sole::{ForEachKind, SoleSemaphore, Stand};
@@ -39,8 +43,8 @@ impl SoleSemaphore for RunningSole {
 
     fn acquire(&mut self) -> Option<RunningWait> {
         match self {
-            RunningSole::Semaphore(sole) => sole.acquire().map(RunningWait::Semaphore),
-            RunningSole::Mutex(sole) => sole.acquire().map(RunningWait::Mutex),
+            RunningSole::Semaphore(sole) => for_semaphore(sole.acquire()),
+            RunningSole::Mutex(sole) => for_mutex(sole.acquire()),
         }
     }
 
@@ -52,22 +56,16 @@ impl SoleSemaphore for RunningSole {
     }
 
     fn poll(&mut self, wait: RunningWait) -> Option<RunningWait> {
-        match (self, wait) {
-            (RunningSole::Semaphore(sole), RunningWait::Semaphore(wait)) => {
-                sole.poll(wait).map(RunningWait::Semaphore)
-            }
-            (RunningSole::Mutex(sole), RunningWait::Mutex(wait)) => {
-                sole.poll(wait).map(RunningWait::Mutex)
-            }
-            _ => unreachable!(),
+        match self {
+            RunningSole::Semaphore(sole) => for_semaphore(sole.poll(of_semaphore(wait))),
+            RunningSole::Mutex(sole) => for_mutex(sole.poll(of_mutex(wait))),
         }
     }
 
     fn cancel(&mut self, wait: RunningWait) -> bool {
-        match (self, wait) {
-            (RunningSole::Semaphore(sole), RunningWait::Semaphore(wait)) => sole.cancel(wait),
-            (RunningSole::Mutex(sole), RunningWait::Mutex(wait)) => sole.cancel(wait),
-            _ => unreachable!(),
+        match self {
+            RunningSole::Semaphore(sole) => sole.cancel(of_semaphore(wait)),
+            RunningSole::Mutex(sole) => sole.cancel(of_mutex(wait)),
         }
     }
 
@@ -82,9 +80,50 @@ impl SoleSemaphore for RunningSole {
 impl ForEachKind for RunningSole {
     fn open(alloc: Global, kind: Kind, takes: u32) -> Result<Self, Memory> {
         match kind {
-            Kind::Semaphore(permits) => Ok(RunningSole::Semaphore(QueueSole::open(alloc, permits, takes)?)),
+            Kind::Semaphore(permits) => {
+                let sole = QueueSole::open(alloc, permits, takes)?;
+                Ok(RunningSole::Semaphore(sole))
+            }
             Kind::Mutex => Ok(RunningSole::Mutex(MutexSole::open(alloc, takes)?)),
             _ => unreachable!(),
         }
+    }
+}
+
+fn for_semaphore(wait: Option<Wait>) -> Option<RunningWait>
+    ensures { result ≡ option_map RunningWait.Semaphore wait }
+{
+    match wait {
+        Some(wait) => Some(RunningWait::Semaphore(wait)),
+        None => None,
+    }
+}
+
+fn for_mutex(wait: Option<LockWait>) -> Option<RunningWait>
+    ensures { result ≡ option_map RunningWait.Mutex wait }
+{
+    match wait {
+        Some(wait) => Some(RunningWait::Mutex(wait)),
+        None => None,
+    }
+}
+
+fn of_semaphore(wait: RunningWait) -> Wait
+    requires { IsForSemaphore wait }
+    ensures { wait ≡ RunningWait.Semaphore result }
+{
+    match wait {
+        RunningWait::Semaphore(wait) => wait,
+        RunningWait::Mutex(_) => unreachable!(),
+    }
+}
+
+fn of_mutex(wait: RunningWait) -> LockWait
+    requires { IsForMutex wait }
+    ensures { wait ≡ RunningWait.Mutex result }
+{
+    match wait {
+        RunningWait::Mutex(wait) => wait,
+        RunningWait::Semaphore(_) => unreachable!(),
     }
 }

@@ -107,12 +107,12 @@ pub trait SoleSemaphore: Sized + Drop {
 /// A semaphore that can be made for each kind of resource that is taken and given.
 pub trait ForEachKind: SoleSemaphore {
     ghost use Rattle.std.specs.Prelude.{◌≤◌, IfOk, Some};
-    ghost use Rattle.cqs_plan.specs.Runnable.{IsSemaphore};
+    ghost use Rattle.cqs_plan.specs.Runnable.{IsBuilt};
     ghost use Rattle.cqs_cli.specs.Soles.{IsOpened};
 
     /// One for a resource of this kind, with all its permits free, and room for so many takes.
     fn open(alloc: Global, kind: Kind, takes: u32) -> Result<Self, Memory>
-        requires built { IsSemaphore kind }
+        requires built { IsBuilt kind }
         requires few_takes { takes ≤ 262144 }
         ensures { IfOk result (IsOpened Self.sole (Some kind) takes) };
 }

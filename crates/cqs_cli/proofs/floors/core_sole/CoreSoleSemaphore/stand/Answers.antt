@@ -5,7 +5,7 @@ pub stand_of-requires-clause-least : goal.stand_of-requires-clause-least
 stand_of-requires-clause-least c = c.requires.1.funded.sole.core.range.state
 
 pub stand_of-requires-clause-most : goal.stand_of-requires-clause-most
-stand_of-requires-clause-most c = state-most _ _ _ _ _ c.requires.1.funded
+stand_of-requires-clause-most c = state-most _ c.requires.0 _ _ _ c.requires.1.funded
 
 pub returns : goal.returns
 returns c size room waiting held funded =

@@ -44,10 +44,10 @@ pub mutex-lawful : IsLawful sole_mutex
 mutex-lawful = one-lawful mutex_pass (λ x belongs. belongs.mine.live.legal)
 
 -- a mutex as it is made
-pub mutex-opened : (x : MutexSole) (takes : ℕ) (config : Config) → takes ≤ 262144 → config.limit ≡ takes + 1
+pub mutex_opened : (x : MutexSole) (takes : ℕ) (config : Config) → takes ≤ 262144 → config.limit ≡ takes + 1
     → Belongs x.mutex x.pass → Opens tt config x.mutex x.pass → x.guards.items ≡ [] → takes ≤ vec_capacity x.guards
     → IsOpened sole_mutex (Some kind.Mutex) takes x
-mutex-opened x takes config few is belongs opens none space =
+mutex_opened x takes config few is belongs opens none space =
     let v = pass_view x.pass in
     let size : v.opening.size ≡ 1 = ap (λ (o : Opening). o.size) belongs.mine.opening ∙ x.mutex.single in
     let limit : v.limit ≡ takes + 1 = belongs.mine.limit ∙ opens.limit ∙ is in

@@ -30,6 +30,7 @@ pub struct MutexSole {
 
 impl MutexSole {
     /// A mutex that is free, with room for so many takes.
+    #[tactic(auto, using(crate::proofs::MutexSole::mutex_opened))]
     pub fn open(alloc: Global, takes: u32) -> Result<Self, Memory>
         requires few_takes { takes ≤ 262144 }
         ensures { IfOk result (IsOpened sole_mutex (Some kind.Mutex) takes) }

@@ -98,7 +98,8 @@ end-ready x wait can = funded-ready x _ _ _ _ can.funded (omega (arith, can.some
 
 -- a call of a core that was between two calls
 module _ (x y : Room) (answer : Reply) (sole : IsSole x.shape) where
-  object-is : (kind : Option Kind) (room waiting held : ℕ) → IsFunded x (permits_of kind) room waiting held → shown x.shape ≡ object sole_core kind x
+  object-is : (kind : Option Kind) (room waiting held : ℕ) → IsFunded x (permits_of kind) room waiting held
+      → shown x.shape ≡ object sole_core kind x
   object-is kind room waiting held funded = sym (object-shown x kind room waiting held funded)
 
   pub core-acquires : HasMade x (call.Acquire 0) answer y → Acquires sole_core x (wait_in answer) y
@@ -210,8 +211,8 @@ not-false false is = absurd (cc)
 -- a core whose caller has a wait
 module _ (x : Room) (wait : ℕ) where
   -- whether the wait stands in the line
-  line-reads : (kind : Option Kind) (room waiting held : ℕ) → IsFunded x (permits_of kind) room waiting held → (stands : Bool)
-      → is_some (find_wait wait (shown x.shape).line) ≡ stands
+  line-reads : (kind : Option Kind) (room waiting held : ℕ) → IsFunded x (permits_of kind) room waiting held
+      → (stands : Bool) → is_some (find_wait wait (shown x.shape).line) ≡ stands
       → is_in_line wait (object sole_core kind x).line ≡ stands
   line-reads kind room waiting held funded stands is =
       ap (λ (o : Semaphore). is_in_line wait o.line) (object-shown x kind room waiting held funded)
@@ -305,7 +306,8 @@ state-le (pos m) n few = grind (arith, ints)
 state-le (negsuc m) n few = grind (arith, ints)
 
 -- what a core at rest tells by its state
-module _ (x : Room) (kind : Option Kind) (room waiting held : ℕ) (funded : IsFunded x (permits_of kind) room waiting held) where
+module _ (x : Room) (kind : Option Kind) (room waiting held : ℕ)
+    (funded : IsFunded x (permits_of kind) room waiting held) where
   quiet : IsQuiet x.shape
   quiet = quiet-core x.shape funded.sole.core (funded-rests x (permits_of kind) room waiting held funded)
 

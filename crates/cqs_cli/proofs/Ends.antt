@@ -16,7 +16,8 @@ use Rattle.cqs_cli.proofs.Looks.{kept-same, plain-same}
 use Rattle.cqs_cli.proofs.Resources.{Funds, funds-at, holdable-there, object-there}
 
 module _ {X W : Type 0} (s : Sole X W) where
-  stands-shown : (kind : Option Kind) (room waiting held : ℕ) (x y : X) (stand : Stand) → Stands s kind room waiting held x stand y
+  stands-shown : (kind : Option Kind) (room waiting held : ℕ) (x y : X) (stand : Stand)
+      → Stands s kind room waiting held x stand y
       → Permits stand.free (permits_of kind - stand.free) stand.line
       ≡ Permits (object s kind x).free (object s kind x).held (length (object s kind x).line)
   stands-shown kind room waiting held x y stand stands =

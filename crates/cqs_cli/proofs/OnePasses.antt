@@ -63,8 +63,8 @@ module _ {X W T : Type 0} (q : OnePass X W T) where
             funded = record {
               sort = funded.sort;
               mine = mine;
-              rests = rests-next v w (entry.TakeNow 0 ∷ []) c.same c.seen (permits_of kind) room held (room - 1) (held + 1)
-                  v.facts.waits funded.rests rests (omega arith)
+              rests = rests-next v w (entry.TakeNow 0 ∷ []) c.same c.seen (permits_of kind) room held (room - 1)
+                  (held + 1) v.facts.waits funded.rests rests (omega arith)
                   (record { way = funded.rests.still.way; door = funded.rests.still.door })
                   funded.rests.drawn;
               permits = omega (arith, one_more, funded.permits);
@@ -143,8 +143,8 @@ module _ {X W T : Type 0} (q : OnePass X W T) where
               funded = record {
                 sort = funded.sort;
                 mine = mine;
-                rests = rests-next v w (entry.GiveFreed 0 ∷ []) c.same c.seen (permits_of kind) room held room (held - 1)
-                    v.facts.waits funded.rests rests (omega arith)
+                rests = rests-next v w (entry.GiveFreed 0 ∷ []) c.same c.seen (permits_of kind) room held room
+                    (held - 1) v.facts.waits funded.rests rests (omega arith)
                     (record { way = funded.rests.still.way; door = funded.rests.still.door })
                     funded.rests.drawn;
                 permits = omega (arith, one_less, funded.permits);

@@ -144,15 +144,17 @@ one-tells q legal x y stand mine capacity kept rule after free line kind room wa
     let rests = subst (λ n. Rests v n v.facts.waits w) funded.rests.holds after in
     record {
       free = free ∙ free-told v (permits_of kind) room held funded.rests lawful ∙ ap (λ (o : Semaphore). o.free) is;
-      line = line ∙ line-told v (permits_of kind) room held funded.rests lawful ∙ ap (λ (o : Semaphore). length o.line) is;
-      all = subst (λ (o : Semaphore). o.held + o.free ≡ permits_of kind) is (all-told v (permits_of kind) room held funded.rests lawful);
+      line = line ∙ line-told v (permits_of kind) room held funded.rests lawful
+          ∙ ap (λ (o : Semaphore). length o.line) is;
+      all = subst (λ (o : Semaphore). o.held + o.free ≡ permits_of kind) is
+          (all-told v (permits_of kind) room held funded.rests lawful);
       goes = record {
         appended = ap news seen ∙ filter-append is_news v.seen [];
         funded = record {
           sort = funded.sort;
           mine = mine;
-          rests = rests-next v w [] rule.called.same seen (permits_of kind) room held room held v.facts.waits funded.rests rests
-              (omega arith) funded.rests.still funded.rests.drawn;
+          rests = rests-next v w [] rule.called.same seen (permits_of kind) room held room held v.facts.waits
+              funded.rests rests (omega arith) funded.rests.still funded.rests.drawn;
           permits = kept ∙ funded.permits;
           spare = omega (arith, capacity, funded.spare);
         };

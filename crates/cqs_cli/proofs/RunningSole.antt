@@ -51,12 +51,13 @@ mutex-among = record {
 pub running-lawful : IsLawful sole_running
 running-lawful = record { some = some; legal = legal; numbered = numbered }
   where
-    some : (x : RunningSole) (kind : Option Kind) (room waiting held : ℕ) → sole_running.funded x kind room waiting held → 0 < permits_of kind
+    some : (x : RunningSole) (kind : Option Kind) (room waiting held : ℕ)
+        → sole_running.funded x kind room waiting held → 0 < permits_of kind
     some (Semaphore x) kind room waiting held funded = queue-lawful.some x kind room waiting held funded
     some (Mutex x) kind room waiting held funded = mutex-lawful.some x kind room waiting held funded
 
-    legal : (x : RunningSole) (kind : Option Kind) (room waiting held : ℕ) → sole_running.funded x kind room waiting held
-        → IsLegal (permits_of kind) (sole_running.entries x)
+    legal : (x : RunningSole) (kind : Option Kind) (room waiting held : ℕ)
+        → sole_running.funded x kind room waiting held → IsLegal (permits_of kind) (sole_running.entries x)
     legal (Semaphore x) kind room waiting held funded = queue-lawful.legal x kind room waiting held funded
     legal (Mutex x) kind room waiting held funded = mutex-lawful.legal x kind room waiting held funded
 

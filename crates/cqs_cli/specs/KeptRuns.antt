@@ -19,9 +19,9 @@ use Rattle.cqs_cli.specs.declared.kept.Kept.TheVariants.{Ran}
 use Rattle.cqs_cli.specs.declared.verdict.Verdict.{Verdict}
 use Rattle.cqs_cli.specs.declared.verdict.Verdict.TheVariants as verdict
 
--- What a resource of this kind is on the running queue has just one pass, which is its own, and which
--- has seen just these entries, beside looks that found nothing new. A pass sees entries only by calls
--- on its queue.
+-- What a resource of this kind is on the running queue has just one pass, which is its own, and
+-- which has seen just these entries, beside looks that found nothing new. A pass sees entries only
+-- by calls on its queue.
 pub record HasSeen (kind : Option Kind) (soles : List RunningSole) (at : ℕ) (entries : List Entry)
     : Type 0 where
   pub sole : RunningSole

@@ -62,8 +62,8 @@ module _ {T : Type 0} where
     pub holds : v.facts.has.held ≡ held
 
 -- One of the running queue with its one pass, as a floor sees it: of which kinds of resource it is,
--- whether the pass is its own, what the pass has seen, how much its caller holds and for how much of
--- that there is memory, and the token of a wait.
+-- whether the pass is its own, what the pass has seen, how much its caller holds and for how much
+-- of that there is memory, and the token of a wait.
 pub record OnePass (X W T : Type 0) : Type 1 where
   pub sort : Option Kind → Type 0
   pub mine : X → Type 0

@@ -35,9 +35,10 @@ module _ {X W : Type 0} (s : Sole X W) where
   -- What every such semaphore keeps to: its entries are legal, and a wait that its caller has was
   -- numbered before.
   pub record IsLawful : Type 0 where
-    pub some : (x : X) (kind : Option Kind) (room waiting held : ℕ) → s.funded x kind room waiting held → 0 < permits_of kind
-    pub legal : (x : X) (kind : Option Kind) (room waiting held : ℕ) → s.funded x kind room waiting held
-        → IsLegal (permits_of kind) (s.entries x)
+    pub some : (x : X) (kind : Option Kind) (room waiting held : ℕ)
+        → s.funded x kind room waiting held → 0 < permits_of kind
+    pub legal : (x : X) (kind : Option Kind) (room waiting held : ℕ)
+        → s.funded x kind room waiting held → IsLegal (permits_of kind) (s.entries x)
     pub numbered : (x : X) (wait : W) (kind : Option Kind) (room waiting held : ℕ)
         → s.funded x kind room waiting held → s.has x wait → s.number wait < (object kind x).next
 
@@ -47,7 +48,8 @@ module _ {X W : Type 0} (s : Sole X W) where
     pub funded : s.funded x kind takes 0 0
 
   -- these entries came, and it is funded so
-  pub record Goes (x : X) (entries : List Entry) (kind : Option Kind) (room waiting held : ℕ) (y : X) : Type 0 where
+  pub record Goes (x : X) (entries : List Entry) (kind : Option Kind) (room waiting held : ℕ)
+      (y : X) : Type 0 where
     pub appended : s.entries y ≡ s.entries x ++ entries
     pub funded : s.funded y kind room waiting held
 
@@ -100,7 +102,8 @@ module _ {X W : Type 0} (s : Sole X W) where
     pub keeps : KeepsAll x y
 
   -- none is free, and the caller goes by the door to the end of the line, under the next number
-  pub record TakesWait (wait : W) (kind : Option Kind) (room waiting held : ℕ) (x y : X) : Type 0 where
+  pub record TakesWait (wait : W) (kind : Option Kind) (room waiting held : ℕ) (x y : X)
+      : Type 0 where
     pub none : nat_lt 0 (object kind x).free ≡ false
     pub number : s.number wait ≡ (object kind x).next
     pub goes : Goes x (entry.TakeDoor 0 ∷ entry.Enter 0 (object kind x).next ∷ [])
@@ -137,15 +140,16 @@ module _ {X W : Type 0} (s : Sole X W) where
       → Sends k kind room waiting held x y
 
   -- the wait stands in the line, and nothing changes
-  pub record StaysInLine (wait : W) (kind : Option Kind) (room waiting held : ℕ) (x y : X) : Type 0 where
+  pub record StaysInLine (wait : W) (kind : Option Kind) (room waiting held : ℕ) (x y : X)
+      : Type 0 where
     pub found : is_in_line (s.number wait) (object kind x).line ≡ true
     pub goes : Goes x [] kind room waiting held y
     pub keeps : KeepsAll x y
 
   -- The wait, which stood in the line or didn't, is over by this entry, and the caller then holds
   -- so many permits.
-  pub record EndsWait (wait : W) (in_line : Bool) (e : Entry) (then : ℕ) (kind : Option Kind) (room waiting : ℕ) (x y : X)
-      : Type 0 where
+  pub record EndsWait (wait : W) (in_line : Bool) (e : Entry) (then : ℕ) (kind : Option Kind)
+      (room waiting : ℕ) (x y : X) : Type 0 where
     pub found : is_in_line (s.number wait) (object kind x).line ≡ in_line
     pub goes : Goes x (e ∷ []) kind room (waiting - 1) then y
     pub keeps : KeepsOthers x (s.number wait) y
@@ -155,8 +159,8 @@ module _ {X W : Type 0} (s : Sole X W) where
   abbrev pub Polls : X → W → Option W → X → Type 0
   Polls x wait (Some back) y =
       (back ≡ wait)
-      × ((kind : Option Kind) (room waiting held : ℕ) → s.funded x kind room waiting held → 0 < waiting
-      → StaysInLine wait kind room waiting held x y)
+      × ((kind : Option Kind) (room waiting held : ℕ) → s.funded x kind room waiting held
+      → 0 < waiting → StaysInLine wait kind room waiting held x y)
   Polls x wait None y =
       (kind : Option Kind) (room waiting held : ℕ) → s.funded x kind room waiting held → 0 < waiting
       → EndsWait wait false (entry.LookGranted 0 (s.number wait)) (held + 1) kind room waiting x y
@@ -172,7 +176,8 @@ module _ {X W : Type 0} (s : Sole X W) where
       → EndsWait wait false (entry.Late 0 (s.number wait)) (held + 1) kind room waiting x y
 
   -- so many permits are free, and so many waits stand in the line; all other permits are held
-  pub record Stands (kind : Option Kind) (room waiting held : ℕ) (x : X) (stand : Stand) (y : X) : Type 0 where
+  pub record Stands (kind : Option Kind) (room waiting held : ℕ) (x : X) (stand : Stand) (y : X)
+      : Type 0 where
     pub free : stand.free ≡ (object kind x).free
     pub line : stand.line ≡ length (object kind x).line
     pub all : (object kind x).held + (object kind x).free ≡ permits_of kind

@@ -1,13 +1,19 @@
-use Rattle.cqs_cli.specs.declared.floors.running_sole.RunningSole.TheVariants.{Semaphore}
+use Rattle.cqs_cli.specs.declared.floors.running_sole.RunningSole.TheVariants.{Semaphore, Mutex}
 use Rattle.cqs_cli.specs.declared.floors.running_sole.RunningWait.TheVariants as wait
-use Rattle.cqs_cli.specs.SoleQueue.{sole_queue}
+use Rattle.cqs_cli.specs.SoleQueue.{sole_mutex, sole_queue}
 use Rattle.cqs_cli.specs.SoleRunning.{sole_running}
 use Rattle.cqs_cli.proofs.Among.{polls-among}
-use Rattle.cqs_cli.proofs.RunningSole.{semaphore-among}
+use Rattle.cqs_cli.proofs.RunningSole.{mutex-among, semaphore-among}
 use Rattle.cqs_cli.proofs.floors.running_sole.RunningSoleSoleSemaphore.poll.Goals as goal
 
 pub returns-in-Semaphore : goal.returns-in-Semaphore
 returns-in-Semaphore c =
     rw (c.in-Semaphore.is, c.of_semaphore.ensures, c.for_semaphore.ensures)
-    (polls-among sole_queue sole_running Semaphore wait.Semaphore semaphore-among c.in-Semaphore.sole c.poll.new.self
-    c.of_semaphore.result c.poll.result c.poll.ensures)
+    (polls-among sole_queue sole_running Semaphore wait.Semaphore semaphore-among c.in-Semaphore.sole
+    c.poll.new.self c.of_semaphore.result c.poll.result c.poll.ensures)
+
+pub returns-in-Mutex : goal.returns-in-Mutex
+returns-in-Mutex c =
+    rw (c.in-Mutex.is, c.of_mutex.ensures, c.for_mutex.ensures)
+    (polls-among sole_mutex sole_running Mutex wait.Mutex mutex-among c.in-Mutex.sole
+    c.poll-in-Mutex.new.self c.of_mutex.result c.poll-in-Mutex.result c.poll-in-Mutex.ensures)

@@ -13,6 +13,7 @@ use std::test::Fail;
 use std::thread;
 
 const THREADS: u32 = 8;
+
 const ROUNDS: u32 = 50;
 
 const CONFIG: Config = Config {

@@ -27,8 +27,8 @@ returns-in-Pending-clause-same c =
     let pends = pending-pends v _ w c.take-2.result _ c.in-Pending.wait begins called polled in
     rw (c.yield_now-in-Pending.ensures.pending, had, sym wait)
     (λ out gives.
-      let arrives = arrives-still _ _ (pass_view out.pass) c.take-2.result c.in-Pending.wait out.got pends gives.2 in
-      (gives.0, gives.1, arrives))
+    let arrives = arrives-still _ _ (pass_view out.pass) c.take-2.result c.in-Pending.wait out.got pends gives.2 in
+    (gives.0, gives.1, arrives))
 
 pub returns-in-Pending-clause-pending : goal.returns-in-Pending-clause-pending
 returns-in-Pending-clause-pending c =

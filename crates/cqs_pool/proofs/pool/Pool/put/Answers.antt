@@ -1,15 +1,8 @@
-use Rattle.std.proofs.Common.{◌∙◌, arith}
+use Rattle.std.proofs.Common.{◌∙◌}
 use Rattle.cqs_pool.proofs.AloneSteps.{quiet, plain-put}
-use Rattle.cqs_pool.proofs.PutSteps.{first-has, put-rule, put-ends}
+use Rattle.cqs_pool.proofs.PutSteps.{put-rule, put-ends}
 use Rattle.cqs_pool.proofs.ResumeSteps.{never-refused}
 use Rattle.cqs_pool.proofs.pool.Pool.put.Goals as goal
-
-pub put_element-number-requires-clause-has : goal.put_element-number-requires-clause-has
-put_element-number-requires-clause-has g c = first-has _ _ c.requires.first
-
--- there are no value slots
-pub put_element-number-requires-clause-value : goal.put_element-number-requires-clause-value
-put_element-number-requires-clause-value g c = λ low. let none = c.requires.belongs.slots in absurd (omega arith)
 
 pub placed_by-requires : goal.placed_by-requires
 placed_by-requires g c = never-refused _ _ _ _ _ c.resume_from.result c.resume_from.ensures.resumed

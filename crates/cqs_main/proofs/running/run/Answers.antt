@@ -31,3 +31,12 @@ returns-clause-sink_failed g c =
       | in-Ok w ↦ search rules
       | in-Err w ↦ search rules
     ]
+
+pub returns-clause-wrong_input : goal.returns-clause-wrong_input
+returns-clause-wrong_input g c =
+    elim c.match-words_after_name.branch [
+      | in-Ok w ↦ λ is_run bytes left short no_plan source_calm sink_calm.
+          rw (c.finish.ensures.status, w.status-is)
+          (w.top-status.ensures.wrong_input (search rules) bytes left short no_plan (search rules) (search rules))
+      | in-Err w ↦ search rules
+    ]

@@ -30,7 +30,7 @@ abbrev pub most_after_first : ℕ
 most_after_first = 63
 
 module _ {C E S : Type 0} (primitive : C → Primitive E S) where
-  -- something held where the history was some beginning of what the pass has seen
+  -- something held where the history was some prefix of what the pass has seen
   pub record WasSo (fact : Hidden → List ℕ → Type 0) (w : View E S) : Type 0 where
     pub before : List E
     pub seen : IsPrefix before w.seen

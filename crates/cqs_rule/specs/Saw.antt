@@ -58,7 +58,7 @@ pub record WasFound {C E S : Type 0} (primitive : C → Primitive E S) (fact : H
   pub seen : w.seen ≡ before ++ entries
   pub was : WasShown primitive w.opening fact before
 
--- It held at the end of some beginning of all that the pass has seen.
+-- It held at the end of some prefix of all that the pass has seen.
 pub record WasSo {C E S : Type 0} (primitive : C → Primitive E S) (fact : Hidden → List ℕ → Type 0)
     (w : View E S) : Type 0 where
   pub before : List E

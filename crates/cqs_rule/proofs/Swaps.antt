@@ -60,6 +60,7 @@ module _ {E S : Type 0} (laid : List (ℕ × Option S)) (v w : View E S) (swap :
     own = l.own;
     held = l.held;
     few = l.few;
+    known = l.known;
     inside = record {
       number = l.inside.number;
       waits = l.inside.waits;

@@ -252,7 +252,7 @@ module _ {E S : Type 0} (object : Object E) (primitive : Primitive E S) (passes 
               resting = λ n h other. rests-on r.hidden d n (λ f. t.others.stands n f other) (k.resting n h other);
               second = λ two. absurd (omega arith);
               crew = found;
-              alone = λ a. (single a, one, refl);
+              alone = λ a. (single a, one, refl, refl);
               limit_is = k.limit_is;
               cells_are = k.cells_are;
               passes_are = k.passes_are;

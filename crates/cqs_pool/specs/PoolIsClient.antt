@@ -43,7 +43,7 @@ use Rattle.cqs_rule.specs.Lists.{NamesOnly}
 use Rattle.cqs_rule.specs.Manner.{Suits}
 use Rattle.cqs_rule.specs.Opened.{first_hidden, first_payload}
 use Rattle.cqs_rule.specs.Views.{first_has}
-use Rattle.cqs_pool.specs.Pool.{loads_of, holds_of, pool_shown, ShowsPool, in_hand, pool_manner, pool_object, pool_primitive}
+use Rattle.cqs_pool.specs.Pool.{loads_of, holds_of, pool_shown, ShowsPool, in_hand, HasEach, pool_manner, pool_object, pool_primitive}
 
 silent-step : (s : QueueStep) (p k payload : ℕ)
     → NamesOnly entry_names p (step_entries s p k payload)
@@ -218,6 +218,69 @@ once-held s p e is there =
         → times e (get_or s.holds p []) ≤ sum_by (times e) s.holds
         → times e (hold_of s.holds p) ≤ 1
     go n each others held own = grind arith
+
+-- nor one that is none of the pool's
+none-held : (s : PoolShape) (p e : ℕ) → IsPool s → p < length s.holds → s.size ≤ e
+    → times e (hold_of s.holds p) ≡ 0
+none-held s p e is there above =
+    let kept = conserved-after s.size s.history is.legal in
+    let held = is.shows.held e in
+    let own = get_or-le-sum_by (times e) s.holds p [] there in
+    let none = kept.others e above in
+    omega arith
+
+has-times : (e : ℕ) (xs : List ℕ) → lists.Has e xs → 0 < times e xs
+has-times e [] has = absurd has
+has-times e (x ∷ xs) (inl same) =
+    let first = times-cons e x xs in
+    let one : bit (x == e) ≡ 1 = ap bit (eq-eqb x e (sym same)) in
+    omega arith
+has-times e (x ∷ xs) (inr later) =
+    let first = times-cons e x xs in
+    let some = has-times e xs later in
+    omega arith
+
+-- where no element is twice in a list, its elements are distinct
+all-distinct : (xs : List ℕ) → ((e : ℕ) → times e xs ≤ 1) → lists.IsDistinct xs
+all-distinct [] once = tt
+all-distinct (x ∷ xs) once = (
+  λ later.
+      let first = times-cons x x xs in
+      let one : bit (x == x) ≡ 1 = ap bit (eq-eqb x x refl) in
+      let some = has-times x xs later in
+      let at = once x in
+      absurd (omega arith),
+  all-distinct xs (λ e.
+      let first = times-cons e x xs in
+      let at = once e in
+      omega arith),
+)
+
+-- an element that a pass has in hand is one of the pool's, and is there once
+elements-held : (size : ℕ) (c : Hidden) (log : List PoolEntry) (p : ℕ) (has : Has)
+    → ShowsPool size c log → slice_get c.has p ≡ Some has → HasEach size has.slots
+elements-held size c log p has shows there = record {
+  once = all-distinct has.slots once;
+  low = λ e mine. low e (has-times e has.slots mine) (cases_lt e size);
+}
+  where
+    s : PoolShape
+    s = pool_shown size c log
+
+    at : p < length s.holds
+    at = get-below (holds_of c.has) p has.slots (hold-at c.has p has there)
+
+    once : (e : ℕ) → times e has.slots ≤ 1
+    once e = subst (λ xs. times e xs ≤ 1) (hold-is c.has p has there)
+        (once-held s p e shows.is_pool at)
+
+    low : (e : ℕ) → 0 < times e has.slots → (e < size) ⊎ (size ≤ e) → e < size
+    low e some (inl below) = below
+    low e some (inr above) =
+        let none = none-held s p e shows.is_pool at above in
+        let same : times e (hold_of s.holds p) ≡ times e has.slots =
+        ap (times e) (hold-is c.has p has there) in
+        absurd (omega arith)
 
 -- what all bring and have in hand after a step of this row
 loads-after : (row : StepRow) (l : List Has) (p payload : ℕ) (has : Has) → slice_get l p ≡ Some has
@@ -560,6 +623,7 @@ pool-client size = record {
     steps = λ s has payload k suits kept o. absurd o;
     few = λ c words log handed p has shows there.
         let none = shows.uncounted.at p has there in omega arith;
+    known = λ c words log handed p has shows there. elements-held size c log p has shows there;
     gathers = λ mine theirs k o. ⊎_elim (λ a. absurd a) (λ a. absurd a) o;
     hands_in = λ c words log handed k value shows. shows;
   };

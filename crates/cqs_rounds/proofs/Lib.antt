@@ -7,3 +7,4 @@ pub mod Splits
 pub mod Crowds
 pub mod Takes
 pub mod Soles
+pub mod Callers

@@ -1,4 +1,4 @@
-use Rattle.std.proofs.Common.{rules, inl, inr}
+use Rattle.std.proofs.Common.{inl, inr}
 use Rattle.cqs_waiter.proofs.Waiting.{acquire-begins, still-first, still-more, still-ends}
 use Rattle.cqs_waiter.proofs.blocking.acquire_wait.Goals as goal
 

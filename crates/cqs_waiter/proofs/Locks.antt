@@ -22,21 +22,21 @@ use Rattle.cqs_waiter.proofs.Waiting.{arrives-still, at-once, granted-arrives, j
 
 module _ {T : Type 0} where
   -- a lock is what a poll begins with that has no wait yet
-  pub lock-begins : (v w : View Entry (Kept T)) (answer : Result (Locked T) AcquireError) → HasLocked v answer w
+  pub lock_begins : (v w : View Entry (Kept T)) (answer : Result (Locked T) AcquireError) → HasLocked v answer w
       → (IsErrOf answer Crowded → ⊥) → LockedHolds answer w → LockBegins v None answer w
-  lock-begins v w (Ok (Now guard)) l never holds = record {
+  lock_begins v w (Ok (Now guard)) l never holds = record {
     between = l.between;
     begins = at-once v l.between (permit_of guard) l.called l.acquired;
     value = l.value;
     holds = holds;
   }
-  lock-begins v w (Ok (Later wait)) l never holds = record {
+  lock_begins v w (Ok (Later wait)) l never holds = record {
     between = l.between;
     begins = just-came v l.between (wait_in wait) l.called l.acquired;
     value = l.value;
     holds = holds;
   }
-  lock-begins v w (Err e) l never holds = record {
+  lock_begins v w (Err e) l never holds = record {
     between = l.between;
     begins = only-worn v l.between e l.called l.worn (λ is. never (ap Err is));
     value = l.value;
@@ -44,9 +44,9 @@ module _ {T : Type 0} where
   }
 
   -- and so is the wait of before
-  pub wait-begins : (v : View Entry (Kept T)) (wait : LockWait) → HasWait v (wait_in wait)
+  pub wait_begins : (v : View Entry (Kept T)) (wait : LockWait) → HasWait v (wait_in wait)
       → LockBegins v (Some (wait_in wait)) (Ok (Later wait)) v
-  wait-begins v wait has = record { between = v; begins = (refl, refl); value = refl; holds = has }
+  wait_begins v wait has = record { between = v; begins = (refl, refl); value = refl; holds = has }
 
   -- what is ready when a poll begins
   pub now-arrives : (v w : View Entry (Kept T)) (wait : Option Wait) (guard : Guard T)

@@ -80,6 +80,7 @@ impl<'a> AcquireFuture<'a> {
 }
 
 // The wait that the future has, or what its acquire gets.
+#[tactic(auto, using(crate::proofs::Waiting::acquire_begins))]
 fn begin(
     semaphore: &Semaphore,
     pass: &mut SemPass,

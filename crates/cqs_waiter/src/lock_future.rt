@@ -127,6 +127,7 @@ impl<'a, T: Send + Drop> LockFuture<'a, T> {
 }
 
 // The wait that the future has, or what its lock gets.
+#[tactic(auto, using(crate::proofs::Locks::lock_begins, crate::proofs::Locks::wait_begins))]
 fn begin<T: Send + Drop>(
     mutex: &Mutex<T>,
     pass: &mut MutexPass<T>,

@@ -3,6 +3,8 @@
 //! The data, the readers and the laws stand in `ClientWords`, over which the queue, its passes and
 //! its steps are generic.
 
+use atomic_table::{Shared, TableRule};
+
 /// A client of the queue: a primitive, by its own words of the table. Contracts see which histories
 /// its words and the queue show together, and the laws say that each step of the queue keeps this.
 pub trait ClientWords: Sized + Drop {
@@ -52,6 +54,14 @@ pub trait ClientWords: Sized + Drop {
     fn held_after_take(held: u32) -> u32
         requires { object.gains.held held < 2 ^ 32 }
         ensures { result ≡ object.gains.held held };
+
+    /// Wakes the caller that parks on a word of the table, if there is one. A client whose callers
+    /// never park does nothing here, and then runs where no thread may be woken.
+    fn wake<S, V, K, P: TableRule<S, V, K>>(words: &Shared<S, V, K, P>, word: usize)
+        requires inside { word < words.now.table_id.words }
+    {
+        words.wake_one(word);
+    }
 
     ghost keeps: { (x : Self) → IsClient object (primitive x) };
 }

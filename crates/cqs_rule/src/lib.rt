@@ -32,8 +32,8 @@ pub use loads::{Cancels, Counts, Learned, Load, Meets, Misses, Polls, Watches};
 pub use queue::{Pass, Queue, Under, Wait};
 pub use rule::{Key, Rule};
 pub use semaphore::{
-    Carries, Decide, Give, Kept, SemClient, Take, TryLoad, TrySwap, give_permit, load_state,
-    next_wait, read_state, take_permit, try_take,
+    Carries, Decide, Give, Kept, SemClient, Take, TryLoad, TrySwap, Unparked, give_permit,
+    load_state, next_wait, read_state, take_permit, try_take,
 };
 pub use silent::Silent;
 pub use view::{Facts, Glimpse, Has, Opening, Sighting, View};

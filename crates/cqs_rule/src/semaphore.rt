@@ -10,7 +10,7 @@ mod client;
 mod events;
 
 pub use calls::{give_permit, load_state, next_wait, read_state, take_permit, try_take};
-pub use carries::{Carries, Kept};
+pub use carries::{Carries, Kept, Unparked};
 pub use events::{Decide, Give, Take, TryLoad, TrySwap};
 use std::marker::PhantomData;
 
@@ -28,6 +28,22 @@ impl SemClient {
 
     /// A semaphore that opens with this many permits.
     pub fn new(permits: u32) -> SemClient
+        requires some { 0 < permits }
+        requires few { permits ≤ 1048576 }
+        ensures { permits_of result ≡ permits }
+    {
+        SemClient {
+            permits,
+            value: PhantomData,
+        }
+    }
+}
+
+impl SemClient<Unparked> {
+    ghost use Rattle.cqs_rule.specs.SemaphorePermits.{permits_of};
+
+    /// A semaphore that opens with this many permits, and whose callers never park.
+    pub fn unparked(permits: u32) -> SemClient<Unparked>
         requires some { 0 < permits }
         requires few { permits ≤ 1048576 }
         ensures { permits_of result ≡ permits }

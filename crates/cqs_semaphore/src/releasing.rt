@@ -9,6 +9,7 @@ ghost use Rattle.cqs_rule.specs.SemaphoreSlots.{IsFull, GaveValue};
 ghost use Rattle.cqs_semaphore.specs.Alone.{IsPlainRelease, IsPlainEnd, IsTurnedBack};
 ghost use Rattle.cqs_semaphore.specs.Answers.{Releases, Ends, most_passed_over};
 ghost use Rattle.cqs_semaphore.specs.Calls.{IsReady, IsMine, CallRule, plain_after};
+ghost use Rattle.cqs_semaphore.specs.Permits.{number_of};
 ghost use Rattle.cqs_semaphore.specs.Entries.{released_entries, released_further, resumed_further};
 ghost use Rattle.cqs_semaphore.specs.Steps.{as_released, HasEnded, IsFurther};
 
@@ -71,6 +72,15 @@ impl<T: Carries + Send> Semaphore<T> {
             → IsTurnedBack (pass_view pass.old) result (pass_view pass.new) }
     {
         released(finish(&self.queue, pass, under))
+    }
+
+    /// A token of a permit that the pass holds, for a caller who counts its permits and keeps no
+    /// tokens of them. It makes no step.
+    pub fn permit_of(&self, _pass: &SemPass<T>) -> Permit
+        requires holds { 0 < (pass_view _pass.now).facts.has.held }
+        ensures { number_of result ≡ None }
+    {
+        Permit { number: None }
     }
 
     // Resumes for a permit that was sent to the line.

@@ -9,7 +9,9 @@ ghost use Rattle.cqs_rule.specs.Views.{first_view};
 ghost use Rattle.cqs_rule.specs.declared.config.CancelMode.TheVariants.{Smart};
 ghost use Rattle.cqs_semaphore.specs.Calls.{IsReady, Rests, IsMine, CallRule, permits_in, plain_after};
 
-use cqs_rule::{CancelMode, Carries, Config, MakeError, Pass, Queue, SemClient, read_state};
+use cqs_rule::{
+    CancelMode, Carries, Config, MakeError, Pass, Queue, SemClient, Unparked, read_state,
+};
 use cqs_words::StateWord;
 use std::alloc::Global;
 
@@ -48,6 +50,34 @@ impl Semaphore {
             return Err(MakeError::BadConfig);
         }
         let client = SemClient::new(permits);
+        let (queue, pass) = Queue::new(alloc, config, CancelMode::Smart, client)?;
+        Ok((Semaphore { queue }, pass))
+    }
+}
+
+impl Semaphore<Unparked> {
+    /// The same for callers who never park: each looks at its wait when it likes. Such a semaphore
+    /// wakes nobody, and so it may stand in a static library.
+    pub fn unparked(
+        alloc: Global,
+        permits: u32,
+        config: Config,
+    ) -> Result<(Semaphore<Unparked>, SemPass<Unparked>), MakeError>
+        ensures bad_config { IsErrOf result MakeError.BadConfig
+            ↔ ((permits ≡ 0) ⊎ (1048576 < permits) ⊎ (is_config config ≡ false)) }
+        ensures belongs { IfOk result (λ made. IsMine made.0 made.1) }
+        ensures permits { IfOk result (λ made. permits_in made.0 ≡ permits) }
+        ensures passes { IfOk result (λ made. (passes_of made.0.queue ≡ config.passes)
+            × (limit_of made.0.queue ≡ config.limit)) }
+        ensures first { IfOk result (λ made. (pass_view made.1).number ≡ 0) }
+        ensures nothing { IfOk result (λ made. (pass_view made.1).seen ≡ []) }
+        ensures alone { IfOk result (λ made. (pass_view made.1).alone ≡ true) }
+        ensures ready { IfOk result (λ made. Rests (pass_view made.1) 0 [] (pass_view made.1)) }
+    {
+        if permits == 0 || permits > MOST_PERMITS {
+            return Err(MakeError::BadConfig);
+        }
+        let client = SemClient::unparked(permits);
         let (queue, pass) = Queue::new(alloc, config, CancelMode::Smart, client)?;
         Ok((Semaphore { queue }, pass))
     }

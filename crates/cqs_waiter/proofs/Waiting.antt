@@ -167,7 +167,7 @@ module _ {T : Type 0} where
         };
       }
 
-  -- What comes of a wait whose look was pending comes of that poll's beginning.
+  -- What comes of a wait whose look was pending comes of that poll's start.
   later-came : (v m w : View Entry T) (k : ℕ) (before : List Entry) (waits : List ℕ) (permit : Permit)
       → Course v (before ++ entry.LookPending v.number k ∷ []) m
       → m.facts.has.held ≡ v.facts.has.held → m.facts.waits ≡ waits

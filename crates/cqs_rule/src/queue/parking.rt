@@ -31,7 +31,7 @@ impl<C: ClientWords> Queue<C> {
         requires inside { IsInTable self.now at }
     {
         if self.parked.any() {
-            self.table.shared.wake_one(at.word as usize);
+            C::wake(&self.table.shared, at.word as usize);
         }
     }
 }

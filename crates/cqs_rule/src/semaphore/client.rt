@@ -2,6 +2,7 @@
 
 use crate::client::ClientWords;
 use crate::semaphore::{Carries, SemClient};
+use atomic_table::{Shared, TableRule};
 use cqs_core::Entry;
 use cqs_words::StateWord;
 
@@ -46,6 +47,10 @@ impl<T: Carries> ClientWords for SemClient<T> {
 
     fn held_after_take(held: u32) -> u32 {
         held + 1
+    }
+
+    fn wake<S, V, K, P: TableRule<S, V, K>>(words: &Shared<S, V, K, P>, word: usize) {
+        T::wake(words, word);
     }
 
     ghost keeps = { λ x. semaphore-client (permits_of x) x.some x.few };

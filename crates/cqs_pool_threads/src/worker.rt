@@ -11,7 +11,7 @@ use std::thread;
 pub type Hands = (ValuePass<u64>, ValuePass<u64>, ValuePass<u64>);
 
 /// So many rounds each worker makes.
-pub const ROUNDS: u32 = 400;
+pub const ROUNDS: u32 = 200;
 
 /// In each third round a worker that has to wait leaves the line at once.
 const PATIENT_ROUNDS: u32 = 3;

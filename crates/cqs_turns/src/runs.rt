@@ -103,7 +103,7 @@ pub fn run_plan<F: Floor>(
     ensures floor { OnOk result (F.plain floor.new
         ≡ (machine_after plan.now plan.now.turns).scene.floor) }
 
-    // The entries of each of the plan's resources are a legal history of it.
+    // What happened at each of the plan's resources is a legal history of it.
     ensures legal { OnOk result (IsLegalFor plan.now (F.plain floor.new)) }
     ensures report { OnOk result (report.new ≡ report_of plan.now) }
     ensures err { OnErr result (IsPrefix report.new (report_of plan.now)) }

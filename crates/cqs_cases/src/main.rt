@@ -39,13 +39,14 @@ use std::fs;
 use std::rt::Files;
 
 /// The files of cases, each of which ends with `.cases`.
-const TABLES: [&str; 9] = [
+const TABLES: [&str; 10] = [
     "plans",
     "deadlines",
     "faults",
     "ranges",
     "names",
     "mutexes",
+    "pools",
     "first-faults",
     "too-many",
     "streams",

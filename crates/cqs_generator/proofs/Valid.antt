@@ -1,5 +1,5 @@
 -- The plan that a number makes is a plan, and can be run.
-use Rattle.std.proofs.Common.{◌≡◌, ℕ, zero, suc, ◌+◌, ◌*◌, ◌<◌, ◌≤◌, ◌^◌, ◌%◌, true, [], ◌∷◌, ◌++◌, length, get_or, refl, rules, nat_le, arith}
+use Rattle.std.proofs.Common.{◌≡◌, ℕ, zero, suc, ◌+◌, ◌*◌, ◌<◌, ◌≤◌, ◌^◌, ◌%◌, true, [], ◌∷◌, ◌++◌, length, get_or, refl, rules, nat_le, arith, subst, Some, slice_get}
 use Rattle.std.specs.Prelude.{codes, All, IfSome, IsTrue}
 use Rattle.std.specs.Fmt.{decimal}
 use Rattle.std.specs.List.{list_all}
@@ -8,9 +8,11 @@ use Rattle.std.proofs.lemmas.Fmt.{decimal_by_steps, decimal_injective, length-de
 use Rattle.std.proofs.lemmas.List.Folds.{list_all-append}
 use Rattle.std.proofs.lemmas.List.FromFn.{get_or-map-range_with_len, length-map-range_with_len}
 use Rattle.cqs_plan.specs.declared.plans.job.Job.{Job}
+use Rattle.cqs_plan.specs.declared.plans.kind.Kind.TheVariants.{Semaphore, Pool}
+use Rattle.cqs_plan.specs.declared.plans.resource.Resource.{Resource}
 use Rattle.cqs_plan.specs.Language.{is_name, is_name_byte}
 use Rattle.cqs_plan.specs.Order.{AreInOrder}
-use Rattle.cqs_plan.specs.Runnable.{IsRunnable}
+use Rattle.cqs_plan.specs.Runnable.{AreBuilt, IsBuilt, IsRunnable}
 use Rattle.cqs_plan.specs.Validity.{IsJob, IsResource, IsStep, IsValid, GivesWhatItTook}
 use Rattle.cqs_plan.proofs.RunnablePlans.{runnable}
 use Rattle.cqs_generator.specs.Draws.{draw}
@@ -71,6 +73,21 @@ each-resource : All IsResource resources
 each-resource zero d below = record { named = refl; sized = (omega arith, omega arith) }
 each-resource (suc zero) d below = record { named = refl; sized = (omega arith, omega arith) }
 each-resource (suc (suc k)) d below = absurd (omega arith)
+
+-- each is of a kind that is built, with its number in its range
+each-built : (at : ℕ) (r : Resource) → slice_get resources at ≡ Some r → IsBuilt r.kind
+each-built zero r there =
+    let is : Some (record { name = codes "db"; kind = Semaphore 2 }) ≡ Some r = there in
+    let same : record { name = codes "db"; kind = Semaphore 2 } ≡ r = cc in
+    subst (λ (x : Resource). IsBuilt x.kind) same (tt, (omega arith, omega arith))
+each-built (suc zero) r there =
+    let is : Some (record { name = codes "buf"; kind = Pool 1 }) ≡ Some r = there in
+    let same : record { name = codes "buf"; kind = Pool 1 } ≡ r = cc in
+    subst (λ (x : Resource). IsBuilt x.kind) same (tt, (omega arith, omega arith))
+each-built (suc (suc k)) r there = absurd (cc)
+
+pub resources-built : AreBuilt resources
+resources-built = record { at = each-built }
 
 in-order : AreInOrder resources
 in-order = record { order = search rules; distinct = search rules }

@@ -3,8 +3,8 @@
 ghost use Rattle.std.specs.Prelude.{◌≡◌, ◌<◌, ◌^◌};
 ghost use Rattle.cqs_generator.specs.Draws.{next_state, number_of};
 
-/// A linear congruence on 31 bits, of which the upper 15 are drawn: the one that the C standard gives
-/// as an example for `rand`.
+/// A linear congruence on 31 bits, of which the upper 15 are drawn: the one that the C standard
+/// gives as an example for `rand`.
 #[derive(Drop)]
 pub struct Draws {
     pub state: u32,

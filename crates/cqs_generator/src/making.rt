@@ -10,9 +10,10 @@ use crate::draws::Draws;
 use cqs_plan::{Job, Jobs, Kind, Memory, Name, Plan, Resource, Resources, Step, Steps};
 use std::alloc::Global;
 
-/// The plan of this number, with so many jobs: they share a semaphore `db` of two permits and a pool
-/// `buf` of one element. Each job works for up to five turns, takes a permit, every other one the
-/// element, too, and works for up to four turns; every third one has a deadline of up to 30 turns.
+/// The plan of this number, with so many jobs: they share a semaphore `db` of two permits and a
+/// pool `buf` of one element. Each job works for up to five turns, takes a permit, by an odd number
+/// the element, too, and works for up to four turns; it has a deadline of up to 30 turns where its
+/// third number is a multiple of 3.
 pub fn make_plan(alloc: Global, number: u32, jobs: u32) -> Result<Plan, Memory>
     requires number { number < 2 ^ 31 }
     requires jobs { (1 ≤ jobs) × (jobs ≤ 4096) }

@@ -39,7 +39,7 @@ use std::fs;
 use std::rt::Files;
 
 /// The files of cases, each of which ends with `.cases`.
-const TABLES: [&str; 10] = [
+const TABLES: [&str; 11] = [
     "plans",
     "deadlines",
     "faults",
@@ -47,6 +47,7 @@ const TABLES: [&str; 10] = [
     "names",
     "mutexes",
     "pools",
+    "chance",
     "first-faults",
     "too-many",
     "streams",

@@ -1,6 +1,6 @@
 //! The take, and how a value leaves its slot.
 
-ghost use Rattle.std.specs.Prelude.{◌≡◌, None};
+ghost use Rattle.std.specs.Prelude.{◌≡◌, None, IsErrOf};
 ghost use Rattle.cqs_rule.specs.Passes.{pass_view};
 ghost use Rattle.cqs_rule.specs.Slots.{laid_in};
 ghost use Rattle.cqs_pool.specs.Answers.{IsInHand};
@@ -27,6 +27,7 @@ impl<T: Send + Drop> ValuePool<T> {
         ensures taken { HasTaken (pass_view pass.old) result (pass_view pass.new) }
         ensures leaves { TakenLeaves (pass_view pass.old) result (pass_view pass.new) }
         ensures ready { IsReady (pass_view pass.new).facts }
+        ensures never_crowded { ¬ IsErrOf result AcquireError.Crowded }
     {
         match self.pool.take(pass) {
             Ok(Taking::Took(element)) => Ok(ItemTaking::Took(self.take_out(pass, element))),

@@ -39,13 +39,15 @@ use std::fs;
 use std::rt::Files;
 
 /// The files of cases, each of which ends with `.cases`.
-const TABLES: [&str; 9] = [
+const TABLES: [&str; 11] = [
     "plans",
     "deadlines",
     "faults",
     "ranges",
     "names",
     "mutexes",
+    "pools",
+    "chance",
     "first-faults",
     "too-many",
     "streams",

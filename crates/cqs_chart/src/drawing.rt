@@ -25,16 +25,22 @@ const LEVEL: u64 = 16;
 const HEAD: &str =
     r##"<style>text{font:12px sans-serif;fill:#1e293b}.small{font-size:10px;fill:#475569}</style>
 <defs>
-<pattern id="waiting" width="6" height="6" patternUnits="userSpaceOnUse" patternTransform="rotate(45)"><rect width="6" height="6" fill="#fde68a"/><rect width="3" height="6" fill="#d97706"/></pattern>
-<pattern id="holding" width="5" height="5" patternUnits="userSpaceOnUse"><rect width="5" height="5" fill="#2563eb"/><circle cx="2.5" cy="2.5" r="1" fill="#dbeafe"/></pattern>
+<pattern id="waiting" width="6" height="6" patternUnits="userSpaceOnUse"
+patternTransform="rotate(45)"><rect width="6" height="6" fill="#fde68a"/>
+<rect width="3" height="6" fill="#d97706"/></pattern>
+<pattern id="holding" width="5" height="5" patternUnits="userSpaceOnUse">
+<rect width="5" height="5" fill="#2563eb"/><circle cx="2.5" cy="2.5" r="1" fill="#dbeafe"/>
+</pattern>
 </defs>
 <rect x="170" y="14" width="26" height="14" fill="#cbd5e1"/><text x="202" y="25">works</text>
 <rect x="250" y="14" width="26" height="14" fill="url(#waiting)"/><text x="282" y="25">waits</text>
 <rect x="330" y="14" width="26" height="14" fill="url(#holding)"/><text x="362" y="25">holds</text>
 <circle cx="423" cy="21" r="5" fill="#16a34a"/><text x="436" y="25">done</text>
-<path d="M485 16l10 10m0-10l-10 10" stroke="#b91c1c" stroke-width="2.5"/><text x="502" y="25">gave up</text>
+<path d="M485 16l10 10m0-10l-10 10" stroke="#b91c1c" stroke-width="2.5"/>
+<text x="502" y="25">gave up</text>
 <path d="M571 27l6-11l6 11z" fill="#7c3aed"/><text x="590" y="25">late</text>
-<path d="M632 15l6 6l-6 6" fill="none" stroke="#334155" stroke-width="2.5"/><text x="646" y="25">not ended</text>
+<path d="M632 15l6 6l-6 6" fill="none" stroke="#334155" stroke-width="2.5"/>
+<text x="646" y="25">not ended</text>
 "##;
 
 /// How many pixels from the left edge a turn begins.
@@ -83,7 +89,8 @@ fn draw_span<W: Write>(out: &mut W, span: Span, turns: u64, top: u64) -> anyhow:
     let width = place_of(span.to, turns).saturating_sub(left).max(1);
     writeln!(
         out,
-        "<rect x=\"{left}\" y=\"{top}\" width=\"{width}\" height=\"{JOB_BAR}\" fill=\"{}\"><title>{} from turn {} to {}</title></rect>",
+        "<rect x=\"{left}\" y=\"{top}\" width=\"{width}\" height=\"{JOB_BAR}\" \
+         fill=\"{}\"><title>{} from turn {} to {}</title></rect>",
         fill_of(span.state),
         word_of(span.state),
         span.from,
@@ -98,24 +105,28 @@ fn draw_end<W: Write>(out: &mut W, job: &Job, turns: u64, top: u64) -> anyhow::R
     match job.end {
         Some((turn, End::Done)) => writeln!(
             out,
-            "<circle cx=\"{}\" cy=\"{middle}\" r=\"5\" fill=\"#16a34a\"><title>done in turn {turn}</title></circle>",
+            "<circle cx=\"{}\" cy=\"{middle}\" r=\"5\" fill=\"#16a34a\"><title>done in turn \
+             {turn}</title></circle>",
             place_of(turn, turns)
         )?,
         Some((turn, End::GaveUp)) => writeln!(
             out,
-            "<path d=\"M{} {}l10 10m0-10l-10 10\" stroke=\"#b91c1c\" stroke-width=\"2.5\"><title>gave up in turn {turn}</title></path>",
+            "<path d=\"M{} {}l10 10m0-10l-10 10\" stroke=\"#b91c1c\" \
+             stroke-width=\"2.5\"><title>gave up in turn {turn}</title></path>",
             place_of(turn, turns).saturating_sub(5),
             middle.saturating_sub(5)
         )?,
         Some((turn, End::Late)) => writeln!(
             out,
-            "<path d=\"M{} {}l6-11l6 11z\" fill=\"#7c3aed\"><title>late in turn {turn}</title></path>",
+            "<path d=\"M{} {}l6-11l6 11z\" fill=\"#7c3aed\"><title>late in turn \
+             {turn}</title></path>",
             place_of(turn, turns).saturating_sub(6),
             middle.saturating_add(5)
         )?,
         None => writeln!(
             out,
-            "<path d=\"M{} {}l6 6l-6 6\" fill=\"none\" stroke=\"#334155\" stroke-width=\"2.5\"><title>not ended</title></path>",
+            "<path d=\"M{} {}l6 6l-6 6\" fill=\"none\" stroke=\"#334155\" \
+             stroke-width=\"2.5\"><title>not ended</title></path>",
             place_of(turns, turns),
             middle.saturating_sub(6)
         )?,
@@ -161,7 +172,8 @@ fn draw_resource<W: Write>(
         if up != 0 {
             writeln!(
                 out,
-                "<rect x=\"{left}\" y=\"{}\" width=\"{width}\" height=\"{up}\" fill=\"url(#holding)\"><title>{} held</title></rect>",
+                "<rect x=\"{left}\" y=\"{}\" width=\"{width}\" height=\"{up}\" \
+                 fill=\"url(#holding)\"><title>{} held</title></rect>",
                 middle.saturating_sub(up),
                 level.held
             )?;
@@ -169,7 +181,8 @@ fn draw_resource<W: Write>(
         if down != 0 {
             writeln!(
                 out,
-                "<rect x=\"{left}\" y=\"{middle}\" width=\"{width}\" height=\"{down}\" fill=\"url(#waiting)\"><title>{} in line</title></rect>",
+                "<rect x=\"{left}\" y=\"{middle}\" width=\"{width}\" height=\"{down}\" \
+                 fill=\"url(#waiting)\"><title>{} in line</title></rect>",
                 level.waiting
             )?;
         }
@@ -181,7 +194,8 @@ fn draw_resource<W: Write>(
     )?;
     writeln!(
         out,
-        "<text class=\"small\" x=\"{}\" y=\"{}\" text-anchor=\"end\">at most {held} held, {waiting} in line</text>",
+        "<text class=\"small\" x=\"{}\" y=\"{}\" text-anchor=\"end\">at most {held} held, \
+         {waiting} in line</text>",
         NAMES.saturating_sub(10),
         top.saturating_add(34)
     )?;
@@ -199,7 +213,8 @@ fn draw_turns<W: Write>(out: &mut W, turns: u64, top: u64) -> anyhow::Result<()>
             let left = place_of(turn, turns);
             writeln!(
                 out,
-                "<path d=\"M{left} {top}V{line}\" stroke=\"#334155\"/><text class=\"small\" x=\"{left}\" y=\"{text}\" text-anchor=\"middle\">{turn}</text>"
+                "<path d=\"M{left} {top}V{line}\" stroke=\"#334155\"/><text class=\"small\" \
+                 x=\"{left}\" y=\"{text}\" text-anchor=\"middle\">{turn}</text>"
             )?;
         }
     }
@@ -231,7 +246,8 @@ pub fn draw<W: Write>(out: &mut W, alloc: Global, rows: &Rows) -> anyhow::Result
     let height = bottom.saturating_add(30);
     writeln!(
         out,
-        "<svg xmlns=\"http://www.w3.org/2000/svg\" width=\"{WIDTH}\" height=\"{height}\" viewBox=\"0 0 {WIDTH} {height}\">"
+        "<svg xmlns=\"http://www.w3.org/2000/svg\" width=\"{WIDTH}\" height=\"{height}\" \
+         viewBox=\"0 0 {WIDTH} {height}\">"
     )?;
     writeln!(
         out,

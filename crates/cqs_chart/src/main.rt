@@ -1,9 +1,9 @@
-//! Draws the report of a plan: reads it on standard input, and writes an SVG to standard output. One
-//! bar for each job, over the turns, and below them one row for each resource: upwards how many are
-//! held, downwards how many wait.
+//! Draws the report of a plan: reads it on standard input, and writes an SVG to standard output.
+//! One bar for each job, over the turns, and below them one row for each resource: upwards how many
+//! are held, downwards how many wait.
 //!
-//! Where a line is none of a report, nothing is drawn, and standard error has its number. A job that
-//! has no line at all isn't drawn.
+//! Where a line is none of a report, nothing is drawn, and standard error has its number. A job
+//! that has no line at all isn't drawn.
 #![tactic(auto)]
 
 mod drawing;

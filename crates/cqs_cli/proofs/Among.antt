@@ -1,8 +1,8 @@
 -- Semaphores of one sort among those of several: what a call of one does, in the words of all.
-use Rattle.std.proofs.Common.{◌≡◌, ◌≢◌, ℕ, ◌+◌, ◌-◌, ◌<◌, nat_lt, Bool, true, false, List, [], ◌∷◌, ◌++◌, Option, Some, None, length, refl, ap, sym, ◌∙◌, subst}
+use Rattle.std.proofs.Common.{◌≡◌, ◌≢◌, ℕ, ◌+◌, ◌-◌, nat_lt, Bool, true, false, List, [], ◌∷◌, ◌++◌, Option, Some, None, length, ap, sym, ◌∙◌, subst}
 use Rattle.std.specs.Option.{option_map}
 use Rattle.cqs_plan.specs.declared.plans.kind.Kind.{Kind}
-use Rattle.cqs_plan.specs.Floor.{permits_of}
+use Rattle.cqs_plan.specs.Floor.{size_of}
 use Rattle.cqs_core.specs.declared.entries.Entry.{Entry}
 use Rattle.cqs_core.specs.declared.entries.Entry.TheVariants as entry
 use Rattle.cqs_core.specs.SemaphoreEntries.{IsFirst, object_after}
@@ -24,7 +24,7 @@ pub record IsAmong {X W Y V : Type 0} (s : Sole X W) (t : Sole Y V) (f : X → Y
 
 module _ {X W Y V : Type 0} (s : Sole X W) (t : Sole Y V) (f : X → Y) (g : W → V) (among : IsAmong s t f g) where
   object-among : (kind : Option Kind) (x : X) → object t kind (f x) ≡ object s kind x
-  object-among kind x = ap (object_after (permits_of kind)) (among.entries x)
+  object-among kind x = ap (object_after (size_of kind)) (among.entries x)
 
   -- where a call may be made
   pub acquire-among : (x : X) → CanAcquire t (f x) → CanAcquire s x
@@ -180,7 +180,7 @@ module _ {X W Y V : Type 0} (s : Sole X W) (t : Sole Y V) (f : X → Y) (g : W �
         record {
           free = m.free ∙ ap (λ (o : Semaphore). o.free) (sym (object-among kind x));
           line = m.line ∙ ap (λ (o : Semaphore). length o.line) (sym (object-among kind x));
-          all = subst (λ (o : Semaphore). o.held + o.free ≡ permits_of kind) (sym (object-among kind x)) m.all;
+          all = subst (λ (o : Semaphore). o.held + o.free ≡ size_of kind) (sym (object-among kind x)) m.all;
           goes = goes-among _ _ _ _ _ m.goes;
           keeps = keeps-among m.keeps;
         }

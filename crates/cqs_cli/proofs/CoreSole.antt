@@ -1,21 +1,18 @@
 -- A core with one pass is a semaphore as a floor needs it.
-use Rattle.std.proofs.Common.{◌≡◌, ◌≢◌, inl, inr, ℕ, ℤ, pos, negsuc, ◌≤ℤ◌, ◌+◌, ◌-◌, ◌*◌, ◌<◌, ◌≤◌, ◌==◌, nat_lt, not, Bool, true, false, List, [], ◌∷◌, ◌++◌, Option, Some, None, is_some, length, replicate, slice_get, refl, ap, sym, ◌∙◌, subst, eq-eqb, ne_eqb, eqb-true, lit<, lit≤, arith}
+use Rattle.std.proofs.Common.{◌≡◌, ◌≢◌, inl, ℕ, ℤ, pos, negsuc, ◌≤ℤ◌, ◌+◌, ◌*◌, ◌<◌, ◌≤◌, ◌==◌, nat_lt, not, Bool, true, false, List, [], ◌∷◌, ◌++◌, Option, Some, None, is_some, length, replicate, slice_get, refl, ap, sym, ◌∙◌, subst, eq-eqb, ne_eqb, eqb-true, lit<, lit≤, arith}
 use Rattle.std.specs.Prelude.{slice_index}
 use Rattle.std.specs.List.{list_any}
 use Rattle.std.proofs.lemmas.Int.{ints}
 use Rattle.std.proofs.lemmas.List.{append-nil}
 use Rattle.cqs_plan.specs.declared.plans.kind.Kind.{Kind}
-use Rattle.cqs_plan.specs.Floor.{permits_of}
+use Rattle.cqs_plan.specs.Floor.{size_of}
 use Rattle.cqs_core.specs.declared.calls.Call.TheVariants as call
 use Rattle.cqs_core.specs.declared.calls.Reply.{Reply}
-use Rattle.cqs_core.specs.declared.calls.Reply.TheVariants as reply
 use Rattle.cqs_core.specs.declared.doings.Doing.TheVariants as doing
-use Rattle.cqs_core.specs.declared.entries.Entry.{Entry}
-use Rattle.cqs_core.specs.declared.entries.Entry.TheVariants as entry
 use Rattle.cqs_core.specs.QueueLine.{Waiting, going}
 use Rattle.cqs_core.specs.Resting.{IsIdle}
 use Rattle.cqs_core.specs.SemaphoreAnswers.{Room}
-use Rattle.cqs_core.specs.SemaphoreEntries.{IsFirst, IsLegal, find_wait, object_after}
+use Rattle.cqs_core.specs.SemaphoreEntries.{IsLegal, find_wait, object_after}
 use Rattle.cqs_core.specs.SemaphoreObject.{Semaphore}
 use Rattle.cqs_core.specs.SemaphoreShown.{free_of, short_of, shown, opened}
 use Rattle.cqs_core.specs.SemaphoreTable.{Shape}
@@ -26,7 +23,7 @@ use Rattle.cqs_core.proofs.Quiet.{IsQuiet, none-going, quiet-core}
 use Rattle.cqs_cli.specs.declared.floors.sole.Stand.{Stand}
 use Rattle.cqs_cli.specs.SoleCore.{HasMade, IsFunded, IsReady, IsSole, is_served_at, has_left, sent_in, sole_core, wait_in}
 use Rattle.cqs_cli.specs.Soles.{IsLawful, IsOpened, CanAcquire, CanEnd, CanRelease, Acquires, Cancels, Polls, Releases, Stands, is_in_line, object}
-use Rattle.cqs_cli.proofs.Came.{Came, came-now, came-later, came-freed, came-sent, came-granted, came-left, came-late}
+use Rattle.cqs_cli.proofs.Came.{came-now, came-later, came-freed, came-sent, came-granted, came-left, came-late}
 use Rattle.cqs_cli.proofs.Funded.{funded-next, funded-rests, funded-ready}
 use Rattle.cqs_cli.proofs.Objects.{stays-entered, comes-entered, stays-sent, stays-closed, stays-left, left-next}
 use Rattle.cqs_cli.proofs.Opened.{replicate-all}
@@ -34,7 +31,7 @@ use Rattle.cqs_cli.proofs.SoleCells.{read-wait, line-few}
 use Rattle.cqs_cli.proofs.Stays.{in-head}
 
 -- the plain semaphore of a core is the one that it shows
-object-shown : (x : Room) (kind : Option Kind) (room waiting held : ℕ) → IsFunded x (permits_of kind) room waiting held
+object-shown : (x : Room) (kind : Option Kind) (room waiting held : ℕ) → IsFunded x (size_of kind) room waiting held
     → object sole_core kind x ≡ shown x.shape
 object-shown x kind room waiting held funded =
     ap (λ n. object_after n x.shape.history) (sym funded.permits) ∙ funded.sole.core.object
@@ -45,7 +42,7 @@ core-lawful = record {
   legal = λ x kind room waiting held funded.
       subst (λ n. IsLegal n x.shape.history) funded.permits funded.sole.core.legal;
   numbered = λ x wait kind room waiting held funded has.
-      let read = read-wait x.shape funded.sole (funded-rests x (permits_of kind) room waiting held funded) wait 0 has in
+      let read = read-wait x.shape funded.sole (funded-rests x (size_of kind) room waiting held funded) wait 0 has in
       subst (λ (o : Semaphore). wait < o.next) (sym (object-shown x kind room waiting held funded)) read.drawn;
 }
 
@@ -62,14 +59,14 @@ sole-opened permits some few = record {
   untaken = record { at = λ k cell got. absurd (cc) };
 }
 
-pub core-opened : (kind : Option Kind) (takes : ℕ) (x : Room) → 0 < permits_of kind → permits_of kind ≤ 1048576
-    → takes ≤ 262144 → x.shape ≡ opened (permits_of kind) 1 → 9 * takes ≤ x.spare → IsOpened sole_core kind takes x
+pub core-opened : (kind : Option Kind) (takes : ℕ) (x : Room) → 0 < size_of kind → size_of kind ≤ 1048576
+    → takes ≤ 262144 → x.shape ≡ opened (size_of kind) 1 → 9 * takes ≤ x.spare → IsOpened sole_core kind takes x
 core-opened kind takes x some few few_takes opens spare =
     let suspends : x.shape.queue.suspends ≡ 0 = ap (λ (s : Shape). s.queue.suspends) opens in
     record {
       fresh = ap (λ (s : Shape). s.history) opens;
       funded = record {
-        sole = subst IsSole (sym opens) (sole-opened (permits_of kind) some few);
+        sole = subst IsSole (sym opens) (sole-opened (size_of kind) some few);
         permits = ap (λ (s : Shape). s.permits) opens;
         numbers = omega (arith, suspends, few_takes);
         spare = omega (arith, spare);
@@ -98,7 +95,7 @@ end-ready x wait can = funded-ready x _ _ _ _ can.funded (omega (arith, can.some
 
 -- a call of a core that was between two calls
 module _ (x y : Room) (answer : Reply) (sole : IsSole x.shape) where
-  object-is : (kind : Option Kind) (room waiting held : ℕ) → IsFunded x (permits_of kind) room waiting held
+  object-is : (kind : Option Kind) (room waiting held : ℕ) → IsFunded x (size_of kind) room waiting held
       → shown x.shape ≡ object sole_core kind x
   object-is kind room waiting held funded = sym (object-shown x kind room waiting held funded)
 
@@ -211,7 +208,7 @@ not-false false is = absurd (cc)
 -- a core whose caller has a wait
 module _ (x : Room) (wait : ℕ) where
   -- whether the wait stands in the line
-  line-reads : (kind : Option Kind) (room waiting held : ℕ) → IsFunded x (permits_of kind) room waiting held
+  line-reads : (kind : Option Kind) (room waiting held : ℕ) → IsFunded x (size_of kind) room waiting held
       → (stands : Bool) → is_some (find_wait wait (shown x.shape).line) ≡ stands
       → is_in_line wait (object sole_core kind x).line ≡ stands
   line-reads kind room waiting held funded stands is =
@@ -307,11 +304,11 @@ state-le (negsuc m) n few = grind (arith, ints)
 
 -- what a core at rest tells by its state
 module _ (x : Room) (kind : Option Kind) (room waiting held : ℕ)
-    (funded : IsFunded x (permits_of kind) room waiting held) where
+    (funded : IsFunded x (size_of kind) room waiting held) where
   quiet : IsQuiet x.shape
-  quiet = quiet-core x.shape funded.sole.core (funded-rests x (permits_of kind) room waiting held funded)
+  quiet = quiet-core x.shape funded.sole.core (funded-rests x (size_of kind) room waiting held funded)
 
-  all-there : (shown x.shape).held + free_of x.shape.state ≡ permits_of kind
+  all-there : (shown x.shape).held + free_of x.shape.state ≡ size_of kind
   all-there =
       let still : going x.shape.queue ≡ 0 =
       none-going x.shape.queue funded.sole.core.sound funded.sole.idle quiet.behind in
@@ -330,7 +327,7 @@ module _ (x : Room) (kind : Option Kind) (room waiting held : ℕ)
       record {
         free = free ∙ ap (λ (o : Semaphore). o.free) is;
         line = line ∙ quiet.waits ∙ ap (λ (o : Semaphore). length o.line) is;
-        all = subst (λ (o : Semaphore). o.held + o.free ≡ permits_of kind) is all-there;
+        all = subst (λ (o : Semaphore). o.held + o.free ≡ size_of kind) is all-there;
         goes = record { appended = sym (append-nil x.shape.history); funded = funded };
         keeps = λ other has. has;
       }

@@ -22,7 +22,7 @@ use Rattle.cqs_plan.specs.PlanSteps.{is_take}
 use Rattle.cqs_plan.specs.Holding.{TookMore}
 use Rattle.cqs_plan.specs.Runnable.{IsRunnable, IsMakeable, kinds_of}
 use Rattle.cqs_cli.specs.Opening.{AreOpened, AreWithin, IsCountable, IsWithin, takes_of}
-use Rattle.cqs_cli.specs.Soles.{Sole, IsOpened}
+use Rattle.cqs_cli.specs.Stores.{Store, IsOpened}
 use Rattle.cqs_cli.proofs.Resources.{bit-same, bit-other, holdable-there}
 
 -- a take among the steps names one of the resources
@@ -103,10 +103,10 @@ counts-all room jobs n i long all counts =
     whole k = ap (λ m. takes_of (take m jobs) k) all ∙ ap (λ js. takes_of js k) (take-length jobs)
 
 -- a semaphore for one more resource
-pub opened-push : {X W : Type 0} (s : Sole X W) (resources : List Resource) (room : List ℕ) (soles : List X)
+pub opened-push : {X W : Type 0} (s : Store X W) (resources : List Resource) (room : List ℕ) (soles : List X)
     (resource : Resource) (sole : X)
     → length soles < length resources → resource ≡ get_or resources (length soles) resource
-    → IsOpened s (Some resource.kind) (slice_index room (length soles)) sole
+    → IsOpened s resource.kind (slice_index room (length soles)) sole
     → AreOpened s resources room soles → AreOpened s resources room (soles ++ sole ∷ [])
 opened-push {X} s resources room soles resource sole below is opens opened =
     record { each = λ at r x named got. go at r x named got (cases_lt at (length soles)) }
@@ -114,7 +114,7 @@ opened-push {X} s resources room soles resource sole below is opens opened =
     go : (at : ℕ) (r : Resource) (x : X) → slice_get resources at ≡ Some r
         → slice_get (soles ++ sole ∷ []) at ≡ Some x
         → (at < length soles) ⊎ (length soles ≤ at)
-        → IsOpened s (Some r.kind) (slice_index room at) x
+        → IsOpened s r.kind (slice_index room at) x
     go at r x named got (inl before) =
         opened.each at r x named (sym (get-append_below soles (sole ∷ []) at before) ∙ got)
     go at r x named got (inr past) =

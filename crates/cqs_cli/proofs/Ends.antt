@@ -1,30 +1,20 @@
--- How a resource stands, as its semaphore tells it.
-use Rattle.std.proofs.Common.{◌≡◌, ℕ, ◌+◌, ◌-◌, ◌≤◌, ℤ, pos, negsuc, ◌≤ℤ◌, length, Option, Some, slice_get, set, ap, ap₂, sym, ◌∙◌, subst, arith}
+-- How a resource stands, as what it is kept as tells it.
+use Rattle.std.proofs.Common.{◌≡◌, ℕ, length, Option, slice_get, set, ap, sym, ◌∙◌, subst}
 use Rattle.std.specs.Prelude.{slice_index}
 use Rattle.cqs_plan.specs.declared.plans.kind.Kind.{Kind}
-use Rattle.cqs_core.specs.SemaphoreObject.{Semaphore}
 use Rattle.cqs_plan.specs.declared.floors.answers.FloorEnd.{FloorEnd}
 use Rattle.cqs_plan.specs.declared.floors.answers.FloorEnd.TheVariants.{Permits}
-use Rattle.cqs_plan.specs.Floor.{PlainFloor, IsHoldable, permits_of}
+use Rattle.cqs_plan.specs.FloorHistory.{Standing}
+use Rattle.cqs_plan.specs.Floor.{PlainFloor, IsHoldable}
 use Rattle.cqs_plan.specs.FloorCalls.{end_answer}
-use Rattle.cqs_cli.specs.declared.floors.sole.Stand.{Stand}
 use Rattle.cqs_cli.specs.DeskCalls.{CanEndAt, Ends}
 use Rattle.cqs_cli.specs.Kept.{IsKept, held_at, waiting_at}
 use Rattle.cqs_cli.specs.Ledger.{Ledger, holds_in, plain_floor, with_soles}
-use Rattle.cqs_cli.specs.Soles.{Sole, Stands, object}
+use Rattle.cqs_cli.specs.Stores.{Store, Rests, stands}
 use Rattle.cqs_cli.proofs.Looks.{kept-same, plain-same}
-use Rattle.cqs_cli.proofs.Resources.{Funds, funds-at, holdable-there, object-there}
+use Rattle.cqs_cli.proofs.Resources.{Funds, funds-at, holdable-there, standing-there}
 
-module _ {X W : Type 0} (s : Sole X W) where
-  stands-shown : (kind : Option Kind) (room waiting held : ℕ) (x y : X) (stand : Stand)
-      → Stands s kind room waiting held x stand y
-      → Permits stand.free (permits_of kind - stand.free) stand.line
-      ≡ Permits (object s kind x).free (object s kind x).held (length (object s kind x).line)
-  stands-shown kind room waiting held x y stand stands =
-      let rest : permits_of kind - stand.free ≡ (object s kind x).held = omega (arith, stands.all, stands.free) in
-      ap (λ n. Permits n (permits_of kind - stand.free) stand.line) stands.free
-      ∙ ap₂ (λ h w. Permits (object s kind x).free h w) rest stands.line
-
+module _ {X W : Type 0} (s : Store X W) where
   can-end : (l : Ledger X W) (at : ℕ) → IsKept s l → IsHoldable (slice_get l.kinds at) → CanEndAt s l at
   can-end l at kept holdable =
       let is = holdable-there (slice_get l.kinds at) holdable in
@@ -32,7 +22,6 @@ module _ {X W : Type 0} (s : Sole X W) where
       record {
         kind = is.0;
         is = is.1;
-        holdable = subst IsHoldable is.1 holdable;
         sole = record {
           sole = funds.sole;
           there = funds.there;
@@ -56,17 +45,20 @@ module _ {X W : Type 0} (s : Sole X W) where
   end-well : (l n : Ledger X W) (at : ℕ) (answer : FloorEnd) → IsKept s l → Ends s l at answer n
       → EndsWell (plain_floor s l) at answer n
   end-well l n at answer kept e =
-      let made = e.calls.made _ _ _ _ (kept.funded.at at e.calls.sole e.calls.there) in
-      let size : permits_of (slice_get l.kinds at) ≡ permits_of (Some e.kind) = ap permits_of e.is in
+      let Funded : Option Kind → Type 0
+      = λ k. s.funded e.calls.sole k (slice_index l.room at) (waiting_at l.waits at) (held_at (holds_in l) at) in
+      let both = e.calls.made _ _ _ (subst Funded e.is (kept.funded.at at e.calls.sole e.calls.there)) in
+      let Resting : Option Kind → Type 0
+      = λ k. Rests s e.calls.sole k (slice_index l.room at) (waiting_at l.waits at) (held_at (holds_in l) at)
+      e.calls.after in
+      let rests = subst Resting (sym e.is) both.1 in
+      let told : Standing → FloorEnd = λ o. Permits o.free o.held (length o.line) in
       let is : n ≡ with_soles l (set l.soles at e.calls.after) = e.written ∙ ap (with_soles l) e.calls.soles in
       record {
-        answers = e.told ∙ ap (λ m. Permits e.stand.free (m - e.stand.free) e.stand.line) (sym size)
-            ∙ stands-shown _ _ _ _ _ _ _ made
-            ∙ ap (λ (o : Semaphore). Permits o.free o.held (length o.line))
-            (sym (object-there s l at e.calls.sole e.calls.there));
-        same = ap (plain_floor s) is ∙ plain-same s l at e.calls.sole e.calls.after kept e.calls.there made.goes;
-        kept = subst (IsKept s) (sym is)
-            (kept-same s l at e.calls.sole e.calls.after kept e.calls.there made.goes made.keeps);
+        answers = both.0 ∙ ap (λ k. told (stands s k e.calls.sole)) (sym e.is)
+            ∙ ap told (sym (standing-there s l at e.calls.sole e.calls.there));
+        same = ap (plain_floor s) is ∙ plain-same s l at e.calls.sole e.calls.after kept e.calls.there rests;
+        kept = subst (IsKept s) (sym is) (kept-same s l at e.calls.sole e.calls.after kept e.calls.there rests);
       }
 
   -- the same where the floor is seen as its plain floor

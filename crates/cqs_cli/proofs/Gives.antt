@@ -1,44 +1,57 @@
 -- A give: what it rests on, what it answers, and what it leaves.
-use Rattle.std.proofs.Common.{◌≡◌, ℕ, ◌+◌, ◌-◌, ◌<◌, ◌==◌, List, [], ◌∷◌, ◌++◌, Option, Some, IsSome, length, set, get_or, slice_get, sum_by, refl, ap, ap₂, sym, ◌∙◌, subst, arith}
+use Rattle.std.proofs.Common.{◌≡◌, ℕ, ◌+◌, ◌<◌, List, [], ◌∷◌, Option, Some, None, IsSome, length, set, get_or, slice_get, sum_by, refl, ap, ap₂, sym, ◌∙◌, subst, arith}
 use Rattle.std.specs.Prelude.{slice_index}
-use Rattle.std.specs.Option.{option_map_or}
-use Rattle.cqs_core.specs.declared.entries.Entry.{Entry}
-use Rattle.cqs_core.specs.declared.entries.Entry.TheVariants as entry
+use Rattle.std.specs.Option.{option_map, option_map_or}
 use Rattle.cqs_core.specs.QueueLine.{Waiting}
 use Rattle.cqs_core.specs.SemaphoreEntries.{IsFirst}
-use Rattle.cqs_core.specs.SemaphoreObject.{Semaphore}
-use Rattle.cqs_core.proofs.Counts.{bit}
 use Rattle.cqs_plan.specs.declared.floors.answers.FloorGive.{FloorGive}
 use Rattle.cqs_plan.specs.declared.floors.answers.FloorGive.TheVariants.{Free, Sent}
-use Rattle.cqs_plan.specs.Floor.{PlainFloor, Holding, IsHoldable, IsJob, IsHolding, oldest, holds_of, object_at}
+use Rattle.cqs_plan.specs.FloorHistory.{Deed, Standing, frees, sends}
+use Rattle.cqs_plan.specs.Floor.{PlainFloor, Holding, IsHoldable, IsJob, IsHolding, oldest, holds_of, size_of, standing_at, with_done, without_oldest}
 use Rattle.cqs_plan.specs.FloorCalls as plain
 use Rattle.cqs_cli.specs.declared.floors.transfers.Transfer.TheVariants.{GaveBack}
 use Rattle.cqs_cli.specs.DeskCalls.{Gives, HasAt}
-use Rattle.cqs_cli.specs.Kept.{IsKept, HoldPermits, held_at, waiting_at}
+use Rattle.cqs_cli.specs.Kept.{IsKept, held_at, waiting_at}
 use Rattle.cqs_cli.specs.Ledger.{Ledger, plain_floor, with_soles, with_transfer, after_transfer, holds_in}
-use Rattle.cqs_cli.specs.Soles.{Sole, CanRelease, Goes, KeepsAll}
-use Rattle.cqs_cli.proofs.Holdings.{held-gave, many-gave, permits-transfer, holds-transfer, permits-at, oldest-plain}
-use Rattle.cqs_cli.proofs.KeptNext.{funded-as, kept-next, stands-on, entries-next}
-use Rattle.cqs_cli.proofs.Resources.{Funds, funds-at, bit-same, bit-other, object-there}
+use Rattle.cqs_cli.specs.Stores.{Store, CanRelease, Goes, KeepsAll, held_by, with_less}
+use Rattle.cqs_cli.proofs.Holdings.{held-gave, else-gave, held-there, many-gave, holds-transfer, oldest-elements, some-elements}
+use Rattle.cqs_cli.proofs.KeptNext.{funded-as, kept-next, stands-on, histories-next}
+use Rattle.cqs_cli.proofs.Resources.{Funds, funds-at, standing-there}
 
--- what a plain give answers, whose permit goes to the first of the line
-sends : (line : List Waiting) (k : ℕ) → IsFirst k line → (held : Option Holding)
-    → option_map_or (λ h. h.element) held 0 ≡ 0 → plain.give_of line held ≡ Sent 0 k
-sends [] k first held none = absurd first
-sends (w ∷ line) k first held none = ap₂ (λ e n. Sent e n) none first
+-- what a plain give answers, where what is given goes to the first of the line
+sent-first : (line : List Waiting) (k : ℕ) → IsFirst k line → (held : Option Holding) (element : ℕ)
+    → option_map_or (λ h. h.element) held 0 ≡ element → plain.give_of line held ≡ Sent element k
+sent-first [] k first held element is = absurd first
+sent-first (w ∷ line) k first held element is = ap₂ (λ e n. Sent e n) is first
 
-module _ {X W : Type 0} (s : Sole X W) where
+element-of : (held : Option Holding) (element : ℕ) → option_map (λ h. h.element) held ≡ Some element
+    → option_map_or (λ h. h.element) held 0 ≡ element
+element-of (Some h) element is = cc
+element-of None element is = absurd (cc)
+
+module _ {X W : Type 0} (s : Store X W) where
+  -- a job holds something of a resource in the words of all
+  some-held : (l : Ledger X W) (at job : ℕ) → IsSome (oldest at (get_or (holds_in l) job []))
+      → 0 < length (held_by (held_at (holds_in l) at) job)
+  some-held l at job holding =
+      rw (held-there (holds_in l) at job) (some-elements at (get_or (holds_in l) job []) holding)
+
   -- a job that holds something of a resource can give it
   can-give : (l : Ledger X W) (at job : ℕ) → IsKept s l → IsHoldable (slice_get l.kinds at)
-      → IsJob (plain_floor s l) job → IsHolding (plain_floor s l) at job → HasAt l.soles at (CanRelease s)
-  can-give l at job kept holdable is_job holding =
+      → IsHolding (plain_floor s l) at job → HasAt l.soles at (CanRelease s job)
+  can-give l at job kept holdable holding =
       let funds : Funds s l at = funds-at s l at kept holdable in
-      let fewer = held-gave (holds_in l) job at is_job.holds holding at in
-      let some : 0 < held_at (holds_in l) at = omega (arith, fewer, bit-same at) in
       record {
         sole = funds.sole;
         there = funds.there;
-        can = record { kind = _; room = _; waiting = _; held = _; funded = funds.funded; some = some };
+        can = record {
+          kind = _;
+          room = _;
+          waiting = _;
+          held = _;
+          funded = funds.funded;
+          some = some-held l at job holding;
+        };
       }
 
   -- a job that gives back what it holds of a resource
@@ -51,52 +64,46 @@ module _ {X W : Type 0} (s : Sole X W) where
     transferred : holds_in given ≡ after_transfer (holds_in l) (GaveBack job at)
     transferred = holds-transfer (length l.waits) l.transfers (GaveBack job at)
 
-    held-after : (i : ℕ) → held_at (holds_in given) i + bit (at == i) ≡ held_at (holds_in l) i
-    held-after i =
-        ap (λ hs. held_at hs i + bit (at == i)) transferred ∙ held-gave (holds_in l) job at holder holding i
+    -- the element that comes back is the oldest that the job holds
+    oldest-is : (element : ℕ) → slice_get (held_by (held_at (holds_in l) at) job) 0 ≡ Some element
+        → option_map_or (λ h. h.element) (oldest at (get_or (holds_in l) job [])) 0 ≡ element
+    oldest-is element first =
+        element-of (oldest at (get_or (holds_in l) job [])) element
+        (sym (oldest-elements at (get_or (holds_in l) job []))
+        ∙ ap (λ es. slice_get es 0) (sym (held-there (holds_in l) at job)) ∙ first)
 
-    some-held : 0 < held_at (holds_in l) at
-    some-held = omega (arith, held-after at, bit-same at)
+    module _ (deed : Deed) (goes : Goes s sole deed (slice_get l.kinds at) (slice_index l.room at)
+        (waiting_at l.waits at) (with_less (held_at (holds_in l) at) job) after) where
+      -- what is kept, wherever it went
+      kept-given : KeepsAll s sole after → IsKept s given
+      kept-given keeps = kept-next s l given at sole after kept (record {
+        there = there;
+        kinds = refl;
+        soles = refl;
+        rooms = refl;
+        funded = funded-as s after _ refl refl (sym held-here) goes.funded;
+        room = λ i other. refl;
+        waiting = λ i other. refl;
+        held = λ i other. ap (λ hs. held_at hs i) transferred ∙ else-gave (holds_in l) job at i (λ e. other (sym e));
+        waits = λ j wait got. stands-on s l.soles at sole after wait there (λ same has. keeps wait.token has)
+            (kept.waits j wait got);
+        apart = kept.apart;
+        spare = omega (arith, kept.spare, many);
+      })
+        where
+          held-here : held_at (holds_in given) at ≡ with_less (held_at (holds_in l) at) job
+          held-here = ap (λ hs. held_at hs at) transferred ∙ held-gave (holds_in l) job at
 
-    -- what is kept, wherever the permit went
-    kept-given : (entries : List Entry)
-        → Goes s sole entries (slice_get l.kinds at) (slice_index l.room at) (waiting_at l.waits at)
-        (held_at (holds_in l) at - 1) after
-        → KeepsAll s sole after → IsKept s given
-    kept-given entries goes keeps = kept-next s l given at sole after kept (record {
-      there = there;
-      kinds = refl;
-      soles = refl;
-      rooms = refl;
-      funded = funded-as s after _ refl refl (sym held-here) goes.funded;
-      room = λ i other. refl;
-      waiting = λ i other. refl;
-      held = λ i other. omega (arith, held-after i, bit-other at i (λ e. other (sym e)));
-      waits = λ j wait got. stands-on s l.soles at sole after wait there (λ same has. keeps wait.token has)
-          (kept.waits j wait got);
-      apart = kept.apart;
-      plain = subst HoldPermits (sym transferred) (permits-transfer (holds_in l) (GaveBack job at) kept.plain);
-      spare = omega (arith, kept.spare, many);
-    })
-      where
-        held-here : held_at (holds_in given) at ≡ held_at (holds_in l) at - 1
-        held-here = omega (arith, held-after at, bit-same at)
+          many : sum_by (λ hs. length hs) (holds_in given) + 1 ≡ sum_by (λ hs. length hs) (holds_in l)
+          many =
+              ap (λ hss. sum_by (λ hs. length hs) hss + 1) transferred
+              ∙ many-gave (holds_in l) job at holder holding
 
-        many : sum_by (λ hs. length hs) (holds_in given) + 1 ≡ sum_by (λ hs. length hs) (holds_in l)
-        many =
-            ap (λ hss. sum_by (λ hs. length hs) hss + 1) transferred ∙ many-gave (holds_in l) job at holder holding
-
-    plain-freed : s.entries after ≡ s.entries sole ++ entry.GiveFreed 0 ∷ []
-        → plain_floor s given ≡ plain.after_give (plain_floor s l) at job (Free 0)
-    plain-freed appended =
-        let entries = entries-next s l.soles at sole after (entry.GiveFreed 0 ∷ []) there appended in
-        rw (entries, transferred) refl
-
-    plain-sent : (k : ℕ) → s.entries after ≡ s.entries sole ++ entry.GiveSent 0 ∷ entry.Deliver k ∷ []
-        → plain_floor s given ≡ plain.after_give (plain_floor s l) at job (Sent 0 k)
-    plain-sent k appended =
-        let entries = entries-next s l.soles at sole after (entry.GiveSent 0 ∷ entry.Deliver k ∷ []) there appended in
-        rw (entries, transferred) refl
+      plain-given : plain_floor s given ≡ without_oldest (with_done (plain_floor s l) at deed) job at
+      plain-given =
+          let histories = histories-next s l.soles at sole after (size_of (slice_get l.kinds at)) deed there
+          goes.done in
+          rw (histories, transferred) refl
 
   -- what a give comes to: its answer is the plain floor's, and so is what it leaves
   pub record GivesWell (f : PlainFloor) (at job : ℕ) (answer : FloorGive) (n : Ledger X W) : Type 0 where
@@ -104,49 +111,45 @@ module _ {X W : Type 0} (s : Sole X W) where
     pub leaves : plain_floor s n ≡ plain.after_give f at job answer
     pub kept : IsKept s n
 
-  module _ (l : Ledger X W) (job : ℕ) (kept : IsKept s l) where
-    element : (at : ℕ) → option_map_or (λ h. h.element) (oldest at (holds_of (plain_floor s l) job)) 0 ≡ 0
-    element at = oldest-plain at (get_or (holds_in l) job []) (permits-at (holds_in l) job kept.plain)
-
   give-well : (l n : Ledger X W) (at job : ℕ) (answer : FloorGive) → IsKept s l → IsJob (plain_floor s l) job
       → IsHolding (plain_floor s l) at job → Gives s l at job answer n → GivesWell (plain_floor s l) at job answer n
-  give-well l n at job (Free given_element) kept is_job holding (zero_is, a, written) =
-      let some = some-held l at job kept is_job.holds holding a.sole a.after a.there in
-      let made = a.made _ _ _ _ (kept.funded.at at a.sole a.there) some in
-      let is : Free given_element ≡ Free 0 = ap Free zero_is in
+  give-well l n at job (Free element) kept is_job holding (a, written) =
+      let both = a.made _ _ _ _ (kept.funded.at at a.sole a.there) (some-held l at job holding) in
+      let made = both.1 in
       let same : n ≡ with_soles (with_transfer l (GaveBack job at)) (set l.soles at a.after) =
       written ∙ ap (with_soles (with_transfer l (GaveBack job at))) a.soles in
       record {
-        answers = is ∙ rw (object-there s l at a.sole a.there, made.empty, element l job kept at) refl;
+        answers = rw (standing-there s l at a.sole a.there, both.0)
+            (ap Free (sym (oldest-is l at job kept is_job.holds holding a.sole a.after a.there element made.oldest)));
         leaves = ap (plain_floor s) same
-            ∙ plain-freed l at job kept is_job.holds holding a.sole a.after a.there made.goes.appended
-            ∙ ap (plain.after_give (plain_floor s l) at job) (sym is);
+            ∙ plain-given l at job kept is_job.holds holding a.sole a.after a.there (frees element) made.goes;
         kept = subst (IsKept s) (sym same)
-            (kept-given l at job kept is_job.holds holding a.sole a.after a.there _ made.goes made.keeps);
+            (kept-given l at job kept is_job.holds holding a.sole a.after a.there (frees element) made.goes
+            made.keeps);
       }
-  give-well l n at job (Sent given_element number) kept is_job holding (zero_is, a, written) =
-      let some = some-held l at job kept is_job.holds holding a.sole a.after a.there in
-      let made = a.made _ _ _ _ (kept.funded.at at a.sole a.there) some in
-      let is : Sent given_element number ≡ Sent 0 number = ap (λ e. Sent e number) zero_is in
+  give-well l n at job (Sent element number) kept is_job holding (a, written) =
+      let both = a.made _ _ _ _ (kept.funded.at at a.sole a.there) (some-held l at job holding) in
+      let made = both.1 in
       let same : n ≡ with_soles (with_transfer l (GaveBack job at)) (set l.soles at a.after) =
       written ∙ ap (with_soles (with_transfer l (GaveBack job at))) a.soles in
       record {
-        answers = is ∙ sym (sends (object_at (plain_floor s l) at).line number
-            (subst (λ (o : Semaphore). IsFirst number o.line) (sym (object-there s l at a.sole a.there)) made.first)
-            (oldest at (holds_of (plain_floor s l) job)) (element l job kept at));
+        answers = sym (sent-first (standing_at (plain_floor s l) at).line number
+            (subst (λ (o : Standing). IsFirst number o.line) (sym (standing-there s l at a.sole a.there)) both.0)
+            (oldest at (holds_of (plain_floor s l) job)) element
+            (oldest-is l at job kept is_job.holds holding a.sole a.after a.there element made.oldest));
         leaves = ap (plain_floor s) same
-            ∙ plain-sent l at job kept is_job.holds holding a.sole a.after a.there number made.goes.appended
-            ∙ ap (plain.after_give (plain_floor s l) at job) (sym is);
+            ∙ plain-given l at job kept is_job.holds holding a.sole a.after a.there (sends element number) made.goes;
         kept = subst (IsKept s) (sym same)
-            (kept-given l at job kept is_job.holds holding a.sole a.after a.there _ made.goes made.keeps);
+            (kept-given l at job kept is_job.holds holding a.sole a.after a.there (sends element number) made.goes
+            made.keeps);
       }
 
   -- the same where the floor is seen as its plain floor
   pub give-can : (l : Ledger X W) (f : PlainFloor) (at job : ℕ) → plain_floor s l ≡ f → IsKept s l
-      → IsHoldable (slice_get f.kinds at) → IsJob f job → IsHolding f at job → HasAt l.soles at (CanRelease s)
+      → IsHoldable (slice_get f.kinds at) → IsHolding f at job → HasAt l.soles at (CanRelease s job)
   give-can l f at job view kept =
-      let Allows : PlainFloor → Type 0 = λ g. IsHoldable (slice_get g.kinds at) → IsJob g job
-      → IsHolding g at job → HasAt l.soles at (CanRelease s) in
+      let Allows : PlainFloor → Type 0 = λ g. IsHoldable (slice_get g.kinds at)
+      → IsHolding g at job → HasAt l.soles at (CanRelease s job) in
       subst Allows view (can-give l at job kept)
 
   pub give-floor : (l n : Ledger X W) (f : PlainFloor) (at job : ℕ) (answer : FloorGive)

@@ -1,5 +1,5 @@
 -- From a verdict that was told to what was kept with it.
-use Rattle.std.proofs.Common.{◌≡◌, ℕ, ◌⊎◌, inl, inr, Bool, List, Option, IsTrue, refl, ◌∙◌, arith}
+use Rattle.std.proofs.Common.{◌≡◌, ℕ, ◌⊎◌, inl, inr, Bool, List, Option, IsTrue, ◌∙◌, arith}
 use Rattle.cqs_plan.specs.Stream.{Gains, GainsPrefix}
 use Rattle.cqs_plan.specs.declared.streams.tally.Tally.{Tally}
 use Rattle.cqs_cli.specs.KeptRuns.{IsNoRun, Keeps, KeptRun}

@@ -1,28 +1,28 @@
 -- What a ledger keeps after a call at one resource.
-use Rattle.std.proofs.Common.{◌≡◌, ◌≢◌, ◌⊎◌, inl, inr, ℕ, zero, suc, ◌≤◌, List, [], ◌∷◌, ◌++◌, Some, length, map, set, get_or, slice_get, ap, ap₂, sym, ◌∙◌, subst, length-set, Option}
+use Rattle.std.proofs.Common.{◌≡◌, ◌≢◌, ◌⊎◌, inl, inr, ℕ, zero, suc, ◌≤◌, List, [], ◌∷◌, Some, length, map, set, get_or, slice_get, ap, sym, ◌∙◌, subst, length-set, Option}
 use Rattle.std.specs.Prelude.{slice_index}
 use Rattle.std.proofs.lemmas.Bool.{cases_eq}
 use Rattle.std.proofs.lemmas.List.{map-set}
-use Rattle.cqs_core.specs.declared.entries.Entry.{Entry}
 use Rattle.cqs_core.specs.Numbered.{EachAt}
 use Rattle.cqs_core.proofs.EachAtLemmas.{EachAt-write}
 use Rattle.cqs_core.proofs.Places.{get-set_here, get-set_else}
 use Rattle.cqs_plan.specs.declared.plans.kind.Kind.{Kind}
+use Rattle.cqs_plan.specs.FloorHistory.{History, of_permits, Deed, with_deed}
 use Rattle.cqs_cli.specs.declared.floors.waits.Wait.{Wait}
-use Rattle.cqs_cli.specs.Kept.{IsKept, IsFundedAt, StandsIn, AreApart, HoldPermits, waiting_at, held_at, transfers_to_come}
+use Rattle.cqs_cli.specs.Kept.{IsKept, IsFundedAt, StandsIn, AreApart, waiting_at, held_at, transfers_to_come}
 use Rattle.cqs_cli.specs.Ledger.{Ledger, holds_in}
-use Rattle.cqs_cli.specs.Soles.{Sole}
-use Rattle.cqs_cli.proofs.Resources.{entries-at}
+use Rattle.cqs_cli.specs.Stores.{Store}
+use Rattle.cqs_cli.proofs.Resources.{history-there}
 
-module _ {X W : Type 0} (s : Sole X W) where
+module _ {X W : Type 0} (s : Store X W) where
   -- the same funds, in other words
-  pub funded-as : (x : X) (kind : Option Kind) {r r' w w' h h' : ℕ} → r ≡ r' → w ≡ w' → h ≡ h'
+  pub funded-as : (x : X) (kind : Option Kind) {r r' w w' : ℕ} {h h' : List (List ℕ)} → r ≡ r' → w ≡ w' → h ≡ h'
       → s.funded x kind r w h → s.funded x kind r' w' h'
   funded-as x kind {r} {r'} {w} {w'} {h} {h'} room waiting held funded =
       subst (λ n. s.funded x kind n w' h') room
       (subst (λ n. s.funded x kind r n h') waiting (subst (λ n. s.funded x kind r w n) held funded))
 
-  -- after a call at a place: the semaphore there is another, and what is counted of the other resources is as it was
+  -- after a call at a place: what is kept there is another, and what is counted of the other resources is as it was
   pub record Follows (l : Ledger X W) (at : ℕ) (sole after : X) (n : Ledger X W) : Type 0 where
     pub there : slice_get l.soles at ≡ Some sole
     pub kinds : n.kinds ≡ l.kinds
@@ -35,7 +35,6 @@ module _ {X W : Type 0} (s : Sole X W) where
     pub waits : (job : ℕ) (wait : Wait W) → slice_get n.waits job ≡ Some (Some wait)
         → StandsIn s (set l.soles at after) wait
     pub apart : AreApart s n.waits
-    pub plain : HoldPermits (holds_in n)
     pub spare : transfers_to_come n ≤ n.spare
 
   pub kept-next : (l n : Ledger X W) (at : ℕ) (sole after : X) → IsKept s l → Follows l at sole after n → IsKept s n
@@ -47,7 +46,6 @@ module _ {X W : Type 0} (s : Sole X W) where
         (EachAt-write (IsFundedAt s l) (IsFundedAt s n) l.soles at sole after f.there f.funded others kept.funded);
     waits = λ job wait got. subst (λ (xs : List X). StandsIn s xs wait) (sym f.soles) (f.waits job wait got);
     apart = f.apart;
-    plain = f.plain;
     spare = f.spare;
   }
     where
@@ -57,7 +55,7 @@ module _ {X W : Type 0} (s : Sole X W) where
           (waiting_at n.waits i) (held_at (holds_in n) i)) (sym f.kinds)
           (funded-as x _ (sym (f.room i other)) (sym (f.waiting i other)) (sym (f.held i other)) was)
 
-  -- a wait stands on where it stands on in the semaphore that made the call
+  -- a wait stands on where it stands on in what made the call
   pub stands-on : (soles : List X) (at : ℕ) (sole after : X) (wait : Wait W) → slice_get soles at ≡ Some sole
       → (wait.at ≡ at → s.has sole wait.token → s.has after wait.token)
       → StandsIn s soles wait → StandsIn s (set soles at after) wait
@@ -79,22 +77,22 @@ module _ {X W : Type 0} (s : Sole X W) where
             has = stands.has;
           }
 
-  -- the entries of all, with more at one
-  pub entries-next : (soles : List X) (at : ℕ) (sole after : X) (entries : List Entry)
-      → slice_get soles at ≡ Some sole → s.entries after ≡ s.entries sole ++ entries
-      → map s.entries (set soles at after)
-      ≡ set (map s.entries soles) at (get_or (map s.entries soles) at [] ++ entries)
-  entries-next soles at sole after entries there appended =
-      map-set s.entries soles at after
-      ∙ ap (set (map s.entries soles) at)
-      (appended ∙ ap (λ h. h ++ entries) (sym (entries-at s soles at sole there)))
+  -- what happened to all, with more at one
+  pub histories-next : (soles : List X) (at : ℕ) (sole after : X) (size : ℕ) (deed : Deed)
+      → slice_get soles at ≡ Some sole → s.history after ≡ with_deed size (s.history sole) deed
+      → map s.history (set soles at after)
+      ≡ set (map s.history soles) at (with_deed size (get_or (map s.history soles) at (of_permits [])) deed)
+  histories-next soles at sole after size deed there done =
+      map-set s.history soles at after
+      ∙ ap (set (map s.history soles) at)
+      (done ∙ ap (λ h. with_deed size h deed) (sym (history-there s soles at sole there)))
 
-  -- the entries of all, with none more
-  pub entries-same : (soles : List X) (at : ℕ) (sole after : X) → slice_get soles at ≡ Some sole
-      → s.entries after ≡ s.entries sole → map s.entries (set soles at after) ≡ map s.entries soles
-  entries-same [] at sole after there same = absurd (cc)
-  entries-same (x ∷ soles) zero sole after there same =
+  -- what happened to all, with nothing more
+  pub histories-same : (soles : List X) (at : ℕ) (sole after : X) → slice_get soles at ≡ Some sole
+      → s.history after ≡ s.history sole → map s.history (set soles at after) ≡ map s.history soles
+  histories-same [] at sole after there same = absurd (cc)
+  histories-same (x ∷ soles) zero sole after there same =
       let is : x ≡ sole = cc in
-      ap (λ (es : List Entry). es ∷ map s.entries soles) (same ∙ ap s.entries (sym is))
-  entries-same (x ∷ soles) (suc at) sole after there same =
-      ap (λ ess. s.entries x ∷ ess) (entries-same soles at sole after there same)
+      ap (λ (h : History). h ∷ map s.history soles) (same ∙ ap s.history (sym is))
+  histories-same (x ∷ soles) (suc at) sole after there same =
+      ap (λ hs. s.history x ∷ hs) (histories-same soles at sole after there same)

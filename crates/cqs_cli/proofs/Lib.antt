@@ -11,6 +11,8 @@ pub mod Came
 pub mod Funded
 pub mod Resources
 pub mod KeptNext
+pub mod Lifted
+pub mod AmongStores
 pub mod Takes
 pub mod Gives
 pub mod WaitOver
@@ -30,4 +32,11 @@ pub mod QueueSole
 pub mod MutexSole
 pub mod Among
 pub mod RunningSole
+pub mod PoolNews
+pub mod PoolRests
+pub mod PoolCalls
+pub mod PoolPlaced
+pub mod HeldElements
+pub mod PoolSole
+pub mod AnySoles
 pub mod RunFloors

@@ -1,24 +1,22 @@
 -- A look at a wait, and a leave: what they rest on, what they answer, and what they leave.
-use Rattle.std.proofs.Common.{◌≡◌, ℕ, zero, suc, ◌+◌, ◌-◌, ◌<◌, Bool, true, false, List, [], ◌∷◌, ◌++◌, Option, Some, None, IsSome, is_some, length, map, set, get_or, slice_get, count_by, refl, ap, sym, ◌∙◌, subst, arith}
+use Rattle.std.proofs.Common.{◌≡◌, ℕ, zero, suc, ◌<◌, Bool, true, false, List, [], ◌∷◌, Option, Some, None, IsSome, length, map, set, get_or, slice_get, refl, ap, sym, ◌∙◌, subst, arith}
 use Rattle.std.specs.Prelude.{slice_index}
 use Rattle.std.specs.Option.{option_map}
-use Rattle.std.proofs.lemmas.List.{append-nil}
-use Rattle.cqs_core.specs.declared.entries.Entry.{Entry}
-use Rattle.cqs_core.specs.declared.entries.Entry.TheVariants as entry
-use Rattle.cqs_core.specs.SemaphoreObject.{Semaphore}
+use Rattle.std.proofs.lemmas.List.{length-map}
 use Rattle.cqs_plan.specs.declared.floors.answers.FloorLook.{FloorLook}
 use Rattle.cqs_plan.specs.declared.floors.answers.FloorLook.TheVariants.{Pending, Granted}
 use Rattle.cqs_plan.specs.declared.floors.answers.FloorLeave.{FloorLeave}
 use Rattle.cqs_plan.specs.declared.floors.answers.FloorLeave.TheVariants.{Gone, Late}
-use Rattle.cqs_plan.specs.Floor.{PlainFloor, IsJob, IsWaiting, wait_of}
+use Rattle.cqs_plan.specs.FloorHistory.{Standing, gets, is_late, came_for}
+use Rattle.cqs_plan.specs.Floor.{PlainFloor, IsJob, IsWaiting, came_to as came_plain, size_of, wait_of}
 use Rattle.cqs_plan.specs.FloorCalls as plain
 use Rattle.cqs_cli.specs.declared.floors.waits.Wait.{Wait}
 use Rattle.cqs_cli.specs.DeskCalls.{HasAt, Leaves, Looks}
-use Rattle.cqs_cli.specs.Kept.{IsKept, IsFundedAt, StandsIn, held_at, waiting_at}
+use Rattle.cqs_cli.specs.Kept.{elements_of, IsKept, StandsIn, held_at, waiting_at}
 use Rattle.cqs_cli.specs.Ledger.{Ledger, plain_floor, with_soles, with_wait, with_grant, holds_in, job_wait}
-use Rattle.cqs_cli.specs.Soles.{Sole, CanEnd, Goes, KeepsAll, is_in_line, object}
-use Rattle.cqs_cli.proofs.KeptNext.{kept-next, stands-on, entries-same}
-use Rattle.cqs_cli.proofs.Resources.{object-there, wait-there}
+use Rattle.cqs_cli.specs.Stores.{Store, CanEnd, Rests, is_in_line, stands}
+use Rattle.cqs_cli.proofs.KeptNext.{kept-next, stands-on, histories-same}
+use Rattle.cqs_cli.proofs.Resources.{history-there, standing-there, wait-there}
 use Rattle.cqs_cli.proofs.WaitOver.{some-waiting, fewer, kept-gone, kept-came, plain-gone, plain-came}
 
 -- an element that was taken out of a list and put back
@@ -28,30 +26,28 @@ set-back [] i x there = absurd (cc)
 set-back (y ∷ xs) zero x there = let same : y ≡ x = cc in ap (λ z. z ∷ xs) (sym same)
 set-back (y ∷ xs) (suc i) x there = ap (λ ys. y ∷ ys) (set-back xs i x there)
 
-module _ {X W : Type 0} (s : Sole X W) where
-  -- A call that appends nothing leaves the ledger as it was, for the plain floor.
+module _ {X W : Type 0} (s : Store X W) where
+  -- A call with which nothing happens leaves the ledger as it was, for the plain floor.
   module _ (l : Ledger X W) (at : ℕ) (sole after : X) (kept : IsKept s l) (there : slice_get l.soles at ≡ Some sole)
-      (goes : Goes s sole [] (slice_get l.kinds at) (slice_index l.room at) (waiting_at l.waits at)
+      (rests : Rests s sole (slice_get l.kinds at) (slice_index l.room at) (waiting_at l.waits at)
       (held_at (holds_in l) at) after) where
     pub plain-same : plain_floor s (with_soles l (set l.soles at after)) ≡ plain_floor s l
     plain-same =
-        let entries = entries-same s l.soles at sole after there (goes.appended ∙ append-nil (s.entries sole)) in
-        rw entries refl
+        let histories = histories-same s l.soles at sole after there rests.same in rw histories refl
 
-    pub kept-same : KeepsAll s sole after → IsKept s (with_soles l (set l.soles at after))
-    kept-same keeps = kept-next s l (with_soles l (set l.soles at after)) at sole after kept (record {
+    pub kept-same : IsKept s (with_soles l (set l.soles at after))
+    kept-same = kept-next s l (with_soles l (set l.soles at after)) at sole after kept (record {
       there = there;
       kinds = refl;
       soles = refl;
       rooms = refl;
-      funded = goes.funded;
+      funded = rests.funded;
       room = λ i other. refl;
       waiting = λ i other. refl;
       held = λ i other. refl;
-      waits = λ j wait got. stands-on s l.soles at sole after wait there (λ same has. keeps wait.token has)
+      waits = λ j wait got. stands-on s l.soles at sole after wait there (λ same has. rests.keeps wait.token has)
           (kept.waits j wait got);
       apart = kept.apart;
-      plain = kept.plain;
       spare = kept.spare;
     })
 
@@ -64,8 +60,8 @@ module _ {X W : Type 0} (s : Sole X W) where
       seen : wait_of (plain_floor s l) job ≡ Some (job_wait s wait)
       seen = (wait-there s l.waits job wait slot).plain
 
-      pub can-end : HasAt l.soles wait.at (CanEnd s wait.token)
-      can-end =
+      can-end : job < length (holds_in l) → HasAt l.soles wait.at (CanEnd s job wait.token)
+      can-end holder =
           let stands : StandsIn s l.soles wait = kept.waits job wait has in
           record {
             sole = stands.sole;
@@ -77,6 +73,7 @@ module _ {X W : Type 0} (s : Sole X W) where
               held = _;
               funded = kept.funded.at wait.at stands.sole stands.there;
               some = some-waiting s l job wait kept has;
+              there = omega (arith, holder, length-map (holds_in l) (elements_of wait.at));
               has = stands.has;
             };
           }
@@ -85,11 +82,21 @@ module _ {X W : Type 0} (s : Sole X W) where
       some-spare = omega (arith, kept.spare, fewer s l job wait kept has)
 
       -- whether the wait stands in the line, as the plain floor sees it
-      line-reads : (sole : X) → slice_get l.soles wait.at ≡ Some sole → (stands : Bool)
-          → is_in_line (s.number wait.token) (object s (slice_get l.kinds wait.at) sole).line ≡ stands
-          → plain.is_in_line (plain_floor s l) (job_wait s wait) ≡ stands
-      line-reads sole there stands reads =
-          ap (λ (o : Semaphore). is_in_line (s.number wait.token) o.line) (object-there s l wait.at sole there) ∙ reads
+      line-reads : (sole : X) → slice_get l.soles wait.at ≡ Some sole → (found : Bool)
+          → is_in_line (s.number wait.token) (stands s (slice_get l.kinds wait.at) sole).line ≡ found
+          → plain.is_in_line (plain_floor s l) (job_wait s wait) ≡ found
+      line-reads sole there found reads =
+          ap (λ (o : Standing). is_in_line (s.number wait.token) o.line) (standing-there s l wait.at sole there)
+          ∙ reads
+
+      -- and what came for it
+      came-reads : (sole : X) → slice_get l.soles wait.at ≡ Some sole → (element : ℕ)
+          → element ≡ came_for (size_of (slice_get l.kinds wait.at)) (s.history sole) (s.number wait.token)
+          → came_plain (plain_floor s l) (job_wait s wait) ≡ element
+      came-reads sole there element came =
+          ap (λ h. came_for (size_of (slice_get l.kinds wait.at)) h (s.number wait.token))
+          (history-there s l.soles wait.at sole there)
+          ∙ sym came
 
   -- what a look comes to: its answer is the plain floor's, and so is what it leaves
   pub record LooksWell (f : PlainFloor) (job : ℕ) (answer : FloorLook) (n : Ledger X W) : Type 0 where
@@ -103,8 +110,11 @@ module _ {X W : Type 0} (s : Sole X W) where
       → LooksWell (plain_floor s l) job answer n
   look-well l n job wait Pending kept is_job slot (back, a, written) =
       let job_has = has l job wait kept slot in
-      let made = a.made.1 _ _ _ _ (kept.funded.at wait.at a.sole a.there) (some-waiting s l job wait kept job_has) in
-      let in_line = line-reads l job wait kept slot a.sole a.there true made.found in
+      let holder : job < length (held_at (holds_in l) wait.at)
+      = omega (arith, is_job.holds, length-map (holds_in l) (elements_of wait.at)) in
+      let made = a.made.1 _ _ _ _ (kept.funded.at wait.at a.sole a.there) (some-waiting s l job wait kept job_has)
+      holder in
+      let in_line = line-reads l job wait kept slot a.sole a.there true made.0 in
       let returned : Option (Wait W) → Ledger X W = λ w. with_soles (with_wait (with_wait l job None) job w) n.soles in
       let token : W → Wait W = λ t. record { at = wait.at; token = t } in
       let same : n ≡ with_soles l (set l.soles wait.at a.after) =
@@ -113,24 +123,28 @@ module _ {X W : Type 0} (s : Sole X W) where
       ∙ ap (with_soles l) a.soles in
       record {
         answers = rw (seen l job wait kept slot, in_line) refl;
-        leaves = ap (plain_floor s) same ∙ plain-same l wait.at a.sole a.after kept a.there made.goes;
-        kept = subst (IsKept s) (sym same) (kept-same l wait.at a.sole a.after kept a.there made.goes made.keeps);
+        leaves = ap (plain_floor s) same ∙ plain-same l wait.at a.sole a.after kept a.there made.1;
+        kept = subst (IsKept s) (sym same) (kept-same l wait.at a.sole a.after kept a.there made.1);
       }
-  look-well l n job wait (Granted element) kept is_job slot (none, a, written) =
+  look-well l n job wait (Granted element) kept is_job slot (a, written) =
       let job_has = has l job wait kept slot in
-      let made = a.made _ _ _ _ (kept.funded.at wait.at a.sole a.there) (some-waiting s l job wait kept job_has) in
+      let holder : job < length (held_at (holds_in l) wait.at)
+      = omega (arith, is_job.holds, length-map (holds_in l) (elements_of wait.at)) in
+      let both = a.made _ _ _ _ (kept.funded.at wait.at a.sole a.there) (some-waiting s l job wait kept job_has)
+      holder in
+      let made = both.1 in
       let in_line = line-reads l job wait kept slot a.sole a.there false made.found in
-      let same : n ≡ with_soles (with_grant l job wait.at) (set l.soles wait.at a.after) =
-      written ∙ ap (with_soles (with_grant l job wait.at)) a.soles in
+      let came = came-reads l job wait kept slot a.sole a.there element both.0 in
+      let same : n ≡ with_soles (with_grant l job wait.at element) (set l.soles wait.at a.after) =
+      written ∙ ap (with_soles (with_grant l job wait.at element)) a.soles in
       record {
-        answers = rw (none, seen l job wait kept slot, in_line) refl;
+        answers = rw (seen l job wait kept slot, in_line, came) refl;
         leaves = ap (plain_floor s) same
-            ∙ plain-came s l job wait kept job_has a.sole a.after a.there made.keeps _ made.goes.appended
-            ∙ ap (λ o. plain.with_granted (plain_floor s l) job (λ w. entry.LookGranted 0 w.number) o 0)
-            (sym (seen l job wait kept slot))
-            ∙ ap (λ e. plain.after_look (plain_floor s l) job (Granted e)) (sym none);
+            ∙ plain-came s l job wait kept job_has a.sole a.after a.there made.keeps element _ made.goes.done
+            ∙ ap (λ o. plain.with_granted (plain_floor s l) job gets o element)
+            (sym (seen l job wait kept slot));
         kept = subst (IsKept s) (sym same)
-            (kept-came s l job wait kept job_has a.sole a.after a.there made.keeps _ is_job.holds made.goes);
+            (kept-came s l job wait kept job_has a.sole a.after a.there made.keeps element _ is_job.holds made.goes);
       }
 
   -- what a leave comes to
@@ -145,34 +159,48 @@ module _ {X W : Type 0} (s : Sole X W) where
       → LeavesWell (plain_floor s l) job answer n
   leave-well l n job wait Gone kept is_job slot (a, written) =
       let job_has = has l job wait kept slot in
-      let made = a.made _ _ _ _ (kept.funded.at wait.at a.sole a.there) (some-waiting s l job wait kept job_has) in
+      let holder : job < length (held_at (holds_in l) wait.at)
+      = omega (arith, is_job.holds, length-map (holds_in l) (elements_of wait.at)) in
+      let made = a.made _ _ _ _ (kept.funded.at wait.at a.sole a.there) (some-waiting s l job wait kept job_has)
+      holder in
       let in_line = line-reads l job wait kept slot a.sole a.there true made.found in
       let same : n ≡ with_soles (with_wait l job None) (set l.soles wait.at a.after) =
       written ∙ ap (with_soles (with_wait l job None)) a.soles in
       record {
         answers = rw (seen l job wait kept slot, in_line) refl;
         leaves = ap (plain_floor s) same
-            ∙ plain-gone s l job wait kept job_has a.sole a.after a.there made.keeps _ made.goes.appended
+            ∙ plain-gone s l job wait kept job_has a.sole a.after a.there made.keeps _ made.goes.done
             ∙ ap (plain.with_left (plain_floor s l) job) (sym (seen l job wait kept slot));
         kept = subst (IsKept s) (sym same)
             (kept-gone s l job wait kept job_has a.sole a.after a.there made.keeps _ made.goes);
       }
-  leave-well l n job wait (Late element) kept is_job slot (none, a, written) =
+  leave-well l n job wait (Late element) kept is_job slot (a, written) =
       let job_has = has l job wait kept slot in
-      let made = a.made _ _ _ _ (kept.funded.at wait.at a.sole a.there) (some-waiting s l job wait kept job_has) in
+      let holder : job < length (held_at (holds_in l) wait.at)
+      = omega (arith, is_job.holds, length-map (holds_in l) (elements_of wait.at)) in
+      let both = a.made _ _ _ _ (kept.funded.at wait.at a.sole a.there) (some-waiting s l job wait kept job_has)
+      holder in
+      let made = both.1 in
       let in_line = line-reads l job wait kept slot a.sole a.there false made.found in
-      let same : n ≡ with_soles (with_grant l job wait.at) (set l.soles wait.at a.after) =
-      written ∙ ap (with_soles (with_grant l job wait.at)) a.soles in
+      let came = came-reads l job wait kept slot a.sole a.there element both.0 in
+      let same : n ≡ with_soles (with_grant l job wait.at element) (set l.soles wait.at a.after) =
+      written ∙ ap (with_soles (with_grant l job wait.at element)) a.soles in
       record {
-        answers = rw (none, seen l job wait kept slot, in_line) refl;
+        answers = rw (seen l job wait kept slot, in_line, came) refl;
         leaves = ap (plain_floor s) same
-            ∙ plain-came s l job wait kept job_has a.sole a.after a.there made.keeps _ made.goes.appended
-            ∙ ap (λ o. plain.with_granted (plain_floor s l) job (λ w. entry.Late 0 w.number) o 0)
-            (sym (seen l job wait kept slot))
-            ∙ ap (λ e. plain.after_leave (plain_floor s l) job (Late e)) (sym none);
+            ∙ plain-came s l job wait kept job_has a.sole a.after a.there made.keeps element _ made.goes.done
+            ∙ ap (λ o. plain.with_granted (plain_floor s l) job is_late o element)
+            (sym (seen l job wait kept slot));
         kept = subst (IsKept s) (sym same)
-            (kept-came s l job wait kept job_has a.sole a.after a.there made.keeps _ is_job.holds made.goes);
+            (kept-came s l job wait kept job_has a.sole a.after a.there made.keeps element _ is_job.holds made.goes);
       }
+
+  -- where the floor is seen as its plain floor, a job can end its wait
+  pub end-can : (l : Ledger X W) (f : PlainFloor) (job : ℕ) (wait : Wait W) → plain_floor s l ≡ f → IsKept s l
+      → IsJob f job → get_or l.waits job None ≡ Some wait → HasAt l.soles wait.at (CanEnd s job wait.token)
+  end-can l f job wait view kept is_job slot =
+      let own : IsJob (plain_floor s l) job = subst (λ g. IsJob g job) (sym view) is_job in
+      can-end l job wait kept slot own.holds
 
   -- a job that waits on the plain floor waits in the ledger
   some-there : (waits : List (Option (Wait W))) (job : ℕ)

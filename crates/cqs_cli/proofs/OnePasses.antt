@@ -1,14 +1,13 @@
 -- One of the running queue with its one pass is a semaphore as a floor needs it: each call by what it left of the pass.
-use Rattle.std.proofs.Common.{◌≡◌, ◌≢◌, ◌⊎◌, inl, inr, ℕ, ◌+◌, ◌-◌, ◌<◌, ◌≤◌, nat_lt, Bool, true, false, List, [], ◌∷◌, ◌++◌, Option, Some, None, refl, ap, sym, ◌∙◌, subst, arith}
+use Rattle.std.proofs.Common.{◌≡◌, ◌⊎◌, inl, inr, ℕ, ◌+◌, ◌-◌, ◌<◌, ◌≤◌, nat_lt, Bool, true, false, List, [], ◌∷◌, ◌++◌, Option, Some, None, refl, ap, sym, ◌∙◌, subst, arith}
 use Rattle.std.specs.List.{fold}
 use Rattle.std.proofs.lemmas.List.Elements.{filter-append}
 use Rattle.cqs_plan.specs.declared.plans.kind.Kind.{Kind}
-use Rattle.cqs_plan.specs.Floor.{permits_of}
+use Rattle.cqs_plan.specs.Floor.{size_of}
 use Rattle.cqs_core.specs.declared.entries.Entry.{Entry}
 use Rattle.cqs_core.specs.declared.entries.Entry.TheVariants as entry
 use Rattle.cqs_core.specs.SemaphoreEntries.{IsFirst, IsLegal, after_entry, object_after}
 use Rattle.cqs_core.specs.SemaphoreObject.{Semaphore}
-use Rattle.cqs_rule.specs.declared.view.View.{View}
 use Rattle.cqs_rule.specs.Lists.{Has, without}
 use Rattle.cqs_rule.specs.Waits.{HasWait, place_of}
 use Rattle.cqs_rule.proofs.Lists.{has_append, has_without, without_has}
@@ -22,16 +21,16 @@ use Rattle.cqs_cli.proofs.PassRests.{Comes, IsNext, has-append, has-next, rests-
 
 module _ {X W T : Type 0} (q : OnePass X W T) where
   -- the plain semaphore that a floor sees is the one after all that the pass has seen
-  pub object-seen : (x : X) (kind : Option Kind) → (q.view x).opening.size ≡ permits_of kind
+  pub object-seen : (x : X) (kind : Option Kind) → (q.view x).opening.size ≡ size_of kind
       → object (sole_of q) kind x ≡ plain_after (q.view x)
   object-seen x kind is =
-      news-object (permits_of kind) (q.view x).seen ∙ ap (λ n. object_after n (q.view x).seen) (sym is)
+      news-object (size_of kind) (q.view x).seen ∙ ap (λ n. object_after n (q.view x).seen) (sym is)
 
   pub one-lawful : ((x : X) → q.mine x → IsLegal (q.view x).opening.size (q.view x).seen) → IsLawful (sole_of q)
   one-lawful legal = record {
     some = λ x kind room waiting held funded. funded.rests.some;
     legal = λ x kind room waiting held funded.
-        news-legal (permits_of kind) (q.view x).seen
+        news-legal (size_of kind) (q.view x).seen
         (subst (λ n. IsLegal n (q.view x).seen) funded.rests.size_is (legal x funded.mine));
     numbered = λ x wait kind room waiting held funded has.
         subst (λ (o : Semaphore). (place_of (q.token wait)).index < o.next)
@@ -63,7 +62,7 @@ module _ {X W T : Type 0} (q : OnePass X W T) where
             funded = record {
               sort = funded.sort;
               mine = mine;
-              rests = rests-next v w (entry.TakeNow 0 ∷ []) c.same c.seen (permits_of kind) room held (room - 1)
+              rests = rests-next v w (entry.TakeNow 0 ∷ []) c.same c.seen (size_of kind) room held (room - 1)
                   (held + 1) v.facts.waits funded.rests rests (omega arith)
                   (record { way = funded.rests.still.way; door = funded.rests.still.door })
                   funded.rests.drawn;
@@ -104,7 +103,7 @@ module _ {X W T : Type 0} (q : OnePass X W T) where
             funded = record {
               sort = funded.sort;
               mine = mine;
-              rests = rests-next v w (entries k) c.same c.seen (permits_of kind) room held (room - 1) held
+              rests = rests-next v w (entries k) c.same c.seen (size_of kind) room held (room - 1) held
                   (v.facts.waits ++ k ∷ []) funded.rests rests (omega (arith, some)) still
                   (λ j has. below o k is j (has_append j v.facts.waits (k ∷ []) has) funded.rests.drawn);
               permits = kept ∙ funded.permits;
@@ -143,7 +142,7 @@ module _ {X W T : Type 0} (q : OnePass X W T) where
               funded = record {
                 sort = funded.sort;
                 mine = mine;
-                rests = rests-next v w (entry.GiveFreed 0 ∷ []) c.same c.seen (permits_of kind) room held room
+                rests = rests-next v w (entry.GiveFreed 0 ∷ []) c.same c.seen (size_of kind) room held room
                     (held - 1) v.facts.waits funded.rests rests (omega arith)
                     (record { way = funded.rests.still.way; door = funded.rests.still.door })
                     funded.rests.drawn;
@@ -176,7 +175,7 @@ module _ {X W T : Type 0} (q : OnePass X W T) where
               funded = record {
                 sort = funded.sort;
                 mine = mine;
-                rests = rests-next v w entries c.same c.seen (permits_of kind) room held room (held - 1) v.facts.waits
+                rests = rests-next v w entries c.same c.seen (size_of kind) room held room (held - 1) v.facts.waits
                     funded.rests rests (omega arith) (still-sent (plain_after v) funded.rests.still k)
                     funded.rests.drawn;
                 permits = omega (arith, one_less, funded.permits);
@@ -215,7 +214,7 @@ module _ {X W T : Type 0} (q : OnePass X W T) where
               funded = record {
                 sort = funded.sort;
                 mine = mine;
-                rests = rests-next v w (e ∷ []) c.same c.seen (permits_of kind) room held room then others
+                rests = rests-next v w (e ∷ []) c.same c.seen (size_of kind) room held room then others
                     funded.rests c.rests (omega (arith, none)) still
                     (λ j has. omega (arith, next, funded.rests.drawn j (has_without j number v.facts.waits has).1));
                 permits = permits;
@@ -273,7 +272,7 @@ module _ {X W T : Type 0} (q : OnePass X W T) where
                   funded = record {
                     sort = funded.sort;
                     mine = mine;
-                    rests = rests-next v w look c.same c.seen (permits_of kind) room held room held v.facts.waits
+                    rests = rests-next v w look c.same c.seen (size_of kind) room held room held v.facts.waits
                         funded.rests rests (omega arith)
                         (record { way = funded.rests.still.way; door = funded.rests.still.door })
                         funded.rests.drawn;

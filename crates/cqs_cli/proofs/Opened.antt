@@ -1,22 +1,22 @@
 -- A floor on semaphores as it is made: all is kept, and it is the plain floor on which nothing has happened.
-use Rattle.std.proofs.Common.{◌≡◌, ℕ, zero, suc, ◌<◌, ◌≤◌, List, [], ◌∷◌, Option, Some, None, is_some, length, map, replicate, slice_get, sum_by, count_by, refl, ap, ap₂, sym, ◌∙◌, subst, cond, ◌==◌, arith}
+use Rattle.std.proofs.Common.{◌≡◌, ℕ, zero, suc, ◌<◌, List, [], ◌∷◌, Option, Some, None, is_some, length, map, replicate, slice_get, sum_by, count_by, refl, ap, ap₂, sym, ◌∙◌, subst, cond, arith}
 use Rattle.std.specs.Prelude.{slice_index}
 use Rattle.std.specs.Option.{option_map}
 use Rattle.std.proofs.lemmas.List.{length-replicate, length-map}
 use Rattle.std.proofs.lemmas.List.Folds.{sum_by-replicate}
 use Rattle.std.proofs.lemmas.List.FromFn.{length-map-range_with_len}
 use Rattle.std.proofs.lemmas.Option.{slice_get-map}
-use Rattle.cqs_core.specs.declared.entries.Entry.{Entry}
 use Rattle.cqs_core.proofs.Places.{get-below, get-there}
 use Rattle.cqs_plan.specs.declared.plans.kind.Kind.{Kind}
 use Rattle.cqs_plan.specs.declared.plans.plan.Plan.{Plan}
 use Rattle.cqs_plan.specs.declared.plans.resource.Resource.{Resource}
+use Rattle.cqs_plan.specs.FloorHistory.{History, no_history}
 use Rattle.cqs_plan.specs.Floor.{Holding, opening_floor, takes_in}
 use Rattle.cqs_cli.specs.declared.floors.waits.Wait.{Wait}
-use Rattle.cqs_cli.specs.Kept.{IsKept, IsFundedAt, HoldPermits, held_at, is_wait_at, waiting_at}
+use Rattle.cqs_cli.specs.Kept.{IsKept, IsFundedAt, held_at, is_wait_at, waiting_at}
 use Rattle.cqs_cli.specs.Ledger.{Ledger, holds_after, holds_in, job_wait, plain_floor}
 use Rattle.cqs_cli.specs.Opening.{IsOpening}
-use Rattle.cqs_cli.specs.Soles.{Sole, IsOpened}
+use Rattle.cqs_cli.specs.Stores.{Store, IsOpened}
 use Rattle.cqs_cli.proofs.KeptNext.{funded-as}
 
 -- all elements of a list of one element are that one
@@ -34,17 +34,14 @@ waiting-none W jobs at =
 some-none : (W : Type 0) (jobs : ℕ) → count_by (λ (w : Option (Wait W)). is_some w) (replicate jobs None) ≡ 0
 some-none W jobs = omega (arith, sum_by-replicate (λ (w : Option (Wait W)). cond (is_some w) 1 0) jobs None)
 
-held-none : (jobs at : ℕ) → held_at (replicate jobs []) at ≡ 0
-held-none jobs at = omega (arith, sum_by-replicate (λ (hs : List Holding). count_by (λ h. h.at == at) hs) jobs [])
+held-none : (jobs at : ℕ) → held_at (replicate jobs []) at ≡ replicate jobs []
+held-none zero at = refl
+held-none (suc jobs) at = ap (λ held. [] ∷ held) (held-none jobs at)
 
 many-none : (jobs : ℕ) → sum_by (λ (hs : List Holding). length hs) (replicate jobs []) ≡ 0
 many-none jobs = omega (arith, sum_by-replicate (λ (hs : List Holding). length hs) jobs [])
 
-permits-none : (jobs : ℕ) → HoldPermits (replicate jobs [])
-permits-none zero = tt
-permits-none (suc jobs) = (tt, permits-none jobs)
-
-module _ {X W : Type 0} (s : Sole X W) (plan : Plan) (l : Ledger X W) (o : IsOpening s plan l) where
+module _ {X W : Type 0} (s : Store X W) (plan : Plan) (l : Ledger X W) (o : IsOpening s plan l) where
   -- the ledger's lists, as they are made
   holds-none : holds_in l ≡ replicate (length plan.jobs) []
   holds-none =
@@ -69,7 +66,7 @@ module _ {X W : Type 0} (s : Sole X W) (plan : Plan) (l : Ledger X W) (o : IsOpe
   record Opens (at : ℕ) (sole : X) : Type 0 where
     resource : Resource
     named : slice_get plan.resources at ≡ Some resource
-    opened : IsOpened s (Some resource.kind) (slice_index l.room at) sole
+    opened : IsOpened s resource.kind (slice_index l.room at) sole
 
   opens : (at : ℕ) (sole : X) → slice_get l.soles at ≡ Some sole → Opens at sole
   opens at sole there =
@@ -83,11 +80,11 @@ module _ {X W : Type 0} (s : Sole X W) (plan : Plan) (l : Ledger X W) (o : IsOpe
       let kind_is : slice_get l.kinds at ≡ Some is.resource.kind = kind-at at is.resource is.named in
       let waiting : waiting_at l.waits at ≡ 0 =
       ap (λ ws. waiting_at ws at) o.waits ∙ waiting-none W (length plan.jobs) at in
-      let held : held_at (holds_in l) at ≡ 0 =
+      let held : held_at (holds_in l) at ≡ replicate (length plan.jobs) [] =
       ap (λ hs. held_at hs at) holds-none ∙ held-none (length plan.jobs) at in
       subst (λ (k : Option Kind). s.funded sole k (slice_index l.room at) (waiting_at l.waits at)
       (held_at (holds_in l) at)) (sym kind_is)
-      (funded-as s sole _ refl (sym waiting) (sym held) is.opened.funded)
+      (funded-as s sole _ refl (sym waiting) (sym held) (is.opened.funded (length plan.jobs)))
 
   no-wait : (job : ℕ) (wait : Wait W) → slice_get l.waits job ≡ Some (Some wait) → ⊥
   no-wait job wait got =
@@ -102,7 +99,6 @@ module _ {X W : Type 0} (s : Sole X W) (plan : Plan) (l : Ledger X W) (o : IsOpe
     funded = record { at = funded-opened };
     waits = λ job wait got. absurd (no-wait job wait got);
     apart = record { same = λ i j v w one two same. absurd (no-wait i v one) };
-    plain = subst HoldPermits (sym holds-none) (permits-none (length plan.jobs));
     spare = omega (arith, o.spare, none, many);
   }
     where
@@ -114,17 +110,28 @@ module _ {X W : Type 0} (s : Sole X W) (plan : Plan) (l : Ledger X W) (o : IsOpe
 
   pub plain-opened : plain_floor s l ≡ opening_floor plan
   plain-opened =
-      let entries : map s.entries l.soles ≡ replicate (length plan.resources) [] =
-      none l.soles (λ at x there. (opens at x there).opened.fresh) ∙ ap (λ n. replicate n []) o.long in
       let waits : map (option_map (job_wait s)) l.waits ≡ replicate (length plan.jobs) None =
       ap (map (option_map (job_wait s))) o.waits ∙ map-none (length plan.jobs) in
-      rw (o.kinds, entries, o.room, waits, holds-none) refl
+      rw (o.kinds, fresh plan.resources l.soles o.long opens-so, o.room, waits, holds-none) refl
     where
-      none : (soles : List X) → ((at : ℕ) (x : X) → slice_get soles at ≡ Some x → s.entries x ≡ [])
-          → map s.entries soles ≡ replicate (length soles) []
-      none [] fresh = refl
-      none (x ∷ soles) fresh =
-          ap₂ (λ (h : List Entry) hs. h ∷ hs) (fresh 0 x refl) (none soles (λ at y got. fresh (suc at) y got))
+      opens-so : (at : ℕ) (x : X) (r : Resource) → slice_get l.soles at ≡ Some x → slice_get plan.resources at ≡ Some r
+          → s.history x ≡ no_history r.kind
+      opens-so at x r there named =
+          let is = opens at x there in
+          let same : Some is.resource ≡ Some r = sym is.named ∙ named in
+          let resource_is : is.resource ≡ r = cc in
+          is.opened.fresh ∙ ap (λ (q : Resource). no_history q.kind) resource_is
+
+      fresh : (resources : List Resource) (soles : List X) → length soles ≡ length resources
+          → ((at : ℕ) (x : X) (r : Resource) → slice_get soles at ≡ Some x → slice_get resources at ≡ Some r
+          → s.history x ≡ no_history r.kind)
+          → map s.history soles ≡ map (λ resource. no_history resource.kind) resources
+      fresh [] [] long each = refl
+      fresh [] (x ∷ soles) long each = absurd (omega (arith, long))
+      fresh (r ∷ resources) [] long each = absurd (omega (arith, long))
+      fresh (r ∷ resources) (x ∷ soles) long each =
+          ap₂ (λ (h : History) hs. h ∷ hs) (each 0 x r refl refl)
+          (fresh resources soles (omega (arith, long)) (λ at y q got named. each (suc at) y q got named))
 
       map-none : (n : ℕ) → map (option_map (job_wait s)) (replicate n None) ≡ replicate n None
       map-none zero = refl

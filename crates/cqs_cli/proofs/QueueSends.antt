@@ -1,12 +1,11 @@
 -- A permit that is on its way comes to the first of the line, in however many calls.
-use Rattle.std.proofs.Common.{◌≡◌, ℕ, ◌+◌, true, List, [], ◌∷◌, ◌++◌, Option, Some, None, Ok, take, length, vec_capacity, refl, ap, sym, ◌∙◌, subst}
+use Rattle.std.proofs.Common.{◌≡◌, ℕ, true, List, [], ◌∷◌, ◌++◌, Option, Some, None, take, length, refl, ap, sym, ◌∙◌, subst}
 use Rattle.std.proofs.Math.Seq.{take-append_seam}
 use Rattle.std.proofs.lemmas.List.Sums.{fold-append}
 use Rattle.std.proofs.lemmas.List.{append_assoc, append-nil}
 use Rattle.cqs_core.specs.declared.entries.Entry.{Entry}
 use Rattle.cqs_core.specs.declared.entries.Entry.TheVariants as entry
-use Rattle.cqs_core.specs.QueueLine.{Waiting}
-use Rattle.cqs_core.specs.SemaphoreEntries.{IsAllowed, IsFirst, IsLegal, Waits, after_entry, left, object_after}
+use Rattle.cqs_core.specs.SemaphoreEntries.{IsAllowed, IsLegal, Waits, after_entry, left, object_after}
 use Rattle.cqs_core.specs.SemaphoreObject.{Semaphore, opening}
 use Rattle.cqs_rule.specs.declared.queue.tokens.Under.{Under as Token}
 use Rattle.cqs_core.proofs.Places.{get-push_at}
@@ -15,16 +14,14 @@ use Rattle.cqs_rule.specs.declared.view.Opening.{Opening}
 use Rattle.cqs_rule.specs.declared.view.View.{View}
 use Rattle.cqs_rule.specs.Lists.{without}
 use Rattle.cqs_rule.specs.Owed.{HasUnder}
-use Rattle.cqs_rule.specs.Passes.{pass_view}
 use Rattle.cqs_rule.specs.Views.{IsSame}
 use Rattle.cqs_semaphore.specs.declared.answers.Released.{Released}
 use Rattle.cqs_semaphore.specs.declared.answers.CancelAnswer.TheVariants.{Cancelled}
 use Rattle.cqs_semaphore.specs.declared.answers.Released.TheVariants.{Freed, Left, Sent, Under, Void}
 use Rattle.cqs_semaphore.specs.Alone.{IsFirstOf, IsPlainEnd}
 use Rattle.cqs_semaphore.specs.Answers.{Ends}
-use Rattle.cqs_semaphore.specs.Answers.{Releases as Gave}
-use Rattle.cqs_semaphore.specs.Calls.{CallRule, IsMine, Rests, plain_after}
-use Rattle.cqs_semaphore.specs.Entries.{passed_further, released_entries, released_further, resumed_further}
+use Rattle.cqs_semaphore.specs.Calls.{CallRule, Rests, plain_after}
+use Rattle.cqs_semaphore.specs.Entries.{passed_further, resumed_further}
 use Rattle.cqs_semaphore.specs.Steps.{HasCancelled}
 use Rattle.cqs_cli.proofs.PassCalls.{same-then}
 use Rattle.cqs_cli.proofs.PassRests.{Comes, left-way, plain-next, went}

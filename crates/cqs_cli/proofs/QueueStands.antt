@@ -1,5 +1,5 @@
 -- How a semaphore of the running queue stands, by its state.
-use Rattle.std.proofs.Common.{◌≡◌, ◌⊎◌, inl, inr, ℕ, zero, suc, ◌+◌, ◌-◌, ◌<◌, ◌≤◌, ◌==◌, ℤ, pos, negsuc, ◌≤ℤ◌, ◌-ℤ◌, nat_lt, Bool, true, false, List, [], ◌∷◌, ◌++◌, length, vec_capacity, refl, ap, sym, ◌∙◌, subst, arith}
+use Rattle.std.proofs.Common.{◌≡◌, ◌⊎◌, inl, inr, ℕ, zero, suc, ◌+◌, ◌-◌, ◌≤◌, ◌==◌, ℤ, pos, negsuc, ◌≤ℤ◌, ◌-ℤ◌, nat_lt, Bool, true, false, List, [], ◌∷◌, ◌++◌, length, refl, ap, sym, ◌∙◌, subst, arith}
 use Rattle.std.specs.List.{fold}
 use Rattle.std.proofs.lemmas.Int.{ints}
 use Rattle.std.proofs.lemmas.List.{length_push}
@@ -14,7 +14,7 @@ use Rattle.cqs_core.specs.SemaphoreObject.{Semaphore, due, opening}
 use Rattle.cqs_core.specs.SemaphoreShown.{free_of, short_of, state_of}
 use Rattle.cqs_core.proofs.Balance.{every-history-balanced}
 use Rattle.cqs_core.proofs.Counts.{bit}
-use Rattle.cqs_plan.specs.Floor.{permits_of}
+use Rattle.cqs_plan.specs.Floor.{size_of}
 use Rattle.cqs_rule.specs.declared.view.View.{View}
 use Rattle.cqs_rule.specs.Waits.{place_of}
 use Rattle.cqs_rule.specs.Lists.{Has}
@@ -143,17 +143,17 @@ one-tells q legal x y stand mine capacity kept rule after free line kind room wa
     let lawful = legal x funded.mine in
     let rests = subst (λ n. Rests v n v.facts.waits w) funded.rests.holds after in
     record {
-      free = free ∙ free-told v (permits_of kind) room held funded.rests lawful ∙ ap (λ (o : Semaphore). o.free) is;
-      line = line ∙ line-told v (permits_of kind) room held funded.rests lawful
+      free = free ∙ free-told v (size_of kind) room held funded.rests lawful ∙ ap (λ (o : Semaphore). o.free) is;
+      line = line ∙ line-told v (size_of kind) room held funded.rests lawful
           ∙ ap (λ (o : Semaphore). length o.line) is;
-      all = subst (λ (o : Semaphore). o.held + o.free ≡ permits_of kind) is
-          (all-told v (permits_of kind) room held funded.rests lawful);
+      all = subst (λ (o : Semaphore). o.held + o.free ≡ size_of kind) is
+          (all-told v (size_of kind) room held funded.rests lawful);
       goes = record {
         appended = ap news seen ∙ filter-append is_news v.seen [];
         funded = record {
           sort = funded.sort;
           mine = mine;
-          rests = rests-next v w [] rule.called.same seen (permits_of kind) room held room held v.facts.waits
+          rests = rests-next v w [] rule.called.same seen (size_of kind) room held room held v.facts.waits
               funded.rests rests (omega arith) funded.rests.still funded.rests.drawn;
           permits = kept ∙ funded.permits;
           spare = omega (arith, capacity, funded.spare);

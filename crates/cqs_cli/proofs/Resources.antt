@@ -1,17 +1,16 @@
--- The resources of a ledger: each has its semaphore, whose entries are those of the resource.
-use Rattle.std.proofs.Common.{◌≡◌, ◌≢◌, ℕ, zero, suc, ◌<◌, ◌==◌, List, [], ◌∷◌, Option, Some, None, length, map, get_or, slice_get, refl, ap, sym, ◌∙◌, eq-eqb, ne_eqb, arith}
+-- The resources of a ledger, and what each is kept as.
+use Rattle.std.proofs.Common.{◌≡◌, ◌≢◌, ℕ, zero, suc, ◌<◌, ◌==◌, List, [], ◌∷◌, Option, Some, None, length, map, get_or, slice_get, refl, ap, eq-eqb, ne_eqb, arith}
 use Rattle.std.specs.Option.{option_map}
 use Rattle.std.proofs.lemmas.List.{length-map}
-use Rattle.cqs_core.specs.declared.entries.Entry.{Entry}
-use Rattle.cqs_core.specs.SemaphoreEntries.{object_after}
 use Rattle.cqs_core.proofs.Counts.{bit}
 use Rattle.cqs_core.proofs.Places.{get-below, get-there}
 use Rattle.cqs_plan.specs.declared.plans.kind.Kind.{Kind}
-use Rattle.cqs_plan.specs.Floor.{IsHoldable, IsJob, permits_of, object_at}
+use Rattle.cqs_plan.specs.Floor.{IsHoldable, IsJob, size_of, standing_at}
+use Rattle.cqs_plan.specs.FloorHistory.{of_permits, standing}
 use Rattle.cqs_cli.specs.declared.floors.waits.Wait.{Wait}
 use Rattle.cqs_cli.specs.Kept.{IsKept, IsFundedAt}
 use Rattle.cqs_cli.specs.Ledger.{Ledger, job_wait, plain_floor}
-use Rattle.cqs_cli.specs.Soles.{Sole, object}
+use Rattle.cqs_cli.specs.Stores.{Store, stands}
 
 pub bit-same : (n : ℕ) → bit (n == n) ≡ 1
 bit-same n = ap bit (eq-eqb n n refl)
@@ -24,8 +23,8 @@ pub holdable-there : (k : Option Kind) → IsHoldable k → (there : Kind) × (k
 holdable-there None holdable = absurd holdable
 holdable-there (Some there) holdable = (there, refl)
 
-module _ {X W : Type 0} (s : Sole X W) where
-  -- the semaphore of a resource, with its funds
+module _ {X W : Type 0} (s : Store X W) where
+  -- what a resource is kept as, with its funds
   pub record Funds (l : Ledger X W) (at : ℕ) : Type 0 where
     pub sole : X
     pub there : slice_get l.soles at ≡ Some sole
@@ -38,17 +37,17 @@ module _ {X W : Type 0} (s : Sole X W) where
       let there = get-there l.soles at below in
       record { sole = there.0; there = there.1; funded = kept.funded.at at there.0 there.1 }
 
-  pub entries-at : (soles : List X) (at : ℕ) (sole : X) → slice_get soles at ≡ Some sole
-      → get_or (map s.entries soles) at [] ≡ s.entries sole
-  entries-at [] at sole there = absurd (cc)
-  entries-at (x ∷ soles) zero sole there = let same : x ≡ sole = cc in ap s.entries same
-  entries-at (x ∷ soles) (suc at) sole there = entries-at soles at sole there
+  pub history-there : (soles : List X) (at : ℕ) (sole : X) → slice_get soles at ≡ Some sole
+      → get_or (map s.history soles) at (of_permits []) ≡ s.history sole
+  history-there [] at sole there = absurd (cc)
+  history-there (x ∷ soles) zero sole there = let same : x ≡ sole = cc in ap s.history same
+  history-there (x ∷ soles) (suc at) sole there = history-there soles at sole there
 
-  -- the plain semaphore of a resource is the one after the entries of its semaphore
-  pub object-there : (l : Ledger X W) (at : ℕ) (sole : X) → slice_get l.soles at ≡ Some sole
-      → object_at (plain_floor s l) at ≡ object s (slice_get l.kinds at) sole
-  object-there l at sole there =
-      ap (object_after (permits_of (slice_get l.kinds at))) (entries-at l.soles at sole there)
+  -- a resource stands as what it is kept as does
+  pub standing-there : (l : Ledger X W) (at : ℕ) (sole : X) → slice_get l.soles at ≡ Some sole
+      → standing_at (plain_floor s l) at ≡ stands s (slice_get l.kinds at) sole
+  standing-there l at sole there =
+      ap (standing (size_of (slice_get l.kinds at))) (history-there l.soles at sole there)
 
   -- the place of a resource that can be held
   pub place-room : (l : Ledger X W) (at : ℕ) → IsKept s l → IsHoldable (slice_get l.kinds at) → at < length l.room

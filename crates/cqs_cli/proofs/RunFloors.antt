@@ -5,25 +5,34 @@ use Rattle.cqs_core.proofs.Places.{get-there}
 use Rattle.cqs_plan.specs.declared.plans.kind.Kind.{Kind}
 use Rattle.cqs_plan.specs.declared.plans.plan.Plan.{Plan}
 use Rattle.cqs_plan.specs.declared.plans.resource.Resource.{Resource}
-use Rattle.cqs_plan.specs.Floor.{PlainFloor, entries_at}
+use Rattle.cqs_plan.specs.Floor.{history_at}
 use Rattle.cqs_plan.specs.LegalFloor.{IsLegalFor}
+use Rattle.cqs_cli.specs.declared.floors.any_sole.AnySole.{AnySole}
+use Rattle.cqs_cli.specs.declared.floors.any_sole.AnySole.TheVariants as any
+use Rattle.cqs_cli.specs.declared.floors.any_sole.AnyWait.{AnyWait}
 use Rattle.cqs_cli.specs.declared.floors.running_sole.RunningSole.{RunningSole}
 use Rattle.cqs_cli.specs.declared.floors.running_sole.RunningSole.TheVariants.{Semaphore, Mutex}
 use Rattle.cqs_cli.specs.declared.floors.running_sole.RunningWait.{RunningWait}
 use Rattle.cqs_cli.specs.Kept.{IsKept}
-use Rattle.cqs_cli.specs.KeptRuns.{HasRun, HasSeen}
+use Rattle.cqs_cli.specs.KeptRuns.{HasRun}
 use Rattle.cqs_cli.specs.Ledger.{Ledger, plain_floor}
 use Rattle.cqs_cli.specs.Plans.{floor_after}
-use Rattle.cqs_cli.specs.SoleRunning.{IsAlone, sole_running}
-use Rattle.cqs_cli.proofs.Resources.{entries-at}
+use Rattle.cqs_cli.specs.SoleRunning.{IsAlone, IsAloneAt, sole_running, store_running}
+use Rattle.cqs_cli.proofs.Resources.{history-there}
 
 funded-alone : (x : RunningSole) (kind : Option Kind) (room waiting held : ℕ)
     → sole_running.funded x kind room waiting held → IsAlone kind x
 funded-alone (Semaphore x) kind room waiting held funded = (funded.sort, funded.mine, funded.rests.alone)
 funded-alone (Mutex x) kind room waiting held funded = (funded.sort, funded.mine, funded.rests.alone)
 
-pub has-run : (plan : Plan) (l : Ledger RunningSole RunningWait) → IsKept sole_running l
-    → plain_floor sole_running l ≡ floor_after plan → IsLegalFor plan (plain_floor sole_running l) → HasRun plan l
+alone-at : (x : AnySole RunningSole) (kind : Option Kind) (room waiting : ℕ) (held : List (List ℕ))
+    → store_running.funded x kind room waiting held → IsAloneAt kind x
+alone-at (any.Permits x) kind room waiting held funded = funded-alone x kind room waiting _ funded.funded
+alone-at (any.Pool x) kind room waiting held funded = (funded.sort, funded.mine, funded.rests.only.0)
+
+pub has-run : (plan : Plan) (l : Ledger (AnySole RunningSole) (AnyWait RunningWait)) → IsKept store_running l
+    → plain_floor store_running l ≡ floor_after plan → IsLegalFor plan (plain_floor store_running l)
+    → HasRun plan l
 has-run plan l kept plain legal = record {
   plain = plain;
   passes = λ at below.
@@ -35,8 +44,8 @@ has-run plan l kept plain legal = record {
       record {
         sole = there.0;
         there = there.1;
-        alone = subst (λ (ks : List Kind). IsAlone (slice_get ks at) there.0) legal.kinds
-            (funded-alone there.0 _ _ _ _ funded);
-        seen = sym (entries-at sole_running l.soles at there.0 there.1) ∙ ap (λ f. entries_at f at) plain;
+        alone = subst (λ (ks : List Kind). IsAloneAt (slice_get ks at) there.0) legal.kinds
+            (alone-at there.0 _ _ _ _ funded);
+        seen = sym (history-there store_running l.soles at there.0 there.1) ∙ ap (λ f. history_at f at) plain;
       };
 }

@@ -1,7 +1,7 @@
 -- What a resource is on the running queue, a semaphore or a mutex, is a semaphore as a floor needs it.
 use Rattle.std.proofs.Common.{◌≡◌, ℕ, ◌<◌, Option, refl}
 use Rattle.cqs_plan.specs.declared.plans.kind.Kind.{Kind}
-use Rattle.cqs_plan.specs.Floor.{permits_of}
+use Rattle.cqs_plan.specs.Floor.{size_of}
 use Rattle.cqs_core.specs.SemaphoreEntries.{IsLegal}
 use Rattle.cqs_mutex.specs.declared.guard.LockWait.{LockWait}
 use Rattle.cqs_rule.specs.declared.queue.tokens.Wait.{Wait}
@@ -52,12 +52,12 @@ pub running-lawful : IsLawful sole_running
 running-lawful = record { some = some; legal = legal; numbered = numbered }
   where
     some : (x : RunningSole) (kind : Option Kind) (room waiting held : ℕ)
-        → sole_running.funded x kind room waiting held → 0 < permits_of kind
+        → sole_running.funded x kind room waiting held → 0 < size_of kind
     some (Semaphore x) kind room waiting held funded = queue-lawful.some x kind room waiting held funded
     some (Mutex x) kind room waiting held funded = mutex-lawful.some x kind room waiting held funded
 
     legal : (x : RunningSole) (kind : Option Kind) (room waiting held : ℕ)
-        → sole_running.funded x kind room waiting held → IsLegal (permits_of kind) (sole_running.entries x)
+        → sole_running.funded x kind room waiting held → IsLegal (size_of kind) (sole_running.entries x)
     legal (Semaphore x) kind room waiting held funded = queue-lawful.legal x kind room waiting held funded
     legal (Mutex x) kind room waiting held funded = mutex-lawful.legal x kind room waiting held funded
 

@@ -1,7 +1,6 @@
 -- What a call of a core with one pass comes to.
 use Rattle.std.proofs.Common.{◌≡◌, ℕ, ◌+◌, ◌≤◌, List, Some, length, refl, sym, ap, ◌∙◌, length-set}
 use Rattle.cqs_core.specs.declared.calls.Call.{Call}
-use Rattle.cqs_core.specs.declared.calls.Call.TheVariants as call
 use Rattle.cqs_core.specs.declared.calls.Reply.{Reply}
 use Rattle.cqs_core.specs.declared.calls.Reply.TheVariants as reply
 use Rattle.cqs_core.specs.SemaphoreAnswers.{Room}

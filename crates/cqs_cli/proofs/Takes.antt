@@ -1,46 +1,54 @@
 -- A take: what it rests on, what it answers, and what it leaves.
-use Rattle.std.proofs.Common.{◌≡◌, ◌≢◌, ◌⊎◌, inl, inr, ℕ, ◌+◌, ◌-◌, ◌<◌, ◌==◌, nat_lt, Bool, true, false, [], ◌∷◌, Some, None, is_some, length, set, get_or, slice_get, sum, sum_by, count_by, refl, ap, ap₂, sym, ◌∙◌, subst, length-set, arith, Option}
+use Rattle.std.proofs.Common.{◌≡◌, ◌≢◌, ◌⊎◌, inl, inr, ℕ, ◌+◌, ◌-◌, ◌<◌, ◌==◌, Some, None, is_some, length, set, get_or, slice_get, sum, sum_by, count_by, refl, ap, sym, ◌∙◌, subst, length-set, arith, Option}
 use Rattle.std.specs.Prelude.{slice_index}
 use Rattle.std.specs.Option.{option_map}
 use Rattle.std.proofs.lemmas.Bool.{cases_eq}
-use Rattle.std.proofs.lemmas.List.{map-set, get_or-set_same, get_or-set_other}
+use Rattle.std.proofs.lemmas.List.{length-map, map-set, get_or-set_same, get_or-set_other}
 use Rattle.cqs_plan.specs.declared.plans.kind.Kind.{Kind}
-use Rattle.cqs_core.specs.declared.entries.Entry.TheVariants as entry
 use Rattle.cqs_core.proofs.CoreSteps.{loses-sum}
 use Rattle.cqs_core.proofs.Counts.{bit}
 use Rattle.cqs_core.proofs.Places.{get-set_here, get-set_else, get-there}
 use Rattle.cqs_plan.specs.declared.floors.answers.FloorTake.{FloorTake}
 use Rattle.cqs_plan.specs.declared.floors.answers.FloorTake.TheVariants.{Now, Waits}
-use Rattle.cqs_plan.specs.Floor.{PlainFloor, JobWait, IsHoldable, IsJob, IsIdle, object_at, room_at}
+use Rattle.cqs_plan.specs.FloorHistory.{takes, joins, first_free}
+use Rattle.cqs_plan.specs.Floor.{PlainFloor, JobWait, IsHoldable, IsJob, IsIdle, room_at, size_of}
 use Rattle.cqs_plan.specs.FloorCalls.{take_answer, after_take}
 use Rattle.cqs_cli.specs.declared.floors.transfers.Transfer.TheVariants.{Got}
 use Rattle.cqs_cli.specs.declared.floors.waits.Wait.{Wait}
-use Rattle.cqs_cli.specs.DeskCalls.{Calls, HasAt, Takes}
-use Rattle.cqs_cli.specs.Kept.{IsKept, IsFundedAt, StandsIn, HoldPermits, waiting_at, held_at, is_wait_at}
+use Rattle.cqs_cli.specs.DeskCalls.{HasAt, Takes}
+use Rattle.cqs_cli.specs.Kept.{elements_of, IsKept, IsFundedAt, StandsIn, waiting_at, held_at, is_wait_at}
 use Rattle.cqs_cli.specs.Ledger.{Ledger, plain_floor, with_taken, with_waiting, with_soles, job_wait, holds_in, holds_after, after_transfer}
-use Rattle.cqs_cli.specs.Soles.{Sole, IsLawful, CanAcquire, Goes, KeepsAll, object}
-use Rattle.cqs_cli.proofs.Holdings.{count-set, held-got, many-got, permits-transfer, holds-transfer}
-use Rattle.cqs_cli.proofs.KeptNext.{funded-as, kept-next, stands-on, entries-next}
-use Rattle.cqs_cli.proofs.Resources.{Funds, funds-at, bit-same, bit-other, object-there, place-room, job-there, idle-there}
+use Rattle.cqs_cli.specs.Stores.{Store, IsLawful, CanAcquire, Goes, KeepsAll, stands, with_more}
+use Rattle.cqs_cli.proofs.Holdings.{count-set, held-got, else-got, many-got, holds-transfer}
+use Rattle.cqs_cli.proofs.KeptNext.{funded-as, kept-next, stands-on, histories-next}
+use Rattle.cqs_cli.proofs.Resources.{Funds, funds-at, bit-same, bit-other, history-there, standing-there, place-room, job-there, idle-there}
 
-module _ {X W : Type 0} (s : Sole X W) where
+module _ {X W : Type 0} (s : Store X W) where
   -- a resource with room can take one more call
-  can-take : (l : Ledger X W) (at : ℕ) → IsKept s l → IsHoldable (slice_get l.kinds at) → 0 < slice_index l.room at
-      → HasAt l.soles at (CanAcquire s)
-  can-take l at kept holdable room =
+  can-take : (l : Ledger X W) (at job : ℕ) → IsKept s l → IsHoldable (slice_get l.kinds at)
+      → job < length (holds_in l) → 0 < slice_index l.room at → HasAt l.soles at (CanAcquire s job)
+  can-take l at job kept holdable holder room =
       let funds : Funds s l at = funds-at s l at kept holdable in
       record {
         sole = funds.sole;
         there = funds.there;
-        can = record { kind = _; room = _; waiting = _; held = _; funded = funds.funded; some = room };
+        can = record {
+          kind = _;
+          room = _;
+          waiting = _;
+          held = _;
+          funded = funds.funded;
+          some = room;
+          there = omega (arith, holder, length-map (holds_in l) (elements_of at));
+        };
       }
 
-  pub take-can : (l : Ledger X W) (f : PlainFloor) (at : ℕ) → plain_floor s l ≡ f → IsKept s l
-      → IsHoldable (slice_get f.kinds at) → 0 < room_at f at → HasAt l.soles at (CanAcquire s)
-  take-can l f at view kept =
-      let Allows : PlainFloor → Type 0 = λ g. IsHoldable (slice_get g.kinds at) → 0 < room_at g at
-      → HasAt l.soles at (CanAcquire s) in
-      subst Allows view (can-take l at kept)
+  pub take-can : (l : Ledger X W) (f : PlainFloor) (at job : ℕ) → plain_floor s l ≡ f → IsKept s l
+      → IsHoldable (slice_get f.kinds at) → IsJob f job → 0 < room_at f at → HasAt l.soles at (CanAcquire s job)
+  take-can l f at job view kept =
+      let Allows : PlainFloor → Type 0 = λ g. IsHoldable (slice_get g.kinds at) → IsJob g job → 0 < room_at g at
+      → HasAt l.soles at (CanAcquire s job) in
+      subst Allows view (λ holdable is_job. can-take l at job kept holdable is_job.holds)
 
   -- a job that can take from a resource with room
   module _ (lawful : IsLawful s) (l : Ledger X W) (at job : ℕ) (kept : IsKept s l) (place : at < length l.room)
@@ -62,45 +70,44 @@ module _ {X W : Type 0} (s : Sole X W) where
       funded : IsFundedAt s l at sole
       funded = kept.funded.at at sole there
 
-      -- the job has a permit
-      abbrev now : Ledger X W
-      now = with_soles (with_taken l at job) (set l.soles at after)
+      -- the job has an element, or a permit
+      module _ (element : ℕ) where
+        abbrev now : Ledger X W
+        now = with_soles (with_taken l at job element) (set l.soles at after)
 
-      transferred : holds_in now ≡ after_transfer (holds_in l) (Got job at)
-      transferred = holds-transfer (length l.waits) l.transfers (Got job at)
+        transferred : holds_in now ≡ after_transfer (holds_in l) (Got job at element)
+        transferred = holds-transfer (length l.waits) l.transfers (Got job at element)
 
-      module _ (goes : Goes s sole (entry.TakeNow 0 ∷ []) kind (slice_index l.room at - 1) (waiting_at l.waits at)
-          (held_at (holds_in l) at + 1) after) where
-        kept-now : KeepsAll s sole after → IsKept s now
-        kept-now keeps = kept-next s l now at sole after kept (record {
-          there = there;
-          kinds = refl;
-          soles = refl;
-          rooms = length-set l.room at _;
-          funded = funded-as s after _ (sym room-here) refl (sym held-here) goes.funded;
-          room = room-else;
-          waiting = λ i other. refl;
-          held = λ i other. omega (arith, held-after i, bit-other at i (λ e. other (sym e)));
-          waits = λ j wait got. stands-on s l.soles at sole after wait there (λ same has. keeps wait.token has)
-              (kept.waits j wait got);
-          apart = kept.apart;
-          plain = subst HoldPermits (sym transferred) (permits-transfer (holds_in l) (Got job at) kept.plain);
-          spare = omega (arith, kept.spare, fewer, many);
-        })
-          where
-            held-after : (i : ℕ) → held_at (holds_in now) i ≡ held_at (holds_in l) i + bit (at == i)
-            held-after i = ap (λ hs. held_at hs i) transferred ∙ held-got (holds_in l) job at holder i
+        module _ (goes : Goes s sole (takes element) kind (slice_index l.room at - 1) (waiting_at l.waits at)
+            (with_more (held_at (holds_in l) at) job element) after) where
+          kept-now : KeepsAll s sole after → IsKept s now
+          kept-now keeps = kept-next s l now at sole after kept (record {
+            there = there;
+            kinds = refl;
+            soles = refl;
+            rooms = length-set l.room at _;
+            funded = funded-as s after _ (sym room-here) refl (sym held-here) goes.funded;
+            room = room-else;
+            waiting = λ i other. refl;
+            held = λ i other. ap (λ hs. held_at hs i) transferred
+                ∙ else-got (holds_in l) job at element i (λ e. other (sym e));
+            waits = λ j wait got. stands-on s l.soles at sole after wait there (λ same has. keeps wait.token has)
+                (kept.waits j wait got);
+            apart = kept.apart;
+            spare = omega (arith, kept.spare, fewer, many);
+          })
+            where
+              held-here : held_at (holds_in now) at ≡ with_more (held_at (holds_in l) at) job element
+              held-here = ap (λ hs. held_at hs at) transferred ∙ held-got (holds_in l) job at element
 
-            held-here : held_at (holds_in now) at ≡ held_at (holds_in l) at + 1
-            held-here = omega (arith, held-after at, bit-same at)
+              many : sum_by (λ hs. length hs) (holds_in now) ≡ sum_by (λ hs. length hs) (holds_in l) + 1
+              many = ap (λ hss. sum_by (λ hs. length hs) hss) transferred
+                  ∙ many-got (holds_in l) job at element holder
 
-            many : sum_by (λ hs. length hs) (holds_in now) ≡ sum_by (λ hs. length hs) (holds_in l) + 1
-            many = ap (λ hss. sum_by (λ hs. length hs) hss) transferred ∙ many-got (holds_in l) job at holder
-
-        plain-now : plain_floor s now ≡ after_take (plain_floor s l) at job (Now 0)
-        plain-now =
-            let entries = entries-next s l.soles at sole after (entry.TakeNow 0 ∷ []) there goes.appended in
-            rw (entries, transferred) refl
+          plain-now : plain_floor s now ≡ after_take (plain_floor s l) at job (Now element)
+          plain-now =
+              let histories = histories-next s l.soles at sole after (size_of kind) (takes element) there goes.done in
+              rw (histories, transferred) refl
 
       -- the job waits
       module _ (token : W) where
@@ -130,7 +137,7 @@ module _ {X W : Type 0} (s : Sole X W) where
             go (inr other) =
                 inr (other, sym (get-set_else l.waits job j (Some wait) (λ e. other (sym e))) ∙ got)
 
-        module _ (number : s.number token ≡ (object s kind sole).next) where
+        module _ (number : s.number token ≡ (stands s kind sole).next) where
           -- no job has the new wait before
           fresh-wait : (j : ℕ) (w : Wait W) → slice_get l.waits j ≡ Some (Some w) → job_wait s wait ≢ job_wait s w
           fresh-wait j w got same =
@@ -139,11 +146,11 @@ module _ {X W : Type 0} (s : Sole X W) where
               let found : Some stands.sole ≡ Some sole = sym stands.there ∙ ap (slice_get l.soles) here ∙ there in
               let is : stands.sole ≡ sole = cc in
               let has : s.has sole w.token = subst (λ (x : X). s.has x w.token) is stands.has in
-              let below = lawful.numbered sole w.token _ _ _ _ funded has in
+              let below = lawful.numbered sole w.token kind _ _ _ funded has in
               let next : s.number token ≡ s.number w.token = ap (λ (x : JobWait). x.number) same in
               absurd (omega (arith, below, next, number))
 
-          module _ (goes : Goes s sole (entry.TakeDoor 0 ∷ entry.Enter 0 (object s kind sole).next ∷ []) kind
+          module _ (goes : Goes s sole (joins (stands s kind sole).next) kind
               (slice_index l.room at - 1) (waiting_at l.waits at + 1) (held_at (holds_in l) at) after)
               (has : s.has after token) (keeps : KeepsAll s sole after) where
             kept-later : IsKept s later
@@ -160,7 +167,6 @@ module _ {X W : Type 0} (s : Sole X W) where
               apart = record {
                 same = λ i j v w one two same. apart i j v w same (stands-at i v one) (stands-at j w two);
               };
-              plain = subst HoldPermits (sym same-holds) kept.plain;
               spare = omega (arith, kept.spare, fewer, many, more);
             })
               where
@@ -208,10 +214,10 @@ module _ {X W : Type 0} (s : Sole X W) where
 
             plain-later : plain_floor s later ≡ after_take (plain_floor s l) at job (Waits (s.number token))
             plain-later =
-                let entries = entries-next s l.soles at sole after
-                (entry.TakeDoor 0 ∷ entry.Enter 0 (object s kind sole).next ∷ []) there goes.appended in
+                let histories = histories-next s l.soles at sole after (size_of kind)
+                (joins (stands s kind sole).next) there goes.done in
                 let waits = map-set (option_map (job_wait s)) l.waits job (Some wait) in
-                rw (entries, waits, same-holds, number) refl
+                rw (histories, waits, same-holds, number) refl
 
   -- what a take comes to: its answer is the plain floor's, and so is what it leaves
   pub record TakesWell (f : PlainFloor) (at job : ℕ) (answer : FloorTake) (n : Ledger X W) : Type 0 where
@@ -222,25 +228,28 @@ module _ {X W : Type 0} (s : Sole X W) where
   take-well : IsLawful s → (l n : Ledger X W) (at job : ℕ) (answer : FloorTake) → IsKept s l
       → IsHoldable (slice_get l.kinds at) → IsJob (plain_floor s l) job → IsIdle (plain_floor s l) job
       → 0 < slice_index l.room at → Takes s l at job answer n → TakesWell (plain_floor s l) at job answer n
-  take-well lawful l n at job (Now element) kept holdable is_job idle room (zero_is, a, written) =
-      let made = a.made _ _ _ _ (kept.funded.at at a.sole a.there) room in
+  take-well lawful l n at job (Now element) kept holdable is_job idle room (a, written) =
+      let made = a.made _ _ _ _ (kept.funded.at at a.sole a.there) room
+      (omega (arith, is_job.holds, length-map (holds_in l) (elements_of at))) in
       let place = place-room s l at kept holdable in
       let waiter = job-there s l job is_job in
       let nobody = idle-there s l.waits job idle in
-      let is : Now element ≡ Now 0 = ap Now zero_is in
-      let same : n ≡ with_soles (with_taken l at job) (set l.soles at a.after) =
-      written ∙ ap (with_soles (with_taken l at job)) a.soles in
+      let same : n ≡ with_soles (with_taken l at job element) (set l.soles at a.after) =
+      written ∙ ap (with_soles (with_taken l at job element)) a.soles in
       record {
-        answers = is ∙ rw (object-there s l at a.sole a.there, made.free) refl;
+        answers = rw (standing-there s l at a.sole a.there, made.free)
+            (ap Now (made.first ∙ ap (first_free (size_of (slice_get l.kinds at)))
+            (sym (history-there s l.soles at a.sole a.there))));
         leaves = ap (plain_floor s) same
-            ∙ plain-now lawful l at job kept place room is_job.holds waiter nobody a.sole a.after a.there made.goes
-            ∙ ap (after_take (plain_floor s l) at job) (sym is);
+            ∙ plain-now lawful l at job kept place room is_job.holds waiter nobody a.sole a.after a.there element
+            made.goes;
         kept = subst (IsKept s) (sym same)
-            (kept-now lawful l at job kept place room is_job.holds waiter nobody a.sole a.after a.there made.goes
-            made.keeps);
+            (kept-now lawful l at job kept place room is_job.holds waiter nobody a.sole a.after a.there element
+            made.goes made.keeps);
       }
   take-well lawful l n at job (Waits number) kept holdable is_job idle room (token, number_is, a, written) =
-      let made = a.made _ _ _ _ (kept.funded.at at a.sole a.there) room in
+      let made = a.made _ _ _ _ (kept.funded.at at a.sole a.there) room
+      (omega (arith, is_job.holds, length-map (holds_in l) (elements_of at))) in
       let place = place-room s l at kept holdable in
       let waiter = job-there s l job is_job in
       let nobody = idle-there s l.waits job idle in
@@ -248,7 +257,7 @@ module _ {X W : Type 0} (s : Sole X W) where
       let same : n ≡ with_soles (with_waiting l at job token) (set l.soles at a.after) =
       written ∙ ap (with_soles (with_waiting l at job token)) a.soles in
       record {
-        answers = is ∙ rw (object-there s l at a.sole a.there, made.none, made.number) refl;
+        answers = is ∙ rw (standing-there s l at a.sole a.there, made.none, made.number) refl;
         leaves = ap (plain_floor s) same
             ∙ plain-later lawful l at job kept place room is_job.holds waiter nobody a.sole a.after a.there token
             made.number made.goes made.has made.keeps

@@ -1,26 +1,26 @@
 -- The wait of a job is over: it looked at what came, left the line, or was too late to leave.
-use Rattle.std.proofs.Common.{◌≡◌, ◌≢◌, ◌⊎◌, inl, inr, ℕ, ◌+◌, ◌-◌, ◌<◌, ◌==◌, List, [], ◌∷◌, ◌++◌, Some, None, is_some, length, map, set, get_or, slice_get, sum_by, count_by, refl, ap, ap₂, sym, ◌∙◌, subst, length-set, arith, Option}
+use Rattle.std.proofs.Common.{◌≡◌, ◌≢◌, ◌⊎◌, inl, inr, ℕ, ◌+◌, ◌-◌, ◌<◌, ◌==◌, [], ◌∷◌, ◌++◌, Some, None, is_some, length, map, set, get_or, slice_get, sum_by, count_by, refl, ap, ap₂, sym, ◌∙◌, length-set, arith, Option}
 use Rattle.std.specs.Prelude.{slice_index}
 use Rattle.std.specs.Option.{option_map}
 use Rattle.std.proofs.lemmas.Bool.{cases_eq}
 use Rattle.std.proofs.lemmas.List.{map-set}
 use Rattle.std.proofs.lemmas.Option.{get_or_from_slice_get}
 use Rattle.cqs_plan.specs.declared.plans.kind.Kind.{Kind}
-use Rattle.cqs_core.specs.declared.entries.Entry.{Entry}
 use Rattle.cqs_core.proofs.Counts.{bit}
 use Rattle.cqs_core.proofs.Places.{get-set_here, get-set_else, get-below}
-use Rattle.cqs_plan.specs.Floor.{JobWait}
+use Rattle.cqs_plan.specs.FloorHistory.{Deed, of_permits, with_deed}
+use Rattle.cqs_plan.specs.Floor.{JobWait, size_of}
 use Rattle.cqs_cli.specs.declared.floors.transfers.Transfer.TheVariants.{Got}
 use Rattle.cqs_cli.specs.declared.floors.waits.Wait.{Wait}
-use Rattle.cqs_cli.specs.Kept.{IsKept, IsFundedAt, StandsIn, AreApart, HoldPermits, waiting_at, held_at, is_wait_at}
+use Rattle.cqs_cli.specs.Kept.{IsKept, StandsIn, AreApart, waiting_at, held_at, is_wait_at}
 use Rattle.cqs_cli.specs.Ledger.{Ledger, plain_floor, with_soles, with_wait, with_grant, after_transfer, holds_after, holds_in, job_wait}
-use Rattle.cqs_cli.specs.Soles.{Sole, Goes, KeepsOthers}
-use Rattle.cqs_cli.proofs.Holdings.{count-set, held-got, many-got, permits-transfer, holds-transfer}
-use Rattle.cqs_cli.proofs.KeptNext.{funded-as, kept-next, stands-on, entries-next}
+use Rattle.cqs_cli.specs.Stores.{Store, Goes, KeepsOthers, with_more}
+use Rattle.cqs_cli.proofs.Holdings.{count-set, held-got, else-got, many-got, holds-transfer}
+use Rattle.cqs_cli.proofs.KeptNext.{funded-as, kept-next, stands-on, histories-next}
 use Rattle.cqs_cli.proofs.Resources.{bit-same, bit-other}
 
 -- a job whose wait stands
-module _ {X W : Type 0} (s : Sole X W) (l : Ledger X W) (job : ℕ) (wait : Wait W) (kept : IsKept s l)
+module _ {X W : Type 0} (s : Store X W) (l : Ledger X W) (job : ℕ) (wait : Wait W) (kept : IsKept s l)
     (has : slice_get l.waits job ≡ Some (Some wait)) where
   below : job < length l.waits
   below = get-below l.waits job (Some wait) has
@@ -99,11 +99,11 @@ module _ {X W : Type 0} (s : Sole X W) (l : Ledger X W) (job : ℕ) (wait : Wait
     gone-holds : holds_in gone ≡ holds_in l
     gone-holds = ap (λ n. holds_after n l.transfers) (length-set l.waits job None)
 
-    pub kept-gone : (entries : List Entry)
-        → Goes s sole entries kind (slice_index l.room wait.at) (waiting_at l.waits wait.at - 1)
+    pub kept-gone : (deed : Deed)
+        → Goes s sole deed kind (slice_index l.room wait.at) (waiting_at l.waits wait.at - 1)
         (held_at (holds_in l) wait.at) after
         → IsKept s gone
-    kept-gone entries goes = kept-next s l gone wait.at sole after kept (record {
+    kept-gone deed goes = kept-next s l gone wait.at sole after kept (record {
       there = there;
       kinds = refl;
       soles = refl;
@@ -114,7 +114,6 @@ module _ {X W : Type 0} (s : Sole X W) (l : Ledger X W) (job : ℕ) (wait : Wait
       held = λ i other. ap (λ hs. held_at hs i) gone-holds;
       waits = stand-on;
       apart = apart;
-      plain = subst HoldPermits (sym gone-holds) kept.plain;
       spare = omega (arith, kept.spare, fewer, many);
     })
       where
@@ -125,60 +124,61 @@ module _ {X W : Type 0} (s : Sole X W) (l : Ledger X W) (job : ℕ) (wait : Wait
         many = ap (λ hss. sum_by (λ hs. length hs) hss) gone-holds
 
     -- the job has what came
-    abbrev pub came_to : Ledger X W
-    came_to = with_soles (with_grant l job wait.at) (set l.soles wait.at after)
+    module _ (element : ℕ) where
+      abbrev pub came_to : Ledger X W
+      came_to = with_soles (with_grant l job wait.at element) (set l.soles wait.at after)
 
-    came-holds : holds_in came_to ≡ after_transfer (holds_in l) (Got job wait.at)
-    came-holds =
-        ap (λ n. holds_after n (l.transfers ++ Got job wait.at ∷ [])) (length-set l.waits job None)
-        ∙ holds-transfer (length l.waits) l.transfers (Got job wait.at)
+      came-holds : holds_in came_to ≡ after_transfer (holds_in l) (Got job wait.at element)
+      came-holds =
+          ap (λ n. holds_after n (l.transfers ++ Got job wait.at element ∷ [])) (length-set l.waits job None)
+          ∙ holds-transfer (length l.waits) l.transfers (Got job wait.at element)
 
-    pub kept-came : (entries : List Entry) → job < length (holds_in l)
-        → Goes s sole entries kind (slice_index l.room wait.at) (waiting_at l.waits wait.at - 1)
-        (held_at (holds_in l) wait.at + 1) after
-        → IsKept s came_to
-    kept-came entries holder goes = kept-next s l came_to wait.at sole after kept (record {
-      there = there;
-      kinds = refl;
-      soles = refl;
-      rooms = refl;
-      funded = funded-as s after _ refl (sym waiting-here) (sym held-here) goes.funded;
-      room = λ i other. refl;
-      waiting = waiting-else;
-      held = λ i other. omega (arith, held-after i, bit-other wait.at i (λ e. other (sym e)));
-      waits = stand-on;
-      apart = apart;
-      plain = subst HoldPermits (sym came-holds) (permits-transfer (holds_in l) (Got job wait.at) kept.plain);
-      spare = omega (arith, kept.spare, fewer, many);
-    })
-      where
-        held-after : (i : ℕ) → held_at (holds_in came_to) i ≡ held_at (holds_in l) i + bit (wait.at == i)
-        held-after i = ap (λ hs. held_at hs i) came-holds ∙ held-got (holds_in l) job wait.at holder i
+      pub kept-came : (deed : Deed) → job < length (holds_in l)
+          → Goes s sole deed kind (slice_index l.room wait.at) (waiting_at l.waits wait.at - 1)
+          (with_more (held_at (holds_in l) wait.at) job element) after
+          → IsKept s came_to
+      kept-came deed holder goes = kept-next s l came_to wait.at sole after kept (record {
+        there = there;
+        kinds = refl;
+        soles = refl;
+        rooms = refl;
+        funded = funded-as s after _ refl (sym waiting-here) (sym held-here) goes.funded;
+        room = λ i other. refl;
+        waiting = waiting-else;
+        held = λ i other. ap (λ hs. held_at hs i) came-holds
+            ∙ else-got (holds_in l) job wait.at element i (λ e. other (sym e));
+        waits = stand-on;
+        apart = apart;
+        spare = omega (arith, kept.spare, fewer, many);
+      })
+        where
+          held-here : held_at (holds_in came_to) wait.at ≡ with_more (held_at (holds_in l) wait.at) job element
+          held-here = ap (λ hs. held_at hs wait.at) came-holds ∙ held-got (holds_in l) job wait.at element
 
-        held-here : held_at (holds_in came_to) wait.at ≡ held_at (holds_in l) wait.at + 1
-        held-here = omega (arith, held-after wait.at, bit-same wait.at)
+          many : sum_by (λ hs. length hs) (holds_in came_to) ≡ sum_by (λ hs. length hs) (holds_in l) + 1
+          many = ap (λ hss. sum_by (λ hs. length hs) hss) came-holds
+              ∙ many-got (holds_in l) job wait.at element holder
 
-        many : sum_by (λ hs. length hs) (holds_in came_to) ≡ sum_by (λ hs. length hs) (holds_in l) + 1
-        many = ap (λ hss. sum_by (λ hs. length hs) hss) came-holds ∙ many-got (holds_in l) job wait.at holder
+      pub plain-came : (deed : Deed) → s.history after ≡ with_deed (size_of kind) (s.history sole) deed
+          → plain_floor s came_to ≡ record (plain_floor s l) {
+            histories = set (map s.history l.soles) wait.at
+                (with_deed (size_of kind) (get_or (map s.history l.soles) wait.at (of_permits [])) deed);
+            waits = set (map (option_map (job_wait s)) l.waits) job None;
+            holds = after_transfer (holds_in l) (Got job wait.at element);
+          }
+      plain-came deed done =
+          let histories = histories-next s l.soles wait.at sole after (size_of kind) deed there done in
+          let waits = map-set (option_map (job_wait s)) l.waits job None in
+          rw (histories, waits, came-holds) refl
 
-    -- the plain floors of both
-    pub plain-gone : (e : Entry) → s.entries after ≡ s.entries sole ++ e ∷ []
+    -- the plain floor where the job left
+    pub plain-gone : (deed : Deed) → s.history after ≡ with_deed (size_of kind) (s.history sole) deed
         → plain_floor s gone ≡ record (plain_floor s l) {
-          entries = set (map s.entries l.soles) wait.at (get_or (map s.entries l.soles) wait.at [] ++ e ∷ []);
+          histories = set (map s.history l.soles) wait.at
+              (with_deed (size_of kind) (get_or (map s.history l.soles) wait.at (of_permits [])) deed);
           waits = set (map (option_map (job_wait s)) l.waits) job None;
         }
-    plain-gone e appended =
-        let entries = entries-next s l.soles wait.at sole after (e ∷ []) there appended in
+    plain-gone deed done =
+        let histories = histories-next s l.soles wait.at sole after (size_of kind) deed there done in
         let waits = map-set (option_map (job_wait s)) l.waits job None in
-        rw (entries, waits, gone-holds) refl
-
-    pub plain-came : (e : Entry) → s.entries after ≡ s.entries sole ++ e ∷ []
-        → plain_floor s came_to ≡ record (plain_floor s l) {
-          entries = set (map s.entries l.soles) wait.at (get_or (map s.entries l.soles) wait.at [] ++ e ∷ []);
-          waits = set (map (option_map (job_wait s)) l.waits) job None;
-          holds = after_transfer (holds_in l) (Got job wait.at);
-        }
-    plain-came e appended =
-        let entries = entries-next s l.soles wait.at sole after (e ∷ []) there appended in
-        let waits = map-set (option_map (job_wait s)) l.waits job None in
-        rw (entries, waits, came-holds) refl
+        rw (histories, waits, gone-holds) refl

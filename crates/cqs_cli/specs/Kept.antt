@@ -1,23 +1,19 @@
 -- What holds of a ledger between two calls of its floor.
-use Rattle.std.specs.Prelude.{◌≡◌, ℕ, ◌+◌, ◌*◌, ◌≤◌, ◌==◌, Bool, false, List, [], ◌∷◌, length, Option, Some, None, is_some, sum, sum_by, count_by, slice_get, slice_index}
+use Rattle.std.specs.Prelude.{◌≡◌, ℕ, ◌+◌, ◌*◌, ◌≤◌, ◌==◌, Bool, false, List, [], ◌∷◌, length, map, Option, Some, None, is_some, if◌then◌else◌, sum, sum_by, count_by, slice_get, slice_index}
 use Rattle.cqs_core.specs.Numbered.{EachAt}
 use Rattle.cqs_plan.specs.Floor.{Holding}
 use Rattle.cqs_cli.specs.declared.floors.waits.Wait.{Wait}
 use Rattle.cqs_cli.specs.Ledger.{Ledger, holds_in, job_wait}
-use Rattle.cqs_cli.specs.Soles.{Sole}
+use Rattle.cqs_cli.specs.Stores.{Store}
 
--- how many permits of a resource the jobs hold
-abbrev pub held_at : List (List Holding) → ℕ → ℕ
-held_at holds at = sum_by (λ hs. count_by (λ h. h.at == at) hs) holds
+-- the elements of a resource among what a job holds, oldest first, and what each job has of them
+abbrev pub elements_of : ℕ → List Holding → List ℕ
+elements_of at [] = []
+elements_of at (h ∷ hs) =
+    if h.at == at then h.element ∷ elements_of at hs else elements_of at hs
 
--- what is held are permits, which have no number
-abbrev pub ArePermits : List Holding → Type 0
-ArePermits [] = Unit {0}
-ArePermits (h ∷ hs) = (h.element ≡ 0) × ArePermits hs
-
-abbrev pub HoldPermits : List (List Holding) → Type 0
-HoldPermits [] = Unit {0}
-HoldPermits (hs ∷ holds) = ArePermits hs × HoldPermits holds
+abbrev pub held_at : List (List Holding) → ℕ → List (List ℕ)
+held_at holds at = map (elements_of at) holds
 
 module _ {W : Type 0} where
   -- the wait is for this resource
@@ -30,14 +26,14 @@ module _ {W : Type 0} where
   waiting_at waits at = count_by (is_wait_at at) waits
 
 -- how many transfers may still come: two of each take, two of each wait,
--- and one of each permit held
+-- and one of each permit or element held
 abbrev pub transfers_to_come : {X W : Type 0} → Ledger X W → ℕ
 transfers_to_come l =
     2 * sum l.room + 2 * count_by (λ wait. is_some wait) l.waits
     + sum_by (λ hs. length hs) (holds_in l)
 
-module _ {X W : Type 0} (s : Sole X W) where
-  -- the job's wait is one that the caller of its resource's semaphore has
+module _ {X W : Type 0} (s : Store X W) where
+  -- the job's wait is one that the caller of its resource has
   pub record StandsIn (soles : List X) (wait : Wait W) : Type 0 where
     pub sole : X
     pub there : slice_get soles wait.at ≡ Some sole
@@ -48,8 +44,8 @@ module _ {X W : Type 0} (s : Sole X W) where
     pub same : (i j : ℕ) (v w : Wait W) → slice_get waits i ≡ Some (Some v)
         → slice_get waits j ≡ Some (Some w) → job_wait s v ≡ job_wait s w → i ≡ j
 
-  -- The semaphore of a place stands for its resource, and has room for all that can still come of
-  -- what the ledger counts there.
+  -- What is kept at a place stands for its resource, has room for all that can still come of what
+  -- the ledger counts there, and for each job what the ledger has.
   abbrev pub IsFundedAt : Ledger X W → ℕ → X → Type 0
   IsFundedAt l at sole =
       s.funded sole (slice_get l.kinds at) (slice_index l.room at)
@@ -62,5 +58,4 @@ module _ {X W : Type 0} (s : Sole X W) where
     pub waits : (job : ℕ) (wait : Wait W) → slice_get l.waits job ≡ Some (Some wait)
         → StandsIn l.soles wait
     pub apart : AreApart l.waits
-    pub plain : HoldPermits (holds_in l)
     pub spare : transfers_to_come l ≤ l.spare

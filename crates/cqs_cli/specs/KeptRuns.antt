@@ -1,17 +1,19 @@
 -- What a call of the program keeps of a run.
 use Rattle.std.specs.Prelude.{◌≡◌, ℕ, ◌<◌, ◌⊎◌, List, length, Option, Some, slice_get}
-use Rattle.cqs_core.specs.declared.entries.Entry.{Entry}
 use Rattle.cqs_plan.specs.declared.plans.kind.Kind.{Kind}
 use Rattle.cqs_plan.specs.declared.plans.plan.Plan.{Plan}
-use Rattle.cqs_plan.specs.Floor.{entries_at}
+use Rattle.cqs_plan.specs.Floor.{history_at}
+use Rattle.cqs_plan.specs.FloorHistory.{History}
 use Rattle.cqs_plan.specs.PlanText.{IsPlanText}
 use Rattle.cqs_plan.specs.Runnable.{kinds_of}
 use Rattle.cqs_turns.specs.Report.{report_of}
+use Rattle.cqs_cli.specs.declared.floors.any_sole.AnySole.{AnySole}
+use Rattle.cqs_cli.specs.declared.floors.any_sole.AnyWait.{AnyWait}
 use Rattle.cqs_cli.specs.declared.floors.running_sole.RunningSole.{RunningSole}
 use Rattle.cqs_cli.specs.declared.floors.running_sole.RunningWait.{RunningWait}
 use Rattle.cqs_cli.specs.Input.{IsInput}
 use Rattle.cqs_cli.specs.Ledger.{Ledger, plain_floor}
-use Rattle.cqs_cli.specs.SoleRunning.{IsAlone, entries_seen, sole_running}
+use Rattle.cqs_cli.specs.SoleRunning.{IsAloneAt, store_running}
 use Rattle.cqs_cli.specs.Plans.{IsFaultLine, floor_after}
 use Rattle.cqs_cli.specs.Words.{IsCommand}
 use Rattle.cqs_cli.specs.declared.kept.Kept.{Kept}
@@ -20,25 +22,26 @@ use Rattle.cqs_cli.specs.declared.verdict.Verdict.{Verdict}
 use Rattle.cqs_cli.specs.declared.verdict.Verdict.TheVariants as verdict
 
 -- What a resource of this kind is on the running queue has just one pass, which is its own, and
--- which has seen just these entries, beside looks that found nothing new. A pass sees entries only
+-- which has seen just this history, beside looks that found nothing new. A pass sees entries only
 -- by calls on its queue.
-pub record HasSeen (kind : Option Kind) (soles : List RunningSole) (at : ℕ) (entries : List Entry)
-    : Type 0 where
-  pub sole : RunningSole
+pub record HasSeen (kind : Option Kind) (soles : List (AnySole RunningSole)) (at : ℕ)
+    (history : History) : Type 0 where
+  pub sole : AnySole RunningSole
   pub there : slice_get soles at ≡ Some sole
-  pub alone : IsAlone kind sole
-  pub seen : entries_seen sole ≡ entries
+  pub alone : IsAloneAt kind sole
+  pub seen : store_running.history sole ≡ history
 
 -- the floor is the one on which the turns of this plan end, and its passes have seen just this run
-pub record HasRun (plan : Plan) (floor : Ledger RunningSole RunningWait) : Type 0 where
-  pub plain : plain_floor sole_running floor ≡ floor_after plan
+pub record HasRun (plan : Plan) (floor : Ledger (AnySole RunningSole) (AnyWait RunningWait))
+    : Type 0 where
+  pub plain : plain_floor store_running floor ≡ floor_after plan
   pub passes : (at : ℕ) → at < length plan.resources
       → HasSeen (slice_get (kinds_of plan.resources) at) floor.soles at
-      (entries_at (floor_after plan) at)
+      (history_at (floor_after plan) at)
 
 -- what is kept is a floor on which this plan has run
 pub record KeepsRun (plan : Plan) (kept : Kept) : Type 0 where
-  pub floor : Ledger RunningSole RunningWait
+  pub floor : Ledger (AnySole RunningSole) (AnyWait RunningWait)
   pub is : kept ≡ Ran floor
   pub ran : HasRun plan floor
 

@@ -8,12 +8,12 @@ use Rattle.cqs_plan.specs.Floor.{PlainFloor, JobWait, Holding}
 use Rattle.cqs_cli.specs.declared.floors.transfers.Transfer.{Transfer}
 use Rattle.cqs_cli.specs.declared.floors.transfers.Transfer.TheVariants.{Got, GaveBack}
 use Rattle.cqs_cli.specs.declared.floors.waits.Wait.{Wait}
-use Rattle.cqs_cli.specs.Soles.{Sole}
+use Rattle.cqs_cli.specs.Stores.{Store}
 
 pub record Ledger (X W : Type 0) : Type 0 where
   -- what each resource is
   pub kinds : List Kind
-  -- the semaphore of each resource
+  -- what each resource is kept as
   pub soles : List X
   -- for each resource how many takes it has room for
   pub room : List ℕ
@@ -26,8 +26,8 @@ pub record Ledger (X W : Type 0) : Type 0 where
 
 -- what the jobs hold after a transfer
 abbrev pub after_transfer : List (List Holding) → Transfer → List (List Holding)
-after_transfer holds (Got job at) =
-    slice_set holds job (slice_index_or holds job [] ++ record { at = at; element = 0 } ∷ [])
+after_transfer holds (Got job at element) =
+    slice_set holds job (slice_index_or holds job [] ++ record { at = at; element = element } ∷ [])
 after_transfer holds (GaveBack job at) =
     slice_set holds job (without (λ h. h.at) at (slice_index_or holds job []))
 
@@ -43,20 +43,20 @@ module _ {X W : Type 0} where
   abbrev pub holds_in : Ledger X W → List (List Holding)
   holds_in l = holds_after (length l.waits) l.transfers
 
-  abbrev pub job_wait : Sole X W → Wait W → JobWait
+  abbrev pub job_wait : Store X W → Wait W → JobWait
   job_wait s wait = record { at = wait.at; number = s.number wait.token }
 
   -- the plain floor of a ledger
-  abbrev pub plain_floor : Sole X W → Ledger X W → PlainFloor
+  abbrev pub plain_floor : Store X W → Ledger X W → PlainFloor
   plain_floor s l = record {
     kinds = l.kinds;
-    entries = map s.entries l.soles;
+    histories = map s.history l.soles;
     room = l.room;
     waits = map (option_map (job_wait s)) l.waits;
     holds = holds_in l;
   }
 
-  -- a ledger with these semaphores
+  -- a ledger with these resources
   abbrev pub with_soles : Ledger X W → List X → Ledger X W
   with_soles l soles = record l { soles = soles }
 
@@ -72,14 +72,14 @@ module _ {X W : Type 0} where
   abbrev pub with_less_room : Ledger X W → ℕ → Ledger X W
   with_less_room l at = record l { room = slice_set l.room at (slice_index l.room at - 1) }
 
-  -- a take that got a permit, and one that waits
-  abbrev pub with_taken : Ledger X W → ℕ → ℕ → Ledger X W
-  with_taken l at job = with_transfer (with_less_room l at) (Got job at)
+  -- a take that got an element or a permit, and one that waits
+  abbrev pub with_taken : Ledger X W → ℕ → ℕ → ℕ → Ledger X W
+  with_taken l at job element = with_transfer (with_less_room l at) (Got job at element)
 
   abbrev pub with_waiting : Ledger X W → ℕ → ℕ → W → Ledger X W
   with_waiting l at job token =
       with_wait (with_less_room l at) job (Some (record { at = at; token = token }))
 
   -- the wait of a job is over, and it has what came
-  abbrev pub with_grant : Ledger X W → ℕ → ℕ → Ledger X W
-  with_grant l job at = with_transfer (with_wait l job None) (Got job at)
+  abbrev pub with_grant : Ledger X W → ℕ → ℕ → ℕ → Ledger X W
+  with_grant l job at element = with_transfer (with_wait l job None) (Got job at element)

@@ -6,6 +6,11 @@ pub mod Tellings
 pub mod Verdicts
 pub mod Words
 pub mod Soles
+pub mod Stores
+pub mod Lifted
+pub mod SolePool
+pub mod PoolEnds
+pub mod AnySoles
 pub mod SoleCore
 pub mod SoleQueue
 pub mod SoleRunning

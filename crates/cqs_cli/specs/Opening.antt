@@ -1,4 +1,4 @@
--- The making of a floor on semaphores: which plans it can carry out, and what stands when nothing
+-- The making of a floor: which plans it can carry out, and what stands when nothing
 -- has happened.
 pub use Rattle.cqs_plan.specs.Runnable.{AreBuilt}
 use Rattle.std.specs.Prelude.{◌≡◌, ℕ, ◌*◌, ◌<◌, ◌≤◌, List, [], length, map, replicate, sum, sum_by, count_by, Some, None, slice_get, slice_index}
@@ -13,7 +13,7 @@ use Rattle.cqs_plan.specs.Floor.{takes_in}
 use Rattle.cqs_plan.specs.PlanSteps.{is_take}
 use Rattle.cqs_plan.specs.Runnable.{kinds_of}
 use Rattle.cqs_cli.specs.Ledger.{Ledger}
-use Rattle.cqs_cli.specs.Soles.{Sole, IsOpened}
+use Rattle.cqs_cli.specs.Stores.{Store, IsOpened}
 
 -- a take names one of so many resources
 abbrev pub IsWithin : ℕ → Step → Type 0
@@ -36,12 +36,12 @@ pub record IsCountable (resources : ℕ) (job : Job) : Type 0 where
 abbrev pub takes_of : List Job → ℕ → ℕ
 takes_of jobs at = sum_by (λ job. count_by (is_take at) job.steps) jobs
 
-module _ {X W : Type 0} (s : Sole X W) where
-  -- a semaphore for each of the first resources, with room for so many takes
+module _ {X W : Type 0} (s : Store X W) where
+  -- something for each of the first resources, with room for so many takes
   pub record AreOpened (resources : List Resource) (room : List ℕ) (soles : List X) : Type 0 where
     pub each : (at : ℕ) (resource : Resource) (sole : X) → slice_get resources at ≡ Some resource
         → slice_get soles at ≡ Some sole
-        → IsOpened s (Some resource.kind) (slice_index room at) sole
+        → IsOpened s resource.kind (slice_index room at) sole
 
   -- nothing has happened, and there is memory for all that a plan's takes can lead to
   pub record IsOpening (plan : Plan) (l : Ledger X W) : Type 0 where

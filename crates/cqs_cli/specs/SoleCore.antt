@@ -11,8 +11,12 @@ use Rattle.cqs_core.specs.SemaphoreAnswers.{Room}
 use Rattle.cqs_core.specs.SemaphoreShown.{IsCore, shown}
 use Rattle.cqs_core.specs.SemaphoreTable.{Shape, last_number}
 use Rattle.cqs_core.specs.SoleCaller.{HasWait, IsSoleCall, NoneTaken, ShowsNext}
-use Rattle.cqs_plan.specs.Floor.{permits_of}
+use Rattle.cqs_plan.specs.Floor.{size_of}
+use Rattle.cqs_cli.specs.declared.floors.any_sole.AnySole.{AnySole}
+use Rattle.cqs_cli.specs.declared.floors.any_sole.AnyWait.{AnyWait}
+use Rattle.cqs_cli.specs.AnySoles.{store_any}
 use Rattle.cqs_cli.specs.Soles.{Sole}
+use Rattle.cqs_cli.specs.Stores.{Store}
 
 -- its one pass is between two calls, and no suspend ever found its value in its cell
 pub record IsSole (s : Shape) : Type 0 where
@@ -65,9 +69,13 @@ abbrev pub sole_core : Sole Room ℕ
 sole_core = record {
   entries = λ core. core.shape.history;
   number = λ wait. wait;
-  funded = λ core kind. IsFunded core (permits_of kind);
+  funded = λ core kind. IsFunded core (size_of kind);
   has = λ core wait. HasWait wait 0 (shown core.shape);
 }
+
+-- what a resource is on a floor of cores
+abbrev pub store_core : Store (AnySole Room) (AnyWait ℕ)
+store_core = store_any sole_core
 
 -- what the replies tell of a wait that came, of the wait that a permit was sent to, and of a wait
 -- that left the line

@@ -1,11 +1,11 @@
 -- A semaphore or a mutex of the running queue with its one pass, as a floor sees it.
-use Rattle.std.specs.Prelude.{◌≡◌, ℕ, ◌+◌, ◌<◌, ◌≤◌, Bool, true, false, List, [], Option, Some, length, vec_capacity, filter}
+use Rattle.std.specs.Prelude.{◌≡◌, ℕ, ◌+◌, ◌<◌, ◌≤◌, Bool, true, false, List, [], Option, Some, None, length, vec_capacity, filter}
 use Rattle.cqs_core.specs.declared.entries.Entry.{Entry}
 use Rattle.cqs_core.specs.declared.entries.Entry.TheVariants as entry
 use Rattle.cqs_core.specs.SemaphoreObject as plain
 use Rattle.cqs_plan.specs.declared.plans.kind.Kind.{Kind}
-use Rattle.cqs_plan.specs.declared.plans.kind.Kind.TheVariants.{Semaphore, Mutex}
-use Rattle.cqs_plan.specs.Floor.{permits_of}
+use Rattle.cqs_plan.specs.declared.plans.kind.Kind.TheVariants.{Semaphore, Mutex, Pool, Latch, Rounds}
+use Rattle.cqs_plan.specs.Floor.{size_of}
 use Rattle.cqs_rule.specs.declared.queue.tokens.Wait.{Wait}
 use Rattle.cqs_rule.specs.declared.semaphore.carries.Kept.{Kept}
 use Rattle.cqs_rule.specs.declared.view.View.{View}
@@ -78,7 +78,7 @@ module _ {X W T : Type 0} (q : OnePass X W T) where
   pub record IsFunded (x : X) (kind : Option Kind) (room waiting held : ℕ) : Type 0 where
     pub sort : q.sort kind
     pub mine : q.mine x
-    pub rests : IsResting (q.view x) (permits_of kind) room held
+    pub rests : IsResting (q.view x) (size_of kind) room held
     pub permits : q.held x ≡ held
     pub spare : room + waiting + held ≤ q.space x
 
@@ -92,11 +92,19 @@ module _ {X W T : Type 0} (q : OnePass X W T) where
 
 abbrev pub IsSemaphore : Option Kind → Type 0
 IsSemaphore (Some (Semaphore permits)) = Unit {0}
-IsSemaphore _ = ⊥
+IsSemaphore (Some Mutex) = ⊥
+IsSemaphore (Some (Pool elements)) = ⊥
+IsSemaphore (Some (Latch count)) = ⊥
+IsSemaphore (Some (Rounds parties rounds)) = ⊥
+IsSemaphore None = ⊥
 
 abbrev pub IsMutex : Option Kind → Type 0
 IsMutex (Some Mutex) = Unit {0}
-IsMutex _ = ⊥
+IsMutex (Some (Semaphore permits)) = ⊥
+IsMutex (Some (Pool elements)) = ⊥
+IsMutex (Some (Latch count)) = ⊥
+IsMutex (Some (Rounds parties rounds)) = ⊥
+IsMutex None = ⊥
 
 -- a semaphore, and the permits that its caller holds
 abbrev pub semaphore_pass : OnePass QueueSole Wait (Unit {0})

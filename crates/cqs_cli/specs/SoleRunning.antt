@@ -7,7 +7,14 @@ use Rattle.cqs_cli.specs.declared.floors.running_sole.RunningSole.{RunningSole}
 use Rattle.cqs_cli.specs.declared.floors.running_sole.RunningSole.TheVariants.{Semaphore, Mutex}
 use Rattle.cqs_cli.specs.declared.floors.running_sole.RunningWait.{RunningWait}
 use Rattle.cqs_cli.specs.declared.floors.running_sole.RunningWait.TheVariants as wait
+use Rattle.cqs_pool.specs.Calls.{IsMine}
+use Rattle.cqs_cli.specs.declared.floors.any_sole.AnySole.{AnySole}
+use Rattle.cqs_cli.specs.declared.floors.any_sole.AnySole.TheVariants as any
+use Rattle.cqs_cli.specs.declared.floors.any_sole.AnyWait.{AnyWait}
+use Rattle.cqs_cli.specs.AnySoles.{store_any}
+use Rattle.cqs_cli.specs.SolePool.{IsPool}
 use Rattle.cqs_cli.specs.Soles.{Sole}
+use Rattle.cqs_cli.specs.Stores.{Store}
 use Rattle.cqs_cli.specs.SoleQueue.{IsMutex, IsSemaphore, mutex_pass, semaphore_pass, sole_mutex, sole_queue}
 
 -- the entries that its pass has seen, without looks that found nothing new
@@ -46,9 +53,18 @@ sole_running = record {
   has = HasHere;
 }
 
+-- what a resource is on a floor of the running queue
+abbrev pub store_running : Store (AnySole RunningSole) (AnyWait RunningWait)
+store_running = store_any sole_running
+
 -- It is what a resource of this kind is on the running queue, and has one pass, which is its own: a
--- semaphore for a semaphore, and for a mutex a mutex.
+-- semaphore for a semaphore, for a mutex a mutex, and for a pool a pool.
 abbrev pub IsAlone : Option Kind → RunningSole → Type 0
 IsAlone kind (Semaphore x) =
     IsSemaphore kind × semaphore_pass.mine x × ((pass_view x.pass).alone ≡ true)
 IsAlone kind (Mutex x) = IsMutex kind × mutex_pass.mine x × ((pass_view x.pass).alone ≡ true)
+
+abbrev pub IsAloneAt : Option Kind → AnySole RunningSole → Type 0
+IsAloneAt kind (any.Permits x) = IsAlone kind x
+IsAloneAt kind (any.Pool x) =
+    IsPool kind × IsMine x.pool x.pass × ((pass_view x.pass).alone ≡ true)

@@ -8,8 +8,18 @@ use Rattle.cqs_core.specs.QueueLine.{Waiting}
 use Rattle.cqs_core.specs.SemaphoreEntries.{IsFirst, IsLegal, object_after}
 use Rattle.cqs_core.specs.SemaphoreObject.{Semaphore}
 use Rattle.cqs_plan.specs.declared.plans.kind.Kind.{Kind}
-use Rattle.cqs_plan.specs.Floor.{permits_of}
+use Rattle.cqs_plan.specs.declared.plans.kind.Kind.TheVariants as kind
+use Rattle.cqs_plan.specs.Floor.{size_of}
 use Rattle.cqs_cli.specs.declared.floors.sole.Stand.{Stand}
+
+-- a resource of this kind is a semaphore, or is one of one permit
+abbrev pub IsOfPermits : Option Kind → Type 0
+IsOfPermits (Some (kind.Semaphore permits)) = Unit {0}
+IsOfPermits (Some kind.Mutex) = Unit {0}
+IsOfPermits (Some (kind.Pool elements)) = ⊥
+IsOfPermits (Some (kind.Latch count)) = ⊥
+IsOfPermits (Some (kind.Rounds parties rounds)) = ⊥
+IsOfPermits None = ⊥
 
 -- What a floor sees of it, by the token that its caller has of a wait.
 pub record Sole (X W : Type 0) : Type 1 where
@@ -30,15 +40,15 @@ is_in_line k line = list_any (λ w. w.wait == k) line
 module _ {X W : Type 0} (s : Sole X W) where
   -- the plain semaphore after its entries
   abbrev pub object : Option Kind → X → Semaphore
-  object kind x = object_after (permits_of kind) (s.entries x)
+  object kind x = object_after (size_of kind) (s.entries x)
 
   -- What every such semaphore keeps to: its entries are legal, and a wait that its caller has was
   -- numbered before.
   pub record IsLawful : Type 0 where
     pub some : (x : X) (kind : Option Kind) (room waiting held : ℕ)
-        → s.funded x kind room waiting held → 0 < permits_of kind
+        → s.funded x kind room waiting held → 0 < size_of kind
     pub legal : (x : X) (kind : Option Kind) (room waiting held : ℕ)
-        → s.funded x kind room waiting held → IsLegal (permits_of kind) (s.entries x)
+        → s.funded x kind room waiting held → IsLegal (size_of kind) (s.entries x)
     pub numbered : (x : X) (wait : W) (kind : Option Kind) (room waiting held : ℕ)
         → s.funded x kind room waiting held → s.has x wait → s.number wait < (object kind x).next
 
@@ -180,7 +190,7 @@ module _ {X W : Type 0} (s : Sole X W) where
       : Type 0 where
     pub free : stand.free ≡ (object kind x).free
     pub line : stand.line ≡ length (object kind x).line
-    pub all : (object kind x).held + (object kind x).free ≡ permits_of kind
+    pub all : (object kind x).held + (object kind x).free ≡ size_of kind
     pub goes : Goes x [] kind room waiting held y
     pub keeps : KeepsAll x y
 

@@ -7,7 +7,7 @@ use cqs_plan::{SureSink, SureSource};
 use std::fs;
 use std::rt::Files;
 
-const NAMES: [&str; 7] = [
+const NAMES: [&str; 8] = [
     "empty",
     "two-jobs",
     "connection-pool",
@@ -15,6 +15,7 @@ const NAMES: [&str; 7] = [
     "job-server",
     "release",
     "log-file",
+    "test-databases",
 ];
 
 /// The most that a report of an example takes.

@@ -1,68 +1,90 @@
--- What the jobs hold of a resource, and how many of their waits a permit came to, counted before and after a change.
+-- What the jobs hold of a resource, and how many of their waits something came to, counted before and after a change.
 use Rattle.std.proofs.Common.{◌≡◌, ◌≢◌, ℕ, zero, suc, ◌+◌, ◌<◌, ◌≤◌, ◌==◌, ◌&&◌, not, Bool, true, false, List, [], ◌∷◌, ◌++◌, Option, Some, None, length, set, get_or, slice_get, replicate, map, sum_by, count_by, refl, sym, ap, eq-eqb, ne_eqb, eqb-true, arith}
 use Rattle.std.proofs.lemmas.List.Sums.{sum_by-set, sum_by_push, sum_by-cons}
 use Rattle.cqs_core.specs.Keyed.{without}
 use Rattle.cqs_core.specs.QueueLine.{Waiting}
 use Rattle.cqs_core.proofs.Counts.{bit}
-use Rattle.cqs_plan.specs.Floor.{Holding, JobWait}
+use Rattle.cqs_plan.specs.Floor.{Holding, JobWait, oldest}
 use Rattle.cqs_turns.specs.Ready.{is_held}
-use Rattle.cqs_laws.proofs.Objects.{in_line}
+use Rattle.cqs_laws.proofs.Lines.{in_line}
 
--- what one job holds of a resource, and what all of them hold
-abbrev pub held_of : ℕ → List Holding → ℕ
-held_of at hs = count_by (λ h. h.at == at) hs
+-- how many of what one job holds pass a test, and of what all of them hold
+abbrev pub held_of : (Holding → Bool) → List Holding → ℕ
+held_of test hs = count_by test hs
 
-abbrev pub held_in : ℕ → List (List Holding) → ℕ
-held_in at holds = sum_by (λ hs. held_of at hs) holds
+abbrev pub held_in : (Holding → Bool) → List (List Holding) → ℕ
+held_in test holds = sum_by (λ hs. held_of test hs) holds
 
--- a wait at the resource that isn't in its line any more: a permit came to it
-abbrev pub is_claim : ℕ → List Waiting → Option JobWait → Bool
-is_claim at line None = false
-is_claim at line (Some w) = (w.at == at) && not (in_line w.number line)
+-- a wait at the resource that isn't in its line any more, whose number passes a test: something came to it
+abbrev pub is_claim : ℕ → List Waiting → (ℕ → Bool) → Option JobWait → Bool
+is_claim at line test None = false
+is_claim at line test (Some w) = (w.at == at) && (not (in_line w.number line) && test w.number)
 
-abbrev pub claims_in : ℕ → List Waiting → List (Option JobWait) → ℕ
-claims_in at line waits = count_by (λ o. is_claim at line o) waits
+abbrev pub claims_in : ℕ → List Waiting → (ℕ → Bool) → List (Option JobWait) → ℕ
+claims_in at line test waits = count_by (λ o. is_claim at line test o) waits
 
-pub held-got : (holds : List (List Holding)) (job : ℕ) (newest : Holding) (i : ℕ) → job < length holds
-    → held_in i (set holds job (get_or holds job [] ++ newest ∷ [])) ≡ held_in i holds + bit (newest.at == i)
-held-got holds job newest i below =
+pub held-got : (test : Holding → Bool) (holds : List (List Holding)) (job : ℕ) (newest : Holding) → job < length holds
+    → held_in test (set holds job (get_or holds job [] ++ newest ∷ [])) ≡ held_in test holds + bit (test newest)
+held-got test holds job newest below =
     let before : List Holding = get_or holds job [] in
-    let written = sum_by-set (λ hs. held_of i hs) holds job (before ++ newest ∷ []) [] below in
-    let more : held_of i (before ++ newest ∷ []) ≡ held_of i before + bit (newest.at == i)
-    = sum_by_push (λ (h : Holding). bit (h.at == i)) before newest in
+    let written = sum_by-set (λ hs. held_of test hs) holds job (before ++ newest ∷ []) [] below in
+    let more : held_of test (before ++ newest ∷ []) ≡ held_of test before + bit (test newest)
+    = sum_by_push (λ (h : Holding). bit (test h)) before newest in
     omega (arith, written, more)
 
-held_of-without : (at i : ℕ) (hs : List Holding) → is_held at (map (λ h. h.at) hs) ≡ true
-    → held_of i (without (λ h. h.at) at hs) + bit (at == i) ≡ held_of i hs
-held_of-without at i [] some = absurd (cc)
-held_of-without at i (h ∷ hs) some = go (h.at == at) refl (held_of-without at i hs)
+held_of-without : (test : Holding → Bool) (at : ℕ) (hs : List Holding) (first : Holding) → oldest at hs ≡ Some first
+    → held_of test (without (λ h. h.at) at hs) + bit (test first) ≡ held_of test hs
+held_of-without test at [] first some = absurd (cc)
+held_of-without test at (h ∷ hs) first some = go (h.at == at) refl (held_of-without test at hs first)
   where
-    all : held_of i (h ∷ hs) ≡ bit (h.at == i) + held_of i hs
-    all = sum_by-cons (λ (x : Holding). bit (x.at == i)) h hs
+    all : held_of test (h ∷ hs) ≡ bit (test h) + held_of test hs
+    all = sum_by-cons (λ (x : Holding). bit (test x)) h hs
 
     go : (b : Bool) → h.at == at ≡ b
-        → (is_held at (map (λ h. h.at) hs) ≡ true
-        → held_of i (without (λ h. h.at) at hs) + bit (at == i) ≡ held_of i hs)
-        → held_of i (without (λ h. h.at) at (h ∷ hs)) + bit (at == i) ≡ held_of i (h ∷ hs)
+        → (oldest at hs ≡ Some first
+        → held_of test (without (λ h. h.at) at hs) + bit (test first) ≡ held_of test hs)
+        → held_of test (without (λ h. h.at) at (h ∷ hs)) + bit (test first) ≡ held_of test (h ∷ hs)
     go true same later =
         let here : h.at ≡ at = eqb-true h.at at same in
-        let one : bit (h.at == i) ≡ bit (at == i) = ap (λ n. bit (n == i)) here in
+        let own : Some h ≡ Some first = rw same at some in
+        let is : h ≡ first = cc in
+        let one : bit (test h) ≡ bit (test first) = ap (λ x. bit (test x)) is in
         rw (eq-eqb at h.at (sym here)) (omega (arith, all, one))
     go false other later =
         let differs : at ≢ h.at = λ e. absurd (cc (eq-eqb h.at at (sym e), other)) in
-        let rest : is_held at (map (λ h. h.at) hs) ≡ true = rw other at some in
+        let rest : oldest at hs ≡ Some first = rw other at some in
         let fewer = later rest in
-        let now : held_of i (h ∷ without (λ x. x.at) at hs) ≡ bit (h.at == i) + held_of i (without (λ x. x.at) at hs)
-        = sum_by-cons (λ (x : Holding). bit (x.at == i)) h (without (λ x. x.at) at hs) in
+        let now : held_of test (h ∷ without (λ x. x.at) at hs)
+        ≡ bit (test h) + held_of test (without (λ x. x.at) at hs)
+        = sum_by-cons (λ (x : Holding). bit (test x)) h (without (λ x. x.at) at hs) in
         rw (ne_eqb at h.at differs) (omega (arith, all, now, fewer))
 
-pub held-gave : (holds : List (List Holding)) (job at i : ℕ) → job < length holds
-    → is_held at (map (λ h. h.at) (get_or holds job [])) ≡ true
-    → held_in i (set holds job (without (λ h. h.at) at (get_or holds job []))) + bit (at == i) ≡ held_in i holds
-held-gave holds job at i below some =
-    let written = sum_by-set (λ hs. held_of i hs) holds job (without (λ h. h.at) at (get_or holds job [])) [] below in
-    let fewer = held_of-without at i (get_or holds job []) some in
+pub held-gave : (test : Holding → Bool) (holds : List (List Holding)) (job at : ℕ) (first : Holding)
+    → job < length holds → oldest at (get_or holds job []) ≡ Some first
+    → held_in test (set holds job (without (λ h. h.at) at (get_or holds job []))) + bit (test first)
+    ≡ held_in test holds
+held-gave test holds job at first below some =
+    let written = sum_by-set (λ hs. held_of test hs) holds job (without (λ h. h.at) at (get_or holds job [])) []
+    below in
+    let fewer = held_of-without test at (get_or holds job []) first some in
     omega (arith, written, fewer)
+
+-- who holds something of a resource has an oldest of it, which is of this resource
+pub record HasOldest (at : ℕ) (hs : List Holding) : Type 0 where
+  pub first : Holding
+  pub is : oldest at hs ≡ Some first
+  pub here : first.at ≡ at
+
+pub has-oldest : (at : ℕ) (hs : List Holding) → is_held at (map (λ h. h.at) hs) ≡ true → HasOldest at hs
+has-oldest at [] some = absurd (cc)
+has-oldest at (h ∷ hs) some = go (h.at == at) refl (has-oldest at hs)
+  where
+    go : (b : Bool) → h.at == at ≡ b → (is_held at (map (λ h. h.at) hs) ≡ true → HasOldest at hs)
+        → HasOldest at (h ∷ hs)
+    go true same later = record { first = h; is = rw same refl; here = eqb-true h.at at same }
+    go false other later =
+        let rest : HasOldest at hs = later (rw other at some) in
+        record { first = rest.first; is = rw other rest.is; here = rest.here }
 
 pub count-set : {X : Type 0} (p : X → Bool) (xs : List X) (i : ℕ) (old new d : X) → i < length xs
     → get_or xs i d ≡ old
@@ -126,45 +148,60 @@ count-one-more p q (x ∷ xs) one =
         let bq : bit (q x) ≡ 0 = ap bit qx in
         omega (arith, all_q, all_p, bq, later)
 
-claim-by : (here : Bool) (a b : Bool) → (b ≡ true → a ≡ true) → (here && not a) ≡ true → (here && not b) ≡ true
-claim-by true true b h claims = absurd (cc)
-claim-by true false true h claims = let no : false ≡ true = h refl in absurd (cc)
-claim-by true false false h claims = refl
-claim-by false a b h claims = claims
+and-by : (a b c : Bool) → (b ≡ true → a ≡ true) → (not a && c) ≡ true → (not b && c) ≡ true
+and-by true b c follows claims = absurd (cc)
+and-by false true c follows claims = let no : false ≡ true = follows refl in absurd (cc)
+and-by false false c follows claims = claims
 
--- where who stood in the line stands in the new one, a claim on the new one was one on the old
-pub claim-before : (at : ℕ) (line new : List Waiting) (o : Option JobWait)
-    → ((w : JobWait) → o ≡ Some w → in_line w.number line ≡ true → in_line w.number new ≡ true)
-    → is_claim at new o ≡ true → is_claim at line o ≡ true
-claim-before at line new None stays claims = claims
-claim-before at line new (Some w) stays claims =
-    claim-by (w.at == at) (in_line w.number new) (in_line w.number line) (stays w refl) claims
+-- a wait at the resource that stood in the line stands in the new one, and passes both tests or neither
+pub record IsLike (line new : List Waiting) (test then : ℕ → Bool) (number : ℕ) : Type 0 where
+  pub stands : in_line number line ≡ true → in_line number new ≡ true
+  pub same : then number ≡ test number
+
+-- where that is so, a claim on the new line was one on the old
+pub claim-before : (at : ℕ) (line new : List Waiting) (test then : ℕ → Bool) (o : Option JobWait)
+    → ((w : JobWait) → o ≡ Some w → w.at ≡ at → IsLike line new test then w.number)
+    → is_claim at new then o ≡ true → is_claim at line test o ≡ true
+claim-before at line new test then None like claims = claims
+claim-before at line new test then (Some w) like claims = go (w.at == at) refl
+  where
+    go : (b : Bool) → w.at == at ≡ b → is_claim at line test (Some w) ≡ true
+    go false away = let never : false ≡ true = rw away at claims in absurd (cc)
+    go true here =
+        let own = like w refl (eqb-true w.at at here) in
+        let now : (not (in_line w.number new) && then w.number) ≡ true = rw here at claims in
+        let passes : (not (in_line w.number new) && test w.number) ≡ true = rw own.same at now in
+        rw here (and-by (in_line w.number new) (in_line w.number line) (test w.number) own.stands passes)
 
 -- a wait elsewhere is no claim here, nor is one that stands in the line
-pub claim-else : (at q number : ℕ) (line : List Waiting) → q ≢ at
-    → is_claim q line (Some (record { at = at; number = number })) ≡ false
-claim-else at q number line other = rw (ne_eqb at q (λ same. other (sym same))) refl
+pub claim-else : (at q number : ℕ) (line : List Waiting) (test : ℕ → Bool) → q ≢ at
+    → is_claim q line test (Some (record { at = at; number = number })) ≡ false
+claim-else at q number line test other = rw (ne_eqb at q (λ same. other (sym same))) refl
 
 and-not : (b : Bool) → (b && false) ≡ false
 and-not true = refl
 and-not false = refl
 
-pub claim-none : (at number : ℕ) (line : List Waiting) → in_line number line ≡ true
-    → is_claim at line (Some (record { at = at; number = number })) ≡ false
-claim-none at number line stands = rw stands (and-not (at == at))
+pub claim-none : (at number : ℕ) (line : List Waiting) (test : ℕ → Bool) → in_line number line ≡ true
+    → is_claim at line test (Some (record { at = at; number = number })) ≡ false
+claim-none at number line test stands = rw stands (and-not (at == at))
 
-pub claim-here : (at number : ℕ) (line : List Waiting) → in_line number line ≡ false
-    → is_claim at line (Some (record { at = at; number = number })) ≡ true
-claim-here at number line away = rw (away, eq-eqb at at refl) refl
+pub claim-here : (at number : ℕ) (line : List Waiting) (test : ℕ → Bool) → in_line number line ≡ false
+    → is_claim at line test (Some (record { at = at; number = number })) ≡ test number
+claim-here at number line test away = rw (away, eq-eqb at at refl) refl
 
 -- nothing is held at first, and there are no claims
-pub held-none : (n at : ℕ) → held_in at (replicate n []) ≡ 0
-held-none zero at = refl
-held-none (suc n) at =
-    let all = sum_by-cons (λ (hs : List Holding). held_of at hs) [] (replicate n []) in
-    omega (arith, all, held-none n at)
+pub held-none : (n : ℕ) (test : Holding → Bool) → held_in test (replicate n []) ≡ 0
+held-none zero test = refl
+held-none (suc n) test =
+    let all = sum_by-cons (λ (hs : List Holding). held_of test hs) [] (replicate n []) in
+    omega (arith, all, held-none n test)
 
-pub claims-none : (n at : ℕ) (line : List Waiting) → claims_in at line (replicate n None) ≡ 0
-claims-none zero at line = refl
-claims-none (suc n) at line =
-    omega (arith, sum_by-cons (λ o. bit (is_claim at line o)) None (replicate n None), claims-none n at line)
+pub claims-none : (n at : ℕ) (line : List Waiting) (test : ℕ → Bool) → claims_in at line test (replicate n None) ≡ 0
+claims-none zero at line test = refl
+claims-none (suc n) at line test =
+    omega (
+      arith,
+      sum_by-cons (λ o. bit (is_claim at line test o)) None (replicate n None),
+      claims-none n at line test,
+    )

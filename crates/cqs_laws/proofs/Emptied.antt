@@ -79,7 +79,7 @@ after_looking-empties : (r : Role) (next at number : ℕ) (answer : FloorLook) (
 after_looking-empties r next at number Pending s ready e ended = absurd (cc)
 after_looking-empties r next at number (Granted element) s ready e ended =
     after_steps-empties r (drop next r.job.steps) next
-    (event r s (after_look s.floor r.place (Granted element)) (told.Served at number))
+    (event r s (after_look s.floor r.place (Granted element)) (told.Served at number element))
     (after_looking-ready s.floor r.place (wait_at at number) element (drop next r.job.steps) ready) e ended
 
 pub after_acting-empties : (r : Role) (p : Progress) (s : Scene)

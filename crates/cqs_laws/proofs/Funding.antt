@@ -1,235 +1,406 @@
 -- Every event keeps the funds of every resource.
-use Rattle.std.proofs.Common.{◌≡◌, ◌≢◌, ◌⊎◌, inl, inr, ℕ, ◌+◌, ◌<◌, ◌≤◌, ◌==◌, true, false, List, [], ◌∷◌, ◌++◌, Option, Some, None, length, set, slice_get, refl, sym, ap, subst, ◌∙◌, eq-eqb, ne_eqb, arith}
-use Rattle.std.specs.List.{fold}
+use Rattle.std.proofs.Common.{◌≡◌, ◌≢◌, ◌⊎◌, inl, inr, ℕ, ◌+◌, ◌<◌, ◌≤◌, ◌==◌, ◌&&◌, Bool, true, false, List, [], ◌∷◌, ◌++◌, Option, Some, None, length, set, slice_get, refl, sym, ap, subst, ◌∙◌, eq-eqb, ne_eqb, arith}
+use Rattle.std.specs.Option.{option_map_or}
 use Rattle.std.proofs.lemmas.Bool.{cases_eq}
 use Rattle.std.proofs.lemmas.Option.{get_or_from_slice_get}
-use Rattle.cqs_core.specs.declared.entries.Entry.{Entry}
-use Rattle.cqs_core.specs.declared.entries.Entry.TheVariants as entry
 use Rattle.cqs_core.specs.Keyed.{without}
 use Rattle.cqs_core.specs.QueueLine.{Waiting}
-use Rattle.cqs_core.specs.SemaphoreObject.{Semaphore}
-use Rattle.cqs_core.specs.SemaphoreEntries.{after_entry}
 use Rattle.cqs_core.proofs.Counts.{bit}
+use Rattle.cqs_plan.specs.declared.plans.resource.Resource.{Resource}
 use Rattle.cqs_plan.specs.declared.floors.answers.FloorTake.TheVariants.{Now, Waits}
 use Rattle.cqs_plan.specs.declared.floors.answers.FloorGive.TheVariants.{Free, Sent}
-use Rattle.cqs_plan.specs.Floor.{PlainFloor, JobWait, Holding, object_at, holds_of, permits_of, wait_of, with_entries, with_wait, with_newest}
+use Rattle.cqs_plan.specs.FloorHistory.{History, Deed, takes, joins, frees, sends, gets, leaves, is_late, came_for, first_free, standing, with_deed}
+use Rattle.cqs_plan.specs.Floor.{PlainFloor, JobWait, Holding, history_at, holds_of, oldest, size_at, standing_at, wait_of, with_done, with_newest, with_wait}
 use Rattle.cqs_plan.specs.FloorCalls.{after_take, after_give}
+use Rattle.cqs_turns.specs.Lines.{is_pool_at}
 use Rattle.cqs_turns.specs.Roles.{wait_at}
 use Rattle.cqs_laws.specs.Events.{Line}
-use Rattle.cqs_laws.proofs.Claims.{held_in, claims_in, is_claim, held-got, held-gave, count-set, count-le, count-one-more, claim-before, claim-else, claim-none, claim-here}
-use Rattle.cqs_laws.proofs.Funds.{AreFunds, funds-taken, funds-joined, funds-freed, funds-sent, funds-left, funds-same}
+use Rattle.cqs_laws.proofs.Claims.{HasOldest, IsLike, held_in, claims_in, is_claim, has-oldest, held-got, held-gave, count-set, count-le, count-one-more, claim-before, claim-else, claim-none, claim-here}
+use Rattle.cqs_laws.proofs.Deeds.{IsElse, came-after, came-sent, is_of_pool, line-after, line-joins}
+use Rattle.cqs_laws.proofs.Funds.{AreFunds, counts, takes-funds, joins-funds, frees-funds, sends-funds, gets-funds, late-funds, leaves-funds, same-funds}
 use Rattle.cqs_laws.proofs.Lifting.{CanGive, HasWait}
-use Rattle.cqs_laws.proofs.Lined.{AreLined, wait-gone}
-use Rattle.cqs_laws.proofs.Objects.{object-here, object-else, in_line, line-longer, line-joined, line-fewer, turned-line}
+use Rattle.cqs_laws.proofs.Lined.{AreLined, changed_floor, wait-gone}
+use Rattle.cqs_laws.proofs.Lines.{in_line}
+use Rattle.cqs_laws.proofs.Objects.{history-here, history-else}
 
--- what the jobs hold of a resource, and the permits that came to their waits at it, on this floor
-abbrev pub held_at : PlainFloor → ℕ → ℕ
-held_at f q = held_in q f.holds
+-- what is held of the resource, and counts as this element, where it is one of a pool
+abbrev pub is_held_there : Bool → ℕ → ℕ → Holding → Bool
+is_held_there pool q x h = (h.at == q) && counts pool x h.element
 
-abbrev pub claims_at : PlainFloor → ℕ → ℕ
-claims_at f q = claims_in q (object_at f q).line f.waits
+abbrev pub holds_in : Bool → ℕ → List (List Holding) → ℕ → ℕ
+holds_in pool q holds x = held_in (is_held_there pool q x) holds
+
+-- what came there to waits of the jobs, and counts as this element
+abbrev pub claims_on : Bool → ℕ → ℕ → History → List (Option JobWait) → ℕ → ℕ
+claims_on pool q size h waits x =
+    claims_in q (standing size h).line (λ number. counts pool x (came_for size h number)) waits
+
+-- the funds of a resource with this history, holdings and waits
+abbrev pub FundsOn : Bool → ℕ → ℕ → History → List (List Holding) → List (Option JobWait) → Type 0
+FundsOn pool q size h holds waits = AreFunds size h (holds_in pool q holds) (claims_on pool q size h waits)
 
 -- each resource has its funds
-pub record AreFunded (f : PlainFloor) : Type 0 where
-  pub at : (q : ℕ) → AreFunds (permits_of (slice_get f.kinds q)) (object_at f q) (held_at f q) (claims_at f q)
+pub record AreFunded (resources : List Resource) (f : PlainFloor) : Type 0 where
+  pub at : (q : ℕ) → FundsOn (is_pool_at resources q) q (size_at f q) (history_at f q) f.holds f.waits
 
--- the floor after these entries at a resource, with these holdings and waits
-abbrev pub changed_floor : PlainFloor → ℕ → List Entry → List ℕ → List (Option JobWait) → List (List Holding)
-    → PlainFloor
-changed_floor f at entries room waits holds =
-    record {
-      kinds = f.kinds;
-      entries =
-          (with_entries f at entries).entries;
-      room = room;
-      waits = waits;
-      holds = holds;
-    }
+and-one : (a b : Bool) → a ≡ true → (a && b) ≡ b
+and-one true b same = refl
+and-one false b same = absurd (cc)
 
--- the resource at which something happens keeps its funds by what it becomes, and the others by what they are
-pub funded-on : (f : PlainFloor) (at : ℕ) (entries : List Entry) (room : List ℕ) (waits : List (Option JobWait))
-    (holds : List (List Holding)) → at < length f.entries
-    → AreFunds (permits_of (slice_get f.kinds at)) (fold after_entry (object_at f at) entries) (held_in at holds)
-    (claims_in at (fold after_entry (object_at f at) entries).line waits)
-    → ((q : ℕ) → q ≢ at → held_in q holds ≡ held_at f q)
-    → ((q : ℕ) → q ≢ at → claims_in q (object_at f q).line waits ≤ claims_at f q)
-    → AreFunded f → AreFunded (changed_floor f at entries room waits holds)
-funded-on f at entries room waits holds there own held claims funded = record { at = λ q. go q (cases_eq q at) }
-  where
-    g : PlainFloor
-    g = changed_floor f at entries room waits holds
+and-none : (a b : Bool) → a ≡ false → (a && b) ≡ false
+and-none true b same = absurd (cc)
+and-none false b same = refl
 
-    Fund : ℕ → Semaphore → Type 0
-    Fund q o = AreFunds (permits_of (slice_get f.kinds q)) o (held_in q holds) (claims_in q o.line waits)
-
-    go : (q : ℕ) → (q ≡ at) ⊎ (q ≢ at)
-        → AreFunds (permits_of (slice_get f.kinds q)) (object_at g q) (held_at g q) (claims_at g q)
-    go q (inl here) = rw here (subst (Fund at) (sym (object-here f at entries there)) own)
-    go q (inr other) =
-        subst (Fund q) (sym (object-else f at q entries other))
-        (funds-same (permits_of (slice_get f.kinds q)) (object_at f q) (held_at f q) (claims_at f q) (held_in q holds)
-        (claims_in q (object_at f q).line waits) (held q other) (claims q other) (funded.at q))
-
-here-one : (at : ℕ) → bit (at == at) ≡ 1
-here-one at = ap bit (eq-eqb at at refl)
-
-other-none : (at q : ℕ) → q ≢ at → bit (at == q) ≡ 0
-other-none at q other = ap bit (ne_eqb at q (λ same. other (sym same)))
-
-module _ (f : PlainFloor) (funded : AreFunded f) (at : ℕ) (there : at < length f.entries) where
-  abbrev o : Semaphore
-  o = object_at f at
-
+module _ (resources : List Resource) (f : PlainFloor) (lines : List Line) (lined : AreLined resources f lines)
+    (funded : AreFunded resources f) (at : ℕ) (there : at < length f.histories) where
   abbrev size : ℕ
-  size = permits_of (slice_get f.kinds at)
+  size = size_at f at
 
-  pub takes-now-funded : (job element : ℕ) → job < length f.holds → 0 < o.free
-      → AreFunded (after_take f at job (Now element))
-  takes-now-funded job element below some =
-      let newest : Holding = record { at = at; element = element } in
-      let got : (q : ℕ) → held_in q (set f.holds job (holds_of f job ++ newest ∷ [])) ≡ held_at f q + bit (at == q)
-      = λ q. held-got f.holds job newest q below in
-      funded-on f at (entry.TakeNow 0 ∷ []) _ f.waits _ there
-      (funds-taken size o (held_at f at) (claims_at f at) _ some (omega (arith, got at, here-one at)) (funded.at at))
-      (λ q other. omega (arith, got q, other-none at q other)) (λ q other. omega arith) funded
+  abbrev h : History
+  h = history_at f at
 
-  pub takes-later-funded : (job : ℕ) → job < length f.waits → o.free ≡ 0
-      → AreFunded (after_take f at job (Waits o.next))
+  abbrev pool : Bool
+  pool = is_pool_at resources at
+
+  abbrev line : List Waiting
+  line = (standing size h).line
+
+  -- the test of a claim by what came for it
+  abbrev came_as : History → ℕ → ℕ → Bool
+  came_as now x number = counts pool x (came_for size now number)
+
+  -- a resource at which nothing happens keeps its funds where nobody has more there
+  funded-on : (deed : Deed) (room : List ℕ) (waits : List (Option JobWait)) (holds : List (List Holding))
+      → FundsOn pool at size (with_deed size h deed) holds waits
+      → ((q : ℕ) → q ≢ at → (x : ℕ)
+      → holds_in (is_pool_at resources q) q holds x ≡ holds_in (is_pool_at resources q) q f.holds x)
+      → ((q : ℕ) → q ≢ at → (x : ℕ)
+      → claims_on (is_pool_at resources q) q (size_at f q) (history_at f q) waits x
+      ≤ claims_on (is_pool_at resources q) q (size_at f q) (history_at f q) f.waits x)
+      → AreFunded resources (changed_floor f at deed room waits holds)
+  funded-on deed room waits holds own held claims = record { at = λ q. go q (cases_eq q at) }
+    where
+      g : PlainFloor
+      g = changed_floor f at deed room waits holds
+
+      go : (q : ℕ) → (q ≡ at) ⊎ (q ≢ at)
+          → FundsOn (is_pool_at resources q) q (size_at f q) (history_at g q) holds waits
+      go q (inl here) =
+          rw here (subst (λ now. FundsOn pool at size now holds waits) (sym (history-here f at deed there)) own)
+      go q (inr other) =
+          subst (λ now. FundsOn (is_pool_at resources q) q (size_at f q) now holds waits)
+          (sym (history-else f at q deed other))
+          (same-funds (size_at f q) (holds_in (is_pool_at resources q) q f.holds)
+          (claims_on (is_pool_at resources q) q (size_at f q) (history_at f q) f.waits)
+          (holds_in (is_pool_at resources q) q holds)
+          (claims_on (is_pool_at resources q) q (size_at f q) (history_at f q) waits)
+          (λ x. omega (arith, held q other x, claims q other x)) (history_at f q) (funded.at q))
+
+  -- a wait that the deed isn't about is a claim then only if it was
+  like-else : (deed : Deed) (x number : ℕ) → IsElse (standing size h).next number deed
+      → IsLike line (standing size (with_deed size h deed)).line (came_as h x) (came_as (with_deed size h deed) x)
+      number
+  like-else deed x number other = record {
+    stands = line-after size h deed number other;
+    same = ap (counts pool x) (came-after size h deed number other);
+  }
+
+  -- so where it is about none of these waits, no more of them are claims
+  claims-fewer : (deed : Deed) (waits : List (Option JobWait)) (x : ℕ)
+      → ((i : ℕ) (w : JobWait) → slice_get waits i ≡ Some (Some w) → w.at ≡ at
+      → IsElse (standing size h).next w.number deed)
+      → claims_on pool at size (with_deed size h deed) waits x ≤ claims_on pool at size h waits x
+  claims-fewer deed waits x other =
+      count-le (λ o. is_claim at line (came_as h x) o)
+      (λ o. is_claim at (standing size (with_deed size h deed)).line (came_as (with_deed size h deed) x) o) waits
+      (λ i o got claims.
+      claim-before at line (standing size (with_deed size h deed)).line (came_as h x)
+      (came_as (with_deed size h deed) x) o
+      (λ w is here. like-else deed x w.number (other i w (got ∙ ap Some is) here)) claims)
+
+  -- what is held there, or elsewhere, counts once, or not
+  here-one : (x element : ℕ) → bit (is_held_there pool at x (record { at = at; element = element }))
+      ≡ bit (counts pool x element)
+  here-one x element = ap bit (and-one (at == at) (counts pool x element) (eq-eqb at at refl))
+
+  other-none : (q x : ℕ) (n : Holding) → n.at ≡ at → q ≢ at
+      → bit (is_held_there (is_pool_at resources q) q x n) ≡ 0
+  other-none q x n here other =
+      ap bit (and-none (n.at == q) (counts (is_pool_at resources q) x n.element)
+      (ne_eqb n.at q (λ same. other (sym same ∙ here))))
+
+  -- a test by the kind of the history is one by the kind of the resource
+  sorted : (P : Bool → Type 0) → P pool → P (is_of_pool h)
+  sorted P holds = subst P (sym (lined.sorts at)) holds
+
+  got : (job element : ℕ) → job < length f.holds → (q x : ℕ)
+      → holds_in (is_pool_at resources q) q
+      (set f.holds job (holds_of f job ++ record { at = at; element = element } ∷ [])) x
+      ≡ holds_in (is_pool_at resources q) q f.holds x
+      + bit (is_held_there (is_pool_at resources q) q x (record { at = at; element = element }))
+  got job element below q x =
+      held-got (is_held_there (is_pool_at resources q) q x) f.holds job (record { at = at; element = element }) below
+
+  pub takes-now-funded : (job : ℕ) → job < length f.holds → 0 < (standing size h).free
+      → AreFunded resources (after_take f at job (Now (first_free size h)))
+  takes-now-funded job below some =
+      let e : ℕ = first_free size h in
+      funded-on (takes e) _ f.waits _
+      (takes-funds size (holds_in pool at f.holds) (claims_on pool at size h f.waits) _ _ h some
+      (sorted (λ b. (x : ℕ)
+      → holds_in pool at (set f.holds job (holds_of f job ++ record { at = at; element = e } ∷ [])) x
+      ≡ holds_in pool at f.holds x + bit (counts b x e))
+      (λ x. omega (arith, got job e below at x, here-one x e)))
+      (λ x. claims-fewer (takes e) f.waits x
+      (λ i w is here same.
+      let under : w.number < (standing_at f at).next
+      = rw here at (lined.below i w (get_or_from_slice_get f.waits i (Some w) None is)) in
+      omega (arith, under, same)))
+      (funded.at at))
+      (λ q other x. omega (arith, got job e below q x, other-none q x (record { at = at; element = e }) refl other))
+      (λ q other x. omega arith)
+
+  pub takes-later-funded : (job : ℕ) → job < length f.waits → (standing size h).free ≡ 0
+      → AreFunded resources (after_take f at job (Waits (standing size h).next))
   takes-later-funded job below none =
-      let new : Option JobWait = Some (wait_at at o.next) in
-      let joined : List Waiting = o.line ++ record { wait = o.next; pass = 0 } ∷ [] in
-      let written : (q : ℕ) (line : List Waiting)
-      → claims_in q line (set f.waits job new) + bit (is_claim q line (wait_of f job))
-      ≡ claims_in q line f.waits + bit (is_claim q line new)
-      = λ q line. count-set (λ w. is_claim q line w) f.waits job (wait_of f job) new None below refl in
-      let none_new : bit (is_claim at joined new) ≡ 0
-      = ap bit (claim-none at o.next joined (line-joined o.next o.line (record { wait = o.next; pass = 0 }) refl)) in
-      let none_else : (q : ℕ) → q ≢ at → bit (is_claim q (object_at f q).line new) ≡ 0
-      = λ q other. ap bit (claim-else at q o.next (object_at f q).line other) in
-      let stays : claims_in at joined f.waits ≤ claims_in at o.line f.waits
-      = count-le (λ w. is_claim at o.line w) (λ w. is_claim at joined w) f.waits
-      (λ i w got claims. claim-before at o.line joined w
-      (λ v same before. line-longer v.number o.line (record { wait = o.next; pass = 0 }) before) claims) in
-      funded-on f at (entry.TakeDoor 0 ∷ entry.Enter 0 o.next ∷ []) _ _ f.holds there
-      (funds-joined size o (held_at f at) (claims_at f at) _ o.next none
-      (omega (arith, written at joined, none_new, stays)) (funded.at at))
-      (λ q other. refl)
-      (λ q other. omega (arith, written q (object_at f q).line, none_else q other))
-      funded
+      let k : ℕ = (standing size h).next in
+      let new : Option JobWait = Some (wait_at at k) in
+      let then : History = with_deed size h (joins k) in
+      let joined : List Waiting = (standing size then).line in
+      let written : (q : ℕ) (line : List Waiting) (test : ℕ → Bool)
+      → claims_in q line test (set f.waits job new) + bit (is_claim q line test (wait_of f job))
+      ≡ claims_in q line test f.waits + bit (is_claim q line test new)
+      = λ q line test. count-set (λ w. is_claim q line test w) f.waits job (wait_of f job) new None below refl in
+      let none_new : (x : ℕ) → bit (is_claim at joined (came_as then x) new) ≡ 0
+      = λ x. ap bit (claim-none at k joined (came_as then x) (line-joins size h k)) in
+      funded-on (joins k) _ _ f.holds
+      (joins-funds size (holds_in pool at f.holds) (claims_on pool at size h f.waits) _ _ h k none (λ x. refl)
+      (λ x. omega (
+        arith,
+        written at joined (came_as then x),
+        none_new x,
+        claims-fewer (joins k) f.waits x (λ i w is here. tt),
+      ))
+      (funded.at at))
+      (λ q other x. refl)
+      (λ q other x.
+      let test : ℕ → Bool
+      = λ number. counts (is_pool_at resources q) x (came_for (size_at f q) (history_at f q) number) in
+      let none_else : bit (is_claim q (standing_at f q).line test new) ≡ 0
+      = ap bit (claim-else at q k (standing_at f q).line test other) in
+      omega (arith, written q (standing_at f q).line test, none_else))
 
   module _ (job : ℕ) (can : CanGive f job at) where
-    gave : (q : ℕ) → held_in q (set f.holds job (without (λ h. h.at) at (holds_of f job))) + bit (at == q)
-        ≡ held_at f q
-    gave q = held-gave f.holds job at q can.job.holds can.held
+    -- the oldest that the job holds
+    pub own : HasOldest at (holds_of f job)
+    own = has-oldest at (holds_of f job) can.held
 
-    pub gives-free-funded : (element : ℕ) → o.line ≡ [] → AreFunded (after_give f at job (Free element))
-    gives-free-funded element empty =
-        funded-on f at (entry.GiveFreed 0 ∷ []) f.room f.waits _ there
-        (funds-freed size o (held_at f at) (claims_at f at) _ empty (omega (arith, gave at, here-one at))
-        (funded.at at))
-        (λ q other. omega (arith, gave q, other-none at q other)) (λ q other. omega arith) funded
+    abbrev pub given : ℕ
+    given = option_map_or (λ x. x.element) (oldest at (holds_of f job)) 0
 
-    pub gives-sent-funded : (element number : ℕ) (lines : List Line) → AreLined f lines → o.line ≢ []
-        → AreFunded (after_give f at job (Sent element number))
-    gives-sent-funded element number lines lined some =
-        let fewer : List Waiting = without (λ w. w.wait) number o.line in
-        let more : claims_in at fewer f.waits ≤ claims_in at o.line f.waits + 1
-        = count-one-more (λ w. is_claim at o.line w) (λ w. is_claim at fewer w) f.waits only in
-        funded-on f at (entry.GiveSent 0 ∷ entry.Deliver number ∷ []) f.room f.waits _ there
-        (funds-sent size o (held_at f at) (claims_at f at) _ _ number some (omega (arith, gave at, here-one at)) more
-        (funded.at at))
-        (λ q other. omega (arith, gave q, other-none at q other)) (λ q other. omega arith) funded
+    given-is : given ≡ own.first.element
+    given-is = ap (λ o. option_map_or (λ (x : Holding). x.element) o 0) own.is
+
+    abbrev rest : List (List Holding)
+    rest = set f.holds job (without (λ x. x.at) at (holds_of f job))
+
+    gave : (q x : ℕ)
+        → holds_in (is_pool_at resources q) q rest x + bit (is_held_there (is_pool_at resources q) q x own.first)
+        ≡ holds_in (is_pool_at resources q) q f.holds x
+    gave q x =
+        held-gave (is_held_there (is_pool_at resources q) q x) f.holds job at own.first can.job.holds own.is
+
+    own-one : (x : ℕ) → bit (is_held_there pool at x own.first) ≡ bit (counts pool x given)
+    own-one x =
+        ap bit (and-one (own.first.at == at) (counts pool x own.first.element) (eq-eqb own.first.at at own.here)
+        ∙ ap (counts pool x) (sym given-is))
+
+    gone : (x : ℕ) → holds_in pool at rest x + bit (counts (is_of_pool h) x given) ≡ holds_in pool at f.holds x
+    gone =
+        sorted (λ b. (x : ℕ) → holds_in pool at rest x + bit (counts b x given) ≡ holds_in pool at f.holds x)
+        (λ x. omega (arith, gave at x, own-one x))
+
+    elsewhere : (q : ℕ) → q ≢ at → (x : ℕ)
+        → holds_in (is_pool_at resources q) q rest x ≡ holds_in (is_pool_at resources q) q f.holds x
+    elsewhere q other x = omega (arith, gave q x, other-none q x own.first own.here other)
+
+    pub gives-free-funded : line ≡ [] → AreFunded resources (after_give f at job (Free given))
+    gives-free-funded empty =
+        funded-on (frees given) f.room f.waits _
+        (frees-funds size (holds_in pool at f.holds) (claims_on pool at size h f.waits) _ _ h given empty gone
+        (λ x. claims-fewer (frees given) f.waits x (λ i w is here. tt)) (funded.at at))
+        elsewhere (λ q other x. omega arith)
+
+    pub gives-sent-funded : (first : Waiting) (more : List Waiting) → line ≡ first ∷ more
+        → AreFunded resources (after_give f at job (Sent given first.wait))
+    gives-sent-funded first more is =
+        funded-on (sends given first.wait) f.room f.waits _
+        (sends-funds size (holds_in pool at f.holds) (claims_on pool at size h f.waits) _ _ h given first.wait
+        (λ empty. absurd (cc)) gone
+        (sorted (λ b. (x : ℕ) → claims_on pool at size then f.waits x
+        ≤ claims_on pool at size h f.waits x + bit (counts b x given))
+        (λ x. claims-more x (counts pool x given) refl)) (funded.at at))
+        elsewhere (λ q other x. omega arith)
       where
-        -- a claim that is new is that of the wait to which the permit is sent
-        new-claim : (w : Option JobWait) → is_claim at (without (λ w. w.wait) number o.line) w ≡ true
-            → is_claim at o.line w ≡ false → w ≡ Some (wait_at at number)
-        new-claim None now before = absurd (cc)
-        new-claim (Some w) now before = go (cases_eq w.at at) (cases_eq w.number number)
+        then : History
+        then = with_deed size h (sends given first.wait)
+
+        number : ℕ
+        number = first.wait
+
+        was-claim : ℕ → Option JobWait → Bool
+        was-claim x o = is_claim at line (came_as h x) o
+
+        now-claim : ℕ → Option JobWait → Bool
+        now-claim x o = is_claim at (standing size then).line (came_as then x) o
+
+        -- another wait than that to which it is sent is a claim only if it was
+        old-claim : (x : ℕ) (w : JobWait) → w ≢ wait_at at number → now-claim x (Some w) ≡ true
+            → was-claim x (Some w) ≡ true
+        old-claim x w other claims =
+            claim-before at line (standing size then).line (came_as h x) (came_as then x) (Some w)
+            (λ v same here.
+            let is : v ≡ w = cc in
+            like-else (sends given number) x v.number
+            (λ number_is. other (sym is ∙ rw (← here, ← number_is) refl))) claims
+
+        -- a claim that is new is that of the wait to which it is sent
+        new-claim : (x : ℕ) (o : Option JobWait) → now-claim x o ≡ true → was-claim x o ≡ false
+            → o ≡ Some (wait_at at number)
+        new-claim x None now before = absurd (cc)
+        new-claim x (Some w) now before = go (cases_eq w.at at) (cases_eq w.number number)
           where
             go : (w.at ≡ at) ⊎ (w.at ≢ at) → (w.number ≡ number) ⊎ (w.number ≢ number)
                 → Some w ≡ Some (wait_at at number)
             go (inl here) (inl same) = rw (← here, ← same) refl
             go (inl here) (inr other) =
-                let was : is_claim at o.line (Some w) ≡ true
-                = claim-before at o.line (without (λ w. w.wait) number o.line) (Some w)
-                (λ v is stands.
-                let same : v ≡ w = cc in rw same (line-fewer w.number number o.line other (rw same at stands))) now in
+                let was : was-claim x (Some w) ≡ true
+                = old-claim x w (λ is. other (ap (λ (v : JobWait). v.number) is)) now in
                 absurd (cc)
             go (inr away) either =
-                let never : is_claim at (without (λ w. w.wait) number o.line) (Some w) ≡ false
-                = claim-else w.at at w.number (without (λ w. w.wait) number o.line) (λ e. away (sym e)) in
+                let was : was-claim x (Some w) ≡ true
+                = old-claim x w (λ is. away (ap (λ (v : JobWait). v.at) is)) now in
                 absurd (cc)
 
-        only : (i j : ℕ) (x y : Option JobWait) → slice_get f.waits i ≡ Some x → slice_get f.waits j ≡ Some y
-            → is_claim at (without (λ w. w.wait) number o.line) x ≡ true → is_claim at o.line x ≡ false
-            → is_claim at (without (λ w. w.wait) number o.line) y ≡ true → is_claim at o.line y ≡ false → i ≡ j
-        only i j x y first second qx px qy py =
+        only : (x i j : ℕ) (o p : Option JobWait) → slice_get f.waits i ≡ Some o → slice_get f.waits j ≡ Some p
+            → now-claim x o ≡ true → was-claim x o ≡ false → now-claim x p ≡ true → was-claim x p ≡ false → i ≡ j
+        only x i j o p one two o_now o_was p_now p_was =
             lined.apart i j (wait_at at number)
-            (get_or_from_slice_get f.waits i x None first ∙ new-claim x qx px)
-            (get_or_from_slice_get f.waits j y None second ∙ new-claim y qy py)
+            (get_or_from_slice_get f.waits i o None one ∙ new-claim x o o_now o_was)
+            (get_or_from_slice_get f.waits j p None two ∙ new-claim x p p_now p_was)
+
+        -- where the wait isn't one for this element, it is no claim on it
+        not-counted : (x : ℕ) (b : Bool) → pool ≡ b → counts pool x given ≡ false
+            → now-claim x (Some (wait_at at number)) ≡ true → was-claim x (Some (wait_at at number)) ≡ true
+        not-counted x false pooled none claims =
+            let one : counts pool x given ≡ true = rw pooled refl in absurd (cc)
+        not-counted x true pooled none claims =
+            let came : came_for size then number ≡ given
+            = came-sent size h first more given (lined.seated at) is (lined.sorts at ∙ pooled) in
+            let never : now-claim x (Some (wait_at at number)) ≡ false = rw (came, none) (refuse (at == at)
+            (in_line number (standing size then).line)) in
+            absurd (cc)
+          where
+            refuse : (a b : Bool) → (a && (Rattle.std.specs.Prelude.not b && false)) ≡ false
+            refuse true true = refl
+            refuse true false = refl
+            refuse false b = refl
+
+        was-before : (x : ℕ) → counts pool x given ≡ false → (o : Option JobWait) → now-claim x o ≡ true → (b : Bool)
+            → was-claim x o ≡ b → was-claim x o ≡ true
+        was-before x none o now true was = was
+        was-before x none o now false was =
+            let is : o ≡ Some (wait_at at number) = new-claim x o now was in
+            rw is (not-counted x pool refl none (rw is at now))
+
+        claims-more : (x : ℕ) (b : Bool) → counts pool x given ≡ b
+            → claims_on pool at size then f.waits x
+            ≤ claims_on pool at size h f.waits x + bit (counts pool x given)
+        claims-more x true counted =
+            let one : bit (counts pool x given) ≡ 1 = ap bit counted in
+            omega (arith, one, count-one-more (was-claim x) (now-claim x) f.waits (only x))
+        claims-more x false none =
+            let fewer : claims_on pool at size then f.waits x ≤ claims_on pool at size h f.waits x
+            = count-le (was-claim x) (now-claim x) f.waits
+            (λ i o got claims. was-before x none o claims (was-claim x o) refl) in
+            omega (arith, fewer)
 
   module _ (job number : ℕ) (has : HasWait f job at number) where
+    abbrev without_wait : List (Option JobWait)
+    without_wait = set f.waits job None
+
     -- the wait is over
-    over : (q : ℕ) (line : List Waiting)
-        → claims_in q line (set f.waits job None) + bit (is_claim q line (Some (wait_at at number)))
-        ≡ claims_in q line f.waits + 0
-    over q line =
-        count-set (λ w. is_claim q line w) f.waits job (Some (wait_at at number)) None None has.job.waits has.waits
+    over : (q : ℕ) (line : List Waiting) (test : ℕ → Bool)
+        → claims_in q line test without_wait + bit (is_claim q line test (Some (wait_at at number)))
+        ≡ claims_in q line test f.waits + 0
+    over q line test =
+        count-set (λ w. is_claim q line test w) f.waits job (Some (wait_at at number)) None None has.job.waits
+        has.waits
 
-    over-else : (q : ℕ) → q ≢ at → claims_in q (object_at f q).line (set f.waits job None) ≤ claims_at f q
-    over-else q other =
-        let none : bit (is_claim q (object_at f q).line (Some (wait_at at number))) ≡ 0
-        = ap bit (claim-else at q number (object_at f q).line other) in
-        omega (arith, over q (object_at f q).line, none)
+    over-else : (q : ℕ) → q ≢ at → (x : ℕ)
+        → claims_on (is_pool_at resources q) q (size_at f q) (history_at f q) without_wait x
+        ≤ claims_on (is_pool_at resources q) q (size_at f q) (history_at f q) f.waits x
+    over-else q other x =
+        omega (
+          arith,
+          over q (standing_at f q).line
+              (λ n. counts (is_pool_at resources q) x (came_for (size_at f q) (history_at f q) n)),
+        )
 
-    pub granted-funded : (element : ℕ) (e : Entry) → in_line number o.line ≡ false
-        → ((h c : ℕ) → h ≡ held_at f at + 1 → c + 1 ≡ claims_at f at → AreFunds size (after_entry o e) h c)
-        → (after_entry o e).line ≡ o.line
-        → AreFunded (with_newest (with_wait (with_entries f at (e ∷ [])) job None) job at element)
-    granted-funded element e away funds line =
-        let newest : Holding = record { at = at; element = element } in
-        let got : (q : ℕ) → held_in q (set f.holds job (holds_of f job ++ newest ∷ [])) ≡ held_at f q + bit (at == q)
-        = λ q. held-got f.holds job newest q has.job.holds in
-        let one : bit (is_claim at o.line (Some (wait_at at number))) ≡ 1
-        = ap bit (claim-here at number o.line away) in
-        let less : claims_in at (after_entry o e).line (set f.waits job None) + 1 ≡ claims_at f at
-        = rw line (omega (arith, over at o.line, one)) in
-        funded-on f at (e ∷ []) f.room _ _ there
-        (funds _ _ (omega (arith, got at, here-one at)) less)
-        (λ q other. omega (arith, got q, other-none at q other)) over-else funded
+    -- what came for the wait is the job's newest
+    granted-funded : (deed : Deed) (e : ℕ) → in_line number line ≡ false → came_for size h number ≡ e
+        → ((n k : ℕ) → IsElse n k deed)
+        → ((holds' claims' : ℕ → ℕ)
+        → ((x : ℕ) → holds' x + claims' x ≤ holds_in pool at f.holds x + claims_on pool at size h f.waits x)
+        → AreFunds size (with_deed size h deed) holds' claims')
+        → AreFunded resources (with_newest (with_wait (with_done f at deed) job None) job at e)
+    granted-funded deed e away came quiet funds =
+        let newest : Holding = record { at = at; element = e } in
+        let one : (x : ℕ) → bit (is_claim at line (came_as h x) (Some (wait_at at number))) ≡ bit (counts pool x e)
+        = λ x. ap bit (claim-here at number line (came_as h x) away ∙ ap (counts pool x) came) in
+        funded-on deed f.room _ _
+        (funds _ _
+        (λ x. omega (
+          arith,
+          got job e has.job.holds at x,
+          here-one x e,
+          one x,
+          over at line (came_as h x),
+          claims-fewer deed without_wait x (λ i w is here. quiet (standing size h).next w.number),
+        )))
+        (λ q other x. omega (arith, got job e has.job.holds q x, other-none q x newest refl other)) over-else
 
-    pub gone-funded : (lines : List Line) → AreLined f lines
-        → AreFunded (with_wait (with_entries f at (entry.Leave 0 number ∷ [])) job None)
-    gone-funded lines lined =
-        let line : List Waiting = (after_entry o (entry.Leave 0 number)).line in
-        let fewer : claims_in at line (set f.waits job None) ≤ claims_in at o.line (set f.waits job None)
-        = count-le (λ w. is_claim at o.line w) (λ w. is_claim at line w) (set f.waits job None)
-        (λ i w got claims. stays i w got claims) in
-        funded-on f at (entry.Leave 0 number ∷ []) f.room _ f.holds there
-        (funds-left size o (held_at f at) (claims_at f at) _ number (omega (arith, fewer, over at o.line))
-        (funded.at at))
-        (λ q other. refl) over-else funded
+    pub gets-funded : (e : ℕ) → in_line number line ≡ false → came_for size h number ≡ e
+        → AreFunded resources (with_newest (with_wait (with_done f at (gets number e)) job None) job at e)
+    gets-funded e away came =
+        granted-funded (gets number e) e away came (λ n k. tt)
+        (λ holds' claims' more. gets-funds size (holds_in pool at f.holds) (claims_on pool at size h f.waits) holds'
+        claims' more h number e (funded.at at))
+
+    pub late-funded : (e : ℕ) → in_line number line ≡ false → came_for size h number ≡ e
+        → AreFunded resources (with_newest (with_wait (with_done f at (is_late number e)) job None) job at e)
+    late-funded e away came =
+        granted-funded (is_late number e) e away came (λ n k. tt)
+        (λ holds' claims' more. late-funds size (holds_in pool at f.holds) (claims_on pool at size h f.waits) holds'
+        claims' more h number e (funded.at at))
+
+    pub gone-funded : AreFunded resources (with_wait (with_done f at (leaves number)) job None)
+    gone-funded =
+        funded-on (leaves number) f.room _ f.holds
+        (leaves-funds size (holds_in pool at f.holds) (claims_on pool at size h f.waits) _ _
+        (λ x. omega (
+          arith,
+          over at line (came_as h x),
+          claims-fewer (leaves number) without_wait x (λ i w is here. other-number i w is here),
+        ))
+        h number (funded.at at))
+        (λ q other x. refl) over-else
       where
-        other-number : (i : ℕ) (v : JobWait) → (i ≢ job) × (wait_of f i ≡ Some v) → v.at ≡ at → v.number ≢ number
-        other-number i v other here same =
-            let own : v ≡ wait_at at number = rw (← here, ← same) refl in
-            other.0 (lined.apart i job v other.1 (has.waits ∙ ap Some (sym own)))
-
-        stays : (i : ℕ) (w : Option JobWait) → slice_get (set f.waits job None) i ≡ Some w
-            → is_claim at (after_entry o (entry.Leave 0 number)).line w ≡ true → is_claim at o.line w ≡ true
-        stays i None got claims = absurd (cc)
-        stays i (Some v) got claims = go (cases_eq v.at at)
-          where
-            go : (v.at ≡ at) ⊎ (v.at ≢ at) → is_claim at o.line (Some v) ≡ true
-            go (inl here) =
-                let waits : wait_of (with_wait f job None) i ≡ Some v
-                = get_or_from_slice_get (set f.waits job None) i (Some v) None got in
-                let other = wait-gone f job i v has.job.waits waits in
-                claim-before at o.line (after_entry o (entry.Leave 0 number)).line (Some v)
-                (λ u is stands. let same : u ≡ v = cc in
-                rw same (ap (in_line v.number) (turned-line _)
-                ∙ line-fewer v.number number o.line (other-number i v other here) (rw same at stands))) claims
-            go (inr away) =
-                let never : is_claim at (after_entry o (entry.Leave 0 number)).line (Some v) ≡ false
-                = claim-else v.at at v.number (after_entry o (entry.Leave 0 number)).line (λ e. away (sym e)) in
-                absurd (cc)
+        other-number : (i : ℕ) (w : JobWait) → slice_get without_wait i ≡ Some (Some w) → w.at ≡ at
+            → w.number ≢ number
+        other-number i w is here same =
+            let waits : wait_of (with_wait f job None) i ≡ Some w
+            = get_or_from_slice_get without_wait i (Some w) None is in
+            let other = wait-gone f job i w has.job.waits waits in
+            let own : w ≡ wait_at at number = rw (← here, ← same) refl in
+            other.0 (lined.apart i job w other.1 (has.waits ∙ ap Some (sym own)))

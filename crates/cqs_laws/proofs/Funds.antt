@@ -1,107 +1,154 @@
--- What one event does to the funds of a resource: its free permits, those held, and who may claim them.
-use Rattle.std.proofs.Common.{◌≡◌, ◌≢◌, ◌⊎◌, inl, inr, ℕ, ◌+◌, ◌-◌, ◌<◌, ◌≤◌, nat_lt, Bool, true, false, List, [], refl, ltb-true, arith}
-use Rattle.cqs_core.specs.Keyed.{without}
-use Rattle.cqs_core.specs.QueueLine.{Waiting}
-use Rattle.cqs_core.specs.SemaphoreObject.{Semaphore, due}
-use Rattle.cqs_core.specs.SemaphoreEntries.{taken, at_door, entered, delivered, left, closed, turned_back}
+-- What one deed does to the funds of a resource: what is free there, what is held, and who may claim it.
+use Rattle.std.proofs.Common.{◌≡◌, ◌≢◌, ℕ, ◌+◌, ◌<◌, ◌≤◌, ◌==◌, Bool, true, false, [], refl, sym, subst, arith}
+use Rattle.cqs_core.specs.SemaphoreObject.{Semaphore}
+use Rattle.cqs_core.proofs.Counts.{bit}
+use Rattle.cqs_pool_object.specs.PoolObject.{Pool}
+use Rattle.cqs_plan.specs.FloorHistory.{History, of_permits, of_elements, takes, joins, frees, sends, gets, leaves, is_late, permits_after, elements_after, with_deed, standing, first_free}
+use Rattle.cqs_laws.proofs.Deeds.{elements-then, is_of_pool, permits-then}
+use Rattle.cqs_laws.proofs.ElementFunds.{AreElementFunds, element-taken, element-joined, element-freed, element-sent, element-got, element-late, element-left, element-same}
+use Rattle.cqs_laws.proofs.PermitFunds.{ArePermitFunds, funds-taken, funds-joined, funds-freed, funds-sent, funds-left, funds-same}
 
--- No permit is on its way and nobody is at the door; somebody waits only where none is free; the permits are all there,
--- and those held are enough for what the jobs hold and for what came to their waits.
-pub record AreFunds (size : ℕ) (o : Semaphore) (held claims : ℕ) : Type 0 where
-  pub way : o.way ≡ 0
-  pub door : o.door ≡ []
-  pub eager : (o.free ≡ 0) ⊎ (o.line ≡ [])
-  pub total : o.held + o.free ≡ size
-  pub backed : held + claims ≤ o.held
+-- an element counts as itself, and a permit as any
+abbrev pub counts : Bool → ℕ → ℕ → Bool
+counts true x e = e == x
+counts false x e = true
 
-none-waits : (free less : ℕ) (line : List Waiting) → less ≤ free → (free ≡ 0) ⊎ (line ≡ []) → (less ≡ 0) ⊎ (line ≡ [])
-none-waits free less line below (inl none) = inl (omega (arith, below, none))
-none-waits free less line below (inr empty) = inr empty
+-- by what the jobs hold and what came to their waits, of each element
+abbrev pub AreFunds : ℕ → History → (ℕ → ℕ) → (ℕ → ℕ) → Type 0
+AreFunds size (of_permits entries) holds claims =
+    (x : ℕ) → ArePermitFunds size (permits_after size entries) (holds x) (claims x)
+AreFunds size (of_elements entries) holds claims =
+    AreElementFunds size (elements_after size entries) holds claims
 
-pub funds-taken : (size : ℕ) (o : Semaphore) (h c h' : ℕ) → 0 < o.free → h' ≡ h + 1 → AreFunds size o h c
-    → AreFunds size (taken o) h' c
-funds-taken size o h c h' some more funds = record {
-  way = funds.way;
-  door = funds.door;
-  eager = none-waits o.free (o.free - 1) o.line (omega arith) funds.eager;
-  total = omega (arith, funds.total, some);
-  backed = omega (arith, funds.backed, more);
-}
+module _ (size : ℕ) (holds claims holds' claims' : ℕ → ℕ) where
+  pub takes-funds : (h : History) → 0 < (standing size h).free
+      → ((x : ℕ) → holds' x ≡ holds x + bit (counts (is_of_pool h) x (first_free size h)))
+      → ((x : ℕ) → claims' x ≤ claims x) → AreFunds size h holds claims
+      → AreFunds size (with_deed size h (takes (first_free size h))) holds' claims'
+  takes-funds (of_permits entries) some more fewer funds =
+      λ x.
+      let o : Semaphore = permits_after size entries in
+      let Fund : Semaphore → Type 0 = λ p. ArePermitFunds size p (holds' x) (claims' x) in
+      subst Fund (sym (permits-then size entries (takes 0)))
+      (funds-same size _ (holds' x) (claims x) (holds' x) (claims' x) refl (fewer x)
+      (funds-taken size o (holds x) (claims x) (holds' x) some (more x) (funds x)))
+  takes-funds (of_elements entries) some more fewer funds =
+      let Fund : Pool → Type 0 = λ p. AreElementFunds size p holds' claims' in
+      subst Fund (sym (elements-then size entries (takes (first_free size (of_elements entries)))))
+      (element-taken size (elements_after size entries) holds claims holds' claims' funds some more fewer)
 
-pub funds-joined : (size : ℕ) (o : Semaphore) (h c c' k : ℕ) → o.free ≡ 0 → c' ≤ c → AreFunds size o h c
-    → AreFunds size (entered (at_door o 0) 0 k) h c'
-funds-joined size o h c c' k none fewer funds = record {
-  way = funds.way;
-  door = rw funds.door refl;
-  eager = inl none;
-  total = funds.total;
-  backed = omega (arith, funds.backed, fewer);
-}
+  pub joins-funds : (h : History) (k : ℕ) → (standing size h).free ≡ 0 → ((x : ℕ) → holds' x ≡ holds x)
+      → ((x : ℕ) → claims' x ≤ claims x) → AreFunds size h holds claims
+      → AreFunds size (with_deed size h (joins k)) holds' claims'
+  joins-funds (of_permits entries) k none same fewer funds =
+      λ x.
+      let o : Semaphore = permits_after size entries in
+      let Fund : Semaphore → Type 0 = λ p. ArePermitFunds size p (holds' x) (claims' x) in
+      subst Fund (sym (permits-then size entries (joins k)))
+      (funds-same size _ (holds x) (claims' x) (holds' x) (claims' x) (same x) (omega arith)
+      (funds-joined size o (holds x) (claims x) (claims' x) k none (fewer x) (funds x)))
+  joins-funds (of_elements entries) k none same fewer funds =
+      let Fund : Pool → Type 0 = λ p. AreElementFunds size p holds' claims' in
+      subst Fund (sym (elements-then size entries (joins k)))
+      (element-joined size (elements_after size entries) holds claims holds' claims' funds k none same fewer)
 
-pub funds-freed : (size : ℕ) (o : Semaphore) (h c h' : ℕ) → o.line ≡ [] → h' + 1 ≡ h → AreFunds size o h c
-    → AreFunds size (record o { held = o.held - 1; free = o.free + 1 }) h' c
-funds-freed size o h c h' empty less funds = record {
-  way = funds.way;
-  door = funds.door;
-  eager = inr empty;
-  total = omega (arith, funds.total, funds.backed, less);
-  backed = omega (arith, funds.backed, less);
-}
+  pub frees-funds : (h : History) (e : ℕ) → (standing size h).line ≡ []
+      → ((x : ℕ) → holds' x + bit (counts (is_of_pool h) x e) ≡ holds x)
+      → ((x : ℕ) → claims' x ≤ claims x) → AreFunds size h holds claims
+      → AreFunds size (with_deed size h (frees e)) holds' claims'
+  frees-funds (of_permits entries) e empty gone fewer funds =
+      λ x.
+      let o : Semaphore = permits_after size entries in
+      let Fund : Semaphore → Type 0 = λ p. ArePermitFunds size p (holds' x) (claims' x) in
+      subst Fund (sym (permits-then size entries (frees e)))
+      (funds-same size _ (holds' x) (claims x) (holds' x) (claims' x) refl (fewer x)
+      (funds-freed size o (holds x) (claims x) (holds' x) empty (gone x) (funds x)))
+  frees-funds (of_elements entries) e empty gone fewer funds =
+      let Fund : Pool → Type 0 = λ p. AreElementFunds size p holds' claims' in
+      subst Fund (sym (elements-then size entries (frees e)))
+      (element-freed size (elements_after size entries) holds claims holds' claims' funds e gone empty fewer)
 
-none-free : (free : ℕ) (line : List Waiting) → line ≢ [] → (free ≡ 0) ⊎ (line ≡ []) → free ≡ 0
-none-free free line some (inl none) = none
-none-free free line some (inr empty) = absurd (some empty)
+  pub sends-funds : (h : History) (e k : ℕ) → (standing size h).line ≢ []
+      → ((x : ℕ) → holds' x + bit (counts (is_of_pool h) x e) ≡ holds x)
+      → ((x : ℕ) → claims' x ≤ claims x + bit (counts (is_of_pool h) x e)) → AreFunds size h holds claims
+      → AreFunds size (with_deed size h (sends e k)) holds' claims'
+  sends-funds (of_permits entries) e k some gone more funds =
+      λ x.
+      let o : Semaphore = permits_after size entries in
+      let Fund : Semaphore → Type 0 = λ p. ArePermitFunds size p (holds' x) (claims' x) in
+      subst Fund (sym (permits-then size entries (sends e k)))
+      (funds-sent size o (holds x) (claims x) (holds' x) (claims' x) k some (gone x) (more x) (funds x))
+  sends-funds (of_elements entries) e k some gone more funds =
+      let Fund : Pool → Type 0 = λ p. AreElementFunds size p holds' claims' in
+      subst Fund (sym (elements-then size entries (sends e k)))
+      (element-sent size (elements_after size entries) holds claims holds' claims' funds e gone k some more)
 
-pub funds-sent : (size : ℕ) (o : Semaphore) (h c h' c' k : ℕ) → o.line ≢ [] → h' + 1 ≡ h → c' ≤ c + 1
-    → AreFunds size o h c → AreFunds size (delivered (record o { held = o.held - 1; way = o.way + 1 }) k) h' c'
-funds-sent size o h c h' c' k some less claims funds = record {
-  way = omega (arith, funds.way);
-  door = funds.door;
-  eager = inl (none-free o.free o.line some funds.eager);
-  total = omega (arith, funds.total, funds.backed, less);
-  backed = omega (arith, funds.backed, less, claims);
-}
-
-pub funds-closed : (size : ℕ) (o : Semaphore) (h c h' c' k : ℕ) → h' ≡ h + 1 → c' + 1 ≡ c → AreFunds size o h c
-    → AreFunds size (closed o k) h' c'
-funds-closed size o h c h' c' k more less funds = record {
-  way = funds.way;
-  door = funds.door;
-  eager = funds.eager;
-  total = funds.total;
-  backed = omega (arith, funds.backed, more, less);
-}
-
-fewer-wait : (free k : ℕ) (line : List Waiting) → (free ≡ 0) ⊎ (line ≡ [])
-    → (free ≡ 0) ⊎ (without (λ w. w.wait) k line ≡ [])
-fewer-wait free k line (inl none) = inl none
-fewer-wait free k line (inr empty) = inr (rw empty refl)
-
--- a permit turns back only where one is on its way
-stays-away : (o : Semaphore) → o.way ≡ 0 → turned_back o ≡ o
-stays-away o none = go (nat_lt (due o) o.way) refl
-  where
-    go : (b : Bool) → nat_lt (due o) o.way ≡ b → turned_back o ≡ o
-    go false same = rw same refl
-    go true same = let below : due o < o.way = ltb-true (due o) o.way same in absurd (omega (arith, below, none))
-
-pub funds-left : (size : ℕ) (o : Semaphore) (h c c' k : ℕ) → c' ≤ c → AreFunds size o h c
-    → AreFunds size (left o k) h c'
-funds-left size o h c c' k fewer funds =
-    rw (stays-away (record o { line = without (λ w. w.wait) k o.line }) funds.way) (record {
+  -- what came for a wait is the job's, or a wait is gone
+  module _ (more : (x : ℕ) → holds' x + claims' x ≤ holds x + claims x) where
+    permits-less : (o : Semaphore) (x : ℕ) → ArePermitFunds size o (holds x) (claims x)
+        → ArePermitFunds size o (holds' x) (claims' x)
+    permits-less o x funds = record {
       way = funds.way;
       door = funds.door;
-      eager = fewer-wait o.free k o.line funds.eager;
+      eager = funds.eager;
       total = funds.total;
-      backed = omega (arith, funds.backed, fewer);
-    })
+      backed = omega (arith, funds.backed, more x);
+    }
 
-pub funds-same : (size : ℕ) (o : Semaphore) (h c h' c' : ℕ) → h' ≡ h → c' ≤ c → AreFunds size o h c
-    → AreFunds size o h' c'
-funds-same size o h c h' c' same fewer funds = record {
-  way = funds.way;
-  door = funds.door;
-  eager = funds.eager;
-  total = funds.total;
-  backed = omega (arith, funds.backed, same, fewer);
-}
+    pub same-funds : (h : History) → AreFunds size h holds claims → AreFunds size h holds' claims'
+    same-funds (of_permits entries) funds = λ x. permits-less (permits_after size entries) x (funds x)
+    same-funds (of_elements entries) funds =
+        element-same size (elements_after size entries) holds claims holds' claims' funds more
+
+    pub gets-funds : (h : History) (k e : ℕ) → AreFunds size h holds claims
+        → AreFunds size (with_deed size h (gets k e)) holds' claims'
+    gets-funds (of_permits entries) k e funds =
+        λ x.
+        let o : Semaphore = permits_after size entries in
+        let Fund : Semaphore → Type 0 = λ p. ArePermitFunds size p (holds' x) (claims' x) in
+        let less = permits-less o x (funds x) in
+        subst Fund (sym (permits-then size entries (gets k e)))
+        (record {
+          way = less.way;
+          door = less.door;
+          eager = less.eager;
+          total = less.total;
+          backed = less.backed;
+        })
+    gets-funds (of_elements entries) k e funds =
+        let Fund : Pool → Type 0 = λ p. AreElementFunds size p holds' claims' in
+        subst Fund (sym (elements-then size entries (gets k e)))
+        (element-got size (elements_after size entries) holds claims holds' claims' funds more k e)
+
+    pub late-funds : (h : History) (k e : ℕ) → AreFunds size h holds claims
+        → AreFunds size (with_deed size h (is_late k e)) holds' claims'
+    late-funds (of_permits entries) k e funds =
+        λ x.
+        let o : Semaphore = permits_after size entries in
+        let Fund : Semaphore → Type 0 = λ p. ArePermitFunds size p (holds' x) (claims' x) in
+        let less = permits-less o x (funds x) in
+        subst Fund (sym (permits-then size entries (is_late k e)))
+        (record {
+          way = less.way;
+          door = less.door;
+          eager = less.eager;
+          total = less.total;
+          backed = less.backed;
+        })
+    late-funds (of_elements entries) k e funds =
+        let Fund : Pool → Type 0 = λ p. AreElementFunds size p holds' claims' in
+        subst Fund (sym (elements-then size entries (is_late k e)))
+        (element-late size (elements_after size entries) holds claims holds' claims' funds more k e)
+
+    pub leaves-funds : (h : History) (k : ℕ) → AreFunds size h holds claims
+        → AreFunds size (with_deed size h (leaves k)) holds' claims'
+    leaves-funds (of_permits entries) k funds =
+        λ x.
+        let o : Semaphore = permits_after size entries in
+        let Fund : Semaphore → Type 0 = λ p. ArePermitFunds size p (holds' x) (claims' x) in
+        subst Fund (sym (permits-then size entries (leaves k)))
+        (funds-left size o (holds' x) (claims' x) (claims' x) k (omega arith) (permits-less o x (funds x)))
+    leaves-funds (of_elements entries) k funds =
+        let Fund : Pool → Type 0 = λ p. AreElementFunds size p holds' claims' in
+        subst Fund (sym (elements-then size entries (leaves k)))
+        (element-left size (elements_after size entries) holds claims holds' claims' funds more k)

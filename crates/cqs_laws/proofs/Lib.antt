@@ -4,11 +4,15 @@ mod Counted
 mod Emptied
 mod Kept
 mod Lifting
+mod Lines
 mod Objects
+mod Deeds
 mod LineLemmas
 mod Lined
 mod Telling
 mod Claims
+mod PermitFunds
+mod ElementFunds
 mod Funds
 mod Funding
 mod Balancing

@@ -66,7 +66,7 @@ pub record IsKeptByEvents (plan : Plan) (P : Scene → Type 0) : Type 0 where
   pub gives : (r : Role) (at : ℕ) (s : Scene) → IsActor plan r → CanGive s.floor r.place at → P s → P (on_give r at s)
   pub serves : (r : Role) (at number element : ℕ) (s : Scene) → IsActor plan r → HasWait s.floor r.place at number
       → look_answer s.floor r.place ≡ Granted element → P s
-      → P (event r s (after_look s.floor r.place (Granted element)) (told.Served at number))
+      → P (event r s (after_look s.floor r.place (Granted element)) (told.Served at number element))
   pub leaves : (r : Role) (at number : ℕ) (s : Scene) → IsActor plan r → HasWait s.floor r.place at number → P s
       → P (on_leave r at number (leave_answer s.floor r.place) s)
   pub ends : (r : Role) (s : Scene) → IsActor plan r → P s → P (event r s s.floor told.Done)

@@ -25,14 +25,16 @@ pub fn no_wait_outlives_its_deadline()
 {}
 
 /// The events of a run are lines, one after the other, whose texts are the report so far. The waits
-/// of each resource are numbered 0, 1, 2 and so on, in order of the lines where they begin; and a
-/// wait is served, or is late, only after a line that sent it a permit.
+/// of each resource are numbered 0, 1, 2 and so on, in order of the lines where they begin, and in
+/// a pool the takes that don't wait are counted with them; and a wait is served, or is late, only
+/// after a line that sent it a permit or an element, which is the one that it has.
 pub fn every_report_has_its_lines()
     ensures { EveryReportHasItsLines }
 {}
 
-/// Of each resource, free and held permits are together those that the plan gives it, and nobody
-/// waits in line while one is free. So it is between any two turns, and in the `end` lines.
+/// Of each resource, free and held permits or elements are together those that the plan gives it,
+/// and nobody waits in line while one is free. So it is between any two turns, and in the `end`
+/// lines.
 pub fn every_resource_balances()
     ensures { EveryResourceBalances }
 {}

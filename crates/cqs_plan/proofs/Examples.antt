@@ -62,6 +62,14 @@ mutex_of_a_name_that_stands : HasFirst (db ++ codes "[mutex.db]\n") (codes "mute
 unfolding toml_on_literals
 mutex_of_a_name_that_stands = refl
 
+a_pool : first_fault (db ++ codes "[pool.buf]\nsize = 4096\n") ≡ None
+unfolding toml_on_literals
+a_pool = refl
+
+pool_of_4097 : HasFirst (db ++ codes "[pool.buf]\nsize = 4097\n") (codes "pool.buf.size") fault.Range
+unfolding toml_on_literals
+pool_of_4097 = refl
+
 a_queue : HasFirst (db ++ codes "[queue.q]\n") (codes "plan") fault.Key
 unfolding toml_on_literals
 a_queue = refl

@@ -13,3 +13,4 @@ mod ReadSections
 mod ValidPlans
 pub mod OneAnswer
 pub mod RunnablePlans
+pub mod PoolSeats

@@ -17,9 +17,9 @@ use Rattle.cqs_plan.specs.declared.plans.error.PlanError.{PlanError}
 use Rattle.cqs_plan.specs.declared.plans.resource.Resource.{Resource}
 use Rattle.cqs_plan.specs.declared.plans.fault_kind.FaultKind.TheVariants as fault
 use Rattle.cqs_plan.specs.declared.reader.sections.Section.{Section}
-use Rattle.cqs_plan.specs.declared.reader.sections.Section.TheVariants.{Semaphore, Mutex}
+use Rattle.cqs_plan.specs.declared.reader.sections.Section.TheVariants.{Semaphore, Mutex, Pool}
 use Rattle.cqs_plan.specs.Floor.{IsHoldable}
-use Rattle.cqs_plan.specs.Language.{is_name, ResourceKind, resource_kinds, mutexes}
+use Rattle.cqs_plan.specs.Language.{is_name, ResourceKind, resource_kinds, mutexes, pools}
 use Rattle.cqs_plan.specs.FaultRules.{Fault, each, optional, required, shaped, unless}
 use Rattle.cqs_plan.specs.Faults.{kind_faults, kinds_faults, names_in, number_faults, resource_faults, resource_number_faults, resources_faults}
 use Rattle.cqs_plan.specs.Places.{dotted}
@@ -90,12 +90,14 @@ names-said (kind ∷ kinds) root =
 
 -- the kinds after a section's own
 abbrev kinds_after : Section → List ResourceKind
-kinds_after Semaphore = mutexes ∷ []
-kinds_after Mutex = []
+kinds_after Semaphore = mutexes ∷ pools ∷ []
+kinds_after Mutex = pools ∷ []
+kinds_after Pool = []
 
 all-kinds : (section : Section) → resource_kinds ≡ kinds_before section ++ kind_of section ∷ kinds_after section
 all-kinds Semaphore = refl
 all-kinds Mutex = refl
+all-kinds Pool = refl
 
 -- the first fault of a section is the first of all, where the sections before have none
 pub stops : (section : Section) (root : Members) (found : List Resource) (e : PlanError)
@@ -117,11 +119,13 @@ ranked : (section : Section) (m : List ℕ × Data)
     → rank (resource_in (kind_of section) m).kind ≡ length (kinds_before section)
 ranked Semaphore m = refl
 ranked Mutex m = refl
+ranked Pool m = refl
 
 -- a section's kind is built
 built : (section : Section) (m : List ℕ × Data) → IsHoldable (Some (resource_in (kind_of section) m).kind)
 built Semaphore m = tt
 built Mutex m = tt
+built Pool m = tt
 
 -- the numbers of a resource without a fault are in their ranges
 sized : (section : Section) (name : List ℕ) (value : Data) (table : Members) → as_table value ≡ Some table
@@ -133,6 +137,11 @@ sized Semaphore name value table is none =
     let number = no_faults (required place size (number_faults place 1 1048576)) [] none in
     rw (get-table (codes "size") value table is) (required_number-valid place 1 1048576 size number.0)
 sized Mutex name value table is none = tt
+sized Pool name value table is none =
+    let place = dotted (dotted (codes "pool") name) (codes "size") in
+    let size = get_member (codes "size") table in
+    let number = no_faults (required place size (number_faults place 1 4096)) [] none in
+    rw (get-table (codes "size") value table is) (required_number-valid place 1 4096 size number.0)
 
 -- what the i-th resource of a section is, if it has no fault
 record IsSound (section : Section) (earlier : List (List ℕ)) (i : ℕ) (m : List ℕ × Data) : Type 0 where

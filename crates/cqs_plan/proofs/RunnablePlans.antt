@@ -71,14 +71,14 @@ module _ (plan : Plan) (valid : IsValid plan) (built : AreHoldable plan) where
   no-latch : (kind : Kind) → IsHoldable (Some kind) → IsTrue (is_latch kind) → ⊥
   no-latch (Semaphore permits) holdable latch = absurd (cc)
   no-latch Mutex holdable latch = absurd (cc)
-  no-latch (Pool elements) holdable latch = holdable
+  no-latch (Pool elements) holdable latch = absurd (cc)
   no-latch (Latch count) holdable latch = holdable
   no-latch (Rounds parties rounds) holdable latch = holdable
 
   no-barrier : (kind : Kind) → IsHoldable (Some kind) → IsTrue (is_barrier kind) → ⊥
   no-barrier (Semaphore permits) holdable barrier = absurd (cc)
   no-barrier Mutex holdable barrier = absurd (cc)
-  no-barrier (Pool elements) holdable barrier = holdable
+  no-barrier (Pool elements) holdable barrier = absurd (cc)
   no-barrier (Latch count) holdable barrier = holdable
   no-barrier (Rounds parties rounds) holdable barrier = holdable
 

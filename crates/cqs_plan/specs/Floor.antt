@@ -1,10 +1,8 @@
 -- The plain floor: what contracts see of a floor. One caller makes all its calls, as pass 0.
 use Rattle.std.specs.Prelude.{◌≡◌, ℕ, ◌-◌, ◌<◌, List, [], ◌∷◌, ◌++◌, Option, Some, None, IsSome, length, map, replicate, sum_by, count_by, find, ◌==◌, slice_get, slice_index, slice_index_or, slice_set}
 use Rattle.std.specs.List.{range_with_len}
-use Rattle.cqs_core.specs.declared.entries.Entry.{Entry}
 use Rattle.cqs_core.specs.Keyed.{without}
-use Rattle.cqs_core.specs.SemaphoreObject.{Semaphore}
-use Rattle.cqs_core.specs.SemaphoreEntries.{object_after}
+use Rattle.cqs_plan.specs.FloorHistory.{History, of_permits, Deed, Standing, no_history, with_deed, standing, first_free, came_for}
 use Rattle.cqs_plan.specs.declared.plans.kind.Kind.{Kind}
 use Rattle.cqs_plan.specs.declared.plans.kind.Kind.TheVariants as kind
 use Rattle.cqs_plan.specs.declared.plans.plan.Plan.{Plan}
@@ -24,8 +22,8 @@ pub record Holding : Type 0 where
 pub record PlainFloor : Type 0 where
   -- what each resource is
   pub kinds : List Kind
-  -- for each resource the entries so far, without looks that found nothing new
-  pub entries : List (List Entry)
+  -- for each resource what happened so far
+  pub histories : List History
   -- for each resource how many takes it has room for
   pub room : List ℕ
   -- for each job its wait
@@ -33,9 +31,9 @@ pub record PlainFloor : Type 0 where
   -- for each job what it holds, oldest first
   pub holds : List (List Holding)
 
--- the entries of a resource
-abbrev pub entries_at : PlainFloor → ℕ → List Entry
-entries_at f at = slice_index_or f.entries at []
+-- what happened at a resource
+abbrev pub history_at : PlainFloor → ℕ → History
+history_at f at = slice_index_or f.histories at (of_permits [])
 
 -- how many takes a resource has room for
 abbrev pub room_at : PlainFloor → ℕ → ℕ
@@ -49,26 +47,36 @@ wait_of f job = slice_index_or f.waits job None
 abbrev pub holds_of : PlainFloor → ℕ → List Holding
 holds_of f job = slice_index_or f.holds job []
 
--- how many permits a resource has: a mutex is a semaphore of one permit; the last three kinds
--- aren't built
-abbrev pub permits_of : Option Kind → ℕ
-permits_of (Some (kind.Semaphore permits)) = permits
-permits_of (Some kind.Mutex) = 1
-permits_of (Some (kind.Pool elements)) = 0
-permits_of (Some (kind.Latch count)) = 0
-permits_of (Some (kind.Rounds parties rounds)) = 0
-permits_of None = 0
+-- how many permits or elements a resource has: a mutex is a semaphore of one permit; the last two
+-- kinds aren't built
+abbrev pub size_of : Option Kind → ℕ
+size_of (Some (kind.Semaphore permits)) = permits
+size_of (Some kind.Mutex) = 1
+size_of (Some (kind.Pool elements)) = elements
+size_of (Some (kind.Latch count)) = 0
+size_of (Some (kind.Rounds parties rounds)) = 0
+size_of None = 0
 
--- the plain semaphore at a place
-abbrev pub object_at : PlainFloor → ℕ → Semaphore
-object_at f at = object_after (permits_of (slice_get f.kinds at)) (entries_at f at)
+abbrev pub size_at : PlainFloor → ℕ → ℕ
+size_at f at = size_of (slice_get f.kinds at)
 
--- There is a resource, of a kind that can be taken and given on a floor. The last three aren't
+-- how the resource at a place stands
+abbrev pub standing_at : PlainFloor → ℕ → Standing
+standing_at f at = standing (size_at f at) (history_at f at)
+
+-- which element is the first that is free there, and which came for a wait
+abbrev pub first_free_at : PlainFloor → ℕ → ℕ
+first_free_at f at = first_free (size_at f at) (history_at f at)
+
+abbrev pub came_to : PlainFloor → JobWait → ℕ
+came_to f wait = came_for (size_at f wait.at) (history_at f wait.at) wait.number
+
+-- There is a resource, of a kind that can be taken and given on a floor. The last two aren't
 -- built; the language knows which of them it will be (`can_hold`).
 abbrev pub IsHoldable : Option Kind → Type 0
 IsHoldable (Some (kind.Semaphore permits)) = Unit {0}
 IsHoldable (Some kind.Mutex) = Unit {0}
-IsHoldable (Some (kind.Pool elements)) = ⊥
+IsHoldable (Some (kind.Pool elements)) = Unit {0}
 IsHoldable (Some (kind.Latch count)) = ⊥
 IsHoldable (Some (kind.Rounds parties rounds)) = ⊥
 IsHoldable None = ⊥
@@ -94,10 +102,12 @@ oldest at holds = find (λ h. h.at == at) holds
 abbrev pub IsHolding : PlainFloor → ℕ → ℕ → Type 0
 IsHolding f at job = IsSome (oldest at (holds_of f job))
 
--- these entries come after those so far
-abbrev pub with_entries : PlainFloor → ℕ → List Entry → PlainFloor
-with_entries f at entries =
-    record f { entries = slice_set f.entries at (entries_at f at ++ entries) }
+-- this happens at a resource
+abbrev pub with_done : PlainFloor → ℕ → Deed → PlainFloor
+with_done f at deed =
+    record f {
+      histories = slice_set f.histories at (with_deed (size_at f at) (history_at f at) deed);
+    }
 
 -- one take less has room
 abbrev pub with_less_room : PlainFloor → ℕ → PlainFloor
@@ -129,7 +139,7 @@ takes_in plan at = sum_by (λ job. count_by (is_take at) job.steps) plan.jobs
 abbrev pub opening_floor : Plan → PlainFloor
 opening_floor plan = record {
   kinds = map (λ resource. resource.kind) plan.resources;
-  entries = replicate (length plan.resources) [];
+  histories = map (λ resource. no_history resource.kind) plan.resources;
   room = map (takes_in plan) (range_with_len 0 (length plan.resources));
   waits = replicate (length plan.jobs) None;
   holds = replicate (length plan.jobs) [];

@@ -38,9 +38,16 @@ semaphores = record {
 abbrev pub mutexes : ResourceKind
 mutexes = record { key = codes "mutex"; numbers = []; kind = λ numbers. Mutex }
 
+abbrev pub pools : ResourceKind
+pools = record {
+  key = codes "pool";
+  numbers = record { key = codes "size"; least = 1; most = 4096 } ∷ [];
+  kind = λ numbers. Pool (slice_index numbers 0);
+}
+
 -- the kinds, in the order in which their resources stand
 abbrev pub resource_kinds : List ResourceKind
-resource_kinds = semaphores ∷ mutexes ∷ []
+resource_kinds = semaphores ∷ mutexes ∷ pools ∷ []
 
 -- a verb whose argument is a resource: its word, the kinds that it works
 -- on, and its step at a place

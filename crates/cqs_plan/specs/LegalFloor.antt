@@ -1,29 +1,33 @@
--- A floor is legal where the entries of each resource are a legal history of what the resource
+-- A floor is legal where what happened at each resource is a legal history of what the resource
 -- is. A kind of resource that joins brings its object, and its word for a legal history of
 -- that object, to `IsHistory`.
 use Rattle.std.specs.Prelude.{◌≡◌, ℕ, List, Some, slice_get}
-use Rattle.cqs_core.specs.declared.entries.Entry.{Entry}
 use Rattle.cqs_core.specs.SemaphoreEntries.{IsLegal}
+use Rattle.cqs_pool_object.specs.PoolEntries.{IsLegal as IsLegalPool}
 use Rattle.cqs_plan.specs.declared.plans.kind.Kind.{Kind}
 use Rattle.cqs_plan.specs.declared.plans.kind.Kind.TheVariants as kind
 use Rattle.cqs_plan.specs.declared.plans.plan.Plan.{Plan}
-use Rattle.cqs_plan.specs.Floor.{PlainFloor, entries_at}
+use Rattle.cqs_plan.specs.FloorHistory.{History, of_permits, of_elements}
+use Rattle.cqs_plan.specs.Floor.{PlainFloor, history_at}
 use Rattle.cqs_plan.specs.Runnable.{kinds_of}
 
--- these entries are a legal history of a resource of this kind, from its size on; the
--- last three kinds aren't built
-abbrev pub IsHistory : Kind → List Entry → Type 0
-IsHistory (kind.Semaphore permits) entries = IsLegal permits entries
-IsHistory kind.Mutex entries = IsLegal 1 entries
-IsHistory (kind.Pool elements) entries = ⊥
-IsHistory (kind.Latch count) entries = ⊥
-IsHistory (kind.Rounds parties rounds) entries = ⊥
+-- this is a legal history of a resource of this kind, from its size on; the last two kinds
+-- aren't built
+abbrev pub IsHistory : Kind → History → Type 0
+IsHistory (kind.Semaphore permits) (of_permits entries) = IsLegal permits entries
+IsHistory (kind.Semaphore permits) (of_elements entries) = ⊥
+IsHistory kind.Mutex (of_permits entries) = IsLegal 1 entries
+IsHistory kind.Mutex (of_elements entries) = ⊥
+IsHistory (kind.Pool elements) (of_permits entries) = ⊥
+IsHistory (kind.Pool elements) (of_elements entries) = IsLegalPool elements entries
+IsHistory (kind.Latch count) history = ⊥
+IsHistory (kind.Rounds parties rounds) history = ⊥
 
--- the entries of each resource are a legal history of it
+-- what happened at each resource is a legal history of it
 pub record IsLegalFloor (f : PlainFloor) : Type 0 where
-  pub at : (at : ℕ) (k : Kind) → slice_get f.kinds at ≡ Some k → IsHistory k (entries_at f at)
+  pub at : (at : ℕ) (k : Kind) → slice_get f.kinds at ≡ Some k → IsHistory k (history_at f at)
 
--- the floor has the resources of the plan, and the entries of each are a legal history of it
+-- the floor has the resources of the plan, and what happened at each is a legal history of it
 pub record IsLegalFor (plan : Plan) (f : PlainFloor) : Type 0 where
   pub kinds : f.kinds ≡ kinds_of plan.resources
   pub legal : IsLegalFloor f

@@ -5,6 +5,7 @@ pub mod Script
 pub mod Stream
 pub mod Tally
 pub mod Stops
+pub mod FloorHistory
 pub mod Floor
 pub mod FloorCalls
 pub mod LegalFloor

@@ -3,10 +3,10 @@ use Rattle.std.specs.Prelude.{◌≡◌, ℕ, ◌<◌, ◌≤◌, List, [], ◌�
 use Rattle.toml.specs.Data.{Members}
 use Rattle.cqs_plan.specs.declared.plans.resource.Resource.{Resource}
 use Rattle.cqs_plan.specs.declared.reader.sections.Section.{Section}
-use Rattle.cqs_plan.specs.declared.reader.sections.Section.TheVariants.{Semaphore, Mutex}
+use Rattle.cqs_plan.specs.declared.reader.sections.Section.TheVariants.{Semaphore, Mutex, Pool}
 use Rattle.cqs_plan.specs.Faults.{kinds_faults}
 use Rattle.cqs_plan.specs.Floor.{IsHoldable}
-use Rattle.cqs_plan.specs.Language.{ResourceKind, semaphores, mutexes}
+use Rattle.cqs_plan.specs.Language.{ResourceKind, semaphores, mutexes, pools}
 use Rattle.cqs_plan.specs.Meaning.{resources_in}
 use Rattle.cqs_plan.specs.Order.{AreInOrder, rank}
 use Rattle.cqs_plan.specs.Validity.{IsResource}
@@ -15,11 +15,13 @@ use Rattle.cqs_plan.specs.Validity.{IsResource}
 abbrev pub kind_of : Section → ResourceKind
 kind_of Semaphore = semaphores
 kind_of Mutex = mutexes
+kind_of Pool = pools
 
 -- the kinds whose sections come before it
 abbrev pub kinds_before : Section → List ResourceKind
 kinds_before Semaphore = []
 kinds_before Mutex = semaphores ∷ []
+kinds_before Pool = semaphores ∷ mutexes ∷ []
 
 -- and with its own
 abbrev pub kinds_up_to : Section → List ResourceKind

@@ -42,7 +42,10 @@ fn plan_from(alloc: Global, root: &Table) -> Result<Plan, PlanError>
     ensures value { IfOk result (λ plan. plan ≡ plan_in (table_view root.now)) }
     ensures found { IfOk result (λ plan. AreFound plan.resources) }
 {
-    if !has_only(&["version", "turns", "semaphore", "mutex", "job"], root) {
+    if !has_only(
+        &["version", "turns", "semaphore", "mutex", "pool", "job"],
+        root,
+    ) {
         return Err(Place::Word("plan").fault(alloc, FaultKind::Key));
     }
     let version = required_number(alloc, Place::Word("version"), member(root, "version"), 1, 1)?;

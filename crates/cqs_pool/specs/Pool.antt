@@ -79,5 +79,5 @@ pool_primitive size = record {
   words = [];
   values = size;
   held = 0;
-  opens = λ has slot. ⊥;
+  opens = λ has slot. In slot has.slots;
 }

@@ -1,13 +1,15 @@
 -- The pool is a client: each step of the queue that suits it keeps the pool that its table shows,
 -- by the law of the pool. This file is a proof: nothing of it has to be read to know what is
 -- promised, and nothing in it is taken on trust.
-use Rattle.std.proofs.Common.{◌≡◌, ◌≢◌, ◌⊎◌, inl, inr, ⊎_elim, ℕ, zero, suc, ◌+◌, ◌-◌, ◌<◌, ◌≤◌, ◌==◌, true, false, List, [], ◌∷◌, ◌++◌, replicate, refl, ap, sym, ◌∙◌, subst, arith, Option, Some, None, slice_get, lt-ltb, ne_eqb, eq-eqb, length, get_or, set, if◌then◌else◌}
+use Rattle.std.proofs.Common.{◌≡◌, ◌≢◌, ◌⊎◌, inl, inr, ⊎_elim, ℕ, zero, suc, ◌+◌, ◌-◌, ◌<◌, ◌≤◌, ◌==◌, true, false, List, [], ◌∷◌, ◌++◌, replicate, refl, ap, sym, ◌∙◌, subst, arith, Option, Some, None, slice_get, lt-ltb, ne_eqb, eq-eqb, length, length-set, get_or, set, if◌then◌else◌}
 use Rattle.std.specs.List.{sum_by}
 use Rattle.std.proofs.lemmas.Bool.{cases_Bool, cases_eq, cases_lt}
 use Rattle.std.proofs.lemmas.Option.{slice_get-map, get_or_from_slice_get}
 use Rattle.std.proofs.lemmas.List.{map-set, length_push}
-use Rattle.std.proofs.lemmas.List.Sums.{get_or-le-sum_by}
+use Rattle.std.proofs.lemmas.List.Sums.{get_or-le-sum_by, sum_by-set}
 use Rattle.std.specs.Prelude.{slice_set}
+use mathlib.Core.Logic.{dite}
+use native.Mathlib.Decide.{ℕ_discrete}
 use Rattle.std.specs.Option.{option_map}
 use Rattle.cqs_core.specs.declared.cells.CoreCell.{CoreCell}
 use Rattle.cqs_core.specs.declared.cells.CoreState.{CoreState}
@@ -43,6 +45,7 @@ use Rattle.cqs_rule.specs.Lists.{NamesOnly}
 use Rattle.cqs_rule.specs.Manner.{Suits}
 use Rattle.cqs_rule.specs.Opened.{first_hidden, first_payload}
 use Rattle.cqs_rule.specs.Views.{first_has}
+use Rattle.cqs_rule.proofs.Lists.{has_left, has_right, without_has}
 use Rattle.cqs_pool.specs.Pool.{loads_of, holds_of, pool_shown, ShowsPool, in_hand, HasEach, pool_manner, pool_object, pool_primitive}
 
 silent-step : (s : QueueStep) (p k payload : ℕ)
@@ -581,6 +584,65 @@ shares-pool size c from to many mine theirs log shows apart has there enough =
       unrefused = shows.unrefused;
     }
 
+-- each element is in one hand at most
+all-held : (s : PoolShape) (e : ℕ) → IsPool s → sum_by (times e) s.holds ≤ 1
+all-held s e is =
+    let kept = conserved-after s.size s.history is.legal in
+    go (times e (object_after s.size s.history).held) (kept.each e) (kept.others e)
+    (is.shows.held e)
+  where
+    go : (n : ℕ)
+        → (e < s.size → times e (object_after s.size s.history).way + n ≡ 1)
+        → (s.size ≤ e → times e (object_after s.size s.history).way + n ≡ 0)
+        → n ≡ held_times e s.queue s.payloads s.holds
+        → sum_by (times e) s.holds ≤ 1
+    go n each others held = grind arith
+
+-- and so its slot is one pass's
+one-hand : (size : ℕ) (c : Hidden) (log : List PoolEntry) (p q e : ℕ) (mine theirs : Has)
+    → ShowsPool size c log
+    → slice_get c.has p ≡ Some mine → slice_get c.has q ≡ Some theirs
+    → lists.Has e mine.slots → lists.Has e theirs.slots → p ≡ q
+one-hand size c log p q e mine theirs shows here there some some' = dite (ℕ_discrete p q)
+    (λ (same : p ≡ q). same)
+    (λ (apart : p ≢ q).
+    let holds = holds_of c.has in
+    let none = set holds p [] in
+    let at = hold-at c.has p mine here in
+    let at' = hold-at c.has q theirs there in
+    let low : p < length holds = get-below holds p mine.slots at in
+    let low' : q < length holds = get-below holds q theirs.slots at' in
+    let long = length-set holds p [] in
+    let is : times e (get_or holds p []) ≡ times e mine.slots =
+    ap (times e) (get_or_from_slice_get holds p mine.slots [] at) in
+    let other : times e (get_or none q []) ≡ times e theirs.slots =
+    ap (times e)
+    (get_or_from_slice_get none q theirs.slots [] (get-set_else holds p q [] apart ∙ at')) in
+    let less = sum_by-set (times e) holds p [] [] low in
+    let one = get_or-le-sum_by (times e) none q [] (omega arith) in
+    let once = all-held (pool_shown size c log) e shows.is_pool in
+    let first = has-times e mine.slots some in
+    let second = has-times e theirs.slots some' in
+    absurd (omega arith))
+
+-- a pass keeps the slot of each element that it has in hand, but for one that it puts
+hand-kept : (row : StepRow) (has : Has) (payload k : ℕ) → client.KeepsSlot row payload k
+    → lists.Has k has.slots → lists.Has k (has_after in_hand row payload has).slots
+hand-kept (at_counter row) has payload k = paid row.cost
+  where
+    paid : (cost : Cost) → client.KeepsSlotAt cost payload k → lists.Has k has.slots
+        → lists.Has k (has_paid cost payload has).slots
+    paid no_cost kept mine = mine
+    paid one_owed kept mine = mine
+    paid one_element kept mine = without_has k payload has.slots kept mine
+hand-kept (at_cell row) has payload k = λ kept. gained row.gain
+  where
+    gained : (gain : Gain) → lists.Has k has.slots
+        → lists.Has k (has_gained in_hand gain payload has).slots
+    gained nothing mine = mine
+    gained its_own mine = inr mine
+    gained a_debt mine = mine
+
 -- a resumption that an idle pass begins is a put
 begun-put : (cost : Cost) (has : Has) (payload : ℕ) → IsBegun cost
     → Suits pool_manner (begun_by cost)
@@ -619,12 +681,14 @@ pool-client size = record {
             (has-in payload has.slots (begun-put cost has payload begun suits paid)),
       ));
   slots = record {
-    apart = λ c words log handed p q k mine theirs shows has there o o'. absurd o;
-    steps = λ s has payload k suits kept o. absurd o;
+    apart = λ c words log handed p q k mine theirs shows has there o o'.
+        one-hand size c log p q k mine theirs shows has there o o';
+    steps = λ s has payload k suits kept o. hand-kept (row_of s) has payload k kept o;
     few = λ c words log handed p has shows there.
         let none = shows.uncounted.at p has there in omega arith;
     known = λ c words log handed p has shows there. elements-held size c log p has shows there;
-    gathers = λ mine theirs k o. ⊎_elim (λ a. absurd a) (λ a. absurd a) o;
+    gathers = λ mine theirs k o. ⊎_elim (λ a. has_left k mine.slots theirs.slots a)
+        (λ b. has_right k mine.slots theirs.slots b) o;
     hands_in = λ c words log handed k value shows. shows;
   };
 }

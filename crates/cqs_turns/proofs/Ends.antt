@@ -1,5 +1,6 @@
 -- What comes after the last turn: the lines of the resources and the totals.
-use Rattle.std.proofs.Common.{◌≡◌, ℕ, zero, suc, List, [], ◌∷◌, ◌++◌, ◌∙◌, map, drop, replicate, length, refl, sym, ap, append_assoc, arith}
+use Rattle.std.proofs.Common.{◌≡◌, ℕ, zero, suc, List, [], ◌∷◌, ◌++◌, ◌∙◌, map, drop, replicate, length, refl, sym, ap, append_assoc, take, arith}
+use Rattle.std.proofs.Math.Seq.{take-append_seam}
 use Rattle.cqs_core.specs.Numbered.{EachAt}
 use Rattle.cqs_core.proofs.EachAtLemmas.{EachAt-push}
 use Rattle.cqs_plan.specs.declared.plans.resource.Resource.{Resource}
@@ -8,7 +9,7 @@ use Rattle.cqs_plan.specs.Floor.{PlainFloor, opening_floor}
 use Rattle.cqs_turns.specs.declared.states.JobState.{JobState}
 use Rattle.cqs_turns.specs.declared.states.Progress.TheVariants.{Stepping}
 use Rattle.cqs_turns.specs.Lines.{ends_text, total_text}
-use Rattle.cqs_turns.specs.Report.{report_after}
+use Rattle.cqs_turns.specs.Report.{report_after, summary_after}
 use Rattle.cqs_core.specs.Parts.{IsPrefix}
 use Rattle.cqs_turns.specs.Running.{IsOpening, AreOpening, machine_of}
 use Rattle.cqs_turns.specs.Turns.{Machine, opening_machine}
@@ -61,3 +62,19 @@ opens plan f text states floor empty jobs opening =
     let progress : map (λ s. s.progress) states ≡ replicate (length plan.jobs) (Stepping 0)
     = opening-progress states (length plan.jobs) jobs opening in
     rw (floor, empty, progress) refl
+
+-- the report tells what happened in the turns, and then the summary
+pub report_is : (plan : Plan) (m : Machine) → report_after plan m ≡ m.scene.text ++ summary_after plan m
+report_is plan m = append_assoc m.scene.text (ends_text plan.resources 0 m.scene.floor) (total_text m.progress)
+
+-- the first of two lists, by its length
+pub the_first : {A : Type 0} (n : ℕ) (xs ys : List A) → n ≡ length xs → take n (xs ++ ys) ≡ xs
+the_first n xs ys long = ap (λ k. take k (xs ++ ys)) long ∙ take-append_seam xs ys
+
+-- what is told after the lines of the turns are forgotten is the summary
+pub summed : (plan : Plan) (f : PlainFloor) (text : List ℕ) (states at_end : List JobState) (m : Machine)
+    (none ends all : List ℕ) → at_end ≡ states → machine_of f text states ≡ m → none ≡ []
+    → ends ≡ none ++ ends_text plan.resources 0 f → all ≡ ends ++ total_text (map (λ s. s.progress) at_end)
+    → all ≡ summary_after plan m
+summed plan f text states at_end m none ends all same turns empty told total =
+    rw (sym turns, total, told, empty, same) refl

@@ -1,7 +1,7 @@
 -- Worked plans: their reports, computed from the definitions alone.
 use Rattle.std.proofs.Common.{◌≡◌, ℕ, List, [], ◌∷◌, ◌++◌, Some, None, Option, refl, codes}
 use Rattle.std.specs.Fmt.{digits}
-use Rattle.cqs_plan.specs.declared.plans.kind.Kind.TheVariants.{Semaphore, Mutex}
+use Rattle.cqs_plan.specs.declared.plans.kind.Kind.TheVariants.{Semaphore, Mutex, Pool}
 use Rattle.cqs_plan.specs.declared.plans.job.Job.{Job}
 use Rattle.cqs_plan.specs.declared.plans.step.Step.{Step}
 use Rattle.cqs_plan.specs.declared.plans.step.Step.TheVariants.{Take, Give, Work}
@@ -92,3 +92,45 @@ two_jobs_one_mutex : report_of one_mutex
     ++ codes "total done 2 gaveup 0 late 0 unfinished 0\n"
 unfolding digits
 two_jobs_one_mutex = refl
+
+-- three elements, one of which goes back before the last is taken, and two who wait
+abbrev one_pool : Plan
+one_pool = record {
+  version = 1;
+  turns = 5;
+  resources = record { name = codes "p"; kind = Pool 3 } ∷ [];
+  jobs = job (codes "a") (Take 0 ∷ Take 0 ∷ Give 0 ∷ Take 0 ∷ Take 0 ∷ Work 2 ∷ Give 0 ∷ []) None
+      ∷ job (codes "b") (Take 0 ∷ []) (Some 1)
+      ∷ job (codes "c") (Take 0 ∷ []) None
+      ∷ [];
+}
+
+pool_in_order : report_of one_pool
+    ≡ codes "0 a takes p element 0\n0 a takes p element 1\n0 a gives p element 0 free\n"
+    ++ codes "0 a takes p element 2\n0 a takes p element 0\n0 b waits p 4\n0 c waits p 5\n1 b gaveup p 4\n"
+    ++ codes "2 a gives p element 1 sent 5\n2 a gives p element 2 free\n2 a gives p element 0 free\n2 a done\n"
+    ++ codes "2 c served p 5 element 1\n2 c gives p element 1 free\n2 c done\n"
+    ++ codes "end p free 3 held 0 line 0\n"
+    ++ codes "total done 2 gaveup 1 late 0 unfinished 0\n"
+unfolding digits
+pool_in_order = refl
+
+abbrev database_and_buffer : Plan
+database_and_buffer = record {
+  version = 1;
+  turns = 10;
+  resources = record { name = codes "db"; kind = Semaphore 2 } ∷ record { name = codes "buf"; kind = Pool 1 } ∷ [];
+  jobs = job (codes "j0") (Work 4 ∷ Take 0 ∷ Work 3 ∷ []) (Some 4)
+      ∷ job (codes "j1") (Work 1 ∷ Take 0 ∷ Take 1 ∷ Work 4 ∷ []) None
+      ∷ job (codes "j2") (Work 1 ∷ Take 0 ∷ Take 1 ∷ Work 4 ∷ []) (Some 13)
+      ∷ [];
+}
+
+an_element_is_sent : report_of database_and_buffer
+    ≡ codes "1 j1 takes db\n1 j1 takes buf element 0\n1 j2 takes db\n1 j2 waits buf 1\n4 j0 waits db 0\n"
+    ++ codes "5 j0 gaveup db 0\n5 j1 gives db free\n5 j1 gives buf element 0 sent 1\n5 j1 done\n"
+    ++ codes "5 j2 served buf 1 element 0\n9 j2 gives db free\n9 j2 gives buf element 0 free\n9 j2 done\n"
+    ++ codes "end db free 2 held 0 line 0\nend buf free 1 held 0 line 0\n"
+    ++ codes "total done 2 gaveup 1 late 0 unfinished 0\n"
+unfolding digits
+an_element_is_sent = refl

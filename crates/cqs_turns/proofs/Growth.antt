@@ -117,7 +117,7 @@ after_looking-grows : (r : Role) (next at number : ℕ) (answer : FloorLook) (s 
     → IsPrefix s.text (after_looking r next at number answer s).scene.text
 after_looking-grows r next at number Pending s = prefix-same s.text
 after_looking-grows r next at number (Granted element) s =
-    go_on-grows r next s (after_look s.floor r.place (Granted element)) (told.Served at number)
+    go_on-grows r next s (after_look s.floor r.place (Granted element)) (told.Served at number element)
 
 pub after_acting-grows : (r : Role) (p : Progress) (s : Scene) → IsPrefix s.text (after_acting r p s).scene.text
 after_acting-grows r (Stepping next) s = after_steps-grows r (drop next r.job.steps) next s

@@ -3,8 +3,6 @@ use Rattle.std.proofs.Common.{◌≡◌, ◌≢◌, ◌⊎◌, inl, inr, ℕ, �
 use Rattle.std.proofs.lemmas.Bool.{cases_eq, cases_lt}
 use Rattle.std.proofs.lemmas.List.Sums.{sum_by-cons}
 use Rattle.std.proofs.lemmas.List.{get_or-set_same, get_or-set_other, get_or_past, length-set}
-use Rattle.cqs_core.specs.declared.entries.Entry.{Entry}
-use Rattle.cqs_core.specs.declared.entries.Entry.TheVariants as entry
 use Rattle.cqs_core.specs.Keyed.{without}
 use Rattle.cqs_plan.specs.declared.plans.step.Step.{Step}
 use Rattle.cqs_plan.specs.declared.plans.step.Step.TheVariants.{Take}
@@ -16,7 +14,8 @@ use Rattle.cqs_plan.specs.declared.floors.answers.FloorLook.TheVariants.{Granted
 use Rattle.cqs_plan.specs.declared.floors.answers.FloorLeave.{FloorLeave}
 use Rattle.cqs_plan.specs.declared.floors.answers.FloorLeave.TheVariants.{Gone, Late}
 use Rattle.cqs_plan.specs.PlanSteps.{is_take}
-use Rattle.cqs_plan.specs.Floor.{PlainFloor, JobWait, Holding, wait_of, holds_of, room_at, with_entries, with_less_room, with_wait, without_oldest}
+use Rattle.cqs_plan.specs.Floor.{PlainFloor, JobWait, Holding, wait_of, holds_of, room_at, with_done, with_less_room, with_wait, without_oldest}
+use Rattle.cqs_plan.specs.FloorHistory.{Deed, takes, joins, frees, sends, gets, leaves, is_late}
 use Rattle.cqs_plan.specs.FloorCalls.{after_take, after_give, after_look, after_leave, with_granted, with_left}
 use Rattle.cqs_turns.specs.Ready.{HasRoom}
 
@@ -133,9 +132,9 @@ pub room-after : (place : ℕ) (f : PlainFloor) (steps : List Step) (g : PlainFl
 room-after place f steps g left moves room =
     record { for = λ at. omega (arith, moves.room at, room.for at) }
 
-moves-entries : (place : ℕ) (f : PlainFloor) (at : ℕ) (entries : List Entry) (steps : List Step)
-    → Moves place f steps (with_entries f at entries) steps
-moves-entries place f at entries steps = record {
+moves-done : (place : ℕ) (f : PlainFloor) (at : ℕ) (deed : Deed) (steps : List Step)
+    → Moves place f steps (with_done f at deed) steps
+moves-done place f at deed steps = record {
   kinds = refl;
   all_waits = refl;
   all_holds = refl;
@@ -148,58 +147,55 @@ pub on_take-moves : (place : ℕ) (f : PlainFloor) (at : ℕ) (answer : FloorTak
     → HasRoom f (Take at ∷ steps) → Moves place f (Take at ∷ steps) (after_take f at place answer) steps
 on_take-moves place f at (Now element) steps room =
     let less : PlainFloor = with_less_room f at in
-    let told : PlainFloor = with_entries less at (entry.TakeNow 0 ∷ []) in
+    let told : PlainFloor = with_done less at (takes element) in
     moves-on place f (Take at ∷ steps) less steps _ steps (moves-room place f at steps (room-some f at steps room))
-    (moves-on place less steps told steps _ steps (moves-entries place less at (entry.TakeNow 0 ∷ []) steps)
+    (moves-on place less steps told steps _ steps (moves-done place less at (takes element) steps)
     (moves-holds place told (holds_of told place ++ record { at = at; element = element } ∷ []) steps))
 on_take-moves place f at (Waits number) steps room =
     let less : PlainFloor = with_less_room f at in
-    let entries : List Entry = entry.TakeDoor 0 ∷ entry.Enter 0 number ∷ [] in
-    let told : PlainFloor = with_entries less at entries in
+    let told : PlainFloor = with_done less at (joins number) in
     moves-on place f (Take at ∷ steps) less steps _ steps (moves-room place f at steps (room-some f at steps room))
-    (moves-on place less steps told steps _ steps (moves-entries place less at entries steps)
+    (moves-on place less steps told steps _ steps (moves-done place less at (joins number) steps)
     (moves-wait place told (Some (record { at = at; number = number })) steps))
 
-on_give-by : (place : ℕ) (f : PlainFloor) (at : ℕ) (entries : List Entry) (steps : List Step)
-    → Moves place f steps (without_oldest (with_entries f at entries) place at) steps
-on_give-by place f at entries steps =
-    let told : PlainFloor = with_entries f at entries in
-    moves-on place f steps told steps _ steps (moves-entries place f at entries steps)
+on_give-by : (place : ℕ) (f : PlainFloor) (at : ℕ) (deed : Deed) (steps : List Step)
+    → Moves place f steps (without_oldest (with_done f at deed) place at) steps
+on_give-by place f at deed steps =
+    let told : PlainFloor = with_done f at deed in
+    moves-on place f steps told steps _ steps (moves-done place f at deed steps)
     (moves-holds place told (without (λ h. h.at) at (holds_of told place)) steps)
 
 pub on_give-moves : (place : ℕ) (f : PlainFloor) (at : ℕ) (answer : FloorGive) (steps : List Step)
     → Moves place f steps (after_give f at place answer) steps
-on_give-moves place f at (Free element) steps = on_give-by place f at (entry.GiveFreed 0 ∷ []) steps
+on_give-moves place f at (Free element) steps = on_give-by place f at (frees element) steps
 on_give-moves place f at (Sent element number) steps =
-    on_give-by place f at (entry.GiveSent 0 ∷ entry.Deliver number ∷ []) steps
+    on_give-by place f at (sends element number) steps
 
-granted-moves : (place : ℕ) (f : PlainFloor) (entry_of : JobWait → Entry) (wait : Option JobWait) (element : ℕ)
-    (steps : List Step) → Moves place f steps (with_granted f place entry_of wait element) steps
-granted-moves place f entry_of None element steps = moves-none place f steps
-granted-moves place f entry_of (Some wait) element steps =
-    let entries : List Entry = entry_of wait ∷ [] in
-    let told : PlainFloor = with_entries f wait.at entries in
+granted-moves : (place : ℕ) (f : PlainFloor) (deed : ℕ → ℕ → Deed) (wait : Option JobWait) (element : ℕ)
+    (steps : List Step) → Moves place f steps (with_granted f place deed wait element) steps
+granted-moves place f deed None element steps = moves-none place f steps
+granted-moves place f deed (Some wait) element steps =
+    let told : PlainFloor = with_done f wait.at (deed wait.number element) in
     let over : PlainFloor = with_wait told place None in
-    moves-on place f steps told steps _ steps (moves-entries place f wait.at entries steps)
+    moves-on place f steps told steps _ steps (moves-done place f wait.at (deed wait.number element) steps)
     (moves-on place told steps over steps _ steps (moves-wait place told None steps)
     (moves-holds place over (holds_of over place ++ record { at = wait.at; element = element } ∷ []) steps))
 
 pub after_looking-moves : (place : ℕ) (f : PlainFloor) (element : ℕ) (steps : List Step)
     → Moves place f steps (after_look f place (Granted element)) steps
 after_looking-moves place f element steps =
-    granted-moves place f (λ wait. entry.LookGranted 0 wait.number) (wait_of f place) element steps
+    granted-moves place f gets (wait_of f place) element steps
 
 left-moves : (place : ℕ) (f : PlainFloor) (wait : Option JobWait) (steps : List Step)
     → Moves place f steps (with_left f place wait) steps
 left-moves place f None steps = moves-none place f steps
 left-moves place f (Some wait) steps =
-    let entries : List Entry = entry.Leave 0 wait.number ∷ [] in
-    let told : PlainFloor = with_entries f wait.at entries in
-    moves-on place f steps told steps _ steps (moves-entries place f wait.at entries steps)
+    let told : PlainFloor = with_done f wait.at (leaves wait.number) in
+    moves-on place f steps told steps _ steps (moves-done place f wait.at (leaves wait.number) steps)
     (moves-wait place told None steps)
 
 pub leave-moves : (place : ℕ) (f : PlainFloor) (answer : FloorLeave) (steps : List Step)
     → Moves place f steps (after_leave f place answer) steps
 leave-moves place f Gone steps = left-moves place f (wait_of f place) steps
 leave-moves place f (Late element) steps =
-    granted-moves place f (λ wait. entry.Late 0 wait.number) (wait_of f place) element steps
+    granted-moves place f is_late (wait_of f place) element steps

@@ -1,8 +1,6 @@
 -- What keeps a job ready: after each call of the floor it can go on with the steps that are left.
 use Rattle.std.proofs.Common.{◌≡◌, ℕ, List, [], ◌∷◌, ◌++◌, Bool, true, false, ◌==◌, Option, Some, None, map, get_or, slice_get, refl, sym, ap, ◌∙◌, subst, eqb-true, arith}
 use Rattle.std.proofs.lemmas.List.{map-append, get_or-set_same, length-set}
-use Rattle.cqs_core.specs.declared.entries.Entry.{Entry}
-use Rattle.cqs_core.specs.declared.entries.Entry.TheVariants as entry
 use Rattle.cqs_core.specs.Keyed.{without}
 use Rattle.cqs_plan.specs.declared.plans.kind.Kind.{Kind}
 use Rattle.cqs_plan.specs.declared.plans.step.Step.{Step}
@@ -14,6 +12,7 @@ use Rattle.cqs_plan.specs.declared.floors.answers.FloorLook.TheVariants.{Granted
 use Rattle.cqs_plan.specs.declared.floors.answers.FloorLeave.{FloorLeave}
 use Rattle.cqs_plan.specs.declared.floors.answers.FloorLeave.TheVariants.{Gone, Late}
 use Rattle.cqs_plan.specs.Floor.{PlainFloor, JobWait, Holding, IsJob, IsHoldable, IsHolding, wait_of, holds_of, with_newest, without_oldest}
+use Rattle.cqs_plan.specs.FloorHistory.{Deed, gets, is_late}
 use Rattle.cqs_plan.specs.FloorCalls.{after_take, after_give, after_look, after_leave, with_granted, with_left}
 use Rattle.cqs_turns.specs.Ready.{IsReady, is_held, AreHoldable, CanMake, coming}
 use Rattle.cqs_turns.specs.Turns.{places_held}
@@ -179,11 +178,11 @@ first-ready f place at answer ready =
     tt
 
 -- what was waited for came
-came-ready : (f : PlainFloor) (place : ℕ) (entry_of : JobWait → Entry) (wait : JobWait)
+came-ready : (f : PlainFloor) (place : ℕ) (deed : ℕ → ℕ → Deed) (wait : JobWait)
     (element : ℕ) (steps : List Step)
-    → IsReady f place (Some wait) steps → IsReady (with_granted f place entry_of (Some wait) element) place None steps
-came-ready f place entry_of wait element steps ready =
-    let g : PlainFloor = with_granted f place entry_of (Some wait) element in
+    → IsReady f place (Some wait) steps → IsReady (with_granted f place deed (Some wait) element) place None steps
+came-ready f place deed wait element steps ready =
+    let g : PlainFloor = with_granted f place deed (Some wait) element in
     let newest : Holding = record { at = wait.at; element = element } in
     let job : IsJob g place = record {
       waits = omega (arith, ready.job.waits, length-set f.waits place None);
@@ -193,18 +192,18 @@ came-ready f place entry_of wait element steps ready =
     (get_or-set_same f.waits place None None ready.job.waits)
     (places-newest f place wait.at element ready.job) ready.holdable ready.makeable
 
-granted-ready : (f : PlainFloor) (place : ℕ) (entry_of : JobWait → Entry) (wait : JobWait) (element : ℕ)
+granted-ready : (f : PlainFloor) (place : ℕ) (deed : ℕ → ℕ → Deed) (wait : JobWait) (element : ℕ)
     (steps : List Step)
     → IsReady f place (Some wait) steps
-    → IsReady (with_granted f place entry_of (wait_of f place) element) place None steps
-granted-ready f place entry_of wait element steps ready =
-    let Goes : Option JobWait → Type 0 = λ o. IsReady (with_granted f place entry_of o element) place None steps in
-    subst Goes (sym ready.waits) (came-ready f place entry_of wait element steps ready)
+    → IsReady (with_granted f place deed (wait_of f place) element) place None steps
+granted-ready f place deed wait element steps ready =
+    let Goes : Option JobWait → Type 0 = λ o. IsReady (with_granted f place deed o element) place None steps in
+    subst Goes (sym ready.waits) (came-ready f place deed wait element steps ready)
 
 pub after_looking-ready : (f : PlainFloor) (place : ℕ) (wait : JobWait) (element : ℕ) (steps : List Step)
     → IsReady f place (Some wait) steps → IsReady (after_look f place (Granted element)) place None steps
 after_looking-ready f place wait element steps ready =
-    granted-ready f place (λ w. entry.LookGranted 0 w.number) wait element steps ready
+    granted-ready f place gets wait element steps ready
 
 went-ready : (f : PlainFloor) (place : ℕ) (wait : JobWait) (steps : List Step)
     → IsReady f place (Some wait) steps → IsReady (with_left f place (Some wait)) place None []
@@ -224,12 +223,12 @@ leave-ready f place wait Gone steps ready =
     let Goes : Option JobWait → Type 0 = λ o. IsReady (with_left f place o) place None [] in
     subst Goes (sym ready.waits) (went-ready f place wait steps ready)
 leave-ready f place wait (Late element) steps ready =
-    ready-to-end _ place None steps (granted-ready f place (λ w. entry.Late 0 w.number) wait element steps ready)
+    ready-to-end _ place None steps (granted-ready f place is_late wait element steps ready)
 
-granted-held : (f : PlainFloor) (place : ℕ) (entry_of : JobWait → Entry) (wait : JobWait) (element : ℕ)
+granted-held : (f : PlainFloor) (place : ℕ) (deed : ℕ → ℕ → Deed) (wait : JobWait) (element : ℕ)
     → IsJob f place → wait_of f place ≡ Some wait
-    → places_held (with_granted f place entry_of (wait_of f place) element) place ≡ places_held f place ++ wait.at ∷ []
-granted-held f place entry_of wait element job waits =
+    → places_held (with_granted f place deed (wait_of f place) element) place ≡ places_held f place ++ wait.at ∷ []
+granted-held f place deed wait element job waits =
     let Holds : Option JobWait → Type 0 = λ o.
-    places_held (with_granted f place entry_of o element) place ≡ places_held f place ++ wait.at ∷ [] in
+    places_held (with_granted f place deed o element) place ≡ places_held f place ++ wait.at ∷ [] in
     subst Holds (sym waits) (places-newest f place wait.at element job)

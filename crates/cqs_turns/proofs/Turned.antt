@@ -128,7 +128,7 @@ after_looking-turned r next at number Pending s ready room =
 after_looking-turned r next at number (Granted element) s ready room =
     let steps : List Step = drop next r.job.steps in
     let g : PlainFloor = after_look s.floor r.place (Granted element) in
-    let e : Scene = event r s g (told.Served at number) in
+    let e : Scene = event r s g (told.Served at number element) in
     let moved : Moves r.place s.floor steps g steps = after_looking-moves r.place s.floor element steps in
     let turned : Turned r g steps (after_steps r steps next e)
     = after_steps-turned r steps next e refl

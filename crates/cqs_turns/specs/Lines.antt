@@ -1,7 +1,9 @@
 -- The lines of the report.
-use Rattle.std.specs.Prelude.{ℕ, ◌+◌, List, [], ◌∷◌, ◌++◌, Bool, true, false, count_by, codes, slice_get}
+use Rattle.std.specs.Prelude.{ℕ, ◌+◌, List, [], ◌∷◌, ◌++◌, Bool, true, false, count_by, codes, slice_get, if◌then◌else◌}
 use Rattle.std.specs.Option.{option_map_or}
 use Rattle.std.specs.Fmt.{decimal}
+use Rattle.cqs_plan.specs.declared.plans.kind.Kind.{Kind}
+use Rattle.cqs_plan.specs.declared.plans.kind.Kind.TheVariants as kind
 use Rattle.cqs_plan.specs.declared.plans.resource.Resource.{Resource}
 use Rattle.cqs_plan.specs.declared.floors.answers.FloorEnd.{FloorEnd}
 use Rattle.cqs_plan.specs.declared.floors.answers.FloorEnd.TheVariants.{Permits, Latch, Rounds}
@@ -17,16 +19,37 @@ use Rattle.cqs_turns.specs.declared.states.Progress.TheVariants.{Stepping, Worki
 abbrev pub name_at : List Resource → ℕ → List ℕ
 name_at resources at = option_map_or (λ resource. resource.name) (slice_get resources at) []
 
+abbrev pub is_pool : Kind → Bool
+is_pool (kind.Pool elements) = true
+is_pool (kind.Semaphore permits) = false
+is_pool kind.Mutex = false
+is_pool (kind.Latch count) = false
+is_pool (kind.Rounds parties rounds) = false
+
+-- the resource at a place is a pool
+abbrev pub is_pool_at : List Resource → ℕ → Bool
+is_pool_at resources at =
+    option_map_or (λ resource. is_pool resource.kind) (slice_get resources at) false
+
+-- the words for an element, which only a pool has
+abbrev pub element_text : List Resource → ℕ → ℕ → List ℕ
+element_text resources at element =
+    if is_pool_at resources at then codes " element " ++ decimal element else []
+
 -- the words of a line: a verb and a resource, and then what else there is to tell
 abbrev pub told_text : List Resource → Told → List ℕ
-told_text resources (told.Takes at) = codes "takes " ++ name_at resources at
+told_text resources (told.Takes at element) =
+    codes "takes " ++ name_at resources at ++ element_text resources at element
 told_text resources (told.Waits at number) =
     codes "waits " ++ name_at resources at ++ codes " " ++ decimal number
-told_text resources (told.Served at number) =
+told_text resources (told.Served at number element) =
     codes "served " ++ name_at resources at ++ codes " " ++ decimal number
-told_text resources (told.GivesFree at) = codes "gives " ++ name_at resources at ++ codes " free"
-told_text resources (told.GivesSent at number) =
-    codes "gives " ++ name_at resources at ++ codes " sent " ++ decimal number
+    ++ element_text resources at element
+told_text resources (told.GivesFree at element) =
+    codes "gives " ++ name_at resources at ++ element_text resources at element ++ codes " free"
+told_text resources (told.GivesSent at element number) =
+    codes "gives " ++ name_at resources at ++ element_text resources at element ++ codes " sent "
+    ++ decimal number
 told_text resources (told.GaveUp at number) =
     codes "gaveup " ++ name_at resources at ++ codes " " ++ decimal number
 told_text resources (told.Late at number) =

@@ -31,5 +31,5 @@ left_with held at Gone = held
 left_with held at (Late element) = held ++ at ∷ []
 
 -- what a job tells that was served
-abbrev pub told_served : ℕ → ℕ → Told
-told_served at number = Served at number
+abbrev pub told_served : ℕ → ℕ → ℕ → Told
+told_served at number element = Served at number element

@@ -34,13 +34,13 @@ event r s floor told =
 
 -- what the answer to a take tells
 abbrev pub take_told : ℕ → FloorTake → Told
-take_told at (Now element) = told.Takes at
+take_told at (Now element) = told.Takes at element
 take_told at (Waits number) = told.Waits at number
 
 -- what the answer to a give tells
 abbrev pub give_told : ℕ → FloorGive → Told
-give_told at (Free element) = told.GivesFree at
-give_told at (Sent element number) = told.GivesSent at number
+give_told at (Free element) = told.GivesFree at element
+give_told at (Sent element number) = told.GivesSent at element number
 
 -- what the answer to the cancelling of a wait tells
 abbrev pub leave_told : ℕ → ℕ → FloorLeave → Told
@@ -74,7 +74,7 @@ on_leave r at number answer s =
 abbrev pub on_look : Role → ℕ → ℕ → FloorLook → Scene → Scene
 on_look r at number Pending s = s
 on_look r at number (Granted element) s =
-    event r s (after_look s.floor r.place (Granted element)) (told.Served at number)
+    event r s (after_look s.floor r.place (Granted element)) (told.Served at number element)
 
 -- what an answered take leaves of the scene; the plain floor turns nobody away
 abbrev pub on_take_answer : Role → ℕ → Option FloorTake → Scene → Scene

@@ -45,7 +45,7 @@ pub fn told_of_take(at: u32, answer: FloorTake) -> Told
     ensures { result ≡ take_told at answer }
 {
     match answer {
-        FloorTake::Now(_) => Told::Takes(at),
+        FloorTake::Now(element) => Told::Takes { at, element },
         FloorTake::Waits(number) => Told::Waits(at, number),
     }
 }
@@ -55,8 +55,12 @@ pub fn told_of_give(at: u32, answer: FloorGive) -> Told
     ensures { result ≡ give_told at answer }
 {
     match answer {
-        FloorGive::Free(_) => Told::GivesFree(at),
-        FloorGive::Sent(_, number) => Told::GivesSent(at, number),
+        FloorGive::Free(element) => Told::GivesFree { at, element },
+        FloorGive::Sent(element, number) => Told::GivesSent {
+            at,
+            element,
+            number,
+        },
     }
 }
 

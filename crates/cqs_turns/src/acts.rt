@@ -283,6 +283,7 @@ fn be_served<F: Floor>(
     next: u32,
     at: u32,
     number: u64,
+    element: u32,
 ) -> Result<Progress, Memory>
     requires held { places_held (F.plain floor.old) actor.now.place ≡ held.old.items ++ at ∷ [] }
     requires ready { IsReady (F.plain floor.old) actor.now.place None
@@ -292,12 +293,19 @@ fn be_served<F: Floor>(
     requires turn { actor.now.turn ≤ 40000 }
     ensures comes { LeavesAt result
         (go_on (role actor.now) next (event (role actor.now) (scene (F.plain floor.old) report.old)
-        (F.plain floor.old) (told_served at number)))
+        (F.plain floor.old) (told_served at number element)))
         (scene (F.plain floor.new) report.new) }
     ensures held { OnOk result (held.new.items ≡ places_held (F.plain floor.new) actor.now.place) }
 {
     held.push(at)?;
-    actor.tell(report, Told::Served(at, number))?;
+    actor.tell(
+        report,
+        Told::Served {
+            at,
+            number,
+            element,
+        },
+    )?;
     make_steps(floor, report, actor, held, next)
 }
 
@@ -326,8 +334,8 @@ fn look<F: Floor>(
 {
     match floor.look(actor.place) {
         FloorLook::Pending => Ok(None),
-        FloorLook::Granted(_) => {
-            let progress = be_served(floor, report, actor, held, next, at, number)?;
+        FloorLook::Granted(element) => {
+            let progress = be_served(floor, report, actor, held, next, at, number, element)?;
             Ok(Some(progress))
         }
     }

@@ -15,4 +15,4 @@ mod texts;
 mod turns;
 
 pub use reports::Report;
-pub use runs::run_plan;
+pub use runs::{run_plan, summarize_plan};

@@ -53,6 +53,13 @@ impl Report {
         self.text
     }
 
+    /// Forgets the lines so far.
+    pub fn clear(&mut self)
+        ensures { self.new ≡ [] }
+    {
+        self.text.clear();
+    }
+
     /// Adds the line of an event.
     pub fn tell(
         &mut self,

@@ -6,7 +6,7 @@ ghost use Rattle.cqs_plan.specs.LegalFloor.{IsLegalFloor, IsLegalFor};
 ghost use Rattle.cqs_plan.specs.Runnable.{IsRunnable, kinds_of};
 ghost use Rattle.cqs_turns.specs.Lines.{ends_text};
 ghost use Rattle.cqs_core.specs.Parts.{IsPrefix};
-ghost use Rattle.cqs_turns.specs.Report.{report_of};
+ghost use Rattle.cqs_turns.specs.Report.{report_of, summary_of};
 ghost use Rattle.cqs_turns.specs.Running.{IsRunning, IsKept, machine_of, IsOpening, AreOpening};
 ghost use Rattle.cqs_turns.specs.Turns.{machine_after, opening_machine};
 
@@ -103,7 +103,7 @@ pub fn run_plan<F: Floor>(
     ensures floor { OnOk result (F.plain floor.new
         ≡ (machine_after plan.now plan.now.turns).scene.floor) }
 
-    // The entries of each of the plan's resources are a legal history of it.
+    // What happened at each of the plan's resources is a legal history of it.
     ensures legal { OnOk result (IsLegalFor plan.now (F.plain floor.new)) }
     ensures report { OnOk result (report.new ≡ report_of plan.now) }
     ensures err { OnErr result (IsPrefix report.new (report_of plan.now)) }
@@ -112,4 +112,27 @@ pub fn run_plan<F: Floor>(
     all_turns(floor, report, plan, states.as_mut_slice())?;
     tell_ends(floor, report, plan)?;
     report.tell_total(states.as_slice())
+}
+
+/// Runs a plan on a floor as `run_plan` does, and tells only what its report says after the last
+/// turn: the lines of the resources and the totals.
+pub fn summarize_plan<F: Floor>(
+    alloc: Global,
+    plan: &Plan,
+    floor: &mut F,
+) -> Result<Vec<u8>, Memory>
+    requires runnable { IsRunnable plan.now }
+    requires opening { F.plain floor.old ≡ opening_floor plan.now }
+    ensures floor { OnOk result (F.plain floor.new
+        ≡ (machine_after plan.now plan.now.turns).scene.floor) }
+    ensures legal { OnOk result (IsLegalFor plan.now (F.plain floor.new)) }
+    ensures summary { IfOk result (λ text. text.items ≡ summary_of plan.now) }
+{
+    let mut report = Report::new(alloc);
+    let mut states = opening_states(alloc, plan.jobs.as_slice())?;
+    all_turns(floor, &mut report, plan, states.as_mut_slice())?;
+    report.clear();
+    tell_ends(floor, &mut report, plan)?;
+    report.tell_total(states.as_slice())?;
+    Ok(report.into_text())
 }

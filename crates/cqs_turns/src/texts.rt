@@ -1,12 +1,12 @@
 //! The text of the report's lines, byte by byte.
 
 ghost use Rattle.std.specs.Prelude.{◌≡◌, ◌++◌, OnOk, count_by, map, decimal};
-ghost use Rattle.cqs_turns.specs.Lines.{name_at, told_text, line_text, end_words, end_text, total_text, is_done, has_given_up, is_late, is_unfinished};
+ghost use Rattle.cqs_turns.specs.Lines.{name_at, is_pool_at, element_text, told_text, line_text, end_words, end_text, total_text, is_done, has_given_up, is_late, is_unfinished};
 
 use crate::lines::Told;
 use crate::states::JobState;
 use cqs_core::Memory;
-use cqs_plan::{FloorEnd, Resource};
+use cqs_plan::{FloorEnd, Kind, Resource};
 use itoa::Buffer;
 
 fn push_number(line: &mut Vec<u8>, number: u64) -> Result<(), Memory>
@@ -44,26 +44,66 @@ fn name_of(resources: &[Resource], at: u32) -> &[u8]
     }
 }
 
+/// Whether the resource at a place is a pool.
+fn is_pool_at(resources: &[Resource], at: u32) -> bool
+    ensures { result ≡ is_pool_at resources.now at }
+{
+    match resources.get(at as usize) {
+        Some(resource) => matches!(resource.kind, Kind::Pool(_)),
+        None => false,
+    }
+}
+
+/// An element, where the resource at a place is a pool.
+fn push_element(
+    line: &mut Vec<u8>,
+    resources: &[Resource],
+    at: u32,
+    element: u32,
+) -> Result<(), Memory>
+    ensures { OnOk result (line.new.items
+        ≡ line.old.items ++ element_text resources.now at element) }
+{
+    if is_pool_at(resources, at) {
+        push_labelled(line, b" element ", u64::from(element))?;
+    }
+    Ok(())
+}
+
 fn push_told(line: &mut Vec<u8>, resources: &[Resource], told: Told) -> Result<(), Memory>
     ensures { OnOk result (line.new.items ≡ line.old.items ++ told_text resources.now told) }
 {
     match told {
-        Told::Takes(at) => push_verb(line, b"takes ", name_of(resources, at)),
+        Told::Takes { at, element } => {
+            push_verb(line, b"takes ", name_of(resources, at))?;
+            push_element(line, resources, at, element)
+        }
         Told::Waits(at, number) => {
             push_verb(line, b"waits ", name_of(resources, at))?;
             push_labelled(line, b" ", number)
         }
-        Told::Served(at, number) => {
+        Told::Served {
+            at,
+            number,
+            element,
+        } => {
             push_verb(line, b"served ", name_of(resources, at))?;
-            push_labelled(line, b" ", number)
+            push_labelled(line, b" ", number)?;
+            push_element(line, resources, at, element)
         }
-        Told::GivesFree(at) => {
+        Told::GivesFree { at, element } => {
             push_verb(line, b"gives ", name_of(resources, at))?;
+            push_element(line, resources, at, element)?;
             line.extend_from_slice(b" free")?;
             Ok(())
         }
-        Told::GivesSent(at, number) => {
+        Told::GivesSent {
+            at,
+            element,
+            number,
+        } => {
             push_verb(line, b"gives ", name_of(resources, at))?;
+            push_element(line, resources, at, element)?;
             push_labelled(line, b" sent ", number)
         }
         Told::GaveUp(at, number) => {

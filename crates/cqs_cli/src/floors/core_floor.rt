@@ -1,24 +1,25 @@
-//! A floor on one runnable core for each semaphore and mutex.
+//! A floor on one runnable core for each semaphore and mutex, and a pool for each pool.
 
 ghost use Rattle.std.specs.Prelude.{◌≡◌, IfOk};
 ghost use Rattle.cqs_plan.specs.Floor.{opening_floor};
 ghost use Rattle.cqs_plan.specs.Runnable.{IsRunnable};
 ghost use Rattle.cqs_cli.specs.Opening.{AreBuilt};
 
+use super::any_sole::AnySole;
 use super::desk::Desk;
 use cqs_core::{Core, Memory};
 use cqs_plan::{Floor, FloorEnd, FloorGive, FloorLeave, FloorLook, FloorTake, Plan};
 use std::alloc::Global;
 use std::marker::Model;
 
-/// A floor for plans that have semaphores and mutexes: each is a core with one pass, and a mutex is
-/// one of one permit.
+/// A floor for plans that have semaphores, mutexes and pools: a semaphore is a core with one pass,
+/// a mutex is one of one permit, and a pool is one of the running queue.
 ///
 /// Contracts see its plain floor. Its cores have room for all the calls that its
 /// plan's takes can lead to.
 #[derive(Drop)]
 pub struct CoreFloor {
-    desk: Desk<Core>,
+    desk: Desk<AnySole<Core>>,
 }
 
 impl Model for CoreFloor {
@@ -28,11 +29,11 @@ impl Model for CoreFloor {
 
     ghost use Rattle.cqs_cli.specs.Ledger.{plain_floor};
     ghost use Rattle.cqs_cli.specs.Kept.{IsKept};
-    ghost use Rattle.cqs_cli.specs.SoleCore.{sole_core};
+    ghost use Rattle.cqs_cli.specs.SoleCore.{store_core};
 
-    ghost view = { λ floor. plain_floor sole_core floor.desk };
+    ghost view = { λ floor. plain_floor store_core floor.desk };
 
-    ghost invariant = { λ floor. IsKept sole_core floor.desk };
+    ghost invariant = { λ floor. IsKept store_core floor.desk };
 }
 
 impl CoreFloor {

@@ -5,7 +5,7 @@ ghost use Rattle.cqs_core.specs.SemaphoreShown.{free_of, short_of};
 ghost use Rattle.cqs_core.specs.SoleCaller.{MayCall};
 ghost use Rattle.cqs_cli.specs.SoleCore.{HasMade, IsReady, is_served_at};
 
-use super::sole::{ForEachKind, SoleSemaphore, Stand, permits, stand_in};
+use super::sole::{ForPermits, SoleSemaphore, Stand, permits, stand_in};
 use cqs_core::{Call, Core, CoreCell, CoreState, Memory, Reply};
 use cqs_plan::Kind;
 use std::alloc::Global;
@@ -50,7 +50,7 @@ impl SoleSemaphore for Core {
     }
 }
 
-impl ForEachKind for Core {
+impl ForPermits for Core {
     fn open(alloc: Global, kind: Kind, takes: u32) -> Result<Self, Memory> {
         let mut core = Core::new(alloc, permits(kind), 1).map_err(|_| Memory)?;
         core.reserve(ENTRIES_A_TAKE * takes).map_err(|_| Memory)?;

@@ -1,32 +1,31 @@
-//! What a floor on semaphores is made of, and its calls.
+//! What a floor is made of, and its calls.
 //!
-//! Each call makes one call of one semaphore and writes down what the job got or gave back. All
-//! memory was taken before: a semaphore has room for the calls that are still to come, and so has
+//! Each call makes one call of one resource and writes down what the job got or gave back. All
+//! memory was taken before: a resource has room for the calls that are still to come, and so has
 //! the list of transfers.
 //!
 //! What the jobs hold is kept three times, since three ask for it. The turn machine reads its own
-//! list of each job (`JobState::held`), to give all back at the end. A semaphore knows how many
-//! permits its caller holds, since it lets none be given that isn't held. The list of transfers is
-//! written and not read: contracts read off it what each job holds, oldest first. A resource that
-//! hands out elements will read there which one comes back. A wait is kept twice: the machine reads
-//! the one in the job's progress, to tell its line, and the floor the one in `waits`, to ask its
-//! semaphore.
+//! list of each job (`JobState::held`), to give all back at the end. A resource knows what its
+//! caller holds, since it lets nothing be given that isn't held, and a pool also for which job. The
+//! list of transfers is written and not read: contracts read off it what each job holds, oldest
+//! first. A wait is kept twice: the machine reads the one in the job's progress, to tell its line,
+//! and the floor the one in `waits`, to ask its resource.
 
 ghost use Rattle.std.specs.Prelude.{◌≡◌, ◌<◌, Some, None, IsSome, length, slice_get, slice_index};
 ghost use Rattle.cqs_cli.specs.Ledger.{wait_at, with_wait};
 ghost use Rattle.cqs_cli.specs.DeskCalls.{CanEndAt, Ends, Gives, HasAt, Leaves, Looks, Takes};
-ghost use Rattle.cqs_cli.specs.Soles.{CanAcquire, CanEnd, CanRelease};
+ghost use Rattle.cqs_cli.specs.Stores.{CanAcquire, CanEnd, CanRelease};
 
-use super::sole::{SoleSemaphore, Stand, permits};
+use super::sole_resource::{Looked, SoleResource, Taken};
 use super::transfers::Transfer;
 use super::waits::Wait;
 use cqs_plan::{FloorEnd, FloorGive, FloorLeave, FloorLook, FloorTake, Kind};
 use std::marker::Model;
 
-/// For each resource what it is, its semaphore and its room; for each job its wait; and what the
-/// jobs got and gave back.
+/// For each resource what it is, what it is kept as, and its room; for each job its wait; and what
+/// the jobs got and gave back.
 #[derive(Drop)]
-pub struct Desk<S: SoleSemaphore> {
+pub struct Desk<S: SoleResource> {
     pub kinds: Vec<Kind>,
     pub soles: Vec<S>,
     pub room: Vec<u32>,
@@ -34,7 +33,7 @@ pub struct Desk<S: SoleSemaphore> {
     pub transfers: Vec<Transfer>,
 }
 
-impl<S: SoleSemaphore> Model for Desk<S> {
+impl<S: SoleResource> Model for Desk<S> {
     ghost use Rattle.std.specs.Prelude.{◌-◌, vec_len, vec_capacity};
     ghost use Rattle.cqs_cli.specs.Ledger.{Ledger};
 
@@ -50,23 +49,24 @@ impl<S: SoleSemaphore> Model for Desk<S> {
     } };
 }
 
-impl<S: SoleSemaphore> Desk<S> {
+impl<S: SoleResource> Desk<S> {
     /// The job takes.
     pub fn take(&mut self, at: u32, job: u32) -> FloorTake
-        requires sole { HasAt self.old.soles at (CanAcquire S.sole) }
+        requires sole { HasAt self.old.soles at (CanAcquire S.store job) }
         requires place { at < length self.old.room }
         requires room { 0 < slice_index self.old.room at }
         requires job { job < length self.old.waits }
         requires spare { 0 < self.old.spare }
-        ensures { Takes S.sole self.old at job result self.new }
+        ensures { Takes S.store self.old at job result self.new }
     {
         self.room[at as usize] -= 1;
-        match self.soles[at as usize].acquire() {
-            None => {
-                self.transfers.push_reserved(Transfer::Got { job, at });
-                FloorTake::Now(0)
+        match self.soles[at as usize].take(job) {
+            Taken::Now(element) => {
+                self.transfers
+                    .push_reserved(Transfer::Got { job, at, element });
+                FloorTake::Now(element)
             }
-            Some(token) => {
+            Taken::Waits(token) => {
                 let number = S::number(&token);
                 self.waits[job as usize] = Some(Wait { at, token });
                 FloorTake::Waits(number)
@@ -76,15 +76,12 @@ impl<S: SoleSemaphore> Desk<S> {
 
     /// The job gives back the oldest that it holds of this resource.
     pub fn give(&mut self, at: u32, job: u32) -> FloorGive
-        requires sole { HasAt self.old.soles at (CanRelease S.sole) }
+        requires sole { HasAt self.old.soles at (CanRelease S.store job) }
         requires spare { 0 < self.old.spare }
-        ensures { Gives S.sole self.old at job result self.new }
+        ensures { Gives S.store self.old at job result self.new }
     {
         self.transfers.push_reserved(Transfer::GaveBack { job, at });
-        match self.soles[at as usize].release() {
-            None => FloorGive::Free(0),
-            Some(number) => FloorGive::Sent(0, number),
-        }
+        self.soles[at as usize].give(job)
     }
 
     /// Takes out the wait of a job that waits.
@@ -101,49 +98,48 @@ impl<S: SoleSemaphore> Desk<S> {
 
     /// The job, whose wait was taken out, looks at it.
     pub fn look(&mut self, job: u32, wait: Wait<S::Wait>) -> FloorLook
-        requires sole { HasAt self.old.soles wait.at (CanEnd S.sole wait.token) }
+        requires sole { HasAt self.old.soles wait.at (CanEnd S.store job wait.token) }
         requires job { job < length self.old.waits }
         requires spare { 0 < self.old.spare }
-        ensures { Looks S.sole self.old job wait result self.new }
+        ensures { Looks S.store self.old job wait result self.new }
     {
         let Wait { at, token } = wait;
-        match self.soles[at as usize].poll(token) {
-            Some(token) => {
+        match self.soles[at as usize].look(job, token) {
+            Looked::Pending(token) => {
                 self.waits[job as usize] = Some(Wait { at, token });
                 FloorLook::Pending
             }
-            None => {
-                self.transfers.push_reserved(Transfer::Got { job, at });
-                FloorLook::Granted(0)
+            Looked::Granted(element) => {
+                self.transfers
+                    .push_reserved(Transfer::Got { job, at, element });
+                FloorLook::Granted(element)
             }
         }
     }
 
     /// The job, whose wait was taken out, leaves the line, where that still stands there.
     pub fn leave(&mut self, job: u32, wait: Wait<S::Wait>) -> FloorLeave
-        requires sole { HasAt self.old.soles wait.at (CanEnd S.sole wait.token) }
+        requires sole { HasAt self.old.soles wait.at (CanEnd S.store job wait.token) }
         requires spare { 0 < self.old.spare }
-        ensures { Leaves S.sole self.old job wait result self.new }
+        ensures { Leaves S.store self.old job wait result self.new }
     {
         let Wait { at, token } = wait;
-        if self.soles[at as usize].cancel(token) {
-            return FloorLeave::Gone;
+        match self.soles[at as usize].leave(job, token) {
+            FloorLeave::Gone => FloorLeave::Gone,
+            FloorLeave::Late(element) => {
+                self.transfers
+                    .push_reserved(Transfer::Got { job, at, element });
+                FloorLeave::Late(element)
+            }
         }
-        self.transfers.push_reserved(Transfer::Got { job, at });
-        FloorLeave::Late(0)
     }
 
     /// How a resource stands.
     pub fn end(&mut self, at: u32) -> FloorEnd
-        requires { CanEndAt S.sole self.old at }
-        ensures { Ends S.sole self.old at result self.new }
+        requires { CanEndAt S.store self.old at }
+        ensures { Ends S.store self.old at result self.new }
     {
-        let permits = permits(self.kinds[at as usize]);
-        let Stand { free, line } = self.soles[at as usize].stand();
-        FloorEnd::Permits {
-            free,
-            held: permits - free,
-            line,
-        }
+        let kind = self.kinds[at as usize];
+        self.soles[at as usize].end(kind)
     }
 }

@@ -1,4 +1,4 @@
-//! The making of a desk: its semaphores, and the memory for all that the takes of a plan can lead
+//! The making of a desk: its resources, and the memory for all that the takes of a plan can lead
 //! to.
 
 ghost use Rattle.std.specs.Prelude.{◌≡◌, ℕ, ◌+◌, ◌*◌, ◌^◌, ◌<◌, ◌≤◌, IfOk, All, length, map, replicate, sum, None, Some, count_by, slice_index, EachIndex};
@@ -16,7 +16,7 @@ ghost use Rattle.cqs_cli.specs.Opening.{
 };
 
 use super::desk::Desk;
-use super::sole::ForEachKind;
+use super::sole_resource::ForEachKind;
 use super::waits::Wait;
 use cqs_core::Memory;
 use cqs_plan::{Job, Kind, Plan, Resource, Step};
@@ -27,7 +27,7 @@ impl<S: ForEachKind> Desk<S> {
     pub fn new(alloc: Global, plan: &Plan) -> Result<Self, Memory>
         requires runnable { IsRunnable plan.now }
         requires built { AreBuilt plan.now.resources }
-        ensures { IfOk result (IsOpening S.sole plan.now) }
+        ensures { IfOk result (IsOpening S.store plan.now) }
     {
         let resources = plan.resources.as_slice();
         let jobs = plan.jobs.as_slice();
@@ -102,7 +102,7 @@ fn no_waits<W: Drop>(alloc: Global, jobs: usize) -> Result<Vec<Option<Wait<W>>>,
     Ok(waits)
 }
 
-/// A semaphore for each resource.
+/// What each resource is kept as.
 fn open_soles<S: ForEachKind>(
     alloc: Global,
     resources: &[Resource],
@@ -111,7 +111,7 @@ fn open_soles<S: ForEachKind>(
     requires built { AreBuilt resources.now }
     requires same { length room.now ≡ length resources.now }
     requires few { sum room.now ≤ 262144 }
-    ensures opened { IfOk result (λ soles. AreOpened S.sole resources.now room.now soles.items) }
+    ensures opened { IfOk result (λ soles. AreOpened S.store resources.now room.now soles.items) }
     ensures long { IfOk result (λ soles. length soles.items ≡ length resources.now) }
 {
     let mut soles = Vec::with_capacity(alloc, resources.len())?;

@@ -1,4 +1,4 @@
-//! A floor on one semaphore or mutex of the running queue for each of a plan's.
+//! A floor on one semaphore, mutex or pool of the running queue for each of a plan's.
 
 ghost use Rattle.std.specs.Prelude.{◌≡◌, IfOk};
 ghost use Rattle.cqs_plan.specs.Floor.{opening_floor};
@@ -6,8 +6,9 @@ ghost use Rattle.cqs_plan.specs.Runnable.{IsRunnable};
 ghost use Rattle.cqs_cli.specs.Kept.{IsKept};
 ghost use Rattle.cqs_cli.specs.Ledger.{plain_floor};
 ghost use Rattle.cqs_cli.specs.Opening.{AreBuilt};
-ghost use Rattle.cqs_cli.specs.SoleRunning.{sole_running};
+ghost use Rattle.cqs_cli.specs.SoleRunning.{store_running};
 
+use super::any_sole::AnySole;
 use super::desk::Desk;
 use super::running_sole::RunningSole;
 use cqs_core::Memory;
@@ -15,29 +16,31 @@ use cqs_plan::{Floor, FloorEnd, FloorGive, FloorLeave, FloorLook, FloorTake, Pla
 use std::alloc::Global;
 use std::marker::Model;
 
-/// A floor for plans that have semaphores and mutexes: each is one of the running queue, with its
-/// one pass. A mutex keeps a unit value.
+/// A floor for plans that have semaphores, mutexes and pools: each is one of the running queue,
+/// with its one pass. A mutex keeps a unit value, and an element of a pool its own number.
 ///
 /// Contracts see its ledger, with the resources and their passes: its plain floor is what these
 /// have seen, without looks that found nothing new. The limit of each is the plan's takes on it and
 /// one more, so none of its calls is refused.
 #[derive(Drop)]
 pub struct QueueFloor {
-    desk: Desk<RunningSole>,
+    desk: Desk<AnySole<RunningSole>>,
 }
 
 impl Model for QueueFloor {
     ghost use Rattle.cqs_cli.specs.Kept.{IsKept};
     ghost use Rattle.cqs_cli.specs.Ledger.{Ledger};
-    ghost use Rattle.cqs_cli.specs.SoleRunning.{sole_running};
+    ghost use Rattle.cqs_cli.specs.SoleRunning.{store_running};
+    ghost use Rattle.cqs_cli.specs.declared.floors.any_sole.AnySole as any;
+    ghost use Rattle.cqs_cli.specs.declared.floors.any_sole.AnyWait as waits;
     ghost use Rattle.cqs_cli.specs.declared.floors.running_sole.RunningSole as sole;
     ghost use Rattle.cqs_cli.specs.declared.floors.running_sole.RunningWait as token;
 
-    ghost Value = { Ledger sole.RunningSole token.RunningWait };
+    ghost Value = { Ledger (any.AnySole sole.RunningSole) (waits.AnyWait token.RunningWait) };
 
     ghost view = { λ floor. floor.desk };
 
-    ghost invariant = { λ floor. IsKept sole_running floor.desk };
+    ghost invariant = { λ floor. IsKept store_running floor.desk };
 }
 
 impl QueueFloor {
@@ -45,7 +48,7 @@ impl QueueFloor {
     pub fn new(alloc: Global, plan: &Plan) -> Result<Self, Memory>
         requires runnable { IsRunnable plan.now }
         requires built { AreBuilt plan.now.resources }
-        ensures { IfOk result (λ floor. plain_floor sole_running floor ≡ opening_floor plan.now) }
+        ensures { IfOk result (λ floor. plain_floor store_running floor ≡ opening_floor plan.now) }
     {
         let desk = Desk::new(alloc, plan)?;
         Ok(QueueFloor { desk })
@@ -53,14 +56,14 @@ impl QueueFloor {
 
     /// Does nothing: its clause tells what every such floor keeps.
     pub(crate) fn is_kept(&self)
-        ensures { IsKept sole_running self.now }
+        ensures { IsKept store_running self.now }
     {
         let _ = &self.desk;
     }
 }
 
 impl Floor for QueueFloor {
-    ghost plain = { plain_floor sole_running };
+    ghost plain = { plain_floor store_running };
 
     fn take(&mut self, at: u32, job: u32) -> FloorTake {
         self.desk.take(at, job)

@@ -6,7 +6,7 @@ ghost use Rattle.cqs_cli.specs.SoleRunning.{IsForMutex, IsForSemaphore};
 
 use super::mutex_sole::MutexSole;
 use super::queue_sole::QueueSole;
-use super::sole::{ForEachKind, SoleSemaphore, Stand};
+use super::sole::{ForPermits, SoleSemaphore, Stand};
 use cqs_core::Memory;
 use cqs_mutex::LockWait;
 use cqs_plan::Kind;
@@ -77,7 +77,7 @@ impl SoleSemaphore for RunningSole {
     }
 }
 
-impl ForEachKind for RunningSole {
+impl ForPermits for RunningSole {
     fn open(alloc: Global, kind: Kind, takes: u32) -> Result<Self, Memory> {
         match kind {
             Kind::Semaphore(permits) => {
@@ -85,7 +85,7 @@ impl ForEachKind for RunningSole {
                 Ok(RunningSole::Semaphore(sole))
             }
             Kind::Mutex => Ok(RunningSole::Mutex(MutexSole::open(alloc, takes)?)),
-            _ => unreachable!(),
+            Kind::Pool(_) | Kind::Latch(_) | Kind::Rounds { .. } => unreachable!(),
         }
     }
 }

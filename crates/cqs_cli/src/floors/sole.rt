@@ -2,21 +2,22 @@
 
 ghost use Rattle.std.specs.Prelude.{◌≡◌, ◌≤ℤ◌, Some, negsuc, pos};
 ghost use Rattle.cqs_core.specs.SemaphoreShown.{free_of, short_of};
-ghost use Rattle.cqs_plan.specs.Floor.{IsHoldable, permits_of};
+ghost use Rattle.cqs_plan.specs.Floor.{size_of};
+ghost use Rattle.cqs_cli.specs.Soles.{IsOfPermits};
 
 use cqs_core::Memory;
 use cqs_plan::Kind;
 use std::alloc::Global;
 
-/// How many permits there are of a resource that is taken and given: of a mutex it is one.
+/// How many permits there are of a semaphore or a mutex: of a mutex it is one.
 pub(super) fn permits(kind: Kind) -> u32
-    requires { IsHoldable (Some kind) }
-    ensures { result ≡ permits_of (Some kind) }
+    requires { IsOfPermits (Some kind) }
+    ensures { result ≡ size_of (Some kind) }
 {
     match kind {
         Kind::Semaphore(permits) => permits,
         Kind::Mutex => 1,
-        _ => unreachable!(),
+        Kind::Pool(_) | Kind::Latch(_) | Kind::Rounds { .. } => unreachable!(),
     }
 }
 
@@ -104,15 +105,16 @@ pub trait SoleSemaphore: Sized + Drop {
         ensures { Tells sole self.old result self.new };
 }
 
-/// A semaphore that can be made for each kind of resource that is taken and given.
-pub trait ForEachKind: SoleSemaphore {
+/// A semaphore that can be made for each kind of resource of which permits are taken and given.
+pub trait ForPermits: SoleSemaphore {
     ghost use Rattle.std.specs.Prelude.{◌≤◌, IfOk, Some};
-    ghost use Rattle.cqs_plan.specs.Runnable.{IsBuilt};
-    ghost use Rattle.cqs_cli.specs.Soles.{IsOpened};
+    ghost use Rattle.cqs_plan.specs.Validity.{IsKind};
+    ghost use Rattle.cqs_cli.specs.Soles.{IsOfPermits, IsOpened};
 
-    /// One for a resource of this kind, with all its permits free, and room for so many takes.
+    /// One for a semaphore or a mutex, with all its permits free, and room for so many takes.
     fn open(alloc: Global, kind: Kind, takes: u32) -> Result<Self, Memory>
-        requires built { IsBuilt kind }
+        requires permits { IsOfPermits (Some kind) }
+        requires sized { IsKind kind }
         requires few_takes { takes ≤ 262144 }
         ensures { IfOk result (IsOpened Self.sole (Some kind) takes) };
 }

@@ -20,7 +20,7 @@ use super::answers::{FloorEnd, FloorGive, FloorLeave, FloorLook, FloorTake};
 /// What carries out the steps of a plan's jobs, for one caller that makes them one after the other.
 ///
 /// Contracts see a floor as its plain floor: what happened to each resource so far, and what each
-/// job waits for and holds. Whatever was called, the entries of each resource are a legal history
+/// job waits for and holds. Whatever was called, what happened at each resource is a legal history
 /// of it. A floor takes all its memory when it is made, so its calls can't fail. `at` is the place
 /// of a resource among the plan's resources, and `job` that of a job among its jobs.
 pub trait Floor {

@@ -6,7 +6,7 @@ ghost use Rattle.toml.specs.Data.{get_member};
 ghost use Rattle.toml.specs.View.{table_view, view};
 ghost use Rattle.cqs_plan.specs.FaultRules.{each, required};
 ghost use Rattle.cqs_plan.specs.Faults.{kind_faults, number_faults, resource_faults, resource_number_faults, resources_faults};
-ghost use Rattle.cqs_plan.specs.Language.{resource_kinds, semaphores};
+ghost use Rattle.cqs_plan.specs.Language.{resource_kinds, semaphores, pools};
 ghost use Rattle.cqs_plan.specs.Meaning.{members_in, members_list, number_in, resource_in};
 ghost use Rattle.cqs_plan.specs.Order.{AreFew, NamesAscend};
 ghost use Rattle.cqs_plan.specs.Reading.{Reads, StopsAt};
@@ -40,6 +40,21 @@ fn permits(alloc: Global, name: &str, table: &Table) -> Result<u32, PlanError>
     required_number(alloc, place, member(table, "size"), 1, 1_048_576)
 }
 
+/// The number of elements in the table of a pool.
+fn elements(alloc: Global, name: &str, table: &Table) -> Result<u32, PlanError>
+    ensures faults { let members = table_view table.now in
+        Reads result (resource_number_faults pools name.now members) }
+    ensures value { let members = table_view table.now in
+        IfOk result (λ elements. elements ≡ number_in (get_member (codes "size") members)) }
+{
+    let place = Place::Number {
+        kind: "pool",
+        name,
+        key: "size",
+    };
+    required_number(alloc, place, member(table, "size"), 1, 4_096)
+}
+
 /// What a resource is, by the numbers in its table.
 fn kind_in(alloc: Global, section: Section, name: &str, table: &Table) -> Result<Kind, PlanError>
     ensures faults { let members = table_view table.now in
@@ -52,6 +67,7 @@ fn kind_in(alloc: Global, section: Section, name: &str, table: &Table) -> Result
     match section {
         Section::Semaphore => Ok(Kind::Semaphore(permits(alloc, name, table)?)),
         Section::Mutex => Ok(Kind::Mutex),
+        Section::Pool => Ok(Kind::Pool(elements(alloc, name, table)?)),
     }
 }
 
@@ -194,5 +210,6 @@ pub fn resources(alloc: Global, root: &Table) -> Result<Vec<Resource>, PlanError
     let mut found = Vec::new(alloc);
     read_section(alloc, Section::Semaphore, root, &mut found)?;
     read_section(alloc, Section::Mutex, root, &mut found)?;
+    read_section(alloc, Section::Pool, root, &mut found)?;
     Ok(found)
 }

@@ -7,6 +7,7 @@ ghost use Rattle.cqs_plan.specs.Sections.{kind_of};
 pub enum Section {
     Semaphore,
     Mutex,
+    Pool,
 }
 
 impl Section {
@@ -17,6 +18,7 @@ impl Section {
         match self {
             Section::Semaphore => "semaphore",
             Section::Mutex => "mutex",
+            Section::Pool => "pool",
         }
     }
 
@@ -26,7 +28,7 @@ impl Section {
             ≡ map (λ number. number.key) (kind_of self).numbers }
     {
         match self {
-            Section::Semaphore => &["size"],
+            Section::Semaphore | Section::Pool => &["size"],
             Section::Mutex => &[],
         }
     }

@@ -1,37 +1,37 @@
 use Rattle.std.proofs.Common.{ap, refl}
 use Rattle.cqs_cli.specs.Ledger.{plain_floor}
-use Rattle.cqs_cli.specs.SoleRunning.{sole_running}
-use Rattle.cqs_cli.proofs.RunningSole.{running-lawful}
+use Rattle.cqs_cli.specs.SoleRunning.{store_running}
+use Rattle.cqs_cli.proofs.AnySoles.{running-lawful}
 use Rattle.cqs_cli.proofs.Gives.{give-can, give-floor}
 use Rattle.cqs_cli.proofs.LegalFloors.{legal-floor}
 use Rattle.cqs_cli.proofs.floors.queue_floor.QueueFloorFloor.give.Goals as goal
 
 pub give-requires-clause-sole : goal.give-requires-clause-sole
 give-requires-clause-sole c =
-    give-can sole_running _ _ _ _
-    (ap (plain_floor sole_running) c.self.view_is) c.self.invariant c.requires.resource c.requires.job c.requires.holds
+    give-can store_running _ _ _ _
+    (ap (plain_floor store_running) c.self.view_is) c.self.invariant c.requires.resource c.requires.holds
 
 pub invariant_of-self : goal.invariant_of-self
 invariant_of-self c =
-    (give-floor sole_running _ _ _ _ _ _
-    (ap (plain_floor sole_running) c.self.view_is) c.self.invariant c.requires.job c.requires.holds
+    (give-floor store_running _ _ _ _ _ _
+    (ap (plain_floor store_running) c.self.view_is) c.self.invariant c.requires.job c.requires.holds
     c.give.ensures).kept
 
 pub returns-clause-answer : goal.returns-clause-answer
 returns-clause-answer c =
-    (give-floor sole_running _ _ _ _ _ _
-    (ap (plain_floor sole_running) c.self.view_is) c.self.invariant c.requires.job c.requires.holds
+    (give-floor store_running _ _ _ _ _ _
+    (ap (plain_floor store_running) c.self.view_is) c.self.invariant c.requires.job c.requires.holds
     c.give.ensures).answers
 
 pub returns-clause-after : goal.returns-clause-after
 returns-clause-after c =
-    (give-floor sole_running _ _ _ _ _ _
-    (ap (plain_floor sole_running) c.self.view_is) c.self.invariant c.requires.job c.requires.holds
+    (give-floor store_running _ _ _ _ _ _
+    (ap (plain_floor store_running) c.self.view_is) c.self.invariant c.requires.job c.requires.holds
     c.give.ensures).leaves
 
 pub returns-clause-legal : goal.returns-clause-legal
 returns-clause-legal c =
-    legal-floor sole_running running-lawful _ _ refl
-    (give-floor sole_running _ _ _ _ _ _
-    (ap (plain_floor sole_running) c.self.view_is) c.self.invariant c.requires.job c.requires.holds
+    legal-floor store_running running-lawful _ _ refl
+    (give-floor store_running _ _ _ _ _ _
+    (ap (plain_floor store_running) c.self.view_is) c.self.invariant c.requires.job c.requires.holds
     c.give.ensures).kept

@@ -1,0 +1,80 @@
+//! The calls of a semaphore with one caller, made for the jobs of a plan.
+
+ghost use Rattle.cqs_cli.specs.Lifted.{of_semaphore};
+ghost use Rattle.cqs_cli.specs.Stores.{
+  Acquires,
+  CanAcquire,
+  CanEnd,
+  CanRelease,
+  CanTell,
+  Cancels,
+  Polls,
+  Releases,
+  Tells,
+};
+
+use super::sole::{SoleSemaphore, Stand, permits};
+use super::sole_resource::{Looked, Taken};
+use cqs_plan::{FloorEnd, FloorGive, FloorLeave, Kind};
+
+/// The job takes a permit, or waits.
+pub(super) fn take<S: SoleSemaphore>(sole: &mut S, job: u32) -> Taken<S::Wait>
+    requires { CanAcquire (of_semaphore S.sole) job sole.old }
+    ensures { Acquires (of_semaphore S.sole) job sole.old result sole.new }
+{
+    let _ = job;
+    match sole.acquire() {
+        None => Taken::Now(0),
+        Some(wait) => Taken::Waits(wait),
+    }
+}
+
+/// The job gives a permit back.
+pub(super) fn give<S: SoleSemaphore>(sole: &mut S, job: u32) -> FloorGive
+    requires { CanRelease (of_semaphore S.sole) job sole.old }
+    ensures { Releases (of_semaphore S.sole) job sole.old result sole.new }
+{
+    let _ = job;
+    match sole.release() {
+        None => FloorGive::Free(0),
+        Some(number) => FloorGive::Sent(0, number),
+    }
+}
+
+/// The job looks at its wait.
+pub(super) fn look<S: SoleSemaphore>(sole: &mut S, job: u32, wait: S::Wait) -> Looked<S::Wait>
+    requires { CanEnd (of_semaphore S.sole) job wait sole.old }
+    ensures { Polls (of_semaphore S.sole) job sole.old wait result sole.new }
+{
+    let _ = job;
+    match sole.poll(wait) {
+        Some(wait) => Looked::Pending(wait),
+        None => Looked::Granted(0),
+    }
+}
+
+/// The job gives its wait up.
+pub(super) fn leave<S: SoleSemaphore>(sole: &mut S, job: u32, wait: S::Wait) -> FloorLeave
+    requires { CanEnd (of_semaphore S.sole) job wait sole.old }
+    ensures { Cancels (of_semaphore S.sole) job sole.old wait result sole.new }
+{
+    let _ = job;
+    if sole.cancel(wait) {
+        FloorLeave::Gone
+    } else {
+        FloorLeave::Late(0)
+    }
+}
+
+/// How the semaphore stands, as a resource of its kind.
+pub(super) fn end<S: SoleSemaphore>(sole: &mut S, kind: Kind) -> FloorEnd
+    requires { CanTell (of_semaphore S.sole) kind sole.old }
+    ensures { Tells (of_semaphore S.sole) kind sole.old result sole.new }
+{
+    let Stand { free, line } = sole.stand();
+    FloorEnd::Permits {
+        free,
+        held: permits(kind) - free,
+        line,
+    }
+}

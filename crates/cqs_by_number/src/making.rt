@@ -60,6 +60,7 @@ impl NumberedSemaphore {
             table,
             passes,
             room: waits,
+            alloc,
         };
         match made.seat(first) {
             Answer::Made(_) => Ok(made),

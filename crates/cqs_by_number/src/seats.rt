@@ -6,16 +6,15 @@ use crate::answers::Answer;
 use crate::caller::Caller;
 use crate::marks::{NOBODY, RESTS};
 use crate::numbered::NumberedSemaphore;
-use std::alloc::Global;
 
 impl NumberedSemaphore {
     /// A new pass, under a number of its own.
-    pub fn split(&self, alloc: Global, pass: u32) -> Answer {
+    pub fn split(&self, pass: u32) -> Answer {
         let (hand, mut caller) = match self.take(pass) {
             Ok(taken) => taken,
             Err(refused) => return refused,
         };
-        let Ok(room) = Vec::with_capacity(alloc, self.room as usize) else {
+        let Ok(room) = Vec::with_capacity(self.alloc, self.room as usize) else {
             self.put(pass, hand, caller);
             return Answer::Memory;
         };

@@ -7,5 +7,6 @@
 
 mod answers;
 mod calls;
+mod ending;
 mod exports;
 mod making;

@@ -50,6 +50,7 @@ barrier_object = record {
   entries = λ step p k payload. step_entries step p k;
   gains = no_more;
   most = λ opening. opening.size;
+  knows = λ opening has. Unit {0};
 }
 
 -- a barrier asks where a wait leaves, its passes come to a door, and the last owes a resumption for

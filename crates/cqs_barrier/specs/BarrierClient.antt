@@ -326,6 +326,7 @@ barrier-client parties some low = record {
     few = λ c words log handed p has shown there.
         barrier-held_few (barrier_shown parties c words log) p has.held shown.barrier
         (held-at c.has p has there);
+    known = λ c words log handed p has shown there. tt;
     gathers = λ mine theirs k o. ⊎_elim (λ a. absurd a) (λ a. absurd a) o;
     hands_in = λ c words log handed k value shown.
         record { word = shown.word; barrier = shown.barrier };

@@ -41,7 +41,7 @@ module _ {T : Type 0} where
   abbrev pub waiting_in : View BarrierEntry T → List ℕ
   waiting_in v = numbers_of (plain_after v).waiters.line
 
-  -- The call rule. What the pass had seen is a beginning of what it has seen now, which is legal.
+  -- The call rule. What the pass had seen is a prefix of what it has seen now, which is legal.
   -- In the new part the entries that name the pass are just its own ones of the call, in order, and
   -- these name nobody else. The further ones, by which resumptions reach their waits, name nobody.
   -- A pass that was alone has seen just the entries of the call.

@@ -31,7 +31,7 @@ module _ {T : Type 0} where
     pub place : KnowsPlace v (leaving_at leaving)
 
   -- A step of the call found that so many are still to arrive: it was so of the plain barrier after
-  -- this history, which the pass has seen all of, and what it had seen before is the beginning of
+  -- this history, which the pass has seen all of, and what it had seen before is the prefix of
   -- it. The step's own entry, where it has one, comes next.
   pub record RemainingWas (v : View BarrierEntry T) (n : ℕ) (before own : List BarrierEntry)
       (w : View BarrierEntry T) : Type 0 where

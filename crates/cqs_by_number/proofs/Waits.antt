@@ -95,7 +95,8 @@ last_gone k (x ∷ xs) = dite (ℕ_discrete x k)
     ap (λ b. if b then without k (xs ++ k ∷ []) else x ∷ without k (xs ++ k ∷ [])) (ne_eqb x k apart) in
     let two : without k (x ∷ xs) ≡ x ∷ without k xs =
     ap (λ b. if b then without k xs else x ∷ without k xs) (ne_eqb x k apart) in
-    let a : length (without k (x ∷ xs ++ k ∷ [])) ≡ length (without k (xs ++ k ∷ [])) + 1 = ap length one ∙ omega arith in
+    let a : length (without k (x ∷ xs ++ k ∷ [])) ≡ length (without k (xs ++ k ∷ [])) + 1 =
+    ap length one ∙ omega arith in
     let b : length (without k (x ∷ xs)) ≡ length (without k xs) + 1 = ap length two ∙ omega arith in
     let rest = last_gone k xs in omega arith)
 

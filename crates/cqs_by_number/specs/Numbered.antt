@@ -7,6 +7,7 @@ use Rattle.cqs_by_number.specs.declared.caller.Caller.{Caller}
 use Rattle.cqs_by_number.specs.declared.numbered.NumberedSemaphore.{NumberedSemaphore}
 
 -- the hand holds the slot of the pass i, with nothing in it
-pub record Holds (n : NumberedSemaphore) (i : ℕ) (hand : Seat (Option Caller) (Semaphore Unparked)) : Type 0 where
+pub record Holds (n : NumberedSemaphore) (i : ℕ)
+    (hand : Seat (Option Caller) (Semaphore Unparked)) : Type 0 where
   pub table : hand.table_id ≡ n.table.shared.table_id
   pub slot : hand.me.1 ≡ (i, None) ∷ []

@@ -42,8 +42,8 @@ pub enum Answer {
     Pending,
     /// The wait is over, and no permit came of it.
     Cancelled,
-    /// The same, and a permit that was on its way to it is still to be passed on by `finish`. So far
-    /// the numbers were drawn.
+    /// The same, and a permit that was on its way to it is still to be passed on by `finish`. This
+    /// is the last number that was drawn.
     CancelledOwing(u64),
     /// The permit had come before, and the pass has it.
     TooLate,
@@ -55,7 +55,7 @@ pub enum Answer {
     Left(u64),
     /// The waiter of this number had left, and was told that the permit would be free: it is.
     Void(u64),
-    /// As many numbers were passed over as one call may; `finish` goes on. So far they were drawn.
+    /// As many numbers were passed over as one call may; `finish` goes on. This is the last of them.
     Under(u64),
     /// The state: the free permits, less those who wait with none on its way.
     State(i64),

@@ -7,9 +7,9 @@
 //! ```
 //!
 //! The passes lie in the slots of a table, each with the places of its waits and with what it owes.
-//! A call takes its pass by one exchange on the pass's mark, makes one call of the semaphore with it,
-//! and puts it back: no lock, and nobody waits. What the contracts of the semaphore ask of a caller
-//! is tested here, and refused by an answer that changes nothing.
+//! A call takes its pass by one exchange on the pass's mark, makes one call of the semaphore with
+//! it, and puts it back: no lock, and nobody waits. What the contracts of the semaphore ask of a
+//! caller is tested here, and refused by an answer that changes nothing.
 #![tactic(auto)]
 
 mod answers;

@@ -1,7 +1,11 @@
 //! One latch, call by call.
 
-use cqs_latch::{Down, Latch, LatchLeft, LatchPolled, LatchWait};
-use cqs_rule::{CancelMode, Config, MakeError};
+ghost use Rattle.std.specs.Prelude.{IsTrue};
+ghost use Rattle.cqs_latch.specs.Calls.{IsMine, IsReady};
+ghost use Rattle.cqs_rule.specs.Passes.{pass_view};
+
+use cqs_latch::{Down, Latch, LatchLeft, LatchPass, LatchPolled, LatchWait};
+use cqs_rule::{CancelMode, Config, MakeError, MeetError};
 use std::test::Fail;
 
 const CONFIG: Config = Config {
@@ -154,5 +158,78 @@ fn latches_in_and_out_of_range(rt: HostRuntime) -> Result<(), Fail> {
     };
     let made = Latch::new(rt.alloc(), MOST_COUNTS + 1, CancelMode::Smart, CONFIG);
     assert_eq!(rt; made.err(), Some(MakeError::BadConfig));
+    Ok(())
+}
+
+/// Waits and leaves again so often, and says whether it did each time.
+fn comes_and_goes(latch: &Latch, pass: &mut LatchPass, times: u32) -> bool
+    requires belongs { IsMine latch.now pass.old }
+    requires ready { IsReady (pass_view pass.old).facts }
+    ensures belongs { IsMine latch.now pass.new }
+    ensures ready { IsTrue result → IsReady (pass_view pass.new).facts }
+{
+    for _ in 0..times {
+        let Ok(LatchWait::Later(wait)) = latch.wait(pass) else {
+            return false;
+        };
+        let LatchLeft::Gone = latch.cancel(pass, wait) else {
+            return false;
+        };
+    }
+    true
+}
+
+#[test]
+fn an_opening_hands_back_after_64_numbers_and_finish_goes_on(rt: HostRuntime) -> Result<(), Fail> {
+    let config = Config {
+        passes: 1,
+        limit: 256,
+        slots: 4,
+    };
+    let (latch, mut pass) = Latch::new(rt.alloc(), 1, CancelMode::Smart, config)?;
+    assert!(rt; comes_and_goes(&latch, &mut pass, 150));
+    let Ok(LatchWait::Later(wait)) = latch.wait(&mut pass) else {
+        panic!(rt; "nothing was counted down");
+    };
+    assert_eq!(rt; wait.number(), 150);
+    let Ok(Down::LastOwing(owed)) = latch.count_down(&mut pass) else {
+        panic!(rt; "numbers 0 to 63 had left");
+    };
+    let Err(owed) = latch.finish(&mut pass, owed) else {
+        panic!(rt; "and so had numbers 64 to 127");
+    };
+    let Ok(()) = latch.finish(&mut pass, owed) else {
+        panic!(rt; "number 150 waits");
+    };
+    let LatchPolled::Through = latch.poll(&mut pass, wait) else {
+        panic!(rt; "the finish resumed who waits");
+    };
+    Ok(())
+}
+
+#[test]
+fn a_pass_that_waits_is_not_taken_in(rt: HostRuntime) -> Result<(), Fail> {
+    let (latch, mut pass) = Latch::new(rt.alloc(), 1, CancelMode::Simple, CONFIG)?;
+    let Ok(mut second) = latch.split(&mut pass) else {
+        panic!(rt; "two passes may be made");
+    };
+    let Ok(LatchWait::Later(wait)) = latch.wait(&mut second) else {
+        panic!(rt; "nothing was counted down");
+    };
+    let Err((given, MeetError::Busy)) = latch.meet(&mut pass, second) else {
+        panic!(rt; "the given pass waits");
+    };
+    let mut second = given;
+    assert!(rt; !latch.sole(&mut pass));
+    let LatchLeft::Gone = latch.cancel(&mut second, wait) else {
+        panic!(rt; "the latch is not open");
+    };
+    let Ok(()) = latch.meet(&mut pass, second) else {
+        panic!(rt; "the given pass waits no more");
+    };
+    assert!(rt; latch.sole(&mut pass));
+    let Ok(Down::Last) = latch.count_down(&mut pass) else {
+        panic!(rt; "the opener met the hole");
+    };
     Ok(())
 }

@@ -1,7 +1,7 @@
 -- The calls of a pass that is alone: its history is what it had seen and then the entries of the call, which is legal.
-use Rattle.std.proofs.Common.{◌≡◌, ℕ, ◌+◌, ◌<◌, ◌≤◌, Bool, true, false, List, [], ◌∷◌, ◌++◌, length, Option, Some, None, Result, Ok, Err, length-append, slice_get, take, sym, refl, ap, ◌∙◌, subst, append_assoc, take_at, pos, ◌<ℤ◌, arith}
+use Rattle.std.proofs.Common.{◌≡◌, ℕ, Bool, true, false, List, [], ◌∷◌, ◌++◌, length, Some, None, Result, Ok, Err, length-append, slice_get, take, sym, refl, ap, ◌∙◌, subst, append_assoc, take_at, arith}
 use Rattle.std.specs.List.{fold}
-use Rattle.std.proofs.lemmas.List.{append-nil, append_cancel_right}
+use Rattle.std.proofs.lemmas.List.{append-nil}
 use Rattle.std.proofs.lemmas.List.Sums.{fold-append}
 use Rattle.cqs_core.proofs.Places.{get-append_left, get-push_at}
 use Rattle.cqs_latch_object.specs.declared.entries.LatchEntry.{LatchEntry}

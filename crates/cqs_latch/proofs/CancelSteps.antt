@@ -1,5 +1,5 @@
 -- A cancel is its steps: the queue's cancel, and perhaps a resumption that goes on.
-use Rattle.std.proofs.Common.{◌≡◌, ℕ, ◌+◌, ◌<◌, ◌≤◌, Bool, true, false, not, List, [], ◌∷◌, ◌++◌, length, Option, Some, None, sym, refl, ap, ◌∙◌, subst, append_assoc, inl, inr, arith}
+use Rattle.std.proofs.Common.{◌≡◌, ℕ, Bool, true, false, not, List, [], ◌∷◌, ◌++◌, Option, Some, None, sym, refl, ap, ◌∙◌, subst, append_assoc, inl, inr, arith}
 use Rattle.std.proofs.lemmas.List.{append-nil}
 use Rattle.cqs_core.specs.declared.cells.CoreState.{CoreState}
 use Rattle.cqs_core.specs.declared.cells.CoreState.TheVariants as state
@@ -32,23 +32,20 @@ use Rattle.cqs_cancel.specs.Cancels.{Settled, Settles, facts_leaving}
 use Rattle.cqs_cancel.specs.declared.at_once.AtOnce.{AtOnce}
 use Rattle.cqs_cancel.specs.declared.at_once.AtOnce.TheVariants as once
 use Rattle.cqs_cancel.specs.declared.cancelling.Left.{Left}
-use Rattle.cqs_cancel.specs.declared.cancelling.Left.TheVariants.{Gone, GoneOwing, Late}
-use Rattle.cqs_latch.specs.declared.answers.LatchLeft.{LatchLeft}
+use Rattle.cqs_cancel.specs.declared.cancelling.Left.TheVariants.{Gone, GoneOwing}
 use Rattle.cqs_latch.specs.declared.answers.LatchLeft.TheVariants as gone
-use Rattle.cqs_latch.specs.declared.answers.Owed.{Owed}
 use Rattle.cqs_rule.specs.declared.config.CancelMode.{CancelMode}
 use Rattle.cqs_rule.specs.declared.config.CancelMode.TheVariants.{Smart, Simple}
-use Rattle.cqs_latch.specs.Calls.{IsReady, IsLegalOf, Rests}
-use Rattle.cqs_latch.specs.Causes.{primitive_of, cell_of, CellWas, CellWasOnce, WordWas}
+use Rattle.cqs_latch.specs.Calls.{IsReady, IsLegalOf}
+use Rattle.cqs_latch.specs.Causes.{primitive_of, cell_of, CellWas, CellWasOnce}
 use Rattle.cqs_latch.specs.Latch.{latch_object}
 use Rattle.cqs_latch.specs.LatchEvents as event
 use Rattle.cqs_latch.specs.LatchTold.{ReadsWaiters}
 use Rattle.cqs_latch.specs.LeftAnswers.{WasAsked, WentSo, HasLeft}
-use Rattle.cqs_latch.specs.Owed.{HasOwed}
 use Rattle.cqs_latch.specs.Steps.{GoesOn, as_left}
 use Rattle.cqs_latch.specs.Waking.{Ending, served_at, left_at, refused_at, ending_entries, woken_entries, handed_back, EndsSo}
 use Rattle.cqs_latch.proofs.Along.{Along, prefix-then, word-later}
-use Rattle.cqs_latch.proofs.Rules.{call-rule_ending, call-rule_own, called-weak}
+use Rattle.cqs_latch.proofs.Rules.{call-rule_ending, call-rule_own}
 use Rattle.cqs_latch.proofs.WakeSteps.{Ran, ended-cell, ended-ran, stopped-handed, woken-none}
 use Rattle.cqs_latch.proofs.WordsFound.{reads-waiters}
 

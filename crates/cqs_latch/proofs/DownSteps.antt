@@ -1,27 +1,26 @@
 -- A count down that opens the latch, and the end of what it owes, are their resumptions, one after the other.
-use Rattle.std.proofs.Common.{◌≡◌, inl, inr, ℕ, ◌+◌, ◌-◌, ◌<◌, ◌≤◌, List, [], ◌∷◌, ◌++◌, length, Option, Some, None, Result, Ok, Err, sym, refl, ap, ◌∙◌, subst, append_assoc, length-append, arith}
+use Rattle.std.proofs.Common.{◌≡◌, inl, inr, ℕ, ◌<◌, [], ◌∷◌, ◌++◌, length, Option, Some, None, Result, Ok, Err, sym, refl, ap, ◌∙◌, subst, append_assoc, length-append, arith}
+use Rattle.std.specs.Prelude.{IfSome}
 use Rattle.std.proofs.lemmas.List.{append-nil}
 use Rattle.cqs_core.specs.declared.doings.Doing.TheVariants as doing
 use Rattle.cqs_latch_object.specs.declared.entries.LatchEntry.{LatchEntry}
 use Rattle.cqs_latch_object.specs.declared.entries.LatchEntry.TheVariants as entry
-use Rattle.cqs_resume.specs.Resumes.{most_passed_over}
 use Rattle.cqs_rule.specs.declared.queue.tokens.Under.{Under}
 use Rattle.cqs_rule.specs.declared.view.View.{View}
 use Rattle.cqs_rule.specs.Called.{Called}
 use Rattle.cqs_rule.specs.Lists.{Has}
-use Rattle.cqs_rule.specs.Owed.{HasUnder, under_payload, under_reached}
+use Rattle.cqs_rule.specs.Owed.{under_reached}
 use Rattle.cqs_rule.proofs.Calls.{called-and}
 use Rattle.cqs_latch.specs.declared.answers.Down.{Down}
 use Rattle.cqs_latch.specs.declared.answers.Down.TheVariants.{Last, LastOwing}
 use Rattle.cqs_latch.specs.declared.answers.Owed.{Owed}
-use Rattle.cqs_latch.specs.Calls.{IsReady, IsLegalOf, Rests}
-use Rattle.cqs_latch.specs.CountAnswers.{Opens, HandsBack, HasCounted, HasFinished, IsReadyAfter}
+use Rattle.cqs_latch.specs.Calls.{IsLegalOf}
+use Rattle.cqs_latch.specs.CountAnswers.{Opens, HasCounted, HasFinished}
 use Rattle.cqs_latch.specs.Latch.{latch_object}
 use Rattle.cqs_latch.specs.Owed.{HasOwed, owed_under, owed_further, owed_reached}
-use Rattle.cqs_latch.specs.Waking.{Ending, woken_entries, IsGrown, NextHanded, OnEnded, OnHanded, On, Woke, Wakes, PassedOver, ending_entries}
-use Rattle.cqs_latch.proofs.Along.{Along, along-and}
+use Rattle.cqs_latch.specs.Waking.{Ending, woken_entries, OnEnded, OnHanded, Wakes, ending_entries}
 use Rattle.cqs_latch.proofs.Rules.{call-rule_ending}
-use Rattle.cqs_latch.proofs.WakeSteps.{Ran, Handed, ran-then, woke-ran, next-handed, on-ran, stopped-handed, woken-none}
+use Rattle.cqs_latch.proofs.WakeSteps.{ran-then, woke-ran, next-handed, on-ran, stopped-handed, woken-none}
 
 -- the answers, by what is still owed
 abbrev pub down_answer : Option Owed → Down
@@ -96,9 +95,10 @@ module _ {T : Type 0} (v : View LatchEntry T) (own : Has v.number v.own) where
 
   -- one that was handed back went on, and those after it followed
   pub on-woke : (owed : Owed) (e : Ending) (u w : View LatchEntry T) (result : Option Owed) → HasOwed v.facts owed
-      → OnEnded (owed_under owed) e v u → Wakes (owed_further owed) u result w → IsLegalOf w
+      → OnEnded (owed_under owed) e v u → Wakes (owed_further owed) u result w
+      → IfSome result (λ again. owed_reached owed < owed_reached again) → IsLegalOf w
       → HasFinished owed v (finish_answer result) w
-  on-woke owed e u w None has on (ends, all, woke) legal =
+  on-woke owed e u w None has on (ends, all, woke) grown legal =
       let first = on-ran (owed_under owed) e v u on in
       let rest = woke-ran ends u w first.1.idle woke in
       let r = ran-then (ending_entries e) (woken_entries ends) 0 (length ends) first.0 rest.0 v u w first.1 rest.1 in
@@ -120,7 +120,7 @@ module _ {T : Type 0} (v : View LatchEntry T) (own : Has v.number v.own) where
           },
         ),
       )
-  on-woke owed e u w (Some again) has on (ends, x, all, woke, next) legal =
+  on-woke owed e u w (Some again) has on (ends, x, all, woke, next) grown legal =
       let first = on-ran (owed_under owed) e v u on in
       let rest = woke-ran ends u x first.1.idle woke in
       let r = ran-then (ending_entries e) (woken_entries ends) 0 (length ends) first.0 rest.0 v u x first.1 rest.1 in
@@ -151,6 +151,7 @@ module _ {T : Type 0} (v : View LatchEntry T) (own : Has v.number v.own) where
             };
             waits_are = h.waits ∙ r.waits;
           },
+          grown,
           inr (e, ends, u, x, refl, all, on, woke, next),
         ),
       )
@@ -175,7 +176,8 @@ module _ {T : Type 0} (v : View LatchEntry T) (own : Has v.number v.own) where
             };
             waits_are = h.waits;
           },
-          inl (refl, refl, grown, on),
+          grown,
+          inl (refl, refl, on),
         ),
       )
 

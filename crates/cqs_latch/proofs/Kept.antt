@@ -1,5 +1,5 @@
 -- A pass keeps its waits through the calls that don't close them.
-use Rattle.std.proofs.Common.{◌≡◌, ◌≢◌, ℕ, List, [], ◌∷◌, ◌++◌, None, Some, Result, Ok, Err, OnOk, OnErr, sym, ap, ◌∙◌, subst}
+use Rattle.std.proofs.Common.{◌≡◌, ℕ, List, [], ◌∷◌, None, Some, Result, Ok, Err, OnOk, OnErr, sym, ap, ◌∙◌, subst}
 use Rattle.cqs_latch_object.specs.declared.entries.LatchEntry.{LatchEntry}
 use Rattle.cqs_rule.specs.declared.queue.tokens.Wait.{Wait}
 use Rattle.cqs_rule.specs.declared.view.Facts.{Facts}
@@ -74,7 +74,7 @@ module _ {T : Type 0} where
       → HasFinished owed v answer w → KeepsWaits v w
   keeps-finished owed (Ok done) v w (ends, rule, (e, rest, u, is, all, on, woke, rests)) =
       keeps-all v w rule.called.same.number rests.waits_are
-  keeps-finished owed (Err again) v w (ends, rule, (hands, more)) =
+  keeps-finished owed (Err again) v w (ends, rule, (hands, grown, more)) =
       keeps-all v w rule.called.same.number hands.waits_are
 
   pub ready-finished : (owed : Owed) (v w : View LatchEntry T) → HasFinished owed v (Ok tt) w → IsReady w.facts
@@ -82,7 +82,7 @@ module _ {T : Type 0} where
 
   pub owes-finished : (owed again : Owed) (v w : View LatchEntry T) → HasFinished owed v (Err again) w
       → HasOwed w.facts again
-  owes-finished owed again v w (ends, rule, (hands, more)) = hands.owes
+  owes-finished owed again v w (ends, rule, (hands, grown, more)) = hands.owes
 
   pub keeps-left : (mode : CancelMode) (k : ℕ) (answer : LatchLeft) (v w : View LatchEntry T)
       → HasLeft mode k v answer w → KeepsOtherWaits k v w

@@ -6,9 +6,11 @@ pub mod Along
 pub mod WaitSteps
 pub mod PollSteps
 pub mod WakeSteps
+pub mod Grown
 pub mod CountSteps
 pub mod DownSteps
 pub mod CancelSteps
 pub mod Kept
 pub mod Simple
 pub mod AloneSteps
+pub mod AloneOpen

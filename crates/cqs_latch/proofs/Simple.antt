@@ -1,9 +1,8 @@
 -- What the mode of a latch means for its queue: in smart mode resumes pass on, and in simple mode its cells are plain.
-use Rattle.std.proofs.Common.{◌≡◌, ℕ, List, Option, Some, None, slice_get, refl, sym, ap, ◌∙◌, subst}
+use Rattle.std.proofs.Common.{◌≡◌, ℕ, Option, Some, None, slice_get, refl, ap, ◌∙◌, subst}
 use Rattle.cqs_core.specs.declared.cells.CoreCell.{CoreCell}
 use Rattle.cqs_core.specs.Numbered.{EachAt}
 use Rattle.cqs_core.specs.QueueState.{Queue}
-use Rattle.cqs_latch_object.specs.declared.entries.LatchEntry.{LatchEntry}
 use Rattle.cqs_resume.specs.AtOnce.{IsPlain, ShowsPlain}
 use Rattle.cqs_rule.specs.declared.config.CancelMode.{CancelMode}
 use Rattle.cqs_rule.specs.declared.config.CancelMode.TheVariants.{Smart, Simple}

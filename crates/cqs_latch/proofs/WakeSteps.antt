@@ -1,5 +1,5 @@
 -- Resumptions of a latch, one after the other: each ended at a number, or was handed back.
-use Rattle.std.proofs.Common.{◌≡◌, ◌⊎◌, inl, inr, ℕ, zero, suc, ◌+◌, ◌-◌, ◌<◌, ◌≤◌, Bool, true, false, List, [], ◌∷◌, ◌++◌, length, Option, Some, None, sym, refl, ap, ◌∙◌, subst, append_assoc, length-append, arith}
+use Rattle.std.proofs.Common.{◌≡◌, inl, inr, ℕ, suc, ◌+◌, ◌-◌, ◌≤◌, Bool, true, false, List, [], ◌∷◌, ◌++◌, length, Option, Some, None, sym, refl, ap, ◌∙◌, subst, append_assoc, arith}
 use Rattle.std.proofs.lemmas.List.{append-nil}
 use Rattle.cqs_core.specs.declared.cells.CoreState.{CoreState}
 use Rattle.cqs_core.specs.declared.cells.CoreState.TheVariants as state
@@ -14,8 +14,8 @@ use Rattle.cqs_resume.specs.declared.resumed.Resumed.TheVariants as resumed
 use Rattle.cqs_resume.specs.AtOnce.{MeetsAtOnce, BegunAtOnce, FinishedAtOnce}
 use Rattle.cqs_resume.specs.Begins.{Begun}
 use Rattle.cqs_resume.specs.Meets.{Met}
-use Rattle.cqs_resume.specs.Resumes.{IsFurther, Ended, Stopped, Resumes, most_passed_over, most_after_first}
-use Rattle.cqs_resume.specs.Rounds.{Round, IsOpenedWith, AreDrawn, draw_entries, round_entries, over_entries, draw_seen, round_seen, all_seen, drawn_in, one_if, numbers}
+use Rattle.cqs_resume.specs.Resumes.{Ended, Stopped, Resumes, most_passed_over, most_after_first}
+use Rattle.cqs_resume.specs.Rounds.{Round, IsOpenedWith, draw_entries, round_entries, over_entries, draw_seen, round_seen, all_seen, drawn_in, one_if, numbers}
 use Rattle.cqs_rule.specs.declared.queue.tokens.Under.{Under}
 use Rattle.cqs_rule.specs.declared.view.Facts.{Facts}
 use Rattle.cqs_rule.specs.declared.view.Sighting.{Sighting}
@@ -25,13 +25,11 @@ use Rattle.cqs_rule.specs.Called.{Called}
 use Rattle.cqs_rule.specs.Counts.{Drew}
 use Rattle.cqs_rule.specs.Exchanges.{FoundCell, HasCell}
 use Rattle.cqs_rule.specs.Layout.{resumes_place}
-use Rattle.cqs_rule.specs.Owed.{HasUnder, under_payload, under_ticket, under_reached}
+use Rattle.cqs_rule.specs.Owed.{HasUnder, under_payload, under_ticket}
 use Rattle.cqs_rule.specs.Saw.{WasFound}
-use Rattle.cqs_latch.specs.declared.answers.Owed.{Owed}
 use Rattle.cqs_latch.specs.Causes.{primitive_of, cell_of, CellWas}
 use Rattle.cqs_latch.specs.Latch.{latch_object}
-use Rattle.cqs_latch.specs.Owed.{owed_under, owed_further}
-use Rattle.cqs_latch.specs.Waking.{Ending, served_at, left_at, refused_at, missed_at, ending_entries, woken_entries, handed_back, IsGrown, EndsSo, NextEnded, NextHanded, Next, OnEnded, OnHanded, On, Woke, Wakes, PassedOver}
+use Rattle.cqs_latch.specs.Waking.{Ending, served_at, left_at, refused_at, missed_at, ending_entries, woken_entries, handed_back, NextEnded, NextHanded, Next, OnEnded, On, Woke}
 use Rattle.cqs_latch.proofs.Along.{Along, along-first, along-and}
 use Rattle.cqs_latch.proofs.Rules.{NoneName, called-weak}
 
@@ -425,10 +423,3 @@ module _ {T : Type 0} where
   ended-on under v w (once.Served k) f = (served_at k, inr f)
   ended-on under v w (once.Left k) f = (left_at k, inr f)
   ended-on under v w (once.Missed k) f = (missed_at k, f)
-
--- one that was handed back again has grown
-pub resumed-grown : (under : Under) (r : Resumed) → IsFurther (under_reached under) r → IsGrown under (handed_back r)
-resumed-grown under (resumed.Served k) further = tt
-resumed-grown under (resumed.Left k) further = tt
-resumed-grown under (resumed.Refused k) further = tt
-resumed-grown under (resumed.Under again) further = further

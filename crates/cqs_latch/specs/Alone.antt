@@ -1,6 +1,6 @@
 -- A pass that is alone: each of its calls answers as the plain latch does after all that the pass
 -- has seen.
-use Rattle.std.specs.Prelude.{◌≡◌, ℕ, ◌+◌, ◌<◌, ◌≤◌, false, Result, Ok, Err}
+use Rattle.std.specs.Prelude.{◌≡◌, ℕ, ◌+◌, ◌<◌, ◌≤◌, true, false, [], Result, Ok, Err}
 use Rattle.cqs_core.specs.QueueWaiters.{Waits, IsServed}
 use Rattle.cqs_latch_object.specs.declared.entries.LatchEntry.{LatchEntry}
 use Rattle.cqs_latch_object.specs.LatchObject as plain
@@ -12,6 +12,7 @@ use Rattle.cqs_latch.specs.declared.answers.Down.{Down}
 use Rattle.cqs_latch.specs.declared.answers.Down.TheVariants.{Left, Last, LastOwing, Already}
 use Rattle.cqs_latch.specs.declared.answers.LatchLeft.{LatchLeft}
 use Rattle.cqs_latch.specs.declared.answers.LatchLeft.TheVariants.{Gone, GoneOwing, TooLate}
+use Rattle.cqs_latch.specs.declared.answers.Owed.{Owed}
 use Rattle.cqs_latch.specs.declared.answers.LatchPolled.{LatchPolled}
 use Rattle.cqs_latch.specs.declared.answers.LatchPolled.TheVariants.{Through, Pending}
 use Rattle.cqs_latch.specs.declared.answers.LatchWait.{LatchWait}
@@ -29,6 +30,22 @@ module _ {T : Type 0} where
   IsPlainCount v (Left left) = ((plain_after v).count ≡ left + 1) × (0 < left)
   IsPlainCount v Last = (plain_after v).count ≡ 1
   IsPlainCount v (LastOwing owed) = (plain_after v).count ≡ 1
+
+  -- The latch is open, and nobody waits for it any more: each who had waited was served, or left.
+  abbrev pub HasServedAll : View LatchEntry T → Type 0
+  HasServedAll w = ((plain_after w).opened ≡ true) × ((plain_after w).waiters.line ≡ [])
+
+  -- the last count down serves all who wait, unless a resumption is still owed
+  abbrev pub IsPlainOpening : Down → View LatchEntry T → Type 0
+  IsPlainOpening Already w = Unit {0}
+  IsPlainOpening (Left left) w = Unit {0}
+  IsPlainOpening Last w = HasServedAll w
+  IsPlainOpening (LastOwing owed) w = (plain_after w).opened ≡ true
+
+  -- and so does the end of what was owed
+  abbrev pub IsPlainFinish : Result (Unit {0}) Owed → View LatchEntry T → Type 0
+  IsPlainFinish (Ok done) w = HasServedAll w
+  IsPlainFinish (Err again) w = (plain_after w).opened ≡ true
 
   -- and a wait, with the next number
   abbrev pub IsPlainWait : View LatchEntry T → Result LatchWait AcquireError → Type 0

@@ -32,7 +32,7 @@ module _ {T : Type 0} where
   abbrev pub IsLegalOf : View LatchEntry T → Type 0
   IsLegalOf v = IsLegal (is_simple v.opening.mode) v.opening.size v.seen
 
-  -- The call rule. What the pass had seen is a beginning of what it has seen now, which is legal.
+  -- The call rule. What the pass had seen is a prefix of what it has seen now, which is legal.
   -- In the new part the entries that name the pass are just its own ones of the call, in order.
   -- These name nobody else, and the further ones, by which resumptions reach their numbers, name
   -- nobody. What the pass has seen now ends with the last ones. A pass that was alone has seen just

@@ -27,7 +27,7 @@ module _ {T : Type 0} where
 
   -- A step of the call found the word i to be n, and this held of it and of the plain latch at its
   -- place: after this history, which the pass has seen all of, and of which what it had seen before
-  -- the call is a beginning. The step's own entry, where it has one, comes next.
+  -- the call is a prefix. The step's own entry, where it has one, comes next.
   pub record WordWas (i : ℕ) (Reads : ℕ → ℕ → Latch → Type 0) (v : View LatchEntry T) (n : ℕ)
       (before own : List LatchEntry) (w : View LatchEntry T) : Type 0 where
     pub since : IsPrefix v.seen before

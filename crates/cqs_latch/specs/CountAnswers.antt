@@ -26,6 +26,13 @@ IsReadyAfter (Left left) facts = IsReady facts
 IsReadyAfter Last facts = IsReady facts
 IsReadyAfter (LastOwing owed) facts = HasOwed facts owed
 
+-- no resumption was handed back
+abbrev pub OwesNothing : Down → Type 0
+OwesNothing Already = Unit {0}
+OwesNothing (Left left) = Unit {0}
+OwesNothing Last = Unit {0}
+OwesNothing (LastOwing owed) = ⊥
+
 module _ {T : Type 0} where
   -- One was taken from the count, which was found as this.
   pub record WasCounted (v : View LatchEntry T) (left : ℕ) (own : List LatchEntry)
@@ -86,8 +93,8 @@ module _ {T : Type 0} where
       × Counts v answer ends w
 
   -- All that were owed ended: the one that was handed back, which went on from its ticket, and
-  -- those after it. Or that one was handed back again, and the number drawn for it last has grown;
-  -- or it ended, and one after it was handed back.
+  -- those after it. Or that one was handed back again; or it ended, and one after it was handed
+  -- back. Then the number that was drawn last has grown.
   abbrev pub Finishes : Owed → View LatchEntry T → Result (Unit {0}) Owed → List Ending
       → View LatchEntry T → Type 0
   Finishes owed v (Ok done) ends w =
@@ -95,9 +102,8 @@ module _ {T : Type 0} where
       × (length rest ≡ owed_further owed) × OnEnded (owed_under owed) e v u × Woke rest u w
       × Rests v.facts.waits w
   Finishes owed v (Err again) ends w =
-      HandsBack again v w
+      HandsBack again v w × (owed_reached owed < owed_reached again)
       × (((ends ≡ []) × (owed_further again ≡ owed_further owed)
-      × (owed_reached owed < owed_reached again)
       × OnHanded (owed_under owed) (owed_under again) v w)
       ⊎ ((e : Ending) × (rest : List Ending) × (u : View LatchEntry T) × (x : View LatchEntry T)
       × (ends ≡ e ∷ rest) × (length rest + 1 + owed_further again ≡ owed_further owed)

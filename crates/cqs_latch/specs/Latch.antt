@@ -70,6 +70,7 @@ latch_object = record {
   entries = λ step p k payload. step_entries step p k;
   gains = nothing_more;
   most = λ opening. 0;
+  knows = λ opening has. Unit {0};
 }
 
 -- In smart mode the latch is asked where a wait leaves; in simple mode a wait leaves at once. Its

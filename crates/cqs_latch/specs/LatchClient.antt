@@ -486,6 +486,7 @@ latch-client mode size = record {
     steps = λ s has payload k suits kept o. absurd o;
     few = λ c words log handed p has shown there.
         let none : has.held ≡ 0 = shown.none_held.at p has there in omega arith;
+    known = λ c words log handed p has shown there. tt;
     gathers = λ mine theirs k o. ⊎_elim (λ a. absurd a) (λ a. absurd a) o;
     hands_in = λ c words log handed k value shown. shown;
   };

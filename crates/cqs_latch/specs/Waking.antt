@@ -33,10 +33,11 @@ handed_back (resumed.Left k) = None
 handed_back (resumed.Refused k) = None
 handed_back (resumed.Under under) = Some under
 
--- where it is handed back again, the number that was drawn for it last has grown
-abbrev pub IsGrown : Under → Option Under → Type 0
-IsGrown under None = Unit {0}
-IsGrown under (Some again) = under_reached under < under_reached again
+-- The number that was drawn last for the resumptions of a pass, at first this, never falls; and
+-- where one is handed back, it has grown.
+abbrev pub HasGrown : {T : Type 0} → ℕ → Option Under → View LatchEntry T → Type 0
+HasGrown reached None w = reached ≤ w.facts.reached
+HasGrown reached (Some under) w = reached < under_reached under
 
 abbrev pub ending_entries : Ending → List LatchEntry
 ending_entries (served_at k) = entry.Deliver k ∷ []

@@ -2,11 +2,13 @@
 
 ghost use Rattle.std.specs.Prelude.{◌≡◌, ◌+◌, true, pos, ◌≤ℤ◌, IsOk, IfOk, IfErr, OnOk};
 ghost use Rattle.cqs_words.specs.State.{count_in, is_above_zero};
-ghost use Rattle.cqs_latch.specs.Alone.{IsPlainCount};
-ghost use Rattle.cqs_latch.specs.CountAnswers.{HasCounted, HasFinished, IsReadyAfter};
+ghost use Rattle.cqs_latch.specs.Alone.{IsPlainCount, IsPlainFinish, IsPlainOpening};
+ghost use Rattle.cqs_latch.specs.CountAnswers.{HasCounted, HasFinished, IsReadyAfter, OwesNothing};
+ghost use Rattle.cqs_latch.specs.LatchMade.{mode_of};
 ghost use Rattle.cqs_latch.specs.Owed.{HasOwed};
 ghost use Rattle.cqs_latch.specs.Calls.{IsReady, IsMine, KeepsWaits};
-ghost use Rattle.cqs_rule.specs.Passes.{pass_view};
+ghost use Rattle.cqs_rule.specs.Passes.{pass_view, client_of};
+ghost use Rattle.cqs_rule.specs.declared.config.CancelMode.TheVariants.{Simple};
 
 use crate::answers::{Down, Owed};
 use crate::events::counted;
@@ -25,10 +27,14 @@ impl Latch {
         ensures never_crowded { IsOk result }
         ensures counted { IfOk result
             (λ down. HasCounted (pass_view pass.old) down (pass_view pass.new)) }
+        ensures simple_ends { mode_of (client_of self.now.queue) ≡ Simple
+            → IfOk result OwesNothing }
         ensures ready { IfOk result (λ down. IsReadyAfter down (pass_view pass.new).facts) }
         ensures keeps { KeepsWaits (pass_view pass.old) (pass_view pass.new) }
         ensures alone { (pass_view pass.old).alone ≡ true
             → IfOk result (λ down. IsPlainCount (pass_view pass.old) down) }
+        ensures alone_opens { (pass_view pass.old).alone ≡ true
+            → IfOk result (λ down. IsPlainOpening down (pass_view pass.new)) }
     {
         let loaded = load_to_count(&self.queue, pass);
         if !StateWord::is_above_zero(loaded) {
@@ -56,9 +62,12 @@ impl Latch {
         requires owes { HasOwed (pass_view pass.old).facts owed }
         ensures belongs { IsMine self.now pass.new }
         ensures finished { HasFinished owed (pass_view pass.old) result (pass_view pass.new) }
+        ensures simple_ends { mode_of (client_of self.now.queue) ≡ Simple → IsOk result }
         ensures ready { OnOk result (IsReady (pass_view pass.new).facts) }
         ensures owes { IfErr result (λ again. HasOwed (pass_view pass.new).facts again) }
         ensures keeps { KeepsWaits (pass_view pass.old) (pass_view pass.new) }
+        ensures alone { (pass_view pass.old).alone ≡ true
+            → IsPlainFinish result (pass_view pass.new) }
     {
         let Owed { under, further } = owed;
         if let Some(under) = self.wake_on(pass, under) {

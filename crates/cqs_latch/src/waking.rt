@@ -1,11 +1,14 @@
 //! The resumptions of an opened latch, one after the other.
 
-ghost use Rattle.std.specs.Prelude.{◌≡◌, ◌<◌, ◌+◌};
+ghost use Rattle.std.specs.Prelude.{◌≡◌, ◌<◌, ◌+◌, None, IfSome};
 ghost use Rattle.cqs_core.specs.declared.doings.Doing.TheVariants as doing;
 ghost use Rattle.cqs_latch.specs.Calls.{IsMine};
-ghost use Rattle.cqs_latch.specs.Waking.{IsGrown, Next, On, Wakes};
-ghost use Rattle.cqs_rule.specs.Owed.{HasUnder};
-ghost use Rattle.cqs_rule.specs.Passes.{pass_view};
+ghost use Rattle.cqs_latch.specs.LatchMade.{mode_of};
+ghost use Rattle.cqs_latch.specs.Owed.{owed_reached};
+ghost use Rattle.cqs_latch.specs.Waking.{HasGrown, Next, On, Wakes};
+ghost use Rattle.cqs_rule.specs.Owed.{HasUnder, under_reached};
+ghost use Rattle.cqs_rule.specs.Passes.{pass_view, client_of};
+ghost use Rattle.cqs_rule.specs.declared.config.CancelMode.TheVariants.{Smart, Simple};
 
 use crate::answers::Owed;
 use crate::latch::{Latch, LatchPass};
@@ -21,6 +24,9 @@ impl Latch {
         requires payload { 0 < many → (pass_view pass.old).facts.has.payload ≡ 0 }
         ensures belongs { IsMine self.now pass.new }
         ensures wakes { Wakes many (pass_view pass.old) result (pass_view pass.new) }
+        ensures grown { IfSome result
+            (λ owed. (pass_view pass.old).facts.reached < owed_reached owed) }
+        ensures simple { mode_of (client_of self.now.queue) ≡ Simple → result ≡ None }
     {
         let mut left = many;
         while left > 0 {
@@ -43,6 +49,9 @@ impl Latch {
         requires payload { (pass_view pass.old).facts.has.payload ≡ 0 }
         ensures belongs { IsMine self.now pass.new }
         ensures next { Next (pass_view pass.old) result (pass_view pass.new) }
+        ensures grown { mode_of (client_of self.now.queue) ≡ Smart
+            → HasGrown (pass_view pass.old).facts.reached result (pass_view pass.new) }
+        ensures simple { mode_of (client_of self.now.queue) ≡ Simple → result ≡ None }
     {
         match self.mode {
             CancelMode::Smart => handed_back(begin(&self.queue, pass, 0)),
@@ -59,7 +68,9 @@ impl Latch {
         requires owes { HasUnder (pass_view pass.old).facts under }
         ensures belongs { IsMine self.now pass.new }
         ensures on { On under (pass_view pass.old) result (pass_view pass.new) }
-        ensures grown { IsGrown under result }
+        ensures grown { mode_of (client_of self.now.queue) ≡ Smart
+            → HasGrown (under_reached under) result (pass_view pass.new) }
+        ensures simple { mode_of (client_of self.now.queue) ≡ Simple → result ≡ None }
     {
         match self.mode {
             CancelMode::Smart => handed_back(finish(&self.queue, pass, under)),

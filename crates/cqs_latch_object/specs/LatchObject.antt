@@ -16,7 +16,7 @@ pub record Latch : Type 0 where
   -- the numbers of those who left, for which a resumption is still to come
   pub holes : List ℕ
 
--- a latch opens with its count; one of none is open from the beginning
+-- a latch opens with its count; one of none is open from the start
 abbrev pub opening : Bool → ℕ → Latch
 opening simple count = record {
   simple = simple;

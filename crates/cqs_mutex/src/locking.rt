@@ -1,5 +1,6 @@
 //! The lock, and the try.
 
+ghost use Rattle.std.specs.Prelude.{IsErrOf};
 ghost use Rattle.cqs_rule.specs.Passes.{pass_view};
 ghost use Rattle.cqs_semaphore.specs.Calls.{IsReady};
 ghost use Rattle.cqs_mutex.specs.Calls.{HasLocked, HasTried, LockedHolds, TriedHolds};
@@ -19,6 +20,7 @@ impl<T: Send + Drop> Mutex<T> {
         requires ready { IsReady (pass_view pass.old).facts }
         ensures belongs { Belongs self.now pass.new }
         ensures locked { HasLocked (pass_view pass.old) result (pass_view pass.new) }
+        ensures never_crowded { ¬ IsErrOf result AcquireError.Crowded }
         ensures holds { LockedHolds result (pass_view pass.new) }
         ensures ready { IsReady (pass_view pass.new).facts }
     {

@@ -1,6 +1,6 @@
 -- The calls of a pass that is alone: between two of them no element is on its way where somebody waits, so each is
 -- the plain pool's.
-use Rattle.std.proofs.Common.{◌≡◌, ◌≢◌, ◌⊎◌, inl, inr, ℕ, zero, suc, ◌+◌, ◌<◌, ◌≤◌, true, List, [], ◌∷◌, ◌++◌, length, Option, Some, None, slice_get, take, sym, refl, ap, ◌∙◌, subst, append_assoc, arith, take_at, ⊎_elim, zero-add, ◌==◌, eq-eqb}
+use Rattle.std.proofs.Common.{◌≡◌, ◌≢◌, ◌⊎◌, inl, inr, ℕ, zero, suc, ◌+◌, ◌<◌, ◌≤◌, true, List, [], ◌∷◌, ◌++◌, length, Option, Some, None, slice_get, take, sym, refl, ap, ◌∙◌, subst, append_assoc, arith, take_at, ⊎_elim, zero-add}
 use Rattle.std.specs.List.{fold}
 use Rattle.std.proofs.lemmas.Bool.{cases_lt}
 use Rattle.std.proofs.lemmas.List.{length_push, append_cancel_right}
@@ -21,7 +21,7 @@ use Rattle.cqs_core.specs.QueueState.{Queue}
 use Rattle.cqs_core.specs.QueueWaiters.{Waits}
 use Rattle.cqs_core.specs.Resting.{IsIdle}
 use Rattle.cqs_core.proofs.Places.{get-append_left, get-push_at, get-below}
-use Rattle.cqs_core.proofs.Counts.{bit, count_by-at}
+use Rattle.cqs_core.proofs.Counts.{count_by-at}
 use Rattle.cqs_core.proofs.Quiet.{count_at-some, none-going, picked-none, cases_waiter, not-in_line, waits-ahead}
 use Rattle.cqs_core.proofs.Rising.{in-none, in-behind}
 use Rattle.cqs_pool_object.specs.declared.entries.PoolEntry.{PoolEntry}
@@ -31,15 +31,12 @@ use Rattle.cqs_pool_object.specs.PoolNames.{entry_names}
 use Rattle.cqs_pool_object.specs.PoolObject.{Pool, opening, IsGiven}
 use Rattle.cqs_pool_object.specs.PoolOrder.{IsByOne, IsFirstOnWay}
 use Rattle.cqs_pool_object.specs.PoolObject.{times}
-use Rattle.cqs_pool_object.specs.PoolShown.{PoolShape}
-use Rattle.cqs_pool_object.specs.PoolSteps.{hold_of}
-use Rattle.cqs_pool_object.proofs.PoolCounts.{times-cons, times-without}
 use Rattle.cqs_pool_object.proofs.PoolOrder.{first-taken}
 use Rattle.cqs_rule.specs.declared.view.View.{View}
 use Rattle.cqs_rule.specs.declared.view.Opening.{Opening}
 use Rattle.cqs_rule.specs.Alone.{IsAlone, TellsAlone}
 use Rattle.cqs_rule.specs.Hidden.{state_at, state_in}
-use Rattle.cqs_rule.specs.Lists.{Has}
+use Rattle.cqs_rule.specs.Lists.{Has, IsDistinct}
 use Rattle.cqs_pool.specs.declared.answers.Placed.{Placed}
 use Rattle.cqs_pool.specs.declared.answers.Placed.TheVariants.{Sent, Left, Under}
 use Rattle.cqs_pool.specs.Alone.{IsFirstOf, CanEnd, IsPlainPut, IsPlainEnd, IsOnlyCaller}
@@ -47,8 +44,7 @@ use Rattle.cqs_pool.specs.Answers.{Ends}
 use Rattle.cqs_pool.specs.Calls.{CallRule, plain_after}
 use Rattle.cqs_pool.specs.Causes.{primitive_of, CellHad}
 use Rattle.cqs_pool.specs.Entries.{placed_further}
-use Rattle.cqs_pool.specs.Pool.{ShowsPool, pool_shown}
-use Rattle.cqs_pool.specs.PoolIsClient.{hold-at, hold-is, has-in, once-held}
+use Rattle.cqs_pool.specs.Pool.{HasEach, ShowsPool, pool_shown}
 use Rattle.cqs_pool.specs.PoolSize.{elements_of}
 use Rattle.cqs_pool.proofs.Rules.{part-others}
 
@@ -356,19 +352,6 @@ module _ {T : Type 0} where
       let brings : was.hidden.payloads k ≡ e = was.holds.1 ∙ had.1 in
       subst (λ (z : ℕ × List ℕ). IsFirstOnWay z.0 z.1) (λ i. (brings i, (object i).way)) first
 
-  -- no element comes twice
-  pub new-alone : (w : View PoolEntry T) (e : ℕ) (before : List ℕ) → TellsAlone primitive_of w → w.weight ≡ 1
-      → w.alone ≡ true → w.facts.has.slots ≡ e ∷ before → Has e before → ⊥
-  new-alone w e before tells_it one alone slots has =
-      let a : IsAlone primitive_of w = tells_it one alone in
-      let s : PoolShape = pool_shown (elements_of a.client) a.hidden w.seen in
-      let there = hold-at a.hidden.has w.number w.facts.has a.stands.has in
-      let hold : hold_of s.holds w.number ≡ e ∷ before =
-      hold-is a.hidden.has w.number w.facts.has a.stands.has ∙ slots in
-      let once : times e (e ∷ before) ≤ 1 =
-      subst (λ xs. times e xs ≤ 1) hold
-      (once-held s w.number e a.shown.is_pool (get-below s.holds w.number w.facts.has.slots there)) in
-      let first = times-cons e e before in
-      let here : bit (e == e) ≡ 1 = ap bit (eq-eqb e e refl) in
-      let some = times-without e e before (has-in e before has) in
-      omega arith
+-- no element comes twice
+pub new-one : (size e : ℕ) (before slots : List ℕ) → HasEach size slots → slots ≡ e ∷ before → Has e before → ⊥
+new-one size e before slots known is = (subst IsDistinct is known.once).0

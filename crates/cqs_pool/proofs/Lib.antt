@@ -7,3 +7,4 @@ pub mod ResumeSteps
 pub mod PutSteps
 pub mod CancelSteps
 pub mod AloneSteps
+pub mod Values

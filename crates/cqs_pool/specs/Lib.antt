@@ -10,3 +10,4 @@ pub mod Answers
 pub mod Alone
 pub mod Steps
 pub mod Seats
+pub mod Values

@@ -1,6 +1,6 @@
 -- The pool as a client: it uses no words, and shows the same whatever they are; its elements are
 -- values in cells, what passes bring, and what they have in hand.
-use Rattle.std.specs.Prelude.{◌≡◌, ◌≢◌, ℕ, false, map, List, [], ◌∷◌}
+use Rattle.std.specs.Prelude.{◌≡◌, ◌≢◌, ℕ, ◌<◌, false, map, List, [], ◌∷◌}
 use Rattle.cqs_core.specs.declared.cells.CoreCell.{CoreCell}
 use Rattle.cqs_core.specs.declared.cells.CoreState.TheVariants as state
 use Rattle.cqs_core.specs.Numbered.{EachAt}
@@ -13,6 +13,7 @@ use Rattle.cqs_pool_object.specs.PoolSteps.{step_entries}
 use Rattle.cqs_rule.specs.declared.config.CancelMode.TheVariants.{Smart}
 use Rattle.cqs_rule.specs.declared.view.Has.{Has}
 use Rattle.cqs_rule.specs.Hidden.{Hidden, Gains}
+use Rattle.cqs_rule.specs.Lists.{IsDistinct, Has as In}
 use Rattle.cqs_rule.specs.Manner.{Manner, passes_on, elements}
 use Rattle.cqs_rule.specs.Object.{Object, Primitive}
 
@@ -50,6 +51,11 @@ shows_pool size c words log handed = ShowsPool size c log
 abbrev pub in_hand : Gains
 in_hand = record { held = λ held. held; slots = λ element. element ∷ [] }
 
+-- a pass has each of its elements in hand once, and each is one of so many
+pub record HasEach (size : ℕ) (slots : List ℕ) : Type 0 where
+  pub once : IsDistinct slots
+  pub low : (e : ℕ) → In e slots → e < size
+
 abbrev pub pool_object : Object PoolEntry
 pool_object = record {
   names = entry_names;
@@ -57,6 +63,7 @@ pool_object = record {
   entries = step_entries;
   gains = in_hand;
   most = λ opening. 0;
+  knows = λ opening has. HasEach opening.size has.slots;
 }
 
 -- a wait that leaves needs nobody's answer, a taker draws as it comes, and a put is paid with an
@@ -72,5 +79,5 @@ pool_primitive size = record {
   words = [];
   values = size;
   held = 0;
-  opens = λ has slot. ⊥;
+  opens = λ has slot. In slot has.slots;
 }

@@ -1,13 +1,15 @@
 -- The pool is a client: each step of the queue that suits it keeps the pool that its table shows,
 -- by the law of the pool. This file is a proof: nothing of it has to be read to know what is
 -- promised, and nothing in it is taken on trust.
-use Rattle.std.proofs.Common.{◌≡◌, ◌≢◌, ◌⊎◌, inl, inr, ⊎_elim, ℕ, zero, suc, ◌+◌, ◌-◌, ◌<◌, ◌≤◌, ◌==◌, true, false, List, [], ◌∷◌, ◌++◌, replicate, refl, ap, sym, ◌∙◌, subst, arith, Option, Some, None, slice_get, lt-ltb, ne_eqb, eq-eqb, length, get_or, set, if◌then◌else◌}
+use Rattle.std.proofs.Common.{◌≡◌, ◌≢◌, ◌⊎◌, inl, inr, ⊎_elim, ℕ, zero, suc, ◌+◌, ◌-◌, ◌<◌, ◌≤◌, ◌==◌, true, false, List, [], ◌∷◌, ◌++◌, replicate, refl, ap, sym, ◌∙◌, subst, arith, Option, Some, None, slice_get, lt-ltb, ne_eqb, eq-eqb, length, length-set, get_or, set, if◌then◌else◌}
 use Rattle.std.specs.List.{sum_by}
 use Rattle.std.proofs.lemmas.Bool.{cases_Bool, cases_eq, cases_lt}
 use Rattle.std.proofs.lemmas.Option.{slice_get-map, get_or_from_slice_get}
 use Rattle.std.proofs.lemmas.List.{map-set, length_push}
-use Rattle.std.proofs.lemmas.List.Sums.{get_or-le-sum_by}
+use Rattle.std.proofs.lemmas.List.Sums.{get_or-le-sum_by, sum_by-set}
 use Rattle.std.specs.Prelude.{slice_set}
+use mathlib.Core.Logic.{dite}
+use native.Mathlib.Decide.{ℕ_discrete}
 use Rattle.std.specs.Option.{option_map}
 use Rattle.cqs_core.specs.declared.cells.CoreCell.{CoreCell}
 use Rattle.cqs_core.specs.declared.cells.CoreState.{CoreState}
@@ -43,7 +45,8 @@ use Rattle.cqs_rule.specs.Lists.{NamesOnly}
 use Rattle.cqs_rule.specs.Manner.{Suits}
 use Rattle.cqs_rule.specs.Opened.{first_hidden, first_payload}
 use Rattle.cqs_rule.specs.Views.{first_has}
-use Rattle.cqs_pool.specs.Pool.{loads_of, holds_of, pool_shown, ShowsPool, in_hand, pool_manner, pool_object, pool_primitive}
+use Rattle.cqs_rule.proofs.Lists.{has_left, has_right, without_has}
+use Rattle.cqs_pool.specs.Pool.{loads_of, holds_of, pool_shown, ShowsPool, in_hand, HasEach, pool_manner, pool_object, pool_primitive}
 
 silent-step : (s : QueueStep) (p k payload : ℕ)
     → NamesOnly entry_names p (step_entries s p k payload)
@@ -218,6 +221,69 @@ once-held s p e is there =
         → times e (get_or s.holds p []) ≤ sum_by (times e) s.holds
         → times e (hold_of s.holds p) ≤ 1
     go n each others held own = grind arith
+
+-- nor one that is none of the pool's
+none-held : (s : PoolShape) (p e : ℕ) → IsPool s → p < length s.holds → s.size ≤ e
+    → times e (hold_of s.holds p) ≡ 0
+none-held s p e is there above =
+    let kept = conserved-after s.size s.history is.legal in
+    let held = is.shows.held e in
+    let own = get_or-le-sum_by (times e) s.holds p [] there in
+    let none = kept.others e above in
+    omega arith
+
+has-times : (e : ℕ) (xs : List ℕ) → lists.Has e xs → 0 < times e xs
+has-times e [] has = absurd has
+has-times e (x ∷ xs) (inl same) =
+    let first = times-cons e x xs in
+    let one : bit (x == e) ≡ 1 = ap bit (eq-eqb x e (sym same)) in
+    omega arith
+has-times e (x ∷ xs) (inr later) =
+    let first = times-cons e x xs in
+    let some = has-times e xs later in
+    omega arith
+
+-- where no element is twice in a list, its elements are distinct
+all-distinct : (xs : List ℕ) → ((e : ℕ) → times e xs ≤ 1) → lists.IsDistinct xs
+all-distinct [] once = tt
+all-distinct (x ∷ xs) once = (
+  λ later.
+      let first = times-cons x x xs in
+      let one : bit (x == x) ≡ 1 = ap bit (eq-eqb x x refl) in
+      let some = has-times x xs later in
+      let at = once x in
+      absurd (omega arith),
+  all-distinct xs (λ e.
+      let first = times-cons e x xs in
+      let at = once e in
+      omega arith),
+)
+
+-- an element that a pass has in hand is one of the pool's, and is there once
+elements-held : (size : ℕ) (c : Hidden) (log : List PoolEntry) (p : ℕ) (has : Has)
+    → ShowsPool size c log → slice_get c.has p ≡ Some has → HasEach size has.slots
+elements-held size c log p has shows there = record {
+  once = all-distinct has.slots once;
+  low = λ e mine. low e (has-times e has.slots mine) (cases_lt e size);
+}
+  where
+    s : PoolShape
+    s = pool_shown size c log
+
+    at : p < length s.holds
+    at = get-below (holds_of c.has) p has.slots (hold-at c.has p has there)
+
+    once : (e : ℕ) → times e has.slots ≤ 1
+    once e = subst (λ xs. times e xs ≤ 1) (hold-is c.has p has there)
+        (once-held s p e shows.is_pool at)
+
+    low : (e : ℕ) → 0 < times e has.slots → (e < size) ⊎ (size ≤ e) → e < size
+    low e some (inl below) = below
+    low e some (inr above) =
+        let none = none-held s p e shows.is_pool at above in
+        let same : times e (hold_of s.holds p) ≡ times e has.slots =
+        ap (times e) (hold-is c.has p has there) in
+        absurd (omega arith)
 
 -- what all bring and have in hand after a step of this row
 loads-after : (row : StepRow) (l : List Has) (p payload : ℕ) (has : Has) → slice_get l p ≡ Some has
@@ -518,6 +584,65 @@ shares-pool size c from to many mine theirs log shows apart has there enough =
       unrefused = shows.unrefused;
     }
 
+-- each element is in one hand at most
+all-held : (s : PoolShape) (e : ℕ) → IsPool s → sum_by (times e) s.holds ≤ 1
+all-held s e is =
+    let kept = conserved-after s.size s.history is.legal in
+    go (times e (object_after s.size s.history).held) (kept.each e) (kept.others e)
+    (is.shows.held e)
+  where
+    go : (n : ℕ)
+        → (e < s.size → times e (object_after s.size s.history).way + n ≡ 1)
+        → (s.size ≤ e → times e (object_after s.size s.history).way + n ≡ 0)
+        → n ≡ held_times e s.queue s.payloads s.holds
+        → sum_by (times e) s.holds ≤ 1
+    go n each others held = grind arith
+
+-- and so its slot is one pass's
+one-hand : (size : ℕ) (c : Hidden) (log : List PoolEntry) (p q e : ℕ) (mine theirs : Has)
+    → ShowsPool size c log
+    → slice_get c.has p ≡ Some mine → slice_get c.has q ≡ Some theirs
+    → lists.Has e mine.slots → lists.Has e theirs.slots → p ≡ q
+one-hand size c log p q e mine theirs shows here there some some' = dite (ℕ_discrete p q)
+    (λ (same : p ≡ q). same)
+    (λ (apart : p ≢ q).
+    let holds = holds_of c.has in
+    let none = set holds p [] in
+    let at = hold-at c.has p mine here in
+    let at' = hold-at c.has q theirs there in
+    let low : p < length holds = get-below holds p mine.slots at in
+    let low' : q < length holds = get-below holds q theirs.slots at' in
+    let long = length-set holds p [] in
+    let is : times e (get_or holds p []) ≡ times e mine.slots =
+    ap (times e) (get_or_from_slice_get holds p mine.slots [] at) in
+    let other : times e (get_or none q []) ≡ times e theirs.slots =
+    ap (times e)
+    (get_or_from_slice_get none q theirs.slots [] (get-set_else holds p q [] apart ∙ at')) in
+    let less = sum_by-set (times e) holds p [] [] low in
+    let one = get_or-le-sum_by (times e) none q [] (omega arith) in
+    let once = all-held (pool_shown size c log) e shows.is_pool in
+    let first = has-times e mine.slots some in
+    let second = has-times e theirs.slots some' in
+    absurd (omega arith))
+
+-- a pass keeps the slot of each element that it has in hand, but for one that it puts
+hand-kept : (row : StepRow) (has : Has) (payload k : ℕ) → client.KeepsSlot row payload k
+    → lists.Has k has.slots → lists.Has k (has_after in_hand row payload has).slots
+hand-kept (at_counter row) has payload k = paid row.cost
+  where
+    paid : (cost : Cost) → client.KeepsSlotAt cost payload k → lists.Has k has.slots
+        → lists.Has k (has_paid cost payload has).slots
+    paid no_cost kept mine = mine
+    paid one_owed kept mine = mine
+    paid one_element kept mine = without_has k payload has.slots kept mine
+hand-kept (at_cell row) has payload k = λ kept. gained row.gain
+  where
+    gained : (gain : Gain) → lists.Has k has.slots
+        → lists.Has k (has_gained in_hand gain payload has).slots
+    gained nothing mine = mine
+    gained its_own mine = inr mine
+    gained a_debt mine = mine
+
 -- a resumption that an idle pass begins is a put
 begun-put : (cost : Cost) (has : Has) (payload : ℕ) → IsBegun cost
     → Suits pool_manner (begun_by cost)
@@ -556,11 +681,14 @@ pool-client size = record {
             (has-in payload has.slots (begun-put cost has payload begun suits paid)),
       ));
   slots = record {
-    apart = λ c words log handed p q k mine theirs shows has there o o'. absurd o;
-    steps = λ s has payload k suits kept o. absurd o;
+    apart = λ c words log handed p q k mine theirs shows has there o o'.
+        one-hand size c log p q k mine theirs shows has there o o';
+    steps = λ s has payload k suits kept o. hand-kept (row_of s) has payload k kept o;
     few = λ c words log handed p has shows there.
         let none = shows.uncounted.at p has there in omega arith;
-    gathers = λ mine theirs k o. ⊎_elim (λ a. absurd a) (λ a. absurd a) o;
+    known = λ c words log handed p has shows there. elements-held size c log p has shows there;
+    gathers = λ mine theirs k o. ⊎_elim (λ a. has_left k mine.slots theirs.slots a)
+        (λ b. has_right k mine.slots theirs.slots b) o;
     hands_in = λ c words log handed k value shows. shows;
   };
 }

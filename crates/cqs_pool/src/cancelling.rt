@@ -15,9 +15,9 @@ use crate::element::Element;
 use crate::pool::{Pool, PoolPass};
 use cqs_cancel::{Left, cancel_unasked};
 use cqs_resume::resume;
-use cqs_rule::{Under, Wait};
+use cqs_rule::{Carries, Under, Wait};
 
-impl<T: Send + Drop> Pool<T> {
+impl<T: Carries + Send> Pool<T> {
     /// Ends a wait: the caller leaves the line, or has the element that had come before. Where an
     /// element was left to the caller who leaves, it goes on to the next number.
     pub fn cancel(&self, pass: &mut PoolPass<T>, wait: Wait) -> PoolLeft
@@ -33,8 +33,7 @@ impl<T: Send + Drop> Pool<T> {
         ensures alone { (pass_view pass.old).alone ≡ true
             → IsPlainCancel (place_of wait).index (pass_view pass.old) result
             (pass_view pass.new) }
-        ensures new { (pass_view pass.old).alone ≡ true
-            → CancelsNew (pass_view pass.old) result }
+        ensures new { CancelsNew (pass_view pass.old) result }
     {
         let number = wait.number();
         match cancel_unasked(&self.queue, pass, wait) {

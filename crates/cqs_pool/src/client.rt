@@ -3,11 +3,12 @@
 
 ghost use Rattle.std.specs.Prelude.{◌≡◌, ◌<◌, ◌≤◌};
 
+use atomic_table::{Shared, TableRule};
 use cqs_pool_object::PoolEntry;
-use cqs_rule::{Client, ClientWords, Pass, Queue};
+use cqs_rule::{Carries, Client, ClientWords, Pass, Queue};
 use std::marker::PhantomData;
 
-/// A pool of elements with values of `T`.
+/// A pool whose elements carry what `T` says: a value in a slot of its own each, or nothing.
 #[derive(Drop)]
 pub struct PoolClient<T = ()> {
     elements: u32,
@@ -16,11 +17,11 @@ pub struct PoolClient<T = ()> {
     ghost few: { elements ≤ 4096 },
 }
 
-impl PoolClient {
+impl<T> PoolClient<T> {
     ghost use Rattle.cqs_pool.specs.PoolSize.{elements_of};
 
     /// A pool that opens with this many elements.
-    pub fn new(elements: u32) -> PoolClient
+    pub fn new(elements: u32) -> PoolClient<T>
         requires some { 0 < elements }
         requires few { elements ≤ 4096 }
         ensures { elements_of result ≡ elements }
@@ -32,8 +33,8 @@ impl PoolClient {
     }
 }
 
-impl<T: Drop> ClientWords for PoolClient<T> {
-    ghost use Rattle.cqs_pool.specs.PoolSize.{elements_of};
+impl<T: Carries> ClientWords for PoolClient<T> {
+    ghost use Rattle.cqs_pool.specs.PoolSize.{elements_of, slots_when};
     ghost use Rattle.cqs_pool.specs.Pool.{pool_object, pool_primitive};
     ghost use Rattle.cqs_pool.specs.PoolIsClient.{pool-client};
 
@@ -45,7 +46,7 @@ impl<T: Drop> ClientWords for PoolClient<T> {
 
     ghost primitive = { λ x. pool_primitive (elements_of x) };
 
-    ghost value_slots = { λ x. 0 };
+    ghost value_slots = { λ x. slots_when T.kept (elements_of x) };
 
     fn words(&self) -> u32 {
         0
@@ -55,8 +56,9 @@ impl<T: Drop> ClientWords for PoolClient<T> {
         0
     }
 
+    // An element has its own slot, if it has any.
     fn slots(&self) -> u32 {
-        0
+        if T::slots() == 0 { 0 } else { self.elements }
     }
 
     fn values(&self) -> u32 {
@@ -71,10 +73,14 @@ impl<T: Drop> ClientWords for PoolClient<T> {
         held
     }
 
+    fn wake<S, V, K, P: TableRule<S, V, K>>(words: &Shared<S, V, K, P>, word: usize) {
+        T::wake(words, word);
+    }
+
     ghost keeps = { λ x. pool-client (elements_of x) };
 }
 
-impl<T: Send + Drop> Client for PoolClient<T> {
+impl<T: Carries + Send> Client for PoolClient<T> {
     ghost use Rattle.cqs_rule.specs.Callbacks.{as_it_begins};
 
     ghost asking = { as_it_begins };

@@ -6,10 +6,10 @@ ghost use Rattle.cqs_rule.specs.Waits.{HasWait};
 ghost use Rattle.cqs_pool.specs.Calls.{IsMine};
 
 use crate::pool::{Pool, PoolPass};
-use cqs_rule::Wait;
+use cqs_rule::{Carries, Wait};
 use std::sync::Wait as MayWait;
 
-impl<T: Send + Drop> Pool<T> {
+impl<T: Carries + Send> Pool<T> {
     /// Parks the caller as long as it stands in the line. It may return for no reason, too, so one
     /// polls the wait after it.
     pub fn park_wait<R: MayWait>(&self, rt: &R, pass: &mut PoolPass<T>, wait: &Wait)

@@ -13,10 +13,10 @@ use crate::client::PoolClient;
 use crate::element::Element;
 use crate::pool::{Pool, PoolPass};
 use cqs_cell::look;
-use cqs_rule::{Polls, Wait};
+use cqs_rule::{Carries, Polls, Wait};
 use cqs_words::CellState;
 
-impl<T: Send + Drop> Pool<T> {
+impl<T: Carries + Send> Pool<T> {
     /// Looks whether the wait was served: one load.
     pub fn poll(&self, pass: &mut PoolPass<T>, wait: Wait) -> PoolPolled
         requires belongs { IsMine self.now pass.old }
@@ -30,8 +30,7 @@ impl<T: Send + Drop> Pool<T> {
         ensures ready { IsReady (pass_view pass.new).facts }
         ensures alone { (pass_view pass.old).alone ≡ true
             → IsPlainPoll (place_of wait).index (pass_view pass.old) result }
-        ensures new { (pass_view pass.old).alone ≡ true
-            → PollsNew (pass_view pass.old) result }
+        ensures new { PollsNew (pass_view pass.old) result }
     {
         let at = self.queue.spend_wait(pass, wait);
         let cell = look::<PoolClient<T>, Polls>(&self.queue, pass, at);

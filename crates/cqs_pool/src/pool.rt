@@ -9,7 +9,7 @@ ghost use Rattle.cqs_rule.specs.declared.config.CancelMode.TheVariants.{Smart};
 ghost use Rattle.cqs_pool.specs.Calls.{IsReady, Rests, IsMine, size_of};
 
 use crate::client::PoolClient;
-use cqs_rule::{CancelMode, Config, MakeError, Pass, Queue};
+use cqs_rule::{CancelMode, Carries, Config, Kept, MakeError, Pass, Queue};
 use std::alloc::Global;
 
 /// What a caller makes its calls with.
@@ -18,10 +18,10 @@ pub type PoolPass<T = ()> = Pass<PoolClient<T>>;
 /// The most elements that a pool may be made with.
 const MOST_ELEMENTS: u32 = 4096;
 
-/// A blocking pool, with values of `T` in its slots; a plain one has none, and its elements are
-/// numbers.
+/// A blocking pool of numbered elements, which carry what `T` says: a value in a slot of its own
+/// each, or nothing.
 #[derive(Drop)]
-pub struct Pool<T: Drop = ()> {
+pub struct Pool<T: Carries = ()> {
     pub(crate) queue: Queue<PoolClient<T>>,
 }
 
@@ -42,6 +42,58 @@ impl Pool {
         ensures alone { IfOk result (λ made. (pass_view made.1).alone ≡ true) }
         ensures ready { IfOk result (λ made. Rests (pass_view made.1) [] [] (pass_view made.1)) }
     {
+        Pool::make(alloc, elements, config)
+    }
+}
+
+impl<T: Send + Drop> Pool<Kept<T>> {
+    /// The same, where each element carries a value in a slot of its own. The slots are empty yet:
+    /// `fill_slot` of its queue fills them before any other call.
+    pub fn with_slots(
+        alloc: Global,
+        elements: u32,
+        config: Config,
+    ) -> Result<(Pool<Kept<T>>, PoolPass<Kept<T>>), MakeError>
+        ensures bad_config { IsErrOf result MakeError.BadConfig
+            ↔ ((elements ≡ 0) ⊎ (4096 < elements)
+            ⊎ (config.slots < 2 * config.passes + 2 + elements / 32 + 1)
+            ⊎ (is_config config ≡ false)) }
+        ensures belongs { IfOk result (λ made. IsMine made.0 made.1) }
+        ensures size { IfOk result (λ made. size_of made.0 ≡ elements) }
+        ensures passes { IfOk result (λ made. (passes_of made.0.queue ≡ config.passes)
+            × (limit_of made.0.queue ≡ config.limit)) }
+        ensures first { IfOk result (λ made. (pass_view made.1).number ≡ 0) }
+        ensures nothing { IfOk result (λ made. (pass_view made.1).seen ≡ []) }
+        ensures empty { IfOk result (λ made. ((pass_view made.1).handed ≡ [])
+            × ((pass_view made.1).laid ≡ [])) }
+        ensures alone { IfOk result (λ made. (pass_view made.1).alone ≡ true) }
+        ensures ready { IfOk result (λ made. Rests (pass_view made.1) [] [] (pass_view made.1)) }
+    {
+        Pool::make(alloc, elements, config)
+    }
+}
+
+impl<T: Carries + Send> Pool<T> {
+    fn make(
+        alloc: Global,
+        elements: u32,
+        config: Config,
+    ) -> Result<(Pool<T>, PoolPass<T>), MakeError>
+        ensures bad_config { IsErrOf result MakeError.BadConfig
+            ↔ ((elements ≡ 0) ⊎ (4096 < elements)
+            ⊎ (config.slots < 2 * config.passes + 2 + elements / 32 + 1)
+            ⊎ (is_config config ≡ false)) }
+        ensures belongs { IfOk result (λ made. IsMine made.0 made.1) }
+        ensures size { IfOk result (λ made. size_of made.0 ≡ elements) }
+        ensures passes { IfOk result (λ made. (passes_of made.0.queue ≡ config.passes)
+            × (limit_of made.0.queue ≡ config.limit)) }
+        ensures first { IfOk result (λ made. (pass_view made.1).number ≡ 0) }
+        ensures nothing { IfOk result (λ made. (pass_view made.1).seen ≡ []) }
+        ensures empty { IfOk result (λ made. ((pass_view made.1).handed ≡ [])
+            × ((pass_view made.1).laid ≡ [])) }
+        ensures alone { IfOk result (λ made. (pass_view made.1).alone ≡ true) }
+        ensures ready { IfOk result (λ made. Rests (pass_view made.1) [] [] (pass_view made.1)) }
+    {
         if elements == 0 || elements > MOST_ELEMENTS {
             return Err(MakeError::BadConfig);
         }
@@ -53,9 +105,7 @@ impl Pool {
         let (queue, pass) = Queue::new(alloc, config, CancelMode::Smart, client)?;
         Ok((Pool { queue }, pass))
     }
-}
 
-impl<T: Send + Drop> Pool<T> {
     /// The queue that the pool stands on.
     pub fn queue(&self) -> &Queue<PoolClient<T>>
         ensures { result.now ≡ self.now.queue }

@@ -11,16 +11,18 @@ ghost use Rattle.cqs_pool.specs.Calls.{IsReady, IsMine, CallRule, plain_after};
 ghost use Rattle.cqs_pool.specs.Elements.{number_of};
 ghost use Rattle.cqs_pool.specs.Entries.{put_entries, put_further, placed_further};
 ghost use Rattle.cqs_pool.specs.Steps.{IsFurther};
+ghost use Rattle.cqs_pool.specs.Values.{IsFull, GaveValue};
 
 use crate::answers::{Placed, placed_by};
 use crate::element::Element;
 use crate::pool::{Pool, PoolPass};
 use cqs_resume::{finish, resume_from};
-use cqs_rule::{Crowded, Under};
+use cqs_rule::{Carries, Crowded, Under};
 
-impl<T: Send + Drop> Pool<T> {
+impl<T: Carries + Send> Pool<T> {
     /// Puts an element back that the pass has in hand, because it got it or met the pass that did:
-    /// it goes to the first who waits, or is free in the next cell.
+    /// it goes to the first who waits, or is free in the next cell. An element that carries a value
+    /// hands in the value that lies in its slot: something must lie there.
     pub fn put(
         &self,
         pass: &mut PoolPass<T>,
@@ -29,10 +31,13 @@ impl<T: Send + Drop> Pool<T> {
         requires belongs { IsMine self.now pass.old }
         requires ready { IsReady (pass_view pass.old).facts }
         requires has { IsInHand (number_of element) (pass_view pass.old).facts }
+        requires full { IsFull T.kept (number_of element) (pass_view pass.old) }
         ensures belongs { IsMine self.now pass.new }
         ensures called { CallRule (pass_view pass.old)
             (put_entries (pass_view pass.old).number (number_of element) result)
             (put_further (number_of element) result) (pass_view pass.new) }
+        ensures handed { GaveValue T.kept (number_of element) (pass_view pass.old)
+            (pass_view pass.new) }
         ensures never_crowded { IsOk result }
         ensures ends { IfOk result (λ placed. Ends (pass_view pass.old) (number_of element)
             (without (number_of element) (pass_view pass.old).facts.has.slots)

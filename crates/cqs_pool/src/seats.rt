@@ -11,9 +11,9 @@ ghost use Rattle.cqs_pool.specs.Calls.{IsReady, IsMine, Course};
 ghost use Rattle.cqs_pool.specs.Seats.{LookedOn, SeesAll};
 
 use crate::pool::{Pool, PoolPass};
-use cqs_rule::{Crowd, MeetError};
+use cqs_rule::{Carries, Crowd, MeetError};
 
-impl<T: Send + Drop> Pool<T> {
+impl<T: Carries + Send> Pool<T> {
     /// A new pass, which has seen what this one has seen, has done nothing and holds nothing.
     pub fn split(&self, pass: &mut PoolPass<T>) -> Result<PoolPass<T>, Crowd>
         requires belongs { IsMine self.now pass.old }
@@ -49,6 +49,8 @@ impl<T: Send + Drop> Pool<T> {
         ensures back { IfErr result (λ refused. refused.0 ≡ given) }
         ensures unchanged { OnErr result (pass.new ≡ pass.old) }
         ensures met { OnOk result (HasMet pass.old given pass.new) }
+        ensures laid { OnOk result ((pass_view pass.new).laid
+            ≡ (pass_view pass.old).laid ++ (pass_view given).laid) }
         ensures course { OnOk result (Course (pass_view pass.old) [] (pass_view pass.new)) }
         ensures elements { OnOk result ((pass_view pass.new).facts.has.slots
             ≡ (pass_view pass.old).facts.has.slots ++ (pass_view given).facts.has.slots) }

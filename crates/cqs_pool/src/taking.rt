@@ -10,10 +10,10 @@ ghost use Rattle.cqs_pool.specs.Entries.{took_entries, took_further};
 use crate::answers::Taking;
 use crate::element::Element;
 use crate::pool::{Pool, PoolPass};
-use cqs_rule::{AcquireError, Counts, SUSPENDS_WORD};
+use cqs_rule::{AcquireError, Carries, Counts, SUSPENDS_WORD};
 use cqs_suspend::{Suspended, enter};
 
-impl<T: Send + Drop> Pool<T> {
+impl<T: Carries + Send> Pool<T> {
     /// An element where the cell of the next number has one, or else a wait for one. It is refused
     /// as worn where as many numbers were drawn as the limit allows, even if an element is free.
     pub fn take(&self, pass: &mut PoolPass<T>) -> Result<Taking, AcquireError>
@@ -31,8 +31,7 @@ impl<T: Send + Drop> Pool<T> {
         ensures ready { IsReady (pass_view pass.new).facts }
         ensures alone { (pass_view pass.old).alone ≡ true
             → IfOk result (λ taking. IsPlainTake (pass_view pass.old) taking) }
-        ensures new { (pass_view pass.old).alone ≡ true
-            → IfOk result (λ taking. TakesNew (pass_view pass.old) taking) }
+        ensures new { IfOk result (λ taking. TakesNew (pass_view pass.old) taking) }
         ensures first { IsOnlyCaller (pass_view pass.old)
             → IfOk result (λ taking. TakesFirst (pass_view pass.old) taking) }
     {

@@ -2,14 +2,14 @@
 
 use crate::element::Element;
 use crate::pool::{Pool, PoolPass};
-use cqs_rule::Wait;
+use cqs_rule::{Carries, Wait};
 
 fn may_share<T: Send + Sync>(_value: &T) {}
 
 fn may_send<T: Send>(_value: &T) {}
 
 #[allow(dead_code)]
-fn crosses_threads<T: Send + Drop>(
+fn crosses_threads<T: Carries + Send>(
     pool: &Pool<T>,
     pass: &PoolPass<T>,
     element: &Element,

@@ -2,6 +2,12 @@
 #![tactic(auto)]
 
 #[cfg(test)]
+mod drops;
+#[cfg(test)]
 mod elements;
 #[cfg(test)]
 mod pools;
+#[cfg(test)]
+mod sizes;
+#[cfg(test)]
+mod values;

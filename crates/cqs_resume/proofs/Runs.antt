@@ -142,11 +142,25 @@ module _ {C E S : Type 0} (object : Object E) (primitive : C → Primitive E S) 
     facts_are = m.saw.facts_are;
   }
 
+  -- the last number that a pass drew never falls
+  never-falls : (drawn : Bool) (s : QueueStep) (state : CoreState) (at : Doing) (over : List ℕ) (payload k : ℕ)
+      (v w : View E S)
+      → Went drawn s state at over payload k v w → IsNext drawn k v.facts → v.facts.reached ≤ w.facts.reached
+  never-falls true s state at over payload k v w t next =
+      let low : v.facts.reached ≤ k = next.reached in
+      let is : w.facts.reached ≡ t.round.number = ap (λ (f : Facts). f.reached) t.facts_are
+      ∙ ap (λ b. if b then t.round.number else v.facts.reached) t.is_drawn in
+      omega (arith, t.number)
+  never-falls false s state at over payload k v w t next =
+      let is : w.facts.reached ≡ v.facts.reached = ap (λ (f : Facts). f.reached) t.facts_are
+      ∙ ap (λ b. if b then t.round.number else v.facts.reached) t.is_drawn in
+      omega arith
+
   -- a round that ended the resumption, as the first of its call
   pub ended-now : (drawn : Bool) (s : QueueStep) (state : CoreState) (most payload k : ℕ) (v w : View E S) → 0 < most
-      → Went drawn s state doing.Idle [] payload k v w
+      → IsNext drawn k v.facts → Went drawn s state doing.Idle [] payload k v w
       → Ended object primitive s state most (opened_by drawn k) payload k v w
-  ended-now drawn s state most payload k v w some t = record {
+  ended-now drawn s state most payload k v w some next t = record {
     over = [];
     last = t.round;
     number = t.number;
@@ -157,6 +171,7 @@ module _ {C E S : Type 0} (object : Object E) (primitive : C → Primitive E S) 
     was = t.was;
     called = t.called;
     facts_are = t.facts_are ∙ facts-one doing.Idle [] t.round v.facts;
+    reached = never-falls drawn s state doing.Idle [] payload k v w t next;
   }
     where
       opens : (b : Bool) → t.round.drawn ≡ b → IsOpenedWith (opened_by b k) (t.round ∷ [])
@@ -186,10 +201,10 @@ module _ {C E S : Type 0} (object : Object E) (primitive : C → Primitive E S) 
 
   -- a number was passed over, and the resumption went on from there
   then-ended : (drawn : Bool) (s : QueueStep) (stood : CoreState) (most payload j k : ℕ) (v u w : View E S)
-      → Went drawn passes_over state.Cancelled doing.Owes (j ∷ []) payload j v u
+      → Went drawn passes_over state.Cancelled doing.Owes (j ∷ []) payload j v u → IsNext drawn j v.facts
       → Ended object primitive s stood most None payload k u w
       → Ended object primitive s stood (one_if drawn + most) (opened_by drawn j) payload k v w
-  then-ended drawn s stood most payload j k v u w t e =
+  then-ended drawn s stood most payload j k v u w t next e =
       let number : u.number ≡ v.number = t.called.same.number in
       let first : List E = round_entries object v.number payload passes_over t.round in
       let rest : List Round = e.over ++ e.last ∷ [] in
@@ -220,6 +235,10 @@ module _ {C E S : Type 0} (object : Object E) (primitive : C → Primitive E S) 
             (called-and object v u w first _ (own u.number ++ end u.number) _ t.called e.called);
         facts_are = e.facts_are ∙ (ap (facts_after_rounds doing.Idle (numbers e.over) rest) t.facts_are
             ∙ facts-then doing.Idle (numbers e.over) rest t.round j v.facts t.number);
+        reached =
+            let first = never-falls drawn passes_over state.Cancelled doing.Owes (j ∷ []) payload j v u t next in
+            let later = e.reached in
+            omega arith;
       }
 
   -- the number that was passed over comes before the last of those that follow
@@ -325,25 +344,27 @@ module _ {C E S : Type 0} (object : Object E) (primitive : C → Primitive E S) 
 
   -- a resume that ended at its first number
   pub resumes-now : (drawn : Bool) (most payload k : ℕ) (result : Resumed) (v x w : View E S) → 0 < most
+      → IsNext drawn k v.facts
       → ((s : QueueStep) (state : CoreState) → Met object primitive s state doing.Idle [] payload k x w
       → Went drawn s state doing.Idle [] payload k v w)
       → Meets object primitive payload k x (Some result) w
       → Resumes object primitive most (opened_by drawn k) payload v result w
-  resumes-now drawn most payload k (Served n) v x w some went m =
+  resumes-now drawn most payload k (Served n) v x w some next went m =
       subst (λ z. Ended object primitive serves state.Waiter most (opened_by drawn k) payload z v w) (sym m.0)
-      (ended-now drawn serves state.Waiter most payload k v w some (went serves state.Waiter m.1))
-  resumes-now drawn most payload k (Left n) v x w some went m = ⊎_elim
+      (ended-now drawn serves state.Waiter most payload k v w some next (went serves state.Waiter m.1))
+  resumes-now drawn most payload k (Left n) v x w some next went m = ⊎_elim
       (λ (left : Met object primitive leaves state.Empty doing.Idle [] payload k x w). inl
       (subst (λ z. Ended object primitive leaves state.Empty most (opened_by drawn k) payload z v w) (sym m.0)
-      (ended-now drawn leaves state.Empty most payload k v w some (went leaves state.Empty left))))
+      (ended-now drawn leaves state.Empty most payload k v w some next (went leaves state.Empty left))))
       (λ (given : Met object primitive delegates state.Cancelling doing.Idle [] payload k x w). inr
       (subst (λ z. Ended object primitive delegates state.Cancelling most (opened_by drawn k) payload z v w) (sym m.0)
-      (ended-now drawn delegates state.Cancelling most payload k v w some (went delegates state.Cancelling given))))
+      (ended-now drawn delegates state.Cancelling most payload k v w some next
+      (went delegates state.Cancelling given))))
       m.1
-  resumes-now drawn most payload k (Refused n) v x w some went m =
+  resumes-now drawn most payload k (Refused n) v x w some next went m =
       subst (λ z. Ended object primitive ends_refused state.Refused most (opened_by drawn k) payload z v w) (sym m.0)
-      (ended-now drawn ends_refused state.Refused most payload k v w some (went ends_refused state.Refused m.1))
-  resumes-now drawn most payload k (Under under) v x w some went m = absurd m
+      (ended-now drawn ends_refused state.Refused most payload k v w some next (went ends_refused state.Refused m.1))
+  resumes-now drawn most payload k (Under under) v x w some next went m = absurd m
 
   -- and one that passed over its first number
   pub resumes-then : (drawn : Bool) (most payload j : ℕ) (result : Resumed) (v u w : View E S)
@@ -351,15 +372,15 @@ module _ {C E S : Type 0} (object : Object E) (primitive : C → Primitive E S) 
       → Resumes object primitive most None payload u result w
       → Resumes object primitive (one_if drawn + most) (opened_by drawn j) payload v result w
   resumes-then drawn most payload j (Served k) v u w t next e =
-      then-ended drawn serves state.Waiter most payload j k v u w t e
+      then-ended drawn serves state.Waiter most payload j k v u w t next e
   resumes-then drawn most payload j (Left k) v u w t next e = ⊎_elim
       (λ (left : Ended object primitive leaves state.Empty most None payload k u w). inl
-      (then-ended drawn leaves state.Empty most payload j k v u w t left))
+      (then-ended drawn leaves state.Empty most payload j k v u w t next left))
       (λ (given : Ended object primitive delegates state.Cancelling most None payload k u w). inr
-      (then-ended drawn delegates state.Cancelling most payload j k v u w t given))
+      (then-ended drawn delegates state.Cancelling most payload j k v u w t next given))
       e
   resumes-then drawn most payload j (Refused k) v u w t next e =
-      then-ended drawn ends_refused state.Refused most payload j k v u w t e
+      then-ended drawn ends_refused state.Refused most payload j k v u w t next e
   resumes-then drawn most payload j (Under under) v u w t next e =
       then-stopped drawn most payload j under v u w t next e
 

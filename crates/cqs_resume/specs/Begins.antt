@@ -6,18 +6,20 @@ use Rattle.cqs_rule.specs.declared.client.ClientWords.{Ghosts}
 use Rattle.cqs_rule.specs.declared.queue.Pass.{Pass}
 use Rattle.cqs_rule.specs.declared.view.View.{View}
 use Rattle.cqs_rule.specs.Counts.{Drew}
+use Rattle.cqs_rule.specs.Facts.{IsBehind}
 use Rattle.cqs_rule.specs.Object.{Object, Primitive}
 use Rattle.cqs_rule.specs.Passes.{pass_view}
 use Rattle.cqs_resume.specs.declared.resumed.Resumed.{Resumed}
 use Rattle.cqs_resume.specs.Resumes.{Resumes, most_after_first}
 
 module _ {C E S : Type 0} (object : Object E) (primitive : C → Primitive E S) where
-  -- The pass drew the number; then it was at this, and the resumption went on from the open ticket
-  -- to its end, or until it was handed back.
+  -- The pass drew the number, which comes after those that it drew before; then it was at this, and
+  -- the resumption went on from the open ticket to its end, or until it was handed back.
   pub record Begun (payload : ℕ) (v : View E S) (result : Resumed) (w : View E S) : Type 0 where
     pub number : ℕ
     pub from : View E S
     pub drew : Drew object begins v number from
+    pub after : IsBehind number v.facts
     pub resumes : Resumes object primitive most_after_first (Some number) payload from result w
 
 module _ {C S E : Type 0} {g : Ghosts C S E} where

@@ -1,5 +1,5 @@
 -- What a resume answers: exactly the state in which its last cell was found.
-use Rattle.std.specs.Prelude.{◌≡◌, ◌⊎◌, ℕ, ◌<◌, List, [], ◌∷◌, ◌++◌, Option, None}
+use Rattle.std.specs.Prelude.{◌≡◌, ◌⊎◌, ℕ, ◌<◌, ◌≤◌, List, [], ◌∷◌, ◌++◌, Option, None}
 use Rattle.cqs_core.specs.declared.cells.CoreState.{CoreState}
 use Rattle.cqs_core.specs.declared.cells.CoreState.TheVariants as state
 use Rattle.cqs_core.specs.declared.doings.Doing.TheVariants as doing
@@ -30,7 +30,7 @@ abbrev pub most_after_first : ℕ
 most_after_first = 63
 
 module _ {C E S : Type 0} (primitive : C → Primitive E S) where
-  -- something held where the history was some beginning of what the pass has seen
+  -- something held where the history was some prefix of what the pass has seen
   pub record WasSo (fact : Hidden → List ℕ → Type 0) (w : View E S) : Type 0 where
     pub before : List E
     pub seen : IsPrefix before w.seen
@@ -48,7 +48,8 @@ module _ {C E S : Type 0} (primitive : C → Primitive E S) where
 module _ {C E S : Type 0} (object : Object E) (primitive : C → Primitive E S) where
   -- The resume ended at the number k, by this step on its cell, which it found in this state. It
   -- passed over the numbers before, fewer than `most` of which it drew. The pass is idle, and holds
-  -- and waits for what it did before.
+  -- and waits for what it did before. The last number that it drew comes after those that it drew
+  -- earlier, or is the last of them.
   pub record Ended (s : QueueStep) (state : CoreState) (most : ℕ) (ticket : Option ℕ)
       (payload k : ℕ)
       (v w : View E S) : Type 0 where
@@ -67,6 +68,7 @@ module _ {C E S : Type 0} (object : Object E) (primitive : C → Primitive E S) 
         (object.entries s v.number k payload) w
     pub facts_are : w.facts
         ≡ facts_after_rounds doing.Idle (numbers over) (over ++ last ∷ []) v.facts
+    pub reached : v.facts.reached ≤ w.facts.reached
 
   -- It drew `most` numbers and passed over each of them. The pass still owes the resumption, and
   -- the last of the numbers comes after those that it drew before.

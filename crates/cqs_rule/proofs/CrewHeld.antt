@@ -81,14 +81,16 @@ keeps-less opens (suc n) v may =
     keeps-all opens v (facts_lessened (suc n) v.facts) refl (λ k o. absurd (may.shut (omega arith) k o))
 
 -- what holds of a live view holds of it with less
-pub live-lessened : {E S : Type 0} (object : Object E) (v : View E S) (gives : ℕ) → IsLive object v
+pub live-lessened : {E S : Type 0} (object : Object E) (v : View E S) (gives : ℕ)
+    → object.knows v.opening (lessened gives v.facts.has) → IsLive object v
     → IsLive object (record v { facts = facts_lessened gives v.facts })
-live-lessened object v gives l = record {
+live-lessened object v gives known l = record {
   legal = l.legal;
   unnamed = l.unnamed;
   own = l.own;
   held = omega (arith, l.held, lessened-held gives v.facts.has);
   few = omega (arith, l.few, lessened-held gives v.facts.has);
+  known = known;
   inside = record {
     number = l.inside.number;
     waits = l.inside.waits;
@@ -106,6 +108,7 @@ live-before object v w l = record {
   own = l.own;
   held = l.held;
   few = l.few;
+  known = l.known;
   inside = record {
     number = l.inside.number;
     waits = l.inside.waits;

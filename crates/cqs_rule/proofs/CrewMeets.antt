@@ -385,6 +385,9 @@ module _ {E S : Type 0} (object : Object E) (primitive : Primitive E S) (passes 
             few = subst (λ z. v.facts.has.held ≤ object.most z) (sym k.opening_is)
                 (client.slots.few r.hidden (client_words s.words) r.log r.handed v.number v.facts.has r.shown
                 k.stands.has);
+            known = subst (λ z. object.knows z v.facts.has) (sym k.opening_is)
+                (client.slots.known r.hidden (client_words s.words) r.log r.handed v.number v.facts.has r.shown
+                k.stands.has);
             inside = is-inside w (cell_count passes limit primitive.values) k.cells_are
                 (inside-of passes limit primitive.values r.hidden v.number v.facts.doing r.room
                 (client.sound r.hidden (client_words s.words) r.log r.handed r.shown) k.stands.doing)

@@ -1,5 +1,5 @@
 -- A pass is made: the exchange on the crew's word, and the cut of the view that counts for two then.
-use Rattle.std.proofs.Common.{◌≡◌, ◌≢◌, ℕ, ◌+◌, ◌-◌, ◌*◌, ◌<◌, ◌≤◌, false, List, [], ◌∷◌, ◌++◌, zero, suc, length, set, sym, refl, ap, ◌∙◌, subst, ⊎_elim, inl, inr, arith, length-set, Option, Some, None}
+use Rattle.std.proofs.Common.{◌≡◌, ◌≢◌, ℕ, ◌+◌, ◌-◌, ◌*◌, ◌<◌, ◌≤◌, false, List, [], ◌∷◌, ◌++◌, zero, suc, length, set, sym, refl, ap, ◌∙◌, subst, ⊎_elim, inl, inr, arith, length-set, Option, Some, None, slice_get}
 use Rattle.std.specs.Prelude.{slice_index, ◌==◌}
 use Rattle.std.proofs.lemmas.List.{append-nil}
 use Rattle.std.proofs.lemmas.Bool.{cases_lt}
@@ -121,6 +121,12 @@ module _ {E S : Type 0} (object : Object E) (primitive : Primitive E S) (passes 
           let d = hands_over r.hidden from gave m got in
           let differ : from ≢ m = λ same. let b = below from k.own in omega arith in
           let new : Stands r.hidden m (first_facts 0) = r.unused m (omega arith) (omega arith) in
+          let shown : primitive.shows d (client_words s.words) r.log r.handed =
+          gives-shown r.hidden (client_words s.words) r.log r.handed from m gives v.facts r.shown differ k.stands new
+          may in
+          let knows : (p : ℕ) (has : OwnHas) → slice_get d.has p ≡ Some has → object.knows v.opening has =
+          λ p has there. subst (λ z. object.knows z has) (sym k.opening_is)
+          (client.slots.known d (client_words s.words) r.log r.handed p has shown there) in
           let shows_cells = cells-stay r.hidden (cell_count passes limit primitive.values) s.words x r.cells in
           let base = subst (λ h. Saw object v v.facts [] (grown v v.facts h r.handed)) (append-nil r.log) told in
           let P : ℕ → View E S → Type 0 =
@@ -159,8 +165,7 @@ module _ {E S : Type 0} (object : Object E) (primitive : Primitive E S) (passes 
               door = r.door;
               shown = subst (λ l. primitive.shows d l r.log r.handed)
                   (sym (client-below s.words 0 x (omega arith)))
-                  (gives-shown r.hidden (client_words s.words) r.log r.handed from m gives v.facts r.shown differ
-                  k.stands new may);
+                  shown;
               segments = r.segments;
               each_segment = set_all (λ j u. KnowsSegments r.segments u) s.views id w
                   (record { homes = (r.each_segment id v here).homes })
@@ -287,9 +292,11 @@ module _ {E S : Type 0} (object : Object E) (primitive : Primitive E S) (passes 
                   sole = base.sole;
                 };
                 unnamed = λ z. r.unnamed m (omega arith);
+                known = λ z. knows m got (handed-to r.hidden from m gave got (first_facts 0) differ new).has;
               },
               refl,
               live-before object v w (live-lessened object (grown v v.facts r.log r.handed) gives
+                  (knows from gave (handed-from r.hidden from m gave got v.facts differ k.stands).has)
                   (subst (λ h. IsLive object (grown v v.facts h r.handed)) (append-nil r.log) alive)),
             ),
           )
@@ -329,6 +336,7 @@ module _ {E S : Type 0} (object : Object E) (primitive : Primitive E S) (passes 
                 made = λ z. absurd (other z);
                 saw = λ z. absurd (other z);
                 unnamed = λ z. absurd (other z);
+                known = λ z. absurd (other z);
               },
               refl,
               live-before object v (record (grown v v.facts (r.log ++ []) r.handed) { crew = n }) t.2,

@@ -136,7 +136,7 @@ module _ {E S : Type 0} (object : Object E) where
     resting = λ n h other. rests-on c d n (λ f. stay n f (has_left n u.own u.others h)) (k.resting n h other);
     second = λ two. second-on c d u (λ n f h. stay n f (has_right n u.own u.others h)) (k.second two);
     crew = crew;
-    alone = λ a. let was = k.alone a in (alone a ∙ was.0, was.1, was.2);
+    alone = λ a. let was = k.alone a in (alone a ∙ was.0, was.1, was.2, was.3);
     limit_is = k.limit_is;
     cells_are = k.cells_are;
     passes_are = k.passes_are;

@@ -60,6 +60,7 @@ module _ {C E S : Type 0} (object : Object E) (primitive : C → Primitive E S) 
                 before = r.handed;
                 is = m.3 ∙ t.1;
                 old = known.sees.handed_in;
+                whole = λ a. sym (known.alone a).3;
                 off = ap (λ l. laid_in l slot) m.4 ∙ off-here slot v.laid;
               }),
         ),

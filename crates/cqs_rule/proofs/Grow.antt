@@ -252,7 +252,7 @@ module _ {E S : Type 0} (object : Object E) (primitive : Primitive E S) (passes 
               resting = λ n h other. rests-on r.hidden d n (λ f. t.others.stands n f other) (k.resting n h other);
               second = λ two. absurd (omega arith);
               crew = found;
-              alone = λ a. (single a, one, refl);
+              alone = λ a. (single a, one, refl, refl);
               limit_is = k.limit_is;
               cells_are = k.cells_are;
               passes_are = k.passes_are;
@@ -331,10 +331,11 @@ module _ {E S : Type 0} (object : Object E) (primitive : Primitive E S) (passes 
       → get_elem? s.views id ≡ some v → 0 < v.weight → object.legal primitive.opening (r.log ++ es)
       → NamesOnly object.names v.number es
       → facts.has.held < 2 ^ 32 → facts.has.held ≤ object.most primitive.opening
+      → object.knows primitive.opening facts.has
       → number_at facts.doing < cells_of → ((n : ℕ) → Has n facts.waits → n < cells_of)
       → IsDistinct facts.waits → facts.has.payload < 2 ^ 20
       → IsLive object (grown v facts (r.log ++ es) r.handed)
-  live s r id v es facts here alive legal silent fits most inside waits once owed =
+  live s r id v es facts here alive legal silent fits most known inside waits once owed =
       let k = r.each_view id v here alive in
       let mine : Has v.number (all_own v) = has_left v.number v.own v.others k.own in
       let low : v.number < r.made = k.below v.number mine in
@@ -346,5 +347,6 @@ module _ {E S : Type 0} (object : Object E) (primitive : Primitive E S) (passes 
         own = k.own;
         held = fits;
         few = subst (λ z. facts.has.held ≤ object.most z) (sym k.opening_is) most;
+        known = subst (λ z. object.knows z facts.has) (sym k.opening_is) known;
         inside = is-inside (grown v facts (r.log ++ es) r.handed) cells_of k.cells_are inside waits once owed;
       }

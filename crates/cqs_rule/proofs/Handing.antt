@@ -1,5 +1,5 @@
 -- A value is handed in: the pass that may open its slot leaves it there for whom the slot comes to next.
-use Rattle.std.proofs.Common.{◌≡◌, ◌≢◌, ◌⊎◌, ℕ, ◌<◌, ◌==◌, List, [], ◌∷◌, ◌++◌, length, set, sym, refl, ap, ◌∙◌, subst, ⊎_elim, inl, arith, eq-eqb, ne_eqb, Option, Some, None, if◌then◌else◌}
+use Rattle.std.proofs.Common.{◌≡◌, ◌≢◌, ◌⊎◌, ℕ, ◌<◌, ◌==◌, true, List, [], ◌∷◌, ◌++◌, length, set, sym, refl, ap, ◌∙◌, subst, ⊎_elim, inl, arith, eq-eqb, ne_eqb, Option, Some, None, if◌then◌else◌}
 use Rattle.std.proofs.lemmas.List.{append-nil}
 use mathlib.Core.Option.{some}
 use mathlib.Core.Option as maybe
@@ -71,12 +71,13 @@ turned v out handed laid =
     record v { facts = record v.facts { open_slot = out }; handed = handed; laid = laid }
 
 module _ {E S : Type 0} (object : Object E) where
-  -- more is handed in
+  -- more is handed in, beside a pass that isn't alone
   knows-more : (c : Hidden) (log : List E) (handed handed' : List (ℕ × S)) (made live passes limit cells : ℕ)
       (opening : Opening) (u : View E S) → ((h : List (ℕ × S)) → IsPrefix h handed → IsPrefix h handed')
+      → (u.alone ≡ true → live ≡ 1 → ⊥)
       → Knows object c log handed made live passes limit cells opening u
       → Knows object c log handed' made live passes limit cells opening u
-  knows-more c log handed handed' made live passes limit cells opening u more k = record {
+  knows-more c log handed handed' made live passes limit cells opening u more two k = record {
     sees = record {
       seen = k.sees.seen;
       other = k.sees.other;
@@ -93,7 +94,7 @@ module _ {E S : Type 0} (object : Object E) where
     resting = k.resting;
     second = k.second;
     crew = k.crew;
-    alone = k.alone;
+    alone = λ a. absurd (two a (k.alone a).0);
     limit_is = k.limit_is;
     cells_are = k.cells_are;
     passes_are = k.passes_are;
@@ -101,18 +102,19 @@ module _ {E S : Type 0} (object : Object E) where
     payload_fits = k.payload_fits;
   }
 
-  -- the pass sees more values handed in, and turns its slots
-  knows-turned : (c : Hidden) (log : List E) (handed : List (ℕ × S)) (made live passes limit cells : ℕ)
+  -- the pass sees more values handed in, all of them where it is alone, and turns its slots
+  knows-turned : (c : Hidden) (log : List E) (handed handed' : List (ℕ × S)) (made live passes limit cells : ℕ)
       (opening : Opening) (v : View E S) (out : Option ℕ) (h : List (ℕ × S)) (laid : List (ℕ × Option S))
-      → IsPrefix h handed
+      → ((u : List (ℕ × S)) → IsPrefix u handed → IsPrefix u handed') → IsPrefix h handed'
+      → (v.alone ≡ true → h ≡ handed')
       → Knows object c log handed made live passes limit cells opening v
-      → Knows object c log handed made live passes limit cells opening (turned v out h laid)
-  knows-turned c log handed made live passes limit cells opening v out h laid seen k = record {
+      → Knows object c log handed' made live passes limit cells opening (turned v out h laid)
+  knows-turned c log handed handed' made live passes limit cells opening v out h laid more seen whole k = record {
     sees = record {
       seen = k.sees.seen;
       other = k.sees.other;
       handed_in = seen;
-      other_handed_in = k.sees.other_handed_in;
+      other_handed_in = more v.other_handed k.sees.other_handed_in;
       mine = k.sees.mine;
       theirs = k.sees.theirs;
     };
@@ -125,7 +127,7 @@ module _ {E S : Type 0} (object : Object E) where
     second = λ two. let t = k.second two in
         record { own = t.own; stands = t.stands; resting = t.resting; payload_fits = t.payload_fits };
     crew = k.crew;
-    alone = k.alone;
+    alone = λ a. let was = k.alone a in (was.0, was.1, was.2, whole a);
     limit_is = k.limit_is;
     cells_are = k.cells_are;
     passes_are = k.passes_are;
@@ -165,11 +167,12 @@ module _ {E S : Type 0} (object : Object E) (primitive : Primitive E S) (passes 
       (h handed : List (ℕ × S)) (laid : List (ℕ × Option S)) (homes : List (maybe.Option (Option S)))
       → get_elem? s.views id ≡ some v → 0 < v.weight
       → ((u : List (ℕ × S)) → IsPrefix u r.handed → IsPrefix u handed) → IsPrefix h handed
+      → (v.alone ≡ true → h ≡ handed)
       → primitive.shows r.hidden (client_words s.words) r.log handed
       → (shelf : Shelf primitive.opens handed r.live homes (set s.views id (turned v out h laid)))
       → (t : R (record { words = s.words; homes = homes; views = set s.views id (turned v out h laid) }))
       × (t.handed ≡ handed) × ((k : ℕ) → t.shelf.lies k ≡ shelf.lies k)
-  reshelf s r id v out h handed laid homes here alive more seen shown shelf = (
+  reshelf s r id v out h handed laid homes here alive more seen whole shown shelf = (
     record {
       hidden = r.hidden;
       log = r.log;
@@ -191,12 +194,14 @@ module _ {E S : Type 0} (object : Object E) (primitive : Primitive E S) (passes 
       door = r.door;
       shown = shown;
       each_view = set_all P s.views id w
-          (λ live. knows-turned object r.hidden r.log handed r.made r.live passes limit
-          (cell_count passes limit primitive.values) primitive.opening v out h laid seen
-          (knows-more object r.hidden r.log r.handed handed r.made r.live passes limit
-          (cell_count passes limit primitive.values) primitive.opening v more (r.each_view id v here alive)))
+          (λ live. knows-turned object r.hidden r.log r.handed handed r.made r.live passes limit
+          (cell_count passes limit primitive.values) primitive.opening v out h laid more seen whole
+          (r.each_view id v here alive))
           (λ j u apart at live. knows-more object r.hidden r.log r.handed handed r.made r.live passes limit
-          (cell_count passes limit primitive.values) primitive.opening u more (r.each_view j u at live));
+          (cell_count passes limit primitive.values) primitive.opening u more
+          (λ a one. let both = two_of weight s.views j id u v apart at here in
+          let l = r.crew.live_is in omega arith)
+          (r.each_view j u at live));
       apart = still-apart object primitive passes limit s.views id v w here refl r.apart;
       spent = spent-set object primitive passes limit s.views id w alive r.spent;
       unnamed = r.unnamed;
@@ -277,7 +282,7 @@ module _ {E S : Type 0} (object : Object E) (primitive : Primitive E S) (passes 
       × (t.handed ≡ r.handed ++ (k, y) ∷ []) × (t.shelf.lies k ≡ Some y)
   hand-in s r id v k y here alive there =
       let t = reshelf s r id v v.facts.open_slot handed handed (taken_off k v.laid) s.homes here alive
-      (λ u before. longer u r.handed ((k, y) ∷ []) before) ([], sym (append-nil handed))
+      (λ u before. longer u r.handed ((k, y) ∷ []) before) ([], sym (append-nil handed)) (λ _. refl)
       (client.slots.hands_in r.hidden (client_words s.words) r.log r.handed k y r.shown) shelf in
       (t.0, t.1, t.2 k ∙ chosen k k (Some y) (r.shelf.lies k) refl)
     where

@@ -226,7 +226,7 @@ module _ {E S : Type 0} (object : Object E) (primitive : Primitive E S) (passes 
         resting = λ n has other. absurd (other (is-zero n has));
         second = λ two. absurd (omega arith);
         crew = inl (omega arith);
-        alone = λ _. (refl, refl, refl);
+        alone = λ _. (refl, refl, refl, refl);
         limit_is = refl;
         cells_are = refl;
         passes_are = refl;
@@ -249,6 +249,7 @@ module _ {E S : Type 0} (object : Object E) (primitive : Primitive E S) (passes 
     own = inl refl;
     held = client.held_fits h (four primitive.words) [] [] 0 (first_has primitive.held) shown refl;
     few = client.slots.few h (four primitive.words) [] [] 0 (first_has primitive.held) shown refl;
+    known = client.slots.known h (four primitive.words) [] [] 0 (first_has primitive.held) shown refl;
     inside = record {
       number = omega arith;
       waits = λ k has. absurd has;

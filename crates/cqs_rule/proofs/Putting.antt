@@ -111,6 +111,7 @@ module _ {E S : Type 0} (object : Object E) (primitive : Primitive E S) (passes 
                     before = r.handed;
                     is = m.3 ∙ t.1;
                     old = known.sees.handed_in;
+                    whole = λ a. sym (known.alone a).3;
                     off = ap (λ l. laid_in l element) m.4 ∙ off-here element v.laid;
                   }),
             ),

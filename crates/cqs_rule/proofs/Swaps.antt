@@ -60,6 +60,7 @@ module _ {E S : Type 0} (laid : List (ℕ × Option S)) (v w : View E S) (swap :
     own = l.own;
     held = l.held;
     few = l.few;
+    known = l.known;
     inside = record {
       number = l.inside.number;
       waits = l.inside.waits;
@@ -154,7 +155,7 @@ module _ {E S : Type 0} (object : Object E) (primitive : Primitive E S) (passes 
         views = set s.views id (turned v out r.handed laid);
       })) (sym (set-get_or s.words 0 0))
       (reshelf object primitive passes limit client s r id v out r.handed r.handed laid (homes_after s.homes cs act)
-      here alive (λ u before. before) ([], sym (append-nil r.handed)) r.shown shelf).0
+      here alive (λ u before. before) ([], sym (append-nil r.handed)) (λ _. refl) r.shown shelf).0
 
   -- a pass that may open the slot takes it from its home
   pub takes-out : (slots id k : ℕ) (me : Me (Option S) (View E S)) → me.0.weight ≡ 1 → me.0.facts.open_slot ≡ None
@@ -211,6 +212,7 @@ module _ {E S : Type 0} (object : Object E) (primitive : Primitive E S) (passes 
               (inl (r.shelf.laid j u at alive k x q).1) opener)) refl));
           is = refl;
           more = (r.each_view id v here (omega arith)).sees.handed_in;
+          whole = λ a. sym ((r.each_view id v here (omega arith)).alone a).3;
         },
       )
     where
@@ -344,6 +346,7 @@ module _ {E S : Type 0} (object : Object E) (primitive : Primitive E S) (passes 
                 before = r.handed;
                 is = given.1;
                 old = (r.each_view id v here (omega arith)).sees.handed_in;
+                whole = λ a. sym ((r.each_view id v here (omega arith)).alone a).3;
                 off = off-here k v.laid;
               }),
               ap rest is,

@@ -75,6 +75,7 @@ module _ {E S : Type 0} (object : Object E) (primitive : Primitive E S) (passes 
             (client.legal_shown d words log r.handed t.shown) t.silent
             (client.held_fits d words log r.handed me.0.number facts.has t.shown t.self.has)
             (client.slots.few d words log r.handed me.0.number facts.has t.shown t.self.has)
+            (client.slots.known d words log r.handed me.0.number facts.has t.shown t.self.has)
             (inside-of passes limit primitive.values d me.0.number facts.doing t.room
             (client.sound d words log r.handed t.shown) t.self.doing)
             (λ n h. let drawn = (t.self.waits n h).drawn in let g = t.room.ground in omega arith)

@@ -13,7 +13,7 @@ use Rattle.cqs_rule.specs.Ruled.{Stands, Rests}
 use Rattle.cqs_rule.specs.Facts.{is_owing, owes_any}
 use Rattle.cqs_rule.specs.Object.{Object, Primitive}
 use Rattle.cqs_rule.specs.Saw.{Saw, IsLive}
-use Rattle.cqs_rule.specs.Views.{made_in, first_facts, facts_lessened, single, cut_off, joined, as_before}
+use Rattle.cqs_rule.specs.Views.{made_in, first_has, first_facts, facts_lessened, single, cut_off, joined, as_before}
 use Rattle.cqs_rule.proofs.Calls.{saw-then}
 
 -- that a pass is alone is told by what the client shows
@@ -55,6 +55,7 @@ module _ {E S : Type 0} (object : Object E) where
     own = l.own;
     held = l.held;
     few = l.few;
+    known = l.known;
     inside = record {
       number = l.inside.number;
       waits = l.inside.waits;
@@ -64,15 +65,16 @@ module _ {E S : Type 0} (object : Object E) where
     };
   }
 
-  live-cut : (u : View E S) (gives n : ℕ) → gives < 2 ^ 32 → gives ≤ object.most u.opening → IsLive object u
-      → IsDoubled gives n u
+  live-cut : (u : View E S) (gives n : ℕ) → gives < 2 ^ 32 → gives ≤ object.most u.opening
+      → object.knows u.opening (first_has gives) → IsLive object u → IsDoubled gives n u
       → IsLive object (cut_off u)
-  live-cut u gives n few most l d = record {
+  live-cut u gives n few most known l d = record {
     legal = subst (object.legal u.opening) (sym d.seen) l.legal;
     unnamed = λ m above. ap (part object.names m) d.seen ∙ l.unnamed m above;
     own = subst (Has u.second_number) (sym d.own) (inl d.number);
     held = subst (λ (f : Facts). f.has.held < 2 ^ 32) (sym d.facts) (omega arith);
     few = subst (λ (f : Facts). f.has.held ≤ object.most u.opening) (sym d.facts) (omega arith);
+    known = subst (λ (f : Facts). object.knows u.opening f.has) (sym d.facts) known;
     inside = inside-cut u gives l.inside d.facts;
   }
 
@@ -187,7 +189,7 @@ module _ {E S : Type 0} (object : Object E) where
         passes = s.same.passes;
         opening = s.same.opening;
         alive = live-cut u gives n few
-            (subst (λ (o : Opening). gives ≤ object.most o) (sym s.same.opening) most) alive d;
+            (subst (λ (o : Opening). gives ≤ object.most o) (sym s.same.opening) most) (e.known hit) alive d;
         lonely = refl;
       }
 

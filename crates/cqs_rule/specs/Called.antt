@@ -7,7 +7,7 @@ use Rattle.cqs_rule.specs.Slots.{LaysNone}
 use Rattle.cqs_rule.specs.Views.{IsSame}
 
 module _ {E S : Type 0} (object : Object E) where
-  -- The call rule. What the pass had seen is a beginning of what it has seen now. In the new part
+  -- The call rule. What the pass had seen is a prefix of what it has seen now. In the new part
   -- the entries that name the pass, or one met into it, are those of `entries` that do; what the
   -- last step appended is last. A pass that was alone has seen just its own entries.
   pub record Called (v : View E S) (entries last : List E) (w : View E S) : Type 0 where

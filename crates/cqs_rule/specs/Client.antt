@@ -71,6 +71,11 @@ module _ {E S : Type 0} (object : Object E) (primitive : Primitive E S) where
         (has : Has)
         → primitive.shows c words log handed → slice_get c.has p ≡ Some has
         → has.held ≤ object.most primitive.opening
+    -- what the client knows of all that one pass has
+    pub known : (c : Hidden) (words : List ℕ) (log : List E) (handed : List (ℕ × S)) (p : ℕ)
+        (has : Has)
+        → primitive.shows c words log handed → slice_get c.has p ≡ Some has
+        → object.knows primitive.opening has
     -- and gets those of a pass that it takes in
     pub gathers : (mine theirs : Has) (k : ℕ) → primitive.opens mine k ⊎ primitive.opens theirs k
         → primitive.opens (gathered mine theirs) k

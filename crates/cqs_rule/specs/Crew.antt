@@ -12,7 +12,7 @@ use Rattle.cqs_rule.specs.Ruled.{Stands, Rests}
 use Rattle.cqs_rule.specs.Facts.{is_owing}
 use Rattle.cqs_rule.specs.Object.{Object, Primitive}
 use Rattle.cqs_rule.specs.Saw.{Saw, IsLive}
-use Rattle.cqs_rule.specs.Views.{made_in, live_in, crew_turn, first_facts, facts_lessened, as_before}
+use Rattle.cqs_rule.specs.Views.{made_in, live_in, crew_turn, first_facts, first_has, facts_lessened, as_before}
 
 -- A pass between two calls is idle, or owes something: it isn't in the middle of a call that owes
 -- nothing.
@@ -78,6 +78,7 @@ module _ {E : Type 0} (object : Object E) where
       pub made : n ≡ first → IsDoubled gives n w
       pub saw : n ≡ first → Saw object v (facts_lessened gives v.facts) [] (as_before v w)
       pub unnamed : n ≡ first → part object.names (made_in n) w.seen ≡ []
+      pub known : n ≡ first → object.knows w.opening (first_has gives)
 
     -- The view v has taken in what another pass, with these numbers, had seen, and stands at these
     -- facts now. The entries of each number are those that the pass which had it had seen.

@@ -17,6 +17,8 @@ pub record Object (E : Type 0) : Type 1 where
   pub gains : Gains
   -- the most that one pass holds, by what the object opened with
   pub most : Opening → ℕ
+  -- what holds of all that one pass has, by what the object opened with
+  pub knows : Opening → Has → Type 0
 
 -- What one client of that kind is made with.
 pub record Primitive (E S : Type 0) : Type 1 where

@@ -9,7 +9,7 @@ use Rattle.cqs_rule.specs.Hidden.{Hidden}
 use Rattle.cqs_rule.specs.Views.{first_has}
 use Rattle.cqs_rule.specs.Layout.{crew_place, resumes_place, client_place, cell_place, cell_number}
 
--- a cell in which a value stands from the beginning
+-- a cell in which a value stands from the start
 abbrev pub value_cell : CoreCell
 value_cell = record { state = state.Value; owner = None; collected = false }
 

@@ -185,7 +185,8 @@ module _ {E S : Type 0} (object : Object E) where
     pub resting : (n : ℕ) → Has n v.own → n ≢ v.number → Rests c n
     pub second : 1 < v.weight → HasSecond c v
     pub crew : WasCrew made live v.crew
-    pub alone : v.alone ≡ true → (live ≡ 1) × (v.weight ≡ 1) × (v.seen ≡ log)
+    pub alone : v.alone ≡ true
+        → (live ≡ 1) × (v.weight ≡ 1) × (v.seen ≡ log) × (v.handed ≡ handed)
     pub limit_is : v.limit ≡ limit
     pub cells_are : v.cells ≡ cells
     pub passes_are : v.passes ≡ passes

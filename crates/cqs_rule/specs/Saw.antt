@@ -25,14 +25,15 @@ module _ {E S : Type 0} (object : Object E) where
     pub sole : v.alone ≡ true → between ≡ []
 
   -- What holds of the view of every live pass: all that it has seen is legal and names only passes
-  -- that may be made, its own number is among its numbers, which are those of cells, and what it
-  -- holds and owes fits.
+  -- that may be made, its own number is among its numbers, which are those of cells, what it holds
+  -- and owes fits, and what the client knows of all that one pass has holds of what it has.
   pub record IsLive (v : View E S) : Type 0 where
     pub legal : object.legal v.opening v.seen
     pub unnamed : (n : ℕ) → v.passes ≤ n → part object.names n v.seen ≡ []
     pub own : Has v.number v.own
     pub held : v.facts.has.held < 2 ^ 32
     pub few : v.facts.has.held ≤ object.most v.opening
+    pub known : object.knows v.opening v.facts.has
     pub inside : IsInside v
 
 -- Where the history was this, the client, which opened so, showed it by a hidden state and by words
@@ -58,7 +59,7 @@ pub record WasFound {C E S : Type 0} (primitive : C → Primitive E S) (fact : H
   pub seen : w.seen ≡ before ++ entries
   pub was : WasShown primitive w.opening fact before
 
--- It held at the end of some beginning of all that the pass has seen.
+-- It held at the end of some prefix of all that the pass has seen.
 pub record WasSo {C E S : Type 0} (primitive : C → Primitive E S) (fact : Hidden → List ℕ → Type 0)
     (w : View E S) : Type 0 where
   pub before : List E

@@ -46,6 +46,7 @@ semaphore_object = record {
   entries = λ step p k payload. step_entries step p k;
   gains = one_more;
   most = λ opening. opening.size;
+  knows = λ opening has. Unit {0};
 }
 
 -- a semaphore asks where a wait leaves, its passes come to a door, and it owes one resumption at a

@@ -249,6 +249,7 @@ semaphore-slots permits = record {
       (subst (λ n. IsCore (core_shown n c words log)) o.0 core) here there o.2 o'.2;
   few = λ c words log handed p has core there.
       held-few (core_shown permits c words log) p has.held core (held-at c.has p has there);
+  known = λ c words log handed p has core there. tt;
   steps = λ s has payload k suits kept o. (o.0, o.1, after (row_of s) has payload o.2);
   gathers = λ mine theirs k o. ⊎_elim
       (λ (a : opens_one permits mine k). (a.0, a.1, let some = a.2 in omega arith))

@@ -17,6 +17,8 @@ pub record HandedIn {E S : Type 0} (slot : ℕ) (value : S) (v w : View E S) : T
   pub before : List (ℕ × S)
   pub is : w.handed ≡ before ++ (slot, value) ∷ []
   pub old : IsPrefix v.handed before
+  -- a pass that is alone had seen all that was handed in before
+  pub whole : v.alone ≡ true → before ≡ v.handed
   -- nothing else lies there now
   pub off : laid_in w.laid slot ≡ None
 
@@ -44,6 +46,7 @@ module _ {E S : Type 0} where
     pub last : laid_in v.laid k ≡ None → value ≡ handed_in w.handed k
     pub is : w ≡ record v { facts = record v.facts { open_slot = Some k }; handed = w.handed }
     pub more : IsPrefix v.handed w.handed
+    pub whole : v.alone ≡ true → w.handed ≡ v.handed
 
   -- it was put back, and this is what the pass has laid into slots now
   pub record PutBack (laid : List (ℕ × Option S)) (v w : View E S) : Type 0 where

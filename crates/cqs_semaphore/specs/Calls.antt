@@ -36,7 +36,7 @@ module _ {T : Type 0} where
   abbrev pub plain_after : View Entry T → plain.Semaphore
   plain_after v = object_after v.opening.size v.seen
 
-  -- The call rule. What the pass had seen is a beginning of what it has seen now, which is legal.
+  -- The call rule. What the pass had seen is a prefix of what it has seen now, which is legal.
   -- In the new part the entries that name the pass are just its own ones of the call, in order.
   -- These name nobody else, and the further entry, where the call makes one, names nobody and is
   -- the last of all that the pass has seen now. A pass that was alone has seen just the entries of

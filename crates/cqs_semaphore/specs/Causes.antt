@@ -60,7 +60,7 @@ module _ {T : Type 0} where
     pub found : IsPrefix (v.facts.found ++ Word suspends_place n ∷ []) w.facts.found
 
   -- A step of the call found the state to be this count: it was that of the plain semaphore after
-  -- this history, which the pass has seen all of, and what it had seen before is the beginning of
+  -- this history, which the pass has seen all of, and what it had seen before is the prefix of
   -- it. The step's own entry, where it has one, comes next.
   pub record StateWas (v : View Entry T) (count : ℤ) (before own : List Entry) (w : View Entry T)
       : Type 0 where

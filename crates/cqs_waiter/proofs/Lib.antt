@@ -1,1 +1,2 @@
+mod Locks
 mod Waiting

@@ -167,7 +167,7 @@ module _ {T : Type 0} where
         };
       }
 
-  -- What comes of a wait whose look was pending comes of that poll's beginning.
+  -- What comes of a wait whose look was pending comes of that poll's start.
   later-came : (v m w : View Entry T) (k : ℕ) (before : List Entry) (waits : List ℕ) (permit : Permit)
       → Course v (before ++ entry.LookPending v.number k ∷ []) m
       → m.facts.has.held ≡ v.facts.has.held → m.facts.waits ≡ waits
@@ -201,12 +201,12 @@ module _ {T : Type 0} where
   arrives-still v m w (Some wait) again (Err e) pends came = absurd came
 
   -- an acquire is what a poll begins with that has no wait yet
-  pub acquire-begins : (v w : View Entry T) (r : Result Acquired AcquireError)
+  pub acquire_begins : (v w : View Entry T) (r : Result Acquired AcquireError)
       → CallRule v (acquired_entries v.number r) (acquired_further r) w → OnErr r (IsWorn v w)
       → (IsErrOf r Crowded → ⊥) → IfOk r (λ acquired. Acquires v acquired w) → Begins v None r w
-  acquire-begins v w (Ok (Now permit)) c worn never acquired = at-once v w permit c acquired
-  acquire-begins v w (Ok (Later wait)) c worn never acquired = just-came v w wait c acquired
-  acquire-begins v w (Err e) c worn never acquired = only-worn v w e c worn (λ is. never (ap Err is))
+  acquire_begins v w (Ok (Now permit)) c worn never acquired = at-once v w permit c acquired
+  acquire_begins v w (Ok (Later wait)) c worn never acquired = just-came v w wait c acquired
+  acquire_begins v w (Err e) c worn never acquired = only-worn v w e c worn (λ is. never (ap Err is))
 
   -- a poll that began so, and whose look found the wait served
   pub granted-arrives : (v m w : View Entry T) (wait : Option Wait) (l : Wait) (permit : Permit)

@@ -8,8 +8,8 @@ ghost use Rattle.cqs_rule.specs.Waits.{HasWait};
 ghost use Rattle.futures.specs.Poll.{IfReady, OnPending};
 ghost use Rattle.futures.specs.Task.{Covers, Keeps};
 ghost use Rattle.cqs_semaphore.specs.Calls.{IsMine, IsReady};
-ghost use Rattle.cqs_waiter.specs.Arrivals.{Begins};
-ghost use Rattle.cqs_waiter.specs.Futures.{CanPoll, Gives, LookPended, GivesUp, GotWait};
+ghost use Rattle.cqs_waiter.specs.Arrivals.{Arrives, Begins};
+ghost use Rattle.cqs_waiter.specs.Futures.{CanPoll, Gives, LookPended, GivesUp, GotWait, HasEndedWait};
 
 use cqs_rule::{AcquireError, Wait};
 use cqs_semaphore::{Acquired, CancelAnswer, Permit, Polled, SemPass, Semaphore};
@@ -41,7 +41,7 @@ impl<'a> AcquireFuture<'a> {
     pub fn new(semaphore: &'a Semaphore, pass: SemPass) -> AcquireFuture<'a>
         requires belongs { IsMine semaphore.now pass }
         requires ready { IsReady (pass_view pass).facts }
-        ensures can_poll { CanPoll result.semaphore.now result.pass result.wait }
+        ensures can_poll { CanPoll (IsMine result.semaphore.now) result.pass result.wait }
         ensures semaphore { result.semaphore.now ≡ semaphore.now }
         ensures pass { result.pass ≡ Some pass }
         ensures no_wait { result.wait ≡ None }
@@ -56,11 +56,11 @@ impl<'a> AcquireFuture<'a> {
     /// Ends the wait, if there is one, and hands the pass back.
     pub fn give_up(self) -> (SemPass, Option<CancelAnswer>)
         requires not_ready { IsSome self.pass }
-        requires can_poll { CanPoll self.semaphore.now self.pass self.wait }
+        requires can_poll { CanPoll (IsMine self.semaphore.now) self.pass self.wait }
         ensures belongs { IsMine self.entry.semaphore.now result.0 }
         ensures between { IsBetween (pass_view result.0).facts }
         ensures gave_up { IsSomeAnd self.entry.pass
-            (λ pass. GivesUp pass self.entry.wait result.0 result.1) }
+            (λ pass. GivesUp HasEndedWait pass self.entry.wait result.0 result.1) }
         ensures none { (result.1 ≡ None) ↔ (self.entry.wait ≡ None) }
     {
         let AcquireFuture {
@@ -80,6 +80,7 @@ impl<'a> AcquireFuture<'a> {
 }
 
 // The wait that the future has, or what its acquire gets.
+#[tactic(auto, using(crate::proofs::Waiting::acquire_begins))]
 fn begin(
     semaphore: &Semaphore,
     pass: &mut SemPass,
@@ -102,19 +103,22 @@ fn begin(
 impl Future for AcquireFuture<'_> {
     type Output = Acquisition;
 
-    ghost can_poll = { λ f. CanPoll f.semaphore.now f.pass f.wait };
+    ghost can_poll = { λ f. CanPoll (IsMine f.semaphore.now) f.pass f.wait };
 
-    ghost gives = { λ f out. Gives f.semaphore.now f.pass f.wait out.pass out.got };
+    ghost gives = { λ f out. Gives (IsMine f.semaphore.now) Arrives f.pass f.wait out.pass
+        out.got };
 
     fn poll(&mut self, cx: &mut Context<'_>) -> Poll<Acquisition>
-        requires { CanPoll self.old.semaphore.now self.old.pass self.old.wait }
-        ensures value { IfReady result (λ out. Gives self.old.semaphore.now self.old.pass
-            self.old.wait out.pass out.got) }
-        ensures again { OnPending result (CanPoll self.new.semaphore.now self.new.pass
+        requires { CanPoll (IsMine self.old.semaphore.now) self.old.pass self.old.wait }
+        ensures value { IfReady result (λ out. Gives (IsMine self.old.semaphore.now) Arrives
+            self.old.pass self.old.wait out.pass out.got) }
+        ensures again { OnPending result (CanPoll (IsMine self.new.semaphore.now) self.new.pass
             self.new.wait) }
         ensures same { OnPending result ((out : Acquisition)
-            → Gives self.new.semaphore.now self.new.pass self.new.wait out.pass out.got
-            → Gives self.old.semaphore.now self.old.pass self.old.wait out.pass out.got) }
+            → Gives (IsMine self.new.semaphore.now) Arrives self.new.pass self.new.wait out.pass
+            out.got
+            → Gives (IsMine self.old.semaphore.now) Arrives self.old.pass self.old.wait out.pass
+            out.got) }
         ensures registered { OnPending result (Covers cx.new (λ _. ⊥)) }
         ensures kept { Keeps cx.old cx.new }
         ensures pending { (result ≡ Poll.Pending) ↔ ((self.old.pass ≡ None)

@@ -1,22 +1,26 @@
 //! Waiters that are polled, and waiters that block.
 //!
-//! A caller of a semaphore who must wait has a token of its wait, and looks at it when it likes.
-//! Here are the two ways in which most callers want to wait: a future, which an executor polls, and
-//! a call that comes back with the permit.
+//! A caller of a semaphore or a mutex who must wait has a token of its wait, and looks at it when
+//! it likes. Here are the two ways in which most callers want to wait: a future, which an executor
+//! polls, and a call that comes back with the permit or the guard.
 //!
 //! ```text
-//!  AcquireFuture::new       acquire_wait
-//!     |  first poll            |
-//!     v                        v
-//!  acquire ------ a permit ------------------------> ready, or back with it
-//!     |  a wait                |  a wait
-//!     v                        v
-//!  look, pending: yields    look, pending: parks on the cell of the wait, until it is served
+//!  AcquireFuture, LockFuture     acquire_wait, lock_wait
+//!     |  first poll                 |
+//!     v                             v
+//!  acquire, lock ------ it is free ------------------> ready, or back with it
+//!     |  a wait                     |  a wait
+//!     v                             v
+//!  look, pending: yields         look, pending: parks on the cell of the wait, until it is served
 //! ```
 #![tactic(auto)]
 
 mod acquire_future;
 mod blocking;
+mod lock_future;
+mod locking;
 
 pub use acquire_future::{AcquireFuture, Acquisition};
 pub use blocking::acquire_wait;
+pub use lock_future::{LockFuture, LockOutcome};
+pub use locking::lock_wait;

@@ -3,6 +3,10 @@
 #![tactic(auto)]
 
 #[cfg(test)]
+mod locks_by_future;
+#[cfg(test)]
+mod locks_that_sleep;
+#[cfg(test)]
 mod permits_by_future;
 #[cfg(test)]
 mod sleepers;

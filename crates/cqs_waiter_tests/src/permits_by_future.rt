@@ -1,10 +1,12 @@
 //! A future that acquires: one that is polled until it is ready, and one that is given up.
 
 use cqs_rule::Config;
-use cqs_semaphore::{Acquired, Semaphore};
+use cqs_semaphore::{Acquired, Released, Semaphore};
 use cqs_waiter::AcquireFuture;
 use futures::FutureExt;
 use futures::executor::block_on;
+use futures::task::Poll;
+use futures::test::MockTask;
 use std::test::Fail;
 
 const CONFIG: Config = Config {
@@ -46,5 +48,30 @@ fn a_held_permit_is_not_ready_at_once(rt: HostRuntime) -> Result<(), Fail> {
     let ready = AcquireFuture::new(&semaphore, second).now_or_never(&rt)?;
     assert!(rt; ready.is_none());
     assert_eq!(rt; semaphore.state(&mut pass), -1);
+    Ok(())
+}
+
+#[test]
+fn a_future_polled_by_hand_is_pending_until_a_permit_comes(rt: HostRuntime) -> Result<(), Fail> {
+    let (semaphore, mut pass) = Semaphore::new(rt.alloc(), 1, CONFIG)?;
+    let Ok(second) = semaphore.split(&mut pass) else {
+        panic!(rt; "one was made of two");
+    };
+    let Ok(Acquired::Now(permit)) = semaphore.acquire(&mut pass) else {
+        panic!(rt; "it is free");
+    };
+    let mut future = AcquireFuture::new(&semaphore, second);
+    let task = MockTask::new(&rt)?;
+    let Poll::Pending = task.poll(&mut future) else {
+        panic!(rt; "the permit is held");
+    };
+    assert!(rt; task.is_woken());
+    let Ok(Released::Sent(0)) = semaphore.release(&mut pass, permit) else {
+        panic!(rt; "the future waits");
+    };
+    let Poll::Ready(done) = task.poll(&mut future) else {
+        panic!(rt; "the permit has come");
+    };
+    assert_eq!(rt; done.got.ok().and_then(|permit| permit.number()), Some(0));
     Ok(())
 }

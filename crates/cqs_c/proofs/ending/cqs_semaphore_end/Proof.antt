@@ -51,7 +51,8 @@ module _ {M : Type 1} {𝓤 : Ura M} (𝓛 : Logic 𝓤) (at_mem : Memory → SP
   abbrev c : Clauses 𝓤 f.ended
   c = f.clauses 𝓛 at_mem run
 
-  module _ (C : Calls 𝓤 𝓛.H) (Λ : Loops 𝓤 𝓛.H) (fm : FmC 𝓤 𝓛.H 𝓛.laws C) (known : Triple 𝓤 (C #of) Of) (x : R.Denot) where
+  module _ (C : Calls 𝓤 𝓛.H) (Λ : Loops 𝓤 𝓛.H) (fm : FmC 𝓤 𝓛.H 𝓛.laws C)
+      (known : Triple 𝓤 (C #of) Of) (x : R.Denot) where
     abbrev y : Ptr → (walk_of 𝓛 f.ended stayed c).Ghost
     y p = ((tt, tt, tt, (p, tt), (rawptr_vals p, tt)), x)
 
@@ -61,7 +62,11 @@ module _ {M : Type 1} {𝓤 : Ura M} (𝓛 : Logic 𝓤) (at_mem : Memory → SP
     abbrev Entry : Ptr → SProp 𝓤
     Entry p = on_entry 𝓛 f.signature tt tt (p, tt) (rawptr_vals p, tt)
 
-    runs : (p : Ptr) → ent 𝓤 (sep 𝓤 (Entry p) (sep 𝓤 (fact 𝓤 (Testable p)) (sem 𝓛 (if_non_null p (lies_at R full_share p x)))))
+    -- what the export is given beside what its parameters own
+    abbrev Given : Ptr → SProp 𝓤
+    Given p = sep 𝓤 (fact 𝓤 (Testable p)) (sem 𝓛 (if_non_null p (lies_at R full_share p x)))
+
+    runs : (p : Ptr) → ent 𝓤 (sep 𝓤 (Entry p) (Given p))
         (WpFn 𝓤 𝓛.H C Λ code.function (ptr_val p ∷ []) (Post p))
     runs null_ptr =
         qed 𝓛 (raw (Entry null_ptr) ∷ (raw (fact 𝓤 (Testable null_ptr)) ⊛ ‵ ftrue) ∷ []) ∵

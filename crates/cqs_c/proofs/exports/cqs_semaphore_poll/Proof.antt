@@ -72,7 +72,11 @@ module _ {M : Type 1} {𝓤 : Ura M} (𝓛 : Logic 𝓤) (at_mem : Memory → SP
     abbrev Entry : Ptr → SProp 𝓤
     Entry p = on_entry 𝓛 f.signature tt tt (p, (n, (m, tt))) (rawptr_vals p, (vint w32 n ∷ [], (vint w64 m ∷ [], tt)))
 
-    runs : (p : Ptr) → ent 𝓤 (sep 𝓤 (Entry p) (sep 𝓤 (fact 𝓤 (Testable p)) (sep 𝓤 (sem 𝓛 (if_non_null p (lent_at R p x κ))) (sem 𝓛 (flft κ q)))))
+    -- what the export is given beside what its parameters own
+    abbrev Given : Ptr → SProp 𝓤
+    Given p = sep 𝓤 (fact 𝓤 (Testable p)) (sep 𝓤 (sem 𝓛 (if_non_null p (lent_at R p x κ))) (sem 𝓛 (flft κ q)))
+
+    runs : (p : Ptr) → ent 𝓤 (sep 𝓤 (Entry p) (Given p))
         (WpFn 𝓤 𝓛.H C Λ code.function (ptr_val p ∷ vint w32 n ∷ vint w64 m ∷ []) (Post p))
     runs null_ptr =
         let z : None.Ghost = ((tt, tt, tt, tt, tt), tt) in
@@ -83,15 +87,18 @@ module _ {M : Type 1} {𝓤 : Ura M} (𝓛 : Logic 𝓤) (at_mem : Memory → SP
         alloc_all ! (λ l. pass_all ! refl ((tt, record { fits = lit< tt }), ((tt, record { fits = fn }), ((tt, record { fits = fm }), tt))) $
         sets ! (bin ! (get ! refl) (lit ! tt) (tests_null null_ptr may)) refl (tt, tt) $
         first ! $ branches ! (get ! refl)
-        (λ t. nothing ! $ nothing ! $ nothing ! $ join ! $ join ! $ use1 𝓛 (raw (None.pre z)) (id⊢ 𝓤 _) $
+        (λ t. nothing ! $ nothing ! $ nothing ! $ join ! $ join ! $
+        use1 𝓛 (raw (None.pre z)) (id⊢ 𝓤 _) $
         calls_at ! fm' None none_known z (no_more !) (λ v.
         use1 𝓛 (later (some (λ (d : A.Denot). (‵ ftrue ⊛ ‵ (A.own_val d (v ∷ [])))
-        ⊛ raw (ensured 𝓛 none.ended (none.clauses 𝓛 at_mem run) tt tt tt d)))) (id⊢ 𝓤 _) $ await ! tt $ pick ! (λ d.
+        ⊛ raw (ensured 𝓛 none.ended (none.clauses 𝓛 at_mem run) tt tt tt d))))
+        (id⊢ 𝓤 _) $ await ! tt $ pick ! (λ d.
         split ! $ move ! (1 ∷ []) $
         use1 𝓛 (raw (fact 𝓤 (d ≡ no_semaphore)))
-        (ex_e 𝓤 _ (λ ws. snd∗ 𝓤 (sem 𝓛 (lasts none.ended tt tt ws)) (fact 𝓤 (d ≡ no_semaphore)))) $
+        (ex_e 𝓤 _ (λ ws. snd∗ 𝓤 (sem 𝓛 (lasts none.ended tt tt ws)) _)) $
         heard ! (d ≡ no_semaphore) (λ is_none. split ! $ drop ! $
-        peeks ! A (Is A) (shows 𝓛 A) d (v ∷ []) (λ is. lands_as ! refl refl ((lawful the_type the_laws 𝓛).typed d _ is).0 $
+        peeks ! A (Is A) (shows 𝓛 A) d (v ∷ []) (λ is.
+        lands_as ! refl refl ((lawful the_type the_laws 𝓛).typed d _ is).0 $
         returns_within ! (Post null_ptr) refl (look_at ! 0 refl) $ free_all ! refl $
         suffices ! _ (ends_at 𝓛 f.ended stayed c (y null_ptr) v d (tt, (tt, (tt, tt))) (tt, (tt, (tt, tt)))) $
         nothing ! $ nothing ! $ join ! $ nothing ! $ join ! $ nothing ! $ join ! $ nothing ! $ group ! 3 $ frame ! $ says ! is_none $ done !)))))
@@ -109,17 +116,20 @@ module _ {M : Type 1} {𝓤 : Ura M} (𝓛 : Logic 𝓤) (at_mem : Memory → SP
         first ! $ branches ! (get ! refl) (λ t. absurd t)
         (λ t. skips ! $ exec ! C Λ (env code.Mir.locals l) code.Mir.t-3 (at_ret _ (Post p)) $
         sets ! (of_opd ! (get ! refl)) refl (tt, tt) $ sets ! (addr ! (through ! refl (stop !))) refl (tt, tt) $
-        nothing ! $ owned ! u64 (Is u64) (uint_Makes 𝓛 w64) m _ (refl, fm) $ fjoin ! $ owned ! u32 (Is u32) (uint_Makes 𝓛 w32) n _ (refl, fn) $ fjoin ! $ move ! (1 ∷ 0 ∷ []) $ fjoin ! $
+        nothing ! $ owned ! u64 (Is u64) (uint_Makes 𝓛 w64) m _ (refl, fm) $ fjoin ! $ owned ! u32 (Is u32) (uint_Makes 𝓛 w32) n _ (refl, fn) $ fjoin ! $
+        move ! (1 ∷ 0 ∷ []) $ fjoin ! $
         nothing ! $ move ! (2 ∷ 0 ∷ []) $ join ! $ join ! $ nothing ! $ move ! (1 ∷ 0 ∷ []) $ join ! $
         use1 𝓛 (raw (Of.pre z)) (id⊢ 𝓤 _) $
         calls_at ! fm' Of known z (and_then ! (get ! refl) (and_then ! (get ! refl) (and_then ! (get ! refl) (no_more !)))) (λ v.
         use1 𝓛 (later (some (λ (d : A.Denot). ((‵ (flft κ q) ⊛ ‵ ftrue) ⊛ ‵ (A.own_val d (v ∷ [])))
-        ⊛ raw (ensured 𝓛 of.ended (of.clauses 𝓛 at_mem run) (κ, tt) (r, (n, (m, tt))) tt d)))) (id⊢ 𝓤 _) $
-        await ! tt $ pick ! (λ d. split ! $ move ! (1 ∷ []) $
-        use1 𝓛 (raw (of.ensures-1 𝓛 (κ, tt) at_mem run r n m (record { entry = r; exit = r }) (record { entry = n; exit = n }) (record { entry = m; exit = m }) d))
+        ⊛ raw (ensured 𝓛 of.ended (of.clauses 𝓛 at_mem run) (κ, tt) (r, (n, (m, tt))) tt d))))
+        (id⊢ 𝓤 _) $ await ! tt $ pick ! (λ d. split ! $ move ! (1 ∷ []) $
+        use1 𝓛 (raw (of.ensures-1 𝓛 (κ, tt) at_mem run r n m
+        (record { entry = r; exit = r }) (record { entry = n; exit = n }) (record { entry = m; exit = m }) d))
         (ex_e 𝓤 _ (λ ws. snd∗ 𝓤 (sem 𝓛 (lasts of.ended (κ, tt) (r, (n, (m, tt))) ws)) _)) $
         heard ! _ (λ told. split ! $ split ! $ move ! (2 ∷ []) $
-        peeks ! A (Is A) (shows 𝓛 A) d (v ∷ []) (λ is. lands_as ! refl refl ((lawful the_type the_laws 𝓛).typed d _ is).0 $
+        peeks ! A (Is A) (shows 𝓛 A) d (v ∷ []) (λ is.
+        lands_as ! refl refl ((lawful the_type the_laws 𝓛).typed d _ is).0 $
         returns ! (look_at ! 0 refl) $ free_all ! refl $
         suffices ! _ (ends_at 𝓛 f.ended stayed c (y p) v d (tt, (tt, (tt, tt))) (tt, (tt, (tt, tt)))) $
         keep ! (0 ∷ 1 ∷ []) $ nothing ! $ nothing ! $ join ! $ nothing ! $ join ! $ nothing ! $ join ! $ nothing ! $ group ! 3 $ frame ! $ says ! told $ done !)))))))
@@ -127,11 +137,18 @@ module _ {M : Type 1} {𝓤 : Ura M} (𝓛 : Logic 𝓤) (at_mem : Memory → SP
   meets : (𝓣 : Tables 𝓤 𝓛.H) → Triple 𝓤 (𝓣.C #of) Of → Triple 𝓤 (𝓣.C #none) None
       → Meets 𝓛 f.signature (WpFn 𝓤 𝓛.H 𝓣.C 𝓣.Λ code.function) (f.spec 𝓛 at_mem run)
   meets 𝓣 known none_known =
-      walk_Meets 𝓛 f.ended stayed (Goes-dropped 𝓛 0 (plain (λ _. RawPtr)) yes (λ κs a g. refl), (Goes-dropped 𝓛 0 (plain (λ _. u32)) yes (λ κs a g. refl), (Goes-dropped 𝓛 0 (plain (λ _. u64)) yes (λ κs a g. refl), tt)))
+      walk_Meets 𝓛 f.ended stayed (
+        Goes-dropped 𝓛 0 (plain (λ _. RawPtr)) yes (λ κs a g. refl),
+        (
+          Goes-dropped 𝓛 0 (plain (λ _. u32)) yes (λ κs a g. refl),
+          (Goes-dropped 𝓛 0 (plain (λ _. u64)) yes (λ κs a g. refl), tt),
+        ),
+      )
       c (WpFn 𝓤 𝓛.H 𝓣.C 𝓣.Λ code.function) (WpFn-mono 𝓤 𝓛.H 𝓛.laws 𝓣 code.function)
-      (walked 𝓛 f.ended stayed c (WpFn 𝓤 𝓛.H 𝓣.C 𝓣.Λ code.function) (λ κs. (rawptr_vals, (uint_vals w32, (uint_vals w64, tt))))
-      (λ κs. (rawptr_Tells, (uint_Tells w32, (uint_Tells w64, tt))))
-      (λ κs qs bounds a g are. runs 𝓣.C 𝓣.Λ (fm_of 𝓤 𝓛.H 𝓛.laws 𝓣) known none_known a.1.0 are.1.0.1 a.1.1.0 are.1.1.0.1 g.0 g.1 g.2 a.0))
+      (walked 𝓛 f.ended stayed c (WpFn 𝓤 𝓛.H 𝓣.C 𝓣.Λ code.function)
+      (λ κs. (rawptr_vals, (uint_vals w32, (uint_vals w64, tt)))) (λ κs. (rawptr_Tells, (uint_Tells w32, (uint_Tells w64, tt))))
+      (λ κs qs bounds a g are.
+      runs 𝓣.C 𝓣.Λ (fm_of 𝓤 𝓛.H 𝓛.laws 𝓣) known none_known a.1.0 are.1.0.1 a.1.1.0 are.1.1.0.1 g.0 g.1 g.2 a.0))
 
 pub cqs_semaphore_poll_spec : {M : Type 1} → stated.statement M
 unfolding tables_of

@@ -12,7 +12,7 @@ returns-in-Some-clause-resumed g c =
     let k = c.args.number in
     let v = pass_view c.args.pass.now in
     let w = pass_view c.meet.new.pass in
-    resumes-now C.object C.primitive false 63 c.args.payload k c.in-Some.resumed v v w (omega arith)
+    resumes-now C.object C.primitive false 63 c.args.payload k c.in-Some.resumed v v w (omega arith) tt
     (λ s found m. went-open C.object C.primitive s found doing.Idle [] c.args.payload k v w m)
     c.in-Some.ensures.met
 

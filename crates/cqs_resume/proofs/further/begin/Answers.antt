@@ -16,7 +16,8 @@ returns-in-Some-clause-begun g c =
       number = k;
       from = x;
       drew = c.add_table-number.ensures.saw;
-      resumes = resumes-now C.object C.primitive false 63 c.args.payload k c.in-Some.resumed x x w (omega arith)
+      after = c.add_table-number.ensures.after;
+      resumes = resumes-now C.object C.primitive false 63 c.args.payload k c.in-Some.resumed x x w (omega arith) tt
           (λ s found m. went-open C.object C.primitive s found doing.Idle [] c.args.payload k x w m)
           c.in-Some.ensures.met;
     }
@@ -34,6 +35,7 @@ returns-in-None-clause-begun g c =
       number = k;
       from = x;
       drew = c.add_table-number.ensures.saw;
+      after = c.add_table-number.ensures.after;
       resumes = resumes-then C.object C.primitive false 63 c.args.payload k c.go_on.result x u w t tt
           c.go_on.ensures.resumed;
     }

@@ -18,7 +18,7 @@ returns-in-Some-meet-clause-resumed g c =
     let w = pass_view c.meet.new.pass in
     let ticket : Some k ≡ under_ticket c.args.under = sym c.in-Some.is ∙ spent.ensures.ticket in
     let now : Resumes C.object C.primitive 64 (Some k) spent.result.0 v c.in-Some-meet.resumed w =
-    resumes-now C.object C.primitive false 64 spent.result.0 k c.in-Some-meet.resumed v v w (omega arith)
+    resumes-now C.object C.primitive false 64 spent.result.0 k c.in-Some-meet.resumed v v w (omega arith) tt
     (λ s found m. went-open C.object C.primitive s found doing.Idle [] spent.result.0 k v w m)
     c.in-Some-meet.ensures.met in
     subst (λ (z : Option ℕ × ℕ × View g.row.C-Entry.Denot g.row.C-Slot.Denot).

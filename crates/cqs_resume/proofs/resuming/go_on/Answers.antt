@@ -19,6 +19,7 @@ returns-in-Some-clause-resumed g c =
     let w = pass_view c.meet.new.pass in
     l.rest c.in-Some.resumed w
     (resumes-now C.object C.primitive true c.loop-resumed.left c.args.payload k c.in-Some.resumed v x w l.some
+    c.add_table-number.ensures.after
     (λ s found m. went-drawn C.object C.primitive s found doing.Idle
     [] c.args.payload k v x w l.payload c.add_table-number.ensures.saw m)
     c.in-Some.ensures.met)

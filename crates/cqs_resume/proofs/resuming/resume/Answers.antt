@@ -14,6 +14,7 @@ returns-in-Some-clause-resumed g c =
     let x = pass_view c.add_table-number.new.pass in
     let w = pass_view c.meet.new.pass in
     resumes-now C.object C.primitive true 64 c.args.payload k c.in-Some.resumed v x w (omega arith)
+    c.add_table-number.ensures.after
     (λ s found m. went-drawn C.object C.primitive s found doing.Idle [] c.args.payload k v x w c.requires.payload
     c.add_table-number.ensures.saw m)
     c.in-Some.ensures.met

@@ -1,17 +1,17 @@
-use Rattle.std.proofs.Common.{rules, inl, inr}
-use Rattle.cqs_waiter.proofs.Waiting.{acquire-begins, still-first, still-more, still-ends}
+use Rattle.std.proofs.Common.{inl, inr}
+use Rattle.cqs_waiter.proofs.Waiting.{acquire_begins, still-first, still-more, still-ends}
 use Rattle.cqs_waiter.proofs.blocking.acquire_wait.Goals as goal
 
 pub returns-in-Ok-Now-clause-arrives : goal.returns-in-Ok-Now-clause-arrives
 returns-in-Ok-Now-clause-arrives g c =
     let called = c.acquire.ensures in
-    let begins = acquire-begins _ _ c.acquire.result called.called called.worn called.never_crowded called.acquired in
+    let begins = acquire_begins _ _ c.acquire.result called.called called.worn called.never_crowded called.acquired in
     inl (rw (c.in-Ok-Now.is, c.in-Ok-Now.field-0-is) at begins)
 
 pub loop-init : goal.loop-init
 loop-init g c =
     let called = c.acquire.ensures in
-    let begins = acquire-begins _ _ c.acquire.result called.called called.worn called.never_crowded called.acquired in
+    let begins = acquire_begins _ _ c.acquire.result called.called called.worn called.never_crowded called.acquired in
     (called.belongs, still-first _ _ _ (rw (c.in-Ok-Later.is, c.in-Ok-Later.field-0-is) at begins))
 
 pub returns-in-Granted-clause-arrives : goal.returns-in-Granted-clause-arrives

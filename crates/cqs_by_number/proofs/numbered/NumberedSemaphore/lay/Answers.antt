@@ -13,6 +13,6 @@ store-requires c =
     let suits = subst (λ s. Suits s c.args.mark c.args.lying) (sym c.args.self.now.key_is) c.requires.suits in (
       put.0 ∙ c.requires.holds.table,
       omega (arith, c.requires.inside, c.args.self.now.words_are),
-      lays shared.key _ c.exchange-nothing.new.seat.id c.exchange-nothing.new.seat.me c.args.pass c.args.mark c.args.lying
-          low has suits,
+      lays shared.key _ c.exchange-nothing.new.seat.id c.exchange-nothing.new.seat.me c.args.pass c.args.mark
+          c.args.lying low has suits,
     )

@@ -6,6 +6,7 @@ use Rattle.cqs_words.specs.State.{count_in}
 use Rattle.cqs_latch.specs.LatchMade.{count_of}
 use Rattle.cqs_latch.proofs.CountSteps.{loaded-to, already-loaded, already-taken, some-left, last-taken, opens-so}
 use Rattle.cqs_latch.specs.declared.answers.Down.TheVariants.{Left, Last, LastOwing, Already}
+use Rattle.cqs_latch.proofs.AloneOpen.{plain-opened}
 use Rattle.cqs_latch.proofs.AloneSteps.{plain-counted}
 use Rattle.cqs_latch.proofs.DownSteps.{opened-woke}
 use Rattle.cqs_latch.proofs.Kept.{keeps-counted, ready-counted}
@@ -123,3 +124,12 @@ returns-in-None-clause-alone c = λ alone. plain-counted Last _ _ (returns-in-No
 pub returns-in-Some-clause-alone : goal.returns-in-Some-clause-alone
 returns-in-Some-clause-alone c =
     λ alone. plain-counted (LastOwing c.in-Some.owed) _ _ (returns-in-Some-clause-counted c) alone
+
+pub returns-in-None-clause-alone_opens : goal.returns-in-None-clause-alone_opens
+returns-in-None-clause-alone_opens c =
+    plain-opened Last _ _ (returns-in-None-clause-counted c) c.wake.ensures.belongs.alone c.wake.new.pass.live.0
+
+pub returns-in-Some-clause-alone_opens : goal.returns-in-Some-clause-alone_opens
+returns-in-Some-clause-alone_opens c =
+    plain-opened (LastOwing c.in-Some.owed) _ _ (returns-in-Some-clause-counted c) c.wake.ensures.belongs.alone
+    c.wake.new.pass.live.0

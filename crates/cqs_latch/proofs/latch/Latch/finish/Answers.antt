@@ -1,8 +1,10 @@
-use Rattle.std.proofs.Common.{◌≡◌, None, Some, Ok, Err, subst}
-use Rattle.cqs_rule.specs.declared.queue.tokens.Under.{Under}
+use Rattle.std.proofs.Common.{None, Some, Ok, Err, subst, arith}
+use Rattle.cqs_rule.specs.Owed.{under_reached}
 use Rattle.cqs_rule.specs.Passes.{pass_view}
-use Rattle.cqs_latch.specs.Waking.{IsGrown, On}
+use Rattle.cqs_latch.specs.Waking.{HasGrown, On}
+use Rattle.cqs_latch.proofs.AloneOpen.{plain-finished}
 use Rattle.cqs_latch.proofs.DownSteps.{on-owes, on-woke, on-handed}
+use Rattle.cqs_latch.proofs.Grown.{smart-where}
 use Rattle.cqs_latch.proofs.Kept.{keeps-finished, owes-finished, ready-finished}
 use Rattle.cqs_latch.proofs.latch.Latch.finish.Goals as goal
 
@@ -12,7 +14,8 @@ returns-in-Some-clause-finished c =
     let w = pass_view c.wake_on.new.pass in
     on-handed v c.requires.belongs.live.own c.args.owed c.in-Some.under w c.requires.owes
     (subst (λ z. On c.args.owed.under v z w) c.in-Some.is c.wake_on.ensures.on)
-    (subst (IsGrown c.args.owed.under) c.in-Some.is c.wake_on.ensures.grown)
+    (subst (λ z. HasGrown (under_reached c.args.owed.under) z w) c.in-Some.is
+    (c.wake_on.ensures.grown (smart-where _ _ _ c.wake_on.ensures.simple c.in-Some.is)))
     c.wake_on.ensures.belongs.live.legal
 
 pub wake-requires-clause-idle : goal.wake-requires-clause-idle
@@ -41,7 +44,7 @@ returns-in-None-clause-finished c =
     let v = pass_view c.args.pass.now in
     let u = pass_view c.wake_on.new.pass in
     let on = subst (λ z. On c.args.owed.under v z u) c.in_default.is c.wake_on.ensures.on in
-    on-woke v c.requires.belongs.live.own c.args.owed on.0 u _ None c.requires.owes on.1 c.in-None.ensures.wakes
+    on-woke v c.requires.belongs.live.own c.args.owed on.0 u _ None c.requires.owes on.1 c.in-None.ensures.wakes tt
     c.wake.ensures.belongs.live.legal
 
 pub returns-in-Some-wake-clause-finished : goal.returns-in-Some-wake-clause-finished
@@ -49,8 +52,12 @@ returns-in-Some-wake-clause-finished c =
     let v = pass_view c.args.pass.now in
     let u = pass_view c.wake_on.new.pass in
     let on = subst (λ z. On c.args.owed.under v z u) c.in_default.is c.wake_on.ensures.on in
+    let smart = smart-where _ _ _ c.wake.ensures.simple c.in-Some-wake.is in
+    let first = subst (λ z. HasGrown (under_reached c.args.owed.under) z u) c.in_default.is
+    (c.wake_on.ensures.grown smart) in
+    let later = c.in-Some-wake.ensures.grown in
     on-woke v c.requires.belongs.live.own c.args.owed on.0 u _ (Some c.in-Some-wake.owed) c.requires.owes on.1
-    c.in-Some-wake.ensures.wakes c.wake.ensures.belongs.live.legal
+    c.in-Some-wake.ensures.wakes (omega (arith, first, later)) c.wake.ensures.belongs.live.legal
 
 pub returns-in-Some-clause-keeps : goal.returns-in-Some-clause-keeps
 returns-in-Some-clause-keeps c = keeps-finished c.args.owed (Err _) _ _ (returns-in-Some-clause-finished c)
@@ -69,3 +76,18 @@ returns-in-None-clause-ready c = ready-finished c.args.owed _ _ (returns-in-None
 
 pub returns-in-Some-wake-clause-owes : goal.returns-in-Some-wake-clause-owes
 returns-in-Some-wake-clause-owes c = owes-finished c.args.owed _ _ _ (returns-in-Some-wake-clause-finished c)
+
+pub returns-in-Some-clause-alone : goal.returns-in-Some-clause-alone
+returns-in-Some-clause-alone c =
+    plain-finished c.args.owed (Err _) _ _ (returns-in-Some-clause-finished c) c.requires.owes c.requires.belongs.alone
+    c.args.pass.now.live.0 c.wake_on.ensures.belongs.alone c.wake_on.new.pass.live.0
+
+pub returns-in-None-clause-alone : goal.returns-in-None-clause-alone
+returns-in-None-clause-alone c =
+    plain-finished c.args.owed (Ok tt) _ _ (returns-in-None-clause-finished c) c.requires.owes c.requires.belongs.alone
+    c.args.pass.now.live.0 c.wake.ensures.belongs.alone c.wake.new.pass.live.0
+
+pub returns-in-Some-wake-clause-alone : goal.returns-in-Some-wake-clause-alone
+returns-in-Some-wake-clause-alone c =
+    plain-finished c.args.owed (Err _) _ _ (returns-in-Some-wake-clause-finished c) c.requires.owes
+    c.requires.belongs.alone c.args.pass.now.live.0 c.wake.ensures.belongs.alone c.wake.new.pass.live.0

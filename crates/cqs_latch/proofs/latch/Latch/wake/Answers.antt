@@ -1,6 +1,7 @@
-use Rattle.std.proofs.Common.{◌≡◌, ◌+◌, ◌-◌, ◌∷◌, [], ◌++◌, length, None, Some, refl, subst, length-append, ◌∙◌, arith}
+use Rattle.std.proofs.Common.{◌∷◌, [], ◌++◌, None, refl, subst, length-append, ◌∙◌, arith}
 use Rattle.cqs_rule.specs.Passes.{pass_view}
-use Rattle.cqs_latch.specs.Waking.{Next}
+use Rattle.cqs_latch.specs.Waking.{HasGrown, Next}
+use Rattle.cqs_latch.proofs.Grown.{smart-where}
 use Rattle.cqs_latch.proofs.WakeSteps.{next-ran, woke-on}
 use Rattle.cqs_latch.proofs.latch.Latch.wake.Goals as goal
 
@@ -10,6 +11,7 @@ loop-left-init c = record {
   idle = c.requires.idle;
   owes = c.requires.owes;
   payload = c.requires.payload;
+  reached = λ smart. omega arith;
   ran = ([], omega arith, refl);
 }
 
@@ -51,5 +53,18 @@ loop-left-preserved c =
       idle = r.idle;
       owes = omega (arith, less, owes);
       payload = λ more. r.payload ∙ l.payload some;
+      reached = λ smart.
+          let before = l.reached smart in
+          let after = subst (λ z. HasGrown u.facts.reached z w) c.in_default.is (c.wake_next.ensures.grown smart) in
+          omega (arith, before, after);
       ran = (l.ran.0 ++ next.0 ∷ [], omega (arith, longer, all, some), woke-on l.ran.0 next.0 v u w l.ran.2 next.1);
     }
+
+pub returns-in-Some-clause-grown : goal.returns-in-Some-clause-grown
+returns-in-Some-clause-grown c =
+    let u = pass_view c.loop-left.pass in
+    let w = pass_view c.wake_next.new.pass in
+    let smart = smart-where _ _ _ c.wake_next.ensures.simple c.in-Some.is in
+    let before = c.loop-left.invariant.reached smart in
+    let last = subst (λ z. HasGrown u.facts.reached z w) c.in-Some.is (c.wake_next.ensures.grown smart) in
+    omega (arith, before, last)

@@ -1,7 +1,9 @@
-use Rattle.std.proofs.Common.{◌≡◌, ℕ, ◌+◌, ◌<◌, List, length}
+use Rattle.std.proofs.Common.{◌≡◌, ◌+◌, ◌<◌, ◌≤◌, List, length}
 use Rattle.cqs_core.specs.declared.doings.Doing.TheVariants as doing
-use Rattle.cqs_rule.specs.Passes.{pass_view}
+use Rattle.cqs_rule.specs.declared.config.CancelMode.TheVariants.{Smart}
+use Rattle.cqs_rule.specs.Passes.{pass_view, client_of}
 use Rattle.cqs_latch.specs.Calls.{IsMine}
+use Rattle.cqs_latch.specs.LatchMade.{mode_of}
 use Rattle.cqs_latch.specs.Waking.{Ending, Woke}
 use Rattle.cqs_latch.proofs.latch.Latch.wake.Given as goal
 
@@ -11,6 +13,8 @@ invariant-loop-left l = record {
   idle : (pass_view l.pass).facts.doing ≡ doing.Idle;
   owes : (pass_view l.pass).facts.has.further ≡ l.left;
   payload : 0 < l.left → (pass_view l.pass).facts.has.payload ≡ 0;
+  reached : mode_of (client_of l.self.queue) ≡ Smart
+      → (pass_view l.fn.pass).facts.reached ≤ (pass_view l.pass).facts.reached;
   ran : (ends : List Ending) × (length ends + l.left ≡ l.many)
       × Woke ends (pass_view l.fn.pass) (pass_view l.pass);
 }

@@ -1,6 +1,7 @@
-use Rattle.std.proofs.Common.{◌∙◌, sym, None, subst}
+use Rattle.std.proofs.Common.{◌∙◌, sym, subst}
 use Rattle.cqs_rule.specs.Passes.{pass_view, client_of}
-use Rattle.cqs_latch.specs.Waking.{Next}
+use Rattle.cqs_latch.specs.Waking.{HasGrown, Next}
+use Rattle.cqs_latch.proofs.Grown.{begun-grown}
 use Rattle.cqs_latch.proofs.Simple.{is-smart, is-at_once, shows-plain}
 use Rattle.cqs_latch.proofs.WakeSteps.{resumed-next, ended-next}
 use Rattle.cqs_latch.proofs.latch.Latch.wake_next.Goals as goal
@@ -22,3 +23,8 @@ returns-in-Smart-clause-next c =
 
 pub returns-in-Simple-clause-next : goal.returns-in-Simple-clause-next
 returns-in-Simple-clause-next c = ended-next _ _ c.begin_at_once.result c.begin_at_once.ensures.begun
+
+pub returns-in-Smart-clause-grown : goal.returns-in-Smart-clause-grown
+returns-in-Smart-clause-grown c = λ smart.
+    subst (λ z. HasGrown (pass_view c.args.pass.now).facts.reached z (pass_view c.begin.new.pass))
+    (sym c.handed_back.ensures) (begun-grown _ _ c.begin.result c.begin.ensures.begun)

@@ -1,8 +1,10 @@
-use Rattle.std.proofs.Common.{◌∙◌, sym, None, subst}
+use Rattle.std.proofs.Common.{◌∙◌, sym, subst}
+use Rattle.cqs_rule.specs.Owed.{under_reached}
 use Rattle.cqs_rule.specs.Passes.{pass_view, client_of}
-use Rattle.cqs_latch.specs.Waking.{IsGrown, On}
+use Rattle.cqs_latch.specs.Waking.{HasGrown, On}
+use Rattle.cqs_latch.proofs.Grown.{finished-grown}
 use Rattle.cqs_latch.proofs.Simple.{is-smart, is-at_once, shows-plain}
-use Rattle.cqs_latch.proofs.WakeSteps.{resumed-on, ended-on, resumed-grown}
+use Rattle.cqs_latch.proofs.WakeSteps.{resumed-on, ended-on}
 use Rattle.cqs_latch.proofs.latch.Latch.wake_on.Goals as goal
 
 pub finish-requires-clause-smart : goal.finish-requires-clause-smart
@@ -21,9 +23,9 @@ returns-in-Smart-clause-on c =
     (resumed-on c.args.under _ _ c.finish.result c.finish.ensures.resumed)
 
 pub returns-in-Smart-clause-grown : goal.returns-in-Smart-clause-grown
-returns-in-Smart-clause-grown c =
-    subst (IsGrown c.args.under) (sym c.handed_back.ensures)
-    (resumed-grown c.args.under c.finish.result c.finish.ensures.further)
+returns-in-Smart-clause-grown c = λ smart.
+    subst (λ z. HasGrown (under_reached c.args.under) z (pass_view c.finish.new.pass)) (sym c.handed_back.ensures)
+    (finished-grown c.args.under _ _ c.finish.result c.requires.owes c.finish.ensures.resumed)
 
 pub returns-in-Simple-clause-on : goal.returns-in-Simple-clause-on
 returns-in-Simple-clause-on c = ended-on c.args.under _ _ c.finish_at_once.result c.finish_at_once.ensures.finished

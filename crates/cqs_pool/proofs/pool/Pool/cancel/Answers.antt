@@ -1,5 +1,5 @@
 use Rattle.std.proofs.Common.{None, ◌∙◌}
-use Rattle.cqs_pool.proofs.AloneSteps.{quiet, plain-leave, plain-late, none-owing, new-alone}
+use Rattle.cqs_pool.proofs.AloneSteps.{quiet, plain-leave, plain-late, none-owing, new-one}
 use Rattle.cqs_pool.proofs.CancelSteps.{gone, gone-owing, late, left-so, gone-rule, owing-rule}
 use Rattle.cqs_pool.proofs.pool.Pool.cancel.Goals as goal
 
@@ -46,7 +46,6 @@ returns-in-Late-clause-alone g c = λ alone.
     let h = returns-in-Late-clause-cancelled g c in plain-late _ _ _ _ _ h.2 alone
 
 pub returns-in-Late-clause-new : goal.returns-in-Late-clause-new
-returns-in-Late-clause-new g c = λ alone.
-    let h = returns-in-Late-clause-cancelled g c in
-    new-alone _ _ _ c.cancel_unasked.ensures.belongs.alone c.cancel_unasked.new.pass.live.0
-    (h.2.called.same.alone ∙ alone) h.3.3.elements_are
+returns-in-Late-clause-new g c =
+    new-one _ _ _ _ c.cancel_unasked.ensures.belongs.live.known
+    (returns-in-Late-clause-cancelled g c).3.3.elements_are

@@ -7,7 +7,7 @@ use Rattle.cqs_pool.specs.declared.answers.PoolPolled.TheVariants.{Pending}
 use Rattle.cqs_pool.specs.Answers.{IsPolled}
 use Rattle.cqs_pool.specs.Calls.{CallRule}
 use Rattle.cqs_pool.specs.Pool.{pool_object}
-use Rattle.cqs_pool.proofs.AloneSteps.{plain-granted, plain-pending, new-alone}
+use Rattle.cqs_pool.proofs.AloneSteps.{plain-granted, plain-pending, new-one}
 use Rattle.cqs_pool.proofs.PollSteps.{pending, pending-called, pending-cell, pending-rests, granted, granted-called, granted-cell, granted-rests}
 use Rattle.cqs_pool.proofs.Rules.{call-rule_own}
 use Rattle.cqs_pool.proofs.pool.Pool.poll.Goals as goal
@@ -84,8 +84,6 @@ returns-in-Waiter-clause-alone g c = λ alone.
     plain-pending _ _ (place_of c.args.wait).index (returns-in-Waiter-clause-called g c) alone
 
 pub returns-in-Resumed-clause-new : goal.returns-in-Resumed-clause-new
-returns-in-Resumed-clause-new g c = λ alone.
-    let rule = returns-in-Resumed-clause-called g c in
-    let rests = (returns-in-Resumed-clause-polled g c).2 in
-    new-alone _ c.look-cell.result.payload _ c.look-cell.ensures.belongs.alone c.look-cell.new.pass.live.0
-    (rule.called.same.alone ∙ alone) rests.elements_are
+returns-in-Resumed-clause-new g c =
+    new-one _ c.look-cell.result.payload _ _ c.look-cell.ensures.belongs.live.known
+    (returns-in-Resumed-clause-polled g c).2.elements_are

@@ -1,8 +1,20 @@
-use Rattle.std.proofs.Common.{◌∙◌}
+use Rattle.std.proofs.Common.{◌∙◌, ◌<◌, subst}
 use Rattle.cqs_pool.proofs.AloneSteps.{quiet, plain-put}
 use Rattle.cqs_pool.proofs.PutSteps.{put-rule, put-ends}
-use Rattle.cqs_pool.proofs.ResumeSteps.{never-refused}
+use Rattle.cqs_pool.proofs.ResumeSteps.{never-refused, ends-called}
+use Rattle.cqs_pool.proofs.Values.{full-lays, gave-value}
 use Rattle.cqs_pool.proofs.pool.Pool.put.Goals as goal
+
+pub put_element-number-requires-clause-value : goal.put_element-number-requires-clause-value
+put_element-number-requires-clause-value g c = λ low.
+    let b = c.requires.belongs in
+    full-lays _ _ _ _ c.requires.full (subst (λ n. c.args.element.number < n) b.slots low)
+
+pub returns-clause-handed : goal.returns-clause-handed
+returns-clause-handed g c =
+    let on = (ends-called _ _ 63 _ _ _
+    (c.resume_from.result, c.placed_by.ensures, c.resume_from.ensures.resumed)).0 in
+    gave-value _ _ _ _ _ c.put_element-number.ensures.given on.handed on.unlaid
 
 pub placed_by-requires : goal.placed_by-requires
 placed_by-requires g c = never-refused _ _ _ _ _ c.resume_from.result c.resume_from.ensures.resumed

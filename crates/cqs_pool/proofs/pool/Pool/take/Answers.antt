@@ -1,6 +1,6 @@
 use Rattle.std.proofs.Common.{[], ◌∙◌, arith}
 use Rattle.cqs_rule.specs.Waits.{place_of}
-use Rattle.cqs_pool.proofs.AloneSteps.{quiet, plain-took, plain-later, took-first, new-alone}
+use Rattle.cqs_pool.proofs.AloneSteps.{quiet, plain-took, plain-later, took-first, new-one}
 use Rattle.cqs_pool.proofs.Counters.{next-is}
 use Rattle.cqs_pool.proofs.Rules.{call-rule_own}
 use Rattle.cqs_pool.proofs.TakeSteps.{worn, loaded-called, took-called, took-below, took-cell, took-rests, waits-called, waits-below, waits-cell, waits-rests}
@@ -77,8 +77,6 @@ returns-in-Took-clause-first g c = λ only.
     (returns-in-Took-clause-took g c).0
 
 pub returns-in-Took-clause-new : goal.returns-in-Took-clause-new
-returns-in-Took-clause-new g c = λ alone.
-    let rule = returns-in-Took-clause-called g c in
-    let rests = (returns-in-Took-clause-took g c).1 in
-    new-alone _ c.in-Took.payload _ c.in-Took.ensures.belongs.alone c.enter.new.pass.live.0
-    (rule.called.same.alone ∙ alone) rests.elements_are
+returns-in-Took-clause-new g c =
+    new-one _ c.in-Took.payload _ _ c.in-Took.ensures.belongs.live.known
+    (returns-in-Took-clause-took g c).1.elements_are

@@ -24,7 +24,14 @@ returns-clause-handed g c =
     ∙ ap (λ l. (c.args.slot, Some c.args.value) ∷ rest l) took.items_are) in
     let same = ap (λ m. m.0) c.exchange.ensures.3 in
     let old = subst (λ (u : View _ _). IsPrefix u.handed h.before) same h.old in
-    record { before = h.before; is = h.is; old = prefix-then _ _ _ took.more old; off = h.off }
+    record {
+      before = h.before;
+      is = h.is;
+      old = prefix-then _ _ _ took.more old;
+      whole = λ a. h.whole (ap (λ z. z.alone) (same ∙ took.is) ∙ a)
+          ∙ (ap (λ (z : View _ _). z.handed) same ∙ took.whole a);
+      off = h.off;
+    }
 
 pub invariant_of-pass : goal.invariant_of-pass
 invariant_of-pass g c =

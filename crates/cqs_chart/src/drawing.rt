@@ -1,0 +1,259 @@
+//! The picture of a report, as an SVG.
+
+use crate::rows::{End, Job, Level, Resource, Rows, Span, State};
+use std::alloc::Global;
+use std::io::Write;
+
+/// Pixels of the whole picture, of the names at its left, and of the turns beside them.
+const WIDTH: u64 = 960;
+
+const NAMES: u64 = 170;
+
+const TURNS: u64 = 760;
+/// Pixels of the legend above the rows, of a job's row and of its bar, and of a resource's row.
+const LEGEND: u64 = 60;
+
+const JOB_ROW: u64 = 20;
+
+const JOB_BAR: u64 = 14;
+
+const RESOURCE_ROW: u64 = 44;
+/// Pixels of the highest level of a resource.
+const LEVEL: u64 = 16;
+
+/// What stands before the rows: the patterns, by which the colours are told apart, too.
+const HEAD: &str =
+    r##"<style>text{font:12px sans-serif;fill:#1e293b}.small{font-size:10px;fill:#475569}</style>
+<defs>
+<pattern id="waiting" width="6" height="6" patternUnits="userSpaceOnUse" patternTransform="rotate(45)"><rect width="6" height="6" fill="#fde68a"/><rect width="3" height="6" fill="#d97706"/></pattern>
+<pattern id="holding" width="5" height="5" patternUnits="userSpaceOnUse"><rect width="5" height="5" fill="#2563eb"/><circle cx="2.5" cy="2.5" r="1" fill="#dbeafe"/></pattern>
+</defs>
+<rect x="170" y="14" width="26" height="14" fill="#cbd5e1"/><text x="202" y="25">works</text>
+<rect x="250" y="14" width="26" height="14" fill="url(#waiting)"/><text x="282" y="25">waits</text>
+<rect x="330" y="14" width="26" height="14" fill="url(#holding)"/><text x="362" y="25">holds</text>
+<circle cx="423" cy="21" r="5" fill="#16a34a"/><text x="436" y="25">done</text>
+<path d="M485 16l10 10m0-10l-10 10" stroke="#b91c1c" stroke-width="2.5"/><text x="502" y="25">gave up</text>
+<path d="M571 27l6-11l6 11z" fill="#7c3aed"/><text x="590" y="25">late</text>
+<path d="M632 15l6 6l-6 6" fill="none" stroke="#334155" stroke-width="2.5"/><text x="646" y="25">not ended</text>
+"##;
+
+/// How many pixels from the left edge a turn begins.
+fn place_of(turn: u64, turns: u64) -> u64 {
+    let across = turn.min(turns).saturating_mul(TURNS) / turns.max(1);
+    NAMES.saturating_add(across)
+}
+
+/// A name as text of an SVG: what has a meaning there is written by its number, and what can't be
+/// written at all as a question mark.
+fn escaped(alloc: Global, name: &str) -> anyhow::Result<String> {
+    let mut text = String::new(alloc);
+    for sign in name.chars() {
+        match sign {
+            '&' => text.push_str("&#38;")?,
+            '<' => text.push_str("&#60;")?,
+            '>' => text.push_str("&#62;")?,
+            '"' => text.push_str("&#34;")?,
+            '\u{0}'..='\u{1f}' | '\u{fffe}' | '\u{ffff}' => text.push('?')?,
+            _ => text.push(sign)?,
+        }
+    }
+    Ok(text)
+}
+
+/// How the bar of what a job is at is filled.
+fn fill_of(state: State) -> &'static str {
+    match state {
+        State::Working => "#cbd5e1",
+        State::Waiting => "url(#waiting)",
+        State::Holding => "url(#holding)",
+    }
+}
+
+/// What a job is at, in a word.
+fn word_of(state: State) -> &'static str {
+    match state {
+        State::Working => "works",
+        State::Waiting => "waits",
+        State::Holding => "holds",
+    }
+}
+
+fn draw_span<W: Write>(out: &mut W, span: Span, turns: u64, top: u64) -> anyhow::Result<()> {
+    let left = place_of(span.from, turns);
+    let width = place_of(span.to, turns).saturating_sub(left).max(1);
+    writeln!(
+        out,
+        "<rect x=\"{left}\" y=\"{top}\" width=\"{width}\" height=\"{JOB_BAR}\" fill=\"{}\"><title>{} from turn {} to {}</title></rect>",
+        fill_of(span.state),
+        word_of(span.state),
+        span.from,
+        span.to
+    )?;
+    Ok(())
+}
+
+/// The mark at the end of a job's bar.
+fn draw_end<W: Write>(out: &mut W, job: &Job, turns: u64, top: u64) -> anyhow::Result<()> {
+    let middle = top.saturating_add(JOB_BAR / 2);
+    match job.end {
+        Some((turn, End::Done)) => writeln!(
+            out,
+            "<circle cx=\"{}\" cy=\"{middle}\" r=\"5\" fill=\"#16a34a\"><title>done in turn {turn}</title></circle>",
+            place_of(turn, turns)
+        )?,
+        Some((turn, End::GaveUp)) => writeln!(
+            out,
+            "<path d=\"M{} {}l10 10m0-10l-10 10\" stroke=\"#b91c1c\" stroke-width=\"2.5\"><title>gave up in turn {turn}</title></path>",
+            place_of(turn, turns).saturating_sub(5),
+            middle.saturating_sub(5)
+        )?,
+        Some((turn, End::Late)) => writeln!(
+            out,
+            "<path d=\"M{} {}l6-11l6 11z\" fill=\"#7c3aed\"><title>late in turn {turn}</title></path>",
+            place_of(turn, turns).saturating_sub(6),
+            middle.saturating_add(5)
+        )?,
+        None => writeln!(
+            out,
+            "<path d=\"M{} {}l6 6l-6 6\" fill=\"none\" stroke=\"#334155\" stroke-width=\"2.5\"><title>not ended</title></path>",
+            place_of(turns, turns),
+            middle.saturating_sub(6)
+        )?,
+    }
+    Ok(())
+}
+
+/// The most that were held, and the most who waited.
+fn highest(levels: &[Level]) -> (u64, u64) {
+    let mut held = 0;
+    let mut waiting = 0;
+    for level in levels {
+        held = level.held.max(held);
+        waiting = level.waiting.max(waiting);
+    }
+    (held, waiting)
+}
+
+/// Pixels of a level, of which the highest is this.
+fn height_of(level: u64, highest: u64) -> u64 {
+    level.saturating_mul(LEVEL) / highest.max(1)
+}
+
+/// The row of a resource: how many are held, upwards from its middle, and how many wait, downwards.
+fn draw_resource<W: Write>(
+    out: &mut W,
+    resource: &Resource,
+    turns: u64,
+    top: u64,
+) -> anyhow::Result<()> {
+    let levels = resource.levels.as_slice();
+    let (held, waiting) = highest(levels);
+    let middle = top.saturating_add(LEVEL).saturating_add(2);
+    for (place, level) in levels.iter().enumerate() {
+        let until = match levels.get(place.saturating_add(1)) {
+            Some(next) => next.turn,
+            None => turns,
+        };
+        let left = place_of(level.turn, turns);
+        let width = place_of(until, turns).saturating_sub(left);
+        let up = height_of(level.held, held);
+        let down = height_of(level.waiting, waiting);
+        if up != 0 {
+            writeln!(
+                out,
+                "<rect x=\"{left}\" y=\"{}\" width=\"{width}\" height=\"{up}\" fill=\"url(#holding)\"><title>{} held</title></rect>",
+                middle.saturating_sub(up),
+                level.held
+            )?;
+        }
+        if down != 0 {
+            writeln!(
+                out,
+                "<rect x=\"{left}\" y=\"{middle}\" width=\"{width}\" height=\"{down}\" fill=\"url(#waiting)\"><title>{} in line</title></rect>",
+                level.waiting
+            )?;
+        }
+    }
+    let right = NAMES.saturating_add(TURNS);
+    writeln!(
+        out,
+        "<path d=\"M{NAMES} {middle}H{right}\" stroke=\"#334155\"/>"
+    )?;
+    writeln!(
+        out,
+        "<text class=\"small\" x=\"{}\" y=\"{}\" text-anchor=\"end\">at most {held} held, {waiting} in line</text>",
+        NAMES.saturating_sub(10),
+        top.saturating_add(34)
+    )?;
+    Ok(())
+}
+
+/// The turns, as marks below the rows.
+fn draw_turns<W: Write>(out: &mut W, turns: u64, top: u64) -> anyhow::Result<()> {
+    let step = (turns / 10).max(1);
+    let line = top.saturating_add(6);
+    let text = top.saturating_add(18);
+    for mark in 0..12u64 {
+        let turn = mark.saturating_mul(step);
+        if turn <= turns {
+            let left = place_of(turn, turns);
+            writeln!(
+                out,
+                "<path d=\"M{left} {top}V{line}\" stroke=\"#334155\"/><text class=\"small\" x=\"{left}\" y=\"{text}\" text-anchor=\"middle\">{turn}</text>"
+            )?;
+        }
+    }
+    Ok(())
+}
+
+/// A name at the left of its row.
+fn draw_name<W: Write>(out: &mut W, alloc: Global, name: &str, top: u64) -> anyhow::Result<()> {
+    let right = NAMES.saturating_sub(10);
+    let bottom = top.saturating_add(12);
+    writeln!(
+        out,
+        "<text x=\"{right}\" y=\"{bottom}\" text-anchor=\"end\">{}</text>",
+        escaped(alloc, name)?
+    )?;
+    Ok(())
+}
+
+/// So many rows of this height.
+fn rows_of(count: usize, height: u64) -> u64 {
+    (count as u64).saturating_mul(height)
+}
+
+/// Writes the picture of these rows.
+pub fn draw<W: Write>(out: &mut W, alloc: Global, rows: &Rows) -> anyhow::Result<()> {
+    let turns = rows.turns;
+    let resources = LEGEND.saturating_add(rows_of(rows.jobs.len(), JOB_ROW));
+    let bottom = resources.saturating_add(rows_of(rows.resources.len(), RESOURCE_ROW));
+    let height = bottom.saturating_add(30);
+    writeln!(
+        out,
+        "<svg xmlns=\"http://www.w3.org/2000/svg\" width=\"{WIDTH}\" height=\"{height}\" viewBox=\"0 0 {WIDTH} {height}\">"
+    )?;
+    writeln!(
+        out,
+        "<rect width=\"{WIDTH}\" height=\"{height}\" fill=\"#ffffff\"/>"
+    )?;
+    out.write_all(HEAD.as_bytes())?;
+    let mut top = LEGEND;
+    for (name, job) in rows.jobs.iter() {
+        draw_name(out, alloc, name.as_str(), top)?;
+        for span in job.spans.iter() {
+            draw_span(out, *span, turns, top)?;
+        }
+        draw_end(out, job, turns, top)?;
+        top = top.saturating_add(JOB_ROW);
+    }
+    let mut top = resources;
+    for (name, resource) in rows.resources.iter() {
+        draw_name(out, alloc, name.as_str(), top.saturating_add(8))?;
+        draw_resource(out, resource, turns, top)?;
+        top = top.saturating_add(RESOURCE_ROW);
+    }
+    draw_turns(out, turns, bottom)?;
+    writeln!(out, "</svg>")?;
+    Ok(())
+}

@@ -1,0 +1,56 @@
+//! Values of 0, 8 and 4,096 bytes.
+
+use cqs_pool::Placed;
+use cqs_rule::Config;
+use cqs_value_pool::{ItemTaking, ValuePool};
+use std::alloc::{AllocFailed, Global};
+use std::test::Fail;
+
+const CONFIG: Config = Config {
+    passes: 1,
+    limit: 8,
+    slots: 8,
+};
+
+/// Whether a pool of the two values gives out each of them in turn, and then a third one, which
+/// took the place of the first. Where no pool was made, nothing is said.
+fn hands_on<T: Copy + PartialEq + Send + Drop>(
+    alloc: Global,
+    first: T,
+    second: T,
+    third: T,
+) -> Result<bool, AllocFailed<T>> {
+    let mut values = Vec::new(alloc);
+    values.push(first)?;
+    values.push(second)?;
+    let Ok((pool, mut pass)) = ValuePool::new(alloc, values, CONFIG) else {
+        return Ok(true);
+    };
+    let Ok(ItemTaking::Took(mut item)) = pool.take(&mut pass) else {
+        return Ok(false);
+    };
+    let came = item.number() == 0 && *item.get() == first;
+    *item.get_mut() = third;
+    let Ok(Placed::Left(_)) = pool.put(&mut pass, item) else {
+        return Ok(false);
+    };
+    let Ok(ItemTaking::Took(item)) = pool.take(&mut pass) else {
+        return Ok(false);
+    };
+    let came = came && item.number() == 1 && *item.get() == second;
+    let Ok(Placed::Left(_)) = pool.put(&mut pass, item) else {
+        return Ok(false);
+    };
+    let Ok(ItemTaking::Took(item)) = pool.take(&mut pass) else {
+        return Ok(false);
+    };
+    Ok(came && item.number() == 0 && *item.get() == third)
+}
+
+#[test]
+fn values_of_each_size_are_handed_on(rt: HostRuntime) -> Result<(), Fail> {
+    assert!(rt; hands_on(rt.alloc(), (), (), ())?);
+    assert!(rt; hands_on(rt.alloc(), 5u64, u64::MAX, 0)?);
+    assert!(rt; hands_on(rt.alloc(), [1u8; 4096], [2u8; 4096], [3u8; 4096])?);
+    Ok(())
+}

@@ -1,0 +1,9 @@
+pub mod Placed
+pub mod Below
+pub mod Lasts
+pub mod Mine
+pub mod Pairs
+pub mod Splits
+pub mod Crowds
+pub mod Takes
+pub mod Soles

@@ -1,0 +1,5 @@
+pub mod Members
+pub mod Passes
+pub mod Rounds
+pub mod Calls
+pub mod Seats

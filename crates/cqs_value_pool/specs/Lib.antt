@@ -1,0 +1,4 @@
+pub mod Items
+pub mod Values
+pub mod Pools
+pub mod Calls

@@ -1,0 +1,40 @@
+//! A call that comes back with the mutex.
+
+ghost use Rattle.std.specs.Prelude.{None};
+ghost use Rattle.cqs_rule.specs.Passes.{pass_view};
+ghost use Rattle.cqs_semaphore.specs.Calls.{IsReady};
+ghost use Rattle.cqs_mutex.specs.Mutexes.{Belongs};
+ghost use Rattle.cqs_waiter.specs.Locks.{LockArrives};
+
+use cqs_mutex::{Guard, Locked, Mutex, MutexPass, PolledLock};
+use cqs_rule::AcquireError;
+use std::sync::Wait;
+
+/// Locks, and where a wait came of that, sleeps until the mutex has come. The thread parks on the
+/// cell of its wait; whoever serves the wait wakes it. It is refused as `lock` is, and then hasn't
+/// slept.
+pub fn lock_wait<R: Wait, T: Send + Drop>(
+    rt: &R,
+    mutex: &Mutex<T>,
+    pass: &mut MutexPass<T>,
+) -> Result<Guard<T>, AcquireError>
+    requires belongs { Belongs mutex.now pass.old }
+    requires ready { IsReady (pass_view pass.old).facts }
+    ensures belongs { Belongs mutex.now pass.new }
+    ensures ready { IsReady (pass_view pass.new).facts }
+    ensures arrives { LockArrives (pass_view pass.old) None result (pass_view pass.new) }
+{
+    let mut wait = match mutex.lock(pass) {
+        Ok(Locked::Later(wait)) => wait,
+        Ok(Locked::Now(guard)) => return Ok(guard),
+        Err(refused) => return Err(refused),
+    };
+    for _ in rt.forever() {
+        match mutex.poll(pass, wait) {
+            PolledLock::Granted(guard) => return Ok(guard),
+            PolledLock::Pending(again) => wait = again,
+        }
+        mutex.park_wait(rt, pass, &wait);
+    }
+    unreachable!()
+}

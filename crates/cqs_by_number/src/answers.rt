@@ -55,7 +55,7 @@ pub enum Answer {
     Left(u64),
     /// The waiter of this number had left, and was told that the permit would be free: it is.
     Void(u64),
-    /// As many numbers were passed over as one call may; `finish` goes on. This is the last of them.
+    /// As many numbers were passed over as one call may; `finish` goes on. This is the last one.
     Under(u64),
     /// The state: the free permits, less those who wait with none on its way.
     State(i64),

@@ -48,7 +48,13 @@ use Rattle.cqs_c.proofs.exports.cqs_semaphore_meet.Statement as stated
 use Rattle.cqs_c.proofs.exports.cqs_semaphore_meet.Code as code
 
 abbrev stayed : Stays (f.ended).signature.params (f.ended).kept
-stayed = (stay_dropped (plain (λ _. RawPtr)) yes, (stay_dropped (plain (λ _. u32)) yes, (stay_dropped (plain (λ _. u32)) yes, tt)))
+stayed = (
+  stay_dropped (plain (λ _. RawPtr)) yes,
+  (
+    stay_dropped (plain (λ _. u32)) yes,
+    (stay_dropped (plain (λ _. u32)) yes, tt),
+  ),
+)
 
 module _ {M : Type 1} {𝓤 : Ura M} (𝓛 : Logic 𝓤) (at_mem : Memory → SProp 𝓤) (run : Routine → Fun 𝓤) where
   abbrev Of : Contract 𝓤
@@ -84,7 +90,13 @@ module _ {M : Type 1} {𝓤 : Ura M} (𝓛 : Logic 𝓤) (at_mem : Memory → SP
         drop ! $ split ! $ heard ! (Testable null_ptr) (λ may. split ! $ drop ! $
         -- [the token]
         enter ! C Λ code.function (vnull ∷ vint w32 n ∷ vint w32 m ∷ []) _ $
-        alloc_all ! (λ l. pass_all ! refl ((tt, record { fits = lit< tt }), ((tt, record { fits = fn }), ((tt, record { fits = fm }), tt))) $
+        alloc_all ! (λ l. pass_all ! refl (
+          (tt, record { fits = lit< tt }),
+          (
+            (tt, record { fits = fn }),
+            ((tt, record { fits = fm }), tt),
+          ),
+        ) $
         sets ! (bin ! (get ! refl) (lit ! tt) (tests_null null_ptr may)) refl (tt, tt) $
         first ! $ branches ! (get ! refl)
         (λ t. nothing ! $ nothing ! $ nothing ! $ join ! $ join ! $
@@ -101,11 +113,27 @@ module _ {M : Type 1} {𝓤 : Ura M} (𝓛 : Logic 𝓤) (at_mem : Memory → SP
         lands_as ! refl refl ((lawful the_type the_laws 𝓛).typed d _ is).0 $
         returns_within ! (Post null_ptr) refl (look_at ! 0 refl) $ free_all ! refl $
         suffices ! _ (ends_at 𝓛 f.ended stayed c (y null_ptr) v d (tt, (tt, (tt, tt))) (tt, (tt, (tt, tt)))) $
-        nothing ! $ nothing ! $ join ! $ nothing ! $ join ! $ nothing ! $ join ! $ nothing ! $ group ! 3 $ frame ! $ says ! is_none $ done !)))))
+        nothing ! $ nothing ! $ join ! $ nothing ! $ join ! $ nothing ! $ join ! $ nothing ! $ group ! 3 $ frame ! $
+        says ! is_none $ done !)))))
         (λ t. absurd t)))
     runs (block_ptr b o) =
         let p : Ptr = block_ptr b o in let r : Bor R.Denot = record { ref_ptr = (b, o); now = x } in
-        let z : Of.Ghost = (((κ, tt), (q, tt), tt, (r, (n, (m, tt))), (vptr b o ∷ [], (vint w32 n ∷ [], (vint w32 m ∷ [], tt)))), tt) in
+        let z : Of.Ghost = (
+          (
+            (κ, tt),
+            (q, tt),
+            tt,
+            (r, (n, (m, tt))),
+            (
+              vptr b o ∷ [],
+              (
+                vint w32 n ∷ [],
+                (vint w32 m ∷ [], tt),
+              ),
+            ),
+          ),
+          tt,
+        ) in
         qed 𝓛 (raw (Entry p) ∷ (raw (fact 𝓤 (Testable p)) ⊛ ‵ (lent_at R p x κ) ⊛ ‵ (flft κ q)) ∷ []) ∵
         drop ! $ split ! $ heard ! (Testable p) (λ may. split ! $
         fsplit ! $ drop ! $ hide ! $ feq_i ! (List Val) (vptr b o ∷ []) (vptr b o ∷ []) refl $ fjoin ! $
@@ -116,11 +144,13 @@ module _ {M : Type 1} {𝓤 : Ura M} (𝓛 : Logic 𝓤) (at_mem : Memory → SP
         first ! $ branches ! (get ! refl) (λ t. absurd t)
         (λ t. skips ! $ exec ! C Λ (env code.Mir.locals l) code.Mir.t-3 (at_ret _ (Post p)) $
         sets ! (of_opd ! (get ! refl)) refl (tt, tt) $ sets ! (addr ! (through ! refl (stop !))) refl (tt, tt) $
-        nothing ! $ owned ! u32 (Is u32) (uint_Makes 𝓛 w32) m _ (refl, fm) $ fjoin ! $ owned ! u32 (Is u32) (uint_Makes 𝓛 w32) n _ (refl, fn) $ fjoin ! $
+        nothing ! $ owned ! u32 (Is u32) (uint_Makes 𝓛 w32) m _ (refl, fm) $ fjoin ! $
+        owned ! u32 (Is u32) (uint_Makes 𝓛 w32) n _ (refl, fn) $ fjoin ! $
         move ! (1 ∷ 0 ∷ []) $ fjoin ! $
         nothing ! $ move ! (2 ∷ 0 ∷ []) $ join ! $ join ! $ nothing ! $ move ! (1 ∷ 0 ∷ []) $ join ! $
         use1 𝓛 (raw (Of.pre z)) (id⊢ 𝓤 _) $
-        calls_at ! fm' Of known z (and_then ! (get ! refl) (and_then ! (get ! refl) (and_then ! (get ! refl) (no_more !)))) (λ v.
+        calls_at ! fm' Of known z
+        (and_then ! (get ! refl) (and_then ! (get ! refl) (and_then ! (get ! refl) (no_more !)))) (λ v.
         use1 𝓛 (later (some (λ (d : A.Denot). ((‵ (flft κ q) ⊛ ‵ ftrue) ⊛ ‵ (A.own_val d (v ∷ [])))
         ⊛ raw (ensured 𝓛 of.ended (of.clauses 𝓛 at_mem run) (κ, tt) (r, (n, (m, tt))) tt d))))
         (id⊢ 𝓤 _) $ await ! tt $ pick ! (λ d. split ! $ move ! (1 ∷ []) $
@@ -132,7 +162,8 @@ module _ {M : Type 1} {𝓤 : Ura M} (𝓛 : Logic 𝓤) (at_mem : Memory → SP
         lands_as ! refl refl ((lawful the_type the_laws 𝓛).typed d _ is).0 $
         returns ! (look_at ! 0 refl) $ free_all ! refl $
         suffices ! _ (ends_at 𝓛 f.ended stayed c (y p) v d (tt, (tt, (tt, tt))) (tt, (tt, (tt, tt)))) $
-        keep ! (0 ∷ 1 ∷ []) $ nothing ! $ nothing ! $ join ! $ nothing ! $ join ! $ nothing ! $ join ! $ nothing ! $ group ! 3 $ frame ! $ says ! told $ done !)))))))
+        keep ! (0 ∷ 1 ∷ []) $ nothing ! $ nothing ! $ join ! $ nothing ! $ join ! $ nothing ! $ join ! $ nothing ! $
+        group ! 3 $ frame ! $ says ! told $ done !)))))))
 
   meets : (𝓣 : Tables 𝓤 𝓛.H) → Triple 𝓤 (𝓣.C #of) Of → Triple 𝓤 (𝓣.C #none) None
       → Meets 𝓛 f.signature (WpFn 𝓤 𝓛.H 𝓣.C 𝓣.Λ code.function) (f.spec 𝓛 at_mem run)
@@ -146,7 +177,8 @@ module _ {M : Type 1} {𝓤 : Ura M} (𝓛 : Logic 𝓤) (at_mem : Memory → SP
       )
       c (WpFn 𝓤 𝓛.H 𝓣.C 𝓣.Λ code.function) (WpFn-mono 𝓤 𝓛.H 𝓛.laws 𝓣 code.function)
       (walked 𝓛 f.ended stayed c (WpFn 𝓤 𝓛.H 𝓣.C 𝓣.Λ code.function)
-      (λ κs. (rawptr_vals, (uint_vals w32, (uint_vals w32, tt)))) (λ κs. (rawptr_Tells, (uint_Tells w32, (uint_Tells w32, tt))))
+      (λ κs. (rawptr_vals, (uint_vals w32, (uint_vals w32, tt))))
+      (λ κs. (rawptr_Tells, (uint_Tells w32, (uint_Tells w32, tt))))
       (λ κs qs bounds a g are.
       runs 𝓣.C 𝓣.Λ (fm_of 𝓤 𝓛.H 𝓛.laws 𝓣) known none_known a.1.0 are.1.0.1 a.1.1.0 are.1.1.0.1 g.0 g.1 g.2 a.0))
 

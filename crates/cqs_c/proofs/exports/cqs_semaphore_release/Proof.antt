@@ -101,7 +101,8 @@ module _ {M : Type 1} {𝓤 : Ura M} (𝓛 : Logic 𝓤) (at_mem : Memory → SP
         lands_as ! refl refl ((lawful the_type the_laws 𝓛).typed d _ is).0 $
         returns_within ! (Post null_ptr) refl (look_at ! 0 refl) $ free_all ! refl $
         suffices ! _ (ends_at 𝓛 f.ended stayed c (y null_ptr) v d (tt, (tt, tt)) (tt, (tt, tt))) $
-        nothing ! $ nothing ! $ join ! $ nothing ! $ join ! $ nothing ! $ group ! 3 $ frame ! $ says ! is_none $ done !)))))
+        nothing ! $ nothing ! $ join ! $ nothing ! $ join ! $ nothing ! $ group ! 3 $ frame ! $ says ! is_none $
+        done !)))))
         (λ t. absurd t)))
     runs (block_ptr b o) =
         let p : Ptr = block_ptr b o in let r : Bor R.Denot = record { ref_ptr = (b, o); now = x } in
@@ -120,7 +121,8 @@ module _ {M : Type 1} {𝓤 : Ura M} (𝓛 : Logic 𝓤) (at_mem : Memory → SP
         move ! (1 ∷ 0 ∷ []) $ fjoin ! $
         nothing ! $ move ! (2 ∷ 0 ∷ []) $ join ! $ join ! $ nothing ! $ move ! (1 ∷ 0 ∷ []) $ join ! $
         use1 𝓛 (raw (Of.pre z)) (id⊢ 𝓤 _) $
-        calls_at ! fm' Of known z (and_then ! (get ! refl) (and_then ! (get ! refl) (no_more !))) (λ v.
+        calls_at ! fm' Of known z
+        (and_then ! (get ! refl) (and_then ! (get ! refl) (no_more !))) (λ v.
         use1 𝓛 (later (some (λ (d : A.Denot). ((‵ (flft κ q) ⊛ ‵ ftrue) ⊛ ‵ (A.own_val d (v ∷ [])))
         ⊛ raw (ensured 𝓛 of.ended (of.clauses 𝓛 at_mem run) (κ, tt) (r, (n, tt)) tt d))))
         (id⊢ 𝓤 _) $ await ! tt $ pick ! (λ d. split ! $ move ! (1 ∷ []) $
@@ -132,7 +134,8 @@ module _ {M : Type 1} {𝓤 : Ura M} (𝓛 : Logic 𝓤) (at_mem : Memory → SP
         lands_as ! refl refl ((lawful the_type the_laws 𝓛).typed d _ is).0 $
         returns ! (look_at ! 0 refl) $ free_all ! refl $
         suffices ! _ (ends_at 𝓛 f.ended stayed c (y p) v d (tt, (tt, tt)) (tt, (tt, tt))) $
-        keep ! (0 ∷ 1 ∷ []) $ nothing ! $ nothing ! $ join ! $ nothing ! $ join ! $ nothing ! $ group ! 3 $ frame ! $ says ! told $ done !)))))))
+        keep ! (0 ∷ 1 ∷ []) $ nothing ! $ nothing ! $ join ! $ nothing ! $ join ! $ nothing ! $ group ! 3 $
+        frame ! $ says ! told $ done !)))))))
 
   meets : (𝓣 : Tables 𝓤 𝓛.H) → Triple 𝓤 (𝓣.C #of) Of → Triple 𝓤 (𝓣.C #none) None
       → Meets 𝓛 f.signature (WpFn 𝓤 𝓛.H 𝓣.C 𝓣.Λ code.function) (f.spec 𝓛 at_mem run)

@@ -1,0 +1,115 @@
+/* A fair semaphore that callers can stop waiting for. No call blocks, sleeps, spins or takes a lock.
+ *
+ * A semaphore has permits and passes. A pass is what one caller works with: it holds permits, and
+ * has waits. Passes are named by numbers below `passes`, and a wait by the number that its acquire
+ * answered. Waiting is the caller's: poll the wait in a loop, after a sleep, or from an executor.
+ *
+ *     struct cqs_semaphore *s;
+ *     if (cqs_semaphore_new(3, 2, 100000, 8, &s) != CQS_MADE_SEMAPHORE) return;
+ *     struct cqs_answer a = cqs_semaphore_acquire(s, 0);
+ *     if (a.answer == CQS_LATER) {
+ *         int64_t wait = a.number;
+ *         while (cqs_semaphore_poll(s, 0, wait).answer == CQS_PENDING) sched_yield();
+ *     }
+ *     ...                                        // CQS_NOW or CQS_GRANTED: it has a permit
+ *     a = cqs_semaphore_release(s, 0);
+ *     while (a.answer == CQS_UNDER) a = cqs_semaphore_finish(s, 0);
+ *     cqs_semaphore_drop(s);
+ *
+ * Threads. All calls but `drop` may be made by any thread at any time, with the same semaphore. Two
+ * calls with the same pass at once don't both go: one is answered CQS_IN_USE, and did nothing.
+ * `drop` is the last call: none runs with it or comes after it. A call may not be made by a signal
+ * handler, nor after a fork in the child of a process with threads.
+ *
+ * What is tested: a null semaphore, and every number. What can't be: a pointer that `new` didn't
+ * give or `drop` took, and an `out` that isn't room for a pointer.
+ *
+ * Memory. `new` and `split` allocate, by malloc; no other call does. Each pass has room for
+ * `waits` waits, and an acquire is refused as CQS_FULL where they are used up.
+ *
+ * Proved of the library behind this header: every export is safe and ends, where the pointer is
+ * good; and what the calls below mean (crates/cqs_by_number, crates/cqs_semaphore). This file, and
+ * that it fits the exports, is written by hand and tested. */
+#ifndef CQS_H
+#define CQS_H
+#include <stdint.h>
+#include <stdlib.h>
+#ifdef __cplusplus
+extern "C" {
+#endif
+
+struct cqs_semaphore;
+
+/* What a call answers, and the number that the answer carries, or -1. */
+struct cqs_answer {
+    uint32_t answer;
+    int64_t number;
+};
+
+enum {
+    CQS_MADE_SEMAPHORE = 0, /* new: it is there */
+    /* Refused; nothing has changed. */
+    CQS_NO_SEMAPHORE = 1,   /* the pointer is null */
+    CQS_NO_PASS = 2,        /* no pass has this number */
+    CQS_IN_USE = 3,         /* another call has this pass (meet: or the given one) */
+    CQS_OWES = 4,           /* the pass owes a resumption: finish first */
+    CQS_OWES_NOTHING = 5,   /* finish: the pass owes nothing */
+    CQS_NO_PERMIT = 6,      /* release: the pass holds none */
+    CQS_NO_WAIT = 7,        /* poll, cancel: the pass has no wait of this number */
+    CQS_FULL = 8,           /* acquire: the pass has as many waits as there is room for */
+    CQS_WORN = 9,           /* acquire: as many waits were drawn as `limit` allows */
+    CQS_CROWD = 10,         /* split: as many passes were made as `passes` allows */
+    CQS_MEMORY = 11,        /* new, split: malloc had no memory */
+    CQS_BUSY = 12,          /* meet: the given pass waits or owes something */
+    CQS_BAD_CONFIG = 13,    /* new: a number is out of range */
+    /* Done. */
+    CQS_NOW = 16,           /* acquire: the pass has a permit; number: the wait by which it came, or -1 */
+    CQS_LATER = 17,         /* acquire: it waits in line; number: its wait */
+    CQS_GOT = 18,           /* try: the pass has a permit */
+    CQS_NONE_FREE = 19,     /* try: no permit was free */
+    CQS_CONTENDED = 20,     /* try: another caller was first; number: the state that was found */
+    CQS_GRANTED = 21,       /* poll: the permit has come, and the wait is over */
+    CQS_PENDING = 22,       /* poll: the wait goes on */
+    CQS_CANCELLED = 23,     /* cancel: the wait is over, and no permit came of it */
+    CQS_CANCELLED_OWING = 24, /* the same, and a permit is still to be passed on: finish */
+    CQS_TOO_LATE = 25,      /* cancel: the permit had come before, and the pass has it */
+    CQS_FREED = 26,         /* release: the permit is free */
+    CQS_SENT = 27,          /* release, finish: it went to the wait of this number */
+    CQS_LEFT = 28,          /* it was left for the wait of this number, which is about to begin or end */
+    CQS_VOID = 29,          /* the wait of this number had left, and the permit is free */
+    CQS_UNDER = 30,         /* 64 numbers were passed over, and the rest is owed: finish */
+    CQS_STATE = 31,         /* state: the free permits, less those who wait with none on its way */
+    CQS_SOLE = 32,          /* sole: 1 where no other pass is there, else 0 */
+    CQS_MADE = 33,          /* split: the number of the new pass */
+    CQS_MET = 34            /* meet: the given pass is taken in, and its number is nobody's */
+};
+
+/* permits 1 to 1048576; passes, that may be made in all, 1 to 32; limit, how many waits may be drawn
+ * in all, 1 to 1048576; waits, how many one pass may have at once, up to 1048576. The first pass is
+ * there, under the number 0. */
+uint32_t cqs_semaphore_new(uint32_t permits, uint32_t passes, uint64_t limit, uint32_t waits,
+                           struct cqs_semaphore **out);
+/* Drops all that it holds, and leaves its block to be freed. Null is left alone. */
+void cqs_semaphore_end(struct cqs_semaphore *s);
+/* Frees it. What its passes held is gone with it. Null is left alone. */
+static inline void cqs_semaphore_drop(struct cqs_semaphore *s) {
+    cqs_semaphore_end(s);
+    free(s);
+}
+
+struct cqs_answer cqs_semaphore_acquire(const struct cqs_semaphore *s, uint32_t pass);
+struct cqs_answer cqs_semaphore_try(const struct cqs_semaphore *s, uint32_t pass);
+struct cqs_answer cqs_semaphore_poll(const struct cqs_semaphore *s, uint32_t pass, uint64_t wait);
+struct cqs_answer cqs_semaphore_cancel(const struct cqs_semaphore *s, uint32_t pass, uint64_t wait);
+struct cqs_answer cqs_semaphore_release(const struct cqs_semaphore *s, uint32_t pass);
+struct cqs_answer cqs_semaphore_finish(const struct cqs_semaphore *s, uint32_t pass);
+struct cqs_answer cqs_semaphore_state(const struct cqs_semaphore *s, uint32_t pass);
+struct cqs_answer cqs_semaphore_sole(const struct cqs_semaphore *s, uint32_t pass);
+struct cqs_answer cqs_semaphore_split(const struct cqs_semaphore *s, uint32_t pass);
+/* The pass takes in the given one, with the permits that it holds. */
+struct cqs_answer cqs_semaphore_meet(const struct cqs_semaphore *s, uint32_t pass, uint32_t given);
+
+#ifdef __cplusplus
+}
+#endif
+#endif

@@ -1,0 +1,60 @@
+//! The exports of the library, as `bindings/c/cqs.h` declares them.
+
+use std::ffi::c_void;
+
+/// A semaphore of the library.
+#[repr(C)]
+pub(crate) struct Raw {
+    _private: [u8; 0],
+}
+
+/// An answer, and the number that it carries, or -1.
+#[repr(C)]
+#[derive(Clone, Copy, Debug, PartialEq, Eq)]
+pub(crate) struct Answer {
+    pub answer: u32,
+    pub number: i64,
+}
+
+pub(crate) const IN_USE: u32 = 3;
+pub(crate) const NO_PERMIT: u32 = 6;
+pub(crate) const FULL: u32 = 8;
+pub(crate) const WORN: u32 = 9;
+pub(crate) const CROWD: u32 = 10;
+pub(crate) const MEMORY: u32 = 11;
+pub(crate) const BAD_CONFIG: u32 = 13;
+pub(crate) const NOW: u32 = 16;
+pub(crate) const LATER: u32 = 17;
+pub(crate) const GOT: u32 = 18;
+pub(crate) const NONE_FREE: u32 = 19;
+pub(crate) const CONTENDED: u32 = 20;
+pub(crate) const GRANTED: u32 = 21;
+pub(crate) const PENDING: u32 = 22;
+pub(crate) const CANCELLED: u32 = 23;
+pub(crate) const CANCELLED_OWING: u32 = 24;
+pub(crate) const TOO_LATE: u32 = 25;
+pub(crate) const UNDER: u32 = 30;
+pub(crate) const STATE: u32 = 31;
+pub(crate) const MADE: u32 = 33;
+
+extern "C" {
+    pub(crate) fn cqs_semaphore_new(
+        permits: u32,
+        passes: u32,
+        limit: u64,
+        waits: u32,
+        out: *mut *mut Raw,
+    ) -> u32;
+    pub(crate) fn cqs_semaphore_end(s: *mut Raw);
+    pub(crate) fn cqs_semaphore_acquire(s: *const Raw, pass: u32) -> Answer;
+    pub(crate) fn cqs_semaphore_try(s: *const Raw, pass: u32) -> Answer;
+    pub(crate) fn cqs_semaphore_poll(s: *const Raw, pass: u32, wait: u64) -> Answer;
+    pub(crate) fn cqs_semaphore_cancel(s: *const Raw, pass: u32, wait: u64) -> Answer;
+    pub(crate) fn cqs_semaphore_release(s: *const Raw, pass: u32) -> Answer;
+    pub(crate) fn cqs_semaphore_finish(s: *const Raw, pass: u32) -> Answer;
+    pub(crate) fn cqs_semaphore_state(s: *const Raw, pass: u32) -> Answer;
+    pub(crate) fn cqs_semaphore_split(s: *const Raw, pass: u32) -> Answer;
+
+    /// The library's blocks come from malloc.
+    pub(crate) fn free(block: *mut c_void);
+}

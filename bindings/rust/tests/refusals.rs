@@ -1,0 +1,241 @@
+//! The exports themselves, called as C calls them: what is refused, and that it changes nothing.
+
+use std::ffi::c_void;
+use std::thread;
+
+// The crate links the library.
+use cqs as _;
+
+#[repr(C)]
+#[derive(Clone, Copy, Debug, PartialEq, Eq)]
+struct Answer {
+    answer: u32,
+    number: i64,
+}
+
+const NO_SEMAPHORE: u32 = 1;
+const NO_PASS: u32 = 2;
+const IN_USE: u32 = 3;
+const OWES: u32 = 4;
+const OWES_NOTHING: u32 = 5;
+const NO_PERMIT: u32 = 6;
+const NO_WAIT: u32 = 7;
+const FULL: u32 = 8;
+const CROWD: u32 = 10;
+const BUSY: u32 = 12;
+const BAD_CONFIG: u32 = 13;
+const NOW: u32 = 16;
+const LATER: u32 = 17;
+const PENDING: u32 = 22;
+const CANCELLED: u32 = 23;
+const FREED: u32 = 26;
+const SENT: u32 = 27;
+const UNDER: u32 = 30;
+const STATE: u32 = 31;
+const SOLE: u32 = 32;
+const MADE: u32 = 33;
+const MET: u32 = 34;
+
+extern "C" {
+    fn cqs_semaphore_new(p: u32, n: u32, limit: u64, waits: u32, out: *mut *mut c_void) -> u32;
+    fn cqs_semaphore_end(s: *mut c_void);
+    fn cqs_semaphore_acquire(s: *const c_void, pass: u32) -> Answer;
+    fn cqs_semaphore_try(s: *const c_void, pass: u32) -> Answer;
+    fn cqs_semaphore_poll(s: *const c_void, pass: u32, wait: u64) -> Answer;
+    fn cqs_semaphore_cancel(s: *const c_void, pass: u32, wait: u64) -> Answer;
+    fn cqs_semaphore_release(s: *const c_void, pass: u32) -> Answer;
+    fn cqs_semaphore_finish(s: *const c_void, pass: u32) -> Answer;
+    fn cqs_semaphore_state(s: *const c_void, pass: u32) -> Answer;
+    fn cqs_semaphore_sole(s: *const c_void, pass: u32) -> Answer;
+    fn cqs_semaphore_split(s: *const c_void, pass: u32) -> Answer;
+    fn cqs_semaphore_meet(s: *const c_void, pass: u32, given: u32) -> Answer;
+    fn free(block: *mut c_void);
+}
+
+struct Semaphore(*mut c_void);
+
+// SAFETY: every call but the drop may be made by any thread at any time.
+unsafe impl Sync for Semaphore {}
+
+impl Semaphore {
+    fn new(permits: u32, passes: u32, limit: u64, waits: u32) -> Semaphore {
+        let mut at = std::ptr::null_mut();
+        // SAFETY: `at` is room for a pointer.
+        let made = unsafe { cqs_semaphore_new(permits, passes, limit, waits, &mut at) };
+        assert_eq!(made, 0);
+        Semaphore(at)
+    }
+
+    // SAFETY of all of these: the semaphore is there until it is dropped.
+    fn acquire(&self, pass: u32) -> Answer {
+        unsafe { cqs_semaphore_acquire(self.0, pass) }
+    }
+    fn poll(&self, pass: u32, wait: u64) -> Answer {
+        unsafe { cqs_semaphore_poll(self.0, pass, wait) }
+    }
+    fn cancel(&self, pass: u32, wait: u64) -> Answer {
+        unsafe { cqs_semaphore_cancel(self.0, pass, wait) }
+    }
+    fn release(&self, pass: u32) -> Answer {
+        unsafe { cqs_semaphore_release(self.0, pass) }
+    }
+    fn finish(&self, pass: u32) -> Answer {
+        unsafe { cqs_semaphore_finish(self.0, pass) }
+    }
+    fn state(&self, pass: u32) -> Answer {
+        unsafe { cqs_semaphore_state(self.0, pass) }
+    }
+    fn sole(&self, pass: u32) -> Answer {
+        unsafe { cqs_semaphore_sole(self.0, pass) }
+    }
+    fn split(&self, pass: u32) -> Answer {
+        unsafe { cqs_semaphore_split(self.0, pass) }
+    }
+    fn meet(&self, pass: u32, given: u32) -> Answer {
+        unsafe { cqs_semaphore_meet(self.0, pass, given) }
+    }
+}
+
+impl Drop for Semaphore {
+    fn drop(&mut self) {
+        // SAFETY: it is ended once.
+        unsafe {
+            cqs_semaphore_end(self.0);
+            free(self.0);
+        }
+    }
+}
+
+fn bare(answer: u32) -> Answer {
+    Answer { answer, number: -1 }
+}
+
+fn with(answer: u32, number: i64) -> Answer {
+    Answer { answer, number }
+}
+
+#[test]
+fn null() {
+    let none = std::ptr::null();
+    let refused = bare(NO_SEMAPHORE);
+    // SAFETY: null is tested.
+    unsafe {
+        assert_eq!(cqs_semaphore_acquire(none, 0), refused);
+        assert_eq!(cqs_semaphore_try(none, 0), refused);
+        assert_eq!(cqs_semaphore_poll(none, 0, 0), refused);
+        assert_eq!(cqs_semaphore_cancel(none, 0, 0), refused);
+        assert_eq!(cqs_semaphore_release(none, 0), refused);
+        assert_eq!(cqs_semaphore_finish(none, 0), refused);
+        assert_eq!(cqs_semaphore_state(none, 0), refused);
+        assert_eq!(cqs_semaphore_sole(none, 0), refused);
+        assert_eq!(cqs_semaphore_split(none, 0), refused);
+        assert_eq!(cqs_semaphore_meet(none, 0, 0), refused);
+        cqs_semaphore_end(std::ptr::null_mut());
+    }
+}
+
+#[test]
+fn sizes_out_of_range() {
+    let new = |permits, passes, limit, waits| {
+        let mut at = std::ptr::null_mut();
+        // SAFETY: `at` is room for a pointer.
+        let answer = unsafe { cqs_semaphore_new(permits, passes, limit, waits, &mut at) };
+        assert!(at.is_null());
+        answer
+    };
+    assert_eq!(new(0, 1, 1, 1), BAD_CONFIG);
+    assert_eq!(new(1_048_577, 1, 1, 1), BAD_CONFIG);
+    assert_eq!(new(1, 0, 1, 1), BAD_CONFIG);
+    assert_eq!(new(1, 33, 1, 1), BAD_CONFIG);
+    assert_eq!(new(1, u32::MAX, 1, 1), BAD_CONFIG);
+    assert_eq!(new(1, 1, 0, 1), BAD_CONFIG);
+    assert_eq!(new(1, 1, u64::MAX, 1), BAD_CONFIG);
+    assert_eq!(new(1, 1, 1, 1_048_577), BAD_CONFIG);
+}
+
+#[test]
+fn numbers_that_are_not_there() {
+    let s = Semaphore::new(1, 2, 10, 2);
+    for pass in [1, 2, 31, u32::MAX] {
+        assert_eq!(s.acquire(pass), bare(NO_PASS));
+        assert_eq!(s.meet(0, pass), bare(NO_PASS));
+        assert_eq!(s.meet(pass, 0), bare(NO_PASS));
+    }
+    assert_eq!(s.release(0), bare(NO_PERMIT));
+    assert_eq!(s.finish(0), bare(OWES_NOTHING));
+    assert_eq!(s.split(0), with(MADE, 1));
+    assert_eq!(s.split(0), bare(CROWD));
+    assert_eq!(s.acquire(0), bare(NOW));
+    assert_eq!(s.acquire(1), with(LATER, 0));
+    for wait in [1, u64::MAX] {
+        assert_eq!(s.poll(1, wait), bare(NO_WAIT));
+        assert_eq!(s.cancel(1, wait), bare(NO_WAIT));
+    }
+    assert_eq!(s.poll(0, 0), bare(NO_WAIT));
+    assert_eq!(s.poll(1, 0), bare(PENDING));
+    assert_eq!(s.meet(0, 1), bare(BUSY));
+    assert_eq!(s.meet(0, 0), bare(IN_USE));
+    assert_eq!(s.acquire(1), with(LATER, 1));
+    assert_eq!(s.acquire(1), bare(FULL));
+    assert_eq!(s.state(1), with(STATE, -2));
+    assert_eq!(s.cancel(1, 0), bare(CANCELLED));
+    assert_eq!(s.cancel(1, 0), bare(NO_WAIT));
+    assert_eq!(s.cancel(1, 1), bare(CANCELLED));
+    assert_eq!(s.meet(1, 0), bare(MET));
+    assert_eq!(s.acquire(0), bare(NO_PASS));
+    assert_eq!(s.sole(1), with(SOLE, 1));
+    assert_eq!(s.release(1), bare(FREED));
+    assert_eq!(s.state(1), with(STATE, 1));
+}
+
+#[test]
+fn one_who_owes() {
+    let s = Semaphore::new(1, 2, 200, 4);
+    assert_eq!(s.split(0), with(MADE, 1));
+    assert_eq!(s.acquire(0), bare(NOW));
+    // A waiter stays behind, so that each cancel leaves the line and its cell is passed over.
+    for number in 0..70 {
+        assert_eq!(s.acquire(1), with(LATER, number));
+        assert_eq!(s.cancel(1, number as u64), bare(CANCELLED));
+    }
+    assert_eq!(s.acquire(1), with(LATER, 70));
+    let under = s.release(0);
+    assert_eq!(under.answer, UNDER);
+    for refused in [s.acquire(0), s.release(0), s.state(0), s.split(0), s.meet(0, 1)] {
+        assert_eq!(refused, bare(OWES));
+    }
+    assert_eq!(s.poll(0, 3), bare(OWES));
+    assert_eq!(s.meet(1, 0), bare(BUSY));
+    assert_eq!(s.finish(0), with(SENT, 70));
+    assert_eq!(s.finish(0), bare(OWES_NOTHING));
+}
+
+/// Two threads with one pass: of two calls at once one is refused, and the semaphore stays whole.
+#[test]
+fn one_pass_two_threads() {
+    let s = Semaphore::new(1_000_000, 1, 10, 1);
+    let calls = 20_000;
+    let counted: Vec<(i64, u64)> = thread::scope(|scope| {
+        let workers: Vec<_> = (0..2)
+            .map(|_| {
+                scope.spawn(|| {
+                    let (mut held, mut refused) = (0, 0);
+                    for call in 0..calls {
+                        let answer = if call % 3 == 2 { s.release(0) } else { s.acquire(0) };
+                        match answer.answer {
+                            NOW => held += 1,
+                            FREED => held -= 1,
+                            IN_USE => refused += 1,
+                            NO_PERMIT => {}
+                            other => panic!("answered {other}"),
+                        }
+                    }
+                    (held, refused)
+                })
+            })
+            .collect();
+        workers.into_iter().map(|worker| worker.join().unwrap()).collect()
+    });
+    let held: i64 = counted.iter().map(|(held, _)| held).sum();
+    assert_eq!(s.state(0), with(STATE, 1_000_000 - held));
+}

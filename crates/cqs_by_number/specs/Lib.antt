@@ -1,0 +1,5 @@
+pub mod Waits
+pub mod Callers
+pub mod Told
+pub mod Marks
+pub mod Numbered

@@ -1,0 +1,70 @@
+//! How the semaphore is made.
+
+ghost use Rattle.std.specs.Prelude.{◌≡◌, ◌⊎◌, ◌<◌, ◌≤◌, ◌+◌, ◌*◌, false, IfOk, IsErrOf, replicate};
+ghost use Rattle.cqs_rule.specs.Configured.{is_config};
+
+use crate::answers::Answer;
+use crate::caller::Caller;
+use crate::marks::{NOBODY, Slots};
+use crate::numbered::NumberedSemaphore;
+use atomic_table::Table;
+use cqs_rule::{Config, MakeError, Unparked};
+use cqs_semaphore::Semaphore;
+use std::alloc::{AllocError, Global};
+
+/// For so many waits of one pass there may be room.
+const MOST_WAITS: u32 = 1_048_576;
+
+// The marks, under none of which anybody has a number.
+fn marks(alloc: Global, passes: u32) -> Result<Vec<u64>, AllocError>
+    requires { passes ≤ 32 }
+    ensures { IfOk result (λ marks. marks.items ≡ replicate (16 * passes + 16) 2) }
+{
+    Vec::from_elem(alloc, NOBODY, 16 * passes as usize + 16)
+}
+
+#[tactic(auto, using(crate::proofs::MarkSteps::opens))]
+fn slots(alloc: Global, passes: u32, semaphore: &Semaphore<Unparked>) -> Result<Slots, AllocError>
+    requires { passes ≤ 32 }
+    ensures key { IfOk result (λ table. table.shared.key ≡ semaphore.now) }
+    ensures words { IfOk result (λ table. table.shared.table_id.words ≡ 16 * passes + 16) }
+    ensures slots { IfOk result (λ table. table.shared.table_id.slots ≡ passes) }
+{
+    let marks = marks(alloc, passes)?;
+    let (table, _hand) = Table::vacant(alloc, marks.as_slice(), passes as usize, semaphore)?;
+    Ok(table)
+}
+
+impl NumberedSemaphore {
+    /// A semaphore with all its permits free, and its first pass, under the number 0. Each pass has
+    /// room for so many waits.
+    pub fn new(
+        alloc: Global,
+        permits: u32,
+        config: Config,
+        waits: u32,
+    ) -> Result<NumberedSemaphore, MakeError>
+        ensures bad_config { (permits ≡ 0) ⊎ ((1048576 < permits) ⊎ ((is_config config ≡ false)
+            ⊎ (1048576 < waits))) → IsErrOf result MakeError.BadConfig }
+    {
+        if waits > MOST_WAITS || !config.is_in_range() {
+            return Err(MakeError::BadConfig);
+        }
+        let (semaphore, pass) = Semaphore::unparked(alloc, permits, config)?;
+        let room = Vec::with_capacity(alloc, waits as usize)?;
+        let first = Caller::new(&semaphore, pass, room);
+        let passes = config.passes;
+        let table = slots(alloc, passes, &semaphore)?;
+        let made = NumberedSemaphore {
+            semaphore,
+            table,
+            passes,
+            room: waits,
+            alloc,
+        };
+        match made.seat(first) {
+            Answer::Made(_) => Ok(made),
+            _ => Err(MakeError::Memory),
+        }
+    }
+}

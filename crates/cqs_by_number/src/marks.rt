@@ -1,0 +1,60 @@
+//! The table in which passes rest, and the steps on its marks.
+
+ghost use Rattle.cqs_by_number.specs.Marks.{Marks, sat, claimed};
+
+use crate::caller::Caller;
+use atomic_table::{Play, Seat, Table, TableRule};
+use cqs_rule::Unparked;
+use cqs_semaphore::Semaphore;
+use std::alloc::Global;
+
+/// The mark of a pass that rests in its slot.
+pub(crate) const RESTS: u64 = 0;
+
+/// The mark of a pass that a call has.
+pub(crate) const TAKEN: u64 = 1;
+
+/// The mark of a number that nobody has.
+pub(crate) const NOBODY: u64 = 2;
+
+/// The rule of the table.
+pub(crate) struct Rests;
+
+impl TableRule<Option<Caller>, Semaphore<Unparked>, Semaphore<Unparked>> for Rests {
+    ghost holds = { Marks };
+
+    ghost first = { λ s. s };
+}
+
+/// The table: a mark and a slot for each pass, each mark with its cache lines for itself.
+pub(crate) type Slots = Table<
+    Option<Caller>,
+    Semaphore<Unparked>,
+    Semaphore<Unparked>,
+    Rests,
+    Global,
+>;
+
+/// Who has a pass in hand.
+pub(crate) type Hand = Seat<Option<Caller>, Semaphore<Unparked>>;
+
+/// One comes to the table.
+pub(crate) struct Sit;
+
+impl Play<Option<Caller>, Semaphore<Unparked>> for Sit {
+    ghost then = { sat };
+}
+
+/// It takes what lies in a slot, where the mark is the one that it expects.
+pub(crate) struct Claim;
+
+impl Play<Option<Caller>, Semaphore<Unparked>> for Claim {
+    ghost then = { claimed };
+}
+
+/// It lays something into the slot, under a mark that this suits.
+pub(crate) struct Lay;
+
+impl Play<Option<Caller>, Semaphore<Unparked>> for Lay {
+    ghost then = { λ _ _ _ _. Unit {0} };
+}

@@ -1,0 +1,72 @@
+//! How the pass of a number makes another, and how two become one.
+
+ghost use Rattle.cqs_by_number.specs.Callers.{StandsAt};
+
+use crate::answers::Answer;
+use crate::caller::Caller;
+use crate::marks::{NOBODY, RESTS};
+use crate::numbered::NumberedSemaphore;
+
+impl NumberedSemaphore {
+    /// A new pass, under a number of its own.
+    pub fn split(&self, pass: u32) -> Answer {
+        let (hand, mut caller) = match self.take(pass) {
+            Ok(taken) => taken,
+            Err(refused) => return refused,
+        };
+        let Ok(room) = Vec::with_capacity(self.alloc, self.room as usize) else {
+            self.put(pass, hand, caller);
+            return Answer::Memory;
+        };
+        let made = caller.split(&self.semaphore, room);
+        self.put(pass, hand, caller);
+        match made {
+            Ok(made) => self.seat(made),
+            Err(refused) => refused,
+        }
+    }
+
+    // Lays a new pass into the slot of its number.
+    pub(crate) fn seat(&self, made: Caller) -> Answer
+        requires { StandsAt self.now.semaphore made }
+    {
+        let number = made.pass.number();
+        if number >= self.passes {
+            return Answer::Crowd;
+        }
+        match self.claim(number, NOBODY) {
+            Ok((hand, _)) => {
+                self.lay(number, hand, Some(made), RESTS);
+                Answer::Made(number)
+            }
+            Err(_) => Answer::Crowd,
+        }
+    }
+
+    /// The pass takes in the given one, whose number is nobody's after that.
+    pub fn meet(&self, pass: u32, given: u32) -> Answer {
+        let (hand, mut caller) = match self.take(pass) {
+            Ok(taken) => taken,
+            Err(refused) => return refused,
+        };
+        let (given_hand, given_caller) = match self.take(given) {
+            Ok(taken) => taken,
+            Err(refused) => {
+                self.put(pass, hand, caller);
+                return refused;
+            }
+        };
+        match caller.meet(&self.semaphore, given_caller) {
+            Ok(()) => {
+                self.lay(given, given_hand, None, NOBODY);
+                self.put(pass, hand, caller);
+                Answer::Met
+            }
+            Err((given_caller, refused)) => {
+                self.put(given, given_hand, given_caller);
+                self.put(pass, hand, caller);
+                refused
+            }
+        }
+    }
+}

@@ -1,0 +1,27 @@
+//! How C gives a semaphore back.
+
+ghost use Rattle.std.specs.Borrow.{sem, full_share};
+ghost use Rattle.std.specs.Ptr.{if_non_null, lies_at, room_at};
+ghost use denote.RawPtr.{Testable};
+ghost use Rattle.cqs_by_number.specs.contracts.numbered.NumberedSemaphore.{the_row};
+ghost use Rattle.cqs_by_number.specs.declared.numbered.NumberedSemaphore.{NumberedSemaphore as Semaphore};
+
+use cqs_by_number::NumberedSemaphore;
+
+pub(crate) fn let_go(semaphore: NumberedSemaphore) {
+    drop(semaphore);
+}
+
+/// Drops the semaphore, with all that its passes hold. C frees its block.
+#[unsafe(no_mangle)]
+pub unsafe extern "C" fn cqs_semaphore_end(at: *mut u8)
+    ghost semaphore: { Semaphore }
+    requires testable { Testable at }
+    requires* memory { sem 𝓛 (if_non_null at (lies_at the_row full_share at semaphore)) }
+    ensures* room { sem 𝓛 (if_non_null at (room_at the_row at)) }
+{
+    if at.is_null() {
+        return;
+    }
+    let_go((at as *mut NumberedSemaphore).read());
+}

@@ -20,7 +20,7 @@
 //! | `== ends 0`, `== ends 5 20` | runs it: it must end so, with the text written, or a prefix |
 //! | `== fault job: many` | runs it: it is no plan, and this is its first fault |
 //!
-//! A case that ends with status 0 is also run on both floors, which must have that report.
+//! A case of `run` that ends with status 0 is also run on both floors, which must have that report.
 //!
 //! In a value and in a text of `each` the sign `|` stands for the end of a line.
 #![tactic(auto)]
@@ -39,7 +39,7 @@ use std::fs;
 use std::rt::Files;
 
 /// The files of cases, each of which ends with `.cases`.
-const TABLES: [&str; 11] = [
+const TABLES: [&str; 12] = [
     "plans",
     "deadlines",
     "faults",
@@ -51,6 +51,7 @@ const TABLES: [&str; 11] = [
     "first-faults",
     "too-many",
     "streams",
+    "numbers",
 ];
 
 /// Runs the cases of a file, and prints how many there are, and the place of each that

@@ -40,3 +40,4 @@ pub mod HeldElements
 pub mod PoolSole
 pub mod AnySoles
 pub mod RunFloors
+pub mod Summed

@@ -6,9 +6,10 @@ use Rattle.cqs_cli.specs.Input.{IsInput}
 use Rattle.cqs_cli.specs.Meanings.{BrokeOff, IsStatus, MustEnd}
 use Rattle.cqs_cli.specs.Plans.{IsPlan}
 use Rattle.cqs_cli.proofs.PlanLemmas.{plan_has_no_fault}
+use Rattle.cqs_cli.proofs.WordLemmas.{one_command}
 use Rattle.cqs_cli.specs.Tellings.{Tells}
-use Rattle.cqs_cli.specs.Verdicts.{IsVerdict}
-use Rattle.cqs_cli.specs.Words.{IsRun, usage}
+use Rattle.cqs_cli.specs.Verdicts.{IsVerdict, IsVerdictFor}
+use Rattle.cqs_cli.specs.Words.{IsGen, IsRun, IsSomeGen, usage}
 use Rattle.cqs_cli.specs.declared.verdict.Verdict.{Verdict}
 use Rattle.cqs_cli.specs.declared.verdict.Verdict.TheVariants as verdict
 
@@ -53,6 +54,8 @@ module _ {S K : Type 0} (left : S → Option (List ℕ)) (source_faults : S → 
   is_status verdict.NoCommand status (judged, inr (is, broke)) = subst IsStatus (sym is) (4, lit< tt, refl)
   is_status (verdict.Report text) status (judged, inl (is, wrote)) = subst IsStatus (sym is) (0, lit< tt, refl)
   is_status (verdict.Report text) status (judged, inr (is, broke)) = subst IsStatus (sym is) (4, lit< tt, refl)
+  is_status (verdict.Summary text) status (judged, inl (is, wrote)) = subst IsStatus (sym is) (0, lit< tt, refl)
+  is_status (verdict.Summary text) status (judged, inr (is, broke)) = subst IsStatus (sym is) (4, lit< tt, refl)
   is_status (verdict.NoPlan line) status (judged, inl (is, wrote)) = subst IsStatus (sym is) (2, lit< tt, refl)
   is_status (verdict.NoPlan line) status (judged, inr (is, broke)) = subst IsStatus (sym is) (4, lit< tt, refl)
   is_status verdict.SourceFailed status (judged, (is, untouched)) = subst IsStatus (sym is) (3, lit< tt, refl)
@@ -71,7 +74,7 @@ module _ {S K : Type 0} (left : S → Option (List ℕ)) (source_faults : S → 
     broke.cause,
     record {
       text = text.items;
-      due = inr (run, (read.bytes, read.input, inl read.right));
+      due = inr (inl (run, (read.bytes, read.input, inl read.right)));
       prefix = broke.prefix;
     },
   )
@@ -80,10 +83,13 @@ module _ {S K : Type 0} (left : S → Option (List ℕ)) (source_faults : S → 
     broke.cause,
     record {
       text = line.items;
-      due = inr (run, (read.bytes, read.input, inr read.right));
+      due = inr (inl (run, (read.bytes, read.input, inr read.right)));
       prefix = broke.prefix;
     },
   )
+  broke_off (verdict.Summary text) status (judged, inl (is, wrote)) five = absurd (omega (arith, is, five))
+  broke_off (verdict.Summary text) status ((summary, untouched), inr (is, broke)) five =
+      (broke.cause, record { text = text.items; due = inr (inr summary); prefix = broke.prefix })
   broke_off verdict.SourceFailed status (judged, (is, untouched)) five = absurd (omega (arith, is, five))
   broke_off verdict.NoMemory status (judged, (is, untouched)) five = absurd (omega (arith, is, five))
   broke_off verdict.TooLong status (judged, (is, untouched)) five = absurd (omega (arith, is, five))
@@ -98,13 +104,15 @@ module _ {S K : Type 0} (left : S → Option (List ℕ)) (source_faults : S → 
       → Calm (source_faults source) (source_faults source_after) → Calm (sink_faults sink) (sink_faults sink_after)
       → MustEnd 3 status
   answers_fault verdict.NoCommand status ((wrong, untouched), told) run bytes tells few no_plan calm quiet =
-      absurd (wrong run)
+      absurd (wrong (inl run))
   answers_fault (verdict.Report text) status ((_, _, read), told) run bytes tells few no_plan calm quiet =
       absurd (no_plan (subst IsPlan (sym (input_told read.bytes bytes _ _ read.input tells))
       (read.right.plan, read.right.says)))
   answers_fault (verdict.NoPlan line) status (judged, inl (is, wrote)) run bytes tells few no_plan calm quiet = inl is
   answers_fault (verdict.NoPlan line) status (judged, inr (is, broke)) run bytes tells few no_plan calm quiet =
       absurd (quiet broke.cause)
+  answers_fault (verdict.Summary text) status ((summary, _), told) run bytes tells few no_plan calm quiet =
+      absurd (one_command words run (summary.number, (summary.jobs, summary.asked)))
   answers_fault verdict.SourceFailed status ((_, rises), told) run bytes tells few no_plan calm quiet =
       absurd (calm rises)
   answers_fault verdict.NoMemory status (judged, (is, untouched)) run bytes tells few no_plan calm quiet = inr is
@@ -118,15 +126,53 @@ module _ {S K : Type 0} (left : S → Option (List ℕ)) (source_faults : S → 
       → Calm (source_faults source) (source_faults source_after) → Calm (sink_faults sink) (sink_faults sink_after)
       → MustEnd 0 status
   answers_plan verdict.NoCommand status ((wrong, untouched), told) run bytes tells few plan calm quiet =
-      absurd (wrong run)
+      absurd (wrong (inl run))
   answers_plan (verdict.Report text) status (judged, inl (is, wrote)) run bytes tells few plan calm quiet = inl is
   answers_plan (verdict.Report text) status (judged, inr (is, broke)) run bytes tells few plan calm quiet =
       absurd (quiet broke.cause)
   answers_plan (verdict.NoPlan line) status ((_, _, read), told) run bytes tells few plan calm quiet =
       absurd (plan_has_no_fault read.bytes line.items
       (subst IsPlan (input_told read.bytes bytes _ _ read.input tells) plan) read.right)
+  answers_plan (verdict.Summary text) status ((summary, _), told) run bytes tells few plan calm quiet =
+      absurd (one_command words run (summary.number, (summary.jobs, summary.asked)))
   answers_plan verdict.SourceFailed status ((_, rises), told) run bytes tells few plan calm quiet = absurd (calm rises)
   answers_plan verdict.NoMemory status (judged, (is, untouched)) run bytes tells few plan calm quiet = inr is
   answers_plan verdict.TooLong status ((_, _, many), told) run bytes tells few plan calm quiet =
       let as_many : 1048577 ≤ length bytes = gave_as_many 1048577 bytes _ _ many tells in
       absurd (omega (arith, few, as_many))
+
+  -- what must come of words that ask for the plan of a number, where no fault came
+  pub answers_number : (given : Verdict) (status : ℕ) → Ends given status → IsSomeGen words
+      → Calm (sink_faults sink) (sink_faults sink_after) → MustEnd 0 status
+  answers_number verdict.NoCommand status ((wrong, untouched), told) gen quiet = absurd (wrong (inr gen))
+  answers_number (verdict.Summary text) status (judged, inl (is, wrote)) gen quiet = inl is
+  answers_number (verdict.Summary text) status (judged, inr (is, broke)) gen quiet = absurd (quiet broke.cause)
+  answers_number (verdict.Report text) status ((run, _, _), told) gen quiet = absurd (one_command words run gen)
+  answers_number (verdict.NoPlan line) status ((run, _, _), told) gen quiet = absurd (one_command words run gen)
+  answers_number verdict.SourceFailed status ((run, _), told) gen quiet = absurd (one_command words run gen)
+  answers_number verdict.NoMemory status (judged, (is, untouched)) gen quiet = inr is
+  answers_number verdict.TooLong status ((run, _, _), told) gen quiet = absurd (one_command words run gen)
+
+  -- words that don't ask for it leave the source as it was
+  pub leaves_source : (given : Verdict) → IsVerdict left source_faults words given source source_after
+      → ¬ IsRun words → source_after ≡ source
+  leaves_source verdict.NoCommand (wrong, untouched) other = untouched
+  leaves_source (verdict.Summary text) (summary, untouched) other = untouched
+  leaves_source (verdict.Report text) (run, _, _) other = absurd (other run)
+  leaves_source (verdict.NoPlan line) (run, _, _) other = absurd (other run)
+  leaves_source verdict.SourceFailed (run, _) other = absurd (other run)
+  leaves_source verdict.NoMemory (_, _, untouched) other = untouched other
+  leaves_source verdict.TooLong (run, _, _) other = absurd (other run)
+
+  -- what a verdict on the plan of a number says of the words that ask for it
+  pub for_words : (number jobs : ℕ) → IsGen number jobs words → (given : Verdict) → IsVerdictFor number jobs given
+      → source_after ≡ source → IsVerdict left source_faults words given source source_after
+  for_words number jobs gen (verdict.Summary text) right untouched =
+      (record { number = number; jobs = jobs; asked = gen; right = right }, untouched)
+  for_words number jobs gen verdict.NoMemory right untouched =
+      (inr (number, (jobs, gen)), ap source_faults untouched, λ other. untouched)
+  for_words number jobs gen (verdict.Report text) right untouched = absurd right
+  for_words number jobs gen (verdict.NoPlan line) right untouched = absurd right
+  for_words number jobs gen verdict.NoCommand right untouched = absurd right
+  for_words number jobs gen verdict.SourceFailed right untouched = absurd right
+  for_words number jobs gen verdict.TooLong right untouched = absurd right

@@ -1,18 +1,34 @@
--- A list of one word.
-use Rattle.std.proofs.Common.{◌≡◌, ℕ, ◌<◌, ◌≤◌, ◌↔◌, Bool, IsTrue, List, [], ◌∷◌, String, length, get_or, map, string_bytes, ap, sym, ◌∙◌, arith}
-use Rattle.std.specs.Str.{bytes_eq}
-use Rattle.std.proofs.lemmas.Slice.Eq.{bytes_eq-Decides}
+-- The words of the commands.
+use Rattle.std.proofs.Common.{◌≡◌, ℕ, ◌<◌, ◌≤◌, ◌^◌, List, Ok, Result, inl, inr, decimal, arith}
+use Rattle.std.specs.Str.Parse.{ParsesUnsigned}
+use Rattle.std.proofs.lemmas.Fmt.{decimal_injective, parse-decimal}
+use Rattle.cqs_cli.specs.Words.{IsGen, IsRun, IsSomeGen, SpellGen}
 
--- where the first word is the only one, the test on it is the test on the list
-pub only_word : {Z : Type 0} (words : List (String Z)) (word : String Z) (text : List ℕ) (flag : Bool)
-    → 1 ≤ length words → length words < 2 → word ≡ get_or words 0 word
-    → flag ≡ bytes_eq (string_bytes word) text
-    → IsTrue flag ↔ (map string_bytes words ≡ text ∷ [])
-only_word [] word text flag some few first tested = absurd (omega arith)
-only_word (only ∷ []) word text flag some few first tested =
-    let decides = bytes_eq-Decides (string_bytes only) text in
-    let test : flag ≡ bytes_eq (string_bytes only) text = tested ∙ ap (λ w. bytes_eq (string_bytes w) text) first in (
-      (λ passed. ap (λ w. w ∷ []) (decides.0 (sym test ∙ passed))),
-      (λ whole. let same : string_bytes only ≡ text = cc in test ∙ decides.1 same),
+-- a number of 32 bits in decimal is read as that number
+pub reads : {E : Type 0} (n most : ℕ) (word : List ℕ) (r : Result ℕ E) → n ≤ most → most < 2 ^ 32
+    → word ≡ decimal n → ParsesUnsigned 32 10 word r → r ≡ Ok n
+reads n most word r high fits is parses = parse-decimal 32 n word r (omega arith) (omega arith) is parses
+
+-- no words are of both commands
+pub one_command : (words : List (List ℕ)) → IsRun words → IsSomeGen words → ⊥
+one_command words run (number, (jobs, gen)) = elim gen.spelled [
+  | inl one ↦ absurd (cc)
+  | inr other ↦ absurd (cc)
+]
+
+-- words ask for one number and one count of jobs
+pub one_gen : (words : List (List ℕ)) (number jobs other more : ℕ) → IsGen number jobs words
+    → IsGen other more words → (number ≡ other) × (jobs ≡ more)
+one_gen words number jobs other more first second = go first.spelled second.spelled
+  where
+    same : decimal number ≡ decimal other → decimal jobs ≡ decimal more → (number ≡ other) × (jobs ≡ more)
+    same numbers counts = (
+      decimal_injective number other (omega (arith, first.number_fits)) (omega (arith, second.number_fits)) numbers,
+      decimal_injective jobs more (omega (arith, first.few_jobs)) (omega (arith, second.few_jobs)) counts,
     )
-only_word (first_word ∷ second ∷ rest) word text flag some few first tested = absurd (omega arith)
+
+    go : SpellGen number jobs words → SpellGen other more words → (number ≡ other) × (jobs ≡ more)
+    go (inl one) (inl two) = same (cc) (cc)
+    go (inr one) (inr two) = same (cc) (cc)
+    go (inl one) (inr two) = absurd (cc)
+    go (inr one) (inl two) = absurd (cc)

@@ -6,6 +6,7 @@ use Rattle.cqs_plan.specs.Floor.{history_at}
 use Rattle.cqs_plan.specs.FloorHistory.{History}
 use Rattle.cqs_plan.specs.PlanText.{IsPlanText}
 use Rattle.cqs_plan.specs.Runnable.{kinds_of}
+use Rattle.cqs_generator.specs.Generated.{generated}
 use Rattle.cqs_turns.specs.Report.{report_of}
 use Rattle.cqs_cli.specs.declared.floors.any_sole.AnySole.{AnySole}
 use Rattle.cqs_cli.specs.declared.floors.any_sole.AnyWait.{AnyWait}
@@ -15,7 +16,8 @@ use Rattle.cqs_cli.specs.Input.{IsInput}
 use Rattle.cqs_cli.specs.Ledger.{Ledger, plain_floor}
 use Rattle.cqs_cli.specs.SoleRunning.{IsAloneAt, store_running}
 use Rattle.cqs_cli.specs.Plans.{IsFaultLine, floor_after}
-use Rattle.cqs_cli.specs.Words.{IsCommand}
+use Rattle.cqs_cli.specs.Summaries.{summary_text}
+use Rattle.cqs_cli.specs.Words.{IsCommand, IsGen, IsRun}
 use Rattle.cqs_cli.specs.declared.kept.Kept.{Kept}
 use Rattle.cqs_cli.specs.declared.kept.Kept.TheVariants.{Ran}
 use Rattle.cqs_cli.specs.declared.verdict.Verdict.{Verdict}
@@ -58,6 +60,7 @@ KeepsWith bytes (verdict.Report text) old new = IsKeptFor bytes text.items new
 KeepsWith bytes (verdict.NoPlan line) old new = new ≡ old
 KeepsWith bytes verdict.NoMemory old new = new ≡ old
 KeepsWith bytes verdict.NoCommand old new = new ≡ old
+KeepsWith bytes (verdict.Summary text) old new = new ≡ old
 KeepsWith bytes verdict.SourceFailed old new = new ≡ old
 KeepsWith bytes verdict.TooLong old new = new ≡ old
 
@@ -70,17 +73,49 @@ pub record KeptRun (left after : Option (List ℕ)) (kept : Kept) (Holds : List 
   pub run : IsKeptFor bytes text kept
   pub holds : Holds text
 
--- with the verdict on what was left of a source
-abbrev pub Keeps : Verdict → Option (List ℕ) → Option (List ℕ) → Kept → Kept → Type 0
-Keeps (verdict.Report text) left after old new = KeptRun left after new (λ made. made ≡ text.items)
-Keeps (verdict.NoPlan line) left after old new = new ≡ old
-Keeps verdict.NoMemory left after old new = new ≡ old
-Keeps verdict.NoCommand left after old new = new ≡ old
-Keeps verdict.SourceFailed left after old new = new ≡ old
-Keeps verdict.TooLong left after old new = new ≡ old
+-- with the verdict on the plan of a number, the run of a summary is kept, and else nothing more
+abbrev pub KeepsFor : ℕ → ℕ → Verdict → Kept → Kept → Type 0
+KeepsFor number jobs (verdict.Summary text) old new = KeepsRun (generated number jobs) new
+KeepsFor number jobs (verdict.Report text) old new = new ≡ old
+KeepsFor number jobs (verdict.NoPlan line) old new = new ≡ old
+KeepsFor number jobs verdict.NoMemory old new = new ≡ old
+KeepsFor number jobs verdict.NoCommand old new = new ≡ old
+KeepsFor number jobs verdict.SourceFailed old new = new ≡ old
+KeepsFor number jobs verdict.TooLong old new = new ≡ old
 
--- the words are no command, or the input is no plan
+-- the words ask for the plan of a number; what is kept is the floor on which it has run; and of
+-- what is written for it this holds
+pub record KeptSummary (words : List (List ℕ)) (kept : Kept) (Holds : List ℕ → Type 0)
+    : Type 0 where
+  pub number : ℕ
+  pub jobs : ℕ
+  pub asked : IsGen number jobs words
+  pub run : KeepsRun (generated number jobs) kept
+  pub holds : Holds (summary_text number jobs)
+
+-- what is kept is the floor on which the plan has run that was read or made, and of the text for it
+-- this holds
+abbrev pub KeptText : List (List ℕ) → Option (List ℕ) → Option (List ℕ) → Kept
+    → (List ℕ → Type 0) → Type 0
+KeptText words left after kept Holds =
+    (IsRun words × KeptRun left after kept Holds) ⊎ KeptSummary words kept Holds
+
+-- with the verdict on the words and on what was left of a source
+abbrev pub Keeps : List (List ℕ) → Verdict → Option (List ℕ) → Option (List ℕ) → Kept → Kept
+    → Type 0
+Keeps words (verdict.Report text) left after old new =
+    KeptRun left after new (λ made. made ≡ text.items)
+Keeps words (verdict.Summary text) left after old new =
+    KeptSummary words new (λ made. made ≡ text.items)
+Keeps words (verdict.NoPlan line) left after old new = new ≡ old
+Keeps words verdict.NoMemory left after old new = new ≡ old
+Keeps words verdict.NoCommand left after old new = new ≡ old
+Keeps words verdict.SourceFailed left after old new = new ≡ old
+Keeps words verdict.TooLong left after old new = new ≡ old
+
+-- the words are no command, or the input for which they ask is no plan
 abbrev pub IsNoRun : List (List ℕ) → Option (List ℕ) → Option (List ℕ) → Type 0
 IsNoRun words left after =
     (¬ IsCommand words)
-    ⊎ ((bytes : List ℕ) × IsInput bytes left after × ((line : List ℕ) × IsFaultLine bytes line))
+    ⊎ (IsRun words
+    × ((bytes : List ℕ) × IsInput bytes left after × ((line : List ℕ) × IsFaultLine bytes line)))

@@ -2,6 +2,7 @@ pub mod Meanings
 pub mod Input
 pub mod Plans
 pub mod Standard
+pub mod Summaries
 pub mod Tellings
 pub mod Verdicts
 pub mod Words

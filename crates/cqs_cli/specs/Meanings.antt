@@ -3,6 +3,7 @@ use Rattle.std.specs.Prelude.{◌≡◌, ℕ, ◌⊎◌, List, [], ◌∷◌, Op
 use Rattle.cqs_plan.specs.Stream.{Gains, GainsPrefix}
 use Rattle.cqs_cli.specs.Input.{IsInput}
 use Rattle.cqs_cli.specs.Plans.{IsFaultLine, IsReport}
+use Rattle.cqs_cli.specs.Summaries.{IsSummary}
 use Rattle.cqs_cli.specs.Words.{IsCommand, IsRun, usage}
 use Rattle.cqs_cli.specs.declared.statuses.TheConstants.{DONE, NO_COMMAND, NO_MEMORY, NO_PLAN, SINK_FAILED, SOURCE_FAILED, TOO_LONG}
 
@@ -13,6 +14,19 @@ pub record Reported (left after held now : Option (List ℕ)) : Type 0 where
   pub text : List ℕ
   pub report : IsReport bytes text
   pub written : Gains text held now
+
+-- the words ask for the plan of a number, and the sink took all that is written for it
+pub record Summed (words : List (List ℕ)) (held now : Option (List ℕ)) : Type 0 where
+  pub text : List ℕ
+  pub summary : IsSummary words text
+  pub written : Gains text held now
+
+-- the sink took what the command's words ask for: the report of the plan that was read, or the
+-- summary of the plan that was made
+abbrev pub HasTold : List (List ℕ) → Option (List ℕ) → Option (List ℕ) → Option (List ℕ)
+    → Option (List ℕ) → Type 0
+HasTold words left after held now =
+    (IsRun words × Reported left after held now) ⊎ Summed words held now
 
 -- the input was no plan, and the sink took the whole line that says why
 pub record NamedFault (left after held now : Option (List ℕ)) : Type 0 where
@@ -31,6 +45,7 @@ abbrev pub IsDue : List (List ℕ) → Option (List ℕ) → Option (List ℕ) �
 IsDue words left after text =
     ((¬ IsCommand words) × (text ≡ usage))
     ⊎ (IsRun words × ((bytes : List ℕ) × IsInput bytes left after × IsAnswer bytes text))
+    ⊎ IsSummary words text
 
 -- the sink took a prefix of the text that the words and the input call for
 pub record BrokeOff (words : List (List ℕ)) (left after held now : Option (List ℕ)) : Type 0 where

@@ -27,6 +27,7 @@ module _ {K : Type 0} (held : K → Option (List ℕ)) (is_flushed : K → Bool)
   abbrev pub Tells : Verdict → ℕ → K → K → Type 0
   Tells verdict.NoCommand result old new = Says usage NO_COMMAND result old new
   Tells (verdict.Report text) result old new = Says text.items DONE result old new
+  Tells (verdict.Summary text) result old new = Says text.items DONE result old new
   Tells (verdict.NoPlan line) result old new = Says line.items NO_PLAN result old new
   Tells verdict.SourceFailed result old new = (result ≡ SOURCE_FAILED) × (new ≡ old)
   Tells verdict.NoMemory result old new = (result ≡ NO_MEMORY) × (new ≡ old)

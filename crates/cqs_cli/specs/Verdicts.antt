@@ -1,4 +1,4 @@
--- Which verdict is right for words and an input.
+-- Which verdict is right for words and an input or a number.
 use Rattle.std.specs.Prelude.{◌≡◌, ℕ, ◌+◌, ◌≤◌, List, Option}
 use Rattle.cqs_plan.specs.Counts.{raised, Rises}
 use Rattle.cqs_plan.specs.Stream.{GivesCount}
@@ -6,6 +6,7 @@ use Rattle.cqs_plan.specs.declared.streams.reading.TheConstants.{LONGEST_INPUT}
 use Rattle.cqs_plan.specs.declared.streams.tally.Tally.{Tally}
 use Rattle.cqs_cli.specs.Input.{IsInput}
 use Rattle.cqs_cli.specs.Plans.{IsFaultLine, IsReport}
+use Rattle.cqs_cli.specs.Summaries.{IsSummary, IsSummaryOf}
 use Rattle.cqs_cli.specs.Words.{IsCommand, IsRun}
 use Rattle.cqs_cli.specs.declared.verdict.Verdict.{Verdict}
 use Rattle.cqs_cli.specs.declared.verdict.Verdict.TheVariants as verdict
@@ -16,6 +17,7 @@ IsVerdictOn bytes (verdict.Report text) = IsReport bytes text.items
 IsVerdictOn bytes (verdict.NoPlan line) = IsFaultLine bytes line.items
 IsVerdictOn bytes verdict.NoMemory = Unit {0}
 IsVerdictOn bytes verdict.NoCommand = ⊥
+IsVerdictOn bytes (verdict.Summary text) = ⊥
 IsVerdictOn bytes verdict.SourceFailed = ⊥
 IsVerdictOn bytes verdict.TooLong = ⊥
 
@@ -25,7 +27,18 @@ pub record IsJudged (given : Verdict) (left after : Option (List ℕ)) : Type 0 
   pub input : IsInput bytes left after
   pub right : IsVerdictOn bytes given
 
--- the verdict on the words and on what was left of the source, which was read from old to new
+-- the verdict on the plan of a number, with so many jobs
+abbrev pub IsVerdictFor : ℕ → ℕ → Verdict → Type 0
+IsVerdictFor number jobs (verdict.Summary text) = IsSummaryOf number jobs text.items
+IsVerdictFor number jobs verdict.NoMemory = Unit {0}
+IsVerdictFor number jobs (verdict.Report text) = ⊥
+IsVerdictFor number jobs (verdict.NoPlan line) = ⊥
+IsVerdictFor number jobs verdict.NoCommand = ⊥
+IsVerdictFor number jobs verdict.SourceFailed = ⊥
+IsVerdictFor number jobs verdict.TooLong = ⊥
+
+-- The verdict on the words and on what was left of the source, which was read from old to new. It
+-- is read for a plan alone.
 abbrev pub IsVerdict : {S : Type 0} → (S → Option (List ℕ)) → (S → ℕ) → List (List ℕ) → Verdict → S
     → S → Type 0
 IsVerdict left faults words verdict.NoCommand old new = (¬ IsCommand words) × (new ≡ old)
@@ -33,7 +46,10 @@ IsVerdict left faults words verdict.SourceFailed old new =
     IsRun words × Rises (faults old) (faults new)
 IsVerdict left faults words verdict.TooLong old new =
     IsRun words × (faults new ≡ faults old) × GivesCount (LONGEST_INPUT + 1) (left old) (left new)
-IsVerdict left faults words verdict.NoMemory old new = IsRun words × (faults new ≡ faults old)
+IsVerdict left faults words verdict.NoMemory old new =
+    IsCommand words × (faults new ≡ faults old) × ((¬ IsRun words) → new ≡ old)
+IsVerdict left faults words (verdict.Summary text) old new =
+    IsSummary words text.items × (new ≡ old)
 IsVerdict left faults words (verdict.Report text) old new =
     IsRun words × (faults new ≡ faults old) × IsJudged (verdict.Report text) (left old) (left new)
 IsVerdict left faults words (verdict.NoPlan line) old new =
@@ -47,6 +63,7 @@ pub record StopsWithin (most : ℕ) (old new : Tally) : Type 0 where
 -- what the reads for a verdict gave, and whether the last of them stopped
 abbrev pub HasTaken : Verdict → Tally → Tally → Type 0
 HasTaken verdict.NoCommand old new = new ≡ old
+HasTaken (verdict.Summary text) old new = new ≡ old
 HasTaken (verdict.Report text) old new = StopsWithin LONGEST_INPUT old new
 HasTaken (verdict.NoPlan line) old new = StopsWithin LONGEST_INPUT old new
 HasTaken verdict.SourceFailed old new = StopsWithin LONGEST_INPUT old new

@@ -1,14 +1,55 @@
 -- Which words are a command, and the text for those that are none.
-use Rattle.std.specs.Prelude.{◌≡◌, ℕ, List, [], ◌∷◌, codes}
+use Rattle.std.specs.Prelude.{◌≡◌, ◌≢◌, ℕ, ◌≤◌, ◌⊎◌, List, [], ◌∷◌, Option, Some, None, codes}
+use Rattle.std.specs.Fmt.{decimal}
+use Rattle.cqs_cli.specs.declared.words.Command.{Command}
+use Rattle.cqs_cli.specs.declared.words.Command.TheVariants.{Run, Gen}
 
 -- the words of the command that reads a plan and writes its report
 abbrev pub IsRun : List (List ℕ) → Type 0
 IsRun words = words ≡ codes "run" ∷ []
 
+-- the words of the command that makes the plan of a number: its name, and then its two options in
+-- either order, each with its number in decimal
+abbrev pub SpellGen : ℕ → ℕ → List (List ℕ) → Type 0
+SpellGen number jobs words =
+    (words ≡ codes "gen" ∷ codes "--number" ∷ decimal number ∷ codes "--jobs" ∷ decimal jobs ∷ [])
+    ⊎ (words
+    ≡ codes "gen" ∷ codes "--jobs" ∷ decimal jobs ∷ codes "--number" ∷ decimal number ∷ [])
+
+-- the words ask for the plan of this number with so many jobs, and both are in their ranges
+pub record IsGen (number jobs : ℕ) (words : List (List ℕ)) : Type 0 where
+  pub number_fits : number ≤ 2147483647
+  pub some_jobs : 1 ≤ jobs
+  pub few_jobs : jobs ≤ 4096
+  pub spelled : SpellGen number jobs words
+
+-- the words ask for the plan of some number
+abbrev pub IsSomeGen : List (List ℕ) → Type 0
+IsSomeGen words = (number : ℕ) × ((jobs : ℕ) × IsGen number jobs words)
+
 -- the words are a command
 abbrev pub IsCommand : List (List ℕ) → Type 0
-IsCommand words = IsRun words
+IsCommand words = IsRun words ⊎ IsSomeGen words
 
 -- what is written where the words are no command
 abbrev pub usage : List ℕ
 usage = codes "usage: cqs run\n       cqs work [--workers N]\n       cqs gen --number N --jobs M\n"
+
+-- the words are this command, or none
+abbrev pub IsCommandOf : List (List ℕ) → Option Command → Type 0
+IsCommandOf words None = ¬ IsCommand words
+IsCommandOf words (Some Run) = IsRun words
+IsCommandOf words (Some (Gen number jobs)) = IsGen number jobs words
+
+-- two words for a number and for jobs ask for this command, or for none
+abbrev pub IsGenOf : List ℕ → List ℕ → Option Command → Type 0
+IsGenOf number jobs None = (n m : ℕ)
+    → ¬ IsGen n m (codes "gen" ∷ codes "--number" ∷ number ∷ codes "--jobs" ∷ jobs ∷ [])
+IsGenOf number jobs (Some Run) = ⊥
+IsGenOf number jobs (Some (Gen n m)) =
+    IsGen n m (codes "gen" ∷ codes "--number" ∷ number ∷ codes "--jobs" ∷ jobs ∷ [])
+
+-- a word is this number in decimal, which is in the range, or it is none that is
+abbrev pub IsNumberOf : List ℕ → ℕ → ℕ → Option ℕ → Type 0
+IsNumberOf word least most None = (n : ℕ) → least ≤ n → n ≤ most → word ≢ decimal n
+IsNumberOf word least most (Some n) = (least ≤ n) × (n ≤ most) × (word ≡ decimal n)

@@ -7,8 +7,9 @@ ghost use Rattle.cqs_cli.specs.Verdicts.{HasTaken, IsVerdict};
 
 use crate::kept::Kept;
 use crate::plans::judge_input;
+use crate::summaries::judge_number;
 use crate::verdict::Verdict;
-use crate::words::is_run;
+use crate::words::{Command, command_of};
 use cqs_plan::{LONGEST_INPUT, ReadError, Source, read_input};
 use std::alloc::Global;
 
@@ -18,16 +19,18 @@ pub fn judge<S: Source>(alloc: Global, words: &[String], source: &mut S, kept: &
     ensures right { IsVerdict S.left S.faults
         (map string_bytes words.now) result source.old source.new }
     ensures taken { GivesAtMost (LONGEST_INPUT + 1) (S.left source.old) (S.left source.new) }
-    ensures keeps { Keeps result (S.left source.old) (S.left source.new) kept.old kept.new }
+    ensures keeps { Keeps (map string_bytes words.now) result
+        (S.left source.old) (S.left source.new) kept.old kept.new }
     ensures counted { HasTaken result (S.tally source.old) (S.tally source.new) }
 {
-    if !is_run(words) {
-        return Verdict::NoCommand;
-    }
-    match read_input(alloc, source) {
-        Ok(bytes) => judge_input(alloc, &bytes, kept),
-        Err(ReadError::Failed) => Verdict::SourceFailed,
-        Err(ReadError::TooLong) => Verdict::TooLong,
-        Err(ReadError::Memory) => Verdict::NoMemory,
+    match command_of(words) {
+        None => Verdict::NoCommand,
+        Some(Command::Gen { number, jobs }) => judge_number(alloc, number, jobs, kept),
+        Some(Command::Run) => match read_input(alloc, source) {
+            Ok(bytes) => judge_input(alloc, &bytes, kept),
+            Err(ReadError::Failed) => Verdict::SourceFailed,
+            Err(ReadError::TooLong) => Verdict::TooLong,
+            Err(ReadError::Memory) => Verdict::NoMemory,
+        },
     }
 }

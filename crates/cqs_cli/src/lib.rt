@@ -12,6 +12,7 @@ mod kept;
 mod plans;
 mod standard;
 mod statuses;
+mod summaries;
 mod telling;
 mod top_call;
 mod verdict;

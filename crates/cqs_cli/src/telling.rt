@@ -14,6 +14,7 @@ pub fn tell<K: Sink>(sink: &mut K, verdict: &Verdict) -> u8
     match verdict {
         Verdict::NoCommand => say(sink, USAGE.as_bytes(), NO_COMMAND),
         Verdict::Report(text) => say(sink, text.as_slice(), DONE),
+        Verdict::Summary(text) => say(sink, text.as_slice(), DONE),
         Verdict::NoPlan(line) => say(sink, line.as_slice(), NO_PLAN),
         Verdict::SourceFailed => SOURCE_FAILED,
         Verdict::NoMemory => NO_MEMORY,

@@ -3,10 +3,10 @@
 ghost use Rattle.std.specs.Prelude.{◌≡◌, ◌≢◌, ◌⊎◌, ℕ, ◌+◌, ◌<◌, ◌≤◌, List, length, map, string_bytes, IsTrue, Some};
 ghost use Rattle.cqs_plan.specs.Counts.{raised, Rises};
 ghost use Rattle.cqs_plan.specs.Stream.{Gains, GainsPrefix, GivesAtMost, GivesCount};
-ghost use Rattle.cqs_cli.specs.KeptRuns.{IsNoRun, KeptRun};
-ghost use Rattle.cqs_cli.specs.Meanings.{BrokeOff, IsStatus, MustEnd, NamedFault, Reported};
+ghost use Rattle.cqs_cli.specs.KeptRuns.{IsNoRun, KeptText};
+ghost use Rattle.cqs_cli.specs.Meanings.{BrokeOff, HasTold, IsStatus, MustEnd, NamedFault};
 ghost use Rattle.cqs_cli.specs.Plans.{IsPlan};
-ghost use Rattle.cqs_cli.specs.Words.{IsCommand, IsRun, usage};
+ghost use Rattle.cqs_cli.specs.Words.{IsCommand, IsRun, IsSomeGen, usage};
 ghost use Rattle.cqs_cli.specs.declared.kept.Kept.TheVariants.{Nothing};
 
 use crate::judging::judge;
@@ -36,9 +36,10 @@ pub fn top<S: Source, K: Sink>(
     requires empty { kept.old ≡ Nothing }
 
     // Status 0 means: the bytes read are a plan, and the text written, whole and flushed, is the
-    // report of the turn machine on it, over plain semaphores with legal histories.
-    ensures headline { result ≡ DONE → IsRun (map string_bytes words.now)
-        × Reported (S.left source.old) (S.left source.new) (K.held sink.old) (K.held sink.new)
+    // report of the turn machine on it, over plain resources with legal histories; or the words ask
+    // for the plan of a number, and the text is the summary of its report.
+    ensures headline { result ≡ DONE → HasTold (map string_bytes words.now)
+        (S.left source.old) (S.left source.new) (K.held sink.old) (K.held sink.new)
         × IsTrue (K.is_flushed sink.new) }
 
     // The words are no command, nothing was read, and the usage text was written and flushed.
@@ -64,7 +65,7 @@ pub fn top<S: Source, K: Sink>(
         (S.left source.old) (S.left source.new) (K.held sink.old) (K.held sink.new) }
 
     // Memory ran out, and nothing was written.
-    ensures no_memory { result ≡ NO_MEMORY → IsRun (map string_bytes words.now)
+    ensures no_memory { result ≡ NO_MEMORY → IsCommand (map string_bytes words.now)
         × (sink.new ≡ sink.old) }
 
     // One byte more than an input may have was read, and nothing was written.
@@ -79,6 +80,9 @@ pub fn top<S: Source, K: Sink>(
     ensures many_bytes { (S.tally source.old).given + LONGEST_INPUT < (S.tally source.new).given
         → MustEnd TOO_LONG result }
 
+    // Nothing is read for other words than those that ask for it.
+    ensures unread { ¬ IsRun (map string_bytes words.now) → source.new ≡ source.old }
+
     // Never are more bytes taken, and nothing is read after the end of the source or a fault of it.
     ensures taken { GivesAtMost (LONGEST_INPUT + 1) (S.left source.old) (S.left source.new) }
     ensures given { (S.tally source.new).given ≤ (S.tally source.old).given + (LONGEST_INPUT + 1) }
@@ -86,7 +90,7 @@ pub fn top<S: Source, K: Sink>(
 
     // A plan, and what is none, was read until a read stopped; no fault came, so
     // it stopped at the end.
-    ensures ended { (result ≡ DONE) ⊎ (result ≡ NO_PLAN)
+    ensures ended { IsRun (map string_bytes words.now) → (result ≡ DONE) ⊎ (result ≡ NO_PLAN)
         → (S.tally source.old).stops ≡ 0 → (S.tally source.new).stops ≡ 1 }
 
     // There is no other status, and a fault is never hidden behind one.
@@ -121,14 +125,20 @@ pub fn top<S: Source, K: Sink>(
         → ¬ Rises (K.faults sink.old) (K.faults sink.new)
         → MustEnd DONE result }
 
-    // With status 0 the floor of the run is kept whose report was written.
-    ensures kept_done { result ≡ DONE → KeptRun (S.left source.old) (S.left source.new) kept.new
+    // Words that ask for the plan of a number are always answered by its whole summary.
+    ensures complete_gen { IsSomeGen (map string_bytes words.now)
+        → ¬ Rises (K.faults sink.old) (K.faults sink.new)
+        → MustEnd DONE result }
+
+    // With status 0 the floor of the run is kept whose report or summary was written.
+    ensures kept_done { result ≡ DONE → KeptText (map string_bytes words.now)
+        (S.left source.old) (S.left source.new) kept.new
         (λ text. Gains text (K.held sink.old) (K.held sink.new)) }
 
-    // Where the sink failed, the floor is kept of the run whose report broke off; nothing is, where
-    // no plan was run.
+    // Where the sink failed, the floor is kept of the run whose report or summary broke off, and
+    // nothing where no plan was run.
     ensures kept_broken { result ≡ SINK_FAILED →
-        KeptRun (S.left source.old) (S.left source.new) kept.new
+        KeptText (map string_bytes words.now) (S.left source.old) (S.left source.new) kept.new
         (λ text. GainsPrefix text (K.held sink.old) (K.held sink.new))
         ⊎ ((kept.new ≡ Nothing)
         × IsNoRun (map string_bytes words.now) (S.left source.old) (S.left source.new)) }

@@ -7,6 +7,8 @@ pub enum Verdict {
     NoCommand,
     /// The input is a plan with this report.
     Report(Vec<u8>),
+    /// The words ask for the plan of a number, and this is written for it.
+    Summary(Vec<u8>),
     /// The input is no plan, and this line says what is wrong with it.
     NoPlan(Vec<u8>),
     /// The source failed. Nothing is to be written.

@@ -3,9 +3,9 @@ ghost use Rattle.std.specs.Prelude.{◌≡◌, ◌≢◌, ◌⊎◌, ℕ, ◌+�
 ghost use Rattle.std.specs.Process.{exit_status};
 ghost use Rattle.cqs_plan.specs.Counts.{raised, Rises};
 ghost use Rattle.cqs_plan.specs.Stream.{Gains, GivesAtMost, GivesCount};
-ghost use Rattle.cqs_cli.specs.Meanings.{BrokeOff, IsStatus, MustEnd, NamedFault, Reported};
+ghost use Rattle.cqs_cli.specs.Meanings.{BrokeOff, HasTold, IsStatus, MustEnd, NamedFault};
 ghost use Rattle.cqs_cli.specs.Plans.{IsPlan};
-ghost use Rattle.cqs_cli.specs.Words.{IsCommand, IsRun, usage};
+ghost use Rattle.cqs_cli.specs.Words.{IsCommand, IsRun, IsSomeGen, usage};
 ghost use Rattle.cqs_main.specs.Arguments.{words_of};
 ghost use Rattle.cqs_main.specs.Messages.{TakesPrefix, message};
 
@@ -33,9 +33,10 @@ pub fn run<S: Source, K: Sink, W: Write>(
     errors: &mut W,
 ) -> ExitCode
     // Status 0 means: the input was a plan, and the report of the turn machine on it, over plain
-    // semaphores with legal histories, was written whole and flushed.
-    ensures headline { exit_status result ≡ DONE → IsRun (words_of arguments)
-        × Reported (S.left source.old) (S.left source.new) (K.held sink.old) (K.held sink.new)
+    // resources with legal histories, was written whole and flushed; or the words ask for the plan
+    // of a number, and so was the summary of its report.
+    ensures headline { exit_status result ≡ DONE → HasTold (words_of arguments)
+        (S.left source.old) (S.left source.new) (K.held sink.old) (K.held sink.new)
         × IsTrue (K.is_flushed sink.new) }
 
     // The words are no command, nothing was read, and the usage text was written and flushed.
@@ -75,13 +76,17 @@ pub fn run<S: Source, K: Sink, W: Write>(
     ensures many_bytes { (S.tally source.old).given + LONGEST_INPUT < (S.tally source.new).given
         → MustEnd TOO_LONG (exit_status result) }
 
+    // Nothing is read for other words than those that ask for it.
+    ensures unread { ¬ IsRun (words_of arguments) → source.new ≡ source.old }
+
     // Never are more bytes taken, and nothing is read after the end of the source or a fault of it.
     ensures taken { GivesAtMost (LONGEST_INPUT + 1) (S.left source.old) (S.left source.new) }
     ensures given { (S.tally source.new).given ≤ (S.tally source.old).given + (LONGEST_INPUT + 1) }
     ensures stops { (S.tally source.old).stops ≡ 0 → (S.tally source.new).stops ≤ 1 }
 
     // A plan, and what is none, was read until a read stopped; no fault came, so it was at the end.
-    ensures ended { (exit_status result ≡ DONE) ⊎ (exit_status result ≡ NO_PLAN)
+    ensures ended { IsRun (words_of arguments)
+        → (exit_status result ≡ DONE) ⊎ (exit_status result ≡ NO_PLAN)
         → (S.tally source.old).stops ≡ 0 → (S.tally source.new).stops ≡ 1 }
 
     // There is no other status, and a fault is never hidden behind one.
@@ -109,6 +114,9 @@ pub fn run<S: Source, K: Sink, W: Write>(
         → (bytes : List ℕ) → S.left source.old ≡ Some bytes
         → length bytes ≤ LONGEST_INPUT → IsPlan bytes
         → ¬ Rises (S.faults source.old) (S.faults source.new)
+        → ¬ Rises (K.faults sink.old) (K.faults sink.new)
+        → MustEnd DONE (exit_status result) }
+    ensures complete_gen { IsSomeGen (words_of arguments)
         → ¬ Rises (K.faults sink.old) (K.faults sink.new)
         → MustEnd DONE (exit_status result) }
 

@@ -2,7 +2,7 @@
 -- another status is refused by the clause.
 use Rattle.std.proofs.Common.{rules}
 use Rattle.cqs_cli.proofs.KeptLemmas.{headline, kept_broken, kept_done}
-use Rattle.cqs_cli.proofs.MeaningLemmas.{all_statuses, answers_fault, answers_plan, broke_off, is_status}
+use Rattle.cqs_cli.proofs.MeaningLemmas.{all_statuses, answers_fault, answers_number, answers_plan, broke_off, is_status, leaves_source}
 use Rattle.cqs_cli.proofs.top_call.top.Goals as goal
 
 pub returns-clause-statuses : goal.returns-clause-statuses
@@ -55,4 +55,18 @@ returns-clause-kept_broken g c =
     kept_broken g.S.Source.left g.S.Source.faults g.K.Sink.held g.K.Sink.is_flushed g.K.Sink.faults _ _ _ _ _ _ _
     c.judge-verdict.result c.tell.result (c.judge-verdict.ensures.right, c.tell.ensures) c.judge-verdict.ensures.keeps
     c.requires.empty in
+    search rules
+
+pub returns-clause-complete_gen : goal.returns-clause-complete_gen
+returns-clause-complete_gen g c =
+    let known =
+    answers_number g.S.Source.left g.S.Source.faults g.K.Sink.held g.K.Sink.is_flushed g.K.Sink.faults _ _ _ _ _
+    c.judge-verdict.result c.tell.result (c.judge-verdict.ensures.right, c.tell.ensures) in
+    search rules
+
+pub returns-clause-unread : goal.returns-clause-unread
+returns-clause-unread g c =
+    let known =
+    leaves_source g.S.Source.left g.S.Source.faults g.K.Sink.held g.K.Sink.is_flushed g.K.Sink.faults _ _ _
+    c.tell.new.sink c.tell.new.sink c.judge-verdict.result c.judge-verdict.ensures.right in
     search rules

@@ -28,8 +28,10 @@
  * `waits` waits, and an acquire is refused as CQS_FULL where they are used up.
  *
  * Proved of the library behind this header: every export is safe and ends, where the pointer is
- * good; and what the calls below mean (crates/cqs_by_number, crates/cqs_semaphore). This file, and
- * that it fits the exports, is written by hand and tested. */
+ * good; and each of its calls of the semaphore is one that the proved semaphore allows
+ * (crates/cqs_by_number, crates/cqs_semaphore). That the answer here is the one that the semaphore
+ * gave is read off that code and tested; no clause says it yet. This file, and that it fits the
+ * exports, is written by hand and tested. */
 #ifndef CQS_H
 #define CQS_H
 #include <stdint.h>

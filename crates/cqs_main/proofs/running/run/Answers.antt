@@ -1,4 +1,4 @@
-use Rattle.std.proofs.Common.{rules}
+use Rattle.std.proofs.Common.{◌∙◌, sym, rules}
 use Rattle.cqs_main.proofs.Statuses.{gives-nothing, is_no_memory}
 use Rattle.cqs_main.proofs.running.run.Goals as goal
 use Rattle.cqs_main.proofs.running.run.Goals.{in-Ok, in-Err}
@@ -7,7 +7,10 @@ use Rattle.cqs_main.proofs.running.run.Goals.{in-Ok, in-Err}
 pub returns-clause-headline : goal.returns-clause-headline
 returns-clause-headline g c =
     elim c.match-words_after_name.branch [
-      | in-Ok w ↦ search rules
+      | in-Ok w ↦ λ done.
+          let so = sym w.status-is ∙ sym c.finish.ensures.status ∙ done in
+          rw (w.source-is, w.sink-is, ← w.in-Ok.ensures.words, ← w.deref.ensures.value)
+          (w.top-status.ensures.headline so)
       | in-Err w ↦ search rules
     ]
 
@@ -38,5 +41,14 @@ returns-clause-wrong_input g c =
       | in-Ok w ↦ λ is_run bytes left short no_plan source_calm sink_calm.
           rw (c.finish.ensures.status, w.status-is)
           (w.top-status.ensures.wrong_input (search rules) bytes left short no_plan (search rules) (search rules))
+      | in-Err w ↦ search rules
+    ]
+
+pub returns-clause-complete : goal.returns-clause-complete
+returns-clause-complete g c =
+    elim c.match-words_after_name.branch [
+      | in-Ok w ↦ λ is_run bytes left short plan source_calm sink_calm.
+          rw (c.finish.ensures.status, w.status-is)
+          (w.top-status.ensures.complete (search rules) bytes left short plan (search rules) (search rules))
       | in-Err w ↦ search rules
     ]

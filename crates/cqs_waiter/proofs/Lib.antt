@@ -1,2 +1,3 @@
+mod ItemWaits
 mod Locks
 mod Waiting

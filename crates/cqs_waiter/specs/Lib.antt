@@ -1,5 +1,8 @@
 pub mod Looks
 pub mod Arrivals
 pub mod Futures
+pub mod AcquireFutures
 pub mod Locks
 pub mod LockFutures
+pub mod Takes
+pub mod TakeFutures

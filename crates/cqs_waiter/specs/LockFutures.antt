@@ -1,28 +1,54 @@
 -- When a future that locks may be polled, and what may come of it.
+use Rattle.std.specs.Prelude.{Option, Result}
 use Rattle.cqs_core.specs.declared.entries.Entry.{Entry}
 use Rattle.cqs_rule.specs.declared.client.ClientWords.{Ghosts}
+use Rattle.cqs_rule.specs.declared.config.AcquireError.{AcquireError}
+use Rattle.cqs_rule.specs.declared.queue.Pass.{Pass}
+use Rattle.cqs_rule.specs.declared.queue.tokens.Wait.{Wait}
 use Rattle.cqs_rule.specs.declared.semaphore.SemClient.{SemClient}
 use Rattle.cqs_rule.specs.declared.semaphore.carries.Kept.{Kept}
+use Rattle.cqs_rule.specs.Passes.{pass_view}
+use Rattle.cqs_semaphore.specs.Calls.{IsReady}
+use Rattle.cqs_mutex.specs.declared.answers.LockLeft.{LockLeft}
+use Rattle.cqs_mutex.specs.declared.guard.Guard.{Guard}
+use Rattle.cqs_mutex.specs.declared.mutex.Mutex.{Mutex}
+use Rattle.cqs_mutex.specs.Calls.{HasLeft, LeftHolds}
 use Rattle.cqs_mutex.specs.Mutexes.{Belongs}
 use Rattle.cqs_waiter.specs.declared.lock_future.LockFuture.{LockFuture}
 use Rattle.cqs_waiter.specs.declared.lock_future.LockOutcome.{LockOutcome}
+use Rattle.cqs_waiter.specs.AcquireFutures.{AcquirePends, Waits}
 use Rattle.cqs_waiter.specs.Futures.{CanPoll, Gives, LookPended}
 use Rattle.cqs_waiter.specs.Locks.{LockArrives, waits_in}
 
 module _ {T : Type 0} {g : Ghosts (SemClient (Kept T)) (Kept T) Entry} where
+  -- the pass is one of this mutex, between two calls
+  abbrev pub IsOfMutex : Mutex T → Pass (SemClient (Kept T)) (Kept T) Entry g → Type 0
+  IsOfMutex m p = Belongs m p × IsReady (pass_view p).facts
+
+  -- of its pass: what came of a lock or a wait, and a cancel
+  abbrev pub Locks : Pass (SemClient (Kept T)) (Kept T) Entry g → Option Wait
+      → Result (Guard T) AcquireError → Pass (SemClient (Kept T)) (Kept T) Entry g → Type 0
+  Locks p wait got after = LockArrives (pass_view p) wait got (pass_view after)
+
+  abbrev pub EndsLockWait : Pass (SemClient (Kept T)) (Kept T) Entry g → Wait → LockLeft T
+      → Pass (SemClient (Kept T)) (Kept T) Entry g → Type 0
+  EndsLockWait p wait answer after =
+      HasLeft wait (pass_view p) answer (pass_view after) × LeftHolds answer (pass_view after)
+
   -- it has a pass of the mutex, and its wait, if there is one; or it was ready before
   abbrev pub CanPollLock : LockFuture T g → Type 0
-  CanPollLock f = CanPoll (Belongs f.mutex.now) f.pass (waits_in f.wait)
+  CanPollLock f = CanPoll (IsOfMutex f.mutex.now) Waits f.pass (waits_in f.wait)
 
   -- what may come of it
   abbrev pub GivesLock : LockFuture T g → LockOutcome T g → Type 0
   GivesLock f out =
-      Gives (Belongs f.mutex.now) LockArrives f.pass (waits_in f.wait) out.pass out.got
+      Gives (IsOfMutex f.mutex.now) Locks f.pass (waits_in f.wait) out.pass out.got
 
-  -- what comes of the one comes of the other
+  -- what may come of it later comes of it now
   abbrev pub LeadsTo : LockFuture T g → LockFuture T g → Type 0
-  LeadsTo f more = (out : LockOutcome T g) → GivesLock more out → GivesLock f out
+  LeadsTo f later = (out : LockOutcome T g) → GivesLock later out → GivesLock f out
 
   -- the look of a poll was pending
   abbrev pub LockPended : LockFuture T g → LockFuture T g → Type 0
-  LockPended f more = LookPended f.pass (waits_in f.wait) more.pass (waits_in more.wait)
+  LockPended f later =
+      LookPended AcquirePends f.pass (waits_in f.wait) later.pass (waits_in later.wait)

@@ -6,11 +6,10 @@ use Rattle.cqs_rule.specs.declared.config.AcquireError.{AcquireError}
 use Rattle.cqs_rule.specs.declared.queue.tokens.Wait.{Wait}
 use Rattle.cqs_rule.specs.declared.semaphore.carries.Kept.{Kept}
 use Rattle.cqs_rule.specs.declared.view.View.{View}
-use Rattle.cqs_mutex.specs.declared.answers.LockLeft.{LockLeft}
 use Rattle.cqs_mutex.specs.declared.answers.Locked.{Locked}
 use Rattle.cqs_mutex.specs.declared.guard.Guard.{Guard}
 use Rattle.cqs_mutex.specs.declared.guard.LockWait.{LockWait}
-use Rattle.cqs_mutex.specs.Calls.{as_answer, HasLeft, LeftHolds, LockedHolds, LockedValue}
+use Rattle.cqs_mutex.specs.Calls.{as_answer, LockedHolds, LockedValue}
 use Rattle.cqs_mutex.specs.Guards.{value_of, permit_of, wait_in}
 use Rattle.cqs_mutex.specs.Values.{TookValue}
 use Rattle.cqs_semaphore.specs.declared.answers.Permit.{Permit}
@@ -49,7 +48,3 @@ module _ {T : Type 0} where
     pub begins : Begins v wait (as_answer answer) between
     pub value : LockedValue answer between w
     pub holds : LockedHolds answer w
-
-  -- a cancel of this wait, and what the pass has then
-  abbrev pub LockLeaves : Wait → View Entry (Kept T) → LockLeft T → View Entry (Kept T) → Type 0
-  LockLeaves wait v answer w = HasLeft wait v answer w × LeftHolds answer w

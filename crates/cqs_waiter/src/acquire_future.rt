@@ -8,8 +8,9 @@ ghost use Rattle.cqs_rule.specs.Waits.{HasWait};
 ghost use Rattle.futures.specs.Poll.{IfReady, OnPending};
 ghost use Rattle.futures.specs.Task.{Covers, Keeps};
 ghost use Rattle.cqs_semaphore.specs.Calls.{IsMine, IsReady};
-ghost use Rattle.cqs_waiter.specs.Arrivals.{Arrives, Begins};
-ghost use Rattle.cqs_waiter.specs.Futures.{CanPoll, Gives, LookPended, GivesUp, GotWait, HasEndedWait};
+ghost use Rattle.cqs_waiter.specs.Arrivals.{Begins};
+ghost use Rattle.cqs_waiter.specs.AcquireFutures.{Acquires, AcquirePends, EndsWait, GotWait, IsIn, Waits};
+ghost use Rattle.cqs_waiter.specs.Futures.{CanPoll, Gives, LookPended, GivesUp};
 
 use cqs_rule::{AcquireError, Wait};
 use cqs_semaphore::{Acquired, CancelAnswer, Permit, Polled, SemPass, Semaphore};
@@ -41,7 +42,7 @@ impl<'a> AcquireFuture<'a> {
     pub fn new(semaphore: &'a Semaphore, pass: SemPass) -> AcquireFuture<'a>
         requires belongs { IsMine semaphore.now pass }
         requires ready { IsReady (pass_view pass).facts }
-        ensures can_poll { CanPoll (IsMine result.semaphore.now) result.pass result.wait }
+        ensures can_poll { CanPoll (IsIn result.semaphore.now) Waits result.pass result.wait }
         ensures semaphore { result.semaphore.now ≡ semaphore.now }
         ensures pass { result.pass ≡ Some pass }
         ensures no_wait { result.wait ≡ None }
@@ -56,11 +57,11 @@ impl<'a> AcquireFuture<'a> {
     /// Ends the wait, if there is one, and hands the pass back.
     pub fn give_up(self) -> (SemPass, Option<CancelAnswer>)
         requires not_ready { IsSome self.pass }
-        requires can_poll { CanPoll (IsMine self.semaphore.now) self.pass self.wait }
+        requires can_poll { CanPoll (IsIn self.semaphore.now) Waits self.pass self.wait }
         ensures belongs { IsMine self.entry.semaphore.now result.0 }
         ensures between { IsBetween (pass_view result.0).facts }
         ensures gave_up { IsSomeAnd self.entry.pass
-            (λ pass. GivesUp HasEndedWait pass self.entry.wait result.0 result.1) }
+            (λ pass. GivesUp EndsWait pass self.entry.wait result.0 result.1) }
         ensures none { (result.1 ≡ None) ↔ (self.entry.wait ≡ None) }
     {
         let AcquireFuture {
@@ -103,26 +104,26 @@ fn begin(
 impl Future for AcquireFuture<'_> {
     type Output = Acquisition;
 
-    ghost can_poll = { λ f. CanPoll (IsMine f.semaphore.now) f.pass f.wait };
+    ghost can_poll = { λ f. CanPoll (IsIn f.semaphore.now) Waits f.pass f.wait };
 
-    ghost gives = { λ f out. Gives (IsMine f.semaphore.now) Arrives f.pass f.wait out.pass
+    ghost gives = { λ f out. Gives (IsIn f.semaphore.now) Acquires f.pass f.wait out.pass
         out.got };
 
     fn poll(&mut self, cx: &mut Context<'_>) -> Poll<Acquisition>
-        requires { CanPoll (IsMine self.old.semaphore.now) self.old.pass self.old.wait }
-        ensures value { IfReady result (λ out. Gives (IsMine self.old.semaphore.now) Arrives
+        requires { CanPoll (IsIn self.old.semaphore.now) Waits self.old.pass self.old.wait }
+        ensures value { IfReady result (λ out. Gives (IsIn self.old.semaphore.now) Acquires
             self.old.pass self.old.wait out.pass out.got) }
-        ensures again { OnPending result (CanPoll (IsMine self.new.semaphore.now) self.new.pass
+        ensures again { OnPending result (CanPoll (IsIn self.new.semaphore.now) Waits self.new.pass
             self.new.wait) }
         ensures same { OnPending result ((out : Acquisition)
-            → Gives (IsMine self.new.semaphore.now) Arrives self.new.pass self.new.wait out.pass
+            → Gives (IsIn self.new.semaphore.now) Acquires self.new.pass self.new.wait out.pass
             out.got
-            → Gives (IsMine self.old.semaphore.now) Arrives self.old.pass self.old.wait out.pass
+            → Gives (IsIn self.old.semaphore.now) Acquires self.old.pass self.old.wait out.pass
             out.got) }
         ensures registered { OnPending result (Covers cx.new (λ _. ⊥)) }
         ensures kept { Keeps cx.old cx.new }
         ensures pending { (result ≡ Poll.Pending) ↔ ((self.old.pass ≡ None)
-            ⊎ LookPended self.old.pass self.old.wait self.new.pass self.new.wait) }
+            ⊎ LookPended AcquirePends self.old.pass self.old.wait self.new.pass self.new.wait) }
         ensures yields { OnPending result (cx.new.is_woken ≡ true) }
     {
         let Some(mut pass) = self.pass.take() else {

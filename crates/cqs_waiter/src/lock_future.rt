@@ -9,9 +9,10 @@ ghost use Rattle.futures.specs.Task.{Covers, Keeps};
 ghost use Rattle.cqs_semaphore.specs.Calls.{IsReady};
 ghost use Rattle.cqs_mutex.specs.Calls.{as_answer};
 ghost use Rattle.cqs_mutex.specs.Mutexes.{Belongs};
-ghost use Rattle.cqs_waiter.specs.Futures.{CanPoll, GivesUp, GotWait};
-ghost use Rattle.cqs_waiter.specs.LockFutures.{CanPollLock, GivesLock, LeadsTo, LockPended};
-ghost use Rattle.cqs_waiter.specs.Locks.{waits_in, LockBegins, LockLeaves};
+ghost use Rattle.cqs_waiter.specs.AcquireFutures.{GotWait, Waits};
+ghost use Rattle.cqs_waiter.specs.Futures.{CanPoll, GivesUp};
+ghost use Rattle.cqs_waiter.specs.LockFutures.{CanPollLock, EndsLockWait, GivesLock, IsOfMutex, LeadsTo, LockPended};
+ghost use Rattle.cqs_waiter.specs.Locks.{waits_in, LockBegins};
 
 use cqs_core::Entry;
 use cqs_mutex::{Guard, LockLeft, LockWait, Locked, Mutex, MutexPass, PolledLock};
@@ -111,7 +112,7 @@ impl<'a, T: Send + Drop> LockFuture<'a, T> {
         ensures belongs { Belongs self.entry.mutex.now result.0 }
         ensures between { IsBetween (pass_view result.0).facts }
         ensures gave_up { IsSomeAnd self.entry.pass
-            (λ pass. GivesUp LockLeaves pass (waits_in self.entry.wait) result.0 result.1) }
+            (λ pass. GivesUp EndsLockWait pass (waits_in self.entry.wait) result.0 result.1) }
         ensures none { (result.1 ≡ None) ↔ (self.entry.wait ≡ None) }
     {
         let LockFuture { mutex, pass, wait } = self;
@@ -133,7 +134,7 @@ fn begin<T: Send + Drop>(
     pass: &mut MutexPass<T>,
     wait: Option<LockWait>,
 ) -> Result<Locked<T>, AcquireError>
-    requires can_poll { CanPoll (Belongs mutex.now) (Some pass.old) (waits_in wait) }
+    requires can_poll { CanPoll (IsOfMutex mutex.now) Waits (Some pass.old) (waits_in wait) }
     ensures belongs { Belongs mutex.now pass.new }
     ensures ready { IsReady (pass_view pass.new).facts }
     ensures begins { LockBegins (pass_view pass.old) (waits_in wait) result (pass_view pass.new) }

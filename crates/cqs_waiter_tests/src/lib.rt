@@ -3,6 +3,8 @@
 #![tactic(auto)]
 
 #[cfg(test)]
+mod items_of_a_pool;
+#[cfg(test)]
 mod locks_by_future;
 #[cfg(test)]
 mod locks_that_sleep;

@@ -13,7 +13,7 @@ returns-in-Granted-clause-value c =
     let v = pass_view c.in-Some.pass in
     let w = pass_view c.poll.new.pass in
     let arrives = granted-arrives v _ w c.take-2.result _ _ begins called polled in
-    rw (had, sym wait) (c.poll.ensures.belongs, c.poll.ensures.ready, arrives)
+    rw (had, sym wait) ((c.poll.ensures.belongs, c.poll.ensures.ready), arrives)
 
 pub returns-in-Pending-clause-same : goal.returns-in-Pending-clause-same
 returns-in-Pending-clause-same c =
@@ -27,8 +27,8 @@ returns-in-Pending-clause-same c =
     let pends = pending-pends v _ w c.take-2.result _ c.in-Pending.wait begins called polled in
     rw (c.yield_now-in-Pending.ensures.pending, had, sym wait)
     (λ out gives.
-    let arrives = arrives-still _ _ (pass_view out.pass) c.take-2.result c.in-Pending.wait out.got pends gives.2 in
-    (gives.0, gives.1, arrives))
+    let arrives = arrives-still _ _ (pass_view out.pass) c.take-2.result c.in-Pending.wait out.got pends gives.1 in
+    (gives.0, arrives))
 
 pub returns-in-Pending-clause-pending : goal.returns-in-Pending-clause-pending
 returns-in-Pending-clause-pending c =

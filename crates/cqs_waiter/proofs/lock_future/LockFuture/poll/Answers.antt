@@ -11,7 +11,7 @@ returns-in-Granted-clause-value g c =
     let polled = rw c.in-Granted.is at c.poll.ensures.polled in
     let holds = rw c.in-Granted.is at c.poll.ensures.holds in
     let arrives = granted-lock _ _ _ _ _ _ begins polled holds in
-    rw (had, sym wait) (c.poll.ensures.belongs, c.poll.ensures.ready, arrives)
+    rw (had, sym wait) ((c.poll.ensures.belongs, c.poll.ensures.ready), arrives)
 
 pub returns-in-Pending-clause-same : goal.returns-in-Pending-clause-same
 returns-in-Pending-clause-same g c =
@@ -21,7 +21,7 @@ returns-in-Pending-clause-same g c =
     let polled = rw c.in-Pending.is at c.poll.ensures.polled in
     let pends = pending-lock _ _ _ _ _ c.in-Pending.wait begins polled in
     rw (c.yield_now-in-Pending.ensures.pending, had, sym wait)
-    (λ out gives. (gives.0, gives.1, lock-still _ _ (pass_view out.pass) _ _ out.got pends gives.2))
+    (λ out gives. (gives.0, lock-still _ _ (pass_view out.pass) _ _ out.got pends gives.1))
 
 pub returns-in-Pending-clause-pending : goal.returns-in-Pending-clause-pending
 returns-in-Pending-clause-pending g c =

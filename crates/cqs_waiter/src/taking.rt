@@ -1,0 +1,42 @@
+//! A call that comes back with an item of a pool.
+
+ghost use Rattle.std.specs.Prelude.{None};
+ghost use Rattle.cqs_rule.specs.Passes.{pass_view};
+ghost use Rattle.cqs_pool.specs.Calls.{IsReady};
+ghost use Rattle.cqs_value_pool.specs.Pools.{Belongs};
+ghost use Rattle.cqs_waiter.specs.TakeFutures.{HasItem};
+ghost use Rattle.cqs_waiter.specs.Takes.{ItemArrives};
+
+use cqs_rule::AcquireError;
+use cqs_value_pool::{Item, ItemPolled, ItemTaking, ValuePass, ValuePool};
+use std::sync::Wait;
+
+/// Takes, and where a wait came of that, sleeps until an item has come. The thread parks on the
+/// cell of its wait; whoever serves the wait wakes it. It is refused as `take` is, and then hasn't
+/// slept.
+pub fn take_wait<R: Wait, T: Send + Drop>(
+    rt: &R,
+    pool: &ValuePool<T>,
+    pass: &mut ValuePass<T>,
+) -> Result<Item<T>, AcquireError>
+    requires belongs { Belongs pool.now pass.old }
+    requires ready { IsReady (pass_view pass.old).facts }
+    ensures belongs { Belongs pool.now pass.new }
+    ensures ready { IsReady (pass_view pass.new).facts }
+    ensures arrives { ItemArrives (pass_view pass.old) None result (pass_view pass.new) }
+    ensures holds { HasItem result pass.new }
+{
+    let mut wait = match pool.take(pass) {
+        Ok(ItemTaking::Later(wait)) => wait,
+        Ok(ItemTaking::Took(item)) => return Ok(item),
+        Err(refused) => return Err(refused),
+    };
+    for _ in rt.forever() {
+        match pool.poll(pass, wait) {
+            ItemPolled::Granted(item) => return Ok(item),
+            ItemPolled::Pending(again) => wait = again,
+        }
+        pool.park_wait(rt, pass, &wait);
+    }
+    unreachable!()
+}

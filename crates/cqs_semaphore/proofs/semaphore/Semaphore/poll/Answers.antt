@@ -30,8 +30,8 @@ returns-in-Some-clause-called g c =
     let polled = c.look_for_grant.ensures.polled in
     let looks = rw (c.spend_wait-at.ensures.same, c.spend_wait-at.ensures.place) at polled.looks in
     call-rule_own _ _ (entry.LookGranted v.number k ∷ []) _
-    (granted-called k _ _ (granted k _ _ _ looks (rw c.in-Some.is at polled.grant).0)) (λ n. refl, tt) c.requires.belongs.live.own
-    c.look_for_grant.ensures.belongs.live.legal
+    (granted-called k _ _ (granted k _ _ _ looks (rw c.in-Some.is at polled.grant).0)) (λ n. refl, tt)
+    c.requires.belongs.live.own c.look_for_grant.ensures.belongs.live.legal
 
 pub returns-in-Some-clause-polled : goal.returns-in-Some-clause-polled
 returns-in-Some-clause-polled g c =
@@ -60,8 +60,8 @@ returns-in-None-clause-called g c =
     let looks = rw (c.spend_wait-at.ensures.same, c.spend_wait-at.ensures.place) at polled.looks in
     subst (λ p. CallRule v (entry.LookPending v.number k ∷ []) [] (pass_view p)) (sym c.wait_of.ensures.same)
     (call-rule_own _ _ (entry.LookPending v.number k ∷ []) _
-    (pending-called k _ _ (pending k _ _ _ looks (rw c.in-None.is at polled.grant))) (λ n. refl, tt) c.requires.belongs.live.own
-    c.look_for_grant.ensures.belongs.live.legal)
+    (pending-called k _ _ (pending k _ _ _ looks (rw c.in-None.is at polled.grant))) (λ n. refl, tt)
+    c.requires.belongs.live.own c.look_for_grant.ensures.belongs.live.legal)
 
 pub returns-in-None-clause-polled : goal.returns-in-None-clause-polled
 returns-in-None-clause-polled g c =

@@ -51,7 +51,7 @@ fn place_of(turn: u64, turns: u64) -> u64 {
 
 /// A name as text of an SVG: what has a meaning there is written by its number, and what can't be
 /// written at all as a question mark.
-fn escaped(alloc: Global, name: &str) -> anyhow::Result<String> {
+fn escape(alloc: Global, name: &str) -> anyhow::Result<String> {
     let mut text = String::new(alloc);
     for sign in name.chars() {
         match sign {
@@ -228,7 +228,7 @@ fn draw_name<W: Write>(out: &mut W, alloc: Global, name: &str, top: u64) -> anyh
     writeln!(
         out,
         "<text x=\"{right}\" y=\"{bottom}\" text-anchor=\"end\">{}</text>",
-        escaped(alloc, name)?
+        escape(alloc, name)?
     )?;
     Ok(())
 }

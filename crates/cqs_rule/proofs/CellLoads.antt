@@ -39,7 +39,7 @@ use Rattle.cqs_rule.proofs.CellPlaces.{suspends-inside}
 use Rattle.cqs_rule.proofs.CellsStand.{CellAt, cell-at, one-number, place-low}
 use Rattle.cqs_rule.proofs.CellSteps.{WorksAt, works-at, works, since-last}
 use Rattle.cqs_rule.proofs.Lists.{length_without}
-use Rattle.cqs_rule.proofs.Looks.{looks-to, found-so, counted-at}
+use Rattle.cqs_rule.proofs.WordStays.{looks-to, found-so, counted-at}
 use Rattle.cqs_rule.proofs.Shelves.{keeps-all}
 use Rattle.cqs_rule.proofs.Worked.{loaded-same}
 

@@ -42,10 +42,10 @@ use Rattle.cqs_rule.specs.Ruled.{Ruled, Knows, Stands, HasRoom, IsSince, HasGone
 use Rattle.cqs_rule.specs.Saw.{IsLive}
 use Rattle.cqs_rule.specs.Views.{grown}
 use Rattle.cqs_rule.proofs.CellsStand.{CellAt, cell-at, set-cell, place-low}
-use Rattle.cqs_rule.proofs.Grow.{Turned}
+use Rattle.cqs_rule.proofs.Advance.{Turned}
 use Rattle.cqs_rule.proofs.Cells.{installed-drawn, idle-stands}
 use Rattle.cqs_rule.proofs.Lists.{length_without}
-use Rattle.cqs_rule.proofs.Looks.{looks-to, found-so}
+use Rattle.cqs_rule.proofs.WordStays.{looks-to, found-so}
 use Rattle.cqs_rule.proofs.Shelves.{keeps-all}
 use Rattle.cqs_rule.proofs.Others.{door-keeps}
 use Rattle.cqs_rule.proofs.Segments.{later-same}

@@ -23,7 +23,7 @@ use Rattle.cqs_rule.specs.declared.view.Has.{Has as OwnHas}
 use Rattle.cqs_rule.specs.Crew.{met_by}
 use Rattle.cqs_rule.proofs.Words.{this-word, client-below}
 use Rattle.cqs_rule.proofs.Lists.{set_there, one_there, set_all, total_set, one_of, two_of, has_append, has_left, has_right}
-use Rattle.cqs_rule.proofs.Grow.{rests-on, spent-set, is-inside}
+use Rattle.cqs_rule.proofs.Advance.{rests-on, spent-set, is-inside}
 use Rattle.cqs_rule.proofs.Shelves.{keeps-same, shelf-set, shelf-live, shelf-joined}
 use Rattle.cqs_rule.proofs.Tells.{inside-of}
 use Rattle.cqs_rule.proofs.CrewWords.{crew-met, off, only-left, counters-stay, cells-stay, idle-stay}

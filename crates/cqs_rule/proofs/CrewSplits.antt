@@ -27,7 +27,7 @@ use Rattle.cqs_rule.specs.declared.view.Has.{Has as OwnHas}
 use Rattle.cqs_rule.specs.Crew.{MayGive, tried_by}
 use Rattle.cqs_rule.proofs.Words.{this-word, client-below}
 use Rattle.cqs_rule.proofs.Lists.{set_there, one_there, set_all, total_set, total_last, two_of, has_append, has_left, has_right, at_end}
-use Rattle.cqs_rule.proofs.Grow.{rests-on, spent-set}
+use Rattle.cqs_rule.proofs.Advance.{rests-on, spent-set}
 use Rattle.cqs_rule.proofs.Shelves.{keeps-same, never-open, shelf-set, shelf-live, shelf-end}
 use Rattle.cqs_rule.proofs.CrewWords.{crew-of, crew-made, off, only-left, counters-stay, cells-stay, idle-stay}
 use Rattle.cqs_rule.proofs.CrewHeld.{handed-else, handed-from, handed-to, lessened-payload, keeps-less, live-lessened, live-before}

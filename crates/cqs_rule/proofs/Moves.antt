@@ -24,7 +24,7 @@ use Rattle.cqs_rule.specs.Ruled.{Ruled, Stands, IsSince, cell_count}
 use Rattle.cqs_rule.specs.Saw.{Saw, IsLive, WasFound}
 use Rattle.cqs_rule.specs.Views.{grown}
 use Rattle.cqs_rule.proofs.CellPlaces.{behind-client, client-inside}
-use Rattle.cqs_rule.proofs.Grow.{Turned}
+use Rattle.cqs_rule.proofs.Advance.{Turned}
 use Rattle.cqs_rule.proofs.Shelves.{never-open}
 use Rattle.cqs_rule.proofs.Lines.{line-flat}
 use Rattle.cqs_rule.proofs.Others.{others-moved, door-keeps}

@@ -19,7 +19,7 @@ use Rattle.cqs_core.specs.declared.outcomes.Outcome.TheVariants as outcome
 use Rattle.cqs_core.specs.SemaphoreTable.{Shape, step, lowest}
 use Rattle.cqs_core.specs.SemaphoreShown.{IsCore, free_of}
 use Rattle.cqs_core.proofs.StepKeeps.{row-core}
-use Rattle.cqs_core.proofs.Ground.{free-small}
+use Rattle.cqs_core.proofs.Bounds.{free-small}
 use Rattle.cqs_core.proofs.Places.{set-same}
 use Rattle.cqs_rule.specs.declared.view.Facts.{Facts}
 use Rattle.cqs_rule.specs.declared.view.Has.{Has}

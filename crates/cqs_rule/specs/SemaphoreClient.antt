@@ -21,7 +21,7 @@ use Rattle.cqs_core.specs.SemaphoreShown.{IsCore, opened}
 use Rattle.cqs_core.specs.SemaphoreRuns.{handed}
 use Rattle.cqs_core.proofs.OpenedCore.{opened-core, hand_over-core}
 use Rattle.cqs_core.proofs.Places.{get-below, get-set_else, set-same}
-use Rattle.cqs_core.proofs.Ground.{reached-few, held-small}
+use Rattle.cqs_core.proofs.Bounds.{reached-few, held-small}
 use Rattle.cqs_core.proofs.FirstOfWay.{ending-within}
 use Rattle.cqs_rule.specs.declared.view.Has.{Has}
 use Rattle.cqs_rule.specs.Client.{IsClient, KeepsSlots, IsBegun, begun_by, no_number}

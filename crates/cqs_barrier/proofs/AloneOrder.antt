@@ -12,7 +12,7 @@ use Rattle.cqs_core.proofs.Rising.{in-take}
 use Rattle.cqs_core.proofs.Waits.{found-waits}
 use Rattle.cqs_barrier_object.specs.declared.entries.BarrierEntry.{BarrierEntry}
 use Rattle.cqs_barrier_object.specs.declared.entries.BarrierEntry.TheVariants as entry
-use Rattle.cqs_barrier_object.specs.BarrierEntries.{object_after, after_entry, delivered, IsLegal, IsAllowed}
+use Rattle.cqs_barrier_object.specs.BarrierEntries.{object_after, after_entry, after_delivery, IsLegal, IsAllowed}
 use Rattle.cqs_barrier_object.specs.BarrierObject.{Barrier, opening}
 use Rattle.cqs_barrier_object.specs.SoleCaller.{numbers_of}
 use Rattle.cqs_rule.specs.declared.view.Opening.{Opening}
@@ -82,7 +82,7 @@ module _ {T : Type 0} where
       let b = knows' (c.same.alone ∙ alone) in
       let o = plain_after v in
       let l = legal-alone v w (entry.Deliver k ∷ []) c legal alone in
-      let now : plain_after w ≡ delivered o k = l.object in
+      let now : plain_after w ≡ after_delivery o k = l.object in
       let may : IsAllowed o (entry.Deliver k) =
       allowed-at v.opening.size v.seen [] [] w.seen (entry.Deliver k) l.seen l.legal in
       let who = may.1.0 in

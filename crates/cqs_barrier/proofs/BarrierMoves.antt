@@ -16,7 +16,7 @@ use Rattle.cqs_barrier_object.proofs.Parties.{held-within}
 use Rattle.cqs_barrier_object.proofs.WordSteps.{arrival-keeps, last-keeps, withdrawal-keeps, stay-keeps}
 use Rattle.cqs_rule.specs.declared.view.Facts.{Facts}
 use Rattle.cqs_rule.specs.declared.view.Has.{Has}
-use Rattle.cqs_rule.specs.Events.{Moves, added, exchanged, in_any_case, where_found}
+use Rattle.cqs_rule.specs.Events.{Moves, word_plus, word_after_exchange, in_any_case, where_found}
 use Rattle.cqs_rule.specs.Facts.{is_owing}
 use Rattle.cqs_rule.specs.Hidden.{Hidden, stands_at}
 use Rattle.cqs_rule.specs.Lists.{NamesOnly}
@@ -96,8 +96,8 @@ module _ {T : Type 0} (parties p : ℕ) (facts : Facts) (c : Hidden) (words : Li
       (more ∙ ap (λ m. m + 1) (sym (held-is c.has p facts.has has)))
 
   -- the word after one was taken from it
-  lowered : n < 2 ^ 64 → 0 < n → slice_index (slice_set words 0 (added (negsuc 0) n)) 0 ≡ n - 1
-  lowered small some = written words (added (negsuc 0) n) (some-word words some) ∙ omega arith
+  lowered : n < 2 ^ 64 → 0 < n → slice_index (slice_set words 0 (word_plus (negsuc 0) n)) 0 ≡ n - 1
+  lowered small some = written words (word_plus (negsuc 0) n) (some-word words some) ∙ omega arith
 
   -- what the pass has, but for what it holds and owes
   abbrev having : ℕ → ℕ → ℕ → Has
@@ -112,7 +112,7 @@ module _ {T : Type 0} (parties p : ℕ) (facts : Facts) (c : Hidden) (words : Li
   abbrev ArrivesTo : Bool → Type 0
   ArrivesTo b = Leaves (log ++ (if b then entry.ArriveLast p ∷ [] else entry.ArriveDoor p ∷ []))
       (if b then doing.Idle else doing.Door)
-      (having (facts.has.held - 1) 0 (if b then parties_in n - 1 else facts.has.further)) (added (negsuc 0) n)
+      (having (facts.has.held - 1) 0 (if b then parties_in n - 1 else facts.has.further)) (word_plus (negsuc 0) n)
 
   pub arrive-shown : facts.doing ≡ doing.Idle → 0 < facts.has.held → n < 2 ^ 64 → ArrivesTo (is_last n)
   arrive-shown idle holds small =
@@ -123,23 +123,23 @@ module _ {T : Type 0} (parties p : ℕ) (facts : Facts) (c : Hidden) (words : Li
       let some : 0 < remaining_in n = omega arith in
       let may : MayArrive s p = record { idle = is-at doing.Idle idle; holds = omega arith } in
       let low = lowered small (omega arith) in
-      let left : remaining_in (slice_index (slice_set words 0 (added (negsuc 0) n)) 0) ≡ remaining_in n - 1 =
+      let left : remaining_in (slice_index (slice_set words 0 (word_plus (negsuc 0) n)) 0) ≡ remaining_in n - 1 =
       ap remaining_in low ∙ omega arith in
-      let all : parties_in (slice_index (slice_set words 0 (added (negsuc 0) n)) 0) ≡ parties =
+      let all : parties_in (slice_index (slice_set words 0 (word_plus (negsuc 0) n)) 0) ≡ parties =
       ap parties_in low ∙ omega arith in
       ⊎_elim
       (λ (one : remaining_in n ≡ 1).
       let h : Has = having (facts.has.held - 1) 0 (parties_in n - 1) in
       subst ArrivesTo (sym (eq-eqb (remaining_in n) 1 one))
       (by-law (log ++ entry.ArriveLast p ∷ []) 0 _ (set (further_of c.has) p (parties - 1)) c.queue.doing doing.Idle h
-      (added (negsuc 0) n) (last-keeps s p shown.barrier may one) (omega arith) all
+      (word_plus (negsuc 0) n) (last-keeps s p shown.barrier may one) (omega arith) all
       (less-held h refl) (further-set c.has p h (parties - 1) (ap (λ m. m - 1) word))
       (same-doing doing.Idle idle)))
       (λ (other : remaining_in n ≢ 1).
       let h : Has = having (facts.has.held - 1) 0 facts.has.further in
       subst ArrivesTo (sym (ne_eqb (remaining_in n) 1 other))
       (by-law (log ++ entry.ArriveDoor p ∷ []) (remaining_in n - 1) _ (further_of c.has)
-      (set c.queue.doing p doing.Door) doing.Door h (added (negsuc 0) n)
+      (set c.queue.doing p doing.Door) doing.Door h (word_plus (negsuc 0) n)
       (arrival-keeps s p shown.barrier may (omega arith)) (sym left) all
       (less-held h refl) (further-kept c.has p facts.has h has refl) refl))
       (cases_eq (remaining_in n) 1)
@@ -225,7 +225,7 @@ some-entry false e f q = cc
 -- an idle pass that may draw and has a party may have it arrive
 pub arrive-moves : {T : Type 0} (parties p : ℕ) (facts : Facts) → facts.doing ≡ doing.Idle → facts.may_draw ≡ true
     → 0 < facts.has.held
-    → Moves barrier_object (barrier_primitive {T = T} parties) arrives in_any_case p facts 0 (added (negsuc 0))
+    → Moves barrier_object (barrier_primitive {T = T} parties) arrives in_any_case p facts 0 (word_plus (negsuc 0))
 arrive-moves parties p facts idle may holds = record {
   step = λ c words log handed shown does has short small.
       arrive-shown parties p facts c words log handed shown does has idle holds small;
@@ -268,7 +268,7 @@ pub withdraw-moves : {T : Type 0} (parties p : ℕ) (facts : Facts) (saw k : ℕ
     → facts.doing ≡ doing.Leaving k
     → 0 < remaining_in saw
     → Moves barrier_object (barrier_primitive {T = T} parties) withdraws (where_found saw) p facts 0
-    (exchanged saw (saw + 1))
+    (word_after_exchange saw (saw + 1))
 withdraw-moves parties p facts saw k few at some = record {
   step = λ c words log handed shown does has short small.
       withdraw-shown parties p facts c words log handed shown does has saw k few at some;

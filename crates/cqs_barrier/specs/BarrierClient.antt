@@ -14,13 +14,13 @@ use Rattle.cqs_barrier_object.specs.declared.entries.BarrierEntry.{BarrierEntry}
 use Rattle.cqs_barrier_object.specs.BarrierNames.{entry_names}
 use Rattle.cqs_barrier_object.specs.BarrierShown.{Shape, IsBarrier}
 use Rattle.cqs_barrier_object.specs.BarrierSteps as object
-use Rattle.cqs_barrier_object.specs.BarrierSteps.{IsBarrierStep, step_entries, stepped, owed_paid, cost_of, handed, opened}
+use Rattle.cqs_barrier_object.specs.BarrierSteps.{IsBarrierStep, step_entries, after_step, owed_paid, cost_of, held_after_share, first_shape}
 use Rattle.cqs_barrier_object.proofs.Fits.{barrier-reaches_few, barrier-begins_few, barrier-held_few}
 use Rattle.cqs_barrier_object.proofs.Steps.{step-keeps}
 use Rattle.cqs_barrier_object.proofs.WordSteps.{barrier-opens, handover-keeps}
 use Rattle.cqs_rule.specs.declared.view.Has.{Has}
 use Rattle.cqs_rule.specs.Client.{IsClient, IsBegun, IsPaid, IsPayload, begun_by}
-use Rattle.cqs_rule.specs.Hidden.{Hidden, happened, has_after, has_gained, has_paid, gathered, emptied, hands_over}
+use Rattle.cqs_rule.specs.Hidden.{Hidden, happened, has_after, has_gained, has_paid, has_both, has_none, hands_over}
 use Rattle.cqs_rule.specs.Lists.{NamesOnly}
 use Rattle.cqs_rule.specs.Manner.{Suits}
 use Rattle.cqs_rule.specs.Opened.{first_hidden, four}
@@ -192,7 +192,7 @@ steps-barrier : {T : Type 0} (parties : ℕ) (c : Hidden) (t : QueueStep) (p k :
     (log ++ step_entries t p k) handed
 steps-barrier parties c t p k found has payload words log handed shown opens there paid suits =
     let s = barrier_shown parties c words log in
-    let after : Shape = stepped s t p k found in
+    let after : Shape = after_step s t p k found in
     record {
       word = shown.word;
       barrier =
@@ -236,7 +236,7 @@ begins-barrier parties passes some few any =
     record {
       word = parties-of parties few;
       barrier =
-          subst (λ (z : ℕ × List ℕ × List ℕ). IsBarrier (record (opened parties passes) {
+          subst (λ (z : ℕ × List ℕ × List ℕ). IsBarrier (record (first_shape parties passes) {
             remaining = z.0;
             held = z.1;
             owed = z.2;
@@ -267,7 +267,8 @@ given-parties parties c from to many mine theirs gave got words log log_handed s
     let lies : slice_index rest to ≡ theirs.held =
     get_or_from_slice_get rest to theirs.held 0
     (get-set_else held from to (slice_index held from - many) apart ∙ to_has) in
-    let is : handed held from to many ≡ held_of (slice_set (slice_set c.has from gave) to got) =
+    let is : held_after_share held from to many
+    ≡ held_of (slice_set (slice_set c.has from gave) to got) =
     (λ i. slice_set (slice_set held from (holds i - many)) to (lies i + many))
     ∙ (ap (λ l. set l to (theirs.held + many)) (held-set c.has from gave (mine.held - many) left)
     ∙ held-set (slice_set c.has from gave) to got (theirs.held + many) more) in
@@ -300,7 +301,7 @@ barrier-client parties some low = record {
       steps-barrier parties c t p k found has payload words log handed shown opens there paid suits;
   counts = λ c p may words log handed shown. record { word = shown.word; barrier = shown.barrier };
   hands = λ c from to mine theirs words log handed shown apart idle idle' has there.
-      given-parties parties c from to mine.held mine theirs (emptied mine) (gathered theirs mine)
+      given-parties parties c from to mine.held mine theirs (has_none mine) (has_both theirs mine)
       words log handed shown apart idle idle' has there (omega arith) (omega arith) refl refl refl;
   shares = λ c from to many mine theirs words log handed shown apart idle idle' has there enough.
       given-parties parties c from to many mine theirs (record mine { held = mine.held - many })

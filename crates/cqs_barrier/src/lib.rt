@@ -7,6 +7,7 @@ mod barrier;
 mod client;
 mod events;
 mod leaving;
+mod parking;
 mod polling;
 mod resuming;
 mod seats;

@@ -12,9 +12,7 @@ ghost use Rattle.cqs_barrier.specs.Waits.{wait_in};
 use crate::answers::{PartyPolled, PartyWait};
 use crate::barrier::{Barrier, BarrierPass};
 use crate::client::BarrierClient;
-use cqs_cell::look;
-use cqs_rule::Polls;
-use cqs_words::CellState;
+use cqs_cell::look_for_grant;
 
 impl Barrier {
     /// Looks whether the party goes through: one load.
@@ -33,13 +31,11 @@ impl Barrier {
     {
         let PartyWait { wait } = wait;
         let at = self.queue.spend_wait(pass, wait);
-        let cell = look::<BarrierClient, Polls>(&self.queue, pass, at);
-        match cell.state {
-            CellState::Resumed => PartyPolled::Through,
-            CellState::Waiter => PartyPolled::Pending(PartyWait {
+        match look_for_grant(&self.queue, pass, at) {
+            Some(_) => PartyPolled::Through,
+            None => PartyPolled::Pending(PartyWait {
                 wait: self.queue.wait_of(pass, at),
             }),
-            _ => unreachable!(),
         }
     }
 }

@@ -11,7 +11,7 @@ ghost use Rattle.cqs_barrier.specs.Word.{remaining_in};
 
 use crate::client::BarrierClient;
 use crate::events::{Arrive, LookToLeave, Withdraw};
-use crate::word::raised;
+use crate::word::one_more;
 use cqs_rule::{Pass, Queue};
 
 // The client's word in which the remaining number stands.
@@ -63,5 +63,5 @@ pub fn withdraw_once(
         (pass_view pass.new) }
 {
     let _wait = wait;
-    queue.swap_word::<Withdraw>(pass, REMAINING, saw, raised(saw))
+    queue.swap_word::<Withdraw>(pass, REMAINING, saw, one_more(saw))
 }

@@ -27,7 +27,7 @@ pub(crate) fn parties(word: u64) -> u32
 }
 
 /// The word of the same barrier, where one party more is still to arrive.
-pub(crate) fn raised(word: u64) -> u64
+pub(crate) fn one_more(word: u64) -> u64
     requires fits { word + 1 < 2 ^ 64 }
     ensures { result ≡ word + 1 }
 {

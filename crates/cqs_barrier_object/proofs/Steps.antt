@@ -6,7 +6,7 @@ use Rattle.cqs_core.specs.QueueSteps.{pends, grants, late, draws, enters, reache
 use Rattle.cqs_core.proofs.QueueStepMoves.{leads}
 use Rattle.cqs_barrier_object.specs.declared.entries.BarrierEntry.{BarrierEntry}
 use Rattle.cqs_barrier_object.specs.BarrierShown.{Shape, IsBarrier}
-use Rattle.cqs_barrier_object.specs.BarrierSteps.{EveryStepKeepsTheBarrier, NothingIsLeftToAWithdrawer, stepped}
+use Rattle.cqs_barrier_object.specs.BarrierSteps.{EveryStepKeepsTheBarrier, NothingIsLeftToAWithdrawer, after_step}
 use Rattle.cqs_barrier_object.proofs.QueueMoves.{barrier-install, barrier-leave_value, barrier-delegate, barrier-pass_over, barrier-meet_refused, barrier-begin_cancel, barrier-cancel, barrier-refuse, barrier-refuse_left, barrier-no_value, barrier-serve, barrier-take_value, barrier-draw, barrier-reach, barrier-begin, barrier-granted, barrier-late, barrier-pending}
 
 -- the same barrier, with its history and its queue written so
@@ -25,14 +25,14 @@ pub step-keeps : EveryStepKeepsTheBarrier
 step-keeps s draws p k found is may w paid =
     let here : slice_get s.queue.cells s.queue.suspends ≡ found =
     ap (slice_get s.queue.cells) (sym w.1) ∙ w.2 in
-    subst (λ j. IsBarrier (stepped s draws p j found)) (sym w.1) (barrier-draw s p k is found w.0 here)
+    subst (λ j. IsBarrier (after_step s draws p j found)) (sym w.1) (barrier-draw s p k is found w.0 here)
 step-keeps s reaches p k found is may w paid =
     let here : slice_get s.queue.cells s.queue.resumes ≡ found = ap (slice_get s.queue.cells) (sym w.1) ∙ w.2 in
-    subst (λ j. IsBarrier (stepped s reaches p j found)) (sym w.1)
+    subst (λ j. IsBarrier (after_step s reaches p j found)) (sym w.1)
     (quiet _ _ refl (barrier-reach s p k is found w.0 here))
 step-keeps s begins p k found is may w paid =
     let here : slice_get s.queue.cells s.queue.resumes ≡ found = ap (slice_get s.queue.cells) (sym w.1) ∙ w.2 in
-    subst (λ j. IsBarrier (stepped s begins p j found)) (sym w.1)
+    subst (λ j. IsBarrier (after_step s begins p j found)) (sym w.1)
     (quiet _ _ refl (barrier-begin s p k is found w.0 paid here))
 step-keeps s installs p k (Some found) is may w paid =
     quiet _ _ refl (barrier-install s p k is found w.0)

@@ -13,7 +13,7 @@ use Rattle.cqs_core.proofs.LineMoves.{turn-door, decide-leaves}
 use Rattle.cqs_core.proofs.QueueOpens.{get-replicate, sum-replicate, opened-sound, opened-waiters, opened-due, opened-going, opened-ending}
 use Rattle.cqs_core.proofs.Sound.{sound-moved}
 use Rattle.cqs_barrier_object.specs.declared.entries.BarrierEntry.TheVariants as entry
-use Rattle.cqs_barrier_object.specs.BarrierSteps.{EveryArrivalKeepsTheBarrier, TheLastArrivalKeepsTheBarrier, EveryWithdrawalKeepsTheBarrier, EveryStayKeepsTheBarrier, EveryHandoverKeepsTheBarrier, EveryBarrierOpens, handed}
+use Rattle.cqs_barrier_object.specs.BarrierSteps.{EveryArrivalKeepsTheBarrier, TheLastArrivalKeepsTheBarrier, EveryWithdrawalKeepsTheBarrier, EveryStayKeepsTheBarrier, EveryHandoverKeepsTheBarrier, EveryBarrierOpens, held_after_share}
 use Rattle.cqs_barrier_object.proofs.Frame.{same-barrier, barrier-step, push-barrier}
 use Rattle.cqs_barrier_object.proofs.Parties.{party-turn, party-held, held-there, owed-there, held-within, owed-within}
 use Rattle.cqs_barrier_object.proofs.Stayed.{stayed-turn, stayed-declines}
@@ -122,8 +122,8 @@ handover-keeps s p r many is does other enough =
     let less = sum_by-set (λ n. n) s.held p (get_or s.held p 0 - many) 0 (held-there s p doing.Idle is does) in
     let there = held-there s r doing.Idle is other in
     let more = sum_by-set (λ n. n) rest r (get_or rest r 0 + many) 0 (omega (arith, long)) in
-    barrier-step s s.remaining (handed s.held p r many) s.owed s.history s.queue is is.sound is.legal is.object
-    (length-set rest r (get_or rest r 0 + many) ∙ long) refl refl
+    barrier-step s s.remaining (held_after_share s.held p r many) s.owed s.history s.queue is is.sound is.legal
+    is.object (length-set rest r (get_or rest r 0 + many) ∙ long) refl refl
     (omega (arith, is.held)) is.before is.over
     (party-held rest s.queue.doing r doing.Idle (get_or rest r 0 + many) other tt
     (party-held s.held s.queue.doing p doing.Idle (get_or s.held p 0 - many) does tt is.party))

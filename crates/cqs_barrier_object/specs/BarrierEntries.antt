@@ -29,39 +29,39 @@ abbrev pub complete : Barrier → Barrier
 complete o = record o { remaining = 0; way = due_of o.waiters }
 
 -- c arrives and waits for those that are still to come
-abbrev pub arrived : Barrier → ℕ → Barrier
-arrived o c = record o { remaining = o.remaining - 1; waiters = comes o.waiters c }
+abbrev pub after_arrival : Barrier → ℕ → Barrier
+after_arrival o c = record o { remaining = o.remaining - 1; waiters = comes o.waiters c }
 
 -- a resumption on its way reaches wait k
-abbrev pub delivered : Barrier → ℕ → Barrier
-delivered o k = record o { way = o.way - 1; waiters = is_reached o.waiters k }
+abbrev pub after_delivery : Barrier → ℕ → Barrier
+after_delivery o k = record o { way = o.way - 1; waiters = is_reached o.waiters k }
 
 -- wait k leaves, and its party is still to arrive
-abbrev pub withdrawn : Barrier → ℕ → Barrier
-withdrawn o k = record o { remaining = o.remaining + 1; waiters = goes o.waiters k }
+abbrev pub after_withdrawal : Barrier → ℕ → Barrier
+after_withdrawal o k = record o { remaining = o.remaining + 1; waiters = goes o.waiters k }
 
 abbrev pub stays : List Waiting → ℕ → ℕ → List Waiting
 stays waits k c = placed (λ w. w.wait) (record { wait = k; pass = c }) waits
 
 -- wait k of c is over without its resumption, which goes nowhere
-abbrev pub stayed : Barrier → ℕ → ℕ → Barrier
-stayed o c k =
+abbrev pub after_stay : Barrier → ℕ → ℕ → Barrier
+after_stay o c k =
     record o { way = o.way - 1; waiters = goes o.waiters k; stayed = stays o.stayed k c }
 
 -- what came for wait k was looked at
-abbrev pub closed : Barrier → ℕ → Barrier
-closed o k = record o { waiters = closes o.waiters k }
+abbrev pub after_close : Barrier → ℕ → Barrier
+after_close o k = record o { waiters = closes o.waiters k }
 
 -- what an entry changes
 abbrev pub after_entry : Barrier → BarrierEntry → Barrier
 after_entry o (entry.ArriveLast c) = complete o
-after_entry o (entry.ArriveDoor c) = arrived o c
+after_entry o (entry.ArriveDoor c) = after_arrival o c
 after_entry o (entry.Enter c k) = record o { waiters = enters o.waiters c k }
-after_entry o (entry.Deliver k) = delivered o k
-after_entry o (entry.Withdraw c k) = withdrawn o k
-after_entry o (entry.Stay c k) = stayed o c k
-after_entry o (entry.Late c k) = closed o k
-after_entry o (entry.LookGranted c k) = closed o k
+after_entry o (entry.Deliver k) = after_delivery o k
+after_entry o (entry.Withdraw c k) = after_withdrawal o k
+after_entry o (entry.Stay c k) = after_stay o c k
+after_entry o (entry.Late c k) = after_close o k
+after_entry o (entry.LookGranted c k) = after_close o k
 after_entry o (entry.LookPending c k) = o
 
 -- the barrier after a history

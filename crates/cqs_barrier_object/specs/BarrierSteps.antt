@@ -84,8 +84,8 @@ cost_of (at_counter row) = row.cost
 cost_of (at_cell row) = no_cost
 
 -- the barrier after a step of the queue
-abbrev pub stepped : Shape → QueueStep → ℕ → ℕ → Option CoreCell → Shape
-stepped s step p k found = record {
+abbrev pub after_step : Shape → QueueStep → ℕ → ℕ → Option CoreCell → Shape
+after_step s step p k found = record {
   parties = s.parties;
   remaining = s.remaining;
   held = s.held;
@@ -100,7 +100,7 @@ EveryStepKeepsTheBarrier =
     (s : Shape) (step : QueueStep) (p k : ℕ) (found : Option CoreCell) → IsBarrier s
     → IsBarrierStep step
     → IsOpenStep s.queue step p k found → IsPaid (cost_of (row_of step)) s.owed p
-    → IsBarrier (stepped s step p k found)
+    → IsBarrier (after_step s step p k found)
 
 -- p has another number of parties
 abbrev pub holding : List ℕ → ℕ → ℕ → List ℕ
@@ -185,8 +185,8 @@ NothingIsLeftToAWithdrawer =
     → Works s.queue p (doing.Decided k true) k found state.Delegated → ⊥
 
 -- so many parties of one pass become another's
-abbrev pub handed : List ℕ → ℕ → ℕ → ℕ → List ℕ
-handed held from to many =
+abbrev pub held_after_share : List ℕ → ℕ → ℕ → ℕ → List ℕ
+held_after_share held from to many =
     let rest = holding held from (slice_index held from - many) in
     holding rest to (slice_index rest to + many)
 
@@ -195,11 +195,11 @@ EveryHandoverKeepsTheBarrier =
     (s : Shape) (from to many : ℕ) → IsBarrier s
     → slice_get s.queue.doing from ≡ Some doing.Idle → slice_get s.queue.doing to ≡ Some doing.Idle
     → many ≤ slice_index s.held from
-    → IsBarrier (record s { held = handed s.held from to many })
+    → IsBarrier (record s { held = held_after_share s.held from to many })
 
 -- a barrier as it opens: the first pass has all its parties
-abbrev pub opened : ℕ → ℕ → Shape
-opened parties passes = record {
+abbrev pub first_shape : ℕ → ℕ → Shape
+first_shape parties passes = record {
   parties = parties;
   remaining = parties;
   held = parties ∷ replicate (passes - 1) 0;
@@ -210,4 +210,4 @@ opened parties passes = record {
 
 abbrev pub EveryBarrierOpens : Type 0
 EveryBarrierOpens =
-    (parties passes : ℕ) → 0 < parties → 0 < passes → IsBarrier (opened parties passes)
+    (parties passes : ℕ) → 0 < parties → 0 < passes → IsBarrier (first_shape parties passes)

@@ -29,6 +29,18 @@ const USAGE: &str = "usage: cqs_bench toml | plan | run | cores | whole | fold <
 
 const BAD_COMMAND: u8 = 2;
 
+/// Prints the line of a part: its nanoseconds, and two numbers with their words.
+fn tell(
+    rt: &impl Print,
+    word: &str,
+    nanoseconds: u128,
+    numbers: [(&str, u64); 2],
+) -> anyhow::Result<()> {
+    let [(first, count), (second, other)] = numbers;
+    println!(rt; "{word} {nanoseconds} {first} {count} {second} {other}")?;
+    Ok(())
+}
+
 /// The parse of the document, and the freeing of what was parsed.
 fn time_parse(rt: &(impl Clock + Print + AllocGlobal), bytes: &[u8]) -> anyhow::Result<()> {
     let start = Instant::now(rt)?;
@@ -37,8 +49,8 @@ fn time_parse(rt: &(impl Clock + Print + AllocGlobal), bytes: &[u8]) -> anyhow::
         Err(_) => anyhow::bail!("the input is no TOML document"),
     };
     let nanoseconds = start.elapsed(rt)?.as_nanos();
-    println!(rt; "toml {nanoseconds} bytes {} keys {keys}", bytes.len())?;
-    Ok(())
+    let numbers = [("bytes", bytes.len() as u64), ("keys", keys as u64)];
+    tell(rt, "toml", nanoseconds, numbers)
 }
 
 /// The reading of the plan, from its bytes on, and the freeing of the plan.
@@ -49,8 +61,8 @@ fn time_reading(rt: &(impl Clock + Print + AllocGlobal), bytes: &[u8]) -> anyhow
         Err(_) => anyhow::bail!("the input is no plan"),
     };
     let nanoseconds = start.elapsed(rt)?.as_nanos();
-    println!(rt; "plan {nanoseconds} bytes {} jobs {jobs}", bytes.len())?;
-    Ok(())
+    let numbers = [("bytes", bytes.len() as u64), ("jobs", jobs as u64)];
+    tell(rt, "plan", nanoseconds, numbers)
 }
 
 /// A sum over a text, by which two reports are compared.
@@ -68,9 +80,8 @@ fn tell_report(
     text: &[u8],
 ) -> anyhow::Result<()> {
     let nanoseconds = start.elapsed(rt)?.as_nanos();
-    let sum = sum_of(text);
-    println!(rt; "{word} {nanoseconds} bytes {} sum {sum}", text.len())?;
-    Ok(())
+    let numbers = [("bytes", text.len() as u64), ("sum", sum_of(text))];
+    tell(rt, word, nanoseconds, numbers)
 }
 
 /// The run of a plan on a floor on which nothing has happened.
@@ -174,8 +185,8 @@ fn time_rounds(
         _ => free_rounds(&queue, &mut pass, count),
     }
     let nanoseconds = start.elapsed(rt)?.as_nanos();
-    println!(rt; "{word} {nanoseconds} rounds {count} held {}", pass.held())?;
-    Ok(())
+    let numbers = [("rounds", count), ("held", u64::from(pass.held()))];
+    tell(rt, word, nanoseconds, numbers)
 }
 
 fn usage(rt: &impl Print) -> io::Result<ExitCode> {

@@ -7,11 +7,9 @@ ghost use Rattle.cqs_rule.specs.Passes.{pass_view, limit_of, IsOf};
 ghost use Rattle.cqs_bench.specs.Waits.{KeepsWaits, HasItsWait};
 
 use cqs_cancel::{Left, cancel};
-use cqs_cell::look;
+use cqs_cell::look_for_grant;
 use cqs_resume::{Resumed, resume};
-use cqs_rule::{
-    Counts, Pass, Polls, Queue, SUSPENDS_WORD, SemClient, Wait, give_permit, take_permit,
-};
+use cqs_rule::{Counts, Pass, Queue, SUSPENDS_WORD, SemClient, Wait, give_permit, take_permit};
 use cqs_suspend::{Suspended, suspend};
 
 /// From this suspend counter on no number is drawn.
@@ -95,7 +93,7 @@ fn pair_round(queue: &Queue<SemClient>, pass: &mut Pass<SemClient>) -> bool
         return false;
     }
     let at = queue.spend_wait(pass, wait);
-    look::<SemClient, Polls>(queue, pass, at);
+    look_for_grant(queue, pass, at);
     true
 }
 

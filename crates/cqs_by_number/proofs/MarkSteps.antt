@@ -12,7 +12,7 @@ use Rattle.atomic_table.proofs.Lists.{exchanged, set_here, set_else, set_again, 
 use Rattle.cqs_rule.specs.declared.semaphore.carries.Unparked.{Unparked}
 use Rattle.cqs_semaphore.specs.declared.semaphore.Semaphore.{Semaphore}
 use Rattle.cqs_by_number.specs.declared.caller.Caller.{Caller}
-use Rattle.cqs_by_number.specs.Marks.{word_of, Suits, Table, Marks, Seated, sat, claimed}
+use Rattle.cqs_by_number.specs.Marks.{word_of, Suits, Table, Marks, Seated, StaysSeated, HasClaimed}
 
 abbrev Sem : Type 0
 Sem = Semaphore Unparked
@@ -61,7 +61,8 @@ after s t i m y views h low here same = record {
 abbrev Known : Sem → List Sem → Type 0
 Known s views = (j : ℕ) (v : Sem) → get_elem? views j ≡ some v → v ≡ s
 
-pub sits : (s : Sem) (slots : ℕ) → Enters (Marks s) slots 0 (λ n w. sat (step slots 0 0 0 none) (s, []) n (w, []))
+pub sits : (s : Sem) (slots : ℕ)
+    → Enters (Marks s) slots 0 (λ n w. StaysSeated (step slots 0 0 0 none) (s, []) n (w, []))
 sits s slots t h long fits = (
   s,
   record {
@@ -74,7 +75,7 @@ sits s slots t h long fits = (
 
 pub claims : (s : Sem) (slots id : ℕ) (me : Seated) (i from : ℕ) → i < slots → from ≢ 1
     → Allows (Marks s) slots id me (word_of i) (λ n. either (eqb n from) 1 n)
-    (claimed (step slots (word_of i) from 1 none) me)
+    (HasClaimed (step slots (word_of i) from 1 none) me)
 claims s slots id me i from below from-not t h long seen fits =
     let n : ℕ = slice_index t.words (word_of i) in
     let low : i < length t.homes = omega (arith, below, long) in
@@ -82,7 +83,7 @@ claims s slots id me i from below from-not t h long seen fits =
     exchanged n from 1
     (λ m. (w : Sem) × (a : Act (Option Caller)) × Valid t.homes me.1 a
     × Marks s (stepped t (word_of i) m id me.1 w a)
-    × claimed (step slots (word_of i) from 1 none) me n (w, carried_after me.1 a))
+    × HasClaimed (step slots (word_of i) from 1 none) me n (w, carried_after me.1 a))
     (λ hit.
     let found = h.homes i low (λ q. from-not (sym hit ∙ q)) in
     let suits : Suits me.0 from found.0 =

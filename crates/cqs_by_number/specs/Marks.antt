@@ -35,13 +35,13 @@ abbrev pub Seated : Type 0
 Seated = Me (Option Caller) (Semaphore Unparked)
 
 -- one who comes to the table knows of which semaphore it is
-abbrev pub sat : Step (Option Caller) → Seated → ℕ → Seated → Type 0
-sat st me n me' = me'.0 ≡ me.0
+abbrev pub StaysSeated : Step (Option Caller) → Seated → ℕ → Seated → Type 0
+StaysSeated st me n me' = me'.0 ≡ me.0
 
 -- Where the exchange was made, the caller has what lay in the slot, which suits the mark that was
 -- there; else it has nothing.
-abbrev pub claimed : Step (Option Caller) → Seated → ℕ → Seated → Type 0
-claimed st me n me' =
+abbrev pub HasClaimed : Step (Option Caller) → Seated → ℕ → Seated → Type 0
+HasClaimed st me n me' =
     (me'.0 ≡ me.0)
     × (n ≡ st.first → (i : ℕ) → st.word ≡ word_of i
     → (lying : Option Caller) × (me'.1 ≡ (i, lying) ∷ me.1) × Suits me.0 st.first lying)

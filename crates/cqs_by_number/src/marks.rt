@@ -1,6 +1,6 @@
 //! The table in which passes rest, and the steps on its marks.
 
-ghost use Rattle.cqs_by_number.specs.Marks.{Marks, sat, claimed};
+ghost use Rattle.cqs_by_number.specs.Marks.{Marks, StaysSeated, HasClaimed};
 
 use crate::caller::Caller;
 use atomic_table::{Play, Seat, Table, TableRule};
@@ -42,14 +42,14 @@ pub(crate) type Hand = Seat<Option<Caller>, Semaphore<Unparked>>;
 pub(crate) struct Sit;
 
 impl Play<Option<Caller>, Semaphore<Unparked>> for Sit {
-    ghost then = { sat };
+    ghost then = { StaysSeated };
 }
 
 /// It takes what lies in a slot, where the mark is the one that it expects.
 pub(crate) struct Claim;
 
 impl Play<Option<Caller>, Semaphore<Unparked>> for Claim {
-    ghost then = { claimed };
+    ghost then = { HasClaimed };
 }
 
 /// It lays something into the slot, under a mark that this suits.

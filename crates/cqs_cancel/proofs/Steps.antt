@@ -42,7 +42,7 @@ use Rattle.cqs_cell.specs.Looks.{LooksAt}
 use Rattle.cqs_cell.specs.Transitions.{facts_since, Made, MadeBy, HasMade, Missed, MissedBy, HasMissed, HasSettled}
 use Rattle.cqs_cancel.specs.declared.cancelling.Left.{Left}
 use Rattle.cqs_cancel.specs.declared.cancelling.Left.TheVariants.{Gone, GoneOwing, Late}
-use Rattle.cqs_cancel.specs.Cancels.{asks_at, facts_leaving, facts_tried, waiting, served, Settled, SettledBy, Settles, Leaves, Began, CameLate, HasLeft, HasCancelled}
+use Rattle.cqs_cancel.specs.Cancels.{asks_at, facts_leaving, facts_tried, waiting_glimpse, served_glimpse, Settled, SettledBy, Settles, Leaves, Began, CameLate, HasLeft, HasCancelled}
 
 -- a client that is asked by a step may be asked by a pass that is leaving
 pub may-ask : {E : Type 0} (asking : Asking E) (manner : Manner) (facts : Facts) (k : ℕ) → IsAsked asking
@@ -271,7 +271,7 @@ module _ {C E S : Type 0} (object : Object E) (primitive : C → Primitive E S) 
         word = m.word;
         cell = m.cell;
         was = let more = leaves-called [] u.facts asking k left u w t in
-            found-then (HasCell (waiting k)) _ u w m.was more.0 more.1;
+            found-then (HasCell (waiting_glimpse k)) _ u w m.was more.0 more.1;
         ends = leaves-after first (facts_leaving object.gains k m.word v.facts) asking k left v u w saw t;
       }
 
@@ -311,9 +311,9 @@ module _ {C E S : Type 0} (object : Object E) (primitive : C → Primitive E S) 
       absurd (none-after h.state l.looked.may (subst (λ x. rank x < rank h.state) was_served more)))
       (since.since (l.looked.number ∙ sym m.number)) in
       let payload_is : h.payload ≡ cell.payload = l.payload in
-      let is : h ≡ served k cell.payload =
+      let is : h ≡ served_glimpse k cell.payload =
       λ i. record { number = l.looked.number i; state = (same.0 ∙ was_served) i; payload = payload_is i } in
-      let first_is : g ≡ served k cell.payload =
+      let first_is : g ≡ served_glimpse k cell.payload =
       λ i. record { number = m.number i; state = was_served i; payload = (sym same.1 ∙ payload_is) i } in
       let word_is : m.word ≡ l.word =
       m.cell.word ∙ ((λ i. word_of (first_is i).number (first_is i).state (first_is i).payload)
@@ -325,7 +325,7 @@ module _ {C E S : Type 0} (object : Object E) (primitive : C → Primitive E S) 
       let facts_are : facts_looked object.gains (event_of cancels h.state) l.word h u.facts
       ≡ facts_after object.gains (row_of (looks late)) k l.word cell.payload before =
       (λ i. facts_looked object.gains (event_of cancels (is i).state) l.word (is i) (m.saw.facts_are i))
-      ∙ (λ i. facts_looked object.gains (Some (looks late)) l.word (served k cell.payload)
+      ∙ (λ i. facts_looked object.gains (Some (looks late)) l.word (served_glimpse k cell.payload)
       (facts_missed (word_is i) (first_is i) v.facts)) in
       let saw : Saw object u (facts_after object.gains (row_of (looks late)) k l.word cell.payload before) es w =
       subst (λ (z : Facts × List E). Saw object u z.0 z.1 w) (λ i. (facts_are i, entries_are i)) l.looked.saw in

@@ -23,7 +23,7 @@ use Rattle.cqs_rule.proofs.Places.{knows-saw, knows-at}
 use Rattle.cqs_cell.specs.Transitions.{facts_since, Made, MadeBy, HasMade, HasMissed, HasSettled}
 use Rattle.cqs_cancel.specs.declared.cancelling.Left.{Left}
 use Rattle.cqs_cancel.specs.declared.cancelling.Left.TheVariants.{Gone, GoneOwing}
-use Rattle.cqs_cancel.specs.Cancels.{facts_tried, waiting}
+use Rattle.cqs_cancel.specs.Cancels.{facts_tried, waiting_glimpse}
 use Rattle.cqs_cancel.specs.Unasked.{facts_left, Closed, ClosedBy, Closes, left_of, HasCancelledUnasked}
 use Rattle.cqs_cancel.proofs.Steps.{no-more, found-then, saw-more}
 
@@ -56,7 +56,7 @@ module _ {C E S : Type 0} (object : Object E) (primitive : C → Primitive E S) 
       record {
         word = l.word;
         waiter = l.cell;
-        was_waiting = found-then object primitive (HasCell (waiting k)) first u w l.was
+        was_waiting = found-then object primitive (HasCell (waiting_glimpse k)) first u w l.was
             (saw-more object primitive u w _ _ m.saw) m.saw.same.opening;
         tried = m.found;
         few = omega arith;

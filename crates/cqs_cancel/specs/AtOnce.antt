@@ -12,16 +12,16 @@ use Rattle.cqs_rule.specs.Passes.{pass_view}
 use Rattle.cqs_rule.specs.Saw.{WasFound}
 use Rattle.cqs_cancel.specs.declared.at_once.AtOnce.{AtOnce}
 use Rattle.cqs_cancel.specs.declared.at_once.AtOnce.TheVariants.{Gone, Late}
-use Rattle.cqs_cancel.specs.Cancels.{waiting, CameLate}
+use Rattle.cqs_cancel.specs.Cancels.{waiting_glimpse, CameLate}
 
 module _ {C E S : Type 0} (object : Object E) (primitive : C → Primitive E S) where
   -- The cell of the number k was found with its waiter, by the only exchange, and the wait is over.
   pub record WentAtOnce (k : ℕ) (v w : View E S) : Type 0 where
     pub word : ℕ
-    pub cell : FoundCell word (waiting k)
+    pub cell : FoundCell word (waiting_glimpse k)
     pub called : Called object v (object.entries leaves_at_once v.number k v.facts.has.payload)
         (object.entries leaves_at_once v.number k v.facts.has.payload) w
-    pub was : WasFound primitive (HasCell (waiting k))
+    pub was : WasFound primitive (HasCell (waiting_glimpse k))
         (object.entries leaves_at_once v.number k v.facts.has.payload) w
     pub facts_are : w.facts ≡ facts_after object.gains (row_of leaves_at_once) k word
         v.facts.has.payload v.facts

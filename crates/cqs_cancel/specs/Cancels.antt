@@ -35,11 +35,11 @@ abbrev pub facts_tried : List Sighting → Facts → Facts
 facts_tried tried f = record f { found = f.found ++ tried }
 
 -- the cell of the number k, with its waiter, and after it was served with this payload
-abbrev pub waiting : ℕ → Glimpse
-waiting k = record { number = k; state = state.Waiter; payload = 0 }
+abbrev pub waiting_glimpse : ℕ → Glimpse
+waiting_glimpse k = record { number = k; state = state.Waiter; payload = 0 }
 
-abbrev pub served : ℕ → ℕ → Glimpse
-served k payload = record { number = k; state = state.Resumed; payload = payload }
+abbrev pub served_glimpse : ℕ → ℕ → Glimpse
+served_glimpse k payload = record { number = k; state = state.Resumed; payload = payload }
 
 -- where a pass at these facts asks, and finds the client's word to be this
 abbrev pub asks_at : {E S : Type 0} → View E S → Facts → ℕ → Moment
@@ -106,8 +106,8 @@ module _ {C E S : Type 0} (object : Object E) (primitive : C → Primitive E S) 
   pub record Began (asking : Asking E) (k : ℕ) (v : View E S) (left : Left) (w : View E S)
       : Type 0 where
     pub word : ℕ
-    pub cell : FoundCell word (waiting k)
-    pub was : WasSo primitive (HasCell (waiting k)) w
+    pub cell : FoundCell word (waiting_glimpse k)
+    pub was : WasSo primitive (HasCell (waiting_glimpse k)) w
     pub ends : Leaves (object.entries starts_leaving v.number k v.facts.has.payload)
         (facts_leaving object.gains k word v.facts) asking k v left w
 
@@ -115,10 +115,10 @@ module _ {C E S : Type 0} (object : Object E) (primitive : C → Primitive E S) 
   -- for.
   pub record CameLate (k payload : ℕ) (v w : View E S) : Type 0 where
     pub word : ℕ
-    pub cell : FoundCell word (served k payload)
+    pub cell : FoundCell word (served_glimpse k payload)
     pub called : Called object v (object.entries (looks late) v.number k payload)
         (object.entries (looks late) v.number k payload) w
-    pub was : WasFound primitive (HasCell (served k payload))
+    pub was : WasFound primitive (HasCell (served_glimpse k payload))
         (object.entries (looks late) v.number k payload) w
     pub facts_are : w.facts ≡ facts_after object.gains (row_of (looks late)) k word payload
         (facts_tried (Cell k word ∷ []) v.facts)

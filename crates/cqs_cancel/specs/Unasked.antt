@@ -17,7 +17,7 @@ use Rattle.cqs_rule.specs.Passes.{pass_view}
 use Rattle.cqs_rule.specs.Saw.{WasFound, WasSo}
 use Rattle.cqs_cancel.specs.declared.cancelling.Left.{Left}
 use Rattle.cqs_cancel.specs.declared.cancelling.Left.TheVariants.{Gone, GoneOwing, Late}
-use Rattle.cqs_cancel.specs.Cancels.{facts_tried, waiting, CameLate}
+use Rattle.cqs_cancel.specs.Cancels.{facts_tried, waiting_glimpse, CameLate}
 
 -- a pass at these facts that has left the wait k, whose cell's word this was
 abbrev pub facts_left : Gains → ℕ → ℕ → Facts → Facts
@@ -36,8 +36,8 @@ module _ {C E S : Type 0} (object : Object E) (primitive : C → Primitive E S) 
   -- where they lead.
   pub record Closed (s : QueueStep) (row : CellRow) (k payload : ℕ) (v w : View E S) : Type 0 where
     pub word : ℕ
-    pub waiter : FoundCell word (waiting k)
-    pub was_waiting : WasSo primitive (HasCell (waiting k)) w
+    pub waiter : FoundCell word (waiting_glimpse k)
+    pub was_waiting : WasSo primitive (HasCell (waiting_glimpse k)) w
     pub tried : List Sighting
     pub few : length tried ≤ 1
     pub found : ℕ

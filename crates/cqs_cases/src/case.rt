@@ -48,9 +48,9 @@ impl Case {
         most: usize,
     ) -> anyhow::Result<bool> {
         anyhow::ensure!(self.chunk > 0, "no bytes at a time");
-        let mut input = filled(alloc, &self.input, value)?;
+        let mut input = with_value(alloc, &self.input, value)?;
         input.truncate(self.first);
-        let mut text = filled(alloc, &self.text, value)?;
+        let mut text = with_value(alloc, &self.text, value)?;
         text.truncate(most);
         let Ok(mut source) = BytesSource::new(alloc, &input, self.chunk, &[self.read]) else {
             anyhow::bail!("no memory for the source");
@@ -80,7 +80,7 @@ fn is_same_on_both(alloc: Global, bytes: &[u8], text: &[u8]) -> bool {
 }
 
 /// The bytes with the value in the place of each `@`.
-pub fn filled(alloc: Global, bytes: &[u8], value: &[u8]) -> Result<Vec<u8>, AllocError> {
+pub fn with_value(alloc: Global, bytes: &[u8], value: &[u8]) -> Result<Vec<u8>, AllocError> {
     let mut filled = Vec::new(alloc);
     for byte in bytes {
         if *byte == b'@' {

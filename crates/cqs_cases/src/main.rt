@@ -68,7 +68,7 @@ fn run_table<R: Files + Print + AllocGlobal>(rt: &R, name: &str) -> anyhow::Resu
     println!(rt;
         "{name}: {} cases, {} failed",
         table.cases(),
-        table.failed()
+        table.failures()
     )?;
     Ok(())
 }

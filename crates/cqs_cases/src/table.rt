@@ -1,6 +1,6 @@
 //! A file of cases, read line by line.
 
-use crate::case::{Case, filled};
+use crate::case::{Case, with_value};
 use std::alloc::{AllocError, Global};
 
 /// What the lines belong to that tell nothing to do.
@@ -47,7 +47,7 @@ impl Table {
     }
 
     /// How many of them didn't end as they should.
-    pub fn failed(&self) -> u64 {
+    pub fn failures(&self) -> u64 {
         self.failed
     }
 
@@ -115,7 +115,7 @@ impl Table {
                 self.values = vec![in self.alloc; byte]?;
             }
             "first" => self.case.first = rest.parse::<usize>()?,
-            "words" => self.case.words = quoted(self.alloc, rest)?,
+            "words" => self.case.words = words_in(self.alloc, rest)?,
             "chunk" => self.case.chunk = rest.parse::<u32>()?,
             "room" => self.case.room = rest.parse::<u32>()?,
             "read" => self.case.read = rest.parse::<u32>()?,
@@ -146,7 +146,7 @@ impl Table {
                 from.saturating_sub(step)
             };
             let number = format!(in self.alloc; "{number}")?;
-            let text = filled(self.alloc, &text, number.as_bytes())?;
+            let text = with_value(self.alloc, &text, number.as_bytes())?;
             self.case.input.extend_from_slice(&text)?;
         }
         Ok(())
@@ -201,7 +201,7 @@ fn with_line_ends(alloc: Global, text: &str) -> Result<Vec<u8>, AllocError> {
 }
 
 /// The words that stand between quotation marks.
-fn quoted(alloc: Global, text: &str) -> Result<Vec<String>, AllocError> {
+fn words_in(alloc: Global, text: &str) -> Result<Vec<String>, AllocError> {
     let mut words = Vec::new(alloc);
     let mut is_quoted = false;
     for piece in text.split('"') {

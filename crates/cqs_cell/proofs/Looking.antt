@@ -1,14 +1,24 @@
--- A look answers the cell that it found.
-use Rattle.std.proofs.Common.{◌≡◌, ℕ, Some, None, sym, ap, ◌∙◌}
+-- A look answers the cell that it found, or what was left there for a wait that was served.
+use Rattle.std.proofs.Common.{◌≡◌, ◌⊎◌, ℕ, Option, Some, None, refl, sym, ap, ◌∙◌, subst, inl, inr, ⊎_elim}
+use Rattle.cqs_core.specs.declared.cells.CoreState.{CoreState}
+use Rattle.cqs_core.specs.declared.cells.CoreState.TheVariants as state
+use Rattle.cqs_core.specs.QueueStages as stage
+use Rattle.cqs_core.specs.QueueStages.{MayFind}
+use Rattle.cqs_words.specs.declared.cell.CellState.{CellState}
+use Rattle.cqs_words.specs.declared.cell.CellState.TheVariants as shown
 use Rattle.std.proofs.lemmas.Option.{same_Some}
 use Rattle.cqs_words.specs.declared.cell.CellWord.{CellWord}
-use Rattle.cqs_words.specs.Cell.{unpacked_cell}
+use Rattle.cqs_words.specs.Cell.{payload_in, unpacked_cell}
+use Rattle.cqs_rule.specs.declared.client.ClientWords.{Ghosts}
 use Rattle.cqs_rule.specs.declared.config.Place.{Place}
+use Rattle.cqs_rule.specs.declared.queue.Pass.{Pass}
 use Rattle.cqs_rule.specs.declared.view.View.{View}
 use Rattle.cqs_rule.specs.Loads.{LoadStep, counts, watches, polls, cancels, meets, misses, MayLook, MayLoad, Looked, Loaded}
 use Rattle.cqs_rule.specs.Object.{Object, Primitive}
 use Rattle.cqs_rule.specs.Placed.{KnowsPlace}
-use Rattle.cqs_cell.specs.Looks.{LooksAt}
+use Rattle.cqs_rule.specs.Ruled.{shown_state}
+use Rattle.cqs_cell.specs.Looks.{LooksAt, HasLookedAtWord, HasPolled, IsGrant}
+use Rattle.cqs_cell.specs.Transitions.{IsCellWord}
 use Rattle.cqs_cell.proofs.Made.{unpacks}
 
 module _ {C E S : Type 0} (object : Object E) (primitive : C → Primitive E S) where
@@ -52,3 +62,50 @@ may-load polls v at place may = (at.index, place, may)
 may-load cancels v at place may = (at.index, place, may)
 may-load meets v at place may = (at.index, place, may)
 may-load misses v at place may = (at.index, place, may)
+
+-- a wait that isn't closed stands in its cell, or was served there
+pub stands-or-served : (s : CoreState) → MayFind stage.idle s
+    → (shown_state s ≡ shown.Waiter) ⊎ (shown_state s ≡ shown.Resumed)
+stands-or-served state.Waiter may = inl refl
+stands-or-served state.Resumed may = inr refl
+stands-or-served state.Empty may = absurd may
+stands-or-served state.Value may = absurd may
+stands-or-served state.Taken may = absurd may
+stands-or-served state.Broken may = absurd may
+stands-or-served state.Cancelling may = absurd may
+stands-or-served state.Delegated may = absurd may
+stands-or-served state.Cancelled may = absurd may
+stands-or-served state.Refused may = absurd may
+
+-- so the one question, whether it was served, tells which of the two it is
+pub grant-in : (cell : CellWord) → (cell.state ≡ shown.Waiter) ⊎ (cell.state ≡ shown.Resumed)
+    → IsGrant (payload_in shown.Resumed (Some cell)) cell
+grant-in cell both =
+    let found : CellState → CellWord =
+    λ s. record { index = cell.index; state = s; payload = cell.payload } in
+    let Told : CellState → Type 0 = λ s. IsGrant (payload_in shown.Resumed (Some (found s))) (found s) in
+    let waiting : Told shown.Waiter = refl in
+    let resumed : Told shown.Resumed = (refl, refl) in
+    ⊎_elim (λ waits. subst Told (sym waits) waiting) (λ served. subst Told (sym served) resumed) both
+
+module _ {C E S : Type 0} (object : Object E) (primitive : C → Primitive E S) where
+  pub granted : (k : ℕ) (v w : View E S) (cell : CellWord) → LooksAt object primitive polls k v cell w
+      → IsGrant (payload_in shown.Resumed (Some cell)) cell
+  granted k v w cell l =
+      grant-in cell (⊎_elim (λ waits. inl (sym l.state ∙ waits)) (λ served. inr (sym l.state ∙ served))
+      (stands-or-served l.looked.glimpse.state l.looked.may))
+
+module _ {C S E : Type 0} {g : Ghosts C S E} (k word : ℕ) (p p' : Pass C S E g) (cell : IsCellWord word)
+    (looks : HasLookedAtWord polls k word p p') where
+  polled-at : (found : Option CellWord) → unpacked_cell word ≡ found
+      → HasPolled k (payload_in shown.Resumed found) p p'
+  polled-at None is = absurd (cell is)
+  polled-at (Some cell) is = record {
+    cell = cell;
+    looks = looks cell is;
+    grant = granted g.object g.primitive k _ _ cell (looks cell is);
+  }
+
+  -- the word of the cell of a wait tells what its owner learned
+  pub polled : (found : Option ℕ) → found ≡ payload_in shown.Resumed (unpacked_cell word) → HasPolled k found p p'
+  polled found is = subst (λ f. HasPolled k f p p') (sym is) (polled-at _ refl)

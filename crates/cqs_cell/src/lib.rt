@@ -31,6 +31,6 @@ mod values;
 pub use at_once::leave_at_once;
 pub use cancelling::{begin_cancel, settle};
 pub use leaving::{leave_line, settle_left};
-pub use looks::look;
+pub use looks::{look, look_for_grant};
 pub use transitions::{delegate, install, leave_value, serve};
 pub use values::take_value;

@@ -1,14 +1,14 @@
 //! A look at a cell.
 
 ghost use Rattle.std.specs.Prelude.{◌≡◌};
-ghost use Rattle.cqs_cell.specs.Looks.{HasLookedAt, HasLookedAtWord};
+ghost use Rattle.cqs_cell.specs.Looks.{HasLookedAt, HasLookedAtWord, HasPolled};
 ghost use Rattle.cqs_cell.specs.Transitions.{IsCellWord};
-ghost use Rattle.cqs_rule.specs.Loads.{LoadSuits, MayLook};
+ghost use Rattle.cqs_rule.specs.Loads.{LoadSuits, MayLook, polls};
 ghost use Rattle.cqs_rule.specs.Passes.{pass_view, client_of, IsOf};
 ghost use Rattle.cqs_rule.specs.Placed.{KnowsPlace};
 
-use cqs_rule::{ClientWords, Load, Pass, Place, Queue};
-use cqs_words::CellWord;
+use cqs_rule::{ClientWords, Load, Pass, Place, Polls, Queue};
+use cqs_words::{CellState, CellWord};
 
 /// Loads the cell of a number, and answers it as it was found. By `L` the owner of a wait names
 /// what it wants to learn there: `Polls`, whether it was served, and `Cancels`, whether it is too
@@ -27,6 +27,24 @@ pub fn look<C: ClientWords, L: Load>(queue: &Queue<C>, pass: &mut Pass<C>, at: P
         Some(cell) => cell,
         None => unreachable!(),
     }
+}
+
+/// Looks by its owner whether a wait was served, and answers what was left in the cell then; where
+/// the wait goes on, nothing. It is the look by `Polls`, and asks the word that one question.
+#[inline]
+pub fn look_for_grant<C: ClientWords>(
+    queue: &Queue<C>,
+    pass: &mut Pass<C>,
+    at: Place,
+) -> Option<u32>
+    requires belongs { IsOf queue.now pass.old }
+    requires place { KnowsPlace (pass_view pass.old) at }
+    requires may { MayLook polls (pass_view pass.old) at.index }
+    ensures belongs { IsOf queue.now pass.new }
+    ensures polled { HasPolled at.index result pass.old pass.new }
+{
+    let word = load_cell::<C, Polls>(queue, pass, at);
+    CellWord::payload_in(word, CellState::Resumed)
 }
 
 // The load itself. It answers the word found.

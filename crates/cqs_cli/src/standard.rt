@@ -4,7 +4,7 @@
 //! answers a `Result`, which is a value: that a failure is told and counted, and that
 //! nothing else is, is proved.
 
-mod counted;
+mod counting;
 mod stdin_source;
 mod stdout_sink;
 

@@ -10,7 +10,7 @@ pub mod SoundReach
 pub mod Sound
 pub mod QueueStepMoves
 pub mod QueueUniform
-pub mod Exchange
+pub mod DoubleCounting
 pub mod CellReads
 pub mod Letters
 pub mod PickedPlaces
@@ -31,7 +31,7 @@ pub mod Balance
 pub mod Waits
 pub mod WaitsEnd
 pub mod Collected
-pub mod Ground
+pub mod Bounds
 pub mod Resumptions
 pub mod Keys
 pub mod Picked

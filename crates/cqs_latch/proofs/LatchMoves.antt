@@ -7,14 +7,14 @@ use Rattle.cqs_latch_object.specs.declared.entries.LatchEntry.TheVariants as ent
 use Rattle.cqs_latch_object.specs.LatchNames.{entry_names}
 use Rattle.cqs_latch_object.specs.LatchShown.{LatchShape, left_of, IsLatchCore}
 use Rattle.cqs_latch_object.specs.LatchWords as word
-use Rattle.cqs_latch_object.specs.LatchWords.{WordStep, IsOpenWord, word_entries, word_doing, count_after, word_after, done_after, owed_after, worded, is_used, is_last, loaded_entries, loaded_doing, counted_entry, counted_doing, come_entry, come_doing}
+use Rattle.cqs_latch_object.specs.LatchWords.{WordStep, IsOpenWord, word_entries, word_doing, count_after, word_after, done_after, owed_after, after_word_step, is_used, is_last, loaded_entries, loaded_doing, counted_entry, counted_doing, come_entry, come_doing}
 use Rattle.cqs_latch_object.proofs.LatchSteps.{word-core}
 use Rattle.cqs_latch_object.proofs.LatchBounds.{every-count-is-high, waiters-are-few, core-still_shut, core-leaver}
 use Rattle.cqs_rule.specs.declared.config.CancelMode.{CancelMode}
 use Rattle.cqs_rule.specs.declared.config.CancelMode.TheVariants.{Smart, Simple}
 use Rattle.cqs_rule.specs.declared.view.Facts.{Facts}
 use Rattle.cqs_rule.specs.declared.view.Has.{Has}
-use Rattle.cqs_rule.specs.Events.{Event, Moves, IsShort, added, in_any_case}
+use Rattle.cqs_rule.specs.Events.{Event, Moves, IsShort, word_plus, in_any_case}
 use Rattle.cqs_rule.specs.Facts.{is_owing}
 use Rattle.cqs_rule.specs.Hidden.{Hidden, stands_at}
 use Rattle.cqs_rule.specs.Lists.{NamesOnly}
@@ -43,7 +43,7 @@ module _ (mode : CancelMode) (size p : ℕ) (facts : Facts) (c : Hidden) (words 
       let few = shows.few_passes in
       record {
         core = subst (λ (z : ℤ × ℕ × Bool × List ℕ).
-            IsLatchCore (record (worded s w p) { count = z.0; word = z.1; done = z.2; owed = z.3 }))
+            IsLatchCore (record (after_word_step s w p) { count = z.0; word = z.1; done = z.2; owed = z.3 }))
             (λ i. (sym count i, sym waiters i, sym done i, owed i)) (word-core s w p shows.core may);
         two_words = long;
         few_passes = omega (arith, length-set c.queue.doing p (word_doing s w));
@@ -85,10 +85,10 @@ module _ (mode : CancelMode) (size p : ℕ) (facts : Facts) (c : Hidden) (words 
 
   count-shown : IsOpenWord s word.counts_down p → slice_index words 0 < 2 ^ 64
       → ShowsLatch mode size (stands_at c p (word_doing s word.counts_down) facts.has)
-      (slice_set words 0 (added (negsuc 0) (slice_index words 0))) (log ++ word_entries s word.counts_down p)
+      (slice_set words 0 (word_plus (negsuc 0) (slice_index words 0))) (log ++ word_entries s word.counts_down p)
   count-shown may small =
       let n = slice_index words 0 in
-      let x : ℕ = added (negsuc 0) n in
+      let x : ℕ = word_plus (negsuc 0) n in
       words-shown word.counts_down facts.has (slice_set words 0 x) may refl (long-set x 0)
       (ap count_in (first-set x) ∙ count-down n small (every-count-is-high s shows.core shows.few_passes))
       (ap waiters_in (first-else x)) (ap is_done (first-else x)) same-owed
@@ -103,10 +103,10 @@ module _ (mode : CancelMode) (size p : ℕ) (facts : Facts) (c : Hidden) (words 
 
   come-shown : IsOpenWord s word.comes p → IsShort c.queue → slice_index words 1 < 2 ^ 64
       → ShowsLatch mode size (stands_at c p (word_doing s word.comes) facts.has)
-      (slice_set words 1 (added (pos 1) (slice_index words 1))) (log ++ word_entries s word.comes p)
+      (slice_set words 1 (word_plus (pos 1) (slice_index words 1))) (log ++ word_entries s word.comes p)
   come-shown may short small =
       let n = slice_index words 1 in
-      let x : ℕ = added (pos 1) n in
+      let x : ℕ = word_plus (pos 1) n in
       let few = few-waiters short in
       let low : waiters_in n < 2 ^ 62 = omega arith in
       words-shown word.comes facts.has (slice_set words 1 x) may refl (long-set x 1)
@@ -115,10 +115,10 @@ module _ (mode : CancelMode) (size p : ℕ) (facts : Facts) (c : Hidden) (words 
 
   leave-shown : (k : ℕ) → IsOpenWord s (word.leaves k) p → slice_index words 1 < 2 ^ 64
       → ShowsLatch mode size (stands_at c p (word_doing s (word.leaves k)) facts.has)
-      (slice_set words 1 (added (negsuc 0) (slice_index words 1))) (log ++ word_entries s (word.leaves k) p)
+      (slice_set words 1 (word_plus (negsuc 0) (slice_index words 1))) (log ++ word_entries s (word.leaves k) p)
   leave-shown k may small =
       let n = slice_index words 1 in
-      let x : ℕ = added (negsuc 0) n in
+      let x : ℕ = word_plus (negsuc 0) n in
       let some : 0 < waiters_in n = core-leaver s p k shows.core may.0 may.1 in
       words-shown (word.leaves k) facts.has (slice_set words 1 x) may refl (long-set x 1)
       (ap count_in (second-else x)) (ap waiters_in (second-set x) ∙ less-waiters n small some)
@@ -206,7 +206,7 @@ module _ (T : Type 0) (mode : CancelMode) (size p : ℕ) (facts : Facts) where
 
   -- the steps of a pass that has loaded the count as above 0
   module _ (v : ℤ) (tries : facts.doing ≡ doing.TryAt v) where
-    pub count-moves : pos 0 <ℤ v → Owes counts_down 0 (added (negsuc 0))
+    pub count-moves : pos 0 <ℤ v → Owes counts_down 0 (word_plus (negsuc 0))
     count-moves above = record {
       step = λ c words log handed shows does has short small.
           count-shown mode size p facts c words log shows does has (v, does ∙ ap Some tries, above) small;
@@ -219,7 +219,7 @@ module _ (T : Type 0) (mode : CancelMode) (size p : ℕ) (facts : Facts) where
       fits = λ n low. low;
     }
 
-    pub come-moves : pos 0 <ℤ v → facts.may_draw ≡ true → Owes comes 1 (added (pos 1))
+    pub come-moves : pos 0 <ℤ v → facts.may_draw ≡ true → Owes comes 1 (word_plus (pos 1))
     come-moves above may = record {
       step = λ c words log handed shows does has short small.
           come-shown mode size p facts c words log shows does has (v, does ∙ ap Some tries, above) short small;
@@ -267,12 +267,12 @@ module _ (T : Type 0) (mode : CancelMode) (size p : ℕ) (facts : Facts) where
         not-tries q = cc
 
   pub leave-moves : (k : ℕ) → facts.doing ≡ doing.Leaving k → Asks (latch_manner mode).leaving
-      → Owes leaves 1 (added (negsuc 0))
+      → Owes leaves 1 (word_plus (negsuc 0))
   leave-moves k leaving asks = record {
     step = λ c words log handed shows does has short small.
         subst (λ j. ShowsLatch mode size
         (stands_at c p (doing.Decided j (not (is_done (slice_index words 1)))) facts.has)
-        (slice_set words 1 (added (negsuc 0) (slice_index words 1))) (log ++ entry.Leave p j ∷ []))
+        (slice_set words 1 (word_plus (negsuc 0) (slice_index words 1))) (log ++ entry.Leave p j ∷ []))
         (sym (ap number_at leaving))
         (leave-shown mode size p facts c words log shows does has k (smart mode asks, does ∙ ap Some leaving) small);
     silent = λ n m apart. rw (other p m apart) refl;

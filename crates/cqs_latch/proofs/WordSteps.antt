@@ -1,7 +1,7 @@
 -- What the steps on a latch's words do to the numbers that stand there.
 use Rattle.std.proofs.Common.{◌≡◌, ℕ, ◌+◌, ◌-◌, ◌^◌, ◌<◌, pos, negsuc, ◌≤ℤ◌, ◌<ℤ◌, ◌-ℤ◌, true, false, bit_or, sym, ap, ◌∙◌, arith}
 use Rattle.std.proofs.lemmas.Int.{ints}
-use Rattle.cqs_rule.specs.Events.{added}
+use Rattle.cqs_rule.specs.Events.{word_plus}
 use Rattle.cqs_words.specs.State.{count_in, is_above_zero}
 use Rattle.cqs_words.specs.Waiters.{waiters_word, waiters_in, is_done}
 use Rattle.cqs_words.proofs.WaitersLaws.{waiters_in-word, is_done-word, word-waiters_in, waiters_word-add, waiters_word-less, waiters_word-done}
@@ -18,39 +18,39 @@ less-count : (n m : ℕ) → n ≡ m + 1 → count_in m ≡ count_in n -ℤ pos 
 less-count n m is = omega (arith, ints)
 
 pub count-down : (n : ℕ) → n < 2 ^ 64 → negsuc 31 ≤ℤ count_in n
-    → count_in (added (negsuc 0) n) ≡ count_in n -ℤ pos 1
+    → count_in (word_plus (negsuc 0) n) ≡ count_in n -ℤ pos 1
 count-down n small high =
     let some : 0 < n = some-count n high in
-    less-count n (added (negsuc 0) n) (omega arith)
+    less-count n (word_plus (negsuc 0) n) (omega arith)
 
 -- one is added to waiters that are few
 more-word : (n : ℕ) → n < 2 ^ 64 → waiters_in n < 2 ^ 62
-    → added (pos 1) n ≡ waiters_word (waiters_in n + 1) (is_done n)
+    → word_plus (pos 1) n ≡ waiters_word (waiters_in n + 1) (is_done n)
 more-word n small few =
-    let plain : added (pos 1) n ≡ n + 1 = omega arith in
+    let plain : word_plus (pos 1) n ≡ n + 1 = omega arith in
     plain ∙ ap (λ m. m + 1) (sym (word-waiters_in n small)) ∙ waiters_word-add (waiters_in n) 1 (is_done n)
 
-pub more-waiters : (n : ℕ) → n < 2 ^ 64 → waiters_in n < 2 ^ 62 → waiters_in (added (pos 1) n) ≡ waiters_in n + 1
+pub more-waiters : (n : ℕ) → n < 2 ^ 64 → waiters_in n < 2 ^ 62 → waiters_in (word_plus (pos 1) n) ≡ waiters_in n + 1
 more-waiters n small few =
     ap waiters_in (more-word n small few) ∙ waiters_in-word (waiters_in n + 1) (is_done n) (omega arith)
 
-pub more-done : (n : ℕ) → n < 2 ^ 64 → waiters_in n < 2 ^ 62 → is_done (added (pos 1) n) ≡ is_done n
+pub more-done : (n : ℕ) → n < 2 ^ 64 → waiters_in n < 2 ^ 62 → is_done (word_plus (pos 1) n) ≡ is_done n
 more-done n small few =
     ap is_done (more-word n small few) ∙ is_done-word (waiters_in n + 1) (is_done n) (omega arith)
 
 -- one is taken from waiters of whom there is one
 less-word : (n : ℕ) → n < 2 ^ 64 → 0 < waiters_in n
-    → added (negsuc 0) n ≡ waiters_word (waiters_in n - 1) (is_done n)
+    → word_plus (negsuc 0) n ≡ waiters_word (waiters_in n - 1) (is_done n)
 less-word n small some =
-    let plain : added (negsuc 0) n ≡ n - 1 = omega arith in
+    let plain : word_plus (negsuc 0) n ≡ n - 1 = omega arith in
     plain ∙ ap (λ m. m - 1) (sym (word-waiters_in n small))
     ∙ waiters_word-less (waiters_in n) 1 (is_done n) (omega arith)
 
-pub less-waiters : (n : ℕ) → n < 2 ^ 64 → 0 < waiters_in n → waiters_in (added (negsuc 0) n) ≡ waiters_in n - 1
+pub less-waiters : (n : ℕ) → n < 2 ^ 64 → 0 < waiters_in n → waiters_in (word_plus (negsuc 0) n) ≡ waiters_in n - 1
 less-waiters n small some =
     ap waiters_in (less-word n small some) ∙ waiters_in-word (waiters_in n - 1) (is_done n) (omega arith)
 
-pub less-done : (n : ℕ) → n < 2 ^ 64 → 0 < waiters_in n → is_done (added (negsuc 0) n) ≡ is_done n
+pub less-done : (n : ℕ) → n < 2 ^ 64 → 0 < waiters_in n → is_done (word_plus (negsuc 0) n) ≡ is_done n
 less-done n small some =
     ap is_done (less-word n small some) ∙ is_done-word (waiters_in n - 1) (is_done n) (omega arith)
 

@@ -20,10 +20,10 @@ use Rattle.cqs_core.proofs.Places.{get-set_else, set-same}
 use Rattle.cqs_core.proofs.QueueOpens.{get-replicate}
 use Rattle.cqs_latch_object.specs.declared.entries.LatchEntry.{LatchEntry}
 use Rattle.cqs_latch_object.specs.LatchNames.{entry_names}
-use Rattle.cqs_latch_object.specs.LatchRuns.{opened}
+use Rattle.cqs_latch_object.specs.LatchRuns.{first_shape}
 use Rattle.cqs_latch_object.specs.LatchShown.{LatchShape, IsLatchCore}
 use Rattle.cqs_latch_object.specs.LatchSteps as object
-use Rattle.cqs_latch_object.specs.LatchSteps.{IsLatchStep, step_entries, cost_of, owed_by, stepped}
+use Rattle.cqs_latch_object.specs.LatchSteps.{IsLatchStep, step_entries, cost_of, owed_by, after_queue_step}
 use Rattle.cqs_latch_object.proofs.LatchSteps.{step-core}
 use Rattle.cqs_latch_object.proofs.LatchRuns.{opens-core}
 use Rattle.cqs_latch_object.proofs.LatchBounds.{core-sound, core-reaches_few, core-begins_few}
@@ -32,7 +32,7 @@ use Rattle.cqs_rule.specs.declared.view.Has.{Has}
 use Rattle.cqs_rule.specs.declared.config.CancelMode.{CancelMode}
 use Rattle.cqs_rule.specs.declared.config.CancelMode.TheVariants.{Smart, Simple}
 use Rattle.cqs_rule.specs.Client.{IsClient, IsPaid, IsPayload, IsBegun, begun_by, no_number}
-use Rattle.cqs_rule.specs.Hidden.{Hidden, happened, has_after, has_gained, has_paid, gathered, emptied, hands_over}
+use Rattle.cqs_rule.specs.Hidden.{Hidden, happened, has_after, has_gained, has_paid, has_both, has_none, hands_over}
 use Rattle.cqs_rule.specs.Lists.{NamesOnly}
 use Rattle.cqs_rule.specs.Manner.{Suits}
 use Rattle.cqs_rule.specs.Opened.{first_hidden, four}
@@ -309,7 +309,7 @@ steps-latch : (mode : CancelMode) (size : ℕ) (c : Hidden) (t : QueueStep) (p k
     (log ++ step_entries t p k)
 steps-latch mode size c t p k found has payload words log shows opens there paid suits low =
     let s = latch_shown mode size c words log in
-    let after : LatchShape = stepped s t p k found in
+    let after : LatchShape = after_queue_step s t p k found in
     let drawn = row-drawn (row_of t) c.queue p k found in
     let passes = row-passes (row_of t) c.queue p k found in
     let few = shows.few_passes in
@@ -362,7 +362,7 @@ begins-latch mode size passes any few = record {
     done = z.3;
     owed = z.0;
     history = [];
-    queue = (opened (is_simple mode) size passes).queue;
+    queue = (first_shape (is_simple mode) size passes).queue;
   }))
       (λ i. (
         sym (first-further passes any) i,
@@ -383,11 +383,11 @@ hands-latch : (mode : CancelMode) (size : ℕ) (c : Hidden) (from to : ℕ) (min
     (words : List ℕ) (log : List LatchEntry)
     → ShowsLatch mode size c words log → from ≢ to → slice_get c.has from ≡ Some mine
     → slice_get c.has to ≡ Some theirs
-    → ShowsLatch mode size (hands_over c from (emptied mine) to (gathered theirs mine)) words log
+    → ShowsLatch mode size (hands_over c from (has_none mine) to (has_both theirs mine)) words log
 hands-latch mode size c from to mine theirs words log shows apart has there =
     let s = latch_shown mode size c words log in
-    let gave : Has = emptied mine in
-    let got : Has = gathered theirs mine in
+    let gave : Has = has_none mine in
+    let got : Has = has_both theirs mine in
     let still : slice_get (slice_set c.has from gave) to ≡ Some theirs =
     get-set_else c.has from to gave apart ∙ there in
     let none : mine.held ≡ 0 = shows.none_held.at from mine has in

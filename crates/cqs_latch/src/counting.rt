@@ -11,7 +11,7 @@ ghost use Rattle.cqs_rule.specs.Passes.{pass_view, client_of};
 ghost use Rattle.cqs_rule.specs.declared.config.CancelMode.TheVariants.{Simple};
 
 use crate::answers::{Down, Owed};
-use crate::events::counted;
+use crate::events::resumptions_for;
 use crate::latch::{Latch, LatchPass};
 use crate::steps::{count_down, load_to_count, open};
 use cqs_rule::Crowded;
@@ -48,7 +48,7 @@ impl Latch {
         if left > 0 {
             return Ok(Down::Left(left));
         }
-        let waiters = counted(open(&self.queue, pass));
+        let waiters = resumptions_for(open(&self.queue, pass));
         match self.wake(pass, waiters) {
             None => Ok(Down::Last),
             Some(owed) => Ok(Down::LastOwing(owed)),

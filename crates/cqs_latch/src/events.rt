@@ -129,12 +129,12 @@ impl Shown<LatchClient> for Open {
     }
 
     fn further_after(_further: u32, found: u64, _made: bool) -> u32 {
-        counted(found)
+        resumptions_for(found)
     }
 }
 
 /// How many resumptions the pass owes that found this word as it set the done bit.
-pub fn counted(found: u64) -> u32
+pub fn resumptions_for(found: u64) -> u32
     ensures { result ≡ waiters_in found % 2 ^ 32 }
 {
     (WaitersWord::waiters_in(found) % (1 << 32)) as u32

@@ -8,6 +8,7 @@ mod client;
 mod counting;
 mod events;
 mod latch;
+mod parking;
 mod polling;
 mod seats;
 mod steps;

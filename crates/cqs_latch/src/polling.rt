@@ -11,9 +11,8 @@ ghost use Rattle.cqs_rule.specs.Waits.{place_of, HasWait};
 use crate::answers::LatchPolled;
 use crate::client::LatchClient;
 use crate::latch::{Latch, LatchPass};
-use cqs_cell::look;
-use cqs_rule::{Polls, Wait};
-use cqs_words::CellState;
+use cqs_cell::look_for_grant;
+use cqs_rule::Wait;
 
 impl Latch {
     /// Looks whether the wait was served: one load.
@@ -34,11 +33,9 @@ impl Latch {
             → IsPlainPoll (place_of wait).index (pass_view pass.old) result }
     {
         let at = self.queue.spend_wait(pass, wait);
-        let cell = look::<LatchClient, Polls>(&self.queue, pass, at);
-        match cell.state {
-            CellState::Resumed => LatchPolled::Through,
-            CellState::Waiter => LatchPolled::Pending(self.queue.wait_of(pass, at)),
-            _ => unreachable!(),
+        match look_for_grant(&self.queue, pass, at) {
+            Some(_) => LatchPolled::Through,
+            None => LatchPolled::Pending(self.queue.wait_of(pass, at)),
         }
     }
 }

@@ -11,7 +11,7 @@ use Rattle.cqs_core.specs.QueueOpening.{opened_queue}
 use Rattle.cqs_core.proofs.Counts.{count_by-none}
 use Rattle.cqs_core.proofs.QueueOpens.{get-replicate, sum-replicate, opened-sound, opened-waiters, opened-due, opened-going, opened-ending}
 use Rattle.cqs_latch_object.specs.LatchShown.{LatchShape, is_opening, has_loaded, one_where, IsLatch, IsLatchCore, holes_shown, way_shown}
-use Rattle.cqs_latch_object.specs.LatchRuns.{opened, Step, on_queue, on_words, MayMake, made, MayRun, run, EveryRunIsLegal}
+use Rattle.cqs_latch_object.specs.LatchRuns.{first_shape, Step, on_queue, on_words, MayMake, after_step, MayRun, run, EveryRunIsLegal}
 use Rattle.cqs_latch_object.proofs.LatchFrame.{same-latch}
 use Rattle.cqs_latch_object.proofs.LatchSteps.{step-core, word-core}
 
@@ -46,7 +46,7 @@ module _ (simple : Bool) (size passes : ℕ) (some : 0 < passes) where
   floor : (a n : ℕ) → a ≡ 0 → 0 < n → pos a <ℤ (pos size +ℤ pos n)
   floor a n none many = omega (arith, ints)
 
-  opened-latch : (b : Bool) → (size == 0) ≡ b → IsLatch (record (opened simple size passes) { done = b })
+  opened-latch : (b : Bool) → (size == 0) ≡ b → IsLatch (record (first_shape simple size passes) { done = b })
   opened-latch b is = record {
     sound = opened-sound 0 passes;
     legal = record { at = λ n e got. absurd (cc) };
@@ -74,24 +74,24 @@ module _ (simple : Bool) (size passes : ℕ) (some : 0 < passes) where
   }
 
   -- the cells of a queue without a cell read as they are
-  opened-core : (b : Bool) → IsLatch (record (opened b size passes) { done = size == 0 })
-      → IsLatchCore (opened b size passes)
+  opened-core : (b : Bool) → IsLatch (record (first_shape b size passes) { done = size == 0 })
+      → IsLatchCore (first_shape b size passes)
   opened-core true is = is
   opened-core false is = is
 
 -- each step leads from latch to latch
-pub made-core : (s : LatchShape) (t : Step) → IsLatchCore s → MayMake s t → IsLatchCore (made s t)
+pub made-core : (s : LatchShape) (t : Step) → IsLatchCore s → MayMake s t → IsLatchCore (after_step s t)
 made-core s (on_queue step p k found) core may = step-core s step p k found core may.0 may.1 may.2
 made-core s (on_words w p) core may = word-core s w p core may
 
 run-core : (steps : List Step) (s : LatchShape) → IsLatchCore s → MayRun s steps → IsLatchCore (run s steps)
 run-core [] s core may = core
-run-core (t ∷ steps) s core may = run-core steps (made s t) (made-core s t core may.0) may.1
+run-core (t ∷ steps) s core may = run-core steps (after_step s t) (made-core s t core may.0) may.1
 
-pub opens-core : (simple : Bool) (size passes : ℕ) → 0 < passes → IsLatchCore (opened simple size passes)
+pub opens-core : (simple : Bool) (size passes : ℕ) → 0 < passes → IsLatchCore (first_shape simple size passes)
 opens-core simple size passes some =
     opened-core simple size passes some simple (opened-latch simple size passes some (size == 0) refl)
 
 pub every-run-is-legal : EveryRunIsLegal
 every-run-is-legal simple size passes some steps may =
-    run-core steps (opened simple size passes) (opens-core simple size passes some) may
+    run-core steps (first_shape simple size passes) (opens-core simple size passes some) may

@@ -17,9 +17,9 @@ use Rattle.cqs_core.proofs.QueueBegins.{one_fewer}
 use Rattle.cqs_core.proofs.QueueStepMoves.{leads}
 use Rattle.cqs_latch_object.specs.declared.entries.LatchEntry.{LatchEntry}
 use Rattle.cqs_latch_object.specs.LatchShown.{LatchShape, as_read, IsLatch, IsLatchCore}
-use Rattle.cqs_latch_object.specs.LatchSteps.{IsLatchStep, cost_of, IsPaid, stepped}
+use Rattle.cqs_latch_object.specs.LatchSteps.{IsLatchStep, cost_of, IsPaid, after_queue_step}
 use Rattle.cqs_latch_object.specs.LatchWords as words
-use Rattle.cqs_latch_object.specs.LatchWords.{WordStep, loads_to_count, counts_down, loads_to_wait, comes, turns_back, opens, IsOpenWord, worded}
+use Rattle.cqs_latch_object.specs.LatchWords.{WordStep, loads_to_count, counts_down, loads_to_wait, comes, turns_back, opens, IsOpenWord, after_word_step}
 use Rattle.cqs_latch_object.proofs.LatchResumes.{latch-install, latch-leave_value, latch-delegate, latch-pass_over, latch-reach, latch-begin, latch-serve, latch-take_value, latch-draw, latch-granted, latch-late, latch-pending}
 use Rattle.cqs_latch_object.proofs.LatchLeaves.{latch-begin_cancel, latch-cancel, latch-cancel_owing, latch-refuse, latch-refuse_value, latch-meet_refused, latch-miss, latch-leave_at_once}
 use Rattle.cqs_latch_object.proofs.LatchWords.{word-latch}
@@ -52,17 +52,18 @@ module _ (size : ℕ) (count : ℤ) (word : ℕ) (done : Bool) where
 
       pub smart-step : (step : QueueStep) (found : Option CoreCell) → IsLatchStep false step
           → IsOpenStep q step p k found → IsPaid (cost_of (row_of step)) owed p
-          → IsLatch (stepped smart step p k found)
+          → IsLatch (after_queue_step smart step p k found)
       smart-step draws found may w paid =
           let here : slice_get q.cells q.suspends ≡ found = ap (slice_get q.cells) (sym w.1) ∙ w.2 in
-          subst (λ j. IsLatch (stepped smart draws p j found)) (sym w.1) (latch-draw smart p k is found w.0 here)
+          subst (λ j. IsLatch (after_queue_step smart draws p j found)) (sym w.1)
+          (latch-draw smart p k is found w.0 here)
       smart-step reaches found may w paid =
           let here : slice_get q.cells q.resumes ≡ found = ap (slice_get q.cells) (sym w.1) ∙ w.2 in
-          subst (λ j. IsLatch (stepped smart reaches p j found)) (sym w.1)
+          subst (λ j. IsLatch (after_queue_step smart reaches p j found)) (sym w.1)
           (same-latch false owed (append-nil log) refl (latch-reach smart p k is found w.0 here))
       smart-step begins found may w paid =
           let here : slice_get q.cells q.resumes ≡ found = ap (slice_get q.cells) (sym w.1) ∙ w.2 in
-          subst (λ j. IsLatch (stepped smart begins p j found)) (sym w.1)
+          subst (λ j. IsLatch (after_queue_step smart begins p j found)) (sym w.1)
           (same-latch false (one_fewer owed p) (append-nil log) refl (latch-begin smart p k is found w.0 paid here))
       smart-step installs (Some found) may w paid =
           same-latch false owed (append-nil log) refl (latch-install smart p k is found w.0)
@@ -182,7 +183,7 @@ module _ (size : ℕ) (count : ℤ) (word : ℕ) (done : Bool) where
 
       -- the latch after the step, as it is read
       abbrev after : QueueStep → ℕ → Option CoreCell → LatchShape
-      after step j found = as_read (stepped (core true owed log q) step p j found)
+      after step j found = as_read (after_queue_step (core true owed log q) step p j found)
 
       abbrev idle : List Doing
       idle = set q.doing p doing.Idle
@@ -279,14 +280,14 @@ module _ (size : ℕ) (count : ℤ) (word : ℕ) (done : Bool) (owed : List ℕ)
   either-step : (simple : Bool) (step : QueueStep) (p k : ℕ) (found : Option CoreCell)
       → IsLatchCore (core size count word done simple owed log q) → IsLatchStep simple step
       → IsOpenStep q step p k found → IsPaid (cost_of (row_of step)) owed p
-      → IsLatchCore (stepped (core size count word done simple owed log q) step p k found)
+      → IsLatchCore (after_queue_step (core size count word done simple owed log q) step p k found)
   either-step false step p k found is = smart-step size count word done owed log q p k is step found
   either-step true step p k found is = simple-step size count word done owed log q p k is step found
 
   either-word : (simple : Bool) (w : WordStep) (p : ℕ)
       → IsLatchCore (core size count word done simple owed log q)
       → IsOpenWord (core size count word done simple owed log q) w p
-      → IsLatchCore (worded (core size count word done simple owed log q) w p)
+      → IsLatchCore (after_word_step (core size count word done simple owed log q) w p)
   either-word false w p is may = word-latch (core size count word done false owed log q) w p is may
   either-word true w p is may = word-latch (core size count word done true owed log (as_refused q)) w p is (same w may)
     where
@@ -302,8 +303,9 @@ module _ (size : ℕ) (count : ℤ) (word : ℕ) (done : Bool) (owed : List ℕ)
 
 pub step-core : (s : LatchShape) (step : QueueStep) (p k : ℕ) (found : Option CoreCell) → IsLatchCore s
     → IsLatchStep s.simple step → IsOpenStep s.queue step p k found → IsPaid (cost_of (row_of step)) s.owed p
-    → IsLatchCore (stepped s step p k found)
+    → IsLatchCore (after_queue_step s step p k found)
 step-core s = either-step s.size s.count s.word s.done s.owed s.history s.queue s.simple
 
-pub word-core : (s : LatchShape) (w : WordStep) (p : ℕ) → IsLatchCore s → IsOpenWord s w p → IsLatchCore (worded s w p)
+pub word-core : (s : LatchShape) (w : WordStep) (p : ℕ) → IsLatchCore s → IsOpenWord s w p
+    → IsLatchCore (after_word_step s w p)
 word-core s = either-word s.size s.count s.word s.done s.owed s.history s.queue s.simple

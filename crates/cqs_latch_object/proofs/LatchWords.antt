@@ -24,7 +24,7 @@ use Rattle.cqs_latch_object.specs.declared.entries.LatchEntry.TheVariants as ent
 use Rattle.cqs_latch_object.specs.LatchObject.{opening}
 use Rattle.cqs_latch_object.specs.LatchEntries.{IsAllowed, after_entry, object_after, IsLegal}
 use Rattle.cqs_latch_object.specs.LatchShown.{LatchShape, left_of, holes, holes_shown, way_shown, shown, is_opening, has_loaded, one_where, IsLatch}
-use Rattle.cqs_latch_object.specs.LatchWords.{WordStep, loads_to_count, counts_down, loads_to_wait, comes, turns_back, opens, leaves, IsOpenWord, worded, is_used, is_last, loaded_entries, loaded_doing, counted_entry, counted_doing, come_entry, come_doing}
+use Rattle.cqs_latch_object.specs.LatchWords.{WordStep, loads_to_count, counts_down, loads_to_wait, comes, turns_back, opens, leaves, IsOpenWord, after_word_step, is_used, is_last, loaded_entries, loaded_doing, counted_entry, counted_doing, come_entry, come_doing}
 use Rattle.cqs_latch_object.proofs.Counting.{above-not, used-none, used-yes, used-less, used-still, used-below, less-high, down-more, down-some, down-above, down-still, one-where_le, one-used, same-count, floor-same, floor-above, fewer-loaded, floor-takes, floor-leaves}
 use Rattle.cqs_latch_object.proofs.Holes.{length-holes, holes-turn}
 use Rattle.cqs_latch_object.proofs.LatchFrame.{same-latch, shown-holes, owes-there, push-latch, latch_of, ways-quiet}
@@ -467,7 +467,8 @@ module _ (s : LatchShape) (p : ℕ) (is : IsLatch s) where
       subst (λ b. IsLatch (latch_of s s.count (s.word - 1) s.done s.owed (s.history ++ entry.Leave p k ∷ [])
       (now s p is (doing.Decided k (not b))))) (sym shut) (latch-let_go s p k is smart does shut)
 
-pub word-latch : (s : LatchShape) (w : WordStep) (p : ℕ) → IsLatch s → IsOpenWord s w p → IsLatch (worded s w p)
+pub word-latch : (s : LatchShape) (w : WordStep) (p : ℕ) → IsLatch s → IsOpenWord s w p
+    → IsLatch (after_word_step s w p)
 word-latch s loads_to_count p is does = loads s p is (entry.DownAlready p) does (λ zero. zero) refl (range s.count)
 word-latch s counts_down p is may = counts s p is may.0 may.1 may.2 (range s.count)
 word-latch s loads_to_wait p is does = loads s p is (entry.Passed p) does (λ zero. zero) refl (range s.count)

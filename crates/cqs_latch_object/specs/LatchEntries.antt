@@ -37,8 +37,8 @@ holes_left true k holes = placed (λ h. h) k holes
 holes_left false k holes = holes
 
 -- wait k leaves the line
-abbrev pub left : Latch → ℕ → Latch
-left o k =
+abbrev pub after_leave : Latch → ℕ → Latch
+after_leave o k =
     record o {
       way = way_left o.simple o.opened o.way;
       waiters = goes o.waiters k;
@@ -56,7 +56,7 @@ after_entry o (entry.AwaitDoor c) = record o { waiters = comes o.waiters c }
 after_entry o (entry.Enter c k) = record o { waiters = enters o.waiters c k }
 after_entry o (entry.Deliver k) =
     record o { way = o.way - 1; waiters = is_reached o.waiters k }
-after_entry o (entry.Leave c k) = left o k
+after_entry o (entry.Leave c k) = after_leave o k
 after_entry o (entry.Miss k) =
     record o { way = o.way - 1; holes = without (λ h. h) k o.holes }
 after_entry o (entry.Late c k) = record o { waiters = closes o.waiters k }

@@ -4,12 +4,12 @@ use Rattle.cqs_core.specs.declared.cells.CoreCell.{CoreCell}
 use Rattle.cqs_core.specs.QueueOpening.{opened_queue}
 use Rattle.cqs_core.specs.QueueSteps.{QueueStep, row_of, IsOpenStep}
 use Rattle.cqs_latch_object.specs.LatchShown.{LatchShape, IsLatchCore}
-use Rattle.cqs_latch_object.specs.LatchSteps.{IsLatchStep, cost_of, IsPaid, stepped}
-use Rattle.cqs_latch_object.specs.LatchWords.{WordStep, IsOpenWord, worded}
+use Rattle.cqs_latch_object.specs.LatchSteps.{IsLatchStep, cost_of, IsPaid, after_queue_step}
+use Rattle.cqs_latch_object.specs.LatchWords.{WordStep, IsOpenWord, after_word_step}
 
 -- a latch as it is made
-abbrev pub opened : Bool → ℕ → ℕ → LatchShape
-opened simple size passes = record {
+abbrev pub first_shape : Bool → ℕ → ℕ → LatchShape
+first_shape simple size passes = record {
   simple = simple;
   size = size;
   count = pos size;
@@ -31,23 +31,23 @@ MayMake s (on_queue step p k found) =
     × IsPaid (cost_of (row_of step)) s.owed p
 MayMake s (on_words w p) = IsOpenWord s w p
 
-abbrev pub made : LatchShape → Step → LatchShape
-made s (on_queue step p k found) = stepped s step p k found
-made s (on_words w p) = worded s w p
+abbrev pub after_step : LatchShape → Step → LatchShape
+after_step s (on_queue step p k found) = after_queue_step s step p k found
+after_step s (on_words w p) = after_word_step s w p
 
 -- where each may be made, one after the other; and the latch after them
 abbrev pub MayRun : LatchShape → List Step → Type 0
 MayRun s [] = Unit {0}
-MayRun s (t ∷ steps) = MayMake s t × MayRun (made s t) steps
+MayRun s (t ∷ steps) = MayMake s t × MayRun (after_step s t) steps
 
 abbrev pub run : LatchShape → List Step → LatchShape
 run s [] = s
-run s (t ∷ steps) = run (made s t) steps
+run s (t ∷ steps) = run (after_step s t) steps
 
 -- the law of the latch: whatever steps are made from the opening, by however many passes, its
 -- history is legal, and it shows the object after it
 abbrev pub EveryRunIsLegal : Type 0
 EveryRunIsLegal =
     (simple : Bool) (size passes : ℕ) → 0 < passes → (steps : List Step)
-    → MayRun (opened simple size passes) steps
-    → IsLatchCore (run (opened simple size passes) steps)
+    → MayRun (first_shape simple size passes) steps
+    → IsLatchCore (run (first_shape simple size passes) steps)

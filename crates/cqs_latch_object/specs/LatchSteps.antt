@@ -75,8 +75,8 @@ owed_by one_owed owed p = slice_set owed p (slice_index owed p - 1)
 owed_by one_element owed p = owed
 
 -- the latch after the step
-abbrev pub stepped : LatchShape → QueueStep → ℕ → ℕ → Option CoreCell → LatchShape
-stepped s step p k found = record {
+abbrev pub after_queue_step : LatchShape → QueueStep → ℕ → ℕ → Option CoreCell → LatchShape
+after_queue_step s step p k found = record {
   simple = s.simple;
   size = s.size;
   count = s.count;
@@ -92,4 +92,4 @@ EveryStepKeepsTheLatch =
     (s : LatchShape) (step : QueueStep) (p k : ℕ) (found : Option CoreCell) → IsLatchCore s
     → IsLatchStep s.simple step → IsOpenStep s.queue step p k found
     → IsPaid (cost_of (row_of step)) s.owed p
-    → IsLatchCore (stepped s step p k found)
+    → IsLatchCore (after_queue_step s step p k found)

@@ -137,8 +137,8 @@ owed_after turns_back p word owed = owed
 owed_after (leaves k) p word owed = owed
 
 -- the latch after the step
-abbrev pub worded : LatchShape → WordStep → ℕ → LatchShape
-worded s w p = record {
+abbrev pub after_word_step : LatchShape → WordStep → ℕ → LatchShape
+after_word_step s w p = record {
   simple = s.simple;
   size = s.size;
   count = count_after w s.count;
@@ -152,4 +152,4 @@ worded s w p = record {
 abbrev pub EveryWordStepKeepsTheLatch : Type 0
 EveryWordStepKeepsTheLatch =
     (s : LatchShape) (w : WordStep) (p : ℕ) → IsLatchCore s → IsOpenWord s w p
-    → IsLatchCore (worded s w p)
+    → IsLatchCore (after_word_step s w p)

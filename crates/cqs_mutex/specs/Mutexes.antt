@@ -12,7 +12,7 @@ use Rattle.cqs_rule.specs.Passes.{pass_view, passes_of, limit_of}
 use Rattle.cqs_rule.specs.Slots.{laid_in, handed_in}
 use Rattle.cqs_semaphore.specs.Calls.{Rests, IsMine}
 use Rattle.cqs_mutex.specs.declared.mutex.Mutex.{Mutex}
-use Rattle.cqs_mutex.specs.Values.{kept}
+use Rattle.cqs_mutex.specs.Values.{in_slot}
 
 -- a value was handed in: at the opening, or by an unlock
 abbrev pub IsFilled : {T : Type 0} → List (ℕ × T) → Type 0
@@ -39,6 +39,6 @@ module _ {T : Type 0} {g : Ghosts (SemClient (Kept T)) (Kept T) Entry} where
     pub first : (pass_view p).number ≡ 0
     pub nothing : (pass_view p).seen ≡ []
     pub handed : (before : List (ℕ × Kept T))
-        × ((pass_view p).handed ≡ before ++ (0, kept value) ∷ [])
+        × ((pass_view p).handed ≡ before ++ (0, in_slot value) ∷ [])
     pub alone : (pass_view p).alone ≡ true
     pub ready : Rests (pass_view p) 0 [] (pass_view p)

@@ -8,8 +8,8 @@ use Rattle.cqs_rule.specs.Slots.{handed_in}
 use Rattle.cqs_rule.specs.SlotSteps.{Swapped}
 
 -- a value as it lies in the slot
-abbrev pub kept : {T : Type 0} → T → Kept T
-kept value = record { value = value }
+abbrev pub in_slot : {T : Type 0} → T → Kept T
+in_slot value = record { value = value }
 
 module _ {T : Type 0} where
   -- A guard got this value: it is the one that was handed in last, by the last unlock or at the
@@ -18,9 +18,9 @@ module _ {T : Type 0} where
     pub handed : List (ℕ × Kept T)
     pub since : IsPrefix v.handed handed
     pub seen : IsPrefix handed w.handed
-    pub last : handed_in handed 0 ≡ Some (kept value)
+    pub last : handed_in handed 0 ≡ Some (in_slot value)
     pub swapped : Swapped ((0, None) ∷ v.laid) v w
 
   -- a guard laid its value into the slot
   abbrev pub LaidValue : T → View Entry (Kept T) → View Entry (Kept T) → Type 0
-  LaidValue value v w = Swapped ((0, Some (kept value)) ∷ v.laid) v w
+  LaidValue value v w = Swapped ((0, Some (in_slot value)) ∷ v.laid) v w

@@ -13,7 +13,7 @@ ghost use Rattle.cqs_semaphore.specs.Steps.{IsFurther};
 ghost use Rattle.cqs_mutex.specs.Calls.{HasUnlocked, UnlockLeaves};
 ghost use Rattle.cqs_mutex.specs.Guards.{value_of};
 ghost use Rattle.cqs_mutex.specs.Mutexes.{Belongs};
-ghost use Rattle.cqs_mutex.specs.Values.{kept, LaidValue};
+ghost use Rattle.cqs_mutex.specs.Values.{in_slot, LaidValue};
 
 use crate::guard::Guard;
 use crate::mutex::{Mutex, MutexPass};
@@ -35,7 +35,7 @@ impl<T: Send + Drop> Mutex<T> {
         ensures never_crowded { IsOk result }
         ensures unlocked { IfOk result (λ released.
             HasUnlocked (value_of guard) (pass_view pass.old) released (pass_view pass.new)) }
-        ensures handed { WasHandedIn 0 (kept (value_of guard)) (pass_view pass.old)
+        ensures handed { WasHandedIn 0 (in_slot (value_of guard)) (pass_view pass.old)
             (pass_view pass.new) }
         ensures between { IsBetween (pass_view pass.new).facts }
         ensures leaves { IfOk result (λ released. UnlockLeaves released (pass_view pass.new)) }

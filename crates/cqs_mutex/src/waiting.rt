@@ -2,8 +2,10 @@
 
 ghost use Rattle.std.specs.Prelude.{◌≡◌};
 ghost use Rattle.cqs_rule.specs.Crew.{IsBetween};
+ghost use Rattle.cqs_rule.specs.Lists.{Has};
 ghost use Rattle.cqs_rule.specs.Passes.{pass_view};
-ghost use Rattle.cqs_rule.specs.Waits.{HasWait};
+ghost use Rattle.cqs_rule.specs.Placed.{KnowsPlace};
+ghost use Rattle.cqs_rule.specs.Waits.{HasWait, pass_of, place_of};
 ghost use Rattle.cqs_semaphore.specs.Calls.{IsReady};
 ghost use Rattle.cqs_mutex.specs.Calls.{HasPolled, HasLeft, PolledHolds, LeftHolds};
 ghost use Rattle.cqs_mutex.specs.Guards.{wait_in};
@@ -12,10 +14,39 @@ ghost use Rattle.cqs_mutex.specs.Mutexes.{Belongs};
 use crate::answers::{LockLeft, PolledLock};
 use crate::guard::LockWait;
 use crate::mutex::{Mutex, MutexPass};
+use cqs_rule::Place;
 use cqs_semaphore::{CancelAnswer, Polled};
 use std::sync::Wait;
 
 impl<T: Send + Drop> Mutex<T> {
+    /// The token of a wait that the pass has. It makes no step.
+    #[inline(always)]
+    pub fn wait_of(&self, pass: &mut MutexPass<T>, at: Place) -> LockWait
+        requires belongs { Belongs self.now pass.old }
+        requires wait { Has at.index (pass_view pass.old).facts.waits }
+        requires place { KnowsPlace (pass_view pass.old) at }
+        ensures place { place_of (wait_in result) ≡ at }
+        ensures pass { pass_of (wait_in result) ≡ (pass_view pass.old).number }
+        ensures has { HasWait (pass_view pass.new) (wait_in result) }
+        ensures same { pass.new ≡ pass.old }
+    {
+        LockWait {
+            wait: self.semaphore.queue().wait_of(pass, at),
+        }
+    }
+
+    /// Takes the token back, and says where its cell stands. It makes no step.
+    #[inline(always)]
+    pub fn spend_wait(&self, pass: &mut MutexPass<T>, wait: LockWait) -> Place
+        requires belongs { Belongs self.now pass.old }
+        requires has { HasWait (pass_view pass.old) (wait_in wait) }
+        ensures place { result ≡ place_of (wait_in wait) }
+        ensures same { pass.new ≡ pass.old }
+    {
+        let LockWait { wait } = wait;
+        self.semaphore.queue().spend_wait(pass, wait)
+    }
+
     /// Looks whether the mutex came.
     pub fn poll(&self, pass: &mut MutexPass<T>, wait: LockWait) -> PolledLock<T>
         requires belongs { Belongs self.now pass.old }

@@ -39,7 +39,7 @@ use Rattle.cqs_pool_object.proofs.PoolSteps.{step-pool}
 use Rattle.cqs_rule.specs.declared.view.Has.{Has}
 use Rattle.cqs_rule.specs.Client as client
 use Rattle.cqs_rule.specs.Client.{IsClient, IsBegun, begun_by}
-use Rattle.cqs_rule.specs.Hidden.{Hidden, happened, has_after, has_gained, has_paid, gathered, emptied, hands_over}
+use Rattle.cqs_rule.specs.Hidden.{Hidden, happened, has_after, has_gained, has_paid, has_both, has_none, hands_over}
 use Rattle.cqs_rule.specs.Lists as lists
 use Rattle.cqs_rule.specs.Lists.{NamesOnly}
 use Rattle.cqs_rule.specs.Manner.{Suits}
@@ -527,11 +527,11 @@ hands-pool : (size : ℕ) (c : Hidden) (from to : ℕ) (mine theirs : Has) (log 
     → slice_get c.queue.doing from ≡ Some doing.Idle
     → slice_get c.queue.doing to ≡ Some doing.Idle
     → slice_get c.has from ≡ Some mine → slice_get c.has to ≡ Some theirs
-    → ShowsPool size (hands_over c from (emptied mine) to (gathered theirs mine)) log
+    → ShowsPool size (hands_over c from (has_none mine) to (has_both theirs mine)) log
 hands-pool size c from to mine theirs log shows apart idle idle' has there =
     let s : PoolShape = pool_shown size c log in
-    let gave : Has = emptied mine in
-    let got : Has = gathered theirs mine in
+    let gave : Has = has_none mine in
+    let got : Has = has_both theirs mine in
     let rest : List Has = slice_set c.has from gave in
     let stays : slice_get rest to ≡ Some theirs = get-set_else c.has from to gave apart ∙ there in
     let loads : s.loads ≡ loads_of (slice_set rest to got) =

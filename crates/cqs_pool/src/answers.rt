@@ -30,7 +30,7 @@ pub enum Placed {
 
 impl Placed {
     // The resumption that is still owed.
-    pub(crate) fn owed(self) -> Option<Under>
+    pub(crate) fn into_under(self) -> Option<Under>
         ensures { result ≡ owed_after self }
     {
         match self {

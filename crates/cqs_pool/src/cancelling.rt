@@ -57,6 +57,6 @@ impl<T: Carries + Send> Pool<T> {
         ensures belongs { IsMine self.now pass.new }
         ensures passed { PassedOn payload (pass_view pass.old) result (pass_view pass.new) }
     {
-        placed_by(resume(&self.queue, pass, payload)).owed()
+        placed_by(resume(&self.queue, pass, payload)).into_under()
     }
 }

@@ -12,9 +12,8 @@ use crate::answers::PoolPolled;
 use crate::client::PoolClient;
 use crate::element::Element;
 use crate::pool::{Pool, PoolPass};
-use cqs_cell::look;
-use cqs_rule::{Carries, Polls, Wait};
-use cqs_words::CellState;
+use cqs_cell::look_for_grant;
+use cqs_rule::{Carries, Wait};
 
 impl<T: Carries + Send> Pool<T> {
     /// Looks whether the wait was served: one load.
@@ -33,14 +32,12 @@ impl<T: Carries + Send> Pool<T> {
         ensures new { PollsNew (pass_view pass.old) result }
     {
         let at = self.queue.spend_wait(pass, wait);
-        let cell = look::<PoolClient<T>, Polls>(&self.queue, pass, at);
-        match cell.state {
-            CellState::Resumed => PoolPolled::Granted(Element {
-                number: cell.payload,
+        match look_for_grant(&self.queue, pass, at) {
+            Some(number) => PoolPolled::Granted(Element {
+                number,
                 wait: at.index,
             }),
-            CellState::Waiter => PoolPolled::Pending(self.queue.wait_of(pass, at)),
-            _ => unreachable!(),
+            None => PoolPolled::Pending(self.queue.wait_of(pass, at)),
         }
     }
 }

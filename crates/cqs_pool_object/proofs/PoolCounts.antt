@@ -19,7 +19,7 @@ use Rattle.cqs_core.specs.QueueSound.{IsSound, IsUntaken}
 use Rattle.cqs_core.proofs.Counts.{bit, count_at-change, count_at-write, count_at-push, count_at-none, count_by-push}
 use Rattle.cqs_core.proofs.DrawMoves.{undrawn}
 use Rattle.cqs_core.proofs.Equations.{HasFlow, flow, decliners, expected}
-use Rattle.cqs_core.proofs.Exchange.{refusals-at_cells}
+use Rattle.cqs_core.proofs.DoubleCounting.{refusals-at_cells}
 use Rattle.cqs_core.proofs.Keys.{Around, around-kept}
 use Rattle.cqs_core.proofs.Letters.{will_decline}
 use Rattle.cqs_core.proofs.Picked.{picked-around, picked-push}

@@ -66,8 +66,8 @@ fn drops_before_the_end(alloc: Global, drops: &AtomicU64, puts: bool) -> Option<
 fn each_value_is_dropped_once_with_its_pool(rt: HostRuntime) -> Result<(), Fail> {
     let drops = AtomicU64::new(0);
     if let Some(before) = drops_before_the_end(rt.alloc(), &drops, true) {
-        assert_eq!(rt; before, 0);
-        assert_eq!(rt; drops.load(Ordering::SeqCst), 2);
+        assert!(rt; before == 0);
+        assert!(rt; drops.load(Ordering::SeqCst) == 2);
     }
     Ok(())
 }
@@ -76,8 +76,8 @@ fn each_value_is_dropped_once_with_its_pool(rt: HostRuntime) -> Result<(), Fail>
 fn a_value_is_dropped_once_with_its_item(rt: HostRuntime) -> Result<(), Fail> {
     let drops = AtomicU64::new(0);
     if let Some(before) = drops_before_the_end(rt.alloc(), &drops, false) {
-        assert_eq!(rt; before, 1);
-        assert_eq!(rt; drops.load(Ordering::SeqCst), 2);
+        assert!(rt; before == 1);
+        assert!(rt; drops.load(Ordering::SeqCst) == 2);
     }
     Ok(())
 }
@@ -91,10 +91,10 @@ fn the_values_come_back_where_no_pool_is_made(rt: HostRuntime) -> Result<(), Fai
     let Err((values, error)) = ValuePool::new(rt.alloc(), values, NO_PASSES) else {
         panic!(rt; "no passes are out of range");
     };
-    assert_eq!(rt; error, MakeError::BadConfig);
-    assert_eq!(rt; values.len(), 2);
-    assert_eq!(rt; drops.load(Ordering::SeqCst), 0);
+    assert!(rt; error == MakeError::BadConfig);
+    assert!(rt; values.len() == 2);
+    assert!(rt; drops.load(Ordering::SeqCst) == 0);
     drop(values);
-    assert_eq!(rt; drops.load(Ordering::SeqCst), 2);
+    assert!(rt; drops.load(Ordering::SeqCst) == 2);
     Ok(())
 }

@@ -7,6 +7,7 @@ ghost use Rattle.cqs_pool.specs.Answers.{IsInHand};
 ghost use Rattle.cqs_pool.specs.Calls.{IsReady, IsMine};
 ghost use Rattle.cqs_pool.specs.Elements.{number_of};
 
+use crate::calls::{free, take_now};
 use cqs_pool::{Element, Placed, Pool, PoolLeft, PoolPass, PoolPolled, Taking};
 use cqs_rule::{AcquireError, Config, MakeError, Wait};
 use std::process::Abort;
@@ -17,21 +18,6 @@ const CONFIG: Config = Config {
     limit: 128,
     slots: 8,
 };
-
-// The pass takes this element, which is free.
-fn take_now(rt: &impl Abort, pool: &Pool, pass: &mut PoolPass, number: u32) -> Element
-    requires belongs { IsMine pool.now pass.old }
-    requires ready { IsReady (pass_view pass.old).facts }
-    ensures belongs { IsMine pool.now pass.new }
-    ensures ready { IsReady (pass_view pass.new).facts }
-    ensures has { IsInHand (number_of result) (pass_view pass.new).facts }
-{
-    let Ok(Taking::Took(element)) = pool.take(pass) else {
-        panic!(rt; "an element stands in the cell of the number");
-    };
-    assert_eq!(rt; element.number(), number);
-    element
-}
 
 // None is free, and the pass waits in line under this number.
 fn take_later(rt: &impl Abort, pool: &Pool, pass: &mut PoolPass, number: u64) -> Wait
@@ -46,7 +32,7 @@ fn take_later(rt: &impl Abort, pool: &Pool, pass: &mut PoolPass, number: u64) ->
     let Ok(Taking::Later(wait)) = pool.take(pass) else {
         panic!(rt; "no element is free");
     };
-    assert_eq!(rt; wait.number(), number);
+    assert!(rt; wait.number() == number);
     wait
 }
 
@@ -85,22 +71,8 @@ fn send(
     let Ok(Placed::Sent(sent)) = pool.put(pass, element) else {
         panic!(rt; "the first waiter stands in its cell");
     };
-    assert_eq!(rt; sent, number);
+    assert!(rt; sent == number);
     wait
-}
-
-// Nobody waits, and the element is free in the cell of this number.
-fn free(rt: &impl Abort, pool: &Pool, pass: &mut PoolPass, element: Element, number: u64)
-    requires belongs { IsMine pool.now pass.old }
-    requires ready { IsReady (pass_view pass.old).facts }
-    requires has { IsInHand (number_of element) (pass_view pass.old).facts }
-    ensures belongs { IsMine pool.now pass.new }
-    ensures ready { IsReady (pass_view pass.new).facts }
-{
-    let Ok(Placed::Left(left)) = pool.put(pass, element) else {
-        panic!(rt; "nobody waits");
-    };
-    assert_eq!(rt; left, number);
 }
 
 // The waiter was served with this element.
@@ -115,7 +87,7 @@ fn look(rt: &impl Abort, pool: &Pool, pass: &mut PoolPass, wait: Wait, number: u
     let PoolPolled::Granted(element) = pool.poll(pass, wait) else {
         panic!(rt; "the element was sent to the waiter");
     };
-    assert_eq!(rt; element.number(), number);
+    assert!(rt; element.number() == number);
     element
 }
 
@@ -174,7 +146,7 @@ fn an_element_that_came_too_early_to_leave(rt: HostRuntime) -> Result<(), Fail> 
     let PoolLeft::TooLate(element) = pool.cancel(&mut pass, wait) else {
         panic!(rt; "the element came first");
     };
-    assert_eq!(rt; element.number(), 0);
+    assert!(rt; element.number() == 0);
     free(&rt, &pool, &mut pass, element, 2);
     Ok(())
 }
@@ -185,12 +157,12 @@ fn an_element_put_by_who_met_its_taker(rt: HostRuntime) -> Result<(), Fail> {
     let Ok(mut other) = pool.split(&mut pass) else {
         panic!(rt; "two passes may be made");
     };
-    assert_eq!(rt; pool.sole(&mut pass), false);
+    assert!(rt; !pool.sole(&mut pass));
     let _element = take_now(&rt, &pool, &mut other, 0);
     let Ok(()) = pool.meet(&mut pass, other) else {
         panic!(rt; "the other pass waits for nothing");
     };
-    assert_eq!(rt; pool.sole(&mut pass), true);
+    assert!(rt; pool.sole(&mut pass));
     Ok(())
 }
 
@@ -203,11 +175,11 @@ fn a_put_passes_over_who_left(rt: HostRuntime) -> Result<(), Fail> {
     let Ok(Placed::Under(under)) = pool.put(&mut pass, element) else {
         panic!(rt; "one call passes over 64 numbers");
     };
-    assert_eq!(rt; under.reached(), 64);
+    assert!(rt; under.reached() == 64);
     let Placed::Sent(sent) = pool.finish(&mut pass, under) else {
         panic!(rt; "the last of the line stands in its cell");
     };
-    assert_eq!(rt; sent, 71);
+    assert!(rt; sent == 71);
     Ok(())
 }
 
@@ -223,7 +195,7 @@ fn a_pool_that_is_worn(rt: HostRuntime) -> Result<(), Fail> {
     let Err(refused) = pool.take(&mut pass) else {
         panic!(rt; "as many numbers were drawn as the limit allows");
     };
-    assert_eq!(rt; refused, AcquireError::Worn);
+    assert!(rt; refused == AcquireError::Worn);
     Ok(())
 }
 
@@ -236,6 +208,6 @@ fn pools_out_of_range(rt: HostRuntime) {
     };
     for (elements, config) in [(0, CONFIG), (4097, CONFIG), (1, few_slots)] {
         let made = Pool::new(rt.alloc(), elements, config);
-        assert_eq!(rt; made.err(), Some(MakeError::BadConfig));
+        assert!(rt; made.err() == Some(MakeError::BadConfig));
     }
 }

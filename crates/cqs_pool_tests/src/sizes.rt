@@ -12,45 +12,36 @@ const CONFIG: Config = Config {
     slots: 8,
 };
 
-/// Whether a pool of the two values gives out each of them in turn, and then a third one, which
-/// took the place of the first. Where no pool was made, nothing is said.
+/// Whether a pool of the first value gives it out, and then the second, which took its place. Where
+/// no pool was made, nothing is said.
 fn hands_on<T: Copy + PartialEq + Send + Drop>(
     alloc: Global,
     first: T,
     second: T,
-    third: T,
 ) -> Result<bool, AllocFailed<T>> {
     let mut values = Vec::new(alloc);
     values.push(first)?;
-    values.push(second)?;
     let Ok((pool, mut pass)) = ValuePool::new(alloc, values, CONFIG) else {
         return Ok(true);
     };
     let Ok(ItemTaking::Took(mut item)) = pool.take(&mut pass) else {
         return Ok(false);
     };
-    let came = item.number() == 0 && *item.get() == first;
-    *item.get_mut() = third;
+    let came = *item.get() == first;
+    *item.get_mut() = second;
     let Ok(Placed::Left(_)) = pool.put(&mut pass, item) else {
         return Ok(false);
     };
     let Ok(ItemTaking::Took(item)) = pool.take(&mut pass) else {
         return Ok(false);
     };
-    let came = came && item.number() == 1 && *item.get() == second;
-    let Ok(Placed::Left(_)) = pool.put(&mut pass, item) else {
-        return Ok(false);
-    };
-    let Ok(ItemTaking::Took(item)) = pool.take(&mut pass) else {
-        return Ok(false);
-    };
-    Ok(came && item.number() == 0 && *item.get() == third)
+    Ok(came && *item.get() == second)
 }
 
 #[test]
 fn values_of_each_size_are_handed_on(rt: HostRuntime) -> Result<(), Fail> {
-    assert!(rt; hands_on(rt.alloc(), (), (), ())?);
-    assert!(rt; hands_on(rt.alloc(), 5u64, u64::MAX, 0)?);
-    assert!(rt; hands_on(rt.alloc(), [1u8; 4096], [2u8; 4096], [3u8; 4096])?);
+    assert!(rt; hands_on(rt.alloc(), (), ())?);
+    assert!(rt; hands_on(rt.alloc(), 5u64, u64::MAX)?);
+    assert!(rt; hands_on(rt.alloc(), [1u8; 4096], [2u8; 4096])?);
     Ok(())
 }

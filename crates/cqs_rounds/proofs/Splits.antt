@@ -7,7 +7,7 @@ use Rattle.cqs_rule.specs.declared.client.ClientWords.{Ghosts}
 use Rattle.cqs_rule.specs.declared.queue.Pass.{Pass}
 use Rattle.cqs_rule.specs.declared.view.Has.{Has}
 use Rattle.cqs_rule.specs.Alone.{IsAlone}
-use Rattle.cqs_rule.specs.Hidden.{lessened}
+use Rattle.cqs_rule.specs.Hidden.{has_less}
 use Rattle.cqs_rule.specs.Passes.{pass_view}
 use Rattle.cqs_rule.specs.Seats.{IsBusy, HasLookedOn}
 use Rattle.cqs_rule.specs.Views.{first_facts, live_in}
@@ -23,11 +23,11 @@ room-there passes made refuses = elim (cases_lt made passes) [
   | inr high ↦ let refused = refuses high in absurd (cc)
 ]
 
-lessened-back : (n : ℕ) (h : Has) → n ≤ h.held → (lessened n h).held + n ≡ h.held
+lessened-back : (n : ℕ) (h : Has) → n ≤ h.held → (has_less n h).held + n ≡ h.held
 lessened-back zero h enough = omega arith
 lessened-back (suc n) h enough = omega arith
 
-lessened-further : (n : ℕ) (h : Has) → (lessened n h).further ≡ h.further
+lessened-further : (n : ℕ) (h : Has) → (has_less n h).further ≡ h.further
 lessened-further zero h = refl
 lessened-further (suc n) h = refl
 

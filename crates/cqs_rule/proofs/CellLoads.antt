@@ -28,7 +28,7 @@ use Rattle.cqs_rule.specs.Hidden.{Hidden, Gains, state_in, state_at}
 use Rattle.cqs_rule.specs.Inside.{IsInside}
 use Rattle.cqs_rule.specs.Layout.{client_words, words_for}
 use Rattle.cqs_rule.specs.Lists.{IsDistinct}
-use Rattle.cqs_rule.specs.Loads.{LoadStep, counts, watches, polls, cancels, meets, misses, event_of, LoadSuits, served_in, refused_in, cancelled_in, learned_of, learned, MayStand, IsNumber, told_at, facts_looked, MayLook, MayLoad, CarriesLearned, look_entries, Looked, LoadedCell, loaded_by}
+use Rattle.cqs_rule.specs.Loads.{LoadStep, counts, watches, polls, cancels, meets, misses, event_of, LoadSuits, served_in, refused_in, cancelled_in, learned_of, learns, MayStand, IsNumber, told_at, facts_looked, MayLook, MayLoad, CarriesLearned, look_entries, Looked, LoadedCell, loaded_by}
 use Rattle.cqs_rule.specs.Manner.{Manner, Suits}
 use Rattle.cqs_rule.specs.Object.{Object, Primitive}
 use Rattle.cqs_rule.specs.Placed.{KnowsPlace, place_at}
@@ -39,7 +39,7 @@ use Rattle.cqs_rule.proofs.CellPlaces.{suspends-inside}
 use Rattle.cqs_rule.proofs.CellsStand.{CellAt, cell-at, one-number, place-low}
 use Rattle.cqs_rule.proofs.CellSteps.{WorksAt, works-at, works, since-last}
 use Rattle.cqs_rule.proofs.Lists.{length_without}
-use Rattle.cqs_rule.proofs.Looks.{looks-to, found-so, counted-at}
+use Rattle.cqs_rule.proofs.WordStays.{looks-to, found-so, counted-at}
 use Rattle.cqs_rule.proofs.Shelves.{keeps-all}
 use Rattle.cqs_rule.proofs.Worked.{loaded-same}
 
@@ -68,7 +68,7 @@ word-learned by k x payload low fits =
     (record { index = low; payload = fits }))
 
 learned-is : (load : LoadStep) (k : ℕ) (x : CoreState) (payload : ℕ) → k < 2 ^ 40 → payload < 2 ^ 20
-    → learned load (word_of k x payload) ≡ learned_at load x
+    → learns load (word_of k x payload) ≡ learned_at load x
 learned-is counts k x payload low fits = refl
 learned-is watches k x payload low fits = refl
 learned-is polls k x payload low fits = word-learned served_in k x payload low fits
@@ -388,15 +388,15 @@ module _ {E S : Type 0} (object : Object E) (primitive : Primitive E S) (passes 
       (w : View E S) × (a : Act (Option S)) × Valid s.homes me.1 a
       × Ruled object primitive passes limit (stepped s word (slice_index s.words word) id me.1 w a)
       × (Looked object all load k me.0 (slice_index s.words word) w × (carried_after me.1 a ≡ me.1) × IsLive object w
-      × CarriesLearned object.gains.held (learned load (slice_index s.words word)) me.0.facts w.facts × IsSame me.0 w)
+      × CarriesLearned object.gains.held (learns load (slice_index s.words word)) me.0.facts w.facts × IsSame me.0 w)
 
   -- a load of the cell of the number k, which stands at this word
-  learns : {C : Type 0} (all : C → Primitive E S) (y : C) → all y ≡ primitive → (load : LoadStep)
+  learns-so : {C : Type 0} (all : C → Primitive E S) (y : C) → all y ≡ primitive → (load : LoadStep)
       (s : State (Option S) (View E S)) (r : Ruled object primitive passes limit s) (id : ℕ)
       (me : Me (Option S) (View E S))
       (k word : ℕ) → get_elem? s.views id ≡ some me.0 → me.0.weight ≡ 1 → LoadSuits primitive.manner load → IsWork load
       → MayLook load me.0 k → KnowsPlace me.0 (place_at word k) → Learns all load s id me k word
-  learns all y all_is load s r id me k word here one suits is may place = by (event_of load x) refl
+  learns-so all y all_is load s r id me k word here one suits is may place = by (event_of load x) refl
     where
       v : View E S
       v = me.0
@@ -449,8 +449,8 @@ module _ {E S : Type 0} (object : Object E) (primitive : Primitive E S) (passes 
       number : IsNumber load k k
       number = same-number load k is
 
-      tells : learned load n ≡ learned_at load x
-      tells = ap (learned load) stands.shows ∙ learned-is load k x (c.payloads k) low (r.cells.fits k)
+      tells : learns load n ≡ learned_at load x
+      tells = ap (learns load) stands.shows ∙ learned-is load k x (c.payloads k) low (r.cells.fits k)
 
       by : (o : Option QueueStep) → event_of load x ≡ o → Learns all load s id me k word
       by None e =
@@ -623,16 +623,16 @@ module _ {E S : Type 0} (object : Object E) (primitive : Primitive E S) (passes 
       let t = watches-cell all y all_is s r id me may.0 word here one may.2 may.1 in
       (t.0, t.1, t.2, t.3, (any-cell all watches s id me may.0 word may.1 t.0 t.4.0, t.4.1, t.4.2, t.4.3, t.4.4))
   loads all y all_is slots id me polls word one suits may s r _ here small =
-      let t = learns all y all_is polls s r id me may.0 word here one suits tt may.2 may.1 in
+      let t = learns-so all y all_is polls s r id me may.0 word here one suits tt may.2 may.1 in
       (t.0, t.1, t.2, t.3, (any-cell all polls s id me may.0 word may.1 t.0 t.4.0, t.4.1, t.4.2, t.4.3, t.4.4))
   loads all y all_is slots id me cancels word one suits may s r _ here small =
-      let t = learns all y all_is cancels s r id me may.0 word here one suits tt may.2 may.1 in
+      let t = learns-so all y all_is cancels s r id me may.0 word here one suits tt may.2 may.1 in
       (t.0, t.1, t.2, t.3, (any-cell all cancels s id me may.0 word may.1 t.0 t.4.0, t.4.1, t.4.2, t.4.3, t.4.4))
   loads all y all_is slots id me meets word one suits may s r _ here small =
-      let t = learns all y all_is meets s r id me may.0 word here one suits tt may.2 may.1 in
+      let t = learns-so all y all_is meets s r id me may.0 word here one suits tt may.2 may.1 in
       (t.0, t.1, t.2, t.3, (any-cell all meets s id me may.0 word may.1 t.0 t.4.0, t.4.1, t.4.2, t.4.3, t.4.4))
   loads all y all_is slots id me misses word one suits may s r _ here small =
-      let t = learns all y all_is misses s r id me may.0 word here one suits tt may.2 may.1 in
+      let t = learns-so all y all_is misses s r id me may.0 word here one suits tt may.2 may.1 in
       (t.0, t.1, t.2, t.3, (any-cell all misses s id me may.0 word may.1 t.0 t.4.0, t.4.1, t.4.2, t.4.3, t.4.4))
 
 -- the word of a load is one of the table's

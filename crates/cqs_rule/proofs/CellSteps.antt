@@ -31,7 +31,7 @@ use Rattle.cqs_rule.specs.Client.{IsClient, IsPayload, KeepsSlot}
 use Rattle.cqs_rule.specs.Exchanges.{IsOwnWait, payload_left, Exchanges, MayExchange, IsCrossing, FoundCell, SinceLast, HasCell, Crossed, CrossedBy, crossed}
 use Rattle.cqs_rule.specs.declared.view.Has.{Has}
 use Rattle.cqs_rule.specs.Facts.{facts_worked, facts_missed, waits_then, is_owing}
-use Rattle.cqs_rule.specs.Kinds.{Carries, held_gained, owes_at_stage, opened, closed}
+use Rattle.cqs_rule.specs.Kinds.{Carries, held_gained, owes_at_stage, opens_of, closes_of}
 use Rattle.cqs_rule.specs.Hidden.{Hidden, Gains, has_gained, has_after, happened_by, state_in, state_at}
 use Rattle.cqs_rule.specs.Inside.{IsInside as InView}
 use Rattle.cqs_rule.specs.Layout.{client_words, words_for}
@@ -42,10 +42,10 @@ use Rattle.cqs_rule.specs.Ruled.{Ruled, Knows, Stands, HasRoom, IsSince, HasGone
 use Rattle.cqs_rule.specs.Saw.{IsLive}
 use Rattle.cqs_rule.specs.Views.{grown}
 use Rattle.cqs_rule.proofs.CellsStand.{CellAt, cell-at, set-cell, place-low}
-use Rattle.cqs_rule.proofs.Grow.{Turned}
+use Rattle.cqs_rule.proofs.Advance.{Turned}
 use Rattle.cqs_rule.proofs.Cells.{installed-drawn, idle-stands}
 use Rattle.cqs_rule.proofs.Lists.{length_without}
-use Rattle.cqs_rule.proofs.Looks.{looks-to, found-so}
+use Rattle.cqs_rule.proofs.WordStays.{looks-to, found-so}
 use Rattle.cqs_rule.proofs.Shelves.{keeps-all}
 use Rattle.cqs_rule.proofs.Others.{door-keeps}
 use Rattle.cqs_rule.proofs.Segments.{later-same}
@@ -279,7 +279,7 @@ worked-carries gains row k n payload f once own = record {
 }
   where
     by : (w : WaitChange) → (w ≡ wait_closes → lists.Has k f.waits)
-        → length (waits_then w k f.waits) + closed w ≡ length f.waits + opened w
+        → length (waits_then w k f.waits) + closes_of w ≡ length f.waits + opens_of w
     by wait_stays own = refl
     by wait_opens own = let e = length-append f.waits (k ∷ []) in omega arith
     by wait_closes own = let e = length_without k f.waits once (own refl) in omega arith

@@ -41,7 +41,7 @@ use Rattle.cqs_rule.specs.Slots.{laid_in}
 use Rattle.cqs_rule.specs.Views.{grown}
 use Rattle.cqs_rule.proofs.CellPlaces.{behind-suspends, behind-resumes, suspends-inside, resumes-inside}
 use Rattle.cqs_rule.proofs.Cells.{written_same, made_same, pushed-back, installed-drawn, since-on}
-use Rattle.cqs_rule.proofs.Grow.{Turned, OthersStay}
+use Rattle.cqs_rule.proofs.Advance.{Turned, OthersStay}
 use Rattle.cqs_rule.proofs.Lists.{fewer_draw}
 use Rattle.cqs_rule.proofs.Others.{door-keeps}
 use Rattle.cqs_rule.proofs.Segments.{later-same}

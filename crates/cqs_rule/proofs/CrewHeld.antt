@@ -4,7 +4,7 @@ use Rattle.cqs_core.proofs.Places.{get-set_here, get-set_else}
 use Rattle.cqs_rule.specs.declared.view.View.{View}
 use Rattle.cqs_rule.specs.declared.view.Facts.{Facts}
 use Rattle.cqs_rule.specs.Hidden.{Hidden, hands_over}
-use Rattle.cqs_rule.specs.Views.{facts_lessened, lessened, as_before}
+use Rattle.cqs_rule.specs.Views.{facts_lessened, has_less, as_before}
 use Rattle.cqs_rule.specs.Ruled.{Stands}
 use Rattle.cqs_rule.specs.Object.{Object}
 use Rattle.cqs_rule.specs.Saw.{IsLive}
@@ -57,19 +57,19 @@ handed-to c from to gave got facts apart at = record {
 }
 
 -- what a pass keeps that gave so much of what it held, and what of it stays as it was
-pub lessened-held : (gives : ℕ) (h : OwnHas) → (lessened gives h).held ≡ h.held - gives
+pub lessened-held : (gives : ℕ) (h : OwnHas) → (has_less gives h).held ≡ h.held - gives
 lessened-held zero h = omega arith
 lessened-held (suc n) h = refl
 
-pub lessened-payload : (gives : ℕ) (h : OwnHas) → (lessened gives h).payload ≡ h.payload
+pub lessened-payload : (gives : ℕ) (h : OwnHas) → (has_less gives h).payload ≡ h.payload
 lessened-payload zero h = refl
 lessened-payload (suc n) h = refl
 
-pub lessened-further : (gives : ℕ) (h : OwnHas) → (lessened gives h).further ≡ h.further
+pub lessened-further : (gives : ℕ) (h : OwnHas) → (has_less gives h).further ≡ h.further
 lessened-further zero h = refl
 lessened-further (suc n) h = refl
 
-pub lessened-spares : (gives : ℕ) (h : OwnHas) → (lessened gives h).spares ≡ h.spares
+pub lessened-spares : (gives : ℕ) (h : OwnHas) → (has_less gives h).spares ≡ h.spares
 lessened-spares zero h = refl
 lessened-spares (suc n) h = refl
 
@@ -82,7 +82,7 @@ keeps-less opens (suc n) v may =
 
 -- what holds of a live view holds of it with less
 pub live-lessened : {E S : Type 0} (object : Object E) (v : View E S) (gives : ℕ)
-    → object.knows v.opening (lessened gives v.facts.has) → IsLive object v
+    → object.knows v.opening (has_less gives v.facts.has) → IsLive object v
     → IsLive object (record v { facts = facts_lessened gives v.facts })
 live-lessened object v gives known l = record {
   legal = l.legal;

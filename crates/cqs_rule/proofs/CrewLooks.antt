@@ -19,9 +19,9 @@ use Rattle.cqs_rule.specs.Object.{Object, Primitive}
 use Rattle.cqs_rule.specs.Saw.{Saw, IsLive}
 use Rattle.cqs_rule.specs.Crew.{counted_by}
 use Rattle.cqs_rule.proofs.Lists.{one_there, two_of}
-use Rattle.cqs_rule.proofs.Grow.{advance}
+use Rattle.cqs_rule.proofs.Advance.{advance}
 use Rattle.cqs_rule.proofs.Others.{others-same}
-use Rattle.cqs_rule.proofs.Looks.{still}
+use Rattle.cqs_rule.proofs.WordStays.{still}
 use Rattle.cqs_rule.proofs.Shelves.{keeps-same}
 use Rattle.cqs_rule.proofs.Tells.{steps}
 use Rattle.cqs_rule.proofs.CrewWords.{crew-of, only-left}

@@ -15,7 +15,7 @@ use Rattle.cqs_rule.specs.Segments.{KnowsSegments}
 use Rattle.cqs_rule.specs.Hidden.{hands_over}
 use Rattle.cqs_rule.specs.Layout.{client_words}
 use Rattle.cqs_rule.specs.Lists.{Has}
-use Rattle.cqs_rule.specs.Views.{all_own, weight, Tip, first_facts, single, joined, spent, gathered, emptied}
+use Rattle.cqs_rule.specs.Views.{all_own, weight, Tip, first_facts, single, joined, spent, has_both, has_none}
 use Rattle.cqs_rule.specs.Ruled.{Ruled, IsKept, Knows, Stands, cell_count}
 use Rattle.cqs_rule.specs.Client.{IsClient}
 use Rattle.cqs_rule.specs.Object.{Object, Primitive}
@@ -23,7 +23,7 @@ use Rattle.cqs_rule.specs.declared.view.Has.{Has as OwnHas}
 use Rattle.cqs_rule.specs.Crew.{met_by}
 use Rattle.cqs_rule.proofs.Words.{this-word, client-below}
 use Rattle.cqs_rule.proofs.Lists.{set_there, one_there, set_all, total_set, one_of, two_of, has_append, has_left, has_right}
-use Rattle.cqs_rule.proofs.Grow.{rests-on, spent-set, is-inside}
+use Rattle.cqs_rule.proofs.Advance.{rests-on, spent-set, is-inside}
 use Rattle.cqs_rule.proofs.Shelves.{keeps-same, shelf-set, shelf-live, shelf-joined}
 use Rattle.cqs_rule.proofs.Tells.{inside-of}
 use Rattle.cqs_rule.proofs.CrewWords.{crew-met, off, only-left, counters-stay, cells-stay, idle-stay}
@@ -51,8 +51,8 @@ module _ {E S : Type 0} (object : Object E) (primitive : Primitive E S) (passes 
       let l = r.crew.live_is in
       let from = u.number in
       let to = v.number in
-      let gave : OwnHas = emptied u.facts.has in
-      let got : OwnHas = gathered v.facts.has u.facts.has in
+      let gave : OwnHas = has_none u.facts.has in
+      let got : OwnHas = has_both v.facts.has u.facts.has in
       let d = hands_over r.hidden from gave to got in
       let mine : Has to (all_own v) = has_left to v.own v.others k.own in
       let its : Has from (all_own u) = has_left from u.own u.others p.own in

@@ -18,7 +18,7 @@ use Rattle.cqs_rule.specs.Hidden.{Hidden, hands_over}
 use Rattle.cqs_words.specs.Crew.{crew_word}
 use Rattle.cqs_rule.specs.Layout.{client_words}
 use Rattle.cqs_rule.specs.Lists.{Has}
-use Rattle.cqs_rule.specs.Views.{all_own, weight, grown, Tip, first_facts, made_in, live_in, crew_turn, first_has, facts_lessened, lessened, single, cut_off}
+use Rattle.cqs_rule.specs.Views.{all_own, weight, grown, Tip, first_facts, made_in, live_in, crew_turn, first_has, facts_lessened, has_less, single, cut_off}
 use Rattle.cqs_rule.specs.Ruled.{Ruled, IsKept, Knows, Stands, cell_count}
 use Rattle.cqs_rule.specs.Client.{IsClient}
 use Rattle.cqs_rule.specs.Object.{Object, Primitive}
@@ -27,7 +27,7 @@ use Rattle.cqs_rule.specs.declared.view.Has.{Has as OwnHas}
 use Rattle.cqs_rule.specs.Crew.{MayGive, tried_by}
 use Rattle.cqs_rule.proofs.Words.{this-word, client-below}
 use Rattle.cqs_rule.proofs.Lists.{set_there, one_there, set_all, total_set, total_last, two_of, has_append, has_left, has_right, at_end}
-use Rattle.cqs_rule.proofs.Grow.{rests-on, spent-set}
+use Rattle.cqs_rule.proofs.Advance.{rests-on, spent-set}
 use Rattle.cqs_rule.proofs.Shelves.{keeps-same, never-open, shelf-set, shelf-live, shelf-end}
 use Rattle.cqs_rule.proofs.CrewWords.{crew-of, crew-made, off, only-left, counters-stay, cells-stay, idle-stay}
 use Rattle.cqs_rule.proofs.CrewHeld.{handed-else, handed-from, handed-to, lessened-payload, keeps-less, live-lessened, live-before}
@@ -43,7 +43,7 @@ module _ {E S : Type 0} (object : Object E) (primitive : Primitive E S) (passes 
   gives-shown : (c : Hidden) (words : List ℕ) (log : List E) (handed : List (ℕ × S)) (from to gives : ℕ) (facts : Facts)
       → primitive.shows c words log handed → from ≢ to → Stands c from facts → Stands c to (first_facts 0)
       → MayGive primitive.opens gives facts
-      → primitive.shows (hands_over c from (lessened gives facts.has) to (first_has gives)) words log handed
+      → primitive.shows (hands_over c from (has_less gives facts.has) to (first_has gives)) words log handed
   gives-shown c words log handed from to zero facts shown apart mine theirs may =
       let same : set (set c.has from facts.has) to (first_has 0) ≡ c.has =
       ap (λ l. set l to (first_has 0)) (set-same c.has from facts.has mine.has)
@@ -57,7 +57,7 @@ module _ {E S : Type 0} (object : Object E) (primitive : Primitive E S) (passes 
   gives-shown c words log handed from to (suc g) facts shown apart mine theirs may =
       let all : 0 + suc g ≡ suc g = omega arith in
       let raised : record (first_has 0) { held = 0 + suc g } ≡ first_has (suc g) = ap (λ n. first_has n) all in
-      subst (λ h. primitive.shows (hands_over c from (lessened (suc g) facts.has) to h) words log handed) raised
+      subst (λ h. primitive.shows (hands_over c from (has_less (suc g) facts.has) to h) words log handed) raised
       (client.shares c from to (suc g) facts.has (first_has 0) words log handed shown apart
       (mine.doing ∙ ap Some (may.idle (omega arith))) theirs.doing mine.has theirs.has may.enough)
 
@@ -116,7 +116,7 @@ module _ {E S : Type 0} (object : Object E) (primitive : Primitive E S) (passes 
           λ j h. only-left j v.own (subst (λ l. Has j (v.own ++ l)) none h) in
           let below : (j : ℕ) → Has j v.own → j < r.made = λ j h. k.below j (has_left j v.own v.others h) in
           let from = v.number in
-          let gave : OwnHas = lessened gives v.facts.has in
+          let gave : OwnHas = has_less gives v.facts.has in
           let got : OwnHas = first_has gives in
           let d = hands_over r.hidden from gave m got in
           let differ : from ≢ m = λ same. let b = below from k.own in omega arith in

@@ -14,7 +14,7 @@ use Rattle.cqs_rule.specs.Ruled.{IsKept, Knows, Stands}
 use Rattle.cqs_rule.specs.Object.{Object}
 use Rattle.cqs_rule.specs.declared.view.Opening.{Opening}
 use Rattle.cqs_rule.proofs.Lists.{set_there, one_there, has_append, has_left, has_right, at_end}
-use Rattle.cqs_rule.proofs.Grow.{rests-on, second-on}
+use Rattle.cqs_rule.proofs.Advance.{rests-on, second-on}
 
 module _ {E S : Type 0} where
   -- a view is changed: its numbers are some that it had, or some that nobody had

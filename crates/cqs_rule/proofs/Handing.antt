@@ -19,7 +19,7 @@ use Rattle.cqs_rule.specs.Ruled.{Ruled, Knows, IsKept, cell_count}
 use Rattle.cqs_rule.specs.Segments.{KnowsSegments}
 use Rattle.cqs_rule.specs.Slots.{laid_in, taken_off, or_else, handed_in, MayOpen, Shelf}
 use Rattle.cqs_rule.specs.Views.{all_own, weight, Tip}
-use Rattle.cqs_rule.proofs.Grow.{spent-set, stands-out, still-apart}
+use Rattle.cqs_rule.proofs.Advance.{spent-set, stands-out, still-apart}
 use Rattle.cqs_rule.proofs.Lists.{set_there, one_there, set_all, total_set, two_of, longer, has_left}
 use Rattle.cqs_rule.proofs.Shelves.{back}
 

@@ -5,13 +5,13 @@ pub mod Places
 pub mod Words
 pub mod Segments
 pub mod Shelves
-pub mod Grow
+pub mod Advance
 pub mod Others
 pub mod CellsStand
 pub mod Worked
 pub mod Tells
 pub mod Handing
-pub mod Looks
+pub mod WordStays
 pub mod CellSteps
 pub mod Counters
 pub mod CellLoads

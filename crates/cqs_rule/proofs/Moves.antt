@@ -14,7 +14,7 @@ use Rattle.cqs_rule.specs.declared.view.View.{View}
 use Rattle.cqs_rule.specs.declared.view.Facts.{Facts}
 use Rattle.cqs_rule.specs.declared.view.Opening.{Opening}
 use Rattle.cqs_rule.specs.Client.{IsClient}
-use Rattle.cqs_rule.specs.Events.{Moment, Event, moment, has_then, facts_moved, HasWord, Moved, Moves, SlotsStay, IsShort, added}
+use Rattle.cqs_rule.specs.Events.{Moment, Event, moment, has_then, facts_moved, HasWord, Moved, Moves, SlotsStay, IsShort, word_plus}
 use Rattle.cqs_rule.specs.Facts.{is_owing, IsBehind}
 use Rattle.cqs_rule.specs.Hidden.{Hidden, stands_at}
 use Rattle.cqs_rule.specs.Layout.{client_words, client_place}
@@ -24,7 +24,7 @@ use Rattle.cqs_rule.specs.Ruled.{Ruled, Stands, IsSince, cell_count}
 use Rattle.cqs_rule.specs.Saw.{Saw, IsLive, WasFound}
 use Rattle.cqs_rule.specs.Views.{grown}
 use Rattle.cqs_rule.proofs.CellPlaces.{behind-client, client-inside}
-use Rattle.cqs_rule.proofs.Grow.{Turned}
+use Rattle.cqs_rule.proofs.Advance.{Turned}
 use Rattle.cqs_rule.proofs.Shelves.{never-open}
 use Rattle.cqs_rule.proofs.Lines.{line-flat}
 use Rattle.cqs_rule.proofs.Others.{others-moved, door-keeps}
@@ -213,11 +213,11 @@ module _ {C E S : Type 0} (object : Object E) (primitive : C → Primitive E S) 
       (λ j. (sym is j, λ n. sym (same n) j)) (moves slots id me i f may few law)
 
 -- what is added where the number is not negative, and where it is
-pub added-up : (by : ℤ) (amount n : ℕ) → amount ≡ unsigned_abs by → pos 0 ≤ℤ by → (n + amount) % 2 ^ 64 ≡ added by n
+pub added-up : (by : ℤ) (amount n : ℕ) → amount ≡ unsigned_abs by → pos 0 ≤ℤ by → (n + amount) % 2 ^ 64 ≡ word_plus by n
 added-up (pos k) amount n is above = ap (λ z. (n + z) % 2 ^ 64) is
 added-up (negsuc k) amount n is above = absurd (grind (arith, ints))
 
 pub added-down : (by : ℤ) (amount n : ℕ) → amount ≡ unsigned_abs by → by <ℤ pos 0
-    → (n + (2 ^ 64 - amount)) % 2 ^ 64 ≡ added by n
+    → (n + (2 ^ 64 - amount)) % 2 ^ 64 ≡ word_plus by n
 added-down (negsuc k) amount n is below = ap (λ z. (n + (2 ^ 64 - z)) % 2 ^ 64) is
 added-down (pos k) amount n is below = absurd (grind (arith, ints))

@@ -7,7 +7,7 @@ use Rattle.cqs_rule.specs.declared.view.Has.{Has}
 use Rattle.cqs_rule.specs.Hidden.{Hidden, stands_at, now_may_draw}
 use Rattle.cqs_rule.specs.Ruled.{IsWaitOf, DoorMayDraw}
 use Rattle.cqs_rule.proofs.Cells.{same-or-not}
-use Rattle.cqs_rule.proofs.Grow.{OthersStay}
+use Rattle.cqs_rule.proofs.Advance.{OthersStay}
 
 -- nothing hidden changes
 pub others-same : (c : Hidden) (p : ℕ) → OthersStay c c p

@@ -19,11 +19,11 @@ use Rattle.cqs_core.specs.declared.outcomes.Outcome.TheVariants as outcome
 use Rattle.cqs_core.specs.SemaphoreTable.{Shape, step, lowest}
 use Rattle.cqs_core.specs.SemaphoreShown.{IsCore, free_of}
 use Rattle.cqs_core.proofs.StepKeeps.{row-core}
-use Rattle.cqs_core.proofs.Ground.{free-small}
+use Rattle.cqs_core.proofs.Bounds.{free-small}
 use Rattle.cqs_core.proofs.Places.{set-same}
 use Rattle.cqs_rule.specs.declared.view.Facts.{Facts}
 use Rattle.cqs_rule.specs.declared.view.Has.{Has}
-use Rattle.cqs_rule.specs.Events.{Event as Shows, Moves, SlotsStay, IsShort, added, exchanged, in_any_case, where_found}
+use Rattle.cqs_rule.specs.Events.{Event as Shows, Moves, SlotsStay, IsShort, word_plus, word_after_exchange, in_any_case, where_found}
 use Rattle.cqs_rule.specs.Facts.{is_owing}
 use Rattle.cqs_rule.specs.Hidden.{Hidden, stands_at}
 use Rattle.cqs_rule.specs.Lists.{NamesOnly}
@@ -168,15 +168,15 @@ module _ (permits p : ℕ) (facts : Facts) (c : Hidden) (words : List ℕ) (log 
   kept : slice_index (slice_set words 0 n) 0 ≡ n
   kept = ap (λ (l : List ℕ). slice_index l 0) (set-get_or words 0 0)
 
-  lowered : n < 2 ^ 64 → slice_index (slice_set words 0 (added (negsuc 0) n)) 0 ≡ n - 1
+  lowered : n < 2 ^ 64 → slice_index (slice_set words 0 (word_plus (negsuc 0) n)) 0 ≡ n - 1
   lowered small =
       let some = word-above n above in
-      written words (added (negsuc 0) n) (some-word words (omega arith)) ∙ omega arith
+      written words (word_plus (negsuc 0) n) (some-word words (omega arith)) ∙ omega arith
 
-  raised : n < 2 ^ 64 → n < 4294967296 + 4294967296 → slice_index (slice_set words 0 (added (pos 1) n)) 0 ≡ n + 1
+  raised : n < 2 ^ 64 → n < 4294967296 + 4294967296 → slice_index (slice_set words 0 (word_plus (pos 1) n)) 0 ≡ n + 1
   raised small low =
       let some = word-above n above in
-      written words (added (pos 1) n) (some-word words (omega arith)) ∙ omega arith
+      written words (word_plus (pos 1) n) (some-word words (omega arith)) ∙ omega arith
 
   -- what the pass has, but for what it holds
   abbrev holding : ℕ → Has
@@ -191,7 +191,7 @@ module _ (permits p : ℕ) (facts : Facts) (c : Hidden) (words : List ℕ) (log 
   abbrev TakesTo : Bool → Type 0
   TakesTo b = IsCore (Leaves (log ++ (if b then entry.TakeNow p ∷ [] else entry.TakeDoor p ∷ []))
       (if b then doing.Idle else doing.Door) (holding (if b then facts.has.held + 1 else facts.has.held))
-      (added (negsuc 0) n))
+      (word_plus (negsuc 0) n))
 
   pub take-core : facts.doing ≡ doing.Idle → n < 2 ^ 64 → TakesTo (is_above_zero n)
   take-core idle small = ⊎_elim
@@ -199,7 +199,7 @@ module _ (permits p : ℕ) (facts : Facts) (c : Hidden) (words : List ℕ) (log 
       subst TakesTo (sym (lt-ltb 4294967296 n free))
       (by-row (event.Take p) (log ++ entry.TakeNow p ∷ []) outcome.Now (count_in n -ℤ pos 1)
       (set (held_of c.has) p (get_or (held_of c.has) p 0 + 1)) c.queue.doing doing.Idle (holding (facts.has.held + 1))
-      (added (negsuc 0) n)
+      (word_plus (negsuc 0) n)
       (rw (is-at doing.Idle idle, above-lowest (count_in n) above, state-free n free) refl)
       (sym (state-less n (omega arith)) ∙ ap count_in (sym (lowered small)))
       (more-held (holding (facts.has.held + 1)) refl)
@@ -207,7 +207,7 @@ module _ (permits p : ℕ) (facts : Facts) (c : Hidden) (words : List ℕ) (log 
       (λ (none : n ≤ 4294967296).
       subst TakesTo (sym (le-ltb 4294967296 n none))
       (by-row (event.Take p) (log ++ entry.TakeDoor p ∷ []) outcome.Door (count_in n -ℤ pos 1)
-      (held_of c.has) (set c.queue.doing p doing.Door) doing.Door (holding facts.has.held) (added (negsuc 0) n)
+      (held_of c.has) (set c.queue.doing p doing.Door) doing.Door (holding facts.has.held) (word_plus (negsuc 0) n)
       (rw (is-at doing.Idle idle, above-lowest (count_in n) above, state-none n none) refl)
       (sym (state-less n (let some = word-above n above in omega arith)) ∙ ap count_in (sym (lowered small)))
       (same-held (holding facts.has.held) refl)
@@ -278,7 +278,7 @@ module _ (permits p : ℕ) (facts : Facts) (c : Hidden) (words : List ℕ) (log 
 
   abbrev GivesTo : Bool → Type 0
   GivesTo b = IsCore (Leaves (log ++ (if b then entry.GiveSent p ∷ [] else entry.GiveFreed p ∷ []))
-      (if b then doing.Owes else doing.Idle) giving (added (pos 1) n))
+      (if b then doing.Owes else doing.Idle) giving (word_plus (pos 1) n))
 
   pub give-core : facts.doing ≡ doing.Idle → 0 < facts.has.held → n < 2 ^ 64 → n < 4294967296 + 4294967296
       → GivesTo (is_below_zero n)
@@ -290,7 +290,7 @@ module _ (permits p : ℕ) (facts : Facts) (c : Hidden) (words : List ℕ) (log 
       subst GivesTo (sym (lt-ltb n 4294967296 below))
       (by-row (event.Give p) (log ++ entry.GiveSent p ∷ []) outcome.Owes (count_in n +ℤ pos 1)
       (set (held_of c.has) p (get_or (held_of c.has) p 0 - 1)) (set c.queue.doing p doing.Owes) doing.Owes giving
-      (added (pos 1) n)
+      (word_plus (pos 1) n)
       (rw (is-at doing.Idle idle, any, state-short n below) refl)
       (sym (state-more n) ∙ ap count_in (sym (raised small low)))
       (less-held giving refl)
@@ -298,7 +298,7 @@ module _ (permits p : ℕ) (facts : Facts) (c : Hidden) (words : List ℕ) (log 
       (λ (enough : 4294967296 ≤ n).
       subst GivesTo (sym (le-ltb n 4294967296 enough))
       (by-row (event.Give p) (log ++ entry.GiveFreed p ∷ []) outcome.Freed (count_in n +ℤ pos 1)
-      (set (held_of c.has) p (get_or (held_of c.has) p 0 - 1)) c.queue.doing doing.Idle giving (added (pos 1) n)
+      (set (held_of c.has) p (get_or (held_of c.has) p 0 - 1)) c.queue.doing doing.Idle giving (word_plus (pos 1) n)
       (rw (is-at doing.Idle idle, any, state-enough n enough) refl)
       (sym (state-more n) ∙ ap count_in (sym (raised small low)))
       (less-held giving refl)
@@ -307,7 +307,7 @@ module _ (permits p : ℕ) (facts : Facts) (c : Hidden) (words : List ℕ) (log 
 
   abbrev DecidesTo : ℕ → Bool → Type 0
   DecidesTo k b = IsCore (Leaves (log ++ entry.Leave p k ∷ []) (doing.Decided k b) (holding facts.has.held)
-      (added (pos 1) n))
+      (word_plus (pos 1) n))
 
   pub decide-core : (k : ℕ) → facts.doing ≡ doing.Leaving k → n < 2 ^ 64 → n < 4294967296 + 4294967296
       → DecidesTo k (is_below_zero n)
@@ -316,7 +316,7 @@ module _ (permits p : ℕ) (facts : Facts) (c : Hidden) (words : List ℕ) (log 
       subst (DecidesTo k) (sym (lt-ltb n 4294967296 below))
       (by-row (event.Decide p) (log ++ entry.Leave p k ∷ []) (outcome.Decided true) (count_in n +ℤ pos 1)
       (held_of c.has) (set c.queue.doing p (doing.Decided k true)) (doing.Decided k true) (holding facts.has.held)
-      (added (pos 1) n)
+      (word_plus (pos 1) n)
       (rw (is-at _ leaves, state-short n below) refl)
       (sym (state-more n) ∙ ap count_in (sym (raised small low)))
       (same-held (holding facts.has.held) refl)
@@ -325,7 +325,7 @@ module _ (permits p : ℕ) (facts : Facts) (c : Hidden) (words : List ℕ) (log 
       subst (DecidesTo k) (sym (le-ltb n 4294967296 enough))
       (by-row (event.Decide p) (log ++ entry.Leave p k ∷ []) (outcome.Decided false) (count_in n +ℤ pos 1)
       (held_of c.has) (set c.queue.doing p (doing.Decided k false)) (doing.Decided k false) (holding facts.has.held)
-      (added (pos 1) n)
+      (word_plus (pos 1) n)
       (rw (is-at _ leaves, state-enough n enough) refl)
       (sym (state-more n) ∙ ap count_in (sym (raised small low)))
       (same-held (holding facts.has.held) refl)
@@ -377,7 +377,8 @@ some-entry false e f q = cc
 
 -- an idle pass that may draw may acquire: it takes one from the state
 pub take-moves : {T : Type 0} (permits p : ℕ) (facts : Facts) → facts.doing ≡ doing.Idle → facts.may_draw ≡ true
-    → Moves semaphore_object (semaphore_primitive {T = T} permits) takes_one in_any_case p facts 0 (added (negsuc 0))
+    → Moves semaphore_object (semaphore_primitive {T = T} permits) takes_one in_any_case p facts 0
+    (word_plus (negsuc 0))
 take-moves permits p facts idle may = record {
   step = λ c words log handed core does has short small.
       take-core permits p facts c words log core does has short idle small;
@@ -415,7 +416,7 @@ try-load-moves permits p facts idle = record {
 -- and where it loaded a permit, it may exchange the state for one less
 pub try-swap-moves : {T : Type 0} (permits p : ℕ) (facts : Facts) (saw : ℕ) → facts.doing ≡ doing.TryAt (count_in saw)
     → Moves semaphore_object (semaphore_primitive {T = T} permits) tries (where_found saw) p facts 0
-    (exchanged saw (saw - 1))
+    (word_after_exchange saw (saw - 1))
 try-swap-moves permits p facts saw at = record {
   step = λ c words log handed core does has short small.
       try-swap-core permits p facts c words log core does has short saw at;
@@ -438,7 +439,7 @@ try-swap-moves permits p facts saw at = record {
 
 -- an idle pass that holds a permit may release it: it adds one to the state
 pub give-moves : {T : Type 0} (permits p : ℕ) (facts : Facts) → facts.doing ≡ doing.Idle → 0 < facts.has.held
-    → Moves semaphore_object (semaphore_primitive {T = T} permits) gives_one in_any_case p facts 0 (added (pos 1))
+    → Moves semaphore_object (semaphore_primitive {T = T} permits) gives_one in_any_case p facts 0 (word_plus (pos 1))
 give-moves permits p facts idle some = record {
   step = λ c words log handed core does has short small.
       give-core permits p facts c words log core does has short idle some small
@@ -504,12 +505,12 @@ gives-none n false v w is none = tt
 
 -- a pass that is leaving a wait may ask: it adds one to the state
 pub decide-moves : {T : Type 0} (permits p : ℕ) (facts : Facts) (k : ℕ) → facts.doing ≡ doing.Leaving k
-    → Moves semaphore_object (semaphore_primitive {T = T} permits) decides in_any_case p facts 0 (added (pos 1))
+    → Moves semaphore_object (semaphore_primitive {T = T} permits) decides in_any_case p facts 0 (word_plus (pos 1))
 decide-moves permits p facts k leaves = record {
   step = λ c words log handed core does has short small.
       subst (λ j. IsCore (core_shown permits
       (stands_at c p (doing.Decided j (is_below_zero (slice_index words 0))) facts.has)
-      (slice_set words 0 (added (pos 1) (slice_index words 0))) (log ++ entry.Leave p j ∷ [])))
+      (slice_set words 0 (word_plus (pos 1) (slice_index words 0))) (log ++ entry.Leave p j ∷ [])))
       (sym (ap number_at leaves))
       (decide-core permits p facts c words log core does has short k leaves small
       (word-below (slice_index words 0) (free-small (core_shown permits c words log) core)));

@@ -16,7 +16,7 @@ use Rattle.cqs_rule.specs.Views.{grown}
 use Rattle.cqs_rule.specs.Ruled.{Ruled, HasRoom, number_at, cell_count}
 use Rattle.cqs_rule.specs.Client.{IsClient}
 use Rattle.cqs_rule.specs.Saw.{Saw, IsLive}
-use Rattle.cqs_rule.proofs.Grow.{Turned, advance, saw, live}
+use Rattle.cqs_rule.proofs.Advance.{Turned, advance, saw, live}
 
 -- the number at which a pass works is that of a cell
 pub inside-of : (passes limit values : ℕ) (c : Hidden) (p : ℕ) (d : Doing) → HasRoom passes limit values c

@@ -20,7 +20,7 @@ use Rattle.cqs_rule.specs.Lists as lists
 use Rattle.cqs_rule.specs.Lists.{IsDistinct}
 use Rattle.cqs_rule.specs.Ruled.{IsWaitOf, Stands}
 use Rattle.cqs_rule.proofs.Cells.{same-or-not, installed-drawn, GoesOn, since-on}
-use Rattle.cqs_rule.proofs.Grow.{OthersStay}
+use Rattle.cqs_rule.proofs.Advance.{OthersStay}
 use Rattle.cqs_rule.proofs.Lists.{has_append, has_left, has_right, has_without, without_has, distinct_append, distinct_without}
 
 -- the payload of a cell, where something was brought there

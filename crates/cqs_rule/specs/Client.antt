@@ -7,7 +7,7 @@ use Rattle.cqs_core.specs.QueueLine.{door}
 use Rattle.cqs_core.specs.QueueSound.{IsSound}
 use Rattle.cqs_core.specs.QueueSteps.{QueueStep, reaches, begins, puts, row_of, StepRow, at_counter, at_cell, Cost, no_cost, one_owed, one_element, payload_told, IsOpenStep}
 use Rattle.cqs_rule.specs.declared.view.Has.{Has}
-use Rattle.cqs_rule.specs.Hidden.{Hidden, happened, has_after, now_may_draw, gathered, emptied, hands_over}
+use Rattle.cqs_rule.specs.Hidden.{Hidden, happened, has_after, now_may_draw, has_both, has_none, hands_over}
 use Rattle.cqs_rule.specs.Lists.{NamesOnly}
 use Rattle.cqs_rule.specs.Lists as lists
 use Rattle.cqs_rule.specs.Manner.{Suits}
@@ -78,7 +78,7 @@ module _ {E S : Type 0} (object : Object E) (primitive : Primitive E S) where
         → object.knows primitive.opening has
     -- and gets those of a pass that it takes in
     pub gathers : (mine theirs : Has) (k : ℕ) → primitive.opens mine k ⊎ primitive.opens theirs k
-        → primitive.opens (gathered mine theirs) k
+        → primitive.opens (has_both mine theirs) k
     -- a value that is handed in changes nothing else
     pub hands_in : (c : Hidden) (words : List ℕ) (log : List E) (handed : List (ℕ × S)) (k : ℕ)
         (value : S)
@@ -112,7 +112,7 @@ module _ {E S : Type 0} (object : Object E) (primitive : Primitive E S) where
         → slice_get c.queue.doing from ≡ Some doing.Idle
         → slice_get c.queue.doing to ≡ Some doing.Idle
         → slice_get c.has from ≡ Some mine → slice_get c.has to ≡ Some theirs
-        → primitive.shows (hands_over c from (emptied mine) to (gathered theirs mine)) words log
+        → primitive.shows (hands_over c from (has_none mine) to (has_both theirs mine)) words log
         handed
     -- and so may a part of what it holds
     pub shares : (c : Hidden) (from to many : ℕ) (mine theirs : Has) (words : List ℕ) (log : List E)

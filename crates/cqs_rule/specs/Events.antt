@@ -118,12 +118,12 @@ abbrev pub raise : ℤ → ℕ
 raise (pos k) = k
 raise (negsuc k) = 2 ^ 64 - suc k
 
-abbrev pub added : ℤ → ℕ → ℕ
-added by n = (n + raise by) % 2 ^ 64
+abbrev pub word_plus : ℤ → ℕ → ℕ
+word_plus by n = (n + raise by) % 2 ^ 64
 
 -- a word after an exchange
-abbrev pub exchanged : ℕ → ℕ → ℕ → ℕ
-exchanged saw new n = either (where_found saw n) new n
+abbrev pub word_after_exchange : ℕ → ℕ → ℕ → ℕ
+word_after_exchange saw new n = either (where_found saw n) new n
 
 -- the waits in line are fewer than this at any time, and so are the numbers that were drawn
 abbrev pub longest_line : ℕ

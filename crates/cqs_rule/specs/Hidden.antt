@@ -92,20 +92,20 @@ now_may_draw c p may = record {
 }
 
 -- what a pass has that got what another held and had in hand, and that other one
-abbrev pub gathered : Has → Has → Has
-gathered mine theirs = record mine {
+abbrev pub has_both : Has → Has → Has
+has_both mine theirs = record mine {
   held = mine.held + theirs.held;
   slots = mine.slots ++ theirs.slots;
   spares = mine.spares + theirs.spares;
 }
 
-abbrev pub emptied : Has → Has
-emptied theirs = record theirs { held = 0; slots = []; spares = 0 }
+abbrev pub has_none : Has → Has
+has_none theirs = record theirs { held = 0; slots = []; spares = 0 }
 
 -- what a pass has that gave so much of what it held: where it gave nothing, what it had
-abbrev pub lessened : ℕ → Has → Has
-lessened zero mine = mine
-lessened (suc n) mine = record mine { held = mine.held - suc n }
+abbrev pub has_less : ℕ → Has → Has
+has_less zero mine = mine
+has_less (suc n) mine = record mine { held = mine.held - suc n }
 
 -- what one pass has, or some of it, becomes another's: they have this now
 abbrev pub hands_over : Hidden → ℕ → Has → ℕ → Has → Hidden

@@ -50,23 +50,23 @@ abbrev pub owes_then : QueueStep → Bool
 owes_then s = owes_by (row_of s)
 
 -- how many waits it opens and closes
-abbrev pub opened : WaitChange → ℕ
-opened wait_stays = 0
-opened wait_opens = 1
-opened wait_closes = 0
+abbrev pub opens_of : WaitChange → ℕ
+opens_of wait_stays = 0
+opens_of wait_opens = 1
+opens_of wait_closes = 0
 
-abbrev pub closed : WaitChange → ℕ
-closed wait_stays = 0
-closed wait_opens = 0
-closed wait_closes = 1
+abbrev pub closes_of : WaitChange → ℕ
+closes_of wait_stays = 0
+closes_of wait_opens = 0
+closes_of wait_closes = 1
 
 abbrev pub opens_by : StepRow → ℕ
 opens_by (at_counter row) = 0
-opens_by (at_cell row) = opened row.wait
+opens_by (at_cell row) = opens_of row.wait
 
 abbrev pub closes_by : StepRow → ℕ
 closes_by (at_counter row) = 0
-closes_by (at_cell row) = closed row.wait
+closes_by (at_cell row) = closes_of row.wait
 
 abbrev pub opens_wait : QueueStep → ℕ
 opens_wait s = opens_by (row_of s)

@@ -40,61 +40,61 @@ pub data LoadStep : Type 0 where
   misses : LoadStep
 
 -- the event that a load of a cell in this state shows
-abbrev pub polled : CoreState → Option QueueStep
-polled state.Waiter = Some (looks pends)
-polled state.Resumed = Some (looks grants)
-polled state.Empty = None
-polled state.Value = None
-polled state.Taken = None
-polled state.Broken = None
-polled state.Cancelling = None
-polled state.Delegated = None
-polled state.Cancelled = None
-polled state.Refused = None
+abbrev pub event_when_polled : CoreState → Option QueueStep
+event_when_polled state.Waiter = Some (looks pends)
+event_when_polled state.Resumed = Some (looks grants)
+event_when_polled state.Empty = None
+event_when_polled state.Value = None
+event_when_polled state.Taken = None
+event_when_polled state.Broken = None
+event_when_polled state.Cancelling = None
+event_when_polled state.Delegated = None
+event_when_polled state.Cancelled = None
+event_when_polled state.Refused = None
 
-abbrev pub found_late : CoreState → Option QueueStep
-found_late state.Resumed = Some (looks late)
-found_late state.Waiter = None
-found_late state.Empty = None
-found_late state.Value = None
-found_late state.Taken = None
-found_late state.Broken = None
-found_late state.Cancelling = None
-found_late state.Delegated = None
-found_late state.Cancelled = None
-found_late state.Refused = None
+abbrev pub event_when_late : CoreState → Option QueueStep
+event_when_late state.Resumed = Some (looks late)
+event_when_late state.Waiter = None
+event_when_late state.Empty = None
+event_when_late state.Value = None
+event_when_late state.Taken = None
+event_when_late state.Broken = None
+event_when_late state.Cancelling = None
+event_when_late state.Delegated = None
+event_when_late state.Cancelled = None
+event_when_late state.Refused = None
 
-abbrev pub met : CoreState → Option QueueStep
-met state.Cancelled = Some passes_over
-met state.Refused = Some ends_refused
-met state.Empty = None
-met state.Waiter = None
-met state.Value = None
-met state.Taken = None
-met state.Broken = None
-met state.Resumed = None
-met state.Cancelling = None
-met state.Delegated = None
+abbrev pub event_when_met : CoreState → Option QueueStep
+event_when_met state.Cancelled = Some passes_over
+event_when_met state.Refused = Some ends_refused
+event_when_met state.Empty = None
+event_when_met state.Waiter = None
+event_when_met state.Value = None
+event_when_met state.Taken = None
+event_when_met state.Broken = None
+event_when_met state.Resumed = None
+event_when_met state.Cancelling = None
+event_when_met state.Delegated = None
 
-abbrev pub missed : CoreState → Option QueueStep
-missed state.Cancelled = Some ends_missed
-missed state.Refused = None
-missed state.Empty = None
-missed state.Waiter = None
-missed state.Value = None
-missed state.Taken = None
-missed state.Broken = None
-missed state.Resumed = None
-missed state.Cancelling = None
-missed state.Delegated = None
+abbrev pub event_when_missed : CoreState → Option QueueStep
+event_when_missed state.Cancelled = Some ends_missed
+event_when_missed state.Refused = None
+event_when_missed state.Empty = None
+event_when_missed state.Waiter = None
+event_when_missed state.Value = None
+event_when_missed state.Taken = None
+event_when_missed state.Broken = None
+event_when_missed state.Resumed = None
+event_when_missed state.Cancelling = None
+event_when_missed state.Delegated = None
 
 abbrev pub event_of : LoadStep → CoreState → Option QueueStep
 event_of counts s = None
 event_of watches s = None
-event_of polls s = polled s
-event_of cancels s = found_late s
-event_of meets s = met s
-event_of misses s = missed s
+event_of polls s = event_when_polled s
+event_of cancels s = event_when_late s
+event_of meets s = event_when_met s
+event_of misses s = event_when_missed s
 
 -- the loads that a client of this manner makes
 abbrev pub LoadSuits : Manner → LoadStep → Type 0
@@ -148,13 +148,13 @@ learned_of by None = Nothing
 learned_of by (Some cell) = by cell.state
 
 -- a load that found the word n
-abbrev pub learned : LoadStep → ℕ → Learned
-learned counts n = Nothing
-learned watches n = Nothing
-learned polls n = learned_of served_in (unpacked_cell n)
-learned cancels n = learned_of served_in (unpacked_cell n)
-learned meets n = learned_of refused_in (unpacked_cell n)
-learned misses n = learned_of cancelled_in (unpacked_cell n)
+abbrev pub learns : LoadStep → ℕ → Learned
+learns counts n = Nothing
+learns watches n = Nothing
+learns polls n = learned_of served_in (unpacked_cell n)
+learns cancels n = learned_of served_in (unpacked_cell n)
+learns meets n = learned_of refused_in (unpacked_cell n)
+learns misses n = learned_of cancelled_in (unpacked_cell n)
 
 -- the states in which the cell of a wait that isn't closed may be found, and that of an open ticket
 abbrev pub MayStand : LoadStep → CoreState → Type 0
@@ -276,4 +276,4 @@ module _ {C E S : Type 0} (object : Object E) (primitive : C → Primitive E S) 
       → Me (Option S) (View E S) → Type 0
   loaded_by load st me n me' =
       Loaded load st.word me.0 n me'.0 × (me'.1 ≡ me.1) × IsLive object me'.0
-      × CarriesLearned object.gains.held (learned load n) me.0.facts me'.0.facts × IsSame me.0 me'.0
+      × CarriesLearned object.gains.held (learns load n) me.0.facts me'.0.facts × IsSame me.0 me'.0

@@ -7,7 +7,7 @@ use Rattle.cqs_rule.specs.Crew.{Met}
 use Rattle.cqs_rule.specs.Passes.{pass_view}
 use Rattle.cqs_rule.specs.Facts.{owes_any}
 use Rattle.cqs_rule.specs.Saw.{Saw}
-use Rattle.cqs_rule.specs.Views.{as_before, gathered, facts_lessened}
+use Rattle.cqs_rule.specs.Views.{as_before, has_both, facts_lessened}
 
 -- a pass that can't be met away: it owes something, or has a wait
 abbrev pub IsBusy : Facts → Type 0
@@ -30,5 +30,5 @@ module _ {C S E : Type 0} {g : Ghosts C S E} where
   HasMet p given p' =
       Met g.object (pass_view p)
       (record (pass_view p).facts
-      { has = gathered (pass_view p).facts.has (pass_view given).facts.has })
+      { has = has_both (pass_view p).facts.has (pass_view given).facts.has })
       (pass_view given).seen (pass_view given).handed (pass_view given).own (pass_view p')

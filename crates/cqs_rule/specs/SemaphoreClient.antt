@@ -21,11 +21,11 @@ use Rattle.cqs_core.specs.SemaphoreShown.{IsCore, opened}
 use Rattle.cqs_core.specs.SemaphoreRuns.{handed}
 use Rattle.cqs_core.proofs.OpenedCore.{opened-core, hand_over-core}
 use Rattle.cqs_core.proofs.Places.{get-below, get-set_else, set-same}
-use Rattle.cqs_core.proofs.Ground.{reached-few, held-small}
+use Rattle.cqs_core.proofs.Bounds.{reached-few, held-small}
 use Rattle.cqs_core.proofs.FirstOfWay.{ending-within}
 use Rattle.cqs_rule.specs.declared.view.Has.{Has}
 use Rattle.cqs_rule.specs.Client.{IsClient, KeepsSlots, IsBegun, begun_by, no_number}
-use Rattle.cqs_rule.specs.Hidden.{Hidden, happened, has_after, has_gained, has_paid, gathered, emptied, hands_over}
+use Rattle.cqs_rule.specs.Hidden.{Hidden, happened, has_after, has_gained, has_paid, has_both, has_none, hands_over}
 use Rattle.cqs_rule.specs.Lists.{NamesOnly}
 use Rattle.cqs_rule.specs.Manner.{Suits}
 use Rattle.cqs_rule.specs.Opened.{first_hidden, four}
@@ -283,7 +283,7 @@ semaphore-client permits some low = record {
       steps-core permits c t p k found has payload words log core opens there suits low low';
   counts = λ c p may words log handed core. core;
   hands = λ c from to mine theirs words log handed core apart idle idle' has there.
-      given-permits permits c from to mine.held mine theirs (emptied mine) (gathered theirs mine)
+      given-permits permits c from to mine.held mine theirs (has_none mine) (has_both theirs mine)
       words log core apart has there (omega arith) (omega arith) refl;
   shares = λ c from to many mine theirs words log handed core apart idle idle' has there enough.
       given-permits permits c from to many mine theirs (record mine { held = mine.held - many })

@@ -1,6 +1,6 @@
 -- The views of the passes: the first one, what of them the rule counts, and what stays of one at
 -- each step.
-pub use Rattle.cqs_rule.specs.Hidden.{gathered, emptied, lessened}
+pub use Rattle.cqs_rule.specs.Hidden.{has_both, has_none, has_less}
 use Rattle.std.specs.Prelude.{◌≡◌, ◌⊎◌, ℕ, ◌-◌, ◌*◌, ◌<◌, true, false, List, [], ◌∷◌, ◌++◌, None}
 use mathlib.Core.Option.{some}
 use lib.ListN.{get_elem?}
@@ -35,7 +35,7 @@ first_facts held = record {
 
 -- what a pass is at that gave so much of what it held
 abbrev pub facts_lessened : ℕ → Facts → Facts
-facts_lessened gives f = record f { has = lessened gives f.has }
+facts_lessened gives f = record f { has = has_less gives f.has }
 
 -- it rises with each pass made and each pass met away
 abbrev pub crew_turn : ℕ → ℕ
@@ -106,13 +106,13 @@ module _ {E S : Type 0} where
   abbrev pub joined : View E S → View E S → View E S
   joined v u = record v {
     weight = 2;
-    facts = record v.facts { has = gathered v.facts.has u.facts.has };
+    facts = record v.facts { has = has_both v.facts.has u.facts.has };
     laid = v.laid ++ u.laid;
     other = u.seen;
     other_handed = u.handed;
     others = u.own;
     second_number = u.number;
-    second = record u.facts { has = emptied u.facts.has };
+    second = record u.facts { has = has_none u.facts.has };
     alone = false;
   }
 

@@ -28,17 +28,17 @@ pub enum Learned {
 /// What a call loads, and the event that its load names.
 pub trait Load {
     ghost use Rattle.std.specs.Prelude.{◌≡◌};
-    ghost use Rattle.cqs_rule.specs.Loads.{LoadStep, learned};
+    ghost use Rattle.cqs_rule.specs.Loads.{LoadStep, learns};
 
     ghost load: { LoadStep };
 
     /// What a load that found this word tells its pass.
-    fn learned(found: u64) -> Learned
-        ensures { result ≡ learned load found };
+    fn learns(found: u64) -> Learned
+        ensures { result ≡ learns load found };
 }
 
 // What the owner of a wait learns from the word of its cell.
-fn served(found: u64) -> Learned
+fn owner_learns(found: u64) -> Learned
     ensures { result ≡ learned_of served_in (unpacked_cell found) }
 {
     match CellWord::unpack(found) {
@@ -53,7 +53,7 @@ pub struct Counts;
 impl Load for Counts {
     ghost load = { counts };
 
-    fn learned(_found: u64) -> Learned {
+    fn learns(_found: u64) -> Learned {
         Learned::Nothing
     }
 }
@@ -64,7 +64,7 @@ pub struct Watches;
 impl Load for Watches {
     ghost load = { watches };
 
-    fn learned(_found: u64) -> Learned {
+    fn learns(_found: u64) -> Learned {
         Learned::Nothing
     }
 }
@@ -75,8 +75,8 @@ pub struct Polls;
 impl Load for Polls {
     ghost load = { polls };
 
-    fn learned(found: u64) -> Learned {
-        served(found)
+    fn learns(found: u64) -> Learned {
+        owner_learns(found)
     }
 }
 
@@ -87,8 +87,8 @@ pub struct Cancels;
 impl Load for Cancels {
     ghost load = { cancels };
 
-    fn learned(found: u64) -> Learned {
-        served(found)
+    fn learns(found: u64) -> Learned {
+        owner_learns(found)
     }
 }
 
@@ -99,7 +99,7 @@ pub struct Meets;
 impl Load for Meets {
     ghost load = { meets };
 
-    fn learned(found: u64) -> Learned {
+    fn learns(found: u64) -> Learned {
         match CellWord::unpack(found) {
             Some(cell) if cell.state == CellState::Refused => Learned::Ended,
             _ => Learned::Nothing,
@@ -113,7 +113,7 @@ pub struct Misses;
 impl Load for Misses {
     ghost load = { misses };
 
-    fn learned(found: u64) -> Learned {
+    fn learns(found: u64) -> Learned {
         match CellWord::unpack(found) {
             Some(cell) if cell.state == CellState::Cancelled => Learned::Ended,
             _ => Learned::Nothing,

@@ -7,7 +7,7 @@ ghost use Rattle.cqs_semaphore.specs.Permits.{number_of};
 use cqs_rule::{Under, Wait};
 
 /// A permit that a caller has. It is neither copied nor cloned; one that is dropped stays held for
-/// good.
+/// good, unless `permit_of` makes another token of it.
 #[derive(Drop)]
 pub struct Permit {
     pub(crate) number: Option<u64>,
@@ -62,7 +62,7 @@ pub enum Released {
 
 impl Released {
     // The resumption that is still owed.
-    pub(crate) fn owed(self) -> Option<Under>
+    pub(crate) fn into_under(self) -> Option<Under>
         ensures { result ≡ owed_after self }
     {
         match self {

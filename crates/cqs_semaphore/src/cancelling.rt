@@ -12,7 +12,7 @@ ghost use Rattle.cqs_semaphore.specs.Entries.{cancelled_entries, passed_further}
 ghost use Rattle.cqs_semaphore.specs.Steps.{HasCancelled, PassedOn};
 
 use crate::answers::{CancelAnswer, Permit};
-use crate::releasing::released;
+use crate::releasing::release_after;
 use crate::semaphore::{SemPass, Semaphore};
 use cqs_cancel::{Left, cancel};
 use cqs_resume::resume;
@@ -55,6 +55,6 @@ impl<T: Carries + Send> Semaphore<T> {
         ensures passed { PassedOn payload (pass_view pass.old) result (pass_view pass.new) }
         ensures between { IsBetween (pass_view pass.new).facts }
     {
-        released(resume(&self.queue, pass, payload)).owed()
+        release_after(resume(&self.queue, pass, payload)).into_under()
     }
 }

@@ -10,9 +10,8 @@ ghost use Rattle.cqs_semaphore.specs.Entries.{polled_entries};
 
 use crate::answers::{Permit, Polled};
 use crate::semaphore::{SemPass, Semaphore};
-use cqs_cell::look;
-use cqs_rule::{Carries, Polls, SemClient, Wait};
-use cqs_words::CellState;
+use cqs_cell::look_for_grant;
+use cqs_rule::{Carries, Wait};
 
 impl<T: Carries + Send> Semaphore<T> {
     /// Looks whether the wait was served: one load.
@@ -31,13 +30,11 @@ impl<T: Carries + Send> Semaphore<T> {
             → IsPlainPoll (place_of wait).index (pass_view pass.old) result }
     {
         let at = self.queue.spend_wait(pass, wait);
-        let cell = look::<SemClient<T>, Polls>(&self.queue, pass, at);
-        match cell.state {
-            CellState::Resumed => Polled::Granted(Permit {
+        match look_for_grant(&self.queue, pass, at) {
+            Some(_) => Polled::Granted(Permit {
                 number: Some(at.index),
             }),
-            CellState::Waiter => Polled::Pending(self.queue.wait_of(pass, at)),
-            _ => unreachable!(),
+            None => Polled::Pending(self.queue.wait_of(pass, at)),
         }
     }
 }

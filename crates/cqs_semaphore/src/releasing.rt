@@ -71,7 +71,7 @@ impl<T: Carries + Send> Semaphore<T> {
             → (plain_after (pass_view pass.old)).way ≡ 0
             → IsTurnedBack (pass_view pass.old) result (pass_view pass.new) }
     {
-        released(finish(&self.queue, pass, under))
+        release_after(finish(&self.queue, pass, under))
     }
 
     /// A token of a permit that the pass holds, for a caller who counts its permits and keeps no
@@ -92,12 +92,12 @@ impl<T: Carries + Send> Semaphore<T> {
         ensures belongs { IsMine self.now pass.new }
         ensures ended { HasEnded None 0 (pass_view pass.old) result (pass_view pass.new) }
     {
-        released(resume(&self.queue, pass, 0))
+        release_after(resume(&self.queue, pass, 0))
     }
 }
 
 // What the end of a resumption means for the permit.
-pub(crate) fn released(resumed: Resumed) -> Released
+pub(crate) fn release_after(resumed: Resumed) -> Released
     ensures { result ≡ as_released resumed }
 {
     match resumed {

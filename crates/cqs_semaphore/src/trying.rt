@@ -36,13 +36,13 @@ impl<T: Carries + Send> Semaphore<T> {
         if found.word == saw.word {
             return Tried::Got(Permit { number: None });
         }
-        contended(saw, found)
+        contention(saw, found)
     }
 }
 
 // The two states of a try by which another caller was first.
 #[inline]
-fn contended(saw: PackedState, found: PackedState) -> Tried
+fn contention(saw: PackedState, found: PackedState) -> Tried
     requires saw { StateFits (record { value = count_in saw.word }) }
     requires found { StateFits (record { value = count_in found.word }) }
     ensures { result ≡ Contended (count_in saw.word) (count_in found.word) }

@@ -83,7 +83,7 @@ fn time_free(
 {
     let start = Instant::now(rt)?;
     let done = free_rounds(semaphore, pass, count);
-    told(rt, start, done)
+    nanoseconds_since(rt, start, done)
 }
 
 /// The pass takes the permit, and so many waiters come before the rounds begin.
@@ -103,7 +103,7 @@ fn time_leave(
     stand(semaphore, pass, live);
     let start = Instant::now(rt)?;
     let done = leave_rounds(semaphore, pass, count);
-    told(rt, start, done)
+    nanoseconds_since(rt, start, done)
 }
 
 /// The pass takes the permit before the rounds begin.
@@ -121,7 +121,7 @@ fn time_served(
     };
     let start = Instant::now(rt)?;
     let done = served_rounds(semaphore, pass, permit, count);
-    told(rt, start, done)
+    nanoseconds_since(rt, start, done)
 }
 
 /// The nanoseconds of so many rounds that so many threads share, on a semaphore of their own.
@@ -137,11 +137,11 @@ fn time_contended<R: Clock + Threads + Sync + AllocGlobal>(
     let passes = hire(rt.alloc(), &semaphore, &mut pass, threads)?;
     let start = Instant::now(rt)?;
     let done = contended_rounds(rt, &semaphore, passes, count / u64::from(threads.max(1)));
-    told(rt, start, done)
+    nanoseconds_since(rt, start, done)
 }
 
 /// The nanoseconds since the start, if all rounds went as they should.
-fn told(rt: &impl Clock, start: Instant, done: bool) -> anyhow::Result<u64> {
+fn nanoseconds_since(rt: &impl Clock, start: Instant, done: bool) -> anyhow::Result<u64> {
     let nanoseconds = start.elapsed(rt)?.as_nanos();
     if !done {
         anyhow::bail!("a round went otherwise");

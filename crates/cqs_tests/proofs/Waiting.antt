@@ -1,17 +1,12 @@
 -- What a pass knows of its wait goes on from step to step and from call to call.
-use Rattle.std.proofs.Common.{◌≡◌, ℕ, List, sym, refl, subst, ap, ◌∙◌, true, if◌then◌else◌}
-use Rattle.cqs_core.specs.declared.cells.CoreState.{CoreState}
-use Rattle.cqs_core.specs.declared.cells.CoreState.TheVariants as state
+use Rattle.std.proofs.Common.{◌≡◌, ℕ, List, sym, subst, ap, ◌∙◌, true, if◌then◌else◌}
 use Rattle.cqs_core.specs.declared.doings.Doing.TheVariants as doing
 use Rattle.cqs_core.specs.declared.entries.Entry.{Entry}
 use Rattle.cqs_rule.specs.declared.config.Place.{Place}
 use Rattle.cqs_rule.specs.declared.queue.tokens.Wait.{Wait}
 use Rattle.cqs_rule.specs.declared.view.Facts.{Facts}
-use Rattle.cqs_rule.specs.declared.view.Glimpse.{Glimpse}
 use Rattle.cqs_rule.specs.declared.view.View.{View}
 use Rattle.cqs_rule.specs.Events.{in_any_case}
-use Rattle.cqs_rule.specs.Hidden.{Gains}
-use Rattle.cqs_rule.specs.Loads.{cancels, event_of, facts_looked}
 use Rattle.cqs_rule.specs.Object.{Object}
 use Rattle.cqs_rule.specs.Placed.{KnowsPlace, place_known, place_word}
 use Rattle.cqs_rule.specs.Saw.{Saw}
@@ -38,20 +33,6 @@ module _ {E S : Type 0} (object : Object E) where
   keeps-step v w f es wait s same =
       has-wait-called object v w es es wait (called-by object v w f es s)
       (subst (λ (g : Facts). g.waits ≡ v.facts.waits) (sym s.facts_are) same)
-
--- an idle pass that is about to cancel is idle after its look, whatever it found
-pub still-idle : (gains : Gains) (x : CoreState) (n : ℕ) (g : Glimpse) (f : Facts) → f.doing ≡ doing.Idle
-    → (facts_looked gains (event_of cancels x) n g f).doing ≡ doing.Idle
-still-idle gains state.Empty n g f idle = idle
-still-idle gains state.Waiter n g f idle = idle
-still-idle gains state.Value n g f idle = idle
-still-idle gains state.Taken n g f idle = idle
-still-idle gains state.Broken n g f idle = idle
-still-idle gains state.Resumed n g f idle = refl
-still-idle gains state.Cancelling n g f idle = idle
-still-idle gains state.Delegated n g f idle = idle
-still-idle gains state.Cancelled n g f idle = idle
-still-idle gains state.Refused n g f idle = idle
 
 -- a pass that gave a permit back, and found the state below 0, owes it to the line
 pub owes-it : {T : Type 0} (v w : View Entry T) (n : ℕ) → OnState gives_one in_any_case v n w

@@ -5,11 +5,11 @@
 #[cfg(test)]
 mod core_calls;
 #[cfg(test)]
+mod line;
+#[cfg(test)]
 mod packed_words;
 #[cfg(test)]
 mod queue_calls;
-#[cfg(test)]
-mod queue_rows;
 #[cfg(test)]
 mod seats;
 #[cfg(test)]

@@ -30,9 +30,9 @@ fn crews_of_two_four_and_eight(rt: HostRuntime) -> Result<(), Fail> {
                 counts.tries.total(),
                 u64::from(threads) * u64::from(ROUNDS)
             );
-            assert_eq!(rt; counts.acquires.waited, counts.ended());
+            assert_eq!(rt; counts.acquires.waited, counts.ends());
             assert_eq!(rt;
-                counts.arrived(),
+                counts.arrivals(),
                 counts.came().saturating_add(counts.cancels.owing)
             );
             assert_eq!(rt; semaphore.sole(&mut pass), true);

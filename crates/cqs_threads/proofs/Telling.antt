@@ -16,17 +16,17 @@ use Rattle.cqs_semaphore.proofs.Courses.{course-call, course-then}
 use Rattle.cqs_threads.specs.declared.counts.Acquires.{Acquires}
 use Rattle.cqs_threads.specs.declared.counts.Counts.{Counts}
 use Rattle.cqs_threads.proofs.Meeting.{course-none}
-use Rattle.cqs_threads.specs.Tallies.{Tally, nothing_yet, with_entry, tally_of, counted, TellsBut, Adds, CountsNow}
+use Rattle.cqs_threads.specs.Tallies.{Tally, nothing_yet, with_entry, tally_of, count_of, TellsBut, Adds, CountsNow}
 
 -- one more is counted
-pub counted-next : (n x y : ℕ) → x ≡ counted n → y ≡ counted (x + 1) → y ≡ counted (n + 1)
+pub counted-next : (n x y : ℕ) → x ≡ count_of n → y ≡ count_of (x + 1) → y ≡ count_of (n + 1)
 counted-next n x y is more = omega arith
 
 tally-then : (a b : List Entry) → tally_of (a ++ b) ≡ fold with_entry (tally_of a) b
 tally-then a b = fold-append with_entry nothing_yet a b
 
 abbrev one_more : ℕ → ℕ
-one_more x = counted (x + 1)
+one_more x = count_of (x + 1)
 
 module _ {T : Type 0} where
   -- nothing

@@ -59,36 +59,36 @@ abbrev pub tally_of : List Entry → Tally
 tally_of entries = fold with_entry nothing_yet entries
 
 -- a count that is full stays so
-abbrev pub counted : ℕ → ℕ
-counted n = min n (2 ^ 64 - 1)
+abbrev pub count_of : ℕ → ℕ
+count_of n = min n (2 ^ 64 - 1)
 
 -- a permit that came at once was counted: one that was free, or one that came by a number
 abbrev pub CountsNow : Option ℕ → Acquires → Acquires → Type 0
-CountsNow None before after = after ≡ record before { free = counted (before.free + 1) }
-CountsNow (Some k) before after = after ≡ record before { took = counted (before.took + 1) }
+CountsNow None before after = after ≡ record before { free = count_of (before.free + 1) }
+CountsNow (Some k) before after = after ≡ record before { took = count_of (before.took + 1) }
 
 -- The answers to `acquire`: each number that was drawn was one of a wait, or its permit was there.
 pub record TellsAcquires (free entered : ℕ) (a : Acquires) : Type 0 where
-  pub free_is : a.free ≡ counted free
+  pub free_is : a.free ≡ count_of free
   pub took : ℕ
   pub waited : ℕ
   pub entered_is : took + waited ≡ entered
-  pub took_is : a.took ≡ counted took
-  pub waited_is : a.waited ≡ counted waited
+  pub took_is : a.took ≡ count_of took
+  pub waited_is : a.waited ≡ count_of waited
 
 pub record TellsTries (got busy : ℕ) (a : Tries) : Type 0 where
-  pub got_is : a.got ≡ counted got
-  pub busy_is : a.busy ≡ counted busy
+  pub got_is : a.got ≡ count_of got
+  pub busy_is : a.busy ≡ count_of busy
 
 pub record TellsPolls (granted pending : ℕ) (a : Polls) : Type 0 where
-  pub granted_is : a.granted ≡ counted granted
-  pub pending_is : a.pending ≡ counted pending
+  pub granted_is : a.granted ≡ count_of granted
+  pub pending_is : a.pending ≡ count_of pending
 
 -- The answers to `release`, `finish` and `cancel`: each wait that was given up was cancelled, with
 -- something owed or nothing. Each permit that was sent, and each that a cancel owed, arrived
 -- somewhere, but for so many.
 pub record TellsEnds (due freed sent gone late : ℕ) (r : Releases) (a : Cancels) : Type 0 where
-  pub freed_is : r.freed ≡ counted freed
+  pub freed_is : r.freed ≡ count_of freed
   pub served : ℕ
   pub left : ℕ
   pub void : ℕ
@@ -96,12 +96,12 @@ pub record TellsEnds (due freed sent gone late : ℕ) (r : Releases) (a : Cancel
   pub owing : ℕ
   pub arrived : served + left + void + due ≡ sent + owing
   pub gone_is : cancelled + owing ≡ gone
-  pub served_is : r.sent ≡ counted served
-  pub left_is : r.left ≡ counted left
-  pub void_is : r.void ≡ counted void
-  pub cancelled_is : a.cancelled ≡ counted cancelled
-  pub owing_is : a.owing ≡ counted owing
-  pub late_is : a.too_late ≡ counted late
+  pub served_is : r.sent ≡ count_of served
+  pub left_is : r.left ≡ count_of left
+  pub void_is : r.void ≡ count_of void
+  pub cancelled_is : a.cancelled ≡ count_of cancelled
+  pub owing_is : a.owing ≡ count_of owing
+  pub late_is : a.too_late ≡ count_of late
 
 -- the counts are those of entries with this tally
 pub record TellsBut (due : ℕ) (t : Tally) (c : Counts) : Type 0 where

@@ -1,7 +1,7 @@
 //! How often each answer came.
 
 ghost use Rattle.std.specs.Prelude.{◌≡◌, ◌+◌};
-ghost use Rattle.cqs_threads.specs.Tallies.{counted, nothing_yet, TellsBut};
+ghost use Rattle.cqs_threads.specs.Tallies.{count_of, nothing_yet, TellsBut};
 
 use std::fmt;
 
@@ -103,7 +103,7 @@ pub(crate) fn none_yet() -> Counts
 
 /// Counts one more. A count that is full stays so.
 pub(crate) fn count(answers: &mut u64)
-    ensures { answers.new ≡ counted (answers.old + 1) }
+    ensures { answers.new ≡ count_of (answers.old + 1) }
 {
     *answers = answers.saturating_add(1);
 }
@@ -131,7 +131,7 @@ impl Counts {
     }
 
     /// How many permits arrived where they were sent, or are free again.
-    pub fn arrived(&self) -> u64 {
+    pub fn arrivals(&self) -> u64 {
         self.releases
             .freed
             .saturating_add(self.releases.sent)
@@ -140,7 +140,7 @@ impl Counts {
     }
 
     /// How many waits have ended.
-    pub fn ended(&self) -> u64 {
+    pub fn ends(&self) -> u64 {
         self.polls
             .granted
             .saturating_add(self.cancels.cancelled)

@@ -22,7 +22,7 @@ use Rattle.cqs_pool.specs.declared.answers.PoolLeft.TheVariants.{Cancelled}
 use Rattle.cqs_pool.specs.Answers.{Ends, LeavesPass}
 use Rattle.cqs_pool.specs.Pool.{HasEach}
 use Rattle.cqs_value_pool.specs.Pools.{IsFilled, AreFilled, HoldsEach, IsTidy}
-use Rattle.cqs_value_pool.specs.Values.{kept}
+use Rattle.cqs_value_pool.specs.Values.{in_slot}
 
 module _ {S : Type 0} where
   -- what was handed in stays handed in, or something after it is
@@ -142,12 +142,12 @@ none-there e x there = absurd (cc)
 
 module _ {T : Type 0} where
   pub holds-more : (values : List T) (old new : List (ℕ × Kept T)) (slot : ℕ) (y : T) → slot ≡ length values
-      → new ≡ old ++ (slot, kept y) ∷ [] → HoldsEach values old → HoldsEach (values ++ y ∷ []) new
+      → new ≡ old ++ (slot, in_slot y) ∷ [] → HoldsEach values old → HoldsEach (values ++ y ∷ []) new
   holds-more values old new slot y at is holds e x there = ap (λ l. handed_in l e) is ∙ by (cases_lt e (length values))
     where
-      by : (e < length values) ⊎ (length values ≤ e) → handed_in (old ++ (slot, kept y) ∷ []) e ≡ Some (kept x)
+      by : (e < length values) ⊎ (length values ≤ e) → handed_in (old ++ (slot, in_slot y) ∷ []) e ≡ Some (in_slot x)
       by (inl low) =
-          handed-else old slot e (kept y) (λ same. absurd (omega arith))
+          handed-else old slot e (in_slot y) (λ same. absurd (omega arith))
           ∙ holds e x (sym (get-append_below values (y ∷ []) e low) ∙ there)
       by (inr high) =
           let below = get-below (values ++ y ∷ []) e x there in
@@ -155,20 +155,20 @@ module _ {T : Type 0} where
           let here : e ≡ length values = omega arith in
           let same : y ≡ x = same_Some y x (sym (get-push_at values y e here) ∙ there) in
           let slot_is : slot ≡ e = omega arith in
-          subst (λ k. handed_in (old ++ (slot, kept y) ∷ []) k ≡ Some (kept x)) slot_is
-          (handed-here old slot (kept y) ∙ ap (λ z. Some (kept z)) same)
+          subst (λ k. handed_in (old ++ (slot, in_slot y) ∷ []) k ≡ Some (in_slot x)) slot_is
+          (handed-here old slot (in_slot y) ∙ ap (λ z. Some (in_slot z)) same)
 
-  pub empty-more : (old new : List (ℕ × Kept T)) (slot : ℕ) (y : T) → new ≡ old ++ (slot, kept y) ∷ []
+  pub empty-more : (old new : List (ℕ × Kept T)) (slot : ℕ) (y : T) → new ≡ old ++ (slot, in_slot y) ∷ []
       → ((k : ℕ) → slot ≤ k → handed_in old k ≡ None) → (k : ℕ) → slot + 1 ≤ k → handed_in new k ≡ None
   empty-more old new slot y is empty k above =
       ap (λ l. handed_in l k) is
-      ∙ (handed-else old slot k (kept y) (λ same. absurd (omega arith)) ∙ empty k (omega arith))
+      ∙ (handed-else old slot k (in_slot y) (λ same. absurd (omega arith)) ∙ empty k (omega arith))
 
   -- so each of so many is filled
   pub all-held : (values : List T) (size : ℕ) (handed : List (ℕ × Kept T)) → size ≡ length values
       → HoldsEach values handed → AreFilled size handed
   all-held values size handed is holds e low =
-      let t = get-there values e (omega arith) in (kept t.0, holds e t.0 t.1)
+      let t = get-there values e (omega arith) in (in_slot t.0, holds e t.0 t.1)
 
 -- an answer that is given on
 pub if-ok : {A X : Type 0} (r : Result A X) (P Q R : A → Type 0) → ((a : A) → P a → Q a → R a) → IfOk r P → IfOk r Q

@@ -14,7 +14,7 @@ use Rattle.cqs_rule.specs.Slots.{laid_in, handed_in}
 use Rattle.cqs_pool.specs.declared.client.PoolClient.{PoolClient}
 use Rattle.cqs_pool.specs.Calls.{Rests, IsMine, size_of}
 use Rattle.cqs_value_pool.specs.declared.opening.ValuePool.{ValuePool}
-use Rattle.cqs_value_pool.specs.Values.{kept}
+use Rattle.cqs_value_pool.specs.Values.{in_slot}
 
 -- a value was handed in for the element e: at the opening, or by a put
 abbrev pub IsFilled : {T : Type 0} → ℕ → List (ℕ × T) → Type 0
@@ -27,7 +27,8 @@ AreFilled size handed = (e : ℕ) → e < size → IsFilled e handed
 -- what was handed in last for each element is the value at its place
 abbrev pub HoldsEach : {T : Type 0} → List T → List (ℕ × Kept T) → Type 0
 HoldsEach {T} values handed =
-    (e : ℕ) (value : T) → slice_get values e ≡ Some value → handed_in handed e ≡ Some (kept value)
+    (e : ℕ) (value : T) → slice_get values e ≡ Some value
+    → handed_in handed e ≡ Some (in_slot value)
 
 -- nothing was made, since there are too few values or too many, or the configuration is out of
 -- range

@@ -8,8 +8,8 @@ use Rattle.cqs_rule.specs.Slots.{handed_in}
 use Rattle.cqs_rule.specs.SlotSteps.{Swapped}
 
 -- a value as it lies in a slot
-abbrev pub kept : {T : Type 0} → T → Kept T
-kept value = record { value = value }
+abbrev pub in_slot : {T : Type 0} → T → Kept T
+in_slot value = record { value = value }
 
 module _ {T : Type 0} where
   -- An item of the element e got this value: it is the one that was handed in last for e, by the
@@ -18,9 +18,9 @@ module _ {T : Type 0} where
     pub handed : List (ℕ × Kept T)
     pub since : IsPrefix v.handed handed
     pub seen : IsPrefix handed w.handed
-    pub last : handed_in handed e ≡ Some (kept value)
+    pub last : handed_in handed e ≡ Some (in_slot value)
     pub swapped : Swapped ((e, None) ∷ v.laid) v w
 
   -- an item laid its value into the slot
   abbrev pub LaidValue : ℕ → T → View PoolEntry (Kept T) → View PoolEntry (Kept T) → Type 0
-  LaidValue e value v w = Swapped ((e, Some (kept value)) ∷ v.laid) v w
+  LaidValue e value v w = Swapped ((e, Some (in_slot value)) ∷ v.laid) v w

@@ -13,7 +13,7 @@ ghost use Rattle.cqs_pool.specs.Steps.{IsFurther};
 ghost use Rattle.cqs_value_pool.specs.Calls.{HasPut, PutLeaves};
 ghost use Rattle.cqs_value_pool.specs.Items.{value_of, number_of, element_number};
 ghost use Rattle.cqs_value_pool.specs.Pools.{Belongs};
-ghost use Rattle.cqs_value_pool.specs.Values.{kept, LaidValue};
+ghost use Rattle.cqs_value_pool.specs.Values.{in_slot, LaidValue};
 
 use crate::item::Item;
 use crate::opening::{ValuePass, ValuePool};
@@ -31,7 +31,7 @@ impl<T: Send + Drop> ValuePool<T> {
         ensures never_crowded { IsOk result }
         ensures put { IfOk result (λ placed. HasPut (number_of item) (value_of item)
             (pass_view pass.old) placed (pass_view pass.new)) }
-        ensures handed { WasHandedIn (number_of item) (kept (value_of item)) (pass_view pass.old)
+        ensures handed { WasHandedIn (number_of item) (in_slot (value_of item)) (pass_view pass.old)
             (pass_view pass.new) }
         ensures between { IsBetween (pass_view pass.new).facts }
         ensures leaves { IfOk result (λ placed. PutLeaves (number_of item) (pass_view pass.old)

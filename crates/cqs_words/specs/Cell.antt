@@ -1,5 +1,5 @@
 -- How a cell is written in one number.
-use Rattle.std.specs.Prelude.{ℕ, ◌+◌, ◌*◌, ◌/◌, ◌%◌, ◌^◌, ◌<◌, List, [], ◌∷◌, Option, None, slice_get, nat_lt, if◌then◌else◌}
+use Rattle.std.specs.Prelude.{ℕ, ◌+◌, ◌*◌, ◌/◌, ◌%◌, ◌^◌, ◌<◌, List, [], ◌∷◌, ◌==◌, Option, Some, None, slice_get, nat_lt, if◌then◌else◌}
 use Rattle.std.specs.Option.{option_map}
 use Rattle.cqs_words.specs.declared.cell.CellState.{CellState}
 use Rattle.cqs_words.specs.declared.cell.CellState.TheVariants.{Empty, Waiter, Value, Taken, Broken, Resumed, Cancelling, Delegated, Cancelled, Refused}
@@ -52,3 +52,9 @@ index_in n = n / 2 ^ 24
 abbrev pub unpacked_cell : ℕ → Option CellWord
 unpacked_cell n =
     if nat_lt n (2 ^ 64) then option_map (cell_in n) (state_of (n / 2 ^ 20 % 2 ^ 4)) else None
+
+-- the payload of a cell, where it is in this state
+abbrev pub payload_in : CellState → Option CellWord → Option ℕ
+payload_in state None = None
+payload_in state (Some cell) =
+    if state_code cell.state == state_code state then Some cell.payload else None

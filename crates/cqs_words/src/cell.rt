@@ -2,7 +2,14 @@
 
 ghost use Rattle.std.specs.Prelude.{◌≡◌, ◌≢◌, ◌%◌, ◌^◌, Option, Some, IfSome, IfNone};
 ghost use Rattle.cqs_words.specs.Packing.{IsPacking, IsNoPacking};
-ghost use Rattle.cqs_words.specs.Cell.{state_code, state_of, CellFits, packed_cell, unpacked_cell};
+ghost use Rattle.cqs_words.specs.Cell.{
+  state_code,
+  state_of,
+  payload_in,
+  CellFits,
+  packed_cell,
+  unpacked_cell,
+};
 
 use crate::layout::{CODE_BITS, PAYLOAD_BITS, join, split};
 
@@ -109,6 +116,21 @@ impl CellWord {
             state,
             payload: payload as u32,
         })
+    }
+
+    /// The payload of the cell that the number stands for, where that is in this state. Whoever
+    /// waits for one state alone asks so: it is one comparison, and `unpack` is a range of them.
+    #[inline]
+    pub fn payload_in(word: u64, state: CellState) -> Option<u32>
+        ensures { result ≡ payload_in state (unpacked_cell word) }
+    {
+        let (above, payload) = split(word, PAYLOAD_BITS);
+        let (_, code) = split(above, CODE_BITS);
+        if code == state.code() {
+            Some(payload as u32)
+        } else {
+            None
+        }
     }
 
     /// The low 32 bits of the packing, which are all that the kernel compares where a waiter sleeps

@@ -5,7 +5,7 @@ ghost use Rattle.std.specs.Io.{ReadsAtMost};
 ghost use Rattle.std.specs.IoError.{error_kind};
 ghost use Rattle.cqs_plan.specs.Tally.{untouched};
 
-use super::counted::counted;
+use super::counting::count_fault;
 use cqs_plan::{Failed, Source, Tally};
 use std::io::{self, ErrorKind, Read, Stdin};
 use std::marker::Model;
@@ -49,7 +49,7 @@ impl Source for StdinSource {
 
     fn read(&mut self, buffer: &mut [u8]) -> Result<usize, Failed> {
         let answer = read_uninterrupted(&mut self.stdin, buffer);
-        let answer = counted(answer, &mut self.faults);
+        let answer = count_fault(answer, &mut self.faults);
         self.tally.count(answer.unwrap_or(0));
         answer
     }

@@ -4,7 +4,7 @@ ghost use Rattle.std.specs.Prelude.{◌≡◌, ◌≢◌, None, true, IfErr};
 ghost use Rattle.std.specs.Io.{WritesAtMost};
 ghost use Rattle.std.specs.IoError.{error_kind};
 
-use super::counted::counted;
+use super::counting::count_fault;
 use cqs_plan::{Failed, Sink};
 use std::io::{self, ErrorKind, Stdout, Write};
 use std::marker::Model;
@@ -51,11 +51,11 @@ impl Sink for StdoutSink {
             Ok(0) if !piece.is_empty() => Err(ErrorKind::WriteZero.into()),
             answer => answer,
         };
-        counted(answer, &mut self.faults)
+        count_fault(answer, &mut self.faults)
     }
 
     fn flush(&mut self) -> Result<(), Failed> {
-        counted(self.stdout.flush(), &mut self.faults)?;
+        count_fault(self.stdout.flush(), &mut self.faults)?;
         self.is_flushed = true;
         Ok(())
     }

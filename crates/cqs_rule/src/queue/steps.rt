@@ -29,7 +29,7 @@ impl<C: ClientWords> Queue<C> {
             .table
             .shared
             .load::<Loading<C, L>>(&mut pass.seat, word as usize);
-        match L::learned(found) {
+        match L::learns(found) {
             Learned::Nothing => {}
             Learned::Granted => {
                 pass.held = C::held_after_take(pass.held);

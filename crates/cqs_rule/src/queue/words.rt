@@ -3,7 +3,7 @@
 ghost use Rattle.std.specs.Prelude.{◌≡◌, ◌<◌, bit_or, pos};
 ghost use Rattle.cqs_rule.specs.Layout.{client_place};
 ghost use Rattle.cqs_rule.specs.Passes.{IsOf};
-ghost use Rattle.cqs_rule.specs.Events.{added, exchanged, in_any_case, where_found};
+ghost use Rattle.cqs_rule.specs.Events.{word_plus, word_after_exchange, in_any_case, where_found};
 ghost use Rattle.cqs_rule.specs.Steps.{MayMove, MayKeep, MayGive, HasMoved, HasGiven};
 
 use crate::client::{ClientWords, Shown};
@@ -44,7 +44,7 @@ impl<C: ClientWords> Queue<C> {
     pub fn add_word<M: Shown<C>>(&self, pass: &mut Pass<C>, word: u32, by: i64) -> u64
         requires belongs { IsOf self.now pass.old }
         requires word { word < 4 }
-        requires law { MayMove self.now pass.old M.event in_any_case word (added by) }
+        requires law { MayMove self.now pass.old M.event in_any_case word (word_plus by) }
         requires slots { MayKeep self.now pass.old M.event in_any_case }
         ensures belongs { IsOf self.now pass.new }
         ensures saw { HasMoved M.event in_any_case word result pass.old pass.new }
@@ -71,7 +71,7 @@ impl<C: ClientWords> Queue<C> {
     pub fn give_word<M: Shown<C>>(&self, pass: &mut Pass<C>, word: u32, by: u32, slot: u32) -> u64
         requires belongs { IsOf self.now pass.old }
         requires word { word < 4 }
-        requires law { MayMove self.now pass.old M.event in_any_case word (added (pos by)) }
+        requires law { MayMove self.now pass.old M.event in_any_case word (word_plus (pos by)) }
         requires slots { MayGive self.now pass.old M.event in_any_case slot }
         ensures belongs { IsOf self.now pass.new }
         ensures saw { HasMoved M.event in_any_case word result pass.old pass.new }
@@ -90,7 +90,7 @@ impl<C: ClientWords> Queue<C> {
         requires number { slot ≡ K.slot }
         requires belongs { IsOf self.now pass.old }
         requires word { word < 4 }
-        requires law { MayMove self.now pass.old M.event in_any_case word (added (pos by)) }
+        requires law { MayMove self.now pass.old M.event in_any_case word (word_plus (pos by)) }
         requires slots { MayGive self.now pass.old M.event in_any_case slot }
         ensures belongs { IsOf self.now pass.new }
         ensures saw { HasMoved M.event in_any_case word result pass.old pass.new }
@@ -130,7 +130,7 @@ impl<C: ClientWords> Queue<C> {
         requires belongs { IsOf self.now pass.old }
         requires word { word < 4 }
         requires law { MayMove self.now pass.old M.event (where_found saw) word
-            (exchanged saw new) }
+            (word_after_exchange saw new) }
         requires slots { MayKeep self.now pass.old M.event (where_found saw) }
         ensures belongs { IsOf self.now pass.new }
         ensures saw { HasMoved M.event (where_found saw) word result pass.old pass.new }

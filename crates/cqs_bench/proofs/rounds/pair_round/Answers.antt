@@ -6,12 +6,12 @@ use Rattle.cqs_bench.proofs.rounds.pair_round.Goals as goal
 pub spend_wait-at-requires-clause-has : goal.spend_wait-at-requires-clause-has
 spend_wait-at-requires-clause-has c = c.release.ensures.waits.each c.in-Some.wait c.in-Some.ensures.waits
 
-pub look-requires-clause-place : goal.look-requires-clause-place
-look-requires-clause-place c =
+pub look_for_grant-requires-clause-place : goal.look_for_grant-requires-clause-place
+look_for_grant-requires-clause-place c =
     knows-at (pass_view c.release.new.pass) (pass_view c.spend_wait-at.new.pass) _ _
     (ap pass_view c.spend_wait-at.ensures.same) c.spend_wait-at.ensures.place
     (c.release.ensures.waits.each c.in-Some.wait c.in-Some.ensures.waits).place
 
-pub look-requires-clause-belongs : goal.look-requires-clause-belongs
-look-requires-clause-belongs c =
+pub look_for_grant-requires-clause-belongs : goal.look_for_grant-requires-clause-belongs
+look_for_grant-requires-clause-belongs c =
     subst (λ p. IsOf c.args.queue.now p) (sym c.spend_wait-at.ensures.same) c.release.ensures.belongs

@@ -3,7 +3,7 @@ use Rattle.std.proofs.lemmas.List.{length_push, length-append, append-nil}
 use Rattle.std.specs.Vec.Iter.{into_iter_items}
 use Rattle.cqs_rule.specs.Passes.{pass_view, slots_of, IsOf}
 use Rattle.cqs_rule.specs.Slots.{laid_in, handed_in}
-use Rattle.cqs_value_pool.specs.Values.{kept}
+use Rattle.cqs_value_pool.specs.Values.{in_slot}
 use Rattle.cqs_value_pool.proofs.Values.{swapped-more, none-there, holds-more, empty-more}
 use Rattle.cqs_value_pool.proofs.opening.fill.Goals as goal
 
@@ -52,7 +52,7 @@ loop-value-preserved g c =
     let swap = c.fill_slot.ensures.swapped in
     let h = c.fill_slot.ensures.handed in
     let alone = ap (λ z. z.alone) i.swapped.is ∙ c.requires.alone in
-    let now = h.is ∙ ap (λ l. l ++ (c.loop-value.slot, kept c.in-Some.value) ∷ []) (h.whole alone) in
+    let now = h.is ∙ ap (λ l. l ++ (c.loop-value.slot, in_slot c.in-Some.value) ∷ []) (h.whole alone) in
     record {
       mine = subst (λ q. IsOf q c.fill_slot.new.pass) c.queue.ensures c.fill_slot.ensures.belongs;
       swapped = swapped-more _ _ _ i.swapped swap;

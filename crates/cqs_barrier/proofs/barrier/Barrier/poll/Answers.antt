@@ -13,54 +13,58 @@ use Rattle.cqs_barrier.proofs.PollSteps.{pending, pending-called, pending-cell, 
 use Rattle.cqs_barrier.proofs.Rules.{call-rule_own}
 use Rattle.cqs_barrier.proofs.barrier.Barrier.poll.Goals as goal
 
-pub look-cell-requires-clause-belongs : goal.look-cell-requires-clause-belongs
-look-cell-requires-clause-belongs c =
+pub look_for_grant-requires-clause-belongs : goal.look_for_grant-requires-clause-belongs
+look_for_grant-requires-clause-belongs c =
     subst (λ p. IsOf c.args.self.now.queue p) (sym c.spend_wait-at.ensures.same) c.requires.belongs
 
 pub wait_of-requires-clause-place : goal.wait_of-requires-clause-place
 wait_of-requires-clause-place c =
     let at = c.spend_wait-at in
-    knows-saw barrier_object (pass_view at.new.pass) (pass_view c.look-cell.new.pass) _ _ at.result
-    c.look-cell.ensures.looks.looked.saw
+    knows-saw barrier_object (pass_view at.new.pass) (pass_view c.look_for_grant.new.pass) _ _ at.result
+    c.look_for_grant.ensures.polled.looks.looked.saw
     (knows-at (pass_view c.args.pass.now) (pass_view at.new.pass) (place_of (wait_in c.args.wait)) at.result
     (ap pass_view at.ensures.same) at.ensures.place c.requires.has.place)
 
-pub returns-in-Resumed-clause-called : goal.returns-in-Resumed-clause-called
-returns-in-Resumed-clause-called c =
+pub returns-in-Some-clause-called : goal.returns-in-Some-clause-called
+returns-in-Some-clause-called c =
     let v = pass_view c.args.pass.now in
     let k = (place_of (wait_in c.args.wait)).index in
-    let looks = rw (c.spend_wait-at.ensures.same, c.spend_wait-at.ensures.place) at c.look-cell.ensures.looks in
+    let look = c.look_for_grant.ensures.polled in
+    let looks = rw (c.spend_wait-at.ensures.same, c.spend_wait-at.ensures.place) at look.looks in
     call-rule_own _ _ (entry.LookGranted v.number k ∷ []) _
-    (granted-called k _ _ (granted k _ _ _ looks c.in-Resumed.is)) (λ n. refl, tt) c.requires.belongs.live.own
-    c.look-cell.ensures.belongs.live.legal
+    (granted-called k _ _ (granted k _ _ _ looks (rw c.in-Some.is at look.grant).0)) (λ n. refl, tt)
+    c.requires.belongs.live.own c.look_for_grant.ensures.belongs.live.legal
 
-pub returns-in-Resumed-clause-polled : goal.returns-in-Resumed-clause-polled
-returns-in-Resumed-clause-polled c =
+pub returns-in-Some-clause-polled : goal.returns-in-Some-clause-polled
+returns-in-Some-clause-polled c =
     let k = (place_of (wait_in c.args.wait)).index in
-    let looks = rw (c.spend_wait-at.ensures.same, c.spend_wait-at.ensures.place) at c.look-cell.ensures.looks in
-    let found = granted k _ _ _ looks c.in-Resumed.is in
+    let look = c.look_for_grant.ensures.polled in
+    let looks = rw (c.spend_wait-at.ensures.same, c.spend_wait-at.ensures.place) at look.looks in
+    let found = granted k _ _ _ looks (rw c.in-Some.is at look.grant).0 in
     (granted-cell k _ _ found, granted-rests k _ _ c.requires.ready found)
 
-pub returns-in-Waiter-clause-belongs : goal.returns-in-Waiter-clause-belongs
-returns-in-Waiter-clause-belongs c =
-    subst (λ p. IsOf c.args.self.now.queue p) (sym c.wait_of.ensures.same) c.look-cell.ensures.belongs
+pub returns-in-None-clause-belongs : goal.returns-in-None-clause-belongs
+returns-in-None-clause-belongs c =
+    subst (λ p. IsOf c.args.self.now.queue p) (sym c.wait_of.ensures.same) c.look_for_grant.ensures.belongs
 
-pub returns-in-Waiter-clause-called : goal.returns-in-Waiter-clause-called
-returns-in-Waiter-clause-called c =
+pub returns-in-None-clause-called : goal.returns-in-None-clause-called
+returns-in-None-clause-called c =
     let v = pass_view c.args.pass.now in
     let k = (place_of (wait_in c.args.wait)).index in
-    let looks = rw (c.spend_wait-at.ensures.same, c.spend_wait-at.ensures.place) at c.look-cell.ensures.looks in
+    let look = c.look_for_grant.ensures.polled in
+    let looks = rw (c.spend_wait-at.ensures.same, c.spend_wait-at.ensures.place) at look.looks in
     subst (λ p. CallRule v (entry.LookPending v.number k ∷ []) [] (pass_view p)) (sym c.wait_of.ensures.same)
     (call-rule_own _ _ (entry.LookPending v.number k ∷ []) _
-    (pending-called k _ _ (pending k _ _ _ looks c.in-Waiter.is)) (λ n. refl, tt) c.requires.belongs.live.own
-    c.look-cell.ensures.belongs.live.legal)
+    (pending-called k _ _ (pending k _ _ _ looks (rw c.in-None.is at look.grant))) (λ n. refl, tt)
+    c.requires.belongs.live.own c.look_for_grant.ensures.belongs.live.legal)
 
-pub returns-in-Waiter-clause-polled : goal.returns-in-Waiter-clause-polled
-returns-in-Waiter-clause-polled c =
+pub returns-in-None-clause-polled : goal.returns-in-None-clause-polled
+returns-in-None-clause-polled c =
     let v = pass_view c.args.pass.now in
     let k = (place_of (wait_in c.args.wait)).index in
-    let looks = rw (c.spend_wait-at.ensures.same, c.spend_wait-at.ensures.place) at c.look-cell.ensures.looks in
-    let found = pending k _ _ _ looks c.in-Waiter.is in
+    let look = c.look_for_grant.ensures.polled in
+    let looks = rw (c.spend_wait-at.ensures.same, c.spend_wait-at.ensures.place) at look.looks in
+    let found = pending k _ _ _ looks (rw c.in-None.is at look.grant) in
     let has = rw c.wait_of.ensures.same at c.wait_of.ensures.has in
     subst (λ p. IsPolled (wait_in c.args.wait) v (polled.Pending (record { wait = c.wait_of.result })) (pass_view p))
     (sym c.wait_of.ensures.same) (
@@ -70,13 +74,13 @@ returns-in-Waiter-clause-polled c =
       pending-rests k _ _ c.requires.ready found,
     )
 
-pub returns-in-Resumed-clause-alone : goal.returns-in-Resumed-clause-alone
-returns-in-Resumed-clause-alone c =
-    plain-poll (pass_view c.args.pass.now) (pass_view c.look-cell.new.pass) (wait_in c.args.wait) polled.Through
-    (returns-in-Resumed-clause-called c) (returns-in-Resumed-clause-polled c)
+pub returns-in-Some-clause-alone : goal.returns-in-Some-clause-alone
+returns-in-Some-clause-alone c =
+    plain-poll (pass_view c.args.pass.now) (pass_view c.look_for_grant.new.pass) (wait_in c.args.wait) polled.Through
+    (returns-in-Some-clause-called c) (returns-in-Some-clause-polled c)
 
-pub returns-in-Waiter-clause-alone : goal.returns-in-Waiter-clause-alone
-returns-in-Waiter-clause-alone c =
+pub returns-in-None-clause-alone : goal.returns-in-None-clause-alone
+returns-in-None-clause-alone c =
     plain-poll (pass_view c.args.pass.now) (pass_view c.wait_of.new.pass) (wait_in c.args.wait)
     (polled.Pending (record { wait = c.wait_of.result }))
-    (returns-in-Waiter-clause-called c) (returns-in-Waiter-clause-polled c)
+    (returns-in-None-clause-called c) (returns-in-None-clause-polled c)

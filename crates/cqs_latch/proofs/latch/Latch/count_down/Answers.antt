@@ -46,9 +46,9 @@ returns-in-None-clause-counted c =
     let last : c.left_after-left.result ≡ 0 = omega (arith, c.if-left-gt0.false) in
     let one : count_in c.count_down-found.result ≡ pos 1 =
     c.left_after-left.ensures ∙ ap (λ n. pos (n + 1)) last in
-    opened-woke _ c.requires.belongs.live.own c.counted-waiters.result (pass_view c.open.new.pass) _ None
+    opened-woke _ c.requires.belongs.live.own c.resumptions_for-waiters.result (pass_view c.open.new.pass) _ None
     (opens-so _ c.requires.ready c.requires.belongs.live.own (pass_view c.count_down-found.new.pass) _ _ _ _ one
-    c.counted-waiters.ensures
+    c.resumptions_for-waiters.ensures
     (last-taken _ c.requires.ready c.requires.belongs.live.own _ _ _ one
     (loaded-to _ _ _ (sym c.is_above_zero.ensures ∙ c.if-not-is_above_zero.false) c.load_to_count-loaded.ensures.saw)
     c.count_down-found.ensures.saw)
@@ -60,10 +60,10 @@ returns-in-Some-clause-counted c =
     let last : c.left_after-left.result ≡ 0 = omega (arith, c.if-left-gt0.false) in
     let one : count_in c.count_down-found.result ≡ pos 1 =
     c.left_after-left.ensures ∙ ap (λ n. pos (n + 1)) last in
-    opened-woke _ c.requires.belongs.live.own c.counted-waiters.result (pass_view c.open.new.pass) _
+    opened-woke _ c.requires.belongs.live.own c.resumptions_for-waiters.result (pass_view c.open.new.pass) _
     (Some c.in-Some.owed)
     (opens-so _ c.requires.ready c.requires.belongs.live.own (pass_view c.count_down-found.new.pass) _ _ _ _ one
-    c.counted-waiters.ensures
+    c.resumptions_for-waiters.ensures
     (last-taken _ c.requires.ready c.requires.belongs.live.own _ _ _ one
     (loaded-to _ _ _ (sym c.is_above_zero.ensures ∙ c.if-not-is_above_zero.false) c.load_to_count-loaded.ensures.saw)
     c.count_down-found.ensures.saw)

@@ -6,4 +6,4 @@ placed_by-requires g c = never-refused _ _ _ _ _ c.resume.result c.resume.ensure
 
 pub returns-clause-passed : goal.returns-clause-passed
 returns-clause-passed g c =
-    (c.placed_by.result, c.owed.ensures, (c.resume.result, c.placed_by.ensures, c.resume.ensures.resumed))
+    (c.placed_by.result, c.into_under.ensures, (c.resume.result, c.placed_by.ensures, c.resume.ensures.resumed))

@@ -12,60 +12,66 @@ use Rattle.cqs_pool.proofs.PollSteps.{pending, pending-called, pending-cell, pen
 use Rattle.cqs_pool.proofs.Rules.{call-rule_own}
 use Rattle.cqs_pool.proofs.pool.Pool.poll.Goals as goal
 
-pub look-cell-requires-clause-belongs : goal.look-cell-requires-clause-belongs
-look-cell-requires-clause-belongs g c =
+pub look_for_grant-requires-clause-belongs : goal.look_for_grant-requires-clause-belongs
+look_for_grant-requires-clause-belongs g c =
     subst (λ p. IsOf c.args.self.now.queue p) (sym c.spend_wait-at.ensures.same) c.requires.belongs
 
 pub wait_of-requires-clause-place : goal.wait_of-requires-clause-place
 wait_of-requires-clause-place g c =
     let at = c.spend_wait-at in
-    knows-saw pool_object (pass_view at.new.pass) (pass_view c.look-cell.new.pass) _ _ at.result
-    c.look-cell.ensures.looks.looked.saw
+    knows-saw pool_object (pass_view at.new.pass) (pass_view c.look_for_grant.new.pass) _ _ at.result
+    c.look_for_grant.ensures.polled.looks.looked.saw
     (knows-at (pass_view c.args.pass.now) (pass_view at.new.pass) (place_of c.args.wait) at.result
     (ap pass_view at.ensures.same) at.ensures.place c.requires.has.place)
 
-pub returns-in-Resumed-clause-called : goal.returns-in-Resumed-clause-called
-returns-in-Resumed-clause-called g c =
+pub returns-in-Some-clause-called : goal.returns-in-Some-clause-called
+returns-in-Some-clause-called g c =
     let v = pass_view c.args.pass.now in
     let k = (place_of c.args.wait).index in
-    let e = c.look-cell.result.payload in
-    let looks = rw (c.spend_wait-at.ensures.same, c.spend_wait-at.ensures.place) at c.look-cell.ensures.looks in
-    let found = granted k _ _ _ looks c.in-Resumed.is in
+    let e = c.in-Some.number in
+    let polled = c.look_for_grant.ensures.polled in
+    let looks = rw (c.spend_wait-at.ensures.same, c.spend_wait-at.ensures.place) at polled.looks in
+    let grant = rw c.in-Some.is at polled.grant in
+    let found = granted k _ _ _ looks grant.0 in
     call-rule_own _ _ (entry.LookGranted v.number k e ∷ []) _
-    (granted-called k e _ _ found.0 found.1) (λ n. refl, tt) c.requires.belongs.live.own
-    c.look-cell.ensures.belongs.live.legal
+    (granted-called k e _ _ found.0 (found.1 ∙ grant.1)) (λ n. refl, tt)
+    c.requires.belongs.live.own c.look_for_grant.ensures.belongs.live.legal
 
-pub returns-in-Resumed-clause-polled : goal.returns-in-Resumed-clause-polled
-returns-in-Resumed-clause-polled g c =
+pub returns-in-Some-clause-polled : goal.returns-in-Some-clause-polled
+returns-in-Some-clause-polled g c =
     let k = (place_of c.args.wait).index in
-    let e = c.look-cell.result.payload in
-    let looks = rw (c.spend_wait-at.ensures.same, c.spend_wait-at.ensures.place) at c.look-cell.ensures.looks in
-    let found = granted k _ _ _ looks c.in-Resumed.is in (
+    let e = c.in-Some.number in
+    let polled = c.look_for_grant.ensures.polled in
+    let looks = rw (c.spend_wait-at.ensures.same, c.spend_wait-at.ensures.place) at polled.looks in
+    let grant = rw c.in-Some.is at polled.grant in
+    let found = granted k _ _ _ looks grant.0 in (
       ap (λ p. p.index) c.spend_wait-at.ensures.place,
-      granted-cell k e _ _ found.0 found.1,
-      granted-rests k e _ _ found.0 found.1 c.requires.ready,
+      granted-cell k e _ _ found.0 (found.1 ∙ grant.1),
+      granted-rests k e _ _ found.0 (found.1 ∙ grant.1) c.requires.ready,
     )
 
-pub returns-in-Waiter-clause-belongs : goal.returns-in-Waiter-clause-belongs
-returns-in-Waiter-clause-belongs g c =
-    subst (λ p. IsOf c.args.self.now.queue p) (sym c.wait_of.ensures.same) c.look-cell.ensures.belongs
+pub returns-in-None-clause-belongs : goal.returns-in-None-clause-belongs
+returns-in-None-clause-belongs g c =
+    subst (λ p. IsOf c.args.self.now.queue p) (sym c.wait_of.ensures.same) c.look_for_grant.ensures.belongs
 
-pub returns-in-Waiter-clause-called : goal.returns-in-Waiter-clause-called
-returns-in-Waiter-clause-called g c =
+pub returns-in-None-clause-called : goal.returns-in-None-clause-called
+returns-in-None-clause-called g c =
     let v = pass_view c.args.pass.now in
     let k = (place_of c.args.wait).index in
-    let looks = rw (c.spend_wait-at.ensures.same, c.spend_wait-at.ensures.place) at c.look-cell.ensures.looks in
+    let polled = c.look_for_grant.ensures.polled in
+    let looks = rw (c.spend_wait-at.ensures.same, c.spend_wait-at.ensures.place) at polled.looks in
     subst (λ p. CallRule v (entry.LookPending v.number k ∷ []) [] (pass_view p)) (sym c.wait_of.ensures.same)
     (call-rule_own _ _ (entry.LookPending v.number k ∷ []) _
-    (pending-called k _ _ (pending k _ _ _ looks c.in-Waiter.is)) (λ n. refl, tt) c.requires.belongs.live.own
-    c.look-cell.ensures.belongs.live.legal)
+    (pending-called k _ _ (pending k _ _ _ looks (rw c.in-None.is at polled.grant))) (λ n. refl, tt)
+    c.requires.belongs.live.own c.look_for_grant.ensures.belongs.live.legal)
 
-pub returns-in-Waiter-clause-polled : goal.returns-in-Waiter-clause-polled
-returns-in-Waiter-clause-polled g c =
+pub returns-in-None-clause-polled : goal.returns-in-None-clause-polled
+returns-in-None-clause-polled g c =
     let v = pass_view c.args.pass.now in
     let k = (place_of c.args.wait).index in
-    let looks = rw (c.spend_wait-at.ensures.same, c.spend_wait-at.ensures.place) at c.look-cell.ensures.looks in
-    let found = pending k _ _ _ looks c.in-Waiter.is in
+    let polled = c.look_for_grant.ensures.polled in
+    let looks = rw (c.spend_wait-at.ensures.same, c.spend_wait-at.ensures.place) at polled.looks in
+    let found = pending k _ _ _ looks (rw c.in-None.is at polled.grant) in
     let has = rw c.wait_of.ensures.same at c.wait_of.ensures.has in
     subst (λ p. IsPolled c.args.wait v (Pending c.wait_of.result) (pass_view p)) (sym c.wait_of.ensures.same) (
       c.wait_of.ensures.place ∙ c.spend_wait-at.ensures.place,
@@ -74,16 +80,16 @@ returns-in-Waiter-clause-polled g c =
       pending-rests k _ _ c.requires.ready found,
     )
 
-pub returns-in-Resumed-clause-alone : goal.returns-in-Resumed-clause-alone
-returns-in-Resumed-clause-alone g c = λ alone.
-    plain-granted _ _ (place_of c.args.wait).index c.look-cell.result.payload
-    (returns-in-Resumed-clause-called g c) alone
+pub returns-in-Some-clause-alone : goal.returns-in-Some-clause-alone
+returns-in-Some-clause-alone g c = λ alone.
+    plain-granted _ _ (place_of c.args.wait).index c.in-Some.number
+    (returns-in-Some-clause-called g c) alone
 
-pub returns-in-Waiter-clause-alone : goal.returns-in-Waiter-clause-alone
-returns-in-Waiter-clause-alone g c = λ alone.
-    plain-pending _ _ (place_of c.args.wait).index (returns-in-Waiter-clause-called g c) alone
+pub returns-in-None-clause-alone : goal.returns-in-None-clause-alone
+returns-in-None-clause-alone g c = λ alone.
+    plain-pending _ _ (place_of c.args.wait).index (returns-in-None-clause-called g c) alone
 
-pub returns-in-Resumed-clause-new : goal.returns-in-Resumed-clause-new
-returns-in-Resumed-clause-new g c =
-    new-one _ c.look-cell.result.payload _ _ c.look-cell.ensures.belongs.live.known
-    (returns-in-Resumed-clause-polled g c).2.elements_are
+pub returns-in-Some-clause-new : goal.returns-in-Some-clause-new
+returns-in-Some-clause-new g c =
+    new-one _ c.in-Some.number _ _ c.look_for_grant.ensures.belongs.live.known
+    (returns-in-Some-clause-polled g c).2.elements_are

@@ -1,5 +1,5 @@
 use Rattle.std.proofs.Common.{subst, sym}
-use Rattle.cqs_rule.specs.Events.{Moves, exchanged, where_found}
+use Rattle.cqs_rule.specs.Events.{Moves, word_after_exchange, where_found}
 use Rattle.cqs_rule.specs.Passes.{pass_view, client_of}
 use Rattle.cqs_rule.specs.Semaphore.{semaphore_object, semaphore_primitive, tries}
 use Rattle.cqs_rule.specs.SemaphorePermits.{permits_of}
@@ -10,7 +10,7 @@ pub swap_word-requires-clause-law : goal.swap_word-requires-clause-law
 swap_word-requires-clause-law g c =
     let v = pass_view c.args.pass.now in
     subst (λ less. Moves semaphore_object (semaphore_primitive (permits_of (client_of c.args.queue.now))) tries
-    (where_found c.args.saw.word) v.number v.facts 0 (exchanged c.args.saw.word less))
+    (where_found c.args.saw.word) v.number v.facts 0 (word_after_exchange c.args.saw.word less))
     (sym c.one_less.ensures.word) (try-swap-moves _ _ _ _ c.requires.loaded)
 
 pub swap_word-requires-clause-slots : goal.swap_word-requires-clause-slots

@@ -5,20 +5,20 @@ use Rattle.cqs_semaphore.proofs.semaphore.Semaphore.finish.Goals as goal
 
 pub returns-clause-called : goal.returns-clause-called
 returns-clause-called g c =
-    ends-rule _ _ _ _ _ (c.finish.result, c.released.ensures, c.finish.ensures.resumed) c.requires.belongs.live.own
+    ends-rule _ _ _ _ _ (c.finish.result, c.release_after.ensures, c.finish.ensures.resumed) c.requires.belongs.live.own
     c.finish.ensures.belongs.live.legal
 
 pub returns-clause-ends : goal.returns-clause-ends
 returns-clause-ends g c =
-    ends-by _ _ _ _ _ c.requires.further (c.finish.result, c.released.ensures, c.finish.ensures.resumed)
+    ends-by _ _ _ _ _ c.requires.further (c.finish.result, c.release_after.ensures, c.finish.ensures.resumed)
 
 pub returns-clause-alone : goal.returns-clause-alone
 returns-clause-alone g c = λ alone one.
     let rule = returns-clause-called g c in
-    plain-end _ _ c.released.result _ _ rule (returns-clause-ends g c)
+    plain-end _ _ c.release_after.result _ _ rule (returns-clause-ends g c)
     (λ idle. quiet _ c.finish.ensures.belongs.alone c.finish.new.pass.live.0 (rule.called.same.alone ∙ alone) idle)
     alone one
 
 pub returns-clause-alone_turned : goal.returns-clause-alone_turned
 returns-clause-alone_turned g c = λ alone none.
-    turned-back _ _ c.released.result _ _ (returns-clause-called g c) (returns-clause-ends g c) alone none
+    turned-back _ _ c.release_after.result _ _ (returns-clause-called g c) (returns-clause-ends g c) alone none

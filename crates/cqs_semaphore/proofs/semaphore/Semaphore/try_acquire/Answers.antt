@@ -68,7 +68,7 @@ returns-clause-called g c =
     let is = sym c.is_above_zero.ensures ∙ c.if-not-is_above_zero.false in
     let l = loaded true _ _ _ is c.load_state-saw.ensures.saw in
     let s = missed _ _ _ _ c.if-found-saw.false c.try_take-found.ensures.saw in
-    subst (λ t. CallRule v (tried_entries v.number t) [] w) (sym c.contended.ensures)
+    subst (λ t. CallRule v (tried_entries v.number t) [] w) (sym c.contention.ensures)
     (call-rule_own _ _ [] _ (swap-called false _ _ _ _ _ l s) tt c.requires.belongs.live.own
     c.try_take-found.ensures.belongs.live.legal)
 
@@ -79,7 +79,7 @@ returns-clause-tries g c =
     let is = sym c.is_above_zero.ensures ∙ c.if-not-is_above_zero.false in
     let l = loaded true _ _ _ is c.load_state-saw.ensures.saw in
     let s = missed _ _ _ _ c.if-found-saw.false c.try_take-found.ensures.saw in
-    subst (λ t. Tries v t w) (sym c.contended.ensures) (
+    subst (λ t. Tries v t w) (sym c.contention.ensures) (
       contended _ _ _ _ _ is c.if-found-saw.false l s,
       swap-rests false _ _ _ _ _ c.requires.ready l s,
     )
@@ -89,5 +89,5 @@ returns-clause-alone g c = λ alone.
     let is = sym c.is_above_zero.ensures ∙ c.if-not-is_above_zero.false in
     let l = loaded true _ _ _ is c.load_state-saw.ensures.saw in
     let s = missed _ _ _ _ c.if-found-saw.false c.try_take-found.ensures.saw in
-    subst (λ t. IsPlainTry (pass_view c.args.pass.now) t) (sym c.contended.ensures)
+    subst (λ t. IsPlainTry (pass_view c.args.pass.now) t) (sym c.contention.ensures)
     ((contended _ _ _ _ _ is c.if-found-saw.false l s).together alone)

@@ -1,19 +1,19 @@
 use Rattle.std.proofs.Common.{Some}
 use Rattle.cqs_rule.specs.Passes.{pass_view}
 use Rattle.cqs_rule.proofs.Lists.{prefix-then}
-use Rattle.cqs_value_pool.specs.Values.{kept}
+use Rattle.cqs_value_pool.specs.Values.{in_slot}
 use Rattle.cqs_value_pool.proofs.Values.{all-filled, laid-swapped, lays-value, tidy-swapped, tidy-put, ends-slots}
 use Rattle.cqs_value_pool.proofs.opening.ValuePool.put.Goals as goal
 
 pub put-requires-clause-full : goal.put-requires-clause-full
 put-requires-clause-full g c = λ κs lives.
-    lays-value c.args.item.element.number (kept c.args.item.value) (pass_view c.args.pass.now)
+    lays-value c.args.item.element.number (in_slot c.args.item.value) (pass_view c.args.pass.now)
     (pass_view c.lay.new.pass) c.lay.ensures.laid
 
 pub returns-clause-handed : goal.returns-clause-handed
 returns-clause-handed g c =
     let e = c.args.item.element.number in
-    let y = kept c.args.item.value in
+    let y = in_slot c.args.item.value in
     let swap = c.lay.ensures.laid in
     let h = c.put.ensures.handed y
     (laid-swapped e (Some y) (pass_view c.args.pass.now) (pass_view c.lay.new.pass) swap) in
@@ -32,6 +32,6 @@ returns-clause-belongs g c =
       mine = c.put.ensures.belongs;
       filled = all-filled _ _ _ (all-filled _ _ _ b.filled swap.more) rule.handed;
       tidy = tidy-put e u w
-          (tidy-swapped e (Some (kept c.args.item.value)) v u b.tidy c.requires.has swap) rule.unlaid
+          (tidy-swapped e (Some (in_slot c.args.item.value)) v u b.tidy c.requires.has swap) rule.unlaid
           (ends-slots u w _ _ _ _ c.in-Ok.ensures.ends) h.off;
     }

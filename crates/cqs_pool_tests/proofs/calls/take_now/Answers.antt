@@ -1,5 +1,5 @@
 use Rattle.cqs_pool_tests.proofs.Hands.{has-new}
-use Rattle.cqs_pool_tests.proofs.pools.take_now.Goals as goal
+use Rattle.cqs_pool_tests.proofs.calls.take_now.Goals as goal
 
 pub returns-clause-has : goal.returns-clause-has
 returns-clause-has g c =

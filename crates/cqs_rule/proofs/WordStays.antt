@@ -22,7 +22,7 @@ use Rattle.cqs_rule.specs.Facts.{facts_counted}
 use Rattle.cqs_rule.specs.Saw.{WasFound}
 use Rattle.cqs_rule.proofs.Lists.{all_draw}
 use Rattle.cqs_rule.proofs.Segments.{later-same}
-use Rattle.cqs_rule.proofs.Grow.{Turned, OthersStay}
+use Rattle.cqs_rule.proofs.Advance.{Turned, OthersStay}
 use Rattle.cqs_rule.proofs.Shelves.{Keeps, keeps-all}
 use Rattle.cqs_rule.proofs.Others.{others-same, others-counted, door-keeps}
 use Rattle.cqs_rule.proofs.Tells.{steps, Steps}

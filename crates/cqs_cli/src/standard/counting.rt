@@ -6,7 +6,7 @@ use cqs_plan::Failed;
 use std::io;
 
 /// Hands on what a call came to, and counts its failure.
-pub fn counted<T: Drop>(answer: io::Result<T>, faults: &mut u64) -> Result<T, Failed>
+pub fn count_fault<T: Drop>(answer: io::Result<T>, faults: &mut u64) -> Result<T, Failed>
     ensures { IsCounted answer result faults.old faults.new }
 {
     match answer {

@@ -1,0 +1,17 @@
+use Rattle.std.proofs.Common.{ap, refl, sym, ◌∙◌}
+use Rattle.cqs_rule.specs.declared.view.Facts.{Facts}
+use Rattle.cqs_rule.specs.Semaphore.{semaphore_object}
+use Rattle.cqs_rule.proofs.Places.{has-wait-called}
+use Rattle.cqs_tests.proofs.Waiting.{keeps-step, owes-it}
+use Rattle.cqs_tests.proofs.line.send.Goals as goal
+
+pub resume-requires-clause-owes : goal.resume-requires-clause-owes
+resume-requires-clause-owes g c lifetimes =
+    owes-it _ _ _ c.give_permit-given.ensures.saw (sym c.is_below_zero.ensures ∙ c.if-not-is_below_zero.false)
+
+-- neither the release nor the resume closes the wait
+pub returns-clause-waits : goal.returns-clause-waits
+returns-clause-waits g c =
+    let resumed = c.in-Served.ensures.resumed in
+    has-wait-called semaphore_object _ _ _ _ c.args.wait resumed.called (ap (λ (f : Facts). f.waits) resumed.facts_are)
+    (keeps-step semaphore_object _ _ _ _ c.args.wait c.give_permit-given.ensures.saw.saw refl c.requires.waits)

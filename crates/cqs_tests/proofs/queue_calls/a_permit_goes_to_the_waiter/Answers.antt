@@ -1,0 +1,6 @@
+use Rattle.cqs_tests.proofs.Waiting.{stands}
+use Rattle.cqs_tests.proofs.queue_calls.a_permit_goes_to_the_waiter.Goals as goal
+
+pub look-cell-requires-clause-place : goal.look-cell-requires-clause-place
+look-cell-requires-clause-place g c =
+    stands _ _ c.send-wait.result _ c.spend_wait-at.ensures.place c.send-wait.ensures.waits

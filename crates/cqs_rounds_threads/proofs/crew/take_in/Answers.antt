@@ -8,5 +8,6 @@ meet-requires-clause-between c = λ r p there. inl (c.requires.given.ready r p t
 pub returns : goal.returns
 returns c = record {
   belongs = c.meet.ensures.belongs;
-  ready = met-back c.meet.result _ _ _ (λ p. p.passes.items) c.meet.ensures.met c.meet.ensures.unchanged c.requires.pass.ready;
+  ready = met-back c.meet.result _ _ _ (λ p. p.passes.items) c.meet.ensures.met c.meet.ensures.unchanged
+      c.requires.pass.ready;
 }

@@ -37,7 +37,8 @@ loop-member-preserved c =
     let low : round_of c.in-Some.member ≤ rounds_in c.args.rounds.now = omega arith in
     let many = c.loop-member.invariant.belongs.many in
     let too = c.in-Ok.ensures.new_belongs.many in
-    let as_many : length c.in-Ok.made.passes.items ≡ length c.loop-member.pass.passes.items = omega (arith, many, too) in
+    let as_many : length c.in-Ok.made.passes.items ≡ length c.loop-member.pass.passes.items
+    = omega (arith, many, too) in
     record {
       belongs = c.split.ensures.belongs;
       ready = split-ready _ _ _ _ c.loop-member.invariant.ready c.in-Ok.ensures.split;

@@ -71,30 +71,20 @@ woken-open (refused_at k ∷ ends) o is_open = woken-open ends o is_open
 woken-open (missed_at k ∷ ends) o is_open = woken-open ends _ is_open
 
 -- an object of this opening
-abbrev object_of : Opening → List LatchEntry → Latch
+abbrev pub object_of : Opening → List LatchEntry → Latch
 object_of o history = object_after (is_simple o.mode) o.size history
 
 module _ {T : Type 0} where
   -- what the pass has seen, as the plain latch, and as the queue of a pass that is alone shows it
-  shows-plain_after : (v : View LatchEntry T) (a : IsAlone primitive_of v)
+  pub shows-plain_after : (v : View LatchEntry T) (a : IsAlone primitive_of v)
       → plain_after v
       ≡ shown (as_read (latch_shown (mode_of a.client) (count_of a.client) a.hidden a.words v.seen))
   shows-plain_after v a = sym (ap (λ o. object_of o v.seen) a.opening_is) ∙ a.shown.core.object
 
-  -- nobody waits
-  nobody-waits : (v : View LatchEntry T) → IsAlone primitive_of v → IsReady v.facts → (plain_after v).opened ≡ true
-      → (plain_after v).waiters.line ≡ []
-  nobody-waits v a ready is_open =
-      let s = as_read (latch_shown (mode_of a.client) (count_of a.client) a.hidden a.words v.seen) in
-      let core : IsLatch s = a.shown.core in
-      let shows = shows-plain_after v a in
-      let opens : IsOpened s = core.opened (sym (ap (λ o. o.opened) shows) ∙ is_open) in
-      let rests : IsIdle s.queue.doing = record { at = λ p d there. idle-at p d (read p d there) } in
-      let ways = opens.ways in
-      let within = behind s.queue core.sound rests (sum s.owed) ways in
-      let still : going s.queue ≡ 0 = none-going s.queue core.sound rests within in
-      let owed : sum s.owed ≡ 0 = sum-none a.hidden.has owes-none in
-      ap (λ o. o.waiters.line) shows ∙ no-more (line s.queue) (omega (arith, ways, still, owed))
+  -- every pass is idle
+  pub all-idle : (v : View LatchEntry T) (a : IsAlone primitive_of v) → v.facts.doing ≡ doing.Idle
+      → IsIdle (read_as (is_simple (mode_of a.client)) a.hidden.queue).doing
+  all-idle v a idle = record { at = λ p d there. idle-at p d (read p d there) }
     where
       read : (p : ℕ) (d : Doing) → slice_get (read_as (is_simple (mode_of a.client)) a.hidden.queue).doing p ≡ Some d
           → slice_get a.hidden.queue.doing p ≡ Some d
@@ -104,13 +94,28 @@ module _ {T : Type 0} where
       idle-at : (p : ℕ) (d : Doing) → slice_get a.hidden.queue.doing p ≡ Some d → d ≡ doing.Idle
       idle-at p d there = dite (ℕ_discrete p v.number)
           (λ (e : p ≡ v.number). same_Some d doing.Idle
-          (sym there ∙ (ap (slice_get a.hidden.queue.doing) e ∙ (a.stands.doing ∙ ap Some ready.idle))))
+          (sym there ∙ (ap (slice_get a.hidden.queue.doing) e ∙ (a.stands.doing ∙ ap Some idle))))
           (λ (other : p ≢ v.number).
           let below = get-below a.hidden.queue.doing p d there in
           let long = a.places in
           let r = a.others p other (omega arith) in
           same_Some d doing.Idle (sym there ∙ (r.stands.doing ∙ ap Some r.idle)))
 
+  -- nobody waits
+  nobody-waits : (v : View LatchEntry T) → IsAlone primitive_of v → IsReady v.facts → (plain_after v).opened ≡ true
+      → (plain_after v).waiters.line ≡ []
+  nobody-waits v a ready is_open =
+      let s = as_read (latch_shown (mode_of a.client) (count_of a.client) a.hidden a.words v.seen) in
+      let core : IsLatch s = a.shown.core in
+      let shows = shows-plain_after v a in
+      let opens : IsOpened s = core.opened (sym (ap (λ o. o.opened) shows) ∙ is_open) in
+      let rests : IsIdle s.queue.doing = all-idle v a ready.idle in
+      let ways = opens.ways in
+      let within = behind s.queue core.sound rests (sum s.owed) ways in
+      let still : going s.queue ≡ 0 = none-going s.queue core.sound rests within in
+      let owed : sum s.owed ≡ 0 = sum-none a.hidden.has owes-none in
+      ap (λ o. o.waiters.line) shows ∙ no-more (line s.queue) (omega (arith, ways, still, owed))
+    where
       has-below : (p : ℕ) → p < length a.hidden.has → p < v.passes
       has-below p below =
           let owners = a.shown.core.owners in
@@ -131,7 +136,7 @@ module _ {T : Type 0} where
           ap (λ z. z.further) (same_Some h r.facts.has (sym there ∙ r.stands.has)) ∙ r.owes_none)
 
   -- a pass that owes a resumption owes it of an open latch
-  owing-opened : (v : View LatchEntry T) → IsAlone primitive_of v → (under : Under) → HasUnder v.facts under
+  pub owing-opened : (v : View LatchEntry T) → IsAlone primitive_of v → (under : Under) → HasUnder v.facts under
       → (plain_after v).opened ≡ true
   owing-opened v a under has =
       let b = is_simple (mode_of a.client) in
@@ -151,7 +156,7 @@ module _ {T : Type 0} where
       is_open false never = absurd (never refl)
 
   -- what a call of a pass that is alone leaves
-  after-all : (v w : View LatchEntry T) (own further last : List LatchEntry) → CallRuleEnding v own further last w
+  pub after-all : (v w : View LatchEntry T) (own further last : List LatchEntry) → CallRuleEnding v own further last w
       → v.alone ≡ true → plain_after w ≡ fold after_entry (plain_after v) (own ++ further)
   after-all v w own further last rule alone =
       let seen : w.seen ≡ v.seen ++ (own ++ further) =

@@ -14,3 +14,5 @@ pub mod Kept
 pub mod Simple
 pub mod AloneSteps
 pub mod AloneOpen
+pub mod AheadLines
+pub mod AloneOrder

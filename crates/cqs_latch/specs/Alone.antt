@@ -1,8 +1,10 @@
 -- A pass that is alone: each of its calls answers as the plain latch does after all that the pass
 -- has seen.
-use Rattle.std.specs.Prelude.{◌≡◌, ℕ, ◌+◌, ◌<◌, ◌≤◌, true, false, [], Result, Ok, Err}
+use Rattle.std.specs.Prelude.{◌≡◌, ℕ, ◌+◌, ◌<◌, ◌≤◌, map, true, false, List, [], ◌∷◌, ◌++◌, Result, Ok, Err}
+use Rattle.cqs_core.specs.QueueLine.{Waiting}
 use Rattle.cqs_core.specs.QueueWaiters.{Waits, IsServed}
 use Rattle.cqs_latch_object.specs.declared.entries.LatchEntry.{LatchEntry}
+use Rattle.cqs_latch_object.specs.declared.entries.LatchEntry.TheVariants as entry
 use Rattle.cqs_latch_object.specs.LatchObject as plain
 use Rattle.cqs_rule.specs.declared.config.AcquireError.{AcquireError}
 use Rattle.cqs_rule.specs.declared.config.AcquireError.TheVariants.{Worn, Crowded}
@@ -19,10 +21,19 @@ use Rattle.cqs_latch.specs.declared.answers.LatchWait.{LatchWait}
 use Rattle.cqs_latch.specs.declared.answers.LatchWait.TheVariants.{Passed, Later}
 use Rattle.cqs_latch.specs.LatchTold.{latch_after}
 
+-- these waits are served
+abbrev pub delivers : List ℕ → List LatchEntry
+delivers [] = []
+delivers (k ∷ ks) = entry.Deliver k ∷ delivers ks
+
 module _ {T : Type 0} where
   -- the plain latch, after all that the pass has seen
   abbrev pub plain_after : View LatchEntry T → plain.Latch
   plain_after v = latch_after v v.seen
+
+  -- the numbers of those who wait in its line then, in order
+  abbrev pub waiting_in : View LatchEntry T → List ℕ
+  waiting_in v = map (λ (w : Waiting). w.wait) (plain_after v).waiters.line
 
   -- the count says what a count down answers
   abbrev pub IsPlainCount : View LatchEntry T → Down → Type 0
@@ -46,6 +57,27 @@ module _ {T : Type 0} where
   abbrev pub IsPlainFinish : Result (Unit {0}) Owed → View LatchEntry T → Type 0
   IsPlainFinish (Ok done) w = HasServedAll w
   IsPlainFinish (Err again) w = (plain_after w).opened ≡ true
+
+  -- In smart mode those who wait are served in order, and nothing else happens: so many of them,
+  -- and the others still wait.
+  pub record ServesFirst (own : List LatchEntry) (v w : View LatchEntry T) : Type 0 where
+    pub served : List ℕ
+    pub seen : w.seen ≡ v.seen ++ (own ++ delivers served)
+    pub line : waiting_in v ≡ served ++ waiting_in w
+
+  -- So does the last count down, and where nothing is owed then it serves all.
+  abbrev pub OpensInOrder : View LatchEntry T → Down → View LatchEntry T → Type 0
+  OpensInOrder v Already w = Unit {0}
+  OpensInOrder v (Left left) w = Unit {0}
+  OpensInOrder v Last w =
+      w.seen ≡ v.seen ++ (entry.DownLast v.number ∷ entry.Open v.number ∷ delivers (waiting_in v))
+  OpensInOrder v (LastOwing owed) w =
+      ServesFirst (entry.DownLast v.number ∷ entry.Open v.number ∷ []) v w
+
+  abbrev pub FinishesInOrder : View LatchEntry T → Result (Unit {0}) Owed → View LatchEntry T
+      → Type 0
+  FinishesInOrder v (Ok done) w = w.seen ≡ v.seen ++ delivers (waiting_in v)
+  FinishesInOrder v (Err again) w = ServesFirst [] v w
 
   -- and a wait, with the next number
   abbrev pub IsPlainWait : View LatchEntry T → Result LatchWait AcquireError → Type 0

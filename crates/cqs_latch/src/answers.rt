@@ -1,5 +1,8 @@
 //! What the calls of a latch answer.
 
+ghost use Rattle.std.specs.Prelude.{◌≡◌};
+ghost use Rattle.cqs_latch.specs.Owed.{owed_reached};
+
 use cqs_rule::{Under, Wait};
 
 /// What became of a wait.
@@ -53,4 +56,14 @@ pub struct Owed {
     pub(crate) under: Under,
     /// How many come after it.
     pub(crate) further: u32,
+}
+
+impl Owed {
+    /// The last number that was drawn for the one that was handed back. A loop that goes on with
+    /// what is owed until it ends can be measured by it.
+    pub fn reached(&self) -> u64
+        ensures { result ≡ owed_reached self.now }
+    {
+        self.under.reached()
+    }
 }

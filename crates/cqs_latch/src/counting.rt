@@ -2,13 +2,13 @@
 
 ghost use Rattle.std.specs.Prelude.{◌≡◌, ◌+◌, true, pos, ◌≤ℤ◌, IsOk, IfOk, IfErr, OnOk};
 ghost use Rattle.cqs_words.specs.State.{count_in, is_above_zero};
-ghost use Rattle.cqs_latch.specs.Alone.{IsPlainCount, IsPlainFinish, IsPlainOpening};
+ghost use Rattle.cqs_latch.specs.Alone.{FinishesInOrder, IsPlainCount, IsPlainFinish, IsPlainOpening, OpensInOrder};
 ghost use Rattle.cqs_latch.specs.CountAnswers.{HasCounted, HasFinished, IsReadyAfter, OwesNothing};
 ghost use Rattle.cqs_latch.specs.LatchMade.{mode_of};
 ghost use Rattle.cqs_latch.specs.Owed.{HasOwed};
 ghost use Rattle.cqs_latch.specs.Calls.{IsReady, IsMine, KeepsWaits};
 ghost use Rattle.cqs_rule.specs.Passes.{pass_view, client_of};
-ghost use Rattle.cqs_rule.specs.declared.config.CancelMode.TheVariants.{Simple};
+ghost use Rattle.cqs_rule.specs.declared.config.CancelMode.TheVariants.{Simple, Smart};
 
 use crate::answers::{Down, Owed};
 use crate::events::resumptions_for;
@@ -35,6 +35,9 @@ impl Latch {
             → IfOk result (λ down. IsPlainCount (pass_view pass.old) down) }
         ensures alone_opens { (pass_view pass.old).alone ≡ true
             → IfOk result (λ down. IsPlainOpening down (pass_view pass.new)) }
+        ensures alone_in_order { (pass_view pass.old).alone ≡ true
+            → mode_of (client_of self.now.queue) ≡ Smart
+            → IfOk result (λ down. OpensInOrder (pass_view pass.old) down (pass_view pass.new)) }
     {
         let loaded = load_to_count(&self.queue, pass);
         if !StateWord::is_above_zero(loaded) {
@@ -68,6 +71,9 @@ impl Latch {
         ensures keeps { KeepsWaits (pass_view pass.old) (pass_view pass.new) }
         ensures alone { (pass_view pass.old).alone ≡ true
             → IsPlainFinish result (pass_view pass.new) }
+        ensures alone_in_order { (pass_view pass.old).alone ≡ true
+            → mode_of (client_of self.now.queue) ≡ Smart
+            → FinishesInOrder (pass_view pass.old) result (pass_view pass.new) }
     {
         let Owed { under, further } = owed;
         if let Some(under) = self.wake_on(pass, under) {

@@ -55,4 +55,11 @@ impl Latch {
         let (queue, pass) = Queue::new(alloc, config, mode, client)?;
         Ok((Latch { queue, mode }, pass))
     }
+
+    /// The queue that the latch stands on.
+    pub fn queue(&self) -> &Queue<LatchClient>
+        ensures { result.now ≡ self.now.queue }
+    {
+        &self.queue
+    }
 }

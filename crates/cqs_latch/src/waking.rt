@@ -1,7 +1,8 @@
 //! The resumptions of an opened latch, one after the other.
 
-ghost use Rattle.std.specs.Prelude.{◌≡◌, ◌<◌, ◌+◌, None, IfSome};
+ghost use Rattle.std.specs.Prelude.{◌≡◌, ◌<◌, ◌+◌, [], None, IfSome, true};
 ghost use Rattle.cqs_core.specs.declared.doings.Doing.TheVariants as doing;
+ghost use Rattle.cqs_latch.specs.Alone.{ServesFirst};
 ghost use Rattle.cqs_latch.specs.Calls.{IsMine};
 ghost use Rattle.cqs_latch.specs.LatchMade.{mode_of};
 ghost use Rattle.cqs_latch.specs.Owed.{owed_reached};
@@ -26,6 +27,9 @@ impl Latch {
         ensures wakes { Wakes many (pass_view pass.old) result (pass_view pass.new) }
         ensures grown { IfSome result
             (λ owed. (pass_view pass.old).facts.reached < owed_reached owed) }
+        ensures in_order { (pass_view pass.old).alone ≡ true
+            → mode_of (client_of self.now.queue) ≡ Smart
+            → ServesFirst [] (pass_view pass.old) (pass_view pass.new) }
         ensures simple { mode_of (client_of self.now.queue) ≡ Simple → result ≡ None }
     {
         let mut left = many;
@@ -51,6 +55,9 @@ impl Latch {
         ensures next { Next (pass_view pass.old) result (pass_view pass.new) }
         ensures grown { mode_of (client_of self.now.queue) ≡ Smart
             → HasGrown (pass_view pass.old).facts.reached result (pass_view pass.new) }
+        ensures in_order { (pass_view pass.old).alone ≡ true
+            → mode_of (client_of self.now.queue) ≡ Smart
+            → ServesFirst [] (pass_view pass.old) (pass_view pass.new) }
         ensures simple { mode_of (client_of self.now.queue) ≡ Simple → result ≡ None }
     {
         match self.mode {
@@ -70,6 +77,9 @@ impl Latch {
         ensures on { On under (pass_view pass.old) result (pass_view pass.new) }
         ensures grown { mode_of (client_of self.now.queue) ≡ Smart
             → HasGrown (under_reached under) result (pass_view pass.new) }
+        ensures in_order { (pass_view pass.old).alone ≡ true
+            → mode_of (client_of self.now.queue) ≡ Smart
+            → ServesFirst [] (pass_view pass.old) (pass_view pass.new) }
         ensures simple { mode_of (client_of self.now.queue) ≡ Simple → result ≡ None }
     {
         match self.mode {

@@ -7,6 +7,7 @@ use Rattle.cqs_latch.specs.LatchMade.{count_of}
 use Rattle.cqs_latch.proofs.CountSteps.{loaded-to, already-loaded, already-taken, some-left, last-taken, opens-so}
 use Rattle.cqs_latch.specs.declared.answers.Down.TheVariants.{Left, Last, LastOwing, Already}
 use Rattle.cqs_latch.proofs.AloneOpen.{plain-opened}
+use Rattle.cqs_latch.proofs.AloneOrder.{opened-all, opened-in_order}
 use Rattle.cqs_latch.proofs.AloneSteps.{plain-counted}
 use Rattle.cqs_latch.proofs.DownSteps.{opened-woke}
 use Rattle.cqs_latch.proofs.Kept.{keeps-counted, ready-counted}
@@ -133,3 +134,33 @@ pub returns-in-Some-clause-alone_opens : goal.returns-in-Some-clause-alone_opens
 returns-in-Some-clause-alone_opens c =
     plain-opened (LastOwing c.in-Some.owed) _ _ (returns-in-Some-clause-counted c) c.wake.ensures.belongs.alone
     c.wake.new.pass.live.0
+
+pub returns-in-None-clause-alone_in_order : goal.returns-in-None-clause-alone_in_order
+returns-in-None-clause-alone_in_order c = λ alone smart.
+    let last : c.left_after-left.result ≡ 0 = omega (arith, c.if-left-gt0.false) in
+    let one : count_in c.count_down-found.result ≡ pos 1 =
+    c.left_after-left.ensures ∙ ap (λ n. pos (n + 1)) last in
+    opened-all _ _
+    (opened-in_order _ (pass_view c.open.new.pass) _ c.resumptions_for-waiters.result
+    (opens-so _ c.requires.ready c.requires.belongs.live.own (pass_view c.count_down-found.new.pass) _ _ _ _ one
+    c.resumptions_for-waiters.ensures
+    (last-taken _ c.requires.ready c.requires.belongs.live.own _ _ _ one
+    (loaded-to _ _ _ (sym c.is_above_zero.ensures ∙ c.if-not-is_above_zero.false) c.load_to_count-loaded.ensures.saw)
+    c.count_down-found.ensures.saw)
+    c.open.ensures.saw c.open.ensures.belongs.live.legal)
+    (λ still. c.wake.ensures.in_order still smart) alone)
+    (returns-in-None-clause-alone_opens c alone)
+
+pub returns-in-Some-clause-alone_in_order : goal.returns-in-Some-clause-alone_in_order
+returns-in-Some-clause-alone_in_order c = λ alone smart.
+    let last : c.left_after-left.result ≡ 0 = omega (arith, c.if-left-gt0.false) in
+    let one : count_in c.count_down-found.result ≡ pos 1 =
+    c.left_after-left.ensures ∙ ap (λ n. pos (n + 1)) last in
+    opened-in_order _ (pass_view c.open.new.pass) _ c.resumptions_for-waiters.result
+    (opens-so _ c.requires.ready c.requires.belongs.live.own (pass_view c.count_down-found.new.pass) _ _ _ _ one
+    c.resumptions_for-waiters.ensures
+    (last-taken _ c.requires.ready c.requires.belongs.live.own _ _ _ one
+    (loaded-to _ _ _ (sym c.is_above_zero.ensures ∙ c.if-not-is_above_zero.false) c.load_to_count-loaded.ensures.saw)
+    c.count_down-found.ensures.saw)
+    c.open.ensures.saw c.open.ensures.belongs.live.legal)
+    (λ still. c.wake.ensures.in_order still smart) alone

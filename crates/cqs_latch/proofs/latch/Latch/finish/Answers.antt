@@ -1,11 +1,13 @@
-use Rattle.std.proofs.Common.{None, Some, Ok, Err, subst, arith}
+use Rattle.std.proofs.Common.{◌∙◌, [], None, Some, Ok, Err, subst, arith}
 use Rattle.cqs_rule.specs.Owed.{under_reached}
 use Rattle.cqs_rule.specs.Passes.{pass_view}
 use Rattle.cqs_latch.specs.Waking.{HasGrown, On}
 use Rattle.cqs_latch.proofs.AloneOpen.{plain-finished}
+use Rattle.cqs_latch.proofs.AloneOrder.{finished-all, serves-then}
 use Rattle.cqs_latch.proofs.DownSteps.{on-owes, on-woke, on-handed}
 use Rattle.cqs_latch.proofs.Grown.{smart-where}
 use Rattle.cqs_latch.proofs.Kept.{keeps-finished, owes-finished, ready-finished}
+use Rattle.cqs_latch.proofs.WakeSteps.{on-ran}
 use Rattle.cqs_latch.proofs.latch.Latch.finish.Goals as goal
 
 pub returns-in-Some-clause-finished : goal.returns-in-Some-clause-finished
@@ -91,3 +93,24 @@ pub returns-in-Some-wake-clause-alone : goal.returns-in-Some-wake-clause-alone
 returns-in-Some-wake-clause-alone c =
     plain-finished c.args.owed (Err _) _ _ (returns-in-Some-wake-clause-finished c) c.requires.owes
     c.requires.belongs.alone c.args.pass.now.live.0 c.wake.ensures.belongs.alone c.wake.new.pass.live.0
+
+pub returns-in-Some-clause-alone_in_order : goal.returns-in-Some-clause-alone_in_order
+returns-in-Some-clause-alone_in_order c = λ alone smart. c.wake_on.ensures.in_order alone smart
+
+pub returns-in-None-clause-alone_in_order : goal.returns-in-None-clause-alone_in_order
+returns-in-None-clause-alone_in_order c = λ alone smart.
+    let on = subst (λ z. On c.args.owed.under (pass_view c.args.pass.now) z (pass_view c.wake_on.new.pass))
+    c.in_default.is c.wake_on.ensures.on in
+    let same = (on-ran c.args.owed.under on.0 _ _ on.1).1.along.called.same.alone in
+    finished-all _ _
+    (serves-then [] _ _ _ (c.wake_on.ensures.in_order alone smart)
+    (c.wake.ensures.in_order (same ∙ alone) smart))
+    (returns-in-None-clause-alone c alone)
+
+pub returns-in-Some-wake-clause-alone_in_order : goal.returns-in-Some-wake-clause-alone_in_order
+returns-in-Some-wake-clause-alone_in_order c = λ alone smart.
+    let on = subst (λ z. On c.args.owed.under (pass_view c.args.pass.now) z (pass_view c.wake_on.new.pass))
+    c.in_default.is c.wake_on.ensures.on in
+    let same = (on-ran c.args.owed.under on.0 _ _ on.1).1.along.called.same.alone in
+    serves-then [] _ _ _ (c.wake_on.ensures.in_order alone smart)
+    (c.wake.ensures.in_order (same ∙ alone) smart)

@@ -1,6 +1,7 @@
 use Rattle.std.proofs.Common.{◌∷◌, [], ◌++◌, None, refl, subst, length-append, ◌∙◌, arith}
 use Rattle.cqs_rule.specs.Passes.{pass_view}
 use Rattle.cqs_latch.specs.Waking.{HasGrown, Next}
+use Rattle.cqs_latch.proofs.AloneOrder.{serves-nobody, serves-then}
 use Rattle.cqs_latch.proofs.Grown.{smart-where}
 use Rattle.cqs_latch.proofs.WakeSteps.{next-ran, woke-on}
 use Rattle.cqs_latch.proofs.latch.Latch.wake.Goals as goal
@@ -12,6 +13,8 @@ loop-left-init c = record {
   owes = c.requires.owes;
   payload = c.requires.payload;
   reached = λ smart. omega arith;
+  in_order = λ alone smart. serves-nobody _;
+  same = refl;
   ran = ([], omega arith, refl);
 }
 
@@ -57,6 +60,9 @@ loop-left-preserved c =
           let before = l.reached smart in
           let after = subst (λ z. HasGrown u.facts.reached z w) c.in_default.is (c.wake_next.ensures.grown smart) in
           omega (arith, before, after);
+      in_order = λ alone smart.
+          serves-then [] v u w (l.in_order alone smart) (c.wake_next.ensures.in_order (l.same ∙ alone) smart);
+      same = r.along.called.same.alone ∙ l.same;
       ran = (l.ran.0 ++ next.0 ∷ [], omega (arith, longer, all, some), woke-on l.ran.0 next.0 v u w l.ran.2 next.1);
     }
 
@@ -68,3 +74,8 @@ returns-in-Some-clause-grown c =
     let before = c.loop-left.invariant.reached smart in
     let last = subst (λ z. HasGrown u.facts.reached z w) c.in-Some.is (c.wake_next.ensures.grown smart) in
     omega (arith, before, last)
+
+pub returns-in-Some-clause-in_order : goal.returns-in-Some-clause-in_order
+returns-in-Some-clause-in_order c = λ alone smart.
+    let l = c.loop-left.invariant in
+    serves-then [] _ _ _ (l.in_order alone smart) (c.wake_next.ensures.in_order (l.same ∙ alone) smart)

@@ -2,6 +2,7 @@ use Rattle.std.proofs.Common.{◌∙◌, sym, subst}
 use Rattle.cqs_rule.specs.Passes.{pass_view, client_of}
 use Rattle.cqs_latch.specs.Waking.{HasGrown, Next}
 use Rattle.cqs_latch.proofs.Grown.{begun-grown}
+use Rattle.cqs_latch.proofs.AloneOrder.{begun-serves}
 use Rattle.cqs_latch.proofs.Simple.{is-smart, is-at_once, shows-plain}
 use Rattle.cqs_latch.proofs.WakeSteps.{resumed-next, ended-next}
 use Rattle.cqs_latch.proofs.latch.Latch.wake_next.Goals as goal
@@ -28,3 +29,12 @@ pub returns-in-Smart-clause-grown : goal.returns-in-Smart-clause-grown
 returns-in-Smart-clause-grown c = λ smart.
     subst (λ z. HasGrown (pass_view c.args.pass.now).facts.reached z (pass_view c.begin.new.pass))
     (sym c.handed_back.ensures) (begun-grown _ _ c.begin.result c.begin.ensures.begun)
+
+pub returns-in-Smart-clause-in_order : goal.returns-in-Smart-clause-in_order
+returns-in-Smart-clause-in_order c = λ alone smart.
+    begun-serves _ _ c.requires.belongs.alone c.args.pass.now.live.0 c.begin.ensures.belongs.alone
+    c.begin.new.pass.live.0 c.begin.ensures.belongs.live.legal c.begin.result c.begin.ensures.begun alone
+
+pub returns-in-Simple-clause-in_order : goal.returns-in-Simple-clause-in_order
+returns-in-Simple-clause-in_order c = λ alone smart.
+    absurd (cc (smart, c.args.self.now.mode_is, c.in-Simple.is))

@@ -3,6 +3,7 @@ use Rattle.cqs_rule.specs.Owed.{under_reached}
 use Rattle.cqs_rule.specs.Passes.{pass_view, client_of}
 use Rattle.cqs_latch.specs.Waking.{HasGrown, On}
 use Rattle.cqs_latch.proofs.Grown.{finished-grown}
+use Rattle.cqs_latch.proofs.AloneOrder.{finished-serves}
 use Rattle.cqs_latch.proofs.Simple.{is-smart, is-at_once, shows-plain}
 use Rattle.cqs_latch.proofs.WakeSteps.{resumed-on, ended-on}
 use Rattle.cqs_latch.proofs.latch.Latch.wake_on.Goals as goal
@@ -29,3 +30,13 @@ returns-in-Smart-clause-grown c = λ smart.
 
 pub returns-in-Simple-clause-on : goal.returns-in-Simple-clause-on
 returns-in-Simple-clause-on c = ended-on c.args.under _ _ c.finish_at_once.result c.finish_at_once.ensures.finished
+
+pub returns-in-Smart-clause-in_order : goal.returns-in-Smart-clause-in_order
+returns-in-Smart-clause-in_order c = λ alone smart.
+    finished-serves _ _ c.requires.belongs.alone c.args.pass.now.live.0 c.finish.ensures.belongs.alone
+    c.finish.new.pass.live.0 c.finish.ensures.belongs.live.legal c.args.under c.finish.result c.finish.ensures.resumed
+    alone
+
+pub returns-in-Simple-clause-in_order : goal.returns-in-Simple-clause-in_order
+returns-in-Simple-clause-in_order c = λ alone smart.
+    absurd (cc (smart, c.args.self.now.mode_is, c.in-Simple.is))

@@ -1,6 +1,6 @@
 -- How the calls of one who waits come one after the other: an acquire, looks that find nothing new, and the one
 -- that finds the wait served.
-use Rattle.std.proofs.Common.{◌≡◌, ℕ, zero, suc, ◌+◌, List, [], ◌∷◌, ◌++◌, Option, Some, None, Result, Ok, Err, refl, sym, ap, ◌∙◌, subst, inr, append_assoc}
+use Rattle.std.proofs.Common.{◌≡◌, ℕ, zero, suc, ◌+◌, ◌<◌, List, [], ◌∷◌, ◌++◌, Option, Some, None, Result, Ok, Err, refl, sym, ap, ◌∙◌, subst, inl, inr, append_assoc, arith}
 use Rattle.std.specs.Prelude.{IfOk, OnErr, IsErrOf}
 use Rattle.cqs_core.specs.declared.cells.CoreState.{CoreState}
 use Rattle.cqs_core.specs.declared.cells.CoreState.TheVariants as state
@@ -17,7 +17,7 @@ use Rattle.cqs_semaphore.specs.declared.answers.Acquired.{Acquired}
 use Rattle.cqs_semaphore.specs.declared.answers.Acquired.TheVariants.{Now, Later}
 use Rattle.cqs_semaphore.specs.declared.answers.Permit.{Permit}
 use Rattle.cqs_semaphore.specs.declared.answers.Polled.TheVariants.{Granted, Pending}
-use Rattle.cqs_semaphore.specs.Answers.{Acquires, IsPolled, IsWorn}
+use Rattle.cqs_semaphore.specs.Answers.{Acquires, IsPolled, IsWorn, Takes}
 use Rattle.cqs_semaphore.specs.Calls.{CallRule, Course, Rests}
 use Rattle.cqs_semaphore.specs.Causes.{CellWas}
 use Rattle.cqs_semaphore.specs.Entries.{acquired_entries, acquired_further, polled_entries}
@@ -233,3 +233,13 @@ module _ {T : Type 0} where
       (pends-again v w l again
       (subst (λ z. CallRule z (polled_entries z.number (place_of l).index (Pending again)) [] w) u c)
       (subst (λ z. IsPolled l z (Pending again) w) u is))
+
+  -- a pass to which a permit came holds one
+  took-holds : (v w : View Entry T) (k : Option ℕ) → Takes v k w → 0 < w.facts.has.held
+  took-holds v w None free = omega (arith, free.rests.held_is)
+  took-holds v w (Some k) left = omega (arith, left.2.held_is)
+
+  pub arrived-holds : (v w : View Entry T) (permit : Permit) → Arrives v None (Ok permit) w
+      → 0 < w.facts.has.held
+  arrived-holds v w permit (inl at) = took-holds v w _ at.takes
+  arrived-holds v w permit (inr by) = omega (arith, by.1.rests.held_is)

@@ -1,5 +1,6 @@
 //! The picture of a report, as an SVG.
 
+use crate::filling::write_filled;
 use crate::rows::{End, Job, Level, Resource, Rows, Span, State};
 use std::alloc::Global;
 use std::io::Write;
@@ -20,6 +21,10 @@ const JOB_BAR: u64 = 14;
 const RESOURCE_ROW: u64 = 44;
 /// Pixels of the highest level of a resource.
 const LEVEL: u64 = 16;
+
+/// The picture, and its ground: the width and height of each.
+const PICTURE: &str = "<svg xmlns=\"http://www.w3.org/2000/svg\" width=\"@\" height=\"@\" \
+                       viewBox=\"0 0 @ @\">\n<rect width=\"@\" height=\"@\" fill=\"#ffffff\"/>\n";
 
 /// What stands before the rows: the patterns, by which the colours are told apart, too.
 const HEAD: &str =
@@ -66,72 +71,58 @@ fn escape(alloc: Global, name: &str) -> anyhow::Result<String> {
     Ok(text)
 }
 
-/// How the bar of what a job is at is filled.
-fn fill_of(state: State) -> &'static str {
+/// The bar of what a job is at: its left edge, top, width and height, and from which turn to which.
+fn bar_of(state: State) -> &'static str {
     match state {
-        State::Working => "#cbd5e1",
-        State::Waiting => "url(#waiting)",
-        State::Holding => "url(#holding)",
-    }
-}
-
-/// What a job is at, in a word.
-fn word_of(state: State) -> &'static str {
-    match state {
-        State::Working => "works",
-        State::Waiting => "waits",
-        State::Holding => "holds",
+        State::Working => {
+            "<rect x=\"@\" y=\"@\" width=\"@\" height=\"@\" fill=\"#cbd5e1\"><title>works from \
+             turn @ to @</title></rect>\n"
+        }
+        State::Waiting => {
+            "<rect x=\"@\" y=\"@\" width=\"@\" height=\"@\" fill=\"url(#waiting)\"><title>waits \
+             from turn @ to @</title></rect>\n"
+        }
+        State::Holding => {
+            "<rect x=\"@\" y=\"@\" width=\"@\" height=\"@\" fill=\"url(#holding)\"><title>holds \
+             from turn @ to @</title></rect>\n"
+        }
     }
 }
 
 fn draw_span<W: Write>(out: &mut W, span: Span, turns: u64, top: u64) -> anyhow::Result<()> {
     let left = place_of(span.from, turns);
     let width = place_of(span.to, turns).saturating_sub(left).max(1);
-    writeln!(
-        out,
-        "<rect x=\"{left}\" y=\"{top}\" width=\"{width}\" height=\"{JOB_BAR}\" \
-         fill=\"{}\"><title>{} from turn {} to {}</title></rect>",
-        fill_of(span.state),
-        word_of(span.state),
-        span.from,
-        span.to
-    )?;
-    Ok(())
+    let numbers = [left, top, width, JOB_BAR, span.from, span.to];
+    write_filled(out, bar_of(span.state), &numbers)
 }
+
+/// The marks at the end of a job's bar: where each stands, and the turn.
+const DONE: &str = "<circle cx=\"@\" cy=\"@\" r=\"5\" fill=\"#16a34a\"><title>done in turn @\
+                    </title></circle>\n";
+
+const GAVE_UP: &str = "<path d=\"M@ @l10 10m0-10l-10 10\" stroke=\"#b91c1c\" \
+                       stroke-width=\"2.5\"><title>gave up in turn @</title></path>\n";
+
+const LATE: &str = "<path d=\"M@ @l6-11l6 11z\" fill=\"#7c3aed\"><title>late in turn @</title>\
+                    </path>\n";
+
+const NOT_ENDED: &str = "<path d=\"M@ @l6 6l-6 6\" fill=\"none\" stroke=\"#334155\" \
+                         stroke-width=\"2.5\"><title>not ended</title></path>\n";
 
 /// The mark at the end of a job's bar.
 fn draw_end<W: Write>(out: &mut W, job: &Job, turns: u64, top: u64) -> anyhow::Result<()> {
     let middle = top.saturating_add(JOB_BAR / 2);
-    match job.end {
-        Some((turn, End::Done)) => writeln!(
-            out,
-            "<circle cx=\"{}\" cy=\"{middle}\" r=\"5\" fill=\"#16a34a\"><title>done in turn \
-             {turn}</title></circle>",
-            place_of(turn, turns)
-        )?,
-        Some((turn, End::GaveUp)) => writeln!(
-            out,
-            "<path d=\"M{} {}l10 10m0-10l-10 10\" stroke=\"#b91c1c\" \
-             stroke-width=\"2.5\"><title>gave up in turn {turn}</title></path>",
-            place_of(turn, turns).saturating_sub(5),
-            middle.saturating_sub(5)
-        )?,
-        Some((turn, End::Late)) => writeln!(
-            out,
-            "<path d=\"M{} {}l6-11l6 11z\" fill=\"#7c3aed\"><title>late in turn \
-             {turn}</title></path>",
-            place_of(turn, turns).saturating_sub(6),
-            middle.saturating_add(5)
-        )?,
-        None => writeln!(
-            out,
-            "<path d=\"M{} {}l6 6l-6 6\" fill=\"none\" stroke=\"#334155\" \
-             stroke-width=\"2.5\"><title>not ended</title></path>",
-            place_of(turns, turns),
-            middle.saturating_sub(6)
-        )?,
-    }
-    Ok(())
+    let Some((turn, end)) = job.end else {
+        let numbers = [place_of(turns, turns), middle.saturating_sub(6)];
+        return write_filled(out, NOT_ENDED, &numbers);
+    };
+    let left = place_of(turn, turns);
+    let (mark, left, top) = match end {
+        End::Done => (DONE, left, middle),
+        End::GaveUp => (GAVE_UP, left.saturating_sub(5), middle.saturating_sub(5)),
+        End::Late => (LATE, left.saturating_sub(6), middle.saturating_add(5)),
+    };
+    write_filled(out, mark, &[left, top, turn])
 }
 
 /// The most that were held, and the most who waited.
@@ -150,6 +141,41 @@ fn height_of(level: u64, highest: u64) -> u64 {
     level.saturating_mul(LEVEL) / highest.max(1)
 }
 
+/// The bars of a resource: the left edge, top, width and height, and how many are held, or wait.
+const HELD: &str = "<rect x=\"@\" y=\"@\" width=\"@\" height=\"@\" fill=\"url(#holding)\"><title>@ \
+                    held</title></rect>\n";
+
+const IN_LINE: &str = "<rect x=\"@\" y=\"@\" width=\"@\" height=\"@\" fill=\"url(#waiting)\">\
+                       <title>@ in line</title></rect>\n";
+
+/// The bars of a level, up to this turn: upwards from the middle how many are held, of which this
+/// is the most, and downwards how many wait.
+fn draw_level<W: Write>(
+    out: &mut W,
+    level: Level,
+    most: (u64, u64),
+    edges: (u64, u64),
+    middle: u64,
+) -> anyhow::Result<()> {
+    let (left, right) = edges;
+    let width = right.saturating_sub(left);
+    let up = height_of(level.held, most.0);
+    let down = height_of(level.waiting, most.1);
+    if up != 0 {
+        let numbers = [left, middle.saturating_sub(up), width, up, level.held];
+        write_filled(out, HELD, &numbers)?;
+    }
+    if down != 0 {
+        write_filled(out, IN_LINE, &[left, middle, width, down, level.waiting])?;
+    }
+    Ok(())
+}
+
+/// The line in the middle of a resource's row, and the most that were held, or waited.
+const MIDDLE: &str = "<path d=\"M@ @H@\" stroke=\"#334155\"/>\n\
+                      <text class=\"small\" x=\"@\" y=\"@\" text-anchor=\"end\">at most @ held, \
+                      @ in line</text>\n";
+
 /// The row of a resource: how many are held, upwards from its middle, and how many wait, downwards.
 fn draw_resource<W: Write>(
     out: &mut W,
@@ -158,49 +184,26 @@ fn draw_resource<W: Write>(
     top: u64,
 ) -> anyhow::Result<()> {
     let levels = resource.levels.as_slice();
-    let (held, waiting) = highest(levels);
+    let most = highest(levels);
     let middle = top.saturating_add(LEVEL).saturating_add(2);
     for (place, level) in levels.iter().enumerate() {
         let until = match levels.get(place.saturating_add(1)) {
             Some(next) => next.turn,
             None => turns,
         };
-        let left = place_of(level.turn, turns);
-        let width = place_of(until, turns).saturating_sub(left);
-        let up = height_of(level.held, held);
-        let down = height_of(level.waiting, waiting);
-        if up != 0 {
-            writeln!(
-                out,
-                "<rect x=\"{left}\" y=\"{}\" width=\"{width}\" height=\"{up}\" \
-                 fill=\"url(#holding)\"><title>{} held</title></rect>",
-                middle.saturating_sub(up),
-                level.held
-            )?;
-        }
-        if down != 0 {
-            writeln!(
-                out,
-                "<rect x=\"{left}\" y=\"{middle}\" width=\"{width}\" height=\"{down}\" \
-                 fill=\"url(#waiting)\"><title>{} in line</title></rect>",
-                level.waiting
-            )?;
-        }
+        let edges = (place_of(level.turn, turns), place_of(until, turns));
+        draw_level(out, *level, most, edges, middle)?;
     }
     let right = NAMES.saturating_add(TURNS);
-    writeln!(
-        out,
-        "<path d=\"M{NAMES} {middle}H{right}\" stroke=\"#334155\"/>"
-    )?;
-    writeln!(
-        out,
-        "<text class=\"small\" x=\"{}\" y=\"{}\" text-anchor=\"end\">at most {held} held, \
-         {waiting} in line</text>",
-        NAMES.saturating_sub(10),
-        top.saturating_add(34)
-    )?;
-    Ok(())
+    let left = NAMES.saturating_sub(10);
+    let bottom = top.saturating_add(34);
+    let numbers = [NAMES, middle, right, left, bottom, most.0, most.1];
+    write_filled(out, MIDDLE, &numbers)
 }
+
+/// The mark of a turn: a line from its top to its bottom, and the turn below it.
+const MARK: &str = "<path d=\"M@ @V@\" stroke=\"#334155\"/><text class=\"small\" x=\"@\" y=\"@\" \
+                    text-anchor=\"middle\">@</text>\n";
 
 /// The turns, as marks below the rows.
 fn draw_turns<W: Write>(out: &mut W, turns: u64, top: u64) -> anyhow::Result<()> {
@@ -211,11 +214,7 @@ fn draw_turns<W: Write>(out: &mut W, turns: u64, top: u64) -> anyhow::Result<()>
         let turn = mark.saturating_mul(step);
         if turn <= turns {
             let left = place_of(turn, turns);
-            writeln!(
-                out,
-                "<path d=\"M{left} {top}V{line}\" stroke=\"#334155\"/><text class=\"small\" \
-                 x=\"{left}\" y=\"{text}\" text-anchor=\"middle\">{turn}</text>"
-            )?;
+            write_filled(out, MARK, &[left, top, line, left, text, turn])?;
         }
     }
     Ok(())
@@ -225,11 +224,13 @@ fn draw_turns<W: Write>(out: &mut W, turns: u64, top: u64) -> anyhow::Result<()>
 fn draw_name<W: Write>(out: &mut W, alloc: Global, name: &str, top: u64) -> anyhow::Result<()> {
     let right = NAMES.saturating_sub(10);
     let bottom = top.saturating_add(12);
-    writeln!(
+    write_filled(
         out,
-        "<text x=\"{right}\" y=\"{bottom}\" text-anchor=\"end\">{}</text>",
-        escape(alloc, name)?
+        "<text x=\"@\" y=\"@\" text-anchor=\"end\">",
+        &[right, bottom],
     )?;
+    out.write_all(escape(alloc, name)?.as_bytes())?;
+    out.write_all(b"</text>\n")?;
     Ok(())
 }
 
@@ -244,15 +245,7 @@ pub fn draw<W: Write>(out: &mut W, alloc: Global, rows: &Rows) -> anyhow::Result
     let resources = LEGEND.saturating_add(rows_of(rows.jobs.len(), JOB_ROW));
     let bottom = resources.saturating_add(rows_of(rows.resources.len(), RESOURCE_ROW));
     let height = bottom.saturating_add(30);
-    writeln!(
-        out,
-        "<svg xmlns=\"http://www.w3.org/2000/svg\" width=\"{WIDTH}\" height=\"{height}\" \
-         viewBox=\"0 0 {WIDTH} {height}\">"
-    )?;
-    writeln!(
-        out,
-        "<rect width=\"{WIDTH}\" height=\"{height}\" fill=\"#ffffff\"/>"
-    )?;
+    write_filled(out, PICTURE, &[WIDTH, height, WIDTH, height, WIDTH, height])?;
     out.write_all(HEAD.as_bytes())?;
     let mut top = LEGEND;
     for (name, job) in rows.jobs.iter() {
@@ -270,6 +263,6 @@ pub fn draw<W: Write>(out: &mut W, alloc: Global, rows: &Rows) -> anyhow::Result
         top = top.saturating_add(RESOURCE_ROW);
     }
     draw_turns(out, turns, bottom)?;
-    writeln!(out, "</svg>")?;
+    out.write_all(b"</svg>\n")?;
     Ok(())
 }

@@ -7,6 +7,7 @@
 #![tactic(auto)]
 
 mod drawing;
+mod filling;
 mod lines;
 mod rows;
 

@@ -7,10 +7,12 @@ use std::test::Fail;
 #[test]
 fn calls_of_the_core(rt: HostRuntime) -> Result<(), Fail> {
     let mut core = Core::new(rt.alloc(), 1, 1)?;
-    assert!(rt; core.run_call(Call::Try { pass: 0 })? == Reply::Got);
-    assert!(rt; core.run_call(Call::Try { pass: 0 })? == Reply::Busy);
+    assert!(rt; core.run_call(Call::Acquire { pass: 0 })? == Reply::Now);
+    assert!(rt; core.run_call(Call::Acquire { pass: 0 })? == Reply::Later(0));
+    assert!(rt; core.run_call(Call::Poll { pass: 0, wait: 0 })? == Reply::Pending);
+    assert!(rt; core.run_call(Call::Cancel { pass: 0, wait: 0 })? == Reply::Cancelled);
     assert!(rt; core.run_call(Call::Release { pass: 0 })? == Reply::Freed);
     assert!(rt; core.run_call(Call::Release { pass: 0 }) == Err(CoreError::NotEnabled));
-    assert!(rt; core.history().len() == 3);
+    assert!(rt; core.history().len() == 6);
     Ok(())
 }

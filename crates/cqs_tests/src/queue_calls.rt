@@ -8,6 +8,7 @@
 //! miss.
 
 use crate::line::{CONFIG, come, owe, send, wait};
+use cqs_cancel::{Left, cancel};
 use cqs_cell::{install, leave_value, look, serve, take_value};
 use cqs_find::{Found, find};
 use cqs_rule::{
@@ -99,6 +100,19 @@ fn a_permit_goes_to_the_waiter(rt: HostRuntime) -> Result<(), Fail> {
     let cell = look::<SemClient, Polls>(&queue, &mut pass, at);
     assert!(rt; cell == CellWord::bare(0, CellState::Resumed));
     assert!(rt; (pass.held(), pass.waits(), pass.owes()) == (1, 0, false));
+    Ok(())
+}
+
+#[test]
+fn a_wait_is_cancelled(rt: HostRuntime) -> Result<(), Fail> {
+    let client = SemClient::new(1);
+    let (queue, mut pass) = Queue::new(rt.alloc(), CONFIG, CancelMode::Smart, client)?;
+    let wait = wait(&rt, &queue, &mut pass);
+    let Left::Gone = cancel(&queue, &mut pass, wait) else {
+        panic!(rt; "nobody served the wait");
+    };
+    assert!(rt; (pass.held(), pass.waits(), pass.owes()) == (1, 0, false));
+    assert!(rt; give_permit(&queue, &mut pass).word == 4_294_967_296);
     Ok(())
 }
 

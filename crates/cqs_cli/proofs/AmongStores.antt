@@ -1,5 +1,5 @@
 -- Resources of one sort among those of several: what a call of one does, in the words of all.
-use Rattle.std.proofs.Common.{◌≡◌, ◌≢◌, ℕ, ◌+◌, ◌-◌, nat_lt, Bool, true, false, List, Option, Some, length, ap, sym, ◌∙◌, subst}
+use Rattle.std.proofs.Common.{◌≡◌, ◌≢◌, ℕ, ◌+◌, ◌-◌, nat_lt, Bool, true, false, List, Option, Some, None, length, ap, sym, ◌∙◌, subst}
 use Rattle.cqs_core.specs.SemaphoreEntries.{IsFirst}
 use Rattle.cqs_plan.specs.declared.floors.answers.FloorEnd.{FloorEnd}
 use Rattle.cqs_plan.specs.declared.floors.answers.FloorEnd.TheVariants as end
@@ -9,27 +9,23 @@ use Rattle.cqs_plan.specs.declared.floors.answers.FloorLeave.{FloorLeave}
 use Rattle.cqs_plan.specs.declared.floors.answers.FloorLeave.TheVariants.{Gone, Late}
 use Rattle.cqs_plan.specs.declared.plans.kind.Kind.{Kind}
 use Rattle.cqs_plan.specs.Floor.{size_of}
-use Rattle.cqs_plan.specs.FloorHistory.{Deed, Standing, joins, frees, sends, gets, leaves, is_late, came_for, first_free, standing, with_deed}
-use Rattle.cqs_cli.specs.declared.floors.sole_resource.Looked.{Looked}
-use Rattle.cqs_cli.specs.declared.floors.sole_resource.Looked.TheVariants as looked
+use Rattle.cqs_plan.specs.FloorHistory.{Deed, Standing, joins, frees, sends, came_for, first_free, standing, with_deed}
+use Rattle.cqs_rule.specs.declared.config.Place.{Place}
 use Rattle.cqs_cli.specs.declared.floors.sole_resource.Taken.{Taken}
 use Rattle.cqs_cli.specs.declared.floors.sole_resource.Taken.TheVariants as taken
-use Rattle.cqs_cli.specs.AnySoles.{map_looked, map_taken}
 use Rattle.cqs_cli.specs.Stores.{Acquires, CanAcquire, CanEnd, CanRelease, CanTell, Cancels, Came, ComesBack, EndsWait, Goes, IsOpened, KeepsAll, KeepsOthers, Polls, Releases, Rests, Store, Tells, is_in_line, stands}
 
--- those of one sort are among all by f, and their waits by g
-pub record IsAmong {X W Y V : Type 0} (s : Store X W) (t : Store Y V) (f : X → Y) (g : W → V) : Type 0 where
+-- those of one sort are among all by f, with their waits
+pub record IsAmong {X Y : Type 0} (s : Store X) (t : Store Y) (f : X → Y) : Type 0 where
   pub history : (x : X) → t.history (f x) ≡ s.history x
-  pub number : (w : W) → t.number (g w) ≡ s.number w
   pub funds : (x : X) (kind : Option Kind) (room waiting : ℕ) (held : List (List ℕ))
       → s.funded x kind room waiting held → t.funded (f x) kind room waiting held
   pub funded : (x : X) (kind : Option Kind) (room waiting : ℕ) (held : List (List ℕ))
       → t.funded (f x) kind room waiting held → s.funded x kind room waiting held
-  pub had : (x : X) (w : W) → s.has x w → t.has (f x) (g w)
-  pub has : (x : X) (w : W) → t.has (f x) (g w) → s.has x w
-  pub own : (x : X) (v : V) → t.has (f x) v → (w : W) × (v ≡ g w)
+  pub had : (x : X) (wait : Place) → s.has x wait → t.has (f x) wait
+  pub has : (x : X) (wait : Place) → t.has (f x) wait → s.has x wait
 
-module _ {X W Y V : Type 0} (s : Store X W) (t : Store Y V) (f : X → Y) (g : W → V) (among : IsAmong s t f g) where
+module _ {X Y : Type 0} (s : Store X) (t : Store Y) (f : X → Y) (among : IsAmong s t f) where
   stands-among : (kind : Option Kind) (x : X) → stands t kind (f x) ≡ stands s kind x
   stands-among kind x = ap (standing (size_of kind)) (among.history x)
 
@@ -55,8 +51,8 @@ module _ {X W Y V : Type 0} (s : Store X W) (t : Store Y V) (f : X → Y) (g : W
     some = can.some;
   }
 
-  pub end-among : (job : ℕ) (x : X) (w : W) → CanEnd t job (g w) (f x) → CanEnd s job w x
-  end-among job x w can = record {
+  pub end-among : (job : ℕ) (x : X) (wait : Place) → CanEnd t job wait (f x) → CanEnd s job wait x
+  end-among job x wait can = record {
     kind = can.kind;
     room = can.room;
     waiting = can.waiting;
@@ -64,7 +60,7 @@ module _ {X W Y V : Type 0} (s : Store X W) (t : Store Y V) (f : X → Y) (g : W
     funded = among.funded x _ _ _ _ can.funded;
     some = can.some;
     there = can.there;
-    has = among.has x w can.has;
+    has = among.has x wait can.has;
   }
 
   pub tell-among : (kind : Kind) (x : X) → CanTell t kind (f x) → CanTell s kind x
@@ -90,17 +86,10 @@ module _ {X W Y V : Type 0} (s : Store X W) (t : Store Y V) (f : X → Y) (g : W
     }
 
     keeps-among : KeepsAll s x y → KeepsAll t (f x) (f y)
-    keeps-among keeps v has =
-        let is = among.own x v has in
-        subst (t.has (f y)) (sym is.1)
-        (among.had y is.0 (keeps is.0 (among.has x is.0 (subst (t.has (f x)) is.1 has))))
+    keeps-among keeps wait has = among.had y wait (keeps wait (among.has x wait has))
 
     others-among : (k : ℕ) → KeepsOthers s x k y → KeepsOthers t (f x) k (f y)
-    others-among k keeps v differs has =
-        let is = among.own x v has in
-        let other : s.number is.0 ≢ k = λ same. differs (ap t.number is.1 ∙ among.number is.0 ∙ same) in
-        subst (t.has (f y)) (sym is.1)
-        (among.had y is.0 (keeps is.0 other (among.has x is.0 (subst (t.has (f x)) is.1 has))))
+    others-among k keeps wait differs has = among.had y wait (keeps wait differs (among.has x wait has))
 
     rests-among : (kind : Option Kind) (room waiting : ℕ) (held : List (List ℕ))
         → Rests s x kind room waiting held y → Rests t (f x) kind room waiting held (f y)
@@ -110,8 +99,7 @@ module _ {X W Y V : Type 0} (s : Store X W) (t : Store Y V) (f : X → Y) (g : W
       keeps = keeps-among rests.keeps;
     }
 
-    pub acquires-among : (job : ℕ) (answer : Taken W) → Acquires s job x answer y
-        → Acquires t job (f x) (map_taken g answer) (f y)
+    pub acquires-among : (job : ℕ) (answer : Taken) → Acquires s job x answer y → Acquires t job (f x) answer (f y)
     acquires-among job (taken.Now e) made = λ kind room waiting held funded some there.
         let m = made kind room waiting held (among.funded x _ _ _ _ funded) some there in
         record {
@@ -120,16 +108,16 @@ module _ {X W Y V : Type 0} (s : Store X W) (t : Store Y V) (f : X → Y) (g : W
           goes = goes-among _ _ _ _ _ m.goes;
           keeps = keeps-among m.keeps;
         }
-    acquires-among job (taken.Waits w) made = λ kind room waiting held funded some there.
+    acquires-among job (taken.Waits wait) made = λ kind room waiting held funded some there.
         let m = made kind room waiting held (among.funded x _ _ _ _ funded) some there in
         let is : (stands s kind x).next ≡ (stands t kind (f x)).next =
         ap (λ (o : Standing). o.next) (sym (stands-among kind x)) in
         record {
           none = ap (λ (o : Standing). nat_lt 0 o.free) (stands-among kind x) ∙ m.none;
-          number = among.number w ∙ m.number ∙ is;
+          number = m.number ∙ is;
           goes = subst (λ n. Goes t (f x) (joins n) kind (room - 1) (waiting + 1) held (f y)) is
               (goes-among _ _ _ _ _ m.goes);
-          has = among.had y w m.has;
+          has = among.had y wait m.has;
           keeps = keeps-among m.keeps;
         }
 
@@ -156,47 +144,40 @@ module _ {X W Y V : Type 0} (s : Store X W) (t : Store Y V) (f : X → Y) (g : W
         )
 
     -- the same of a wait in the line, and of what came for it
-    line-among : (w : W) (kind : Option Kind) (b : Bool) → is_in_line (s.number w) (stands s kind x).line ≡ b
-        → is_in_line (t.number (g w)) (stands t kind (f x)).line ≡ b
-    line-among w kind b found =
-        subst (λ (o : Standing). is_in_line (t.number (g w)) o.line ≡ b) (sym (stands-among kind x))
-        (subst (λ k. is_in_line k (stands s kind x).line ≡ b) (sym (among.number w)) found)
+    line-among : (k : ℕ) (kind : Option Kind) (b : Bool) → is_in_line k (stands s kind x).line ≡ b
+        → is_in_line k (stands t kind (f x)).line ≡ b
+    line-among k kind b found =
+        subst (λ (o : Standing). is_in_line k o.line ≡ b) (sym (stands-among kind x)) found
 
-    came-among : (w : W) (e : ℕ) (kind : Option Kind) → Came s w e kind x → Came t (g w) e kind (f x)
-    came-among w e kind came =
-        came ∙ ap (λ h. came_for (size_of kind) h (s.number w)) (sym (among.history x))
-        ∙ ap (came_for (size_of kind) (t.history (f x))) (sym (among.number w))
+    came-among : (wait : Place) (e : ℕ) (kind : Option Kind) → Came s wait e kind x → Came t wait e kind (f x)
+    came-among wait e kind came =
+        came ∙ ap (λ h. came_for (size_of kind) h wait.index) (sym (among.history x))
 
-    ends-among : (w : W) (b : Bool) (deed : ℕ → Deed) (after : List (List ℕ)) (kind : Option Kind) (room waiting : ℕ)
-        → EndsWait s w b (deed (s.number w)) after kind room waiting x y
-        → EndsWait t (g w) b (deed (t.number (g w))) after kind room waiting (f x) (f y)
-    ends-among w b deed after kind room waiting m = record {
-      found = line-among w kind b m.found;
-      goes = subst (λ k. Goes t (f x) (deed k) kind room (waiting - 1) after (f y)) (sym (among.number w))
-          (goes-among _ _ _ _ _ m.goes);
-      keeps = subst (λ k. KeepsOthers t (f x) k (f y)) (sym (among.number w)) (others-among _ m.keeps);
+    ends-among : (wait : Place) (b : Bool) (deed : Deed) (after : List (List ℕ)) (kind : Option Kind)
+        (room waiting : ℕ) → EndsWait s wait b deed after kind room waiting x y
+        → EndsWait t wait b deed after kind room waiting (f x) (f y)
+    ends-among wait b deed after kind room waiting m = record {
+      found = line-among wait.index kind b m.found;
+      goes = goes-among _ _ _ _ _ m.goes;
+      keeps = others-among _ m.keeps;
     }
 
-    pub polls-among : (job : ℕ) (w : W) (answer : Looked W) → Polls s job x w answer y
-        → Polls t job (f x) (g w) (map_looked g answer) (f y)
-    polls-among job w (looked.Pending back) (same, made) = (
-      ap g same,
-      λ kind room waiting held funded some there.
-          let m = made kind room waiting held (among.funded x _ _ _ _ funded) some there in
-          (line-among w kind true m.0, rests-among _ _ _ _ m.1),
-    )
-    polls-among job w (looked.Granted e) made = λ kind room waiting held funded some there.
+    pub polls-among : (job : ℕ) (wait : Place) (answer : Option ℕ) → Polls s job x wait answer y
+        → Polls t job (f x) wait answer (f y)
+    polls-among job wait None made = λ kind room waiting held funded some there.
         let m = made kind room waiting held (among.funded x _ _ _ _ funded) some there in
-        (came-among w e kind m.0, ends-among w false (λ k. gets k e) _ _ _ _ m.1)
+        (line-among wait.index kind true m.0, rests-among _ _ _ _ m.1)
+    polls-among job wait (Some e) made = λ kind room waiting held funded some there.
+        let m = made kind room waiting held (among.funded x _ _ _ _ funded) some there in
+        (came-among wait e kind m.0, ends-among wait false _ _ _ _ _ m.1)
 
-    pub cancels-among : (job : ℕ) (w : W) (answer : FloorLeave) → Cancels s job x w answer y
-        → Cancels t job (f x) (g w) answer (f y)
-    cancels-among job w Gone made = λ kind room waiting held funded some there.
-        ends-among w true leaves _ _ _ _
-        (made kind room waiting held (among.funded x _ _ _ _ funded) some there)
-    cancels-among job w (Late e) made = λ kind room waiting held funded some there.
+    pub cancels-among : (job : ℕ) (wait : Place) (answer : FloorLeave) → Cancels s job x wait answer y
+        → Cancels t job (f x) wait answer (f y)
+    cancels-among job wait Gone made = λ kind room waiting held funded some there.
+        ends-among wait true _ _ _ _ _ (made kind room waiting held (among.funded x _ _ _ _ funded) some there)
+    cancels-among job wait (Late e) made = λ kind room waiting held funded some there.
         let m = made kind room waiting held (among.funded x _ _ _ _ funded) some there in
-        (came-among w e kind m.0, ends-among w false (λ k. is_late k e) _ _ _ _ m.1)
+        (came-among wait e kind m.0, ends-among wait false _ _ _ _ _ m.1)
 
     pub tells-among : (kind : Kind) (answer : FloorEnd) → Tells s kind x answer y → Tells t kind (f x) answer (f y)
     tells-among kind answer made = λ room waiting held funded.

@@ -2,13 +2,10 @@
 use Rattle.std.proofs.Common.{◌≡◌, ℕ, ◌<◌, List, Option, Some, refl}
 use Rattle.cqs_plan.specs.declared.plans.kind.Kind.{Kind}
 use Rattle.cqs_plan.specs.LegalFloor.{IsHistory}
-use Rattle.cqs_rule.specs.declared.queue.tokens.Wait.{Wait}
+use Rattle.cqs_rule.specs.declared.config.Place.{Place}
 use Rattle.cqs_cli.specs.declared.floors.any_sole.AnySole.{AnySole}
 use Rattle.cqs_cli.specs.declared.floors.any_sole.AnySole.TheVariants.{Permits, Pool}
-use Rattle.cqs_cli.specs.declared.floors.any_sole.AnyWait.{AnyWait}
-use Rattle.cqs_cli.specs.declared.floors.any_sole.AnyWait.TheVariants as wait
-use Rattle.cqs_cli.specs.declared.floors.pool_sole.PoolSole.{PoolSole}
-use Rattle.cqs_cli.specs.AnySoles.{HasAny, store_any}
+use Rattle.cqs_cli.specs.AnySoles.{store_any}
 use Rattle.cqs_cli.specs.Lifted.{of_semaphore}
 use Rattle.cqs_cli.specs.SoleCore.{sole_core, store_core}
 use Rattle.cqs_cli.specs.SolePool.{store_pool}
@@ -22,46 +19,24 @@ use Rattle.cqs_cli.proofs.Lifted.{lifted-lawful}
 use Rattle.cqs_cli.proofs.PoolSole.{pool-lawful}
 use Rattle.cqs_cli.proofs.RunningSole as running
 
-module _ {S W : Type 0} (s : Sole S W) where
-  own-permits : (x : S) (v : AnyWait W) → HasAny s (Permits x) v → (w : W) × (v ≡ wait.Permits w)
-  own-permits x (wait.Permits w) has = (w, refl)
-  own-permits x (wait.Pool w) has = absurd has
-
-  own-pool : (x : PoolSole) (v : AnyWait W) → HasAny s (Pool x) v → (w : Wait) × (v ≡ wait.Pool w)
-  own-pool x (wait.Pool w) has = (w, refl)
-  own-pool x (wait.Permits w) has = absurd has
-
-  pub permits-among : IsAmong (of_semaphore s) (store_any s) Permits wait.Permits
+module _ {S : Type 0} (s : Sole S) where
+  pub permits-among : IsAmong (of_semaphore s) (store_any s) Permits
   permits-among = record {
     history = λ x. refl;
-    number = λ w. refl;
     funds = λ x kind room waiting held funded. funded;
     funded = λ x kind room waiting held funded. funded;
     had = λ x w has. has;
     has = λ x w has. has;
-    own = own-permits;
   }
 
-  pub pool-among : IsAmong store_pool (store_any s) Pool wait.Pool
+  pub pool-among : IsAmong store_pool (store_any s) Pool
   pool-among = record {
     history = λ x. refl;
-    number = λ w. refl;
     funds = λ x kind room waiting held funded. funded;
     funded = λ x kind room waiting held funded. funded;
     had = λ x w has. has;
     has = λ x w has. has;
-    own = own-pool;
   }
-
-  -- a wait of one sort is one for it
-  pub is-permits : (x : S) (v : AnyWait W) → HasAny s (Permits x) v
-      → Rattle.cqs_cli.specs.AnySoles.IsForPermits v
-  is-permits x (wait.Permits w) has = tt
-  is-permits x (wait.Pool w) has = absurd has
-
-  pub is-pool : (x : PoolSole) (v : AnyWait W) → HasAny s (Pool x) v → Rattle.cqs_cli.specs.AnySoles.IsForPool v
-  is-pool x (wait.Pool w) has = tt
-  is-pool x (wait.Permits w) has = absurd has
 
   pub any-lawful : permits.IsLawful s → IsLawful (store_any s)
   any-lawful lawful = record { legal = legal; numbered = numbered }
@@ -72,15 +47,13 @@ module _ {S W : Type 0} (s : Sole S W) where
           (lifted-lawful s lawful).legal x kind room waiting held funded
       legal (Pool x) kind room waiting held funded = pool-lawful.legal x kind room waiting held funded
 
-      numbered : (x : AnySole S) (v : AnyWait W) (kind : Option Kind) (room waiting : ℕ) (held : List (List ℕ))
-          → (store_any s).funded x kind room waiting held → (store_any s).has x v
-          → (store_any s).number v < (stands (store_any s) kind x).next
-      numbered (Permits x) (wait.Permits w) kind room waiting held funded has =
-          (lifted-lawful s lawful).numbered x w kind room waiting held funded has
-      numbered (Permits x) (wait.Pool w) kind room waiting held funded has = absurd has
-      numbered (Pool x) (wait.Permits w) kind room waiting held funded has = absurd has
-      numbered (Pool x) (wait.Pool w) kind room waiting held funded has =
-          pool-lawful.numbered x w kind room waiting held funded has
+      numbered : (x : AnySole S) (wait : Place) (kind : Option Kind) (room waiting : ℕ) (held : List (List ℕ))
+          → (store_any s).funded x kind room waiting held → (store_any s).has x wait
+          → wait.index < (stands (store_any s) kind x).next
+      numbered (Permits x) wait kind room waiting held funded has =
+          (lifted-lawful s lawful).numbered x wait kind room waiting held funded has
+      numbered (Pool x) wait kind room waiting held funded has =
+          pool-lawful.numbered x wait kind room waiting held funded has
 
 pub core-lawful : IsLawful store_core
 core-lawful = any-lawful sole_core core.core-lawful

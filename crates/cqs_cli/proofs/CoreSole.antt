@@ -6,6 +6,7 @@ use Rattle.std.proofs.lemmas.Int.{ints}
 use Rattle.std.proofs.lemmas.List.{append-nil}
 use Rattle.cqs_plan.specs.declared.plans.kind.Kind.{Kind}
 use Rattle.cqs_plan.specs.Floor.{size_of}
+use Rattle.cqs_rule.specs.declared.config.Place.{Place}
 use Rattle.cqs_core.specs.declared.calls.Call.TheVariants as call
 use Rattle.cqs_core.specs.declared.calls.Reply.{Reply}
 use Rattle.cqs_core.specs.declared.doings.Doing.TheVariants as doing
@@ -42,8 +43,9 @@ core-lawful = record {
   legal = λ x kind room waiting held funded.
       subst (λ n. IsLegal n x.shape.history) funded.permits funded.sole.core.legal;
   numbered = λ x wait kind room waiting held funded has.
-      let read = read-wait x.shape funded.sole (funded-rests x (size_of kind) room waiting held funded) wait 0 has in
-      subst (λ (o : Semaphore). wait < o.next) (sym (object-shown x kind room waiting held funded)) read.drawn;
+      let rests = funded-rests x (size_of kind) room waiting held funded in
+      let read = read-wait x.shape funded.sole rests wait.index 0 has in
+      subst (λ (o : Semaphore). wait.index < o.next) (sym (object-shown x kind room waiting held funded)) read.drawn;
 }
 
 -- a core as it is made has one pass, which is idle
@@ -90,7 +92,7 @@ release-ready x can = funded-ready x _ _ _ _ can.funded (omega (arith, can.some)
 pub may-release : (x : Room) → CanRelease sole_core x → MayCall x.shape (call.Release 0)
 may-release x can = let funded = can.funded in omega (arith, funded.holds, can.some)
 
-pub end-ready : (x : Room) (wait : ℕ) → CanEnd sole_core wait x → IsReady x
+pub end-ready : (x : Room) (wait : Place) → CanEnd sole_core wait x → IsReady x
 end-ready x wait can = funded-ready x _ _ _ _ can.funded (omega (arith, can.some))
 
 -- a call of a core that was between two calls
@@ -115,7 +117,7 @@ module _ (x y : Room) (answer : Reply) (sole : IsSole x.shape) where
                   (omega (arith, made.call.numbers, left)) (omega (arith, left))
                   (omega (arith, came.holds, funded.holds));
             };
-            keeps = λ wait has. subst (λ (o : Semaphore). HasWait wait 0 o) (sym came.shows) has;
+            keeps = λ wait has. subst (λ (o : Semaphore). HasWait wait.index 0 o) (sym came.shows) has;
           })
       go false none =
           let came = came-later x y answer sole made none in
@@ -134,8 +136,8 @@ module _ (x y : Room) (answer : Reply) (sole : IsSole x.shape) where
             };
             has = subst (λ (o : Semaphore). HasWait (shown x.shape).next 0 o) (sym came.shows)
                 (comes-entered (shown x.shape));
-            keeps = λ wait has. subst (λ (o : Semaphore). HasWait wait 0 o) (sym came.shows)
-                (stays-entered (shown x.shape) wait 0 has);
+            keeps = λ wait has. subst (λ (o : Semaphore). HasWait wait.index 0 o) (sym came.shows)
+                (stays-entered (shown x.shape) wait.index 0 has);
           })
 
   pub core-releases : HasMade x (call.Release 0) answer y → Releases sole_core x (sent_in answer) y
@@ -154,7 +156,7 @@ module _ (x y : Room) (answer : Reply) (sole : IsSole x.shape) where
               funded = funded-next x y _ answer _ _ _ _ _ _ _ funded made
                   (omega (arith, next)) (omega (arith, some)) (omega (arith, came.holds, funded.holds));
             };
-            keeps = λ wait has. subst (λ (o : Semaphore). HasWait wait 0 o) (sym came.shows) has;
+            keeps = λ wait has. subst (λ (o : Semaphore). HasWait wait.index 0 o) (sym came.shows) has;
           })
       go (first ∷ rest) is =
           let came = came-sent x y answer sole first rest made is in
@@ -173,8 +175,8 @@ module _ (x y : Room) (answer : Reply) (sole : IsSole x.shape) where
               funded = funded-next x y _ answer _ _ _ _ _ _ _ funded made
                   (omega (arith, next)) (omega (arith, some)) (omega (arith, came.holds, funded.holds));
             };
-            keeps = λ wait has. subst (λ (o : Semaphore). HasWait wait 0 o) (sym came.shows)
-                (stays-sent (shown x.shape) first rest wait is alone has);
+            keeps = λ wait has. subst (λ (o : Semaphore). HasWait wait.index 0 o) (sym came.shows)
+                (stays-sent (shown x.shape) first rest wait.index is alone has);
           })
 
 -- some wait of the number is in the line where the first of it is found
@@ -206,33 +208,32 @@ not-false true is = refl
 not-false false is = absurd (cc)
 
 -- a core whose caller has a wait
-module _ (x : Room) (wait : ℕ) where
+module _ (x : Room) (wait : Place) where
   -- whether the wait stands in the line
   line-reads : (kind : Option Kind) (room waiting held : ℕ) → IsFunded x (size_of kind) room waiting held
-      → (stands : Bool) → is_some (find_wait wait (shown x.shape).line) ≡ stands
-      → is_in_line wait (object sole_core kind x).line ≡ stands
+      → (stands : Bool) → is_some (find_wait wait.index (shown x.shape).line) ≡ stands
+      → is_in_line wait.index (object sole_core kind x).line ≡ stands
   line-reads kind room waiting held funded stands is =
-      ap (λ (o : Semaphore). is_in_line wait o.line) (object-shown x kind room waiting held funded)
-      ∙ any-find wait (shown x.shape).line ∙ is
+      ap (λ (o : Semaphore). is_in_line wait.index o.line) (object-shown x kind room waiting held funded)
+      ∙ any-find wait.index (shown x.shape).line ∙ is
 
-  served-reads : IsSole x.shape → x.shape.queue.suspends ≤ 1048576 → HasWait wait 0 (shown x.shape)
-      → is_served_at (slice_get x.shape.queue.cells wait) ≡ not (is_some (find_wait wait (shown x.shape).line))
+  served-reads : IsSole x.shape → x.shape.queue.suspends ≤ 1048576 → HasWait wait.index 0 (shown x.shape)
+      → is_served_at (slice_get x.shape.queue.cells wait.index)
+      ≡ not (is_some (find_wait wait.index (shown x.shape).line))
   served-reads sole few has =
-      (read-wait x.shape sole (record { idle = sole.idle; numbers = omega (arith, few) }) wait 0 has).reads
+      (read-wait x.shape sole (record { idle = sole.idle; numbers = omega (arith, few) }) wait.index 0 has).reads
 
-  pub core-pends : CanEnd sole_core wait x → is_served_at (slice_get x.shape.queue.cells wait) ≡ false
-      → Polls sole_core x wait (Some wait) x
+  pub core-pends : CanEnd sole_core wait x → is_served_at (slice_get x.shape.queue.cells wait.index) ≡ false
+      → Polls sole_core x wait false x
   core-pends can missing =
       let reads = served-reads can.funded.sole (omega (arith, can.funded.numbers)) can.has in
-      let there = not-false _ (sym missing ∙ reads) in (
-        refl,
-        λ kind room waiting held funded some.
-            record {
-              found = line-reads kind room waiting held funded true there;
-              goes = record { appended = rest; funded = funded };
-              keeps = λ other has. has;
-            },
-      )
+      let there = not-false _ (sym missing ∙ reads) in
+      λ kind room waiting held funded some.
+      record {
+        found = line-reads kind room waiting held funded true there;
+        goes = record { appended = rest; funded = funded };
+        keeps = λ other has. has;
+      }
     where
       rest : x.shape.history ≡ x.shape.history ++ []
       rest = sym (append-nil x.shape.history)
@@ -241,12 +242,12 @@ module _ (x : Room) (wait : ℕ) where
     sole : IsSole x.shape
     sole = can.funded.sole
 
-    pub core-grants : is_served_at (slice_get x.shape.queue.cells wait) ≡ true → HasMade x (call.Poll 0 wait) answer y
-        → Polls sole_core x wait None y
+    pub core-grants : is_served_at (slice_get x.shape.queue.cells wait.index) ≡ true
+        → HasMade x (call.Poll 0 wait.index) answer y → Polls sole_core x wait true y
     core-grants served made kind room waiting held funded some =
         let reads = served-reads sole (omega (arith, can.funded.numbers)) can.has in
         let missing = not-true _ (sym served ∙ reads) in
-        let came = came-granted x y answer sole wait made (none-found _ missing) in
+        let came = came-granted x y answer sole wait.index made (none-found _ missing) in
         let next : y.shape.queue.suspends ≡ x.shape.queue.suspends = ap (λ (o : Semaphore). o.next) came.shows in
         record {
           found = line-reads kind room waiting held funded false missing;
@@ -255,20 +256,20 @@ module _ (x : Room) (wait : ℕ) where
             funded = funded-next x y _ answer _ _ _ _ _ _ _ funded made
                 (omega (arith, next)) (omega (arith, some)) (omega (arith, came.holds, funded.holds));
           };
-          keeps = λ other differs has. subst (λ (o : Semaphore). HasWait other 0 o) (sym came.shows)
-              (stays-closed (shown x.shape) wait other differs has);
+          keeps = λ other differs has. subst (λ (o : Semaphore). HasWait other.index 0 o) (sym came.shows)
+              (stays-closed (shown x.shape) wait.index other.index differs has);
         }
 
-    pub core-cancels : HasMade x (call.Cancel 0 wait) answer y → Cancels sole_core x wait (has_left answer) y
-    core-cancels made = go (is_some (find_wait wait (shown x.shape).line)) refl
+    pub core-cancels : HasMade x (call.Cancel 0 wait.index) answer y → Cancels sole_core x wait (has_left answer) y
+    core-cancels made = go (is_some (find_wait wait.index (shown x.shape).line)) refl
       where
-        go : (b : Bool) → is_some (find_wait wait (shown x.shape).line) ≡ b
+        go : (b : Bool) → is_some (find_wait wait.index (shown x.shape).line) ≡ b
             → Cancels sole_core x wait (has_left answer) y
         go true there =
             let found = some-found _ there in
-            let came = came-left x y answer sole wait found.0 made found.1 in
+            let came = came-left x y answer sole wait.index found.0 made found.1 in
             let next : y.shape.queue.suspends ≡ x.shape.queue.suspends =
-            ap (λ (o : Semaphore). o.next) came.shows ∙ left-next (shown x.shape) wait in
+            ap (λ (o : Semaphore). o.next) came.shows ∙ left-next (shown x.shape) wait.index in
             subst (λ a. Cancels sole_core x wait (has_left a) y) (sym came.is)
             (λ kind room waiting held funded some.
             record {
@@ -278,11 +279,11 @@ module _ (x : Room) (wait : ℕ) where
                 funded = funded-next x y _ answer _ _ _ _ _ _ _ funded made
                     (omega (arith, next)) (omega (arith, some)) (omega (arith, came.holds, funded.holds));
               };
-              keeps = λ other differs has. subst (λ (o : Semaphore). HasWait other 0 o) (sym came.shows)
-                  (stays-left (shown x.shape) wait other differs has);
+              keeps = λ other differs has. subst (λ (o : Semaphore). HasWait other.index 0 o) (sym came.shows)
+                  (stays-left (shown x.shape) wait.index other.index differs has);
             })
         go false missing =
-            let came = came-late x y answer sole wait made (none-found _ missing) in
+            let came = came-late x y answer sole wait.index made (none-found _ missing) in
             let next : y.shape.queue.suspends ≡ x.shape.queue.suspends = ap (λ (o : Semaphore). o.next) came.shows in
             subst (λ a. Cancels sole_core x wait (has_left a) y) (sym came.is)
             (λ kind room waiting held funded some.
@@ -293,8 +294,8 @@ module _ (x : Room) (wait : ℕ) where
                 funded = funded-next x y _ answer _ _ _ _ _ _ _ funded made
                     (omega (arith, next)) (omega (arith, some)) (omega (arith, came.holds, funded.holds));
               };
-              keeps = λ other differs has. subst (λ (o : Semaphore). HasWait other 0 o) (sym came.shows)
-                  (stays-closed (shown x.shape) wait other differs has);
+              keeps = λ other differs has. subst (λ (o : Semaphore). HasWait other.index 0 o) (sym came.shows)
+                  (stays-closed (shown x.shape) wait.index other.index differs has);
             })
 
 -- a state that counts no more than so many free permits

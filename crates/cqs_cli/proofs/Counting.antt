@@ -103,7 +103,7 @@ counts-all room jobs n i long all counts =
     whole k = ap (λ m. takes_of (take m jobs) k) all ∙ ap (λ js. takes_of js k) (take-length jobs)
 
 -- a semaphore for one more resource
-pub opened-push : {X W : Type 0} (s : Store X W) (resources : List Resource) (room : List ℕ) (soles : List X)
+pub opened-push : {X : Type 0} (s : Store X) (resources : List Resource) (room : List ℕ) (soles : List X)
     (resource : Resource) (sole : X)
     → length soles < length resources → resource ≡ get_or resources (length soles) resource
     → IsOpened s resource.kind (slice_index room (length soles)) sole

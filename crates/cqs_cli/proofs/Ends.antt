@@ -14,8 +14,8 @@ use Rattle.cqs_cli.specs.Stores.{Store, Rests, stands}
 use Rattle.cqs_cli.proofs.Looks.{kept-same, plain-same}
 use Rattle.cqs_cli.proofs.Resources.{Funds, funds-at, holdable-there, standing-there}
 
-module _ {X W : Type 0} (s : Store X W) where
-  can-end : (l : Ledger X W) (at : ℕ) → IsKept s l → IsHoldable (slice_get l.kinds at) → CanEndAt s l at
+module _ {X : Type 0} (s : Store X) where
+  can-end : (l : Ledger X) (at : ℕ) → IsKept s l → IsHoldable (slice_get l.kinds at) → CanEndAt s l at
   can-end l at kept holdable =
       let is = holdable-there (slice_get l.kinds at) holdable in
       let funds : Funds s l at = funds-at s l at kept holdable in
@@ -37,12 +37,12 @@ module _ {X W : Type 0} (s : Store X W) where
       }
 
   -- what telling how a resource stands comes to
-  pub record EndsWell (f : PlainFloor) (at : ℕ) (answer : FloorEnd) (n : Ledger X W) : Type 0 where
+  pub record EndsWell (f : PlainFloor) (at : ℕ) (answer : FloorEnd) (n : Ledger X) : Type 0 where
     pub answers : answer ≡ end_answer f at
     pub same : plain_floor s n ≡ f
     pub kept : IsKept s n
 
-  end-well : (l n : Ledger X W) (at : ℕ) (answer : FloorEnd) → IsKept s l → Ends s l at answer n
+  end-well : (l n : Ledger X) (at : ℕ) (answer : FloorEnd) → IsKept s l → Ends s l at answer n
       → EndsWell (plain_floor s l) at answer n
   end-well l n at answer kept e =
       let Funded : Option Kind → Type 0
@@ -62,13 +62,13 @@ module _ {X W : Type 0} (s : Store X W) where
       }
 
   -- the same where the floor is seen as its plain floor
-  pub end-can : (l : Ledger X W) (f : PlainFloor) (at : ℕ) → plain_floor s l ≡ f → IsKept s l
+  pub end-can : (l : Ledger X) (f : PlainFloor) (at : ℕ) → plain_floor s l ≡ f → IsKept s l
       → IsHoldable (slice_get f.kinds at) → CanEndAt s l at
   end-can l f at view kept =
       let Allows : PlainFloor → Type 0 = λ g. IsHoldable (slice_get g.kinds at) → CanEndAt s l at in
       subst Allows view (can-end l at kept)
 
-  pub end-floor : (l n : Ledger X W) (f : PlainFloor) (at : ℕ) (answer : FloorEnd) → plain_floor s l ≡ f → IsKept s l
+  pub end-floor : (l n : Ledger X) (f : PlainFloor) (at : ℕ) (answer : FloorEnd) → plain_floor s l ≡ f → IsKept s l
       → Ends s l at answer n → EndsWell f at answer n
   end-floor l n f at answer view kept e =
       subst (λ g. EndsWell g at answer n) view (end-well l n at answer kept e)

@@ -14,6 +14,7 @@ use Rattle.cqs_cli.specs.DeskCalls.{Gives, HasAt}
 use Rattle.cqs_cli.specs.Kept.{IsKept, held_at, waiting_at}
 use Rattle.cqs_cli.specs.Ledger.{Ledger, plain_floor, with_soles, with_transfer, after_transfer, holds_in}
 use Rattle.cqs_cli.specs.Stores.{Store, CanRelease, Goes, KeepsAll, held_by, with_less}
+use Rattle.cqs_cli.specs.Waits.{place_in}
 use Rattle.cqs_cli.proofs.Holdings.{held-gave, else-gave, held-there, many-gave, holds-transfer, oldest-elements, some-elements}
 use Rattle.cqs_cli.proofs.KeptNext.{funded-as, kept-next, stands-on, histories-next}
 use Rattle.cqs_cli.proofs.Resources.{Funds, funds-at, standing-there}
@@ -29,15 +30,15 @@ element-of : (held : Option Holding) (element : ℕ) → option_map (λ h. h.ele
 element-of (Some h) element is = cc
 element-of None element is = absurd (cc)
 
-module _ {X W : Type 0} (s : Store X W) where
+module _ {X : Type 0} (s : Store X) where
   -- a job holds something of a resource in the words of all
-  some-held : (l : Ledger X W) (at job : ℕ) → IsSome (oldest at (get_or (holds_in l) job []))
+  some-held : (l : Ledger X) (at job : ℕ) → IsSome (oldest at (get_or (holds_in l) job []))
       → 0 < length (held_by (held_at (holds_in l) at) job)
   some-held l at job holding =
       rw (held-there (holds_in l) at job) (some-elements at (get_or (holds_in l) job []) holding)
 
   -- a job that holds something of a resource can give it
-  can-give : (l : Ledger X W) (at job : ℕ) → IsKept s l → IsHoldable (slice_get l.kinds at)
+  can-give : (l : Ledger X) (at job : ℕ) → IsKept s l → IsHoldable (slice_get l.kinds at)
       → IsHolding (plain_floor s l) at job → HasAt l.soles at (CanRelease s job)
   can-give l at job kept holdable holding =
       let funds : Funds s l at = funds-at s l at kept holdable in
@@ -55,10 +56,10 @@ module _ {X W : Type 0} (s : Store X W) where
       }
 
   -- a job that gives back what it holds of a resource
-  module _ (l : Ledger X W) (at job : ℕ) (kept : IsKept s l) (holder : job < length (holds_in l))
+  module _ (l : Ledger X) (at job : ℕ) (kept : IsKept s l) (holder : job < length (holds_in l))
       (holding : IsSome (oldest at (get_or (holds_in l) job [])))
       (sole after : X) (there : slice_get l.soles at ≡ Some sole) where
-    abbrev given : Ledger X W
+    abbrev given : Ledger X
     given = with_soles (with_transfer l (GaveBack job at)) (set l.soles at after)
 
     transferred : holds_in given ≡ after_transfer (holds_in l) (GaveBack job at)
@@ -85,7 +86,7 @@ module _ {X W : Type 0} (s : Store X W) where
         room = λ i other. refl;
         waiting = λ i other. refl;
         held = λ i other. ap (λ hs. held_at hs i) transferred ∙ else-gave (holds_in l) job at i (λ e. other (sym e));
-        waits = λ j wait got. stands-on s l.soles at sole after wait there (λ same has. keeps wait.token has)
+        waits = λ j wait got. stands-on s l.soles at sole after wait there (λ same has. keeps (place_in wait) has)
             (kept.waits j wait got);
         apart = kept.apart;
         spare = omega (arith, kept.spare, many);
@@ -106,12 +107,12 @@ module _ {X W : Type 0} (s : Store X W) where
           rw (histories, transferred) refl
 
   -- what a give comes to: its answer is the plain floor's, and so is what it leaves
-  pub record GivesWell (f : PlainFloor) (at job : ℕ) (answer : FloorGive) (n : Ledger X W) : Type 0 where
+  pub record GivesWell (f : PlainFloor) (at job : ℕ) (answer : FloorGive) (n : Ledger X) : Type 0 where
     pub answers : answer ≡ plain.give_answer f at job
     pub leaves : plain_floor s n ≡ plain.after_give f at job answer
     pub kept : IsKept s n
 
-  give-well : (l n : Ledger X W) (at job : ℕ) (answer : FloorGive) → IsKept s l → IsJob (plain_floor s l) job
+  give-well : (l n : Ledger X) (at job : ℕ) (answer : FloorGive) → IsKept s l → IsJob (plain_floor s l) job
       → IsHolding (plain_floor s l) at job → Gives s l at job answer n → GivesWell (plain_floor s l) at job answer n
   give-well l n at job (Free element) kept is_job holding (a, written) =
       let both = a.made _ _ _ _ (kept.funded.at at a.sole a.there) (some-held l at job holding) in
@@ -145,14 +146,14 @@ module _ {X W : Type 0} (s : Store X W) where
       }
 
   -- the same where the floor is seen as its plain floor
-  pub give-can : (l : Ledger X W) (f : PlainFloor) (at job : ℕ) → plain_floor s l ≡ f → IsKept s l
+  pub give-can : (l : Ledger X) (f : PlainFloor) (at job : ℕ) → plain_floor s l ≡ f → IsKept s l
       → IsHoldable (slice_get f.kinds at) → IsHolding f at job → HasAt l.soles at (CanRelease s job)
   give-can l f at job view kept =
       let Allows : PlainFloor → Type 0 = λ g. IsHoldable (slice_get g.kinds at)
       → IsHolding g at job → HasAt l.soles at (CanRelease s job) in
       subst Allows view (can-give l at job kept)
 
-  pub give-floor : (l n : Ledger X W) (f : PlainFloor) (at job : ℕ) (answer : FloorGive)
+  pub give-floor : (l n : Ledger X) (f : PlainFloor) (at job : ℕ) (answer : FloorGive)
       → plain_floor s l ≡ f → IsKept s l → IsJob f job → IsHolding f at job → Gives s l at job answer n
       → GivesWell f at job answer n
   give-floor l n f at job answer view kept =

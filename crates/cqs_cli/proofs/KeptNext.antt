@@ -12,9 +12,10 @@ use Rattle.cqs_cli.specs.declared.floors.waits.Wait.{Wait}
 use Rattle.cqs_cli.specs.Kept.{IsKept, IsFundedAt, StandsIn, AreApart, waiting_at, held_at, transfers_to_come}
 use Rattle.cqs_cli.specs.Ledger.{Ledger, holds_in}
 use Rattle.cqs_cli.specs.Stores.{Store}
+use Rattle.cqs_cli.specs.Waits.{place_in}
 use Rattle.cqs_cli.proofs.Resources.{history-there}
 
-module _ {X W : Type 0} (s : Store X W) where
+module _ {X : Type 0} (s : Store X) where
   -- the same funds, in other words
   pub funded-as : (x : X) (kind : Option Kind) {r r' w w' : ℕ} {h h' : List (List ℕ)} → r ≡ r' → w ≡ w' → h ≡ h'
       → s.funded x kind r w h → s.funded x kind r' w' h'
@@ -23,7 +24,7 @@ module _ {X W : Type 0} (s : Store X W) where
       (subst (λ n. s.funded x kind r n h') waiting (subst (λ n. s.funded x kind r w n) held funded))
 
   -- after a call at a place: what is kept there is another, and what is counted of the other resources is as it was
-  pub record Follows (l : Ledger X W) (at : ℕ) (sole after : X) (n : Ledger X W) : Type 0 where
+  pub record Follows (l : Ledger X) (at : ℕ) (sole after : X) (n : Ledger X) : Type 0 where
     pub there : slice_get l.soles at ≡ Some sole
     pub kinds : n.kinds ≡ l.kinds
     pub soles : n.soles ≡ set l.soles at after
@@ -32,12 +33,12 @@ module _ {X W : Type 0} (s : Store X W) where
     pub room : (i : ℕ) → i ≢ at → slice_index n.room i ≡ slice_index l.room i
     pub waiting : (i : ℕ) → i ≢ at → waiting_at n.waits i ≡ waiting_at l.waits i
     pub held : (i : ℕ) → i ≢ at → held_at (holds_in n) i ≡ held_at (holds_in l) i
-    pub waits : (job : ℕ) (wait : Wait W) → slice_get n.waits job ≡ Some (Some wait)
+    pub waits : (job : ℕ) (wait : Wait) → slice_get n.waits job ≡ Some (Some wait)
         → StandsIn s (set l.soles at after) wait
-    pub apart : AreApart s n.waits
+    pub apart : AreApart n.waits
     pub spare : transfers_to_come n ≤ n.spare
 
-  pub kept-next : (l n : Ledger X W) (at : ℕ) (sole after : X) → IsKept s l → Follows l at sole after n → IsKept s n
+  pub kept-next : (l n : Ledger X) (at : ℕ) (sole after : X) → IsKept s l → Follows l at sole after n → IsKept s n
   kept-next l n at sole after kept f = record {
     soles = ap (λ (xs : List X). length xs) f.soles ∙ length-set l.soles at after ∙ kept.soles
         ∙ ap (λ (ks : List Kind). length ks) (sym f.kinds);
@@ -56,8 +57,8 @@ module _ {X W : Type 0} (s : Store X W) where
           (funded-as x _ (sym (f.room i other)) (sym (f.waiting i other)) (sym (f.held i other)) was)
 
   -- a wait stands on where it stands on in what made the call
-  pub stands-on : (soles : List X) (at : ℕ) (sole after : X) (wait : Wait W) → slice_get soles at ≡ Some sole
-      → (wait.at ≡ at → s.has sole wait.token → s.has after wait.token)
+  pub stands-on : (soles : List X) (at : ℕ) (sole after : X) (wait : Wait) → slice_get soles at ≡ Some sole
+      → (wait.at ≡ at → s.has sole (place_in wait) → s.has after (place_in wait))
       → StandsIn s soles wait → StandsIn s (set soles at after) wait
   stands-on soles at sole after wait there on stands = go (cases_eq wait.at at)
     where
@@ -68,7 +69,7 @@ module _ {X W : Type 0} (s : Store X W) where
           record {
             sole = after;
             there = ap (slice_get (set soles at after)) same ∙ get-set_here soles at sole after there;
-            has = on same (subst (λ (x : X). s.has x wait.token) here stands.has);
+            has = on same (subst (λ (x : X). s.has x (place_in wait)) here stands.has);
           }
       go (inr other) =
           record {

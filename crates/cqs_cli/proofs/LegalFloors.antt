@@ -10,8 +10,8 @@ use Rattle.cqs_cli.specs.Stores.{Store, IsLawful}
 use Rattle.cqs_cli.proofs.Resources.{history-there}
 use Rattle.std.specs.Prelude.{slice_index}
 
-module _ {X W : Type 0} (s : Store X W) (lawful : IsLawful s) where
-  legal-at : (l : Ledger X W) → IsKept s l → (at : ℕ) (k : Kind) → slice_get l.kinds at ≡ Some k
+module _ {X : Type 0} (s : Store X) (lawful : IsLawful s) where
+  legal-at : (l : Ledger X) → IsKept s l → (at : ℕ) (k : Kind) → slice_get l.kinds at ≡ Some k
       → IsHistory k (history_at (plain_floor s l) at)
   legal-at l kept at k is =
       let below : at < length l.soles = omega (arith, get-below l.kinds at k is, kept.soles) in
@@ -22,5 +22,5 @@ module _ {X W : Type 0} (s : Store X W) (lawful : IsLawful s) where
       (held_at (holds_in l) at)) is (kept.funded.at at there.0 there.1) in
       subst (IsHistory k) (sym (history-there s l.soles at there.0 there.1)) (lawful.legal there.0 k _ _ _ funded)
 
-  pub legal-floor : (l : Ledger X W) (f : PlainFloor) → plain_floor s l ≡ f → IsKept s l → IsLegalFloor f
+  pub legal-floor : (l : Ledger X) (f : PlainFloor) → plain_floor s l ≡ f → IsKept s l → IsLegalFloor f
   legal-floor l f view kept = subst IsLegalFloor view (record { at = legal-at l kept })

@@ -12,8 +12,8 @@ use Rattle.cqs_plan.specs.declared.floors.answers.FloorLeave.TheVariants.{Gone, 
 use Rattle.cqs_plan.specs.FloorHistory.{of_permits}
 use Rattle.cqs_plan.specs.LegalFloor.{IsHistory}
 use Rattle.cqs_plan.specs.Floor.{size_of}
+use Rattle.cqs_rule.specs.declared.config.Place.{Place}
 use Rattle.cqs_cli.specs.declared.floors.sole.Stand.{Stand}
-use Rattle.cqs_cli.specs.declared.floors.sole_resource.Looked.TheVariants as looked
 use Rattle.cqs_cli.specs.declared.floors.sole_resource.Taken.TheVariants as taken
 use Rattle.cqs_cli.specs.Lifted.{ArePermits, HoldPermits, IsFundedFor, of_semaphore, total}
 use Rattle.cqs_cli.specs.Soles.{IsOfPermits, Sole}
@@ -86,7 +86,7 @@ permits-none (suc jobs) = (tt, permits-none jobs)
 total-none : (jobs : ℕ) → total (replicate jobs []) ≡ 0
 total-none jobs = omega (arith, sum_by-replicate (λ (es : List ℕ). length es) jobs [])
 
-module _ {X W : Type 0} (s : Sole X W) where
+module _ {X : Type 0} (s : Sole X) where
   -- the semaphore's own funds, with what the jobs hold counted
   funds-as : (x : X) (kind : Option Kind) (room waiting a b : ℕ) → a ≡ b → s.funded x kind room waiting a
       → s.funded x kind room waiting b
@@ -151,7 +151,7 @@ module _ {X W : Type 0} (s : Sole X W) where
     some = some-total can.held job can.some;
   }
 
-  pub end-lifted : (job : ℕ) (wait : W) (x : X) → CanEnd (of_semaphore s) job wait x → permits.CanEnd s wait x
+  pub end-lifted : (job : ℕ) (wait : Place) (x : X) → CanEnd (of_semaphore s) job wait x → permits.CanEnd s wait x
   end-lifted job wait x can = record {
     kind = can.kind;
     room = can.room;
@@ -193,7 +193,7 @@ module _ {X W : Type 0} (s : Sole X W) where
           keeps = m.keeps;
         }
 
-    pub waits-lifted : (wait : W) → permits.Acquires s x (Some wait) y
+    pub waits-lifted : (wait : Place) → permits.Acquires s x (Some wait) y
         → Acquires (of_semaphore s) job x (taken.Waits wait) y
     waits-lifted wait made = λ kind room waiting held funded some there.
         let m = made kind room waiting (total held) funded.funded some in
@@ -246,23 +246,19 @@ module _ {X W : Type 0} (s : Sole X W) where
           },
         )
 
-    module _ (wait : W) where
-      pub pends-lifted : (back : W) → permits.Polls s x wait (Some back) y
-          → Polls (of_semaphore s) job x wait (looked.Pending back) y
-      pends-lifted back (same, made) = (
-        same,
-        λ kind room waiting held funded some there.
-            let m = made kind room waiting (total held) funded.funded some in (
-              m.found,
-              record {
-                same = ap of_permits (m.goes.appended ∙ append-nil (s.entries x));
-                funded = record { sort = funded.sort; permits = funded.permits; funded = m.goes.funded };
-                keeps = m.keeps;
-              },
-            ),
-      )
+    module _ (wait : Place) where
+      pub pends-lifted : permits.Polls s x wait false y → Polls (of_semaphore s) job x wait None y
+      pends-lifted made = λ kind room waiting held funded some there.
+          let m = made kind room waiting (total held) funded.funded some in (
+            m.found,
+            record {
+              same = ap of_permits (m.goes.appended ∙ append-nil (s.entries x));
+              funded = record { sort = funded.sort; permits = funded.permits; funded = m.goes.funded };
+              keeps = m.keeps;
+            },
+          )
 
-      pub grants-lifted : permits.Polls s x wait None y → Polls (of_semaphore s) job x wait (looked.Granted 0) y
+      pub grants-lifted : permits.Polls s x wait true y → Polls (of_semaphore s) job x wait (Some 0) y
       grants-lifted made = λ kind room waiting held funded some there.
           let m = made kind room waiting (total held) funded.funded some in (
             refl,

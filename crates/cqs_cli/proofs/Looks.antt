@@ -11,24 +11,18 @@ use Rattle.cqs_plan.specs.FloorHistory.{Standing, gets, is_late, came_for}
 use Rattle.cqs_plan.specs.Floor.{PlainFloor, IsJob, IsWaiting, came_to as came_plain, size_of, wait_of}
 use Rattle.cqs_plan.specs.FloorCalls as plain
 use Rattle.cqs_cli.specs.declared.floors.waits.Wait.{Wait}
-use Rattle.cqs_cli.specs.DeskCalls.{HasAt, Leaves, Looks}
+use Rattle.cqs_cli.specs.DeskCalls.{CanEndWait, Leaves, Looks}
 use Rattle.cqs_cli.specs.Kept.{elements_of, IsKept, StandsIn, held_at, waiting_at}
 use Rattle.cqs_cli.specs.Ledger.{Ledger, plain_floor, with_soles, with_wait, with_grant, holds_in, job_wait}
 use Rattle.cqs_cli.specs.Stores.{Store, CanEnd, Rests, is_in_line, stands}
+use Rattle.cqs_cli.specs.Waits.{place_in}
 use Rattle.cqs_cli.proofs.KeptNext.{kept-next, stands-on, histories-same}
 use Rattle.cqs_cli.proofs.Resources.{history-there, standing-there, wait-there}
 use Rattle.cqs_cli.proofs.WaitOver.{some-waiting, fewer, kept-gone, kept-came, plain-gone, plain-came}
 
--- an element that was taken out of a list and put back
-set-back : {A : Type 0} (xs : List (Option A)) (i : ℕ) (x : Option A) → slice_get xs i ≡ Some x
-    → set (set xs i None) i x ≡ xs
-set-back [] i x there = absurd (cc)
-set-back (y ∷ xs) zero x there = let same : y ≡ x = cc in ap (λ z. z ∷ xs) (sym same)
-set-back (y ∷ xs) (suc i) x there = ap (λ ys. y ∷ ys) (set-back xs i x there)
-
-module _ {X W : Type 0} (s : Store X W) where
+module _ {X : Type 0} (s : Store X) where
   -- A call with which nothing happens leaves the ledger as it was, for the plain floor.
-  module _ (l : Ledger X W) (at : ℕ) (sole after : X) (kept : IsKept s l) (there : slice_get l.soles at ≡ Some sole)
+  module _ (l : Ledger X) (at : ℕ) (sole after : X) (kept : IsKept s l) (there : slice_get l.soles at ≡ Some sole)
       (rests : Rests s sole (slice_get l.kinds at) (slice_index l.room at) (waiting_at l.waits at)
       (held_at (holds_in l) at) after) where
     pub plain-same : plain_floor s (with_soles l (set l.soles at after)) ≡ plain_floor s l
@@ -45,88 +39,85 @@ module _ {X W : Type 0} (s : Store X W) where
       room = λ i other. refl;
       waiting = λ i other. refl;
       held = λ i other. refl;
-      waits = λ j wait got. stands-on s l.soles at sole after wait there (λ same has. rests.keeps wait.token has)
+      waits = λ j wait got. stands-on s l.soles at sole after wait there (λ same has. rests.keeps (place_in wait) has)
           (kept.waits j wait got);
       apart = kept.apart;
       spare = kept.spare;
     })
 
   -- a job of the ledger whose wait stands
-  module _ (l : Ledger X W) (job : ℕ) (wait : Wait W) (kept : IsKept s l) (slot : get_or l.waits job None ≡ Some wait)
+  module _ (l : Ledger X) (job : ℕ) (wait : Wait) (kept : IsKept s l) (slot : get_or l.waits job None ≡ Some wait)
     where
       has : slice_get l.waits job ≡ Some (Some wait)
       has = (wait-there s l.waits job wait slot).stands
 
-      seen : wait_of (plain_floor s l) job ≡ Some (job_wait s wait)
+      seen : wait_of (plain_floor s l) job ≡ Some (job_wait wait)
       seen = (wait-there s l.waits job wait slot).plain
 
-      can-end : job < length (holds_in l) → HasAt l.soles wait.at (CanEnd s job wait.token)
+      can-end : job < length (holds_in l) → CanEndWait s l job
       can-end holder =
           let stands : StandsIn s l.soles wait = kept.waits job wait has in
           record {
-            sole = stands.sole;
-            there = stands.there;
-            can = record {
-              kind = _;
-              room = _;
-              waiting = _;
-              held = _;
-              funded = kept.funded.at wait.at stands.sole stands.there;
-              some = some-waiting s l job wait kept has;
-              there = omega (arith, holder, length-map (holds_in l) (elements_of wait.at));
-              has = stands.has;
+            wait = wait;
+            is = slot;
+            sole = record {
+              sole = stands.sole;
+              there = stands.there;
+              can = record {
+                kind = _;
+                room = _;
+                waiting = _;
+                held = _;
+                funded = kept.funded.at wait.at stands.sole stands.there;
+                some = some-waiting s l job wait kept has;
+                there = omega (arith, holder, length-map (holds_in l) (elements_of wait.at));
+                has = stands.has;
+              };
             };
           }
 
-      pub some-spare : 0 < l.spare
+      some-spare : 0 < l.spare
       some-spare = omega (arith, kept.spare, fewer s l job wait kept has)
 
       -- whether the wait stands in the line, as the plain floor sees it
       line-reads : (sole : X) → slice_get l.soles wait.at ≡ Some sole → (found : Bool)
-          → is_in_line (s.number wait.token) (stands s (slice_get l.kinds wait.at) sole).line ≡ found
-          → plain.is_in_line (plain_floor s l) (job_wait s wait) ≡ found
+          → is_in_line (wait.index) (stands s (slice_get l.kinds wait.at) sole).line ≡ found
+          → plain.is_in_line (plain_floor s l) (job_wait wait) ≡ found
       line-reads sole there found reads =
-          ap (λ (o : Standing). is_in_line (s.number wait.token) o.line) (standing-there s l wait.at sole there)
+          ap (λ (o : Standing). is_in_line (wait.index) o.line) (standing-there s l wait.at sole there)
           ∙ reads
 
       -- and what came for it
       came-reads : (sole : X) → slice_get l.soles wait.at ≡ Some sole → (element : ℕ)
-          → element ≡ came_for (size_of (slice_get l.kinds wait.at)) (s.history sole) (s.number wait.token)
-          → came_plain (plain_floor s l) (job_wait s wait) ≡ element
+          → element ≡ came_for (size_of (slice_get l.kinds wait.at)) (s.history sole) (wait.index)
+          → came_plain (plain_floor s l) (job_wait wait) ≡ element
       came-reads sole there element came =
-          ap (λ h. came_for (size_of (slice_get l.kinds wait.at)) h (s.number wait.token))
+          ap (λ h. came_for (size_of (slice_get l.kinds wait.at)) h (wait.index))
           (history-there s l.soles wait.at sole there)
           ∙ sym came
 
   -- what a look comes to: its answer is the plain floor's, and so is what it leaves
-  pub record LooksWell (f : PlainFloor) (job : ℕ) (answer : FloorLook) (n : Ledger X W) : Type 0 where
+  pub record LooksWell (f : PlainFloor) (job : ℕ) (answer : FloorLook) (n : Ledger X) : Type 0 where
     pub answers : answer ≡ plain.look_answer f job
     pub leaves : plain_floor s n ≡ plain.after_look f job answer
     pub kept : IsKept s n
 
-  look-well : (l n : Ledger X W) (job : ℕ) (wait : Wait W) (answer : FloorLook) → IsKept s l
-      → IsJob (plain_floor s l) job → get_or l.waits job None ≡ Some wait
-      → Looks s (with_wait l job None) job wait answer n
-      → LooksWell (plain_floor s l) job answer n
-  look-well l n job wait Pending kept is_job slot (back, a, written) =
+  look-well : (l n : Ledger X) (job : ℕ) (answer : FloorLook) → IsKept s l → IsJob (plain_floor s l) job
+      → Looks s l job answer n → LooksWell (plain_floor s l) job answer n
+  look-well l n job Pending kept is_job (wait, slot, a, written) =
       let job_has = has l job wait kept slot in
       let holder : job < length (held_at (holds_in l) wait.at)
       = omega (arith, is_job.holds, length-map (holds_in l) (elements_of wait.at)) in
-      let made = a.made.1 _ _ _ _ (kept.funded.at wait.at a.sole a.there) (some-waiting s l job wait kept job_has)
+      let made = a.made _ _ _ _ (kept.funded.at wait.at a.sole a.there) (some-waiting s l job wait kept job_has)
       holder in
       let in_line = line-reads l job wait kept slot a.sole a.there true made.0 in
-      let returned : Option (Wait W) → Ledger X W = λ w. with_soles (with_wait (with_wait l job None) job w) n.soles in
-      let token : W → Wait W = λ t. record { at = wait.at; token = t } in
-      let same : n ≡ with_soles l (set l.soles wait.at a.after) =
-      written ∙ ap (λ t. returned (Some (token t))) a.made.0
-      ∙ ap (λ ws. record l { waits = ws; soles = n.soles }) (set-back l.waits job (Some wait) job_has)
-      ∙ ap (with_soles l) a.soles in
+      let same : n ≡ with_soles l (set l.soles wait.at a.after) = written ∙ ap (with_soles l) a.soles in
       record {
         answers = rw (seen l job wait kept slot, in_line) refl;
         leaves = ap (plain_floor s) same ∙ plain-same l wait.at a.sole a.after kept a.there made.1;
         kept = subst (IsKept s) (sym same) (kept-same l wait.at a.sole a.after kept a.there made.1);
       }
-  look-well l n job wait (Granted element) kept is_job slot (a, written) =
+  look-well l n job (Granted element) kept is_job (wait, slot, a, written) =
       let job_has = has l job wait kept slot in
       let holder : job < length (held_at (holds_in l) wait.at)
       = omega (arith, is_job.holds, length-map (holds_in l) (elements_of wait.at)) in
@@ -148,16 +139,14 @@ module _ {X W : Type 0} (s : Store X W) where
       }
 
   -- what a leave comes to
-  pub record LeavesWell (f : PlainFloor) (job : ℕ) (answer : FloorLeave) (n : Ledger X W) : Type 0 where
+  pub record LeavesWell (f : PlainFloor) (job : ℕ) (answer : FloorLeave) (n : Ledger X) : Type 0 where
     pub answers : answer ≡ plain.leave_answer f job
     pub leaves : plain_floor s n ≡ plain.after_leave f job answer
     pub kept : IsKept s n
 
-  leave-well : (l n : Ledger X W) (job : ℕ) (wait : Wait W) (answer : FloorLeave) → IsKept s l
-      → IsJob (plain_floor s l) job → get_or l.waits job None ≡ Some wait
-      → Leaves s (with_wait l job None) job wait answer n
-      → LeavesWell (plain_floor s l) job answer n
-  leave-well l n job wait Gone kept is_job slot (a, written) =
+  leave-well : (l n : Ledger X) (job : ℕ) (answer : FloorLeave) → IsKept s l → IsJob (plain_floor s l) job
+      → Leaves s l job answer n → LeavesWell (plain_floor s l) job answer n
+  leave-well l n job Gone kept is_job (wait, slot, a, written) =
       let job_has = has l job wait kept slot in
       let holder : job < length (held_at (holds_in l) wait.at)
       = omega (arith, is_job.holds, length-map (holds_in l) (elements_of wait.at)) in
@@ -174,7 +163,7 @@ module _ {X W : Type 0} (s : Store X W) where
         kept = subst (IsKept s) (sym same)
             (kept-gone s l job wait kept job_has a.sole a.after a.there made.keeps _ made.goes);
       }
-  leave-well l n job wait (Late element) kept is_job slot (a, written) =
+  leave-well l n job (Late element) kept is_job (wait, slot, a, written) =
       let job_has = has l job wait kept slot in
       let holder : job < length (held_at (holds_in l) wait.at)
       = omega (arith, is_job.holds, length-map (holds_in l) (elements_of wait.at)) in
@@ -195,38 +184,37 @@ module _ {X W : Type 0} (s : Store X W) where
             (kept-came s l job wait kept job_has a.sole a.after a.there made.keeps element _ is_job.holds made.goes);
       }
 
-  -- where the floor is seen as its plain floor, a job can end its wait
-  pub end-can : (l : Ledger X W) (f : PlainFloor) (job : ℕ) (wait : Wait W) → plain_floor s l ≡ f → IsKept s l
-      → IsJob f job → get_or l.waits job None ≡ Some wait → HasAt l.soles wait.at (CanEnd s job wait.token)
-  end-can l f job wait view kept is_job slot =
-      let own : IsJob (plain_floor s l) job = subst (λ g. IsJob g job) (sym view) is_job in
-      can-end l job wait kept slot own.holds
+  -- the wait of a job that waits on the plain floor
+  wait-of : (waits : List (Option Wait)) (job : ℕ) → IsSome (get_or (map (option_map job_wait) waits) job None)
+      → (wait : Wait) × (get_or waits job None ≡ Some wait)
+  wait-of [] job some = absurd (cc)
+  wait-of (None ∷ waits) zero some = absurd (cc)
+  wait-of (Some wait ∷ waits) zero some = (wait, refl)
+  wait-of (w ∷ waits) (suc job) some = wait-of waits job some
 
-  -- a job that waits on the plain floor waits in the ledger
-  some-there : (waits : List (Option (Wait W))) (job : ℕ)
-      → IsSome (get_or (map (option_map (job_wait s)) waits) job None) → IsSome (get_or waits job None)
-  some-there [] job some = some
-  some-there (None ∷ waits) zero some = some
-  some-there (Some wait ∷ waits) zero some = refl
-  some-there (w ∷ waits) (suc job) some = some-there waits job some
+  -- where the floor is seen as its plain floor, a job that waits can end its wait
+  pub end-can : (l : Ledger X) (f : PlainFloor) (job : ℕ) → plain_floor s l ≡ f → IsKept s l → IsJob f job
+      → IsWaiting f job → CanEndWait s l job
+  end-can l f job view kept =
+      subst (λ g. IsJob g job → IsWaiting g job → CanEndWait s l job) view
+      (λ is_job waiting. let w = wait-of l.waits job waiting in can-end l job w.0 kept w.1 is_job.holds)
 
-  pub wait-can : (l : Ledger X W) (f : PlainFloor) (job : ℕ) → plain_floor s l ≡ f → IsWaiting f job
-      → IsSome (get_or l.waits job None)
-  wait-can l f job view waiting = some-there l.waits job (subst (λ g. IsWaiting g job) (sym view) waiting)
+  -- and there is memory for what it then gets
+  pub end-spare : (l : Ledger X) (f : PlainFloor) (job : ℕ) → plain_floor s l ≡ f → IsKept s l
+      → IsWaiting f job → 0 < l.spare
+  end-spare l f job view kept =
+      subst (λ g. IsWaiting g job → 0 < l.spare) view
+      (λ waiting. let w = wait-of l.waits job waiting in some-spare l job w.0 kept w.1)
 
   -- the same where the floor is seen as its plain floor
-  pub look-floor : (l n : Ledger X W) (f : PlainFloor) (job : ℕ) (wait : Wait W) (answer : FloorLook)
-      → plain_floor s l ≡ f → IsKept s l → IsJob f job → get_or l.waits job None ≡ Some wait
-      → Looks s (with_wait l job None) job wait answer n → LooksWell f job answer n
-  look-floor l n f job wait answer view kept =
-      let Comes : PlainFloor → Type 0 = λ g. IsJob g job → get_or l.waits job None ≡ Some wait
-      → Looks s (with_wait l job None) job wait answer n → LooksWell g job answer n in
-      subst Comes view (look-well l n job wait answer kept)
+  pub look-floor : (l n : Ledger X) (f : PlainFloor) (job : ℕ) (answer : FloorLook) → plain_floor s l ≡ f
+      → IsKept s l → IsJob f job → Looks s l job answer n → LooksWell f job answer n
+  look-floor l n f job answer view kept =
+      subst (λ g. IsJob g job → Looks s l job answer n → LooksWell g job answer n) view
+      (look-well l n job answer kept)
 
-  pub leave-floor : (l n : Ledger X W) (f : PlainFloor) (job : ℕ) (wait : Wait W) (answer : FloorLeave)
-      → plain_floor s l ≡ f → IsKept s l → IsJob f job → get_or l.waits job None ≡ Some wait
-      → Leaves s (with_wait l job None) job wait answer n → LeavesWell f job answer n
-  leave-floor l n f job wait answer view kept =
-      let Comes : PlainFloor → Type 0 = λ g. IsJob g job → get_or l.waits job None ≡ Some wait
-      → Leaves s (with_wait l job None) job wait answer n → LeavesWell g job answer n in
-      subst Comes view (leave-well l n job wait answer kept)
+  pub leave-floor : (l n : Ledger X) (f : PlainFloor) (job : ℕ) (answer : FloorLeave) → plain_floor s l ≡ f
+      → IsKept s l → IsJob f job → Leaves s l job answer n → LeavesWell f job answer n
+  leave-floor l n f job answer view kept =
+      subst (λ g. IsJob g job → Leaves s l job answer n → LeavesWell g job answer n) view
+      (leave-well l n job answer kept)

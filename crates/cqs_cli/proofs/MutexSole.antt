@@ -6,6 +6,7 @@ use Rattle.cqs_core.specs.SemaphoreEntries.{IsFirst, object_after}
 use Rattle.cqs_core.specs.SemaphoreObject.{Semaphore, opening}
 use Rattle.cqs_plan.specs.declared.plans.kind.Kind.TheVariants as kind
 use Rattle.cqs_rule.specs.declared.config.Config.{Config}
+use Rattle.cqs_rule.specs.declared.config.Place.{Place}
 use Rattle.cqs_rule.specs.declared.queue.tokens.Under.{Under as Token}
 use Rattle.cqs_rule.specs.declared.queue.tokens.Wait.{Wait}
 use Rattle.cqs_rule.specs.declared.semaphore.carries.Kept.{Kept}
@@ -36,8 +37,8 @@ use Rattle.cqs_cli.specs.declared.floors.mutex_sole.MutexSole.{MutexSole}
 use Rattle.cqs_cli.specs.Soles.{Acquires, Cancels, IsLawful, IsOpened, Polls, Releases}
 use Rattle.cqs_cli.specs.SoleQueue.{IsStill, mutex_pass, news, sole_mutex}
 use Rattle.cqs_cli.proofs.OnePasses.{one-frees, one-grants, one-lates, one-lawful, one-leaves, one-pends, one-sends, one-takes, one-waits}
-use Rattle.cqs_cli.proofs.PassCalls.{frees-comes, grants-comes, hands-comes, hands-first, lates-comes, pends-comes, pends-same, same-then, sent-comes, takes-comes, takes-free, waits-comes, waits-next}
-use Rattle.cqs_cli.proofs.PassRests.{Comes, empty-found, first-found, late-found, left-found, pending-found, served-found}
+use Rattle.cqs_cli.proofs.PassCalls.{frees-comes, grants-comes, hands-comes, hands-first, lates-comes, pends-comes, same-then, sent-comes, takes-comes, takes-free, waits-comes, waits-next}
+use Rattle.cqs_cli.proofs.PassRests.{Comes, empty-found, first-found, late-found, left-found, pending-found, served-found, waits-at}
 use Rattle.cqs_cli.proofs.QueueSends.{HasLeft}
 
 pub mutex-lawful : IsLawful sole_mutex
@@ -146,16 +147,17 @@ module _ (x y : MutexSole) (mine : Belongs y.mutex y.pass)
       (takes-comes v locked.between (permit_of guard) locked.called locked.acquired locked.alone alone zero))
       (takes-free v locked.between (permit_of guard) locked.alone) one_more
 
-  pub mutex-waits : (wait : LockWait) → HasLocked v (Ok (Later wait)) w
-      → length y.guards.items ≡ length x.guards.items → Acquires sole_mutex x (Some wait) y
-  mutex-waits wait locked kept =
+  pub mutex-waits : (wait : LockWait) (at : Place) → at ≡ place_of (wait_in wait) → HasLocked v (Ok (Later wait)) w
+      → length y.guards.items ≡ length x.guards.items → Acquires sole_mutex x (Some at) y
+  mutex-waits wait at is locked kept =
       let k = (place_of (wait_in wait)).index in
-      one-waits mutex_pass x y mine capacity wait
+      subst (λ a. Acquires sole_mutex x (Some a) y) (sym is)
+      (one-waits mutex_pass x y mine capacity (place_of (wait_in wait))
       (λ alone zero. subst (λ z. Comes v z (entry.TakeDoor 0 ∷ entry.Enter 0 k ∷ []) v.facts.has.held
       (v.facts.waits ++ k ∷ [])) (sym locked.value)
       (waits-comes v locked.between (wait_in wait) locked.called locked.acquired alone zero))
-      (subst (λ z. HasWait z (wait_in wait)) (sym locked.value) locked.acquired.2)
-      (waits-next v locked.between (wait_in wait) locked.alone) kept
+      (waits-at w (wait_in wait) (subst (λ z. HasWait z (wait_in wait)) (sym locked.value) locked.acquired.2))
+      (waits-next v locked.between (wait_in wait) locked.alone) kept)
 
   -- An unlock.
   module _ (one_less : length y.guards.items + 1 ≡ length x.guards.items) (value : Unit {0}) where
@@ -190,47 +192,48 @@ module _ (x y : MutexSole) (mine : Belongs y.mutex y.pass)
         (hands-first b u w k under gone.called first (moved-alone v b _ gone.laid alone)))
 
   -- The end of a wait.
-  module _ (wait : LockWait) where
+  module _ (wait : LockWait) (at : Place) (is : place_of (wait_in wait) ≡ at) where
     abbrev number : ℕ
     number = (place_of (wait_in wait)).index
 
     pub mutex-grants : (guard : Guard (Unit {0})) → HasPolled (wait_in wait) v (Granted guard) w
-        → length y.guards.items ≡ length x.guards.items + 1 → Polls sole_mutex x wait None y
+        → length y.guards.items ≡ length x.guards.items + 1 → Polls sole_mutex x at true y
     mutex-grants guard polled one_more =
-        one-grants mutex_pass x y mine capacity wait
+        subst (λ a. Polls sole_mutex x a true y) is
+        (one-grants mutex_pass x y mine capacity (place_of (wait_in wait))
         (λ alone zero. moved-after polled.between w _ polled.value.swapped v _ _ _
         (grants-comes v polled.between (wait_in wait) (permit_of guard) polled.called polled.polled alone zero))
-        (λ alone. served-found (plain_after v) v.number number (polled.alone alone)) one_more
+        (λ alone. served-found (plain_after v) v.number number (polled.alone alone)) one_more)
 
     pub mutex-lates : (guard : Guard (Unit {0})) → LeftBy (wait_in wait) v (TooLate guard) w
-        → length y.guards.items ≡ length x.guards.items + 1 → Cancels sole_mutex x wait false y
+        → length y.guards.items ≡ length x.guards.items + 1 → Cancels sole_mutex x at false y
     mutex-lates guard left one_more =
-        one-lates mutex_pass x y mine capacity wait
+        subst (λ a. Cancels sole_mutex x a false y) is
+        (one-lates mutex_pass x y mine capacity (place_of (wait_in wait))
         (λ alone zero. moved-after left.between w _ left.value.swapped v _ _ _
         (lates-comes v left.between number (permit_of guard) left.cancelled alone zero))
-        (λ alone. late-found (plain_after v) v.number number (left.alone alone)) one_more
+        (λ alone. late-found (plain_after v) v.number number (left.alone alone)) one_more)
 
     module _ (kept : length y.guards.items ≡ length x.guards.items) where
-      pub mutex-pends : (back : LockWait) → HasWait v (wait_in wait) → HasPolled (wait_in wait) v (Pending back) w
-          → Polls sole_mutex x wait (Some back) y
-      mutex-pends back has polled =
+      pub mutex-pends : (back : LockWait) → HasPolled (wait_in wait) v (Pending back) w
+          → Polls sole_mutex x at false y
+      mutex-pends back polled =
           let u = polled.between in
-          let token : wait_in back ≡ wait_in wait =
-          pends-same v u (wait_in wait) (wait_in back) has polled.called.called.same polled.polled in
-          let made : Wait → LockWait = λ t. record { wait = t } in
-          one-pends mutex_pass x y mine capacity wait kept back (ap made token)
+          subst (λ a. Polls sole_mutex x a false y) is
+          (one-pends mutex_pass x y mine capacity (place_of (wait_in wait)) kept
           (λ alone zero. subst (λ z. Comes v z (entry.LookPending 0 number ∷ []) v.facts.has.held v.facts.waits)
           (sym polled.value)
           (pends-comes v u (wait_in wait) (wait_in back) polled.called polled.polled alone zero))
-          (λ alone. pending-found (plain_after v) v.number number (polled.alone alone))
+          (λ alone. pending-found (plain_after v) v.number number (polled.alone alone)))
 
       pub mutex-leaves : (under : Option Token) (u : View Entry (Kept (Unit {0})))
           → LeftBy (wait_in wait) v (Cancelled under) u
           → (v.alone ≡ true → (plain_after v).way ≡ 0 → HasLeft number v w)
-          → Cancels sole_mutex x wait true y
+          → Cancels sole_mutex x at true y
       mutex-leaves under u left leaves =
-          one-leaves mutex_pass x y mine capacity wait kept leaves
-          (λ alone. left-found (plain_after v) v.number number (left.alone alone))
+          subst (λ a. Cancels sole_mutex x a true y) is
+          (one-leaves mutex_pass x y mine capacity (place_of (wait_in wait)) kept leaves
+          (λ alone. left-found (plain_after v) v.number number (left.alone alone)))
 
 -- a cancel by which the wait is gone moved no value
 pub cancelled-here : (wait : Wait) (v w : View Entry (Kept (Unit {0}))) (under : Option Token)

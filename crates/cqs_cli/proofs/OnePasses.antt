@@ -9,17 +9,18 @@ use Rattle.cqs_core.specs.declared.entries.Entry.TheVariants as entry
 use Rattle.cqs_core.specs.SemaphoreEntries.{IsFirst, IsLegal, after_entry, object_after}
 use Rattle.cqs_core.specs.SemaphoreObject.{Semaphore}
 use Rattle.cqs_rule.specs.Lists.{Has, without}
-use Rattle.cqs_rule.specs.Waits.{HasWait, place_of}
+use Rattle.cqs_rule.specs.declared.config.Place.{Place}
 use Rattle.cqs_rule.proofs.Lists.{has_append, has_without, without_has}
 use Rattle.cqs_semaphore.specs.Calls.{Rests, plain_after}
 use Rattle.cqs_semaphore.specs.Causes.{drawn_in}
 use Rattle.cqs_cli.specs.Soles.{Acquires, Cancels, EndsWait, IsLawful, Polls, Releases, is_in_line, object}
 use Rattle.cqs_cli.specs.SoleQueue.{IsFunded, IsStill, OnePass, is_news, news, sole_of}
+use Rattle.cqs_cli.specs.Waits.{WaitsAt}
 use Rattle.cqs_cli.proofs.News.{news-legal, news-object}
 use Rattle.cqs_cli.proofs.Objects.{left-next}
 use Rattle.cqs_cli.proofs.PassRests.{Comes, IsNext, has-append, has-next, rests-next, still-left, still-sent, still-waiting}
 
-module _ {X W T : Type 0} (q : OnePass X W T) where
+module _ {X T : Type 0} (q : OnePass X T) where
   -- the plain semaphore that a floor sees is the one after all that the pass has seen
   pub object-seen : (x : X) (kind : Option Kind) → (q.view x).opening.size ≡ size_of kind
       → object (sole_of q) kind x ≡ plain_after (q.view x)
@@ -33,9 +34,9 @@ module _ {X W T : Type 0} (q : OnePass X W T) where
         news-legal (size_of kind) (q.view x).seen
         (subst (λ n. IsLegal n (q.view x).seen) funded.rests.size_is (legal x funded.mine));
     numbered = λ x wait kind room waiting held funded has.
-        subst (λ (o : Semaphore). (place_of (q.token wait)).index < o.next)
+        subst (λ (o : Semaphore). wait.index < o.next)
         (sym (object-seen x kind funded.rests.size_is))
-        (funded.rests.drawn (place_of (q.token wait)).index has.open_yet);
+        (funded.rests.drawn wait.index has.open_yet);
   }
 
   -- the pass of x, which is its first and is alone, has come so far in y
@@ -70,20 +71,20 @@ module _ {X W T : Type 0} (q : OnePass X W T) where
               spare = omega (arith, capacity, funded.spare, some);
             };
           };
-          keeps = λ wait has. has-next v w (entry.TakeNow 0 ∷ []) c.same c.seen (q.token wait) has
-              (subst (Has (place_of (q.token wait)).index) (sym rests.waits_are) has.open_yet);
+          keeps = λ wait has. has-next v w (entry.TakeNow 0 ∷ []) c.same c.seen wait has
+              (subst (Has wait.index) (sym rests.waits_are) has.open_yet);
         }
 
-    pub one-waits : (wait : W)
-        → ComesTo x y (entry.TakeDoor 0 ∷ entry.Enter 0 (place_of (q.token wait)).index ∷ [])
-        (q.view x).facts.has.held ((q.view x).facts.waits ++ (place_of (q.token wait)).index ∷ [])
-        → HasWait (q.view y) (q.token wait)
-        → ((q.view x).alone ≡ true → IsNext (plain_after (q.view x)) (place_of (q.token wait)).index)
+    pub one-waits : (wait : Place)
+        → ComesTo x y (entry.TakeDoor 0 ∷ entry.Enter 0 wait.index ∷ [])
+        (q.view x).facts.has.held ((q.view x).facts.waits ++ wait.index ∷ [])
+        → WaitsAt (q.view y) wait
+        → ((q.view x).alone ≡ true → IsNext (plain_after (q.view x)) wait.index)
         → q.held y ≡ q.held x → Acquires (sole_of q) x (Some wait) y
-    one-waits wait comes token next_is kept kind room waiting held funded some =
+    one-waits wait comes has_new next_is kept kind room waiting held funded some =
         let v = q.view x in
         let w = q.view y in
-        let k = (place_of (q.token wait)).index in
+        let k = wait.index in
         let o = plain_after v in
         let c = comes funded.rests.alone funded.rests.number in
         let is : IsNext o k = next_is funded.rests.alone in
@@ -110,10 +111,10 @@ module _ {X W T : Type 0} (q : OnePass X W T) where
               spare = omega (arith, capacity, funded.spare, some);
             };
           };
-          has = token;
-          keeps = λ other has. has-next v w (entries k) c.same c.seen (q.token other) has
-              (subst (Has (place_of (q.token other)).index) (sym rests.waits_are)
-              (has-append (place_of (q.token other)).index v.facts.waits (k ∷ []) has.open_yet));
+          has = has_new;
+          keeps = λ other has. has-next v w (entries k) c.same c.seen other has
+              (subst (Has other.index) (sym rests.waits_are)
+              (has-append other.index v.facts.waits (k ∷ []) has.open_yet));
         }
       where
         below : (o : Semaphore) (k : ℕ) → IsNext o k → (j : ℕ)
@@ -150,8 +151,8 @@ module _ {X W T : Type 0} (q : OnePass X W T) where
                 spare = omega (arith, capacity, funded.spare);
               };
             };
-            keeps = λ wait has. has-next v w (entry.GiveFreed 0 ∷ []) c.same c.seen (q.token wait) has
-                (subst (Has (place_of (q.token wait)).index) (sym rests.waits_are) has.open_yet);
+            keeps = λ wait has. has-next v w (entry.GiveFreed 0 ∷ []) c.same c.seen wait has
+                (subst (Has wait.index) (sym rests.waits_are) has.open_yet);
           }
 
       -- a permit that was sent to the line and came to its first, in one call or in several
@@ -182,14 +183,14 @@ module _ {X W T : Type 0} (q : OnePass X W T) where
                 spare = omega (arith, capacity, funded.spare);
               };
             };
-            keeps = λ wait has. has-next v w entries c.same c.seen (q.token wait) has
-                (subst (Has (place_of (q.token wait)).index) (sym rests.waits_are) has.open_yet);
+            keeps = λ wait has. has-next v w entries c.same c.seen wait has
+                (subst (Has wait.index) (sym rests.waits_are) has.open_yet);
           }
 
     -- The end of a wait.
-    module _ (wait : W) where
+    module _ (wait : Place) where
       abbrev number : ℕ
-      number = (place_of (q.token wait)).index
+      number = wait.index
 
       abbrev others : List ℕ
       others = without number (q.view x).facts.waits
@@ -221,9 +222,9 @@ module _ {X W T : Type 0} (q : OnePass X W T) where
                 spare = omega (arith, capacity, funded.spare, some, few);
               };
             };
-            keeps = λ other differs has. has-next v w (e ∷ []) c.same c.seen (q.token other) has
-                (subst (Has (place_of (q.token other)).index) (sym c.rests.waits_are)
-                (without_has (place_of (q.token other)).index number v.facts.waits differs has.open_yet));
+            keeps = λ other differs has. has-next v w (e ∷ []) c.same c.seen other has
+                (subst (Has other.index) (sym c.rests.waits_are)
+                (without_has other.index number v.facts.waits differs has.open_yet));
           }
 
       -- so much held, in the floor's count
@@ -235,7 +236,7 @@ module _ {X W T : Type 0} (q : OnePass X W T) where
 
       pub one-grants : ComesTo x y (entry.LookGranted 0 number ∷ []) ((q.view x).facts.has.held + 1) others
           → ((q.view x).alone ≡ true → is_in_line number (plain_after (q.view x)).line ≡ false)
-          → q.held y ≡ q.held x + 1 → Polls (sole_of q) x wait None y
+          → q.held y ≡ q.held x + 1 → Polls (sole_of q) x wait true y
       one-grants comes gone one_more kind room waiting held funded some =
           one-ends (entry.LookGranted 0 number) false kind room waiting held (held + 1) funded some
           (as-held _ 1 held funded.rests.holds (comes funded.rests.alone funded.rests.number))
@@ -252,38 +253,34 @@ module _ {X W T : Type 0} (q : OnePass X W T) where
           (gone funded.rests.alone) (omega (arith, one_more, funded.permits)) (omega arith)
 
       module _ (kept : q.held y ≡ q.held x) where
-        pub one-pends : (back : W) → back ≡ wait
-            → ComesTo x y (entry.LookPending 0 number ∷ []) (q.view x).facts.has.held (q.view x).facts.waits
+        pub one-pends : ComesTo x y (entry.LookPending 0 number ∷ []) (q.view x).facts.has.held (q.view x).facts.waits
             → ((q.view x).alone ≡ true → is_in_line number (plain_after (q.view x)).line ≡ true)
-            → Polls (sole_of q) x wait (Some back) y
-        one-pends back is comes there = (
-          is,
-          λ kind room waiting held funded some.
-              let v = q.view x in
-              let w = q.view y in
-              let c = comes funded.rests.alone funded.rests.number in
-              let look : List Entry = entry.LookPending 0 number ∷ [] in
-              let rests = subst (λ n. Rests v n v.facts.waits w) funded.rests.holds c.rests in
-              record {
-                found = subst (λ (o : Semaphore). is_in_line number o.line ≡ true)
-                    (sym (object-seen x kind funded.rests.size_is)) (there funded.rests.alone);
-                goes = record {
-                  appended = ap news c.seen ∙ filter-append is_news v.seen look;
-                  funded = record {
-                    sort = funded.sort;
-                    mine = mine;
-                    rests = rests-next v w look c.same c.seen (size_of kind) room held room held v.facts.waits
-                        funded.rests rests (omega arith)
-                        (record { way = funded.rests.still.way; door = funded.rests.still.door })
-                        funded.rests.drawn;
-                    permits = kept ∙ funded.permits;
-                    spare = omega (arith, capacity, funded.spare);
-                  };
+            → Polls (sole_of q) x wait false y
+        one-pends comes there kind room waiting held funded some =
+            let v = q.view x in
+            let w = q.view y in
+            let c = comes funded.rests.alone funded.rests.number in
+            let look : List Entry = entry.LookPending 0 number ∷ [] in
+            let rests = subst (λ n. Rests v n v.facts.waits w) funded.rests.holds c.rests in
+            record {
+              found = subst (λ (o : Semaphore). is_in_line number o.line ≡ true)
+                  (sym (object-seen x kind funded.rests.size_is)) (there funded.rests.alone);
+              goes = record {
+                appended = ap news c.seen ∙ filter-append is_news v.seen look;
+                funded = record {
+                  sort = funded.sort;
+                  mine = mine;
+                  rests = rests-next v w look c.same c.seen (size_of kind) room held room held v.facts.waits
+                      funded.rests rests (omega arith)
+                      (record { way = funded.rests.still.way; door = funded.rests.still.door })
+                      funded.rests.drawn;
+                  permits = kept ∙ funded.permits;
+                  spare = omega (arith, capacity, funded.spare);
                 };
-                keeps = λ other has. has-next v w look c.same c.seen (q.token other) has
-                    (subst (Has (place_of (q.token other)).index) (sym rests.waits_are) has.open_yet);
-              },
-        )
+              };
+              keeps = λ other has. has-next v w look c.same c.seen other has
+                  (subst (Has other.index) (sym rests.waits_are) has.open_yet);
+            }
 
         -- the wait left the line, and the pass rests as it did
         pub one-leaves : ((q.view x).alone ≡ true → (plain_after (q.view x)).way ≡ 0

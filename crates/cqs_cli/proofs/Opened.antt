@@ -27,12 +27,12 @@ module _ {X : Type 0} where
   replicate-all (suc n) x y (suc i) got = replicate-all n x y i got
 
 -- nobody waits, and nobody holds anything
-waiting-none : (W : Type 0) (jobs at : ℕ) → count_by (is_wait_at {W = W} at) (replicate jobs None) ≡ 0
-waiting-none W jobs at =
-    omega (arith, sum_by-replicate (λ (w : Option (Wait W)). cond (is_wait_at at w) 1 0) jobs None)
+waiting-none : (jobs at : ℕ) → count_by (is_wait_at at) (replicate jobs None) ≡ 0
+waiting-none jobs at =
+    omega (arith, sum_by-replicate (λ (w : Option Wait). cond (is_wait_at at w) 1 0) jobs None)
 
-some-none : (W : Type 0) (jobs : ℕ) → count_by (λ (w : Option (Wait W)). is_some w) (replicate jobs None) ≡ 0
-some-none W jobs = omega (arith, sum_by-replicate (λ (w : Option (Wait W)). cond (is_some w) 1 0) jobs None)
+some-none : (jobs : ℕ) → count_by (λ (w : Option Wait). is_some w) (replicate jobs None) ≡ 0
+some-none jobs = omega (arith, sum_by-replicate (λ (w : Option Wait). cond (is_some w) 1 0) jobs None)
 
 held-none : (jobs at : ℕ) → held_at (replicate jobs []) at ≡ replicate jobs []
 held-none zero at = refl
@@ -41,12 +41,12 @@ held-none (suc jobs) at = ap (λ held. [] ∷ held) (held-none jobs at)
 many-none : (jobs : ℕ) → sum_by (λ (hs : List Holding). length hs) (replicate jobs []) ≡ 0
 many-none jobs = omega (arith, sum_by-replicate (λ (hs : List Holding). length hs) jobs [])
 
-module _ {X W : Type 0} (s : Store X W) (plan : Plan) (l : Ledger X W) (o : IsOpening s plan l) where
+module _ {X : Type 0} (s : Store X) (plan : Plan) (l : Ledger X) (o : IsOpening s plan l) where
   -- the ledger's lists, as they are made
   holds-none : holds_in l ≡ replicate (length plan.jobs) []
   holds-none =
       ap₂ holds_after
-      (ap (λ (ws : List (Option (Wait W))). length ws) o.waits ∙ length-replicate (length plan.jobs) None)
+      (ap (λ (ws : List (Option Wait)). length ws) o.waits ∙ length-replicate (length plan.jobs) None)
       o.transfers
 
   room-long : length l.room ≡ length plan.resources
@@ -79,14 +79,14 @@ module _ {X W : Type 0} (s : Store X W) (plan : Plan) (l : Ledger X W) (o : IsOp
       let is = opens at sole there in
       let kind_is : slice_get l.kinds at ≡ Some is.resource.kind = kind-at at is.resource is.named in
       let waiting : waiting_at l.waits at ≡ 0 =
-      ap (λ ws. waiting_at ws at) o.waits ∙ waiting-none W (length plan.jobs) at in
+      ap (λ ws. waiting_at ws at) o.waits ∙ waiting-none (length plan.jobs) at in
       let held : held_at (holds_in l) at ≡ replicate (length plan.jobs) [] =
       ap (λ hs. held_at hs at) holds-none ∙ held-none (length plan.jobs) at in
       subst (λ (k : Option Kind). s.funded sole k (slice_index l.room at) (waiting_at l.waits at)
       (held_at (holds_in l) at)) (sym kind_is)
       (funded-as s sole _ refl (sym waiting) (sym held) (is.opened.funded (length plan.jobs)))
 
-  no-wait : (job : ℕ) (wait : Wait W) → slice_get l.waits job ≡ Some (Some wait) → ⊥
+  no-wait : (job : ℕ) (wait : Wait) → slice_get l.waits job ≡ Some (Some wait) → ⊥
   no-wait job wait got =
       let none : Some wait ≡ None =
       replicate-all (length plan.jobs) None (Some wait) job (ap (λ ws. slice_get ws job) (sym o.waits) ∙ got) in
@@ -103,15 +103,15 @@ module _ {X W : Type 0} (s : Store X W) (plan : Plan) (l : Ledger X W) (o : IsOp
   }
     where
       none : count_by (λ w. is_some w) l.waits ≡ 0
-      none = ap (λ ws. count_by (λ w. is_some w) ws) o.waits ∙ some-none W (length plan.jobs)
+      none = ap (λ ws. count_by (λ w. is_some w) ws) o.waits ∙ some-none (length plan.jobs)
 
       many : sum_by (λ hs. length hs) (holds_in l) ≡ 0
       many = ap (λ hss. sum_by (λ hs. length hs) hss) holds-none ∙ many-none (length plan.jobs)
 
   pub plain-opened : plain_floor s l ≡ opening_floor plan
   plain-opened =
-      let waits : map (option_map (job_wait s)) l.waits ≡ replicate (length plan.jobs) None =
-      ap (map (option_map (job_wait s))) o.waits ∙ map-none (length plan.jobs) in
+      let waits : map (option_map job_wait) l.waits ≡ replicate (length plan.jobs) None =
+      ap (map (option_map job_wait)) o.waits ∙ map-none (length plan.jobs) in
       rw (o.kinds, fresh plan.resources l.soles o.long opens-so, o.room, waits, holds-none) refl
     where
       opens-so : (at : ℕ) (x : X) (r : Resource) → slice_get l.soles at ≡ Some x → slice_get plan.resources at ≡ Some r
@@ -133,6 +133,6 @@ module _ {X W : Type 0} (s : Store X W) (plan : Plan) (l : Ledger X W) (o : IsOp
           ap₂ (λ (h : History) hs. h ∷ hs) (each 0 x r refl refl)
           (fresh resources soles (omega (arith, long)) (λ at y q got named. each (suc at) y q got named))
 
-      map-none : (n : ℕ) → map (option_map (job_wait s)) (replicate n None) ≡ replicate n None
+      map-none : (n : ℕ) → map (option_map job_wait) (replicate n None) ≡ replicate n None
       map-none zero = refl
       map-none (suc n) = ap (λ ws. None ∷ ws) (map-none n)

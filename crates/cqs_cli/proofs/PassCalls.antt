@@ -6,13 +6,12 @@ use Rattle.cqs_core.specs.declared.entries.Entry.TheVariants as entry
 use Rattle.cqs_core.specs.QueueLine.{Waiting}
 use Rattle.cqs_core.specs.SemaphoreEntries.{IsFirst}
 use Rattle.cqs_core.specs.SemaphoreObject.{Semaphore}
-use Rattle.cqs_rule.specs.declared.config.Place.{Place}
 use Rattle.cqs_rule.specs.declared.queue.tokens.Under.{Under as Token}
 use Rattle.cqs_rule.specs.declared.queue.tokens.Wait.{Wait}
 use Rattle.cqs_rule.specs.declared.view.View.{View}
 use Rattle.cqs_rule.specs.Lists.{without}
 use Rattle.cqs_rule.specs.Views.{IsSame}
-use Rattle.cqs_rule.specs.Waits.{HasWait, pass_of, place_of}
+use Rattle.cqs_rule.specs.Waits.{place_of}
 use Rattle.cqs_semaphore.specs.declared.answers.Acquired.TheVariants.{Now, Later}
 use Rattle.cqs_semaphore.specs.declared.answers.CancelAnswer.TheVariants.{TooLate}
 use Rattle.cqs_semaphore.specs.declared.answers.Permit.{Permit}
@@ -24,15 +23,6 @@ use Rattle.cqs_semaphore.specs.Calls.{CallRule, Rests, plain_after}
 use Rattle.cqs_semaphore.specs.Entries.{acquired_entries, acquired_further, came_by, passed_further, polled_entries, released_entries, released_further, took_entries}
 use Rattle.cqs_semaphore.specs.Steps.{HasCancelled}
 use Rattle.cqs_cli.proofs.PassRests.{Comes, IsNext, free-found, next-found, plain-next, went}
-
--- a token is known by its place and its pass
-pub same-token : (a b : Wait) → place_of a ≡ place_of b → pass_of a ≡ pass_of b → a ≡ b
-same-token a b place pass =
-    let number : a.number ≡ b.number = ap (λ (at : Place). at.index) place in
-    let word : a.word ≡ b.word = ap (λ (at : Place). at.word) place in
-    let made : ℕ → ℕ → ℕ → Wait = λ n p w. record { number = n; pass = p; word = w } in
-    ap (λ n. made n a.pass a.word) number ∙ ap (λ p. made b.number p a.word) pass
-    ∙ ap (λ w. made b.number b.pass w) word
 
 first-of : (line : List Waiting) (k : ℕ) → IsFirstOf line k → IsFirst k line
 first-of [] k first = absurd first
@@ -131,11 +121,6 @@ module _ {T : Type 0} (v w : View Entry T) where
     seen = went v w _ _ rule alone ∙ ap (λ p. v.seen ++ entry.LookPending p (place_of wait).index ∷ []) zero;
     rests = after;
   }
-
-  -- the token that comes back is the one that was given
-  pub pends-same : (wait back : Wait) → HasWait v wait → IsSame v w → IsPolled wait v (Pending back) w → back ≡ wait
-  pends-same wait back has same (there, token, cell, after) =
-      same-token back wait there (token.mine ∙ same.number ∙ sym has.mine)
 
   -- A cancel.
   pub lates-comes : (k : ℕ) (permit : Permit) → HasCancelled k v (TooLate permit) w

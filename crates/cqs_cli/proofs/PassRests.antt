@@ -14,6 +14,7 @@ use Rattle.cqs_core.specs.SoleCaller.{Told, sole_call, tells}
 use Rattle.cqs_core.proofs.Counts.{bit}
 use Rattle.cqs_rule.specs.declared.view.Opening.{Opening}
 use Rattle.cqs_rule.specs.declared.view.View.{View}
+use Rattle.cqs_rule.specs.declared.config.Place.{Place}
 use Rattle.cqs_rule.specs.declared.queue.tokens.Wait.{Wait}
 use Rattle.cqs_rule.specs.Lists.{Has}
 use Rattle.cqs_rule.specs.Placed.{place_known, place_word}
@@ -23,6 +24,7 @@ use Rattle.cqs_semaphore.specs.Calls.{CallRule, Rests, plain_after}
 use Rattle.cqs_semaphore.specs.Causes.{drawn_in, is_enter}
 use Rattle.cqs_cli.specs.Soles.{is_in_line}
 use Rattle.cqs_cli.specs.SoleQueue.{IsResting, IsStill}
+use Rattle.cqs_cli.specs.Waits.{WaitsAt}
 use Rattle.cqs_cli.proofs.CoreSole.{any-find}
 
 -- the line without a wait
@@ -97,12 +99,15 @@ module _ {T : Type 0} where
         }
 
     -- a wait that is still among the pass's waits is its own on
-    pub has-next : (wait : Wait) → HasWait v wait → Has (place_of wait).index w.facts.waits → HasWait w wait
+    pub has-next : (wait : Place) → WaitsAt v wait → Has wait.index w.facts.waits → WaitsAt w wait
     has-next wait has there = record {
-      mine = has.mine ∙ sym same.number;
       open_yet = there;
-      place = place_known w (place_of wait) (place_word v (place_of wait) has.place);
+      place = place_known w wait (place_word v wait has.place);
     }
+
+-- the place of a token's wait is one where the pass waits
+pub waits-at : {T : Type 0} (v : View Entry T) (wait : Wait) → HasWait v wait → WaitsAt v (place_of wait)
+waits-at v wait has = record { open_yet = has.open_yet; place = has.place }
 
 -- a number stays in a list that grows at its end
 pub has-append : (k : ℕ) (xs ys : List ℕ) → Has k xs → Has k (xs ++ ys)

@@ -17,8 +17,7 @@ use Rattle.cqs_rule.specs.declared.queue.tokens.Wait.{Wait}
 use Rattle.cqs_rule.specs.declared.view.View.{View}
 use Rattle.cqs_rule.specs.Lists.{without}
 use Rattle.cqs_rule.specs.Views.{IsSame}
-use Rattle.cqs_rule.specs.Waits.{HasWait, place_of}
-use Rattle.cqs_cli.proofs.PassCalls.{same-token}
+use Rattle.cqs_rule.specs.Waits.{place_of}
 use Rattle.cqs_cli.proofs.PoolRests.{Comes, went}
 
 module _ {T : Type 0} (v w : View PoolEntry T) where
@@ -71,11 +70,6 @@ module _ {T : Type 0} (v w : View PoolEntry T) where
     rests = rests;
     only = only-kept v w _ _ rule only;
   }
-
-  -- the token that comes back is the one that was given
-  pub pends-same : (wait back : Wait) → HasWait v wait → IsSame v w → IsPolled wait v (Pending back) w → back ≡ wait
-  pends-same wait back has same (there, token, cell, rests) =
-      same-token back wait there (token.mine ∙ same.number ∙ sym has.mine)
 
   pub lates-comes : (k : ℕ) (element : Element) → HasCancelled k v (TooLate element) w → IsOnlyCaller v
       → v.number ≡ 0

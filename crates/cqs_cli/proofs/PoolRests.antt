@@ -16,16 +16,16 @@ use Rattle.cqs_pool.specs.Alone.{IsOnlyCaller}
 use Rattle.cqs_pool.specs.Calls.{CallRule, Rests, plain_after}
 use Rattle.cqs_pool.specs.Causes.{drawn_in, is_enter}
 use Rattle.cqs_pool.specs.Elements.{number_of}
-use Rattle.cqs_rule.specs.declared.queue.tokens.Wait.{Wait}
+use Rattle.cqs_rule.specs.declared.config.Place.{Place}
 use Rattle.cqs_rule.specs.declared.view.Opening.{Opening}
 use Rattle.cqs_rule.specs.declared.view.View.{View}
 use Rattle.cqs_rule.specs.Lists.{Has, without}
 use Rattle.cqs_rule.specs.Placed.{place_known, place_word}
 use Rattle.cqs_rule.specs.Views.{IsSame}
-use Rattle.cqs_rule.specs.Waits.{HasWait, place_of}
 use Rattle.cqs_cli.specs.declared.floors.pool_sole.HeldElement.{HeldElement}
 use Rattle.cqs_cli.specs.SolePool.{IsResting, all_held, elements_held}
 use Rattle.cqs_cli.specs.Stores.{held_by, with_less, with_more}
+use Rattle.cqs_cli.specs.Waits.{WaitsAt}
 
 module _ {T : Type 0} where
   -- what a pass that is alone has seen after a call
@@ -51,11 +51,10 @@ module _ {T : Type 0} where
           ∙ fold-append after_entry (plain.opening v.opening.size) v.seen entries
 
       -- a wait that is still among the pass's waits is its own on
-      pub has-next : (wait : Wait) → HasWait v wait → Has (place_of wait).index w.facts.waits → HasWait w wait
+      pub has-next : (wait : Place) → WaitsAt v wait → Has wait.index w.facts.waits → WaitsAt w wait
       has-next wait has there = record {
-        mine = has.mine ∙ sym same.number;
         open_yet = there;
-        place = place_known w (place_of wait) (place_word v (place_of wait) has.place);
+        place = place_known w wait (place_word v wait has.place);
       }
 
   -- the pass rests after it

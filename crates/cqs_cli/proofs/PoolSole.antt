@@ -34,20 +34,19 @@ use Rattle.cqs_pool.specs.Calls.{IsMine, Rests, plain_after, size_of as pool_siz
 use Rattle.cqs_pool.specs.Causes.{drawn_in}
 use Rattle.cqs_pool.specs.Elements.{number_of}
 use Rattle.cqs_pool.specs.declared.element.Element.{Element}
-use Rattle.cqs_rule.specs.declared.queue.tokens.Wait.{Wait}
+use Rattle.cqs_rule.specs.declared.config.Place.{Place}
 use Rattle.cqs_rule.specs.declared.view.Opening.{Opening}
 use Rattle.cqs_rule.specs.declared.view.View.{View}
 use Rattle.cqs_rule.specs.Lists.{Has, without}
 use Rattle.cqs_rule.specs.Passes.{limit_of, pass_view}
-use Rattle.cqs_rule.specs.Waits.{HasWait, place_of}
 use Rattle.cqs_rule.proofs.Lists.{has_append, has_without, without_has}
 use Rattle.cqs_cli.specs.declared.floors.pool_sole.HeldElement.{HeldElement}
 use Rattle.cqs_cli.specs.declared.floors.pool_sole.PoolSole.{PoolSole}
-use Rattle.cqs_cli.specs.declared.floors.sole_resource.Looked.TheVariants as looked
 use Rattle.cqs_cli.specs.declared.floors.sole_resource.Taken.TheVariants as taken
 use Rattle.cqs_cli.specs.PoolEnds.{HasPlaced}
 use Rattle.cqs_cli.specs.SolePool.{IsFunded, IsPool, all_held, elements_held, is_news, news, store_pool}
 use Rattle.cqs_cli.specs.Stores.{Acquires, Cancels, IsLawful, IsOpened, Polls, Releases, Tells, held_by, is_in_line, stands, with_less, with_more}
+use Rattle.cqs_cli.specs.Waits.{WaitsAt}
 use Rattle.cqs_cli.proofs.PassRests.{has-append}
 use Rattle.cqs_cli.proofs.PoolNews.{news-legal, news-object}
 use Rattle.cqs_cli.proofs.PoolRests.{Comes, all-less, all-more, has-next, has-times, held-less, held-more, length-less, plain-next, rests-next, times-gone, times-none, times-other}
@@ -67,8 +66,8 @@ pool-lawful = record {
   legal = λ x k room waiting held funded. legal x k funded.sort
       (news-legal (size_of (Some k)) (pass_view x.pass).seen (legal-seen x (Some k) funded.rests.size_is funded.mine));
   numbered = λ x wait kind room waiting held funded has.
-      subst (λ (o : plain.Pool). (place_of wait).index < o.next) (sym (seen-object x kind funded.rests.size_is))
-      (funded.rests.drawn (place_of wait).index has.open_yet);
+      subst (λ (o : plain.Pool). wait.index < o.next) (sym (seen-object x kind funded.rests.size_is))
+      (funded.rests.drawn wait.index has.open_yet);
 }
   where
     legal : (x : PoolSole) (k : Kind) → IsPool (Some k) → IsLegal (size_of (Some k)) (news (pass_view x.pass).seen)
@@ -150,10 +149,10 @@ module _ (x y : PoolSole) (mine : IsMine y.pool y.pass) (capacity : vec_capacity
 
   -- the waits that are still there
   keeps-by : (entries : List PoolEntry) (slots waits : List ℕ) → Comes v w entries slots waits
-      → (wait : Wait) → HasWait v wait → Has (place_of wait).index waits → HasWait w wait
+      → (wait : Place) → WaitsAt v wait → Has wait.index waits → WaitsAt w wait
   keeps-by entries slots waits c wait has there =
       has-next v w entries c.same c.seen wait has
-      (subst (Has (place_of wait).index) (sym c.rests.waits_are) there)
+      (subst (Has wait.index) (sym c.rests.waits_are) there)
 
   -- a job has one more element
   module _ (job : ℕ) (element : Element) (items : y.held.items ≡ x.held.items ++ record {
@@ -257,9 +256,9 @@ module _ (x y : PoolSole) (mine : IsMine y.pool y.pass) (capacity : vec_capacity
         }
 
     -- The end of a wait that was served.
-    module _ (wait : Wait) (line_same : y.line ≡ x.line) (free_same : y.free ≡ x.free) where
+    module _ (wait : Place) (line_same : y.line ≡ x.line) (free_same : y.free ≡ x.free) where
       abbrev number : ℕ
-      number = (place_of wait).index
+      number = wait.index
 
       came-so : (kind : Option Kind) (room waiting : ℕ) (held : List (List ℕ)) → IsFunded x kind room waiting held
           → IsGiven number v.number e o.served
@@ -317,16 +316,16 @@ module _ (x y : PoolSole) (mine : IsMine y.pool y.pass) (capacity : vec_capacity
 
       keeps-others : (entries : List PoolEntry) (slots : List ℕ)
           → Comes v w entries slots (without number v.facts.waits)
-          → (other : Wait) → (place_of other).index ≢ number → HasWait v other → HasWait w other
+          → (other : Place) → other.index ≢ number → WaitsAt v other → WaitsAt w other
       keeps-others entries slots c other differs has =
           keeps-by entries slots _ c other has
-          (without_has (place_of other).index number v.facts.waits differs has.open_yet)
+          (without_has other.index number v.facts.waits differs has.open_yet)
 
       pub pool-grants : ComesTo (entry.LookGranted 0 number e ∷ []) (e ∷ v.facts.has.slots)
           (without number v.facts.waits)
           → (v.alone ≡ true → IsGiven number v.number e o.served)
           → (IsInHand e v.facts → ⊥)
-          → Polls store_pool job x wait (looked.Granted e) y
+          → Polls store_pool job x wait (Some e) y
       pool-grants comes given fresh = λ kind room waiting held funded some there.
           let only = funded.rests.only in
           let c = comes only funded.rests.number in
@@ -363,6 +362,22 @@ module _ (x y : PoolSole) (mine : IsMine y.pool y.pass) (capacity : vec_capacity
             },
           )
 
+    -- The same, where the floor has the place of the wait by an equation.
+    module _ (wait at : Place) (is : wait ≡ at) (line_same : y.line ≡ x.line) (free_same : y.free ≡ x.free) where
+      pub pool-grants_at : ComesTo (entry.LookGranted 0 wait.index e ∷ []) (e ∷ v.facts.has.slots)
+          (without wait.index v.facts.waits)
+          → (v.alone ≡ true → IsGiven wait.index v.number e o.served) → (IsInHand e v.facts → ⊥)
+          → Polls store_pool job x at (Some e) y
+      pool-grants_at comes given fresh =
+          subst (λ a. Polls store_pool job x a (Some e) y) is (pool-grants wait line_same free_same comes given fresh)
+
+      pub pool-lates_at : ComesTo (entry.Late 0 wait.index e ∷ []) (e ∷ v.facts.has.slots)
+          (without wait.index v.facts.waits)
+          → (v.alone ≡ true → IsGiven wait.index v.number e o.served) → (IsInHand e v.facts → ⊥)
+          → Cancels store_pool job x at (Late e) y
+      pool-lates_at comes given fresh =
+          subst (λ a. Cancels store_pool job x a (Late e) y) is (pool-lates wait line_same free_same comes given fresh)
+
   -- the jobs hold what they held
   module _ (items : y.held.items ≡ x.held.items) where
     here-same : (held : List (List ℕ)) → ((j : ℕ) → elements_held j x.held.items ≡ held_by held j)
@@ -382,19 +397,17 @@ module _ (x y : PoolSole) (mine : IsMine y.pool y.pass) (capacity : vec_capacity
     length-same = ap (λ (hs : List HeldElement). length hs) items
 
     -- A take that waits.
-    pub pool-waits : (job : ℕ) (wait : Wait)
-        → ComesTo (entry.Enter 0 (place_of wait).index ∷ []) v.facts.has.slots
-        (v.facts.waits ++ (place_of wait).index ∷ [])
-        → HasWait w wait → (v.alone ≡ true → ((place_of wait).index ≡ o.next) × (o.way ≡ []))
+    pub pool-waits : (job : ℕ) (wait : Place)
+        → ComesTo (entry.Enter 0 wait.index ∷ []) v.facts.has.slots (v.facts.waits ++ wait.index ∷ [])
+        → WaitsAt w wait → (v.alone ≡ true → (wait.index ≡ o.next) × (o.way ≡ []))
         → y.free ≡ x.free → y.line ≡ x.line + 1
         → Acquires store_pool job x (taken.Waits wait) y
-    pool-waits job wait comes token plain_is free_same line_more = λ kind room waiting held funded some there.
+    pool-waits job wait comes has_new plain_is free_same line_more = λ kind room waiting held funded some there.
         let only = funded.rests.only in
         let c = comes only funded.rests.number in
         let size = funded.rests.size_is in
         let k_is = (plain_is only.0).0 in
         let none = (plain_is only.0).1 in
-        let k = (place_of wait).index in
         let seen = seen-object x kind size in
         let own : Comes v w (entry.Enter 0 o.next ∷ []) v.facts.has.slots (v.facts.waits ++ o.next ∷ [])
         = subst (λ n. Comes v w (entry.Enter 0 n ∷ []) v.facts.has.slots (v.facts.waits ++ n ∷ [])) k_is c in
@@ -429,9 +442,9 @@ module _ (x y : PoolSole) (mine : IsMine y.pool y.pass) (capacity : vec_capacity
               few_wait = omega (arith, line_more, funded.few_wait, some);
             };
           };
-          has = token;
+          has = has_new;
           keeps = λ other has. keeps-by (entry.Enter 0 o.next ∷ []) _ _ own other has
-              (has-append (place_of other).index v.facts.waits (o.next ∷ []) has.open_yet);
+              (has-append other.index v.facts.waits (o.next ∷ []) has.open_yet);
         }
       where
         below : (j : ℕ) → Has j v.facts.waits ⊎ Has j (o.next ∷ [])
@@ -441,51 +454,47 @@ module _ (x y : PoolSole) (mine : IsMine y.pool y.pass) (capacity : vec_capacity
         below j (inr (inr none)) drawn = absurd none
 
     -- A look that finds the wait in the line.
-    pub pool-pends : (job : ℕ) (wait back : Wait) → back ≡ wait
-        → ComesTo (entry.LookPending 0 (place_of wait).index ∷ []) v.facts.has.slots v.facts.waits
-        → (v.alone ≡ true → Waits (place_of wait).index v.number o.line)
+    pub pool-pends : (job : ℕ) (wait : Place)
+        → ComesTo (entry.LookPending 0 wait.index ∷ []) v.facts.has.slots v.facts.waits
+        → (v.alone ≡ true → Waits wait.index v.number o.line)
         → y.free ≡ x.free → y.line ≡ x.line
-        → Polls store_pool job x wait (looked.Pending back) y
-    pool-pends job wait back same comes stands_there free_same line_same = (
-      same,
-      λ kind room waiting held funded some there.
-          let only = funded.rests.only in
-          let c = comes only funded.rests.number in
-          let number = (place_of wait).index in
-          let is = plain-next v w (entry.LookPending 0 number ∷ []) c.same c.seen in (
-            ap (λ (p : plain.Pool). is_in_line number p.line) (seen-object x kind funded.rests.size_is)
-                ∙ waits-found number v.number o.line (stands_there only.0),
-            record {
-              same = ap of_elements (ap news c.seen
-                  ∙ filter-append is_news v.seen (entry.LookPending 0 number ∷ []) ∙ append-nil (news v.seen));
-              funded = record {
-                sort = funded.sort;
-                mine = mine;
-                rests = rests-next v w (entry.LookPending 0 number ∷ []) _ _ c (size_of kind) room room funded.rests
-                    funded.rests.still (omega arith) funded.rests.drawn;
-                here = here-same held funded.here;
-                hands = hands-same (entry.LookPending 0 number ∷ []) _ c funded.hands;
-                spare = omega (arith, funded.spare, capacity, length-same);
-                free = omega (arith, free_same, funded.free, ap (λ (p : plain.Pool). length p.way) is);
-                line = omega (arith, line_same, funded.line, ap (λ (p : plain.Pool). length p.line) is);
-                few_wait = omega (arith, line_same, funded.few_wait);
-              };
-              keeps = λ other has. keeps-by (entry.LookPending 0 number ∷ []) _ _ c other has has.open_yet;
-            },
-          ),
-    )
+        → Polls store_pool job x wait None y
+    pool-pends job wait comes stands_there free_same line_same = λ kind room waiting held funded some there.
+        let only = funded.rests.only in
+        let c = comes only funded.rests.number in
+        let number = wait.index in
+        let is = plain-next v w (entry.LookPending 0 number ∷ []) c.same c.seen in (
+          ap (λ (p : plain.Pool). is_in_line number p.line) (seen-object x kind funded.rests.size_is)
+              ∙ waits-found number v.number o.line (stands_there only.0),
+          record {
+            same = ap of_elements (ap news c.seen
+                ∙ filter-append is_news v.seen (entry.LookPending 0 number ∷ []) ∙ append-nil (news v.seen));
+            funded = record {
+              sort = funded.sort;
+              mine = mine;
+              rests = rests-next v w (entry.LookPending 0 number ∷ []) _ _ c (size_of kind) room room funded.rests
+                  funded.rests.still (omega arith) funded.rests.drawn;
+              here = here-same held funded.here;
+              hands = hands-same (entry.LookPending 0 number ∷ []) _ c funded.hands;
+              spare = omega (arith, funded.spare, capacity, length-same);
+              free = omega (arith, free_same, funded.free, ap (λ (p : plain.Pool). length p.way) is);
+              line = omega (arith, line_same, funded.line, ap (λ (p : plain.Pool). length p.line) is);
+              few_wait = omega (arith, line_same, funded.few_wait);
+            };
+            keeps = λ other has. keeps-by (entry.LookPending 0 number ∷ []) _ _ c other has has.open_yet;
+          },
+        )
 
     -- A cancel that finds it there.
-    pub pool-leaves : (job : ℕ) (wait : Wait)
-        → ComesTo (entry.Leave 0 (place_of wait).index ∷ []) v.facts.has.slots
-        (without (place_of wait).index v.facts.waits)
-        → (v.alone ≡ true → Waits (place_of wait).index v.number o.line)
+    pub pool-leaves : (job : ℕ) (wait : Place)
+        → ComesTo (entry.Leave 0 wait.index ∷ []) v.facts.has.slots (without wait.index v.facts.waits)
+        → (v.alone ≡ true → Waits wait.index v.number o.line)
         → y.free ≡ x.free → y.line ≡ x.line - 1
         → Cancels store_pool job x wait Gone y
     pool-leaves job wait comes stands_there free_same line_less = λ kind room waiting held funded some there.
         let only = funded.rests.only in
         let c = comes only funded.rests.number in
-        let number = (place_of wait).index in
+        let number = wait.index in
         let is = plain-next v w (entry.Leave 0 number ∷ []) c.same c.seen in
         let shorter : length (keyed.without (λ (q : Waiting). q.wait) number o.line) + 1 ≡ length o.line
         = length-without (λ (q : Waiting). q.wait) number (record { wait = number; pass = v.number }) o.line refl
@@ -516,13 +525,35 @@ module _ (x y : PoolSole) (mine : IsMine y.pool y.pass) (capacity : vec_capacity
             };
           };
           keeps = λ other differs has. keeps-by (entry.Leave 0 number ∷ []) _ _ c other has
-              (without_has (place_of other).index number v.facts.waits differs has.open_yet);
+              (without_has other.index number v.facts.waits differs has.open_yet);
         }
       where
         still : (n : ℕ) → (o.way ≡ []) ⊎ (o.line ≡ [])
             → (o.way ≡ []) ⊎ (keyed.without (λ (q : Waiting). q.wait) n o.line ≡ [])
         still n (inl none) = inl none
         still n (inr empty) = inr (rw empty refl)
+
+    -- The same, where the floor has the place of the wait by an equation.
+    module _ (job : ℕ) (wait at : Place) (is : wait ≡ at) where
+      pub pool-pends_at : ComesTo (entry.LookPending 0 wait.index ∷ []) v.facts.has.slots v.facts.waits
+          → (v.alone ≡ true → Waits wait.index v.number o.line) → y.free ≡ x.free → y.line ≡ x.line
+          → Polls store_pool job x at None y
+      pool-pends_at comes there free line =
+          subst (λ a. Polls store_pool job x a None y) is (pool-pends job wait comes there free line)
+
+      pub pool-leaves_at : ComesTo (entry.Leave 0 wait.index ∷ []) v.facts.has.slots (without wait.index v.facts.waits)
+          → (v.alone ≡ true → Waits wait.index v.number o.line) → y.free ≡ x.free → y.line ≡ x.line - 1
+          → Cancels store_pool job x at Gone y
+      pool-leaves_at comes there free line =
+          subst (λ a. Cancels store_pool job x a Gone y) is (pool-leaves job wait comes there free line)
+
+    pub pool-waits_at : (job : ℕ) (at wait : Place) → at ≡ wait
+        → ComesTo (entry.Enter 0 wait.index ∷ []) v.facts.has.slots (v.facts.waits ++ wait.index ∷ [])
+        → WaitsAt w wait → (v.alone ≡ true → (wait.index ≡ o.next) × (o.way ≡ []))
+        → y.free ≡ x.free → y.line ≡ x.line + 1 → Acquires store_pool job x (taken.Waits at) y
+    pool-waits_at job at wait is comes has plain_is free line =
+        subst (λ a. Acquires store_pool job x (taken.Waits a) y) (sym is)
+        (pool-waits job wait comes has plain_is free line)
 
   -- A give.
   module _ (job e : ℕ) (first : slice_get (elements_held job x.held.items) 0 ≡ Some e)

@@ -1,11 +1,12 @@
 -- A semaphore of the running queue with its one pass is one as a floor needs it.
-use Rattle.std.proofs.Common.{◌≡◌, ℕ, ◌+◌, true, false, [], Option, Some, None, Ok, length, vec_capacity}
+use Rattle.std.proofs.Common.{◌≡◌, ℕ, ◌+◌, true, false, [], Option, Some, None, Ok, length, sym, subst, vec_capacity}
+use Rattle.cqs_rule.specs.declared.config.Place.{Place}
 use Rattle.cqs_rule.specs.declared.queue.tokens.Under.{Under as Token}
 use Rattle.cqs_rule.specs.declared.queue.tokens.Wait.{Wait}
 use Rattle.cqs_rule.specs.declared.view.View.{View}
 use Rattle.cqs_core.specs.declared.entries.Entry.{Entry}
 use Rattle.cqs_rule.specs.Passes.{pass_view}
-use Rattle.cqs_rule.specs.Waits.{HasWait, place_of}
+use Rattle.cqs_rule.specs.Waits.{place_of}
 use Rattle.cqs_semaphore.specs.declared.answers.Acquired.TheVariants.{Now, Later}
 use Rattle.cqs_semaphore.specs.declared.answers.CancelAnswer.TheVariants.{Cancelled, TooLate}
 use Rattle.cqs_semaphore.specs.declared.answers.Permit.{Permit}
@@ -21,8 +22,8 @@ use Rattle.cqs_cli.specs.declared.floors.queue_sole.QueueSole.{QueueSole}
 use Rattle.cqs_cli.specs.Soles.{Acquires, Cancels, IsLawful, Polls, Releases}
 use Rattle.cqs_cli.specs.SoleQueue.{semaphore_pass, sole_queue}
 use Rattle.cqs_cli.proofs.OnePasses.{one-frees, one-grants, one-lates, one-lawful, one-leaves, one-pends, one-sends, one-takes, one-waits}
-use Rattle.cqs_cli.proofs.PassCalls.{frees-comes, grants-comes, lates-comes, pends-comes, pends-same, sent-comes, takes-comes, takes-free, waits-comes, waits-next}
-use Rattle.cqs_cli.proofs.PassRests.{empty-found, first-found, late-found, left-found, pending-found, served-found}
+use Rattle.cqs_cli.proofs.PassCalls.{frees-comes, grants-comes, lates-comes, pends-comes, sent-comes, takes-comes, takes-free, waits-comes, waits-next}
+use Rattle.cqs_cli.proofs.PassRests.{empty-found, first-found, late-found, left-found, pending-found, served-found, waits-at}
 use Rattle.cqs_cli.proofs.QueueSends.{HasLeft}
 
 pub queue-lawful : IsLawful sole_queue
@@ -45,13 +46,14 @@ module _ (x y : QueueSole) (mine : IsMine y.semaphore y.pass)
       one-takes semaphore_pass x y mine capacity (takes-comes v w permit rule got plain)
       (takes-free v w permit plain) one_more
 
-  pub queue-waits : (wait : Wait)
+  pub queue-waits : (wait : Wait) (at : Place) → at ≡ place_of wait
       → CallRule v (acquired_entries v.number (Ok (Later wait))) (acquired_further (Ok (Later wait))) w
       → Got v (Later wait) w → (v.alone ≡ true → IsPlainAcquire v (Later wait))
-      → length y.permits.items ≡ length x.permits.items → Acquires sole_queue x (Some wait) y
-  queue-waits wait rule got plain kept =
-      one-waits semaphore_pass x y mine capacity wait (waits-comes v w wait rule got) got.2
-      (waits-next v w wait plain) kept
+      → length y.permits.items ≡ length x.permits.items → Acquires sole_queue x (Some at) y
+  queue-waits wait at is rule got plain kept =
+      subst (λ a. Acquires sole_queue x (Some a) y) (sym is)
+      (one-waits semaphore_pass x y mine capacity (place_of wait) (waits-comes v w wait rule got)
+      (waits-at w wait got.2) (waits-next v w wait plain) kept)
 
   -- A release.
   module _ (one_less : length y.permits.items + 1 ≡ length x.permits.items) where
@@ -69,39 +71,41 @@ module _ (x y : QueueSole) (mine : IsMine y.semaphore y.pass)
         (λ alone. first-found (plain_after v) v.number k (plain alone))
 
   -- The end of a wait.
-  module _ (wait : Wait) where
+  module _ (wait : Wait) (at : Place) (is : place_of wait ≡ at) where
     abbrev number : ℕ
     number = (place_of wait).index
 
     pub queue-grants : (permit : Permit)
         → CallRule v (polled_entries v.number number (Granted permit)) [] w
         → IsPolled wait v (Granted permit) w → (v.alone ≡ true → IsPlainPoll number v (Granted permit))
-        → length y.permits.items ≡ length x.permits.items + 1 → Polls sole_queue x wait None y
+        → length y.permits.items ≡ length x.permits.items + 1 → Polls sole_queue x at true y
     queue-grants permit rule polled plain one_more =
-        one-grants semaphore_pass x y mine capacity wait (grants-comes v w wait permit rule polled)
-        (λ alone. served-found (plain_after v) v.number number (plain alone)) one_more
+        subst (λ a. Polls sole_queue x a true y) is
+        (one-grants semaphore_pass x y mine capacity (place_of wait) (grants-comes v w wait permit rule polled)
+        (λ alone. served-found (plain_after v) v.number number (plain alone)) one_more)
 
     pub queue-lates : (permit : Permit) → HasCancelled number v (TooLate permit) w
         → (v.alone ≡ true → IsPlainCancel number v (TooLate permit))
-        → length y.permits.items ≡ length x.permits.items + 1 → Cancels sole_queue x wait false y
+        → length y.permits.items ≡ length x.permits.items + 1 → Cancels sole_queue x at false y
     queue-lates permit cancelled plain one_more =
-        one-lates semaphore_pass x y mine capacity wait (lates-comes v w number permit cancelled)
-        (λ alone. late-found (plain_after v) v.number number (plain alone)) one_more
+        subst (λ a. Cancels sole_queue x a false y) is
+        (one-lates semaphore_pass x y mine capacity (place_of wait) (lates-comes v w number permit cancelled)
+        (λ alone. late-found (plain_after v) v.number number (plain alone)) one_more)
 
     module _ (kept : length y.permits.items ≡ length x.permits.items) where
-      pub queue-pends : (back : Wait) → HasWait v wait
-          → CallRule v (polled_entries v.number number (Pending back)) [] w
+      pub queue-pends : (back : Wait) → CallRule v (polled_entries v.number number (Pending back)) [] w
           → IsPolled wait v (Pending back) w → (v.alone ≡ true → IsPlainPoll number v (Pending back))
-          → Polls sole_queue x wait (Some back) y
-      queue-pends back has rule polled plain =
-          one-pends semaphore_pass x y mine capacity wait kept back
-          (pends-same v w wait back has rule.called.same polled) (pends-comes v w wait back rule polled)
-          (λ alone. pending-found (plain_after v) v.number number (plain alone))
+          → Polls sole_queue x at false y
+      queue-pends back rule polled plain =
+          subst (λ a. Polls sole_queue x a false y) is
+          (one-pends semaphore_pass x y mine capacity (place_of wait) kept (pends-comes v w wait back rule polled)
+          (λ alone. pending-found (plain_after v) v.number number (plain alone)))
 
       pub queue-leaves : (under : Option Token)
           → (v.alone ≡ true → IsPlainCancel number v (Cancelled under))
           → (v.alone ≡ true → (plain_after v).way ≡ 0 → HasLeft number v w)
-          → Cancels sole_queue x wait true y
+          → Cancels sole_queue x at true y
       queue-leaves under plain leaves =
-          one-leaves semaphore_pass x y mine capacity wait kept leaves
-          (λ alone. left-found (plain_after v) v.number number (plain alone))
+          subst (λ a. Cancels sole_queue x a true y) is
+          (one-leaves semaphore_pass x y mine capacity (place_of wait) kept leaves
+          (λ alone. left-found (plain_after v) v.number number (plain alone)))

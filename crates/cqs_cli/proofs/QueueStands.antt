@@ -16,7 +16,6 @@ use Rattle.cqs_core.proofs.Balance.{every-history-balanced}
 use Rattle.cqs_core.proofs.Counts.{bit}
 use Rattle.cqs_plan.specs.Floor.{size_of}
 use Rattle.cqs_rule.specs.declared.view.View.{View}
-use Rattle.cqs_rule.specs.Waits.{place_of}
 use Rattle.cqs_rule.specs.Lists.{Has}
 use Rattle.cqs_semaphore.specs.Calls.{CallRule, Rests, plain_after}
 use Rattle.cqs_semaphore.specs.Causes.{drawn_in, is_enter}
@@ -127,7 +126,7 @@ module _ {T : Type 0} (v : View Entry T) (size room held : ℕ) (rests : IsResti
       above (state_of o) (omega (arith, line-told, line-drawn v.opening.size v.seen, rests.below, rests.few))
 
 -- how one of the running queue stands, by its state
-pub one-tells : {X W T : Type 0} (q : OnePass X W T)
+pub one-tells : {X T : Type 0} (q : OnePass X T)
     → ((x : X) → q.mine x → IsLegal (q.view x).opening.size (q.view x).seen)
     → (x y : X) (stand : Stand) → q.mine y → q.space y ≡ q.space x → q.held y ≡ q.held x
     → CallRule (q.view x) [] [] (q.view y)
@@ -159,6 +158,6 @@ one-tells q legal x y stand mine capacity kept rule after free line kind room wa
           spare = omega (arith, capacity, funded.spare);
         };
       };
-      keeps = λ other has. has-next v w [] rule.called.same seen (q.token other) has
-          (subst (Has (place_of (q.token other)).index) (sym rests.waits_are) has.open_yet);
+      keeps = λ other has. has-next v w [] rule.called.same seen other has
+          (subst (Has other.index) (sym rests.waits_are) has.open_yet);
     }

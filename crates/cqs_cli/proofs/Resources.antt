@@ -23,14 +23,14 @@ pub holdable-there : (k : Option Kind) → IsHoldable k → (there : Kind) × (k
 holdable-there None holdable = absurd holdable
 holdable-there (Some there) holdable = (there, refl)
 
-module _ {X W : Type 0} (s : Store X W) where
+module _ {X : Type 0} (s : Store X) where
   -- what a resource is kept as, with its funds
-  pub record Funds (l : Ledger X W) (at : ℕ) : Type 0 where
+  pub record Funds (l : Ledger X) (at : ℕ) : Type 0 where
     pub sole : X
     pub there : slice_get l.soles at ≡ Some sole
     pub funded : IsFundedAt s l at sole
 
-  pub funds-at : (l : Ledger X W) (at : ℕ) → IsKept s l → IsHoldable (slice_get l.kinds at) → Funds l at
+  pub funds-at : (l : Ledger X) (at : ℕ) → IsKept s l → IsHoldable (slice_get l.kinds at) → Funds l at
   funds-at l at kept holdable =
       let is = holdable-there (slice_get l.kinds at) holdable in
       let below : at < length l.soles = omega (arith, get-below l.kinds at is.0 is.1, kept.soles) in
@@ -44,23 +44,23 @@ module _ {X W : Type 0} (s : Store X W) where
   history-there (x ∷ soles) (suc at) sole there = history-there soles at sole there
 
   -- a resource stands as what it is kept as does
-  pub standing-there : (l : Ledger X W) (at : ℕ) (sole : X) → slice_get l.soles at ≡ Some sole
+  pub standing-there : (l : Ledger X) (at : ℕ) (sole : X) → slice_get l.soles at ≡ Some sole
       → standing_at (plain_floor s l) at ≡ stands s (slice_get l.kinds at) sole
   standing-there l at sole there =
       ap (standing (size_of (slice_get l.kinds at))) (history-there l.soles at sole there)
 
   -- the place of a resource that can be held
-  pub place-room : (l : Ledger X W) (at : ℕ) → IsKept s l → IsHoldable (slice_get l.kinds at) → at < length l.room
+  pub place-room : (l : Ledger X) (at : ℕ) → IsKept s l → IsHoldable (slice_get l.kinds at) → at < length l.room
   place-room l at kept holdable =
       let is = holdable-there (slice_get l.kinds at) holdable in
       omega (arith, get-below l.kinds at is.0 is.1, kept.rooms)
 
   -- a job is one of the ledger's, and waits there as it does on the plain floor
-  pub job-there : (l : Ledger X W) (job : ℕ) → IsJob (plain_floor s l) job → job < length l.waits
-  job-there l job is = omega (arith, is.waits, length-map l.waits (option_map (job_wait s)))
+  pub job-there : (l : Ledger X) (job : ℕ) → IsJob (plain_floor s l) job → job < length l.waits
+  job-there l job is = omega (arith, is.waits, length-map l.waits (option_map job_wait))
 
-  pub idle-there : (waits : List (Option (Wait W))) (job : ℕ)
-      → get_or (map (option_map (job_wait s)) waits) job None ≡ None
+  pub idle-there : (waits : List (Option Wait)) (job : ℕ)
+      → get_or (map (option_map job_wait) waits) job None ≡ None
       → get_or waits job None ≡ None
   idle-there [] job idle = refl
   idle-there (None ∷ waits) zero idle = refl
@@ -68,14 +68,14 @@ module _ {X W : Type 0} (s : Store X W) where
   idle-there (wait ∷ waits) (suc job) idle = idle-there waits job idle
 
   -- the wait of a job, in the ledger and on the plain floor
-  pub record Waiting (waits : List (Option (Wait W))) (job : ℕ) (wait : Wait W) : Type 0 where
+  pub record Waiting (waits : List (Option Wait)) (job : ℕ) (wait : Wait) : Type 0 where
     pub stands : slice_get waits job ≡ Some (Some wait)
-    pub plain : get_or (map (option_map (job_wait s)) waits) job None ≡ Some (job_wait s wait)
+    pub plain : get_or (map (option_map job_wait) waits) job None ≡ Some (job_wait wait)
 
-  pub wait-there : (waits : List (Option (Wait W))) (job : ℕ) (wait : Wait W) → get_or waits job None ≡ Some wait
+  pub wait-there : (waits : List (Option Wait)) (job : ℕ) (wait : Wait) → get_or waits job None ≡ Some wait
       → Waiting waits job wait
   wait-there [] job wait is = absurd (cc)
-  wait-there (w ∷ waits) zero wait is = record { stands = ap Some is; plain = ap (option_map (job_wait s)) is }
+  wait-there (w ∷ waits) zero wait is = record { stands = ap Some is; plain = ap (option_map job_wait) is }
   wait-there (w ∷ waits) (suc job) wait is =
       let there = wait-there waits job wait is in
       record { stands = there.stands; plain = there.plain }

@@ -9,10 +9,8 @@ use Rattle.cqs_plan.specs.Floor.{history_at}
 use Rattle.cqs_plan.specs.LegalFloor.{IsLegalFor}
 use Rattle.cqs_cli.specs.declared.floors.any_sole.AnySole.{AnySole}
 use Rattle.cqs_cli.specs.declared.floors.any_sole.AnySole.TheVariants as any
-use Rattle.cqs_cli.specs.declared.floors.any_sole.AnyWait.{AnyWait}
 use Rattle.cqs_cli.specs.declared.floors.running_sole.RunningSole.{RunningSole}
 use Rattle.cqs_cli.specs.declared.floors.running_sole.RunningSole.TheVariants.{Semaphore, Mutex}
-use Rattle.cqs_cli.specs.declared.floors.running_sole.RunningWait.{RunningWait}
 use Rattle.cqs_cli.specs.Kept.{IsKept}
 use Rattle.cqs_cli.specs.KeptRuns.{HasRun}
 use Rattle.cqs_cli.specs.Ledger.{Ledger, plain_floor}
@@ -30,7 +28,7 @@ alone-at : (x : AnySole RunningSole) (kind : Option Kind) (room waiting : ℕ) (
 alone-at (any.Permits x) kind room waiting held funded = funded-alone x kind room waiting _ funded.funded
 alone-at (any.Pool x) kind room waiting held funded = (funded.sort, funded.mine, funded.rests.only.0)
 
-pub has-run : (plan : Plan) (l : Ledger (AnySole RunningSole) (AnyWait RunningWait)) → IsKept store_running l
+pub has-run : (plan : Plan) (l : Ledger (AnySole RunningSole)) → IsKept store_running l
     → plain_floor store_running l ≡ floor_after plan → IsLegalFor plan (plain_floor store_running l)
     → HasRun plan l
 has-run plan l kept plain legal = record {

@@ -3,49 +3,32 @@ use Rattle.std.proofs.Common.{◌≡◌, ℕ, ◌<◌, Option, refl}
 use Rattle.cqs_plan.specs.declared.plans.kind.Kind.{Kind}
 use Rattle.cqs_plan.specs.Floor.{size_of}
 use Rattle.cqs_core.specs.SemaphoreEntries.{IsLegal}
-use Rattle.cqs_mutex.specs.declared.guard.LockWait.{LockWait}
-use Rattle.cqs_rule.specs.declared.queue.tokens.Wait.{Wait}
-use Rattle.cqs_cli.specs.declared.floors.mutex_sole.MutexSole.{MutexSole}
-use Rattle.cqs_cli.specs.declared.floors.queue_sole.QueueSole.{QueueSole}
+use Rattle.cqs_rule.specs.declared.config.Place.{Place}
 use Rattle.cqs_cli.specs.declared.floors.running_sole.RunningSole.{RunningSole}
 use Rattle.cqs_cli.specs.declared.floors.running_sole.RunningSole.TheVariants.{Semaphore, Mutex}
-use Rattle.cqs_cli.specs.declared.floors.running_sole.RunningWait.{RunningWait}
-use Rattle.cqs_cli.specs.declared.floors.running_sole.RunningWait.TheVariants as wait
 use Rattle.cqs_cli.specs.Soles.{IsLawful, object}
 use Rattle.cqs_cli.specs.SoleQueue.{sole_mutex, sole_queue}
-use Rattle.cqs_cli.specs.SoleRunning.{HasHere, sole_running}
+use Rattle.cqs_cli.specs.SoleRunning.{sole_running}
 use Rattle.cqs_cli.proofs.Among.{IsAmong}
 use Rattle.cqs_cli.proofs.MutexSole.{mutex-lawful}
 use Rattle.cqs_cli.proofs.QueueSole.{queue-lawful}
 
-of-semaphore : (x : QueueSole) (v : RunningWait) → HasHere (Semaphore x) v → (w : Wait) × (v ≡ wait.Semaphore w)
-of-semaphore x (wait.Semaphore w) has = (w, refl)
-of-semaphore x (wait.Mutex w) has = absurd has
-
-of-mutex : (x : MutexSole) (v : RunningWait) → HasHere (Mutex x) v → (w : LockWait) × (v ≡ wait.Mutex w)
-of-mutex x (wait.Mutex w) has = (w, refl)
-of-mutex x (wait.Semaphore w) has = absurd has
-
-pub semaphore-among : IsAmong sole_queue sole_running Semaphore wait.Semaphore
+pub semaphore-among : IsAmong sole_queue sole_running Semaphore
 semaphore-among = record {
   entries = λ x. refl;
-  number = λ w. refl;
   funds = λ x kind room waiting held funded. funded;
   funded = λ x kind room waiting held funded. funded;
   had = λ x w has. has;
   has = λ x w has. has;
-  own = of-semaphore;
 }
 
-pub mutex-among : IsAmong sole_mutex sole_running Mutex wait.Mutex
+pub mutex-among : IsAmong sole_mutex sole_running Mutex
 mutex-among = record {
   entries = λ x. refl;
-  number = λ w. refl;
   funds = λ x kind room waiting held funded. funded;
   funded = λ x kind room waiting held funded. funded;
   had = λ x w has. has;
   has = λ x w has. has;
-  own = of-mutex;
 }
 
 pub running-lawful : IsLawful sole_running
@@ -61,12 +44,10 @@ running-lawful = record { some = some; legal = legal; numbered = numbered }
     legal (Semaphore x) kind room waiting held funded = queue-lawful.legal x kind room waiting held funded
     legal (Mutex x) kind room waiting held funded = mutex-lawful.legal x kind room waiting held funded
 
-    numbered : (x : RunningSole) (v : RunningWait) (kind : Option Kind) (room waiting held : ℕ)
+    numbered : (x : RunningSole) (wait : Place) (kind : Option Kind) (room waiting held : ℕ)
         → sole_running.funded x kind room waiting held
-        → sole_running.has x v → sole_running.number v < (object sole_running kind x).next
-    numbered (Semaphore x) (wait.Semaphore w) kind room waiting held funded has =
-        queue-lawful.numbered x w kind room waiting held funded has
-    numbered (Semaphore x) (wait.Mutex w) kind room waiting held funded has = absurd has
-    numbered (Mutex x) (wait.Semaphore w) kind room waiting held funded has = absurd has
-    numbered (Mutex x) (wait.Mutex w) kind room waiting held funded has =
-        mutex-lawful.numbered x w kind room waiting held funded has
+        → sole_running.has x wait → wait.index < (object sole_running kind x).next
+    numbered (Semaphore x) wait kind room waiting held funded has =
+        queue-lawful.numbered x wait kind room waiting held funded has
+    numbered (Mutex x) wait kind room waiting held funded has =
+        mutex-lawful.numbered x wait kind room waiting held funded has

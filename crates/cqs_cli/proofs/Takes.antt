@@ -13,19 +13,21 @@ use Rattle.cqs_plan.specs.declared.floors.answers.FloorTake.TheVariants.{Now, Wa
 use Rattle.cqs_plan.specs.FloorHistory.{takes, joins, first_free}
 use Rattle.cqs_plan.specs.Floor.{PlainFloor, JobWait, IsHoldable, IsJob, IsIdle, room_at, size_of}
 use Rattle.cqs_plan.specs.FloorCalls.{take_answer, after_take}
+use Rattle.cqs_rule.specs.declared.config.Place.{Place}
 use Rattle.cqs_cli.specs.declared.floors.transfers.Transfer.TheVariants.{Got}
 use Rattle.cqs_cli.specs.declared.floors.waits.Wait.{Wait}
 use Rattle.cqs_cli.specs.DeskCalls.{HasAt, Takes}
 use Rattle.cqs_cli.specs.Kept.{elements_of, IsKept, IsFundedAt, StandsIn, waiting_at, held_at, is_wait_at}
 use Rattle.cqs_cli.specs.Ledger.{Ledger, plain_floor, with_taken, with_waiting, with_soles, job_wait, holds_in, holds_after, after_transfer}
 use Rattle.cqs_cli.specs.Stores.{Store, IsLawful, CanAcquire, Goes, KeepsAll, stands, with_more}
+use Rattle.cqs_cli.specs.Waits.{place_in, wait_for}
 use Rattle.cqs_cli.proofs.Holdings.{count-set, held-got, else-got, many-got, holds-transfer}
 use Rattle.cqs_cli.proofs.KeptNext.{funded-as, kept-next, stands-on, histories-next}
 use Rattle.cqs_cli.proofs.Resources.{Funds, funds-at, bit-same, bit-other, history-there, standing-there, place-room, job-there, idle-there}
 
-module _ {X W : Type 0} (s : Store X W) where
+module _ {X : Type 0} (s : Store X) where
   -- a resource with room can take one more call
-  can-take : (l : Ledger X W) (at job : ℕ) → IsKept s l → IsHoldable (slice_get l.kinds at)
+  can-take : (l : Ledger X) (at job : ℕ) → IsKept s l → IsHoldable (slice_get l.kinds at)
       → job < length (holds_in l) → 0 < slice_index l.room at → HasAt l.soles at (CanAcquire s job)
   can-take l at job kept holdable holder room =
       let funds : Funds s l at = funds-at s l at kept holdable in
@@ -43,7 +45,7 @@ module _ {X W : Type 0} (s : Store X W) where
         };
       }
 
-  pub take-can : (l : Ledger X W) (f : PlainFloor) (at job : ℕ) → plain_floor s l ≡ f → IsKept s l
+  pub take-can : (l : Ledger X) (f : PlainFloor) (at job : ℕ) → plain_floor s l ≡ f → IsKept s l
       → IsHoldable (slice_get f.kinds at) → IsJob f job → 0 < room_at f at → HasAt l.soles at (CanAcquire s job)
   take-can l f at job view kept =
       let Allows : PlainFloor → Type 0 = λ g. IsHoldable (slice_get g.kinds at) → IsJob g job → 0 < room_at g at
@@ -51,7 +53,7 @@ module _ {X W : Type 0} (s : Store X W) where
       subst Allows view (λ holdable is_job. can-take l at job kept holdable is_job.holds)
 
   -- a job that can take from a resource with room
-  module _ (lawful : IsLawful s) (l : Ledger X W) (at job : ℕ) (kept : IsKept s l) (place : at < length l.room)
+  module _ (lawful : IsLawful s) (l : Ledger X) (at job : ℕ) (kept : IsKept s l) (place : at < length l.room)
       (room : 0 < slice_index l.room at) (holder : job < length (holds_in l)) (waiter : job < length l.waits)
       (idle : get_or l.waits job None ≡ None) where
     abbrev kind : Option Kind
@@ -72,7 +74,7 @@ module _ {X W : Type 0} (s : Store X W) where
 
       -- the job has an element, or a permit
       module _ (element : ℕ) where
-        abbrev now : Ledger X W
+        abbrev now : Ledger X
         now = with_soles (with_taken l at job element) (set l.soles at after)
 
         transferred : holds_in now ≡ after_transfer (holds_in l) (Got job at element)
@@ -91,7 +93,7 @@ module _ {X W : Type 0} (s : Store X W) where
             waiting = λ i other. refl;
             held = λ i other. ap (λ hs. held_at hs i) transferred
                 ∙ else-got (holds_in l) job at element i (λ e. other (sym e));
-            waits = λ j wait got. stands-on s l.soles at sole after wait there (λ same has. keeps wait.token has)
+            waits = λ j wait got. stands-on s l.soles at sole after wait there (λ same has. keeps (place_in wait) has)
                 (kept.waits j wait got);
             apart = kept.apart;
             spare = omega (arith, kept.spare, fewer, many);
@@ -110,18 +112,18 @@ module _ {X W : Type 0} (s : Store X W) where
               rw (histories, transferred) refl
 
       -- the job waits
-      module _ (token : W) where
-        abbrev wait : Wait W
-        wait = record { at = at; token = token }
+      module _ (cell : Place) where
+        abbrev wait : Wait
+        wait = wait_for at cell
 
-        abbrev later : Ledger X W
-        later = with_soles (with_waiting l at job token) (set l.soles at after)
+        abbrev later : Ledger X
+        later = with_soles (with_waiting l at job cell) (set l.soles at after)
 
         same-holds : holds_in later ≡ holds_in l
         same-holds = ap (λ n. holds_after n l.transfers) (length-set l.waits job (Some wait))
 
         -- what stands at a place of the waits: the new one, or one that was there
-        stands-at : (j : ℕ) (w : Wait W) → slice_get (set l.waits job (Some wait)) j ≡ Some (Some w)
+        stands-at : (j : ℕ) (w : Wait) → slice_get (set l.waits job (Some wait)) j ≡ Some (Some w)
             → ((j ≡ job) × (wait ≡ w)) ⊎ ((j ≢ job) × (slice_get l.waits j ≡ Some (Some w)))
         stands-at j w got = go (cases_eq j job)
           where
@@ -137,22 +139,22 @@ module _ {X W : Type 0} (s : Store X W) where
             go (inr other) =
                 inr (other, sym (get-set_else l.waits job j (Some wait) (λ e. other (sym e))) ∙ got)
 
-        module _ (number : s.number token ≡ (stands s kind sole).next) where
+        module _ (number : cell.index ≡ (stands s kind sole).next) where
           -- no job has the new wait before
-          fresh-wait : (j : ℕ) (w : Wait W) → slice_get l.waits j ≡ Some (Some w) → job_wait s wait ≢ job_wait s w
+          fresh-wait : (j : ℕ) (w : Wait) → slice_get l.waits j ≡ Some (Some w) → job_wait wait ≢ job_wait w
           fresh-wait j w got same =
               let stands : StandsIn s l.soles w = kept.waits j w got in
               let here : w.at ≡ at = ap (λ (x : JobWait). x.at) (sym same) in
               let found : Some stands.sole ≡ Some sole = sym stands.there ∙ ap (slice_get l.soles) here ∙ there in
               let is : stands.sole ≡ sole = cc in
-              let has : s.has sole w.token = subst (λ (x : X). s.has x w.token) is stands.has in
-              let below = lawful.numbered sole w.token kind _ _ _ funded has in
-              let next : s.number token ≡ s.number w.token = ap (λ (x : JobWait). x.number) same in
+              let has : s.has sole (place_in w) = subst (λ (x : X). s.has x (place_in w)) is stands.has in
+              let below = lawful.numbered sole (place_in w) kind _ _ _ funded has in
+              let next : cell.index ≡ w.index = ap (λ (x : JobWait). x.number) same in
               absurd (omega (arith, below, next, number))
 
           module _ (goes : Goes s sole (joins (stands s kind sole).next) kind
               (slice_index l.room at - 1) (waiting_at l.waits at + 1) (held_at (holds_in l) at) after)
-              (has : s.has after token) (keeps : KeepsAll s sole after) where
+              (has : s.has after cell) (keeps : KeepsAll s sole after) where
             kept-later : IsKept s later
             kept-later = kept-next s l later at sole after kept (record {
               there = there;
@@ -192,40 +194,41 @@ module _ {X W : Type 0} (s : Store X W) where
                     count-set (λ w. is_some w) l.waits job None (Some wait) None waiter idle in
                     omega (arith, changed)
 
-                waits : (j : ℕ) (w : Wait W)
+                waits : (j : ℕ) (w : Wait)
                     → ((j ≡ job) × (wait ≡ w)) ⊎ ((j ≢ job) × (slice_get l.waits j ≡ Some (Some w)))
                     → StandsIn s (set l.soles at after) w
                 waits j w (inl (same, is)) =
                     let new : StandsIn s (set l.soles at after) wait =
                     record { sole = after; there = get-set_here l.soles at sole after there; has = has } in
-                    subst (λ (x : Wait W). StandsIn s (set l.soles at after) x) is new
+                    subst (λ (x : Wait). StandsIn s (set l.soles at after) x) is new
                 waits j w (inr (other, was)) =
-                    stands-on s l.soles at sole after w there (λ same stands. keeps w.token stands) (kept.waits j w was)
+                    stands-on s l.soles at sole after w there (λ same stands. keeps (place_in w) stands)
+                    (kept.waits j w was)
 
-                apart : (i j : ℕ) (v w : Wait W) → job_wait s v ≡ job_wait s w
+                apart : (i j : ℕ) (v w : Wait) → job_wait v ≡ job_wait w
                     → ((i ≡ job) × (wait ≡ v)) ⊎ ((i ≢ job) × (slice_get l.waits i ≡ Some (Some v)))
                     → ((j ≡ job) × (wait ≡ w)) ⊎ ((j ≢ job) × (slice_get l.waits j ≡ Some (Some w))) → i ≡ j
                 apart i j v w same (inl (here, is)) (inl (too, also)) = here ∙ sym too
                 apart i j v w same (inl (here, is)) (inr (other, was)) =
-                    absurd (fresh-wait j w was (ap (job_wait s) is ∙ same))
+                    absurd (fresh-wait j w was (ap job_wait is ∙ same))
                 apart i j v w same (inr (other, was)) (inl (too, also)) =
-                    absurd (fresh-wait i v was (ap (job_wait s) also ∙ sym same))
+                    absurd (fresh-wait i v was (ap job_wait also ∙ sym same))
                 apart i j v w same (inr (other, was)) (inr (too, also)) = kept.apart.same i j v w was also same
 
-            plain-later : plain_floor s later ≡ after_take (plain_floor s l) at job (Waits (s.number token))
+            plain-later : plain_floor s later ≡ after_take (plain_floor s l) at job (Waits cell.index)
             plain-later =
                 let histories = histories-next s l.soles at sole after (size_of kind)
                 (joins (stands s kind sole).next) there goes.done in
-                let waits = map-set (option_map (job_wait s)) l.waits job (Some wait) in
+                let waits = map-set (option_map job_wait) l.waits job (Some wait) in
                 rw (histories, waits, same-holds, number) refl
 
   -- what a take comes to: its answer is the plain floor's, and so is what it leaves
-  pub record TakesWell (f : PlainFloor) (at job : ℕ) (answer : FloorTake) (n : Ledger X W) : Type 0 where
+  pub record TakesWell (f : PlainFloor) (at job : ℕ) (answer : FloorTake) (n : Ledger X) : Type 0 where
     pub answers : answer ≡ take_answer f at job
     pub leaves : plain_floor s n ≡ after_take f at job answer
     pub kept : IsKept s n
 
-  take-well : IsLawful s → (l n : Ledger X W) (at job : ℕ) (answer : FloorTake) → IsKept s l
+  take-well : IsLawful s → (l n : Ledger X) (at job : ℕ) (answer : FloorTake) → IsKept s l
       → IsHoldable (slice_get l.kinds at) → IsJob (plain_floor s l) job → IsIdle (plain_floor s l) job
       → 0 < slice_index l.room at → Takes s l at job answer n → TakesWell (plain_floor s l) at job answer n
   take-well lawful l n at job (Now element) kept holdable is_job idle room (a, written) =
@@ -247,28 +250,28 @@ module _ {X W : Type 0} (s : Store X W) where
             (kept-now lawful l at job kept place room is_job.holds waiter nobody a.sole a.after a.there element
             made.goes made.keeps);
       }
-  take-well lawful l n at job (Waits number) kept holdable is_job idle room (token, number_is, a, written) =
+  take-well lawful l n at job (Waits number) kept holdable is_job idle room (cell, number_is, a, written) =
       let made = a.made _ _ _ _ (kept.funded.at at a.sole a.there) room
       (omega (arith, is_job.holds, length-map (holds_in l) (elements_of at))) in
       let place = place-room s l at kept holdable in
       let waiter = job-there s l job is_job in
       let nobody = idle-there s l.waits job idle in
-      let is : Waits number ≡ Waits (s.number token) = ap Waits number_is in
-      let same : n ≡ with_soles (with_waiting l at job token) (set l.soles at a.after) =
-      written ∙ ap (with_soles (with_waiting l at job token)) a.soles in
+      let is : Waits number ≡ Waits cell.index = ap Waits number_is in
+      let same : n ≡ with_soles (with_waiting l at job cell) (set l.soles at a.after) =
+      written ∙ ap (with_soles (with_waiting l at job cell)) a.soles in
       record {
         answers = is ∙ rw (standing-there s l at a.sole a.there, made.none, made.number) refl;
         leaves = ap (plain_floor s) same
-            ∙ plain-later lawful l at job kept place room is_job.holds waiter nobody a.sole a.after a.there token
+            ∙ plain-later lawful l at job kept place room is_job.holds waiter nobody a.sole a.after a.there cell
             made.number made.goes made.has made.keeps
             ∙ ap (after_take (plain_floor s l) at job) (sym is);
         kept = subst (IsKept s) (sym same)
-            (kept-later lawful l at job kept place room is_job.holds waiter nobody a.sole a.after a.there token
+            (kept-later lawful l at job kept place room is_job.holds waiter nobody a.sole a.after a.there cell
             made.number made.goes made.has made.keeps);
       }
 
   -- the same where the floor is seen as its plain floor
-  pub take-floor : IsLawful s → (l n : Ledger X W) (f : PlainFloor) (at job : ℕ) (answer : FloorTake)
+  pub take-floor : IsLawful s → (l n : Ledger X) (f : PlainFloor) (at job : ℕ) (answer : FloorTake)
       → plain_floor s l ≡ f → IsKept s l
       → IsHoldable (slice_get f.kinds at) → IsJob f job → IsIdle f job → 0 < room_at f at
       → Takes s l at job answer n → TakesWell f at job answer n

@@ -15,12 +15,13 @@ use Rattle.cqs_cli.specs.declared.floors.waits.Wait.{Wait}
 use Rattle.cqs_cli.specs.Kept.{IsKept, StandsIn, AreApart, waiting_at, held_at, is_wait_at}
 use Rattle.cqs_cli.specs.Ledger.{Ledger, plain_floor, with_soles, with_wait, with_grant, after_transfer, holds_after, holds_in, job_wait}
 use Rattle.cqs_cli.specs.Stores.{Store, Goes, KeepsOthers, with_more}
+use Rattle.cqs_cli.specs.Waits.{place_in}
 use Rattle.cqs_cli.proofs.Holdings.{count-set, held-got, else-got, many-got, holds-transfer}
 use Rattle.cqs_cli.proofs.KeptNext.{funded-as, kept-next, stands-on, histories-next}
 use Rattle.cqs_cli.proofs.Resources.{bit-same, bit-other}
 
 -- a job whose wait stands
-module _ {X W : Type 0} (s : Store X W) (l : Ledger X W) (job : ℕ) (wait : Wait W) (kept : IsKept s l)
+module _ {X : Type 0} (s : Store X) (l : Ledger X) (job : ℕ) (wait : Wait) (kept : IsKept s l)
     (has : slice_get l.waits job ≡ Some (Some wait)) where
   below : job < length l.waits
   below = get-below l.waits job (Some wait) has
@@ -29,11 +30,11 @@ module _ {X W : Type 0} (s : Store X W) (l : Ledger X W) (job : ℕ) (wait : Wai
   was = get_or_from_slice_get l.waits job (Some wait) None has
 
   -- a wait that is left is another job's, and another one
-  record IsAnother (j : ℕ) (w : Wait W) : Type 0 where
+  record IsAnother (j : ℕ) (w : Wait) : Type 0 where
     stands : slice_get l.waits j ≡ Some (Some w)
-    number : w.at ≡ wait.at → s.number w.token ≢ s.number wait.token
+    number : w.at ≡ wait.at → w.index ≢ wait.index
 
-  another : (j : ℕ) (w : Wait W) → slice_get (set l.waits job None) j ≡ Some (Some w) → IsAnother j w
+  another : (j : ℕ) (w : Wait) → slice_get (set l.waits job None) j ≡ Some (Some w) → IsAnother j w
   another j w got = go (cases_eq j job)
     where
       go : (j ≡ job) ⊎ (j ≢ job) → IsAnother j w
@@ -52,7 +53,7 @@ module _ {X W : Type 0} (s : Store X W) (l : Ledger X W) (job : ℕ) (wait : Wai
                 other (kept.apart.same j job w wait stands has (ap₂ wait_from at number));
           }
 
-  apart : AreApart s (set l.waits job None)
+  apart : AreApart (set l.waits job None)
   apart = record {
     same = λ i j v w one two. kept.apart.same i j v w (another i v one).stands (another j w two).stands;
   }
@@ -80,20 +81,20 @@ module _ {X W : Type 0} (s : Store X W) (l : Ledger X W) (job : ℕ) (wait : Wai
 
   -- a call of the semaphore of that wait
   module _ (sole after : X) (there : slice_get l.soles wait.at ≡ Some sole)
-      (keeps : KeepsOthers s sole (s.number wait.token) after) where
+      (keeps : KeepsOthers s sole (wait.index) after) where
     abbrev kind : Option Kind
     kind = slice_get l.kinds wait.at
 
     -- the other waits stand on
-    stand-on : (j : ℕ) (w : Wait W) → slice_get (set l.waits job None) j ≡ Some (Some w)
+    stand-on : (j : ℕ) (w : Wait) → slice_get (set l.waits job None) j ≡ Some (Some w)
         → StandsIn s (set l.soles wait.at after) w
     stand-on j w got =
         let other = another j w got in
-        stands-on s l.soles wait.at sole after w there (λ same stands. keeps w.token (other.number same) stands)
+        stands-on s l.soles wait.at sole after w there (λ same stands. keeps (place_in w) (other.number same) stands)
         (kept.waits j w other.stands)
 
     -- the job left the line
-    abbrev pub gone : Ledger X W
+    abbrev pub gone : Ledger X
     gone = with_soles (with_wait l job None) (set l.soles wait.at after)
 
     gone-holds : holds_in gone ≡ holds_in l
@@ -125,7 +126,7 @@ module _ {X W : Type 0} (s : Store X W) (l : Ledger X W) (job : ℕ) (wait : Wai
 
     -- the job has what came
     module _ (element : ℕ) where
-      abbrev pub came_to : Ledger X W
+      abbrev pub came_to : Ledger X
       came_to = with_soles (with_grant l job wait.at element) (set l.soles wait.at after)
 
       came-holds : holds_in came_to ≡ after_transfer (holds_in l) (Got job wait.at element)
@@ -163,12 +164,12 @@ module _ {X W : Type 0} (s : Store X W) (l : Ledger X W) (job : ℕ) (wait : Wai
           → plain_floor s came_to ≡ record (plain_floor s l) {
             histories = set (map s.history l.soles) wait.at
                 (with_deed (size_of kind) (get_or (map s.history l.soles) wait.at (of_permits [])) deed);
-            waits = set (map (option_map (job_wait s)) l.waits) job None;
+            waits = set (map (option_map job_wait) l.waits) job None;
             holds = after_transfer (holds_in l) (Got job wait.at element);
           }
       plain-came deed done =
           let histories = histories-next s l.soles wait.at sole after (size_of kind) deed there done in
-          let waits = map-set (option_map (job_wait s)) l.waits job None in
+          let waits = map-set (option_map job_wait) l.waits job None in
           rw (histories, waits, came-holds) refl
 
     -- the plain floor where the job left
@@ -176,9 +177,9 @@ module _ {X W : Type 0} (s : Store X W) (l : Ledger X W) (job : ℕ) (wait : Wai
         → plain_floor s gone ≡ record (plain_floor s l) {
           histories = set (map s.history l.soles) wait.at
               (with_deed (size_of kind) (get_or (map s.history l.soles) wait.at (of_permits [])) deed);
-          waits = set (map (option_map (job_wait s)) l.waits) job None;
+          waits = set (map (option_map job_wait) l.waits) job None;
         }
     plain-gone deed done =
         let histories = histories-next s l.soles wait.at sole after (size_of kind) deed there done in
-        let waits = map-set (option_map (job_wait s)) l.waits job None in
+        let waits = map-set (option_map job_wait) l.waits job None in
         rw (histories, waits, gone-holds) refl

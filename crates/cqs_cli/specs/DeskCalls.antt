@@ -1,5 +1,5 @@
 -- The calls of a floor in the words of its ledger.
-use Rattle.std.specs.Prelude.{◌≡◌, ℕ, List, Some, slice_get, slice_set}
+use Rattle.std.specs.Prelude.{◌≡◌, ℕ, List, Some, None, slice_get, slice_set}
 use Rattle.cqs_plan.specs.declared.floors.answers.FloorTake.{FloorTake}
 use Rattle.cqs_plan.specs.declared.floors.answers.FloorTake.TheVariants.{Now, Waits}
 use Rattle.cqs_plan.specs.declared.floors.answers.FloorGive.{FloorGive}
@@ -9,12 +9,13 @@ use Rattle.cqs_plan.specs.declared.floors.answers.FloorLeave.{FloorLeave}
 use Rattle.cqs_plan.specs.declared.floors.answers.FloorLeave.TheVariants.{Gone, Late}
 use Rattle.cqs_plan.specs.declared.floors.answers.FloorEnd.{FloorEnd}
 use Rattle.cqs_plan.specs.declared.plans.kind.Kind.{Kind}
-use Rattle.cqs_cli.specs.declared.floors.transfers.Transfer.TheVariants.{Got, GaveBack}
-use Rattle.cqs_cli.specs.declared.floors.sole_resource.Looked.TheVariants as looked
+use Rattle.cqs_rule.specs.declared.config.Place.{Place}
+use Rattle.cqs_cli.specs.declared.floors.transfers.Transfer.TheVariants.{GaveBack}
 use Rattle.cqs_cli.specs.declared.floors.sole_resource.Taken.TheVariants as taken
 use Rattle.cqs_cli.specs.declared.floors.waits.Wait.{Wait}
-use Rattle.cqs_cli.specs.Ledger.{Ledger, with_soles, with_taken, with_transfer, with_wait, with_waiting}
-use Rattle.cqs_cli.specs.Stores.{Store, Acquires, CanTell, Cancels, Polls, Releases, Tells}
+use Rattle.cqs_cli.specs.Ledger.{Ledger, wait_at, with_grant, with_soles, with_taken, with_transfer, with_wait, with_waiting}
+use Rattle.cqs_cli.specs.Stores.{Store, Acquires, CanEnd, CanTell, Cancels, Polls, Releases, Tells}
+use Rattle.cqs_cli.specs.Waits.{place_in}
 
 module _ {X : Type 0} where
   -- of what is kept at a place this holds
@@ -31,52 +32,59 @@ module _ {X : Type 0} where
     pub made : Makes sole after
     pub soles : new ≡ slice_set old at after
 
-module _ {X W : Type 0} (s : Store X W) where
+module _ {X : Type 0} (s : Store X) where
   -- a take: the job has an element or a permit, or has the wait
-  abbrev pub Takes : Ledger X W → ℕ → ℕ → FloorTake → Ledger X W → Type 0
+  abbrev pub Takes : Ledger X → ℕ → ℕ → FloorTake → Ledger X → Type 0
   Takes old at job (Now element) new =
       Calls old.soles at (λ x y. Acquires s job x (taken.Now element) y) new.soles
       × (new ≡ with_soles (with_taken old at job element) new.soles)
   Takes old at job (Waits number) new =
-      (token : W) × (number ≡ s.number token)
-      × Calls old.soles at (λ x y. Acquires s job x (taken.Waits token) y) new.soles
-      × (new ≡ with_soles (with_waiting old at job token) new.soles)
+      (place : Place) × (number ≡ place.index)
+      × Calls old.soles at (λ x y. Acquires s job x (taken.Waits place) y) new.soles
+      × (new ≡ with_soles (with_waiting old at job place) new.soles)
 
   -- a give
-  abbrev pub Gives : Ledger X W → ℕ → ℕ → FloorGive → Ledger X W → Type 0
+  abbrev pub Gives : Ledger X → ℕ → ℕ → FloorGive → Ledger X → Type 0
   Gives old at job answer new =
       Calls old.soles at (λ x y. Releases s job x answer y) new.soles
       × (new ≡ with_soles (with_transfer old (GaveBack job at)) new.soles)
 
-  -- a look at the job's wait, which was taken out: where it is pending, its token goes back
-  abbrev pub Looks : Ledger X W → ℕ → Wait W → FloorLook → Ledger X W → Type 0
-  Looks old job wait Pending new =
-      (back : W)
-      × Calls old.soles wait.at (λ x y. Polls s job x wait.token (looked.Pending back) y) new.soles
-      × (new ≡ with_soles
-      (with_wait old job (Some (record { at = wait.at; token = back }))) new.soles)
-  Looks old job wait (Granted element) new =
-      Calls old.soles wait.at (λ x y. Polls s job x wait.token (looked.Granted element) y)
-      new.soles
-      × (new ≡ with_soles (with_transfer old (Got job wait.at element)) new.soles)
+  -- the job has a wait, and its resource is one where it may end that
+  pub record CanEndWait (l : Ledger X) (job : ℕ) : Type 0 where
+    pub wait : Wait
+    pub is : wait_at l job ≡ Some wait
+    pub sole : HasAt l.soles wait.at (CanEnd s job (place_in wait))
 
-  -- a leave of the job's wait, which was taken out
-  abbrev pub Leaves : Ledger X W → ℕ → Wait W → FloorLeave → Ledger X W → Type 0
-  Leaves old job wait Gone new =
-      Calls old.soles wait.at (λ x y. Cancels s job x wait.token Gone y) new.soles
+  -- a look at the job's wait: where it is pending the wait stays, and else it is taken out
+  abbrev pub Looks : Ledger X → ℕ → FloorLook → Ledger X → Type 0
+  Looks old job Pending new =
+      (wait : Wait) × (wait_at old job ≡ Some wait)
+      × Calls old.soles wait.at (λ x y. Polls s job x (place_in wait) None y) new.soles
       × (new ≡ with_soles old new.soles)
-  Leaves old job wait (Late element) new =
-      Calls old.soles wait.at (λ x y. Cancels s job x wait.token (Late element) y) new.soles
-      × (new ≡ with_soles (with_transfer old (Got job wait.at element)) new.soles)
+  Looks old job (Granted element) new =
+      (wait : Wait) × (wait_at old job ≡ Some wait)
+      × Calls old.soles wait.at (λ x y. Polls s job x (place_in wait) (Some element) y) new.soles
+      × (new ≡ with_soles (with_grant old job wait.at element) new.soles)
+
+  -- a leave of the job's wait, which is taken out
+  abbrev pub Leaves : Ledger X → ℕ → FloorLeave → Ledger X → Type 0
+  Leaves old job Gone new =
+      (wait : Wait) × (wait_at old job ≡ Some wait)
+      × Calls old.soles wait.at (λ x y. Cancels s job x (place_in wait) Gone y) new.soles
+      × (new ≡ with_soles (with_wait old job None) new.soles)
+  Leaves old job (Late element) new =
+      (wait : Wait) × (wait_at old job ≡ Some wait)
+      × Calls old.soles wait.at (λ x y. Cancels s job x (place_in wait) (Late element) y) new.soles
+      × (new ≡ with_soles (with_grant old job wait.at element) new.soles)
 
   -- the resource at a place is one that can be asked how it stands
-  pub record CanEndAt (l : Ledger X W) (at : ℕ) : Type 0 where
+  pub record CanEndAt (l : Ledger X) (at : ℕ) : Type 0 where
     pub kind : Kind
     pub is : slice_get l.kinds at ≡ Some kind
     pub sole : HasAt l.soles at (CanTell s kind)
 
   -- the answer tells how it stands
-  pub record Ends (old : Ledger X W) (at : ℕ) (answer : FloorEnd) (new : Ledger X W) : Type 0 where
+  pub record Ends (old : Ledger X) (at : ℕ) (answer : FloorEnd) (new : Ledger X) : Type 0 where
     pub kind : Kind
     pub is : slice_get old.kinds at ≡ Some kind
     pub calls : Calls old.soles at (λ x y. Tells s kind x answer y) new.soles

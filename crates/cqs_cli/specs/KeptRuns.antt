@@ -9,9 +9,7 @@ use Rattle.cqs_plan.specs.Runnable.{kinds_of}
 use Rattle.cqs_generator.specs.Generated.{generated}
 use Rattle.cqs_turns.specs.Report.{report_of}
 use Rattle.cqs_cli.specs.declared.floors.any_sole.AnySole.{AnySole}
-use Rattle.cqs_cli.specs.declared.floors.any_sole.AnyWait.{AnyWait}
 use Rattle.cqs_cli.specs.declared.floors.running_sole.RunningSole.{RunningSole}
-use Rattle.cqs_cli.specs.declared.floors.running_sole.RunningWait.{RunningWait}
 use Rattle.cqs_cli.specs.Input.{IsInput}
 use Rattle.cqs_cli.specs.Ledger.{Ledger, plain_floor}
 use Rattle.cqs_cli.specs.SoleRunning.{IsAloneAt, store_running}
@@ -34,8 +32,7 @@ pub record HasSeen (kind : Option Kind) (soles : List (AnySole RunningSole)) (at
   pub seen : store_running.history sole ≡ history
 
 -- the floor is the one on which the turns of this plan end, and its passes have seen just this run
-pub record HasRun (plan : Plan) (floor : Ledger (AnySole RunningSole) (AnyWait RunningWait))
-    : Type 0 where
+pub record HasRun (plan : Plan) (floor : Ledger (AnySole RunningSole)) : Type 0 where
   pub plain : plain_floor store_running floor ≡ floor_after plan
   pub passes : (at : ℕ) → at < length plan.resources
       → HasSeen (slice_get (kinds_of plan.resources) at) floor.soles at
@@ -43,7 +40,7 @@ pub record HasRun (plan : Plan) (floor : Ledger (AnySole RunningSole) (AnyWait R
 
 -- what is kept is a floor on which this plan has run
 pub record KeepsRun (plan : Plan) (kept : Kept) : Type 0 where
-  pub floor : Ledger (AnySole RunningSole) (AnyWait RunningWait)
+  pub floor : Ledger (AnySole RunningSole)
   pub is : kept ≡ Ran floor
   pub ran : HasRun plan floor
 

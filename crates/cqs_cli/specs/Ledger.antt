@@ -5,12 +5,14 @@ use Rattle.std.specs.List.{fold}
 use Rattle.cqs_core.specs.Keyed.{without}
 use Rattle.cqs_plan.specs.declared.plans.kind.Kind.{Kind}
 use Rattle.cqs_plan.specs.Floor.{PlainFloor, JobWait, Holding}
+use Rattle.cqs_rule.specs.declared.config.Place.{Place}
 use Rattle.cqs_cli.specs.declared.floors.transfers.Transfer.{Transfer}
 use Rattle.cqs_cli.specs.declared.floors.transfers.Transfer.TheVariants.{Got, GaveBack}
 use Rattle.cqs_cli.specs.declared.floors.waits.Wait.{Wait}
 use Rattle.cqs_cli.specs.Stores.{Store}
+use Rattle.cqs_cli.specs.Waits.{wait_for}
 
-pub record Ledger (X W : Type 0) : Type 0 where
+pub record Ledger (X : Type 0) : Type 0 where
   -- what each resource is
   pub kinds : List Kind
   -- what each resource is kept as
@@ -18,7 +20,7 @@ pub record Ledger (X W : Type 0) : Type 0 where
   -- for each resource how many takes it has room for
   pub room : List ℕ
   -- for each job its wait
-  pub waits : List (Option (Wait W))
+  pub waits : List (Option Wait)
   -- what the jobs got and gave back, oldest first
   pub transfers : List Transfer
   -- for how many further transfers there is memory
@@ -35,51 +37,51 @@ after_transfer holds (GaveBack job at) =
 abbrev pub holds_after : ℕ → List Transfer → List (List Holding)
 holds_after jobs transfers = fold after_transfer (replicate jobs []) transfers
 
-module _ {X W : Type 0} where
-  abbrev pub wait_at : Ledger X W → ℕ → Option (Wait W)
+-- the wait of a job, as the plain floor has it
+abbrev pub job_wait : Wait → JobWait
+job_wait wait = record { at = wait.at; number = wait.index }
+
+module _ {X : Type 0} where
+  abbrev pub wait_at : Ledger X → ℕ → Option Wait
   wait_at l job = slice_index_or l.waits job None
 
   -- what the jobs of a ledger hold
-  abbrev pub holds_in : Ledger X W → List (List Holding)
+  abbrev pub holds_in : Ledger X → List (List Holding)
   holds_in l = holds_after (length l.waits) l.transfers
 
-  abbrev pub job_wait : Store X W → Wait W → JobWait
-  job_wait s wait = record { at = wait.at; number = s.number wait.token }
-
   -- the plain floor of a ledger
-  abbrev pub plain_floor : Store X W → Ledger X W → PlainFloor
+  abbrev pub plain_floor : Store X → Ledger X → PlainFloor
   plain_floor s l = record {
     kinds = l.kinds;
     histories = map s.history l.soles;
     room = l.room;
-    waits = map (option_map (job_wait s)) l.waits;
+    waits = map (option_map job_wait) l.waits;
     holds = holds_in l;
   }
 
   -- a ledger with these resources
-  abbrev pub with_soles : Ledger X W → List X → Ledger X W
+  abbrev pub with_soles : Ledger X → List X → Ledger X
   with_soles l soles = record l { soles = soles }
 
   -- one more transfer is written down
-  abbrev pub with_transfer : Ledger X W → Transfer → Ledger X W
+  abbrev pub with_transfer : Ledger X → Transfer → Ledger X
   with_transfer l transfer =
       record l { transfers = l.transfers ++ transfer ∷ []; spare = l.spare - 1 }
 
-  abbrev pub with_wait : Ledger X W → ℕ → Option (Wait W) → Ledger X W
+  abbrev pub with_wait : Ledger X → ℕ → Option Wait → Ledger X
   with_wait l job wait = record l { waits = slice_set l.waits job wait }
 
   -- one take less has room
-  abbrev pub with_less_room : Ledger X W → ℕ → Ledger X W
+  abbrev pub with_less_room : Ledger X → ℕ → Ledger X
   with_less_room l at = record l { room = slice_set l.room at (slice_index l.room at - 1) }
 
   -- a take that got an element or a permit, and one that waits
-  abbrev pub with_taken : Ledger X W → ℕ → ℕ → ℕ → Ledger X W
+  abbrev pub with_taken : Ledger X → ℕ → ℕ → ℕ → Ledger X
   with_taken l at job element = with_transfer (with_less_room l at) (Got job at element)
 
-  abbrev pub with_waiting : Ledger X W → ℕ → ℕ → W → Ledger X W
-  with_waiting l at job token =
-      with_wait (with_less_room l at) job (Some (record { at = at; token = token }))
+  abbrev pub with_waiting : Ledger X → ℕ → ℕ → Place → Ledger X
+  with_waiting l at job place = with_wait (with_less_room l at) job (Some (wait_for at place))
 
   -- the wait of a job is over, and it has what came
-  abbrev pub with_grant : Ledger X W → ℕ → ℕ → ℕ → Ledger X W
+  abbrev pub with_grant : Ledger X → ℕ → ℕ → ℕ → Ledger X
   with_grant l job at element = with_transfer (with_wait l job None) (Got job at element)

@@ -6,6 +6,7 @@ pub mod Summaries
 pub mod Tellings
 pub mod Verdicts
 pub mod Words
+pub mod Waits
 pub mod Soles
 pub mod Stores
 pub mod Lifted

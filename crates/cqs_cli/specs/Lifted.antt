@@ -18,7 +18,7 @@ HoldPermits (es ∷ held) = ArePermits es × HoldPermits held
 abbrev pub total : List (List ℕ) → ℕ
 total held = sum_by (λ es. length es) held
 
-module _ {X W : Type 0} (s : Sole X W) where
+module _ {X : Type 0} (s : Sole X) where
   -- it stands for a semaphore or a mutex, and its caller holds all that the jobs hold
   pub record IsFundedFor (x : X) (kind : Option Kind) (room waiting : ℕ) (held : List (List ℕ))
       : Type 0 where
@@ -26,10 +26,9 @@ module _ {X W : Type 0} (s : Sole X W) where
     pub permits : HoldPermits held
     pub funded : s.funded x kind room waiting (total held)
 
-  abbrev pub of_semaphore : Store X W
+  abbrev pub of_semaphore : Store X
   of_semaphore = record {
     history = λ x. of_permits (s.entries x);
-    number = s.number;
     funded = IsFundedFor;
     has = s.has;
   }

@@ -36,7 +36,7 @@ pub record IsCountable (resources : ℕ) (job : Job) : Type 0 where
 abbrev pub takes_of : List Job → ℕ → ℕ
 takes_of jobs at = sum_by (λ job. count_by (is_take at) job.steps) jobs
 
-module _ {X W : Type 0} (s : Store X W) where
+module _ {X : Type 0} (s : Store X) where
   -- something for each of the first resources, with room for so many takes
   pub record AreOpened (resources : List Resource) (room : List ℕ) (soles : List X) : Type 0 where
     pub each : (at : ℕ) (resource : Resource) (sole : X) → slice_get resources at ≡ Some resource
@@ -44,7 +44,7 @@ module _ {X W : Type 0} (s : Store X W) where
         → IsOpened s resource.kind (slice_index room at) sole
 
   -- nothing has happened, and there is memory for all that a plan's takes can lead to
-  pub record IsOpening (plan : Plan) (l : Ledger X W) : Type 0 where
+  pub record IsOpening (plan : Plan) (l : Ledger X) : Type 0 where
     pub kinds : l.kinds ≡ kinds_of plan.resources
     pub long : length l.soles ≡ length plan.resources
     pub soles : AreOpened plan.resources l.room l.soles

@@ -12,8 +12,9 @@ use Rattle.cqs_core.specs.SemaphoreShown.{IsCore, shown}
 use Rattle.cqs_core.specs.SemaphoreTable.{Shape, last_number}
 use Rattle.cqs_core.specs.SoleCaller.{HasWait, IsSoleCall, NoneTaken, ShowsNext}
 use Rattle.cqs_plan.specs.Floor.{size_of}
+use Rattle.cqs_rule.specs.declared.config.Place.{Place}
+use Rattle.cqs_rule.specs.Placed.{place_at}
 use Rattle.cqs_cli.specs.declared.floors.any_sole.AnySole.{AnySole}
-use Rattle.cqs_cli.specs.declared.floors.any_sole.AnyWait.{AnyWait}
 use Rattle.cqs_cli.specs.AnySoles.{store_any}
 use Rattle.cqs_cli.specs.Soles.{Sole}
 use Rattle.cqs_cli.specs.Stores.{Store}
@@ -64,23 +65,22 @@ pub record IsFunded (core : Room) (size room waiting held : ℕ) : Type 0 where
   pub spare : 9 * room + 6 * waiting + 3 * held ≤ core.spare
   pub holds : slice_index core.shape.held 0 ≡ held
 
--- a core with one pass, as a floor sees it: a wait is its number
-abbrev pub sole_core : Sole Room ℕ
+-- a core with one pass, as a floor sees it: a wait's cell is the one of its number, in no word
+abbrev pub sole_core : Sole Room
 sole_core = record {
   entries = λ core. core.shape.history;
-  number = λ wait. wait;
   funded = λ core kind. IsFunded core (size_of kind);
-  has = λ core wait. HasWait wait 0 (shown core.shape);
+  has = λ core wait. HasWait wait.index 0 (shown core.shape);
 }
 
 -- what a resource is on a floor of cores
-abbrev pub store_core : Store (AnySole Room) (AnyWait ℕ)
+abbrev pub store_core : Store (AnySole Room)
 store_core = store_any sole_core
 
 -- what the replies tell of a wait that came, of the wait that a permit was sent to, and of a wait
 -- that left the line
-abbrev pub wait_in : Reply → Option ℕ
-wait_in (reply.Later wait) = Some wait
+abbrev pub wait_in : Reply → Option Place
+wait_in (reply.Later wait) = Some (place_at 0 wait)
 wait_in reply.Now = None
 wait_in (reply.Took wait) = None
 wait_in reply.Got = None

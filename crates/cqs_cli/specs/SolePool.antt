@@ -11,14 +11,13 @@ use Rattle.cqs_pool.specs.Alone.{IsOnlyCaller}
 use Rattle.cqs_pool.specs.Calls.{IsMine, IsReady, plain_after}
 use Rattle.cqs_pool.specs.Causes.{drawn_in}
 use Rattle.cqs_pool.specs.Elements.{number_of}
-use Rattle.cqs_rule.specs.declared.queue.tokens.Wait.{Wait}
 use Rattle.cqs_rule.specs.declared.view.View.{View}
 use Rattle.cqs_rule.specs.Lists.{Has}
 use Rattle.cqs_rule.specs.Passes.{pass_view}
-use Rattle.cqs_rule.specs.Waits.{HasWait, place_of}
 use Rattle.cqs_cli.specs.declared.floors.pool_sole.HeldElement.{HeldElement}
 use Rattle.cqs_cli.specs.declared.floors.pool_sole.PoolSole.{PoolSole}
 use Rattle.cqs_cli.specs.Stores.{Store, held_by}
+use Rattle.cqs_cli.specs.Waits.{WaitsAt}
 
 -- an entry is news, but for a look that found nothing new
 abbrev pub is_news : PoolEntry → Bool
@@ -82,10 +81,9 @@ pub record IsFunded (x : PoolSole) (kind : Option Kind) (room waiting : ℕ)
   pub line : x.line ≡ length (plain_after (pass_view x.pass)).line
   pub few_wait : x.line + room ≤ 1048576
 
-abbrev pub store_pool : Store PoolSole Wait
+abbrev pub store_pool : Store PoolSole
 store_pool = record {
   history = λ x. of_elements (news (pass_view x.pass).seen);
-  number = λ wait. (place_of wait).index;
   funded = IsFunded;
-  has = λ x wait. HasWait (pass_view x.pass) wait;
+  has = λ x wait. WaitsAt (pass_view x.pass) wait;
 }

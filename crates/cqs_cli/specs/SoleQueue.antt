@@ -6,20 +6,17 @@ use Rattle.cqs_core.specs.SemaphoreObject as plain
 use Rattle.cqs_plan.specs.declared.plans.kind.Kind.{Kind}
 use Rattle.cqs_plan.specs.declared.plans.kind.Kind.TheVariants.{Semaphore, Mutex, Pool, Latch, Rounds}
 use Rattle.cqs_plan.specs.Floor.{size_of}
-use Rattle.cqs_rule.specs.declared.queue.tokens.Wait.{Wait}
 use Rattle.cqs_rule.specs.declared.semaphore.carries.Kept.{Kept}
 use Rattle.cqs_rule.specs.declared.view.View.{View}
 use Rattle.cqs_rule.specs.Lists.{Has}
 use Rattle.cqs_rule.specs.Passes.{pass_view}
-use Rattle.cqs_rule.specs.Waits.{HasWait, place_of}
 use Rattle.cqs_semaphore.specs.Calls.{IsMine, IsReady, plain_after}
 use Rattle.cqs_semaphore.specs.Causes.{drawn_in}
-use Rattle.cqs_mutex.specs.declared.guard.LockWait.{LockWait}
-use Rattle.cqs_mutex.specs.Guards.{wait_in}
 use Rattle.cqs_mutex.specs.Mutexes.{Belongs}
 use Rattle.cqs_cli.specs.declared.floors.mutex_sole.MutexSole.{MutexSole}
 use Rattle.cqs_cli.specs.declared.floors.queue_sole.QueueSole.{QueueSole}
 use Rattle.cqs_cli.specs.Soles.{Sole}
+use Rattle.cqs_cli.specs.Waits.{WaitsAt}
 
 -- an entry is news, but for a look that found nothing new
 abbrev pub is_news : Entry → Bool
@@ -62,17 +59,16 @@ module _ {T : Type 0} where
     pub holds : v.facts.has.held ≡ held
 
 -- One of the running queue with its one pass, as a floor sees it: of which kinds of resource it is,
--- whether the pass is its own, what the pass has seen, how much its caller holds and for how much
--- of that there is memory, and the token of a wait.
-pub record OnePass (X W T : Type 0) : Type 1 where
+-- whether the pass is its own, what the pass has seen, and how much its caller holds and for how
+-- much of that there is memory.
+pub record OnePass (X T : Type 0) : Type 1 where
   pub sort : Option Kind → Type 0
   pub mine : X → Type 0
   pub view : X → View Entry T
   pub held : X → ℕ
   pub space : X → ℕ
-  pub token : W → Wait
 
-module _ {X W T : Type 0} (q : OnePass X W T) where
+module _ {X T : Type 0} (q : OnePass X T) where
   -- It is of the kind, and the pass is its own; there is a permit for each that is held, and place
   -- for each that can still come.
   pub record IsFunded (x : X) (kind : Option Kind) (room waiting held : ℕ) : Type 0 where
@@ -82,12 +78,11 @@ module _ {X W T : Type 0} (q : OnePass X W T) where
     pub permits : q.held x ≡ held
     pub spare : room + waiting + held ≤ q.space x
 
-  abbrev pub sole_of : Sole X W
+  abbrev pub sole_of : Sole X
   sole_of = record {
     entries = λ x. news (q.view x).seen;
-    number = λ wait. (place_of (q.token wait)).index;
     funded = IsFunded;
-    has = λ x wait. HasWait (q.view x) (q.token wait);
+    has = λ x wait. WaitsAt (q.view x) wait;
   }
 
 abbrev pub IsSemaphore : Option Kind → Type 0
@@ -107,29 +102,27 @@ IsMutex (Some (Rounds parties rounds)) = ⊥
 IsMutex None = ⊥
 
 -- a semaphore, and the permits that its caller holds
-abbrev pub semaphore_pass : OnePass QueueSole Wait (Unit {0})
+abbrev pub semaphore_pass : OnePass QueueSole (Unit {0})
 semaphore_pass = record {
   sort = IsSemaphore;
   mine = λ x. IsMine x.semaphore x.pass;
   view = λ x. pass_view x.pass;
   held = λ x. length x.permits.items;
   space = λ x. vec_capacity x.permits;
-  token = λ wait. wait;
 }
 
-abbrev pub sole_queue : Sole QueueSole Wait
+abbrev pub sole_queue : Sole QueueSole
 sole_queue = sole_of semaphore_pass
 
 -- a mutex, and the guards that its caller has
-abbrev pub mutex_pass : OnePass MutexSole LockWait (Kept (Unit {0}))
+abbrev pub mutex_pass : OnePass MutexSole (Kept (Unit {0}))
 mutex_pass = record {
   sort = IsMutex;
   mine = λ x. Belongs x.mutex x.pass;
   view = λ x. pass_view x.pass;
   held = λ x. length x.guards.items;
   space = λ x. vec_capacity x.guards;
-  token = wait_in;
 }
 
-abbrev pub sole_mutex : Sole MutexSole LockWait
+abbrev pub sole_mutex : Sole MutexSole
 sole_mutex = sole_of mutex_pass

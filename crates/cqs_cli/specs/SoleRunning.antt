@@ -2,15 +2,13 @@
 use Rattle.std.specs.Prelude.{◌≡◌, ℕ, true, List, Option}
 use Rattle.cqs_core.specs.declared.entries.Entry.{Entry}
 use Rattle.cqs_plan.specs.declared.plans.kind.Kind.{Kind}
+use Rattle.cqs_rule.specs.declared.config.Place.{Place}
 use Rattle.cqs_rule.specs.Passes.{pass_view}
 use Rattle.cqs_cli.specs.declared.floors.running_sole.RunningSole.{RunningSole}
 use Rattle.cqs_cli.specs.declared.floors.running_sole.RunningSole.TheVariants.{Semaphore, Mutex}
-use Rattle.cqs_cli.specs.declared.floors.running_sole.RunningWait.{RunningWait}
-use Rattle.cqs_cli.specs.declared.floors.running_sole.RunningWait.TheVariants as wait
 use Rattle.cqs_pool.specs.Calls.{IsMine}
 use Rattle.cqs_cli.specs.declared.floors.any_sole.AnySole.{AnySole}
 use Rattle.cqs_cli.specs.declared.floors.any_sole.AnySole.TheVariants as any
-use Rattle.cqs_cli.specs.declared.floors.any_sole.AnyWait.{AnyWait}
 use Rattle.cqs_cli.specs.AnySoles.{store_any}
 use Rattle.cqs_cli.specs.SolePool.{IsPool}
 use Rattle.cqs_cli.specs.Soles.{Sole}
@@ -22,39 +20,23 @@ abbrev pub entries_seen : RunningSole → List Entry
 entries_seen (Semaphore x) = sole_queue.entries x
 entries_seen (Mutex x) = sole_mutex.entries x
 
-abbrev pub number_of : RunningWait → ℕ
-number_of (wait.Semaphore w) = sole_queue.number w
-number_of (wait.Mutex w) = sole_mutex.number w
-
 abbrev pub IsFundedHere : RunningSole → Option Kind → ℕ → ℕ → ℕ → Type 0
 IsFundedHere (Semaphore x) kind room waiting held = sole_queue.funded x kind room waiting held
 IsFundedHere (Mutex x) kind room waiting held = sole_mutex.funded x kind room waiting held
 
-abbrev pub IsForSemaphore : RunningWait → Type 0
-IsForSemaphore (wait.Semaphore w) = Unit {0}
-IsForSemaphore (wait.Mutex w) = ⊥
+abbrev pub HasHere : RunningSole → Place → Type 0
+HasHere (Semaphore x) wait = sole_queue.has x wait
+HasHere (Mutex x) wait = sole_mutex.has x wait
 
-abbrev pub IsForMutex : RunningWait → Type 0
-IsForMutex (wait.Semaphore w) = ⊥
-IsForMutex (wait.Mutex w) = Unit {0}
-
--- no wait for a semaphore is one for a mutex
-abbrev pub HasHere : RunningSole → RunningWait → Type 0
-HasHere (Semaphore x) (wait.Semaphore w) = sole_queue.has x w
-HasHere (Semaphore x) (wait.Mutex w) = ⊥
-HasHere (Mutex x) (wait.Semaphore w) = ⊥
-HasHere (Mutex x) (wait.Mutex w) = sole_mutex.has x w
-
-abbrev pub sole_running : Sole RunningSole RunningWait
+abbrev pub sole_running : Sole RunningSole
 sole_running = record {
   entries = entries_seen;
-  number = number_of;
   funded = IsFundedHere;
   has = HasHere;
 }
 
 -- what a resource is on a floor of the running queue
-abbrev pub store_running : Store (AnySole RunningSole) (AnyWait RunningWait)
+abbrev pub store_running : Store (AnySole RunningSole)
 store_running = store_any sole_running
 
 -- It is what a resource of this kind is on the running queue, and has one pass, which is its own: a

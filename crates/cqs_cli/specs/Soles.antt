@@ -10,6 +10,7 @@ use Rattle.cqs_core.specs.SemaphoreObject.{Semaphore}
 use Rattle.cqs_plan.specs.declared.plans.kind.Kind.{Kind}
 use Rattle.cqs_plan.specs.declared.plans.kind.Kind.TheVariants as kind
 use Rattle.cqs_plan.specs.Floor.{size_of}
+use Rattle.cqs_rule.specs.declared.config.Place.{Place}
 use Rattle.cqs_cli.specs.declared.floors.sole.Stand.{Stand}
 
 -- a resource of this kind is a semaphore, or is one of one permit
@@ -21,23 +22,21 @@ IsOfPermits (Some (kind.Latch count)) = ⊥
 IsOfPermits (Some (kind.Rounds parties rounds)) = ⊥
 IsOfPermits None = ⊥
 
--- What a floor sees of it, by the token that its caller has of a wait.
-pub record Sole (X W : Type 0) : Type 1 where
+-- What a floor sees of it. A wait is named by the place of its cell, whose number is the wait's.
+pub record Sole (X : Type 0) : Type 1 where
   -- its entries, without looks that found nothing new
   pub entries : X → List Entry
-  -- the number of a wait
-  pub number : W → ℕ
   -- It stands for a resource of this kind, and has room for so many takes, for the end of so many
   -- waits and for so many gives.
   pub funded : X → Option Kind → ℕ → ℕ → ℕ → Type 0
-  -- its caller has this wait
-  pub has : X → W → Type 0
+  -- its caller has the wait of this place
+  pub has : X → Place → Type 0
 
 -- whether the wait of this number stands in the line
 abbrev pub is_in_line : ℕ → List Waiting → Bool
 is_in_line k line = list_any (λ w. w.wait == k) line
 
-module _ {X W : Type 0} (s : Sole X W) where
+module _ {X : Type 0} (s : Sole X) where
   -- the plain semaphore after its entries
   abbrev pub object : Option Kind → X → Semaphore
   object kind x = object_after (size_of kind) (s.entries x)
@@ -49,8 +48,8 @@ module _ {X W : Type 0} (s : Sole X W) where
         → s.funded x kind room waiting held → 0 < size_of kind
     pub legal : (x : X) (kind : Option Kind) (room waiting held : ℕ)
         → s.funded x kind room waiting held → IsLegal (size_of kind) (s.entries x)
-    pub numbered : (x : X) (wait : W) (kind : Option Kind) (room waiting held : ℕ)
-        → s.funded x kind room waiting held → s.has x wait → s.number wait < (object kind x).next
+    pub numbered : (x : X) (wait : Place) (kind : Option Kind) (room waiting held : ℕ)
+        → s.funded x kind room waiting held → s.has x wait → wait.index < (object kind x).next
 
   -- all its permits are free, and it has room for so many takes
   pub record IsOpened (kind : Option Kind) (takes : ℕ) (x : X) : Type 0 where
@@ -65,10 +64,10 @@ module _ {X W : Type 0} (s : Sole X W) where
 
   -- its caller has all waits on; or all but that of this number
   abbrev pub KeepsAll : X → X → Type 0
-  KeepsAll x y = (wait : W) → s.has x wait → s.has y wait
+  KeepsAll x y = (wait : Place) → s.has x wait → s.has y wait
 
   abbrev pub KeepsOthers : X → ℕ → X → Type 0
-  KeepsOthers x k y = (wait : W) → s.number wait ≢ k → s.has x wait → s.has y wait
+  KeepsOthers x k y = (wait : Place) → wait.index ≢ k → s.has x wait → s.has y wait
 
   -- where its state may be asked, and where one may take, give back, or end a wait
   pub record IsFundedFor (kind : Option Kind) (x : X) : Type 0 where
@@ -96,7 +95,7 @@ module _ {X W : Type 0} (s : Sole X W) where
     pub funded : s.funded x kind room waiting held
     pub some : 0 < held
 
-  pub record CanEnd (wait : W) (x : X) : Type 0 where
+  pub record CanEnd (wait : Place) (x : X) : Type 0 where
     pub kind : Option Kind
     pub room : ℕ
     pub waiting : ℕ
@@ -112,16 +111,16 @@ module _ {X W : Type 0} (s : Sole X W) where
     pub keeps : KeepsAll x y
 
   -- none is free, and the caller goes by the door to the end of the line, under the next number
-  pub record TakesWait (wait : W) (kind : Option Kind) (room waiting held : ℕ) (x y : X)
+  pub record TakesWait (wait : Place) (kind : Option Kind) (room waiting held : ℕ) (x y : X)
       : Type 0 where
     pub none : nat_lt 0 (object kind x).free ≡ false
-    pub number : s.number wait ≡ (object kind x).next
+    pub number : wait.index ≡ (object kind x).next
     pub goes : Goes x (entry.TakeDoor 0 ∷ entry.Enter 0 (object kind x).next ∷ [])
         kind (room - 1) (waiting + 1) held y
     pub has : s.has y wait
     pub keeps : KeepsAll x y
 
-  abbrev pub Acquires : X → Option W → X → Type 0
+  abbrev pub Acquires : X → Option Place → X → Type 0
   Acquires x None y =
       (kind : Option Kind) (room waiting held : ℕ) → s.funded x kind room waiting held → 0 < room
       → TakesFree kind room waiting held x y
@@ -150,40 +149,39 @@ module _ {X W : Type 0} (s : Sole X W) where
       → Sends k kind room waiting held x y
 
   -- the wait stands in the line, and nothing changes
-  pub record StaysInLine (wait : W) (kind : Option Kind) (room waiting held : ℕ) (x y : X)
+  pub record StaysInLine (wait : Place) (kind : Option Kind) (room waiting held : ℕ) (x y : X)
       : Type 0 where
-    pub found : is_in_line (s.number wait) (object kind x).line ≡ true
+    pub found : is_in_line (wait.index) (object kind x).line ≡ true
     pub goes : Goes x [] kind room waiting held y
     pub keeps : KeepsAll x y
 
   -- The wait, which stood in the line or didn't, is over by this entry, and the caller then holds
   -- so many permits.
-  pub record EndsWait (wait : W) (in_line : Bool) (e : Entry) (then : ℕ) (kind : Option Kind)
+  pub record EndsWait (wait : Place) (in_line : Bool) (e : Entry) (then : ℕ) (kind : Option Kind)
       (room waiting : ℕ) (x y : X) : Type 0 where
-    pub found : is_in_line (s.number wait) (object kind x).line ≡ in_line
+    pub found : is_in_line (wait.index) (object kind x).line ≡ in_line
     pub goes : Goes x (e ∷ []) kind room (waiting - 1) then y
-    pub keeps : KeepsOthers x (s.number wait) y
+    pub keeps : KeepsOthers x (wait.index) y
 
-  -- a look: a wait that stands in the line comes back, and of one that was served the caller has
-  -- the permit
-  abbrev pub Polls : X → W → Option W → X → Type 0
-  Polls x wait (Some back) y =
-      (back ≡ wait)
-      × ((kind : Option Kind) (room waiting held : ℕ) → s.funded x kind room waiting held
-      → 0 < waiting → StaysInLine wait kind room waiting held x y)
-  Polls x wait None y =
+  -- a look: a wait that was served is over, and the caller has the permit; else it stands in the
+  -- line, and goes on
+  abbrev pub Polls : X → Place → Bool → X → Type 0
+  Polls x wait true y =
       (kind : Option Kind) (room waiting held : ℕ) → s.funded x kind room waiting held → 0 < waiting
-      → EndsWait wait false (entry.LookGranted 0 (s.number wait)) (held + 1) kind room waiting x y
+      → EndsWait wait false (entry.LookGranted 0 wait.index) (held + 1) kind room waiting x y
+  Polls x wait false y =
+      (kind : Option Kind) (room waiting held : ℕ) → s.funded x kind room waiting held → 0 < waiting
+      → StaysInLine wait kind room waiting held x y
 
   -- a cancel: a wait that stands in the line is gone, and of one that was served the caller has
   -- the permit
-  abbrev pub Cancels : X → W → Bool → X → Type 0
+  abbrev pub Cancels : X → Place → Bool → X → Type 0
   Cancels x wait true y =
       (kind : Option Kind) (room waiting held : ℕ) → s.funded x kind room waiting held → 0 < waiting
-      → EndsWait wait true (entry.Leave 0 (s.number wait)) held kind room waiting x y
+      → EndsWait wait true (entry.Leave 0 (wait.index)) held kind room waiting x y
   Cancels x wait false y =
       (kind : Option Kind) (room waiting held : ℕ) → s.funded x kind room waiting held → 0 < waiting
-      → EndsWait wait false (entry.Late 0 (s.number wait)) (held + 1) kind room waiting x y
+      → EndsWait wait false (entry.Late 0 (wait.index)) (held + 1) kind room waiting x y
 
   -- so many permits are free, and so many waits stand in the line; all other permits are held
   pub record Stands (kind : Option Kind) (room waiting held : ℕ) (x : X) (stand : Stand) (y : X)

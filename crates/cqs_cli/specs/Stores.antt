@@ -1,6 +1,6 @@
 -- A resource with one caller, who makes one whole call after the other for the jobs of a plan, as a
 -- floor sees it; and what its calls answer and leave, in the words of the plain floor.
-use Rattle.std.specs.Prelude.{◌≡◌, ◌≢◌, ℕ, ◌+◌, ◌-◌, ◌<◌, ◌==◌, nat_lt, Bool, true, false, List, [], ◌∷◌, ◌++◌, drop, length, replicate, Option, Some, slice_get, slice_index_or, slice_set}
+use Rattle.std.specs.Prelude.{◌≡◌, ◌≢◌, ℕ, ◌+◌, ◌-◌, ◌<◌, ◌==◌, nat_lt, Bool, true, false, List, [], ◌∷◌, ◌++◌, drop, length, replicate, Option, Some, None, slice_get, slice_index_or, slice_set}
 use Rattle.std.specs.List.{list_any}
 use Rattle.cqs_core.specs.QueueLine.{Waiting}
 use Rattle.cqs_core.specs.SemaphoreEntries.{IsFirst}
@@ -14,22 +14,19 @@ use Rattle.cqs_plan.specs.declared.plans.kind.Kind.{Kind}
 use Rattle.cqs_plan.specs.Floor.{size_of}
 use Rattle.cqs_plan.specs.FloorHistory.{History, Deed, Standing, takes, joins, frees, sends, gets, leaves, is_late, with_deed, standing, first_free, came_for, no_history}
 use Rattle.cqs_plan.specs.LegalFloor.{IsHistory}
+use Rattle.cqs_rule.specs.declared.config.Place.{Place}
 use Rattle.cqs_cli.specs.declared.floors.sole_resource.Taken.{Taken}
 use Rattle.cqs_cli.specs.declared.floors.sole_resource.Taken.TheVariants.{Now, Waits}
-use Rattle.cqs_cli.specs.declared.floors.sole_resource.Looked.{Looked}
-use Rattle.cqs_cli.specs.declared.floors.sole_resource.Looked.TheVariants.{Pending, Granted}
 
--- What a floor sees of it, by the token that its caller has of a wait.
-pub record Store (X W : Type 0) : Type 1 where
+-- What a floor sees of it. A wait is named by the place of its cell, whose number is the wait's.
+pub record Store (X : Type 0) : Type 1 where
   -- what happened to it, without looks that found nothing new
   pub history : X → History
-  -- the number of a wait
-  pub number : W → ℕ
   -- It stands for a resource of this kind, has room for so many takes and for the end of so many
   -- waits, and each job holds these elements of it, oldest first. Permits have the number 0.
   pub funded : X → Option Kind → ℕ → ℕ → List (List ℕ) → Type 0
-  -- its caller has this wait
-  pub has : X → W → Type 0
+  -- its caller has the wait of this place
+  pub has : X → Place → Type 0
 
 -- what a job holds of it
 abbrev pub held_by : List (List ℕ) → ℕ → List ℕ
@@ -46,7 +43,7 @@ with_less held job = slice_set held job (drop 1 (held_by held job))
 abbrev pub is_in_line : ℕ → List Waiting → Bool
 is_in_line k line = list_any (λ w. w.wait == k) line
 
-module _ {X W : Type 0} (s : Store X W) where
+module _ {X : Type 0} (s : Store X) where
   -- how it stands
   abbrev pub stands : Option Kind → X → Standing
   stands kind x = standing (size_of kind) (s.history x)
@@ -56,9 +53,9 @@ module _ {X W : Type 0} (s : Store X W) where
   pub record IsLawful : Type 0 where
     pub legal : (x : X) (kind : Kind) (room waiting : ℕ) (held : List (List ℕ))
         → s.funded x (Some kind) room waiting held → IsHistory kind (s.history x)
-    pub numbered : (x : X) (wait : W) (kind : Option Kind) (room waiting : ℕ)
+    pub numbered : (x : X) (wait : Place) (kind : Option Kind) (room waiting : ℕ)
         (held : List (List ℕ)) → s.funded x kind room waiting held → s.has x wait
-        → s.number wait < (stands kind x).next
+        → wait.index < (stands kind x).next
 
   -- nothing has happened, and it has room for so many takes
   pub record IsOpened (kind : Kind) (room : ℕ) (x : X) : Type 0 where
@@ -76,14 +73,14 @@ module _ {X W : Type 0} (s : Store X W) where
       : Type 0 where
     pub same : s.history y ≡ s.history x
     pub funded : s.funded y kind room waiting held
-    pub keeps : (wait : W) → s.has x wait → s.has y wait
+    pub keeps : (wait : Place) → s.has x wait → s.has y wait
 
   -- its caller has all waits on; or all but that of this number
   abbrev pub KeepsAll : X → X → Type 0
-  KeepsAll x y = (wait : W) → s.has x wait → s.has y wait
+  KeepsAll x y = (wait : Place) → s.has x wait → s.has y wait
 
   abbrev pub KeepsOthers : X → ℕ → X → Type 0
-  KeepsOthers x k y = (wait : W) → s.number wait ≢ k → s.has x wait → s.has y wait
+  KeepsOthers x k y = (wait : Place) → wait.index ≢ k → s.has x wait → s.has y wait
 
   -- where a job may take, give back, or end a wait
   pub record CanAcquire (job : ℕ) (x : X) : Type 0 where
@@ -103,7 +100,7 @@ module _ {X W : Type 0} (s : Store X W) where
     pub funded : s.funded x kind room waiting held
     pub some : 0 < length (held_by held job)
 
-  pub record CanEnd (job : ℕ) (wait : W) (x : X) : Type 0 where
+  pub record CanEnd (job : ℕ) (wait : Place) (x : X) : Type 0 where
     pub kind : Option Kind
     pub room : ℕ
     pub waiting : ℕ
@@ -129,15 +126,15 @@ module _ {X W : Type 0} (s : Store X W) where
     pub keeps : KeepsAll x y
 
   -- none is free, and the job goes to the end of the line, under the next number
-  pub record TakesWait (wait : W) (kind : Option Kind) (room waiting : ℕ) (held : List (List ℕ))
+  pub record TakesWait (wait : Place) (kind : Option Kind) (room waiting : ℕ) (held : List (List ℕ))
       (x y : X) : Type 0 where
     pub none : nat_lt 0 (stands kind x).free ≡ false
-    pub number : s.number wait ≡ (stands kind x).next
+    pub number : wait.index ≡ (stands kind x).next
     pub goes : Goes x (joins (stands kind x).next) kind (room - 1) (waiting + 1) held y
     pub has : s.has y wait
     pub keeps : KeepsAll x y
 
-  abbrev pub Acquires : ℕ → X → Taken W → X → Type 0
+  abbrev pub Acquires : ℕ → X → Taken → X → Type 0
   Acquires job x (Now element) y =
       (kind : Option Kind) (room waiting : ℕ) (held : List (List ℕ))
       → s.funded x kind room waiting held → 0 < room → job < length held
@@ -168,44 +165,43 @@ module _ {X W : Type 0} (s : Store X W) where
       × ComesBack job element (sends element k) kind room waiting held x y
 
   -- the wait, which stood in the line or didn't, is over by this deed, and the jobs then hold so
-  pub record EndsWait (wait : W) (in_line : Bool) (deed : Deed) (after : List (List ℕ))
+  pub record EndsWait (wait : Place) (in_line : Bool) (deed : Deed) (after : List (List ℕ))
       (kind : Option Kind) (room waiting : ℕ) (x y : X) : Type 0 where
-    pub found : is_in_line (s.number wait) (stands kind x).line ≡ in_line
+    pub found : is_in_line (wait.index) (stands kind x).line ≡ in_line
     pub goes : Goes x deed kind room (waiting - 1) after y
-    pub keeps : KeepsOthers x (s.number wait) y
+    pub keeps : KeepsOthers x (wait.index) y
 
   -- the element is the one that came for the wait
-  abbrev pub Came : W → ℕ → Option Kind → X → Type 0
-  Came wait element kind x = element ≡ came_for (size_of kind) (s.history x) (s.number wait)
+  abbrev pub Came : Place → ℕ → Option Kind → X → Type 0
+  Came wait element kind x = element ≡ came_for (size_of kind) (s.history x) (wait.index)
 
-  -- a look: a wait that stands in the line comes back, and of one that was served the job has what
+  -- a look: a wait that stands in the line goes on, and of one that was served the job has what
   -- came
-  abbrev pub Polls : ℕ → X → W → Looked W → X → Type 0
-  Polls job x wait (Pending back) y =
-      (back ≡ wait)
-      × ((kind : Option Kind) (room waiting : ℕ) (held : List (List ℕ))
+  abbrev pub Polls : ℕ → X → Place → Option ℕ → X → Type 0
+  Polls job x wait None y =
+      (kind : Option Kind) (room waiting : ℕ) (held : List (List ℕ))
       → s.funded x kind room waiting held → 0 < waiting → job < length held
-      → (is_in_line (s.number wait) (stands kind x).line ≡ true)
-      × Rests x kind room waiting held y)
-  Polls job x wait (Granted element) y =
+      → (is_in_line wait.index (stands kind x).line ≡ true)
+      × Rests x kind room waiting held y
+  Polls job x wait (Some element) y =
       (kind : Option Kind) (room waiting : ℕ) (held : List (List ℕ))
       → s.funded x kind room waiting held → 0 < waiting → job < length held
       → Came wait element kind x
-      × EndsWait wait false (gets (s.number wait) element) (with_more held job element) kind room
+      × EndsWait wait false (gets wait.index element) (with_more held job element) kind room
       waiting x y
 
   -- a cancel: a wait that stands in the line is gone, and of one that was served the job has what
   -- came
-  abbrev pub Cancels : ℕ → X → W → FloorLeave → X → Type 0
+  abbrev pub Cancels : ℕ → X → Place → FloorLeave → X → Type 0
   Cancels job x wait Gone y =
       (kind : Option Kind) (room waiting : ℕ) (held : List (List ℕ))
       → s.funded x kind room waiting held → 0 < waiting → job < length held
-      → EndsWait wait true (leaves (s.number wait)) held kind room waiting x y
+      → EndsWait wait true (leaves (wait.index)) held kind room waiting x y
   Cancels job x wait (Late element) y =
       (kind : Option Kind) (room waiting : ℕ) (held : List (List ℕ))
       → s.funded x kind room waiting held → 0 < waiting → job < length held
       → Came wait element kind x
-      × EndsWait wait false (is_late (s.number wait) element) (with_more held job element) kind
+      × EndsWait wait false (is_late (wait.index) element) (with_more held job element) kind
       room waiting x y
 
   -- the answer tells how it stands

@@ -1,15 +1,12 @@
 //! What each kind of resource is on a floor: a semaphore of the floor's own sort, or a pool.
 
-ghost use Rattle.std.specs.Prelude.{◌≡◌};
-ghost use Rattle.cqs_cli.specs.AnySoles.{IsForPermits, IsForPool, map_looked, map_taken};
-
 use super::permits;
 use super::pool_sole::PoolSole;
 use super::sole::{ForPermits, SoleSemaphore};
-use super::sole_resource::{ForEachKind, Looked, SoleResource, Taken};
+use super::sole_resource::{ForEachKind, SoleResource, Taken};
 use cqs_core::Memory;
 use cqs_plan::{FloorEnd, FloorGive, FloorLeave, Kind};
-use cqs_rule::Wait;
+use cqs_rule::Place;
 use std::alloc::Global;
 
 /// What a resource is kept as: one of which permits are taken, or a pool of the running queue.
@@ -19,31 +16,15 @@ pub enum AnySole<S> {
     Pool(PoolSole),
 }
 
-/// A wait for such a resource.
-#[derive(Drop)]
-pub enum AnyWait<W> {
-    Permits(W),
-    Pool(Wait),
-}
-
 impl<S: SoleSemaphore> SoleResource for AnySole<S> {
     ghost use Rattle.cqs_cli.specs.AnySoles.{store_any};
 
-    type Wait = AnyWait<S::Wait>;
-
     ghost store = { store_any S.sole };
 
-    fn number(wait: &AnyWait<S::Wait>) -> u64 {
-        match wait {
-            AnyWait::Permits(wait) => S::number(wait),
-            AnyWait::Pool(wait) => PoolSole::number(wait),
-        }
-    }
-
-    fn take(&mut self, job: u32) -> Taken<AnyWait<S::Wait>> {
+    fn take(&mut self, job: u32) -> Taken {
         match self {
-            AnySole::Permits(sole) => permits_taken(permits::take(sole, job)),
-            AnySole::Pool(sole) => pool_taken(sole.take(job)),
+            AnySole::Permits(sole) => permits::take(sole, job),
+            AnySole::Pool(sole) => sole.take(job),
         }
     }
 
@@ -54,17 +35,17 @@ impl<S: SoleSemaphore> SoleResource for AnySole<S> {
         }
     }
 
-    fn look(&mut self, job: u32, wait: AnyWait<S::Wait>) -> Looked<AnyWait<S::Wait>> {
+    fn look(&mut self, job: u32, wait: Place) -> Option<u32> {
         match self {
-            AnySole::Permits(sole) => permits_looked(permits::look(sole, job, of_permits(wait))),
-            AnySole::Pool(sole) => pool_looked(sole.look(job, of_pool(wait))),
+            AnySole::Permits(sole) => permits::look(sole, job, wait),
+            AnySole::Pool(sole) => sole.look(job, wait),
         }
     }
 
-    fn leave(&mut self, job: u32, wait: AnyWait<S::Wait>) -> FloorLeave {
+    fn leave(&mut self, job: u32, wait: Place) -> FloorLeave {
         match self {
-            AnySole::Permits(sole) => permits::leave(sole, job, of_permits(wait)),
-            AnySole::Pool(sole) => sole.leave(job, of_pool(wait)),
+            AnySole::Permits(sole) => permits::leave(sole, job, wait),
+            AnySole::Pool(sole) => sole.leave(job, wait),
         }
     }
 
@@ -89,61 +70,5 @@ impl<S: ForPermits> ForEachKind for AnySole<S> {
             }
             Kind::Latch(_) | Kind::Rounds { .. } => unreachable!(),
         }
-    }
-}
-
-fn permits_taken<W: Drop>(taken: Taken<W>) -> Taken<AnyWait<W>>
-    ensures { result ≡ map_taken AnyWait.Permits taken }
-{
-    match taken {
-        Taken::Now(element) => Taken::Now(element),
-        Taken::Waits(wait) => Taken::Waits(AnyWait::Permits(wait)),
-    }
-}
-
-fn pool_taken<W: Drop>(taken: Taken<Wait>) -> Taken<AnyWait<W>>
-    ensures { result ≡ map_taken AnyWait.Pool taken }
-{
-    match taken {
-        Taken::Now(element) => Taken::Now(element),
-        Taken::Waits(wait) => Taken::Waits(AnyWait::Pool(wait)),
-    }
-}
-
-fn permits_looked<W: Drop>(looked: Looked<W>) -> Looked<AnyWait<W>>
-    ensures { result ≡ map_looked AnyWait.Permits looked }
-{
-    match looked {
-        Looked::Pending(wait) => Looked::Pending(AnyWait::Permits(wait)),
-        Looked::Granted(element) => Looked::Granted(element),
-    }
-}
-
-fn pool_looked<W: Drop>(looked: Looked<Wait>) -> Looked<AnyWait<W>>
-    ensures { result ≡ map_looked AnyWait.Pool looked }
-{
-    match looked {
-        Looked::Pending(wait) => Looked::Pending(AnyWait::Pool(wait)),
-        Looked::Granted(element) => Looked::Granted(element),
-    }
-}
-
-fn of_permits<W: Drop>(wait: AnyWait<W>) -> W
-    requires { IsForPermits wait }
-    ensures { wait ≡ AnyWait.Permits result }
-{
-    match wait {
-        AnyWait::Permits(wait) => wait,
-        AnyWait::Pool(_) => unreachable!(),
-    }
-}
-
-fn of_pool<W: Drop>(wait: AnyWait<W>) -> Wait
-    requires { IsForPool wait }
-    ensures { wait ≡ AnyWait.Pool result }
-{
-    match wait {
-        AnyWait::Pool(wait) => wait,
-        AnyWait::Permits(_) => unreachable!(),
     }
 }

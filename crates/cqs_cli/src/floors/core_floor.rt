@@ -60,13 +60,11 @@ impl Floor for CoreFloor {
     }
 
     fn look(&mut self, job: u32) -> FloorLook {
-        let wait = self.desk.take_wait(job);
-        self.desk.look(job, wait)
+        self.desk.look(job)
     }
 
     fn leave(&mut self, job: u32) -> FloorLeave {
-        let wait = self.desk.take_wait(job);
-        self.desk.leave(job, wait)
+        self.desk.leave(job)
     }
 
     fn end(&mut self, at: u32) -> FloorEnd {

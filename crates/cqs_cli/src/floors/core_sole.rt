@@ -8,6 +8,7 @@ ghost use Rattle.cqs_cli.specs.SoleCore.{HasMade, IsReady, is_served_at};
 use super::sole::{ForPermits, SoleSemaphore, Stand, permits, stand_in};
 use cqs_core::{Call, Core, CoreCell, CoreState, Memory, Reply};
 use cqs_plan::Kind;
+use cqs_rule::Place;
 use std::alloc::Global;
 
 /// The entries for which a core needs memory, for each take: three for the take, three for the look
@@ -17,15 +18,9 @@ const ENTRIES_A_TAKE: u32 = 9;
 impl SoleSemaphore for Core {
     ghost use Rattle.cqs_cli.specs.SoleCore.{sole_core};
 
-    type Wait = u64;
-
     ghost sole = { sole_core };
 
-    fn number(wait: &u64) -> u64 {
-        *wait
-    }
-
-    fn acquire(&mut self) -> Option<u64> {
+    fn acquire(&mut self) -> Option<Place> {
         wait_in(call_core(self, Call::Acquire { pass: 0 }))
     }
 
@@ -33,16 +28,29 @@ impl SoleSemaphore for Core {
         sent_in(call_core(self, Call::Release { pass: 0 }))
     }
 
-    fn poll(&mut self, wait: u64) -> Option<u64> {
-        if !is_served(self, wait) {
-            return Some(wait);
+    fn poll(&mut self, wait: Place) -> bool {
+        let number = wait.index;
+        if !is_served(self, number) {
+            return false;
         }
-        call_core(self, Call::Poll { pass: 0, wait });
-        None
+        call_core(
+            self,
+            Call::Poll {
+                pass: 0,
+                wait: number,
+            },
+        );
+        true
     }
 
-    fn cancel(&mut self, wait: u64) -> bool {
-        has_left(call_core(self, Call::Cancel { pass: 0, wait }))
+    fn cancel(&mut self, wait: Place) -> bool {
+        has_left(call_core(
+            self,
+            Call::Cancel {
+                pass: 0,
+                wait: wait.index,
+            },
+        ))
     }
 
     fn stand(&mut self) -> Stand {
@@ -70,12 +78,15 @@ fn call_core(core: &mut Core, call: Call) -> Reply
     }
 }
 
-/// The wait that the reply tells of.
-fn wait_in(reply: Reply) -> Option<u64>
+/// The wait that the reply tells of: a core's cells stand where their numbers say, and in no word.
+fn wait_in(reply: Reply) -> Option<Place>
     ensures { result ≡ Rattle.cqs_cli.specs.SoleCore.wait_in reply }
 {
     match reply {
-        Reply::Later(wait) => Some(wait),
+        Reply::Later(wait) => Some(Place {
+            word: 0,
+            index: wait,
+        }),
         _ => None,
     }
 }

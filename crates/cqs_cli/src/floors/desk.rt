@@ -11,12 +11,22 @@
 //! first. A wait is kept twice: the machine reads the one in the job's progress, to tell its line,
 //! and the floor the one in `waits`, to ask its resource.
 
-ghost use Rattle.std.specs.Prelude.{◌≡◌, ◌<◌, Some, None, IsSome, length, slice_get, slice_index};
-ghost use Rattle.cqs_cli.specs.Ledger.{wait_at, with_wait};
-ghost use Rattle.cqs_cli.specs.DeskCalls.{CanEndAt, Ends, Gives, HasAt, Leaves, Looks, Takes};
+ghost use Rattle.std.specs.Prelude.{◌≡◌, ◌<◌, Some, length, slice_index};
+ghost use Rattle.cqs_cli.specs.DeskCalls.{
+  CanEndAt,
+  CanEndWait,
+  Ends,
+  Gives,
+  HasAt,
+  Leaves,
+  Looks,
+  Takes,
+};
+ghost use Rattle.cqs_cli.specs.Ledger.{wait_at};
 ghost use Rattle.cqs_cli.specs.Stores.{CanAcquire, CanEnd, CanRelease};
+ghost use Rattle.cqs_cli.specs.Waits.{place_in};
 
-use super::sole_resource::{Looked, SoleResource, Taken};
+use super::sole_resource::{SoleResource, Taken};
 use super::transfers::Transfer;
 use super::waits::Wait;
 use cqs_plan::{FloorEnd, FloorGive, FloorLeave, FloorLook, FloorTake, Kind};
@@ -29,7 +39,7 @@ pub struct Desk<S: SoleResource> {
     pub kinds: Vec<Kind>,
     pub soles: Vec<S>,
     pub room: Vec<u32>,
-    pub waits: Vec<Option<Wait<S::Wait>>>,
+    pub waits: Vec<Option<Wait>>,
     pub transfers: Vec<Transfer>,
 }
 
@@ -37,7 +47,7 @@ impl<S: SoleResource> Model for Desk<S> {
     ghost use Rattle.std.specs.Prelude.{◌-◌, vec_len, vec_capacity};
     ghost use Rattle.cqs_cli.specs.Ledger.{Ledger};
 
-    ghost Value = { Ledger S S.Wait };
+    ghost Value = { Ledger S };
 
     ghost view = { λ d. record {
       kinds = d.kinds.items;
@@ -66,10 +76,9 @@ impl<S: SoleResource> Desk<S> {
                     .push_reserved(Transfer::Got { job, at, element });
                 FloorTake::Now(element)
             }
-            Taken::Waits(token) => {
-                let number = S::number(&token);
-                self.waits[job as usize] = Some(Wait { at, token });
-                FloorTake::Waits(number)
+            Taken::Waits(place) => {
+                self.waits[job as usize] = Some(Wait::new(at, place));
+                FloorTake::Waits(place.index)
             }
         }
     }
@@ -84,32 +93,31 @@ impl<S: SoleResource> Desk<S> {
         self.soles[at as usize].give(job)
     }
 
-    /// Takes out the wait of a job that waits.
-    pub fn take_wait(&mut self, job: u32) -> Wait<S::Wait>
-        requires { IsSome (wait_at self.old job) }
-        ensures was { wait_at self.old job ≡ Some result }
-        ensures written { self.new ≡ with_wait self.old job None }
+    /// The wait of a job that waits.
+    #[inline]
+    fn wait_of(&self, job: u32) -> Wait
+        requires { CanEndWait S.store self.now job }
+        ensures was { wait_at self.now job ≡ Some result }
+        ensures sole { HasAt self.now.soles result.at (CanEnd S.store job (place_in result)) }
     {
-        let Some(wait) = self.waits[job as usize].take() else {
-            unreachable!()
-        };
-        wait
+        match self.waits[job as usize] {
+            Some(wait) => wait,
+            None => unreachable!(),
+        }
     }
 
-    /// The job, whose wait was taken out, looks at it.
-    pub fn look(&mut self, job: u32, wait: Wait<S::Wait>) -> FloorLook
-        requires sole { HasAt self.old.soles wait.at (CanEnd S.store job wait.token) }
-        requires job { job < length self.old.waits }
+    /// The job looks at its wait. While that goes on nothing is written.
+    pub fn look(&mut self, job: u32) -> FloorLook
+        requires wait { CanEndWait S.store self.old job }
         requires spare { 0 < self.old.spare }
-        ensures { Looks S.store self.old job wait result self.new }
+        ensures { Looks S.store self.old job result self.new }
     {
-        let Wait { at, token } = wait;
-        match self.soles[at as usize].look(job, token) {
-            Looked::Pending(token) => {
-                self.waits[job as usize] = Some(Wait { at, token });
-                FloorLook::Pending
-            }
-            Looked::Granted(element) => {
+        let wait = self.wait_of(job);
+        let at = wait.at;
+        match self.soles[at as usize].look(job, wait.place()) {
+            None => FloorLook::Pending,
+            Some(element) => {
+                self.waits[job as usize] = None;
                 self.transfers
                     .push_reserved(Transfer::Got { job, at, element });
                 FloorLook::Granted(element)
@@ -117,14 +125,16 @@ impl<S: SoleResource> Desk<S> {
         }
     }
 
-    /// The job, whose wait was taken out, leaves the line, where that still stands there.
-    pub fn leave(&mut self, job: u32, wait: Wait<S::Wait>) -> FloorLeave
-        requires sole { HasAt self.old.soles wait.at (CanEnd S.store job wait.token) }
+    /// The job gives its wait up: it leaves the line, where the wait still stands there.
+    pub fn leave(&mut self, job: u32) -> FloorLeave
+        requires wait { CanEndWait S.store self.old job }
         requires spare { 0 < self.old.spare }
-        ensures { Leaves S.store self.old job wait result self.new }
+        ensures { Leaves S.store self.old job result self.new }
     {
-        let Wait { at, token } = wait;
-        match self.soles[at as usize].leave(job, token) {
+        let wait = self.wait_of(job);
+        self.waits[job as usize] = None;
+        let at = wait.at;
+        match self.soles[at as usize].leave(job, wait.place()) {
             FloorLeave::Gone => FloorLeave::Gone,
             FloorLeave::Late(element) => {
                 self.transfers

@@ -15,8 +15,8 @@ ghost use Rattle.cqs_cli.specs.SoleQueue.{sole_mutex};
 
 use super::sole::{SoleSemaphore, Stand, stand_in};
 use cqs_core::Memory;
-use cqs_mutex::{Guard, LockLeft, LockWait, Locked, Mutex, MutexPass, PolledLock};
-use cqs_rule::{Config, MakeError, Under};
+use cqs_mutex::{Guard, LockLeft, Locked, Mutex, MutexPass, PolledLock};
+use cqs_rule::{Config, MakeError, Place, Under};
 use cqs_semaphore::Released;
 use std::alloc::Global;
 
@@ -56,21 +56,15 @@ impl MutexSole {
 impl SoleSemaphore for MutexSole {
     ghost use Rattle.cqs_cli.specs.SoleQueue.{sole_mutex};
 
-    type Wait = LockWait;
-
     ghost sole = { sole_mutex };
 
-    fn number(wait: &LockWait) -> u64 {
-        wait.number()
-    }
-
-    fn acquire(&mut self) -> Option<LockWait> {
+    fn acquire(&mut self) -> Option<Place> {
         match self.mutex.lock(&mut self.pass) {
             Ok(Locked::Now(guard)) => {
                 self.guards.push_reserved(guard);
                 None
             }
-            Ok(Locked::Later(wait)) => Some(wait),
+            Ok(Locked::Later(wait)) => Some(self.mutex.spend_wait(&mut self.pass, wait)),
             Err(_) => unreachable!(),
         }
     }
@@ -89,18 +83,20 @@ impl SoleSemaphore for MutexSole {
         }
     }
 
-    fn poll(&mut self, wait: LockWait) -> Option<LockWait> {
-        match self.mutex.poll(&mut self.pass, wait) {
-            PolledLock::Pending(wait) => Some(wait),
+    fn poll(&mut self, wait: Place) -> bool {
+        let token = self.mutex.wait_of(&mut self.pass, wait);
+        match self.mutex.poll(&mut self.pass, token) {
+            PolledLock::Pending(_) => false,
             PolledLock::Granted(guard) => {
                 self.guards.push_reserved(guard);
-                None
+                true
             }
         }
     }
 
-    fn cancel(&mut self, wait: LockWait) -> bool {
-        match self.mutex.cancel(&mut self.pass, wait) {
+    fn cancel(&mut self, wait: Place) -> bool {
+        let token = self.mutex.wait_of(&mut self.pass, wait);
+        match self.mutex.cancel(&mut self.pass, token) {
             LockLeft::Cancelled(None) => true,
             // Nobody leaves the mutex to a pass that is alone, but no clause of a cancel says so.
             LockLeft::Cancelled(Some(under)) => {

@@ -92,7 +92,7 @@ fn total(room: &[u32]) -> usize
 }
 
 /// A list in which no job has a wait.
-fn no_waits<W: Drop>(alloc: Global, jobs: usize) -> Result<Vec<Option<Wait<W>>>, AllocError>
+fn no_waits(alloc: Global, jobs: usize) -> Result<Vec<Option<Wait>>, AllocError>
     ensures { IfOk result (λ waits. waits.items ≡ replicate jobs None) }
 {
     let mut waits = Vec::with_capacity(alloc, jobs)?;

@@ -14,11 +14,12 @@ ghost use Rattle.cqs_cli.specs.Stores.{
 };
 
 use super::sole::{SoleSemaphore, Stand, permits};
-use super::sole_resource::{Looked, Taken};
+use super::sole_resource::Taken;
 use cqs_plan::{FloorEnd, FloorGive, FloorLeave, Kind};
+use cqs_rule::Place;
 
 /// The job takes a permit, or waits.
-pub(super) fn take<S: SoleSemaphore>(sole: &mut S, job: u32) -> Taken<S::Wait>
+pub(super) fn take<S: SoleSemaphore>(sole: &mut S, job: u32) -> Taken
     requires { CanAcquire (of_semaphore S.sole) job sole.old }
     ensures { Acquires (of_semaphore S.sole) job sole.old result sole.new }
 {
@@ -42,19 +43,16 @@ pub(super) fn give<S: SoleSemaphore>(sole: &mut S, job: u32) -> FloorGive
 }
 
 /// The job looks at its wait.
-pub(super) fn look<S: SoleSemaphore>(sole: &mut S, job: u32, wait: S::Wait) -> Looked<S::Wait>
+pub(super) fn look<S: SoleSemaphore>(sole: &mut S, job: u32, wait: Place) -> Option<u32>
     requires { CanEnd (of_semaphore S.sole) job wait sole.old }
     ensures { Polls (of_semaphore S.sole) job sole.old wait result sole.new }
 {
     let _ = job;
-    match sole.poll(wait) {
-        Some(wait) => Looked::Pending(wait),
-        None => Looked::Granted(0),
-    }
+    if sole.poll(wait) { Some(0) } else { None }
 }
 
 /// The job gives its wait up.
-pub(super) fn leave<S: SoleSemaphore>(sole: &mut S, job: u32, wait: S::Wait) -> FloorLeave
+pub(super) fn leave<S: SoleSemaphore>(sole: &mut S, job: u32, wait: Place) -> FloorLeave
     requires { CanEnd (of_semaphore S.sole) job wait sole.old }
     ensures { Cancels (of_semaphore S.sole) job sole.old wait result sole.new }
 {

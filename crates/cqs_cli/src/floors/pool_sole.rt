@@ -14,11 +14,11 @@ ghost use Rattle.cqs_cli.specs.PoolEnds.{HasEnded, HasPlaced};
 ghost use Rattle.cqs_cli.specs.Stores.{IsOpened};
 ghost use Rattle.cqs_cli.specs.SolePool.{IsPool, elements_held, store_pool};
 
-use super::sole_resource::{Looked, SoleResource, Taken};
+use super::sole_resource::{SoleResource, Taken};
 use cqs_core::Memory;
 use cqs_plan::{FloorEnd, FloorGive, FloorLeave, Kind};
 use cqs_pool::{Element, Placed, Pool, PoolLeft, PoolPass, PoolPolled, Taking};
-use cqs_rule::{Config, MakeError, Under, Wait};
+use cqs_rule::{Config, MakeError, Place, Under};
 use std::alloc::Global;
 
 /// An element that a job holds.
@@ -70,15 +70,9 @@ impl PoolSole {
 impl SoleResource for PoolSole {
     ghost use Rattle.cqs_cli.specs.SolePool.{store_pool};
 
-    type Wait = Wait;
-
     ghost store = { store_pool };
 
-    fn number(wait: &Wait) -> u64 {
-        wait.number()
-    }
-
-    fn take(&mut self, job: u32) -> Taken<Wait> {
+    fn take(&mut self, job: u32) -> Taken {
         match self.pool.take(&mut self.pass) {
             Ok(Taking::Took(element)) => {
                 let number = element.number();
@@ -88,7 +82,7 @@ impl SoleResource for PoolSole {
             }
             Ok(Taking::Later(wait)) => {
                 self.line += 1;
-                Taken::Waits(wait)
+                Taken::Waits(self.pool.queue().spend_wait(&mut self.pass, wait))
             }
             Err(_) => unreachable!(),
         }
@@ -109,19 +103,21 @@ impl SoleResource for PoolSole {
         }
     }
 
-    fn look(&mut self, job: u32, wait: Wait) -> Looked<Wait> {
-        match self.pool.poll(&mut self.pass, wait) {
-            PoolPolled::Pending(wait) => Looked::Pending(wait),
+    fn look(&mut self, job: u32, wait: Place) -> Option<u32> {
+        let token = self.pool.queue().wait_of(&mut self.pass, wait);
+        match self.pool.poll(&mut self.pass, token) {
+            PoolPolled::Pending(_) => None,
             PoolPolled::Granted(element) => {
                 let number = element.number();
                 self.held.push_reserved(HeldElement { job, element });
-                Looked::Granted(number)
+                Some(number)
             }
         }
     }
 
-    fn leave(&mut self, job: u32, wait: Wait) -> FloorLeave {
-        match self.pool.cancel(&mut self.pass, wait) {
+    fn leave(&mut self, job: u32, wait: Place) -> FloorLeave {
+        let token = self.pool.queue().wait_of(&mut self.pass, wait);
+        match self.pool.cancel(&mut self.pass, token) {
             PoolLeft::Cancelled(None) => {
                 self.line -= 1;
                 FloorLeave::Gone

@@ -32,11 +32,9 @@ impl Model for QueueFloor {
     ghost use Rattle.cqs_cli.specs.Ledger.{Ledger};
     ghost use Rattle.cqs_cli.specs.SoleRunning.{store_running};
     ghost use Rattle.cqs_cli.specs.declared.floors.any_sole.AnySole as any;
-    ghost use Rattle.cqs_cli.specs.declared.floors.any_sole.AnyWait as waits;
     ghost use Rattle.cqs_cli.specs.declared.floors.running_sole.RunningSole as sole;
-    ghost use Rattle.cqs_cli.specs.declared.floors.running_sole.RunningWait as token;
 
-    ghost Value = { Ledger (any.AnySole sole.RunningSole) (waits.AnyWait token.RunningWait) };
+    ghost Value = { Ledger (any.AnySole sole.RunningSole) };
 
     ghost view = { λ floor. floor.desk };
 
@@ -74,13 +72,11 @@ impl Floor for QueueFloor {
     }
 
     fn look(&mut self, job: u32) -> FloorLook {
-        let wait = self.desk.take_wait(job);
-        self.desk.look(job, wait)
+        self.desk.look(job)
     }
 
     fn leave(&mut self, job: u32) -> FloorLeave {
-        let wait = self.desk.take_wait(job);
-        self.desk.leave(job, wait)
+        self.desk.leave(job)
     }
 
     fn end(&mut self, at: u32) -> FloorEnd {

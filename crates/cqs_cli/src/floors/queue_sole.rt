@@ -14,7 +14,7 @@ ghost use Rattle.cqs_cli.specs.SoleQueue.{sole_queue};
 
 use super::sole::{SoleSemaphore, Stand, stand_in};
 use cqs_core::Memory;
-use cqs_rule::{Config, MakeError, Under, Wait};
+use cqs_rule::{Config, MakeError, Place, Under};
 use cqs_semaphore::{Acquired, CancelAnswer, Permit, Polled, Released, SemPass, Semaphore};
 use std::alloc::Global;
 
@@ -55,21 +55,17 @@ impl QueueSole {
 impl SoleSemaphore for QueueSole {
     ghost use Rattle.cqs_cli.specs.SoleQueue.{sole_queue};
 
-    type Wait = Wait;
-
     ghost sole = { sole_queue };
 
-    fn number(wait: &Wait) -> u64 {
-        wait.number()
-    }
-
-    fn acquire(&mut self) -> Option<Wait> {
+    fn acquire(&mut self) -> Option<Place> {
         match self.semaphore.acquire(&mut self.pass) {
             Ok(Acquired::Now(permit)) => {
                 self.permits.push_reserved(permit);
                 None
             }
-            Ok(Acquired::Later(wait)) => Some(wait),
+            Ok(Acquired::Later(wait)) => {
+                Some(self.semaphore.queue().spend_wait(&mut self.pass, wait))
+            }
             Err(_) => unreachable!(),
         }
     }
@@ -88,18 +84,20 @@ impl SoleSemaphore for QueueSole {
         }
     }
 
-    fn poll(&mut self, wait: Wait) -> Option<Wait> {
-        match self.semaphore.poll(&mut self.pass, wait) {
-            Polled::Pending(wait) => Some(wait),
+    fn poll(&mut self, wait: Place) -> bool {
+        let token = self.semaphore.queue().wait_of(&mut self.pass, wait);
+        match self.semaphore.poll(&mut self.pass, token) {
+            Polled::Pending(_) => false,
             Polled::Granted(permit) => {
                 self.permits.push_reserved(permit);
-                None
+                true
             }
         }
     }
 
-    fn cancel(&mut self, wait: Wait) -> bool {
-        match self.semaphore.cancel(&mut self.pass, wait) {
+    fn cancel(&mut self, wait: Place) -> bool {
+        let token = self.semaphore.queue().wait_of(&mut self.pass, wait);
+        match self.semaphore.cancel(&mut self.pass, token) {
             CancelAnswer::Cancelled(None) => true,
             // Nobody leaves a permit to a pass that is alone, but no clause of a cancel says so.
             CancelAnswer::Cancelled(Some(under)) => {

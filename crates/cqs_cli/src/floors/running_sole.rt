@@ -1,16 +1,11 @@
 //! A semaphore or a mutex of the running queue, as the semaphore of a floor.
 
-ghost use Rattle.std.specs.Prelude.{◌≡◌};
-ghost use Rattle.std.specs.Option.{option_map};
-ghost use Rattle.cqs_cli.specs.SoleRunning.{IsForMutex, IsForSemaphore};
-
 use super::mutex_sole::MutexSole;
 use super::queue_sole::QueueSole;
 use super::sole::{ForPermits, SoleSemaphore, Stand};
 use cqs_core::Memory;
-use cqs_mutex::LockWait;
 use cqs_plan::Kind;
-use cqs_rule::Wait;
+use cqs_rule::Place;
 use std::alloc::Global;
 
 /// What a resource is on the running queue.
@@ -20,31 +15,15 @@ pub enum RunningSole {
     Mutex(MutexSole),
 }
 
-/// A wait for such a resource.
-#[derive(Drop)]
-pub enum RunningWait {
-    Semaphore(Wait),
-    Mutex(LockWait),
-}
-
 impl SoleSemaphore for RunningSole {
     ghost use Rattle.cqs_cli.specs.SoleRunning.{sole_running};
 
-    type Wait = RunningWait;
-
     ghost sole = { sole_running };
 
-    fn number(wait: &RunningWait) -> u64 {
-        match wait {
-            RunningWait::Semaphore(wait) => QueueSole::number(wait),
-            RunningWait::Mutex(wait) => MutexSole::number(wait),
-        }
-    }
-
-    fn acquire(&mut self) -> Option<RunningWait> {
+    fn acquire(&mut self) -> Option<Place> {
         match self {
-            RunningSole::Semaphore(sole) => for_semaphore(sole.acquire()),
-            RunningSole::Mutex(sole) => for_mutex(sole.acquire()),
+            RunningSole::Semaphore(sole) => sole.acquire(),
+            RunningSole::Mutex(sole) => sole.acquire(),
         }
     }
 
@@ -55,17 +34,17 @@ impl SoleSemaphore for RunningSole {
         }
     }
 
-    fn poll(&mut self, wait: RunningWait) -> Option<RunningWait> {
+    fn poll(&mut self, wait: Place) -> bool {
         match self {
-            RunningSole::Semaphore(sole) => for_semaphore(sole.poll(of_semaphore(wait))),
-            RunningSole::Mutex(sole) => for_mutex(sole.poll(of_mutex(wait))),
+            RunningSole::Semaphore(sole) => sole.poll(wait),
+            RunningSole::Mutex(sole) => sole.poll(wait),
         }
     }
 
-    fn cancel(&mut self, wait: RunningWait) -> bool {
+    fn cancel(&mut self, wait: Place) -> bool {
         match self {
-            RunningSole::Semaphore(sole) => sole.cancel(of_semaphore(wait)),
-            RunningSole::Mutex(sole) => sole.cancel(of_mutex(wait)),
+            RunningSole::Semaphore(sole) => sole.cancel(wait),
+            RunningSole::Mutex(sole) => sole.cancel(wait),
         }
     }
 
@@ -87,43 +66,5 @@ impl ForPermits for RunningSole {
             Kind::Mutex => Ok(RunningSole::Mutex(MutexSole::open(alloc, takes)?)),
             Kind::Pool(_) | Kind::Latch(_) | Kind::Rounds { .. } => unreachable!(),
         }
-    }
-}
-
-fn for_semaphore(wait: Option<Wait>) -> Option<RunningWait>
-    ensures { result ≡ option_map RunningWait.Semaphore wait }
-{
-    match wait {
-        Some(wait) => Some(RunningWait::Semaphore(wait)),
-        None => None,
-    }
-}
-
-fn for_mutex(wait: Option<LockWait>) -> Option<RunningWait>
-    ensures { result ≡ option_map RunningWait.Mutex wait }
-{
-    match wait {
-        Some(wait) => Some(RunningWait::Mutex(wait)),
-        None => None,
-    }
-}
-
-fn of_semaphore(wait: RunningWait) -> Wait
-    requires { IsForSemaphore wait }
-    ensures { wait ≡ RunningWait.Semaphore result }
-{
-    match wait {
-        RunningWait::Semaphore(wait) => wait,
-        RunningWait::Mutex(_) => unreachable!(),
-    }
-}
-
-fn of_mutex(wait: RunningWait) -> LockWait
-    requires { IsForMutex wait }
-    ensures { wait ≡ RunningWait.Mutex result }
-{
-    match wait {
-        RunningWait::Mutex(wait) => wait,
-        RunningWait::Semaphore(_) => unreachable!(),
     }
 }

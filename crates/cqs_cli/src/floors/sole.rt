@@ -7,6 +7,7 @@ ghost use Rattle.cqs_cli.specs.Soles.{IsOfPermits};
 
 use cqs_core::Memory;
 use cqs_plan::Kind;
+use cqs_rule::Place;
 use std::alloc::Global;
 
 /// How many permits there are of a semaphore or a mutex: of a mutex it is one.
@@ -49,15 +50,11 @@ pub(super) fn stand_in(state: i64) -> Stand
 }
 
 /// A semaphore with one caller, who makes one whole call after the other. Each call is the plain
-/// semaphore's.
+/// semaphore's. A wait is named by the place of its cell.
 ///
 /// It has taken its memory when it was made: as many takes as it has room for, and all that they
 /// lead to, can't fail.
 pub trait SoleSemaphore: Sized + Drop {
-    /// What its caller has of a wait, until that is over.
-    type Wait: Drop;
-
-    ghost use Rattle.std.specs.Prelude.{◌≡◌};
     ghost use Rattle.cqs_cli.specs.Soles.{
       Sole,
       Acquires,
@@ -71,14 +68,10 @@ pub trait SoleSemaphore: Sized + Drop {
       Tells,
     };
 
-    ghost sole: { Sole Self Self.Wait };
+    ghost sole: { Sole Self };
 
-    /// The number of a wait.
-    fn number(wait: &Self::Wait) -> u64
-        ensures { result ≡ sole.number wait.now };
-
-    /// Takes a permit, or else a wait at the end of the line.
-    fn acquire(&mut self) -> Option<Self::Wait>
+    /// Takes a permit, or else a wait at the end of the line, whose cell stands there.
+    fn acquire(&mut self) -> Option<Place>
         requires { CanAcquire sole self.old }
         ensures { Acquires sole self.old result self.new };
 
@@ -88,14 +81,14 @@ pub trait SoleSemaphore: Sized + Drop {
         requires { CanRelease sole self.old }
         ensures { Releases sole self.old result self.new };
 
-    /// Looks at a wait. It comes back where it still stands in the line; else its permit is the
-    /// caller's.
-    fn poll(&mut self, wait: Self::Wait) -> Option<Self::Wait>
+    /// Looks at a wait. It answers whether that was served: then its permit is the caller's, and
+    /// else it stands in the line.
+    fn poll(&mut self, wait: Place) -> bool
         requires { CanEnd sole wait self.old }
         ensures { Polls sole self.old wait result self.new };
 
     /// Gives a wait up. It answers whether that stood in the line; else its permit is the caller's.
-    fn cancel(&mut self, wait: Self::Wait) -> bool
+    fn cancel(&mut self, wait: Place) -> bool
         requires { CanEnd sole wait self.old }
         ensures { Cancels sole self.old wait result self.new };
 

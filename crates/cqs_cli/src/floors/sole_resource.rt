@@ -1,39 +1,26 @@
 //! A resource with one caller, who makes its calls for the jobs of a plan, as a floor needs it.
 
-ghost use Rattle.std.specs.Prelude.{◌≡◌};
-
 use cqs_core::Memory;
 use cqs_plan::{FloorEnd, FloorGive, FloorLeave, Kind};
+use cqs_rule::Place;
 use std::alloc::Global;
 
 /// What a take came to.
-#[derive(Drop)]
-pub enum Taken<W> {
+#[derive(Clone, Copy)]
+pub enum Taken {
     /// The job has this element, or a permit, which has the number 0.
     Now(u32),
-    /// The job waits at the end of the line.
-    Waits(W),
-}
-
-/// What a look at a wait found.
-#[derive(Drop)]
-pub enum Looked<W> {
-    /// It stands in the line still, and here is its token again.
-    Pending(W),
-    /// It was served: the job has this element, or a permit.
-    Granted(u32),
+    /// The job waits at the end of the line, and the cell of its wait stands there.
+    Waits(Place),
 }
 
 /// A resource with one caller, who makes one whole call after the other for the jobs of a plan.
-/// Each call is the plain resource's.
+/// Each call is the plain resource's. A wait is named by the place of its cell, which is data:
+/// whoever has no wait there can make no call with it.
 ///
 /// It has taken its memory when it was made: as many takes as it has room for, and all that they
 /// lead to, can't fail.
 pub trait SoleResource: Sized + Drop {
-    /// What its caller has of a wait, until that is over.
-    type Wait: Drop;
-
-    ghost use Rattle.std.specs.Prelude.{◌≡◌};
     ghost use Rattle.cqs_cli.specs.Stores.{
       Store,
       Acquires,
@@ -47,14 +34,10 @@ pub trait SoleResource: Sized + Drop {
       Tells,
     };
 
-    ghost store: { Store Self Self.Wait };
-
-    /// The number of a wait.
-    fn number(wait: &Self::Wait) -> u64
-        ensures { result ≡ store.number wait.now };
+    ghost store: { Store Self };
 
     /// The job takes what is free first, or else waits at the end of the line.
-    fn take(&mut self, job: u32) -> Taken<Self::Wait>
+    fn take(&mut self, job: u32) -> Taken
         requires { CanAcquire store job self.old }
         ensures { Acquires store job self.old result self.new };
 
@@ -63,13 +46,14 @@ pub trait SoleResource: Sized + Drop {
         requires { CanRelease store job self.old }
         ensures { Releases store job self.old result self.new };
 
-    /// The job looks at its wait.
-    fn look(&mut self, job: u32, wait: Self::Wait) -> Looked<Self::Wait>
+    /// The job looks at its wait. It answers the element that came, or a permit; or nothing while
+    /// the wait stands in the line.
+    fn look(&mut self, job: u32, wait: Place) -> Option<u32>
         requires { CanEnd store job wait self.old }
         ensures { Polls store job self.old wait result self.new };
 
     /// The job gives its wait up.
-    fn leave(&mut self, job: u32, wait: Self::Wait) -> FloorLeave
+    fn leave(&mut self, job: u32, wait: Place) -> FloorLeave
         requires { CanEnd store job wait self.old }
         ensures { Cancels store job self.old wait result self.new };
 

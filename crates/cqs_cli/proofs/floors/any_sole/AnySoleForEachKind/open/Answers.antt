@@ -1,6 +1,5 @@
 use Rattle.std.proofs.Common.{Some, rules}
 use Rattle.cqs_cli.specs.declared.floors.any_sole.AnySole.TheVariants.{Permits, Pool}
-use Rattle.cqs_cli.specs.declared.floors.any_sole.AnyWait.TheVariants as wait
 use Rattle.cqs_cli.specs.AnySoles.{store_any}
 use Rattle.cqs_cli.specs.Lifted.{of_semaphore}
 use Rattle.cqs_cli.specs.SolePool.{store_pool}
@@ -14,11 +13,11 @@ pub returns-in_ok-sole-in-Semaphore : goal.returns-in_ok-sole-in-Semaphore
 returns-in_ok-sole-in-Semaphore g c =
     let s = g.S.SoleSemaphore.sole in
     let sort : IsOfPermits (Some c.args.kind) = search rules in
-    opened-among (of_semaphore s) (store_any s) Permits wait.Permits (permits-among s) c.args.kind c.args.takes _
+    opened-among (of_semaphore s) (store_any s) Permits (permits-among s) c.args.kind c.args.takes _
     (lifted-opened s _ c.args.kind c.args.takes sort c.in_ok-sole-in-Semaphore.ensures)
 
 pub returns-in_ok-sole-in-Pool : goal.returns-in_ok-sole-in-Pool
 returns-in_ok-sole-in-Pool g c =
     let s = g.S.SoleSemaphore.sole in
     rw c.in-Pool.is
-    (opened-among store_pool (store_any s) Pool wait.Pool (pool-among s) _ c.args.takes _ c.in_ok-sole-in-Pool.ensures)
+    (opened-among store_pool (store_any s) Pool (pool-among s) _ c.args.takes _ c.in_ok-sole-in-Pool.ensures)

@@ -1,5 +1,4 @@
 use Rattle.cqs_cli.specs.declared.floors.any_sole.AnySole.TheVariants.{Pool}
-use Rattle.cqs_cli.specs.declared.floors.any_sole.AnyWait.TheVariants as wait
 use Rattle.cqs_cli.specs.AnySoles.{store_any}
 use Rattle.cqs_cli.specs.SolePool.{store_pool}
 use Rattle.cqs_cli.proofs.AmongStores.{tells-among}
@@ -10,5 +9,5 @@ pub returns-in-Pool : goal.returns-in-Pool
 returns-in-Pool g c =
     let s = g.S.SoleSemaphore.sole in
     rw c.in-Pool.is
-    (tells-among store_pool (store_any s) Pool wait.Pool (pool-among s) c.in-Pool.sole c.end-in-Pool.new.self
+    (tells-among store_pool (store_any s) Pool (pool-among s) c.in-Pool.sole c.end-in-Pool.new.self
     c.args.kind c.end-in-Pool.result c.end-in-Pool.ensures)

@@ -1,5 +1,4 @@
 use Rattle.cqs_cli.specs.declared.floors.any_sole.AnySole.TheVariants.{Pool}
-use Rattle.cqs_cli.specs.declared.floors.any_sole.AnyWait.TheVariants as wait
 use Rattle.cqs_cli.specs.AnySoles.{store_any}
 use Rattle.cqs_cli.specs.SolePool.{store_pool}
 use Rattle.cqs_cli.proofs.AmongStores.{polls-among}
@@ -9,6 +8,6 @@ use Rattle.cqs_cli.proofs.floors.any_sole.AnySoleSoleResource.look.Goals as goal
 pub returns-in-Pool : goal.returns-in-Pool
 returns-in-Pool g c =
     let s = g.S.SoleSemaphore.sole in
-    rw (c.in-Pool.is, c.of_pool.ensures, c.pool_looked.ensures)
-    (polls-among store_pool (store_any s) Pool wait.Pool (pool-among s) c.in-Pool.sole c.look-in-Pool.new.self
-    c.args.job c.of_pool.result c.look-in-Pool.result c.look-in-Pool.ensures)
+    rw c.in-Pool.is
+    (polls-among store_pool (store_any s) Pool (pool-among s) c.in-Pool.sole c.look-in-Pool.new.self
+    c.args.job c.args.wait c.look-in-Pool.result c.look-in-Pool.ensures)

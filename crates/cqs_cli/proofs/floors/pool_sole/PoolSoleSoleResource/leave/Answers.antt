@@ -1,19 +1,27 @@
-use Rattle.std.proofs.Common.{refl}
+use Rattle.std.proofs.Common.{refl, sym, subst}
+use Rattle.cqs_pool.specs.Calls.{IsMine}
 use Rattle.cqs_cli.proofs.PoolCalls.{lates-comes, leaves-comes}
-use Rattle.cqs_cli.proofs.PoolSole.{pool-lates, pool-leaves}
+use Rattle.cqs_cli.proofs.PoolSole.{pool-lates_at, pool-leaves_at}
 use Rattle.cqs_cli.proofs.floors.pool_sole.PoolSoleSoleResource.leave.Goals as goal
+
+pub cancel-requires-clause-belongs : goal.cancel-requires-clause-belongs
+cancel-requires-clause-belongs c = λ κs.
+    subst (λ p. IsMine c.args.self.now.pool p) (sym c.wait_of-token.ensures.same) c.requires.funded.mine
 
 pub returns-in-Cancelled-None : goal.returns-in-Cancelled-None
 returns-in-Cancelled-None c =
-    let plain = rw (c.in-Cancelled-None.is, c.in-Cancelled-None.field-0-is) at c.cancel.ensures.alone in
-    pool-leaves _ _ c.cancel.ensures.belongs refl refl c.args.job c.args.wait
-    (leaves-comes _ _ _ (rw (c.in-Cancelled-None.is, c.in-Cancelled-None.field-0-is) at c.cancel.ensures.cancelled)
-    (rw (c.in-Cancelled-None.is, c.in-Cancelled-None.field-0-is) at c.cancel.ensures.leaves) plain)
+    let same = c.wait_of-token.ensures.same in
+    let none = c.in-Cancelled-None in
+    let plain = rw (same, none.is, none.field-0-is) at c.cancel.ensures.alone in
+    pool-leaves_at _ _ c.cancel.ensures.belongs refl refl c.args.job _ _ c.wait_of-token.ensures.place
+    (leaves-comes _ _ _ (rw (same, none.is, none.field-0-is) at c.cancel.ensures.cancelled)
+    (rw (same, none.is, none.field-0-is) at c.cancel.ensures.leaves) plain)
     (λ alone. (plain alone).0) refl refl
 
 pub returns-in-TooLate : goal.returns-in-TooLate
 returns-in-TooLate c =
-    rw c.number-number.ensures (pool-lates _ _ c.cancel.ensures.belongs c.push_reserved.ensures.capacity c.args.job
-    c.in-TooLate.element c.push_reserved.ensures.items c.args.wait refl refl
-    (lates-comes _ _ _ c.in-TooLate.element (rw c.in-TooLate.is at c.cancel.ensures.cancelled))
-    (rw c.in-TooLate.is at c.cancel.ensures.alone) (rw c.in-TooLate.is at c.cancel.ensures.new))
+    let same = c.wait_of-token.ensures.same in
+    rw c.number-number.ensures (pool-lates_at _ _ c.cancel.ensures.belongs c.push_reserved.ensures.capacity c.args.job
+    c.in-TooLate.element c.push_reserved.ensures.items _ _ c.wait_of-token.ensures.place refl refl
+    (lates-comes _ _ _ c.in-TooLate.element (rw (same, c.in-TooLate.is) at c.cancel.ensures.cancelled))
+    (rw (same, c.in-TooLate.is) at c.cancel.ensures.alone) (rw (same, c.in-TooLate.is) at c.cancel.ensures.new))

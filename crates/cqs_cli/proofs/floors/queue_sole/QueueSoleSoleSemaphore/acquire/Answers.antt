@@ -1,7 +1,15 @@
-use Rattle.std.proofs.Common.{refl, ap, ◌∙◌, length}
+use Rattle.std.proofs.Common.{Ok, refl, ap, sym, subst, ◌∙◌, length}
 use Rattle.std.proofs.lemmas.List.{length_push}
+use Rattle.cqs_rule.specs.Passes.{pass_view}
+use Rattle.cqs_semaphore.specs.declared.answers.Acquired.TheVariants.{Later}
+use Rattle.cqs_semaphore.specs.Answers.{Acquires}
+use Rattle.cqs_semaphore.specs.Calls.{CallRule, IsMine}
+use Rattle.cqs_semaphore.specs.Entries.{acquired_entries, acquired_further}
 use Rattle.cqs_cli.proofs.QueueSole.{queue-takes, queue-waits}
 use Rattle.cqs_cli.proofs.floors.queue_sole.QueueSoleSoleSemaphore.acquire.Goals as goal
+
+pub spend_wait-requires-clause-belongs : goal.spend_wait-requires-clause-belongs
+spend_wait-requires-clause-belongs c = rw c.queue.ensures c.in-Ok-Later.ensures.belongs
 
 pub returns-in-Ok-Now : goal.returns-in-Ok-Now
 returns-in-Ok-Now c =
@@ -13,7 +21,14 @@ returns-in-Ok-Now c =
 
 pub returns-in-Ok-Later : goal.returns-in-Ok-Later
 returns-in-Ok-Later c =
-    queue-waits _ _ c.in-Ok-Later.ensures.belongs refl c.in-Ok-Later.wait
-    (rw c.in-Ok-Later.field-0-is at c.in-Ok-Later.ensures.called)
-    (rw c.in-Ok-Later.field-0-is at c.in-Ok-Later.ensures.acquired)
+    let rule = rw c.in-Ok-Later.field-0-is at c.in-Ok-Later.ensures.called in
+    let got = rw c.in-Ok-Later.field-0-is at c.in-Ok-Later.ensures.acquired in
+    let next = sym c.spend_wait.ensures.same in
+    let v = pass_view c.args.self.now.pass in
+    let wait = c.in-Ok-Later.wait in
+    queue-waits _ _ (subst (λ p. IsMine c.args.self.now.semaphore p) next c.in-Ok-Later.ensures.belongs) refl wait _
+    c.spend_wait.ensures.place
+    (subst (λ p. CallRule v (acquired_entries v.number (Ok (Later wait))) (acquired_further (Ok (Later wait)))
+    (pass_view p)) next rule)
+    (subst (λ p. Acquires v (Later wait) (pass_view p)) next got)
     (rw c.in-Ok-Later.field-0-is at c.in-Ok-Later.ensures.alone) refl

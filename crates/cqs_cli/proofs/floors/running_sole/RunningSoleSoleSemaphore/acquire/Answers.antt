@@ -1,5 +1,4 @@
 use Rattle.cqs_cli.specs.declared.floors.running_sole.RunningSole.TheVariants.{Semaphore, Mutex}
-use Rattle.cqs_cli.specs.declared.floors.running_sole.RunningWait.TheVariants as wait
 use Rattle.cqs_cli.specs.SoleQueue.{sole_mutex, sole_queue}
 use Rattle.cqs_cli.specs.SoleRunning.{sole_running}
 use Rattle.cqs_cli.proofs.Among.{acquires-among}
@@ -8,12 +7,12 @@ use Rattle.cqs_cli.proofs.floors.running_sole.RunningSoleSoleSemaphore.acquire.G
 
 pub returns-in-Semaphore : goal.returns-in-Semaphore
 returns-in-Semaphore c =
-    rw (c.in-Semaphore.is, c.for_semaphore.ensures)
-    (acquires-among sole_queue sole_running Semaphore wait.Semaphore semaphore-among c.in-Semaphore.sole
+    rw c.in-Semaphore.is
+    (acquires-among sole_queue sole_running Semaphore semaphore-among c.in-Semaphore.sole
     c.acquire.new.self c.acquire.result c.acquire.ensures)
 
 pub returns-in-Mutex : goal.returns-in-Mutex
 returns-in-Mutex c =
-    rw (c.in-Mutex.is, c.for_mutex.ensures)
-    (acquires-among sole_mutex sole_running Mutex wait.Mutex mutex-among c.in-Mutex.sole
+    rw c.in-Mutex.is
+    (acquires-among sole_mutex sole_running Mutex mutex-among c.in-Mutex.sole
     c.acquire-in-Mutex.new.self c.acquire-in-Mutex.result c.acquire-in-Mutex.ensures)

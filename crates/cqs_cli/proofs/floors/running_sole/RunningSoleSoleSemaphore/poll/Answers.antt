@@ -1,5 +1,4 @@
 use Rattle.cqs_cli.specs.declared.floors.running_sole.RunningSole.TheVariants.{Semaphore, Mutex}
-use Rattle.cqs_cli.specs.declared.floors.running_sole.RunningWait.TheVariants as wait
 use Rattle.cqs_cli.specs.SoleQueue.{sole_mutex, sole_queue}
 use Rattle.cqs_cli.specs.SoleRunning.{sole_running}
 use Rattle.cqs_cli.proofs.Among.{polls-among}
@@ -8,12 +7,12 @@ use Rattle.cqs_cli.proofs.floors.running_sole.RunningSoleSoleSemaphore.poll.Goal
 
 pub returns-in-Semaphore : goal.returns-in-Semaphore
 returns-in-Semaphore c =
-    rw (c.in-Semaphore.is, c.of_semaphore.ensures, c.for_semaphore.ensures)
-    (polls-among sole_queue sole_running Semaphore wait.Semaphore semaphore-among c.in-Semaphore.sole
-    c.poll.new.self c.of_semaphore.result c.poll.result c.poll.ensures)
+    rw c.in-Semaphore.is
+    (polls-among sole_queue sole_running Semaphore semaphore-among c.in-Semaphore.sole
+    c.poll.new.self c.args.wait c.poll.result c.poll.ensures)
 
 pub returns-in-Mutex : goal.returns-in-Mutex
 returns-in-Mutex c =
-    rw (c.in-Mutex.is, c.of_mutex.ensures, c.for_mutex.ensures)
-    (polls-among sole_mutex sole_running Mutex wait.Mutex mutex-among c.in-Mutex.sole
-    c.poll-in-Mutex.new.self c.of_mutex.result c.poll-in-Mutex.result c.poll-in-Mutex.ensures)
+    rw c.in-Mutex.is
+    (polls-among sole_mutex sole_running Mutex mutex-among c.in-Mutex.sole
+    c.poll-in-Mutex.new.self c.args.wait c.poll-in-Mutex.result c.poll-in-Mutex.ensures)

@@ -1,5 +1,4 @@
 use Rattle.cqs_cli.specs.declared.floors.running_sole.RunningSole.TheVariants.{Semaphore, Mutex}
-use Rattle.cqs_cli.specs.declared.floors.running_sole.RunningWait.TheVariants as wait
 use Rattle.cqs_cli.specs.SoleQueue.{sole_mutex, sole_queue}
 use Rattle.cqs_cli.specs.SoleRunning.{sole_running}
 use Rattle.cqs_cli.proofs.Among.{releases-among}
@@ -9,11 +8,11 @@ use Rattle.cqs_cli.proofs.floors.running_sole.RunningSoleSoleSemaphore.release.G
 pub returns-in-Semaphore : goal.returns-in-Semaphore
 returns-in-Semaphore c =
     rw c.in-Semaphore.is
-    (releases-among sole_queue sole_running Semaphore wait.Semaphore semaphore-among c.in-Semaphore.sole
+    (releases-among sole_queue sole_running Semaphore semaphore-among c.in-Semaphore.sole
     c.release.new.self c.release.result c.release.ensures)
 
 pub returns-in-Mutex : goal.returns-in-Mutex
 returns-in-Mutex c =
     rw c.in-Mutex.is
-    (releases-among sole_mutex sole_running Mutex wait.Mutex mutex-among c.in-Mutex.sole
+    (releases-among sole_mutex sole_running Mutex mutex-among c.in-Mutex.sole
     c.release-in-Mutex.new.self c.release-in-Mutex.result c.release-in-Mutex.ensures)

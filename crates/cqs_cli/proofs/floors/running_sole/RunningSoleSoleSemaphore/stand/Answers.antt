@@ -1,5 +1,4 @@
 use Rattle.cqs_cli.specs.declared.floors.running_sole.RunningSole.TheVariants.{Semaphore, Mutex}
-use Rattle.cqs_cli.specs.declared.floors.running_sole.RunningWait.TheVariants as wait
 use Rattle.cqs_cli.specs.SoleQueue.{sole_mutex, sole_queue}
 use Rattle.cqs_cli.specs.SoleRunning.{sole_running}
 use Rattle.cqs_cli.proofs.Among.{tells-among}
@@ -9,11 +8,11 @@ use Rattle.cqs_cli.proofs.floors.running_sole.RunningSoleSoleSemaphore.stand.Goa
 pub returns-in-Semaphore : goal.returns-in-Semaphore
 returns-in-Semaphore c =
     rw c.in-Semaphore.is
-    (tells-among sole_queue sole_running Semaphore wait.Semaphore semaphore-among c.in-Semaphore.sole
+    (tells-among sole_queue sole_running Semaphore semaphore-among c.in-Semaphore.sole
     c.stand.new.self c.stand.result c.stand.ensures)
 
 pub returns-in-Mutex : goal.returns-in-Mutex
 returns-in-Mutex c =
     rw c.in-Mutex.is
-    (tells-among sole_mutex sole_running Mutex wait.Mutex mutex-among c.in-Mutex.sole
+    (tells-among sole_mutex sole_running Mutex mutex-among c.in-Mutex.sole
     c.stand-in-Mutex.new.self c.stand-in-Mutex.result c.stand-in-Mutex.ensures)

@@ -1,0 +1,21 @@
+-- Where the cell of a wait stands: of a job's wait, and of a wait that a pass has.
+use Rattle.std.specs.Prelude.{ℕ}
+use Rattle.cqs_rule.specs.declared.config.Place.{Place}
+use Rattle.cqs_rule.specs.declared.view.View.{View}
+use Rattle.cqs_rule.specs.Lists.{Has}
+use Rattle.cqs_rule.specs.Placed.{KnowsPlace}
+use Rattle.cqs_cli.specs.declared.floors.waits.Wait.{Wait}
+
+-- where the cell of the job's wait stands
+abbrev pub place_in : Wait → Place
+place_in w = record { word = w.word; index = w.index }
+
+-- the wait for a resource whose cell stands there
+abbrev pub wait_for : ℕ → Place → Wait
+wait_for at place = record { at = at; word = place.word; index = place.index }
+
+-- The pass has the wait of this place: it is one of its own that isn't closed, and it knows that
+-- the cell stands there.
+pub record WaitsAt {E S : Type 0} (v : View E S) (at : Place) : Type 0 where
+  pub open_yet : Has at.index v.facts.waits
+  pub place : KnowsPlace v at

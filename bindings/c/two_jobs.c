@@ -9,7 +9,7 @@
 #include <stdio.h>
 
 static const char *names[] = {
-    [CQS_NO_SEMAPHORE] = "no semaphore", [CQS_NO_PASS] = "no pass", [CQS_IN_USE] = "in use",
+    [CQS_NULL] = "no semaphore", [CQS_NO_PASS] = "no pass", [CQS_IN_USE] = "in use",
     [CQS_OWES] = "owes", [CQS_OWES_NOTHING] = "owes nothing", [CQS_NO_PERMIT] = "no permit",
     [CQS_NO_WAIT] = "no wait", [CQS_FULL] = "full", [CQS_WORN] = "worn", [CQS_CROWD] = "crowd",
     [CQS_MEMORY] = "memory", [CQS_BUSY] = "busy", [CQS_BAD_CONFIG] = "bad config",
@@ -29,7 +29,7 @@ static int64_t say(const char *what, struct cqs_answer a) {
 
 int main(void) {
     struct cqs_semaphore *s;
-    if (cqs_semaphore_new(1, 2, 100, 4, &s) != CQS_MADE_SEMAPHORE) return 1;
+    if (cqs_semaphore_new(1, 2, 100, 4, &s) != CQS_NEW) return 1;
     uint32_t one = 0, two = (uint32_t)say("a second pass", cqs_semaphore_split(s, 0));
     say("one acquires", cqs_semaphore_acquire(s, one));
     uint64_t first = (uint64_t)say("two acquires", cqs_semaphore_acquire(s, two));

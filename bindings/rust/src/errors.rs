@@ -3,7 +3,7 @@
 use std::error::Error;
 use std::fmt;
 
-/// Why no semaphore was made.
+/// Why no primitive was made.
 #[derive(Clone, Copy, Debug, PartialEq, Eq)]
 pub enum MakeError {
     /// A number is out of range.
@@ -12,11 +12,11 @@ pub enum MakeError {
     Memory,
 }
 
-/// Every pass that the semaphore may have is in use, or there is no memory for another one.
+/// Every pass that the primitive may have is in use, or there is no memory for another one.
 #[derive(Clone, Copy, Debug, PartialEq, Eq)]
 pub struct Crowded;
 
-/// As many waits were drawn as the semaphore was made for. It gives permits no more but by tries.
+/// As many waits were drawn as the primitive was made for. Only tries give anything from then on.
 #[derive(Clone, Copy, Debug, PartialEq, Eq)]
 pub struct Worn;
 
@@ -37,7 +37,7 @@ impl fmt::Display for Crowded {
 
 impl fmt::Display for Worn {
     fn fmt(&self, f: &mut fmt::Formatter<'_>) -> fmt::Result {
-        write!(f, "as many waits were drawn as the semaphore was made for")
+        write!(f, "as many waits were drawn as the primitive was made for")
     }
 }
 

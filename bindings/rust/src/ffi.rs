@@ -2,7 +2,7 @@
 
 use std::ffi::c_void;
 
-/// A semaphore of the library.
+/// A primitive of the library.
 #[repr(C)]
 pub(crate) struct Raw {
     _private: [u8; 0],
@@ -16,9 +16,9 @@ pub(crate) struct Answer {
     pub number: i64,
 }
 
+pub(crate) const NEW: u32 = 0;
 pub(crate) const IN_USE: u32 = 3;
 pub(crate) const NO_PERMIT: u32 = 6;
-pub(crate) const FULL: u32 = 8;
 pub(crate) const WORN: u32 = 9;
 pub(crate) const CROWD: u32 = 10;
 pub(crate) const MEMORY: u32 = 11;
@@ -37,23 +37,28 @@ pub(crate) const UNDER: u32 = 30;
 pub(crate) const STATE: u32 = 31;
 pub(crate) const MADE: u32 = 33;
 
+pub(crate) const KIND_SEMAPHORE: u32 = 0;
+
+pub(crate) const DO_ENTER: u32 = 0;
+pub(crate) const DO_TRY: u32 = 1;
+pub(crate) const DO_POLL: u32 = 2;
+pub(crate) const DO_CANCEL: u32 = 3;
+pub(crate) const DO_LEAVE: u32 = 4;
+pub(crate) const DO_FINISH: u32 = 5;
+pub(crate) const DO_STATE: u32 = 6;
+pub(crate) const DO_SPLIT: u32 = 8;
+
 extern "C" {
-    pub(crate) fn cqs_semaphore_new(
-        permits: u32,
+    pub(crate) fn cqs_new(
+        kind: u32,
+        size: u32,
         passes: u32,
         limit: u64,
         waits: u32,
         out: *mut *mut Raw,
     ) -> u32;
-    pub(crate) fn cqs_semaphore_end(s: *mut Raw);
-    pub(crate) fn cqs_semaphore_acquire(s: *const Raw, pass: u32) -> Answer;
-    pub(crate) fn cqs_semaphore_try(s: *const Raw, pass: u32) -> Answer;
-    pub(crate) fn cqs_semaphore_poll(s: *const Raw, pass: u32, wait: u64) -> Answer;
-    pub(crate) fn cqs_semaphore_cancel(s: *const Raw, pass: u32, wait: u64) -> Answer;
-    pub(crate) fn cqs_semaphore_release(s: *const Raw, pass: u32) -> Answer;
-    pub(crate) fn cqs_semaphore_finish(s: *const Raw, pass: u32) -> Answer;
-    pub(crate) fn cqs_semaphore_state(s: *const Raw, pass: u32) -> Answer;
-    pub(crate) fn cqs_semaphore_split(s: *const Raw, pass: u32) -> Answer;
+    pub(crate) fn cqs_call(at: *const Raw, what: u32, pass: u32, number: u64) -> Answer;
+    pub(crate) fn cqs_end(at: *mut Raw);
 
     /// The library's blocks come from malloc.
     pub(crate) fn free(block: *mut c_void);

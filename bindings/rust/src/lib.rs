@@ -1,4 +1,5 @@
-//! A fair semaphore whose waiters can leave, over the static library that is proved in Rattle.
+//! Fair primitives whose waiters can leave, over the static library that is proved in Rattle: a
+//! semaphore, and a mutex.
 //!
 //! ```ignore
 //! let semaphore = cqs::Semaphore::new(cqs::Config { permits: 3, ..cqs::Config::default() })?;
@@ -17,11 +18,14 @@
 
 mod errors;
 mod ffi;
+mod mutex;
 mod pass;
 mod semaphore;
+mod shared;
 mod wait;
 
 pub use errors::{Crowded, MakeError, Worn};
+pub use mutex::{LockEnd, LockWait, Locked, Mutex, MutexConfig, MutexGuard, MutexPass};
 pub use pass::{Acquired, Pass, Permit, TryError};
 pub use semaphore::{Config, Semaphore};
 pub use wait::{Acquire, Cancelled, Wait};

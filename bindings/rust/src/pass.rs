@@ -2,7 +2,7 @@
 
 use crate::errors::Worn;
 use crate::ffi;
-use crate::semaphore::Shared;
+use crate::shared::Shared;
 use crate::wait::{Acquire, Wait};
 use std::mem::ManuallyDrop;
 use std::ptr;
@@ -45,46 +45,35 @@ impl Pass {
 
     /// Looks at its wait, and says whether the permit has come.
     pub(crate) fn look(&mut self, wait: u64) -> bool {
-        // SAFETY: here and below, the semaphore is there as long as `shared` is.
-        let answer = unsafe { ffi::cqs_semaphore_poll(self.shared.raw(), self.number, wait) };
+        let answer = self.shared.call(ffi::DO_POLL, self.number, wait);
         match answer.answer {
             ffi::GRANTED => {
                 self.wait = None;
                 true
             }
             ffi::PENDING => false,
-            other => unreachable!("cqs_semaphore_poll answered {other}"),
+            other => unreachable!("a poll was answered {other}"),
         }
     }
 
     /// Ends its wait, and says whether the permit had come before.
     pub(crate) fn end(&mut self, wait: u64) -> bool {
         self.wait = None;
-        // SAFETY: as above.
-        let answer = unsafe { ffi::cqs_semaphore_cancel(self.shared.raw(), self.number, wait) };
+        let answer = self.shared.call(ffi::DO_CANCEL, self.number, wait);
         match answer.answer {
             ffi::TOO_LATE => true,
             ffi::CANCELLED => false,
             ffi::CANCELLED_OWING => {
-                self.finish_all();
+                self.shared.finish_all(self.number);
                 false
             }
-            other => unreachable!("cqs_semaphore_cancel answered {other}"),
+            other => unreachable!("a cancel was answered {other}"),
         }
-    }
-
-    /// Goes on with what is owed, to the end.
-    fn finish_all(&mut self) {
-        // SAFETY: as above.
-        while unsafe { ffi::cqs_semaphore_finish(self.shared.raw(), self.number) }.answer
-            == ffi::UNDER
-        {}
     }
 
     /// A permit where one is free, or else a wait for one.
     pub fn acquire(&mut self) -> Result<Acquired<'_>, Worn> {
-        // SAFETY: as above.
-        let answer = unsafe { ffi::cqs_semaphore_acquire(self.shared.raw(), self.number) };
+        let answer = self.shared.call(ffi::DO_ENTER, self.number, 0);
         match answer.answer {
             ffi::NOW => Ok(Acquired::Now(Permit { pass: self })),
             ffi::LATER => {
@@ -93,20 +82,18 @@ impl Pass {
                 Ok(Acquired::Later(Wait::of(self, number)))
             }
             ffi::WORN => Err(Worn),
-            ffi::FULL => unreachable!("a pass has one wait at most"),
-            other => unreachable!("cqs_semaphore_acquire answered {other}"),
+            other => unreachable!("an acquire was answered {other}"),
         }
     }
 
     /// A permit where one is free. It never waits.
     pub fn try_acquire(&mut self) -> Result<Permit<'_>, TryError> {
-        // SAFETY: as above.
-        let answer = unsafe { ffi::cqs_semaphore_try(self.shared.raw(), self.number) };
+        let answer = self.shared.call(ffi::DO_TRY, self.number, 0);
         match answer.answer {
             ffi::GOT => Ok(Permit { pass: self }),
             ffi::NONE_FREE => Err(TryError::NoneFree),
             ffi::CONTENDED => Err(TryError::Contended(answer.number)),
-            other => unreachable!("cqs_semaphore_try answered {other}"),
+            other => unreachable!("a try was answered {other}"),
         }
     }
 
@@ -133,18 +120,16 @@ impl Pass {
 
     /// The state: the free permits, less those who wait with none on its way.
     pub fn state(&mut self) -> i64 {
-        // SAFETY: as above.
-        let answer = unsafe { ffi::cqs_semaphore_state(self.shared.raw(), self.number) };
+        let answer = self.shared.call(ffi::DO_STATE, self.number, 0);
         assert_eq!(answer.answer, ffi::STATE);
         answer.number
     }
 
     fn release(&mut self) {
-        // SAFETY: as above.
-        let answer = unsafe { ffi::cqs_semaphore_release(self.shared.raw(), self.number) };
+        let answer = self.shared.call(ffi::DO_LEAVE, self.number, 0);
         assert_ne!(answer.answer, ffi::NO_PERMIT);
         if answer.answer == ffi::UNDER {
-            self.finish_all();
+            self.shared.finish_all(self.number);
         }
     }
 }
@@ -177,11 +162,10 @@ impl Drop for Pass {
             self.end(wait);
         }
         loop {
-            // SAFETY: as above.
-            let answer = unsafe { ffi::cqs_semaphore_release(self.shared.raw(), self.number) };
+            let answer = self.shared.call(ffi::DO_LEAVE, self.number, 0);
             match answer.answer {
                 ffi::NO_PERMIT => break,
-                ffi::UNDER => self.finish_all(),
+                ffi::UNDER => self.shared.finish_all(self.number),
                 _ => {}
             }
         }

@@ -13,7 +13,7 @@ struct Answer {
     number: i64,
 }
 
-const NO_SEMAPHORE: u32 = 1;
+const NULL: u32 = 1;
 const NO_PASS: u32 = 2;
 const IN_USE: u32 = 3;
 const OWES: u32 = 4;
@@ -24,6 +24,7 @@ const FULL: u32 = 8;
 const CROWD: u32 = 10;
 const BUSY: u32 = 12;
 const BAD_CONFIG: u32 = 13;
+const NO_CALL: u32 = 14;
 const NOW: u32 = 16;
 const LATER: u32 = 17;
 const PENDING: u32 = 22;
@@ -37,19 +38,55 @@ const MADE: u32 = 33;
 const MET: u32 = 34;
 
 extern "C" {
-    fn cqs_semaphore_new(p: u32, n: u32, limit: u64, waits: u32, out: *mut *mut c_void) -> u32;
-    fn cqs_semaphore_end(s: *mut c_void);
-    fn cqs_semaphore_acquire(s: *const c_void, pass: u32) -> Answer;
-    fn cqs_semaphore_try(s: *const c_void, pass: u32) -> Answer;
-    fn cqs_semaphore_poll(s: *const c_void, pass: u32, wait: u64) -> Answer;
-    fn cqs_semaphore_cancel(s: *const c_void, pass: u32, wait: u64) -> Answer;
-    fn cqs_semaphore_release(s: *const c_void, pass: u32) -> Answer;
-    fn cqs_semaphore_finish(s: *const c_void, pass: u32) -> Answer;
-    fn cqs_semaphore_state(s: *const c_void, pass: u32) -> Answer;
-    fn cqs_semaphore_sole(s: *const c_void, pass: u32) -> Answer;
-    fn cqs_semaphore_split(s: *const c_void, pass: u32) -> Answer;
-    fn cqs_semaphore_meet(s: *const c_void, pass: u32, given: u32) -> Answer;
+    fn cqs_new(
+        kind: u32,
+        size: u32,
+        passes: u32,
+        limit: u64,
+        waits: u32,
+        out: *mut *mut c_void,
+    ) -> u32;
+    fn cqs_call(at: *const c_void, what: u32, pass: u32, number: u64) -> Answer;
+    fn cqs_end(at: *mut c_void);
     fn free(block: *mut c_void);
+}
+
+// The functions of `bindings/c/cqs.h`, which C writes inline.
+unsafe fn cqs_semaphore_new(p: u32, n: u32, limit: u64, waits: u32, at: *mut *mut c_void) -> u32 {
+    cqs_new(0, p, n, limit, waits, at)
+}
+unsafe fn cqs_semaphore_end(s: *mut c_void) {
+    cqs_end(s)
+}
+unsafe fn cqs_semaphore_acquire(s: *const c_void, pass: u32) -> Answer {
+    cqs_call(s, 0, pass, 0)
+}
+unsafe fn cqs_semaphore_try(s: *const c_void, pass: u32) -> Answer {
+    cqs_call(s, 1, pass, 0)
+}
+unsafe fn cqs_semaphore_poll(s: *const c_void, pass: u32, wait: u64) -> Answer {
+    cqs_call(s, 2, pass, wait)
+}
+unsafe fn cqs_semaphore_cancel(s: *const c_void, pass: u32, wait: u64) -> Answer {
+    cqs_call(s, 3, pass, wait)
+}
+unsafe fn cqs_semaphore_release(s: *const c_void, pass: u32) -> Answer {
+    cqs_call(s, 4, pass, 0)
+}
+unsafe fn cqs_semaphore_finish(s: *const c_void, pass: u32) -> Answer {
+    cqs_call(s, 5, pass, 0)
+}
+unsafe fn cqs_semaphore_state(s: *const c_void, pass: u32) -> Answer {
+    cqs_call(s, 6, pass, 0)
+}
+unsafe fn cqs_semaphore_sole(s: *const c_void, pass: u32) -> Answer {
+    cqs_call(s, 7, pass, 0)
+}
+unsafe fn cqs_semaphore_split(s: *const c_void, pass: u32) -> Answer {
+    cqs_call(s, 8, pass, 0)
+}
+unsafe fn cqs_semaphore_meet(s: *const c_void, pass: u32, given: u32) -> Answer {
+    cqs_call(s, 9, pass, given.into())
 }
 
 struct Semaphore(*mut c_void);
@@ -117,7 +154,7 @@ fn with(answer: u32, number: i64) -> Answer {
 #[test]
 fn null() {
     let none = std::ptr::null();
-    let refused = bare(NO_SEMAPHORE);
+    let refused = bare(NULL);
     // SAFETY: null is tested.
     unsafe {
         assert_eq!(cqs_semaphore_acquire(none, 0), refused);
@@ -208,6 +245,25 @@ fn one_who_owes() {
     assert_eq!(s.meet(1, 0), bare(BUSY));
     assert_eq!(s.finish(0), with(SENT, 70));
     assert_eq!(s.finish(0), bare(OWES_NOTHING));
+}
+
+/// What no primitive has.
+#[test]
+fn kinds_and_calls_that_are_not_there() {
+    for kind in [1, u32::MAX] {
+        let mut at = std::ptr::null_mut();
+        // SAFETY: `at` is room for a pointer.
+        assert_eq!(unsafe { cqs_new(kind, 1, 1, 1, 1, &mut at) }, BAD_CONFIG);
+        assert!(at.is_null());
+    }
+    let s = Semaphore::new(1, 2, 10, 2);
+    // SAFETY: the semaphore is there until it is dropped.
+    let call = |what, number| unsafe { cqs_call(s.0, what, 0, number) };
+    for what in [10, 255, u32::MAX] {
+        assert_eq!(call(what, 0), bare(NO_CALL));
+    }
+    assert_eq!(call(9, 1 << 32), bare(NO_PASS));
+    assert_eq!(s.state(0), with(STATE, 1));
 }
 
 /// Two threads with one pass: of two calls at once one is refused, and the semaphore stays whole.

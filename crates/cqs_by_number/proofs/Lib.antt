@@ -1,3 +1,3 @@
-pub mod Kept
+pub mod SemaphoreKept
 pub mod Waits
 pub mod MarkSteps

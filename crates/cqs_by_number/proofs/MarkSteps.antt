@@ -9,13 +9,9 @@ use lib.ListN.{get_elem?}
 use prog.Atomic.{either}
 use Rattle.atomic_table.specs.Table.{step, Act, keeps, takes, gives, Valid, Allows, Enters, stepped, carried_after, opening}
 use Rattle.atomic_table.proofs.Lists.{exchanged, set_here, set_else, set_again, at_snoc}
-use Rattle.cqs_rule.specs.declared.semaphore.carries.Unparked.{Unparked}
-use Rattle.cqs_semaphore.specs.declared.semaphore.Semaphore.{Semaphore}
+use Rattle.cqs_by_number.specs.declared.primitive.Primitive.{Primitive}
 use Rattle.cqs_by_number.specs.declared.caller.Caller.{Caller}
 use Rattle.cqs_by_number.specs.Marks.{word_of, Suits, Table, Marks, Seated, StaysSeated, HasClaimed}
-
-abbrev Sem : Type 0
-Sem = Semaphore Unparked
 
 same_set : (l : List ℕ) (i : ℕ) → set l i (slice_index l i) ≡ l
 same_set [] i = refl
@@ -23,10 +19,10 @@ same_set (x ∷ xs) zero = refl
 same_set (x ∷ xs) (suc i) = ap (λ l. x ∷ l) (same_set xs i)
 
 -- one mark is set, and its slot with it
-after : (s : Sem) (t : Table) (i m : ℕ) (y : maybe.Option (Option Caller)) (views : List Sem) → Marks s t
+after : (s : Primitive) (t : Table) (i m : ℕ) (y : maybe.Option (Option Caller)) (views : List Primitive) → Marks s t
     → i < length t.homes
     → (m ≢ 1 → (lying : Option Caller) × (y ≡ some lying) × Suits s m lying)
-    → ((j : ℕ) (v : Sem) → get_elem? views j ≡ some v → v ≡ s)
+    → ((j : ℕ) (v : Primitive) → get_elem? views j ≡ some v → v ≡ s)
     → Marks s (record { words = set t.words (word_of i) m; homes = set t.homes i y; views = views })
 after s t i m y views h low here same = record {
   homes = λ j below not. dite (ℕ_discrete j i)
@@ -58,10 +54,10 @@ after s t i m y views h low here same = record {
         (t'.0, set_here t.homes i y low ∙ ap some t'.1, subst (λ k. Suits s k t'.0) (sym is) t'.2)
 
 -- what those know who look at the table, after one of them made a step
-abbrev Known : Sem → List Sem → Type 0
-Known s views = (j : ℕ) (v : Sem) → get_elem? views j ≡ some v → v ≡ s
+abbrev Known : Primitive → List Primitive → Type 0
+Known s views = (j : ℕ) (v : Primitive) → get_elem? views j ≡ some v → v ≡ s
 
-pub sits : (s : Sem) (slots : ℕ)
+pub sits : (s : Primitive) (slots : ℕ)
     → Enters (Marks s) slots 0 (λ n w. StaysSeated (step slots 0 0 0 none) (s, []) n (w, []))
 sits s slots t h long fits = (
   s,
@@ -73,7 +69,7 @@ sits s slots t h long fits = (
   refl,
 )
 
-pub claims : (s : Sem) (slots id : ℕ) (me : Seated) (i from : ℕ) → i < slots → from ≢ 1
+pub claims : (s : Primitive) (slots id : ℕ) (me : Seated) (i from : ℕ) → i < slots → from ≢ 1
     → Allows (Marks s) slots id me (word_of i) (λ n. either (eqb n from) 1 n)
     (HasClaimed (step slots (word_of i) from 1 none) me)
 claims s slots id me i from below from-not t h long seen fits =
@@ -81,13 +77,13 @@ claims s slots id me i from below from-not t h long seen fits =
     let low : i < length t.homes = omega (arith, below, long) in
     let views : Known s (set t.views id me.0) = subst (Known s) (sym (set_again t.views id me.0 seen)) h.views in
     exchanged n from 1
-    (λ m. (w : Sem) × (a : Act (Option Caller)) × Valid t.homes me.1 a
+    (λ m. (w : Primitive) × (a : Act (Option Caller)) × Valid t.homes me.1 a
     × Marks s (stepped t (word_of i) m id me.1 w a)
     × HasClaimed (step slots (word_of i) from 1 none) me n (w, carried_after me.1 a))
     (λ hit.
     let found = h.homes i low (λ q. from-not (sym hit ∙ q)) in
     let suits : Suits me.0 from found.0 =
-    subst (λ (p : Sem × ℕ). Suits p.0 p.1 found.0) (λ k. (sym (h.views id me.0 seen) k, hit k)) found.2 in (
+    subst (λ (p : Primitive × ℕ). Suits p.0 p.1 found.0) (λ k. (sym (h.views id me.0 seen) k, hit k)) found.2 in (
       me.0,
       takes i found.0,
       found.1,
@@ -104,12 +100,12 @@ claims s slots id me i from below from-not t h long seen fits =
       me.0,
       keeps,
       tt,
-      subst (λ (p : List ℕ × List Sem). Marks s (record { words = p.0; homes = t.homes; views = p.1 }))
+      subst (λ (p : List ℕ × List Primitive). Marks s (record { words = p.0; homes = t.homes; views = p.1 }))
           (λ k. (sym (same_set t.words (word_of i)) k, sym (set_again t.views id me.0 seen) k)) h,
       (refl, (λ hit. absurd (miss hit)), λ _. refl),
     ))
 
-pub lays : (s : Sem) (slots id : ℕ) (me : Seated) (i m : ℕ) (lying : Option Caller) → i < slots
+pub lays : (s : Primitive) (slots id : ℕ) (me : Seated) (i m : ℕ) (lying : Option Caller) → i < slots
     → me.1 ≡ (i, lying) ∷ [] → Suits s m lying
     → Allows (Marks s) slots id me (word_of i) (λ _. m) (λ _ _. Unit {0})
 lays s slots id me i m lying below has suits t h long seen fits =
@@ -148,7 +144,7 @@ none_there zero i low = absurd (omega arith)
 none_there (suc n) zero low = refl
 none_there (suc n) (suc i) low = none_there n i (omega arith)
 
-pub opens : (s : Sem) (n : ℕ) (words : List ℕ) → words ≡ replicate (16 * n + 16) 2
+pub opens : (s : Primitive) (n : ℕ) (words : List ℕ) → words ≡ replicate (16 * n + 16) 2
     → Marks s (opening words (replicate n None) s)
 opens s n words are = record {
   homes = λ i below not.
@@ -167,6 +163,6 @@ opens s n words are = record {
     zero_two : (k : ℕ) → k ≡ 0 → k ≡ 2 → ⊥
     zero_two k z e = omega arith
 
-    only_there : (j : ℕ) (v : Sem) → get_elem? (s ∷ []) j ≡ some v → v ≡ s
+    only_there : (j : ℕ) (v : Primitive) → get_elem? (s ∷ []) j ≡ some v → v ≡ s
     only_there zero v at = sym (some-injective s v at)
     only_there (suc j) v at = absurd (some-ne-none v (sym at))

@@ -1,32 +1,10 @@
--- How a caller stands between two calls.
-use Rattle.std.specs.Prelude.{◌≡◌, ℕ, All, Option, Some, None}
-use Rattle.cqs_rule.specs.declared.queue.tokens.Under.{Under}
-use Rattle.cqs_rule.specs.declared.semaphore.carries.Unparked.{Unparked}
-use Rattle.cqs_rule.specs.declared.view.Facts.{Facts}
-use Rattle.cqs_rule.specs.Owed.{HasUnder}
-use Rattle.cqs_rule.specs.declared.queue.tokens.Wait.{Wait}
-use Rattle.cqs_rule.specs.Passes.{pass_view}
-use Rattle.cqs_rule.specs.Waits.{HasWait, place_of}
-use Rattle.cqs_semaphore.specs.declared.semaphore.Semaphore.{Semaphore}
-use Rattle.cqs_semaphore.specs.Calls.{IsMine, IsReady}
+-- How a caller stands between two calls, of whatever primitive.
 use Rattle.cqs_by_number.specs.declared.caller.Caller.{Caller}
-use Rattle.cqs_by_number.specs.Waits.{HasAt, Apart, IsAt}
+use Rattle.cqs_by_number.specs.declared.caller.Caller.TheVariants as caller
+use Rattle.cqs_by_number.specs.declared.primitive.Primitive.{Primitive}
+use Rattle.cqs_by_number.specs.declared.primitive.Primitive.TheVariants as primitive
+use Rattle.cqs_by_number.specs.SemaphoreCallers as semaphore
 
--- the pass is ready, or owes just the resumption of this token
-abbrev pub OwesJust : Facts → Option Under → Type 0
-OwesJust f None = IsReady f
-OwesJust f (Some under) = HasUnder f under × (f.has.further ≡ 0)
-
--- The pass is one of the semaphore, and owes just what the caller has the token of; each of the
--- caller's waits is the pass's own, and no two are the same.
-pub record StandsAt (s : Semaphore Unparked) (c : Caller) : Type 0 where
-  pub belongs : IsMine s c.pass
-  pub owes : OwesJust (pass_view c.pass).facts c.under
-  pub waits : All (HasAt (pass_view c.pass)) c.waits.items
-  pub apart : Apart c.waits.items
-
--- the token is that of the caller's wait of this number, which stands at i
-pub record IsToken (number : ℕ) (c : Caller) (i : ℕ) (wait : Wait) : Type 0 where
-  pub at : IsAt number c.waits.items i
-  pub has : HasWait (pass_view c.pass) wait
-  pub number_is : (place_of wait).index ≡ number
+-- the caller is one of the primitive, and stands as such a caller does
+abbrev pub StandsAt : Primitive → Caller → Type 0
+StandsAt (primitive.Semaphore s) (caller.Semaphore c) = semaphore.StandsAt s c

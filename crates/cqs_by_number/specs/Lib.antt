@@ -1,4 +1,5 @@
 pub mod Waits
+pub mod SemaphoreCallers
 pub mod Callers
 pub mod Told
 pub mod Marks

@@ -3,8 +3,7 @@ use Rattle.std.specs.Prelude.{◌≡◌, ◌≢◌, ℕ, ◌+◌, ◌*◌, ◌<�
 use mathlib.Core.Option.{some}
 use lib.ListN.{get_elem?}
 use Rattle.atomic_table.specs.Table.{State, Me, Step}
-use Rattle.cqs_rule.specs.declared.semaphore.carries.Unparked.{Unparked}
-use Rattle.cqs_semaphore.specs.declared.semaphore.Semaphore.{Semaphore}
+use Rattle.cqs_by_number.specs.declared.primitive.Primitive.{Primitive}
 use Rattle.cqs_by_number.specs.declared.caller.Caller.{Caller}
 use Rattle.cqs_by_number.specs.Callers.{StandsAt}
 
@@ -13,28 +12,28 @@ abbrev pub word_of : ℕ → ℕ
 word_of i = 16 * i + 16
 
 -- What lies in the slot of a pass where its mark is this: at 0 the pass, which belongs to the
--- semaphore; at 2 nothing, since nobody has the number.
-pub record Suits (s : Semaphore Unparked) (mark : ℕ) (lying : Option Caller) : Type 0 where
+-- primitive; at 2 nothing, since nobody has the number.
+pub record Suits (s : Primitive) (mark : ℕ) (lying : Option Caller) : Type 0 where
   pub rests : mark ≡ 0 → IsSomeAnd lying (StandsAt s)
   pub nobody : mark ≡ 2 → lying ≡ None
 
 abbrev pub Table : Type 0
-Table = State (Option Caller) (Semaphore Unparked)
+Table = State (Option Caller) Primitive
 
 -- The rule of the table: but where the mark is 1, and a call has the pass, what lies in the slot
--- suits the mark. Each mark has its word; and all who look at the table know of which semaphore it
+-- suits the mark. Each mark has its word; and all who look at the table know of which primitive it
 -- is.
-pub record Marks (s : Semaphore Unparked) (t : Table) : Type 0 where
+pub record Marks (s : Primitive) (t : Table) : Type 0 where
   pub homes : (i : ℕ) → i < length t.homes → slice_index t.words (word_of i) ≢ 1
       → (lying : Option Caller) × (get_elem? t.homes i ≡ some (some lying))
       × Suits s (slice_index t.words (word_of i)) lying
   pub places : (i : ℕ) → i < length t.homes → word_of i < length t.words
-  pub views : (j : ℕ) (v : Semaphore Unparked) → get_elem? t.views j ≡ some v → v ≡ s
+  pub views : (j : ℕ) (v : Primitive) → get_elem? t.views j ≡ some v → v ≡ s
 
 abbrev pub Seated : Type 0
-Seated = Me (Option Caller) (Semaphore Unparked)
+Seated = Me (Option Caller) Primitive
 
--- one who comes to the table knows of which semaphore it is
+-- one who comes to the table knows of which primitive it is
 abbrev pub StaysSeated : Step (Option Caller) → Seated → ℕ → Seated → Type 0
 StaysSeated st me n me' = me'.0 ≡ me.0
 

@@ -15,11 +15,13 @@ pub enum Answer {
     NoPermit,
     /// The pass has no wait of this number.
     NoWait,
+    /// The primitive has no such call.
+    NoCall,
     /// The pass has as many waits as there is room for.
     Full,
-    /// As many waits were drawn as the semaphore was made for.
+    /// As many waits were drawn as the primitive was made for.
     Worn,
-    /// As many passes were made as the semaphore was made for.
+    /// As many passes were made as the primitive was made for.
     Crowd,
     /// There is no memory for another pass.
     Memory,

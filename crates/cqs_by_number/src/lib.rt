@@ -1,4 +1,5 @@
-//! A semaphore whose passes are called by number, for callers who can't hold tokens.
+//! The primitives with passes and waits that are called by number, for callers who can't hold
+//! tokens.
 //!
 //! ```text
 //!  pass number --> mark 0: the pass rests here ----> taken for the call, and put back after it
@@ -6,23 +7,29 @@
 //!                  mark 2: nobody has this number -> NoPass
 //! ```
 //!
-//! The passes lie in the slots of a table, each with the places of its waits and with what it owes.
-//! A call takes its pass by one exchange on the pass's mark, makes one call of the semaphore with
-//! it, and puts it back: no lock, and nobody waits. What the contracts of the semaphore ask of a
-//! caller is tested here, and refused by an answer that changes nothing.
+//! The passes lie in the slots of a table, each with its waits and with what it owes. A call takes
+//! its pass by one exchange on the pass's mark, makes one call of the primitive with it, and puts
+//! it back: no lock, and nobody waits. What the contracts of the primitive ask of a caller is
+//! tested here, and refused by an answer that changes nothing.
 #![tactic(auto)]
 
 mod answers;
 mod caller;
 mod calls;
-mod finding;
 mod making;
 mod marks;
 mod numbered;
+mod places;
+mod primitive;
 mod seats;
+mod semaphore_caller;
 mod taking;
 mod threads;
+mod verb;
 
 pub use answers::Answer;
 pub use caller::Caller;
-pub use numbered::NumberedSemaphore;
+pub use numbered::Numbered;
+pub use primitive::Primitive;
+pub use semaphore_caller::SemaphoreCaller;
+pub use verb::Verb;

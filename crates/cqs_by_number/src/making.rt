@@ -1,14 +1,17 @@
-//! How the semaphore is made.
+//! How a primitive is made whose passes are called by number.
 
 ghost use Rattle.std.specs.Prelude.{◌≡◌, ◌⊎◌, ◌<◌, ◌≤◌, ◌+◌, ◌*◌, false, IfOk, IsErrOf, replicate};
 ghost use Rattle.cqs_rule.specs.Configured.{is_config};
+ghost use Rattle.cqs_by_number.specs.Callers.{StandsAt};
 
 use crate::answers::Answer;
 use crate::caller::Caller;
 use crate::marks::{NOBODY, Slots};
-use crate::numbered::NumberedSemaphore;
+use crate::numbered::Numbered;
+use crate::primitive::Primitive;
+use crate::semaphore_caller::SemaphoreCaller;
 use atomic_table::Table;
-use cqs_rule::{Config, MakeError, Unparked};
+use cqs_rule::{Config, MakeError};
 use cqs_semaphore::Semaphore;
 use std::alloc::{AllocError, Global};
 
@@ -24,26 +27,26 @@ fn marks(alloc: Global, passes: u32) -> Result<Vec<u64>, AllocError>
 }
 
 #[tactic(auto, using(crate::proofs::MarkSteps::opens))]
-fn slots(alloc: Global, passes: u32, semaphore: &Semaphore<Unparked>) -> Result<Slots, AllocError>
+fn slots(alloc: Global, passes: u32, primitive: &Primitive) -> Result<Slots, AllocError>
     requires { passes ≤ 32 }
-    ensures key { IfOk result (λ table. table.shared.key ≡ semaphore.now) }
+    ensures key { IfOk result (λ table. table.shared.key ≡ primitive.now) }
     ensures words { IfOk result (λ table. table.shared.table_id.words ≡ 16 * passes + 16) }
     ensures slots { IfOk result (λ table. table.shared.table_id.slots ≡ passes) }
 {
     let marks = marks(alloc, passes)?;
-    let (table, _hand) = Table::vacant(alloc, marks.as_slice(), passes as usize, semaphore)?;
+    let (table, _hand) = Table::vacant(alloc, marks.as_slice(), passes as usize, primitive)?;
     Ok(table)
 }
 
-impl NumberedSemaphore {
+impl Numbered {
     /// A semaphore with all its permits free, and its first pass, under the number 0. Each pass has
     /// room for so many waits.
-    pub fn new(
+    pub fn semaphore(
         alloc: Global,
         permits: u32,
         config: Config,
         waits: u32,
-    ) -> Result<NumberedSemaphore, MakeError>
+    ) -> Result<Numbered, MakeError>
         ensures bad_config { (permits ≡ 0) ⊎ ((1048576 < permits) ⊎ ((is_config config ≡ false)
             ⊎ (1048576 < waits))) → IsErrOf result MakeError.BadConfig }
     {
@@ -52,11 +55,31 @@ impl NumberedSemaphore {
         }
         let (semaphore, pass) = Semaphore::unparked(alloc, permits, config)?;
         let room = Vec::with_capacity(alloc, waits as usize)?;
-        let first = Caller::new(&semaphore, pass, room);
-        let passes = config.passes;
-        let table = slots(alloc, passes, &semaphore)?;
-        let made = NumberedSemaphore {
-            semaphore,
+        let first = SemaphoreCaller::new(&semaphore, pass, room);
+        let primitive = Primitive::Semaphore(semaphore);
+        Numbered::open(
+            alloc,
+            primitive,
+            Caller::Semaphore(first),
+            config.passes,
+            waits,
+        )
+    }
+
+    // Opens the table of a primitive, with its first caller in it.
+    fn open(
+        alloc: Global,
+        primitive: Primitive,
+        first: Caller,
+        passes: u32,
+        waits: u32,
+    ) -> Result<Numbered, MakeError>
+        requires stands { StandsAt primitive first }
+        requires few { passes ≤ 32 }
+    {
+        let table = slots(alloc, passes, &primitive)?;
+        let made = Numbered {
+            primitive,
             table,
             passes,
             room: waits,

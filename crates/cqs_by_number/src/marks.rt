@@ -3,9 +3,8 @@
 ghost use Rattle.cqs_by_number.specs.Marks.{Marks, StaysSeated, HasClaimed};
 
 use crate::caller::Caller;
+use crate::primitive::Primitive;
 use atomic_table::{Play, Seat, Table, TableRule};
-use cqs_rule::Unparked;
-use cqs_semaphore::Semaphore;
 use std::alloc::Global;
 
 /// The mark of a pass that rests in its slot.
@@ -20,41 +19,35 @@ pub(crate) const NOBODY: u64 = 2;
 /// The rule of the table.
 pub(crate) struct Rests;
 
-impl TableRule<Option<Caller>, Semaphore<Unparked>, Semaphore<Unparked>> for Rests {
+impl TableRule<Option<Caller>, Primitive, Primitive> for Rests {
     ghost holds = { Marks };
 
     ghost first = { λ s. s };
 }
 
 /// The table: a mark and a slot for each pass, each mark with its cache lines for itself.
-pub(crate) type Slots = Table<
-    Option<Caller>,
-    Semaphore<Unparked>,
-    Semaphore<Unparked>,
-    Rests,
-    Global,
->;
+pub(crate) type Slots = Table<Option<Caller>, Primitive, Primitive, Rests, Global>;
 
 /// Who has a pass in hand.
-pub(crate) type Hand = Seat<Option<Caller>, Semaphore<Unparked>>;
+pub(crate) type Hand = Seat<Option<Caller>, Primitive>;
 
 /// One comes to the table.
 pub(crate) struct Sit;
 
-impl Play<Option<Caller>, Semaphore<Unparked>> for Sit {
+impl Play<Option<Caller>, Primitive> for Sit {
     ghost then = { StaysSeated };
 }
 
 /// It takes what lies in a slot, where the mark is the one that it expects.
 pub(crate) struct Claim;
 
-impl Play<Option<Caller>, Semaphore<Unparked>> for Claim {
+impl Play<Option<Caller>, Primitive> for Claim {
     ghost then = { HasClaimed };
 }
 
 /// It lays something into the slot, under a mark that this suits.
 pub(crate) struct Lay;
 
-impl Play<Option<Caller>, Semaphore<Unparked>> for Lay {
+impl Play<Option<Caller>, Primitive> for Lay {
     ghost then = { λ _ _ _ _. Unit {0} };
 }

@@ -5,20 +5,16 @@ ghost use Rattle.cqs_by_number.specs.Callers.{StandsAt};
 use crate::answers::Answer;
 use crate::caller::Caller;
 use crate::marks::{NOBODY, RESTS};
-use crate::numbered::NumberedSemaphore;
+use crate::numbered::Numbered;
 
-impl NumberedSemaphore {
+impl Numbered {
     /// A new pass, under a number of its own.
     pub fn split(&self, pass: u32) -> Answer {
         let (hand, mut caller) = match self.take(pass) {
             Ok(taken) => taken,
             Err(refused) => return refused,
         };
-        let Ok(room) = Vec::with_capacity(self.alloc, self.room as usize) else {
-            self.put(pass, hand, caller);
-            return Answer::Memory;
-        };
-        let made = caller.split(&self.semaphore, room);
+        let made = self.primitive.split(&mut caller, self.alloc, self.room);
         self.put(pass, hand, caller);
         match made {
             Ok(made) => self.seat(made),
@@ -28,9 +24,9 @@ impl NumberedSemaphore {
 
     // Lays a new pass into the slot of its number.
     pub(crate) fn seat(&self, made: Caller) -> Answer
-        requires { StandsAt self.now.semaphore made }
+        requires { StandsAt self.now.primitive made }
     {
-        let number = made.pass.number();
+        let number = made.number();
         if number >= self.passes {
             return Answer::Crowd;
         }
@@ -56,7 +52,7 @@ impl NumberedSemaphore {
                 return refused;
             }
         };
-        match caller.meet(&self.semaphore, given_caller) {
+        match self.primitive.meet(&mut caller, given_caller) {
             Ok(()) => {
                 self.lay(given, given_hand, None, NOBODY);
                 self.put(pass, hand, caller);

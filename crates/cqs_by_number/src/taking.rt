@@ -8,9 +8,9 @@ ghost use Rattle.cqs_by_number.specs.Numbered.{Holds};
 use crate::answers::Answer;
 use crate::caller::Caller;
 use crate::marks::{Claim, Hand, Lay, NOBODY, RESTS, Sit, TAKEN};
-use crate::numbered::NumberedSemaphore;
+use crate::numbered::Numbered;
 
-impl NumberedSemaphore {
+impl Numbered {
     // Takes what lies in the slot of the pass, where its mark is the one that is expected, and says
     // else which it is.
     #[tactic(auto, using(crate::proofs::MarkSteps::sits, crate::proofs::MarkSteps::claims))]
@@ -18,7 +18,7 @@ impl NumberedSemaphore {
         requires inside { pass < self.now.passes }
         requires free { from ≢ 1 }
         ensures taken { IfOk result (λ taken. Holds self.now pass taken.0
-            × Suits self.now.semaphore from taken.1) }
+            × Suits self.now.primitive from taken.1) }
         ensures other { IfErr result (λ found. found ≢ from) }
     {
         let shared = &self.table.shared;
@@ -37,7 +37,7 @@ impl NumberedSemaphore {
     pub(crate) fn lay(&self, pass: u32, mut hand: Hand, lying: Option<Caller>, mark: u64)
         requires inside { pass < self.now.passes }
         requires holds { Holds self.now pass hand }
-        requires suits { Suits self.now.semaphore mark lying }
+        requires suits { Suits self.now.primitive mark lying }
     {
         let shared = &self.table.shared;
         let word = 16 * pass as usize + 16;
@@ -49,7 +49,7 @@ impl NumberedSemaphore {
     pub(crate) fn take(&self, pass: u32) -> Result<(Hand, Caller), Answer>
         ensures inside { IfOk result (λ _. pass < self.now.passes) }
         ensures holds { IfOk result (λ taken. Holds self.now pass taken.0) }
-        ensures stands { IfOk result (λ taken. StandsAt self.now.semaphore taken.1) }
+        ensures stands { IfOk result (λ taken. StandsAt self.now.primitive taken.1) }
     {
         if pass >= self.passes {
             return Err(Answer::NoPass);
@@ -71,7 +71,7 @@ impl NumberedSemaphore {
     pub(crate) fn put(&self, pass: u32, hand: Hand, caller: Caller)
         requires inside { pass < self.now.passes }
         requires holds { Holds self.now pass hand }
-        requires stands { StandsAt self.now.semaphore caller }
+        requires stands { StandsAt self.now.primitive caller }
     {
         self.lay(pass, hand, Some(caller), RESTS);
     }

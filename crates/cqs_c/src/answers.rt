@@ -1,7 +1,7 @@
 //! Answers as C gets them.
 
 ghost use Rattle.std.specs.Prelude.{◌≡◌};
-ghost use Rattle.cqs_c.specs.Answers.{no_semaphore};
+ghost use Rattle.cqs_c.specs.Answers.{no_object};
 
 use cqs_by_number::Answer;
 
@@ -13,9 +13,9 @@ pub struct CqsAnswer {
     pub number: i64,
 }
 
-/// There is no semaphore: the pointer was null.
+/// There is no primitive: the pointer was null.
 pub(crate) fn nowhere() -> CqsAnswer
-    ensures { result ≡ no_semaphore }
+    ensures { result ≡ no_object }
 {
     CqsAnswer {
         answer: 1,
@@ -37,6 +37,7 @@ pub(crate) fn tell(answer: Answer) -> CqsAnswer {
         Answer::Crowd => (10, -1),
         Answer::Memory => (11, -1),
         Answer::Busy => (12, -1),
+        Answer::NoCall => (14, -1),
         Answer::Now(None) => (16, -1),
         Answer::Now(Some(number)) => (16, number.cast_signed()),
         Answer::Later(number) => (17, number.cast_signed()),

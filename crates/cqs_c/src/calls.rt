@@ -1,64 +1,45 @@
-//! The calls, with the answers as C gets them.
+//! A call, by the numbers that `cqs.h` gives to calls, with its answer as C gets it.
 
 use crate::answers::{CqsAnswer, tell};
-use cqs_by_number::NumberedSemaphore;
+use cqs_by_number::{Answer, Numbered, Verb};
 
-pub(crate) fn acquire(semaphore: &NumberedSemaphore, pass: u32) -> CqsAnswer
-    ensures { Unit {0} }
-{
-    tell(semaphore.acquire(pass))
+/// What a call is, by its number: one with a pass, or another pass is made, or one taken in.
+enum Deed {
+    With(Verb),
+    Split,
+    Meet,
 }
 
-pub(crate) fn try_acquire(semaphore: &NumberedSemaphore, pass: u32) -> CqsAnswer
-    ensures { Unit {0} }
-{
-    tell(semaphore.try_acquire(pass))
+fn deed_of(verb: u32) -> Option<Deed> {
+    match verb {
+        0 => Some(Deed::With(Verb::Enter)),
+        1 => Some(Deed::With(Verb::Try)),
+        2 => Some(Deed::With(Verb::Poll)),
+        3 => Some(Deed::With(Verb::Cancel)),
+        4 => Some(Deed::With(Verb::Leave)),
+        5 => Some(Deed::With(Verb::Finish)),
+        6 => Some(Deed::With(Verb::State)),
+        7 => Some(Deed::With(Verb::Sole)),
+        8 => Some(Deed::Split),
+        9 => Some(Deed::Meet),
+        _ => None,
+    }
 }
 
-pub(crate) fn poll(semaphore: &NumberedSemaphore, pass: u32, number: u64) -> CqsAnswer
-    ensures { Unit {0} }
-{
-    tell(semaphore.poll(pass, number))
+fn make_call(primitive: &Numbered, verb: u32, pass: u32, number: u64) -> Answer {
+    match deed_of(verb) {
+        None => Answer::NoCall,
+        Some(Deed::With(verb)) => primitive.call(verb, pass, number),
+        Some(Deed::Split) => primitive.split(pass),
+        Some(Deed::Meet) => match u32::try_from(number) {
+            Ok(given) => primitive.meet(pass, given),
+            Err(_) => Answer::NoPass,
+        },
+    }
 }
 
-pub(crate) fn cancel(semaphore: &NumberedSemaphore, pass: u32, number: u64) -> CqsAnswer
+pub(crate) fn call(primitive: &Numbered, verb: u32, pass: u32, number: u64) -> CqsAnswer
     ensures { Unit {0} }
 {
-    tell(semaphore.cancel(pass, number))
-}
-
-pub(crate) fn release(semaphore: &NumberedSemaphore, pass: u32) -> CqsAnswer
-    ensures { Unit {0} }
-{
-    tell(semaphore.release(pass))
-}
-
-pub(crate) fn finish(semaphore: &NumberedSemaphore, pass: u32) -> CqsAnswer
-    ensures { Unit {0} }
-{
-    tell(semaphore.finish(pass))
-}
-
-pub(crate) fn state(semaphore: &NumberedSemaphore, pass: u32) -> CqsAnswer
-    ensures { Unit {0} }
-{
-    tell(semaphore.state(pass))
-}
-
-pub(crate) fn sole(semaphore: &NumberedSemaphore, pass: u32) -> CqsAnswer
-    ensures { Unit {0} }
-{
-    tell(semaphore.sole(pass))
-}
-
-pub(crate) fn split(semaphore: &NumberedSemaphore, pass: u32) -> CqsAnswer
-    ensures { Unit {0} }
-{
-    tell(semaphore.split(pass))
-}
-
-pub(crate) fn meet(semaphore: &NumberedSemaphore, pass: u32, given: u32) -> CqsAnswer
-    ensures { Unit {0} }
-{
-    tell(semaphore.meet(pass, given))
+    tell(make_call(primitive, verb, pass, number))
 }

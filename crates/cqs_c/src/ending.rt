@@ -1,27 +1,27 @@
-//! How C gives a semaphore back.
+//! How C gives a primitive back.
 
 ghost use Rattle.std.specs.Borrow.{sem, full_share};
 ghost use Rattle.std.specs.Ptr.{if_non_null, lies_at, room_at};
 ghost use denote.RawPtr.{Testable};
-ghost use Rattle.cqs_by_number.specs.contracts.numbered.NumberedSemaphore.{the_row};
-ghost use Rattle.cqs_by_number.specs.declared.numbered.NumberedSemaphore.{NumberedSemaphore as Semaphore};
+ghost use Rattle.cqs_by_number.specs.contracts.numbered.Numbered.{the_row};
+ghost use Rattle.cqs_by_number.specs.declared.numbered.Numbered.{Numbered as Primitive};
 
-use cqs_by_number::NumberedSemaphore;
+use cqs_by_number::Numbered;
 
-pub(crate) fn let_go(semaphore: NumberedSemaphore) {
-    drop(semaphore);
+pub(crate) fn let_go(primitive: Numbered) {
+    drop(primitive);
 }
 
-/// Drops the semaphore, with all that its passes hold. C frees its block.
+/// Drops the primitive, with all that its passes hold. C frees its block.
 #[unsafe(no_mangle)]
-pub unsafe extern "C" fn cqs_semaphore_end(at: *mut u8)
-    ghost semaphore: { Semaphore }
+pub unsafe extern "C" fn cqs_end(at: *mut u8)
+    ghost primitive: { Primitive }
     requires testable { Testable at }
-    requires* memory { sem 𝓛 (if_non_null at (lies_at the_row full_share at semaphore)) }
+    requires* memory { sem 𝓛 (if_non_null at (lies_at the_row full_share at primitive)) }
     ensures* room { sem 𝓛 (if_non_null at (room_at the_row at)) }
 {
     if at.is_null() {
         return;
     }
-    let_go((at as *mut NumberedSemaphore).read());
+    let_go((at as *mut Numbered).read());
 }

@@ -1,8 +1,8 @@
-//! The semaphore for callers in C, and in every language that can call C: a static library.
+//! The primitives for callers in C, and in every language that can call C: a static library.
 //!
-//! `bindings/c/cqs.h` declares the exports, and says what each answer means. C has one pointer to a
-//! semaphore, and names passes and waits by numbers (`cqs_by_number`). Each export tests its
-//! pointer against null, and then makes one call.
+//! `bindings/c/cqs.h` gives each primitive the functions that C calls, over the three exports, and
+//! says what each answer means. C has one pointer to a primitive, and names passes and waits by
+//! numbers (`cqs_by_number`). The exports that take it test it against null first.
 #![tactic(auto)]
 
 mod answers;

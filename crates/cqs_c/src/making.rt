@@ -1,15 +1,30 @@
-//! How C gets a semaphore.
+//! How C gets a primitive.
 
-use cqs_by_number::NumberedSemaphore;
+use cqs_by_number::Numbered;
 use cqs_rule::{Config, MakeError};
 use std::alloc::Global;
 
-/// A semaphore with its first pass, which has number 0, written through `out`. Each pass has room
-/// for so many waits.
-#[unsafe(no_mangle)]
-pub extern "C" fn cqs_semaphore_new(
+// The primitive of this kind: a semaphore of so many permits.
+fn make(
     alloc: Global,
-    permits: u32,
+    kind: u32,
+    size: u32,
+    config: Config,
+    waits: u32,
+) -> Result<Numbered, MakeError> {
+    match kind {
+        0 => Numbered::semaphore(alloc, size, config, waits),
+        _ => Err(MakeError::BadConfig),
+    }
+}
+
+/// A primitive of this kind with its first pass, which has number 0, written through `out`. Each
+/// pass has room for so many waits.
+#[unsafe(no_mangle)]
+pub extern "C" fn cqs_new(
+    alloc: Global,
+    kind: u32,
+    size: u32,
     passes: u32,
     limit: u64,
     waits: u32,
@@ -23,7 +38,7 @@ pub extern "C" fn cqs_semaphore_new(
         limit,
         slots: 2 * passes + 2,
     };
-    let made = match NumberedSemaphore::new(alloc, permits, config, waits) {
+    let made = match make(alloc, kind, size, config, waits) {
         Ok(made) => made,
         Err(MakeError::BadConfig) => return 13,
         Err(MakeError::Memory) => return 11,

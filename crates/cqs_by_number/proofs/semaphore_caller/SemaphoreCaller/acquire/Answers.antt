@@ -1,0 +1,53 @@
+use Rattle.std.proofs.Common.{◌≡◌, ◌≢◌, ◌++◌, ◌∷◌, [], All, ap, subst, sym}
+use Rattle.std.proofs.lemmas.List.Elements.{All-push}
+use Rattle.cqs_rule.specs.declared.view.Facts.{Facts}
+use Rattle.cqs_rule.specs.declared.config.Place.{Place}
+use Rattle.cqs_rule.specs.Passes.{pass_view}
+use Rattle.cqs_rule.specs.Waits.{place_of}
+use Rattle.cqs_semaphore.specs.Calls.{IsMine, IsReady}
+use Rattle.cqs_by_number.specs.Waits.{HasAt, Apart}
+use Rattle.cqs_by_number.proofs.SemaphoreKept.{kept-same, kept-more, new-apart, took-waits, owes-none}
+use Rattle.cqs_by_number.proofs.Waits.{apart_push}
+use Rattle.cqs_by_number.proofs.semaphore_caller.SemaphoreCaller.acquire.Goals as goal
+
+pub returns-in-Ok-Now-clause-stands : goal.returns-in-Ok-Now-clause-stands
+returns-in-Ok-Now-clause-stands c =
+    let took = rw c.in-Ok-Now.field-0-is at c.in-Ok-Now.ensures.acquired in
+    record {
+      belongs = c.acquire.ensures.belongs;
+      owes = owes-none _ _ c.if-is_some.ensures c.acquire.ensures.ready;
+      waits = kept-same _ _ _ (took-waits _ _ _ took) c.requires.stands.waits;
+      apart = c.requires.stands.apart;
+    }
+
+pub returns-in-Ok-Later-clause-stands : goal.returns-in-Ok-Later-clause-stands
+returns-in-Ok-Later-clause-stands c =
+    let later = rw c.in-Ok-Later.field-0-is at c.in-Ok-Later.ensures.acquired in
+    let v = pass_view c.args.self.now.pass in
+    let w = pass_view c.acquire.new.pass in
+    let k = (place_of c.in-Ok-Later.wait).index in
+    let more : w.facts.waits ≡ v.facts.waits ++ k ∷ [] = later.3.waits_are in
+    let same = c.spend_wait-at.ensures.same in
+    let at = c.spend_wait-at.ensures.place in
+    let others = new-apart v w k _ c.acquire.ensures.belongs.live.inside more c.requires.stands.waits in
+    let has : HasAt w (place_of c.in-Ok-Later.wait) = record { open_yet = later.2.open_yet; place = later.2.place } in
+    let all : All (HasAt w) (c.args.self.now.waits.items ++ c.spend_wait-at.result ∷ []) =
+    All-push (HasAt w) _ _ (kept-more v w k _ more c.requires.stands.waits) (subst (HasAt w) (sym at) has) in
+    let apart = apart_push _ c.spend_wait-at.result c.requires.stands.apart
+    (subst (λ (p : Place). All (λ y. y.index ≢ p.index) c.args.self.now.waits.items) (sym at) others) in
+    record {
+      belongs = subst (IsMine c.args.semaphore.now) (sym same) c.acquire.ensures.belongs;
+      owes = owes-none _ _ c.if-is_some.ensures
+          (subst (λ p. IsReady (pass_view p).facts) (sym same) c.acquire.ensures.ready);
+      waits = subst (λ p. All (HasAt (pass_view p)) c.push_reserved.new.self.items) (sym same)
+          (subst (All (HasAt w)) (sym c.push_reserved.ensures.items) all);
+      apart = subst Apart (sym c.push_reserved.ensures.items) apart;
+    }
+
+pub returns-in-Err-clause-stands : goal.returns-in-Err-clause-stands
+returns-in-Err-clause-stands c = record {
+  belongs = c.acquire.ensures.belongs;
+  owes = owes-none _ _ c.if-is_some.ensures c.acquire.ensures.ready;
+  waits = kept-same _ _ _ (ap (λ (f : Facts). f.waits) c.in-Err.ensures.worn.facts_are) c.requires.stands.waits;
+  apart = c.requires.stands.apart;
+}

@@ -4,7 +4,7 @@
 ghost use Rattle.std.specs.Prelude.{◌≡◌, ◌<◌, true};
 ghost use Rattle.cqs_core.specs.declared.doings.Doing.TheVariants.{Door, Idle, Owes};
 ghost use Rattle.cqs_rule.specs.Passes.{pass_view, IsOf};
-ghost use Rattle.cqs_rule.specs.Waits.{HasWait};
+ghost use Rattle.cqs_rule.specs.Waits.{HasWait, place_of};
 
 use cqs_resume::{Resumed, resume};
 use cqs_rule::{Config, Pass, Queue, SemClient, Wait, give_permit, take_permit};
@@ -41,6 +41,7 @@ pub fn wait(rt: &impl Abort, queue: &Queue<SemClient>, pass: &mut Pass<SemClient
     ensures idle { (pass_view pass.new).facts.doing ≡ Idle }
     ensures holds { 0 < (pass_view pass.new).facts.has.held }
     ensures waits { HasWait (pass_view pass.new) result }
+    ensures below { (place_of result).index < (pass_view pass.new).cells }
 {
     come(rt, queue, pass);
     let Suspended::Waits(wait) = suspend(queue, pass) else {
@@ -59,6 +60,8 @@ pub fn owe(rt: &impl Abort, queue: &Queue<SemClient>, pass: &mut Pass<SemClient>
     ensures belongs { IsOf queue.now pass.new }
     ensures owes { (pass_view pass.new).facts.doing ≡ Owes }
     ensures payload { (pass_view pass.new).facts.has.payload ≡ 0 }
+    ensures reached { (pass_view pass.new).facts.reached ≡ 0 }
+    ensures some { 0 < (pass_view pass.new).cells }
 {
     wait(rt, queue, pass);
     let given = give_permit(queue, pass);

@@ -1,3 +1,5 @@
+use Rattle.std.proofs.Common.{subst, sym}
+use Rattle.cqs_rule.specs.Passes.{IsOf}
 use Rattle.cqs_tests.proofs.Waiting.{stands}
 use Rattle.cqs_tests.proofs.queue_calls.looks_at_a_wait.Goals as goal
 
@@ -8,3 +10,11 @@ look-requires-clause-place g c =
 pub look-requires-2-clause-place : goal.look-requires-2-clause-place
 look-requires-2-clause-place g c =
     stands _ _ c.wait-wait.result _ c.spend_wait-at.ensures.place c.wait-wait.ensures.waits
+
+pub look-requires-clause-belongs : goal.look-requires-clause-belongs
+look-requires-clause-belongs g c =
+    subst (λ p. IsOf c.in_ok-queue.queue p) (sym c.spend_wait-at.ensures.same) c.wait-wait.ensures.belongs
+
+pub look-requires-clause-may : goal.look-requires-clause-may
+look-requires-clause-may g c =
+    rw (c.spend_wait-at.ensures.same, c.spend_wait-at.ensures.place) c.wait-wait.ensures.below

@@ -92,10 +92,20 @@ enum {
 /* The exports, by which the functions below are written. `size` is how many permits a semaphore
  * has; `number` is that of a wait, or of the given pass of a meet. `out` is written to where the
  * answer is CQS_NEW. */
-enum { CQS_KIND_SEMAPHORE = 0 };
 enum {
-    CQS_DO_ENTER = 0, CQS_DO_TRY = 1, CQS_DO_POLL = 2, CQS_DO_CANCEL = 3, CQS_DO_LEAVE = 4,
-    CQS_DO_FINISH = 5, CQS_DO_STATE = 6, CQS_DO_SOLE = 7, CQS_DO_SPLIT = 8, CQS_DO_MEET = 9
+    CQS_KIND_SEMAPHORE = 0
+};
+enum {
+    CQS_DO_ENTER = 0,
+    CQS_DO_TRY = 1,
+    CQS_DO_POLL = 2,
+    CQS_DO_CANCEL = 3,
+    CQS_DO_LEAVE = 4,
+    CQS_DO_FINISH = 5,
+    CQS_DO_STATE = 6,
+    CQS_DO_SOLE = 7,
+    CQS_DO_SPLIT = 8,
+    CQS_DO_MEET = 9
 };
 uint32_t cqs_new(uint32_t kind, uint32_t size, uint32_t passes, uint64_t limit, uint32_t waits,
                  void **out);

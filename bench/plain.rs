@@ -4,6 +4,8 @@
 //! memory and prints the nanoseconds of the run and a sum over the report's bytes, by which the two reports are compared; `plain
 //! report NAME` prints the report, and `plain make NAME` makes the plan alone. The names are those of `named_plan`; a number after
 //! a name is how many turns the plan has.
+//! `plain gen NUMBER JOBS` makes the plan of a number and runs it, and prints the nanoseconds of both and a sum over what its report says
+//! after the last turn; `plain summary NUMBER JOBS` prints that text.
 //! `plain free`, `plain pairs` and `plain leaves` make the rounds of the running queue on atomic words, `plain leave` and
 //! `plain leave-behind` those of a semaphore whose waiter looks and leaves; `ROUNDS` after them is how many.
 
@@ -111,6 +113,36 @@ fn named_plan(name: &str) -> Option<Plan> {
         "events" => Some(events()),
         _ => None,
     }
+}
+
+/// The linear congruence that the C standard gives as an example for `rand`, of which the upper 15 bits are drawn.
+struct Draws {
+    state: u32,
+}
+
+impl Draws {
+    fn draw(&mut self) -> u32 {
+        self.state = self.state.wrapping_mul(1_103_515_245).wrapping_add(12_345) & 0x7fff_ffff;
+        self.state >> 16
+    }
+}
+
+/// The plan of a number, as `cqs gen` makes it. Its pool of one element is as good as a semaphore of one permit: the summary names no
+/// element.
+fn generated(number: u32, jobs: u32) -> Plan {
+    let mut draws = Draws { state: number };
+    let jobs: Vec<Job> = (0..jobs)
+        .map(|j| {
+            let (first, second, third) = (draws.draw(), draws.draw(), draws.draw());
+            let mut steps = vec![Step::Work(first % 5 + 1), Step::Take(0)];
+            if second % 2 == 1 {
+                steps.push(Step::Take(1));
+            }
+            steps.push(Step::Work(second % 4 + 1));
+            Job { name: format!("j{j}"), steps, deadline: (third % 3 == 0).then_some(third % 30 + 1) }
+        })
+        .collect();
+    Plan { turns: 8 * jobs.len() as u32 + 16, resources: vec![("db".into(), 2), ("buf".into(), 1)], jobs }
 }
 
 fn write_plan(plan: &Plan) -> String {
@@ -304,6 +336,17 @@ impl Run<'_> {
 }
 
 fn run(plan: &Plan) -> String {
+    run_and_mark(plan).0
+}
+
+/// What the report says after the last turn.
+fn summary(plan: &Plan) -> String {
+    let (mut report, end) = run_and_mark(plan);
+    report.split_off(end)
+}
+
+/// The report, and where its lines of the turns end.
+fn run_and_mark(plan: &Plan) -> (String, usize) {
     let Plan { turns, resources, jobs } = plan;
     let semaphores = resources
         .iter()
@@ -317,6 +360,7 @@ fn run(plan: &Plan) -> String {
             run.turn(turn, job, &mut progress[i], &mut holds[i]);
         }
     }
+    let end = run.report.len();
     for (r, (name, _)) in resources.iter().enumerate() {
         let held = holds.iter().flatten().filter(|held| **held == r).count() + run.semaphores[r].ready;
         let (free, line) = (run.semaphores[r].free, run.semaphores[r].inside);
@@ -328,7 +372,7 @@ fn run(plan: &Plan) -> String {
     let late = count(|p| matches!(p, Progress::Late));
     let unfinished = jobs.len() - done - gaveup - late;
     let _ = writeln!(run.report, "total done {done} gaveup {gaveup} late {late} unfinished {unfinished}");
-    run.report
+    (run.report, end)
 }
 
 /// From this suspend counter on no caller draws a number.
@@ -510,13 +554,25 @@ fn time_rounds(name: &str, rounds: u64, taken: u64, round: impl Fn(&Words, &mut 
     let _ = writeln!(std::io::stdout(), "{name} {nanoseconds} rounds {rounds} held {}", caller.held);
 }
 
-/// Times a run, and prints its nanoseconds and a sum over the report.
-fn time_run(plan: &Plan) {
+/// Times the making of a text, and prints its nanoseconds and a sum over it.
+fn time_text(name: &str, make: impl FnOnce() -> String) {
     let start = Instant::now();
-    let report = run(plan);
+    let text = make();
     let nanoseconds = start.elapsed().as_nanos();
-    let sum: u64 = report.bytes().fold(0, |sum, byte| sum.wrapping_mul(31).wrapping_add(u64::from(byte)));
-    let _ = writeln!(std::io::stdout(), "run {nanoseconds} bytes {} sum {sum}", report.len());
+    let sum: u64 = text.bytes().fold(0, |sum, byte| sum.wrapping_mul(31).wrapping_add(u64::from(byte)));
+    let _ = writeln!(std::io::stdout(), "{name} {nanoseconds} bytes {} sum {sum}", text.len());
+}
+
+/// Does what a command with a number and a count of jobs says; tells whether they are such.
+fn with_number(command: &str, number: &str, jobs: &str) -> bool {
+    let (Ok(number), Ok(jobs)) = (number.parse(), jobs.parse()) else {
+        return false;
+    };
+    match command {
+        "gen" => time_text("gen", || summary(&generated(number, jobs))),
+        _ => print!("{}", summary(&generated(number, jobs))),
+    }
+    true
 }
 
 /// Does what a command with a plan's name says; tells whether there are such a command and such a plan.
@@ -528,7 +584,7 @@ fn with_plan(command: &str, name: &str, turns: Option<u32>) -> bool {
     match command {
         "plan" => print!("{}", write_plan(&plan)),
         "report" => print!("{}", run(&plan)),
-        "run" => time_run(&plan),
+        "run" => time_text("run", || run(&plan)),
         "make" => println!("made {}", plan.jobs.len()),
         _ => return false,
     }
@@ -564,12 +620,13 @@ fn main() {
             time_rounds("leave-behind", rounds(), 1 + LIVE, look_and_leave_round);
             true
         }
+        [command @ ("gen" | "summary"), number, jobs] => with_number(command, number, jobs),
         [command, name] => with_plan(command, name, None),
         [command, name, turns] => with_plan(command, name, turns.parse().ok()),
         _ => false,
     };
     if !known {
-        let usage = "usage: plain plan | make | run | report NAME [TURNS]; or plain large; or plain free | pairs | leaves | leave | leave-behind [ROUNDS]";
+        let usage = "usage: plain plan | make | run | report NAME [TURNS]; or plain gen | summary NUMBER JOBS; or plain large; or plain free | pairs | leaves | leave | leave-behind [ROUNDS]";
         let _ = writeln!(std::io::stderr(), "{usage}");
         std::process::exit(2);
     }

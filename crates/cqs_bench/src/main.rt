@@ -1,6 +1,6 @@
 //! Times what the program does with a plan on standard input: the parse of its document, the
 //! reading of the plan, its run, or the reading and the run together, beside a plain fold over the
-//! same parse. And times rounds of the running queue.
+//! same parse. And times the plan of a number, and rounds of the running queue.
 //!
 //! Each part prints one line, which starts with its word and its nanoseconds.
 #![tactic(auto)]
@@ -13,9 +13,10 @@ ghost use Rattle.cqs_plan.specs.Floor.{opening_floor};
 ghost use Rattle.cqs_plan.specs.Runnable.{AreBuilt, IsRunnable};
 
 use cqs_cli::{CoreFloor, QueueFloor};
+use cqs_generator::make_plan;
 use cqs_plan::{Floor, Plan, read_plan};
 use cqs_rule::{CancelMode, Config, Queue, SemClient};
-use cqs_turns::{Report, run_plan};
+use cqs_turns::{Report, run_plan, summarize_plan};
 use rounds::{LIMIT, free_rounds, leave_rounds, pair_rounds};
 use std::alloc::Global;
 use std::env;
@@ -24,7 +25,7 @@ use std::process::ExitCode;
 use std::rt::Clock;
 use std::time::Instant;
 
-const USAGE: &str = "usage: cqs_bench toml | plan | run | cores | whole | fold < PLAN; \
+const USAGE: &str = "usage: cqs_bench toml | plan | run | cores | whole | fold < PLAN; gen; \
     free | pairs | leaves [ROUNDS]";
 
 const BAD_COMMAND: u8 = 2;
@@ -163,6 +164,32 @@ fn time_fold(rt: &(impl Clock + Print + AllocGlobal), bytes: &[u8]) -> anyhow::R
     tell_report(rt, "fold", start, report.as_bytes())
 }
 
+/// The number whose plan is timed, and its jobs.
+const NUMBER: u32 = 1;
+
+const JOBS: u32 = 4096;
+
+/// The making of the plan of a number and its run, to the lines after its last turn.
+fn summary_of(alloc: Global) -> anyhow::Result<Vec<u8>> {
+    let Ok(plan) = make_plan(alloc, NUMBER, JOBS) else {
+        anyhow::bail!("no memory for the plan");
+    };
+    let Ok(mut floor) = QueueFloor::new(alloc, &plan) else {
+        anyhow::bail!("no memory for the floor");
+    };
+    match summarize_plan(alloc, &plan, &mut floor) {
+        Ok(summary) => Ok(summary),
+        Err(_) => anyhow::bail!("no memory for the report"),
+    }
+}
+
+/// The same, with the freeing of the plan and of its floor.
+fn time_number(rt: &(impl Clock + Print + AllocGlobal)) -> anyhow::Result<()> {
+    let start = Instant::now(rt)?;
+    let summary = summary_of(rt.alloc())?;
+    tell_report(rt, "gen", start, summary.as_slice())
+}
+
 /// Rounds of the running queue on a table of its own, which was made before.
 fn time_rounds(
     rt: &(impl Clock + Print + AllocGlobal),
@@ -201,6 +228,10 @@ fn main(rt: HostRuntime) -> anyhow::Result<ExitCode> {
     if ["free", "pairs", "leaves"].contains(&word.as_str()) {
         let wanted = env::args(&rt)?.nth(2).and_then(|text| text.parse().ok());
         time_rounds(&rt, word.as_str(), wanted.unwrap_or(LIMIT))?;
+        return Ok(ExitCode::SUCCESS);
+    }
+    if word.as_str() == "gen" {
+        time_number(&rt)?;
         return Ok(ExitCode::SUCCESS);
     }
     let mut bytes = Vec::new(rt.alloc());

@@ -39,6 +39,7 @@ const SLEEP: u64 = 16;
 #[derive(Clone, Copy, Drop)]
 enum Alone {
     Semaphore(Round),
+    Line,
     Mutex,
     Pool,
 }
@@ -49,7 +50,7 @@ fn alone_of(word: &str) -> Option<Alone> {
         "leave" => Some(Alone::Semaphore(Round::Leave)),
         "leave-behind" => Some(Alone::Semaphore(Round::LeaveBehind)),
         "served" => Some(Alone::Semaphore(Round::Served)),
-        "waiting" => Some(Alone::Semaphore(Round::Waiting)),
+        "waiting" => Some(Alone::Line),
         "mutex-free" => Some(Alone::Mutex),
         "pool-free" => Some(Alone::Pool),
         _ => None,
@@ -97,6 +98,7 @@ fn rounds_of(crew: Crew, waiting: Waiting, count: u64) -> u64 {
 fn time_alone<R: Clock + AllocGlobal>(rt: &R, alone: Alone, count: u64) -> anyhow::Result<u64> {
     match alone {
         Alone::Semaphore(round) => semaphores::time(rt, round, count),
+        Alone::Line => semaphores::time_waiting(rt, count),
         Alone::Mutex => mutexes::time_free(rt, count),
         Alone::Pool => pools::time_free(rt, count),
     }

@@ -30,8 +30,6 @@ pub enum Round {
     LeaveBehind,
     /// A wait is served.
     Served,
-    /// A waiter comes, and stays in line.
-    Waiting,
 }
 
 /// The nanoseconds of so many rounds, on a semaphore of one permit of its own.
@@ -44,7 +42,6 @@ pub fn time<R: Clock + AllocGlobal>(rt: &R, round: Round, count: u64) -> anyhow:
         Round::Leave => time_leave(rt, &semaphore, &mut pass, 0, count),
         Round::LeaveBehind => time_leave(rt, &semaphore, &mut pass, LIVE, count),
         Round::Served => time_served(rt, &semaphore, &mut pass, count),
-        Round::Waiting => time_waiting(rt, &semaphore, &mut pass, count),
     }
 }
 
@@ -100,21 +97,20 @@ fn time_served(
     nanoseconds_since(rt, start, done)
 }
 
-/// The pass takes the permit before the waiters come; they all stand in line at the end.
-fn time_waiting<R: Clock + AllocGlobal>(
-    rt: &R,
-    semaphore: &Semaphore,
-    pass: &mut SemPass,
-    count: u64,
-) -> anyhow::Result<u64>
-    requires idle { IsIdle semaphore.now pass.old }
-{
-    let Ok(Acquired::Now(_)) = semaphore.acquire(pass) else {
+/// The nanoseconds in which so many waiters come, who all stand in line at the end. It has a
+/// function of its own, since its call gets the pass by its address: beside it the pass of the
+/// other rounds would lie in memory, too.
+#[inline(never)]
+pub fn time_waiting<R: Clock + AllocGlobal>(rt: &R, count: u64) -> anyhow::Result<u64> {
+    let Ok((semaphore, mut pass)) = Semaphore::new(rt.alloc(), 1, CONFIG) else {
+        anyhow::bail!("no memory for the semaphore");
+    };
+    let Ok(Acquired::Now(_)) = semaphore.acquire(&mut pass) else {
         anyhow::bail!("no permit was free");
     };
     let mut waits = Vec::with_capacity(rt.alloc(), count as usize)?;
     let start = Instant::now(rt)?;
-    line_up(semaphore, pass, &mut waits, count)?;
+    line_up(&semaphore, &mut pass, &mut waits, count)?;
     let done = waits.len() as u64 == count;
     nanoseconds_since(rt, start, done)
 }

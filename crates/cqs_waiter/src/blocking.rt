@@ -1,18 +1,20 @@
 //! A call that comes back with the permit.
 
-ghost use Rattle.std.specs.Prelude.{None};
+ghost use Rattle.std.specs.Prelude.{◌≡◌, None};
 ghost use Rattle.cqs_rule.specs.Passes.{pass_view};
+ghost use Rattle.cqs_rule.specs.Waits.{HasWait};
 ghost use Rattle.cqs_semaphore.specs.Calls.{IsMine, IsReady};
 ghost use Rattle.cqs_waiter.specs.Arrivals.{Arrives};
 
-use cqs_rule::AcquireError;
+use crate::looks::Looks;
+use cqs_rule::{AcquireError, Wait};
 use cqs_semaphore::{Acquired, Permit, Polled, SemPass, Semaphore};
-use std::sync::Wait;
+use std::sync::Wait as MayWait;
 
-/// Acquires, and where a wait came of that, sleeps until its permit has come. The thread parks on
-/// the cell of its wait; whoever serves the wait wakes it. It is refused as `acquire` is, and then
-/// hasn't slept.
-pub fn acquire_wait<R: Wait>(
+/// Acquires, and where a wait came of that, looks a while and then sleeps until its permit has
+/// come. The thread parks on the cell of its wait; whoever serves the wait wakes it. It is refused
+/// as `acquire` is, and then hasn't slept.
+pub fn acquire_wait<R: MayWait>(
     rt: &R,
     semaphore: &Semaphore,
     pass: &mut SemPass,
@@ -28,12 +30,30 @@ pub fn acquire_wait<R: Wait>(
         Ok(Acquired::Now(permit)) => return Ok(permit),
         Err(refused) => return Err(refused),
     };
+    let mut looks = Looks::new();
     for _ in rt.forever() {
         match semaphore.poll(pass, wait) {
             Polled::Granted(permit) => return Ok(permit),
             Polled::Pending(again) => wait = again,
         }
-        semaphore.queue().park_wait(rt, pass, &wait);
+        pause(rt, semaphore, pass, &wait, &mut looks);
     }
     unreachable!()
+}
+
+// Before the next look: a pause, or a sleep once the looks before it are used up.
+fn pause<R: MayWait>(
+    rt: &R,
+    semaphore: &Semaphore,
+    pass: &mut SemPass,
+    wait: &Wait,
+    looks: &mut Looks,
+)
+    requires belongs { IsMine semaphore.now pass.old }
+    requires has { HasWait (pass_view pass.old) wait.now }
+    ensures same { pass.new ≡ pass.old }
+{
+    if !looks.once_more() {
+        semaphore.queue().park_wait(rt, pass, wait);
+    }
 }

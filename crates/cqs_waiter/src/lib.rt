@@ -12,7 +12,8 @@
 //!  acquire, lock, take ----- it is free -------------> ready, or back with it
 //!     |  a wait                     |  a wait
 //!     v                             v
-//!  look, pending: yields         look, pending: parks on the cell of the wait, until it is served
+//!  look, pending: yields         look, pending: pauses; after some looks it parks
+//!                                on the cell of the wait, until it is served
 //! ```
 #![tactic(auto)]
 
@@ -20,6 +21,7 @@ mod acquire_future;
 mod blocking;
 mod lock_future;
 mod locking;
+mod looks;
 mod take_future;
 mod taking;
 

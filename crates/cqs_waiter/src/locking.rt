@@ -1,18 +1,21 @@
 //! A call that comes back with the mutex.
 
-ghost use Rattle.std.specs.Prelude.{None};
+ghost use Rattle.std.specs.Prelude.{◌≡◌, None};
 ghost use Rattle.cqs_rule.specs.Passes.{pass_view};
+ghost use Rattle.cqs_rule.specs.Waits.{HasWait};
 ghost use Rattle.cqs_semaphore.specs.Calls.{IsReady};
+ghost use Rattle.cqs_mutex.specs.Guards.{wait_in};
 ghost use Rattle.cqs_mutex.specs.Mutexes.{Belongs};
 ghost use Rattle.cqs_waiter.specs.Locks.{LockArrives};
 
-use cqs_mutex::{Guard, Locked, Mutex, MutexPass, PolledLock};
+use crate::looks::Looks;
+use cqs_mutex::{Guard, LockWait, Locked, Mutex, MutexPass, PolledLock};
 use cqs_rule::AcquireError;
 use std::sync::Wait;
 
-/// Locks, and where a wait came of that, sleeps until the mutex has come. The thread parks on the
-/// cell of its wait; whoever serves the wait wakes it. It is refused as `lock` is, and then hasn't
-/// slept.
+/// Locks, and where a wait came of that, looks a while and then sleeps until the mutex has come.
+/// The thread parks on the cell of its wait; whoever serves the wait wakes it. It is refused as
+/// `lock` is, and then hasn't slept.
 pub fn lock_wait<R: Wait, T: Send + Drop>(
     rt: &R,
     mutex: &Mutex<T>,
@@ -29,12 +32,30 @@ pub fn lock_wait<R: Wait, T: Send + Drop>(
         Ok(Locked::Now(guard)) => return Ok(guard),
         Err(refused) => return Err(refused),
     };
+    let mut looks = Looks::new();
     for _ in rt.forever() {
         match mutex.poll(pass, wait) {
             PolledLock::Granted(guard) => return Ok(guard),
             PolledLock::Pending(again) => wait = again,
         }
-        mutex.park_wait(rt, pass, &wait);
+        pause(rt, mutex, pass, &wait, &mut looks);
     }
     unreachable!()
+}
+
+// Before the next look: a pause, or a sleep once the looks before it are used up.
+fn pause<R: Wait, T: Send + Drop>(
+    rt: &R,
+    mutex: &Mutex<T>,
+    pass: &mut MutexPass<T>,
+    wait: &LockWait,
+    looks: &mut Looks,
+)
+    requires belongs { Belongs mutex.now pass.old }
+    requires has { HasWait (pass_view pass.old) (wait_in wait.now) }
+    ensures same { pass.new ≡ pass.old }
+{
+    if !looks.once_more() {
+        mutex.park_wait(rt, pass, wait);
+    }
 }

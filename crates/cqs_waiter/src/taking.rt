@@ -1,20 +1,22 @@
 //! A call that comes back with an item of a pool.
 
-ghost use Rattle.std.specs.Prelude.{None};
+ghost use Rattle.std.specs.Prelude.{◌≡◌, None};
 ghost use Rattle.cqs_rule.specs.Passes.{pass_view};
+ghost use Rattle.cqs_rule.specs.Waits.{HasWait};
 ghost use Rattle.cqs_pool.specs.Calls.{IsReady};
 ghost use Rattle.cqs_value_pool.specs.Pools.{Belongs};
 ghost use Rattle.cqs_waiter.specs.TakeFutures.{HasItem};
 ghost use Rattle.cqs_waiter.specs.Takes.{ItemArrives};
 
-use cqs_rule::AcquireError;
+use crate::looks::Looks;
+use cqs_rule::{AcquireError, Wait};
 use cqs_value_pool::{Item, ItemPolled, ItemTaking, ValuePass, ValuePool};
-use std::sync::Wait;
+use std::sync::Wait as MayWait;
 
-/// Takes, and where a wait came of that, sleeps until an item has come. The thread parks on the
-/// cell of its wait; whoever serves the wait wakes it. It is refused as `take` is, and then hasn't
-/// slept.
-pub fn take_wait<R: Wait, T: Send + Drop>(
+/// Takes, and where a wait came of that, looks a while and then sleeps until an item has come. The
+/// thread parks on the cell of its wait; whoever serves the wait wakes it. It is refused as `take`
+/// is, and then hasn't slept.
+pub fn take_wait<R: MayWait, T: Send + Drop>(
     rt: &R,
     pool: &ValuePool<T>,
     pass: &mut ValuePass<T>,
@@ -31,12 +33,30 @@ pub fn take_wait<R: Wait, T: Send + Drop>(
         Ok(ItemTaking::Took(item)) => return Ok(item),
         Err(refused) => return Err(refused),
     };
+    let mut looks = Looks::new();
     for _ in rt.forever() {
         match pool.poll(pass, wait) {
             ItemPolled::Granted(item) => return Ok(item),
             ItemPolled::Pending(again) => wait = again,
         }
-        pool.park_wait(rt, pass, &wait);
+        pause(rt, pool, pass, &wait, &mut looks);
     }
     unreachable!()
+}
+
+// Before the next look: a pause, or a sleep once the looks before it are used up.
+fn pause<R: MayWait, T: Send + Drop>(
+    rt: &R,
+    pool: &ValuePool<T>,
+    pass: &mut ValuePass<T>,
+    wait: &Wait,
+    looks: &mut Looks,
+)
+    requires belongs { Belongs pool.now pass.old }
+    requires has { HasWait (pass_view pass.old) wait.now }
+    ensures same { pass.new ≡ pass.old }
+{
+    if !looks.once_more() {
+        pool.park_wait(rt, pass, wait);
+    }
 }

@@ -24,7 +24,4 @@ pub loop-preserved : goal.loop-preserved
 loop-preserved g c =
     let called = rw c.in-Pending.is at c.poll.ensures.called in
     let polled = rw c.in-Pending.is at c.poll.ensures.polled in
-    rw c.park_wait.ensures.same (c.poll.ensures.belongs, still-more _ _ _ _ _ c.loop.invariant.1 called polled)
-
-pub park_wait-requires-clause-belongs : goal.park_wait-requires-clause-belongs
-park_wait-requires-clause-belongs g c = rw c.queue.ensures c.poll.ensures.belongs
+    rw c.pause.ensures.same (c.poll.ensures.belongs, still-more _ _ _ _ _ c.loop.invariant.1 called polled)

@@ -28,4 +28,4 @@ returns-in-Granted-clause-arrives g c =
 pub loop-preserved : goal.loop-preserved
 loop-preserved g c =
     let polled = rw c.in-Pending.is at c.poll.ensures.polled in
-    rw c.park_wait.ensures.same (c.poll.ensures.belongs, lock-more _ _ _ _ _ c.loop.invariant.1 polled)
+    rw c.pause.ensures.same (c.poll.ensures.belongs, lock-more _ _ _ _ _ c.loop.invariant.1 polled)

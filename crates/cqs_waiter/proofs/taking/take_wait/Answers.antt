@@ -39,7 +39,7 @@ pub loop-preserved : goal.loop-preserved
 loop-preserved g c =
     let polled = rw c.in-Pending.is at c.poll.ensures.polled in
     let leaves = rw c.in-Pending.is at c.poll.ensures.leaves in
-    rw c.park_wait.ensures.same (record {
+    rw c.pause.ensures.same (record {
       belongs = c.poll.ensures.belongs;
       ready = c.poll.ensures.ready;
       has = leaves.1;

@@ -30,8 +30,8 @@ plain-at q k each = by (slice_get q.cells k) refl
     by None there = tt
     by (Some cell) there = each.at k cell there
 
-pub shows-plain : {T : Type 0} (x : LatchClient) → mode_of x ≡ Simple
-    → ShowsPlain (primitive_of {T = T}) (primitive_of {T = T} x).opening
+pub shows-plain : {T : Type 0} (x : LatchClient T) → mode_of x ≡ Simple
+    → ShowsPlain (primitive_of {T = T}) (primitive_of x).opening
 shows-plain x simple = record {
   each = λ y c words log handed same shown k.
       let is : mode_of y ≡ Simple = ap (λ (o : Opening). o.mode) same ∙ simple in

@@ -26,7 +26,7 @@ abbrev plain : Opening → List LatchEntry → Latch
 plain o history = object_after (is_simple o.mode) o.size history
 
 module _ {T : Type 0} where
-  abbrev pub primitive_of : LatchClient → Primitive LatchEntry T
+  abbrev pub primitive_of : LatchClient T → Primitive LatchEntry T
   primitive_of x = latch_primitive (mode_of x) (count_of x)
 
   module _ (opening : Opening) (fact : Hidden → List ℕ → Type 0) (history : List LatchEntry)

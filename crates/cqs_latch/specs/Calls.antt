@@ -22,12 +22,12 @@ pub record IsReady (f : Facts) : Type 0 where
   pub idle : f.doing ≡ doing.Idle
   pub further : f.has.further ≡ 0
 
--- the pass is one of this latch
-abbrev pub IsMine : {g : Ghosts LatchClient (Unit {0}) LatchEntry} → Latch
-    → Pass LatchClient (Unit {0}) LatchEntry g → Type 0
-IsMine l p = IsOf l.queue p
-
 module _ {T : Type 0} where
+  -- the pass is one of this latch
+  abbrev pub IsMine : {g : Ghosts (LatchClient T) T LatchEntry} → Latch T
+      → Pass (LatchClient T) T LatchEntry g → Type 0
+  IsMine l p = IsOf l.queue p
+
   -- the history is one that the plain latch allows which opened so
   abbrev pub IsLegalOf : View LatchEntry T → Type 0
   IsLegalOf v = IsLegal (is_simple v.opening.mode) v.opening.size v.seen

@@ -22,7 +22,7 @@ abbrev pub cell_of : ℕ → CoreState → ℕ → Glimpse
 cell_of k state payload = record { number = k; state = state; payload = payload }
 
 module _ {T : Type 0} where
-  abbrev pub primitive_of : LatchClient → Primitive LatchEntry T
+  abbrev pub primitive_of : LatchClient T → Primitive LatchEntry T
   primitive_of x = latch_primitive (mode_of x) (count_of x)
 
   -- A step of the call found the word i to be n, and this held of it and of the plain latch at its

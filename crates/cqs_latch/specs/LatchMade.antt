@@ -4,9 +4,9 @@ use Rattle.cqs_latch.specs.declared.client.LatchClient.{LatchClient}
 use Rattle.cqs_rule.specs.declared.config.CancelMode.{CancelMode}
 
 -- how often it is to be counted down
-abbrev pub count_of : LatchClient → ℕ
+abbrev pub count_of : {T : Type 0} → LatchClient T → ℕ
 count_of x = x.count
 
 -- how its waits leave
-abbrev pub mode_of : LatchClient → CancelMode
+abbrev pub mode_of : {T : Type 0} → LatchClient T → CancelMode
 mode_of x = x.mode

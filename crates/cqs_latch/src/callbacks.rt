@@ -3,10 +3,10 @@
 use crate::client::LatchClient;
 use crate::events::Decide;
 use crate::steps::WAITERS;
-use cqs_rule::{Client, Pass, Queue};
+use cqs_rule::{Carries, Client, Pass, Queue};
 use cqs_words::WaitersWord;
 
-impl Client for LatchClient {
+impl<T: Carries + Send> Client for LatchClient<T> {
     ghost use Rattle.cqs_latch.specs.LatchEvents.{leaves};
     ghost use Rattle.cqs_rule.specs.Callbacks.{by_step};
 

@@ -16,12 +16,12 @@ use crate::latch::{Latch, LatchPass};
 use crate::waking::handed_back;
 use cqs_cancel::{AtOnce, Left, cancel, cancel_at_once};
 use cqs_resume::resume;
-use cqs_rule::{CancelMode, Under, Wait};
+use cqs_rule::{CancelMode, Carries, Under, Wait};
 
-impl Latch {
+impl<T: Carries + Send> Latch<T> {
     /// Ends a wait: the caller leaves, or the latch was opened and the wait served before. Where a
     /// resumption was left to the caller who leaves, it goes on to the next who waits.
-    pub fn cancel(&self, pass: &mut LatchPass, wait: Wait) -> LatchLeft
+    pub fn cancel(&self, pass: &mut LatchPass<T>, wait: Wait) -> LatchLeft
         requires belongs { IsMine self.now pass.old }
         requires ready { IsReady (pass_view pass.old).facts }
         requires has { HasWait (pass_view pass.old) wait }
@@ -41,7 +41,7 @@ impl Latch {
     }
 
     // The canceller is counted out before the latch opens, or is refused.
-    fn cancel_smart(&self, pass: &mut LatchPass, wait: Wait) -> LatchLeft
+    fn cancel_smart(&self, pass: &mut LatchPass<T>, wait: Wait) -> LatchLeft
         requires belongs { IsMine self.now pass.old }
         requires smart { mode_of (client_of self.now.queue) ≡ Smart }
         requires ready { IsReady (pass_view pass.old).facts }
@@ -61,7 +61,7 @@ impl Latch {
     }
 
     // Goes on with the resumption that had left its value to the caller.
-    fn pass_on(&self, pass: &mut LatchPass, payload: u32) -> Option<Under>
+    fn pass_on(&self, pass: &mut LatchPass<T>, payload: u32) -> Option<Under>
         requires belongs { IsMine self.now pass.old }
         requires smart { mode_of (client_of self.now.queue) ≡ Smart }
         requires owes { (pass_view pass.old).facts.doing ≡ doing.Owes }
@@ -73,7 +73,7 @@ impl Latch {
     }
 
     // The cell is a hole from now on, and the resumption that comes ends there.
-    fn cancel_simple(&self, pass: &mut LatchPass, wait: Wait) -> LatchLeft
+    fn cancel_simple(&self, pass: &mut LatchPass<T>, wait: Wait) -> LatchLeft
         requires belongs { IsMine self.now pass.old }
         requires simple { mode_of (client_of self.now.queue) ≡ Simple }
         requires ready { IsReady (pass_view pass.old).facts }

@@ -2,37 +2,45 @@
 
 ghost use Rattle.std.specs.Prelude.{◌≡◌, ◌≤◌};
 
+use atomic_table::{Shared, TableRule};
 use cqs_latch_object::LatchEntry;
-use cqs_rule::{CancelMode, ClientWords};
+use cqs_rule::{CancelMode, Carries, ClientWords};
 use cqs_words::{StateWord, WaitersWord};
+use std::marker::PhantomData;
 
-/// A count-down latch by its two words: the count, and the waiters with the done bit.
+/// A count-down latch by its two words: the count, and the waiters with the done bit. Nothing moves
+/// to those who wait; `T` says whether they may park.
 #[derive(Drop)]
-pub struct LatchClient {
+pub struct LatchClient<T = ()> {
     count: u32,
     mode: CancelMode,
+    parks: PhantomData<T>,
     ghost few: { count ≤ 1048576 },
 }
 
-impl LatchClient {
+impl<T> LatchClient<T> {
     ghost use Rattle.cqs_latch.specs.LatchMade.{count_of, mode_of};
 
     /// A latch that is to be counted down so often, and whose waits leave in this mode.
-    pub fn new(count: u32, mode: CancelMode) -> LatchClient
+    pub fn new(count: u32, mode: CancelMode) -> LatchClient<T>
         requires few { count ≤ 1048576 }
         ensures count { count_of result ≡ count }
         ensures mode { mode_of result ≡ mode }
     {
-        LatchClient { count, mode }
+        LatchClient {
+            count,
+            mode,
+            parks: PhantomData,
+        }
     }
 }
 
-impl ClientWords for LatchClient {
+impl<T: Carries> ClientWords for LatchClient<T> {
     ghost use Rattle.cqs_latch.specs.Latch.{latch_object, latch_primitive};
     ghost use Rattle.cqs_latch.specs.LatchClient.{latch-client};
     ghost use Rattle.cqs_latch.specs.LatchMade.{count_of, mode_of};
 
-    type Slot = ();
+    type Slot = T;
 
     type Entry = LatchEntry;
 
@@ -74,6 +82,10 @@ impl ClientWords for LatchClient {
 
     fn held_after_take(held: u32) -> u32 {
         held
+    }
+
+    fn wake<S, V, K, P: TableRule<S, V, K>>(words: &Shared<S, V, K, P>, word: usize) {
+        T::wake(words, word);
     }
 
     ghost keeps = { λ x. latch-client (mode_of x) (count_of x) };

@@ -14,13 +14,13 @@ use crate::answers::{Down, Owed};
 use crate::events::resumptions_for;
 use crate::latch::{Latch, LatchPass};
 use crate::steps::{count_down, load_to_count, open};
-use cqs_rule::Crowded;
+use cqs_rule::{Carries, Crowded};
 use cqs_words::StateWord;
 
-impl Latch {
+impl<T: Carries + Send> Latch<T> {
     /// Counts the latch down by one. Who counts down the last one opens it, and resumes each who
     /// waits.
-    pub fn count_down(&self, pass: &mut LatchPass) -> Result<Down, Crowded>
+    pub fn count_down(&self, pass: &mut LatchPass<T>) -> Result<Down, Crowded>
         requires belongs { IsMine self.now pass.old }
         requires ready { IsReady (pass_view pass.old).facts }
         ensures belongs { IsMine self.now pass.new }
@@ -60,7 +60,7 @@ impl Latch {
 
     /// Goes on with the resumptions of an opened latch that were handed back. It hands them back
     /// again where 64 more numbers were passed over.
-    pub fn finish(&self, pass: &mut LatchPass, owed: Owed) -> Result<(), Owed>
+    pub fn finish(&self, pass: &mut LatchPass<T>, owed: Owed) -> Result<(), Owed>
         requires belongs { IsMine self.now pass.old }
         requires owes { HasOwed (pass_view pass.old).facts owed }
         ensures belongs { IsMine self.now pass.new }

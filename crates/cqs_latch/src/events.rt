@@ -4,13 +4,13 @@ ghost use Rattle.std.specs.Prelude.{◌≡◌, ◌%◌, ◌^◌};
 ghost use Rattle.cqs_words.specs.Waiters.{waiters_in};
 
 use crate::client::LatchClient;
-use cqs_rule::Shown;
+use cqs_rule::{Carries, Shown};
 use cqs_words::WaitersWord;
 
 /// A count down loads the count: it is used up, or the pass is about to take one from it.
 pub struct LoadToCount;
 
-impl Shown<LatchClient> for LoadToCount {
+impl<T: Carries> Shown<LatchClient<T>> for LoadToCount {
     ghost use Rattle.cqs_latch.specs.LatchEvents.{loads_to_count};
 
     ghost event = { loads_to_count };
@@ -31,7 +31,7 @@ impl Shown<LatchClient> for LoadToCount {
 /// One is taken from the count.
 pub struct CountDown;
 
-impl Shown<LatchClient> for CountDown {
+impl<T: Carries> Shown<LatchClient<T>> for CountDown {
     ghost use Rattle.cqs_latch.specs.LatchEvents.{counts_down};
 
     ghost event = { counts_down };
@@ -52,7 +52,7 @@ impl Shown<LatchClient> for CountDown {
 /// A wait loads the count: it is used up, and the pass is through, or it is about to come.
 pub struct LoadToWait;
 
-impl Shown<LatchClient> for LoadToWait {
+impl<T: Carries> Shown<LatchClient<T>> for LoadToWait {
     ghost use Rattle.cqs_latch.specs.LatchEvents.{loads_to_wait};
 
     ghost event = { loads_to_wait };
@@ -73,7 +73,7 @@ impl Shown<LatchClient> for LoadToWait {
 /// One is added to the waiters: the latch is open by now, or the pass is at the door.
 pub struct Come;
 
-impl Shown<LatchClient> for Come {
+impl<T: Carries> Shown<LatchClient<T>> for Come {
     ghost use Rattle.cqs_latch.specs.LatchEvents.{comes};
 
     ghost event = { comes };
@@ -94,7 +94,7 @@ impl Shown<LatchClient> for Come {
 /// A load by which a wait that may not draw a number turns back.
 pub struct TurnBack;
 
-impl Shown<LatchClient> for TurnBack {
+impl<T: Carries> Shown<LatchClient<T>> for TurnBack {
     ghost use Rattle.cqs_latch.specs.LatchEvents.{turns_back};
 
     ghost event = { turns_back };
@@ -115,7 +115,7 @@ impl Shown<LatchClient> for TurnBack {
 /// The done bit is set: the pass owes a resumption for each waiter that was counted.
 pub struct Open;
 
-impl Shown<LatchClient> for Open {
+impl<T: Carries> Shown<LatchClient<T>> for Open {
     ghost use Rattle.cqs_latch.specs.LatchEvents.{opens};
 
     ghost event = { opens };
@@ -143,7 +143,7 @@ pub fn resumptions_for(found: u64) -> u32
 /// One is taken from the waiters: who cancels has left the line, or is refused.
 pub struct Decide;
 
-impl Shown<LatchClient> for Decide {
+impl<T: Carries> Shown<LatchClient<T>> for Decide {
     ghost use Rattle.cqs_latch.specs.LatchEvents.{leaves};
 
     ghost event = { leaves };

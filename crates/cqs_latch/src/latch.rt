@@ -7,20 +7,20 @@ ghost use Rattle.cqs_rule.specs.Configured.{is_config};
 ghost use Rattle.cqs_rule.specs.Passes.{pass_view, passes_of, limit_of, client_of};
 
 use crate::client::LatchClient;
-use cqs_rule::{CancelMode, Config, MakeError, Pass, Queue};
+use cqs_rule::{CancelMode, Carries, Config, MakeError, Pass, Queue, Unparked};
 use std::alloc::Global;
 
 /// What a caller makes its calls with.
-pub type LatchPass = Pass<LatchClient>;
+pub type LatchPass<T = ()> = Pass<LatchClient<T>>;
 
 /// The most that a latch may be made to be counted down.
 const MOST_COUNTS: u32 = 1_048_576;
 
 /// A count-down latch: it opens once it was counted down as often as it was made for, and resumes
-/// all who wait.
+/// all who wait. `T` says whether they may park.
 #[derive(Drop)]
-pub struct Latch {
-    pub(crate) queue: Queue<LatchClient>,
+pub struct Latch<T: Carries = ()> {
+    pub(crate) queue: Queue<LatchClient<T>>,
     pub(crate) mode: CancelMode,
     pub ghost mode_is: { mode_of (client_of queue) ≡ mode },
 }
@@ -48,6 +48,58 @@ impl Latch {
         ensures alone { IfOk result (λ made. (pass_view made.1).alone ≡ true) }
         ensures ready { IfOk result (λ made. Rests [] (pass_view made.1)) }
     {
+        Latch::make(alloc, count, mode, config)
+    }
+}
+
+impl Latch<Unparked> {
+    ghost use Rattle.cqs_latch.specs.Calls.{IsMine, Rests};
+
+    /// The same for callers who never park: each looks at its wait when it likes. Such a latch
+    /// wakes nobody, and so it may stand in a static library.
+    pub fn unparked(
+        alloc: Global,
+        count: u32,
+        mode: CancelMode,
+        config: Config,
+    ) -> Result<(Latch<Unparked>, LatchPass<Unparked>), MakeError>
+        ensures bad_config { IsErrOf result MakeError.BadConfig
+            ↔ ((1048576 < count) ⊎ (is_config config ≡ false)) }
+        ensures belongs { IfOk result (λ made. IsMine made.0 made.1) }
+        ensures count { IfOk result (λ made. count_of (client_of made.0.queue) ≡ count) }
+        ensures mode { IfOk result (λ made. mode_of (client_of made.0.queue) ≡ mode) }
+        ensures passes { IfOk result (λ made. (passes_of made.0.queue ≡ config.passes)
+            × (limit_of made.0.queue ≡ config.limit)) }
+        ensures first { IfOk result (λ made. (pass_view made.1).number ≡ 0) }
+        ensures nothing { IfOk result (λ made. (pass_view made.1).seen ≡ []) }
+        ensures alone { IfOk result (λ made. (pass_view made.1).alone ≡ true) }
+        ensures ready { IfOk result (λ made. Rests [] (pass_view made.1)) }
+    {
+        Latch::make(alloc, count, mode, config)
+    }
+}
+
+impl<T: Carries + Send> Latch<T> {
+    ghost use Rattle.cqs_latch.specs.Calls.{IsMine, Rests};
+
+    fn make(
+        alloc: Global,
+        count: u32,
+        mode: CancelMode,
+        config: Config,
+    ) -> Result<(Latch<T>, LatchPass<T>), MakeError>
+        ensures bad_config { IsErrOf result MakeError.BadConfig
+            ↔ ((1048576 < count) ⊎ (is_config config ≡ false)) }
+        ensures belongs { IfOk result (λ made. IsMine made.0 made.1) }
+        ensures count { IfOk result (λ made. count_of (client_of made.0.queue) ≡ count) }
+        ensures mode { IfOk result (λ made. mode_of (client_of made.0.queue) ≡ mode) }
+        ensures passes { IfOk result (λ made. (passes_of made.0.queue ≡ config.passes)
+            × (limit_of made.0.queue ≡ config.limit)) }
+        ensures first { IfOk result (λ made. (pass_view made.1).number ≡ 0) }
+        ensures nothing { IfOk result (λ made. (pass_view made.1).seen ≡ []) }
+        ensures alone { IfOk result (λ made. (pass_view made.1).alone ≡ true) }
+        ensures ready { IfOk result (λ made. Rests [] (pass_view made.1)) }
+    {
         if count > MOST_COUNTS {
             return Err(MakeError::BadConfig);
         }
@@ -57,7 +109,7 @@ impl Latch {
     }
 
     /// The queue that the latch stands on.
-    pub fn queue(&self) -> &Queue<LatchClient>
+    pub fn queue(&self) -> &Queue<LatchClient<T>>
         ensures { result.now ≡ self.now.queue }
     {
         &self.queue

@@ -6,13 +6,13 @@ ghost use Rattle.cqs_rule.specs.Waits.{HasWait};
 ghost use Rattle.cqs_latch.specs.Calls.{IsMine};
 
 use crate::latch::{Latch, LatchPass};
-use cqs_rule::Wait;
+use cqs_rule::{Carries, Wait};
 use std::sync::Wait as MayWait;
 
-impl Latch {
+impl<T: Carries + Send> Latch<T> {
     /// Parks the caller as long as it stands in the line. It may return for no reason, too, so one
     /// polls the wait after it.
-    pub fn park_wait<R: MayWait>(&self, rt: &R, pass: &mut LatchPass, wait: &Wait)
+    pub fn park_wait<R: MayWait>(&self, rt: &R, pass: &mut LatchPass<T>, wait: &Wait)
         requires belongs { IsMine self.now pass.old }
         requires has { HasWait (pass_view pass.old) wait.now }
         ensures same { pass.new ≡ pass.old }

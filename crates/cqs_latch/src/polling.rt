@@ -12,12 +12,12 @@ use crate::answers::LatchPolled;
 use crate::client::LatchClient;
 use crate::latch::{Latch, LatchPass};
 use cqs_cell::look_for_grant;
-use cqs_rule::Wait;
+use cqs_rule::{Carries, Wait};
 
-impl Latch {
+impl<T: Carries + Send> Latch<T> {
     /// Looks whether the wait was served: one load.
     #[inline]
-    pub fn poll(&self, pass: &mut LatchPass, wait: Wait) -> LatchPolled
+    pub fn poll(&self, pass: &mut LatchPass<T>, wait: Wait) -> LatchPolled
         requires belongs { IsMine self.now pass.old }
         requires ready { IsReady (pass_view pass.old).facts }
         requires has { HasWait (pass_view pass.old) wait }

@@ -11,11 +11,11 @@ ghost use Rattle.cqs_rule.specs.Seats.{IsBusy, HasMet};
 ghost use Rattle.cqs_rule.specs.Views.{made_in, live_in};
 
 use crate::latch::{Latch, LatchPass};
-use cqs_rule::{Crowd, MeetError};
+use cqs_rule::{Carries, Crowd, MeetError};
 
-impl Latch {
+impl<T: Carries + Send> Latch<T> {
     /// A new pass, which has seen what this one has seen, and has done nothing.
-    pub fn split(&self, pass: &mut LatchPass) -> Result<LatchPass, Crowd>
+    pub fn split(&self, pass: &mut LatchPass<T>) -> Result<LatchPass<T>, Crowd>
         requires belongs { IsMine self.now pass.old }
         requires ready { IsReady (pass_view pass.old).facts }
         ensures belongs { IsMine self.now pass.new }
@@ -35,7 +35,11 @@ impl Latch {
     }
 
     /// The pass takes in the given one: it has seen what each of them had seen.
-    pub fn meet(&self, pass: &mut LatchPass, given: LatchPass) -> Result<(), (LatchPass, MeetError)>
+    pub fn meet(
+        &self,
+        pass: &mut LatchPass<T>,
+        given: LatchPass<T>,
+    ) -> Result<(), (LatchPass<T>, MeetError)>
         requires belongs { IsMine self.now pass.old }
         requires given_belongs { IsMine self.now given }
         requires ready { IsReady (pass_view pass.old).facts }
@@ -53,7 +57,7 @@ impl Latch {
 
     /// Whether no other pass is there. Then this one has seen the whole history, and all others
     /// rest.
-    pub fn sole(&self, pass: &mut LatchPass) -> bool
+    pub fn sole(&self, pass: &mut LatchPass<T>) -> bool
         requires belongs { IsMine self.now pass.old }
         ensures belongs { IsMine self.now pass.new }
         ensures sole { IsTrue result ↔ (live_in (pass_view pass.new).crew ≡ 1) }

@@ -9,7 +9,7 @@ ghost use Rattle.cqs_words.specs.State.{count_in, is_above_zero};
 
 use crate::client::LatchClient;
 use crate::events::{Come, CountDown, LoadToCount, LoadToWait, Open, TurnBack};
-use cqs_rule::{Counts, Pass, Queue, SUSPENDS_WORD};
+use cqs_rule::{Carries, Counts, Pass, Queue, SUSPENDS_WORD};
 use cqs_words::WaitersWord;
 
 // The client's words in which the count stands, and the waiters with the done bit.
@@ -20,7 +20,10 @@ pub(crate) const WAITERS: u32 = 1;
 /// Loads the count for a count down: it is used up, or the pass may go on with `count_down`. It
 /// answers the word found.
 #[tactic(auto, using(crate::proofs::WordsFound::on_count))]
-pub(crate) fn load_to_count(queue: &Queue<LatchClient>, pass: &mut Pass<LatchClient>) -> u64
+pub(crate) fn load_to_count<T: Carries>(
+    queue: &Queue<LatchClient<T>>,
+    pass: &mut Pass<LatchClient<T>>,
+) -> u64
     requires belongs { IsOf queue.now pass.old }
     requires idle { (pass_view pass.old).facts.doing ≡ Idle }
     ensures belongs { IsOf queue.now pass.new }
@@ -32,9 +35,9 @@ pub(crate) fn load_to_count(queue: &Queue<LatchClient>, pass: &mut Pass<LatchCli
 
 /// Takes one from the count that was loaded above 0. It answers the word found.
 #[tactic(auto, using(crate::proofs::WordsFound::on_count))]
-pub(crate) fn count_down(
-    queue: &Queue<LatchClient>,
-    pass: &mut Pass<LatchClient>,
+pub(crate) fn count_down<T: Carries>(
+    queue: &Queue<LatchClient<T>>,
+    pass: &mut Pass<LatchClient<T>>,
     loaded: u64,
 ) -> u64
     requires belongs { IsOf queue.now pass.old }
@@ -50,7 +53,10 @@ pub(crate) fn count_down(
 /// Loads the count for a wait: it is used up, or the pass may go on with `come` or `turn_back`. It
 /// answers the word found.
 #[tactic(auto, using(crate::proofs::WordsFound::on_count))]
-pub(crate) fn load_to_wait(queue: &Queue<LatchClient>, pass: &mut Pass<LatchClient>) -> u64
+pub(crate) fn load_to_wait<T: Carries>(
+    queue: &Queue<LatchClient<T>>,
+    pass: &mut Pass<LatchClient<T>>,
+) -> u64
     requires belongs { IsOf queue.now pass.old }
     requires idle { (pass_view pass.old).facts.doing ≡ Idle }
     ensures belongs { IsOf queue.now pass.new }
@@ -63,7 +69,11 @@ pub(crate) fn load_to_wait(queue: &Queue<LatchClient>, pass: &mut Pass<LatchClie
 /// Adds one to the waiters: the pass is at the door, or the latch is open by now. It answers the
 /// word found.
 #[tactic(auto, using(crate::proofs::WordsFound::on_waiters))]
-pub(crate) fn come(queue: &Queue<LatchClient>, pass: &mut Pass<LatchClient>, loaded: u64) -> u64
+pub(crate) fn come<T: Carries>(
+    queue: &Queue<LatchClient<T>>,
+    pass: &mut Pass<LatchClient<T>>,
+    loaded: u64,
+) -> u64
     requires belongs { IsOf queue.now pass.old }
     requires loaded { (pass_view pass.old).facts.doing ≡ TryAt (count_in loaded) }
     requires above { is_above_zero loaded ≡ true }
@@ -76,9 +86,9 @@ pub(crate) fn come(queue: &Queue<LatchClient>, pass: &mut Pass<LatchClient>, loa
 
 /// Turns back, by a load of the count that shows nothing: the pass may not draw a number.
 #[tactic(auto, using(crate::proofs::WordsFound::on_count))]
-pub(crate) fn turn_back(
-    queue: &Queue<LatchClient>,
-    pass: &mut Pass<LatchClient>,
+pub(crate) fn turn_back<T: Carries>(
+    queue: &Queue<LatchClient<T>>,
+    pass: &mut Pass<LatchClient<T>>,
     loaded: u64,
 ) -> u64
     requires belongs { IsOf queue.now pass.old }
@@ -94,7 +104,10 @@ pub(crate) fn turn_back(
 /// Sets the done bit, by a pass that counted down the last one. It answers the word found: the pass
 /// owes a resumption for each waiter that was counted there.
 #[tactic(auto, using(crate::proofs::WordsFound::on_waiters))]
-pub(crate) fn open(queue: &Queue<LatchClient>, pass: &mut Pass<LatchClient>) -> u64
+pub(crate) fn open<T: Carries>(
+    queue: &Queue<LatchClient<T>>,
+    pass: &mut Pass<LatchClient<T>>,
+) -> u64
     requires belongs { IsOf queue.now pass.old }
     requires last { (pass_view pass.old).facts.doing ≡ TryAt (pos 0) }
     ensures belongs { IsOf queue.now pass.new }
@@ -106,7 +119,10 @@ pub(crate) fn open(queue: &Queue<LatchClient>, pass: &mut Pass<LatchClient>) -> 
 /// Loads the suspend counter: the number that the next wait will have. A pass that finds it below
 /// the limit may draw.
 #[tactic(auto, using(crate::proofs::WordsFound::next_is))]
-pub(crate) fn next_wait(queue: &Queue<LatchClient>, pass: &mut Pass<LatchClient>) -> u64
+pub(crate) fn next_wait<T: Carries>(
+    queue: &Queue<LatchClient<T>>,
+    pass: &mut Pass<LatchClient<T>>,
+) -> u64
     requires belongs { IsOf queue.now pass.old }
     ensures belongs { IsOf queue.now pass.new }
     ensures saw { NextIs (pass_view pass.old) result (pass_view pass.new) }

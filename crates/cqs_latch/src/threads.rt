@@ -3,14 +3,19 @@
 
 use crate::answers::Owed;
 use crate::latch::{Latch, LatchPass};
-use cqs_rule::Wait;
+use cqs_rule::{Carries, Wait};
 
 fn may_share<T: Send + Sync>(_value: &T) {}
 
 fn may_send<T: Send>(_value: &T) {}
 
 #[allow(dead_code)]
-fn crosses_threads(latch: &Latch, pass: &LatchPass, wait: &Wait, owed: &Owed) {
+fn crosses_threads<T: Carries + Send>(
+    latch: &Latch<T>,
+    pass: &LatchPass<T>,
+    wait: &Wait,
+    owed: &Owed,
+) {
     may_share(latch);
     may_send(pass);
     may_send(wait);

@@ -11,14 +11,14 @@ ghost use Rattle.cqs_rule.specs.Passes.{pass_view};
 use crate::answers::LatchWait;
 use crate::latch::{Latch, LatchPass};
 use crate::steps::{come, load_to_wait, next_wait, turn_back};
-use cqs_rule::AcquireError;
+use cqs_rule::{AcquireError, Carries};
 use cqs_suspend::{Suspended, suspend};
 use cqs_words::{StateWord, WaitersWord};
 
-impl Latch {
+impl<T: Carries + Send> Latch<T> {
     /// Passes where the latch is open, and else comes to wait for that. It is refused as worn where
     /// the count isn't used up, and as many numbers were drawn as the limit allows.
-    pub fn wait(&self, pass: &mut LatchPass) -> Result<LatchWait, AcquireError>
+    pub fn wait(&self, pass: &mut LatchPass<T>) -> Result<LatchWait, AcquireError>
         requires belongs { IsMine self.now pass.old }
         requires ready { IsReady (pass_view pass.old).facts }
         ensures belongs { IsMine self.now pass.new }
@@ -43,7 +43,7 @@ impl Latch {
     }
 
     // Goes from the door to the line.
-    fn wait_in_line(&self, pass: &mut LatchPass) -> LatchWait
+    fn wait_in_line(&self, pass: &mut LatchPass<T>) -> LatchWait
         requires belongs { IsMine self.now pass.old }
         requires door { (pass_view pass.old).facts.doing ≡ doing.Door }
         ensures belongs { IsMine self.now pass.new }

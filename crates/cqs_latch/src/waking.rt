@@ -14,11 +14,11 @@ ghost use Rattle.cqs_rule.specs.declared.config.CancelMode.TheVariants.{Smart, S
 use crate::answers::Owed;
 use crate::latch::{Latch, LatchPass};
 use cqs_resume::{Resumed, begin, begin_at_once, finish, finish_at_once};
-use cqs_rule::{CancelMode, Under};
+use cqs_rule::{CancelMode, Carries, Under};
 
-impl Latch {
+impl<T: Carries + Send> Latch<T> {
     // Resumes as many as the pass owes, or hands back the one that passed over too many numbers.
-    pub(crate) fn wake(&self, pass: &mut LatchPass, many: u32) -> Option<Owed>
+    pub(crate) fn wake(&self, pass: &mut LatchPass<T>, many: u32) -> Option<Owed>
         requires belongs { IsMine self.now pass.old }
         requires idle { (pass_view pass.old).facts.doing ≡ doing.Idle }
         requires owes { (pass_view pass.old).facts.has.further ≡ many }
@@ -46,7 +46,7 @@ impl Latch {
     }
 
     // Begins the next of them. In simple mode it ends at its first number.
-    fn wake_next(&self, pass: &mut LatchPass) -> Option<Under>
+    fn wake_next(&self, pass: &mut LatchPass<T>) -> Option<Under>
         requires belongs { IsMine self.now pass.old }
         requires idle { (pass_view pass.old).facts.doing ≡ doing.Idle }
         requires owes { 0 < (pass_view pass.old).facts.has.further }
@@ -70,7 +70,7 @@ impl Latch {
     }
 
     // Goes on with one that was handed back.
-    pub(crate) fn wake_on(&self, pass: &mut LatchPass, under: Under) -> Option<Under>
+    pub(crate) fn wake_on(&self, pass: &mut LatchPass<T>, under: Under) -> Option<Under>
         requires belongs { IsMine self.now pass.old }
         requires owes { HasUnder (pass_view pass.old).facts under }
         ensures belongs { IsMine self.now pass.new }

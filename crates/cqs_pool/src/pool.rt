@@ -9,7 +9,7 @@ ghost use Rattle.cqs_rule.specs.declared.config.CancelMode.TheVariants.{Smart};
 ghost use Rattle.cqs_pool.specs.Calls.{IsReady, Rests, IsMine, size_of};
 
 use crate::client::PoolClient;
-use cqs_rule::{CancelMode, Carries, Config, Kept, MakeError, Pass, Queue};
+use cqs_rule::{CancelMode, Carries, Config, Kept, MakeError, Pass, Queue, Unparked};
 use std::alloc::Global;
 
 /// What a caller makes its calls with.
@@ -37,6 +37,28 @@ impl Pool {
         ensures size { IfOk result (λ made. size_of made.0 ≡ elements) }
         ensures passes { IfOk result (λ made. (passes_of made.0.queue ≡ config.passes)
             × (limit_of made.0.queue ≡ config.limit)) }
+        ensures first { IfOk result (λ made. (pass_view made.1).number ≡ 0) }
+        ensures nothing { IfOk result (λ made. (pass_view made.1).seen ≡ []) }
+        ensures alone { IfOk result (λ made. (pass_view made.1).alone ≡ true) }
+        ensures ready { IfOk result (λ made. Rests (pass_view made.1) [] [] (pass_view made.1)) }
+    {
+        Pool::make(alloc, elements, config)
+    }
+}
+
+impl Pool<Unparked> {
+    /// The same, of a pool whose callers never park, which wakes nobody.
+    pub fn unparked(
+        alloc: Global,
+        elements: u32,
+        config: Config,
+    ) -> Result<(Pool<Unparked>, PoolPass<Unparked>), MakeError>
+        ensures bad_config { IsErrOf result MakeError.BadConfig
+            ↔ ((elements ≡ 0) ⊎ (4096 < elements)
+            ⊎ (config.slots < 2 * config.passes + 2 + elements / 32 + 1)
+            ⊎ (is_config config ≡ false)) }
+        ensures belongs { IfOk result (λ made. IsMine made.0 made.1) }
+        ensures size { IfOk result (λ made. size_of made.0 ≡ elements) }
         ensures first { IfOk result (λ made. (pass_view made.1).number ≡ 0) }
         ensures nothing { IfOk result (λ made. (pass_view made.1).seen ≡ []) }
         ensures alone { IfOk result (λ made. (pass_view made.1).alone ≡ true) }

@@ -3,5 +3,5 @@ use Rattle.cqs_latch.proofs.WordSteps.{above-zero}
 use Rattle.cqs_latch.proofs.steps.come.Goals as goal
 
 pub add_word-requires-clause-law : goal.add_word-requires-clause-law
-add_word-requires-clause-law c =
+add_word-requires-clause-law g c =
     come-moves _ _ _ _ _ _ c.requires.loaded (above-zero c.args.loaded c.requires.above) c.requires.may_draw

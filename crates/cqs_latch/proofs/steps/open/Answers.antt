@@ -4,4 +4,4 @@ use Rattle.cqs_latch.proofs.LatchMoves.{open-moves}
 use Rattle.cqs_latch.proofs.steps.open.Goals as goal
 
 pub or_word-requires-clause-law : goal.or_word-requires-clause-law
-or_word-requires-clause-law c = open-moves _ _ _ _ _ _ c.requires.last (omega (arith, ints))
+or_word-requires-clause-law g c = open-moves _ _ _ _ _ _ c.requires.last (omega (arith, ints))

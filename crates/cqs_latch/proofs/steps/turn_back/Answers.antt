@@ -3,5 +3,5 @@ use Rattle.cqs_latch.proofs.WordSteps.{above-zero}
 use Rattle.cqs_latch.proofs.steps.turn_back.Goals as goal
 
 pub load_word-requires-clause-law : goal.load_word-requires-clause-law
-load_word-requires-clause-law c =
+load_word-requires-clause-law g c =
     turn-moves _ _ _ _ _ _ c.requires.loaded (above-zero c.args.loaded c.requires.above)

@@ -8,10 +8,10 @@ use Rattle.cqs_latch.proofs.Simple.{is-at_once}
 use Rattle.cqs_latch.proofs.latch.Latch.cancel_simple.Goals as goal
 
 pub cancel_at_once-requires-clause-at_once : goal.cancel_at_once-requires-clause-at_once
-cancel_at_once-requires-clause-at_once c = is-at_once _ c.requires.simple
+cancel_at_once-requires-clause-at_once g c = is-at_once _ c.requires.simple
 
 pub returns-clause-left : goal.returns-clause-left
-returns-clause-left c =
+returns-clause-left g c =
     subst (λ a. HasLeft Simple (place_of c.args.wait).index (pass_view c.args.pass.now) a
     (pass_view c.cancel_at_once.new.pass)) (sym c.left_at_once.ensures)
     (simple-left _ _ c.requires.ready c.requires.belongs.live.own c.cancel_at_once.result _

@@ -14,21 +14,21 @@ use Rattle.cqs_latch.proofs.Kept.{keeps-counted, ready-counted}
 use Rattle.cqs_latch.proofs.latch.Latch.count_down.Goals as goal
 
 pub returns-then-not-is_above_zero-clause-counted : goal.returns-then-not-is_above_zero-clause-counted
-returns-then-not-is_above_zero-clause-counted c =
+returns-then-not-is_above_zero-clause-counted g c =
     already-loaded _ c.requires.ready c.requires.belongs.live.own _ _
     (sym c.is_above_zero.ensures ∙ c.if-not-is_above_zero.true) c.load_to_count-loaded.ensures.saw
     c.load_to_count-loaded.ensures.belongs.live.legal
 
 pub returns-then-not-is_above_zero-2-clause-counted :
     goal.returns-then-not-is_above_zero-2-clause-counted
-returns-then-not-is_above_zero-2-clause-counted c =
+returns-then-not-is_above_zero-2-clause-counted g c =
     already-taken _ c.requires.ready c.requires.belongs.live.own _ _ _
     (sym c.is_above_zero-2.ensures ∙ c.if-not-is_above_zero-2.true)
     (loaded-to _ _ _ (sym c.is_above_zero.ensures ∙ c.if-not-is_above_zero.false) c.load_to_count-loaded.ensures.saw)
     c.count_down-found.ensures.saw c.count_down-found.ensures.belongs.live.legal
 
 pub left_after-left-requires-clause-few : goal.left_after-left-requires-clause-few
-left_after-left-requires-clause-few c =
+left_after-left-requires-clause-few g c =
     let low = c.count_down-found.ensures.saw.reads.low in
     let size : (pass_view c.count_down-found.new.pass).opening.size ≡ count_of (client_of c.args.self.now.queue) =
     ap (λ (o : Opening). o.size) c.count_down-found.ensures.belongs.opening in
@@ -36,14 +36,14 @@ left_after-left-requires-clause-few c =
     omega (arith, ints, low, size, few)
 
 pub returns-then-left-gt0-clause-counted : goal.returns-then-left-gt0-clause-counted
-returns-then-left-gt0-clause-counted c =
+returns-then-left-gt0-clause-counted g c =
     some-left _ c.requires.ready c.requires.belongs.live.own c.left_after-left.result _ _ _ c.left_after-left.ensures
     c.if-left-gt0.true
     (loaded-to _ _ _ (sym c.is_above_zero.ensures ∙ c.if-not-is_above_zero.false) c.load_to_count-loaded.ensures.saw)
     c.count_down-found.ensures.saw c.count_down-found.ensures.belongs.live.legal
 
 pub returns-in-None-clause-counted : goal.returns-in-None-clause-counted
-returns-in-None-clause-counted c =
+returns-in-None-clause-counted g c =
     let last : c.left_after-left.result ≡ 0 = omega (arith, c.if-left-gt0.false) in
     let one : count_in c.count_down-found.result ≡ pos 1 =
     c.left_after-left.ensures ∙ ap (λ n. pos (n + 1)) last in
@@ -57,7 +57,7 @@ returns-in-None-clause-counted c =
     c.in-None.ensures.wakes c.wake.ensures.belongs.live.legal
 
 pub returns-in-Some-clause-counted : goal.returns-in-Some-clause-counted
-returns-in-Some-clause-counted c =
+returns-in-Some-clause-counted g c =
     let last : c.left_after-left.result ≡ 0 = omega (arith, c.if-left-gt0.false) in
     let one : count_in c.count_down-found.result ≡ pos 1 =
     c.left_after-left.ensures ∙ ap (λ n. pos (n + 1)) last in
@@ -72,71 +72,71 @@ returns-in-Some-clause-counted c =
     c.in-Some.ensures.wakes c.wake.ensures.belongs.live.legal
 
 pub returns-then-not-is_above_zero-clause-ready : goal.returns-then-not-is_above_zero-clause-ready
-returns-then-not-is_above_zero-clause-ready c =
-    ready-counted Already _ _ (returns-then-not-is_above_zero-clause-counted c)
+returns-then-not-is_above_zero-clause-ready g c =
+    ready-counted Already _ _ (returns-then-not-is_above_zero-clause-counted g c)
 
 pub returns-then-not-is_above_zero-clause-keeps : goal.returns-then-not-is_above_zero-clause-keeps
-returns-then-not-is_above_zero-clause-keeps c =
-    keeps-counted Already _ _ (returns-then-not-is_above_zero-clause-counted c)
+returns-then-not-is_above_zero-clause-keeps g c =
+    keeps-counted Already _ _ (returns-then-not-is_above_zero-clause-counted g c)
 
 pub returns-then-not-is_above_zero-2-clause-ready : goal.returns-then-not-is_above_zero-2-clause-ready
-returns-then-not-is_above_zero-2-clause-ready c =
-    ready-counted Already _ _ (returns-then-not-is_above_zero-2-clause-counted c)
+returns-then-not-is_above_zero-2-clause-ready g c =
+    ready-counted Already _ _ (returns-then-not-is_above_zero-2-clause-counted g c)
 
 pub returns-then-not-is_above_zero-2-clause-keeps : goal.returns-then-not-is_above_zero-2-clause-keeps
-returns-then-not-is_above_zero-2-clause-keeps c =
-    keeps-counted Already _ _ (returns-then-not-is_above_zero-2-clause-counted c)
+returns-then-not-is_above_zero-2-clause-keeps g c =
+    keeps-counted Already _ _ (returns-then-not-is_above_zero-2-clause-counted g c)
 
 pub returns-then-left-gt0-clause-ready : goal.returns-then-left-gt0-clause-ready
-returns-then-left-gt0-clause-ready c =
-    ready-counted (Left c.left_after-left.result) _ _ (returns-then-left-gt0-clause-counted c)
+returns-then-left-gt0-clause-ready g c =
+    ready-counted (Left c.left_after-left.result) _ _ (returns-then-left-gt0-clause-counted g c)
 
 pub returns-then-left-gt0-clause-keeps : goal.returns-then-left-gt0-clause-keeps
-returns-then-left-gt0-clause-keeps c =
-    keeps-counted (Left c.left_after-left.result) _ _ (returns-then-left-gt0-clause-counted c)
+returns-then-left-gt0-clause-keeps g c =
+    keeps-counted (Left c.left_after-left.result) _ _ (returns-then-left-gt0-clause-counted g c)
 
 pub returns-in-None-clause-ready : goal.returns-in-None-clause-ready
-returns-in-None-clause-ready c = ready-counted Last _ _ (returns-in-None-clause-counted c)
+returns-in-None-clause-ready g c = ready-counted Last _ _ (returns-in-None-clause-counted g c)
 
 pub returns-in-None-clause-keeps : goal.returns-in-None-clause-keeps
-returns-in-None-clause-keeps c = keeps-counted Last _ _ (returns-in-None-clause-counted c)
+returns-in-None-clause-keeps g c = keeps-counted Last _ _ (returns-in-None-clause-counted g c)
 
 pub returns-in-Some-clause-ready : goal.returns-in-Some-clause-ready
-returns-in-Some-clause-ready c = ready-counted (LastOwing c.in-Some.owed) _ _ (returns-in-Some-clause-counted c)
+returns-in-Some-clause-ready g c = ready-counted (LastOwing c.in-Some.owed) _ _ (returns-in-Some-clause-counted g c)
 
 pub returns-in-Some-clause-keeps : goal.returns-in-Some-clause-keeps
-returns-in-Some-clause-keeps c = keeps-counted (LastOwing c.in-Some.owed) _ _ (returns-in-Some-clause-counted c)
+returns-in-Some-clause-keeps g c = keeps-counted (LastOwing c.in-Some.owed) _ _ (returns-in-Some-clause-counted g c)
 
 pub returns-then-not-is_above_zero-clause-alone : goal.returns-then-not-is_above_zero-clause-alone
-returns-then-not-is_above_zero-clause-alone c =
-    λ alone. plain-counted Already _ _ (returns-then-not-is_above_zero-clause-counted c) alone
+returns-then-not-is_above_zero-clause-alone g c =
+    λ alone. plain-counted Already _ _ (returns-then-not-is_above_zero-clause-counted g c) alone
 
 pub returns-then-not-is_above_zero-2-clause-alone : goal.returns-then-not-is_above_zero-2-clause-alone
-returns-then-not-is_above_zero-2-clause-alone c =
-    λ alone. plain-counted Already _ _ (returns-then-not-is_above_zero-2-clause-counted c) alone
+returns-then-not-is_above_zero-2-clause-alone g c =
+    λ alone. plain-counted Already _ _ (returns-then-not-is_above_zero-2-clause-counted g c) alone
 
 pub returns-then-left-gt0-clause-alone : goal.returns-then-left-gt0-clause-alone
-returns-then-left-gt0-clause-alone c =
-    λ alone. plain-counted (Left c.left_after-left.result) _ _ (returns-then-left-gt0-clause-counted c) alone
+returns-then-left-gt0-clause-alone g c =
+    λ alone. plain-counted (Left c.left_after-left.result) _ _ (returns-then-left-gt0-clause-counted g c) alone
 
 pub returns-in-None-clause-alone : goal.returns-in-None-clause-alone
-returns-in-None-clause-alone c = λ alone. plain-counted Last _ _ (returns-in-None-clause-counted c) alone
+returns-in-None-clause-alone g c = λ alone. plain-counted Last _ _ (returns-in-None-clause-counted g c) alone
 
 pub returns-in-Some-clause-alone : goal.returns-in-Some-clause-alone
-returns-in-Some-clause-alone c =
-    λ alone. plain-counted (LastOwing c.in-Some.owed) _ _ (returns-in-Some-clause-counted c) alone
+returns-in-Some-clause-alone g c =
+    λ alone. plain-counted (LastOwing c.in-Some.owed) _ _ (returns-in-Some-clause-counted g c) alone
 
 pub returns-in-None-clause-alone_opens : goal.returns-in-None-clause-alone_opens
-returns-in-None-clause-alone_opens c =
-    plain-opened Last _ _ (returns-in-None-clause-counted c) c.wake.ensures.belongs.alone c.wake.new.pass.live.0
+returns-in-None-clause-alone_opens g c =
+    plain-opened Last _ _ (returns-in-None-clause-counted g c) c.wake.ensures.belongs.alone c.wake.new.pass.live.0
 
 pub returns-in-Some-clause-alone_opens : goal.returns-in-Some-clause-alone_opens
-returns-in-Some-clause-alone_opens c =
-    plain-opened (LastOwing c.in-Some.owed) _ _ (returns-in-Some-clause-counted c) c.wake.ensures.belongs.alone
+returns-in-Some-clause-alone_opens g c =
+    plain-opened (LastOwing c.in-Some.owed) _ _ (returns-in-Some-clause-counted g c) c.wake.ensures.belongs.alone
     c.wake.new.pass.live.0
 
 pub returns-in-None-clause-alone_in_order : goal.returns-in-None-clause-alone_in_order
-returns-in-None-clause-alone_in_order c = λ alone smart.
+returns-in-None-clause-alone_in_order g c = λ alone smart.
     let last : c.left_after-left.result ≡ 0 = omega (arith, c.if-left-gt0.false) in
     let one : count_in c.count_down-found.result ≡ pos 1 =
     c.left_after-left.ensures ∙ ap (λ n. pos (n + 1)) last in
@@ -149,10 +149,10 @@ returns-in-None-clause-alone_in_order c = λ alone smart.
     c.count_down-found.ensures.saw)
     c.open.ensures.saw c.open.ensures.belongs.live.legal)
     (λ still. c.wake.ensures.in_order still smart) alone)
-    (returns-in-None-clause-alone_opens c alone)
+    (returns-in-None-clause-alone_opens g c alone)
 
 pub returns-in-Some-clause-alone_in_order : goal.returns-in-Some-clause-alone_in_order
-returns-in-Some-clause-alone_in_order c = λ alone smart.
+returns-in-Some-clause-alone_in_order g c = λ alone smart.
     let last : c.left_after-left.result ≡ 0 = omega (arith, c.if-left-gt0.false) in
     let one : count_in c.count_down-found.result ≡ pos 1 =
     c.left_after-left.ensures ∙ ap (λ n. pos (n + 1)) last in

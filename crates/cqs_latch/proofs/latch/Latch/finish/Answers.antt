@@ -11,7 +11,7 @@ use Rattle.cqs_latch.proofs.WakeSteps.{on-ran}
 use Rattle.cqs_latch.proofs.latch.Latch.finish.Goals as goal
 
 pub returns-in-Some-clause-finished : goal.returns-in-Some-clause-finished
-returns-in-Some-clause-finished c =
+returns-in-Some-clause-finished g c =
     let v = pass_view c.args.pass.now in
     let w = pass_view c.wake_on.new.pass in
     on-handed v c.requires.belongs.live.own c.args.owed c.in-Some.under w c.requires.owes
@@ -21,28 +21,28 @@ returns-in-Some-clause-finished c =
     c.wake_on.ensures.belongs.live.legal
 
 pub wake-requires-clause-idle : goal.wake-requires-clause-idle
-wake-requires-clause-idle c =
+wake-requires-clause-idle g c = λ given lives.
     let v = pass_view c.args.pass.now in
     let u = pass_view c.wake_on.new.pass in
     let on = subst (λ z. On c.args.owed.under v z u) c.in_default.is c.wake_on.ensures.on in
     (on-owes c.args.owed on.0 v u c.requires.owes on.1).0
 
 pub wake-requires-clause-owes : goal.wake-requires-clause-owes
-wake-requires-clause-owes c =
+wake-requires-clause-owes g c = λ given lives.
     let v = pass_view c.args.pass.now in
     let u = pass_view c.wake_on.new.pass in
     let on = subst (λ z. On c.args.owed.under v z u) c.in_default.is c.wake_on.ensures.on in
     (on-owes c.args.owed on.0 v u c.requires.owes on.1).1
 
 pub wake-requires-clause-payload : goal.wake-requires-clause-payload
-wake-requires-clause-payload c =
+wake-requires-clause-payload g c = λ given lives.
     let v = pass_view c.args.pass.now in
     let u = pass_view c.wake_on.new.pass in
     let on = subst (λ z. On c.args.owed.under v z u) c.in_default.is c.wake_on.ensures.on in
     (on-owes c.args.owed on.0 v u c.requires.owes on.1).2
 
 pub returns-in-None-clause-finished : goal.returns-in-None-clause-finished
-returns-in-None-clause-finished c =
+returns-in-None-clause-finished g c =
     let v = pass_view c.args.pass.now in
     let u = pass_view c.wake_on.new.pass in
     let on = subst (λ z. On c.args.owed.under v z u) c.in_default.is c.wake_on.ensures.on in
@@ -50,7 +50,7 @@ returns-in-None-clause-finished c =
     c.wake.ensures.belongs.live.legal
 
 pub returns-in-Some-wake-clause-finished : goal.returns-in-Some-wake-clause-finished
-returns-in-Some-wake-clause-finished c =
+returns-in-Some-wake-clause-finished g c =
     let v = pass_view c.args.pass.now in
     let u = pass_view c.wake_on.new.pass in
     let on = subst (λ z. On c.args.owed.under v z u) c.in_default.is c.wake_on.ensures.on in
@@ -62,53 +62,54 @@ returns-in-Some-wake-clause-finished c =
     c.in-Some-wake.ensures.wakes (omega (arith, first, later)) c.wake.ensures.belongs.live.legal
 
 pub returns-in-Some-clause-keeps : goal.returns-in-Some-clause-keeps
-returns-in-Some-clause-keeps c = keeps-finished c.args.owed (Err _) _ _ (returns-in-Some-clause-finished c)
+returns-in-Some-clause-keeps g c = keeps-finished c.args.owed (Err _) _ _ (returns-in-Some-clause-finished g c)
 
 pub returns-in-None-clause-keeps : goal.returns-in-None-clause-keeps
-returns-in-None-clause-keeps c = keeps-finished c.args.owed (Ok tt) _ _ (returns-in-None-clause-finished c)
+returns-in-None-clause-keeps g c = keeps-finished c.args.owed (Ok tt) _ _ (returns-in-None-clause-finished g c)
 
 pub returns-in-Some-wake-clause-keeps : goal.returns-in-Some-wake-clause-keeps
-returns-in-Some-wake-clause-keeps c = keeps-finished c.args.owed (Err _) _ _ (returns-in-Some-wake-clause-finished c)
+returns-in-Some-wake-clause-keeps g c =
+    keeps-finished c.args.owed (Err _) _ _ (returns-in-Some-wake-clause-finished g c)
 
 pub returns-in-Some-clause-owes : goal.returns-in-Some-clause-owes
-returns-in-Some-clause-owes c = owes-finished c.args.owed _ _ _ (returns-in-Some-clause-finished c)
+returns-in-Some-clause-owes g c = owes-finished c.args.owed _ _ _ (returns-in-Some-clause-finished g c)
 
 pub returns-in-None-clause-ready : goal.returns-in-None-clause-ready
-returns-in-None-clause-ready c = ready-finished c.args.owed _ _ (returns-in-None-clause-finished c)
+returns-in-None-clause-ready g c = ready-finished c.args.owed _ _ (returns-in-None-clause-finished g c)
 
 pub returns-in-Some-wake-clause-owes : goal.returns-in-Some-wake-clause-owes
-returns-in-Some-wake-clause-owes c = owes-finished c.args.owed _ _ _ (returns-in-Some-wake-clause-finished c)
+returns-in-Some-wake-clause-owes g c = owes-finished c.args.owed _ _ _ (returns-in-Some-wake-clause-finished g c)
 
 pub returns-in-Some-clause-alone : goal.returns-in-Some-clause-alone
-returns-in-Some-clause-alone c =
-    plain-finished c.args.owed (Err _) _ _ (returns-in-Some-clause-finished c) c.requires.owes c.requires.belongs.alone
-    c.args.pass.now.live.0 c.wake_on.ensures.belongs.alone c.wake_on.new.pass.live.0
+returns-in-Some-clause-alone g c =
+    plain-finished c.args.owed (Err _) _ _ (returns-in-Some-clause-finished g c) c.requires.owes
+    c.requires.belongs.alone c.args.pass.now.live.0 c.wake_on.ensures.belongs.alone c.wake_on.new.pass.live.0
 
 pub returns-in-None-clause-alone : goal.returns-in-None-clause-alone
-returns-in-None-clause-alone c =
-    plain-finished c.args.owed (Ok tt) _ _ (returns-in-None-clause-finished c) c.requires.owes c.requires.belongs.alone
-    c.args.pass.now.live.0 c.wake.ensures.belongs.alone c.wake.new.pass.live.0
+returns-in-None-clause-alone g c =
+    plain-finished c.args.owed (Ok tt) _ _ (returns-in-None-clause-finished g c) c.requires.owes
+    c.requires.belongs.alone c.args.pass.now.live.0 c.wake.ensures.belongs.alone c.wake.new.pass.live.0
 
 pub returns-in-Some-wake-clause-alone : goal.returns-in-Some-wake-clause-alone
-returns-in-Some-wake-clause-alone c =
-    plain-finished c.args.owed (Err _) _ _ (returns-in-Some-wake-clause-finished c) c.requires.owes
+returns-in-Some-wake-clause-alone g c =
+    plain-finished c.args.owed (Err _) _ _ (returns-in-Some-wake-clause-finished g c) c.requires.owes
     c.requires.belongs.alone c.args.pass.now.live.0 c.wake.ensures.belongs.alone c.wake.new.pass.live.0
 
 pub returns-in-Some-clause-alone_in_order : goal.returns-in-Some-clause-alone_in_order
-returns-in-Some-clause-alone_in_order c = λ alone smart. c.wake_on.ensures.in_order alone smart
+returns-in-Some-clause-alone_in_order g c = λ alone smart. c.wake_on.ensures.in_order alone smart
 
 pub returns-in-None-clause-alone_in_order : goal.returns-in-None-clause-alone_in_order
-returns-in-None-clause-alone_in_order c = λ alone smart.
+returns-in-None-clause-alone_in_order g c = λ alone smart.
     let on = subst (λ z. On c.args.owed.under (pass_view c.args.pass.now) z (pass_view c.wake_on.new.pass))
     c.in_default.is c.wake_on.ensures.on in
     let same = (on-ran c.args.owed.under on.0 _ _ on.1).1.along.called.same.alone in
     finished-all _ _
     (serves-then [] _ _ _ (c.wake_on.ensures.in_order alone smart)
     (c.wake.ensures.in_order (same ∙ alone) smart))
-    (returns-in-None-clause-alone c alone)
+    (returns-in-None-clause-alone g c alone)
 
 pub returns-in-Some-wake-clause-alone_in_order : goal.returns-in-Some-wake-clause-alone_in_order
-returns-in-Some-wake-clause-alone_in_order c = λ alone smart.
+returns-in-Some-wake-clause-alone_in_order g c = λ alone smart.
     let on = subst (λ z. On c.args.owed.under (pass_view c.args.pass.now) z (pass_view c.wake_on.new.pass))
     c.in_default.is c.wake_on.ensures.on in
     let same = (on-ran c.args.owed.under on.0 _ _ on.1).1.along.called.same.alone in

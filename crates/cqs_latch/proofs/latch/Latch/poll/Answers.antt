@@ -14,11 +14,11 @@ use Rattle.cqs_latch.proofs.Rules.{call-rule_own}
 use Rattle.cqs_latch.proofs.latch.Latch.poll.Goals as goal
 
 pub look_for_grant-requires-clause-belongs : goal.look_for_grant-requires-clause-belongs
-look_for_grant-requires-clause-belongs c =
+look_for_grant-requires-clause-belongs g c =
     subst (λ p. IsOf c.args.self.now.queue p) (sym c.spend_wait-at.ensures.same) c.requires.belongs
 
 pub wait_of-requires-clause-place : goal.wait_of-requires-clause-place
-wait_of-requires-clause-place c =
+wait_of-requires-clause-place g c =
     let at = c.spend_wait-at in
     knows-saw latch_object (pass_view at.new.pass) (pass_view c.look_for_grant.new.pass) _ _ at.result
     c.look_for_grant.ensures.polled.looks.looked.saw
@@ -26,7 +26,7 @@ wait_of-requires-clause-place c =
     (ap pass_view at.ensures.same) at.ensures.place c.requires.has.place)
 
 pub returns-in-Some-clause-called : goal.returns-in-Some-clause-called
-returns-in-Some-clause-called c =
+returns-in-Some-clause-called g c =
     let v = pass_view c.args.pass.now in
     let k = (place_of c.args.wait).index in
     let polled = c.look_for_grant.ensures.polled in
@@ -36,7 +36,7 @@ returns-in-Some-clause-called c =
     c.requires.belongs.live.own c.look_for_grant.ensures.belongs.live.legal
 
 pub returns-in-Some-clause-polled : goal.returns-in-Some-clause-polled
-returns-in-Some-clause-polled c =
+returns-in-Some-clause-polled g c =
     let k = (place_of c.args.wait).index in
     let polled = c.look_for_grant.ensures.polled in
     let looks = rw (c.spend_wait-at.ensures.same, c.spend_wait-at.ensures.place) at polled.looks in
@@ -46,11 +46,11 @@ returns-in-Some-clause-polled c =
     )
 
 pub returns-in-None-clause-belongs : goal.returns-in-None-clause-belongs
-returns-in-None-clause-belongs c =
+returns-in-None-clause-belongs g c =
     subst (λ p. IsOf c.args.self.now.queue p) (sym c.wait_of.ensures.same) c.look_for_grant.ensures.belongs
 
 pub returns-in-None-clause-called : goal.returns-in-None-clause-called
-returns-in-None-clause-called c =
+returns-in-None-clause-called g c =
     let v = pass_view c.args.pass.now in
     let k = (place_of c.args.wait).index in
     let polled = c.look_for_grant.ensures.polled in
@@ -61,7 +61,7 @@ returns-in-None-clause-called c =
     c.requires.belongs.live.own c.look_for_grant.ensures.belongs.live.legal)
 
 pub returns-in-None-clause-polled : goal.returns-in-None-clause-polled
-returns-in-None-clause-polled c =
+returns-in-None-clause-polled g c =
     let v = pass_view c.args.pass.now in
     let k = (place_of c.args.wait).index in
     let polled = c.look_for_grant.ensures.polled in
@@ -77,18 +77,18 @@ returns-in-None-clause-polled c =
     )
 
 pub returns-in-Some-clause-keeps : goal.returns-in-Some-clause-keeps
-returns-in-Some-clause-keeps c =
-    keeps-polled c.args.wait Through _ _ (returns-in-Some-clause-called c) (returns-in-Some-clause-polled c)
+returns-in-Some-clause-keeps g c =
+    keeps-polled c.args.wait Through _ _ (returns-in-Some-clause-called g c) (returns-in-Some-clause-polled g c)
 
 pub returns-in-Some-clause-alone : goal.returns-in-Some-clause-alone
-returns-in-Some-clause-alone c = λ alone.
-    plain-polled (place_of c.args.wait).index Through _ _ (returns-in-Some-clause-called c) alone
+returns-in-Some-clause-alone g c = λ alone.
+    plain-polled (place_of c.args.wait).index Through _ _ (returns-in-Some-clause-called g c) alone
 
 pub returns-in-None-clause-keeps : goal.returns-in-None-clause-keeps
-returns-in-None-clause-keeps c =
-    keeps-polled c.args.wait (Pending c.wait_of.result) _ _ (returns-in-None-clause-called c)
-    (returns-in-None-clause-polled c)
+returns-in-None-clause-keeps g c =
+    keeps-polled c.args.wait (Pending c.wait_of.result) _ _ (returns-in-None-clause-called g c)
+    (returns-in-None-clause-polled g c)
 
 pub returns-in-None-clause-alone : goal.returns-in-None-clause-alone
-returns-in-None-clause-alone c = λ alone.
-    plain-polled (place_of c.args.wait).index (Pending c.wait_of.result) _ _ (returns-in-None-clause-called c) alone
+returns-in-None-clause-alone g c = λ alone.
+    plain-polled (place_of c.args.wait).index (Pending c.wait_of.result) _ _ (returns-in-None-clause-called g c) alone

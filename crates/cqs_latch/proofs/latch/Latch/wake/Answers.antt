@@ -7,7 +7,7 @@ use Rattle.cqs_latch.proofs.WakeSteps.{next-ran, woke-on}
 use Rattle.cqs_latch.proofs.latch.Latch.wake.Goals as goal
 
 pub loop-left-init : goal.loop-left-init
-loop-left-init c = record {
+loop-left-init g c = record {
   belongs = c.requires.belongs;
   idle = c.requires.idle;
   owes = c.requires.owes;
@@ -19,14 +19,14 @@ loop-left-init c = record {
 }
 
 pub returns-clause-wakes : goal.returns-clause-wakes
-returns-clause-wakes c =
+returns-clause-wakes g c =
     let l = c.loop-left.invariant in
     let done = c.loop-left-test.false in
     let all = l.ran.1 in
     (l.ran.0, omega (arith, done, all), l.ran.2)
 
 pub returns-in-Some-clause-wakes : goal.returns-in-Some-clause-wakes
-returns-in-Some-clause-wakes c =
+returns-in-Some-clause-wakes g c =
     let l = c.loop-left.invariant in
     let some = c.loop-left-test.true in
     let all = l.ran.1 in
@@ -40,7 +40,7 @@ returns-in-Some-clause-wakes c =
     )
 
 pub loop-left-preserved : goal.loop-left-preserved
-loop-left-preserved c =
+loop-left-preserved g c =
     let l = c.loop-left.invariant in
     let some = c.loop-left-test.true in
     let all = l.ran.1 in
@@ -67,7 +67,7 @@ loop-left-preserved c =
     }
 
 pub returns-in-Some-clause-grown : goal.returns-in-Some-clause-grown
-returns-in-Some-clause-grown c =
+returns-in-Some-clause-grown g c =
     let u = pass_view c.loop-left.pass in
     let w = pass_view c.wake_next.new.pass in
     let smart = smart-where _ _ _ c.wake_next.ensures.simple c.in-Some.is in
@@ -76,6 +76,6 @@ returns-in-Some-clause-grown c =
     omega (arith, before, last)
 
 pub returns-in-Some-clause-in_order : goal.returns-in-Some-clause-in_order
-returns-in-Some-clause-in_order c = λ alone smart.
+returns-in-Some-clause-in_order g c = λ alone smart.
     let l = c.loop-left.invariant in
     serves-then [] _ _ _ (l.in_order alone smart) (c.wake_next.ensures.in_order (l.same ∙ alone) smart)

@@ -9,7 +9,7 @@ use Rattle.cqs_latch.specs.Waking.{Ending, Woke}
 use Rattle.cqs_latch.proofs.latch.Latch.wake.Given as goal
 
 abbrev pub invariant-loop-left : goal.invariant-loop-left
-invariant-loop-left l = record {
+invariant-loop-left g l = record {
   belongs : IsMine l.self l.pass;
   idle : (pass_view l.pass).facts.doing ≡ doing.Idle;
   owes : (pass_view l.pass).facts.has.further ≡ l.left;
@@ -24,4 +24,4 @@ invariant-loop-left l = record {
 }
 
 abbrev pub decreases-loop-left : goal.decreases-loop-left
-decreases-loop-left l = l.left
+decreases-loop-left g l = l.left

@@ -8,33 +8,33 @@ use Rattle.cqs_latch.proofs.WakeSteps.{resumed-next, ended-next}
 use Rattle.cqs_latch.proofs.latch.Latch.wake_next.Goals as goal
 
 pub begin-requires-clause-smart : goal.begin-requires-clause-smart
-begin-requires-clause-smart c = λ given. is-smart _ (c.args.self.now.mode_is ∙ c.in-Smart.is)
+begin-requires-clause-smart g c = λ given lives. is-smart _ (c.args.self.now.mode_is ∙ c.in-Smart.is)
 
 pub begin_at_once-requires-clause-at_once : goal.begin_at_once-requires-clause-at_once
-begin_at_once-requires-clause-at_once c = is-at_once _ (c.args.self.now.mode_is ∙ c.in-Simple.is)
+begin_at_once-requires-clause-at_once g c = is-at_once _ (c.args.self.now.mode_is ∙ c.in-Simple.is)
 
 pub begin_at_once-requires-clause-plain : goal.begin_at_once-requires-clause-plain
-begin_at_once-requires-clause-plain c =
+begin_at_once-requires-clause-plain g c =
     shows-plain (client_of c.args.self.now.queue) (c.args.self.now.mode_is ∙ c.in-Simple.is)
 
 pub returns-in-Smart-clause-next : goal.returns-in-Smart-clause-next
-returns-in-Smart-clause-next c =
+returns-in-Smart-clause-next g c =
     subst (λ z. Next (pass_view c.args.pass.now) z (pass_view c.begin.new.pass)) (sym c.handed_back.ensures)
     (resumed-next _ _ c.begin.result c.begin.ensures.begun)
 
 pub returns-in-Simple-clause-next : goal.returns-in-Simple-clause-next
-returns-in-Simple-clause-next c = ended-next _ _ c.begin_at_once.result c.begin_at_once.ensures.begun
+returns-in-Simple-clause-next g c = ended-next _ _ c.begin_at_once.result c.begin_at_once.ensures.begun
 
 pub returns-in-Smart-clause-grown : goal.returns-in-Smart-clause-grown
-returns-in-Smart-clause-grown c = λ smart.
+returns-in-Smart-clause-grown g c = λ smart.
     subst (λ z. HasGrown (pass_view c.args.pass.now).facts.reached z (pass_view c.begin.new.pass))
     (sym c.handed_back.ensures) (begun-grown _ _ c.begin.result c.begin.ensures.begun)
 
 pub returns-in-Smart-clause-in_order : goal.returns-in-Smart-clause-in_order
-returns-in-Smart-clause-in_order c = λ alone smart.
+returns-in-Smart-clause-in_order g c = λ alone smart.
     begun-serves _ _ c.requires.belongs.alone c.args.pass.now.live.0 c.begin.ensures.belongs.alone
     c.begin.new.pass.live.0 c.begin.ensures.belongs.live.legal c.begin.result c.begin.ensures.begun alone
 
 pub returns-in-Simple-clause-in_order : goal.returns-in-Simple-clause-in_order
-returns-in-Simple-clause-in_order c = λ alone smart.
+returns-in-Simple-clause-in_order g c = λ alone smart.
     absurd (cc (smart, c.args.self.now.mode_is, c.in-Simple.is))

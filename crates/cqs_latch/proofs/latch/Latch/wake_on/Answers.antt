@@ -9,34 +9,34 @@ use Rattle.cqs_latch.proofs.WakeSteps.{resumed-on, ended-on}
 use Rattle.cqs_latch.proofs.latch.Latch.wake_on.Goals as goal
 
 pub finish-requires-clause-smart : goal.finish-requires-clause-smart
-finish-requires-clause-smart c = λ given. is-smart _ (c.args.self.now.mode_is ∙ c.in-Smart.is)
+finish-requires-clause-smart g c = λ given lives. is-smart _ (c.args.self.now.mode_is ∙ c.in-Smart.is)
 
 pub finish_at_once-requires-clause-at_once : goal.finish_at_once-requires-clause-at_once
-finish_at_once-requires-clause-at_once c = is-at_once _ (c.args.self.now.mode_is ∙ c.in-Simple.is)
+finish_at_once-requires-clause-at_once g c = is-at_once _ (c.args.self.now.mode_is ∙ c.in-Simple.is)
 
 pub finish_at_once-requires-clause-plain : goal.finish_at_once-requires-clause-plain
-finish_at_once-requires-clause-plain c =
+finish_at_once-requires-clause-plain g c =
     shows-plain (client_of c.args.self.now.queue) (c.args.self.now.mode_is ∙ c.in-Simple.is)
 
 pub returns-in-Smart-clause-on : goal.returns-in-Smart-clause-on
-returns-in-Smart-clause-on c =
+returns-in-Smart-clause-on g c =
     subst (λ z. On c.args.under (pass_view c.args.pass.now) z (pass_view c.finish.new.pass)) (sym c.handed_back.ensures)
     (resumed-on c.args.under _ _ c.finish.result c.finish.ensures.resumed)
 
 pub returns-in-Smart-clause-grown : goal.returns-in-Smart-clause-grown
-returns-in-Smart-clause-grown c = λ smart.
+returns-in-Smart-clause-grown g c = λ smart.
     subst (λ z. HasGrown (under_reached c.args.under) z (pass_view c.finish.new.pass)) (sym c.handed_back.ensures)
     (finished-grown c.args.under _ _ c.finish.result c.requires.owes c.finish.ensures.resumed)
 
 pub returns-in-Simple-clause-on : goal.returns-in-Simple-clause-on
-returns-in-Simple-clause-on c = ended-on c.args.under _ _ c.finish_at_once.result c.finish_at_once.ensures.finished
+returns-in-Simple-clause-on g c = ended-on c.args.under _ _ c.finish_at_once.result c.finish_at_once.ensures.finished
 
 pub returns-in-Smart-clause-in_order : goal.returns-in-Smart-clause-in_order
-returns-in-Smart-clause-in_order c = λ alone smart.
+returns-in-Smart-clause-in_order g c = λ alone smart.
     finished-serves _ _ c.requires.belongs.alone c.args.pass.now.live.0 c.finish.ensures.belongs.alone
     c.finish.new.pass.live.0 c.finish.ensures.belongs.live.legal c.args.under c.finish.result c.finish.ensures.resumed
     alone
 
 pub returns-in-Simple-clause-in_order : goal.returns-in-Simple-clause-in_order
-returns-in-Simple-clause-in_order c = λ alone smart.
+returns-in-Simple-clause-in_order g c = λ alone smart.
     absurd (cc (smart, c.args.self.now.mode_is, c.in-Simple.is))

@@ -1,5 +1,5 @@
 -- A leaving is its steps: the load of the remaining number, perhaps the exchange, and the settling of the cell.
-use Rattle.std.proofs.Common.{◌≡◌, ◌≢◌, ◌⊎◌, inl, inr, ℕ, ◌+◌, ◌<◌, ◌==◌, Bool, true, false, List, [], ◌∷◌, ◌++◌, sym, ap, ◌∙◌, subst, arith, append_assoc, eq-eqb, if◌then◌else◌}
+use Rattle.std.proofs.Common.{◌≡◌, ◌≢◌, ◌⊎◌, refl, inl, inr, ℕ, ◌+◌, ◌<◌, ◌==◌, Bool, true, false, List, [], ◌∷◌, ◌++◌, sym, ap, ◌∙◌, subst, arith, append_assoc, eq-eqb, if◌then◌else◌}
 use Rattle.std.proofs.lemmas.Bool.{cases_eq}
 use Rattle.std.proofs.lemmas.List.{append-nil, append_cancel_right}
 use Rattle.cqs_core.specs.declared.doings.Doing.TheVariants as doing
@@ -27,7 +27,7 @@ use Rattle.cqs_barrier.specs.declared.answers.Leaving.{Leaving}
 use Rattle.cqs_barrier.specs.Barrier.{barrier_object, looks_to_leave, withdraws}
 use Rattle.cqs_barrier.specs.BarrierWord.{OnWord}
 use Rattle.cqs_barrier.specs.Causes.{primitive_of}
-use Rattle.cqs_barrier.specs.Leaving.{HasLeaving, RemainingWas, WasSome, WasNone, WasContended, Out}
+use Rattle.cqs_barrier.specs.Leaving.{HasLeaving, HasLoaded, LookedAt, RemainingWas, WasSome, WasNone, WasContended, Out, look_entries}
 use Rattle.cqs_barrier.specs.Word.{parties_in, remaining_in, is_over}
 
 module _ {A : Type 0} where
@@ -108,25 +108,12 @@ some-to-come n over = go (cases_eq (remaining_in n) 0)
     go (inl none) = let is : is_over n ≡ true = eq-eqb (remaining_in n) 0 none in absurd (cc)
     go (inr some) = omega arith
 
--- the load of the remaining number by a pass that is leaving the wait k: all have arrived, or not
-abbrev look_entries : Bool → ℕ → ℕ → List BarrierEntry
-look_entries b p k = if b then entry.Stay p k ∷ [] else []
-
+-- what the exchange for one more appends: it was made, or others were first
 abbrev swap_entries : Bool → ℕ → ℕ → List BarrierEntry
 swap_entries b p k = if b then entry.Withdraw p k ∷ [] else []
 
 module _ {T : Type 0} where
-  pub record LookedAt (b : Bool) (k n : ℕ) (v u : View BarrierEntry T) : Type 0 where
-    pub facts : Facts
-    pub saw : Saw barrier_object v facts (look_entries b v.number k) u
-    pub before : List BarrierEntry
-    pub seen : u.seen ≡ before ++ look_entries b v.number k
-    pub remaining : remaining_in n ≡ (object_after u.opening.size before).remaining
-    pub parties : parties_in n ≡ u.opening.size
-    pub doing_is : u.facts.doing ≡ (if b then doing.Decided k false else doing.Leaving k)
-    pub has : u.facts.has ≡ v.facts.has
-    pub waits : u.facts.waits ≡ v.facts.waits
-
+  -- the load of the remaining number by a pass that is leaving the wait k: all have arrived, or not
   pub looked : (b : Bool) (k n : ℕ) (v u : View BarrierEntry T) → v.facts.doing ≡ doing.Leaving k
       → OnWord looks_to_leave in_any_case v n u → is_over n ≡ b → LookedAt b k n v u
   looked b k n v u at l over =
@@ -147,6 +134,11 @@ module _ {T : Type 0} where
         has = ap (λ (f : Facts). f.has) is;
         waits = ap (λ (f : Facts). f.waits) is;
       }
+
+  pub has-loaded : (k n : ℕ) (v u : View BarrierEntry T) → v.facts.doing ≡ doing.Leaving k
+      → OnWord looks_to_leave in_any_case v n u → HasLoaded k n u
+  has-loaded k n v u at l =
+      let is = looked (is_over n) k n v u at l refl in record { at = is.doing_is; parties = is.parties }
 
   -- and its exchange for one more: it was made, or others were first
   pub record SwappedAt (b : Bool) (k n : ℕ) (v u : View BarrierEntry T) : Type 0 where
@@ -239,8 +231,8 @@ other-number n m size all too other = λ same. other (omega arith)
 module _ {T : Type 0} where
   -- others were first
   pub contended : (k n m : ℕ) (v u x : View BarrierEntry T) (at : Place) (leaving : Leaving) → LookedAt false k n v u
-      → SwappedAt false k m u x → m ≢ n → v.facts.has.further ≡ 0 → at.index ≡ k
-      → KnowsPlace v at → leaving ≡ record { at = at }
+      → SwappedAt false k m u x → m ≢ n → u.facts.has.further ≡ 0 → at.index ≡ k
+      → KnowsPlace u at → leaving ≡ record { at = at }
       → Out [] (doing.Leaving k) v.facts.has.held v.facts.waits v x
       × WasContended v (remaining_in n) (remaining_in m) leaving x
   contended k n m v u x at leaving l s other none number knows is =
@@ -248,7 +240,7 @@ module _ {T : Type 0} where
       let differ : remaining_in n ≢ remaining_in m =
       other-number n m x.opening.size (l.parties ∙ size) s.parties (λ e. other (sym e)) in
       let whole : x.seen ≡ s.before = s.seen ∙ append-nil s.before in
-      let further : x.facts.has.further ≡ 0 = s.further ∙ (ap (λ (h : OwnHas). h.further) l.has ∙ none) in (
+      let further : x.facts.has.further ≡ 0 = s.further ∙ none in (
         record {
           called = called-then barrier_object v u x _ [] [] [] (called-by barrier_object v u _ [] l.saw) s.saw;
           doing_is = s.doing_is;
@@ -275,7 +267,7 @@ module _ {T : Type 0} where
           still = subst (HasLeaving x) (sym is) (record {
             leaves = s.doing_is ∙ ap doing.Leaving (sym number);
             further = further;
-            place = knows-saw barrier_object u x _ _ at s.saw (knows-saw barrier_object v u _ _ at l.saw knows);
+            place = knows-saw barrier_object u x _ _ at s.saw knows;
           });
         },
       )

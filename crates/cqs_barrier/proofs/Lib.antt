@@ -5,6 +5,7 @@ pub mod PollSteps
 pub mod LeaveSteps
 pub mod LeftSteps
 pub mod ResumeSteps
+pub mod Grown
 pub mod NextFound
 pub mod ArriveSteps
 pub mod FinishSteps

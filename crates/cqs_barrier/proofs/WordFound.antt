@@ -16,7 +16,7 @@ use Rattle.cqs_barrier.specs.Parties.{parties_of}
 use Rattle.cqs_barrier.specs.Word.{parties_in, remaining_in}
 
 module _ {T : Type 0} where
-  abbrev primitive_of : BarrierClient → Primitive BarrierEntry T
+  abbrev primitive_of : BarrierClient T → Primitive BarrierEntry T
   primitive_of x = barrier_primitive (parties_of x)
 
   remaining-at : (opening : Opening) (n : ℕ) (history : List BarrierEntry)

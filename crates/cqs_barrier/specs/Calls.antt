@@ -23,16 +23,16 @@ pub record IsReady (f : Facts) : Type 0 where
   pub idle : f.doing ≡ doing.Idle
   pub further : f.has.further ≡ 0
 
--- the parties that the barrier was made with
-abbrev pub parties_in : Barrier → ℕ
-parties_in b = parties_of (client_of b.queue)
-
--- the pass is one of this barrier
-abbrev pub IsMine : {g : Ghosts BarrierClient (Unit {0}) BarrierEntry} → Barrier
-    → Pass BarrierClient (Unit {0}) BarrierEntry g → Type 0
-IsMine b p = IsOf b.queue p
-
 module _ {T : Type 0} where
+  -- the parties that the barrier was made with
+  abbrev pub parties_in : Barrier T → ℕ
+  parties_in b = parties_of (client_of b.queue)
+
+  -- the pass is one of this barrier
+  abbrev pub IsMine : {g : Ghosts (BarrierClient T) T BarrierEntry} → Barrier T
+      → Pass (BarrierClient T) T BarrierEntry g → Type 0
+  IsMine b p = IsOf b.queue p
+
   -- the plain barrier, after all that the pass has seen
   abbrev pub plain_after : View BarrierEntry T → plain.Barrier
   plain_after v = object_after v.opening.size v.seen

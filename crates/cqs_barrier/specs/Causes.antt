@@ -18,7 +18,7 @@ abbrev pub cell_of : ℕ → CoreState → ℕ → Glimpse
 cell_of k state payload = record { number = k; state = state; payload = payload }
 
 module _ {T : Type 0} where
-  abbrev pub primitive_of : BarrierClient → Primitive BarrierEntry T
+  abbrev pub primitive_of : BarrierClient T → Primitive BarrierEntry T
   primitive_of x = barrier_primitive (parties_of x)
 
   -- The last step of the call found the cell of the number k in this state: the table's word says

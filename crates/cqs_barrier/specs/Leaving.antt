@@ -1,6 +1,6 @@
 -- How a wait is left: what contracts see of one that is being left, and what a call that leaves it
 -- answers, and why.
-use Rattle.std.specs.Prelude.{◌≡◌, ◌≢◌, ◌⊎◌, ℕ, ◌+◌, ◌<◌, true, List, [], ◌∷◌, ◌++◌}
+use Rattle.std.specs.Prelude.{◌≡◌, ◌≢◌, ◌⊎◌, ℕ, ◌+◌, ◌<◌, Bool, true, false, List, [], ◌∷◌, ◌++◌, if◌then◌else◌}
 use Rattle.cqs_core.specs.declared.cells.CoreState.TheVariants as state
 use Rattle.cqs_core.specs.declared.doings.Doing.{Doing}
 use Rattle.cqs_core.specs.declared.doings.Doing.TheVariants as doing
@@ -8,20 +8,32 @@ use Rattle.cqs_barrier_object.specs.declared.entries.BarrierEntry.{BarrierEntry}
 use Rattle.cqs_barrier_object.specs.declared.entries.BarrierEntry.TheVariants as entry
 use Rattle.cqs_barrier_object.specs.BarrierEntries.{object_after}
 use Rattle.cqs_rule.specs.declared.config.Place.{Place}
+use Rattle.cqs_rule.specs.declared.view.Facts.{Facts}
 use Rattle.cqs_rule.specs.declared.view.View.{View}
 use Rattle.cqs_rule.specs.Called.{Called}
 use Rattle.cqs_rule.specs.Lists.{IsPrefix, without}
 use Rattle.cqs_rule.specs.Placed.{KnowsPlace}
+use Rattle.cqs_rule.specs.Saw.{Saw}
 use Rattle.cqs_barrier.specs.declared.answers.Leaving.{Leaving}
 use Rattle.cqs_barrier.specs.declared.answers.PartyLeft.{PartyLeft}
 use Rattle.cqs_barrier.specs.declared.answers.PartyLeft.TheVariants.{Withdrawn, TooLate, Contended}
 use Rattle.cqs_barrier.specs.Barrier.{barrier_object}
 use Rattle.cqs_barrier.specs.Calls.{CallRule, Rests, plain_after}
 use Rattle.cqs_barrier.specs.Causes.{CellWas}
+use Rattle.cqs_barrier.specs.Word.{is_over, parties_in, remaining_in}
+
+-- what the load of the remaining number appends for who is leaving the wait k: whether all have
+-- arrived
+abbrev pub look_entries : Bool → ℕ → ℕ → List BarrierEntry
+look_entries over p k = if over then entry.Stay p k ∷ [] else []
 
 -- where the cell of the wait stands that is being left
 abbrev pub leaving_at : Leaving → Place
 leaving_at l = l.at
+
+-- who is leaving the wait k is to be refused where all have arrived
+abbrev pub deciding : Bool → ℕ → Doing
+deciding over k = if over then doing.Decided k false else doing.Leaving k
 
 module _ {T : Type 0} where
   -- the pass began to leave this wait, and owes the end of it
@@ -87,6 +99,29 @@ module _ {T : Type 0} where
   Leaves k v (Contended saw found leaving) w =
       Out [] (doing.Leaving k) v.facts.has.held v.facts.waits v w
       × WasContended v saw found leaving w
+
+  -- The pass v loaded the remaining number as n, while it was leaving the wait k: all had arrived,
+  -- or not.
+  pub record LookedAt (b : Bool) (k n : ℕ) (v u : View BarrierEntry T) : Type 0 where
+    pub facts : Facts
+    pub saw : Saw barrier_object v facts (look_entries b v.number k) u
+    pub before : List BarrierEntry
+    pub seen : u.seen ≡ before ++ look_entries b v.number k
+    pub remaining : remaining_in n ≡ (object_after u.opening.size before).remaining
+    pub parties : parties_in n ≡ u.opening.size
+    pub doing_is : u.facts.doing ≡ deciding b k
+    pub has : u.facts.has ≡ v.facts.has
+    pub waits : u.facts.waits ≡ v.facts.waits
+
+  -- the pass has loaded the number as `saw`
+  pub record HasLoaded (k saw : ℕ) (v : View BarrierEntry T) : Type 0 where
+    pub at : v.facts.doing ≡ deciding (is_over saw) k
+    pub parties : parties_in saw ≡ v.opening.size
+
+  -- how it goes on from there, whatever the pass had seen before it loaded the number
+  abbrev pub LeavesFrom : ℕ → ℕ → View BarrierEntry T → PartyLeft → View BarrierEntry T → Type 0
+  LeavesFrom k saw u result w =
+      (v : View BarrierEntry T) → LookedAt (is_over saw) k saw v u → Leaves k v result w
 
   -- The wait k was left, or the party counts as through: its cell was found served, or all had
   -- arrived; or it is still being left, with what the pass holds and waits for as before.

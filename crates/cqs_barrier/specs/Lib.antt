@@ -4,6 +4,7 @@ pub mod BarrierClient
 pub mod Parties
 pub mod BarrierWord
 pub mod Calls
+pub mod Parked
 pub mod Waits
 pub mod Entries
 pub mod Causes

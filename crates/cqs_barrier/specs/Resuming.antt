@@ -1,6 +1,6 @@
 -- What the resumptions of a barrier's last party leave of its pass: each that it owes is begun, one
 -- after the other, and ends at a cell or is handed back.
-use Rattle.std.specs.Prelude.{◌≡◌, ℕ, ◌≤◌, true, List, [], ◌++◌, length, Option, Some, None}
+use Rattle.std.specs.Prelude.{◌≡◌, ℕ, ◌<◌, ◌≤◌, true, List, [], ◌++◌, length, Option, Some, None}
 use Rattle.cqs_core.specs.declared.doings.Doing.TheVariants as doing
 use Rattle.cqs_barrier_object.specs.declared.entries.BarrierEntry.{BarrierEntry}
 use Rattle.cqs_barrier_object.specs.SoleCaller.{delivers}
@@ -8,7 +8,7 @@ use Rattle.cqs_rule.specs.declared.queue.tokens.Under.{Under}
 use Rattle.cqs_rule.specs.declared.view.Facts.{Facts}
 use Rattle.cqs_rule.specs.declared.view.View.{View}
 use Rattle.cqs_rule.specs.Called.{Called}
-use Rattle.cqs_rule.specs.Owed.{HasUnder, under_payload}
+use Rattle.cqs_rule.specs.Owed.{HasUnder, under_payload, under_reached}
 use Rattle.cqs_barrier.specs.declared.answers.Owing.{Owing}
 use Rattle.cqs_barrier.specs.Barrier.{barrier_object}
 use Rattle.cqs_barrier.specs.Calls.{waiting_in}
@@ -17,12 +17,16 @@ use Rattle.cqs_barrier.specs.Calls.{waiting_in}
 abbrev pub most_passed_over : ℕ
 most_passed_over = 64
 
--- the resumption that was handed back, and how many more there are behind it
+-- the resumption that was handed back, how many more there are behind it, and the last number that
+-- was drawn for it
 abbrev pub owing_under : Owing → Under
 owing_under o = o.under
 
 abbrev pub owing_left : Owing → ℕ
 owing_left o = o.left
+
+abbrev pub owing_reached : Owing → ℕ
+owing_reached o = under_reached o.under
 
 -- the pass is between two calls, and owes so many resumptions
 pub record OwesMore (n : ℕ) (f : Facts) : Type 0 where
@@ -35,6 +39,12 @@ pub record HasOwing (f : Facts) (owing : Owing) : Type 0 where
   pub owes : HasUnder f (owing_under owing)
   pub further : f.has.further ≡ owing_left owing
   pub payload : under_payload (owing_under owing) ≡ 0
+
+-- The number that was drawn last for the resumptions of a pass, at first this, never falls; and
+-- where one is handed back, it has grown.
+abbrev pub HasGrown : {T : Type 0} → ℕ → Option Under → View BarrierEntry T → Type 0
+HasGrown reached None w = reached ≤ w.facts.reached
+HasGrown reached (Some under) w = reached < under_reached under
 
 module _ {T : Type 0} where
   -- The pass made no step but those of its resumptions, which served these waits. It holds and

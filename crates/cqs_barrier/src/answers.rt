@@ -1,6 +1,7 @@
 //! What the calls of a barrier answer.
 
 ghost use Rattle.std.specs.Prelude.{◌≡◌};
+ghost use Rattle.cqs_barrier.specs.Resuming.{owing_reached};
 ghost use Rattle.cqs_barrier.specs.Waits.{wait_in};
 ghost use Rattle.cqs_rule.specs.Waits.{place_of};
 
@@ -58,6 +59,16 @@ pub enum PartyLeft {
 pub struct Owing {
     pub(crate) under: Under,
     pub(crate) left: u32,
+}
+
+impl Owing {
+    /// The last number that was drawn for the one that was handed back. A loop that goes on with
+    /// what is owed until it ends can be measured by it.
+    pub fn reached(&self) -> u64
+        ensures { result ≡ owing_reached self.now }
+    {
+        self.under.reached()
+    }
 }
 
 /// What became of an arrival.

@@ -6,19 +6,19 @@ ghost use Rattle.cqs_rule.specs.Passes.{pass_view};
 ghost use Rattle.cqs_barrier.specs.Alone.{IsPlainArrive, IsPlainFinish};
 ghost use Rattle.cqs_barrier.specs.Arriving.{Arrives, Finishes, IsWorn, IsBelow, NextIs, WaitsForOthers};
 ghost use Rattle.cqs_barrier.specs.Calls.{IsReady, IsMine};
-ghost use Rattle.cqs_barrier.specs.Resuming.{HasOwing};
+ghost use Rattle.cqs_barrier.specs.Resuming.{HasOwing, owing_reached};
 
 use crate::answers::{Arrived, Owing, PartyWait};
 use crate::barrier::{Barrier, BarrierPass};
 use crate::steps::arrive_once;
 use crate::word::{last, parties};
-use cqs_rule::{AcquireError, Counts, SUSPENDS_WORD};
+use cqs_rule::{AcquireError, Carries, Counts, SUSPENDS_WORD};
 use cqs_suspend::{Suspended, suspend};
 
-impl Barrier {
+impl<T: Carries + Send> Barrier<T> {
     /// A party of the pass arrives: the last one resumes the others, and any other waits for it. It
     /// is refused as worn where as many numbers were drawn as the limit allows.
-    pub fn arrive(&self, pass: &mut BarrierPass) -> Result<Arrived, AcquireError>
+    pub fn arrive(&self, pass: &mut BarrierPass<T>) -> Result<Arrived, AcquireError>
         requires belongs { IsMine self.now pass.old }
         requires ready { IsReady (pass_view pass.old).facts }
         requires holds { 0 < (pass_view pass.old).facts.has.held }
@@ -46,11 +46,12 @@ impl Barrier {
     }
 
     /// The last party goes on with the resumptions that it owes, and tells whether they all ended.
-    pub fn finish(&self, pass: &mut BarrierPass, owing: Owing) -> Result<(), Owing>
+    pub fn finish(&self, pass: &mut BarrierPass<T>, owing: Owing) -> Result<(), Owing>
         requires belongs { IsMine self.now pass.old }
         requires owes { HasOwing (pass_view pass.old).facts owing }
         ensures belongs { IsMine self.now pass.new }
         ensures finished { Finishes (pass_view pass.old) result (pass_view pass.new) }
+        ensures grown { IfErr result (λ again. owing_reached owing < owing_reached again) }
         ensures alone { (pass_view pass.old).alone ≡ true
             → IsPlainFinish (pass_view pass.old) result (pass_view pass.new) }
     {
@@ -67,7 +68,7 @@ impl Barrier {
     // Loads the suspend counter: the number that the next wait will have. A pass that finds it
     // below the limit may draw.
     #[tactic(auto, using(crate::proofs::NextFound::next_is))]
-    fn next_wait(&self, pass: &mut BarrierPass) -> u64
+    fn next_wait(&self, pass: &mut BarrierPass<T>) -> u64
         requires belongs { IsMine self.now pass.old }
         ensures belongs { IsMine self.now pass.new }
         ensures saw { NextIs (pass_view pass.old) result (pass_view pass.new) }
@@ -76,7 +77,7 @@ impl Barrier {
     }
 
     // Goes from the door to the line.
-    fn wait_for_others(&self, pass: &mut BarrierPass) -> Arrived
+    fn wait_for_others(&self, pass: &mut BarrierPass<T>) -> Arrived
         requires belongs { IsMine self.now pass.old }
         requires door { (pass_view pass.old).facts.doing ≡ doing.Door }
         ensures belongs { IsMine self.now pass.new }

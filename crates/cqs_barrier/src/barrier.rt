@@ -7,19 +7,19 @@ ghost use Rattle.cqs_rule.specs.Passes.{pass_view, passes_of, limit_of};
 ghost use Rattle.cqs_barrier.specs.Calls.{Rests, IsMine, parties_in};
 
 use crate::client::BarrierClient;
-use cqs_rule::{CancelMode, Config, MakeError, Pass, Queue};
+use cqs_rule::{CancelMode, Carries, Config, MakeError, Pass, Queue, Unparked};
 use std::alloc::Global;
 
 /// What a caller makes its calls with. It holds a number of parties that haven't arrived.
-pub type BarrierPass = Pass<BarrierClient>;
+pub type BarrierPass<T = ()> = Pass<BarrierClient<T>>;
 
 /// The most parties that a barrier may be made with.
 const MOST_PARTIES: u32 = 32;
 
-/// A barrier: parties that arrive wait for the last.
+/// A barrier: parties that arrive wait for the last. `T` says whether they may park.
 #[derive(Drop)]
-pub struct Barrier {
-    pub(crate) queue: Queue<BarrierClient>,
+pub struct Barrier<T: Carries = ()> {
+    pub(crate) queue: Queue<BarrierClient<T>>,
 }
 
 impl Barrier {
@@ -42,11 +42,64 @@ impl Barrier {
         ensures all { IfOk result
             (λ made. Rests (pass_view made.1) parties [] (pass_view made.1)) }
     {
+        Barrier::make(alloc, parties, config)
+    }
+}
+
+impl Barrier<Unparked> {
+    /// The same for callers who never park: each looks at its wait when it likes. Such a barrier
+    /// wakes nobody, and so it may stand in a static library.
+    pub fn unparked(
+        alloc: Global,
+        parties: u32,
+        config: Config,
+    ) -> Result<(Barrier<Unparked>, BarrierPass<Unparked>), MakeError>
+        ensures bad_config { IsErrOf result MakeError.BadConfig
+            ↔ ((parties ≡ 0) ⊎ (32 < parties) ⊎ (is_config config ≡ false)) }
+        ensures belongs { IfOk result (λ made. IsMine made.0 made.1) }
+        ensures parties { IfOk result (λ made. parties_in made.0 ≡ parties) }
+        ensures passes { IfOk result (λ made. (passes_of made.0.queue ≡ config.passes)
+            × (limit_of made.0.queue ≡ config.limit)) }
+        ensures first { IfOk result (λ made. (pass_view made.1).number ≡ 0) }
+        ensures nothing { IfOk result (λ made. (pass_view made.1).seen ≡ []) }
+        ensures alone { IfOk result (λ made. (pass_view made.1).alone ≡ true) }
+        ensures all { IfOk result
+            (λ made. Rests (pass_view made.1) parties [] (pass_view made.1)) }
+    {
+        Barrier::make(alloc, parties, config)
+    }
+}
+
+impl<T: Carries + Send> Barrier<T> {
+    fn make(
+        alloc: Global,
+        parties: u32,
+        config: Config,
+    ) -> Result<(Barrier<T>, BarrierPass<T>), MakeError>
+        ensures bad_config { IsErrOf result MakeError.BadConfig
+            ↔ ((parties ≡ 0) ⊎ (32 < parties) ⊎ (is_config config ≡ false)) }
+        ensures belongs { IfOk result (λ made. IsMine made.0 made.1) }
+        ensures parties { IfOk result (λ made. parties_in made.0 ≡ parties) }
+        ensures passes { IfOk result (λ made. (passes_of made.0.queue ≡ config.passes)
+            × (limit_of made.0.queue ≡ config.limit)) }
+        ensures first { IfOk result (λ made. (pass_view made.1).number ≡ 0) }
+        ensures nothing { IfOk result (λ made. (pass_view made.1).seen ≡ []) }
+        ensures alone { IfOk result (λ made. (pass_view made.1).alone ≡ true) }
+        ensures all { IfOk result
+            (λ made. Rests (pass_view made.1) parties [] (pass_view made.1)) }
+    {
         if parties == 0 || parties > MOST_PARTIES {
             return Err(MakeError::BadConfig);
         }
         let client = BarrierClient::new(parties);
         let (queue, pass) = Queue::new(alloc, config, CancelMode::Smart, client)?;
         Ok((Barrier { queue }, pass))
+    }
+
+    /// The queue that it stands on, for who makes single steps on it.
+    pub fn queue(&self) -> &Queue<BarrierClient<T>>
+        ensures { result.now ≡ self.now.queue }
+    {
+        &self.queue
     }
 }

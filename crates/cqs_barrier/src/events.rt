@@ -2,13 +2,13 @@
 
 use crate::client::BarrierClient;
 use crate::word::{last, over, parties};
-use cqs_rule::Shown;
+use cqs_rule::{Carries, Shown};
 
 /// A party arrives: it is at the door, or it was the last and owes a resumption for each of the
 /// others.
 pub struct Arrive;
 
-impl Shown<BarrierClient> for Arrive {
+impl<T: Carries> Shown<BarrierClient<T>> for Arrive {
     ghost use Rattle.cqs_barrier.specs.Barrier.{arrives};
 
     ghost event = { arrives };
@@ -33,7 +33,7 @@ impl Shown<BarrierClient> for Arrive {
 /// A canceller loads the remaining number: its party counts as through, or it is still leaving.
 pub struct LookToLeave;
 
-impl Shown<BarrierClient> for LookToLeave {
+impl<T: Carries> Shown<BarrierClient<T>> for LookToLeave {
     ghost use Rattle.cqs_barrier.specs.Barrier.{looks_to_leave};
 
     ghost event = { looks_to_leave };
@@ -55,7 +55,7 @@ impl Shown<BarrierClient> for LookToLeave {
 /// were first and it is still leaving.
 pub struct Withdraw;
 
-impl Shown<BarrierClient> for Withdraw {
+impl<T: Carries> Shown<BarrierClient<T>> for Withdraw {
     ghost use Rattle.cqs_barrier.specs.Barrier.{withdraws};
 
     ghost event = { withdraws };

@@ -8,12 +8,13 @@ ghost use Rattle.cqs_barrier.specs.Waits.{wait_in};
 
 use crate::answers::PartyWait;
 use crate::barrier::{Barrier, BarrierPass};
+use cqs_rule::Carries;
 use std::sync::Wait;
 
-impl Barrier {
+impl<T: Carries + Send> Barrier<T> {
     /// Parks the party as long as it stands in the line. It may return for no reason, too, so one
     /// polls the wait after it.
-    pub fn park_wait<R: Wait>(&self, rt: &R, pass: &mut BarrierPass, wait: &PartyWait)
+    pub fn park_wait<R: Wait>(&self, rt: &R, pass: &mut BarrierPass<T>, wait: &PartyWait)
         requires belongs { IsMine self.now pass.old }
         requires has { HasWait (pass_view pass.old) (wait_in wait.now) }
         ensures same { pass.new ≡ pass.old }

@@ -12,12 +12,12 @@ ghost use Rattle.cqs_barrier.specs.Calls.{IsReady, IsMine};
 ghost use Rattle.cqs_barrier.specs.Causes.{primitive_of};
 
 use crate::barrier::{Barrier, BarrierPass};
-use cqs_rule::{Crowd, MeetError};
+use cqs_rule::{Carries, Crowd, MeetError};
 
-impl Barrier {
+impl<T: Carries + Send> Barrier<T> {
     /// A new pass, which has seen what this one has seen, has done nothing, and gets so many of its
     /// parties.
-    pub fn split(&self, pass: &mut BarrierPass, gives: u32) -> Result<BarrierPass, Crowd>
+    pub fn split(&self, pass: &mut BarrierPass<T>, gives: u32) -> Result<BarrierPass<T>, Crowd>
         requires belongs { IsMine self.now pass.old }
         requires ready { IsReady (pass_view pass.old).facts }
         requires enough { gives ≤ (pass_view pass.old).facts.has.held }
@@ -39,9 +39,9 @@ impl Barrier {
     /// held.
     pub fn meet(
         &self,
-        pass: &mut BarrierPass,
-        given: BarrierPass,
-    ) -> Result<(), (BarrierPass, MeetError)>
+        pass: &mut BarrierPass<T>,
+        given: BarrierPass<T>,
+    ) -> Result<(), (BarrierPass<T>, MeetError)>
         requires belongs { IsMine self.now pass.old }
         requires given_belongs { IsMine self.now given }
         requires ready { IsReady (pass_view pass.old).facts }
@@ -60,7 +60,7 @@ impl Barrier {
 
     /// Whether no other pass is left. Then this one has seen the whole history, and all others
     /// rest.
-    pub fn sole(&self, pass: &mut BarrierPass) -> bool
+    pub fn sole(&self, pass: &mut BarrierPass<T>) -> bool
         requires belongs { IsMine self.now pass.old }
         ensures belongs { IsMine self.now pass.new }
         ensures sole { IsTrue result ↔ (live_in (pass_view pass.new).crew ≡ 1) }

@@ -12,7 +12,7 @@ ghost use Rattle.cqs_barrier.specs.Word.{remaining_in};
 use crate::client::BarrierClient;
 use crate::events::{Arrive, LookToLeave, Withdraw};
 use crate::word::one_more;
-use cqs_rule::{Pass, Queue};
+use cqs_rule::{Carries, Pass, Queue};
 
 // The client's word in which the remaining number stands.
 const REMAINING: u32 = 0;
@@ -20,7 +20,10 @@ const REMAINING: u32 = 0;
 /// Has a party of the pass arrive: it is at the door, or it was the last and owes a resumption for
 /// each of the others.
 #[tactic(auto, using(crate::proofs::WordFound::on_word))]
-pub fn arrive_once(queue: &Queue<BarrierClient>, pass: &mut Pass<BarrierClient>) -> u64
+pub fn arrive_once<T: Carries>(
+    queue: &Queue<BarrierClient<T>>,
+    pass: &mut Pass<BarrierClient<T>>,
+) -> u64
     requires belongs { IsOf queue.now pass.old }
     requires idle { (pass_view pass.old).facts.doing ≡ Idle }
     requires may_draw { (pass_view pass.old).facts.may_draw ≡ true }
@@ -34,7 +37,11 @@ pub fn arrive_once(queue: &Queue<BarrierClient>, pass: &mut Pass<BarrierClient>)
 /// Loads the remaining number for a pass that is leaving a wait: where all have arrived its party
 /// counts as through, and else it is still leaving.
 #[tactic(auto, using(crate::proofs::WordFound::on_word))]
-pub fn look_to_leave(queue: &Queue<BarrierClient>, pass: &mut Pass<BarrierClient>, wait: u64) -> u64
+pub fn look_to_leave<T: Carries>(
+    queue: &Queue<BarrierClient<T>>,
+    pass: &mut Pass<BarrierClient<T>>,
+    wait: u64,
+) -> u64
     requires belongs { IsOf queue.now pass.old }
     requires leaving { (pass_view pass.old).facts.doing ≡ Leaving wait }
     ensures belongs { IsOf queue.now pass.new }
@@ -48,9 +55,9 @@ pub fn look_to_leave(queue: &Queue<BarrierClient>, pass: &mut Pass<BarrierClient
 /// Exchanges the number that was loaded for one more: the party is the pass's again where that was
 /// still there, and else the pass is still leaving.
 #[tactic(auto, using(crate::proofs::WordFound::on_word))]
-pub fn withdraw_once(
-    queue: &Queue<BarrierClient>,
-    pass: &mut Pass<BarrierClient>,
+pub fn withdraw_once<T: Carries>(
+    queue: &Queue<BarrierClient<T>>,
+    pass: &mut Pass<BarrierClient<T>>,
     wait: u64,
     saw: u64,
 ) -> u64

@@ -8,8 +8,7 @@ use Rattle.cqs_rule.specs.declared.config.Config.{Config}
 use Rattle.cqs_rule.specs.declared.queue.Pass.{Pass}
 use Rattle.cqs_rule.specs.declared.view.View.{View}
 use Rattle.cqs_rule.specs.Passes.{pass_view}
-use Rattle.cqs_barrier.specs.declared.barrier.Barrier.{Barrier}
-use Rattle.cqs_barrier.specs.declared.client.BarrierClient.{BarrierClient}
+use Rattle.cqs_barrier.specs.Parked.{Barrier, BarrierClient}
 use Rattle.cqs_rounds.specs.Rounds.{AreMine, AreOpened, IsAt, IsCalled, IsOpened}
 
 module _ {g : Ghosts BarrierClient (Unit {0}) BarrierEntry} where

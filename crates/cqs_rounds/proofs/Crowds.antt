@@ -11,8 +11,7 @@ use Rattle.cqs_rule.specs.declared.queue.Pass.{Pass}
 use Rattle.cqs_rule.specs.Passes.{pass_view, passes_of}
 use Rattle.cqs_rule.specs.Seats.{HasLookedOn}
 use Rattle.cqs_rule.specs.Views.{made_in}
-use Rattle.cqs_barrier.specs.declared.barrier.Barrier.{Barrier}
-use Rattle.cqs_barrier.specs.declared.client.BarrierClient.{BarrierClient}
+use Rattle.cqs_barrier.specs.Parked.{Barrier, BarrierClient}
 use Rattle.cqs_rounds.specs.Passes.{EachIs, AreCalledWithin}
 use Rattle.cqs_rounds.specs.Seats.{AreReady, HasMade, HasSplit, HasTaken, HasTakenIn, HoldEach, IsCrowded, IsFree}
 use Rattle.cqs_rounds.proofs.Placed.{called-as, called-up}

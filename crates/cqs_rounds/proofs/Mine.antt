@@ -10,8 +10,7 @@ use Rattle.cqs_rule.specs.declared.client.ClientWords.{Ghosts}
 use Rattle.cqs_rule.specs.declared.queue.Pass.{Pass}
 use Rattle.cqs_rule.specs.declared.view.View.{View}
 use Rattle.cqs_rule.specs.Passes.{pass_view}
-use Rattle.cqs_barrier.specs.declared.barrier.Barrier.{Barrier}
-use Rattle.cqs_barrier.specs.declared.client.BarrierClient.{BarrierClient}
+use Rattle.cqs_barrier.specs.Parked.{Barrier, BarrierClient}
 use Rattle.cqs_barrier.specs.Calls.{IsMine}
 use Rattle.cqs_rounds.specs.Rounds.{AreMine, IsCalled}
 use Rattle.cqs_rounds.specs.Seats.{AreFor}

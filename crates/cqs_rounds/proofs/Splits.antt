@@ -11,7 +11,7 @@ use Rattle.cqs_rule.specs.Hidden.{has_less}
 use Rattle.cqs_rule.specs.Passes.{pass_view}
 use Rattle.cqs_rule.specs.Seats.{IsBusy, HasLookedOn}
 use Rattle.cqs_rule.specs.Views.{first_facts, live_in}
-use Rattle.cqs_barrier.specs.declared.client.BarrierClient.{BarrierClient}
+use Rattle.cqs_barrier.specs.Parked.{BarrierClient}
 use Rattle.cqs_barrier.specs.Calls.{IsReady}
 use Rattle.cqs_barrier.specs.Causes.{primitive_of}
 use Rattle.cqs_rounds.specs.Seats.{HasAsked, HasMade, HasTakenIn, IsBack, IsFree}

@@ -9,8 +9,7 @@ use Rattle.cqs_rule.specs.Crew.{IsBetween, CameWith}
 use Rattle.cqs_rule.specs.Passes.{pass_view, passes_of}
 use Rattle.cqs_rule.specs.Seats.{IsBusy, HasGiven, HasLookedOn, HasMet}
 use Rattle.cqs_rule.specs.Views.{live_in, made_in}
-use Rattle.cqs_barrier.specs.declared.barrier.Barrier.{Barrier}
-use Rattle.cqs_barrier.specs.declared.client.BarrierClient.{BarrierClient}
+use Rattle.cqs_barrier.specs.Parked.{Barrier, BarrierClient}
 use Rattle.cqs_barrier.specs.Barrier.{barrier_object}
 use Rattle.cqs_barrier.specs.Calls.{IsMine, IsReady}
 use Rattle.cqs_barrier.specs.Causes.{primitive_of}

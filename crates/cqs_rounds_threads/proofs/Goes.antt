@@ -8,7 +8,7 @@ use Rattle.cqs_rule.specs.declared.queue.Pass.{Pass}
 use Rattle.cqs_rule.specs.declared.view.View.{View}
 use Rattle.cqs_rule.specs.Passes.{pass_view}
 use Rattle.cqs_rule.specs.Waits.{HasWait}
-use Rattle.cqs_barrier.specs.declared.client.BarrierClient.{BarrierClient}
+use Rattle.cqs_barrier.specs.Parked.{BarrierClient}
 use Rattle.cqs_barrier.specs.declared.answers.PartyLeft.TheVariants.{TooLate, Withdrawn}
 use Rattle.cqs_barrier.specs.Calls.{IsReady}
 use Rattle.cqs_barrier.specs.Leaving.{HasLeaving, HasLeft}

@@ -2,6 +2,6 @@ use Rattle.cqs_barrier.proofs.BarrierMoves.{withdraw-moves}
 use Rattle.cqs_barrier.proofs.steps.withdraw_once.Goals as goal
 
 pub swap_word-requires-clause-law : goal.swap_word-requires-clause-law
-swap_word-requires-clause-law c =
+swap_word-requires-clause-law g c =
     rw c.one_more.ensures
     (withdraw-moves _ _ _ _ _ c.args.queue.now.table.shared.key.client.few c.requires.leaving c.requires.some)

@@ -8,14 +8,14 @@ use Rattle.cqs_barrier.proofs.ArriveSteps.{last-called, worn, came, more-to-come
 use Rattle.cqs_barrier.proofs.barrier.Barrier.arrive.Goals as goal
 
 pub returns-then-next_wait-limit-clause-worn : goal.returns-then-next_wait-limit-clause-worn
-returns-then-next_wait-limit-clause-worn c =
+returns-then-next_wait-limit-clause-worn g c =
     let same = c.requires.belongs.limit in
     let high = c.if-next_wait-limit.true in
     worn (pass_view c.args.pass.now) (pass_view c.next_wait.new.pass) c.next_wait.result c.next_wait.ensures.saw
     (omega (arith, c.limit.ensures)) c.requires.ready c.requires.belongs.live.own c.next_wait.ensures.belongs.live.legal
 
 pub returns-in-None-clause-arrived : goal.returns-in-None-clause-arrived
-returns-in-None-clause-arrived c =
+returns-in-None-clause-arrived g c =
     let same = c.requires.belongs.limit in
     let low = c.if-next_wait-limit.false in
     let v = pass_view c.args.pass.now in
@@ -31,7 +31,7 @@ returns-in-None-clause-arrived c =
     c.resume_all.ensures.belongs.live.legal).0
 
 pub returns-in-None-clause-below : goal.returns-in-None-clause-below
-returns-in-None-clause-below c =
+returns-in-None-clause-below g c =
     let same = c.requires.belongs.limit in
     let low = c.if-next_wait-limit.false in
     let v = pass_view c.args.pass.now in
@@ -47,7 +47,7 @@ returns-in-None-clause-below c =
     c.resume_all.ensures.belongs.live.legal).1
 
 pub returns-in-Some-clause-arrived : goal.returns-in-Some-clause-arrived
-returns-in-Some-clause-arrived c =
+returns-in-Some-clause-arrived g c =
     let same = c.requires.belongs.limit in
     let low = c.if-next_wait-limit.false in
     let v = pass_view c.args.pass.now in
@@ -63,7 +63,7 @@ returns-in-Some-clause-arrived c =
     c.resume_all.ensures.belongs.live.legal).0
 
 pub returns-in-Some-clause-below : goal.returns-in-Some-clause-below
-returns-in-Some-clause-below c =
+returns-in-Some-clause-below g c =
     let same = c.requires.belongs.limit in
     let low = c.if-next_wait-limit.false in
     let v = pass_view c.args.pass.now in
@@ -79,7 +79,7 @@ returns-in-Some-clause-below c =
     c.resume_all.ensures.belongs.live.legal).1
 
 pub returns-clause-below : goal.returns-clause-below
-returns-clause-below c =
+returns-clause-below g c =
     let same = c.requires.belongs.limit in
     let low = c.if-next_wait-limit.false in
     let v = pass_view c.args.pass.now in
@@ -95,7 +95,7 @@ returns-clause-below c =
     c.wait_for_others.ensures.waits c.requires.belongs.live.own c.wait_for_others.ensures.belongs.live.legal).1
 
 pub returns-clause-arrived : goal.returns-clause-arrived
-returns-clause-arrived c =
+returns-clause-arrived g c =
     let same = c.requires.belongs.limit in
     let low = c.if-next_wait-limit.false in
     let v = pass_view c.args.pass.now in
@@ -111,7 +111,7 @@ returns-clause-arrived c =
     c.wait_for_others.ensures.waits c.requires.belongs.live.own c.wait_for_others.ensures.belongs.live.legal).0
 
 pub returns-in-None-clause-alone : goal.returns-in-None-clause-alone
-returns-in-None-clause-alone c =
+returns-in-None-clause-alone g c =
     let same = c.requires.belongs.limit in
     let low = c.if-next_wait-limit.false in
     let v = pass_view c.args.pass.now in
@@ -129,7 +129,7 @@ returns-in-None-clause-alone c =
     (c.resume_all.ensures.belongs.alone c.resume_all.new.pass.live.0)
 
 pub returns-in-Some-clause-alone : goal.returns-in-Some-clause-alone
-returns-in-Some-clause-alone c =
+returns-in-Some-clause-alone g c =
     let same = c.requires.belongs.limit in
     let low = c.if-next_wait-limit.false in
     let v = pass_view c.args.pass.now in
@@ -148,7 +148,7 @@ returns-in-Some-clause-alone c =
     (c.resume_all.ensures.belongs.alone c.resume_all.new.pass.live.0)
 
 pub returns-clause-alone : goal.returns-clause-alone
-returns-clause-alone c =
+returns-clause-alone g c =
     let same = c.requires.belongs.limit in
     let low = c.if-next_wait-limit.false in
     let v = pass_view c.args.pass.now in

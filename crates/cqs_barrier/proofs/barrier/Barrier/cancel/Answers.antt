@@ -1,7 +1,7 @@
 use Rattle.std.proofs.Common.{sym, subst, ap, ◌∙◌}
 use Rattle.cqs_rule.specs.declared.config.Place.{Place}
 use Rattle.cqs_rule.specs.Lists.{Has}
-use Rattle.cqs_rule.specs.Passes.{pass_view}
+use Rattle.cqs_rule.specs.Passes.{pass_view, IsOf}
 use Rattle.cqs_rule.specs.Placed.{KnowsPlace}
 use Rattle.cqs_rule.specs.Waits.{place_of}
 use Rattle.cqs_cancel.proofs.Steps.{came-late, began-place, missed-place}
@@ -15,15 +15,19 @@ use Rattle.cqs_barrier.proofs.AloneCalls.{plain-cancel}
 use Rattle.cqs_barrier.proofs.LeftSteps.{starts-leaving, left-so, came-too-late}
 use Rattle.cqs_barrier.proofs.barrier.Barrier.cancel.Goals as goal
 
+pub begin_cancel-requires-clause-belongs : goal.begin_cancel-requires-clause-belongs
+begin_cancel-requires-clause-belongs g c =
+    subst (λ p. IsOf c.args.self.now.queue p) (sym c.spend_wait-at.ensures.same) c.requires.belongs
+
 pub leave-requires-clause-place : goal.leave-requires-clause-place
-leave-requires-clause-place c =
+leave-requires-clause-place g c = λ given lives.
     let at = c.spend_wait-at in
     began-place at.result.index at.new.pass c.begin_cancel.new.pass (place_of (wait_in c.args.wait)) at.result
     c.in-Ok.ensures.made at.ensures.place
     (subst (λ q. KnowsPlace (pass_view q) (place_of (wait_in c.args.wait))) (sym at.ensures.same) c.requires.has.place)
 
 pub look-requires-clause-place : goal.look-requires-clause-place
-look-requires-clause-place c =
+look-requires-clause-place g c =
     let at = c.spend_wait-at in
     missed-place at.result.index c.in-Err.field-0 at.new.pass c.begin_cancel.new.pass
     (place_of (wait_in c.args.wait)) at.result
@@ -31,7 +35,7 @@ look-requires-clause-place c =
     (subst (λ q. KnowsPlace (pass_view q) (place_of (wait_in c.args.wait))) (sym at.ensures.same) c.requires.has.place)
 
 pub returns-in-Ok-clause-left : goal.returns-in-Ok-clause-left
-returns-in-Ok-clause-left c =
+returns-in-Ok-clause-left g c =
     let at = c.spend_wait-at in
     let v = pass_view at.new.pass in
     let same = ap pass_view at.ensures.same in
@@ -45,7 +49,7 @@ returns-in-Ok-clause-left c =
     c.leave.ensures.belongs.live.legal c.leave.ensures.leaves))
 
 pub returns-in-Err-clause-left : goal.returns-in-Err-clause-left
-returns-in-Err-clause-left c =
+returns-in-Err-clause-left g c =
     let at = c.spend_wait-at in
     let v = pass_view at.new.pass in
     subst (λ q. HasLeft c.args.wait.wait.number (pass_view q) TooLate (pass_view c.look.new.pass)) at.ensures.same
@@ -58,11 +62,11 @@ returns-in-Err-clause-left c =
     (pass_view c.begin_cancel.new.pass) (pass_view c.look.new.pass) c.in-Err.ensures.missed c.look.ensures.looks)))
 
 pub returns-in-Ok-clause-alone : goal.returns-in-Ok-clause-alone
-returns-in-Ok-clause-alone c =
+returns-in-Ok-clause-alone g c =
     plain-cancel (place_of (wait_in c.args.wait)).index (pass_view c.args.pass.now) (pass_view c.leave.new.pass)
-    c.leave.result (returns-in-Ok-clause-left c) c.requires.ready (c.requires.belongs.alone c.args.pass.now.live.0)
+    c.leave.result (returns-in-Ok-clause-left g c) c.requires.ready (c.requires.belongs.alone c.args.pass.now.live.0)
 
 pub returns-in-Err-clause-alone : goal.returns-in-Err-clause-alone
-returns-in-Err-clause-alone c =
+returns-in-Err-clause-alone g c =
     plain-cancel (place_of (wait_in c.args.wait)).index (pass_view c.args.pass.now) (pass_view c.look.new.pass)
-    TooLate (returns-in-Err-clause-left c) c.requires.ready (c.requires.belongs.alone c.args.pass.now.live.0)
+    TooLate (returns-in-Err-clause-left g c) c.requires.ready (c.requires.belongs.alone c.args.pass.now.live.0)

@@ -1,16 +1,16 @@
-use Rattle.std.proofs.Common.{[], Option, None, Some, subst}
+use Rattle.std.proofs.Common.{[], Option, None, Some, subst, arith}
 use Rattle.cqs_rule.specs.declared.queue.tokens.Under.{Under}
-use Rattle.cqs_rule.specs.Owed.{under_ticket}
+use Rattle.cqs_rule.specs.Owed.{under_reached, under_ticket}
 use Rattle.cqs_rule.specs.Passes.{pass_view}
 use Rattle.cqs_barrier.specs.declared.answers.Owing.{Owing}
-use Rattle.cqs_barrier.specs.Resuming.{RanNext, RanAll}
+use Rattle.cqs_barrier.specs.Resuming.{HasGrown, RanNext, RanAll}
 use Rattle.cqs_barrier.proofs.AloneCalls.{plain-finish}
 use Rattle.cqs_barrier.proofs.FinishSteps.{finish-handed, finish-on, ran-first}
 use Rattle.cqs_barrier.proofs.ResumeSteps.{all-handed, ran-none}
 use Rattle.cqs_barrier.proofs.barrier.Barrier.finish.Goals as goal
 
 pub returns-in-Some-clause-finished : goal.returns-in-Some-clause-finished
-returns-in-Some-clause-finished c =
+returns-in-Some-clause-finished g c =
     let v = pass_view c.args.pass.now in
     let u = pass_view c.resume_on.new.pass in
     let left = c.args.owing.left in
@@ -19,7 +19,7 @@ returns-in-Some-clause-finished c =
     c.resume_on.ensures.belongs.live.legal
 
 pub returns-in-None-clause-finished : goal.returns-in-None-clause-finished
-returns-in-None-clause-finished c =
+returns-in-None-clause-finished g c =
     let v = pass_view c.args.pass.now in
     let u = pass_view c.resume_on.new.pass in
     let w = pass_view c.resume_all.new.pass in
@@ -30,7 +30,7 @@ returns-in-None-clause-finished c =
     c.resume_all.ensures.belongs.live.legal
 
 pub returns-in-Some-resume_all-clause-finished : goal.returns-in-Some-resume_all-clause-finished
-returns-in-Some-resume_all-clause-finished c =
+returns-in-Some-resume_all-clause-finished g c =
     let v = pass_view c.args.pass.now in
     let u = pass_view c.resume_on.new.pass in
     let w = pass_view c.resume_all.new.pass in
@@ -41,7 +41,7 @@ returns-in-Some-resume_all-clause-finished c =
     c.requires.belongs.live.own c.resume_all.ensures.belongs.live.legal
 
 pub returns-in-Some-clause-alone : goal.returns-in-Some-clause-alone
-returns-in-Some-clause-alone c =
+returns-in-Some-clause-alone g c =
     let v = pass_view c.args.pass.now in
     let u = pass_view c.resume_on.new.pass in
     let left = c.args.owing.left in
@@ -54,7 +54,7 @@ returns-in-Some-clause-alone c =
     (c.resume_on.ensures.belongs.alone c.resume_on.new.pass.live.0)
 
 pub returns-in-None-clause-alone : goal.returns-in-None-clause-alone
-returns-in-None-clause-alone c =
+returns-in-None-clause-alone g c =
     let v = pass_view c.args.pass.now in
     let u = pass_view c.resume_on.new.pass in
     let w = pass_view c.resume_all.new.pass in
@@ -68,7 +68,7 @@ returns-in-None-clause-alone c =
     (c.resume_all.ensures.belongs.alone c.resume_all.new.pass.live.0)
 
 pub returns-in-Some-resume_all-clause-alone : goal.returns-in-Some-resume_all-clause-alone
-returns-in-Some-resume_all-clause-alone c =
+returns-in-Some-resume_all-clause-alone g c =
     let v = pass_view c.args.pass.now in
     let u = pass_view c.resume_on.new.pass in
     let w = pass_view c.resume_all.new.pass in
@@ -81,3 +81,15 @@ returns-in-Some-resume_all-clause-alone c =
     c.requires.belongs.live.own c.resume_all.ensures.belongs.live.legal
     (c.requires.belongs.alone c.args.pass.now.live.0)
     (c.resume_all.ensures.belongs.alone c.resume_all.new.pass.live.0)
+
+pub returns-in-Some-clause-grown : goal.returns-in-Some-clause-grown
+returns-in-Some-clause-grown g c =
+    subst (λ z. HasGrown (under_reached c.args.owing.under) z (pass_view c.resume_on.new.pass)) c.in-Some.is
+    c.resume_on.ensures.grown
+
+pub returns-in-Some-resume_all-clause-grown : goal.returns-in-Some-resume_all-clause-grown
+returns-in-Some-resume_all-clause-grown g c =
+    let first = subst (λ z. HasGrown (under_reached c.args.owing.under) z (pass_view c.resume_on.new.pass))
+    c.in_default.is c.resume_on.ensures.grown in
+    let later = c.in-Some-resume_all.ensures.grown in
+    omega (arith, first, later)

@@ -14,11 +14,11 @@ use Rattle.cqs_barrier.proofs.Rules.{call-rule_own}
 use Rattle.cqs_barrier.proofs.barrier.Barrier.poll.Goals as goal
 
 pub look_for_grant-requires-clause-belongs : goal.look_for_grant-requires-clause-belongs
-look_for_grant-requires-clause-belongs c =
+look_for_grant-requires-clause-belongs g c =
     subst (λ p. IsOf c.args.self.now.queue p) (sym c.spend_wait-at.ensures.same) c.requires.belongs
 
 pub wait_of-requires-clause-place : goal.wait_of-requires-clause-place
-wait_of-requires-clause-place c =
+wait_of-requires-clause-place g c =
     let at = c.spend_wait-at in
     knows-saw barrier_object (pass_view at.new.pass) (pass_view c.look_for_grant.new.pass) _ _ at.result
     c.look_for_grant.ensures.polled.looks.looked.saw
@@ -26,7 +26,7 @@ wait_of-requires-clause-place c =
     (ap pass_view at.ensures.same) at.ensures.place c.requires.has.place)
 
 pub returns-in-Some-clause-called : goal.returns-in-Some-clause-called
-returns-in-Some-clause-called c =
+returns-in-Some-clause-called g c =
     let v = pass_view c.args.pass.now in
     let k = (place_of (wait_in c.args.wait)).index in
     let look = c.look_for_grant.ensures.polled in
@@ -36,7 +36,7 @@ returns-in-Some-clause-called c =
     c.requires.belongs.live.own c.look_for_grant.ensures.belongs.live.legal
 
 pub returns-in-Some-clause-polled : goal.returns-in-Some-clause-polled
-returns-in-Some-clause-polled c =
+returns-in-Some-clause-polled g c =
     let k = (place_of (wait_in c.args.wait)).index in
     let look = c.look_for_grant.ensures.polled in
     let looks = rw (c.spend_wait-at.ensures.same, c.spend_wait-at.ensures.place) at look.looks in
@@ -44,11 +44,11 @@ returns-in-Some-clause-polled c =
     (granted-cell k _ _ found, granted-rests k _ _ c.requires.ready found)
 
 pub returns-in-None-clause-belongs : goal.returns-in-None-clause-belongs
-returns-in-None-clause-belongs c =
+returns-in-None-clause-belongs g c =
     subst (λ p. IsOf c.args.self.now.queue p) (sym c.wait_of.ensures.same) c.look_for_grant.ensures.belongs
 
 pub returns-in-None-clause-called : goal.returns-in-None-clause-called
-returns-in-None-clause-called c =
+returns-in-None-clause-called g c =
     let v = pass_view c.args.pass.now in
     let k = (place_of (wait_in c.args.wait)).index in
     let look = c.look_for_grant.ensures.polled in
@@ -59,7 +59,7 @@ returns-in-None-clause-called c =
     c.requires.belongs.live.own c.look_for_grant.ensures.belongs.live.legal)
 
 pub returns-in-None-clause-polled : goal.returns-in-None-clause-polled
-returns-in-None-clause-polled c =
+returns-in-None-clause-polled g c =
     let v = pass_view c.args.pass.now in
     let k = (place_of (wait_in c.args.wait)).index in
     let look = c.look_for_grant.ensures.polled in
@@ -75,12 +75,12 @@ returns-in-None-clause-polled c =
     )
 
 pub returns-in-Some-clause-alone : goal.returns-in-Some-clause-alone
-returns-in-Some-clause-alone c =
+returns-in-Some-clause-alone g c =
     plain-poll (pass_view c.args.pass.now) (pass_view c.look_for_grant.new.pass) (wait_in c.args.wait) polled.Through
-    (returns-in-Some-clause-called c) (returns-in-Some-clause-polled c)
+    (returns-in-Some-clause-called g c) (returns-in-Some-clause-polled g c)
 
 pub returns-in-None-clause-alone : goal.returns-in-None-clause-alone
-returns-in-None-clause-alone c =
+returns-in-None-clause-alone g c =
     plain-poll (pass_view c.args.pass.now) (pass_view c.wait_of.new.pass) (wait_in c.args.wait)
     (polled.Pending (record { wait = c.wait_of.result }))
-    (returns-in-None-clause-called c) (returns-in-None-clause-polled c)
+    (returns-in-None-clause-called g c) (returns-in-None-clause-polled g c)

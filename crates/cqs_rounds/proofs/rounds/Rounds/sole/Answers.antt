@@ -16,13 +16,11 @@ loop-round-init c = record {
   sole = λ below. refl;
 }
 
-pub sole-requires : goal.sole-requires
-sole-requires c =
+pub sole-requires-clause-belongs : goal.sole-requires-clause-belongs
+sole-requires-clause-belongs c = λ κs.
     let low : c.loop-round.round < length c.args.self.now.barriers.items = omega arith in
-    record {
-      belongs = c.loop-round.invariant.mine.each _ _ _ (stands-at _ _ _ low c.index.ensures)
-          (at-pass _ _ _ _ c.loop-round.invariant.mine low c.index_mut.ensures.value);
-    }
+    c.loop-round.invariant.mine.each _ _ _ (stands-at _ _ _ low c.index.ensures)
+    (at-pass _ _ _ _ c.loop-round.invariant.mine low c.index_mut.ensures.value)
 
 pub loop-round-preserved : goal.loop-round-preserved
 loop-round-preserved c =

@@ -21,20 +21,20 @@ loop-round-init c = record {
 }
 
 pub split-requires-clause-belongs : goal.split-requires-clause-belongs
-split-requires-clause-belongs c =
+split-requires-clause-belongs c = λ κs.
     let low : c.loop-round.round < length c.args.self.now.barriers.items = omega arith in
     c.loop-round.invariant.mine.each _ _ _ (stands-at _ _ _ low c.index.ensures)
     (at-pass _ _ _ _ c.loop-round.invariant.mine low c.index_mut.ensures.value)
 
 pub split-requires-clause-ready : goal.split-requires-clause-ready
-split-requires-clause-ready c =
+split-requires-clause-ready c = λ κs.
     let low : c.loop-round.round < length c.args.self.now.barriers.items = omega arith in
     let here : c.loop-round.round ≤ c.loop-round.round = omega arith in
     c.requires.ready _ _ (sym (c.loop-round.invariant.split.behind _ here)
     ∙ at-pass _ _ _ _ c.loop-round.invariant.mine low c.index_mut.ensures.value)
 
 pub split-requires-clause-enough : goal.split-requires-clause-enough
-split-requires-clause-enough c =
+split-requires-clause-enough c = λ κs.
     let low : c.loop-round.round < length c.args.self.now.barriers.items = omega arith in
     let here : c.loop-round.round ≤ c.loop-round.round = omega arith in
     c.requires.enough _ _ (sym (c.loop-round.invariant.split.behind _ here)

@@ -28,7 +28,7 @@ index_mut-requires c =
     omega (arith, c.in-Some.ensures.cases, c.requires.few)
 
 pub meet-requires-clause-belongs : goal.meet-requires-clause-belongs
-meet-requires-clause-belongs c =
+meet-requires-clause-belongs c = λ κs.
     let many = c.requires.belongs.many in
     let few = c.loop-given.invariant.first.few in
     let low : c.len-round.result < length c.args.self.now.barriers.items
@@ -37,7 +37,7 @@ meet-requires-clause-belongs c =
     (at-pass _ _ _ _ c.loop-given.invariant.mine low c.index_mut.ensures.value)
 
 pub meet-requires-clause-given_belongs : goal.meet-requires-clause-given_belongs
-meet-requires-clause-given_belongs c =
+meet-requires-clause-given_belongs c = λ κs.
     let at : c.len-round.result ≡ length c.pop.new.self.items = omega (arith, c.len-round.ensures) in
     let many = c.requires.belongs.many in
     let few = c.loop-given.invariant.first.few in
@@ -47,7 +47,7 @@ meet-requires-clause-given_belongs c =
     (take-there _ _ _ _ _ c.loop-given.invariant.first c.in-Some.ensures.items at)
 
 pub meet-requires-clause-ready : goal.meet-requires-clause-ready
-meet-requires-clause-ready c =
+meet-requires-clause-ready c = λ κs.
     let at : c.len-round.result ≡ length c.pop.new.self.items = omega (arith, c.len-round.ensures) in
     let many = c.requires.belongs.many in
     let few = c.loop-given.invariant.first.few in
@@ -57,7 +57,7 @@ meet-requires-clause-ready c =
     c.loop-given.invariant.taken (at-pass _ _ _ _ c.loop-given.invariant.mine low c.index_mut.ensures.value)
 
 pub meet-requires-clause-between : goal.meet-requires-clause-between
-meet-requires-clause-between c =
+meet-requires-clause-between c = λ κs.
     let at : c.len-round.result ≡ length c.pop.new.self.items = omega (arith, c.len-round.ensures) in
     (c.requires.free _ _
     (take-there _ _ _ _ _ c.loop-given.invariant.first c.in-Some.ensures.items at)).between

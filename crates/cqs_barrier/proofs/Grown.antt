@@ -1,0 +1,41 @@
+-- The last number that was drawn for the resumptions of a pass never falls, and grows where one is handed back.
+use Rattle.std.proofs.Common.{ℕ, ◌≤◌, Option, Some, None, arith, inl, inr}
+use Rattle.cqs_barrier_object.specs.declared.entries.BarrierEntry.{BarrierEntry}
+use Rattle.cqs_resume.specs.declared.resumed.Resumed.{Resumed}
+use Rattle.cqs_resume.specs.declared.resumed.Resumed.TheVariants as resumed
+use Rattle.cqs_resume.specs.Resumes.{Resumes, most_passed_over}
+use Rattle.cqs_rule.specs.declared.queue.tokens.Under.{Under}
+use Rattle.cqs_rule.specs.declared.view.View.{View}
+use Rattle.cqs_rule.specs.Owed.{HasUnder, under_payload, under_ticket, under_reached}
+use Rattle.cqs_barrier.specs.Barrier.{barrier_object}
+use Rattle.cqs_barrier.specs.Causes.{primitive_of}
+use Rattle.cqs_barrier.specs.Resuming.{HasGrown}
+
+-- the resumption that a call hands back
+abbrev pub handed_back : Resumed → Option Under
+handed_back (resumed.Served k) = None
+handed_back (resumed.Left k) = None
+handed_back (resumed.Refused k) = None
+handed_back (resumed.Under under) = Some under
+
+module _ {T : Type 0} where
+  -- also since an earlier moment
+  pub grown-since : (a b : ℕ) (handed : Option Under) (w : View BarrierEntry T) → a ≤ b → HasGrown b handed w
+      → HasGrown a handed w
+  grown-since a b None w before grown = omega (arith, before, grown)
+  grown-since a b (Some under) w before grown = omega (arith, before, grown)
+
+  -- one that goes on
+  pub finished-grown : (under : Under) (v w : View BarrierEntry T) (r : Resumed) → HasUnder v.facts under
+      → Resumes barrier_object primitive_of most_passed_over (under_ticket under) (under_payload under) v r w
+      → HasGrown (under_reached under) (handed_back r) w
+  finished-grown under v w (resumed.Served k) has e =
+      let at = has.reached in let after = e.reached in omega (arith, at, after)
+  finished-grown under v w (resumed.Left k) has (inl e) =
+      let at = has.reached in let after = e.reached in omega (arith, at, after)
+  finished-grown under v w (resumed.Left k) has (inr e) =
+      let at = has.reached in let after = e.reached in omega (arith, at, after)
+  finished-grown under v w (resumed.Refused k) has e =
+      let at = has.reached in let after = e.reached in omega (arith, at, after)
+  finished-grown under v w (resumed.Under again) has s =
+      let at = has.reached in let after = s.further (omega arith) in omega (arith, at, after)

@@ -5,7 +5,7 @@ use Rattle.cqs_core.proofs.Places.{get-there, get-below}
 use Rattle.cqs_barrier_object.specs.declared.entries.BarrierEntry.{BarrierEntry}
 use Rattle.cqs_rule.specs.declared.client.ClientWords.{Ghosts}
 use Rattle.cqs_rule.specs.declared.queue.Pass.{Pass}
-use Rattle.cqs_barrier.specs.declared.client.BarrierClient.{BarrierClient}
+use Rattle.cqs_barrier.specs.Parked.{BarrierClient}
 use Rattle.cqs_rounds.specs.Passes.{AreCalled}
 use Rattle.cqs_rounds.specs.Seats.{AreBetween, AreReady, HasSplit, HoldEach}
 use Rattle.cqs_rounds.proofs.Splits.{made-free, made-ready}

@@ -2,6 +2,8 @@
 #![tactic(auto)]
 
 #[cfg(test)]
+mod contended;
+#[cfg(test)]
 mod crew;
 #[cfg(test)]
 mod owing;

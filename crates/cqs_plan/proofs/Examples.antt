@@ -97,3 +97,36 @@ two_spaces = refl
 unknown_target : HasFirst (with_job (codes "\"take \"")) (step_place 0 0) fault.Target
 unfolding toml_on_literals
 unknown_target = refl
+
+-- a latch, and a barrier of two parties and one round
+abbrev both : List ℕ
+both = db ++ codes "[latch.l]\ncount = 1\n[barrier.b]\nparties = 2\nrounds = 1\n"
+
+abbrev who_makes : List ℕ → List ℕ → List ℕ
+who_makes name steps =
+    codes "[[job]]\nname = \"" ++ name ++ codes "\"\nsteps = [" ++ steps ++ codes "]\n"
+
+a_latch_and_a_barrier : first_fault (both
+    ++ who_makes (codes "a") (codes "\"wait l\", \"arrive b\"")
+    ++ who_makes (codes "c") (codes "\"arrive b\", \"down l\"")) ≡ None
+unfolding toml_on_literals
+a_latch_and_a_barrier = refl
+
+no_rounds : HasFirst (db ++ codes "[barrier.b]\nparties = 2\n") (codes "barrier.b.rounds") fault.Missing
+unfolding toml_on_literals
+no_rounds = refl
+
+down_at_a_barrier : HasFirst (both ++ who_makes (codes "a") (codes "\"down b\"")) (step_place 0 0) fault.Target
+unfolding toml_on_literals
+down_at_a_barrier = refl
+
+one_arrival_too_many :
+    HasFirst (both ++ who_makes (codes "a") (codes "\"arrive b\", \"arrive b\"")) (step_place 0 1) fault.Many
+unfolding toml_on_literals
+one_arrival_too_many = refl
+
+one_party_too_many : HasFirst (both ++ who_makes (codes "a") (codes "\"arrive b\"")
+    ++ who_makes (codes "c") (codes "\"arrive b\"") ++ who_makes (codes "d") (codes "\"arrive b\""))
+    (codes "barrier.b") fault.Many
+unfolding toml_on_literals
+one_party_too_many = refl

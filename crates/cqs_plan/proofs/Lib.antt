@@ -11,6 +11,7 @@ mod ValidJobs
 mod SectionFaults
 mod ReadSections
 mod ValidPlans
+mod WholePlans
 pub mod OneAnswer
 pub mod RunnablePlans
 pub mod PoolSeats

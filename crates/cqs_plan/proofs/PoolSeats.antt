@@ -1,6 +1,6 @@
 -- The numbers of a pool: each is that of at most one wait, which stands in the line or was served, and the next
 -- numbers are nobody's. So an element that was sent to a wait is the one that it has.
-use Rattle.std.proofs.Common.{◌≡◌, ◌≢◌, ◌⊎◌, inl, inr, ℕ, ◌+◌, ◌<◌, ◌≤◌, ◌==◌, nat_lt, Bool, true, false, List, [], ◌∷◌, Option, Some, None, count_by, find, refl, sym, ap, ◌∙◌, eq-eqb, ne_eqb, eqb-true, arith, ◌||◌, slice_get}
+use Rattle.std.proofs.Common.{◌≡◌, ◌≢◌, ◌⊎◌, inl, inr, ℕ, ◌+◌, ◌<◌, ◌≤◌, ◌==◌, nat_lt, Bool, true, false, List, [], ◌∷◌, Option, Some, None, count_by, find, refl, sym, ap, ◌∙◌, eq-eqb, ne_eqb, eqb-true, arith, ◌||◌}
 use Rattle.std.specs.Bool.{if◌then◌else◌}
 use Rattle.std.specs.List.{list_any}
 use Rattle.std.specs.Option.{option_map_or}

@@ -17,9 +17,8 @@ use Rattle.cqs_plan.specs.declared.plans.error.PlanError.{PlanError}
 use Rattle.cqs_plan.specs.declared.plans.resource.Resource.{Resource}
 use Rattle.cqs_plan.specs.declared.plans.fault_kind.FaultKind.TheVariants as fault
 use Rattle.cqs_plan.specs.declared.reader.sections.Section.{Section}
-use Rattle.cqs_plan.specs.declared.reader.sections.Section.TheVariants.{Semaphore, Mutex, Pool}
-use Rattle.cqs_plan.specs.Floor.{IsHoldable}
-use Rattle.cqs_plan.specs.Language.{is_name, ResourceKind, resource_kinds, mutexes, pools}
+use Rattle.cqs_plan.specs.declared.reader.sections.Section.TheVariants.{Semaphore, Mutex, Pool, Latch, Barrier}
+use Rattle.cqs_plan.specs.Language.{is_name, ResourceKind, resource_kinds, mutexes, pools, latches, barriers}
 use Rattle.cqs_plan.specs.FaultRules.{Fault, each, optional, required, shaped, unless}
 use Rattle.cqs_plan.specs.Faults.{kind_faults, kinds_faults, names_in, number_faults, resource_faults, resource_number_faults, resources_faults}
 use Rattle.cqs_plan.specs.Places.{dotted}
@@ -90,14 +89,18 @@ names-said (kind ∷ kinds) root =
 
 -- the kinds after a section's own
 abbrev kinds_after : Section → List ResourceKind
-kinds_after Semaphore = mutexes ∷ pools ∷ []
-kinds_after Mutex = pools ∷ []
-kinds_after Pool = []
+kinds_after Semaphore = mutexes ∷ pools ∷ latches ∷ barriers ∷ []
+kinds_after Mutex = pools ∷ latches ∷ barriers ∷ []
+kinds_after Pool = latches ∷ barriers ∷ []
+kinds_after Latch = barriers ∷ []
+kinds_after Barrier = []
 
 all-kinds : (section : Section) → resource_kinds ≡ kinds_before section ++ kind_of section ∷ kinds_after section
 all-kinds Semaphore = refl
 all-kinds Mutex = refl
 all-kinds Pool = refl
+all-kinds Latch = refl
+all-kinds Barrier = refl
 
 -- the first fault of a section is the first of all, where the sections before have none
 pub stops : (section : Section) (root : Members) (found : List Resource) (e : PlanError)
@@ -120,12 +123,8 @@ ranked : (section : Section) (m : List ℕ × Data)
 ranked Semaphore m = refl
 ranked Mutex m = refl
 ranked Pool m = refl
-
--- a section's kind is built
-built : (section : Section) (m : List ℕ × Data) → IsHoldable (Some (resource_in (kind_of section) m).kind)
-built Semaphore m = tt
-built Mutex m = tt
-built Pool m = tt
+ranked Latch m = refl
+ranked Barrier m = refl
 
 -- the numbers of a resource without a fault are in their ranges
 sized : (section : Section) (name : List ℕ) (value : Data) (table : Members) → as_table value ≡ Some table
@@ -142,6 +141,20 @@ sized Pool name value table is none =
     let size = get_member (codes "size") table in
     let number = no_faults (required place size (number_faults place 1 4096)) [] none in
     rw (get-table (codes "size") value table is) (required_number-valid place 1 4096 size number.0)
+sized Latch name value table is none =
+    let place = dotted (dotted (codes "latch") name) (codes "count") in
+    let count = get_member (codes "count") table in
+    let number = no_faults (required place count (number_faults place 1 1048576)) [] none in
+    rw (get-table (codes "count") value table is) (required_number-valid place 1 1048576 count number.0)
+sized Barrier name value table is none =
+    let first = dotted (dotted (codes "barrier") name) (codes "parties") in
+    let second = dotted (dotted (codes "barrier") name) (codes "rounds") in
+    let parties = get_member (codes "parties") table in
+    let rounds = get_member (codes "rounds") table in
+    let both = no_faults (required first parties (number_faults first 1 32)) _ none in
+    let other = no_faults (required second rounds (number_faults second 1 64)) [] both.1 in
+    rw (get-table (codes "parties") value table is, get-table (codes "rounds") value table is)
+    (required_number-valid first 1 32 parties both.0, required_number-valid second 1 64 rounds other.0)
 
 -- what the i-th resource of a section is, if it has no fault
 record IsSound (section : Section) (earlier : List (List ℕ)) (i : ℕ) (m : List ℕ × Data) : Type 0 where
@@ -300,9 +313,6 @@ module _ (section : Section) (root : Members) (found : List Resource)
           found = record {
             few = rw (length-append found new, many) few-new;
             valid = All-append IsResource found new read.found.valid new-valid;
-            built =
-                All-append (λ (r : Resource). IsHoldable (Some r.kind)) found new read.found.built
-                (λ j d below. let (is, fits) = new-at j d below in rw is (built section (get_or members j no_member)));
             order = record {
               order =
                   all-pairs-append Precedes found new read.found.order.order
@@ -337,7 +347,6 @@ none-read root = record {
   found = record {
     few = omega arith;
     valid = λ i d below. absurd (omega arith);
-    built = λ i d below. absurd (omega arith);
     order = record {
       order = λ i j d less below. absurd (omega arith);
       distinct = λ i j d less below. absurd (omega arith);

@@ -1,9 +1,8 @@
--- A plan that was read can be run: its resources are of kinds that are built, and its steps can be made.
-use Rattle.std.proofs.Common.{◌≡◌, ℕ, zero, suc, Bool, List, [], ◌∷◌, take, Option, Some, None, refl, ap, ◌∙◌, subst}
+-- A plan that was read can be run: its steps can be made.
+use Rattle.std.proofs.Common.{◌≡◌, ℕ, ◌<◌, zero, suc, Bool, List, [], ◌∷◌, take, Option, Some, None, refl, ap, ◌∙◌, subst}
 use Rattle.std.specs.Prelude.{slice_get, slice_index_or, All, IsSomeAnd, IsTrue, IfOk, Result, Ok, Err}
-use Rattle.std.specs.Option.{option_map}
+use Rattle.std.specs.Option.{option_map, option_map_or}
 use Rattle.std.proofs.lemmas.Option.{slice_get-map}
-use Rattle.cqs_core.specs.Numbered.{EachAt}
 use Rattle.cqs_core.proofs.Places.{get-below}
 use Rattle.cqs_plan.specs.declared.plans.error.PlanError.{PlanError}
 use Rattle.cqs_plan.specs.declared.plans.kind.Kind.{Kind}
@@ -13,12 +12,12 @@ use Rattle.cqs_plan.specs.declared.plans.step.Step.{Step}
 use Rattle.cqs_plan.specs.declared.plans.step.Step.TheVariants.{Take, Give, Down, Await, Arrive, Work}
 use Rattle.cqs_plan.specs.declared.plans.job.Job.{Job}
 use Rattle.cqs_plan.specs.declared.plans.plan.Plan.{Plan}
-use Rattle.cqs_plan.specs.Floor.{IsHoldable}
-use Rattle.cqs_plan.specs.Language.{can_hold}
+use Rattle.cqs_plan.specs.Arriving.{rounds_at, rounds_of}
+use Rattle.cqs_plan.specs.Floor.{IsHoldable, IsLatch, HasRound}
+use Rattle.cqs_plan.specs.Language.{can_hold, is_barrier, is_latch}
 use Rattle.cqs_plan.specs.Holding.{TookMore}
-use Rattle.cqs_plan.specs.Runnable.{kinds_of, IsMakeable, IsRunnable, AreBuilt}
-use Rattle.cqs_plan.specs.Sections.{AreFound}
-use Rattle.cqs_plan.specs.Validity.{IsValid, IsResource, IsJob, IsStep, HasKindAt, is_latch, is_barrier}
+use Rattle.cqs_plan.specs.Runnable.{kinds_of, round_after, IsMakeable, IsRunnable, AreSized}
+use Rattle.cqs_plan.specs.Validity.{IsValid, IsResource, IsJob, IsStep, HasKindAt}
 
 -- an element is where its number says
 get_or-at : {X : Type 0} (xs : List X) (i : ℕ) (x : X) → slice_get xs i ≡ Some x → slice_index_or xs i x ≡ x
@@ -29,66 +28,68 @@ get_or-at (y ∷ ys) (suc i) x there = get_or-at ys i x there
 pub all-at : {X : Type 0} (P : X → Type 0) (xs : List X) (i : ℕ) (x : X) → All P xs → slice_get xs i ≡ Some x → P x
 all-at P xs i x all there = subst P (get_or-at xs i x there) (all i x (get-below xs i x there))
 
--- the plan's resources are of kinds that are built
-abbrev AreHoldable : Plan → Type 0
-AreHoldable plan = EachAt (λ at resource. IsHoldable (Some resource.kind)) plan.resources
+-- what can be held, is a latch, or is a barrier with some rounds, by the tests of the language
+held-kind : (kind : Kind) → IsTrue (can_hold kind) → IsHoldable (Some kind)
+held-kind (Semaphore permits) is = tt
+held-kind Mutex is = tt
+held-kind (Pool elements) is = tt
+held-kind (Latch count) is = absurd (cc)
+held-kind (Rounds parties rounds) is = absurd (cc)
 
-holdable : (plan : Plan) → AreFound plan.resources → AreHoldable plan
-holdable plan found = record {
-  at = λ at r there. all-at (λ (x : Resource). IsHoldable (Some x.kind)) plan.resources at r found.built there;
-}
+latch-kind : (kind : Kind) → IsTrue (is_latch kind) → IsLatch (Some kind)
+latch-kind (Semaphore permits) is = absurd (cc)
+latch-kind Mutex is = absurd (cc)
+latch-kind (Pool elements) is = absurd (cc)
+latch-kind (Latch count) is = tt
+latch-kind (Rounds parties rounds) is = absurd (cc)
 
-module _ (plan : Plan) (valid : IsValid plan) (built : AreHoldable plan) where
-  -- a resource can be held at its place
-  holdable-at : (at : ℕ) (r : Resource) → slice_get plan.resources at ≡ Some r
-      → IsHoldable (slice_get (kinds_of plan.resources) at)
-  holdable-at at r there =
-      let kind : slice_get (kinds_of plan.resources) at ≡ Some r.kind =
-      slice_get-map (λ (x : Resource). x.kind) plan.resources at ∙ ap (option_map (λ (x : Resource). x.kind)) there in
-      rw kind (built.at at r there)
+round-kind : (kind : Kind) (round : ℕ) → IsTrue (is_barrier kind) → round < rounds_of kind → HasRound (Some kind) round
+round-kind (Semaphore permits) round is below = absurd (cc)
+round-kind Mutex round is below = absurd (cc)
+round-kind (Pool elements) round is below = absurd (cc)
+round-kind (Latch count) round is below = absurd (cc)
+round-kind (Rounds parties rounds) round is below = below
 
-  -- and so can one of some kind
-  named-at : (test : Kind → Bool) (at : ℕ) → HasKindAt plan.resources test at
-      → IsHoldable (slice_get (kinds_of plan.resources) at)
-  named-at test at there = go (slice_get plan.resources at) refl there
+module _ (plan : Plan) (valid : IsValid plan) where
+  -- the kind of a resource at its place
+  kind-at : (at : ℕ) (r : Resource) → slice_get plan.resources at ≡ Some r
+      → slice_get (kinds_of plan.resources) at ≡ Some r.kind
+  kind-at at r there =
+      slice_get-map (λ (x : Resource). x.kind) plan.resources at ∙ ap (option_map (λ (x : Resource). x.kind)) there
+
+  -- what a test of the language tells of the kind at a place
+  named-at : (test : Kind → Bool) (P : Option Kind → Type 0) → ((kind : Kind) → IsTrue (test kind) → P (Some kind))
+      → (at : ℕ) → HasKindAt plan.resources test at
+      → P (slice_get (kinds_of plan.resources) at)
+  named-at test P tells at there = go (slice_get plan.resources at) refl there
     where
       go : (o : Option Resource) → slice_get plan.resources at ≡ o
           → IsSomeAnd o (λ resource. IsTrue (test resource.kind))
-          → IsHoldable (slice_get (kinds_of plan.resources) at)
+          → P (slice_get (kinds_of plan.resources) at)
       go None is named = absurd named
-      go (Some r) is named = holdable-at at r is
+      go (Some r) is named = rw (kind-at at r is) (tells r.kind named)
 
-  -- no resource that can be held passes the test of a kind that can't
-  other-kind : (test : Kind → Bool) → ((kind : Kind) → IsHoldable (Some kind) → IsTrue (test kind) → ⊥)
-      → (at : ℕ) → HasKindAt plan.resources test at → ⊥
-  other-kind test differs at there = go (slice_get plan.resources at) refl there
+  -- an arrival has a round at its barrier
+  round-at : (at round : ℕ) → HasKindAt plan.resources is_barrier at → round < rounds_at plan.resources at
+      → HasRound (slice_get (kinds_of plan.resources) at) round
+  round-at at round there below = go (slice_get plan.resources at) refl there below
     where
       go : (o : Option Resource) → slice_get plan.resources at ≡ o
-          → IsSomeAnd o (λ resource. IsTrue (test resource.kind)) → ⊥
-      go None is named = named
-      go (Some r) is named = differs r.kind (built.at at r is) named
-
-  no-latch : (kind : Kind) → IsHoldable (Some kind) → IsTrue (is_latch kind) → ⊥
-  no-latch (Semaphore permits) holdable latch = absurd (cc)
-  no-latch Mutex holdable latch = absurd (cc)
-  no-latch (Pool elements) holdable latch = absurd (cc)
-  no-latch (Latch count) holdable latch = holdable
-  no-latch (Rounds parties rounds) holdable latch = holdable
-
-  no-barrier : (kind : Kind) → IsHoldable (Some kind) → IsTrue (is_barrier kind) → ⊥
-  no-barrier (Semaphore permits) holdable barrier = absurd (cc)
-  no-barrier Mutex holdable barrier = absurd (cc)
-  no-barrier (Pool elements) holdable barrier = absurd (cc)
-  no-barrier (Latch count) holdable barrier = holdable
-  no-barrier (Rounds parties rounds) holdable barrier = holdable
+          → IsSomeAnd o (λ resource. IsTrue (is_barrier resource.kind))
+          → round < option_map_or (λ (resource : Resource). rounds_of resource.kind) o 0
+          → HasRound (slice_get (kinds_of plan.resources) at) round
+      go None is named left = absurd named
+      go (Some r) is named left = rw (kind-at at r is) (round-kind r.kind round named left)
 
   makeable : (job : Job) → IsJob plan.resources job → (n : ℕ) (step : Step) → slice_get job.steps n ≡ Some step
-      → IsStep plan.resources step → IsMakeable (kinds_of plan.resources) (TookMore (take n job.steps)) step
-  makeable job fits n (Take at) there named = named-at can_hold at named
+      → IsStep plan.resources step
+      → IsMakeable (kinds_of plan.resources) (TookMore (take n job.steps)) (round_after (take n job.steps)) step
+  makeable job fits n (Take at) there named = named-at can_hold IsHoldable held-kind at named
   makeable job fits n (Give at) there named = fits.gives n at there
-  makeable job fits n (Down at) there named = other-kind is_latch no-latch at named
-  makeable job fits n (Await at) there named = other-kind is_latch no-latch at named
-  makeable job fits n (Arrive at) there named = other-kind is_barrier no-barrier at named
+  makeable job fits n (Down at) there named = named-at is_latch IsLatch latch-kind at named
+  makeable job fits n (Await at) there named = named-at is_latch IsLatch latch-kind at named
+  makeable job fits n (Arrive at) there named =
+      round-at at (round_after (take n job.steps) at) named (fits.arrives n at there)
   makeable job fits n (Work turns) there named = named.1
 
   pub runnable : IsRunnable plan
@@ -100,7 +101,6 @@ module _ (plan : Plan) (valid : IsValid plan) (built : AreHoldable plan) where
       at = λ place job there.
           let fits = all-at (IsJob plan.resources) plan.jobs place job valid.jobs there in fits.few;
     };
-    kinds = built;
     steps = record {
       at = λ place job there.
           let fits = all-at (IsJob plan.resources) plan.jobs place job valid.jobs there in
@@ -109,20 +109,17 @@ module _ (plan : Plan) (valid : IsValid plan) (built : AreHoldable plan) where
                 makeable job fits n step found (all-at (IsStep plan.resources) job.steps n step fits.steps found);
           };
     };
+    parties = valid.parties;
   }
 
 -- what a reader answers can be run
-pub read-runnable : (result : Result Plan PlanError) → IfOk result (λ plan. AreFound plan.resources)
-    → IfOk result IsValid
-    → IfOk result IsRunnable
-read-runnable (Ok plan) found valid = runnable plan valid (holdable plan found)
-read-runnable (Err error) found valid = tt
+pub read-runnable : (result : Result Plan PlanError) → IfOk result IsValid → IfOk result IsRunnable
+read-runnable (Ok plan) valid = runnable plan valid
+read-runnable (Err error) valid = tt
 
-pub read-built : (result : Result Plan PlanError) → IfOk result (λ plan. AreFound plan.resources)
-    → IfOk result IsValid
-    → IfOk result (λ plan. AreBuilt plan.resources)
-read-built (Ok plan) found valid = record {
-  at = λ at r there.
-      ((holdable plan found).at at r there, (all-at IsResource plan.resources at r valid.resources there).sized);
+pub read-sized : (result : Result Plan PlanError) → IfOk result IsValid
+    → IfOk result (λ plan. AreSized plan.resources)
+read-sized (Ok plan) valid = record {
+  at = λ at r there. (all-at IsResource plan.resources at r valid.resources there).sized;
 }
-read-built (Err error) found valid = tt
+read-sized (Err error) valid = tt

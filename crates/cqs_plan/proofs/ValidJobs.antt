@@ -10,14 +10,15 @@ use Rattle.cqs_plan.specs.declared.plans.fault_kind.FaultKind.TheVariants as fau
 use Rattle.cqs_plan.specs.declared.plans.job.Job.{Job}
 use Rattle.cqs_plan.specs.declared.plans.resource.Resource.{Resource}
 use Rattle.cqs_plan.specs.declared.plans.step.Step.{Step}
-use Rattle.cqs_plan.specs.declared.plans.step.Step.TheVariants.{Give}
+use Rattle.cqs_plan.specs.declared.plans.step.Step.TheVariants.{Arrive, Give}
 use Rattle.cqs_plan.specs.Language.{is_name}
 use Rattle.cqs_plan.specs.FaultRules.{has_only, optional, required, unless}
 use Rattle.cqs_plan.specs.Faults.{job_faults, job_keys, job_step_faults, name_faults, number_faults, read_step_faults, step_faults, steps_faults, steps_part_faults}
+use Rattle.cqs_plan.specs.Arriving.{has_round}
 use Rattle.cqs_plan.specs.Holding.{is_held}
 use Rattle.cqs_plan.specs.Places.{indexed, job_place, part_place}
 use Rattle.cqs_plan.specs.Meaning.{items_in, items_list, text_in, job_in, job_name, number_in, step_in, step_of, steps_in}
-use Rattle.cqs_plan.specs.Validity.{IsStep, IsJob, GivesWhatItTook}
+use Rattle.cqs_plan.specs.Validity.{IsStep, IsJob, ArrivesInRounds, GivesWhatItTook}
 use Rattle.cqs_plan.proofs.ValidNumbers.{no_faults, unless-passed, required-there, shaped-right, number-valid, each-faultless}
 use Rattle.cqs_plan.proofs.ValidSteps.{step-valid}
 
@@ -66,12 +67,17 @@ record ReadsAs (resources : List Resource) (earlier : List Step) (value : Data) 
   says : step_in resources value ≡ Some step
   valid : IsStep resources step
   held : is_held earlier step ≡ true
+  round : has_round resources earlier step ≡ true
 
-read_case : (place : List ℕ) (earlier : List Step) (read : Result Step FaultKind)
-    → read_step_faults place earlier read ≡ []
-    → (step : Step) × (read ≡ Ok step) × (is_held earlier step ≡ true)
-read_case place earlier (Ok step) none = (step, refl, unless-passed _ place _ none)
-read_case place earlier (Err kind) none = cc
+read_case : (place : List ℕ) (resources : List Resource) (earlier : List Step) (read : Result Step FaultKind)
+    → read_step_faults place resources earlier read ≡ []
+    → (step : Step) × (read ≡ Ok step) × (is_held earlier step ≡ true) × (has_round resources earlier step ≡ true)
+read_case place resources earlier (Ok step) none =
+    let parts =
+    no_faults (unless (is_held earlier step) place fault.Unheld)
+    (unless (has_round resources earlier step) place fault.Many) none in
+    (step, refl, unless-passed _ place _ parts.0, unless-passed _ place _ parts.1)
+read_case place resources earlier (Err kind) none = cc
 
 step_in-read : (resources : List Resource) (value : Data) (text : List ℕ) (step : Step)
     → as_str value ≡ Some text
@@ -82,12 +88,13 @@ reads : (place : List ℕ) (resources : List Resource) (earlier : List Step) (va
     → step_faults place resources earlier value ≡ [] → (step : Step) × ReadsAs resources earlier value step
 reads place resources earlier value none =
     let (text, is, faultless) = shaped-right place (as_str value) _ none in
-    let (step, read, held) = read_case place earlier (step_of resources text) faultless in (
+    let (step, read, held, round) = read_case place resources earlier (step_of resources text) faultless in (
       step,
       record {
         says = step_in-read resources value text step is read;
         valid = step-valid resources text step read;
         held = held;
+        round = round;
       },
     )
 
@@ -136,6 +143,20 @@ gives-valid resources values read = λ k place gives.
     let held : is_held (steps_in resources (take k values)) (Give place) ≡ true =
     ap (is_held (steps_in resources (take k values))) (sym same) ∙ shows.held in
     rw (take-all_some (step_in resources) k values some) (ltb-true _ _ held)
+
+arrives-valid : (resources : List Resource) (values : List Data) → AreReadAs resources values
+    → ArrivesInRounds resources (steps_in resources values)
+arrives-valid resources values read = λ k place arrives.
+    let some = all_some resources values read in
+    let below = slice_get-within (steps_in resources values) k (Arrive place) arrives in
+    let inside : k < length values = rw (← length-all_some (step_in resources) values some) below in
+    let (step, shows) = read.each k nothing inside in
+    let there : slice_get (steps_in resources values) k ≡ Some step =
+    get-all_some (step_in resources) values k nothing some inside ∙ shows.says in
+    let same : step ≡ Arrive place = cc in
+    let round : has_round resources (steps_in resources (take k values)) (Arrive place) ≡ true =
+    ap (has_round resources (steps_in resources (take k values))) (sym same) ∙ shows.round in
+    rw (take-all_some (step_in resources) k values some) (ltb-true _ _ round)
 
 -- what a job has at a key of its table
 pub get-table : (key : List ℕ) (job : Data) (found : Members) → as_table job ≡ Some found
@@ -213,6 +234,7 @@ table_job-valid resources job named steps deadline =
       few = rw as_many steps.few;
       steps = steps-valid resources values steps;
       gives = gives-valid resources values steps;
+      arrives = arrives-valid resources values steps;
     }
 
 -- a job without a fault is a job, and its name is new

@@ -1,19 +1,23 @@
 -- A plan without a fault keeps to what every plan keeps to.
 use Rattle.std.proofs.Common.{◌≡◌, ◌≢◌, ℕ, zero, suc, ◌<◌, ◌≤◌, false, nat_le, List, [], ◌∷◌, length, get_or, take, map, Result, Ok, Err, IfOk, Option, Some, None, refl, sym, subst, ◌∙◌, arith}
-use Rattle.std.specs.Prelude.{codes, All, AllPairs}
+use Rattle.std.specs.Prelude.{codes, All, AllPairs, IsTrue}
 use Rattle.std.specs.Str.{bytes_eq}
 use Rattle.std.proofs.lemmas.Bool.{leb-true, or_parts, false≢true}
 use Rattle.std.proofs.lemmas.List.{get_or-map, get_or-take, length-map, length-take-le}
+use Rattle.std.proofs.lemmas.Option.{get_or_from_slice_get}
 use Rattle.std.proofs.lemmas.Slice.Eq.{bytes_eq-Decides}
+use Rattle.cqs_core.specs.Numbered.{EachAt}
+use Rattle.cqs_core.proofs.Places.{get-below}
 use Rattle.toml.specs.Data.{Data, get_member, as_array, Members}
 use Rattle.cqs_plan.specs.declared.plans.error.PlanError.{PlanError}
 use Rattle.cqs_plan.specs.declared.plans.job.Job.{Job}
 use Rattle.cqs_plan.specs.declared.plans.plan.Plan.{Plan}
 use Rattle.cqs_plan.specs.declared.plans.resource.Resource.{Resource}
 use Rattle.cqs_plan.specs.declared.plans.fault_kind.FaultKind.TheVariants as fault
+use Rattle.cqs_plan.specs.Arriving.{arriving, has_parties}
 use Rattle.cqs_plan.specs.Language.{resource_kinds}
 use Rattle.cqs_plan.specs.FaultRules.{has_only, unless}
-use Rattle.cqs_plan.specs.Faults.{faults_in, is_named, jobs_faults, jobs_part_faults, listed_job_faults, resources_faults, root_keys, root_number_faults}
+use Rattle.cqs_plan.specs.Faults.{arriving_jobs_faults, barrier_faults, barriers_faults, faults_in, is_named, jobs_faults, jobs_part_faults, listed_job_faults, resources_faults, root_keys, root_number_faults}
 use Rattle.cqs_plan.specs.Meaning.{items_in, items_list, job_in, job_name, plan_in, resources_in}
 use Rattle.cqs_plan.specs.PlanText.{IsPlanText}
 use Rattle.cqs_plan.specs.Sections.{AreFound}
@@ -83,16 +87,29 @@ distinct-names resources values jobs = λ i j d less below.
     (jobs.names j nothing inside) (omega arith) in
     rw (one, other, ← get_or-take j values i nothing less) differs
 
+-- no barrier of a document without a fault has too many jobs
+few-parties : (resources : List Resource) (jobs : List Job) → barriers_faults resources jobs ≡ []
+    → EachAt (λ at resource. IsTrue (has_parties resource.kind (arriving at jobs))) resources
+few-parties resources jobs none = record {
+  at = λ at resource there.
+      let below = get-below resources at resource there in
+      let here = each-faultless (barrier_faults jobs) 0 at resources at resource none (omega arith) below in
+      let is : get_or resources at resource ≡ resource = get_or_from_slice_get resources at resource resource there in
+      let faultless : barrier_faults jobs at resource ≡ [] = rw (← is) here in
+      unless-passed (has_parties resource.kind (arriving at jobs)) _ _ faultless;
+}
+
 -- the plan of a document without a fault whose resources are valid
 pub plan-valid : (root : Members) → faults_in root ≡ [] → AreFound (plan_in root).resources
     → IsValid (plan_in root)
 plan-valid root none found =
     let resources = resources_in resource_kinds root in
-    let with_jobs = no_faults _ (jobs_part_faults resources (get_member (codes "job") root)) none in
+    let with_jobs = no_faults _ (arriving_jobs_faults resources (get_member (codes "job") root)) none in
+    let arriving = no_faults (jobs_part_faults resources (get_member (codes "job") root)) _ with_jobs.1 in
     let with_resources = no_faults _ (resources_faults root) with_jobs.0 in
     let turns = no_faults _ (root_number_faults (codes "turns") 1 40000 root) with_resources.0 in
     let version = no_faults (unless (has_only root_keys root) (codes "plan") fault.Key) _ turns.0 in
-    let jobs = jobs-valid resources (get_member (codes "job") root) with_jobs.1 in
+    let jobs = jobs-valid resources (get_member (codes "job") root) arriving.0 in
     let one = required_number-valid (codes "version") 1 1 (get_member (codes "version") root) version.1 in
     let values = items_in (get_member (codes "job") root) in record {
       version = omega arith;
@@ -102,6 +119,7 @@ plan-valid root none found =
       order = found.order;
       few_jobs = rw length-map jobs.few;
       jobs = all-jobs resources values jobs;
+      parties = few-parties resources (plan_in root).jobs arriving.1;
       names = distinct-names resources values jobs;
     }
 

@@ -10,7 +10,7 @@ use Rattle.cqs_plan.specs.declared.plans.fault_kind.FaultKind.TheVariants as fau
 use Rattle.cqs_plan.specs.declared.plans.resource.Resource.{Resource}
 use Rattle.cqs_plan.specs.declared.plans.step.Step.{Step}
 use Rattle.cqs_plan.specs.declared.plans.step.Step.TheVariants.{Work}
-use Rattle.cqs_plan.specs.Language.{Verb, take_verb, give_verb}
+use Rattle.cqs_plan.specs.Language.{Verb, take_verb, give_verb, down_verb, wait_verb, arrive_verb}
 use Rattle.cqs_plan.specs.Meaning.{has_one_space, is_space, is_decimal, decimal_value, step_at, step_of, work_step}
 use Rattle.cqs_plan.specs.Validity.{HasKindAt, IsStep}
 
@@ -67,17 +67,31 @@ verb-valid verb resources name step is =
     let same : p ≡ i = omega arith in
     (p, made, rw same (works_there verb name (slice_get resources i) has))
 
-verb_case : (resources : List Resource) (argument : List ℕ) (step : Step) (works takes gives : Bool)
+-- the verb of a word that is one of these
+abbrev verb_by : Bool → Bool → Bool → Bool → Bool → Option Verb
+verb_by takes gives downs waits arrives =
+    cond takes (Some take_verb) (cond gives (Some give_verb)
+    (cond downs (Some down_verb) (cond waits (Some wait_verb) (cond arrives (Some arrive_verb) None))))
+
+verb_case : (resources : List Resource) (argument : List ℕ) (step : Step)
+    (works takes gives downs waits arrives : Bool)
     → (if works then work_step argument
     else option_map_or (λ verb. step_at verb resources argument)
-    (cond takes (Some take_verb) (cond gives (Some give_verb) None)) (Err fault.Step)) ≡ Ok step
+    (verb_by takes gives downs waits arrives) (Err fault.Step)) ≡ Ok step
     → IsStep resources step
-verb_case resources argument step true takes gives is = work-valid resources argument step is
-verb_case resources argument step false true gives is =
+verb_case resources argument step true takes gives downs waits arrives is =
+    work-valid resources argument step is
+verb_case resources argument step false true gives downs waits arrives is =
     let (place, made, has) = verb-valid take_verb resources argument step is in rw made has
-verb_case resources argument step false false true is =
+verb_case resources argument step false false true downs waits arrives is =
     let (place, made, has) = verb-valid give_verb resources argument step is in rw made has
-verb_case resources argument step false false false is = cc
+verb_case resources argument step false false false true waits arrives is =
+    let (place, made, has) = verb-valid down_verb resources argument step is in rw made has
+verb_case resources argument step false false false false true arrives is =
+    let (place, made, has) = verb-valid wait_verb resources argument step is in rw made has
+verb_case resources argument step false false false false false true is =
+    let (place, made, has) = verb-valid arrive_verb resources argument step is in rw made has
+verb_case resources argument step false false false false false false is = cc
 
 pub step-valid : (resources : List Resource) (text : List ℕ) (step : Step)
     → step_of resources text ≡ Ok step → IsStep resources step
@@ -85,4 +99,5 @@ step-valid resources text step is =
     let word = before_first is_space text in
     let (tested, done) = if_ok (has_one_space text) _ fault.Step step is in
     verb_case resources (after_first is_space text) step
-    (bytes_eq word (codes "work")) (bytes_eq word (codes "take")) (bytes_eq word (codes "give")) done
+    (bytes_eq word (codes "work")) (bytes_eq word (codes "take")) (bytes_eq word (codes "give"))
+    (bytes_eq word (codes "down")) (bytes_eq word (codes "wait")) (bytes_eq word (codes "arrive")) done

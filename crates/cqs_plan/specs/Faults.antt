@@ -5,13 +5,15 @@ use Rattle.std.specs.List.{list_any, flat_map}
 use Rattle.std.specs.Str.{bytes_eq}
 use Rattle.toml.specs.Data.{Data, Members, get_member, as_integer, as_str, as_array, as_table}
 use Rattle.cqs_plan.specs.declared.plans.resource.Resource.{Resource}
+use Rattle.cqs_plan.specs.declared.plans.job.Job.{Job}
 use Rattle.cqs_plan.specs.declared.plans.fault_kind.FaultKind.{FaultKind}
 use Rattle.cqs_plan.specs.declared.plans.fault_kind.FaultKind.TheVariants as fault
 use Rattle.cqs_plan.specs.declared.plans.step.Step.{Step}
 use Rattle.cqs_plan.specs.FaultRules.{Fault, fault_at, unless, required, optional, shaped, each, has_only}
+use Rattle.cqs_plan.specs.Arriving.{arriving, has_parties, has_round}
 use Rattle.cqs_plan.specs.Holding.{is_held}
 use Rattle.cqs_plan.specs.Language.{is_name, ResourceKind, resource_kinds}
-use Rattle.cqs_plan.specs.Meaning.{items_list, members_list, members_in, resources_in, step_of, steps_in, job_name}
+use Rattle.cqs_plan.specs.Meaning.{items_in, items_list, members_list, members_in, resources_in, step_of, steps_in, job_in, job_name}
 use Rattle.cqs_plan.specs.Places.{dotted, indexed, job_place, part_place}
 
 -- an integer from least to most
@@ -57,14 +59,19 @@ kinds_faults kinds root =
 abbrev pub resources_faults : Members → List Fault
 resources_faults root = kinds_faults resource_kinds root
 
--- the fault of a text that is no step, or of one that gives what isn't held
-abbrev pub read_step_faults : List ℕ → List Step → Result Step FaultKind → List Fault
-read_step_faults place earlier (Ok step) = unless (is_held earlier step) place fault.Unheld
-read_step_faults place earlier (Err kind) = fault_at place kind
+-- the fault of a text that is no step, of one that gives what isn't held, or of one that arrives at
+-- a barrier once more than it has rounds
+abbrev pub read_step_faults
+    : List ℕ → List Resource → List Step → Result Step FaultKind → List Fault
+read_step_faults place resources earlier (Ok step) =
+    unless (is_held earlier step) place fault.Unheld
+    ++ unless (has_round resources earlier step) place fault.Many
+read_step_faults place resources earlier (Err kind) = fault_at place kind
 
 abbrev pub step_faults : List ℕ → List Resource → List Step → Data → List Fault
 step_faults place resources earlier value =
-    shaped place (as_str value) (λ text. read_step_faults place earlier (step_of resources text))
+    shaped place (as_str value) (λ text.
+    read_step_faults place resources earlier (step_of resources text))
 
 -- the faults of the j-th of the steps of a job
 abbrev pub job_step_faults : List ℕ → List Resource → List Data → ℕ → Data → List Fault
@@ -122,6 +129,21 @@ abbrev pub jobs_part_faults : List Resource → Option Data → List Fault
 jobs_part_faults resources value = optional value (λ jobs.
     shaped (codes "job") (as_array jobs) (λ items. jobs_faults resources (items_list items)))
 
+-- the fault of a barrier at which more jobs arrive than it has parties
+abbrev pub barrier_faults : List Job → ℕ → Resource → List Fault
+barrier_faults jobs at resource =
+    unless (has_parties resource.kind (arriving at jobs)) (dotted (codes "barrier") resource.name)
+    fault.Many
+
+abbrev pub barriers_faults : List Resource → List Job → List Fault
+barriers_faults resources jobs = each resources (barrier_faults jobs)
+
+-- the faults of the jobs that the root has, and then of the barriers at which they arrive
+abbrev pub arriving_jobs_faults : List Resource → Option Data → List Fault
+arriving_jobs_faults resources value =
+    jobs_part_faults resources value
+    ++ barriers_faults resources (map (job_in resources) (items_in value))
+
 -- the keys of the root
 abbrev pub root_keys : List (List ℕ)
 root_keys = codes "version" ∷ codes "turns" ∷ map (λ kind. kind.key) resource_kinds ++ codes "job"
@@ -139,4 +161,4 @@ faults_in root =
     ++ root_number_faults (codes "version") 1 1 root
     ++ root_number_faults (codes "turns") 1 40000 root
     ++ resources_faults root
-    ++ jobs_part_faults (resources_in resource_kinds root) (get_member (codes "job") root)
+    ++ arriving_jobs_faults (resources_in resource_kinds root) (get_member (codes "job") root)

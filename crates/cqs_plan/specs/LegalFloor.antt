@@ -1,27 +1,48 @@
 -- A floor is legal where what happened at each resource is a legal history of what the resource
 -- is. A kind of resource that joins brings its object, and its word for a legal history of
 -- that object, to `IsHistory`.
-use Rattle.std.specs.Prelude.{◌≡◌, ℕ, List, Some, slice_get}
+use Rattle.std.specs.Prelude.{◌≡◌, ℕ, false, List, Some, length, slice_get}
+use Rattle.cqs_core.specs.Numbered.{EachAt}
 use Rattle.cqs_core.specs.SemaphoreEntries.{IsLegal}
 use Rattle.cqs_pool_object.specs.PoolEntries.{IsLegal as IsLegalPool}
+use Rattle.cqs_latch_object.specs.LatchEntries.{IsLegal as IsLegalLatch}
+use Rattle.cqs_barrier_object.specs.declared.entries.BarrierEntry.{BarrierEntry}
+use Rattle.cqs_barrier_object.specs.BarrierEntries.{IsLegal as IsLegalBarrier}
 use Rattle.cqs_plan.specs.declared.plans.kind.Kind.{Kind}
 use Rattle.cqs_plan.specs.declared.plans.kind.Kind.TheVariants as kind
 use Rattle.cqs_plan.specs.declared.plans.plan.Plan.{Plan}
-use Rattle.cqs_plan.specs.FloorHistory.{History, of_permits, of_elements}
+use Rattle.cqs_plan.specs.FloorHistory.{History, of_permits, of_elements, of_latch, of_rounds}
 use Rattle.cqs_plan.specs.Floor.{PlainFloor, history_at}
 use Rattle.cqs_plan.specs.Runnable.{kinds_of}
 
--- this is a legal history of a resource of this kind, from its size on; the last two kinds
--- aren't built
+-- of a barrier with so many parties and rounds: each round has its own history
+pub record AreRounds (parties rounds : ℕ) (all : List (List BarrierEntry)) : Type 0 where
+  pub many : length all ≡ rounds
+  pub each : EachAt (λ round entries. IsLegalBarrier parties entries) all
+
+-- this is a legal history of a resource of this kind, from its size on; the latches of a plan are
+-- smart
 abbrev pub IsHistory : Kind → History → Type 0
 IsHistory (kind.Semaphore permits) (of_permits entries) = IsLegal permits entries
-IsHistory (kind.Semaphore permits) (of_elements entries) = ⊥
 IsHistory kind.Mutex (of_permits entries) = IsLegal 1 entries
-IsHistory kind.Mutex (of_elements entries) = ⊥
-IsHistory (kind.Pool elements) (of_permits entries) = ⊥
 IsHistory (kind.Pool elements) (of_elements entries) = IsLegalPool elements entries
-IsHistory (kind.Latch count) history = ⊥
-IsHistory (kind.Rounds parties rounds) history = ⊥
+IsHistory (kind.Latch count) (of_latch entries) = IsLegalLatch false count entries
+IsHistory (kind.Rounds parties rounds) (of_rounds all) = AreRounds parties rounds all
+IsHistory (kind.Semaphore permits) (of_elements entries) = ⊥
+IsHistory (kind.Semaphore permits) (of_latch entries) = ⊥
+IsHistory (kind.Semaphore permits) (of_rounds all) = ⊥
+IsHistory kind.Mutex (of_elements entries) = ⊥
+IsHistory kind.Mutex (of_latch entries) = ⊥
+IsHistory kind.Mutex (of_rounds all) = ⊥
+IsHistory (kind.Pool elements) (of_permits entries) = ⊥
+IsHistory (kind.Pool elements) (of_latch entries) = ⊥
+IsHistory (kind.Pool elements) (of_rounds all) = ⊥
+IsHistory (kind.Latch count) (of_permits entries) = ⊥
+IsHistory (kind.Latch count) (of_elements entries) = ⊥
+IsHistory (kind.Latch count) (of_rounds all) = ⊥
+IsHistory (kind.Rounds parties rounds) (of_permits entries) = ⊥
+IsHistory (kind.Rounds parties rounds) (of_elements entries) = ⊥
+IsHistory (kind.Rounds parties rounds) (of_latch entries) = ⊥
 
 -- what happened at each resource is a legal history of it
 pub record IsLegalFloor (f : PlainFloor) : Type 0 where

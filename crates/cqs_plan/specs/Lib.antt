@@ -13,6 +13,7 @@ pub mod Runnable
 pub mod Language
 pub mod Order
 pub mod Holding
+pub mod Arriving
 pub mod Meaning
 pub mod Places
 pub mod FaultRules

@@ -20,3 +20,21 @@ is_give at (Down place) = false
 is_give at (Await place) = false
 is_give at (Arrive place) = false
 is_give at (Work turns) = false
+
+-- arrives at this resource
+abbrev pub is_arrival : ℕ → Step → Bool
+is_arrival at (Arrive place) = place == at
+is_arrival at (Take place) = false
+is_arrival at (Give place) = false
+is_arrival at (Down place) = false
+is_arrival at (Await place) = false
+is_arrival at (Work turns) = false
+
+-- may have to wait at this resource: takes, waits or arrives there
+abbrev pub may_wait : ℕ → Step → Bool
+may_wait at (Take place) = place == at
+may_wait at (Give place) = false
+may_wait at (Down place) = false
+may_wait at (Await place) = place == at
+may_wait at (Arrive place) = place == at
+may_wait at (Work turns) = false

@@ -1,6 +1,7 @@
 -- What every plan keeps to.
-use Rattle.std.specs.Prelude.{◌≡◌, ◌≢◌, ℕ, ◌≤◌, Bool, true, false, IsTrue, List, length, take, All, AllPairs, Some, IfSome, IsSomeAnd, slice_get}
+use Rattle.std.specs.Prelude.{◌≡◌, ◌≢◌, ℕ, ◌≤◌, Bool, IsTrue, List, length, take, All, AllPairs, Some, IfSome, IsSomeAnd, slice_get}
 use Rattle.std.specs.Int.{IsInRange}
+use Rattle.cqs_core.specs.Numbered.{EachAt}
 use Rattle.cqs_plan.specs.declared.plans.job.Job.{Job}
 use Rattle.cqs_plan.specs.declared.plans.kind.Kind.{Kind}
 use Rattle.cqs_plan.specs.declared.plans.kind.Kind.TheVariants.{Semaphore, Mutex, Pool, Latch, Rounds}
@@ -9,7 +10,8 @@ use Rattle.cqs_plan.specs.declared.plans.resource.Resource.{Resource}
 use Rattle.cqs_plan.specs.declared.plans.step.Step.{Step}
 use Rattle.cqs_plan.specs.declared.plans.step.Step.TheVariants.{Take, Give, Down, Await, Arrive, Work}
 use Rattle.cqs_plan.specs.Holding.{TookMore}
-use Rattle.cqs_plan.specs.Language.{can_hold, is_name}
+use Rattle.cqs_plan.specs.Arriving.{ArrivedFewer, arriving, has_parties, rounds_at}
+use Rattle.cqs_plan.specs.Language.{can_hold, is_barrier, is_latch, is_name}
 use Rattle.cqs_plan.specs.Order.{AreInOrder}
 
 -- the numbers of a kind are in their ranges
@@ -23,20 +25,6 @@ IsKind (Rounds parties rounds) = IsInRange 1 32 parties × IsInRange 1 64 rounds
 pub record IsResource (resource : Resource) : Type 0 where
   pub named : IsTrue (is_name resource.name)
   pub sized : IsKind resource.kind
-
-abbrev pub is_latch : Kind → Bool
-is_latch (Latch count) = true
-is_latch (Semaphore permits) = false
-is_latch Mutex = false
-is_latch (Pool elements) = false
-is_latch (Rounds parties rounds) = false
-
-abbrev pub is_barrier : Kind → Bool
-is_barrier (Rounds parties rounds) = true
-is_barrier (Semaphore permits) = false
-is_barrier Mutex = false
-is_barrier (Pool elements) = false
-is_barrier (Latch count) = false
 
 -- there is a resource at the place, of a kind that passes the test
 abbrev pub HasKindAt : List Resource → (Kind → Bool) → ℕ → Type 0
@@ -57,12 +45,18 @@ abbrev pub GivesWhatItTook : List Step → Type 0
 GivesWhatItTook steps = (i place : ℕ) → slice_get steps i ≡ Some (Give place)
     → TookMore (take i steps) place
 
+-- before each `arrive` there were fewer arrivals at its barrier than it has rounds
+abbrev pub ArrivesInRounds : List Resource → List Step → Type 0
+ArrivesInRounds resources steps = (i place : ℕ) → slice_get steps i ≡ Some (Arrive place)
+    → ArrivedFewer (take i steps) place (rounds_at resources place)
+
 pub record IsJob (resources : List Resource) (job : Job) : Type 0 where
   pub named : IsTrue (is_name job.name)
   pub deadline : IfSome job.deadline (λ turn. turn ≤ 40000)
   pub few : length job.steps ≤ 64
   pub steps : All (IsStep resources) job.steps
   pub gives : GivesWhatItTook job.steps
+  pub arrives : ArrivesInRounds resources job.steps
 
 pub record IsValid (plan : Plan) : Type 0 where
   pub version : plan.version ≡ 1
@@ -72,4 +66,7 @@ pub record IsValid (plan : Plan) : Type 0 where
   pub order : AreInOrder plan.resources
   pub few_jobs : length plan.jobs ≤ 4096
   pub jobs : All (IsJob plan.resources) plan.jobs
+  -- no more jobs arrive at a barrier than it has parties
+  pub parties : EachAt
+      (λ at resource. IsTrue (has_parties resource.kind (arriving at plan.jobs))) plan.resources
   pub names : AllPairs (λ one other. one.name ≢ other.name) plan.jobs

@@ -17,7 +17,7 @@ mod reader;
 mod streams;
 
 pub use cqs_core::Memory;
-pub use floors::answers::{FloorEnd, FloorGive, FloorLeave, FloorLook, FloorTake};
+pub use floors::answers::{FloorDown, FloorEnd, FloorGive, FloorLeave, FloorLook, FloorTake};
 pub use floors::floor::Floor;
 pub use lines::fault_line;
 pub use plans::error::PlanError;

@@ -9,11 +9,12 @@ ghost use Rattle.cqs_plan.specs.Faults.{faults_in};
 ghost use Rattle.cqs_plan.specs.Meaning.{plan_in};
 ghost use Rattle.cqs_plan.specs.declared.plans.plan.Plan.{Plan};
 ghost use Rattle.cqs_plan.specs.PlanText.{IsFirstFault, IsNoToml, IsOrMemory, IsPlanText};
-ghost use Rattle.cqs_plan.specs.Runnable.{AreBuilt, IsRunnable};
+ghost use Rattle.cqs_plan.specs.Runnable.{AreSized, IsRunnable};
 ghost use Rattle.cqs_plan.specs.Reading.{Reads};
 ghost use Rattle.cqs_plan.specs.Sections.{AreFound};
 ghost use Rattle.cqs_plan.specs.Validity.{IsValid};
 
+pub mod barriers;
 pub mod jobs;
 pub mod members;
 pub mod names;
@@ -43,7 +44,16 @@ fn plan_from(alloc: Global, root: &Table) -> Result<Plan, PlanError>
     ensures found { IfOk result (λ plan. AreFound plan.resources) }
 {
     if !has_only(
-        &["version", "turns", "semaphore", "mutex", "pool", "job"],
+        &[
+            "version",
+            "turns",
+            "semaphore",
+            "mutex",
+            "pool",
+            "latch",
+            "barrier",
+            "job",
+        ],
         root,
     ) {
         return Err(Place::Word("plan").fault(alloc, FaultKind::Key));
@@ -86,7 +96,7 @@ pub fn read_plan(alloc: Global, bytes: &[u8]) -> Result<Plan, PlanError>
     ensures plan { IfOk result (IsPlanText bytes.now) }
     ensures valid { IfOk result IsValid }
     ensures runnable { IfOk result IsRunnable }
-    ensures built { IfOk result (λ plan. AreBuilt plan.resources) }
+    ensures sized { IfOk result (λ plan. AreSized plan.resources) }
     ensures not_toml { result ≡ Err PlanError.NotToml → IsNoToml bytes.now }
     ensures fault { (place : List ℕ) (kind : FaultKind)
         → result ≡ Err (PlanError.Fault place kind) → IsFirstFault bytes.now place kind }

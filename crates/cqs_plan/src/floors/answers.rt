@@ -1,10 +1,10 @@
 //! What the calls of a floor answer. An element's number is that of a pool's element, and 0 for
 //! every other kind of resource.
 
-/// What a job's take came to.
+/// What a job's take, its wait at a latch or its arrival at a barrier came to.
 #[derive(Clone, Copy, Debug, PartialEq, Eq)]
 pub enum FloorTake {
-    /// The job holds this element.
+    /// The job holds this element; or it goes on, and the element is 0.
     Now(u32),
     /// The job waits under this number.
     Waits(u64),
@@ -24,7 +24,7 @@ pub enum FloorGive {
 pub enum FloorLook {
     /// It isn't served yet.
     Pending,
-    /// It was served: the job holds this element.
+    /// It was served: the job holds this element, if it waited for one.
     Granted(u32),
 }
 
@@ -33,8 +33,19 @@ pub enum FloorLook {
 pub enum FloorLeave {
     /// Its wait is gone.
     Gone,
-    /// Its wait was served before: the job holds this element.
+    /// Its wait was served before: the job holds this element, if it waited for one.
     Late(u32),
+}
+
+/// What a count down of a latch came to.
+#[derive(Clone, Copy, Debug, PartialEq, Eq)]
+pub enum FloorDown {
+    /// The latch is still to be counted down so often.
+    Left(u32),
+    /// It was the last, and the latch is open.
+    Last,
+    /// The latch was open before.
+    Already,
 }
 
 /// How a resource stands.

@@ -4,12 +4,13 @@ ghost use Rattle.std.specs.BTreeSet.{contains_text};
 ghost use Rattle.toml.specs.Data.{get_member};
 ghost use Rattle.toml.specs.View.{array_view, table_view, view};
 ghost use Rattle.cqs_plan.specs.FaultRules.{each, optional};
-ghost use Rattle.cqs_plan.specs.Faults.{job_faults, jobs_faults, jobs_part_faults, listed_job_faults, number_faults};
+ghost use Rattle.cqs_plan.specs.Faults.{arriving_jobs_faults, job_faults, jobs_faults, jobs_part_faults, listed_job_faults, number_faults};
 ghost use Rattle.cqs_plan.specs.Meaning.{items_in, items_list, job_in, number_in};
 ghost use Rattle.cqs_plan.specs.Order.{AreFew};
 ghost use Rattle.cqs_plan.specs.Places.{part_place};
 ghost use Rattle.cqs_plan.specs.Reading.{AddsName, Reads, data_in};
 
+use super::barriers::barriers;
 use super::members::{has_only, member};
 use super::names::new_name;
 use super::numbers::number;
@@ -106,8 +107,8 @@ fn listed_jobs(alloc: Global, values: &Array, resources: &[Resource]) -> Result<
     each_job(alloc, values, resources)
 }
 
-/// The jobs of a plan, in order.
-pub fn jobs(alloc: Global, root: &Table, resources: &[Resource]) -> Result<Vec<Job>, PlanError>
+/// The jobs that the root has, in order.
+fn all_jobs(alloc: Global, root: &Table, resources: &[Resource]) -> Result<Vec<Job>, PlanError>
     requires { AreFew resources.now }
     ensures faults { let given = get_member (codes "job") (table_view root.now) in
         Reads result (jobs_part_faults resources.now given) }
@@ -121,4 +122,17 @@ pub fn jobs(alloc: Global, root: &Table, resources: &[Resource]) -> Result<Vec<J
         None => Err(Place::Word("job").fault(alloc, FaultKind::Shape)),
         Some(values) => listed_jobs(alloc, values, resources),
     }
+}
+
+/// The jobs of a plan, in order. No more of them arrive at a barrier than it has parties.
+pub fn jobs(alloc: Global, root: &Table, resources: &[Resource]) -> Result<Vec<Job>, PlanError>
+    requires { AreFew resources.now }
+    ensures faults { let given = get_member (codes "job") (table_view root.now) in
+        Reads result (arriving_jobs_faults resources.now given) }
+    ensures value { let all = items_in (get_member (codes "job") (table_view root.now)) in
+        IfOk result (λ jobs. jobs.items ≡ map (job_in resources.now) all) }
+{
+    let jobs = all_jobs(alloc, root, resources)?;
+    barriers(alloc, resources, jobs.as_slice())?;
+    Ok(jobs)
 }

@@ -2,7 +2,7 @@
 ghost use Rattle.std.specs.Prelude.{◌≡◌, ◌&&◌};
 ghost use Rattle.std.specs.Str.{bytes_eq};
 ghost use Rattle.std.specs.List.{position_from};
-ghost use Rattle.cqs_plan.specs.Language.{can_hold};
+ghost use Rattle.cqs_plan.specs.Language.{can_hold, is_barrier, is_latch};
 ghost use Rattle.cqs_plan.specs.Order.{AreFew};
 
 use crate::plans::kind::Kind;
@@ -29,6 +29,18 @@ fn can_hold_named(resource: &Resource, name: &[u8]) -> bool
     is_named(resource, name) && can_hold(resource.kind)
 }
 
+fn is_latch_named(resource: &Resource, name: &[u8]) -> bool
+    ensures { result ≡ (bytes_eq resource.now.name name.now && is_latch resource.now.kind) }
+{
+    is_named(resource, name) && matches!(resource.kind, Kind::Latch(_))
+}
+
+fn is_barrier_named(resource: &Resource, name: &[u8]) -> bool
+    ensures { result ≡ (bytes_eq resource.now.name name.now && is_barrier resource.now.kind) }
+{
+    is_named(resource, name) && matches!(resource.kind, Kind::Rounds { .. })
+}
+
 /// The place of the resource of this name, if it can be taken and given.
 pub fn place_of(name: &str, resources: &[Resource]) -> Option<u32>
     requires { AreFew resources.now }
@@ -39,5 +51,31 @@ pub fn place_of(name: &str, resources: &[Resource]) -> Option<u32>
     resources
         .iter()
         .position(|resource| can_hold_named(resource, bytes))
+        .map(|place| place as u32)
+}
+
+/// The place of the latch of this name.
+pub fn latch_place(name: &str, resources: &[Resource]) -> Option<u32>
+    requires { AreFew resources.now }
+    ensures { result ≡ position_from
+        (λ resource. bytes_eq resource.name name.now && is_latch resource.kind) 0 resources.now }
+{
+    let bytes = name.as_bytes();
+    resources
+        .iter()
+        .position(|resource| is_latch_named(resource, bytes))
+        .map(|place| place as u32)
+}
+
+/// The place of the barrier of this name.
+pub fn barrier_place(name: &str, resources: &[Resource]) -> Option<u32>
+    requires { AreFew resources.now }
+    ensures { result ≡ position_from
+        (λ resource. bytes_eq resource.name name.now && is_barrier resource.kind) 0 resources.now }
+{
+    let bytes = name.as_bytes();
+    resources
+        .iter()
+        .position(|resource| is_barrier_named(resource, bytes))
         .map(|place| place as u32)
 }

@@ -4,9 +4,10 @@ ghost use Rattle.std.specs.List.{list_any};
 ghost use Rattle.std.specs.Str.{bytes_eq};
 ghost use Rattle.toml.specs.Data.{get_member};
 ghost use Rattle.toml.specs.View.{table_view, view};
+ghost use Rattle.cqs_plan.specs.declared.plans.kind.Kind.{Kind};
 ghost use Rattle.cqs_plan.specs.FaultRules.{each, required};
 ghost use Rattle.cqs_plan.specs.Faults.{kind_faults, number_faults, resource_faults, resource_number_faults, resources_faults};
-ghost use Rattle.cqs_plan.specs.Language.{resource_kinds, semaphores, pools};
+ghost use Rattle.cqs_plan.specs.Language.{barriers, latches, pools, resource_kinds, semaphores};
 ghost use Rattle.cqs_plan.specs.Meaning.{members_in, members_list, number_in, resource_in};
 ghost use Rattle.cqs_plan.specs.Order.{AreFew, NamesAscend};
 ghost use Rattle.cqs_plan.specs.Reading.{Reads, StopsAt};
@@ -55,6 +56,45 @@ fn elements(alloc: Global, name: &str, table: &Table) -> Result<u32, PlanError>
     required_number(alloc, place, member(table, "size"), 1, 4_096)
 }
 
+/// The count in the table of a latch.
+fn count(alloc: Global, name: &str, table: &Table) -> Result<u32, PlanError>
+    ensures faults { let members = table_view table.now in
+        Reads result (resource_number_faults latches name.now members) }
+    ensures value { let members = table_view table.now in
+        IfOk result (λ count. count ≡ number_in (get_member (codes "count") members)) }
+{
+    let place = Place::Number {
+        kind: "latch",
+        name,
+        key: "count",
+    };
+    required_number(alloc, place, member(table, "count"), 1, 1_048_576)
+}
+
+/// The parties and the rounds in the table of a barrier.
+fn rounds(alloc: Global, name: &str, table: &Table) -> Result<Kind, PlanError>
+    ensures faults { let members = table_view table.now in
+        Reads result (resource_number_faults barriers name.now members) }
+    ensures value { let members = table_view table.now in
+        let parties = number_in (get_member (codes "parties") members) in
+        let rounds = number_in (get_member (codes "rounds") members) in
+        IfOk result (λ kind. kind ≡ Kind.Rounds parties rounds) }
+{
+    let place = Place::Number {
+        kind: "barrier",
+        name,
+        key: "parties",
+    };
+    let parties = required_number(alloc, place, member(table, "parties"), 1, 32)?;
+    let place = Place::Number {
+        kind: "barrier",
+        name,
+        key: "rounds",
+    };
+    let rounds = required_number(alloc, place, member(table, "rounds"), 1, 64)?;
+    Ok(Kind::Rounds { parties, rounds })
+}
+
 /// What a resource is, by the numbers in its table.
 fn kind_in(alloc: Global, section: Section, name: &str, table: &Table) -> Result<Kind, PlanError>
     ensures faults { let members = table_view table.now in
@@ -68,6 +108,8 @@ fn kind_in(alloc: Global, section: Section, name: &str, table: &Table) -> Result
         Section::Semaphore => Ok(Kind::Semaphore(permits(alloc, name, table)?)),
         Section::Mutex => Ok(Kind::Mutex),
         Section::Pool => Ok(Kind::Pool(elements(alloc, name, table)?)),
+        Section::Latch => Ok(Kind::Latch(count(alloc, name, table)?)),
+        Section::Barrier => rounds(alloc, name, table),
     }
 }
 
@@ -211,5 +253,7 @@ pub fn resources(alloc: Global, root: &Table) -> Result<Vec<Resource>, PlanError
     read_section(alloc, Section::Semaphore, root, &mut found)?;
     read_section(alloc, Section::Mutex, root, &mut found)?;
     read_section(alloc, Section::Pool, root, &mut found)?;
+    read_section(alloc, Section::Latch, root, &mut found)?;
+    read_section(alloc, Section::Barrier, root, &mut found)?;
     Ok(found)
 }

@@ -8,6 +8,8 @@ pub enum Section {
     Semaphore,
     Mutex,
     Pool,
+    Latch,
+    Barrier,
 }
 
 impl Section {
@@ -19,6 +21,8 @@ impl Section {
             Section::Semaphore => "semaphore",
             Section::Mutex => "mutex",
             Section::Pool => "pool",
+            Section::Latch => "latch",
+            Section::Barrier => "barrier",
         }
     }
 
@@ -30,6 +34,8 @@ impl Section {
         match self {
             Section::Semaphore | Section::Pool => &["size"],
             Section::Mutex => &[],
+            Section::Latch => &["count"],
+            Section::Barrier => &["parties", "rounds"],
         }
     }
 }

@@ -3,7 +3,9 @@ ghost use Rattle.std.specs.Prelude.{◌≡◌, codes, count_by, Some, IfOk, map}
 ghost use Rattle.toml.specs.View.{array_view, view};
 ghost use Rattle.cqs_plan.specs.FaultRules.{each};
 ghost use Rattle.cqs_plan.specs.Faults.{job_step_faults, step_faults, steps_faults, steps_part_faults};
+ghost use Rattle.cqs_plan.specs.Arriving.{has_round, rounds_at, rounds_of};
 ghost use Rattle.cqs_plan.specs.Holding.{is_give, is_held, is_take};
+ghost use Rattle.cqs_plan.specs.PlanSteps.{is_arrival};
 ghost use Rattle.cqs_plan.specs.Meaning.{items_in, items_list, step_in, steps_in};
 ghost use Rattle.cqs_plan.specs.Order.{AreFew};
 ghost use Rattle.cqs_plan.specs.Places.{part_place, place_text};
@@ -13,6 +15,7 @@ use super::place::Place;
 use super::step_text::step_of;
 use crate::plans::error::PlanError;
 use crate::plans::fault_kind::FaultKind;
+use crate::plans::kind::Kind;
 use crate::plans::resource::Resource;
 use crate::plans::step::Step;
 use std::alloc::Global;
@@ -48,6 +51,45 @@ fn is_held(step: Step, earlier: &[Step]) -> bool
     }
 }
 
+/// How often a barrier was arrived at.
+fn arrivals(earlier: &[Step], barrier: u32) -> usize
+    ensures { result ≡ count_by (is_arrival barrier) earlier.now }
+{
+    earlier
+        .iter()
+        .filter(|step| matches!(step, Step::Arrive(place) if *place == barrier))
+        .count()
+}
+
+/// How many rounds the resource at a place has: only a barrier has any.
+fn rounds_at(resources: &[Resource], place: u32) -> u32
+    ensures { result ≡ rounds_at resources.now place }
+{
+    match resources.get(place as usize) {
+        Some(resource) => rounds_of(resource.kind),
+        None => 0,
+    }
+}
+
+fn rounds_of(kind: Kind) -> u32
+    ensures { result ≡ rounds_of kind }
+{
+    match kind {
+        Kind::Rounds { rounds, .. } => rounds,
+        Kind::Semaphore(_) | Kind::Mutex | Kind::Pool(_) | Kind::Latch(_) => 0,
+    }
+}
+
+/// Whether an arrival has a round of its barrier left.
+fn has_round(step: Step, resources: &[Resource], earlier: &[Step]) -> bool
+    ensures { result ≡ has_round resources.now earlier.now step }
+{
+    match step {
+        Step::Arrive(place) => arrivals(earlier, place) < rounds_at(resources, place) as usize,
+        Step::Take(_) | Step::Give(_) | Step::Down(_) | Step::Await(_) | Step::Work(_) => true,
+    }
+}
+
 /// A step of a job that has made the earlier ones.
 fn step(
     alloc: Global,
@@ -65,8 +107,11 @@ fn step(
         return Err(place.fault(alloc, FaultKind::Shape));
     };
     match step_of(text, resources) {
-        Ok(step) if is_held(step, earlier) => Ok(step),
-        Ok(_) => Err(place.fault(alloc, FaultKind::Unheld)),
+        Ok(step) if !is_held(step, earlier) => Err(place.fault(alloc, FaultKind::Unheld)),
+        Ok(step) if !has_round(step, resources, earlier) => {
+            Err(place.fault(alloc, FaultKind::Many))
+        }
+        Ok(step) => Ok(step),
         Err(kind) => Err(place.fault(alloc, kind)),
     }
 }

@@ -1,5 +1,5 @@
 use Rattle.cqs_plan.proofs.OneAnswer.{IsCause, of-plan, of-no_toml, of-fault}
-use Rattle.cqs_plan.proofs.RunnablePlans.{read-runnable, read-built}
+use Rattle.cqs_plan.proofs.RunnablePlans.{read-runnable, read-sized}
 use Rattle.cqs_plan.proofs.ValidPlans.{read-valid}
 use Rattle.cqs_plan.proofs.reader.read_plan.Goals as goal
 use Rattle.cqs_plan.proofs.reader.read_plan.Goals.{After-read}
@@ -25,10 +25,10 @@ returns-clause-of_fault c =
 
 pub returns-clause-runnable : goal.returns-clause-runnable
 returns-clause-runnable c =
-    read-runnable c.read.result c.read.ensures.found
+    read-runnable c.read.result
     (read-valid c.args.bytes.now c.read.result c.read.ensures.plan c.read.ensures.found)
 
-pub returns-clause-built : goal.returns-clause-built
-returns-clause-built c =
-    read-built c.read.result c.read.ensures.found
+pub returns-clause-sized : goal.returns-clause-sized
+returns-clause-sized c =
+    read-sized c.read.result
     (read-valid c.args.bytes.now c.read.result c.read.ensures.plan c.read.ensures.found)

@@ -1,0 +1,72 @@
+//! How many jobs arrive at the barriers of a plan.
+ghost use Rattle.std.specs.Prelude.{◌≡◌, IfErr, IfOk, codes};
+ghost use Rattle.cqs_plan.specs.Arriving.{arrives, arriving, has_parties};
+ghost use Rattle.cqs_plan.specs.Faults.{barrier_faults, barriers_faults};
+ghost use Rattle.cqs_plan.specs.Order.{AreFew};
+ghost use Rattle.cqs_plan.specs.Places.{dotted};
+ghost use Rattle.cqs_plan.specs.Reading.{Reads};
+
+use crate::plans::error::PlanError;
+use crate::plans::fault_kind::FaultKind;
+use crate::plans::job::Job;
+use crate::plans::kind::Kind;
+use crate::plans::name::Name;
+use crate::plans::resource::Resource;
+use crate::plans::step::Step;
+use std::alloc::Global;
+
+fn arrives(job: &Job, barrier: u32) -> bool
+    ensures { result ≡ arrives barrier job.now }
+{
+    job.steps.as_slice().iter().any(|step| matches!(step, Step::Arrive(place) if *place == barrier))
+}
+
+fn arriving(jobs: &[Job], barrier: u32) -> usize
+    ensures { result ≡ arriving barrier jobs.now }
+{
+    jobs.iter().filter(|job| arrives(job, barrier)).count()
+}
+
+fn has_parties(kind: Kind, jobs: usize) -> bool
+    ensures { result ≡ has_parties kind jobs }
+{
+    match kind {
+        Kind::Rounds { parties, .. } => jobs <= parties as usize,
+        Kind::Semaphore(_) | Kind::Mutex | Kind::Pool(_) | Kind::Latch(_) => true,
+    }
+}
+
+/// The place of a barrier in a document, as `barrier.start`.
+fn barrier_place(alloc: Global, name: &[u8]) -> Result<Name, PlanError>
+    ensures value { IfOk result (λ place. place ≡ dotted (codes "barrier") name.now) }
+    ensures memory { IfErr result (λ error. error ≡ PlanError.Memory) }
+{
+    let mut place = "barrier.".as_bytes().to_vec(alloc)?;
+    place.extend_from_slice(name)?;
+    Ok(Name::from(place))
+}
+
+/// A barrier at which more jobs arrive than it has parties is a fault.
+fn barrier(alloc: Global, at: u32, resource: &Resource, jobs: &[Job]) -> Result<(), PlanError>
+    ensures { Reads result (barrier_faults jobs.now at resource.now) }
+{
+    if has_parties(resource.kind, arriving(jobs, at)) {
+        return Ok(());
+    }
+    let place = barrier_place(alloc, resource.name.as_slice())?;
+    Err(PlanError::Fault {
+        place,
+        kind: FaultKind::Many,
+    })
+}
+
+/// Looks at the barriers of a plan, in order.
+pub fn barriers(alloc: Global, resources: &[Resource], jobs: &[Job]) -> Result<(), PlanError>
+    requires { AreFew resources.now }
+    ensures { Reads result (barriers_faults resources.now jobs.now) }
+{
+    for (at, resource) in resources.iter().enumerate() {
+        barrier(alloc, at as u32, resource, jobs)?;
+    }
+    Ok(())
+}

@@ -12,8 +12,9 @@ use Rattle.cqs_plan.specs.declared.plans.kind.Kind.TheVariants.{Semaphore, Pool}
 use Rattle.cqs_plan.specs.declared.plans.resource.Resource.{Resource}
 use Rattle.cqs_plan.specs.Language.{is_name, is_name_byte}
 use Rattle.cqs_plan.specs.Order.{AreInOrder}
-use Rattle.cqs_plan.specs.Runnable.{AreBuilt, IsBuilt, IsRunnable}
-use Rattle.cqs_plan.specs.Validity.{IsJob, IsResource, IsStep, IsValid, GivesWhatItTook}
+use Rattle.cqs_plan.specs.Arriving.{arriving, has_parties}
+use Rattle.cqs_plan.specs.Runnable.{AreSized, IsRunnable}
+use Rattle.cqs_plan.specs.Validity.{IsJob, IsKind, IsResource, IsStep, IsValid, ArrivesInRounds, GivesWhatItTook}
 use Rattle.cqs_plan.proofs.RunnablePlans.{runnable}
 use Rattle.cqs_generator.specs.Draws.{draw}
 use Rattle.cqs_generator.specs.Generated.{resources, steps_of, deadline_of, job_of, nth_job, generated}
@@ -57,6 +58,10 @@ few-steps a b = search rules
 gives-none : (a b : ℕ) → GivesWhatItTook (steps_of a b)
 gives-none a b = search rules
 
+-- and none arrives
+arrives-none : (a b : ℕ) → ArrivesInRounds resources (steps_of a b)
+arrives-none a b = search rules
+
 in-time : (c : ℕ) → IfSome (deadline_of c) (λ turn. turn ≤ 40000)
 in-time c = search rules
 
@@ -67,6 +72,7 @@ job-is i a b c below = record {
   few = few-steps a b;
   steps = steps-are a b;
   gives = gives-none a b;
+  arrives = arrives-none a b;
 }
 
 each-resource : All IsResource resources
@@ -74,20 +80,32 @@ each-resource zero d below = record { named = refl; sized = (omega arith, omega 
 each-resource (suc zero) d below = record { named = refl; sized = (omega arith, omega arith) }
 each-resource (suc (suc k)) d below = absurd (omega arith)
 
--- each is of a kind that is built, with its number in its range
-each-built : (at : ℕ) (r : Resource) → slice_get resources at ≡ Some r → IsBuilt r.kind
-each-built zero r there =
+-- each has its number in its range
+each-sized : (at : ℕ) (r : Resource) → slice_get resources at ≡ Some r → IsKind r.kind
+each-sized zero r there =
     let is : Some (record { name = codes "db"; kind = Semaphore 2 }) ≡ Some r = there in
     let same : record { name = codes "db"; kind = Semaphore 2 } ≡ r = cc in
-    subst (λ (x : Resource). IsBuilt x.kind) same (tt, (omega arith, omega arith))
-each-built (suc zero) r there =
+    subst (λ (x : Resource). IsKind x.kind) same (omega arith, omega arith)
+each-sized (suc zero) r there =
     let is : Some (record { name = codes "buf"; kind = Pool 1 }) ≡ Some r = there in
     let same : record { name = codes "buf"; kind = Pool 1 } ≡ r = cc in
-    subst (λ (x : Resource). IsBuilt x.kind) same (tt, (omega arith, omega arith))
-each-built (suc (suc k)) r there = absurd (cc)
+    subst (λ (x : Resource). IsKind x.kind) same (omega arith, omega arith)
+each-sized (suc (suc k)) r there = absurd (cc)
 
-pub resources-built : AreBuilt resources
-resources-built = record { at = each-built }
+pub resources-sized : AreSized resources
+resources-sized = record { at = each-sized }
+
+-- and none of them is a barrier
+no-parties : (jobs at : ℕ) (r : Resource) → slice_get resources at ≡ Some r → IsTrue (has_parties r.kind jobs)
+no-parties jobs zero r there =
+    let is : Some (record { name = codes "db"; kind = Semaphore 2 }) ≡ Some r = there in
+    let same : record { name = codes "db"; kind = Semaphore 2 } ≡ r = cc in
+    subst (λ (x : Resource). IsTrue (has_parties x.kind jobs)) same refl
+no-parties jobs (suc zero) r there =
+    let is : Some (record { name = codes "buf"; kind = Pool 1 }) ≡ Some r = there in
+    let same : record { name = codes "buf"; kind = Pool 1 } ≡ r = cc in
+    subst (λ (x : Resource). IsTrue (has_parties x.kind jobs)) same refl
+no-parties jobs (suc (suc k)) r there = absurd (cc)
 
 in-order : AreInOrder resources
 in-order = record { order = search rules; distinct = search rules }
@@ -111,6 +129,7 @@ module _ (number jobs : ℕ) (some : 1 ≤ jobs) (few : jobs ≤ 4096) where
         let inside : k < jobs = rw (← many) below in
         rw (at-place k d inside)
         (job-is k (draw number (3 * k)) (draw number (3 * k + 1)) (draw number (3 * k + 2)) (omega arith));
+    parties = record { at = λ at r there. no-parties (arriving at (generated number jobs).jobs) at r there };
     names = λ i j d less below.
         let inside : j < jobs = rw (← many) below in
         rw (at-place i d (omega arith), at-place j d inside) (λ same.
@@ -120,6 +139,4 @@ module _ (number jobs : ℕ) (some : 1 ≤ jobs) (few : jobs ≤ 4096) where
   }
 
   pub generated-runnable : IsRunnable (generated number jobs)
-  generated-runnable = runnable (generated number jobs) generated-valid record {
-    at = λ at r there. search rules;
-  }
+  generated-runnable = runnable (generated number jobs) generated-valid

@@ -2,7 +2,7 @@
 
 ghost use Rattle.std.specs.Prelude.{◌≡◌, ◌*◌, ◌+◌, ◌<◌, ◌≤◌, ◌^◌, ◌++◌, codes, decimal, vec_len, IfOk};
 ghost use Rattle.cqs_plan.specs.Validity.{IsValid};
-ghost use Rattle.cqs_plan.specs.Runnable.{AreBuilt, IsRunnable};
+ghost use Rattle.cqs_plan.specs.Runnable.{AreSized, IsRunnable};
 ghost use Rattle.cqs_generator.specs.Draws.{number_of, next_state};
 ghost use Rattle.cqs_generator.specs.Generated.{generated, job_of, resources, deadline_of, steps_of};
 
@@ -20,7 +20,7 @@ pub fn make_plan(alloc: Global, number: u32, jobs: u32) -> Result<Plan, Memory>
     ensures plan { IfOk result (λ plan. plan ≡ generated number jobs) }
     ensures valid { IfOk result IsValid }
     ensures runnable { IfOk result IsRunnable }
-    ensures built { IfOk result (λ plan. AreBuilt plan.resources) }
+    ensures sized { IfOk result (λ plan. AreSized plan.resources) }
 {
     Ok(Plan {
         version: 1,

@@ -1,10 +1,10 @@
 -- Worked plans: their reports, computed from the definitions alone.
 use Rattle.std.proofs.Common.{◌≡◌, ℕ, List, [], ◌∷◌, ◌++◌, Some, None, Option, refl, codes}
 use Rattle.std.specs.Fmt.{digits}
-use Rattle.cqs_plan.specs.declared.plans.kind.Kind.TheVariants.{Semaphore, Mutex, Pool}
+use Rattle.cqs_plan.specs.declared.plans.kind.Kind.TheVariants.{Semaphore, Mutex, Pool, Latch, Rounds}
 use Rattle.cqs_plan.specs.declared.plans.job.Job.{Job}
 use Rattle.cqs_plan.specs.declared.plans.step.Step.{Step}
-use Rattle.cqs_plan.specs.declared.plans.step.Step.TheVariants.{Take, Give, Work}
+use Rattle.cqs_plan.specs.declared.plans.step.Step.TheVariants.{Take, Give, Down, Await, Arrive, Work}
 use Rattle.cqs_plan.specs.declared.plans.plan.Plan.{Plan}
 use Rattle.cqs_turns.specs.Report.{report_of}
 
@@ -134,3 +134,63 @@ an_element_is_sent : report_of database_and_buffer
     ++ codes "total done 2 gaveup 1 late 0 unfinished 0\n"
 unfolding digits
 an_element_is_sent = refl
+
+-- two who arrive twice, one of them in the turn of its first arrival
+abbrev two_rounds : Plan
+two_rounds = record {
+  version = 1;
+  turns = 8;
+  resources = record { name = codes "b"; kind = Rounds 2 2 } ∷ [];
+  jobs = job (codes "x") (Arrive 0 ∷ Work 1 ∷ Arrive 0 ∷ []) None
+      ∷ job (codes "y") (Work 1 ∷ Arrive 0 ∷ Arrive 0 ∷ []) None
+      ∷ [];
+}
+
+two_parties_two_rounds : report_of two_rounds
+    ≡ codes "0 x waits b.0 0\n1 y arrives b.0 last\n1 y waits b.1 0\n2 x served b.0 0\n"
+    ++ codes "3 x arrives b.1 last\n3 x done\n3 y served b.1 0\n3 y done\n"
+    ++ codes "end b rounds 2\n"
+    ++ codes "total done 2 gaveup 0 late 0 unfinished 0\n"
+unfolding digits
+two_parties_two_rounds = refl
+
+-- two parties withdraw at their deadlines, so the last one waits on
+abbrev withdrawal : Plan
+withdrawal = record {
+  version = 1;
+  turns = 6;
+  resources = record { name = codes "b"; kind = Rounds 3 1 } ∷ [];
+  jobs = job (codes "x") (Arrive 0 ∷ []) (Some 1)
+      ∷ job (codes "y") (Work 2 ∷ Arrive 0 ∷ []) None
+      ∷ job (codes "z") (Work 2 ∷ Arrive 0 ∷ []) (Some 4)
+      ∷ [];
+}
+
+one_withdraws : report_of withdrawal
+    ≡ codes "0 x waits b.0 0\n1 x gaveup b.0 0\n2 y waits b.0 1\n2 z waits b.0 2\n4 z gaveup b.0 2\n"
+    ++ codes "end b rounds 0\n"
+    ++ codes "total done 0 gaveup 2 late 0 unfinished 1\n"
+unfolding digits
+one_withdraws = refl
+
+-- a latch of two, at which one passes late and one gives up
+abbrev one_latch : Plan
+one_latch = record {
+  version = 1;
+  turns = 6;
+  resources = record { name = codes "go"; kind = Latch 2 } ∷ [];
+  jobs = job (codes "a") (Await 0 ∷ []) (Some 1)
+      ∷ job (codes "b") (Await 0 ∷ []) None
+      ∷ job (codes "c") (Work 1 ∷ Await 0 ∷ []) (Some 3)
+      ∷ job (codes "d") (Work 1 ∷ Down 0 ∷ Work 1 ∷ Down 0 ∷ Down 0 ∷ Await 0 ∷ []) None
+      ∷ [];
+}
+
+latch_in_order : report_of one_latch
+    ≡ codes "0 a waits go 0\n0 b waits go 1\n1 a gaveup go 0\n1 c waits go 2\n1 d downs go left 1\n"
+    ++ codes "2 d downs go open\n2 d downs go already\n2 d passes go\n2 d done\n3 b served go 1\n3 b done\n"
+    ++ codes "3 c late go 2\n"
+    ++ codes "end go count 0 line 0\n"
+    ++ codes "total done 2 gaveup 1 late 1 unfinished 0\n"
+unfolding digits
+latch_in_order = refl

@@ -13,8 +13,8 @@ use Rattle.cqs_plan.specs.declared.floors.answers.FloorLook.TheVariants.{Pending
 use Rattle.cqs_plan.specs.declared.plans.resource.Resource.{Resource}
 use Rattle.cqs_plan.specs.declared.plans.job.Job.{Job}
 use Rattle.cqs_plan.specs.declared.plans.plan.Plan.{Plan}
-use Rattle.cqs_plan.specs.Floor.{PlainFloor}
-use Rattle.cqs_plan.specs.FloorCalls.{take_answer, look_answer, leave_answer, after_look}
+use Rattle.cqs_plan.specs.Floor.{PlainFloor, round_of}
+use Rattle.cqs_plan.specs.FloorCalls.{take_answer, wait_answer, arrive_answer, look_answer, leave_answer, after_look}
 use Rattle.cqs_turns.specs.declared.lines.Told.{Told}
 use Rattle.cqs_turns.specs.declared.lines.Told.TheVariants as told
 use Rattle.cqs_turns.specs.declared.states.End.TheVariants as end
@@ -22,7 +22,7 @@ use Rattle.cqs_turns.specs.declared.states.Progress.{Progress}
 use Rattle.cqs_turns.specs.declared.states.Progress.TheVariants.{Stepping, Working, Waiting, Ended}
 use Rattle.cqs_turns.specs.Coming.{ComesTo, LeavesAt}
 use Rattle.cqs_core.specs.Parts.{IsPrefix}
-use Rattle.cqs_turns.specs.Turns.{Role, Scene, Acted, Made, event, on_give, after_gives, after_all_gives, after_last_step, after_step, after_taking, stop_or, after_steps, go_on, on_leave, after_giving_up, after_looking, after_acting, left_at, is_due, one_job, each_job, one_turn, machine_after, Machine, places_held}
+use Rattle.cqs_turns.specs.Turns.{Role, Scene, Acted, Made, event, on_give, after_gives, after_all_gives, after_last_step, after_step, after_coming, on_take, on_wait, on_arrive, stop_or, after_steps, go_on, on_leave, after_giving_up, after_looking, after_acting, left_at, is_due, one_job, each_job, one_turn, machine_after, Machine, places_held}
 
 -- a clause on an error, from its fact
 pub on-err : {T E P : Type 0} (r : Result T E) → P → OnErr r P
@@ -65,18 +65,24 @@ after_last_step-grows r s =
     let all = after_all_gives r s in
     prefix-through _ all.text _ (prefix-added all.text _) (after_gives-grows r (places_held s.floor r.place) s)
 
+-- so does one that may wait, whatever it is answered
+after_coming-grows : (next at round : ℕ) (on : FloorTake → Scene → Scene) (answer : FloorTake) (s : Scene)
+    → IsPrefix s.text (on answer s).text → IsPrefix s.text (after_coming next at round on answer s).scene.text
+after_coming-grows next at round on (Now element) s grows = grows
+after_coming-grows next at round on (Waits number) s grows = grows
+
 pub after_step-grows : (r : Role) (next : ℕ) (step : Step) (s : Scene)
     → IsPrefix s.text (after_step r next step s).scene.text
 after_step-grows r next (Work turns) s = prefix-same s.text
-after_step-grows r next (Take at) s = after_taking-grows (take_answer s.floor at r.place)
-  where
-    after_taking-grows : (answer : FloorTake) → IsPrefix s.text (after_taking r next at answer s).scene.text
-    after_taking-grows (Now element) = prefix-added s.text _
-    after_taking-grows (Waits number) = prefix-added s.text _
+after_step-grows r next (Take at) s =
+    after_coming-grows next at 0 (on_take r at) (take_answer s.floor at r.place) s (prefix-added s.text _)
 after_step-grows r next (Give at) s = prefix-added s.text _
-after_step-grows r next (Down at) s = prefix-same s.text
-after_step-grows r next (Await at) s = prefix-same s.text
-after_step-grows r next (Arrive at) s = prefix-same s.text
+after_step-grows r next (Down at) s = prefix-added s.text _
+after_step-grows r next (Await at) s =
+    after_coming-grows next at 0 (on_wait r at) (wait_answer s.floor at) s (prefix-added s.text _)
+after_step-grows r next (Arrive at) s =
+    after_coming-grows next at (round_of s.floor r.place at) (on_arrive r at) (arrive_answer s.floor at r.place) s
+    (prefix-added s.text _)
 
 pub stop_or-grows : (m : Made) (onward : Acted) → IsPrefix m.scene.text onward.scene.text
     → IsPrefix m.scene.text (stop_or m onward).scene.text
@@ -102,10 +108,10 @@ go_on-grows r next s floor told =
     prefix-through _ (event r s floor told).text s.text
     (after_steps-grows r (drop next r.job.steps) next (event r s floor told)) (prefix-added s.text _)
 
-pub after_giving_up-grows : (r : Role) (at number : ℕ) (answer : FloorLeave) (s : Scene)
-    → IsPrefix s.text (after_giving_up r at number answer s).scene.text
-after_giving_up-grows r at number answer s =
-    let e : Scene = on_leave r at number answer s in
+pub after_giving_up-grows : (r : Role) (at round number : ℕ) (answer : FloorLeave) (s : Scene)
+    → IsPrefix s.text (after_giving_up r at round number answer s).scene.text
+after_giving_up-grows r at round number answer s =
+    let e : Scene = on_leave r at round number answer s in
     prefix-through _ e.text s.text (after_gives-grows r (places_held e.floor r.place) e) (prefix-added s.text _)
 
 after_acting-if : (b : Bool) (a c : Acted) (text : List ℕ) → IsPrefix text a.scene.text → IsPrefix text c.scene.text
@@ -113,23 +119,23 @@ after_acting-if : (b : Bool) (a c : Acted) (text : List ℕ) → IsPrefix text a
 after_acting-if true a c text here there = here
 after_acting-if false a c text here there = there
 
-after_looking-grows : (r : Role) (next at number : ℕ) (answer : FloorLook) (s : Scene)
-    → IsPrefix s.text (after_looking r next at number answer s).scene.text
-after_looking-grows r next at number Pending s = prefix-same s.text
-after_looking-grows r next at number (Granted element) s =
-    go_on-grows r next s (after_look s.floor r.place (Granted element)) (told.Served at number element)
+after_looking-grows : (r : Role) (next at round number : ℕ) (answer : FloorLook) (s : Scene)
+    → IsPrefix s.text (after_looking r next at round number answer s).scene.text
+after_looking-grows r next at round number Pending s = prefix-same s.text
+after_looking-grows r next at round number (Granted element) s =
+    go_on-grows r next s (after_look s.floor r.place (Granted element)) (told.Served at round number element)
 
 pub after_acting-grows : (r : Role) (p : Progress) (s : Scene) → IsPrefix s.text (after_acting r p s).scene.text
 after_acting-grows r (Stepping next) s = after_steps-grows r (drop next r.job.steps) next s
 after_acting-grows r (Working next until) s =
     after_acting-if (nat_lt r.turn until) (left_at s (Working next until)) (go_on r next s) s.text
     (prefix-same s.text) (after_steps-grows r (drop next r.job.steps) next s)
-after_acting-grows r (Waiting next at number) s =
+after_acting-grows r (Waiting next at round number) s =
     after_acting-if (is_due r.job.deadline r.turn)
-    (after_giving_up r at number (leave_answer s.floor r.place) s)
-    (after_looking r next at number (look_answer s.floor r.place) s) s.text
-    (after_giving_up-grows r at number (leave_answer s.floor r.place) s)
-    (after_looking-grows r next at number (look_answer s.floor r.place) s)
+    (after_giving_up r at round number (leave_answer s.floor r.place) s)
+    (after_looking r next at round number (look_answer s.floor r.place) s) s.text
+    (after_giving_up-grows r at round number (leave_answer s.floor r.place) s)
+    (after_looking-grows r next at round number (look_answer s.floor r.place) s)
 after_acting-grows r (Ended end) s = prefix-same s.text
 
 one_job-grows : (resources : List Resource) (turn place : ℕ) (job : Job) (m : Machine)

@@ -7,11 +7,11 @@ use Rattle.std.proofs.lemmas.Option.{get_or_from_slice_get, slice_get-get_or}
 use Rattle.cqs_core.proofs.Places.{get-set_here, get-set_else}
 use Rattle.cqs_plan.specs.declared.plans.plan.Plan.{Plan}
 use Rattle.cqs_plan.specs.Floor.{PlainFloor, holds_of}
-use Rattle.cqs_plan.specs.Runnable.{IsRunnable}
+use Rattle.cqs_plan.specs.Runnable.{IsRunnable, kinds_of}
 use Rattle.cqs_turns.specs.declared.states.JobState.{JobState}
 use Rattle.cqs_turns.specs.declared.states.End.TheVariants as end
 use Rattle.cqs_turns.specs.declared.states.Progress.TheVariants.{Ended}
-use Rattle.cqs_turns.specs.Ready.{HasRoom, steps_left}
+use Rattle.cqs_turns.specs.Ready.{HasRoomFor, steps_left}
 use Rattle.cqs_turns.specs.Roles.{scene}
 use Rattle.cqs_turns.specs.Running.{IsRunning, IsKept, machine_of, turn_at}
 use Rattle.cqs_turns.specs.States.{IsSet}
@@ -43,12 +43,14 @@ module _ (plan : Plan) (r : Role) (f : PlainFloor) (text : List ℕ) (states : L
   pub acting-set : IsSet f r state
   acting-set = record {
     held = acting.kept.held r.place state acting.its_state;
+    kinds = acting.running.kinds ∙ ap kinds_of (sym acting.resources);
     ready = acting.running.ready r.place r.job state.progress acting.job its-progress;
   }
 
-  pub acting-room : HasRoom f (steps_left r.job.steps state.progress)
+  pub acting-room : HasRoomFor f r.place r.job.steps state.progress
   acting-room =
-      room-of plan (machine_of f text states) r.place r.job state.progress acting.running acting.job its-progress
+      room-of plan (machine_of f text states) r.place r.job acting.running acting.runnable acting.job state.progress
+      its-progress
 
   -- what the turn of the job is to the machine
   machine-turn : turn_at plan r.turn r.place (machine_of f text states)
@@ -65,7 +67,9 @@ module _ (plan : Plan) (r : Role) (f : PlainFloor) (text : List ℕ) (states : L
       this_job ∙ these_resources ∙ ap (λ p. turn_with r states (after_acting r p (scene f text))) its_progress
 
   its-turned : Turned r f (steps_left r.job.steps state.progress) (after_acting r state.progress (scene f text))
-  its-turned = after_acting-turned r state.progress (scene f text) acting-set.ready acting-room
+  its-turned =
+      after_acting-turned r state.progress (scene f text) acting-set.ready acting-room
+      (acting.running.rounds r.place r.job state.progress acting.job its-progress)
 
   module _ (g : PlainFloor) (new : List ℕ) (after : JobState)
       (acts : left_at (scene g new) after.progress ≡ after_acting r state.progress (scene f text)) where

@@ -1,6 +1,7 @@
 mod Examples
 pub mod Growth
 pub mod Held
+pub mod ToCome
 pub mod Moved
 pub mod Readied
 pub mod GivingBack

@@ -13,40 +13,50 @@ use Rattle.cqs_plan.specs.declared.floors.answers.FloorLook.{FloorLook}
 use Rattle.cqs_plan.specs.declared.floors.answers.FloorLook.TheVariants.{Pending, Granted}
 use Rattle.cqs_plan.specs.declared.floors.answers.FloorLeave.{FloorLeave}
 use Rattle.cqs_plan.specs.declared.floors.answers.FloorLeave.TheVariants as leave
-use Rattle.cqs_plan.specs.FloorCalls.{take_answer, look_answer, leave_answer}
+use Rattle.cqs_plan.specs.FloorCalls.{take_answer, wait_answer, arrive_answer, look_answer, leave_answer}
+use Rattle.cqs_plan.specs.Floor.{round_of}
 use Rattle.cqs_turns.specs.declared.states.End.TheVariants as end
 use Rattle.cqs_turns.specs.declared.states.Progress.{Progress}
 use Rattle.cqs_turns.specs.declared.states.Progress.TheVariants.{Stepping, Working, Waiting, Ended}
 use Rattle.cqs_turns.specs.Lines.{is_crowded}
-use Rattle.cqs_turns.specs.Turns.{Role, Scene, Acted, Machine, after_step, after_taking, stop_or, after_steps, go_on, left_at, after_giving_up, after_looking, after_acting, is_due, one_job, each_job, machine_after}
+use Rattle.cqs_turns.specs.Turns.{Role, Scene, Acted, Machine, after_step, after_coming, on_take, on_wait, on_arrive, stop_or, after_steps, go_on, left_at, after_giving_up, after_looking, after_acting, is_due, one_job, each_job, machine_after}
+
+-- a step that may wait is answered
+coming-stays : (r : Role) (next at round : ℕ) (on : FloorTake → Scene → Scene) (answer : FloorTake) (steps : List Step)
+    (s : Scene) → ((t : Scene) → is_crowded (after_steps r steps (next + 1) t).progress ≡ false)
+    → is_crowded (stop_or (after_coming next at round on answer s)
+    (after_steps r steps (next + 1) (after_coming next at round on answer s).scene)).progress ≡ false
+coming-stays r next at round on (Now element) steps s onward =
+    onward (after_coming next at round on (Now element) s).scene
+coming-stays r next at round on (Waits number) steps s onward = refl
 
 after_steps-stays : (r : Role) (steps : List Step) (next : ℕ) (s : Scene)
     → is_crowded (after_steps r steps next s).progress ≡ false
 after_steps-stays r [] next s = refl
 after_steps-stays r (Work turns ∷ steps) next s = refl
 after_steps-stays r (Take at ∷ steps) next s =
-    answered (take_answer s.floor at r.place) (λ t. after_steps-stays r steps (next + 1) t)
-  where
-    answered : (answer : FloorTake) → ((t : Scene) → is_crowded (after_steps r steps (next + 1) t).progress ≡ false)
-        → is_crowded (stop_or (after_taking r next at answer s)
-        (after_steps r steps (next + 1) (after_taking r next at answer s).scene)).progress ≡ false
-    answered (Now element) onward = onward (after_taking r next at (Now element) s).scene
-    answered (Waits number) onward = refl
+    coming-stays r next at 0 (on_take r at) (take_answer s.floor at r.place) steps s
+    (λ t. after_steps-stays r steps (next + 1) t)
 after_steps-stays r (Give at ∷ steps) next s
     = after_steps-stays r steps (next + 1) (after_step r next (Give at) s).scene
-after_steps-stays r (Down at ∷ steps) next s = after_steps-stays r steps (next + 1) s
-after_steps-stays r (Await at ∷ steps) next s = after_steps-stays r steps (next + 1) s
-after_steps-stays r (Arrive at ∷ steps) next s = after_steps-stays r steps (next + 1) s
+after_steps-stays r (Down at ∷ steps) next s
+    = after_steps-stays r steps (next + 1) (after_step r next (Down at) s).scene
+after_steps-stays r (Await at ∷ steps) next s =
+    coming-stays r next at 0 (on_wait r at) (wait_answer s.floor at) steps s
+    (λ t. after_steps-stays r steps (next + 1) t)
+after_steps-stays r (Arrive at ∷ steps) next s =
+    coming-stays r next at (round_of s.floor r.place at) (on_arrive r at) (arrive_answer s.floor at r.place) steps s
+    (λ t. after_steps-stays r steps (next + 1) t)
 
-after_giving_up-stays : (r : Role) (at number : ℕ) (answer : FloorLeave) (s : Scene)
-    → is_crowded (after_giving_up r at number answer s).progress ≡ false
-after_giving_up-stays r at number leave.Gone s = refl
-after_giving_up-stays r at number (leave.Late element) s = refl
+after_giving_up-stays : (r : Role) (at round number : ℕ) (answer : FloorLeave) (s : Scene)
+    → is_crowded (after_giving_up r at round number answer s).progress ≡ false
+after_giving_up-stays r at round number leave.Gone s = refl
+after_giving_up-stays r at round number (leave.Late element) s = refl
 
-after_looking-stays : (r : Role) (next at number : ℕ) (answer : FloorLook) (s : Scene)
-    → is_crowded (after_looking r next at number answer s).progress ≡ false
-after_looking-stays r next at number Pending s = refl
-after_looking-stays r next at number (Granted element) s = after_steps-stays r (drop next r.job.steps) next _
+after_looking-stays : (r : Role) (next at round number : ℕ) (answer : FloorLook) (s : Scene)
+    → is_crowded (after_looking r next at round number answer s).progress ≡ false
+after_looking-stays r next at round number Pending s = refl
+after_looking-stays r next at round number (Granted element) s = after_steps-stays r (drop next r.job.steps) next _
 
 if-stays : (b : Bool) (a c : Acted) → is_crowded a.progress ≡ false → is_crowded c.progress ≡ false
     → is_crowded (if b then a else c).progress ≡ false
@@ -60,11 +70,11 @@ after_acting-stays r (Stepping next) s not = after_steps-stays r (drop next r.jo
 after_acting-stays r (Working next until) s not =
     if-stays (nat_lt r.turn until) (left_at s (Working next until)) (go_on r next s) refl
     (after_steps-stays r (drop next r.job.steps) next s)
-after_acting-stays r (Waiting next at number) s not =
-    if-stays (is_due r.job.deadline r.turn) (after_giving_up r at number (leave_answer s.floor r.place) s)
-    (after_looking r next at number (look_answer s.floor r.place) s)
-    (after_giving_up-stays r at number (leave_answer s.floor r.place) s)
-    (after_looking-stays r next at number (look_answer s.floor r.place) s)
+after_acting-stays r (Waiting next at round number) s not =
+    if-stays (is_due r.job.deadline r.turn) (after_giving_up r at round number (leave_answer s.floor r.place) s)
+    (after_looking r next at round number (look_answer s.floor r.place) s)
+    (after_giving_up-stays r at round number (leave_answer s.floor r.place) s)
+    (after_looking-stays r next at round number (look_answer s.floor r.place) s)
 after_acting-stays r (Ended end) s not = not
 
 -- how many of them are crowded

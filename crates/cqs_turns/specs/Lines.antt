@@ -9,6 +9,7 @@ use Rattle.cqs_plan.specs.declared.floors.answers.FloorEnd.{FloorEnd}
 use Rattle.cqs_plan.specs.declared.floors.answers.FloorEnd.TheVariants.{Permits, Latch, Rounds}
 use Rattle.cqs_plan.specs.Floor.{PlainFloor}
 use Rattle.cqs_plan.specs.FloorCalls.{end_answer}
+use Rattle.cqs_plan.specs.Language.{is_barrier}
 use Rattle.cqs_turns.specs.declared.lines.Told.{Told}
 use Rattle.cqs_turns.specs.declared.lines.Told.TheVariants as told
 use Rattle.cqs_turns.specs.declared.states.End.TheVariants.{Done, GaveUp, Late, Crowded}
@@ -36,24 +37,46 @@ abbrev pub element_text : List Resource → ℕ → ℕ → List ℕ
 element_text resources at element =
     if is_pool_at resources at then codes " element " ++ decimal element else []
 
+abbrev pub is_barrier_at : List Resource → ℕ → Bool
+is_barrier_at resources at =
+    option_map_or (λ resource. is_barrier resource.kind) (slice_get resources at) false
+
+-- the name of a resource, of a barrier with the round: what is waited for there
+abbrev pub place_text : List Resource → ℕ → ℕ → List ℕ
+place_text resources at round =
+    if is_barrier_at resources at then name_at resources at ++ codes "." ++ decimal round
+    else name_at resources at
+
+-- a resource, and the number of a wait there
+abbrev pub wait_text : List Resource → ℕ → ℕ → ℕ → List ℕ
+wait_text resources at round number =
+    place_text resources at round ++ codes " " ++ decimal number
+
 -- the words of a line: a verb and a resource, and then what else there is to tell
 abbrev pub told_text : List Resource → Told → List ℕ
 told_text resources (told.Takes at element) =
     codes "takes " ++ name_at resources at ++ element_text resources at element
-told_text resources (told.Waits at number) =
-    codes "waits " ++ name_at resources at ++ codes " " ++ decimal number
-told_text resources (told.Served at number element) =
-    codes "served " ++ name_at resources at ++ codes " " ++ decimal number
-    ++ element_text resources at element
+told_text resources (told.Waits at round number) =
+    codes "waits " ++ wait_text resources at round number
+told_text resources (told.Served at round number element) =
+    codes "served " ++ wait_text resources at round number ++ element_text resources at element
 told_text resources (told.GivesFree at element) =
     codes "gives " ++ name_at resources at ++ element_text resources at element ++ codes " free"
 told_text resources (told.GivesSent at element number) =
     codes "gives " ++ name_at resources at ++ element_text resources at element ++ codes " sent "
     ++ decimal number
-told_text resources (told.GaveUp at number) =
-    codes "gaveup " ++ name_at resources at ++ codes " " ++ decimal number
-told_text resources (told.Late at number) =
-    codes "late " ++ name_at resources at ++ codes " " ++ decimal number
+told_text resources (told.GaveUp at round number) =
+    codes "gaveup " ++ wait_text resources at round number
+told_text resources (told.Late at round number) =
+    codes "late " ++ wait_text resources at round number
+told_text resources (told.Passes at) = codes "passes " ++ name_at resources at
+told_text resources (told.DownsLeft at left) =
+    codes "downs " ++ name_at resources at ++ codes " left " ++ decimal left
+told_text resources (told.DownsOpen at) = codes "downs " ++ name_at resources at ++ codes " open"
+told_text resources (told.DownsAlready at) =
+    codes "downs " ++ name_at resources at ++ codes " already"
+told_text resources (told.ArrivesLast at round) =
+    codes "arrives " ++ place_text resources at round ++ codes " last"
 told_text resources told.Done = codes "done"
 
 -- a line: the turn, the job's name and the words
@@ -87,7 +110,7 @@ is_done (Ended Late) = false
 is_done (Ended Crowded) = false
 is_done (Stepping next) = false
 is_done (Working next until) = false
-is_done (Waiting next at number) = false
+is_done (Waiting next at round number) = false
 
 abbrev pub has_given_up : Progress → Bool
 has_given_up (Ended GaveUp) = true
@@ -96,7 +119,7 @@ has_given_up (Ended Late) = false
 has_given_up (Ended Crowded) = false
 has_given_up (Stepping next) = false
 has_given_up (Working next until) = false
-has_given_up (Waiting next at number) = false
+has_given_up (Waiting next at round number) = false
 
 abbrev pub is_late : Progress → Bool
 is_late (Ended Late) = true
@@ -105,7 +128,7 @@ is_late (Ended GaveUp) = false
 is_late (Ended Crowded) = false
 is_late (Stepping next) = false
 is_late (Working next until) = false
-is_late (Waiting next at number) = false
+is_late (Waiting next at round number) = false
 
 -- a call of the job was turned away, which the plain floor never does
 abbrev pub is_crowded : Progress → Bool
@@ -115,12 +138,12 @@ is_crowded (Ended GaveUp) = false
 is_crowded (Ended Late) = false
 is_crowded (Stepping next) = false
 is_crowded (Working next until) = false
-is_crowded (Waiting next at number) = false
+is_crowded (Waiting next at round number) = false
 
 abbrev pub is_unfinished : Progress → Bool
 is_unfinished (Stepping next) = true
 is_unfinished (Working next until) = true
-is_unfinished (Waiting next at number) = true
+is_unfinished (Waiting next at round number) = true
 is_unfinished (Ended end) = false
 
 -- how many jobs came to each end, and how many to none

@@ -32,12 +32,21 @@ pub record World (S : Type 0) : Type 0 where
   pub after_take : Role → ℕ → Option FloorTake → S → S
   -- a give at a place
   pub after_give : Role → ℕ → S → S
-  -- a look at the wait at a place, under a number
+  -- a count down of the latch at a place
+  pub after_down : Role → ℕ → S → S
+  -- a wait at the latch at a place
+  pub wait_answer : Role → ℕ → S → Option FloorTake
+  pub after_wait : Role → ℕ → Option FloorTake → S → S
+  -- in which round the job arrives at the barrier at a place, and the arrival
+  pub round : Role → ℕ → S → ℕ
+  pub arrive_answer : Role → ℕ → S → Option FloorTake
+  pub after_arrive : Role → ℕ → Option FloorTake → S → S
+  -- a look at the wait at a place, in a round, under a number
   pub look_answer : Role → S → FloorLook
-  pub after_look : Role → ℕ → ℕ → FloorLook → S → S
-  -- the cancelling of the wait at a place, under a number
+  pub after_look : Role → ℕ → ℕ → ℕ → FloorLook → S → S
+  -- the cancelling of the wait at a place, in a round, under a number
   pub leave_answer : Role → S → FloorLeave
-  pub after_leave : Role → ℕ → ℕ → FloorLeave → S → S
+  pub after_leave : Role → ℕ → ℕ → ℕ → FloorLeave → S → S
   -- the job is done
   pub done : Role → S → S
   -- the places of what a job holds, oldest first
@@ -66,7 +75,7 @@ is_due deadline turn = option_map_or (λ d. nat_le d turn) deadline false
 abbrev pub rests : ℕ → Progress → Bool
 rests turn (Stepping next) = false
 rests turn (Working next until) = nat_lt turn until
-rests turn (Waiting next at number) = false
+rests turn (Waiting next at round number) = false
 rests turn (Ended end) = true
 
 -- how a job ends that cancelled its wait
@@ -83,6 +92,19 @@ module _ {S : Type 0} where
   abbrev pub stop_or : MadeIn S → ActedIn S → ActedIn S
   stop_or m onward = option_map_or (left_at m.scene) m.stops onward
 
+  -- A step that may have to wait at a place, in a round, and was answered so: it ends the job's
+  -- turn where it must wait. A job that is turned away has ended.
+  abbrev pub after_coming : ℕ → ℕ → ℕ → (Option FloorTake → S → S) → Option FloorTake → S → MadeIn S
+  after_coming next at round after (Some (Now element)) s =
+      record { scene = after (Some (Now element)) s; stops = None }
+  after_coming next at round after (Some (Waits number)) s =
+      record {
+        scene = after (Some (Waits number)) s;
+        stops = Some (Waiting (next + 1) at round number);
+      }
+  after_coming next at round after None s =
+      record { scene = after None s; stops = Some (Ended end.Crowded) }
+
 module _ {S : Type 0} (w : World S) where
   -- the job gives back one after the other
   abbrev pub after_gives : Role → List ℕ → S → S
@@ -97,27 +119,18 @@ module _ {S : Type 0} (w : World S) where
   abbrev pub after_last_step : Role → S → ActedIn S
   after_last_step r s = left_at (w.done r (after_all_gives r s)) (Ended end.Done)
 
-  -- a `take`, whose answer is this; a job that is turned away has ended
-  abbrev pub after_taking : Role → ℕ → ℕ → Option FloorTake → S → MadeIn S
-  after_taking r next at (Some (Now element)) s =
-      record { scene = w.after_take r at (Some (Now element)) s; stops = None }
-  after_taking r next at (Some (Waits number)) s =
-      record {
-        scene = w.after_take r at (Some (Waits number)) s;
-        stops = Some (Waiting (next + 1) at number);
-      }
-  after_taking r next at None s
-      = record { scene = w.after_take r at None s; stops = Some (Ended end.Crowded) }
-
-  -- a step: `work` ends the job's turn, and so does a `take` that must wait
+  -- a step: `work` ends the job's turn, and so does one that must wait
   abbrev pub after_step : Role → ℕ → Step → S → MadeIn S
   after_step r next (Work turns) s =
       record { scene = s; stops = Some (Working (next + 1) (r.turn + turns)) }
-  after_step r next (Take at) s = after_taking r next at (w.take_answer r at s) s
+  after_step r next (Take at) s =
+      after_coming next at 0 (w.after_take r at) (w.take_answer r at s) s
   after_step r next (Give at) s = record { scene = w.after_give r at s; stops = None }
-  after_step r next (Down at) s = record { scene = s; stops = None }
-  after_step r next (Await at) s = record { scene = s; stops = None }
-  after_step r next (Arrive at) s = record { scene = s; stops = None }
+  after_step r next (Down at) s = record { scene = w.after_down r at s; stops = None }
+  after_step r next (Await at) s =
+      after_coming next at 0 (w.after_wait r at) (w.wait_answer r at s) s
+  after_step r next (Arrive at) s =
+      after_coming next at (w.round r at s) (w.after_arrive r at) (w.arrive_answer r at s) s
 
   -- the job makes these steps one after the other; the first one's place is `next`
   abbrev pub after_steps : Role → List Step → ℕ → S → ActedIn S
@@ -130,25 +143,25 @@ module _ {S : Type 0} (w : World S) where
   go_on r next s = after_steps r (drop next r.job.steps) next s
 
   -- the job gives up: it cancels its wait, gives back all that it holds, and has ended
-  abbrev pub after_giving_up : Role → ℕ → ℕ → FloorLeave → S → ActedIn S
-  after_giving_up r at number answer s =
-      left_at (after_all_gives r (w.after_leave r at number answer s)) (Ended (end_of answer))
+  abbrev pub after_giving_up : Role → ℕ → ℕ → ℕ → FloorLeave → S → ActedIn S
+  after_giving_up r at round number answer s =
+      left_at (after_all_gives r (w.after_leave r at round number answer s)) (Ended (end_of answer))
 
   -- the job looks: while its wait is pending its turn is over
-  abbrev pub after_looking : Role → ℕ → ℕ → ℕ → FloorLook → S → ActedIn S
-  after_looking r next at number Pending s =
-      left_at (w.after_look r at number Pending s) (Waiting next at number)
-  after_looking r next at number (Granted element) s =
-      go_on r next (w.after_look r at number (Granted element) s)
+  abbrev pub after_looking : Role → ℕ → ℕ → ℕ → ℕ → FloorLook → S → ActedIn S
+  after_looking r next at round number Pending s =
+      left_at (w.after_look r at round number Pending s) (Waiting next at round number)
+  after_looking r next at round number (Granted element) s =
+      go_on r next (w.after_look r at round number (Granted element) s)
 
   -- the turn of a job
   abbrev pub after_acting : Role → Progress → S → ActedIn S
   after_acting r (Stepping next) s = go_on r next s
   after_acting r (Working next until) s =
       if nat_lt r.turn until then left_at s (Working next until) else go_on r next s
-  after_acting r (Waiting next at number) s =
-      if is_due r.job.deadline r.turn then after_giving_up r at number (w.leave_answer r s) s
-      else after_looking r next at number (w.look_answer r s) s
+  after_acting r (Waiting next at round number) s =
+      if is_due r.job.deadline r.turn then after_giving_up r at round number (w.leave_answer r s) s
+      else after_looking r next at round number (w.look_answer r s) s
   after_acting r (Ended end) s = left_at s (Ended end)
 
   -- the job at a place has its turn

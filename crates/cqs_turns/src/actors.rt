@@ -1,13 +1,16 @@
 //! Who acts, and what each event tells.
 
-ghost use Rattle.std.specs.Prelude.{◌≡◌, ◌++◌, OnOk, OnErr};
+ghost use Rattle.std.specs.Prelude.{◌≡◌, ◌≤◌, ◌++◌, length, OnOk, OnErr};
 ghost use Rattle.cqs_turns.specs.Lines.{line_text};
-ghost use Rattle.cqs_turns.specs.Turns.{take_told, give_told, leave_told, is_due};
+ghost use Rattle.std.specs.Prelude.{count_by, take};
+ghost use Rattle.cqs_plan.specs.PlanSteps.{is_arrival};
+ghost use Rattle.cqs_turns.specs.Roles.{is_holdable_at};
+ghost use Rattle.cqs_turns.specs.Turns.{take_told, give_told, leave_told, down_told, wait_told, arrive_told, is_due};
 
 use crate::lines::Told;
 use crate::reports::Report;
 use cqs_core::Memory;
-use cqs_plan::{FloorGive, FloorLeave, FloorTake, Job, Resource};
+use cqs_plan::{FloorDown, FloorGive, FloorLeave, FloorTake, Job, Kind, Resource, Step};
 
 /// A job in a turn.
 #[derive(Clone, Copy)]
@@ -30,6 +33,32 @@ impl Actor<'_> {
         }
     }
 
+    /// The resource at a place can be taken and given.
+    pub fn can_hold(&self, at: u32) -> bool
+        ensures { result ≡ is_holdable_at self.now.resources.now at }
+    {
+        match self.resources.get(at as usize) {
+            Some(resource) => match resource.kind {
+                Kind::Semaphore(_) | Kind::Mutex | Kind::Pool(_) => true,
+                Kind::Latch(_) | Kind::Rounds { .. } => false,
+            },
+            None => false,
+        }
+    }
+
+    /// How often the job arrives at a barrier before a step.
+    pub fn arrivals(&self, next: u32, at: u32) -> u32
+        requires { length self.now.job.now.steps ≤ 64 }
+        ensures { result ≡ count_by (is_arrival at) (take next self.now.job.now.steps) }
+    {
+        let steps = self.job.steps.as_slice();
+        let made = steps.len().min(next as usize);
+        steps[..made]
+            .iter()
+            .filter(|step| matches!(step, Step::Arrive(place) if *place == at))
+            .count() as u32
+    }
+
     /// Adds the line of an event of this job.
     pub fn tell(&self, report: &mut Report, told: Told) -> Result<(), Memory>
         ensures ok { OnOk result (report.new ≡ report.old ++
@@ -46,7 +75,46 @@ pub fn told_of_take(at: u32, answer: FloorTake) -> Told
 {
     match answer {
         FloorTake::Now(element) => Told::Takes { at, element },
-        FloorTake::Waits(number) => Told::Waits(at, number),
+        FloorTake::Waits(number) => Told::Waits {
+            at,
+            round: 0,
+            number,
+        },
+    }
+}
+
+/// What the answer to a count down tells.
+pub fn told_of_down(at: u32, answer: FloorDown) -> Told
+    ensures { result ≡ down_told at answer }
+{
+    match answer {
+        FloorDown::Left(left) => Told::DownsLeft { at, left },
+        FloorDown::Last => Told::DownsOpen { at },
+        FloorDown::Already => Told::DownsAlready { at },
+    }
+}
+
+/// What the answer to a wait at a latch tells.
+pub fn told_of_wait(at: u32, answer: FloorTake) -> Told
+    ensures { result ≡ wait_told at answer }
+{
+    match answer {
+        FloorTake::Now(_) => Told::Passes { at },
+        FloorTake::Waits(number) => Told::Waits {
+            at,
+            round: 0,
+            number,
+        },
+    }
+}
+
+/// What the answer to an arrival in a round tells.
+pub fn told_of_arrival(at: u32, round: u32, answer: FloorTake) -> Told
+    ensures { result ≡ arrive_told at round answer }
+{
+    match answer {
+        FloorTake::Now(_) => Told::ArrivesLast { at, round },
+        FloorTake::Waits(number) => Told::Waits { at, round, number },
     }
 }
 
@@ -65,11 +133,11 @@ pub fn told_of_give(at: u32, answer: FloorGive) -> Told
 }
 
 /// What the answer to the leave of a wait tells.
-pub fn told_of_leave(at: u32, number: u64, answer: FloorLeave) -> Told
-    ensures { result ≡ leave_told at number answer }
+pub fn told_of_leave(at: u32, round: u32, number: u64, answer: FloorLeave) -> Told
+    ensures { result ≡ leave_told at round number answer }
 {
     match answer {
-        FloorLeave::Gone => Told::GaveUp(at, number),
-        FloorLeave::Late(_) => Told::Late(at, number),
+        FloorLeave::Gone => Told::GaveUp { at, round, number },
+        FloorLeave::Late(_) => Told::Late { at, round, number },
     }
 }

@@ -1,19 +1,22 @@
 //! What a job does in its turn.
 
-ghost use Rattle.std.specs.Prelude.{◌≡◌, ◌≤◌, ◌<◌, ◌∷◌, ◌++◌, [], None, Some, drop, slice_get, length, ◌==◌, false, IfSome, OnOk, OnErr, IfOk};
+ghost use Rattle.std.specs.Prelude.{◌≡◌, ◌≤◌, ◌<◌, ◌∷◌, ◌++◌, [], None, Some, drop, take, slice_get, length, ◌==◌, false, IfSome, OnOk, OnErr, IfOk};
 ghost use Rattle.std.specs.List.{position_from};
 ghost use Rattle.cqs_core.specs.Keyed.{without};
 ghost use Rattle.cqs_plan.specs.Floor.{IsJob, IsHolding, IsHoldable};
-ghost use Rattle.cqs_plan.specs.FloorCalls.{take_answer, leave_answer, look_answer};
+ghost use Rattle.cqs_plan.specs.FloorCalls.{take_answer, wait_answer, arrive_answer, leave_answer, look_answer};
+ghost use Rattle.cqs_plan.specs.Runnable.{kinds_of};
 ghost use Rattle.cqs_turns.specs.Machine.{rests};
-ghost use Rattle.cqs_turns.specs.Turns.{after_acting, on_give, after_gives, after_taking, after_step, event, left_at, after_last_step, go_on, on_leave, after_giving_up, end_of, after_looking, places_held};
-ghost use Rattle.cqs_turns.specs.Ready.{IsReady, HasRoom, steps_left};
+ghost use Rattle.cqs_turns.specs.Turns.{after_acting, on_give, on_down, after_gives, after_taking, after_waiting, after_arriving, after_step, event, left_at, after_last_step, go_on, on_leave, after_giving_up, end_of, after_looking, places_held};
+ghost use Rattle.cqs_turns.specs.Ready.{IsReady, HasRoom, HasRoomFor, steps_left, with_place};
 ghost use Rattle.cqs_turns.specs.Coming.{ComesTo, LeavesAt, LeavesFrom, Makes, text_acted, text_in};
 ghost use Rattle.cqs_turns.specs.declared.states.Progress.TheVariants.{Waiting};
-ghost use Rattle.cqs_turns.specs.Roles.{role, scene, made_of, wait_at, left_with, told_served};
+ghost use Rattle.cqs_turns.specs.Roles.{role, scene, made_of, wait_at, left_with, told_served, is_holdable_at};
 ghost use Rattle.cqs_turns.specs.States.{IsSet};
 
-use crate::actors::{Actor, told_of_give, told_of_leave, told_of_take};
+use crate::actors::{
+    Actor, told_of_arrival, told_of_down, told_of_give, told_of_leave, told_of_take, told_of_wait,
+};
 use crate::lines::Told;
 use crate::reports::Report;
 use crate::states::{End, JobState, Progress};
@@ -89,7 +92,8 @@ fn take<F: Floor>(
 ) -> Result<Option<Progress>, Memory>
     requires held { held.old.items ≡ places_held (F.plain floor.old) actor.now.place }
     requires ready { IsReady (F.plain floor.old) actor.now.place None (Step.Take at ∷ []) }
-    requires room { HasRoom (F.plain floor.old) (Step.Take at ∷ []) }
+    requires room { HasRoom (F.plain floor.old) actor.now.place
+        (take next actor.now.job.now.steps) (Step.Take at ∷ []) }
     requires next { next < 64 }
     ensures comes { Makes result
         (after_taking (role actor.now) next at (take_answer (F.plain floor.old) at actor.now.place)
@@ -107,6 +111,92 @@ fn take<F: Floor>(
         FloorTake::Waits(number) => Ok(Some(Progress::Waiting {
             next: next + 1,
             at,
+            round: 0,
+            number,
+        })),
+    }
+}
+
+/// The job counts a latch down.
+fn down<F: Floor>(
+    floor: &mut F,
+    report: &mut Report,
+    actor: &Actor<'_>,
+    at: u32,
+) -> Result<(), Memory>
+    requires ready { IsReady (F.plain floor.old) actor.now.place None (Step.Down at ∷ []) }
+    ensures ok { OnOk result (scene (F.plain floor.new) report.new ≡
+        on_down (role actor.now) at (scene (F.plain floor.old) report.old)) }
+    ensures held { places_held (F.plain floor.new) actor.now.place
+        ≡ places_held (F.plain floor.old) actor.now.place }
+    ensures err { OnErr result (report.new ≡ report.old) }
+{
+    let answer = floor.down(at);
+    actor.tell(report, told_of_down(at, answer))
+}
+
+/// The job passes a latch, or its turn ends.
+fn wait<F: Floor>(
+    floor: &mut F,
+    report: &mut Report,
+    actor: &Actor<'_>,
+    next: u32,
+    at: u32,
+) -> Result<Option<Progress>, Memory>
+    requires ready { IsReady (F.plain floor.old) actor.now.place None (Step.Await at ∷ []) }
+    requires room { HasRoom (F.plain floor.old) actor.now.place
+        (take next actor.now.job.now.steps) (Step.Await at ∷ []) }
+    requires next { next < 64 }
+    ensures comes { Makes result
+        (after_waiting (role actor.now) next at (wait_answer (F.plain floor.old) at)
+        (scene (F.plain floor.old) report.old))
+        (scene (F.plain floor.new) report.new) }
+    ensures held { places_held (F.plain floor.new) actor.now.place
+        ≡ places_held (F.plain floor.old) actor.now.place }
+{
+    let answer = floor.wait(at, actor.place);
+    actor.tell(report, told_of_wait(at, answer))?;
+    match answer {
+        FloorTake::Now(_) => Ok(None),
+        FloorTake::Waits(number) => Ok(Some(Progress::Waiting {
+            next: next + 1,
+            at,
+            round: 0,
+            number,
+        })),
+    }
+}
+
+/// The job arrives at a barrier as the last, or its turn ends.
+fn arrive<F: Floor>(
+    floor: &mut F,
+    report: &mut Report,
+    actor: &Actor<'_>,
+    next: u32,
+    at: u32,
+) -> Result<Option<Progress>, Memory>
+    requires ready { IsReady (F.plain floor.old) actor.now.place None (Step.Arrive at ∷ []) }
+    requires room { HasRoom (F.plain floor.old) actor.now.place
+        (take next actor.now.job.now.steps) (Step.Arrive at ∷ []) }
+    requires few_steps { length actor.now.job.now.steps ≤ 64 }
+    requires next { next < 64 }
+    ensures comes { Makes result
+        (after_arriving (role actor.now) next at
+        (arrive_answer (F.plain floor.old) at actor.now.place)
+        (scene (F.plain floor.old) report.old))
+        (scene (F.plain floor.new) report.new) }
+    ensures held { places_held (F.plain floor.new) actor.now.place
+        ≡ places_held (F.plain floor.old) actor.now.place }
+{
+    let round = actor.arrivals(next, at);
+    let answer = floor.arrive(at, actor.place);
+    actor.tell(report, told_of_arrival(at, round, answer))?;
+    match answer {
+        FloorTake::Now(_) => Ok(None),
+        FloorTake::Waits(number) => Ok(Some(Progress::Waiting {
+            next: next + 1,
+            at,
+            round,
             number,
         })),
     }
@@ -160,7 +250,9 @@ fn make_step<F: Floor>(
 ) -> Result<Option<Progress>, Memory>
     requires held { held.old.items ≡ places_held (F.plain floor.old) actor.now.place }
     requires ready { IsReady (F.plain floor.old) actor.now.place None (step ∷ []) }
-    requires room { HasRoom (F.plain floor.old) (step ∷ []) }
+    requires room { HasRoom (F.plain floor.old) actor.now.place
+        (take next actor.now.job.now.steps) (step ∷ []) }
+    requires few_steps { length actor.now.job.now.steps ≤ 64 }
     requires next { next < 64 }
     requires turn { actor.now.turn ≤ 40000 }
     ensures comes { Makes result
@@ -178,7 +270,12 @@ fn make_step<F: Floor>(
             give_step(floor, report, actor, held, at)?;
             Ok(None)
         }
-        Step::Down(_) | Step::Await(_) | Step::Arrive(_) => unreachable!(),
+        Step::Down(at) => {
+            down(floor, report, actor, at)?;
+            Ok(None)
+        }
+        Step::Await(at) => wait(floor, report, actor, next, at),
+        Step::Arrive(at) => arrive(floor, report, actor, next, at),
     }
 }
 
@@ -193,7 +290,8 @@ fn make_steps<F: Floor>(
     requires held { held.old.items ≡ places_held (F.plain floor.old) actor.now.place }
     requires ready { IsReady (F.plain floor.old) actor.now.place None
         (drop first actor.now.job.now.steps) }
-    requires room { HasRoom (F.plain floor.old) (drop first actor.now.job.now.steps) }
+    requires room { HasRoom (F.plain floor.old) actor.now.place
+        (take first actor.now.job.now.steps) (drop first actor.now.job.now.steps) }
     requires few_steps { length actor.now.job.now.steps ≤ 64 }
     requires turn { actor.now.turn ≤ 40000 }
     ensures comes { LeavesAt result
@@ -211,15 +309,32 @@ fn make_steps<F: Floor>(
     finish(floor, report, actor, held)
 }
 
+/// Where it can be held, what came is the newest that the job holds.
+fn hold(held: &mut Vec<u32>, actor: &Actor<'_>, at: u32) -> Result<(), Memory>
+    ensures { OnOk result (held.new.items
+        ≡ with_place (is_holdable_at actor.now.resources.now at) held.old.items at) }
+{
+    if actor.can_hold(at) {
+        held.push(at)?;
+    }
+    Ok(())
+}
+
 /// What came too late is the newest that the job holds. Says how the job ends.
-fn hold_late(held: &mut Vec<u32>, at: u32, answer: FloorLeave) -> Result<End, Memory>
+fn hold_late(
+    held: &mut Vec<u32>,
+    actor: &Actor<'_>,
+    at: u32,
+    answer: FloorLeave,
+) -> Result<End, Memory>
     ensures end { IfOk result (λ end. end ≡ end_of answer) }
-    ensures held { OnOk result (held.new.items ≡ left_with held.old.items at answer) }
+    ensures held { OnOk result (held.new.items
+        ≡ left_with actor.now.resources.now held.old.items at answer) }
 {
     match answer {
         FloorLeave::Gone => Ok(End::GaveUp),
         FloorLeave::Late(_) => {
-            held.push(at)?;
+            hold(held, actor, at)?;
             Ok(End::Late)
         }
     }
@@ -232,12 +347,16 @@ fn leave<F: Floor>(
     actor: &Actor<'_>,
     held: &mut Vec<u32>,
     at: u32,
+    round: u32,
     number: u64,
 ) -> Result<End, Memory>
     requires held { held.old.items ≡ places_held (F.plain floor.old) actor.now.place }
-    requires ready { IsReady (F.plain floor.old) actor.now.place (Some (wait_at at number)) [] }
+    requires kinds { (F.plain floor.old).kinds ≡ kinds_of actor.now.resources.now }
+    requires ready { IsReady (F.plain floor.old) actor.now.place
+        (Some (wait_at at round number)) [] }
     ensures ok { OnOk result (scene (F.plain floor.new) report.new ≡
-        on_leave (role actor.now) at number (leave_answer (F.plain floor.old) actor.now.place)
+        on_leave (role actor.now) at round number
+        (leave_answer (F.plain floor.old) actor.now.place)
         (scene (F.plain floor.old) report.old)) }
     ensures end { IfOk result (λ end. end
         ≡ end_of (leave_answer (F.plain floor.old) actor.now.place)) }
@@ -246,8 +365,8 @@ fn leave<F: Floor>(
     ensures err { OnErr result (report.new ≡ report.old) }
 {
     let answer = floor.leave(actor.place);
-    let end = hold_late(held, at, answer)?;
-    actor.tell(report, told_of_leave(at, number, answer))?;
+    let end = hold_late(held, actor, at, answer)?;
+    actor.tell(report, told_of_leave(at, round, number, answer))?;
     Ok(end)
 }
 
@@ -258,18 +377,21 @@ fn give_up<F: Floor>(
     actor: &Actor<'_>,
     held: &mut Vec<u32>,
     at: u32,
+    round: u32,
     number: u64,
 ) -> Result<Progress, Memory>
     requires held { held.old.items ≡ places_held (F.plain floor.old) actor.now.place }
-    requires ready { IsReady (F.plain floor.old) actor.now.place (Some (wait_at at number)) [] }
+    requires kinds { (F.plain floor.old).kinds ≡ kinds_of actor.now.resources.now }
+    requires ready { IsReady (F.plain floor.old) actor.now.place
+        (Some (wait_at at round number)) [] }
     ensures comes { LeavesAt result
-        (after_giving_up (role actor.now) at number
+        (after_giving_up (role actor.now) at round number
         (leave_answer (F.plain floor.old) actor.now.place)
         (scene (F.plain floor.old) report.old))
         (scene (F.plain floor.new) report.new) }
     ensures held { OnOk result (held.new.items ≡ places_held (F.plain floor.new) actor.now.place) }
 {
-    let end = leave(floor, report, actor, held, at, number)?;
+    let end = leave(floor, report, actor, held, at, round, number)?;
     give_all(floor, report, actor, held)?;
     Ok(Progress::Ended(end))
 }
@@ -282,26 +404,30 @@ fn be_served<F: Floor>(
     held: &mut Vec<u32>,
     next: u32,
     at: u32,
+    round: u32,
     number: u64,
     element: u32,
 ) -> Result<Progress, Memory>
-    requires held { places_held (F.plain floor.old) actor.now.place ≡ held.old.items ++ at ∷ [] }
+    requires held { places_held (F.plain floor.old) actor.now.place
+        ≡ with_place (is_holdable_at actor.now.resources.now at) held.old.items at }
     requires ready { IsReady (F.plain floor.old) actor.now.place None
         (drop next actor.now.job.now.steps) }
-    requires room { HasRoom (F.plain floor.old) (drop next actor.now.job.now.steps) }
+    requires room { HasRoom (F.plain floor.old) actor.now.place
+        (take next actor.now.job.now.steps) (drop next actor.now.job.now.steps) }
     requires few_steps { length actor.now.job.now.steps ≤ 64 }
     requires turn { actor.now.turn ≤ 40000 }
     ensures comes { LeavesAt result
         (go_on (role actor.now) next (event (role actor.now) (scene (F.plain floor.old) report.old)
-        (F.plain floor.old) (told_served at number element)))
+        (F.plain floor.old) (told_served at round number element)))
         (scene (F.plain floor.new) report.new) }
     ensures held { OnOk result (held.new.items ≡ places_held (F.plain floor.new) actor.now.place) }
 {
-    held.push(at)?;
+    hold(held, actor, at)?;
     actor.tell(
         report,
         Told::Served {
             at,
+            round,
             number,
             element,
         },
@@ -317,16 +443,20 @@ fn look<F: Floor>(
     held: &mut Vec<u32>,
     next: u32,
     at: u32,
+    round: u32,
     number: u64,
 ) -> Result<Option<Progress>, Memory>
     requires held { held.old.items ≡ places_held (F.plain floor.old) actor.now.place }
-    requires ready { IsReady (F.plain floor.old) actor.now.place (Some (wait_at at number))
+    requires kinds { (F.plain floor.old).kinds ≡ kinds_of actor.now.resources.now }
+    requires ready { IsReady (F.plain floor.old) actor.now.place
+        (Some (wait_at at round number))
         (drop next actor.now.job.now.steps) }
-    requires room { HasRoom (F.plain floor.old) (drop next actor.now.job.now.steps) }
+    requires room { HasRoom (F.plain floor.old) actor.now.place
+        (take next actor.now.job.now.steps) (drop next actor.now.job.now.steps) }
     requires few_steps { length actor.now.job.now.steps ≤ 64 }
     requires turn { actor.now.turn ≤ 40000 }
-    ensures comes { LeavesFrom (Waiting next at number) result
-        (after_looking (role actor.now) next at number
+    ensures comes { LeavesFrom (Waiting next at round number) result
+        (after_looking (role actor.now) next at round number
         (look_answer (F.plain floor.old) actor.now.place)
         (scene (F.plain floor.old) report.old))
         (scene (F.plain floor.new) report.new) }
@@ -335,7 +465,7 @@ fn look<F: Floor>(
     match floor.look(actor.place) {
         FloorLook::Pending => Ok(None),
         FloorLook::Granted(element) => {
-            let progress = be_served(floor, report, actor, held, next, at, number, element)?;
+            let progress = be_served(floor, report, actor, held, next, at, round, number, element)?;
             Ok(Some(progress))
         }
     }
@@ -350,8 +480,8 @@ pub fn act<F: Floor>(
 ) -> Result<(), Memory>
     requires acts { rests actor.now.turn state.old.progress ≡ false }
     requires ready { IsSet (F.plain floor.old) (role actor.now) state.old }
-    requires room { HasRoom (F.plain floor.old)
-        (steps_left actor.now.job.now.steps state.old.progress) }
+    requires room { HasRoomFor (F.plain floor.old) actor.now.place actor.now.job.now.steps
+        state.old.progress }
     requires few_steps { length actor.now.job.now.steps ≤ 64 }
     requires turn { actor.now.turn ≤ 40000 }
     ensures comes { ComesTo text_acted result
@@ -368,13 +498,28 @@ pub fn act<F: Floor>(
         Progress::Waiting {
             next: _,
             at,
+            round,
             number,
         } if actor.is_due() => {
-            state.progress = give_up(floor, report, actor, &mut state.held, at, number)?;
+            state.progress = give_up(floor, report, actor, &mut state.held, at, round, number)?;
         }
-        Progress::Waiting { next, at, number } => {
+        Progress::Waiting {
+            next,
+            at,
+            round,
+            number,
+        } => {
             // Nothing is written while a wait goes on: in most turns most jobs wait.
-            let moved = look(floor, report, actor, &mut state.held, next, at, number)?;
+            let moved = look(
+                floor,
+                report,
+                actor,
+                &mut state.held,
+                next,
+                at,
+                round,
+                number,
+            )?;
             if let Some(progress) = moved {
                 state.progress = progress;
             }

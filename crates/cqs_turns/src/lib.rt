@@ -14,5 +14,7 @@ mod states;
 mod texts;
 mod turns;
 
+pub use actors::Actor;
 pub use reports::Report;
 pub use runs::{run_plan, summarize_plan};
+pub use states::{End, JobState, Progress};

@@ -23,9 +23,18 @@ pub enum Progress {
     /// It has just begun.
     Stepping(u32),
     /// It works until this turn.
-    Working { next: u32, until: u32 },
-    /// It waits for the resource at this place, under this number.
-    Waiting { next: u32, at: u32, number: u64 },
+    Working {
+        next: u32,
+        until: u32,
+    },
+    /// It waits for the resource at this place, in this round where that is a barrier, under this
+    /// number. What isn't a barrier has the round 0.
+    Waiting {
+        next: u32,
+        at: u32,
+        round: u32,
+        number: u64,
+    },
     Ended(End),
 }
 

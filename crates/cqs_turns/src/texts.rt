@@ -1,7 +1,7 @@
 //! The text of the report's lines, byte by byte.
 
 ghost use Rattle.std.specs.Prelude.{◌≡◌, ◌++◌, OnOk, count_by, map, decimal};
-ghost use Rattle.cqs_turns.specs.Lines.{name_at, is_pool_at, element_text, told_text, line_text, end_words, end_text, total_text, is_done, has_given_up, is_late, is_unfinished};
+ghost use Rattle.cqs_turns.specs.Lines.{name_at, is_pool_at, is_barrier_at, place_text, wait_text, element_text, told_text, line_text, end_words, end_text, total_text, is_done, has_given_up, is_late, is_unfinished};
 
 use crate::lines::Told;
 use crate::states::JobState;
@@ -54,6 +54,59 @@ fn is_pool_at(resources: &[Resource], at: u32) -> bool
     }
 }
 
+/// The resource at a place is a barrier.
+fn is_barrier_at(resources: &[Resource], at: u32) -> bool
+    ensures { result ≡ is_barrier_at resources.now at }
+{
+    match resources.get(at as usize) {
+        Some(resource) => matches!(resource.kind, Kind::Rounds { .. }),
+        None => false,
+    }
+}
+
+/// A verb and what it is done to, where that is a barrier with the round.
+fn push_place(
+    line: &mut Vec<u8>,
+    verb: &[u8],
+    resources: &[Resource],
+    at: u32,
+    round: u32,
+) -> Result<(), Memory>
+    ensures { OnOk result (line.new.items
+        ≡ line.old.items ++ verb.now ++ place_text resources.now at round) }
+{
+    push_verb(line, verb, name_of(resources, at))?;
+    if is_barrier_at(resources, at) {
+        push_labelled(line, b".", u64::from(round))?;
+    }
+    Ok(())
+}
+
+/// A verb and the wait that it is done to.
+fn push_wait(
+    line: &mut Vec<u8>,
+    verb: &[u8],
+    resources: &[Resource],
+    at: u32,
+    round: u32,
+    number: u64,
+) -> Result<(), Memory>
+    ensures { OnOk result (line.new.items
+        ≡ line.old.items ++ verb.now ++ wait_text resources.now at round number) }
+{
+    push_place(line, verb, resources, at, round)?;
+    push_labelled(line, b" ", number)
+}
+
+/// A verb, what it is done to, and a word.
+fn push_worded(line: &mut Vec<u8>, verb: &[u8], name: &[u8], word: &[u8]) -> Result<(), Memory>
+    ensures { OnOk result (line.new.items ≡ line.old.items ++ verb.now ++ name.now ++ word.now) }
+{
+    push_verb(line, verb, name)?;
+    line.extend_from_slice(word)?;
+    Ok(())
+}
+
 /// An element, where the resource at a place is a pool.
 fn push_element(
     line: &mut Vec<u8>,
@@ -78,17 +131,16 @@ fn push_told(line: &mut Vec<u8>, resources: &[Resource], told: Told) -> Result<(
             push_verb(line, b"takes ", name_of(resources, at))?;
             push_element(line, resources, at, element)
         }
-        Told::Waits(at, number) => {
-            push_verb(line, b"waits ", name_of(resources, at))?;
-            push_labelled(line, b" ", number)
+        Told::Waits { at, round, number } => {
+            push_wait(line, b"waits ", resources, at, round, number)
         }
         Told::Served {
             at,
+            round,
             number,
             element,
         } => {
-            push_verb(line, b"served ", name_of(resources, at))?;
-            push_labelled(line, b" ", number)?;
+            push_wait(line, b"served ", resources, at, round, number)?;
             push_element(line, resources, at, element)
         }
         Told::GivesFree { at, element } => {
@@ -106,13 +158,25 @@ fn push_told(line: &mut Vec<u8>, resources: &[Resource], told: Told) -> Result<(
             push_element(line, resources, at, element)?;
             push_labelled(line, b" sent ", number)
         }
-        Told::GaveUp(at, number) => {
-            push_verb(line, b"gaveup ", name_of(resources, at))?;
-            push_labelled(line, b" ", number)
+        Told::GaveUp { at, round, number } => {
+            push_wait(line, b"gaveup ", resources, at, round, number)
         }
-        Told::Late(at, number) => {
-            push_verb(line, b"late ", name_of(resources, at))?;
-            push_labelled(line, b" ", number)
+        Told::Late { at, round, number } => {
+            push_wait(line, b"late ", resources, at, round, number)
+        }
+        Told::Passes { at } => push_verb(line, b"passes ", name_of(resources, at)),
+        Told::DownsLeft { at, left } => {
+            push_verb(line, b"downs ", name_of(resources, at))?;
+            push_labelled(line, b" left ", u64::from(left))
+        }
+        Told::DownsOpen { at } => push_worded(line, b"downs ", name_of(resources, at), b" open"),
+        Told::DownsAlready { at } => {
+            push_worded(line, b"downs ", name_of(resources, at), b" already")
+        }
+        Told::ArrivesLast { at, round } => {
+            push_place(line, b"arrives ", resources, at, round)?;
+            line.extend_from_slice(b" last")?;
+            Ok(())
         }
         Told::Done => {
             line.extend_from_slice(b"done")?;

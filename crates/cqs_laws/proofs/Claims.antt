@@ -174,21 +174,21 @@ claim-before at line new test then (Some w) like claims = go (w.at == at) refl
         rw here (and-by (in_line w.number new) (in_line w.number line) (test w.number) own.stands passes)
 
 -- a wait elsewhere is no claim here, nor is one that stands in the line
-pub claim-else : (at q number : ℕ) (line : List Waiting) (test : ℕ → Bool) → q ≢ at
-    → is_claim q line test (Some (record { at = at; number = number })) ≡ false
-claim-else at q number line test other = rw (ne_eqb at q (λ same. other (sym same))) refl
+pub claim-else : (at q round number : ℕ) (line : List Waiting) (test : ℕ → Bool) → q ≢ at
+    → is_claim q line test (Some (record { at = at; round = round; number = number })) ≡ false
+claim-else at q round number line test other = rw (ne_eqb at q (λ same. other (sym same))) refl
 
 and-not : (b : Bool) → (b && false) ≡ false
 and-not true = refl
 and-not false = refl
 
-pub claim-none : (at number : ℕ) (line : List Waiting) (test : ℕ → Bool) → in_line number line ≡ true
-    → is_claim at line test (Some (record { at = at; number = number })) ≡ false
-claim-none at number line test stands = rw stands (and-not (at == at))
+pub claim-none : (at round number : ℕ) (line : List Waiting) (test : ℕ → Bool) → in_line number line ≡ true
+    → is_claim at line test (Some (record { at = at; round = round; number = number })) ≡ false
+claim-none at round number line test stands = rw stands (and-not (at == at))
 
-pub claim-here : (at number : ℕ) (line : List Waiting) (test : ℕ → Bool) → in_line number line ≡ false
-    → is_claim at line test (Some (record { at = at; number = number })) ≡ test number
-claim-here at number line test away = rw (away, eq-eqb at at refl) refl
+pub claim-here : (at round number : ℕ) (line : List Waiting) (test : ℕ → Bool) → in_line number line ≡ false
+    → is_claim at line test (Some (record { at = at; round = round; number = number })) ≡ test number
+claim-here at round number line test away = rw (away, eq-eqb at at refl) refl
 
 -- nothing is held at first, and there are no claims
 pub held-none : (n : ℕ) (test : Holding → Bool) → held_in test (replicate n []) ≡ 0

@@ -14,7 +14,7 @@ counts-once : (p : Progress) → cond (is_done p) 1 0 + cond (has_given_up p) 1 
     + cond (is_unfinished p) 1 0 + cond (is_crowded p) 1 0 ≡ 1
 counts-once (Stepping next) = refl
 counts-once (Working next until) = refl
-counts-once (Waiting next at number) = refl
+counts-once (Waiting next at round number) = refl
 counts-once (Ended Done) = refl
 counts-once (Ended GaveUp) = refl
 counts-once (Ended Late) = refl

@@ -1,6 +1,7 @@
 -- What a deed makes of a resource: of its next number, of its line, and of what came for its waits.
-use Rattle.std.proofs.Common.{◌≡◌, ◌≢◌, ℕ, ◌+◌, Bool, true, false, List, ◌∷◌, ◌++◌, refl, sym, ap, subst, ◌∙◌, arith}
+use Rattle.std.proofs.Common.{◌≡◌, ◌≢◌, ℕ, ◌+◌, ◌<◌, Bool, true, false, List, [], ◌∷◌, ◌++◌, Option, Some, None, length, map, set, refl, sym, ap, subst, ◌∙◌, arith}
 use Rattle.std.specs.List.{fold}
+use Rattle.std.proofs.lemmas.List.{get_or-set_same, get_or-set_other, length-set}
 use Rattle.std.proofs.lemmas.List.Sums.{fold-append}
 use Rattle.cqs_core.specs.declared.entries.Entry.{Entry}
 use Rattle.cqs_core.specs.Keyed.{without}
@@ -14,7 +15,18 @@ use Rattle.cqs_pool_object.specs.PoolObject.{Pool}
 use Rattle.cqs_pool_object.specs.PoolObject as pool
 use Rattle.cqs_pool_object.specs.PoolEntries.{delivered, entered, put}
 use Rattle.cqs_pool_object.specs.PoolEntries as elements
-use Rattle.cqs_plan.specs.FloorHistory.{History, of_permits, of_elements, Deed, takes, joins, frees, sends, gets, leaves, is_late, permit_entries, element_entries, permits_after, elements_after, with_deed, standing, came_for}
+use Rattle.cqs_latch_object.specs.declared.entries.LatchEntry.TheVariants as latch
+use Rattle.cqs_latch_object.specs.LatchEntries.{after_entry as latch_entry}
+use Rattle.cqs_latch_object.specs.LatchObject.{Latch}
+use Rattle.cqs_barrier_object.specs.declared.entries.BarrierEntry.{BarrierEntry}
+use Rattle.cqs_barrier_object.specs.declared.entries.BarrierEntry.TheVariants as barrier
+use Rattle.cqs_barrier_object.specs.BarrierEntries.{after_entry as barrier_entry}
+use Rattle.cqs_barrier_object.specs.BarrierObject.{Barrier}
+use Rattle.cqs_plan.specs.declared.plans.kind.Kind.{Kind}
+use Rattle.cqs_plan.specs.declared.plans.kind.Kind.TheVariants as kind
+use Rattle.cqs_plan.specs.FloorHistory.{History, of_permits, of_elements, of_latch, of_rounds, Deed, takes, joins, frees, sends, gets, leaves, is_late, passes, counts, opens, is_open, completes, permit_entries, element_entries, barrier_entries, permits_after, elements_after, latch_after, barrier_after, entries_in, with_deed, with_deed_in, standing, standing_in, came_for}
+use Rattle.cqs_plan.specs.Floor.{IsHoldable, IsLatch, HasRound}
+use Rattle.cqs_turns.proofs.ToCome.{latch_then, barrier_then, latch-then, barrier-then}
 use Rattle.cqs_laws.proofs.Lines.{in_line, line-longer, line-joined, line-fewer, turned-line, turned-next}
 use Rattle.cqs_plan.proofs.PoolSeats.{AreSeated, came_in, came-closed, came-delivered-else, came-delivered-here, seated-closed, seated-delivered, seated-entered, seated-left}
 
@@ -22,10 +34,138 @@ use Rattle.cqs_plan.proofs.PoolSeats.{AreSeated, came_in, came-closed, came-deli
 abbrev pub is_of_pool : History → Bool
 is_of_pool (of_permits entries) = false
 is_of_pool (of_elements entries) = true
+is_of_pool (of_latch entries) = false
+is_of_pool (of_rounds all) = false
 
-pub pool-kept : (size : ℕ) (h : History) (deed : Deed) → is_of_pool (with_deed size h deed) ≡ is_of_pool h
-pool-kept size (of_permits entries) deed = refl
-pool-kept size (of_elements entries) deed = refl
+pub pool-kept : (size : ℕ) (h : History) (round : ℕ) (deed : Deed)
+    → is_of_pool (with_deed_in size h round deed) ≡ is_of_pool h
+pool-kept size (of_permits entries) round deed = refl
+pool-kept size (of_elements entries) round deed = refl
+pool-kept size (of_latch entries) round deed = refl
+pool-kept size (of_rounds all) round deed = refl
+
+-- the history has this round: one of a barrier, or the only one
+abbrev pub HasPart : History → ℕ → Type 0
+HasPart (of_permits entries) round = round ≡ 0
+HasPart (of_elements entries) round = round ≡ 0
+HasPart (of_latch entries) round = round ≡ 0
+HasPart (of_rounds all) round = round < length all
+
+-- the entries of a round after a deed in it
+abbrev pub round_now : ℕ → List (List BarrierEntry) → ℕ → Deed → List BarrierEntry
+round_now size all round deed =
+    entries_in all round ++ barrier_entries (barrier_after size (entries_in all round)).waiters.line deed
+
+pub part-kept : (size : ℕ) (h : History) (round r : ℕ) (deed : Deed) → HasPart h r
+    → HasPart (with_deed_in size h round deed) r
+part-kept size (of_permits entries) round r deed part = part
+part-kept size (of_elements entries) round r deed part = part
+part-kept size (of_latch entries) round r deed part = part
+part-kept size (of_rounds all) round r deed part =
+    omega (arith, part, length-set all round (round_now size all round deed))
+
+pub part-was : (size : ℕ) (h : History) (round r : ℕ) (deed : Deed) → HasPart (with_deed_in size h round deed) r
+    → HasPart h r
+part-was size (of_permits entries) round r deed part = part
+part-was size (of_elements entries) round r deed part = part
+part-was size (of_latch entries) round r deed part = part
+part-was size (of_rounds all) round r deed part =
+    omega (arith, part, length-set all round (round_now size all round deed))
+
+-- the history is one of a resource of this kind, if there is one
+abbrev pub IsOfKind : Option Kind → History → Type 0
+IsOfKind None (of_permits entries) = Unit {0}
+IsOfKind None (of_elements entries) = Unit {0}
+IsOfKind None (of_latch entries) = Unit {0}
+IsOfKind None (of_rounds all) = Unit {0}
+IsOfKind (Some (kind.Semaphore permits)) (of_permits entries) = Unit {0}
+IsOfKind (Some (kind.Semaphore permits)) (of_elements entries) = ⊥
+IsOfKind (Some (kind.Semaphore permits)) (of_latch entries) = ⊥
+IsOfKind (Some (kind.Semaphore permits)) (of_rounds all) = ⊥
+IsOfKind (Some kind.Mutex) (of_permits entries) = Unit {0}
+IsOfKind (Some kind.Mutex) (of_elements entries) = ⊥
+IsOfKind (Some kind.Mutex) (of_latch entries) = ⊥
+IsOfKind (Some kind.Mutex) (of_rounds all) = ⊥
+IsOfKind (Some (kind.Pool elements)) (of_permits entries) = ⊥
+IsOfKind (Some (kind.Pool elements)) (of_elements entries) = Unit {0}
+IsOfKind (Some (kind.Pool elements)) (of_latch entries) = ⊥
+IsOfKind (Some (kind.Pool elements)) (of_rounds all) = ⊥
+IsOfKind (Some (kind.Latch count)) (of_permits entries) = ⊥
+IsOfKind (Some (kind.Latch count)) (of_elements entries) = ⊥
+IsOfKind (Some (kind.Latch count)) (of_latch entries) = Unit {0}
+IsOfKind (Some (kind.Latch count)) (of_rounds all) = ⊥
+IsOfKind (Some (kind.Rounds parties rounds)) (of_permits entries) = ⊥
+IsOfKind (Some (kind.Rounds parties rounds)) (of_elements entries) = ⊥
+IsOfKind (Some (kind.Rounds parties rounds)) (of_latch entries) = ⊥
+IsOfKind (Some (kind.Rounds parties rounds)) (of_rounds all) = length all ≡ rounds
+
+pub kind-kept : (k : Option Kind) (size : ℕ) (h : History) (round : ℕ) (deed : Deed) → IsOfKind k h
+    → IsOfKind k (with_deed_in size h round deed)
+kind-kept None size (of_permits entries) round deed is = tt
+kind-kept None size (of_elements entries) round deed is = tt
+kind-kept None size (of_latch entries) round deed is = tt
+kind-kept None size (of_rounds all) round deed is = tt
+kind-kept (Some (kind.Semaphore permits)) size (of_permits entries) round deed is = tt
+kind-kept (Some (kind.Semaphore permits)) size (of_elements entries) round deed is = absurd is
+kind-kept (Some (kind.Semaphore permits)) size (of_latch entries) round deed is = absurd is
+kind-kept (Some (kind.Semaphore permits)) size (of_rounds all) round deed is = absurd is
+kind-kept (Some kind.Mutex) size (of_permits entries) round deed is = tt
+kind-kept (Some kind.Mutex) size (of_elements entries) round deed is = absurd is
+kind-kept (Some kind.Mutex) size (of_latch entries) round deed is = absurd is
+kind-kept (Some kind.Mutex) size (of_rounds all) round deed is = absurd is
+kind-kept (Some (kind.Pool elements)) size (of_permits entries) round deed is = absurd is
+kind-kept (Some (kind.Pool elements)) size (of_elements entries) round deed is = tt
+kind-kept (Some (kind.Pool elements)) size (of_latch entries) round deed is = absurd is
+kind-kept (Some (kind.Pool elements)) size (of_rounds all) round deed is = absurd is
+kind-kept (Some (kind.Latch count)) size (of_permits entries) round deed is = absurd is
+kind-kept (Some (kind.Latch count)) size (of_elements entries) round deed is = absurd is
+kind-kept (Some (kind.Latch count)) size (of_latch entries) round deed is = tt
+kind-kept (Some (kind.Latch count)) size (of_rounds all) round deed is = absurd is
+kind-kept (Some (kind.Rounds parties rounds)) size (of_permits entries) round deed is = absurd is
+kind-kept (Some (kind.Rounds parties rounds)) size (of_elements entries) round deed is = absurd is
+kind-kept (Some (kind.Rounds parties rounds)) size (of_latch entries) round deed is = absurd is
+kind-kept (Some (kind.Rounds parties rounds)) size (of_rounds all) round deed is =
+    length-set all round (round_now size all round deed) ∙ is
+
+-- what can be held, and a latch, have one round; a barrier has its rounds
+pub held-part : (k : Option Kind) (h : History) → IsHoldable k → IsOfKind k h → HasPart h 0
+held-part None h holdable is = absurd holdable
+held-part (Some (kind.Semaphore permits)) (of_permits entries) holdable is = refl
+held-part (Some (kind.Semaphore permits)) (of_elements entries) holdable is = absurd is
+held-part (Some (kind.Semaphore permits)) (of_latch entries) holdable is = absurd is
+held-part (Some (kind.Semaphore permits)) (of_rounds all) holdable is = absurd is
+held-part (Some kind.Mutex) (of_permits entries) holdable is = refl
+held-part (Some kind.Mutex) (of_elements entries) holdable is = absurd is
+held-part (Some kind.Mutex) (of_latch entries) holdable is = absurd is
+held-part (Some kind.Mutex) (of_rounds all) holdable is = absurd is
+held-part (Some (kind.Pool elements)) (of_permits entries) holdable is = absurd is
+held-part (Some (kind.Pool elements)) (of_elements entries) holdable is = refl
+held-part (Some (kind.Pool elements)) (of_latch entries) holdable is = absurd is
+held-part (Some (kind.Pool elements)) (of_rounds all) holdable is = absurd is
+held-part (Some (kind.Latch count)) h holdable is = absurd holdable
+held-part (Some (kind.Rounds parties rounds)) h holdable is = absurd holdable
+
+pub latch-part : (k : Option Kind) (h : History) → IsLatch k → IsOfKind k h → HasPart h 0
+latch-part None h latch is = absurd latch
+latch-part (Some (kind.Semaphore permits)) h latch is = absurd latch
+latch-part (Some kind.Mutex) h latch is = absurd latch
+latch-part (Some (kind.Pool elements)) h latch is = absurd latch
+latch-part (Some (kind.Latch count)) (of_permits entries) latch is = absurd is
+latch-part (Some (kind.Latch count)) (of_elements entries) latch is = absurd is
+latch-part (Some (kind.Latch count)) (of_latch entries) latch is = refl
+latch-part (Some (kind.Latch count)) (of_rounds all) latch is = absurd is
+latch-part (Some (kind.Rounds parties rounds)) h latch is = absurd latch
+
+pub round-part : (k : Option Kind) (h : History) (round : ℕ) → HasRound k round → IsOfKind k h → HasPart h round
+round-part None h round has is = absurd has
+round-part (Some (kind.Semaphore permits)) h round has is = absurd has
+round-part (Some kind.Mutex) h round has is = absurd has
+round-part (Some (kind.Pool elements)) h round has is = absurd has
+round-part (Some (kind.Latch count)) h round has is = absurd has
+round-part (Some (kind.Rounds parties rounds)) (of_permits entries) round has is = absurd is
+round-part (Some (kind.Rounds parties rounds)) (of_elements entries) round has is = absurd is
+round-part (Some (kind.Rounds parties rounds)) (of_latch entries) round has is = absurd is
+round-part (Some (kind.Rounds parties rounds)) (of_rounds all) round has is = omega (arith, has, is)
 
 -- how many numbers it draws: a take of a pool has one also where it doesn't wait
 abbrev pub draws : Bool → Deed → ℕ
@@ -36,6 +176,11 @@ draws pool (sends e k) = 0
 draws pool (gets k e) = 0
 draws pool (leaves k) = 0
 draws pool (is_late k e) = 0
+draws pool passes = 0
+draws pool (counts n) = 0
+draws pool opens = 0
+draws pool is_open = 0
+draws pool completes = 0
 
 -- who waits under k is none that the deed is about, where n is the next number
 abbrev pub IsElse : ℕ → ℕ → Deed → Type 0
@@ -46,6 +191,11 @@ IsElse n k (sends e j) = k ≢ j
 IsElse n k (gets j e) = Unit {0}
 IsElse n k (leaves j) = k ≢ j
 IsElse n k (is_late j e) = Unit {0}
+IsElse n k passes = Unit {0}
+IsElse n k (counts m) = Unit {0}
+IsElse n k opens = ⊥
+IsElse n k is_open = Unit {0}
+IsElse n k completes = ⊥
 
 pub permits-then : (size : ℕ) (entries : List Entry) (deed : Deed)
     → permits_after size (entries ++ permit_entries deed)
@@ -72,6 +222,11 @@ next-permits o (sends e k) = omega arith
 next-permits o (gets k e) = omega arith
 next-permits o (leaves k) = omega (arith, turned-next (record o { line = without (λ w. w.wait) k o.line }))
 next-permits o (is_late k e) = omega arith
+next-permits o passes = omega arith
+next-permits o (counts n) = omega arith
+next-permits o opens = omega arith
+next-permits o is_open = omega arith
+next-permits o completes = omega arith
 
 next-elements : (o : Pool) (deed : Deed) → (pool_then o deed).next ≡ o.next + draws true deed
 next-elements o (takes e) = refl
@@ -81,13 +236,83 @@ next-elements o (sends e k) = omega arith
 next-elements o (gets k e) = omega arith
 next-elements o (leaves k) = omega arith
 next-elements o (is_late k e) = omega arith
+next-elements o passes = omega arith
+next-elements o (counts n) = omega arith
+next-elements o opens = omega arith
+next-elements o is_open = omega arith
+next-elements o completes = omega arith
 
-pub next-after : (size : ℕ) (h : History) (deed : Deed)
-    → (standing size (with_deed size h deed)).next ≡ (standing size h).next + draws (is_of_pool h) deed
-next-after size (of_permits entries) deed =
+-- who is reached leaves the next number as it is
+reached-latch : (line : List Waiting) (o : Latch)
+    → (fold latch_entry o (map (λ w. latch.Deliver w.wait) line)).waiters.next ≡ o.waiters.next
+reached-latch [] o = refl
+reached-latch (w ∷ line) o = reached-latch line (latch_entry o (latch.Deliver w.wait))
+
+reached-barrier : (line : List Waiting) (o : Barrier)
+    → (fold barrier_entry o (map (λ w. barrier.Deliver w.wait) line)).waiters.next ≡ o.waiters.next
+reached-barrier [] o = refl
+reached-barrier (w ∷ line) o = reached-barrier line (barrier_entry o (barrier.Deliver w.wait))
+
+next-latch : (o : Latch) (deed : Deed) → (latch_then o deed).waiters.next ≡ o.waiters.next + draws false deed
+next-latch o (takes e) = omega arith
+next-latch o (joins k) = refl
+next-latch o (frees e) = omega arith
+next-latch o (sends e k) = omega arith
+next-latch o (gets k e) = omega arith
+next-latch o (leaves k) = omega arith
+next-latch o (is_late k e) = omega arith
+next-latch o passes = omega arith
+next-latch o (counts n) = omega arith
+next-latch o opens =
+    omega (arith, reached-latch o.waiters.line (latch_entry (latch_entry o (latch.DownLast 0)) (latch.Open 0)))
+next-latch o is_open = omega arith
+next-latch o completes = omega arith
+
+next-barrier : (o : Barrier) (deed : Deed) → (barrier_then o deed).waiters.next ≡ o.waiters.next + draws false deed
+next-barrier o (takes e) = omega arith
+next-barrier o (joins k) = refl
+next-barrier o (frees e) = omega arith
+next-barrier o (sends e k) = omega arith
+next-barrier o (gets k e) = omega arith
+next-barrier o (leaves k) = omega arith
+next-barrier o (is_late k e) = omega arith
+next-barrier o passes = omega arith
+next-barrier o (counts n) = omega arith
+next-barrier o opens = omega arith
+next-barrier o is_open = omega arith
+next-barrier o completes =
+    omega (arith, reached-barrier o.waiters.line (barrier_entry o (barrier.ArriveLast 0)))
+
+-- what a round is after a deed in it
+pub round-then : (size : ℕ) (all : List (List BarrierEntry)) (round : ℕ) (deed : Deed) → round < length all
+    → barrier_after size (entries_in (set all round (round_now size all round deed)) round)
+    ≡ barrier_then (barrier_after size (entries_in all round)) deed
+round-then size all round deed part =
+    ap (barrier_after size) (get_or-set_same all round (round_now size all round deed) [] part)
+    ∙ barrier-then size (entries_in all round) deed
+
+pub next-after : (size : ℕ) (h : History) (round : ℕ) (deed : Deed) → HasPart h round
+    → (standing_in size (with_deed_in size h round deed) round).next
+    ≡ (standing_in size h round).next + draws (is_of_pool h) deed
+next-after size (of_permits entries) round deed part =
     ap (λ (o : Semaphore). o.next) (permits-then size entries deed) ∙ next-permits (permits_after size entries) deed
-next-after size (of_elements entries) deed =
+next-after size (of_elements entries) round deed part =
     ap (λ (o : Pool). o.next) (elements-then size entries deed) ∙ next-elements (elements_after size entries) deed
+next-after size (of_latch entries) round deed part =
+    ap (λ (o : Latch). o.waiters.next) (latch-then size entries deed) ∙ next-latch (latch_after size entries) deed
+next-after size (of_rounds all) round deed part =
+    ap (λ (o : Barrier). o.waiters.next) (round-then size all round deed part)
+    ∙ next-barrier (barrier_after size (entries_in all round)) deed
+
+-- another round is as it was
+pub standing-away : (size : ℕ) (h : History) (round r : ℕ) (deed : Deed) → HasPart h round → HasPart h r → r ≢ round
+    → standing_in size (with_deed_in size h round deed) r ≡ standing_in size h r
+standing-away size (of_permits entries) round r deed part own other = absurd (other (own ∙ sym part))
+standing-away size (of_elements entries) round r deed part own other = absurd (other (own ∙ sym part))
+standing-away size (of_latch entries) round r deed part own other = absurd (other (own ∙ sym part))
+standing-away size (of_rounds all) round r deed part own other =
+    ap (λ entries. standing_in size (of_rounds (entries ∷ [])) 0)
+    (get_or-set_other all round r (round_now size all round deed) [] other)
 
 line-permits : (o : Semaphore) (deed : Deed) (k : ℕ) → IsElse o.next k deed → in_line k o.line ≡ true
     → in_line k (fold after_entry o (permit_entries deed)).line ≡ true
@@ -100,6 +325,11 @@ line-permits o (leaves j) k other stands =
     ap (in_line k) (turned-line (record o { line = without (λ w. w.wait) j o.line }))
     ∙ line-fewer k j o.line other stands
 line-permits o (is_late j e) k other stands = stands
+line-permits o passes k other stands = stands
+line-permits o (counts n) k other stands = stands
+line-permits o opens k other stands = stands
+line-permits o is_open k other stands = stands
+line-permits o completes k other stands = stands
 
 line-elements : (o : Pool) (deed : Deed) (k : ℕ) → IsElse o.next k deed → in_line k o.line ≡ true
     → in_line k (pool_then o deed).line ≡ true
@@ -112,31 +342,82 @@ line-elements o (sends e j) k other stands = line-fewer k j o.line other stands
 line-elements o (gets j e) k other stands = stands
 line-elements o (leaves j) k other stands = line-fewer k j o.line other stands
 line-elements o (is_late j e) k other stands = stands
+line-elements o passes k other stands = stands
+line-elements o (counts n) k other stands = stands
+line-elements o opens k other stands = stands
+line-elements o is_open k other stands = stands
+line-elements o completes k other stands = stands
+
+line-latch : (o : Latch) (deed : Deed) (k : ℕ) → IsElse o.waiters.next k deed → in_line k o.waiters.line ≡ true
+    → in_line k (latch_then o deed).waiters.line ≡ true
+line-latch o (takes e) k other stands = stands
+line-latch o (joins j) k other stands = line-longer k o.waiters.line (record { wait = j; pass = 0 }) stands
+line-latch o (frees e) k other stands = stands
+line-latch o (sends e j) k other stands = stands
+line-latch o (gets j e) k other stands = stands
+line-latch o (leaves j) k other stands = line-fewer k j o.waiters.line other stands
+line-latch o (is_late j e) k other stands = stands
+line-latch o passes k other stands = stands
+line-latch o (counts n) k other stands = stands
+line-latch o opens k other stands = absurd other
+line-latch o is_open k other stands = stands
+line-latch o completes k other stands = absurd other
+
+line-barrier : (o : Barrier) (deed : Deed) (k : ℕ) → IsElse o.waiters.next k deed → in_line k o.waiters.line ≡ true
+    → in_line k (barrier_then o deed).waiters.line ≡ true
+line-barrier o (takes e) k other stands = stands
+line-barrier o (joins j) k other stands = line-longer k o.waiters.line (record { wait = j; pass = 0 }) stands
+line-barrier o (frees e) k other stands = stands
+line-barrier o (sends e j) k other stands = stands
+line-barrier o (gets j e) k other stands = stands
+line-barrier o (leaves j) k other stands = line-fewer k j o.waiters.line other stands
+line-barrier o (is_late j e) k other stands = stands
+line-barrier o passes k other stands = stands
+line-barrier o (counts n) k other stands = stands
+line-barrier o opens k other stands = absurd other
+line-barrier o is_open k other stands = stands
+line-barrier o completes k other stands = absurd other
 
 -- who stands in the line still does
-pub line-after : (size : ℕ) (h : History) (deed : Deed) (k : ℕ) → IsElse (standing size h).next k deed
-    → in_line k (standing size h).line ≡ true → in_line k (standing size (with_deed size h deed)).line ≡ true
-line-after size (of_permits entries) deed k other stands =
+pub line-after : (size : ℕ) (h : History) (round : ℕ) (deed : Deed) (k : ℕ) → HasPart h round
+    → IsElse (standing_in size h round).next k deed
+    → in_line k (standing_in size h round).line ≡ true
+    → in_line k (standing_in size (with_deed_in size h round deed) round).line ≡ true
+line-after size (of_permits entries) round deed k part other stands =
     ap (λ (o : Semaphore). in_line k o.line) (permits-then size entries deed)
     ∙ line-permits (permits_after size entries) deed k other stands
-line-after size (of_elements entries) deed k other stands =
+line-after size (of_elements entries) round deed k part other stands =
     ap (λ (o : Pool). in_line k o.line) (elements-then size entries deed)
     ∙ line-elements (elements_after size entries) deed k other stands
+line-after size (of_latch entries) round deed k part other stands =
+    ap (λ (o : Latch). in_line k o.waiters.line) (latch-then size entries deed)
+    ∙ line-latch (latch_after size entries) deed k other stands
+line-after size (of_rounds all) round deed k part other stands =
+    ap (λ (o : Barrier). in_line k o.waiters.line) (round-then size all round deed part)
+    ∙ line-barrier (barrier_after size (entries_in all round)) deed k other stands
 
 -- who joins it stands there
-pub line-joins : (size : ℕ) (h : History) (k : ℕ)
-    → in_line k (standing size (with_deed size h (joins k))).line ≡ true
-line-joins size (of_permits entries) k =
+pub line-joins : (size : ℕ) (h : History) (round k : ℕ) → HasPart h round
+    → in_line k (standing_in size (with_deed_in size h round (joins k)) round).line ≡ true
+line-joins size (of_permits entries) round k part =
     ap (λ (o : Semaphore). in_line k o.line) (permits-then size entries (joins k))
     ∙ line-joined k (permits_after size entries).line (record { wait = k; pass = 0 }) refl
-line-joins size (of_elements entries) k =
+line-joins size (of_elements entries) round k part =
     ap (λ (o : Pool). in_line k o.line) (elements-then size entries (joins k))
     ∙ line-joined k (elements_after size entries).line (record { wait = k; pass = 0 }) refl
+line-joins size (of_latch entries) round k part =
+    ap (λ (o : Latch). in_line k o.waiters.line) (latch-then size entries (joins k))
+    ∙ line-joined k (latch_after size entries).waiters.line (record { wait = k; pass = 0 }) refl
+line-joins size (of_rounds all) round k part =
+    ap (λ (o : Barrier). in_line k o.waiters.line) (round-then size all round (joins k) part)
+    ∙ line-joined k (barrier_after size (entries_in all round)).waiters.line (record { wait = k; pass = 0 }) refl
 
 -- the numbers of a pool are its waits' own; a semaphore's don't matter here
 abbrev pub HasSeats : ℕ → History → Type 0
 HasSeats size (of_permits entries) = Unit {0}
 HasSeats size (of_elements entries) = AreSeated (elements_after size entries)
+HasSeats size (of_latch entries) = Unit {0}
+HasSeats size (of_rounds all) = Unit {0}
 
 -- who joins has the next number
 abbrev pub JoinsNext : ℕ → Deed → Type 0
@@ -147,6 +428,11 @@ JoinsNext n (sends e k) = Unit {0}
 JoinsNext n (gets k e) = Unit {0}
 JoinsNext n (leaves k) = Unit {0}
 JoinsNext n (is_late k e) = Unit {0}
+JoinsNext n passes = Unit {0}
+JoinsNext n (counts m) = Unit {0}
+JoinsNext n opens = Unit {0}
+JoinsNext n is_open = Unit {0}
+JoinsNext n completes = Unit {0}
 
 seats-elements : (o : Pool) (deed : Deed) → JoinsNext o.next deed → AreSeated o → AreSeated (pool_then o deed)
 seats-elements o (takes e) fits seated =
@@ -158,13 +444,20 @@ seats-elements o (sends e k) fits seated =
 seats-elements o (gets k e) fits seated = seated-closed o k seated
 seats-elements o (leaves k) fits seated = seated-left o k seated
 seats-elements o (is_late k e) fits seated = seated-closed o k seated
+seats-elements o passes fits seated = seated
+seats-elements o (counts n) fits seated = seated
+seats-elements o opens fits seated = seated
+seats-elements o is_open fits seated = seated
+seats-elements o completes fits seated = seated
 
-pub seats-after : (size : ℕ) (h : History) (deed : Deed) → JoinsNext (standing size h).next deed → HasSeats size h
-    → HasSeats size (with_deed size h deed)
-seats-after size (of_permits entries) deed fits seated = tt
-seats-after size (of_elements entries) deed fits seated =
+pub seats-after : (size : ℕ) (h : History) (round : ℕ) (deed : Deed) → JoinsNext (standing_in size h round).next deed
+    → HasSeats size h → HasSeats size (with_deed_in size h round deed)
+seats-after size (of_permits entries) round deed fits seated = tt
+seats-after size (of_elements entries) round deed fits seated =
     subst AreSeated (sym (elements-then size entries deed))
     (seats-elements (elements_after size entries) deed fits seated)
+seats-after size (of_latch entries) round deed fits seated = tt
+seats-after size (of_rounds all) round deed fits seated = tt
 
 came-elements : (o : Pool) (deed : Deed) (k : ℕ) → IsElse o.next k deed
     → came_in k (pool_then o deed).served ≡ came_in k o.served
@@ -175,14 +468,30 @@ came-elements o (sends e j) k other = came-delivered-else (put o e) j e k other
 came-elements o (gets j e) k other = came-closed j k o.served
 came-elements o (leaves j) k other = refl
 came-elements o (is_late j e) k other = came-closed j k o.served
+came-elements o passes k other = refl
+came-elements o (counts n) k other = refl
+came-elements o opens k other = refl
+came-elements o is_open k other = refl
+came-elements o completes k other = refl
 
 -- what came for a wait stays what it was
-pub came-after : (size : ℕ) (h : History) (deed : Deed) (k : ℕ) → IsElse (standing size h).next k deed
-    → came_for size (with_deed size h deed) k ≡ came_for size h k
-came-after size (of_permits entries) deed k other = refl
-came-after size (of_elements entries) deed k other =
+pub came-after : (size : ℕ) (h : History) (round : ℕ) (deed : Deed) (k : ℕ)
+    → IsElse (standing_in size h round).next k deed
+    → came_for size (with_deed_in size h round deed) k ≡ came_for size h k
+came-after size (of_permits entries) round deed k other = refl
+came-after size (of_elements entries) round deed k other =
     ap (λ (o : Pool). came_in k o.served) (elements-then size entries deed)
     ∙ came-elements (elements_after size entries) deed k other
+came-after size (of_latch entries) round deed k other = refl
+came-after size (of_rounds all) round deed k other = refl
+
+-- also where it is in another round
+pub came-away : (size : ℕ) (h : History) (round r : ℕ) (deed : Deed) (k : ℕ) → HasPart h round → HasPart h r → r ≢ round
+    → came_for size (with_deed_in size h round deed) k ≡ came_for size h k
+came-away size (of_permits entries) round r deed k part own other = refl
+came-away size (of_elements entries) round r deed k part own other = absurd (other (own ∙ sym part))
+came-away size (of_latch entries) round r deed k part own other = refl
+came-away size (of_rounds all) round r deed k part own other = refl
 
 -- and what is sent to the first of the line came for it
 pub came-sent : (size : ℕ) (h : History) (w : Waiting) (line : List Waiting) (e : ℕ) → HasSeats size h
@@ -193,3 +502,5 @@ came-sent size (of_elements entries) w line e seated is pooled =
     ap (λ (o : Pool). came_in w.wait o.served) (elements-then size entries (sends e w.wait))
     ∙ came-delivered-here (put (elements_after size entries) e) w line e is
     (record { once = seated.once; later = seated.later })
+came-sent size (of_latch entries) w line e seated is pooled = absurd (cc)
+came-sent size (of_rounds all) w line e seated is pooled = absurd (cc)

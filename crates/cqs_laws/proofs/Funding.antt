@@ -9,14 +9,15 @@ use Rattle.cqs_core.proofs.Counts.{bit}
 use Rattle.cqs_plan.specs.declared.plans.resource.Resource.{Resource}
 use Rattle.cqs_plan.specs.declared.floors.answers.FloorTake.TheVariants.{Now, Waits}
 use Rattle.cqs_plan.specs.declared.floors.answers.FloorGive.TheVariants.{Free, Sent}
-use Rattle.cqs_plan.specs.FloorHistory.{History, Deed, takes, joins, frees, sends, gets, leaves, is_late, came_for, first_free, standing, with_deed}
+use Rattle.cqs_plan.specs.FloorHistory.{History, of_permits, of_elements, of_latch, of_rounds, Deed, takes, joins, frees, sends, gets, leaves, is_late, came_for, first_free, standing, with_deed, with_deed_in}
 use Rattle.cqs_plan.specs.Floor.{PlainFloor, JobWait, Holding, history_at, holds_of, oldest, size_at, standing_at, wait_of, with_done, with_newest, with_wait}
 use Rattle.cqs_plan.specs.FloorCalls.{after_take, after_give}
 use Rattle.cqs_turns.specs.Lines.{is_pool_at}
 use Rattle.cqs_turns.specs.Roles.{wait_at}
 use Rattle.cqs_laws.specs.Events.{Line}
 use Rattle.cqs_laws.proofs.Claims.{HasOldest, IsLike, held_in, claims_in, is_claim, has-oldest, held-got, held-gave, count-set, count-le, count-one-more, claim-before, claim-else, claim-none, claim-here}
-use Rattle.cqs_laws.proofs.Deeds.{IsElse, came-after, came-sent, is_of_pool, line-after, line-joins}
+use Rattle.cqs_laws.proofs.HeldKinds.{IsHeld, IsUnheld, first-part, only-part}
+use Rattle.cqs_laws.proofs.Deeds.{HasPart, IsElse, came-after, came-sent, is_of_pool, line-after, line-joins}
 use Rattle.cqs_laws.proofs.Funds.{AreFunds, counts, takes-funds, joins-funds, frees-funds, sends-funds, gets-funds, late-funds, leaves-funds, same-funds}
 use Rattle.cqs_laws.proofs.Lifting.{CanGive, HasWait}
 use Rattle.cqs_laws.proofs.Lined.{AreLined, changed_floor, wait-gone}
@@ -43,6 +44,13 @@ FundsOn pool q size h holds waits = AreFunds size h (holds_in pool q holds) (cla
 pub record AreFunded (resources : List Resource) (f : PlainFloor) : Type 0 where
   pub at : (q : ℕ) → FundsOn (is_pool_at resources q) q (size_at f q) (history_at f q) f.holds f.waits
 
+unheld-funds : (size : ℕ) (h : History) (round : ℕ) (deed : Deed) (holds claims : ℕ → ℕ) → IsUnheld h
+    → AreFunds size (with_deed_in size h round deed) holds claims
+unheld-funds size (of_permits entries) round deed holds claims unheld = absurd unheld
+unheld-funds size (of_elements entries) round deed holds claims unheld = absurd unheld
+unheld-funds size (of_latch entries) round deed holds claims unheld = tt
+unheld-funds size (of_rounds all) round deed holds claims unheld = tt
+
 and-one : (a b : Bool) → a ≡ true → (a && b) ≡ b
 and-one true b same = refl
 and-one false b same = absurd (cc)
@@ -52,7 +60,8 @@ and-none true b same = absurd (cc)
 and-none false b same = refl
 
 module _ (resources : List Resource) (f : PlainFloor) (lines : List Line) (lined : AreLined resources f lines)
-    (funded : AreFunded resources f) (at : ℕ) (there : at < length f.histories) where
+    (funded : AreFunded resources f) (at : ℕ) (there : at < length f.histories)
+    (held_kind : IsHeld (history_at f at)) where
   abbrev size : ℕ
   size = size_at f at
 
@@ -65,44 +74,52 @@ module _ (resources : List Resource) (f : PlainFloor) (lines : List Line) (lined
   abbrev line : List Waiting
   line = (standing size h).line
 
+  part : HasPart h 0
+  part = first-part h held_kind
+
   -- the test of a claim by what came for it
   abbrev came_as : History → ℕ → ℕ → Bool
   came_as now x number = counts pool x (came_for size now number)
 
   -- a resource at which nothing happens keeps its funds where nobody has more there
   funded-on : (deed : Deed) (room : List ℕ) (waits : List (Option JobWait)) (holds : List (List Holding))
+      (rounds : List (List ℕ))
       → FundsOn pool at size (with_deed size h deed) holds waits
       → ((q : ℕ) → q ≢ at → (x : ℕ)
       → holds_in (is_pool_at resources q) q holds x ≡ holds_in (is_pool_at resources q) q f.holds x)
       → ((q : ℕ) → q ≢ at → (x : ℕ)
       → claims_on (is_pool_at resources q) q (size_at f q) (history_at f q) waits x
       ≤ claims_on (is_pool_at resources q) q (size_at f q) (history_at f q) f.waits x)
-      → AreFunded resources (changed_floor f at deed room waits holds)
-  funded-on deed room waits holds own held claims = record { at = λ q. go q (cases_eq q at) }
+      → AreFunded resources (changed_floor f at 0 deed room waits holds rounds)
+  funded-on deed room waits holds rounds own held claims = record { at = λ q. go q (cases_eq q at) }
     where
       g : PlainFloor
-      g = changed_floor f at deed room waits holds
+      g = changed_floor f at 0 deed room waits holds rounds
 
       go : (q : ℕ) → (q ≡ at) ⊎ (q ≢ at)
           → FundsOn (is_pool_at resources q) q (size_at f q) (history_at g q) holds waits
       go q (inl here) =
-          rw here (subst (λ now. FundsOn pool at size now holds waits) (sym (history-here f at deed there)) own)
+          rw here (subst (λ now. FundsOn pool at size now holds waits) (sym (history-here f at 0 deed there)) own)
       go q (inr other) =
           subst (λ now. FundsOn (is_pool_at resources q) q (size_at f q) now holds waits)
-          (sym (history-else f at q deed other))
+          (sym (history-else f at 0 deed q other))
           (same-funds (size_at f q) (holds_in (is_pool_at resources q) q f.holds)
           (claims_on (is_pool_at resources q) q (size_at f q) (history_at f q) f.waits)
           (holds_in (is_pool_at resources q) q holds)
           (claims_on (is_pool_at resources q) q (size_at f q) (history_at f q) waits)
           (λ x. omega (arith, held q other x, claims q other x)) (history_at f q) (funded.at q))
 
+  -- the waits there are in the one round
+  first-round : (j : ℕ) (w : JobWait) → wait_of f j ≡ Some w → w.at ≡ at → w.round ≡ 0
+  first-round j w has here = only-part h w.round held_kind (rw here at (lined.parts j w has))
+
   -- a wait that the deed isn't about is a claim then only if it was
   like-else : (deed : Deed) (x number : ℕ) → IsElse (standing size h).next number deed
       → IsLike line (standing size (with_deed size h deed)).line (came_as h x) (came_as (with_deed size h deed) x)
       number
   like-else deed x number other = record {
-    stands = line-after size h deed number other;
-    same = ap (counts pool x) (came-after size h deed number other);
+    stands = line-after size h 0 deed number part other;
+    same = ap (counts pool x) (came-after size h 0 deed number other);
   }
 
   -- so where it is about none of these waits, no more of them are claims
@@ -145,7 +162,7 @@ module _ (resources : List Resource) (f : PlainFloor) (lines : List Line) (lined
       → AreFunded resources (after_take f at job (Now (first_free size h)))
   takes-now-funded job below some =
       let e : ℕ = first_free size h in
-      funded-on (takes e) _ f.waits _
+      funded-on (takes e) _ f.waits _ f.rounds
       (takes-funds size (holds_in pool at f.holds) (claims_on pool at size h f.waits) _ _ h some
       (sorted (λ b. (x : ℕ)
       → holds_in pool at (set f.holds job (holds_of f job ++ record { at = at; element = e } ∷ [])) x
@@ -153,8 +170,9 @@ module _ (resources : List Resource) (f : PlainFloor) (lines : List Line) (lined
       (λ x. omega (arith, got job e below at x, here-one x e)))
       (λ x. claims-fewer (takes e) f.waits x
       (λ i w is here same.
-      let under : w.number < (standing_at f at).next
-      = rw here at (lined.below i w (get_or_from_slice_get f.waits i (Some w) None is)) in
+      let own : wait_of f i ≡ Some w = get_or_from_slice_get f.waits i (Some w) None is in
+      let first : w.round ≡ 0 = first-round i w own here in
+      let under : w.number < (standing_at f at).next = rw (here, first) at (lined.below i w own) in
       omega (arith, under, same)))
       (funded.at at))
       (λ q other x. omega (arith, got job e below q x, other-none q x (record { at = at; element = e }) refl other))
@@ -164,7 +182,7 @@ module _ (resources : List Resource) (f : PlainFloor) (lines : List Line) (lined
       → AreFunded resources (after_take f at job (Waits (standing size h).next))
   takes-later-funded job below none =
       let k : ℕ = (standing size h).next in
-      let new : Option JobWait = Some (wait_at at k) in
+      let new : Option JobWait = Some (wait_at at 0 k) in
       let then : History = with_deed size h (joins k) in
       let joined : List Waiting = (standing size then).line in
       let written : (q : ℕ) (line : List Waiting) (test : ℕ → Bool)
@@ -172,8 +190,8 @@ module _ (resources : List Resource) (f : PlainFloor) (lines : List Line) (lined
       ≡ claims_in q line test f.waits + bit (is_claim q line test new)
       = λ q line test. count-set (λ w. is_claim q line test w) f.waits job (wait_of f job) new None below refl in
       let none_new : (x : ℕ) → bit (is_claim at joined (came_as then x) new) ≡ 0
-      = λ x. ap bit (claim-none at k joined (came_as then x) (line-joins size h k)) in
-      funded-on (joins k) _ _ f.holds
+      = λ x. ap bit (claim-none at 0 k joined (came_as then x) (line-joins size h 0 k part)) in
+      funded-on (joins k) _ _ f.holds f.rounds
       (joins-funds size (holds_in pool at f.holds) (claims_on pool at size h f.waits) _ _ h k none (λ x. refl)
       (λ x. omega (
         arith,
@@ -187,7 +205,7 @@ module _ (resources : List Resource) (f : PlainFloor) (lines : List Line) (lined
       let test : ℕ → Bool
       = λ number. counts (is_pool_at resources q) x (came_for (size_at f q) (history_at f q) number) in
       let none_else : bit (is_claim q (standing_at f q).line test new) ≡ 0
-      = ap bit (claim-else at q k (standing_at f q).line test other) in
+      = ap bit (claim-else at q 0 k (standing_at f q).line test other) in
       omega (arith, written q (standing_at f q).line test, none_else))
 
   module _ (job : ℕ) (can : CanGive f job at) where
@@ -226,7 +244,7 @@ module _ (resources : List Resource) (f : PlainFloor) (lines : List Line) (lined
 
     pub gives-free-funded : line ≡ [] → AreFunded resources (after_give f at job (Free given))
     gives-free-funded empty =
-        funded-on (frees given) f.room f.waits _
+        funded-on (frees given) f.room f.waits _ f.rounds
         (frees-funds size (holds_in pool at f.holds) (claims_on pool at size h f.waits) _ _ h given empty gone
         (λ x. claims-fewer (frees given) f.waits x (λ i w is here. tt)) (funded.at at))
         elsewhere (λ q other x. omega arith)
@@ -234,7 +252,7 @@ module _ (resources : List Resource) (f : PlainFloor) (lines : List Line) (lined
     pub gives-sent-funded : (first : Waiting) (more : List Waiting) → line ≡ first ∷ more
         → AreFunded resources (after_give f at job (Sent given first.wait))
     gives-sent-funded first more is =
-        funded-on (sends given first.wait) f.room f.waits _
+        funded-on (sends given first.wait) f.room f.waits _ f.rounds
         (sends-funds size (holds_in pool at f.holds) (claims_on pool at size h f.waits) _ _ h given first.wait
         (λ empty. absurd (cc)) gone
         (sorted (λ b. (x : ℕ) → claims_on pool at size then f.waits x
@@ -255,49 +273,48 @@ module _ (resources : List Resource) (f : PlainFloor) (lines : List Line) (lined
         now-claim x o = is_claim at (standing size then).line (came_as then x) o
 
         -- another wait than that to which it is sent is a claim only if it was
-        old-claim : (x : ℕ) (w : JobWait) → w ≢ wait_at at number → now-claim x (Some w) ≡ true
+        old-claim : (x : ℕ) (w : JobWait) → (w.at ≡ at → w.number ≢ number) → now-claim x (Some w) ≡ true
             → was-claim x (Some w) ≡ true
         old-claim x w other claims =
             claim-before at line (standing size then).line (came_as h x) (came_as then x) (Some w)
             (λ v same here.
             let is : v ≡ w = cc in
             like-else (sends given number) x v.number
-            (λ number_is. other (sym is ∙ rw (← here, ← number_is) refl))) claims
+            (λ number_is. other (rw (← is) here) (rw (← is) number_is))) claims
 
         -- a claim that is new is that of the wait to which it is sent
-        new-claim : (x : ℕ) (o : Option JobWait) → now-claim x o ≡ true → was-claim x o ≡ false
-            → o ≡ Some (wait_at at number)
-        new-claim x None now before = absurd (cc)
-        new-claim x (Some w) now before = go (cases_eq w.at at) (cases_eq w.number number)
+        new-claim : (x i : ℕ) (o : Option JobWait) → wait_of f i ≡ o → now-claim x o ≡ true → was-claim x o ≡ false
+            → o ≡ Some (wait_at at 0 number)
+        new-claim x i None has now before = absurd (cc)
+        new-claim x i (Some w) has now before = go (cases_eq w.at at) (cases_eq w.number number)
           where
             go : (w.at ≡ at) ⊎ (w.at ≢ at) → (w.number ≡ number) ⊎ (w.number ≢ number)
-                → Some w ≡ Some (wait_at at number)
-            go (inl here) (inl same) = rw (← here, ← same) refl
+                → Some w ≡ Some (wait_at at 0 number)
+            go (inl here) (inl same) = rw (← here, ← same, ← first-round i w has here) refl
             go (inl here) (inr other) =
-                let was : was-claim x (Some w) ≡ true
-                = old-claim x w (λ is. other (ap (λ (v : JobWait). v.number) is)) now in
+                let was : was-claim x (Some w) ≡ true = old-claim x w (λ own. other) now in
                 absurd (cc)
             go (inr away) either =
-                let was : was-claim x (Some w) ≡ true
-                = old-claim x w (λ is. away (ap (λ (v : JobWait). v.at) is)) now in
+                let was : was-claim x (Some w) ≡ true = old-claim x w (λ own. absurd (away own)) now in
                 absurd (cc)
 
         only : (x i j : ℕ) (o p : Option JobWait) → slice_get f.waits i ≡ Some o → slice_get f.waits j ≡ Some p
             → now-claim x o ≡ true → was-claim x o ≡ false → now-claim x p ≡ true → was-claim x p ≡ false → i ≡ j
         only x i j o p one two o_now o_was p_now p_was =
-            lined.apart i j (wait_at at number)
-            (get_or_from_slice_get f.waits i o None one ∙ new-claim x o o_now o_was)
-            (get_or_from_slice_get f.waits j p None two ∙ new-claim x p p_now p_was)
+            let first : wait_of f i ≡ o = get_or_from_slice_get f.waits i o None one in
+            let second : wait_of f j ≡ p = get_or_from_slice_get f.waits j p None two in
+            lined.apart i j (wait_at at 0 number) (first ∙ new-claim x i o first o_now o_was)
+            (second ∙ new-claim x j p second p_now p_was)
 
         -- where the wait isn't one for this element, it is no claim on it
         not-counted : (x : ℕ) (b : Bool) → pool ≡ b → counts pool x given ≡ false
-            → now-claim x (Some (wait_at at number)) ≡ true → was-claim x (Some (wait_at at number)) ≡ true
+            → now-claim x (Some (wait_at at 0 number)) ≡ true → was-claim x (Some (wait_at at 0 number)) ≡ true
         not-counted x false pooled none claims =
             let one : counts pool x given ≡ true = rw pooled refl in absurd (cc)
         not-counted x true pooled none claims =
             let came : came_for size then number ≡ given
             = came-sent size h first more given (lined.seated at) is (lined.sorts at ∙ pooled) in
-            let never : now-claim x (Some (wait_at at number)) ≡ false = rw (came, none) (refuse (at == at)
+            let never : now-claim x (Some (wait_at at 0 number)) ≡ false = rw (came, none) (refuse (at == at)
             (in_line number (standing size then).line)) in
             absurd (cc)
           where
@@ -306,11 +323,12 @@ module _ (resources : List Resource) (f : PlainFloor) (lines : List Line) (lined
             refuse true false = refl
             refuse false b = refl
 
-        was-before : (x : ℕ) → counts pool x given ≡ false → (o : Option JobWait) → now-claim x o ≡ true → (b : Bool)
+        was-before : (x i : ℕ) → counts pool x given ≡ false → (o : Option JobWait) → wait_of f i ≡ o
+            → now-claim x o ≡ true → (b : Bool)
             → was-claim x o ≡ b → was-claim x o ≡ true
-        was-before x none o now true was = was
-        was-before x none o now false was =
-            let is : o ≡ Some (wait_at at number) = new-claim x o now was in
+        was-before x i none o has now true was = was
+        was-before x i none o has now false was =
+            let is : o ≡ Some (wait_at at 0 number) = new-claim x i o has now was in
             rw is (not-counted x pool refl none (rw is at now))
 
         claims-more : (x : ℕ) (b : Bool) → counts pool x given ≡ b
@@ -322,19 +340,20 @@ module _ (resources : List Resource) (f : PlainFloor) (lines : List Line) (lined
         claims-more x false none =
             let fewer : claims_on pool at size then f.waits x ≤ claims_on pool at size h f.waits x
             = count-le (was-claim x) (now-claim x) f.waits
-            (λ i o got claims. was-before x none o claims (was-claim x o) refl) in
+            (λ i o got claims.
+            was-before x i none o (get_or_from_slice_get f.waits i o None got) claims (was-claim x o) refl) in
             omega (arith, fewer)
 
-  module _ (job number : ℕ) (has : HasWait f job at number) where
+  module _ (job number : ℕ) (has : HasWait f job at 0 number) where
     abbrev without_wait : List (Option JobWait)
     without_wait = set f.waits job None
 
     -- the wait is over
     over : (q : ℕ) (line : List Waiting) (test : ℕ → Bool)
-        → claims_in q line test without_wait + bit (is_claim q line test (Some (wait_at at number)))
+        → claims_in q line test without_wait + bit (is_claim q line test (Some (wait_at at 0 number)))
         ≡ claims_in q line test f.waits + 0
     over q line test =
-        count-set (λ w. is_claim q line test w) f.waits job (Some (wait_at at number)) None None has.job.waits
+        count-set (λ w. is_claim q line test w) f.waits job (Some (wait_at at 0 number)) None None has.job.waits
         has.waits
 
     over-else : (q : ℕ) → q ≢ at → (x : ℕ)
@@ -356,9 +375,9 @@ module _ (resources : List Resource) (f : PlainFloor) (lines : List Line) (lined
         → AreFunded resources (with_newest (with_wait (with_done f at deed) job None) job at e)
     granted-funded deed e away came quiet funds =
         let newest : Holding = record { at = at; element = e } in
-        let one : (x : ℕ) → bit (is_claim at line (came_as h x) (Some (wait_at at number))) ≡ bit (counts pool x e)
-        = λ x. ap bit (claim-here at number line (came_as h x) away ∙ ap (counts pool x) came) in
-        funded-on deed f.room _ _
+        let one : (x : ℕ) → bit (is_claim at line (came_as h x) (Some (wait_at at 0 number))) ≡ bit (counts pool x e)
+        = λ x. ap bit (claim-here at 0 number line (came_as h x) away ∙ ap (counts pool x) came) in
+        funded-on deed f.room _ _ f.rounds
         (funds _ _
         (λ x. omega (
           arith,
@@ -386,7 +405,7 @@ module _ (resources : List Resource) (f : PlainFloor) (lines : List Line) (lined
 
     pub gone-funded : AreFunded resources (with_wait (with_done f at (leaves number)) job None)
     gone-funded =
-        funded-on (leaves number) f.room _ f.holds
+        funded-on (leaves number) f.room _ f.holds f.rounds
         (leaves-funds size (holds_in pool at f.holds) (claims_on pool at size h f.waits) _ _
         (λ x. omega (
           arith,
@@ -402,5 +421,73 @@ module _ (resources : List Resource) (f : PlainFloor) (lines : List Line) (lined
             let waits : wait_of (with_wait f job None) i ≡ Some w
             = get_or_from_slice_get without_wait i (Some w) None is in
             let other = wait-gone f job i w has.job.waits waits in
-            let own : w ≡ wait_at at number = rw (← here, ← same) refl in
+            let own : w ≡ wait_at at 0 number = rw (← here, ← same, ← first-round i w other.1 here) refl in
             other.0 (lined.apart i job w other.1 (has.waits ∙ ap Some (sym own)))
+
+-- a resource that can't be held has no funds to keep, and what happens there leaves those of the others
+module _ (resources : List Resource) (f : PlainFloor) (funded : AreFunded resources f) (at round : ℕ) (deed : Deed)
+    (there : at < length f.histories) (unheld : IsUnheld (history_at f at)) (room : List ℕ)
+    (waits : List (Option JobWait)) (rounds : List (List ℕ)) where
+  abbrev changed : PlainFloor
+  changed = changed_floor f at round deed room waits f.holds rounds
+
+  unheld-funded : ((q : ℕ) → q ≢ at → (x : ℕ)
+      → claims_on (is_pool_at resources q) q (size_at f q) (history_at f q) waits x
+      ≤ claims_on (is_pool_at resources q) q (size_at f q) (history_at f q) f.waits x)
+      → AreFunded resources changed
+  unheld-funded claims = record { at = λ q. go q (cases_eq q at) }
+    where
+      go : (q : ℕ) → (q ≡ at) ⊎ (q ≢ at)
+          → FundsOn (is_pool_at resources q) q (size_at f q) (history_at changed q) f.holds waits
+      go q (inl here) =
+          let own : FundsOn (is_pool_at resources at) at (size_at f at)
+          (with_deed_in (size_at f at) (history_at f at) round deed) f.holds waits
+          = unheld-funds (size_at f at) (history_at f at) round deed _ _ unheld in
+          rw here (subst (λ now. FundsOn (is_pool_at resources at) at (size_at f at) now f.holds waits)
+          (sym (history-here f at round deed there)) own)
+      go q (inr other) =
+          subst (λ now. FundsOn (is_pool_at resources q) q (size_at f q) now f.holds waits)
+          (sym (history-else f at round deed q other))
+          (same-funds (size_at f q) (holds_in (is_pool_at resources q) q f.holds)
+          (claims_on (is_pool_at resources q) q (size_at f q) (history_at f q) f.waits)
+          (holds_in (is_pool_at resources q) q f.holds)
+          (claims_on (is_pool_at resources q) q (size_at f q) (history_at f q) waits)
+          (λ x. omega (arith, claims q other x)) (history_at f q) (funded.at q))
+
+-- where nobody waits anew
+pub calm-funded : (resources : List Resource) (f : PlainFloor) → AreFunded resources f → (at round : ℕ) (deed : Deed)
+    → at < length f.histories → IsUnheld (history_at f at) → (room : List ℕ) (rounds : List (List ℕ))
+    → AreFunded resources (changed_floor f at round deed room f.waits f.holds rounds)
+calm-funded resources f funded at round deed there unheld room rounds =
+    unheld-funded resources f funded at round deed there unheld room f.waits rounds (λ q other x. omega arith)
+
+-- a job waits there, or its wait there is over
+pub wait-funded : (resources : List Resource) (f : PlainFloor) → AreFunded resources f → (at round : ℕ) (deed : Deed)
+    → at < length f.histories → IsUnheld (history_at f at) → (room : List ℕ) (rounds : List (List ℕ)) (job k : ℕ)
+    → job < length f.waits
+    → AreFunded resources
+    (changed_floor f at round deed room (set f.waits job (Some (wait_at at round k))) f.holds rounds)
+wait-funded resources f funded at round deed there unheld room rounds job k below =
+    let new : Option JobWait = Some (wait_at at round k) in
+    unheld-funded resources f funded at round deed there unheld room (set f.waits job new) rounds
+    (λ q other x.
+    let test : ℕ → Bool
+    = λ number. counts (is_pool_at resources q) x (came_for (size_at f q) (history_at f q) number) in
+    let written = count-set (λ w. is_claim q (standing_at f q).line test w) f.waits job (wait_of f job) new None below
+    refl in
+    let none_else : bit (is_claim q (standing_at f q).line test new) ≡ 0
+    = ap bit (claim-else at q round k (standing_at f q).line test other) in
+    omega (arith, written, none_else))
+
+pub over-funded : (resources : List Resource) (f : PlainFloor) → AreFunded resources f → (at round : ℕ) (deed : Deed)
+    → at < length f.histories → IsUnheld (history_at f at) → (room : List ℕ) (rounds : List (List ℕ)) (job : ℕ)
+    → job < length f.waits
+    → AreFunded resources (changed_floor f at round deed room (set f.waits job None) f.holds rounds)
+over-funded resources f funded at round deed there unheld room rounds job below =
+    unheld-funded resources f funded at round deed there unheld room (set f.waits job None) rounds
+    (λ q other x.
+    let test : ℕ → Bool
+    = λ number. counts (is_pool_at resources q) x (came_for (size_at f q) (history_at f q) number) in
+    let written = count-set (λ w. is_claim q (standing_at f q).line test w) f.waits job (wait_of f job) None None below
+    refl in
+    omega (arith, written))

@@ -3,7 +3,7 @@ use Rattle.std.proofs.Common.{◌≡◌, ◌≢◌, ℕ, ◌+◌, ◌<◌, ◌�
 use Rattle.cqs_core.specs.SemaphoreObject.{Semaphore}
 use Rattle.cqs_core.proofs.Counts.{bit}
 use Rattle.cqs_pool_object.specs.PoolObject.{Pool}
-use Rattle.cqs_plan.specs.FloorHistory.{History, of_permits, of_elements, takes, joins, frees, sends, gets, leaves, is_late, permits_after, elements_after, with_deed, standing, first_free}
+use Rattle.cqs_plan.specs.FloorHistory.{History, of_permits, of_elements, of_latch, of_rounds, takes, joins, frees, sends, gets, leaves, is_late, permits_after, elements_after, with_deed, standing, first_free}
 use Rattle.cqs_laws.proofs.Deeds.{elements-then, is_of_pool, permits-then}
 use Rattle.cqs_laws.proofs.ElementFunds.{AreElementFunds, element-taken, element-joined, element-freed, element-sent, element-got, element-late, element-left, element-same}
 use Rattle.cqs_laws.proofs.PermitFunds.{ArePermitFunds, funds-taken, funds-joined, funds-freed, funds-sent, funds-left, funds-same}
@@ -19,6 +19,8 @@ AreFunds size (of_permits entries) holds claims =
     (x : ℕ) → ArePermitFunds size (permits_after size entries) (holds x) (claims x)
 AreFunds size (of_elements entries) holds claims =
     AreElementFunds size (elements_after size entries) holds claims
+AreFunds size (of_latch entries) holds claims = Unit {0}
+AreFunds size (of_rounds all) holds claims = Unit {0}
 
 module _ (size : ℕ) (holds claims holds' claims' : ℕ → ℕ) where
   pub takes-funds : (h : History) → 0 < (standing size h).free
@@ -36,6 +38,8 @@ module _ (size : ℕ) (holds claims holds' claims' : ℕ → ℕ) where
       let Fund : Pool → Type 0 = λ p. AreElementFunds size p holds' claims' in
       subst Fund (sym (elements-then size entries (takes (first_free size (of_elements entries)))))
       (element-taken size (elements_after size entries) holds claims holds' claims' funds some more fewer)
+  takes-funds (of_latch entries) some more fewer funds = tt
+  takes-funds (of_rounds all) some more fewer funds = tt
 
   pub joins-funds : (h : History) (k : ℕ) → (standing size h).free ≡ 0 → ((x : ℕ) → holds' x ≡ holds x)
       → ((x : ℕ) → claims' x ≤ claims x) → AreFunds size h holds claims
@@ -51,6 +55,8 @@ module _ (size : ℕ) (holds claims holds' claims' : ℕ → ℕ) where
       let Fund : Pool → Type 0 = λ p. AreElementFunds size p holds' claims' in
       subst Fund (sym (elements-then size entries (joins k)))
       (element-joined size (elements_after size entries) holds claims holds' claims' funds k none same fewer)
+  joins-funds (of_latch entries) k none same fewer funds = tt
+  joins-funds (of_rounds all) k none same fewer funds = tt
 
   pub frees-funds : (h : History) (e : ℕ) → (standing size h).line ≡ []
       → ((x : ℕ) → holds' x + bit (counts (is_of_pool h) x e) ≡ holds x)
@@ -67,6 +73,8 @@ module _ (size : ℕ) (holds claims holds' claims' : ℕ → ℕ) where
       let Fund : Pool → Type 0 = λ p. AreElementFunds size p holds' claims' in
       subst Fund (sym (elements-then size entries (frees e)))
       (element-freed size (elements_after size entries) holds claims holds' claims' funds e gone empty fewer)
+  frees-funds (of_latch entries) e empty gone fewer funds = tt
+  frees-funds (of_rounds all) e empty gone fewer funds = tt
 
   pub sends-funds : (h : History) (e k : ℕ) → (standing size h).line ≢ []
       → ((x : ℕ) → holds' x + bit (counts (is_of_pool h) x e) ≡ holds x)
@@ -82,6 +90,8 @@ module _ (size : ℕ) (holds claims holds' claims' : ℕ → ℕ) where
       let Fund : Pool → Type 0 = λ p. AreElementFunds size p holds' claims' in
       subst Fund (sym (elements-then size entries (sends e k)))
       (element-sent size (elements_after size entries) holds claims holds' claims' funds e gone k some more)
+  sends-funds (of_latch entries) e k some gone more funds = tt
+  sends-funds (of_rounds all) e k some gone more funds = tt
 
   -- what came for a wait is the job's, or a wait is gone
   module _ (more : (x : ℕ) → holds' x + claims' x ≤ holds x + claims x) where
@@ -99,6 +109,8 @@ module _ (size : ℕ) (holds claims holds' claims' : ℕ → ℕ) where
     same-funds (of_permits entries) funds = λ x. permits-less (permits_after size entries) x (funds x)
     same-funds (of_elements entries) funds =
         element-same size (elements_after size entries) holds claims holds' claims' funds more
+    same-funds (of_latch entries) funds = tt
+    same-funds (of_rounds all) funds = tt
 
     pub gets-funds : (h : History) (k e : ℕ) → AreFunds size h holds claims
         → AreFunds size (with_deed size h (gets k e)) holds' claims'
@@ -119,6 +131,8 @@ module _ (size : ℕ) (holds claims holds' claims' : ℕ → ℕ) where
         let Fund : Pool → Type 0 = λ p. AreElementFunds size p holds' claims' in
         subst Fund (sym (elements-then size entries (gets k e)))
         (element-got size (elements_after size entries) holds claims holds' claims' funds more k e)
+    gets-funds (of_latch entries) k e funds = tt
+    gets-funds (of_rounds all) k e funds = tt
 
     pub late-funds : (h : History) (k e : ℕ) → AreFunds size h holds claims
         → AreFunds size (with_deed size h (is_late k e)) holds' claims'
@@ -139,6 +153,8 @@ module _ (size : ℕ) (holds claims holds' claims' : ℕ → ℕ) where
         let Fund : Pool → Type 0 = λ p. AreElementFunds size p holds' claims' in
         subst Fund (sym (elements-then size entries (is_late k e)))
         (element-late size (elements_after size entries) holds claims holds' claims' funds more k e)
+    late-funds (of_latch entries) k e funds = tt
+    late-funds (of_rounds all) k e funds = tt
 
     pub leaves-funds : (h : History) (k : ℕ) → AreFunds size h holds claims
         → AreFunds size (with_deed size h (leaves k)) holds' claims'
@@ -152,3 +168,5 @@ module _ (size : ℕ) (holds claims holds' claims' : ℕ → ℕ) where
         let Fund : Pool → Type 0 = λ p. AreElementFunds size p holds' claims' in
         subst Fund (sym (elements-then size entries (leaves k)))
         (element-left size (elements_after size entries) holds claims holds' claims' funds more k)
+    leaves-funds (of_latch entries) k funds = tt
+    leaves-funds (of_rounds all) k funds = tt

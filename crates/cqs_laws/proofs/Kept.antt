@@ -42,7 +42,7 @@ one-job-is resources turn place job m p got =
     (get_or_from_slice_get m.progress place p (Ended end.Done) got)
 
 module _ (plan : Plan) (turn place : ℕ) (job : Job) (m : Machine) (there : slice_get plan.jobs place ≡ Some job)
-    (kept : IsKept plan m) (p : Progress) (got : slice_get m.progress place ≡ Some p) where
+    (runnable : IsRunnable plan) (kept : IsKept plan m) (p : Progress) (got : slice_get m.progress place ≡ Some p) where
   abbrev r : Role
   r = role_of plan.resources turn place job
 
@@ -53,7 +53,9 @@ module _ (plan : Plan) (turn place : ℕ) (job : Job) (m : Machine) (there : sli
   ready = kept.running.ready place job p there got
 
   turned : Turned r m.scene.floor (steps_left job.steps p) a
-  turned = after_acting-turned r p m.scene ready (room-of plan m place job p kept.running there got)
+  turned =
+      after_acting-turned r p m.scene ready (room-of plan m place job kept.running runnable there p got)
+      (kept.running.rounds place job p there got)
 
   emptied-after : (j : ℕ) (e : End) → slice_get (set m.progress place a.progress) j ≡ Some (Ended e)
       → (j ≡ place) ⊎ (j ≢ place) → places_held a.scene.floor j ≡ []
@@ -74,13 +76,14 @@ module _ (plan : Plan) (turn place : ℕ) (job : Job) (m : Machine) (there : sli
     emptied = λ j e ended. emptied-after j e ended (cases_eq j place);
   }
 
-one-job-keeps : (plan : Plan) (turn place : ℕ) (job : Job) (m : Machine) → slice_get plan.jobs place ≡ Some job
+one-job-keeps : (plan : Plan) → IsRunnable plan → (turn place : ℕ) (job : Job) (m : Machine)
+    → slice_get plan.jobs place ≡ Some job
     → IsKept plan m → IsKept plan (one_job plan.resources turn place job m)
-one-job-keeps plan turn place job m there kept =
+one-job-keeps plan runnable turn place job m there kept =
     let below : place < length m.progress = omega (arith, kept.running.jobs, get-below plan.jobs place job there) in
     let own : (p : Progress) × (slice_get m.progress place ≡ Some p) = get-there m.progress place below in
     subst (IsKept plan) (sym (one-job-is plan.resources turn place job m own.0 own.1))
-    (kept-after plan turn place job m there kept own.0 own.1)
+    (kept-after plan turn place job m there runnable kept own.0 own.1)
 
 unended : (n place : ℕ) (e : End) → slice_get (replicate n (Stepping 0)) place ≢ Some (Ended e)
 unended zero place e ended = absurd (cc)
@@ -94,7 +97,8 @@ opening-kept plan runnable = record {
 }
 
 pub always-kept : (plan : Plan) (turns : ℕ) → IsRunnable plan → IsKept plan (machine_after plan turns)
-always-kept plan turns runnable = always plan (IsKept plan) (opening-kept plan runnable) (one-job-keeps plan) turns
+always-kept plan turns runnable =
+    always plan (IsKept plan) (opening-kept plan runnable) (one-job-keeps plan runnable) turns
 
 nothing-held : (holds : List Holding) → map (λ h. h.at) holds ≡ [] → holds ≡ []
 nothing-held [] none = refl

@@ -7,6 +7,7 @@ mod Lifting
 mod Lines
 mod Objects
 mod Deeds
+mod HeldKinds
 mod LineLemmas
 mod Lined
 mod Telling
@@ -15,4 +16,5 @@ mod PermitFunds
 mod ElementFunds
 mod Funds
 mod Funding
+mod Evening
 mod Balancing

@@ -1,5 +1,5 @@
 -- One more line of the report.
-use Rattle.std.proofs.Common.{◌≡◌, ◌⊎◌, inl, inr, ℕ, ◌+◌, ◌<◌, ◌≤◌, List, [], ◌∷◌, ◌++◌, Some, true, length, take, slice_get, refl, sym, ap, ◌∙◌, take_at, append_assoc, arith}
+use Rattle.std.proofs.Common.{◌≡◌, ◌⊎◌, inl, inr, ℕ, ◌+◌, ◌<◌, ◌≤◌, List, [], ◌∷◌, ◌++◌, Some, length, take, slice_get, refl, sym, ap, ◌∙◌, take_at, append_assoc, arith}
 use Rattle.std.proofs.lemmas.Bool.{cases_lt}
 use Rattle.std.proofs.lemmas.List.{append-nil, length_push, take-append-le}
 use Rattle.std.proofs.lemmas.List.Sums.{sum_by_push}
@@ -7,9 +7,8 @@ use Rattle.cqs_core.proofs.Counts.{bit}
 use Rattle.cqs_core.proofs.Places.{get-below, get-append_below, get-append_left, get-push_at}
 use Rattle.cqs_plan.specs.declared.plans.plan.Plan.{Plan}
 use Rattle.cqs_plan.specs.declared.plans.resource.Resource.{Resource}
-use Rattle.cqs_turns.specs.declared.lines.Told.TheVariants as told
-use Rattle.cqs_turns.specs.Lines.{is_pool_at, line_text}
-use Rattle.cqs_laws.specs.Events.{Line, name_of, lines_text, draws_at, drawn_at, WasSent, MayTell}
+use Rattle.cqs_turns.specs.Lines.{line_text}
+use Rattle.cqs_laws.specs.Events.{Line, name_of, lines_text, draws_at, drawn_at, Sends, WasSent, MayTell}
 
 pub text-push : (plan : Plan) (lines : List Line) (line : Line)
     → lines_text plan (lines ++ line ∷ [])
@@ -20,33 +19,29 @@ text-push plan (x ∷ lines) line =
     ap (λ text. own ++ text) (text-push plan lines line) ∙ sym (append_assoc own (lines_text plan lines) _)
 
 -- one more line draws its number, if it draws one
-pub drawn-push : (resources : List Resource) (at : ℕ) (lines : List Line) (line : Line)
-    → drawn_at resources at (lines ++ line ∷ []) ≡ drawn_at resources at lines + bit (draws_at resources at line.told)
-drawn-push resources at lines line =
-    sum_by_push (λ (x : Line). bit (draws_at resources at x.told)) lines line
+pub drawn-push : (resources : List Resource) (at round : ℕ) (lines : List Line) (line : Line)
+    → drawn_at resources at round (lines ++ line ∷ [])
+    ≡ drawn_at resources at round lines + bit (draws_at resources at round line.told)
+drawn-push resources at round lines line =
+    sum_by_push (λ (x : Line). bit (draws_at resources at round x.told)) lines line
 
 -- what was sent stays sent
-pub sent-longer : (resources : List Resource) (at number element : ℕ) (lines : List Line) (line : Line)
-    → WasSent resources at number element lines → WasSent resources at number element (lines ++ line ∷ [])
-sent-longer resources at number element lines line sent = record {
+pub sent-longer : (resources : List Resource) (at round number element : ℕ) (lines : List Line) (line : Line)
+    → WasSent resources at round number element lines → WasSent resources at round number element (lines ++ line ∷ [])
+sent-longer resources at round number element lines line sent = record {
   line = sent.line;
-  sent = sent.sent;
-  told = sent.told;
-  same = sent.same;
+  sends = sent.sends;
   there = record {
     place = sent.there.place;
     there = get-append_left lines (line ∷ []) sent.there.place sent.line sent.there.there;
   };
 }
 
-pub sent-now : (resources : List Resource) (at number element sent : ℕ) (lines : List Line) (line : Line)
-    → line.told ≡ told.GivesSent at sent number → (is_pool_at resources at ≡ true → sent ≡ element)
-    → WasSent resources at number element (lines ++ line ∷ [])
-sent-now resources at number element sent lines line tells same = record {
+pub sent-now : (resources : List Resource) (at round number element : ℕ) (lines : List Line) (line : Line)
+    → Sends resources at round number element line.told → WasSent resources at round number element (lines ++ line ∷ [])
+sent-now resources at round number element lines line sends = record {
   line = line;
-  sent = sent;
-  told = tells;
-  same = same;
+  sends = sends;
   there = record { place = length lines; there = get-push_at lines line (length lines) refl };
 }
 

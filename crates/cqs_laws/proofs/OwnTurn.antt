@@ -71,12 +71,12 @@ if-true true x y same = refl
 if-true false x y same = absurd (cc)
 
 -- a wait that is due ends, by what the floor answers
-after_acting-due : (r : Role) (next at number : ℕ) (s : Scene) → is_due r.job.deadline r.turn ≡ true
-    → (after_acting r (Waiting next at number) s).progress ≡ Ended (end_of (leave_answer s.floor r.place))
-after_acting-due r next at number s due =
+after_acting-due : (r : Role) (next at round number : ℕ) (s : Scene) → is_due r.job.deadline r.turn ≡ true
+    → (after_acting r (Waiting next at round number) s).progress ≡ Ended (end_of (leave_answer s.floor r.place))
+after_acting-due r next at round number s due =
     ap (λ (a : Acted). a.progress)
-    (if-true (is_due r.job.deadline r.turn) (after_giving_up r at number (leave_answer s.floor r.place) s)
-    (after_looking r next at number (look_answer s.floor r.place) s) due)
+    (if-true (is_due r.job.deadline r.turn) (after_giving_up r at round number (leave_answer s.floor r.place) s)
+    (after_looking r next at round number (look_answer s.floor r.place) s) due)
 
 due-from : (deadline : Option ℕ) (d turn : ℕ) → deadline ≡ Some d → d ≤ turn → is_due deadline turn ≡ true
 due-from deadline d turn has below = rw has (le-leb d turn below)
@@ -87,8 +87,9 @@ ends-so p leave.Gone same = inl same
 ends-so p (leave.Late element) same = inr same
 
 pub no-wait-outlives : NoWaitOutlivesItsDeadline
-no-wait-outlives plan turn place deadline next at number job there has below got =
+no-wait-outlives plan turn place deadline next at round number job there has below got =
     let r : Role = role_of plan.resources turn place job in
-    let after = after-turn plan turn place job (Waiting next at number) there got in
+    let after = after-turn plan turn place job (Waiting next at round number) there got in
     ends-so _ (leave_answer (after.0).floor place)
-    (after.1 ∙ ap Some (after_acting-due r next at number after.0 (due-from job.deadline deadline turn has below)))
+    (after.1 ∙ ap Some
+    (after_acting-due r next at round number after.0 (due-from job.deadline deadline turn has below)))

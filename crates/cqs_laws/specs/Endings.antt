@@ -26,8 +26,8 @@ EndedJobsHaveNothing =
 -- late when the turn is over
 abbrev pub NoWaitOutlivesItsDeadline : Type 0
 NoWaitOutlivesItsDeadline =
-    (plan : Plan) (turn place deadline next at number : ℕ) (job : Job)
+    (plan : Plan) (turn place deadline next at round number : ℕ) (job : Job)
     → slice_get plan.jobs place ≡ Some job → job.deadline ≡ Some deadline → deadline ≤ turn
-    → progress_of plan turn place ≡ Some (Waiting next at number)
+    → progress_of plan turn place ≡ Some (Waiting next at round number)
     → (progress_of plan (turn + 1) place ≡ Some (Ended GaveUp))
     ⊎ (progress_of plan (turn + 1) place ≡ Some (Ended Late))

@@ -26,44 +26,73 @@ lines_text plan [] = []
 lines_text plan (line ∷ lines) =
     line_text plan.resources line.turn (name_of plan line.job) line.told ++ lines_text plan lines
 
--- The line draws a number at the resource: that of a wait does, and in a pool also that of a take
--- that doesn't wait, which doesn't tell it.
-abbrev pub draws_at : List Resource → ℕ → Told → Bool
-draws_at resources at (told.Waits place number) = place == at
-draws_at resources at (told.Takes place element) = (place == at) && is_pool_at resources at
-draws_at resources at (told.Served place number element) = false
-draws_at resources at (told.GivesFree place element) = false
-draws_at resources at (told.GivesSent place element number) = false
-draws_at resources at (told.GaveUp place number) = false
-draws_at resources at (told.Late place number) = false
-draws_at resources at told.Done = false
+-- The line draws a number at the resource, at a barrier in this round: that of a wait does, and in
+-- a pool also that of a take that doesn't wait, which doesn't tell it.
+abbrev pub draws_at : List Resource → ℕ → ℕ → Told → Bool
+draws_at resources at round (told.Waits place r number) = (place == at) && (r == round)
+draws_at resources at round (told.Takes place element) =
+    ((place == at) && is_pool_at resources at) && (0 == round)
+draws_at resources at round (told.Served place r number element) = false
+draws_at resources at round (told.GivesFree place element) = false
+draws_at resources at round (told.GivesSent place element number) = false
+draws_at resources at round (told.GaveUp place r number) = false
+draws_at resources at round (told.Late place r number) = false
+draws_at resources at round (told.Passes place) = false
+draws_at resources at round (told.DownsLeft place left) = false
+draws_at resources at round (told.DownsOpen place) = false
+draws_at resources at round (told.DownsAlready place) = false
+draws_at resources at round (told.ArrivesLast place r) = false
+draws_at resources at round told.Done = false
 
 -- how many numbers these lines draw there
-abbrev pub drawn_at : List Resource → ℕ → List Line → ℕ
-drawn_at resources at lines = count_by (λ line. draws_at resources at line.told) lines
+abbrev pub drawn_at : List Resource → ℕ → ℕ → List Line → ℕ
+drawn_at resources at round lines = count_by (λ line. draws_at resources at round line.told) lines
 
--- Among these lines somebody's give was sent to this wait. In a pool it was of this element.
-pub record WasSent (resources : List Resource) (at number element : ℕ) (lines : List Line)
+-- The line sends something to the wait of this number at a resource, in this round: a give of a
+-- permit, or in a pool of this element; the last count down of a latch; the last arrival in the
+-- round.
+abbrev pub Sends : List Resource → ℕ → ℕ → ℕ → ℕ → Told → Type 0
+Sends resources at round number element (told.GivesSent place sent k) =
+    (place ≡ at) × (k ≡ number) × (is_pool_at resources at ≡ true → sent ≡ element)
+Sends resources at round number element (told.DownsOpen place) = place ≡ at
+Sends resources at round number element (told.ArrivesLast place r) = (place ≡ at) × (r ≡ round)
+Sends resources at round number element (told.Takes place e) = ⊥
+Sends resources at round number element (told.Waits place r k) = ⊥
+Sends resources at round number element (told.Served place r k e) = ⊥
+Sends resources at round number element (told.GivesFree place e) = ⊥
+Sends resources at round number element (told.GaveUp place r k) = ⊥
+Sends resources at round number element (told.Late place r k) = ⊥
+Sends resources at round number element (told.Passes place) = ⊥
+Sends resources at round number element (told.DownsLeft place left) = ⊥
+Sends resources at round number element (told.DownsAlready place) = ⊥
+Sends resources at round number element told.Done = ⊥
+
+-- one of these lines sent something to this wait
+pub record WasSent (resources : List Resource) (at round number element : ℕ) (lines : List Line)
     : Type 0 where
   pub line : Line
-  pub sent : ℕ
-  pub told : line.told ≡ told.GivesSent at sent number
-  pub same : is_pool_at resources at ≡ true → sent ≡ element
+  pub sends : Sends resources at round number element line.told
   pub there : IsIn line lines
 
 -- After these lines the next may tell this: a wait has as its number how many were drawn at its
--- resource before, so that they are 0, 1, 2 and so on; and a wait is served, or is late, only after
--- a permit or element was sent to it, which is the one that it is told to have.
+-- resource, in its round, before, so that they are 0, 1, 2 and so on; and a wait is served, or is
+-- late, only after something was sent to it, which is what it is told to have.
 abbrev pub MayTell : List Resource → List Line → Told → Type 0
-MayTell resources earlier (told.Waits at number) = number ≡ drawn_at resources at earlier
-MayTell resources earlier (told.Served at number element) =
-    WasSent resources at number element earlier
-MayTell resources earlier (told.Late at number) =
-    (element : ℕ) × WasSent resources at number element earlier
+MayTell resources earlier (told.Waits at round number) =
+    number ≡ drawn_at resources at round earlier
+MayTell resources earlier (told.Served at round number element) =
+    WasSent resources at round number element earlier
+MayTell resources earlier (told.Late at round number) =
+    (element : ℕ) × WasSent resources at round number element earlier
 MayTell resources earlier (told.Takes at element) = Unit {0}
 MayTell resources earlier (told.GivesFree at element) = Unit {0}
 MayTell resources earlier (told.GivesSent at element number) = Unit {0}
-MayTell resources earlier (told.GaveUp at number) = Unit {0}
+MayTell resources earlier (told.GaveUp at round number) = Unit {0}
+MayTell resources earlier (told.Passes at) = Unit {0}
+MayTell resources earlier (told.DownsLeft at left) = Unit {0}
+MayTell resources earlier (told.DownsOpen at) = Unit {0}
+MayTell resources earlier (told.DownsAlready at) = Unit {0}
+MayTell resources earlier (told.ArrivesLast at round) = Unit {0}
 MayTell resources earlier told.Done = Unit {0}
 
 -- the report so far is the text of these lines, and each may tell what it does after those before

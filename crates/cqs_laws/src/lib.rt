@@ -4,7 +4,7 @@
 //! Each function does nothing: a law is proved where the contract of a function says it.
 #![tactic(auto)]
 
-ghost use Rattle.cqs_laws.specs.Balances.{EveryResourceBalances};
+ghost use Rattle.cqs_laws.specs.Balances.{EveryResourceBalances, EveryRoundBalances};
 ghost use Rattle.cqs_laws.specs.Totals.{TotalsAddUp};
 ghost use Rattle.cqs_laws.specs.Events.{EveryReportHasItsLines};
 ghost use Rattle.cqs_laws.specs.Endings.{EndedJobsHaveNothing, NoWaitOutlivesItsDeadline};
@@ -25,16 +25,24 @@ pub fn no_wait_outlives_its_deadline()
 {}
 
 /// The events of a run are lines, one after the other, whose texts are the report so far. The waits
-/// of each resource are numbered 0, 1, 2 and so on, in order of the lines where they begin, and in
-/// a pool the takes that don't wait are counted with them; and a wait is served, or is late, only
-/// after a line that sent it a permit or an element, which is the one that it has.
+/// of each resource, and of each round of a barrier, are numbered 0, 1, 2 and so on, in order of
+/// the lines where they begin, and in a pool the takes that don't wait are counted with them; and a
+/// wait is served, or is late, only after a line that sent it a permit or an element, which is the
+/// one that it has, that was the last count down of its latch, or the last arrival in its round.
 pub fn every_report_has_its_lines()
     ensures { EveryReportHasItsLines }
 {}
 
 /// Of each resource, free and held permits or elements are together those that the plan gives it,
-/// and nobody waits in line while one is free. So it is between any two turns, and in the `end`
-/// lines.
+/// and nobody waits in line while one is free. A latch counts no more than the plan says, and
+/// nobody waits once it is open; and no more rounds of a barrier are over than it has. So it is
+/// between any two turns, and in the `end` lines.
 pub fn every_resource_balances()
     ensures { EveryResourceBalances }
+{}
+
+/// In each round of a barrier those that are still to come and those that wait are all its parties,
+/// until the last has come; from then on nobody waits. So it is between any two turns.
+pub fn every_round_balances()
+    ensures { EveryRoundBalances }
 {}

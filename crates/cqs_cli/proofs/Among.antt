@@ -1,5 +1,5 @@
 -- Semaphores of one sort among those of several: what a call of one does, in the words of all.
-use Rattle.std.proofs.Common.{◌≡◌, ◌≢◌, ℕ, ◌+◌, ◌-◌, nat_lt, Bool, true, false, List, [], ◌∷◌, ◌++◌, Option, Some, None, length, ap, sym, ◌∙◌, subst}
+use Rattle.std.proofs.Common.{◌≡◌, ℕ, ◌+◌, nat_lt, Bool, true, false, List, ◌++◌, Option, Some, None, length, ap, sym, ◌∙◌, subst}
 use Rattle.cqs_plan.specs.declared.plans.kind.Kind.{Kind}
 use Rattle.cqs_plan.specs.Floor.{size_of}
 use Rattle.cqs_core.specs.declared.entries.Entry.{Entry}

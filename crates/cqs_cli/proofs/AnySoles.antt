@@ -1,22 +1,26 @@
 -- What each kind of resource is on a floor is one as the floor needs it.
-use Rattle.std.proofs.Common.{◌≡◌, ℕ, ◌<◌, List, Option, Some, refl}
+use Rattle.std.proofs.Common.{ℕ, ◌<◌, List, Option, Some, refl}
 use Rattle.cqs_plan.specs.declared.plans.kind.Kind.{Kind}
 use Rattle.cqs_plan.specs.LegalFloor.{IsHistory}
 use Rattle.cqs_rule.specs.declared.config.Place.{Place}
 use Rattle.cqs_cli.specs.declared.floors.any_sole.AnySole.{AnySole}
-use Rattle.cqs_cli.specs.declared.floors.any_sole.AnySole.TheVariants.{Permits, Pool}
+use Rattle.cqs_cli.specs.declared.floors.any_sole.AnySole.TheVariants.{Permits, Pool, Latch, Rounds}
 use Rattle.cqs_cli.specs.AnySoles.{store_any}
 use Rattle.cqs_cli.specs.Lifted.{of_semaphore}
 use Rattle.cqs_cli.specs.SoleCore.{sole_core, store_core}
+use Rattle.cqs_cli.specs.SoleLatch.{store_latch}
 use Rattle.cqs_cli.specs.SolePool.{store_pool}
+use Rattle.cqs_cli.specs.SoleRounds.{store_rounds}
 use Rattle.cqs_cli.specs.SoleRunning.{sole_running, store_running}
 use Rattle.cqs_cli.specs.Soles.{Sole}
 use Rattle.cqs_cli.specs.Soles as permits
-use Rattle.cqs_cli.specs.Stores.{IsLawful, stands}
+use Rattle.cqs_cli.specs.Stores.{IsLawful, stands_in}
 use Rattle.cqs_cli.proofs.AmongStores.{IsAmong}
 use Rattle.cqs_cli.proofs.CoreSole as core
+use Rattle.cqs_cli.proofs.LatchSole.{latch-lawful}
 use Rattle.cqs_cli.proofs.Lifted.{lifted-lawful}
 use Rattle.cqs_cli.proofs.PoolSole.{pool-lawful}
+use Rattle.cqs_cli.proofs.RoundsLawful.{rounds-lawful}
 use Rattle.cqs_cli.proofs.RunningSole as running
 
 module _ {S : Type 0} (s : Sole S) where
@@ -25,8 +29,8 @@ module _ {S : Type 0} (s : Sole S) where
     history = λ x. refl;
     funds = λ x kind room waiting held funded. funded;
     funded = λ x kind room waiting held funded. funded;
-    had = λ x w has. has;
-    has = λ x w has. has;
+    had = λ x round w has. has;
+    has = λ x round w has. has;
   }
 
   pub pool-among : IsAmong store_pool (store_any s) Pool
@@ -34,8 +38,26 @@ module _ {S : Type 0} (s : Sole S) where
     history = λ x. refl;
     funds = λ x kind room waiting held funded. funded;
     funded = λ x kind room waiting held funded. funded;
-    had = λ x w has. has;
-    has = λ x w has. has;
+    had = λ x round w has. has;
+    has = λ x round w has. has;
+  }
+
+  pub latch-among : IsAmong store_latch (store_any s) Latch
+  latch-among = record {
+    history = λ x. refl;
+    funds = λ x kind room waiting held funded. funded;
+    funded = λ x kind room waiting held funded. funded;
+    had = λ x round w has. has;
+    has = λ x round w has. has;
+  }
+
+  pub rounds-among : IsAmong store_rounds (store_any s) Rounds
+  rounds-among = record {
+    history = λ x. refl;
+    funds = λ x kind room waiting held funded. funded;
+    funded = λ x kind room waiting held funded. funded;
+    had = λ x round w has. has;
+    has = λ x round w has. has;
   }
 
   pub any-lawful : permits.IsLawful s → IsLawful (store_any s)
@@ -46,14 +68,20 @@ module _ {S : Type 0} (s : Sole S) where
       legal (Permits x) kind room waiting held funded =
           (lifted-lawful s lawful).legal x kind room waiting held funded
       legal (Pool x) kind room waiting held funded = pool-lawful.legal x kind room waiting held funded
+      legal (Latch x) kind room waiting held funded = latch-lawful.legal x kind room waiting held funded
+      legal (Rounds x) kind room waiting held funded = rounds-lawful.legal x kind room waiting held funded
 
-      numbered : (x : AnySole S) (wait : Place) (kind : Option Kind) (room waiting : ℕ) (held : List (List ℕ))
-          → (store_any s).funded x kind room waiting held → (store_any s).has x wait
-          → wait.index < (stands (store_any s) kind x).next
-      numbered (Permits x) wait kind room waiting held funded has =
-          (lifted-lawful s lawful).numbered x wait kind room waiting held funded has
-      numbered (Pool x) wait kind room waiting held funded has =
-          pool-lawful.numbered x wait kind room waiting held funded has
+      numbered : (x : AnySole S) (round : ℕ) (wait : Place) (kind : Option Kind) (room waiting : ℕ)
+          (held : List (List ℕ)) → (store_any s).funded x kind room waiting held → (store_any s).has x round wait
+          → wait.index < (stands_in (store_any s) kind x round).next
+      numbered (Permits x) round wait kind room waiting held funded has =
+          (lifted-lawful s lawful).numbered x round wait kind room waiting held funded has
+      numbered (Pool x) round wait kind room waiting held funded has =
+          pool-lawful.numbered x round wait kind room waiting held funded has
+      numbered (Latch x) round wait kind room waiting held funded has =
+          latch-lawful.numbered x round wait kind room waiting held funded has
+      numbered (Rounds x) round wait kind room waiting held funded has =
+          rounds-lawful.numbered x round wait kind room waiting held funded has
 
 pub core-lawful : IsLawful store_core
 core-lawful = any-lawful sole_core core.core-lawful

@@ -1,5 +1,5 @@
--- Counting the takes of a plan, and opening its semaphores.
-use Rattle.std.proofs.Common.{◌≡◌, ◌≢◌, ◌⊎◌, inl, inr, ℕ, ◌+◌, ◌<◌, ◌≤◌, ◌==◌, Bool, false, List, [], ◌∷◌, ◌++◌, Some, length, map, take, set, get_or, slice_get, count_by, refl, ap, sym, ◌∙◌, arith}
+-- Counting the takes, waits and arrivals of a plan, and opening its resources.
+use Rattle.std.proofs.Common.{◌≡◌, ◌≢◌, ◌⊎◌, inl, inr, ℕ, ◌+◌, ◌<◌, ◌≤◌, ◌==◌, Bool, false, List, [], ◌∷◌, ◌++◌, Some, length, map, take, set, get_or, slice_get, count_by, refl, ap, sym, ◌∙◌, subst, arith}
 use Rattle.std.specs.Prelude.{slice_index}
 use Rattle.std.specs.List.{range_with_len}
 use Rattle.std.proofs.lemmas.Bool.{cases_eq, cases_lt}
@@ -18,18 +18,41 @@ use Rattle.cqs_plan.specs.declared.plans.plan.Plan.{Plan}
 use Rattle.cqs_plan.specs.declared.plans.resource.Resource.{Resource}
 use Rattle.cqs_plan.specs.declared.plans.step.Step.{Step}
 use Rattle.cqs_plan.specs.declared.plans.step.Step.TheVariants as step
-use Rattle.cqs_plan.specs.PlanSteps.{is_take}
+use Rattle.cqs_plan.specs.PlanSteps.{may_wait}
 use Rattle.cqs_plan.specs.Holding.{TookMore}
-use Rattle.cqs_plan.specs.Runnable.{IsRunnable, IsMakeable, kinds_of}
-use Rattle.cqs_cli.specs.Opening.{AreOpened, AreWithin, IsCountable, IsWithin, takes_of}
+use Rattle.cqs_plan.specs.Runnable.{IsRunnable, IsMakeable, kinds_of, round_after}
+use Rattle.cqs_cli.specs.Opening.{AreOpened, AreWithin, IsCountable, IsWithin, room_of}
 use Rattle.cqs_cli.specs.Stores.{Store, IsOpened}
-use Rattle.cqs_cli.proofs.Resources.{bit-same, bit-other, holdable-there}
+use Rattle.cqs_cli.proofs.Resources.{barrier-there, bit-same, bit-other, holdable-there, latch-there}
 
--- a take among the steps names one of the resources
+-- a step that may wait at a resource, and one that doesn't wait
+abbrev pub WaitsAt : Step → ℕ → Type 0
+WaitsAt s at = (s ≡ step.Take at) ⊎ ((s ≡ step.Await at) ⊎ (s ≡ step.Arrive at))
+
+abbrev pub GoesOn : Step → Type 0
+GoesOn s =
+    ((at : ℕ) × (s ≡ step.Give at)) ⊎ (((at : ℕ) × (s ≡ step.Down at)) ⊎ ((turns : ℕ) × (s ≡ step.Work turns)))
+
+waits-at : (s : Step) (at : ℕ) → WaitsAt s at → (a : ℕ) → may_wait a s ≡ (at == a)
+waits-at s at (inl is) a = ap (may_wait a) is
+waits-at s at (inr (inl is)) a = ap (may_wait a) is
+waits-at s at (inr (inr is)) a = ap (may_wait a) is
+
+waits-nowhere : (s : Step) → GoesOn s → (a : ℕ) → may_wait a s ≡ false
+waits-nowhere s (inl (at, is)) a = ap (may_wait a) is
+waits-nowhere s (inr (inl (at, is))) a = ap (may_wait a) is
+waits-nowhere s (inr (inr (turns, is))) a = ap (may_wait a) is
+
+-- a step that may wait names one of the resources
 pub within-at : (n : ℕ) (steps : List Step) (i at : ℕ) → AreWithin n steps → i < length steps
-    → get_or steps i (step.Take 0) ≡ step.Take at → at < n
-within-at n steps i at within below is =
-    within.at i (step.Take at) (slice_get-get_or steps i (step.Take 0) below ∙ ap Some is)
+    → WaitsAt (get_or steps i (step.Take 0)) at → at < n
+within-at n steps i at within below waits =
+    go waits (within.at i _ (slice_get-get_or steps i (step.Take 0) below))
+  where
+    go : WaitsAt (get_or steps i (step.Take 0)) at → IsWithin n (get_or steps i (step.Take 0)) → at < n
+    go (inl is) inside = subst (IsWithin n) is inside
+    go (inr (inl is)) inside = subst (IsWithin n) is inside
+    go (inr (inr is)) inside = subst (IsWithin n) is inside
 
 -- one more element is counted
 pub count-more : {X : Type 0} (p : X → Bool) (xs : List X) (i : ℕ) (d : X) → i < length xs
@@ -37,23 +60,24 @@ pub count-more : {X : Type 0} (p : X → Bool) (xs : List X) (i : ℕ) (d : X) �
 count-more p xs i d below =
     ap (count_by p) (take_more xs i d below) ∙ sum_by_push (λ x. bit (p x)) (take i xs) (get_or xs i d)
 
--- so many takes are counted, of each resource, after the first steps
+-- so many are counted, of each resource, after the first steps
 abbrev pub Counted : List ℕ → List ℕ → List Step → Type 0
-Counted first now steps = (at : ℕ) → get_or now at 0 ≡ get_or first at 0 + count_by (is_take at) steps
+Counted first now steps = (at : ℕ) → get_or now at 0 ≡ get_or first at 0 + count_by (may_wait at) steps
 
--- a step that takes is counted at its resource
-pub counted-take : (first now : List ℕ) (steps : List Step) (i at : ℕ) → i < length steps → at < length now
-    → get_or steps i (step.Take 0) ≡ step.Take at → Counted first now (take i steps)
-    → Counted first (set now at (get_or now at 0 + 1)) (take (i + 1) steps)
-counted-take first now steps i at below place is counted a = go (cases_eq a at)
+-- a step that may wait is counted at its resource
+pub counted-step : (first now : List ℕ) (steps : List Step) (i at : ℕ) → i < length steps
+    → at < length now → WaitsAt (get_or steps i (step.Take 0)) at
+    → Counted first now (take i steps) → Counted first (set now at (get_or now at 0 + 1)) (take (i + 1) steps)
+counted-step first now steps i at below place waits counted a = go (cases_eq a at)
   where
-    more : count_by (is_take a) (take (i + 1) steps) ≡ count_by (is_take a) (take i steps) + bit (at == a)
-    more = count-more (is_take a) steps i (step.Take 0) below
-        ∙ ap (λ s. count_by (is_take a) (take i steps) + bit (is_take a s)) is
+    more : count_by (may_wait a) (take (i + 1) steps) ≡ count_by (may_wait a) (take i steps) + bit (at == a)
+    more = count-more (may_wait a) steps i (step.Take 0) below
+        ∙ ap (λ b. count_by (may_wait a) (take i steps) + bit b)
+        (waits-at (get_or steps i (step.Take 0)) at waits a)
 
     go : (a ≡ at) ⊎ (a ≢ at)
         → get_or (set now at (get_or now at 0 + 1)) a 0
-        ≡ get_or first a 0 + count_by (is_take a) (take (i + 1) steps)
+        ≡ get_or first a 0 + count_by (may_wait a) (take (i + 1) steps)
     go (inl same) =
         let one : bit (at == a) ≡ 1 = ap (λ n. bit (at == n)) same ∙ bit-same at in
         let written : get_or (set now at (get_or now at 0 + 1)) a 0 ≡ get_or now a 0 + 1 =
@@ -64,43 +88,35 @@ counted-take first now steps i at below place is counted a = go (cases_eq a at)
         let none : bit (at == a) ≡ 0 = bit-other at a (λ e. other (sym e)) in
         omega (arith, get_or-set_other now at a (get_or now at 0 + 1) 0 other, counted a, more, none)
 
-no-take : (a : ℕ) (s : Step) → ((at : ℕ) → s ≡ step.Take at → ⊥) → is_take a s ≡ false
-no-take a (step.Take at) other = absurd (other at refl)
-no-take a (step.Give at) other = refl
-no-take a (step.Down at) other = refl
-no-take a (step.Await at) other = refl
-no-take a (step.Arrive at) other = refl
-no-take a (step.Work turns) other = refl
-
 -- another step counts nothing
 pub counted-else : (first now : List ℕ) (steps : List Step) (i : ℕ) → i < length steps
-    → ((at : ℕ) → get_or steps i (step.Take 0) ≡ step.Take at → ⊥) → Counted first now (take i steps)
+    → GoesOn (get_or steps i (step.Take 0)) → Counted first now (take i steps)
     → Counted first now (take (i + 1) steps)
 counted-else first now steps i below other counted a =
-    let none : bit (is_take a (get_or steps i (step.Take 0))) ≡ 0 =
-    ap bit (no-take a (get_or steps i (step.Take 0)) other) in
-    omega (arith, counted a, count-more (is_take a) steps i (step.Take 0) below, none)
+    let none : bit (may_wait a (get_or steps i (step.Take 0))) ≡ 0 =
+    ap bit (waits-nowhere (get_or steps i (step.Take 0)) other a) in
+    omega (arith, counted a, count-more (may_wait a) steps i (step.Take 0) below, none)
 
 -- one more job is counted
-pub takes-more : (jobs : List Job) (i : ℕ) (job : Job) (at : ℕ) → i < length jobs → job ≡ get_or jobs i job
-    → takes_of (take (i + 1) jobs) at ≡ takes_of (take i jobs) at + count_by (is_take at) job.steps
-takes-more jobs i job at below is =
-    ap (λ js. takes_of js at) (take_more jobs i job below)
-    ∙ sum_by_push (λ (j : Job). count_by (is_take at) j.steps) (take i jobs) (get_or jobs i job)
-    ∙ ap (λ (j : Job). takes_of (take i jobs) at + count_by (is_take at) j.steps) (sym is)
+pub room-more : (jobs : List Job) (i : ℕ) (job : Job) (at : ℕ) → i < length jobs → job ≡ get_or jobs i job
+    → room_of (take (i + 1) jobs) at ≡ room_of (take i jobs) at + count_by (may_wait at) job.steps
+room-more jobs i job at below is =
+    ap (λ js. room_of js at) (take_more jobs i job below)
+    ∙ sum_by_push (λ (j : Job). count_by (may_wait at) j.steps) (take i jobs) (get_or jobs i job)
+    ∙ ap (λ (j : Job). room_of (take i jobs) at + count_by (may_wait at) j.steps) (sym is)
 
 -- what was counted place by place is the list of the counts
 pub counts-all : (room : List ℕ) (jobs : List Job) (n i : ℕ) → length room ≡ n → i ≡ length jobs
-    → ((at : ℕ) → get_or room at 0 ≡ takes_of (take i jobs) at)
-    → room ≡ map (takes_of jobs) (range_with_len 0 n)
+    → ((at : ℕ) → get_or room at 0 ≡ room_of (take i jobs) at)
+    → room ≡ map (room_of jobs) (range_with_len 0 n)
 counts-all room jobs n i long all counts =
-    same_number_lists room (map (takes_of jobs) (range_with_len 0 n))
-    (long ∙ sym (length-map-range_with_len (takes_of jobs) 0 n))
+    same_number_lists room (map (room_of jobs) (range_with_len 0 n))
+    (long ∙ sym (length-map-range_with_len (room_of jobs) 0 n))
     (λ k below. counts k ∙ whole k
-    ∙ sym (get_or-map-range_with_len (takes_of jobs) 0 n k k 0 (omega arith) (omega arith)))
+    ∙ sym (get_or-map-range_with_len (room_of jobs) 0 n k k 0 (omega arith) (omega arith)))
   where
-    whole : (k : ℕ) → takes_of (take i jobs) k ≡ takes_of jobs k
-    whole k = ap (λ m. takes_of (take m jobs) k) all ∙ ap (λ js. takes_of js k) (take-length jobs)
+    whole : (k : ℕ) → room_of (take i jobs) k ≡ room_of jobs k
+    whole k = ap (λ m. room_of (take m jobs) k) all ∙ ap (λ js. room_of js k) (take-length jobs)
 
 -- a semaphore for one more resource
 pub opened-push : {X : Type 0} (s : Store X) (resources : List Resource) (room : List ℕ) (soles : List X)
@@ -150,7 +166,8 @@ runnable-countable plan runnable = record {
           length-map plan.resources (λ (r : Resource). r.kind),
         )
 
-    within : (s : Step) (earlier : List Step) → IsMakeable (kinds_of plan.resources) (TookMore earlier) s
+    within : (s : Step) (earlier : List Step)
+        → IsMakeable (kinds_of plan.resources) (TookMore earlier) (round_after earlier) s
         → IsWithin (length plan.resources) s
     within (step.Take at) earlier makeable =
         let is = holdable-there (slice_get (kinds_of plan.resources) at) makeable in
@@ -158,5 +175,9 @@ runnable-countable plan runnable = record {
     within (step.Give at) earlier makeable = tt
     within (step.Work turns) earlier makeable = tt
     within (step.Down at) earlier makeable = tt
-    within (step.Await at) earlier makeable = tt
-    within (step.Arrive at) earlier makeable = tt
+    within (step.Await at) earlier makeable =
+        let is = latch-there (slice_get (kinds_of plan.resources) at) makeable in
+        place-below at is.0 is.1
+    within (step.Arrive at) earlier makeable =
+        let is = barrier-there (slice_get (kinds_of plan.resources) at) (round_after earlier at) makeable in
+        place-below at is.0 is.1

@@ -1,24 +1,23 @@
 -- How a resource stands, as what it is kept as tells it.
-use Rattle.std.proofs.Common.{◌≡◌, ℕ, length, Option, slice_get, set, ap, sym, ◌∙◌, subst}
+use Rattle.std.proofs.Common.{◌≡◌, ℕ, IsSome, Option, slice_get, set, ap, sym, ◌∙◌, subst}
 use Rattle.std.specs.Prelude.{slice_index}
 use Rattle.cqs_plan.specs.declared.plans.kind.Kind.{Kind}
 use Rattle.cqs_plan.specs.declared.floors.answers.FloorEnd.{FloorEnd}
-use Rattle.cqs_plan.specs.declared.floors.answers.FloorEnd.TheVariants.{Permits}
-use Rattle.cqs_plan.specs.FloorHistory.{Standing}
-use Rattle.cqs_plan.specs.Floor.{PlainFloor, IsHoldable}
+use Rattle.cqs_plan.specs.FloorHistory.{ending}
+use Rattle.cqs_plan.specs.Floor.{PlainFloor, size_of}
 use Rattle.cqs_plan.specs.FloorCalls.{end_answer}
 use Rattle.cqs_cli.specs.DeskCalls.{CanEndAt, Ends}
 use Rattle.cqs_cli.specs.Kept.{IsKept, held_at, waiting_at}
 use Rattle.cqs_cli.specs.Ledger.{Ledger, holds_in, plain_floor, with_soles}
-use Rattle.cqs_cli.specs.Stores.{Store, Rests, stands}
+use Rattle.cqs_cli.specs.Stores.{Store, Rests}
 use Rattle.cqs_cli.proofs.Looks.{kept-same, plain-same}
-use Rattle.cqs_cli.proofs.Resources.{Funds, funds-at, holdable-there, standing-there}
+use Rattle.cqs_cli.proofs.Resources.{Funds, funds-at, history-there, some-there}
 
 module _ {X : Type 0} (s : Store X) where
-  can-end : (l : Ledger X) (at : ℕ) → IsKept s l → IsHoldable (slice_get l.kinds at) → CanEndAt s l at
-  can-end l at kept holdable =
-      let is = holdable-there (slice_get l.kinds at) holdable in
-      let funds : Funds s l at = funds-at s l at kept holdable in
+  can-end : (l : Ledger X) (at : ℕ) → IsKept s l → IsSome (slice_get l.kinds at) → CanEndAt s l at
+  can-end l at kept some =
+      let is = some-there (slice_get l.kinds at) some in
+      let funds : Funds s l at = funds-at s l at kept is in
       record {
         kind = is.0;
         is = is.1;
@@ -52,20 +51,20 @@ module _ {X : Type 0} (s : Store X) where
       = λ k. Rests s e.calls.sole k (slice_index l.room at) (waiting_at l.waits at) (held_at (holds_in l) at)
       e.calls.after in
       let rests = subst Resting (sym e.is) both.1 in
-      let told : Standing → FloorEnd = λ o. Permits o.free o.held (length o.line) in
       let is : n ≡ with_soles l (set l.soles at e.calls.after) = e.written ∙ ap (with_soles l) e.calls.soles in
       record {
-        answers = both.0 ∙ ap (λ k. told (stands s k e.calls.sole)) (sym e.is)
-            ∙ ap told (sym (standing-there s l at e.calls.sole e.calls.there));
+        answers = both.0 ∙ ap (λ k. ending (size_of k) (s.history e.calls.sole)) (sym e.is)
+            ∙ ap (ending (size_of (slice_get l.kinds at)))
+            (sym (history-there s l.soles at e.calls.sole e.calls.there));
         same = ap (plain_floor s) is ∙ plain-same s l at e.calls.sole e.calls.after kept e.calls.there rests;
         kept = subst (IsKept s) (sym is) (kept-same s l at e.calls.sole e.calls.after kept e.calls.there rests);
       }
 
   -- the same where the floor is seen as its plain floor
   pub end-can : (l : Ledger X) (f : PlainFloor) (at : ℕ) → plain_floor s l ≡ f → IsKept s l
-      → IsHoldable (slice_get f.kinds at) → CanEndAt s l at
+      → IsSome (slice_get f.kinds at) → CanEndAt s l at
   end-can l f at view kept =
-      let Allows : PlainFloor → Type 0 = λ g. IsHoldable (slice_get g.kinds at) → CanEndAt s l at in
+      let Allows : PlainFloor → Type 0 = λ g. IsSome (slice_get g.kinds at) → CanEndAt s l at in
       subst Allows view (can-end l at kept)
 
   pub end-floor : (l n : Ledger X) (f : PlainFloor) (at : ℕ) (answer : FloorEnd) → plain_floor s l ≡ f → IsKept s l

@@ -17,7 +17,7 @@ use Rattle.cqs_cli.specs.Stores.{Store, CanRelease, Goes, KeepsAll, held_by, wit
 use Rattle.cqs_cli.specs.Waits.{place_in}
 use Rattle.cqs_cli.proofs.Holdings.{held-gave, else-gave, held-there, many-gave, holds-transfer, oldest-elements, some-elements}
 use Rattle.cqs_cli.proofs.KeptNext.{funded-as, kept-next, stands-on, histories-next}
-use Rattle.cqs_cli.proofs.Resources.{Funds, funds-at, standing-there}
+use Rattle.cqs_cli.proofs.Resources.{Funds, funds-at, holdable-there, standing-there}
 
 -- what a plain give answers, where what is given goes to the first of the line
 sent-first : (line : List Waiting) (k : ℕ) → IsFirst k line → (held : Option Holding) (element : ℕ)
@@ -41,7 +41,7 @@ module _ {X : Type 0} (s : Store X) where
   can-give : (l : Ledger X) (at job : ℕ) → IsKept s l → IsHoldable (slice_get l.kinds at)
       → IsHolding (plain_floor s l) at job → HasAt l.soles at (CanRelease s job)
   can-give l at job kept holdable holding =
-      let funds : Funds s l at = funds-at s l at kept holdable in
+      let funds : Funds s l at = funds-at s l at kept (holdable-there (slice_get l.kinds at) holdable) in
       record {
         sole = funds.sole;
         there = funds.there;
@@ -50,6 +50,7 @@ module _ {X : Type 0} (s : Store X) where
           room = _;
           waiting = _;
           held = _;
+          holdable = holdable;
           funded = funds.funded;
           some = some-held l at job holding;
         };
@@ -73,7 +74,7 @@ module _ {X : Type 0} (s : Store X) where
         (sym (oldest-elements at (get_or (holds_in l) job []))
         ∙ ap (λ es. slice_get es 0) (sym (held-there (holds_in l) at job)) ∙ first)
 
-    module _ (deed : Deed) (goes : Goes s sole deed (slice_get l.kinds at) (slice_index l.room at)
+    module _ (deed : Deed) (goes : Goes s sole 0 deed (slice_get l.kinds at) (slice_index l.room at)
         (waiting_at l.waits at) (with_less (held_at (holds_in l) at) job) after) where
       -- what is kept, wherever it went
       kept-given : KeepsAll s sole after → IsKept s given
@@ -86,8 +87,8 @@ module _ {X : Type 0} (s : Store X) where
         room = λ i other. refl;
         waiting = λ i other. refl;
         held = λ i other. ap (λ hs. held_at hs i) transferred ∙ else-gave (holds_in l) job at i (λ e. other (sym e));
-        waits = λ j wait got. stands-on s l.soles at sole after wait there (λ same has. keeps (place_in wait) has)
-            (kept.waits j wait got);
+        waits = λ j wait got. stands-on s l.soles at sole after wait there
+            (λ same has. keeps wait.round (place_in wait) has) (kept.waits j wait got);
         apart = kept.apart;
         spare = omega (arith, kept.spare, many);
       })
@@ -102,7 +103,7 @@ module _ {X : Type 0} (s : Store X) where
 
       plain-given : plain_floor s given ≡ without_oldest (with_done (plain_floor s l) at deed) job at
       plain-given =
-          let histories = histories-next s l.soles at sole after (size_of (slice_get l.kinds at)) deed there
+          let histories = histories-next s l.soles at sole after (size_of (slice_get l.kinds at)) 0 deed there
           goes.done in
           rw (histories, transferred) refl
 

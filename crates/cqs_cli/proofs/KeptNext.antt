@@ -7,7 +7,8 @@ use Rattle.cqs_core.specs.Numbered.{EachAt}
 use Rattle.cqs_core.proofs.EachAtLemmas.{EachAt-write}
 use Rattle.cqs_core.proofs.Places.{get-set_here, get-set_else}
 use Rattle.cqs_plan.specs.declared.plans.kind.Kind.{Kind}
-use Rattle.cqs_plan.specs.FloorHistory.{History, of_permits, Deed, with_deed}
+use Rattle.cqs_plan.specs.Validity.{IsKind}
+use Rattle.cqs_plan.specs.FloorHistory.{History, of_permits, Deed, with_deed_in}
 use Rattle.cqs_cli.specs.declared.floors.waits.Wait.{Wait}
 use Rattle.cqs_cli.specs.Kept.{IsKept, IsFundedAt, StandsIn, AreApart, waiting_at, held_at, transfers_to_come}
 use Rattle.cqs_cli.specs.Ledger.{Ledger, holds_in}
@@ -43,6 +44,7 @@ module _ {X : Type 0} (s : Store X) where
     soles = ap (λ (xs : List X). length xs) f.soles ∙ length-set l.soles at after ∙ kept.soles
         ∙ ap (λ (ks : List Kind). length ks) (sym f.kinds);
     rooms = f.rooms ∙ kept.rooms ∙ ap (λ (ks : List Kind). length ks) (sym f.kinds);
+    sized = subst (λ (ks : List Kind). EachAt (λ place kind. IsKind kind) ks) (sym f.kinds) kept.sized;
     funded = subst (λ (xs : List X). EachAt (IsFundedAt s n) xs) (sym f.soles)
         (EachAt-write (IsFundedAt s l) (IsFundedAt s n) l.soles at sole after f.there f.funded others kept.funded);
     waits = λ job wait got. subst (λ (xs : List X). StandsIn s xs wait) (sym f.soles) (f.waits job wait got);
@@ -58,7 +60,7 @@ module _ {X : Type 0} (s : Store X) where
 
   -- a wait stands on where it stands on in what made the call
   pub stands-on : (soles : List X) (at : ℕ) (sole after : X) (wait : Wait) → slice_get soles at ≡ Some sole
-      → (wait.at ≡ at → s.has sole (place_in wait) → s.has after (place_in wait))
+      → (wait.at ≡ at → s.has sole wait.round (place_in wait) → s.has after wait.round (place_in wait))
       → StandsIn s soles wait → StandsIn s (set soles at after) wait
   stands-on soles at sole after wait there on stands = go (cases_eq wait.at at)
     where
@@ -69,7 +71,7 @@ module _ {X : Type 0} (s : Store X) where
           record {
             sole = after;
             there = ap (slice_get (set soles at after)) same ∙ get-set_here soles at sole after there;
-            has = on same (subst (λ (x : X). s.has x (place_in wait)) here stands.has);
+            has = on same (subst (λ (x : X). s.has x wait.round (place_in wait)) here stands.has);
           }
       go (inr other) =
           record {
@@ -79,14 +81,15 @@ module _ {X : Type 0} (s : Store X) where
           }
 
   -- what happened to all, with more at one
-  pub histories-next : (soles : List X) (at : ℕ) (sole after : X) (size : ℕ) (deed : Deed)
-      → slice_get soles at ≡ Some sole → s.history after ≡ with_deed size (s.history sole) deed
+  pub histories-next : (soles : List X) (at : ℕ) (sole after : X) (size round : ℕ) (deed : Deed)
+      → slice_get soles at ≡ Some sole → s.history after ≡ with_deed_in size (s.history sole) round deed
       → map s.history (set soles at after)
-      ≡ set (map s.history soles) at (with_deed size (get_or (map s.history soles) at (of_permits [])) deed)
-  histories-next soles at sole after size deed there done =
+      ≡ set (map s.history soles) at
+      (with_deed_in size (get_or (map s.history soles) at (of_permits [])) round deed)
+  histories-next soles at sole after size round deed there done =
       map-set s.history soles at after
       ∙ ap (set (map s.history soles) at)
-      (done ∙ ap (λ h. with_deed size h deed) (sym (history-there s soles at sole there)))
+      (done ∙ ap (λ h. with_deed_in size h round deed) (sym (history-there s soles at sole there)))
 
   -- what happened to all, with nothing more
   pub histories-same : (soles : List X) (at : ℕ) (sole after : X) → slice_get soles at ≡ Some sole
@@ -97,3 +100,16 @@ module _ {X : Type 0} (s : Store X) where
       ap (λ (h : History). h ∷ map s.history soles) (same ∙ ap s.history (sym is))
   histories-same (x ∷ soles) (suc at) sole after there same =
       ap (λ hs. s.history x ∷ hs) (histories-same soles at sole after there same)
+
+module _ {X : Type 0} (s : Store X) where
+  -- the rounds in which jobs arrive next are no part of what is kept
+  pub kept-rounds : (l : Ledger X) (rounds : List (List ℕ)) → IsKept s l → IsKept s (record l { rounds = rounds })
+  kept-rounds l rounds kept = record {
+    soles = kept.soles;
+    rooms = kept.rooms;
+    sized = kept.sized;
+    funded = record { at = kept.funded.at };
+    waits = kept.waits;
+    apart = kept.apart;
+    spare = kept.spare;
+  }

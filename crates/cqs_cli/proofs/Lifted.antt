@@ -8,17 +8,18 @@ use Rattle.cqs_plan.specs.declared.plans.kind.Kind.{Kind}
 use Rattle.cqs_plan.specs.declared.plans.kind.Kind.TheVariants as kind
 use Rattle.cqs_plan.specs.declared.floors.answers.FloorEnd.TheVariants as end
 use Rattle.cqs_plan.specs.declared.floors.answers.FloorGive.TheVariants.{Free, Sent}
-use Rattle.cqs_plan.specs.declared.floors.answers.FloorLeave.TheVariants.{Gone, Late}
 use Rattle.cqs_plan.specs.FloorHistory.{of_permits}
 use Rattle.cqs_plan.specs.LegalFloor.{IsHistory}
 use Rattle.cqs_plan.specs.Floor.{size_of}
 use Rattle.cqs_rule.specs.declared.config.Place.{Place}
 use Rattle.cqs_cli.specs.declared.floors.sole.Stand.{Stand}
+use Rattle.cqs_cli.specs.declared.floors.sole_resource.Left.TheVariants as left
+use Rattle.cqs_cli.specs.declared.floors.sole_resource.Looked.TheVariants as looked
 use Rattle.cqs_cli.specs.declared.floors.sole_resource.Taken.TheVariants as taken
 use Rattle.cqs_cli.specs.Lifted.{ArePermits, HoldPermits, IsFundedFor, of_semaphore, total}
 use Rattle.cqs_cli.specs.Soles.{IsOfPermits, Sole}
 use Rattle.cqs_cli.specs.Soles as permits
-use Rattle.cqs_cli.specs.Stores.{Acquires, CanAcquire, CanEnd, CanRelease, CanTell, Cancels, IsLawful, IsOpened, Polls, Releases, Tells, held_by, with_less, with_more}
+use Rattle.cqs_cli.specs.Stores.{Acquires, CanAcquire, CanEnd, CanRelease, CanTell, Cancels, IsLawful, IsOpened, KeepsAll, KeepsOthers, Polls, Releases, Tells, held_by, is_holdable, with_less, with_more}
 
 -- what the jobs hold, counted and without numbers, after one more and after one less
 more-total : (held : List (List ℕ)) (job e : ℕ) → job < length held → total (with_more held job e) ≡ total held + 1
@@ -118,8 +119,8 @@ module _ {X : Type 0} (s : Sole X) where
   lifted-lawful lawful = record {
     legal = λ x kind room waiting held funded.
         legal x kind room waiting held funded.sort (lawful.legal x (Some kind) room waiting (total held) funded.funded);
-    numbered = λ x wait kind room waiting held funded has.
-        lawful.numbered x wait kind room waiting (total held) funded.funded has;
+    numbered = λ x round wait kind room waiting held funded has.
+        lawful.numbered x wait kind room waiting (total held) funded.funded has.1;
   }
     where
       legal : (x : X) (kind : Kind) (room waiting : ℕ) (held : List (List ℕ)) → IsOfPermits (Some kind)
@@ -151,15 +152,16 @@ module _ {X : Type 0} (s : Sole X) where
     some = some-total can.held job can.some;
   }
 
-  pub end-lifted : (job : ℕ) (wait : Place) (x : X) → CanEnd (of_semaphore s) job wait x → permits.CanEnd s wait x
-  end-lifted job wait x can = record {
+  pub end-lifted : (job round : ℕ) (wait : Place) (x : X) → CanEnd (of_semaphore s) job round wait x
+      → permits.CanEnd s wait x
+  end-lifted job round wait x can = record {
     kind = can.kind;
     room = can.room;
     waiting = can.waiting;
     held = total can.held;
     funded = can.funded.funded;
     some = can.some;
-    has = can.has;
+    has = can.has.1;
   }
 
   pub stand-lifted : (kind : Kind) (x : X) → CanTell (of_semaphore s) kind x → permits.CanStand s x
@@ -167,6 +169,24 @@ module _ {X : Type 0} (s : Sole X) where
     Some kind,
     record { room = can.room; waiting = can.waiting; held = total can.held; funded = can.funded.funded },
   )
+
+  -- permits can be held
+  holdable-permits : (kind : Option Kind) → IsOfPermits kind → is_holdable kind ≡ true
+  holdable-permits (Some (kind.Semaphore n)) sort = refl
+  holdable-permits (Some kind.Mutex) sort = refl
+  holdable-permits (Some (kind.Pool n)) sort = absurd sort
+  holdable-permits (Some (kind.Latch n)) sort = absurd sort
+  holdable-permits (Some (kind.Rounds n m)) sort = absurd sort
+  holdable-permits None sort = absurd sort
+
+  -- the waits that it has on are those of the first round
+  keeps-lifted : (x y : X) → permits.KeepsAll s x y → KeepsAll (of_semaphore s) x y
+  keeps-lifted x y keeps = λ round wait has. (has.0, keeps wait has.1)
+
+  others-lifted : (x y : X) (round k : ℕ) → round ≡ 0 → permits.KeepsOthers s x k y
+      → KeepsOthers (of_semaphore s) x round k y
+  others-lifted x y round k first keeps = λ r wait differs has.
+      (has.0, keeps wait (differs (has.0 ∙ sym first)) has.1)
 
   -- the jobs have one more permit
   funded-more : (y : X) (kind : Option Kind) (room waiting : ℕ) (held : List (List ℕ)) (job : ℕ)
@@ -190,7 +210,7 @@ module _ {X : Type 0} (s : Sole X) where
             done = ap of_permits m.goes.appended;
             funded = funded-more y kind (room - 1) waiting held job there funded.sort funded.permits m.goes.funded;
           };
-          keeps = m.keeps;
+          keeps = keeps-lifted x y m.keeps;
         }
 
     pub waits-lifted : (wait : Place) → permits.Acquires s x (Some wait) y
@@ -199,13 +219,15 @@ module _ {X : Type 0} (s : Sole X) where
         let m = made kind room waiting (total held) funded.funded some in
         record {
           none = m.none;
-          number = m.number;
-          goes = record {
-            done = ap of_permits m.goes.appended;
-            funded = record { sort = funded.sort; permits = funded.permits; funded = m.goes.funded };
+          joins = record {
+            number = m.number;
+            goes = record {
+              done = ap of_permits m.goes.appended;
+              funded = record { sort = funded.sort; permits = funded.permits; funded = m.goes.funded };
+            };
+            has = (refl, m.has);
+            keeps = keeps-lifted x y m.keeps;
           };
-          has = m.has;
-          keeps = m.keeps;
         }
 
     -- the jobs have one permit less
@@ -228,7 +250,7 @@ module _ {X : Type 0} (s : Sole X) where
               done = ap of_permits m.goes.appended;
               funded = funded-less kind room waiting held some funded.sort funded.permits m.goes.funded;
             };
-            keeps = m.keeps;
+            keeps = keeps-lifted x y m.keeps;
           },
         )
 
@@ -242,39 +264,44 @@ module _ {X : Type 0} (s : Sole X) where
               done = ap of_permits m.goes.appended;
               funded = funded-less kind room waiting held some funded.sort funded.permits m.goes.funded;
             };
-            keeps = m.keeps;
+            keeps = keeps-lifted x y m.keeps;
           },
         )
 
-    module _ (wait : Place) where
-      pub pends-lifted : permits.Polls s x wait false y → Polls (of_semaphore s) job x wait None y
+    -- the ends of a wait
+    module _ (round : ℕ) (wait : Place) where
+      pub pends-lifted : permits.Polls s x wait false y → Polls (of_semaphore s) job x round wait looked.Pending y
       pends-lifted made = λ kind room waiting held funded some there.
           let m = made kind room waiting (total held) funded.funded some in (
             m.found,
             record {
               same = ap of_permits (m.goes.appended ∙ append-nil (s.entries x));
               funded = record { sort = funded.sort; permits = funded.permits; funded = m.goes.funded };
-              keeps = m.keeps;
+              keeps = keeps-lifted x y m.keeps;
             },
           )
 
-      pub grants-lifted : permits.Polls s x wait true y → Polls (of_semaphore s) job x wait (Some 0) y
-      grants-lifted made = λ kind room waiting held funded some there.
-          let m = made kind room waiting (total held) funded.funded some in (
-            refl,
-            record {
+      pub grants-lifted : round ≡ 0 → permits.Polls s x wait true y
+          → Polls (of_semaphore s) job x round wait (looked.Got 0) y
+      grants-lifted first made = λ kind room waiting held funded some there.
+          let m = made kind room waiting (total held) funded.funded some in
+          record {
+            holdable = holdable-permits kind funded.sort;
+            came = refl;
+            ends = record {
               found = m.found;
               goes = record {
                 done = ap of_permits m.goes.appended;
                 funded = funded-more y kind room (waiting - 1) held job there funded.sort funded.permits
                     m.goes.funded;
               };
-              keeps = m.keeps;
-            },
-          )
+              keeps = others-lifted x y round wait.index first m.keeps;
+            };
+          }
 
-      pub leaves-lifted : permits.Cancels s x wait true y → Cancels (of_semaphore s) job x wait Gone y
-      leaves-lifted made = λ kind room waiting held funded some there.
+      pub leaves-lifted : round ≡ 0 → permits.Cancels s x wait true y
+          → Cancels (of_semaphore s) job x round wait left.Gone y
+      leaves-lifted first made = λ kind room waiting held funded some there.
           let m = made kind room waiting (total held) funded.funded some in
           record {
             found = m.found;
@@ -282,23 +309,26 @@ module _ {X : Type 0} (s : Sole X) where
               done = ap of_permits m.goes.appended;
               funded = record { sort = funded.sort; permits = funded.permits; funded = m.goes.funded };
             };
-            keeps = m.keeps;
+            keeps = others-lifted x y round wait.index first m.keeps;
           }
 
-      pub lates-lifted : permits.Cancels s x wait false y → Cancels (of_semaphore s) job x wait (Late 0) y
-      lates-lifted made = λ kind room waiting held funded some there.
-          let m = made kind room waiting (total held) funded.funded some in (
-            refl,
-            record {
+      pub lates-lifted : round ≡ 0 → permits.Cancels s x wait false y
+          → Cancels (of_semaphore s) job x round wait (left.Late 0) y
+      lates-lifted first made = λ kind room waiting held funded some there.
+          let m = made kind room waiting (total held) funded.funded some in
+          record {
+            holdable = holdable-permits kind funded.sort;
+            came = refl;
+            ends = record {
               found = m.found;
               goes = record {
                 done = ap of_permits m.goes.appended;
                 funded = funded-more y kind room (waiting - 1) held job there funded.sort funded.permits
                     m.goes.funded;
               };
-              keeps = m.keeps;
-            },
-          )
+              keeps = others-lifted x y round wait.index first m.keeps;
+            };
+          }
 
     pub tells-lifted : (kind : Kind) (stand : Stand) → permits.Tells s x stand y
         → Tells (of_semaphore s) kind x
@@ -313,6 +343,6 @@ module _ {X : Type 0} (s : Sole X) where
           record {
             same = ap of_permits (m.goes.appended ∙ append-nil (s.entries x));
             funded = record { sort = funded.sort; permits = funded.permits; funded = m.goes.funded };
-            keeps = m.keeps;
+            keeps = keeps-lifted x y m.keeps;
           },
         )

@@ -7,15 +7,18 @@ use Rattle.std.proofs.lemmas.List.Folds.{sum_by-replicate}
 use Rattle.std.proofs.lemmas.List.FromFn.{length-map-range_with_len}
 use Rattle.std.proofs.lemmas.Option.{slice_get-map}
 use Rattle.cqs_core.proofs.Places.{get-below, get-there}
+use Rattle.cqs_core.specs.Numbered.{EachAt}
+use Rattle.cqs_plan.specs.Validity.{IsKind}
+use Rattle.cqs_plan.specs.Runnable.{kinds_of}
 use Rattle.cqs_plan.specs.declared.plans.kind.Kind.{Kind}
 use Rattle.cqs_plan.specs.declared.plans.plan.Plan.{Plan}
 use Rattle.cqs_plan.specs.declared.plans.resource.Resource.{Resource}
 use Rattle.cqs_plan.specs.FloorHistory.{History, no_history}
-use Rattle.cqs_plan.specs.Floor.{Holding, opening_floor, takes_in}
+use Rattle.cqs_plan.specs.Floor.{Holding, opening_floor, room_for}
 use Rattle.cqs_cli.specs.declared.floors.waits.Wait.{Wait}
 use Rattle.cqs_cli.specs.Kept.{IsKept, IsFundedAt, held_at, is_wait_at, waiting_at}
 use Rattle.cqs_cli.specs.Ledger.{Ledger, holds_after, holds_in, job_wait, plain_floor}
-use Rattle.cqs_cli.specs.Opening.{IsOpening}
+use Rattle.cqs_cli.specs.Opening.{AreSized, IsOpening}
 use Rattle.cqs_cli.specs.Stores.{Store, IsOpened}
 use Rattle.cqs_cli.proofs.KeptNext.{funded-as}
 
@@ -41,6 +44,17 @@ held-none (suc jobs) at = ap (λ held. [] ∷ held) (held-none jobs at)
 many-none : (jobs : ℕ) → sum_by (λ (hs : List Holding). length hs) (replicate jobs []) ≡ 0
 many-none jobs = omega (arith, sum_by-replicate (λ (hs : List Holding). length hs) jobs [])
 
+-- the kinds of resources that are in their ranges are
+sized-at : (resources : List Resource)
+    → ((at : ℕ) (r : Resource) → slice_get resources at ≡ Some r → IsKind r.kind)
+    → (at : ℕ) (kind : Kind) → slice_get (kinds_of resources) at ≡ Some kind → IsKind kind
+sized-at [] each at kind got = absurd (cc)
+sized-at (r ∷ resources) each zero kind got =
+    let is : r.kind ≡ kind = cc in
+    subst IsKind is (each 0 r refl)
+sized-at (r ∷ resources) each (suc at) kind got =
+    sized-at resources (λ i q named. each (suc i) q named) at kind got
+
 module _ {X : Type 0} (s : Store X) (plan : Plan) (l : Ledger X) (o : IsOpening s plan l) where
   -- the ledger's lists, as they are made
   holds-none : holds_in l ≡ replicate (length plan.jobs) []
@@ -51,7 +65,7 @@ module _ {X : Type 0} (s : Store X) (plan : Plan) (l : Ledger X) (o : IsOpening 
 
   room-long : length l.room ≡ length plan.resources
   room-long =
-      ap (λ (ns : List ℕ). length ns) o.room ∙ length-map-range_with_len (takes_in plan) 0 (length plan.resources)
+      ap (λ (ns : List ℕ). length ns) o.room ∙ length-map-range_with_len (room_for plan) 0 (length plan.resources)
 
   kinds-long : length l.kinds ≡ length plan.resources
   kinds-long =
@@ -92,10 +106,12 @@ module _ {X : Type 0} (s : Store X) (plan : Plan) (l : Ledger X) (o : IsOpening 
       replicate-all (length plan.jobs) None (Some wait) job (ap (λ ws. slice_get ws job) (sym o.waits) ∙ got) in
       cc
 
-  pub kept-opened : IsKept s l
-  kept-opened = record {
+  pub kept-opened : AreSized plan.resources → IsKept s l
+  kept-opened sized = record {
     soles = o.long ∙ sym kinds-long;
     rooms = room-long ∙ sym kinds-long;
+    sized = subst (λ (ks : List Kind). EachAt (λ place kind. IsKind kind) ks) (sym o.kinds)
+        (record { at = λ place kind got. sized-at plan.resources sized.at place kind got });
     funded = record { at = funded-opened };
     waits = λ job wait got. absurd (no-wait job wait got);
     apart = record { same = λ i j v w one two same. absurd (no-wait i v one) };
@@ -112,7 +128,7 @@ module _ {X : Type 0} (s : Store X) (plan : Plan) (l : Ledger X) (o : IsOpening 
   plain-opened =
       let waits : map (option_map job_wait) l.waits ≡ replicate (length plan.jobs) None =
       ap (map (option_map job_wait)) o.waits ∙ map-none (length plan.jobs) in
-      rw (o.kinds, fresh plan.resources l.soles o.long opens-so, o.room, waits, holds-none) refl
+      rw (o.kinds, fresh plan.resources l.soles o.long opens-so, o.room, waits, holds-none, o.rounds) refl
     where
       opens-so : (at : ℕ) (x : X) (r : Resource) → slice_get l.soles at ≡ Some x → slice_get plan.resources at ≡ Some r
           → s.history x ≡ no_history r.kind

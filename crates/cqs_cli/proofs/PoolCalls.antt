@@ -1,5 +1,5 @@
 -- What the clauses of a pool's calls tell of a pass that is its only caller, and its first.
-use Rattle.std.proofs.Common.{◌≡◌, ℕ, true, [], ◌∷◌, ◌++◌, None, Ok, ap, sym, ◌∙◌}
+use Rattle.std.proofs.Common.{◌≡◌, ℕ, true, [], ◌∷◌, ◌++◌, None, Ok, ap, ◌∙◌}
 use Rattle.cqs_pool_object.specs.declared.entries.PoolEntry.{PoolEntry}
 use Rattle.cqs_pool_object.specs.declared.entries.PoolEntry.TheVariants as entry
 use Rattle.cqs_pool.specs.declared.answers.PoolLeft.TheVariants.{Cancelled, TooLate}
@@ -16,7 +16,6 @@ use Rattle.cqs_pool.proofs.AloneSteps.{only-kept}
 use Rattle.cqs_rule.specs.declared.queue.tokens.Wait.{Wait}
 use Rattle.cqs_rule.specs.declared.view.View.{View}
 use Rattle.cqs_rule.specs.Lists.{without}
-use Rattle.cqs_rule.specs.Views.{IsSame}
 use Rattle.cqs_rule.specs.Waits.{place_of}
 use Rattle.cqs_cli.proofs.PoolRests.{Comes, went}
 

@@ -13,7 +13,6 @@ use Rattle.cqs_core.proofs.Counts.{bit}
 use Rattle.cqs_core.proofs.Rising.{length-without}
 use Rattle.cqs_plan.specs.declared.floors.answers.FloorEnd.TheVariants.{Permits}
 use Rattle.cqs_plan.specs.declared.floors.answers.FloorGive.TheVariants.{Free, Sent}
-use Rattle.cqs_plan.specs.declared.floors.answers.FloorLeave.TheVariants.{Gone, Late}
 use Rattle.cqs_plan.specs.declared.plans.kind.Kind.{Kind}
 use Rattle.cqs_plan.specs.declared.plans.kind.Kind.TheVariants as kind
 use Rattle.cqs_plan.specs.Floor.{size_of}
@@ -42,10 +41,12 @@ use Rattle.cqs_rule.specs.Passes.{limit_of, pass_view}
 use Rattle.cqs_rule.proofs.Lists.{has_append, has_without, without_has}
 use Rattle.cqs_cli.specs.declared.floors.pool_sole.HeldElement.{HeldElement}
 use Rattle.cqs_cli.specs.declared.floors.pool_sole.PoolSole.{PoolSole}
+use Rattle.cqs_cli.specs.declared.floors.sole_resource.Left.TheVariants as left
+use Rattle.cqs_cli.specs.declared.floors.sole_resource.Looked.TheVariants as looked
 use Rattle.cqs_cli.specs.declared.floors.sole_resource.Taken.TheVariants as taken
 use Rattle.cqs_cli.specs.PoolEnds.{HasPlaced}
 use Rattle.cqs_cli.specs.SolePool.{IsFunded, IsPool, all_held, elements_held, is_news, news, store_pool}
-use Rattle.cqs_cli.specs.Stores.{Acquires, Cancels, IsLawful, IsOpened, Polls, Releases, Tells, held_by, is_in_line, stands, with_less, with_more}
+use Rattle.cqs_cli.specs.Stores.{Acquires, Cancels, IsLawful, IsOpened, KeepsOthers, Polls, Releases, Tells, held_by, is_holdable, is_in_line, stands, with_less, with_more}
 use Rattle.cqs_cli.specs.Waits.{WaitsAt}
 use Rattle.cqs_cli.proofs.PassRests.{has-append}
 use Rattle.cqs_cli.proofs.PoolNews.{news-legal, news-object}
@@ -65,9 +66,9 @@ pub pool-lawful : IsLawful store_pool
 pool-lawful = record {
   legal = λ x k room waiting held funded. legal x k funded.sort
       (news-legal (size_of (Some k)) (pass_view x.pass).seen (legal-seen x (Some k) funded.rests.size_is funded.mine));
-  numbered = λ x wait kind room waiting held funded has.
+  numbered = λ x round wait kind room waiting held funded has.
       subst (λ (o : plain.Pool). wait.index < o.next) (sym (seen-object x kind funded.rests.size_is))
-      (funded.rests.drawn wait.index has.open_yet);
+      (funded.rests.drawn wait.index has.1.open_yet);
 }
   where
     legal : (x : PoolSole) (k : Kind) → IsPool (Some k) → IsLegal (size_of (Some k)) (news (pass_view x.pass).seen)
@@ -77,6 +78,15 @@ pool-lawful = record {
     legal x kind.Mutex sort is = absurd sort
     legal x (kind.Latch n) sort is = absurd sort
     legal x (kind.Rounds n m) sort is = absurd sort
+
+-- elements can be held
+holdable-pool : (kind : Option Kind) → IsPool kind → is_holdable kind ≡ true
+holdable-pool (Some (kind.Pool n)) sort = refl
+holdable-pool (Some (kind.Semaphore n)) sort = absurd sort
+holdable-pool (Some kind.Mutex) sort = absurd sort
+holdable-pool (Some (kind.Latch n)) sort = absurd sort
+holdable-pool (Some (kind.Rounds n m)) sort = absurd sort
+holdable-pool None sort = absurd sort
 
 -- the first on the way, and the rest
 record Begins (e : ℕ) (way : List ℕ) : Type 0 where
@@ -252,11 +262,11 @@ module _ (x y : PoolSole) (mine : IsMine y.pool y.pass) (capacity : vec_capacity
               few_wait = omega (arith, line_same, funded.few_wait);
             };
           };
-          keeps = λ wait has. keeps-by (entries o.next) _ _ own wait has has.open_yet;
+          keeps = λ round wait has. (has.0, keeps-by (entries o.next) _ _ own wait has.1 has.1.open_yet);
         }
 
     -- The end of a wait that was served.
-    module _ (wait : Place) (line_same : y.line ≡ x.line) (free_same : y.free ≡ x.free) where
+    module _ (round : ℕ) (wait : Place) (line_same : y.line ≡ x.line) (free_same : y.free ≡ x.free) where
       abbrev number : ℕ
       number = wait.index
 
@@ -314,69 +324,80 @@ module _ (x y : PoolSole) (mine : IsMine y.pool y.pass) (capacity : vec_capacity
           still (inl none) = inl (way ∙ none)
           still (inr empty) = inr (line ∙ empty)
 
-      keeps-others : (entries : List PoolEntry) (slots : List ℕ)
-          → Comes v w entries slots (without number v.facts.waits)
-          → (other : Place) → other.index ≢ number → WaitsAt v other → WaitsAt w other
-      keeps-others entries slots c other differs has =
-          keeps-by entries slots _ c other has
-          (without_has other.index number v.facts.waits differs has.open_yet)
+      keeps-others : (entries : List PoolEntry) (slots : List ℕ) → round ≡ 0
+          → Comes v w entries slots (without number v.facts.waits) → KeepsOthers store_pool x round number y
+      keeps-others entries slots first c = λ r other differs has. (
+        has.0,
+        keeps-by entries slots _ c other has.1
+            (without_has other.index number v.facts.waits (differs (has.0 ∙ sym first)) has.1.open_yet),
+      )
 
-      pub pool-grants : ComesTo (entry.LookGranted 0 number e ∷ []) (e ∷ v.facts.has.slots)
-          (without number v.facts.waits)
+      pub pool-grants : round ≡ 0
+          → ComesTo (entry.LookGranted 0 number e ∷ []) (e ∷ v.facts.has.slots) (without number v.facts.waits)
           → (v.alone ≡ true → IsGiven number v.number e o.served)
           → (IsInHand e v.facts → ⊥)
-          → Polls store_pool job x wait (Some e) y
-      pool-grants comes given fresh = λ kind room waiting held funded some there.
+          → Polls store_pool job x round wait (looked.Got e) y
+      pool-grants first comes given fresh = λ kind room waiting held funded some there.
           let only = funded.rests.only in
           let c = comes only funded.rests.number in
-          let came = came-so kind room waiting held funded (given only.0) in (
-            came.1,
-            record {
+          let came = came-so kind room waiting held funded (given only.0) in
+          record {
+            holdable = holdable-pool kind funded.sort;
+            came = came.1;
+            ends = record {
               found = came.0;
               goes = record {
                 done = done-by kind (gets number e) (entry.LookGranted 0 number e ∷ []) _ _ funded.rests.size_is c refl;
                 funded = served-funded (entry.LookGranted 0 number e) kind room waiting held funded some there c
                     fresh refl refl refl refl;
               };
-              keeps = keeps-others (entry.LookGranted 0 number e ∷ []) _ c;
-            },
-          )
+              keeps = keeps-others (entry.LookGranted 0 number e ∷ []) _ first c;
+            };
+          }
 
-      pub pool-lates : ComesTo (entry.Late 0 number e ∷ []) (e ∷ v.facts.has.slots) (without number v.facts.waits)
+      pub pool-lates : round ≡ 0
+          → ComesTo (entry.Late 0 number e ∷ []) (e ∷ v.facts.has.slots) (without number v.facts.waits)
           → (v.alone ≡ true → IsGiven number v.number e o.served)
           → (IsInHand e v.facts → ⊥)
-          → Cancels store_pool job x wait (Late e) y
-      pool-lates comes given fresh = λ kind room waiting held funded some there.
+          → Cancels store_pool job x round wait (left.Late e) y
+      pool-lates first comes given fresh = λ kind room waiting held funded some there.
           let only = funded.rests.only in
           let c = comes only funded.rests.number in
-          let came = came-so kind room waiting held funded (given only.0) in (
-            came.1,
-            record {
+          let came = came-so kind room waiting held funded (given only.0) in
+          record {
+            holdable = holdable-pool kind funded.sort;
+            came = came.1;
+            ends = record {
               found = came.0;
               goes = record {
                 done = done-by kind (is_late number e) (entry.Late 0 number e ∷ []) _ _ funded.rests.size_is c refl;
                 funded = served-funded (entry.Late 0 number e) kind room waiting held funded some there c
                     fresh refl refl refl refl;
               };
-              keeps = keeps-others (entry.Late 0 number e ∷ []) _ c;
-            },
-          )
+              keeps = keeps-others (entry.Late 0 number e ∷ []) _ first c;
+            };
+          }
 
     -- The same, where the floor has the place of the wait by an equation.
-    module _ (wait at : Place) (is : wait ≡ at) (line_same : y.line ≡ x.line) (free_same : y.free ≡ x.free) where
-      pub pool-grants_at : ComesTo (entry.LookGranted 0 wait.index e ∷ []) (e ∷ v.facts.has.slots)
+    module _ (round : ℕ) (wait at : Place) (is : wait ≡ at) (line_same : y.line ≡ x.line)
+        (free_same : y.free ≡ x.free) where
+      pub pool-grants_at : round ≡ 0
+          → ComesTo (entry.LookGranted 0 wait.index e ∷ []) (e ∷ v.facts.has.slots)
           (without wait.index v.facts.waits)
           → (v.alone ≡ true → IsGiven wait.index v.number e o.served) → (IsInHand e v.facts → ⊥)
-          → Polls store_pool job x at (Some e) y
-      pool-grants_at comes given fresh =
-          subst (λ a. Polls store_pool job x a (Some e) y) is (pool-grants wait line_same free_same comes given fresh)
+          → Polls store_pool job x round at (looked.Got e) y
+      pool-grants_at first comes given fresh =
+          subst (λ a. Polls store_pool job x round a (looked.Got e) y) is
+          (pool-grants round wait line_same free_same first comes given fresh)
 
-      pub pool-lates_at : ComesTo (entry.Late 0 wait.index e ∷ []) (e ∷ v.facts.has.slots)
+      pub pool-lates_at : round ≡ 0
+          → ComesTo (entry.Late 0 wait.index e ∷ []) (e ∷ v.facts.has.slots)
           (without wait.index v.facts.waits)
           → (v.alone ≡ true → IsGiven wait.index v.number e o.served) → (IsInHand e v.facts → ⊥)
-          → Cancels store_pool job x at (Late e) y
-      pool-lates_at comes given fresh =
-          subst (λ a. Cancels store_pool job x a (Late e) y) is (pool-lates wait line_same free_same comes given fresh)
+          → Cancels store_pool job x round at (left.Late e) y
+      pool-lates_at first comes given fresh =
+          subst (λ a. Cancels store_pool job x round a (left.Late e) y) is
+          (pool-lates round wait line_same free_same first comes given fresh)
 
   -- the jobs hold what they held
   module _ (items : y.held.items ≡ x.held.items) where
@@ -415,36 +436,41 @@ module _ (x y : PoolSole) (mine : IsMine y.pool y.pass) (capacity : vec_capacity
         let next : (stands store_pool kind x).next ≡ o.next = ap (λ (p : plain.Pool). p.next) seen in
         record {
           none = ap (λ (p : plain.Pool). nat_lt 0 (length p.way)) seen ∙ ap (λ l. nat_lt 0 (length l)) none;
-          number = k_is ∙ sym next;
-          goes = record {
-            done = subst (λ n. store_pool.history y
-                ≡ of_elements (news v.seen
-                ++ element_entries (elements_after (size_of kind) (news v.seen)).next (joins n)))
-                (sym next)
-                (done-by kind (joins o.next) (entry.Enter 0 o.next ∷ []) _ _ size own refl);
-            funded = record {
-              sort = funded.sort;
-              mine = mine;
-              rests = rests-next v w (entry.Enter 0 o.next ∷ []) _ _ own (size_of kind) room (room - 1) funded.rests
-                  (inl none) (omega (arith, some))
-                  (λ j has. below j (has_append j v.facts.waits (o.next ∷ []) has) funded.rests.drawn);
-              here = here-same held funded.here;
-              hands = hands-same (entry.Enter 0 o.next ∷ []) _ own funded.hands;
-              spare = omega (arith, funded.spare, capacity, length-same, some);
-              free = omega (arith, free_same, funded.free, ap (λ (p : plain.Pool). length p.way) is);
-              line = omega (
-                arith,
-                line_more,
-                funded.line,
-                ap (λ (p : plain.Pool). length p.line) is,
-                length_push o.line (record { wait = o.next; pass = 0 }),
-              );
-              few_wait = omega (arith, line_more, funded.few_wait, some);
+          joins = record {
+            number = k_is ∙ sym next;
+            goes = record {
+              done = subst (λ n. store_pool.history y
+                  ≡ of_elements (news v.seen
+                  ++ element_entries (elements_after (size_of kind) (news v.seen)).next (joins n)))
+                  (sym next)
+                  (done-by kind (joins o.next) (entry.Enter 0 o.next ∷ []) _ _ size own refl);
+              funded = record {
+                sort = funded.sort;
+                mine = mine;
+                rests = rests-next v w (entry.Enter 0 o.next ∷ []) _ _ own (size_of kind) room (room - 1) funded.rests
+                    (inl none) (omega (arith, some))
+                    (λ j has. below j (has_append j v.facts.waits (o.next ∷ []) has) funded.rests.drawn);
+                here = here-same held funded.here;
+                hands = hands-same (entry.Enter 0 o.next ∷ []) _ own funded.hands;
+                spare = omega (arith, funded.spare, capacity, length-same, some);
+                free = omega (arith, free_same, funded.free, ap (λ (p : plain.Pool). length p.way) is);
+                line = omega (
+                  arith,
+                  line_more,
+                  funded.line,
+                  ap (λ (p : plain.Pool). length p.line) is,
+                  length_push o.line (record { wait = o.next; pass = 0 }),
+                );
+                few_wait = omega (arith, line_more, funded.few_wait, some);
+              };
             };
+            has = (refl, has_new);
+            keeps = λ round other has. (
+              has.0,
+              keeps-by (entry.Enter 0 o.next ∷ []) _ _ own other has.1
+                  (has-append other.index v.facts.waits (o.next ∷ []) has.1.open_yet),
+            );
           };
-          has = has_new;
-          keeps = λ other has. keeps-by (entry.Enter 0 o.next ∷ []) _ _ own other has
-              (has-append other.index v.facts.waits (o.next ∷ []) has.open_yet);
         }
       where
         below : (j : ℕ) → Has j v.facts.waits ⊎ Has j (o.next ∷ [])
@@ -454,12 +480,12 @@ module _ (x y : PoolSole) (mine : IsMine y.pool y.pass) (capacity : vec_capacity
         below j (inr (inr none)) drawn = absurd none
 
     -- A look that finds the wait in the line.
-    pub pool-pends : (job : ℕ) (wait : Place)
+    pub pool-pends : (job round : ℕ) (wait : Place)
         → ComesTo (entry.LookPending 0 wait.index ∷ []) v.facts.has.slots v.facts.waits
         → (v.alone ≡ true → Waits wait.index v.number o.line)
         → y.free ≡ x.free → y.line ≡ x.line
-        → Polls store_pool job x wait None y
-    pool-pends job wait comes stands_there free_same line_same = λ kind room waiting held funded some there.
+        → Polls store_pool job x round wait looked.Pending y
+    pool-pends job round wait comes stands_there free_same line_same = λ kind room waiting held funded some there.
         let only = funded.rests.only in
         let c = comes only funded.rests.number in
         let number = wait.index in
@@ -481,17 +507,21 @@ module _ (x y : PoolSole) (mine : IsMine y.pool y.pass) (capacity : vec_capacity
               line = omega (arith, line_same, funded.line, ap (λ (p : plain.Pool). length p.line) is);
               few_wait = omega (arith, line_same, funded.few_wait);
             };
-            keeps = λ other has. keeps-by (entry.LookPending 0 number ∷ []) _ _ c other has has.open_yet;
+            keeps = λ r other has. (
+              has.0,
+              keeps-by (entry.LookPending 0 number ∷ []) _ _ c other has.1 has.1.open_yet,
+            );
           },
         )
 
     -- A cancel that finds it there.
-    pub pool-leaves : (job : ℕ) (wait : Place)
+    pub pool-leaves : (job round : ℕ) (wait : Place) → round ≡ 0
         → ComesTo (entry.Leave 0 wait.index ∷ []) v.facts.has.slots (without wait.index v.facts.waits)
         → (v.alone ≡ true → Waits wait.index v.number o.line)
         → y.free ≡ x.free → y.line ≡ x.line - 1
-        → Cancels store_pool job x wait Gone y
-    pool-leaves job wait comes stands_there free_same line_less = λ kind room waiting held funded some there.
+        → Cancels store_pool job x round wait left.Gone y
+    pool-leaves job round wait first comes stands_there free_same line_less =
+        λ kind room waiting held funded some there.
         let only = funded.rests.only in
         let c = comes only funded.rests.number in
         let number = wait.index in
@@ -524,8 +554,11 @@ module _ (x y : PoolSole) (mine : IsMine y.pool y.pass) (capacity : vec_capacity
               few_wait = omega (arith, line_less, funded.few_wait);
             };
           };
-          keeps = λ other differs has. keeps-by (entry.Leave 0 number ∷ []) _ _ c other has
-              (without_has other.index number v.facts.waits differs has.open_yet);
+          keeps = λ r other differs has. (
+            has.0,
+            keeps-by (entry.Leave 0 number ∷ []) _ _ c other has.1
+                (without_has other.index number v.facts.waits (differs (has.0 ∙ sym first)) has.1.open_yet),
+          );
         }
       where
         still : (n : ℕ) → (o.way ≡ []) ⊎ (o.line ≡ [])
@@ -534,18 +567,21 @@ module _ (x y : PoolSole) (mine : IsMine y.pool y.pass) (capacity : vec_capacity
         still n (inr empty) = inr (rw empty refl)
 
     -- The same, where the floor has the place of the wait by an equation.
-    module _ (job : ℕ) (wait at : Place) (is : wait ≡ at) where
+    module _ (job round : ℕ) (wait at : Place) (is : wait ≡ at) where
       pub pool-pends_at : ComesTo (entry.LookPending 0 wait.index ∷ []) v.facts.has.slots v.facts.waits
           → (v.alone ≡ true → Waits wait.index v.number o.line) → y.free ≡ x.free → y.line ≡ x.line
-          → Polls store_pool job x at None y
+          → Polls store_pool job x round at looked.Pending y
       pool-pends_at comes there free line =
-          subst (λ a. Polls store_pool job x a None y) is (pool-pends job wait comes there free line)
+          subst (λ a. Polls store_pool job x round a looked.Pending y) is
+          (pool-pends job round wait comes there free line)
 
-      pub pool-leaves_at : ComesTo (entry.Leave 0 wait.index ∷ []) v.facts.has.slots (without wait.index v.facts.waits)
+      pub pool-leaves_at : round ≡ 0
+          → ComesTo (entry.Leave 0 wait.index ∷ []) v.facts.has.slots (without wait.index v.facts.waits)
           → (v.alone ≡ true → Waits wait.index v.number o.line) → y.free ≡ x.free → y.line ≡ x.line - 1
-          → Cancels store_pool job x at Gone y
-      pool-leaves_at comes there free line =
-          subst (λ a. Cancels store_pool job x a Gone y) is (pool-leaves job wait comes there free line)
+          → Cancels store_pool job x round at left.Gone y
+      pool-leaves_at first comes there free line =
+          subst (λ a. Cancels store_pool job x round a left.Gone y) is
+          (pool-leaves job round wait first comes there free line)
 
     pub pool-waits_at : (job : ℕ) (at wait : Place) → at ≡ wait
         → ComesTo (entry.Enter 0 wait.index ∷ []) v.facts.has.slots (v.facts.waits ++ wait.index ∷ [])
@@ -640,7 +676,7 @@ module _ (x y : PoolSole) (mine : IsMine y.pool y.pass) (capacity : vec_capacity
                 few_wait = omega (arith, line_same, funded.few_wait);
               };
             };
-            keeps = λ wait has. keeps-by (entry.Put 0 e ∷ []) _ _ c wait has has.open_yet;
+            keeps = λ round wait has. (has.0, keeps-by (entry.Put 0 e ∷ []) _ _ c wait has.1 has.1.open_yet);
           },
         )
 
@@ -698,7 +734,7 @@ module _ (x y : PoolSole) (mine : IsMine y.pool y.pass) (capacity : vec_capacity
                 few_wait = omega (arith, line_less, funded.few_wait);
               };
             };
-            keeps = λ wait has. keeps-by entries _ _ c wait has has.open_yet;
+            keeps = λ round wait has. (has.0, keeps-by entries _ _ c wait has.1 has.1.open_yet);
           },
         )
 
@@ -755,7 +791,7 @@ pool-tells x kind room waiting held funded =
           ∙ ap (λ n. Permits (length o.way) n x.line) rest
           ∙ ap (λ n. Permits (length o.way) (length o.held) n) funded.line
           ∙ ap (λ (p : plain.Pool). Permits (length p.way) (length p.held) (length p.line)) (sym seen),
-      record { same = refl; funded = funded; keeps = λ wait has. has },
+      record { same = refl; funded = funded; keeps = λ round wait has. has },
     )
 
 held-replicate : (jobs j : ℕ) → held_by (replicate jobs []) j ≡ []

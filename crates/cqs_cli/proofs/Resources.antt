@@ -1,16 +1,16 @@
 -- The resources of a ledger, and what each is kept as.
-use Rattle.std.proofs.Common.{◌≡◌, ◌≢◌, ℕ, zero, suc, ◌<◌, ◌==◌, List, [], ◌∷◌, Option, Some, None, length, map, get_or, slice_get, refl, ap, eq-eqb, ne_eqb, arith}
+use Rattle.std.proofs.Common.{◌≡◌, ◌≢◌, ℕ, zero, suc, ◌<◌, ◌==◌, List, [], ◌∷◌, Option, Some, None, IsSome, length, map, get_or, slice_get, refl, ap, eq-eqb, ne_eqb, arith}
 use Rattle.std.specs.Option.{option_map}
 use Rattle.std.proofs.lemmas.List.{length-map}
 use Rattle.cqs_core.proofs.Counts.{bit}
 use Rattle.cqs_core.proofs.Places.{get-below, get-there}
 use Rattle.cqs_plan.specs.declared.plans.kind.Kind.{Kind}
-use Rattle.cqs_plan.specs.Floor.{IsHoldable, IsJob, size_of, standing_at}
-use Rattle.cqs_plan.specs.FloorHistory.{of_permits, standing}
+use Rattle.cqs_plan.specs.Floor.{HasRound, IsHoldable, IsJob, IsLatch, size_of, standing_at, stands_in as stands_at, to_come_at}
+use Rattle.cqs_plan.specs.FloorHistory.{of_permits, standing_in, to_come}
 use Rattle.cqs_cli.specs.declared.floors.waits.Wait.{Wait}
 use Rattle.cqs_cli.specs.Kept.{IsKept, IsFundedAt}
 use Rattle.cqs_cli.specs.Ledger.{Ledger, job_wait, plain_floor}
-use Rattle.cqs_cli.specs.Stores.{Store, stands}
+use Rattle.cqs_cli.specs.Stores.{Store, comes_in, stands, stands_in}
 
 pub bit-same : (n : ℕ) → bit (n == n) ≡ 1
 bit-same n = ap bit (eq-eqb n n refl)
@@ -18,10 +18,25 @@ bit-same n = ap bit (eq-eqb n n refl)
 pub bit-other : (n m : ℕ) → n ≢ m → bit (n == m) ≡ 0
 bit-other n m other = ap bit (ne_eqb n m other)
 
--- what can be held is there
-pub holdable-there : (k : Option Kind) → IsHoldable k → (there : Kind) × (k ≡ Some there)
+-- a resource is there: one that can be held, a latch, or a barrier
+abbrev pub IsThere : Option Kind → Type 0
+IsThere k = (there : Kind) × (k ≡ Some there)
+
+pub holdable-there : (k : Option Kind) → IsHoldable k → IsThere k
 holdable-there None holdable = absurd holdable
 holdable-there (Some there) holdable = (there, refl)
+
+pub latch-there : (k : Option Kind) → IsLatch k → IsThere k
+latch-there None latch = absurd latch
+latch-there (Some there) latch = (there, refl)
+
+pub barrier-there : (k : Option Kind) (round : ℕ) → HasRound k round → IsThere k
+barrier-there None round barrier = absurd barrier
+barrier-there (Some there) round barrier = (there, refl)
+
+pub some-there : (k : Option Kind) → IsSome k → IsThere k
+some-there None some = absurd (cc)
+some-there (Some there) some = (there, refl)
 
 module _ {X : Type 0} (s : Store X) where
   -- what a resource is kept as, with its funds
@@ -30,9 +45,8 @@ module _ {X : Type 0} (s : Store X) where
     pub there : slice_get l.soles at ≡ Some sole
     pub funded : IsFundedAt s l at sole
 
-  pub funds-at : (l : Ledger X) (at : ℕ) → IsKept s l → IsHoldable (slice_get l.kinds at) → Funds l at
-  funds-at l at kept holdable =
-      let is = holdable-there (slice_get l.kinds at) holdable in
+  pub funds-at : (l : Ledger X) (at : ℕ) → IsKept s l → IsThere (slice_get l.kinds at) → Funds l at
+  funds-at l at kept is =
       let below : at < length l.soles = omega (arith, get-below l.kinds at is.0 is.1, kept.soles) in
       let there = get-there l.soles at below in
       record { sole = there.0; there = there.1; funded = kept.funded.at at there.0 there.1 }
@@ -44,15 +58,24 @@ module _ {X : Type 0} (s : Store X) where
   history-there (x ∷ soles) (suc at) sole there = history-there soles at sole there
 
   -- a resource stands as what it is kept as does
+  pub stands-there : (l : Ledger X) (at : ℕ) (sole : X) (round : ℕ) → slice_get l.soles at ≡ Some sole
+      → stands_at (plain_floor s l) at round ≡ stands_in s (slice_get l.kinds at) sole round
+  stands-there l at sole round there =
+      ap (λ h. standing_in (size_of (slice_get l.kinds at)) h round) (history-there l.soles at sole there)
+
   pub standing-there : (l : Ledger X) (at : ℕ) (sole : X) → slice_get l.soles at ≡ Some sole
       → standing_at (plain_floor s l) at ≡ stands s (slice_get l.kinds at) sole
-  standing-there l at sole there =
-      ap (standing (size_of (slice_get l.kinds at))) (history-there l.soles at sole there)
+  standing-there l at sole there = stands-there l at sole 0 there
 
-  -- the place of a resource that can be held
-  pub place-room : (l : Ledger X) (at : ℕ) → IsKept s l → IsHoldable (slice_get l.kinds at) → at < length l.room
-  place-room l at kept holdable =
-      let is = holdable-there (slice_get l.kinds at) holdable in
+  -- and as much is still to come there
+  pub comes-there : (l : Ledger X) (at : ℕ) (sole : X) (round : ℕ) → slice_get l.soles at ≡ Some sole
+      → to_come_at (plain_floor s l) at round ≡ comes_in s (slice_get l.kinds at) sole round
+  comes-there l at sole round there =
+      ap (λ h. to_come (size_of (slice_get l.kinds at)) h round) (history-there l.soles at sole there)
+
+  -- the place of a resource
+  pub place-room : (l : Ledger X) (at : ℕ) → IsKept s l → IsThere (slice_get l.kinds at) → at < length l.room
+  place-room l at kept is =
       omega (arith, get-below l.kinds at is.0 is.1, kept.rooms)
 
   -- a job is one of the ledger's, and waits there as it does on the plain floor

@@ -27,6 +27,15 @@ alone-at : (x : AnySole RunningSole) (kind : Option Kind) (room waiting : ℕ) (
     → store_running.funded x kind room waiting held → IsAloneAt kind x
 alone-at (any.Permits x) kind room waiting held funded = funded-alone x kind room waiting _ funded.funded
 alone-at (any.Pool x) kind room waiting held funded = (funded.sort, funded.mine, funded.rests.only.0)
+alone-at (any.Latch x) kind room waiting held funded = (funded.sort, funded.mine, funded.rests.alone)
+alone-at (any.Rounds x) kind room waiting held funded = (
+  funded.sort,
+  record {
+    at = λ round r got.
+        let one = funded.each.at round r got in
+        record { mine = one.mine; alone = one.rests.alone };
+  },
+)
 
 pub has-run : (plan : Plan) (l : Ledger (AnySole RunningSole)) → IsKept store_running l
     → plain_floor store_running l ≡ floor_after plan → IsLegalFor plan (plain_floor store_running l)

@@ -1,5 +1,5 @@
 -- What a resource is on the running queue, a semaphore or a mutex, is a semaphore as a floor needs it.
-use Rattle.std.proofs.Common.{◌≡◌, ℕ, ◌<◌, Option, refl}
+use Rattle.std.proofs.Common.{ℕ, ◌<◌, Option, refl}
 use Rattle.cqs_plan.specs.declared.plans.kind.Kind.{Kind}
 use Rattle.cqs_plan.specs.Floor.{size_of}
 use Rattle.cqs_core.specs.SemaphoreEntries.{IsLegal}

@@ -1,5 +1,6 @@
--- The wait of a job is over: it looked at what came, left the line, or was too late to leave.
-use Rattle.std.proofs.Common.{◌≡◌, ◌≢◌, ◌⊎◌, inl, inr, ℕ, ◌+◌, ◌-◌, ◌<◌, ◌==◌, [], ◌∷◌, ◌++◌, Some, None, is_some, length, map, set, get_or, slice_get, sum_by, count_by, refl, ap, ap₂, sym, ◌∙◌, length-set, arith, Option}
+-- The wait of a job is over: it looked at what came, left the line, or was too late to leave. What came is held, and
+-- nothing comes of a latch or a barrier.
+use Rattle.std.proofs.Common.{◌≡◌, ◌≢◌, ◌⊎◌, inl, inr, ℕ, ◌+◌, ◌-◌, ◌<◌, ◌==◌, [], ◌∷◌, ◌++◌, Some, None, is_some, length, map, set, get_or, slice_get, sum_by, count_by, refl, ap, sym, ◌∙◌, length-set, arith, Option}
 use Rattle.std.specs.Prelude.{slice_index}
 use Rattle.std.specs.Option.{option_map}
 use Rattle.std.proofs.lemmas.Bool.{cases_eq}
@@ -8,7 +9,7 @@ use Rattle.std.proofs.lemmas.Option.{get_or_from_slice_get}
 use Rattle.cqs_plan.specs.declared.plans.kind.Kind.{Kind}
 use Rattle.cqs_core.proofs.Counts.{bit}
 use Rattle.cqs_core.proofs.Places.{get-set_here, get-set_else, get-below}
-use Rattle.cqs_plan.specs.FloorHistory.{Deed, of_permits, with_deed}
+use Rattle.cqs_plan.specs.FloorHistory.{Deed, of_permits, with_deed_in}
 use Rattle.cqs_plan.specs.Floor.{JobWait, size_of}
 use Rattle.cqs_cli.specs.declared.floors.transfers.Transfer.TheVariants.{Got}
 use Rattle.cqs_cli.specs.declared.floors.waits.Wait.{Wait}
@@ -32,7 +33,7 @@ module _ {X : Type 0} (s : Store X) (l : Ledger X) (job : ℕ) (wait : Wait) (ke
   -- a wait that is left is another job's, and another one
   record IsAnother (j : ℕ) (w : Wait) : Type 0 where
     stands : slice_get l.waits j ≡ Some (Some w)
-    number : w.at ≡ wait.at → w.index ≢ wait.index
+    number : w.at ≡ wait.at → w.round ≡ wait.round → w.index ≢ wait.index
 
   another : (j : ℕ) (w : Wait) → slice_get (set l.waits job None) j ≡ Some (Some w) → IsAnother j w
   another j w got = go (cases_eq j job)
@@ -48,9 +49,10 @@ module _ {X : Type 0} (s : Store X) (l : Ledger X) (job : ℕ) (wait : Wait) (ke
           sym (get-set_else l.waits job j None (λ e. other (sym e))) ∙ got in
           record {
             stands = stands;
-            number = λ at number.
-                let wait_from : ℕ → ℕ → JobWait = λ a n. record { at = a; number = n } in
-                other (kept.apart.same j job w wait stands has (ap₂ wait_from at number));
+            number = λ at round number.
+                let same : job_wait w ≡ job_wait wait
+                = (λ i. record { at = at i; round = round i; number = number i }) in
+                other (kept.apart.same j job w wait stands has same);
           }
 
   apart : AreApart (set l.waits job None)
@@ -81,7 +83,7 @@ module _ {X : Type 0} (s : Store X) (l : Ledger X) (job : ℕ) (wait : Wait) (ke
 
   -- a call of the semaphore of that wait
   module _ (sole after : X) (there : slice_get l.soles wait.at ≡ Some sole)
-      (keeps : KeepsOthers s sole (wait.index) after) where
+      (keeps : KeepsOthers s sole wait.round wait.index after) where
     abbrev kind : Option Kind
     kind = slice_get l.kinds wait.at
 
@@ -90,10 +92,10 @@ module _ {X : Type 0} (s : Store X) (l : Ledger X) (job : ℕ) (wait : Wait) (ke
         → StandsIn s (set l.soles wait.at after) w
     stand-on j w got =
         let other = another j w got in
-        stands-on s l.soles wait.at sole after w there (λ same stands. keeps (place_in w) (other.number same) stands)
-        (kept.waits j w other.stands)
+        stands-on s l.soles wait.at sole after w there
+        (λ same stands. keeps w.round (place_in w) (other.number same) stands) (kept.waits j w other.stands)
 
-    -- the job left the line
+    -- the job left the line, or only goes on
     abbrev pub gone : Ledger X
     gone = with_soles (with_wait l job None) (set l.soles wait.at after)
 
@@ -101,7 +103,7 @@ module _ {X : Type 0} (s : Store X) (l : Ledger X) (job : ℕ) (wait : Wait) (ke
     gone-holds = ap (λ n. holds_after n l.transfers) (length-set l.waits job None)
 
     pub kept-gone : (deed : Deed)
-        → Goes s sole deed kind (slice_index l.room wait.at) (waiting_at l.waits wait.at - 1)
+        → Goes s sole wait.round deed kind (slice_index l.room wait.at) (waiting_at l.waits wait.at - 1)
         (held_at (holds_in l) wait.at) after
         → IsKept s gone
     kept-gone deed goes = kept-next s l gone wait.at sole after kept (record {
@@ -135,7 +137,7 @@ module _ {X : Type 0} (s : Store X) (l : Ledger X) (job : ℕ) (wait : Wait) (ke
           ∙ holds-transfer (length l.waits) l.transfers (Got job wait.at element)
 
       pub kept-came : (deed : Deed) → job < length (holds_in l)
-          → Goes s sole deed kind (slice_index l.room wait.at) (waiting_at l.waits wait.at - 1)
+          → Goes s sole wait.round deed kind (slice_index l.room wait.at) (waiting_at l.waits wait.at - 1)
           (with_more (held_at (holds_in l) wait.at) job element) after
           → IsKept s came_to
       kept-came deed holder goes = kept-next s l came_to wait.at sole after kept (record {
@@ -160,26 +162,26 @@ module _ {X : Type 0} (s : Store X) (l : Ledger X) (job : ℕ) (wait : Wait) (ke
           many = ap (λ hss. sum_by (λ hs. length hs) hss) came-holds
               ∙ many-got (holds_in l) job wait.at element holder
 
-      pub plain-came : (deed : Deed) → s.history after ≡ with_deed (size_of kind) (s.history sole) deed
+      pub plain-came : (deed : Deed) → s.history after ≡ with_deed_in (size_of kind) (s.history sole) wait.round deed
           → plain_floor s came_to ≡ record (plain_floor s l) {
             histories = set (map s.history l.soles) wait.at
-                (with_deed (size_of kind) (get_or (map s.history l.soles) wait.at (of_permits [])) deed);
+                (with_deed_in (size_of kind) (get_or (map s.history l.soles) wait.at (of_permits [])) wait.round deed);
             waits = set (map (option_map job_wait) l.waits) job None;
             holds = after_transfer (holds_in l) (Got job wait.at element);
           }
       plain-came deed done =
-          let histories = histories-next s l.soles wait.at sole after (size_of kind) deed there done in
+          let histories = histories-next s l.soles wait.at sole after (size_of kind) wait.round deed there done in
           let waits = map-set (option_map job_wait) l.waits job None in
           rw (histories, waits, came-holds) refl
 
     -- the plain floor where the job left
-    pub plain-gone : (deed : Deed) → s.history after ≡ with_deed (size_of kind) (s.history sole) deed
+    pub plain-gone : (deed : Deed) → s.history after ≡ with_deed_in (size_of kind) (s.history sole) wait.round deed
         → plain_floor s gone ≡ record (plain_floor s l) {
           histories = set (map s.history l.soles) wait.at
-              (with_deed (size_of kind) (get_or (map s.history l.soles) wait.at (of_permits [])) deed);
+              (with_deed_in (size_of kind) (get_or (map s.history l.soles) wait.at (of_permits [])) wait.round deed);
           waits = set (map (option_map job_wait) l.waits) job None;
         }
     plain-gone deed done =
-        let histories = histories-next s l.soles wait.at sole after (size_of kind) deed there done in
+        let histories = histories-next s l.soles wait.at sole after (size_of kind) wait.round deed there done in
         let waits = map-set (option_map job_wait) l.waits job None in
         rw (histories, waits, gone-holds) refl

@@ -2,6 +2,7 @@
 use Rattle.std.specs.Prelude.{◌≡◌, ℕ, ◌+◌, ◌*◌, ◌≤◌, ◌==◌, Bool, false, List, [], ◌∷◌, length, map, Option, Some, None, is_some, if◌then◌else◌, sum, sum_by, count_by, slice_get, slice_index}
 use Rattle.cqs_core.specs.Numbered.{EachAt}
 use Rattle.cqs_plan.specs.Floor.{Holding}
+use Rattle.cqs_plan.specs.Validity.{IsKind}
 use Rattle.cqs_cli.specs.declared.floors.waits.Wait.{Wait}
 use Rattle.cqs_cli.specs.Ledger.{Ledger, holds_in, job_wait}
 use Rattle.cqs_cli.specs.Stores.{Store}
@@ -25,8 +26,8 @@ is_wait_at at None = false
 abbrev pub waiting_at : List (Option Wait) → ℕ → ℕ
 waiting_at waits at = count_by (is_wait_at at) waits
 
--- how many transfers may still come: two of each take, two of each wait,
--- and one of each permit or element held
+-- how many transfers may still come: two of each take, two of each wait, and one of each permit or
+-- element held; a wait at a latch and an arrival count as a take
 abbrev pub transfers_to_come : {X : Type 0} → Ledger X → ℕ
 transfers_to_come l =
     2 * sum l.room + 2 * count_by (λ wait. is_some wait) l.waits
@@ -42,7 +43,7 @@ module _ {X : Type 0} (s : Store X) where
   pub record StandsIn (soles : List X) (wait : Wait) : Type 0 where
     pub sole : X
     pub there : slice_get soles wait.at ≡ Some sole
-    pub has : s.has sole (place_in wait)
+    pub has : s.has sole wait.round (place_in wait)
 
   -- What is kept at a place stands for its resource, has room for all that can still come of what
   -- the ledger counts there, and for each job what the ledger has.
@@ -54,6 +55,7 @@ module _ {X : Type 0} (s : Store X) where
   pub record IsKept (l : Ledger X) : Type 0 where
     pub soles : length l.soles ≡ length l.kinds
     pub rooms : length l.room ≡ length l.kinds
+    pub sized : EachAt (λ at kind. IsKind kind) l.kinds
     pub funded : EachAt (IsFundedAt l) l.soles
     pub waits : (job : ℕ) (wait : Wait) → slice_get l.waits job ≡ Some (Some wait)
         → StandsIn l.soles wait

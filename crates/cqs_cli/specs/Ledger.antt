@@ -1,5 +1,5 @@
 -- What a floor keeps, and the plain floor that it stands for.
-use Rattle.std.specs.Prelude.{ℕ, ◌-◌, List, [], ◌∷◌, ◌++◌, Option, Some, None, length, map, replicate, slice_index, slice_index_or, slice_set}
+use Rattle.std.specs.Prelude.{ℕ, ◌+◌, ◌-◌, List, [], ◌∷◌, ◌++◌, Option, Some, None, length, map, replicate, slice_index, slice_index_or, slice_set}
 use Rattle.std.specs.Option.{option_map}
 use Rattle.std.specs.List.{fold}
 use Rattle.cqs_core.specs.Keyed.{without}
@@ -17,10 +17,12 @@ pub record Ledger (X : Type 0) : Type 0 where
   pub kinds : List Kind
   -- what each resource is kept as
   pub soles : List X
-  -- for each resource how many takes it has room for
+  -- for each resource for how many takes, waits and arrivals it has room
   pub room : List ℕ
   -- for each job its wait
   pub waits : List (Option Wait)
+  -- for each job how often it arrived at each resource
+  pub rounds : List (List ℕ)
   -- what the jobs got and gave back, oldest first
   pub transfers : List Transfer
   -- for how many further transfers there is memory
@@ -39,7 +41,18 @@ holds_after jobs transfers = fold after_transfer (replicate jobs []) transfers
 
 -- the wait of a job, as the plain floor has it
 abbrev pub job_wait : Wait → JobWait
-job_wait wait = record { at = wait.at; number = wait.index }
+job_wait wait = record { at = wait.at; round = wait.round; number = wait.index }
+
+-- how often a job arrived, at each resource and at one; and once more
+abbrev pub own_rounds : List (List ℕ) → ℕ → List ℕ
+own_rounds rounds job = slice_index_or rounds job []
+
+abbrev pub own_round : List (List ℕ) → ℕ → ℕ → ℕ
+own_round rounds job at = slice_index_or (own_rounds rounds job) at 0
+
+abbrev pub with_arrival : List (List ℕ) → ℕ → ℕ → List (List ℕ)
+with_arrival rounds job at =
+    slice_set rounds job (slice_set (own_rounds rounds job) at (own_round rounds job at + 1))
 
 module _ {X : Type 0} where
   abbrev pub wait_at : Ledger X → ℕ → Option Wait
@@ -57,6 +70,7 @@ module _ {X : Type 0} where
     room = l.room;
     waits = map (option_map job_wait) l.waits;
     holds = holds_in l;
+    rounds = l.rounds;
   }
 
   -- a ledger with these resources
@@ -71,7 +85,18 @@ module _ {X : Type 0} where
   abbrev pub with_wait : Ledger X → ℕ → Option Wait → Ledger X
   with_wait l job wait = record l { waits = slice_set l.waits job wait }
 
-  -- one take less has room
+  -- in which round a job arrives next, of each resource and of one
+  abbrev pub rounds_of : Ledger X → ℕ → List ℕ
+  rounds_of l job = own_rounds l.rounds job
+
+  abbrev pub round_in : Ledger X → ℕ → ℕ → ℕ
+  round_in l job at = own_round l.rounds job at
+
+  -- the job arrived at a resource once more
+  abbrev pub with_arrived : Ledger X → ℕ → ℕ → Ledger X
+  with_arrived l job at = record l { rounds = with_arrival l.rounds job at }
+
+  -- one take, wait or arrival less has room
   abbrev pub with_less_room : Ledger X → ℕ → Ledger X
   with_less_room l at = record l { room = slice_set l.room at (slice_index l.room at - 1) }
 
@@ -79,8 +104,9 @@ module _ {X : Type 0} where
   abbrev pub with_taken : Ledger X → ℕ → ℕ → ℕ → Ledger X
   with_taken l at job element = with_transfer (with_less_room l at) (Got job at element)
 
-  abbrev pub with_waiting : Ledger X → ℕ → ℕ → Place → Ledger X
-  with_waiting l at job place = with_wait (with_less_room l at) job (Some (wait_for at place))
+  abbrev pub with_waiting : Ledger X → ℕ → ℕ → ℕ → Place → Ledger X
+  with_waiting l at job round place =
+      with_wait (with_less_room l at) job (Some (wait_for at round place))
 
   -- the wait of a job is over, and it has what came
   abbrev pub with_grant : Ledger X → ℕ → ℕ → ℕ → Ledger X

@@ -30,5 +30,5 @@ module _ {X : Type 0} (s : Sole X) where
   of_semaphore = record {
     history = λ x. of_permits (s.entries x);
     funded = IsFundedFor;
-    has = s.has;
+    has = λ x round wait. (round ≡ 0) × s.has x wait;
   }

@@ -85,5 +85,5 @@ abbrev pub store_pool : Store PoolSole
 store_pool = record {
   history = λ x. of_elements (news (pass_view x.pass).seen);
   funded = IsFunded;
-  has = λ x wait. WaitsAt (pass_view x.pass) wait;
+  has = λ x round wait. (round ≡ 0) × WaitsAt (pass_view x.pass) wait;
 }

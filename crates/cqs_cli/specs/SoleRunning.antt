@@ -1,16 +1,19 @@
 -- A resource of the running queue, as a floor sees it: a semaphore, or a mutex.
-use Rattle.std.specs.Prelude.{◌≡◌, ℕ, true, List, Option}
+use Rattle.std.specs.Prelude.{◌≡◌, ℕ, true, List, Option, length}
 use Rattle.cqs_core.specs.declared.entries.Entry.{Entry}
 use Rattle.cqs_plan.specs.declared.plans.kind.Kind.{Kind}
 use Rattle.cqs_rule.specs.declared.config.Place.{Place}
 use Rattle.cqs_rule.specs.Passes.{pass_view}
 use Rattle.cqs_cli.specs.declared.floors.running_sole.RunningSole.{RunningSole}
 use Rattle.cqs_cli.specs.declared.floors.running_sole.RunningSole.TheVariants.{Semaphore, Mutex}
+use Rattle.cqs_plan.specs.Floor.{IsLatch}
+use Rattle.cqs_latch.specs.Calls.{IsMine as IsMineLatch}
 use Rattle.cqs_pool.specs.Calls.{IsMine}
 use Rattle.cqs_cli.specs.declared.floors.any_sole.AnySole.{AnySole}
 use Rattle.cqs_cli.specs.declared.floors.any_sole.AnySole.TheVariants as any
 use Rattle.cqs_cli.specs.AnySoles.{store_any}
 use Rattle.cqs_cli.specs.SolePool.{IsPool}
+use Rattle.cqs_cli.specs.SoleRounds.{AreAlone, IsOfRounds}
 use Rattle.cqs_cli.specs.Soles.{Sole}
 use Rattle.cqs_cli.specs.Stores.{Store}
 use Rattle.cqs_cli.specs.SoleQueue.{IsMutex, IsSemaphore, mutex_pass, semaphore_pass, sole_mutex, sole_queue}
@@ -40,7 +43,8 @@ abbrev pub store_running : Store (AnySole RunningSole)
 store_running = store_any sole_running
 
 -- It is what a resource of this kind is on the running queue, and has one pass, which is its own: a
--- semaphore for a semaphore, for a mutex a mutex, and for a pool a pool.
+-- semaphore for a semaphore, for a mutex a mutex, for a pool a pool, for a latch a latch, and for a
+-- barrier one for each of its rounds.
 abbrev pub IsAlone : Option Kind → RunningSole → Type 0
 IsAlone kind (Semaphore x) =
     IsSemaphore kind × semaphore_pass.mine x × ((pass_view x.pass).alone ≡ true)
@@ -50,3 +54,7 @@ abbrev pub IsAloneAt : Option Kind → AnySole RunningSole → Type 0
 IsAloneAt kind (any.Permits x) = IsAlone kind x
 IsAloneAt kind (any.Pool x) =
     IsPool kind × IsMine x.pool x.pass × ((pass_view x.pass).alone ≡ true)
+IsAloneAt kind (any.Latch x) =
+    IsLatch kind × IsMineLatch x.latch x.pass × ((pass_view x.pass).alone ≡ true)
+IsAloneAt kind (any.Rounds x) =
+    IsOfRounds kind (length x.rounds.items) × AreAlone x.rounds.items

@@ -10,9 +10,10 @@ use Rattle.cqs_cli.specs.declared.floors.waits.Wait.{Wait}
 abbrev pub place_in : Wait → Place
 place_in w = record { word = w.word; index = w.index }
 
--- the wait for a resource whose cell stands there
-abbrev pub wait_for : ℕ → Place → Wait
-wait_for at place = record { at = at; word = place.word; index = place.index }
+-- the wait for a resource, in this round, whose cell stands there
+abbrev pub wait_for : ℕ → ℕ → Place → Wait
+wait_for at round place =
+    record { at = at; round = round; word = place.word; index = place.index }
 
 -- The pass has the wait of this place: it is one of its own that isn't closed, and it knows that
 -- the cell stands there.

@@ -2,7 +2,7 @@
 
 ghost use Rattle.std.specs.Prelude.{◌≡◌, IfOk, OnErr, OnOk};
 ghost use Rattle.cqs_plan.specs.LegalFloor.{IsLegalFor};
-ghost use Rattle.cqs_plan.specs.Runnable.{AreBuilt, IsRunnable};
+ghost use Rattle.cqs_plan.specs.Runnable.{AreSized, IsRunnable};
 ghost use Rattle.cqs_turns.specs.Report.{report_of};
 ghost use Rattle.cqs_cli.specs.KeptRuns.{KeepsRun, KeepsWith};
 ghost use Rattle.cqs_cli.specs.Plans.{floor_after};
@@ -50,7 +50,7 @@ fn answer(alloc: Global, bytes: &[u8], kept: &mut Kept) -> Result<Verdict, Memor
 /// which is kept.
 fn report_of(alloc: Global, plan: &Plan, kept: &mut Kept) -> Result<Vec<u8>, Memory>
     requires runnable { IsRunnable plan.now }
-    requires built { AreBuilt plan.now.resources }
+    requires sized { AreSized plan.now.resources }
     ensures reported { IfOk result (λ text. text.items ≡ report_of plan.now) }
     ensures legal { OnOk result (IsLegalFor plan.now (floor_after plan.now)) }
     ensures keeps { OnOk result (KeepsRun plan.now kept.new) }

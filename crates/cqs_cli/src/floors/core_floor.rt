@@ -1,19 +1,20 @@
-//! A floor on one runnable core for each semaphore and mutex, and a pool for each pool.
+//! A floor on one runnable core for each semaphore and mutex, and on the running queue for all
+//! else.
 
 ghost use Rattle.std.specs.Prelude.{◌≡◌, IfOk};
 ghost use Rattle.cqs_plan.specs.Floor.{opening_floor};
 ghost use Rattle.cqs_plan.specs.Runnable.{IsRunnable};
-ghost use Rattle.cqs_cli.specs.Opening.{AreBuilt};
+ghost use Rattle.cqs_plan.specs.Runnable.{AreSized};
 
 use super::any_sole::AnySole;
 use super::desk::Desk;
 use cqs_core::{Core, Memory};
-use cqs_plan::{Floor, FloorEnd, FloorGive, FloorLeave, FloorLook, FloorTake, Plan};
+use cqs_plan::{Floor, FloorDown, FloorEnd, FloorGive, FloorLeave, FloorLook, FloorTake, Plan};
 use std::alloc::Global;
 use std::marker::Model;
 
-/// A floor for plans that have semaphores, mutexes and pools: a semaphore is a core with one pass,
-/// a mutex is one of one permit, and a pool is one of the running queue.
+/// A floor for plans: a semaphore is a core with one pass, a mutex is one of one permit, and a
+/// pool, a latch or a barrier is one of the running queue.
 ///
 /// Contracts see its plain floor. Its cores have room for all the calls that its
 /// plan's takes can lead to.
@@ -37,10 +38,10 @@ impl Model for CoreFloor {
 }
 
 impl CoreFloor {
-    /// A floor on which nothing has happened, with room for the plan's takes.
+    /// A floor on which nothing has happened, with room for all that the plan's jobs do.
     pub fn new(alloc: Global, plan: &Plan) -> Result<Self, Memory>
         requires runnable { IsRunnable plan.now }
-        requires built { AreBuilt plan.now.resources }
+        requires sized { AreSized plan.now.resources }
         ensures { IfOk result (λ floor. floor ≡ opening_floor plan.now) }
     {
         let desk = Desk::new(alloc, plan)?;
@@ -57,6 +58,18 @@ impl Floor for CoreFloor {
 
     fn give(&mut self, at: u32, job: u32) -> FloorGive {
         self.desk.give(at, job)
+    }
+
+    fn down(&mut self, at: u32) -> FloorDown {
+        self.desk.down(at)
+    }
+
+    fn wait(&mut self, at: u32, job: u32) -> FloorTake {
+        self.desk.wait(at, job)
+    }
+
+    fn arrive(&mut self, at: u32, job: u32) -> FloorTake {
+        self.desk.arrive(at, job)
     }
 
     fn look(&mut self, job: u32) -> FloorLook {

@@ -11,10 +11,13 @@
 //! first. A wait is kept twice: the machine reads the one in the job's progress, to tell its line,
 //! and the floor the one in `waits`, to ask its resource.
 
-ghost use Rattle.std.specs.Prelude.{◌≡◌, ◌<◌, Some, length, slice_index};
+ghost use Rattle.std.specs.Prelude.{◌≡◌, ◌<◌, Some, length, map, slice_index};
 ghost use Rattle.cqs_cli.specs.DeskCalls.{
+  Awaits,
   CanEndAt,
   CanEndWait,
+  Comes,
+  Downs,
   Ends,
   Gives,
   HasAt,
@@ -22,29 +25,37 @@ ghost use Rattle.cqs_cli.specs.DeskCalls.{
   Looks,
   Takes,
 };
-ghost use Rattle.cqs_cli.specs.Ledger.{wait_at};
-ghost use Rattle.cqs_cli.specs.Stores.{CanAcquire, CanEnd, CanRelease};
+ghost use Rattle.cqs_cli.specs.Ledger.{own_round, own_rounds, round_in, rounds_of, wait_at, with_arrival};
+ghost use Rattle.cqs_cli.specs.Stores.{
+  CanAcquire,
+  CanArrive,
+  CanCount,
+  CanEnd,
+  CanRelease,
+  CanWait,
+};
 ghost use Rattle.cqs_cli.specs.Waits.{place_in};
 
-use super::sole_resource::{SoleResource, Taken};
+use super::sole_resource::{Left, Looked, SoleResource, Taken};
 use super::transfers::Transfer;
 use super::waits::Wait;
-use cqs_plan::{FloorEnd, FloorGive, FloorLeave, FloorLook, FloorTake, Kind};
+use cqs_plan::{FloorDown, FloorEnd, FloorGive, FloorLeave, FloorLook, FloorTake, Kind};
 use std::marker::Model;
 
-/// For each resource what it is, what it is kept as, and its room; for each job its wait; and what
-/// the jobs got and gave back.
+/// For each resource what it is, what it is kept as, and its room; for each job its wait, and how
+/// often it arrived at each resource; and what the jobs got and gave back.
 #[derive(Drop)]
 pub struct Desk<S: SoleResource> {
     pub kinds: Vec<Kind>,
     pub soles: Vec<S>,
     pub room: Vec<u32>,
     pub waits: Vec<Option<Wait>>,
+    pub rounds: Vec<Vec<u32>>,
     pub transfers: Vec<Transfer>,
 }
 
 impl<S: SoleResource> Model for Desk<S> {
-    ghost use Rattle.std.specs.Prelude.{◌-◌, vec_len, vec_capacity};
+    ghost use Rattle.std.specs.Prelude.{◌-◌, map, vec_len, vec_capacity};
     ghost use Rattle.cqs_cli.specs.Ledger.{Ledger};
 
     ghost Value = { Ledger S };
@@ -54,6 +65,7 @@ impl<S: SoleResource> Model for Desk<S> {
       soles = d.soles.items;
       room = d.room.items;
       waits = d.waits.items;
+      rounds = map (λ own. own.items) d.rounds.items;
       transfers = d.transfers.items;
       spare = vec_capacity d.transfers - vec_len d.transfers;
     } };
@@ -77,7 +89,7 @@ impl<S: SoleResource> Desk<S> {
                 FloorTake::Now(element)
             }
             Taken::Waits(place) => {
-                self.waits[job as usize] = Some(Wait::new(at, place));
+                self.waits[job as usize] = Some(Wait::new(at, 0, place));
                 FloorTake::Waits(place.index)
             }
         }
@@ -93,12 +105,62 @@ impl<S: SoleResource> Desk<S> {
         self.soles[at as usize].give(job)
     }
 
+    /// Counts a latch down.
+    pub fn down(&mut self, at: u32) -> FloorDown
+        requires sole { HasAt self.old.soles at (CanCount S.store) }
+        ensures { Downs S.store self.old at result self.new }
+    {
+        self.soles[at as usize].down()
+    }
+
+    /// The job passes a latch, or waits there.
+    pub fn wait(&mut self, at: u32, job: u32) -> FloorTake
+        requires sole { HasAt self.old.soles at (CanWait S.store job) }
+        requires place { at < length self.old.room }
+        requires room { 0 < slice_index self.old.room at }
+        requires job { job < length self.old.waits }
+        ensures { Awaits S.store self.old at job result self.new }
+    {
+        self.room[at as usize] -= 1;
+        match self.soles[at as usize].wait(job) {
+            None => FloorTake::Now(0),
+            Some(place) => {
+                self.waits[job as usize] = Some(Wait::new(at, 0, place));
+                FloorTake::Waits(place.index)
+            }
+        }
+    }
+
+    /// The job arrives at a barrier, in its next round there.
+    pub fn arrive(&mut self, at: u32, job: u32) -> FloorTake
+        requires sole { HasAt self.old.soles at
+            (CanArrive S.store job (round_in self.old job at)) }
+        requires place { at < length self.old.room }
+        requires room { 0 < slice_index self.old.room at }
+        requires job { job < length self.old.waits }
+        requires own { job < length self.old.rounds }
+        requires each { at < length (rounds_of self.old job) }
+        requires few { round_in self.old job at < 64 }
+        ensures { Comes S.store self.old at job result self.new }
+    {
+        self.room[at as usize] -= 1;
+        let round = count_round(&mut self.rounds, at, job);
+        match self.soles[at as usize].arrive(job, round) {
+            None => FloorTake::Now(0),
+            Some(place) => {
+                self.waits[job as usize] = Some(Wait::new(at, round, place));
+                FloorTake::Waits(place.index)
+            }
+        }
+    }
+
     /// The wait of a job that waits.
     #[inline]
     fn wait_of(&self, job: u32) -> Wait
         requires { CanEndWait S.store self.now job }
         ensures was { wait_at self.now job ≡ Some result }
-        ensures sole { HasAt self.now.soles result.at (CanEnd S.store job (place_in result)) }
+        ensures sole { HasAt self.now.soles result.at
+            (CanEnd S.store job result.round (place_in result)) }
     {
         match self.waits[job as usize] {
             Some(wait) => wait,
@@ -114,13 +176,17 @@ impl<S: SoleResource> Desk<S> {
     {
         let wait = self.wait_of(job);
         let at = wait.at;
-        match self.soles[at as usize].look(job, wait.place()) {
-            None => FloorLook::Pending,
-            Some(element) => {
+        match self.soles[at as usize].look(job, wait.round, wait.place()) {
+            Looked::Pending => FloorLook::Pending,
+            Looked::Got(element) => {
                 self.waits[job as usize] = None;
                 self.transfers
                     .push_reserved(Transfer::Got { job, at, element });
                 FloorLook::Granted(element)
+            }
+            Looked::Through => {
+                self.waits[job as usize] = None;
+                FloorLook::Granted(0)
             }
         }
     }
@@ -134,13 +200,14 @@ impl<S: SoleResource> Desk<S> {
         let wait = self.wait_of(job);
         self.waits[job as usize] = None;
         let at = wait.at;
-        match self.soles[at as usize].leave(job, wait.place()) {
-            FloorLeave::Gone => FloorLeave::Gone,
-            FloorLeave::Late(element) => {
+        match self.soles[at as usize].leave(job, wait.round, wait.place()) {
+            Left::Gone => FloorLeave::Gone,
+            Left::Late(element) => {
                 self.transfers
                     .push_reserved(Transfer::Got { job, at, element });
                 FloorLeave::Late(element)
             }
+            Left::Through => FloorLeave::Late(0),
         }
     }
 
@@ -152,4 +219,19 @@ impl<S: SoleResource> Desk<S> {
         let kind = self.kinds[at as usize];
         self.soles[at as usize].end(kind)
     }
+}
+
+/// The round in which a job arrives at a barrier. From then on it is in the next one there.
+fn count_round(rounds: &mut Vec<Vec<u32>>, at: u32, job: u32) -> u32
+    requires own { job < length rounds.old.items }
+    requires each { at < length (own_rounds (map (λ own. own.items) rounds.old.items) job) }
+    requires few { own_round (map (λ own. own.items) rounds.old.items) job at < 64 }
+    ensures round { result ≡ own_round (map (λ own. own.items) rounds.old.items) job at }
+    ensures counted { map (λ own. own.items) rounds.new.items
+        ≡ with_arrival (map (λ own. own.items) rounds.old.items) job at }
+{
+    let own = &mut rounds[job as usize];
+    let round = own[at as usize];
+    own[at as usize] = round + 1;
+    round
 }

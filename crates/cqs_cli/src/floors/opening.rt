@@ -1,18 +1,18 @@
-//! The making of a desk: its resources, and the memory for all that the takes of a plan can lead
+//! The making of a desk: its resources, and the memory for all that the steps of a plan can lead
 //! to.
 
 ghost use Rattle.std.specs.Prelude.{◌≡◌, ℕ, ◌+◌, ◌*◌, ◌^◌, ◌<◌, ◌≤◌, IfOk, All, length, map, replicate, sum, None, Some, count_by, slice_index, EachIndex};
 ghost use Rattle.std.specs.List.{range_with_len};
 ghost use Rattle.cqs_core.specs.Numbered.{EachAt};
-ghost use Rattle.cqs_plan.specs.PlanSteps.{is_take};
+ghost use Rattle.cqs_plan.specs.PlanSteps.{may_wait};
 ghost use Rattle.cqs_plan.specs.Runnable.{IsRunnable, kinds_of};
 ghost use Rattle.cqs_cli.specs.Opening.{
   AreOpened,
-  AreBuilt,
+  AreSized,
   AreWithin,
   IsCountable,
   IsOpening,
-  takes_of,
+  room_of,
 };
 
 use super::desk::Desk;
@@ -23,21 +23,22 @@ use cqs_plan::{Job, Kind, Plan, Resource, Step};
 use std::alloc::{AllocError, Global};
 
 impl<S: ForEachKind> Desk<S> {
-    /// A desk at which nothing has happened, with memory for all that the plan's takes can lead to.
+    /// A desk at which nothing has happened, with memory for all that the plan's steps can lead to.
     pub fn new(alloc: Global, plan: &Plan) -> Result<Self, Memory>
         requires runnable { IsRunnable plan.now }
-        requires built { AreBuilt plan.now.resources }
+        requires sized { AreSized plan.now.resources }
         ensures { IfOk result (IsOpening S.store plan.now) }
     {
         let resources = plan.resources.as_slice();
         let jobs = plan.jobs.as_slice();
-        let room = count_takes(alloc, resources.len(), jobs)?;
-        let takes = total(&room);
+        let room = count_room(alloc, resources.len(), jobs)?;
+        let all = total(&room);
         Ok(Desk {
             kinds: kinds(alloc, resources)?,
             soles: open_soles(alloc, resources, &room)?,
             waits: no_waits(alloc, jobs.len())?,
-            transfers: Vec::with_capacity(alloc, 2 * takes)?,
+            rounds: no_rounds(alloc, jobs.len(), resources.len())?,
+            transfers: Vec::with_capacity(alloc, 2 * all)?,
             room,
         })
     }
@@ -53,12 +54,12 @@ fn kinds(alloc: Global, resources: &[Resource]) -> Result<Vec<Kind>, AllocError>
         .collect(alloc)
 }
 
-/// For each resource how many takes the jobs have of it.
-fn count_takes(alloc: Global, resources: usize, jobs: &[Job]) -> Result<Vec<u32>, AllocError>
+/// For each resource how many takes, waits and arrivals the jobs have of it.
+fn count_room(alloc: Global, resources: usize, jobs: &[Job]) -> Result<Vec<u32>, AllocError>
     requires few { length jobs.now ≤ 4096 }
     requires countable { EachAt (λ place job. IsCountable resources job) jobs.now }
     ensures counts { IfOk result (λ room. room.items
-        ≡ map (takes_of jobs.now) (range_with_len 0 resources)) }
+        ≡ map (room_of jobs.now) (range_with_len 0 resources)) }
     ensures few { IfOk result (λ room. sum room.items ≤ 262144) }
 {
     let mut room = vec![in alloc; 0u32; resources]?;
@@ -68,27 +69,28 @@ fn count_takes(alloc: Global, resources: usize, jobs: &[Job]) -> Result<Vec<u32>
     Ok(room)
 }
 
-/// Adds to each resource how many of the steps are takes of it.
+/// Adds to each resource how many of the steps are takes, waits or arrivals of it.
 fn count_steps(room: &mut [u32], steps: &[Step])
     requires few { sum room.old + length steps.now < 2 ^ 32 }
     requires within { AreWithin (length room.old) steps.now }
     ensures counts { (at : ℕ) → slice_index room.new at
-        ≡ slice_index room.old at + count_by (is_take at) steps.now }
+        ≡ slice_index room.old at + count_by (may_wait at) steps.now }
     ensures few { sum room.new ≤ sum room.old + length steps.now }
 {
     for step in steps {
-        if let Step::Take(at) = step {
-            room[*at as usize] += 1;
+        match step {
+            Step::Take(at) | Step::Await(at) | Step::Arrive(at) => room[*at as usize] += 1,
+            Step::Give(_) | Step::Down(_) | Step::Work(_) => {}
         }
     }
 }
 
-/// How many takes there are of all resources together.
+/// How many takes, waits and arrivals there are at all resources together.
 fn total(room: &[u32]) -> usize
     requires { sum room.now ≤ 262144 }
     ensures { result ≡ sum room.now }
 {
-    room.iter().map(|takes| *takes as usize).sum()
+    room.iter().map(|here| *here as usize).sum()
 }
 
 /// A list in which no job has a wait.
@@ -102,13 +104,25 @@ fn no_waits(alloc: Global, jobs: usize) -> Result<Vec<Option<Wait>>, AllocError>
     Ok(waits)
 }
 
+/// Rounds of no job at any resource.
+fn no_rounds(alloc: Global, jobs: usize, resources: usize) -> Result<Vec<Vec<u32>>, AllocError>
+    ensures { IfOk result (λ rounds. map (λ own. own.items) rounds.items
+        ≡ replicate jobs (replicate resources 0)) }
+{
+    let mut rounds = Vec::with_capacity(alloc, jobs)?;
+    for _job in 0..jobs {
+        rounds.push(vec![in alloc; 0u32; resources]?)?;
+    }
+    Ok(rounds)
+}
+
 /// What each resource is kept as.
 fn open_soles<S: ForEachKind>(
     alloc: Global,
     resources: &[Resource],
     room: &[u32],
 ) -> Result<Vec<S>, Memory>
-    requires built { AreBuilt resources.now }
+    requires sized { AreSized resources.now }
     requires same { length room.now ≡ length resources.now }
     requires few { sum room.now ≤ 262144 }
     ensures opened { IfOk result (λ soles. AreOpened S.store resources.now room.now soles.items) }

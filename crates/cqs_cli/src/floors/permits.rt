@@ -14,8 +14,8 @@ ghost use Rattle.cqs_cli.specs.Stores.{
 };
 
 use super::sole::{SoleSemaphore, Stand, permits};
-use super::sole_resource::Taken;
-use cqs_plan::{FloorEnd, FloorGive, FloorLeave, Kind};
+use super::sole_resource::{Left, Looked, Taken};
+use cqs_plan::{FloorEnd, FloorGive, Kind};
 use cqs_rule::Place;
 
 /// The job takes a permit, or waits.
@@ -43,24 +43,28 @@ pub(super) fn give<S: SoleSemaphore>(sole: &mut S, job: u32) -> FloorGive
 }
 
 /// The job looks at its wait.
-pub(super) fn look<S: SoleSemaphore>(sole: &mut S, job: u32, wait: Place) -> Option<u32>
-    requires { CanEnd (of_semaphore S.sole) job wait sole.old }
-    ensures { Polls (of_semaphore S.sole) job sole.old wait result sole.new }
+pub(super) fn look<S: SoleSemaphore>(sole: &mut S, job: u32, round: u32, wait: Place) -> Looked
+    requires { CanEnd (of_semaphore S.sole) job round wait sole.old }
+    ensures { Polls (of_semaphore S.sole) job sole.old round wait result sole.new }
 {
-    let _ = job;
-    if sole.poll(wait) { Some(0) } else { None }
+    let _ = (job, round);
+    if sole.poll(wait) {
+        Looked::Got(0)
+    } else {
+        Looked::Pending
+    }
 }
 
 /// The job gives its wait up.
-pub(super) fn leave<S: SoleSemaphore>(sole: &mut S, job: u32, wait: Place) -> FloorLeave
-    requires { CanEnd (of_semaphore S.sole) job wait sole.old }
-    ensures { Cancels (of_semaphore S.sole) job sole.old wait result sole.new }
+pub(super) fn leave<S: SoleSemaphore>(sole: &mut S, job: u32, round: u32, wait: Place) -> Left
+    requires { CanEnd (of_semaphore S.sole) job round wait sole.old }
+    ensures { Cancels (of_semaphore S.sole) job sole.old round wait result sole.new }
 {
-    let _ = job;
+    let _ = (job, round);
     if sole.cancel(wait) {
-        FloorLeave::Gone
+        Left::Gone
     } else {
-        FloorLeave::Late(0)
+        Left::Late(0)
     }
 }
 

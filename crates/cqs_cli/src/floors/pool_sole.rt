@@ -11,12 +11,13 @@ ghost use Rattle.cqs_pool.specs.Elements.{number_of};
 ghost use Rattle.cqs_rule.specs.Owed.{HasUnder, under_payload};
 ghost use Rattle.cqs_rule.specs.Passes.{pass_view};
 ghost use Rattle.cqs_cli.specs.PoolEnds.{HasEnded, HasPlaced};
+ghost use Rattle.cqs_cli.specs.Stores as stores;
 ghost use Rattle.cqs_cli.specs.Stores.{IsOpened};
 ghost use Rattle.cqs_cli.specs.SolePool.{IsPool, elements_held, store_pool};
 
-use super::sole_resource::{SoleResource, Taken};
+use super::sole_resource::{Left, Looked, Taken};
 use cqs_core::Memory;
-use cqs_plan::{FloorEnd, FloorGive, FloorLeave, Kind};
+use cqs_plan::{FloorEnd, FloorGive, Kind};
 use cqs_pool::{Element, Placed, Pool, PoolLeft, PoolPass, PoolPolled, Taking};
 use cqs_rule::{Config, MakeError, Place, Under};
 use std::alloc::Global;
@@ -67,12 +68,12 @@ impl PoolSole {
     }
 }
 
-impl SoleResource for PoolSole {
-    ghost use Rattle.cqs_cli.specs.SolePool.{store_pool};
-
-    ghost store = { store_pool };
-
-    fn take(&mut self, job: u32) -> Taken {
+impl PoolSole {
+    /// The job takes what is free first, or else waits at the end of the line.
+    pub fn take(&mut self, job: u32) -> Taken
+        requires { stores.CanAcquire store_pool job self.old }
+        ensures { stores.Acquires store_pool job self.old result self.new }
+    {
         match self.pool.take(&mut self.pass) {
             Ok(Taking::Took(element)) => {
                 let number = element.number();
@@ -88,7 +89,11 @@ impl SoleResource for PoolSole {
         }
     }
 
-    fn give(&mut self, job: u32) -> FloorGive {
+    /// The job gives back the oldest that it holds, to the first of the line if somebody waits.
+    pub fn give(&mut self, job: u32) -> FloorGive
+        requires { stores.CanRelease store_pool job self.old }
+        ensures { stores.Releases store_pool job self.old result self.new }
+    {
         let element = take_out(&mut self.held, job);
         let number = element.number();
         match put(&self.pool, &mut self.pass, element) {
@@ -103,36 +108,48 @@ impl SoleResource for PoolSole {
         }
     }
 
-    fn look(&mut self, job: u32, wait: Place) -> Option<u32> {
+    /// The job looks at its wait.
+    pub fn look(&mut self, job: u32, _round: u32, wait: Place) -> Looked
+        requires { stores.CanEnd store_pool job _round wait self.old }
+        ensures { stores.Polls store_pool job self.old _round wait result self.new }
+    {
         let token = self.pool.queue().wait_of(&mut self.pass, wait);
         match self.pool.poll(&mut self.pass, token) {
-            PoolPolled::Pending(_) => None,
+            PoolPolled::Pending(_) => Looked::Pending,
             PoolPolled::Granted(element) => {
                 let number = element.number();
                 self.held.push_reserved(HeldElement { job, element });
-                Some(number)
+                Looked::Got(number)
             }
         }
     }
 
-    fn leave(&mut self, job: u32, wait: Place) -> FloorLeave {
+    /// The job gives its wait up.
+    pub fn leave(&mut self, job: u32, _round: u32, wait: Place) -> Left
+        requires { stores.CanEnd store_pool job _round wait self.old }
+        ensures { stores.Cancels store_pool job self.old _round wait result self.new }
+    {
         let token = self.pool.queue().wait_of(&mut self.pass, wait);
         match self.pool.cancel(&mut self.pass, token) {
             PoolLeft::Cancelled(None) => {
                 self.line -= 1;
-                FloorLeave::Gone
+                Left::Gone
             }
             // Nobody leaves an element to a pass that is alone.
             PoolLeft::Cancelled(Some(_)) => unreachable!(),
             PoolLeft::TooLate(element) => {
                 let number = element.number();
                 self.held.push_reserved(HeldElement { job, element });
-                FloorLeave::Late(number)
+                Left::Late(number)
             }
         }
     }
 
-    fn end(&mut self, kind: Kind) -> FloorEnd {
+    /// How it stands.
+    pub fn end(&mut self, kind: Kind) -> FloorEnd
+        requires { stores.CanTell store_pool kind self.old }
+        ensures { stores.Tells store_pool kind self.old result self.new }
+    {
         FloorEnd::Permits {
             free: self.free,
             held: elements(kind) - self.free,

@@ -1,27 +1,28 @@
-//! A floor on one semaphore, mutex or pool of the running queue for each of a plan's.
+//! A floor on one resource of the running queue for each of a plan's.
 
 ghost use Rattle.std.specs.Prelude.{◌≡◌, IfOk};
 ghost use Rattle.cqs_plan.specs.Floor.{opening_floor};
 ghost use Rattle.cqs_plan.specs.Runnable.{IsRunnable};
 ghost use Rattle.cqs_cli.specs.Kept.{IsKept};
 ghost use Rattle.cqs_cli.specs.Ledger.{plain_floor};
-ghost use Rattle.cqs_cli.specs.Opening.{AreBuilt};
+ghost use Rattle.cqs_plan.specs.Runnable.{AreSized};
 ghost use Rattle.cqs_cli.specs.SoleRunning.{store_running};
 
 use super::any_sole::AnySole;
 use super::desk::Desk;
 use super::running_sole::RunningSole;
 use cqs_core::Memory;
-use cqs_plan::{Floor, FloorEnd, FloorGive, FloorLeave, FloorLook, FloorTake, Plan};
+use cqs_plan::{Floor, FloorDown, FloorEnd, FloorGive, FloorLeave, FloorLook, FloorTake, Plan};
 use std::alloc::Global;
 use std::marker::Model;
 
-/// A floor for plans that have semaphores, mutexes and pools: each is one of the running queue,
-/// with its one pass. A mutex keeps a unit value, and an element of a pool its own number.
+/// A floor for plans: each semaphore, mutex, pool and latch is one of the running queue, with its
+/// one pass, and so is each round of a barrier. A mutex keeps a unit value, and an element of a
+/// pool its own number.
 ///
 /// Contracts see its ledger, with the resources and their passes: its plain floor is what these
-/// have seen, without looks that found nothing new. The limit of each is the plan's takes on it and
-/// one more, so none of its calls is refused.
+/// have seen, without looks that found nothing new. The limit of each is the plan's takes,
+/// waits or arrivals there and one more, so none of its calls is refused.
 #[derive(Drop)]
 pub struct QueueFloor {
     desk: Desk<AnySole<RunningSole>>,
@@ -42,10 +43,10 @@ impl Model for QueueFloor {
 }
 
 impl QueueFloor {
-    /// A floor on which nothing has happened, with room for the plan's takes.
+    /// A floor on which nothing has happened, with room for all that the plan's jobs do.
     pub fn new(alloc: Global, plan: &Plan) -> Result<Self, Memory>
         requires runnable { IsRunnable plan.now }
-        requires built { AreBuilt plan.now.resources }
+        requires sized { AreSized plan.now.resources }
         ensures { IfOk result (λ floor. plain_floor store_running floor ≡ opening_floor plan.now) }
     {
         let desk = Desk::new(alloc, plan)?;
@@ -69,6 +70,18 @@ impl Floor for QueueFloor {
 
     fn give(&mut self, at: u32, job: u32) -> FloorGive {
         self.desk.give(at, job)
+    }
+
+    fn down(&mut self, at: u32) -> FloorDown {
+        self.desk.down(at)
+    }
+
+    fn wait(&mut self, at: u32, job: u32) -> FloorTake {
+        self.desk.wait(at, job)
+    }
+
+    fn arrive(&mut self, at: u32, job: u32) -> FloorTake {
+        self.desk.arrive(at, job)
     }
 
     fn look(&mut self, job: u32) -> FloorLook {

@@ -1,4 +1,4 @@
-use Rattle.std.proofs.Common.{◌∙◌, sym, rules}
+use Rattle.std.proofs.Common.{◌∙◌, inl, sym, rules}
 use Rattle.cqs_main.proofs.Statuses.{gives-nothing, is_no_memory}
 use Rattle.cqs_main.proofs.running.run.Goals as goal
 use Rattle.cqs_main.proofs.running.run.Goals.{in-Ok, in-Err}
@@ -50,5 +50,14 @@ returns-clause-complete g c =
       | in-Ok w ↦ λ is_run bytes left short plan source_calm sink_calm.
           rw (c.finish.ensures.status, w.status-is)
           (w.top-status.ensures.complete (search rules) bytes left short plan (search rules) (search rules))
+      | in-Err w ↦ search rules
+    ]
+
+pub returns-clause-wrong_words : goal.returns-clause-wrong_words
+returns-clause-wrong_words g c =
+    elim c.match-words_after_name.branch [
+      | in-Ok w ↦ λ no_command sink_calm.
+          rw (c.finish.ensures.status, w.status-is)
+          (inl (w.top-status.ensures.wrong_words (search rules) (search rules)))
       | in-Err w ↦ search rules
     ]

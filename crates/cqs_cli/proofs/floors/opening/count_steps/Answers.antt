@@ -1,8 +1,8 @@
 use Rattle.std.proofs.Common.{◌<◌, length, arith}
 use Rattle.cqs_core.proofs.CoreSteps.{gains-sum}
-use Rattle.cqs_cli.proofs.Counting.{within-at, counted-take, counted-else}
+use Rattle.cqs_cli.proofs.Counting.{counted-else, counted-step, within-at}
 use Rattle.cqs_cli.proofs.floors.opening.count_steps.Goals as goal
-use Rattle.cqs_cli.proofs.floors.opening.count_steps.Goals.{in-Take, in_default}
+use Rattle.cqs_cli.proofs.floors.opening.count_steps.Goals.{in-Give, in-Give-2, in-Give-3, in-Take2}
 
 pub bounds-room-at : goal.bounds-room-at
 bounds-room-at c =
@@ -14,18 +14,30 @@ bounds-room-at-in-Take c =
 
 pub loop-step-preserved : goal.loop-step-preserved
 loop-step-preserved c = elim c.match-step.branch [
-  | in-Take w ↦
+  | in-Take2 w ↦
       let place = within-at _ _ _ _ c.requires.within c.loop-step-test.true w.in-Take.is in
       let there : w.in-Take.at < length c.loop-step.room = omega (arith, place, c.loop-step.auto.room) in
       record {
         counts = rw w.room-is
-            (counted-take _ _ _ _ _ c.loop-step-test.true there w.in-Take.is c.loop-step.invariant.counts);
+            (counted-step _ _ _ _ _ c.loop-step-test.true there w.in-Take.is c.loop-step.invariant.counts);
         few = rw w.room-is (omega (arith, gains-sum c.loop-step.room w.in-Take.at there, c.loop-step.invariant.few));
       }
-  | in_default w ↦
+  | in-Give w ↦
       record {
         counts = rw w.room-is
-            (counted-else _ _ _ _ c.loop-step-test.true w.in_default.not-Take c.loop-step.invariant.counts);
+            (counted-else _ _ _ _ c.loop-step-test.true w.in-Give.is c.loop-step.invariant.counts);
+        few = rw w.room-is (omega (arith, c.loop-step.invariant.few));
+      }
+  | in-Give-2 w ↦
+      record {
+        counts = rw w.room-is
+            (counted-else _ _ _ _ c.loop-step-test.true w.in-Give.is c.loop-step.invariant.counts);
+        few = rw w.room-is (omega (arith, c.loop-step.invariant.few));
+      }
+  | in-Give-3 w ↦
+      record {
+        counts = rw w.room-is
+            (counted-else _ _ _ _ c.loop-step-test.true w.in-Give.is c.loop-step.invariant.counts);
         few = rw w.room-is (omega (arith, c.loop-step.invariant.few));
       }
 ]

@@ -3,7 +3,9 @@ use Rattle.cqs_cli.proofs.Opened.{kept-opened, plain-opened}
 use Rattle.cqs_cli.proofs.floors.queue_floor.QueueFloor.new.Goals as goal
 
 pub invariant_of-result : goal.invariant_of-result
-invariant_of-result c = kept-opened store_running c.args.plan.now c.in_ok-desk.desk c.in_ok-desk.ensures
+invariant_of-result c =
+    kept-opened store_running c.args.plan.now c.in_ok-desk.desk c.in_ok-desk.ensures
+    c.requires.sized
 
 pub returns : goal.returns
 returns c = plain-opened store_running c.args.plan.now c.in_ok-desk.desk c.in_ok-desk.ensures

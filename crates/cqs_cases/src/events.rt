@@ -2,12 +2,15 @@
 
 use std::fmt;
 
-/// How often a wait was served, given up, and late.
+/// How often a wait was served, given up, and late; and how often a latch was opened, and the last
+/// party of a round arrived.
 #[derive(Clone, Copy, Default)]
 pub struct Events {
     served: u64,
     gave_up: u64,
     late: u64,
+    opened: u64,
+    arrived: u64,
 }
 
 impl Events {
@@ -18,6 +21,8 @@ impl Events {
                 Some("served") => &mut self.served,
                 Some("gaveup") => &mut self.gave_up,
                 Some("late") => &mut self.late,
+                Some("downs") if line.ends_with(" open") => &mut self.opened,
+                Some("arrives") => &mut self.arrived,
                 _ => continue,
             };
             *count = count.saturating_add(1);
@@ -30,8 +35,8 @@ impl fmt::Display for Events {
     fn fmt<W: fmt::Write>(&self, f: &mut fmt::Formatter<W>) -> fmt::Result {
         write!(
             f,
-            "{} waits served, {} given up, {} late",
-            self.served, self.gave_up, self.late
+            "{} waits served, {} given up, {} late, {} latches opened, {} rounds over",
+            self.served, self.gave_up, self.late, self.opened, self.arrived
         )
     }
 }

@@ -3,7 +3,7 @@
 use std::alloc::Global;
 use std::fmt::Write;
 
-/// The most resources of a plan. The third is a mutex.
+/// The most resources of a plan.
 const MOST_RESOURCES: u32 = 3;
 
 /// Numbers by chance: a linear congruential generator with the constants of Knuth's MMIX.
@@ -24,24 +24,79 @@ impl Chance {
     }
 }
 
-/// The text of a plan: few resources, of few permits each, and jobs that take, work and give. A
-/// third of the jobs have deadlines.
+/// A resource of a plan that is made by chance.
+#[derive(Clone, Copy, Drop)]
+enum Resource {
+    Semaphore { size: u32 },
+    Mutex,
+    Pool { size: u32 },
+    Latch { count: u32 },
+    Barrier { parties: u32, rounds: u32 },
+}
+
+impl Resource {
+    /// One of each kind, of few permits, elements, counts, parties and rounds.
+    fn by_chance(chance: &mut Chance) -> Resource {
+        let kind = chance.up_to(5);
+        let most = chance.up_to(3);
+        let rounds = chance.up_to(3);
+        match kind {
+            1 => Resource::Semaphore { size: most },
+            2 => Resource::Mutex,
+            3 => Resource::Pool { size: most },
+            4 => Resource::Latch { count: most },
+            _ => Resource::Barrier {
+                parties: most,
+                rounds,
+            },
+        }
+    }
+}
+
+/// The resources of a plan, by their places. There are at most three.
+#[derive(Drop)]
+struct Resources {
+    all: Vec<Resource>,
+}
+
+impl Resources {
+    fn by_chance(alloc: Global, chance: &mut Chance) -> anyhow::Result<Resources> {
+        let mut all = Vec::new(alloc);
+        for _ in 0..chance.up_to(MOST_RESOURCES) {
+            all.push(Resource::by_chance(chance))?;
+        }
+        Ok(Resources { all })
+    }
+
+    /// Their tables in a plan.
+    fn write(&self, text: &mut String) -> anyhow::Result<()> {
+        for (at, resource) in self.all.iter().enumerate() {
+            match resource {
+                Resource::Semaphore { size } => write!(text, "[semaphore.r{at}]\nsize = {size}\n")?,
+                Resource::Mutex => write!(text, "[mutex.r{at}]\n")?,
+                Resource::Pool { size } => write!(text, "[pool.r{at}]\nsize = {size}\n")?,
+                Resource::Latch { count } => write!(text, "[latch.r{at}]\ncount = {count}\n")?,
+                Resource::Barrier { parties, rounds } => write!(
+                    text,
+                    "[barrier.r{at}]\nparties = {parties}\nrounds = {rounds}\n"
+                )?,
+            }
+        }
+        Ok(())
+    }
+}
+
+/// The text of a plan: few resources, of few permits each, and jobs that take, work and give, count
+/// down, wait and arrive. A third of the jobs have deadlines.
 pub fn plan_text(alloc: Global, seed: u64) -> anyhow::Result<String> {
     let mut chance = Chance { state: seed };
     let mut text = String::from_str(alloc, "version = 1\n")?;
     write!(text, "turns = {}\n", chance.up_to(40))?;
-    let resources = chance.up_to(MOST_RESOURCES);
-    for place in 1..=resources {
-        let size = chance.up_to(3);
-        if place == MOST_RESOURCES {
-            write!(text, "[mutex.r{place}]\n")?;
-        } else {
-            write!(text, "[semaphore.r{place}]\nsize = {size}\n")?;
-        }
-    }
+    let resources = Resources::by_chance(alloc, &mut chance)?;
+    resources.write(&mut text)?;
     for job in 1..=chance.up_to(12) {
         write!(text, "[[job]]\nname = \"j{job}\"\n")?;
-        add_steps(&mut text, &mut chance, resources)?;
+        add_steps(&mut text, &mut chance, &resources, job)?;
         if chance.up_to(3) == 1 {
             write!(text, "deadline = {}\n", chance.up_to(16))?;
         }
@@ -49,24 +104,48 @@ pub fn plan_text(alloc: Global, seed: u64) -> anyhow::Result<String> {
     Ok(text)
 }
 
-/// The steps of a job. It gives only what it took before.
-fn add_steps(text: &mut String, chance: &mut Chance, resources: u32) -> anyhow::Result<()> {
-    let mut held = [0u32; MOST_RESOURCES as usize + 1];
+/// The steps of a job. It gives only what it took before, and arrives at a barrier only where it is
+/// one of its parties, and no oftener than there are rounds.
+fn add_steps(
+    text: &mut String,
+    chance: &mut Chance,
+    resources: &Resources,
+    job: u32,
+) -> anyhow::Result<()> {
+    // how much it holds of each resource, or how often it arrived there
+    let mut counts = [0u32; MOST_RESOURCES as usize];
+    let many = u32::try_from(resources.all.len()).unwrap_or(MOST_RESOURCES);
     text.push_str("steps = [")?;
     for _ in 0..chance.up_to(8) {
-        let at = chance.up_to(resources);
+        let at = chance.up_to(many).saturating_sub(1) as usize;
         let wish = chance.up_to(6);
-        let Some(count) = held.get_mut(at as usize) else {
+        let (Some(resource), Some(count)) = (resources.all.get(at), counts.get_mut(at)) else {
             anyhow::bail!("no such resource");
         };
         if wish == 1 {
             write!(text, "\"work {}\", ", chance.up_to(4))?;
-        } else if wish <= 3 && *count > 0 {
-            *count -= 1;
-            write!(text, "\"give r{at}\", ")?;
-        } else {
-            *count = count.saturating_add(1);
-            write!(text, "\"take r{at}\", ")?;
+            continue;
+        }
+        match *resource {
+            Resource::Latch { .. } => {
+                let verb = if wish == 2 { "down" } else { "wait" };
+                write!(text, "\"{verb} r{at}\", ")?;
+            }
+            Resource::Barrier { parties, rounds } => {
+                if job <= parties && *count < rounds {
+                    *count = count.saturating_add(1);
+                    write!(text, "\"arrive r{at}\", ")?;
+                }
+            }
+            Resource::Semaphore { .. } | Resource::Mutex | Resource::Pool { .. } => {
+                if wish <= 3 && *count > 0 {
+                    *count -= 1;
+                    write!(text, "\"give r{at}\", ")?;
+                } else {
+                    *count = count.saturating_add(1);
+                    write!(text, "\"take r{at}\", ")?;
+                }
+            }
         }
     }
     text.push_str("]\n")?;

@@ -39,7 +39,7 @@ use std::fs;
 use std::rt::Files;
 
 /// The files of cases, each of which ends with `.cases`.
-const TABLES: [&str; 12] = [
+const TABLES: [&str; 14] = [
     "plans",
     "deadlines",
     "faults",
@@ -47,6 +47,8 @@ const TABLES: [&str; 12] = [
     "names",
     "mutexes",
     "pools",
+    "latches",
+    "barriers",
     "chance",
     "first-faults",
     "too-many",

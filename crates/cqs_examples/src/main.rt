@@ -7,7 +7,7 @@ use cqs_plan::{SureSink, SureSource};
 use std::fs;
 use std::rt::Files;
 
-const NAMES: [&str; 8] = [
+const NAMES: [&str; 9] = [
     "empty",
     "two-jobs",
     "connection-pool",
@@ -16,6 +16,7 @@ const NAMES: [&str; 8] = [
     "release",
     "log-file",
     "test-databases",
+    "load-test",
 ];
 
 /// The most that a report of an example takes.

@@ -1,7 +1,8 @@
 //! The picture of a report, as an SVG.
 
 use crate::filling::write_filled;
-use crate::rows::{End, Job, Level, Resource, Rows, Span, State};
+use crate::lines::Kind;
+use crate::rows::{End, Job, Level, Mark, Resource, Rows, Span, State, Told};
 use std::alloc::Global;
 use std::io::Write;
 
@@ -46,6 +47,12 @@ patternTransform="rotate(45)"><rect width="6" height="6" fill="#fde68a"/>
 <path d="M571 27l6-11l6 11z" fill="#7c3aed"/><text x="590" y="25">late</text>
 <path d="M632 15l6 6l-6 6" fill="none" stroke="#334155" stroke-width="2.5"/>
 <text x="646" y="25">not ended</text>
+"##;
+
+/// What stands beside the legend where there is a latch or a barrier.
+const PASSED_HEAD: &str = r##"<path d="M740 17l4 4l-4 4l-4-4z" fill="#0f766e" stroke="#ffffff"/>
+<text x="750" y="25">opens, or is the last</text>
+<path d="M882 14V28" stroke="#0f766e" stroke-width="3"/><text x="888" y="25">counts</text>
 "##;
 
 /// How many pixels from the left edge a turn begins.
@@ -125,6 +132,38 @@ fn draw_end<W: Write>(out: &mut W, job: &Job, turns: u64, top: u64) -> anyhow::R
     write_filled(out, mark, &[left, top, turn])
 }
 
+/// The marks of what was done at a latch or a barrier: where each stands, and what it says.
+const LEFT: &str = "<path d=\"M@ @V@\" stroke=\"#0f766e\" stroke-width=\"3\"><title>counted down \
+                    in turn @, @ left</title></path>\n";
+
+const OPEN: &str = "<path d=\"M@ @l4 4l-4 4l-4-4z\" fill=\"#0f766e\" stroke=\"#ffffff\"><title>\
+                    opened in turn @</title></path>\n";
+
+const OVER: &str = "<path d=\"M@ @l4 4l-4 4l-4-4z\" fill=\"#0f766e\" stroke=\"#ffffff\"><title>\
+                    last arrival in turn @, in round @</title></path>\n";
+
+/// The marks in a row, around this height.
+fn draw_marks<W: Write>(
+    out: &mut W,
+    marks: &[Mark],
+    turns: u64,
+    middle: u64,
+) -> anyhow::Result<()> {
+    let top = middle.saturating_sub(4);
+    for mark in marks {
+        let left = place_of(mark.turn, turns);
+        match mark.told {
+            Told::Left(count) => {
+                let (top, bottom) = (middle.saturating_sub(6), middle.saturating_add(6));
+                write_filled(out, LEFT, &[left, top, bottom, mark.turn, count])?;
+            }
+            Told::Open => write_filled(out, OPEN, &[left, top, mark.turn])?,
+            Told::Over(round) => write_filled(out, OVER, &[left, top, mark.turn, round])?,
+        }
+    }
+    Ok(())
+}
+
 /// The most that were held, and the most who waited.
 fn highest(levels: &[Level]) -> (u64, u64) {
     let mut held = 0;
@@ -176,7 +215,13 @@ const MIDDLE: &str = "<path d=\"M@ @H@\" stroke=\"#334155\"/>\n\
                       <text class=\"small\" x=\"@\" y=\"@\" text-anchor=\"end\">at most @ held, \
                       @ in line</text>\n";
 
-/// The row of a resource: how many are held, upwards from its middle, and how many wait, downwards.
+/// The same of a latch or a barrier, of which nothing is held.
+const PASSED_MIDDLE: &str = "<path d=\"M@ @H@\" stroke=\"#334155\"/>\n\
+                             <text class=\"small\" x=\"@\" y=\"@\" text-anchor=\"end\">at most \
+                             @ in line</text>\n";
+
+/// The row of a resource: how many are held, upwards from its middle, and how many wait, downwards;
+/// of a latch or a barrier, what was done at it.
 fn draw_resource<W: Write>(
     out: &mut W,
     resource: &Resource,
@@ -197,20 +242,48 @@ fn draw_resource<W: Write>(
     let right = NAMES.saturating_add(TURNS);
     let left = NAMES.saturating_sub(10);
     let bottom = top.saturating_add(34);
-    let numbers = [NAMES, middle, right, left, bottom, most.0, most.1];
-    write_filled(out, MIDDLE, &numbers)
+    match resource.kind {
+        Kind::Held => {
+            let numbers = [NAMES, middle, right, left, bottom, most.0, most.1];
+            write_filled(out, MIDDLE, &numbers)?;
+        }
+        Kind::Passed => {
+            let numbers = [NAMES, middle, right, left, bottom, most.1];
+            write_filled(out, PASSED_MIDDLE, &numbers)?;
+        }
+    }
+    draw_marks(out, resource.marks.as_slice(), turns, middle)
 }
 
 /// The mark of a turn: a line from its top to its bottom, and the turn below it.
 const MARK: &str = "<path d=\"M@ @V@\" stroke=\"#334155\"/><text class=\"small\" x=\"@\" y=\"@\" \
                     text-anchor=\"middle\">@</text>\n";
 
+/// The most marks of turns, but for that of turn 0.
+const MARKS: u64 = 11;
+
+/// How many turns there are from one mark to the next: 1, 2 or 5 times a power of ten, so that the
+/// marks are few.
+fn step_of(turns: u64) -> u64 {
+    let mut power = 1u64;
+    for _ in 0..20 {
+        for factor in [1, 2, 5] {
+            let step = power.saturating_mul(factor);
+            if turns / step.max(1) <= MARKS {
+                return step;
+            }
+        }
+        power = power.saturating_mul(10);
+    }
+    u64::MAX
+}
+
 /// The turns, as marks below the rows.
 fn draw_turns<W: Write>(out: &mut W, turns: u64, top: u64) -> anyhow::Result<()> {
-    let step = (turns / 10).max(1);
+    let step = step_of(turns);
     let line = top.saturating_add(6);
     let text = top.saturating_add(18);
-    for mark in 0..12u64 {
+    for mark in 0..=MARKS {
         let turn = mark.saturating_mul(step);
         if turn <= turns {
             let left = place_of(turn, turns);
@@ -247,6 +320,13 @@ pub fn draw<W: Write>(out: &mut W, alloc: Global, rows: &Rows) -> anyhow::Result
     let height = bottom.saturating_add(30);
     write_filled(out, PICTURE, &[WIDTH, height, WIDTH, height, WIDTH, height])?;
     out.write_all(HEAD.as_bytes())?;
+    if rows
+        .resources
+        .values()
+        .any(|resource| resource.kind == Kind::Passed)
+    {
+        out.write_all(PASSED_HEAD.as_bytes())?;
+    }
     let mut top = LEGEND;
     for (name, job) in rows.jobs.iter() {
         draw_name(out, alloc, name.as_str(), top)?;
@@ -254,6 +334,8 @@ pub fn draw<W: Write>(out: &mut W, alloc: Global, rows: &Rows) -> anyhow::Result
             draw_span(out, *span, turns, top)?;
         }
         draw_end(out, job, turns, top)?;
+        let middle = top.saturating_add(JOB_BAR / 2);
+        draw_marks(out, job.marks.as_slice(), turns, middle)?;
         top = top.saturating_add(JOB_ROW);
     }
     let mut top = resources;

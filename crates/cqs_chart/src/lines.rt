@@ -18,11 +18,14 @@ pub enum Event<'a> {
     GaveUp(&'a str),
     /// It was about to leave the line, but had been served, and ended.
     Late(&'a str),
-    /// It passed an open latch, or counted one down that stays as it is: nobody else moves.
+    /// It passed an open latch, or counted one down that was open before: nobody else moves.
     Passes,
-    /// It came to a barrier as the last party, or counted a latch down to its end: all who wait
-    /// there may go.
+    /// It counted a latch down, of which so much is left.
+    Counts { latch: &'a str, left: u64 },
+    /// It counted a latch down to its end: all who wait there may go.
     Opens(&'a str),
+    /// It came to a barrier as the last party of this round: all who wait there may go.
+    Completes { barrier: &'a str, round: u64 },
     /// It made all its steps.
     Done,
 }
@@ -57,6 +60,23 @@ pub enum Line<'a> {
 /// Whether each of these words is a number.
 fn are_numbers(words: &[&str]) -> bool {
     words.iter().all(|word| word.parse::<u64>().is_ok())
+}
+
+/// The event of the last party of a round, which is told as in `gate.0`.
+fn completion_of<'a>(name: &'a str) -> Option<Event<'a>> {
+    let (barrier, round) = name.rsplit_once('.')?;
+    match round.parse() {
+        Ok(round) => Some(Event::Completes { barrier, round }),
+        Err(_) => None,
+    }
+}
+
+/// The event of a count down that leaves so much.
+fn count_of<'a>(latch: &'a str, left: &str) -> Option<Event<'a>> {
+    match left.parse() {
+        Ok(left) => Some(Event::Counts { latch, left }),
+        Err(_) => None,
+    }
 }
 
 /// The event that the words after the job's name tell.
@@ -95,10 +115,10 @@ fn event_of<'a>(words: &[&'a str]) -> Option<Event<'a>> {
         ["gaveup", resource, wait] if are_numbers(&[wait]) => Event::GaveUp(resource),
         ["late", resource, wait] if are_numbers(&[wait]) => Event::Late(resource),
         ["passes", _] => Event::Passes,
-        ["downs", _, "left", count] if are_numbers(&[count]) => Event::Passes,
+        ["downs", latch, "left", count] => return count_of(latch, count),
         ["downs", _, "already"] => Event::Passes,
-        ["downs", resource, "open"] => Event::Opens(resource),
-        ["arrives", resource, "last"] => Event::Opens(resource),
+        ["downs", latch, "open"] => Event::Opens(latch),
+        ["arrives", round, "last"] => return completion_of(round),
         _ => return None,
     })
 }

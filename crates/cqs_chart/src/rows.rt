@@ -20,6 +20,36 @@ pub struct Span {
     pub to: u64,
 }
 
+/// What a mark says of a latch or a barrier.
+#[derive(Clone, Copy)]
+pub enum Told {
+    /// The latch was counted down, and so much is left.
+    Left(u64),
+    /// The latch was opened.
+    Open,
+    /// The last party of this round has arrived.
+    Over(u64),
+}
+
+/// A mark in a row: in this turn, what happened at a latch or a barrier. It stands at the job that
+/// did it, and at the resource.
+#[derive(Clone, Copy)]
+pub struct Mark {
+    pub turn: u64,
+    pub told: Told,
+}
+
+/// What an event marks.
+fn mark_of(turn: u64, event: Event<'_>) -> Option<Mark> {
+    let told = match event {
+        Event::Counts { left, .. } => Told::Left(left),
+        Event::Opens(_) => Told::Open,
+        Event::Completes { round, .. } => Told::Over(round),
+        _ => return None,
+    };
+    Some(Mark { turn, told })
+}
+
 /// How a job ended.
 #[derive(Clone, Copy, PartialEq, Eq)]
 pub enum End {
@@ -33,6 +63,8 @@ pub enum End {
 pub struct Job {
     /// What it was at, oldest first, without what it is at now.
     pub spans: Vec<Span>,
+    /// What it did at latches and barriers, oldest first.
+    pub marks: Vec<Mark>,
     state: State,
     since: u64,
     held: u64,
@@ -44,6 +76,7 @@ impl Job {
     fn new(alloc: Global) -> Job {
         Job {
             spans: Vec::new(alloc),
+            marks: Vec::new(alloc),
             state: State::Working,
             since: 0,
             held: 0,
@@ -103,9 +136,11 @@ pub struct Level {
 /// The row of a resource.
 #[derive(Drop)]
 pub struct Resource {
-    kind: Kind,
+    pub kind: Kind,
     /// Its levels, oldest first.
     pub levels: Vec<Level>,
+    /// What was done at it, oldest first, where it is a latch or a barrier.
+    pub marks: Vec<Mark>,
 }
 
 impl Resource {
@@ -113,6 +148,7 @@ impl Resource {
         Resource {
             kind,
             levels: Vec::new(alloc),
+            marks: Vec::new(alloc),
         }
     }
 
@@ -148,6 +184,9 @@ impl Resource {
     /// What happened at it.
     fn note(&mut self, turn: u64, event: Event<'_>) -> anyhow::Result<()> {
         let Level { held, waiting, .. } = self.level();
+        if let Some(mark) = mark_of(turn, event) {
+            self.marks.push(mark)?;
+        }
         match event {
             Event::Takes(_) => self.go_to(turn, held.saturating_add(1), waiting),
             Event::Waits(_) => self.go_to(turn, held, waiting.saturating_add(1)),
@@ -155,8 +194,12 @@ impl Resource {
             // what was sent counts as held, before it is looked at
             Event::Gives { sent: true, .. } => self.go_to(turn, held, waiting.saturating_sub(1)),
             Event::GaveUp(_) => self.go_to(turn, held, waiting.saturating_sub(1)),
-            Event::Opens(_) => self.go_to(turn, held, 0),
-            Event::Served(_) | Event::Late(_) | Event::Passes | Event::Done => Ok(()),
+            Event::Opens(_) | Event::Completes { .. } => self.go_to(turn, held, 0),
+            Event::Served(_)
+            | Event::Late(_)
+            | Event::Passes
+            | Event::Counts { .. }
+            | Event::Done => Ok(()),
         }
     }
 }
@@ -179,7 +222,15 @@ fn resource_of<'a>(event: Event<'a>) -> Option<&'a str> {
         | Event::Gives { resource, .. }
         | Event::GaveUp(resource)
         | Event::Late(resource)
-        | Event::Opens(resource) => Some(resource),
+        | Event::Counts {
+            latch: resource,
+            ..
+        }
+        | Event::Opens(resource)
+        | Event::Completes {
+            barrier: resource,
+            ..
+        } => Some(resource),
         Event::Passes | Event::Done => None,
     }
 }
@@ -251,6 +302,9 @@ impl Rows {
         let Some(job) = self.jobs.get_mut(name) else {
             return Ok(());
         };
+        if let Some(mark) = mark_of(turn, event) {
+            job.marks.push(mark)?;
+        }
         match event {
             Event::Takes(_) => {
                 job.held = job.held.saturating_add(1);
@@ -278,7 +332,8 @@ impl Rows {
                 }
                 job.stop(turn)
             }
-            Event::Passes | Event::Opens(_) => job.go_on(turn),
+            Event::Passes | Event::Counts { .. } | Event::Opens(_) | Event::Completes { .. } =>
+                job.go_on(turn),
             Event::Done => {
                 job.end = Some((turn, End::Done));
                 job.stop(turn)

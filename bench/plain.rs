@@ -7,7 +7,9 @@
 //! `plain gen NUMBER JOBS` makes the plan of a number and runs it, and prints the nanoseconds of both and a sum over what its report says
 //! after the last turn; `plain summary NUMBER JOBS` prints that text.
 //! `plain free`, `plain pairs` and `plain leaves` make the rounds of the running queue on atomic words, `plain leave` and
-//! `plain leave-behind` those of a semaphore whose waiter looks and leaves; `ROUNDS` after them is how many.
+//! `plain leave-behind` those of a semaphore whose waiter looks and leaves; `plain wake-never`, `plain wake-guarded` and `plain wake-called`
+//! those of a wait that is served, by one who wakes nobody, who asks first whether anybody sleeps, or who makes the system call in any
+//! case. `ROUNDS` after them is how many.
 
 use std::collections::VecDeque;
 use std::fmt::Write as _;
@@ -407,7 +409,28 @@ struct Words {
     words: Vec<AtomicU64>,
 }
 
+extern "C" {
+    fn syscall(number: i64, ...) -> i64;
+}
+
+/// Has the kernel wake one thread that sleeps on the lower half of the word, if there is one.
+fn wake_one(word: &AtomicU64) {
+    const FUTEX: i64 = 202;
+    const WAKE_IN_PROCESS: i32 = 129;
+    // SAFETY: the kernel looks for those who sleep at the address, and does no more with it.
+    unsafe {
+        syscall(FUTEX, word.as_ptr() as *const u32, WAKE_IN_PROCESS, 1i32);
+    }
+}
+
+/// How many threads sleep, with cache lines for itself.
+#[repr(align(128))]
+struct Asleep {
+    count: AtomicU64,
+}
+
 impl Words {
+    #[inline(always)]
     fn new(permits: u64) -> Words {
         let word = |place| match place {
             STATE => BIAS + permits,
@@ -436,11 +459,26 @@ impl Words {
         None
     }
 
-    fn resume(&self) {
-        let number = self.words[RESUMES].fetch_add(1, SeqCst);
-        if !self.exchange(number, WAITER, RESUMED) && !self.exchange(number, EMPTY, VALUE) {
-            self.exchange(number, WAITER, RESUMED);
+    /// Serves the wait of this number, if somebody stands there, and wakes the one so.
+    #[inline(always)]
+    fn serve(&self, number: u64, wake: impl Fn(&AtomicU64)) -> bool {
+        let is_served = self.exchange(number, WAITER, RESUMED);
+        if is_served {
+            wake(&self.words[CELLS + number as usize]);
         }
+        is_served
+    }
+
+    #[inline(always)]
+    fn resume_and(&self, wake: impl Fn(&AtomicU64)) {
+        let number = self.words[RESUMES].fetch_add(1, SeqCst);
+        if !self.serve(number, &wake) && !self.exchange(number, EMPTY, VALUE) {
+            self.serve(number, &wake);
+        }
+    }
+
+    fn resume(&self) {
+        self.resume_and(|_| ());
     }
 
     /// The number of the wait, or none where a permit came at once.
@@ -451,10 +489,15 @@ impl Words {
         self.suspend()
     }
 
-    fn release(&self) {
+    #[inline(always)]
+    fn release_and(&self, wake: impl Fn(&AtomicU64)) {
         if self.words[STATE].fetch_add(1, SeqCst) < BIAS {
-            self.resume();
+            self.resume_and(wake);
         }
+    }
+
+    fn release(&self) {
+        self.release_and(|_| ());
     }
 
     /// The waiter leaves the line, unless it was served. It answers whether a resume had left its value to it.
@@ -489,6 +532,12 @@ fn free_round(words: &Words, caller: &mut Caller) {
 
 /// The caller that holds the one permit waits for it, gives it back, and is served.
 fn pair_round(words: &Words, caller: &mut Caller) {
+    woken_round(words, caller, |_| ());
+}
+
+/// The same, in which it wakes so the one whom it serves.
+#[inline(always)]
+fn woken_round(words: &Words, caller: &mut Caller, wake: impl Fn(&AtomicU64)) {
     if !words.may_draw() {
         return;
     }
@@ -498,7 +547,7 @@ fn pair_round(words: &Words, caller: &mut Caller) {
     };
     if caller.held > 0 {
         caller.held -= 1;
-        words.release();
+        words.release_and(wake);
     }
     if words.is_served(number) {
         caller.held += 1;
@@ -552,6 +601,23 @@ fn time_rounds(name: &str, rounds: u64, taken: u64, round: impl Fn(&Words, &mut 
     }
     let nanoseconds = start.elapsed().as_nanos();
     let _ = writeln!(std::io::stdout(), "{name} {nanoseconds} rounds {rounds} held {}", caller.held);
+}
+
+/// Times rounds of a wait that is served, in which nobody sleeps; whom a serve wakes, the word says. The compiler isn't shown that nobody
+/// sleeps.
+fn time_wakes(name: &str, rounds: u64) {
+    let asleep = Asleep { count: AtomicU64::new(0) };
+    let count = &std::hint::black_box(&asleep).count;
+    let guarded = |word: &AtomicU64| {
+        if count.load(SeqCst) > 0 {
+            wake_one(word);
+        }
+    };
+    match name {
+        "wake-never" => time_rounds(name, rounds, 1, pair_round),
+        "wake-guarded" => time_rounds(name, rounds, 1, |words, caller| woken_round(words, caller, guarded)),
+        _ => time_rounds(name, rounds, 1, |words, caller| woken_round(words, caller, wake_one)),
+    }
 }
 
 /// Times the making of a text, and prints its nanoseconds and a sum over it.
@@ -620,13 +686,17 @@ fn main() {
             time_rounds("leave-behind", rounds(), 1 + LIVE, look_and_leave_round);
             true
         }
+        [name @ ("wake-never" | "wake-guarded" | "wake-called"), ..] => {
+            time_wakes(name, rounds());
+            true
+        }
         [command @ ("gen" | "summary"), number, jobs] => with_number(command, number, jobs),
         [command, name] => with_plan(command, name, None),
         [command, name, turns] => with_plan(command, name, turns.parse().ok()),
         _ => false,
     };
     if !known {
-        let usage = "usage: plain plan | make | run | report NAME [TURNS]; or plain gen | summary NUMBER JOBS; or plain large; or plain free | pairs | leaves | leave | leave-behind [ROUNDS]";
+        let usage = "usage: plain plan | make | run | report NAME [TURNS]; or plain gen | summary NUMBER JOBS; or plain large; or plain free | pairs | leaves | leave | leave-behind | wake-never | wake-guarded | wake-called [ROUNDS]";
         let _ = writeln!(std::io::stderr(), "{usage}");
         std::process::exit(2);
     }

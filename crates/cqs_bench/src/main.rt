@@ -10,7 +10,7 @@ mod rounds;
 
 ghost use Rattle.std.specs.Prelude.{◌≡◌};
 ghost use Rattle.cqs_plan.specs.Floor.{opening_floor};
-ghost use Rattle.cqs_plan.specs.Runnable.{AreBuilt, IsRunnable};
+ghost use Rattle.cqs_plan.specs.Runnable.{AreSized, IsRunnable};
 
 use cqs_cli::{CoreFloor, QueueFloor};
 use cqs_generator::make_plan;
@@ -100,7 +100,7 @@ fn run_on<F: Floor>(alloc: Global, plan: &Plan, floor: &mut F) -> anyhow::Result
 /// The run of a plan as the program runs it, on the running queue, with the making of its floor.
 fn run(alloc: Global, plan: &Plan) -> anyhow::Result<Report>
     requires runnable { IsRunnable plan.now }
-    requires built { AreBuilt plan.now.resources }
+    requires sized { AreSized plan.now.resources }
 {
     let Ok(mut floor) = QueueFloor::new(alloc, plan) else {
         anyhow::bail!("no memory for the floor");
@@ -111,7 +111,7 @@ fn run(alloc: Global, plan: &Plan) -> anyhow::Result<Report>
 /// The same on cores.
 fn run_on_cores(alloc: Global, plan: &Plan) -> anyhow::Result<Report>
     requires runnable { IsRunnable plan.now }
-    requires built { AreBuilt plan.now.resources }
+    requires sized { AreSized plan.now.resources }
 {
     let Ok(mut floor) = CoreFloor::new(alloc, plan) else {
         anyhow::bail!("no memory for the floor");

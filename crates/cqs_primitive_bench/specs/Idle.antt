@@ -60,27 +60,27 @@ module _ {T : Type 0} {g : Ghosts (PoolClient (Kept T)) (Kept T) PoolEntry} wher
     pub idle : IsIdleAtPool m p
     pub has : IsInHand e (pass_view p).facts
 
-module _ {g : Ghosts LatchClient (Unit {0}) LatchEntry} where
+module _ {T : Type 0} {g : Ghosts (LatchClient T) T LatchEntry} where
   -- it is one of the latch, and owes nothing
-  pub record IsIdleAtLatch (l : Latch) (p : Pass LatchClient (Unit {0}) LatchEntry g) : Type 0 where
+  pub record IsIdleAtLatch (l : Latch T) (p : Pass (LatchClient T) T LatchEntry g) : Type 0 where
     pub belongs : latch.IsMine l p
     pub ready : latch.IsReady (pass_view p).facts
 
   -- it also has this wait
-  pub record WaitsAtLatch (l : Latch) (wait : Wait) (p : Pass LatchClient (Unit {0}) LatchEntry g)
+  pub record WaitsAtLatch (l : Latch T) (wait : Wait) (p : Pass (LatchClient T) T LatchEntry g)
       : Type 0 where
     pub idle : IsIdleAtLatch l p
     pub has : HasWait (pass_view p) wait
 
-module _ {g : Ghosts BarrierClient (Unit {0}) BarrierEntry} where
+module _ {T : Type 0} {g : Ghosts (BarrierClient T) T BarrierEntry} where
   -- it is one of the barrier, and owes nothing
-  pub record IsIdleAtBarrier (b : Barrier) (p : Pass BarrierClient (Unit {0}) BarrierEntry g)
+  pub record IsIdleAtBarrier (b : Barrier T) (p : Pass (BarrierClient T) T BarrierEntry g)
       : Type 0 where
     pub belongs : barrier.IsMine b p
     pub ready : barrier.IsReady (pass_view p).facts
 
   -- it also has this wait
-  pub record WaitsAtBarrier (b : Barrier) (wait : PartyWait)
-      (p : Pass BarrierClient (Unit {0}) BarrierEntry g) : Type 0 where
+  pub record WaitsAtBarrier (b : Barrier T) (wait : PartyWait)
+      (p : Pass (BarrierClient T) T BarrierEntry g) : Type 0 where
     pub idle : IsIdleAtBarrier b p
     pub has : HasWait (pass_view p) (wait_in wait)

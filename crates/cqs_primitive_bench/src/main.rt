@@ -14,10 +14,12 @@ mod rounds;
 mod rows;
 mod semaphores;
 mod waiting;
+mod wakes;
 
 use crate::rows::{each, tell};
 use crate::semaphores::Round;
 use crate::waiting::Waiting;
+use crate::wakes::Wakes;
 use std::env;
 use std::process::ExitCode;
 use std::rt::Clock;
@@ -25,7 +27,8 @@ use std::sync::Wait;
 use std::thread::Threads;
 
 const USAGE: &str = "usage: cqs_primitive_bench free | leave | leave-behind | served | waiting \
-    | mutex-free | pool-free | contended | pool | latch | barrier [ROUNDS [RUNS]]";
+    | wake-guarded | wake-never | mutex-free | pool-free | contended | pool | latch | barrier \
+    [ROUNDS [RUNS]]";
 
 const BAD_COMMAND: u8 = 2;
 
@@ -40,6 +43,7 @@ const SLEEP: u64 = 16;
 enum Alone {
     Semaphore(Round),
     Line,
+    Wakes(Wakes),
     Mutex,
     Pool,
 }
@@ -51,6 +55,8 @@ fn alone_of(word: &str) -> Option<Alone> {
         "leave-behind" => Some(Alone::Semaphore(Round::LeaveBehind)),
         "served" => Some(Alone::Semaphore(Round::Served)),
         "waiting" => Some(Alone::Line),
+        "wake-guarded" => Some(Alone::Wakes(Wakes::Guarded)),
+        "wake-never" => Some(Alone::Wakes(Wakes::Never)),
         "mutex-free" => Some(Alone::Mutex),
         "pool-free" => Some(Alone::Pool),
         _ => None,
@@ -99,6 +105,7 @@ fn time_alone<R: Clock + AllocGlobal>(rt: &R, alone: Alone, count: u64) -> anyho
     match alone {
         Alone::Semaphore(round) => semaphores::time(rt, round, count),
         Alone::Line => semaphores::time_waiting(rt, count),
+        Alone::Wakes(wakes) => wakes::time(rt, wakes, count),
         Alone::Mutex => mutexes::time_free(rt, count),
         Alone::Pool => pools::time_free(rt, count),
     }

@@ -1,9 +1,9 @@
 //! Rounds of calls of a semaphore, with one pass. Each answers whether it went as it should.
 
-ghost use Rattle.std.specs.Prelude.{IfSome, IsTrue};
+ghost use Rattle.std.specs.Prelude.{◌≡◌, false, IfSome, IsTrue};
 ghost use Rattle.cqs_primitive_bench.specs.Idle.{IsIdle, IsHolder};
 
-use cqs_rule::Wait;
+use cqs_rule::{Carries, Wait};
 use cqs_semaphore::{Acquired, CancelAnswer, Permit, Polled, Released, SemPass, Semaphore};
 
 // A permit is free: it is taken and given back.
@@ -38,9 +38,14 @@ fn leave_round(semaphore: &Semaphore, pass: &mut SemPass) -> bool
     }
 }
 
-// The pass that has the permit waits for it, gives it back, and is served.
+// The pass that has the permit waits for it, gives it back, and is served. No value moves.
 #[inline(always)]
-fn served_round(semaphore: &Semaphore, pass: &mut SemPass, permit: Permit) -> Option<Permit>
+fn served_round<T: Carries + Send>(
+    semaphore: &Semaphore<T>,
+    pass: &mut SemPass<T>,
+    permit: Permit,
+) -> Option<Permit>
+    requires bare { T.kept ≡ false }
     requires holder { IsHolder semaphore.now pass.old }
     ensures holder { IfSome result (λ _. IsHolder semaphore.now pass.new) }
 {
@@ -84,7 +89,13 @@ pub fn leave_rounds(semaphore: &Semaphore, pass: &mut SemPass, count: u64) -> bo
 
 /// So many rounds in which the pass waits in line, gives its permit to this wait, and looks.
 #[inline(always)]
-pub fn served_rounds(semaphore: &Semaphore, pass: &mut SemPass, permit: Permit, count: u64) -> bool
+pub fn served_rounds<T: Carries + Send>(
+    semaphore: &Semaphore<T>,
+    pass: &mut SemPass<T>,
+    permit: Permit,
+    count: u64,
+) -> bool
+    requires bare { T.kept ≡ false }
     requires holder { IsHolder semaphore.now pass.old }
 {
     let mut permit = permit;

@@ -9,7 +9,7 @@ use Rattle.cqs_primitive_bench.proofs.rounds.served_round.Goals as goal
 
 -- the release closes no wait
 pub poll-requires-clause-has : goal.poll-requires-clause-has
-poll-requires-clause-has c κs =
+poll-requires-clause-has g c κs lives =
     let v = pass_view c.args.pass.now in
     let u = pass_view c.acquire.new.pass in
     let w = pass_view c.release.new.pass in

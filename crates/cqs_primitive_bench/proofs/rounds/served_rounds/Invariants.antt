@@ -3,4 +3,4 @@ use Rattle.cqs_primitive_bench.proofs.rounds.served_rounds.Given as goal
 
 -- between two rounds the pass is idle, and has the permit
 abbrev pub invariant-loop : goal.invariant-loop
-invariant-loop l = IsHolder l.semaphore l.pass
+invariant-loop g l = IsHolder l.semaphore l.pass

@@ -1,0 +1,4 @@
+pub mod Entries
+pub mod AnswerEntries
+pub mod Shared
+pub mod Calls

@@ -1,0 +1,847 @@
+-- What a worker's job does in its turn, call by call.
+use Rattle.std.proofs.Common.{◌≡◌, ℕ, suc, ◌+◌, ◌<◌, ◌≤◌, List, [], ◌∷◌, ◌++◌, Bool, true, false, cond, Option, Some, None, Result, Ok, Err, IfOk, OnOk, take, drop, get_or, slice_get, length, count_by, nat_lt, lt-ltb, le-ltb, eq-eqb, ne_eqb, ◌≢◌, ◌⊎◌, inl, inr, refl, sym, ap, subst, ◌∙◌, arith}
+use Rattle.std.specs.Bool.{if◌then◌else◌}
+use Rattle.std.proofs.lemmas.List.{drop_more, drop_all}
+use Rattle.std.proofs.lemmas.List.Sums.{sum_by_push}
+use Rattle.std.proofs.lemmas.Option.{get_or_from_slice_get, slice_get-get_or}
+use Rattle.cqs_core.proofs.Places.{get-below}
+use Rattle.cqs_core.proofs.Histories.{take-next}
+use Rattle.cqs_plan.specs.declared.plans.step.Step.{Step}
+use Rattle.cqs_plan.specs.declared.plans.step.Step.TheVariants.{Take, Give, Down, Await, Arrive, Work}
+use Rattle.cqs_plan.specs.declared.floors.answers.FloorTake.{FloorTake}
+use Rattle.cqs_plan.specs.declared.floors.answers.FloorTake.TheVariants.{Now, Waits}
+use Rattle.cqs_plan.specs.declared.floors.answers.FloorLook.{FloorLook}
+use Rattle.cqs_plan.specs.declared.floors.answers.FloorLook.TheVariants.{Pending, Granted}
+use Rattle.cqs_plan.specs.declared.floors.answers.FloorLeave.{FloorLeave}
+use Rattle.cqs_plan.specs.declared.floors.answers.FloorLeave.TheVariants.{Gone, Late}
+use Rattle.cqs_plan.specs.declared.floors.answers.FloorDown.{FloorDown}
+use Rattle.cqs_plan.specs.declared.floors.answers.FloorGive.TheVariants.{Free}
+use Rattle.cqs_plan.specs.declared.plans.kind.Kind.{Kind}
+use Rattle.cqs_plan.specs.declared.plans.kind.Kind.TheVariants as kind
+use Rattle.cqs_plan.specs.PlanSteps.{is_arrival, may_wait}
+use Rattle.cqs_plan.specs.FloorCalls.{after_take, after_wait, after_arrive, after_look, after_leave}
+use Rattle.cqs_plan.specs.Floor.{PlainFloor, JobWait, IsJob, IsHoldable, IsLatch, IsHolding, HasRound, round_of, room_at, with_less_room}
+use Rattle.cqs_turns.specs.declared.actors.Actor.{Actor}
+use Rattle.cqs_turns.specs.declared.states.End.{End}
+use Rattle.cqs_turns.specs.declared.states.End.TheVariants as end
+use Rattle.cqs_turns.specs.declared.states.Progress.{Progress}
+use Rattle.cqs_turns.specs.declared.states.Progress.TheVariants.{Stepping, Working, Waiting, Ended}
+use Rattle.cqs_turns.specs.Machine.{MadeIn, ActedIn, stop_or, end_of, left_at, is_due}
+use Rattle.cqs_turns.specs.Machine as machine
+use Rattle.cqs_turns.specs.Ready.{IsReady, wait_in, steps_left}
+use Rattle.cqs_turns.specs.Roles.{role, wait_at}
+use Rattle.cqs_turns.specs.Turns.{places_held}
+use Rattle.cqs_turns.proofs.Moved.{MayWait, may-take, may-await, may-arrive, waits-cons, arrived-here, arrived-else, has-place}
+use Rattle.cqs_turns.proofs.Readied.{can-give, holds-given, on_take-ready, waiting-ready, on_pass-ready, on_wait-ready, on_last-ready, on_arrive-ready, on_give-ready, after_looking-ready, leave-ready, ready-to-end}
+use Rattle.std.proofs.lemmas.Bool.{cases_eq}
+use Rattle.cqs_shared.specs.declared.shared.SharedGive.{SharedGive}
+use Rattle.cqs_shared.specs.Shared.{Shared, kind_at, parties_at, parties_in}
+use Rattle.cqs_shared.specs.Calls.{board_waited, board_arrived, Takes, Waits as Waits_at, Arrives, Gives, Downs, HasLooked, HasLeft, Leaves, Looks, parties_left, parties_left_at}
+use Rattle.cqs_work.specs.Heard.{Heard, Answer, Hears, heard, heard_world}
+use Rattle.cqs_work.specs.Heard as answer
+use Rattle.cqs_work.specs.Roles.{same, left_so, made_so, give_one, give_each, finish, count_down, take_step, wait_step, arrive_step, make_step, go_on, leave_end, ended_so, give_up, look_at, act}
+use Rattle.cqs_work.specs.Needs.{waits_in, parties_for, comes_to, IsProvided, IsInRounds}
+use Rattle.cqs_work.specs.Doing.{Moves, Stands, CanAct, Did, GaveUp, after_stop}
+use Rattle.cqs_work.proofs.Lasting.{later-none}
+use Rattle.cqs_work.proofs.Accounts.{take-later, wait-later, arrive-later, down-later, give-later, look-later, leave-later}
+use Rattle.cqs_work.proofs.HeardLemmas.{came-is, gave-is, counted-is, looked-is, left-is, hears-none, hears-then, hears-on}
+use Rattle.cqs_work.proofs.Parties.{comes-next, parties-more}
+use Rattle.cqs_work.proofs.Moving.{moves-none, moves-end, moves-past, moves-on, moves-turned, moves-taken, moves-waited, moves-given, moves-looked, looked-rounds, moves-left, moves-late, moves-arrived, one-arrival}
+
+pub drop-at : {X : Type 0} (xs : List X) (i : ℕ) (x : X) → slice_get xs i ≡ Some x → drop i xs ≡ x ∷ drop (i + 1) xs
+drop-at xs i x got =
+    drop_more xs i x (get-below xs i x got) ∙ ap (λ y. y ∷ drop (i + 1) xs) (get_or_from_slice_get xs i x x got)
+
+-- the arrivals up to and with a step
+made-count : (at : ℕ) (steps : List Step) (next : ℕ) (step : Step) → slice_get steps next ≡ Some step
+    → count_by (is_arrival at) (take (next + 1) steps)
+    ≡ count_by (is_arrival at) (take next steps) + cond {A = ℕ} (is_arrival at step) 1 0
+made-count at steps next step got =
+    let one_more : next + 1 ≡ suc next = omega arith in
+    rw one_more (ap (count_by (is_arrival at)) (take-next steps next step got)
+    ∙ sum_by_push (λ s. cond {A = ℕ} (is_arrival at s) 1 0) (take next steps) step)
+
+-- what is needed is there
+room-some : (at : ℕ) (step : Step) (rest : List Step) (room : ℕ) → MayWait at step → waits_in at (step ∷ rest) ≤ room
+    → 0 < room
+room-some at step rest room may enough =
+    let one : cond {A = ℕ} (may_wait at step) 1 0 ≡ 1 = ap (λ b. cond {A = ℕ} b 1 0) may in
+    omega (arith, enough, waits-cons at step rest, one)
+
+party-some : (at first : ℕ) (rest : List Step) (parties : ℕ) → parties_for at first first (Arrive at ∷ rest) ≤ parties
+    → 0 < parties
+party-some at first rest parties enough =
+    let comes : parties_for at first first (Arrive at ∷ rest) ≡ comes_to first first (count_by (is_arrival at) rest + 1)
+    = ap (comes_to first first) (one-arrival at rest) in
+    omega (arith, enough, comes, comes-next first (count_by (is_arrival at) rest))
+
+-- how a job's turn ends with a step that may wait
+abbrev pub stop_of : ℕ → ℕ → ℕ → Option FloorTake → Option Progress
+stop_of next at round (Some (Now element)) = None
+stop_of next at round (Some (Waits number)) = Some (Waiting (next + 1) at round number)
+stop_of next at round None = Some (Ended end.Crowded)
+
+module _ (a : Actor) (f : Shared) (next : ℕ) (step : Step) (can : CanAct a f (Stepping next))
+    (its_step : slice_get a.job.now.steps next ≡ Some step) where
+  abbrev rest : List Step
+  rest = drop (next + 1) a.job.now.steps
+
+  split : drop next a.job.now.steps ≡ step ∷ rest
+  split = drop-at a.job.now.steps next step its_step
+
+  pub step-ready : IsReady f.board a.place None (step ∷ rest)
+  step-ready = subst (λ steps. IsReady f.board a.place None steps) split can.stands.ready
+
+  pub step-provided : IsProvided f a.place (step ∷ rest)
+  step-provided = subst (IsProvided f a.place) split can.provided
+
+  step-room : (at : ℕ) → MayWait at step → 0 < room_at f.board at
+  step-room at may = room-some at step rest (room_at f.board at) may (step-provided.room at)
+
+  -- the job that made no arrival is in the rounds that the next step asks for
+  rounds-kept : ((q : ℕ) → cond {A = ℕ} (is_arrival q step) 1 0 ≡ 0) → (b : PlainFloor)
+      → ((q : ℕ) → round_of b a.place q ≡ round_of f.board a.place q) → (q : ℕ)
+      → round_of b a.place q ≡ count_by (is_arrival q) (take (next + 1) a.job.now.steps)
+  rounds-kept none b kept q =
+      omega (arith, kept q, can.rounds q, made-count q a.job.now.steps next step its_step, none q)
+
+  module _ {X : Type 0} (go after : Heard → X) (g : Shared) (q : Progress) where
+    pub did : Hears f g go after → g.board.kinds ≡ f.board.kinds
+        → IsReady g.board a.place (wait_in q) (steps_left a.job.now.steps q)
+        → IsInRounds g.board a.place a.job.now.steps q
+        → Moves a.place f.board f.parties (step ∷ rest) g.board g.parties (steps_left a.job.now.steps q)
+        → Did a f (Stepping next) go after g q
+    did hears kinds ready rounds moves = record {
+      hears = hears;
+      stands = record { kinds = kinds ∙ can.stands.kinds; ready = ready };
+      rounds = rounds;
+      moves = subst (λ steps. Moves a.place f.board f.parties steps g.board g.parties (steps_left a.job.now.steps q))
+          (sym split) moves;
+    }
+
+-- a job that was turned away
+turned-ready : (b : PlainFloor) (place at : ℕ) (steps : List Step) → IsReady b place None steps
+    → IsReady (with_less_room b at) place None []
+turned-ready b place at steps ready = record {
+  job = record { waits = ready.job.waits; holds = ready.job.holds; rounds = ready.job.rounds; each = ready.job.each };
+  waits = ready.waits;
+  holdable = ready.holdable;
+  makeable = tt;
+}
+
+-- the numbers of steps and turns stay small
+pub next-small : (a : Actor) (f : Shared) (next : ℕ) (step : Step) → CanAct a f (Stepping next)
+    → slice_get a.job.now.steps next ≡ Some step → next + 1 ≤ 64
+next-small a f next step can its_step = omega (arith, get-below a.job.now.steps next step its_step, can.few_steps)
+
+pub work-small : (a : Actor) (f : Shared) (next turns : ℕ) → CanAct a f (Stepping next)
+    → slice_get a.job.now.steps next ≡ Some (Work turns) → a.turn + turns ≤ 41000
+work-small a f next turns can its_step =
+    let few : turns ≤ 1000 = (step-ready a f next (Work turns) can its_step).makeable.0 in
+    omega (arith, few, can.turn)
+
+-- what the calls of steps ask for
+pub take-resource : (a : Actor) (f : Shared) (next at : ℕ) → CanAct a f (Stepping next)
+    → slice_get a.job.now.steps next ≡ Some (Take at) → IsHoldable (kind_at f at)
+take-resource a f next at can its_step = (step-ready a f next (Take at) can its_step).makeable.0
+
+pub take-room : (a : Actor) (f : Shared) (next at : ℕ) → CanAct a f (Stepping next)
+    → slice_get a.job.now.steps next ≡ Some (Take at) → 0 < room_at f.board at
+take-room a f next at can its_step = step-room a f next (Take at) can its_step at (may-take at)
+
+pub wait-resource : (a : Actor) (f : Shared) (next at : ℕ) → CanAct a f (Stepping next)
+    → slice_get a.job.now.steps next ≡ Some (Await at) → IsLatch (kind_at f at)
+wait-resource a f next at can its_step = (step-ready a f next (Await at) can its_step).makeable.0
+
+pub wait-room : (a : Actor) (f : Shared) (next at : ℕ) → CanAct a f (Stepping next)
+    → slice_get a.job.now.steps next ≡ Some (Await at) → 0 < room_at f.board at
+wait-room a f next at can its_step = step-room a f next (Await at) can its_step at (may-await at)
+
+pub down-resource : (a : Actor) (f : Shared) (next at : ℕ) → CanAct a f (Stepping next)
+    → slice_get a.job.now.steps next ≡ Some (Down at) → IsLatch (kind_at f at)
+down-resource a f next at can its_step = (step-ready a f next (Down at) can its_step).makeable.0
+
+pub give-resource : (a : Actor) (f : Shared) (next at : ℕ) → CanAct a f (Stepping next)
+    → slice_get a.job.now.steps next ≡ Some (Give at) → IsHoldable (kind_at f at)
+give-resource a f next at can its_step =
+    can-give f.board a.place at (drop (next + 1) a.job.now.steps) (step-ready a f next (Give at) can its_step)
+
+pub give-holds : (a : Actor) (f : Shared) (next at : ℕ) → CanAct a f (Stepping next)
+    → slice_get a.job.now.steps next ≡ Some (Give at) → IsHolding f.board at a.place
+give-holds a f next at can its_step =
+    holds-given f.board a.place at (drop (next + 1) a.job.now.steps) (step-ready a f next (Give at) can its_step)
+
+-- nothing is held of a latch or a barrier
+wait-held-by : (b : PlainFloor) (place at : ℕ) (got : Option FloorTake)
+    → places_held (board_waited b at place got) place ≡ places_held b place
+wait-held-by b place at (Some (Now element)) = refl
+wait-held-by b place at (Some (Waits number)) = refl
+wait-held-by b place at None = refl
+
+pub wait-held : (f g : Shared) (a : Actor) (at : ℕ) (got : Option FloorTake) → Waits_at f at a.place got g
+    → places_held g.board a.place ≡ places_held f.board a.place
+wait-held f g a at got comes = ap (λ b. places_held b a.place) comes.board ∙ wait-held-by f.board a.place at got
+
+arrive-held-by : (b : PlainFloor) (place at : ℕ) (got : Option FloorTake)
+    → places_held (board_arrived b at place got) place ≡ places_held b place
+arrive-held-by b place at (Some (Now element)) = refl
+arrive-held-by b place at (Some (Waits number)) = refl
+arrive-held-by b place at None = refl
+
+pub arrive-held : (f g : Shared) (a : Actor) (at : ℕ) (got : Option FloorTake) → Arrives f at a.place got g
+    → places_held g.board a.place ≡ places_held f.board a.place
+arrive-held f g a at got comes = ap (λ b. places_held b a.place) comes.board ∙ arrive-held-by f.board a.place at got
+
+-- a take
+take-by : (a : Actor) (f g : Shared) (next at : ℕ) (got : Option FloorTake) → CanAct a f (Stepping next)
+    → slice_get a.job.now.steps next ≡ Some (Take at) → Takes f at a.place got g
+    → Did a f (Stepping next) (take_step a next at) (made_so (stop_of next at 0 got)) g
+    (after_stop next (stop_of next at 0 got))
+take-by a f g next at (Some (Now element)) can its_step comes =
+    let b : PlainFloor = after_take f.board at a.place (Now element) in
+    did a f next (Take at) can its_step (take_step a next at) (made_so None) g (Stepping (next + 1))
+    (record {
+      later = take-later f at a.place _ g comes (take-resource a f next at can its_step) can.stands.ready.job
+          can.stands.ready.waits;
+      answers = answer.come (Some (Now element)) comes.drew comes.with_it ∷ [];
+      plays = λ more. ap (made_so None) (came-is f at 0 a.place b f.parties (Some (Now element)) g comes more);
+    })
+    (ap (λ c. c.kinds) comes.board)
+    (rw comes.board (on_take-ready f.board a.place at element (drop (next + 1) a.job.now.steps)
+    (step-ready a f next (Take at) can its_step)))
+    (rounds-kept a f next (Take at) can its_step (λ q. refl) g.board (λ q. ap (λ c. round_of c a.place q) comes.board))
+    (rw (comes.board, comes.parties) (moves-taken a.place at f.board f.parties (Now element)
+    (drop (next + 1) a.job.now.steps)
+    (step-room a f next (Take at) can its_step at (may-take at))))
+take-by a f g next at (Some (Waits number)) can its_step comes =
+    let b : PlainFloor = after_take f.board at a.place (Waits number) in
+    did a f next (Take at) can its_step (take_step a next at) (made_so (Some (Waiting (next + 1) at 0 number))) g
+    (Waiting (next + 1) at 0 number)
+    (record {
+      later = take-later f at a.place _ g comes (take-resource a f next at can its_step) can.stands.ready.job
+          can.stands.ready.waits;
+      answers = answer.come (Some (Waits number)) comes.drew comes.with_it ∷ [];
+      plays = λ more. ap (made_so (Some (Waiting (next + 1) at 0 number)))
+          (came-is f at 0 a.place b f.parties (Some (Waits number)) g comes more);
+    })
+    (ap (λ c. c.kinds) comes.board)
+    (rw comes.board (waiting-ready f.board a.place at number (drop (next + 1) a.job.now.steps)
+    (step-ready a f next (Take at) can its_step)))
+    (rounds-kept a f next (Take at) can its_step (λ q. refl) g.board (λ q. ap (λ c. round_of c a.place q) comes.board))
+    (rw (comes.board, comes.parties) (moves-taken a.place at f.board f.parties (Waits number)
+    (drop (next + 1) a.job.now.steps)
+    (step-room a f next (Take at) can its_step at (may-take at))))
+take-by a f g next at None can its_step comes =
+    let b : PlainFloor = with_less_room f.board at in
+    did a f next (Take at) can its_step (take_step a next at) (made_so (Some (Ended end.Crowded))) g (Ended end.Crowded)
+    (record {
+      later = take-later f at a.place _ g comes (take-resource a f next at can its_step) can.stands.ready.job
+          can.stands.ready.waits;
+      answers = answer.come None comes.drew comes.with_it ∷ [];
+      plays = λ more. ap (made_so (Some (Ended end.Crowded))) (came-is f at 0 a.place b f.parties None g comes more);
+    })
+    (ap (λ c. c.kinds) comes.board)
+    (rw comes.board (turned-ready f.board a.place at (Take at ∷ drop (next + 1) a.job.now.steps)
+    (step-ready a f next (Take at) can its_step)))
+    tt
+    (rw (comes.board, comes.parties) (moves-turned a.place at f.board f.parties (Take at)
+    (drop (next + 1) a.job.now.steps)
+    (may-take at) (step-room a f next (Take at) can its_step at (may-take at))))
+
+pub take-did : (a : Actor) (f g : Shared) (next at : ℕ) (got known : Option FloorTake) → CanAct a f (Stepping next)
+    → slice_get a.job.now.steps next ≡ Some (Take at) → Takes f at a.place got g → got ≡ known
+    → Did a f (Stepping next) (take_step a next at) (made_so (stop_of next at 0 known)) g
+    (after_stop next (stop_of next at 0 known))
+take-did a f g next at got known can its_step comes is =
+    let Goal : Option FloorTake → Type 0 = λ o.
+    Did a f (Stepping next) (take_step a next at) (made_so (stop_of next at 0 o)) g
+    (after_stop next (stop_of next at 0 o)) in
+    subst Goal is (take-by a f g next at got can its_step comes)
+
+-- a wait at a latch
+wait-by : (a : Actor) (f g : Shared) (next at : ℕ) (got : Option FloorTake) → CanAct a f (Stepping next)
+    → slice_get a.job.now.steps next ≡ Some (Await at) → Waits_at f at a.place got g
+    → Did a f (Stepping next) (wait_step a next at) (made_so (stop_of next at 0 got)) g
+    (after_stop next (stop_of next at 0 got))
+wait-by a f g next at (Some (Now element)) can its_step comes =
+    let b : PlainFloor = after_wait f.board at a.place (Now element) in
+    did a f next (Await at) can its_step (wait_step a next at) (made_so None) g (Stepping (next + 1))
+    (record {
+      later = wait-later f at a.place _ g comes (wait-resource a f next at can its_step) can.stands.ready.job
+          can.stands.ready.waits;
+      answers = answer.come (Some (Now element)) comes.drew comes.with_it ∷ [];
+      plays = λ more. ap (made_so None) (came-is f at 0 a.place b f.parties (Some (Now element)) g comes more);
+    })
+    (ap (λ c. c.kinds) comes.board)
+    (rw comes.board (on_pass-ready f.board a.place at element (drop (next + 1) a.job.now.steps)
+    (step-ready a f next (Await at) can its_step)))
+    (rounds-kept a f next (Await at) can its_step (λ q. refl) g.board (λ q. ap (λ c. round_of c a.place q) comes.board))
+    (rw (comes.board, comes.parties) (moves-waited a.place at f.board f.parties (Now element)
+    (drop (next + 1) a.job.now.steps)
+    (step-room a f next (Await at) can its_step at (may-await at))))
+wait-by a f g next at (Some (Waits number)) can its_step comes =
+    let b : PlainFloor = after_wait f.board at a.place (Waits number) in
+    did a f next (Await at) can its_step (wait_step a next at) (made_so (Some (Waiting (next + 1) at 0 number))) g
+    (Waiting (next + 1) at 0 number)
+    (record {
+      later = wait-later f at a.place _ g comes (wait-resource a f next at can its_step) can.stands.ready.job
+          can.stands.ready.waits;
+      answers = answer.come (Some (Waits number)) comes.drew comes.with_it ∷ [];
+      plays = λ more. ap (made_so (Some (Waiting (next + 1) at 0 number)))
+          (came-is f at 0 a.place b f.parties (Some (Waits number)) g comes more);
+    })
+    (ap (λ c. c.kinds) comes.board)
+    (rw comes.board (on_wait-ready f.board a.place at number (drop (next + 1) a.job.now.steps)
+    (step-ready a f next (Await at) can its_step)))
+    (rounds-kept a f next (Await at) can its_step (λ q. refl) g.board (λ q. ap (λ c. round_of c a.place q) comes.board))
+    (rw (comes.board, comes.parties) (moves-waited a.place at f.board f.parties (Waits number)
+    (drop (next + 1) a.job.now.steps)
+    (step-room a f next (Await at) can its_step at (may-await at))))
+wait-by a f g next at None can its_step comes =
+    let b : PlainFloor = with_less_room f.board at in
+    did a f next (Await at) can its_step (wait_step a next at) (made_so (Some (Ended end.Crowded))) g
+    (Ended end.Crowded)
+    (record {
+      later = wait-later f at a.place _ g comes (wait-resource a f next at can its_step) can.stands.ready.job
+          can.stands.ready.waits;
+      answers = answer.come None comes.drew comes.with_it ∷ [];
+      plays = λ more. ap (made_so (Some (Ended end.Crowded))) (came-is f at 0 a.place b f.parties None g comes more);
+    })
+    (ap (λ c. c.kinds) comes.board)
+    (rw comes.board (turned-ready f.board a.place at (Await at ∷ drop (next + 1) a.job.now.steps)
+    (step-ready a f next (Await at) can its_step)))
+    tt
+    (rw (comes.board, comes.parties) (moves-turned a.place at f.board f.parties (Await at)
+    (drop (next + 1) a.job.now.steps)
+    (may-await at) (step-room a f next (Await at) can its_step at (may-await at))))
+
+pub wait-did : (a : Actor) (f g : Shared) (next at : ℕ) (got known : Option FloorTake) → CanAct a f (Stepping next)
+    → slice_get a.job.now.steps next ≡ Some (Await at) → Waits_at f at a.place got g → got ≡ known
+    → Did a f (Stepping next) (wait_step a next at) (made_so (stop_of next at 0 known)) g
+    (after_stop next (stop_of next at 0 known))
+wait-did a f g next at got known can its_step comes is =
+    let Goal : Option FloorTake → Type 0 = λ o.
+    Did a f (Stepping next) (wait_step a next at) (made_so (stop_of next at 0 o)) g
+    (after_stop next (stop_of next at 0 o)) in
+    subst Goal is (wait-by a f g next at got can its_step comes)
+
+-- an arrival
+module _ (a : Actor) (f : Shared) (next at : ℕ) (can : CanAct a f (Stepping next))
+    (its_step : slice_get a.job.now.steps next ≡ Some (Arrive at)) where
+  abbrev round : ℕ
+  round = round_of f.board a.place at
+
+  pub arrives-in : HasRound (kind_at f at) round
+  arrives-in = (step-ready a f next (Arrive at) can its_step).makeable.0
+
+  pub arrive-room : 0 < room_at f.board at
+  arrive-room = step-room a f next (Arrive at) can its_step at (may-arrive at)
+
+  pub arrive-party : 0 < parties_at f at round
+  arrive-party =
+      party-some at round (drop (next + 1) a.job.now.steps) (parties_at f at round)
+      ((step-provided a f next (Arrive at) can its_step).parties at round)
+
+  rounds-next : (b : PlainFloor) → b.rounds ≡ (after_arrive f.board at a.place (Now 0)).rounds → (q : ℕ)
+      → round_of b a.place q ≡ count_by (is_arrival q) (take (next + 1) a.job.now.steps)
+  rounds-next b rounds q = go (cases_eq q at)
+    where
+      job : IsJob f.board a.place
+      job = can.stands.ready.job
+
+      row : round_of b a.place q ≡ round_of (after_arrive f.board at a.place (Now 0)) a.place q
+      row = ap (λ rs. get_or (get_or rs a.place []) q 0) rounds
+
+      go : (q ≡ at) ⊎ (q ≢ at) → round_of b a.place q ≡ count_by (is_arrival q) (take (next + 1) a.job.now.steps)
+      go (inl here) =
+          let one : cond {A = ℕ} (is_arrival q (Arrive at)) 1 0 ≡ 1
+          = ap (λ b. cond {A = ℕ} b 1 0) (eq-eqb at q (sym here)) in
+          let moved : round_of b a.place q ≡ round_of f.board a.place q + 1
+          = row ∙ ap (round_of (after_arrive f.board at a.place (Now 0)) a.place) here
+          ∙ arrived-here f.board a.place at job (has-place f.board.kinds at round arrives-in)
+          ∙ ap (λ n. round_of f.board a.place n + 1) (sym here) in
+          omega (arith, moved, can.rounds q, made-count q a.job.now.steps next (Arrive at) its_step, one)
+      go (inr other) =
+          let none : cond {A = ℕ} (is_arrival q (Arrive at)) 1 0 ≡ 0
+          = ap (λ b. cond {A = ℕ} b 1 0) (ne_eqb at q (λ e. other (sym e))) in
+          let kept : round_of b a.place q ≡ round_of f.board a.place q
+          = row ∙ arrived-else f.board a.place at q job other in
+          omega (arith, kept, can.rounds q, made-count q a.job.now.steps next (Arrive at) its_step, none)
+
+  arrive-by : (g : Shared) (got : Option FloorTake) → Arrives f at a.place got g
+      → Did a f (Stepping next) (arrive_step a next at) (made_so (stop_of next at round got)) g
+      (after_stop next (stop_of next at round got))
+  arrive-by g (Some (Now element)) comes =
+      let b : PlainFloor = after_arrive f.board at a.place (Now element) in
+      did a f next (Arrive at) can its_step (arrive_step a next at) (made_so None) g (Stepping (next + 1))
+      (record {
+        later = arrive-later f at a.place _ g comes arrives-in can.stands.ready.job can.stands.ready.waits;
+        answers = answer.come (Some (Now element)) comes.drew comes.with_it ∷ [];
+        plays = λ more. ap (made_so None) (came-is f at round a.place b _ (Some (Now element)) g comes more);
+      })
+      (ap (λ c. c.kinds) comes.board)
+      (rw comes.board (on_last-ready f.board a.place at element (drop (next + 1) a.job.now.steps)
+      (step-ready a f next (Arrive at) can its_step)))
+      (rounds-next g.board (ap (λ c. c.rounds) comes.board))
+      (rw (comes.board, comes.parties) (moves-arrived a.place at f.board f.parties (drop (next + 1) a.job.now.steps)
+      can.stands.ready.job arrives-in arrive-room arrive-party (Now element)))
+  arrive-by g (Some (Waits number)) comes =
+      let b : PlainFloor = after_arrive f.board at a.place (Waits number) in
+      did a f next (Arrive at) can its_step (arrive_step a next at)
+      (made_so (Some (Waiting (next + 1) at round number))) g (Waiting (next + 1) at round number)
+      (record {
+        later = arrive-later f at a.place _ g comes arrives-in can.stands.ready.job can.stands.ready.waits;
+        answers = answer.come (Some (Waits number)) comes.drew comes.with_it ∷ [];
+        plays = λ more. ap (made_so (Some (Waiting (next + 1) at round number)))
+            (came-is f at round a.place b _ (Some (Waits number)) g comes more);
+      })
+      (ap (λ c. c.kinds) comes.board)
+      (rw comes.board (on_arrive-ready f.board a.place at number (drop (next + 1) a.job.now.steps)
+      (step-ready a f next (Arrive at) can its_step)))
+      (rounds-next g.board (ap (λ c. c.rounds) comes.board))
+      (rw (comes.board, comes.parties) (moves-arrived a.place at f.board f.parties (drop (next + 1) a.job.now.steps)
+      can.stands.ready.job arrives-in arrive-room arrive-party (Waits number)))
+  arrive-by g None comes =
+      let b : PlainFloor = with_less_room f.board at in
+      did a f next (Arrive at) can its_step (arrive_step a next at) (made_so (Some (Ended end.Crowded))) g
+      (Ended end.Crowded)
+      (record {
+        later = arrive-later f at a.place _ g comes arrives-in can.stands.ready.job can.stands.ready.waits;
+        answers = answer.come None comes.drew comes.with_it ∷ [];
+        plays = λ more. ap (made_so (Some (Ended end.Crowded))) (came-is f at round a.place b _ None g comes more);
+      })
+      (ap (λ c. c.kinds) comes.board)
+      (rw comes.board (turned-ready f.board a.place at (Arrive at ∷ drop (next + 1) a.job.now.steps)
+      (step-ready a f next (Arrive at) can its_step)))
+      tt
+      (rw (comes.board, comes.parties) (moves-turned a.place at f.board f.parties (Arrive at)
+      (drop (next + 1) a.job.now.steps) (may-arrive at) arrive-room))
+
+  -- the code counts the round from the steps before
+  pub arrive-did : (g : Shared) (got known : Option FloorTake) (counted : ℕ) → Arrives f at a.place got g → got ≡ known
+      → counted ≡ count_by (is_arrival at) (take next a.job.now.steps)
+      → Did a f (Stepping next) (arrive_step a next at) (made_so (stop_of next at counted known)) g
+      (after_stop next (stop_of next at counted known))
+  arrive-did g got known counted comes is count =
+      let Goal : ℕ → Option FloorTake → Type 0 = λ r o.
+      Did a f (Stepping next) (arrive_step a next at) (made_so (stop_of next at r o)) g
+      (after_stop next (stop_of next at r o)) in
+      subst (λ r. Goal r known) (can.rounds at ∙ sym count) (subst (Goal round) is (arrive-by g got comes))
+
+-- a count down
+pub down-did : (a : Actor) (f g : Shared) (next at : ℕ) (got : FloorDown) → CanAct a f (Stepping next)
+    → slice_get a.job.now.steps next ≡ Some (Down at) → Downs f at got g
+    → Did a f (Stepping next) (count_down a at) same g (Stepping (next + 1))
+down-did a f g next at got can its_step downs =
+    let ready : IsReady f.board a.place None (Down at ∷ drop (next + 1) a.job.now.steps)
+    = step-ready a f next (Down at) can its_step in
+    did a f next (Down at) can its_step (count_down a at) same g (Stepping (next + 1))
+    (record {
+      later = down-later f at got g downs;
+      answers = answer.counted got ∷ [];
+      plays = λ more. counted-is f (role a) at got g downs more;
+    })
+    (ap (λ c. c.kinds) downs.board)
+    (rw downs.board (record {
+      job = ready.job;
+      waits = ready.waits;
+      holdable = ready.holdable;
+      makeable = ready.makeable.1;
+    }))
+    (rounds-kept a f next (Down at) can its_step (λ q. refl) g.board (λ q. ap (λ c. round_of c a.place q) downs.board))
+    (rw (downs.board, downs.parties) (moves-past a.place f.board f.parties (Down at) (drop (next + 1) a.job.now.steps)))
+
+-- a give
+pub give-did : (a : Actor) (f g : Shared) (next at : ℕ) (got : SharedGive) → CanAct a f (Stepping next)
+    → slice_get a.job.now.steps next ≡ Some (Give at) → Gives f at a.place got g
+    → Did a f (Stepping next) (give_one a at) same g (Stepping (next + 1))
+give-did a f g next at got can its_step gives =
+    did a f next (Give at) can its_step (give_one a at) same g (Stepping (next + 1))
+    (record {
+      later = give-later f at a.place got g gives (give-resource a f next at can its_step) can.stands.ready.job
+          (give-holds a f next at can its_step);
+      answers = answer.gave got ∷ [];
+      plays = λ more. gave-is f (role a) at got g gives more;
+    })
+    (ap (λ c. c.kinds) gives.board)
+    (rw gives.board (on_give-ready f.board a.place at (Free 0) (drop (next + 1) a.job.now.steps)
+    (step-ready a f next (Give at) can its_step)))
+    (rounds-kept a f next (Give at) can its_step (λ q. refl) g.board (λ q. ap (λ c. round_of c a.place q) gives.board))
+    (rw (gives.board, gives.parties) (moves-on a.place f.board f.parties (Give at ∷ drop (next + 1) a.job.now.steps)
+    f.board f.parties (drop (next + 1) a.job.now.steps) _ f.parties (drop (next + 1) a.job.now.steps)
+    (moves-past a.place f.board f.parties (Give at) (drop (next + 1) a.job.now.steps))
+    (moves-given a.place at f.board f.parties (drop (next + 1) a.job.now.steps))))
+
+-- work
+pub work-did : (a : Actor) (f : Shared) (next turns : ℕ) → CanAct a f (Stepping next)
+    → slice_get a.job.now.steps next ≡ Some (Work turns)
+    → Did a f (Stepping next) (make_step a next (Work turns)) (made_so (Some (Working (next + 1) (a.turn + turns)))) f
+    (Working (next + 1) (a.turn + turns))
+work-did a f next turns can its_step =
+    let ready : IsReady f.board a.place None (Work turns ∷ drop (next + 1) a.job.now.steps)
+    = step-ready a f next (Work turns) can its_step in
+    did a f next (Work turns) can its_step (make_step a next (Work turns))
+    (made_so (Some (Working (next + 1) (a.turn + turns)))) f (Working (next + 1) (a.turn + turns))
+    (record { later = later-none f; answers = []; plays = λ more. refl }) refl
+    (record { job = ready.job; waits = ready.waits; holdable = ready.holdable; makeable = ready.makeable.1 })
+    (rounds-kept a f next (Work turns) can its_step (λ q. refl) f.board (λ q. refl))
+    (moves-past a.place f.board f.parties (Work turns) (drop (next + 1) a.job.now.steps))
+
+-- what a job did, and then further
+pub did-then : {X : Type 0} (a : Actor) (f : Shared) (p : Progress) (go mid after : Heard → X) (g : Shared)
+    (q : Progress)
+    (k : Shared) (s : Progress) → Did a f p go mid g q → Did a g q mid after k s → Did a f p go after k s
+did-then a f p go mid after g q k s first second = record {
+  hears = hears-then f g k go mid after first.hears second.hears;
+  stands = second.stands;
+  rounds = second.rounds;
+  moves = moves-on a.place f.board f.parties (steps_left a.job.now.steps p) g.board g.parties
+      (steps_left a.job.now.steps q) k.board k.parties (steps_left a.job.now.steps s) first.moves second.moves;
+}
+
+-- under what follows in the machine
+pub did-on : {X Y : Type 0} (on : X → Y) (a : Actor) (f : Shared) (p : Progress) (go after : Heard → X) (g : Shared)
+    (q : Progress) → Did a f p go after g q → Did a f p (λ h. on (go h)) (λ h. on (after h)) g q
+did-on on a f p go after g q first = record {
+  hears = hears-on on f g go after first.hears;
+  stands = first.stands;
+  rounds = first.rounds;
+  moves = first.moves;
+}
+
+-- a job that did something can go on
+pub can-then : {X : Type 0} (a : Actor) (f : Shared) (p : Progress) (go after : Heard → X) (g : Shared) (q : Progress)
+    → CanAct a f p → Did a f p go after g q → CanAct a g q
+can-then a f p go after g q can done = record {
+  stands = done.stands;
+  rounds = done.rounds;
+  provided = record {
+    room = λ at. omega (arith, done.moves.room at, can.provided.room at);
+    parties = λ at round. omega (arith, done.moves.comes at round, can.provided.parties at round);
+  };
+  few_steps = can.few_steps;
+  turn = can.turn;
+}
+
+-- a job that makes its steps
+pub record SteppingOn (a : Actor) (f : Shared) (first next : ℕ) (g : Shared) : Type 0 where
+  pub did : Did a f (Stepping first) (go_on a first) (go_on a next) g (Stepping next)
+  pub can : CanAct a g (Stepping next)
+
+pub stepping-starts : (a : Actor) (f : Shared) (first : ℕ) → CanAct a f (Stepping first) → SteppingOn a f first first f
+stepping-starts a f first can = record {
+  did = record {
+    hears = hears-none f (go_on a first);
+    stands = can.stands;
+    rounds = can.rounds;
+    moves = moves-none a.place f.board f.parties (drop first a.job.now.steps);
+  };
+  can = can;
+}
+
+pub step-at : (steps : List Step) (next : ℕ) (step d : Step) → next < length steps → step ≡ get_or steps next d
+    → slice_get steps next ≡ Some step
+step-at steps next step d below is = rw is (slice_get-get_or steps next d below)
+
+module _ (a : Actor) (f g k : Shared) (first next : ℕ) (step : Step) (on : SteppingOn a f first next g)
+    (its_step : slice_get a.job.now.steps next ≡ Some step) where
+  -- what remains after the step
+  abbrev onward : MadeIn Heard → ActedIn Heard
+  onward m = stop_or m (machine.after_steps heard_world (role a) (drop (next + 1) a.job.now.steps) (next + 1) m.scene)
+
+  so-far : Did a f (Stepping first) (go_on a first) (λ h. onward (make_step a next step h)) g (Stepping next)
+  so-far =
+      let Goal : List Step → Type 0 = λ steps.
+      Did a f (Stepping first) (go_on a first) (λ h. machine.after_steps heard_world (role a) steps next h) g
+      (Stepping next) in
+      subst Goal (drop-at a.job.now.steps next step its_step) on.did
+
+  pub stops-with : (p : Progress) → Did a g (Stepping next) (make_step a next step) (made_so (Some p)) k p
+      → Did a f (Stepping first) (go_on a first) (left_so p) k p
+  stops-with p makes =
+      did-then a f (Stepping first) (go_on a first) (λ h. onward (make_step a next step h)) (left_so p) g
+      (Stepping next) k p
+      so-far (did-on onward a g (Stepping next) (make_step a next step) (made_so (Some p)) k p makes)
+
+  pub steps-on : Did a g (Stepping next) (make_step a next step) (made_so None) k (Stepping (next + 1))
+      → SteppingOn a f first (next + 1) k
+  steps-on makes = record {
+    did = did-then a f (Stepping first) (go_on a first) (λ h. onward (make_step a next step h)) (go_on a (next + 1)) g
+        (Stepping next) k (Stepping (next + 1)) so-far
+        (did-on onward a g (Stepping next) (make_step a next step) (made_so None) k (Stepping (next + 1)) makes);
+    can = can-then a g (Stepping next) (make_step a next step) (made_so None) k (Stepping (next + 1)) on.can makes;
+  }
+
+-- after its last step
+pub finish-stands : (a : Actor) (f g : Shared) (first next : ℕ) → SteppingOn a f first next g
+    → length a.job.now.steps ≤ next → Stands a g None []
+finish-stands a f g first next on past = record {
+  kinds = on.can.stands.kinds;
+  ready = ready-to-end g.board a.place None (drop next a.job.now.steps) on.can.stands.ready;
+}
+
+pub finishes : (a : Actor) (f g k : Shared) (first next : ℕ) (p : Progress) → SteppingOn a f first next g
+    → length a.job.now.steps ≤ next → GaveUp a g (finish a) (left_so p) k → p ≡ Ended end.Done
+    → Did a f (Stepping first) (go_on a first) (left_so p) k p
+finishes a f g k first next p on past gave is =
+    let none : drop next a.job.now.steps ≡ [] = drop_all next a.job.now.steps past in
+    let before : Hears f g (go_on a first) (finish a)
+    = subst (λ steps. Hears f g (go_on a first) (λ h. machine.after_steps heard_world (role a) steps next h)) none
+    on.did.hears in
+    let heard_all : Hears f k (go_on a first) (left_so p) = hears-then f g k (go_on a first) (finish a) (left_so p)
+    before gave.hears in
+    let moved : Moves a.place f.board f.parties (drop first a.job.now.steps) k.board k.parties []
+    = moves-on a.place f.board f.parties (drop first a.job.now.steps) g.board g.parties (drop next a.job.now.steps)
+    k.board
+    k.parties [] on.did.moves (moves-on a.place g.board g.parties (drop next a.job.now.steps) g.board g.parties []
+    k.board k.parties [] (moves-end a.place g.board g.parties (drop next a.job.now.steps)) gave.moves) in
+    let Goal : Progress → Type 0 = λ q. Did a f (Stepping first) (go_on a first) (left_so p) k q in
+    subst Goal (sym is) (record { hears = heard_all; stands = gave.stands; rounds = tt; moves = moved })
+
+-- a look
+look-by : (a : Actor) (f g : Shared) (next at round number : ℕ) (got : FloorLook)
+    → CanAct a f (Waiting next at round number) → HasLooked f a.place got g
+    → Looks f a.place (wait_at at round number) got g
+look-by a f g next at round number got can looked = looked.at (wait_at at round number) can.stands.ready.waits
+
+pub pending-did : (a : Actor) (f g : Shared) (next at round number : ℕ) (got : FloorLook)
+    → CanAct a f (Waiting next at round number) → HasLooked f a.place got g → got ≡ Pending
+    → Did a f (Waiting next at round number) (look_at a next at round number)
+    (left_so (Waiting next at round number)) g (Waiting next at round number)
+pending-did a f g next at round number got can looked is =
+    let Same : FloorLook → Type 0 = λ o. Looks f a.place (wait_at at round number) o g in
+    let looks : Looks f a.place (wait_at at round number) Pending g
+    = subst Same is (look-by a f g next at round number got can looked) in
+    let p : Progress = Waiting next at round number in
+    record {
+      hears = record {
+        later = look-later f a.place (wait_at at round number) Pending g looks can.stands.ready.job
+            can.stands.ready.waits;
+        answers = answer.looked Pending ∷ [];
+        plays = λ more. ap (left_so p) (looked-is f (role a) (wait_at at round number) Pending g looks more);
+      };
+      stands = record {
+        kinds = ap (λ c. c.kinds) looks.board
+            ∙ can.stands.kinds;
+        ready = rw looks.board can.stands.ready;
+      };
+      rounds = λ q. ap (λ c. round_of c a.place q) looks.board ∙ can.rounds q;
+      moves = rw (looks.board, looks.parties) (moves-none a.place f.board f.parties (drop next a.job.now.steps));
+    }
+
+pub granted-did : (a : Actor) (f g : Shared) (next at round number element : ℕ) (got : FloorLook)
+    → CanAct a f (Waiting next at round number) → HasLooked f a.place got g → got ≡ Granted element
+    → Did a f (Waiting next at round number) (look_at a next at round number) (go_on a next) g (Stepping next)
+granted-did a f g next at round number element got can looked is =
+    let Same : FloorLook → Type 0 = λ o. Looks f a.place (wait_at at round number) o g in
+    let looks : Looks f a.place (wait_at at round number) (Granted element) g
+    = subst Same is (look-by a f g next at round number got can looked) in
+    let steps : List Step = drop next a.job.now.steps in
+    let b : PlainFloor = after_look f.board a.place (Granted element) in
+    let moved : Moves a.place f.board f.parties steps b f.parties steps
+    = moves-looked a.place f.board f.parties element steps in
+    record {
+      hears = record {
+        later = look-later f a.place (wait_at at round number) (Granted element) g looks can.stands.ready.job
+            can.stands.ready.waits;
+        answers = answer.looked (Granted element) ∷ [];
+        plays = λ more. ap (go_on a next) (looked-is f (role a) (wait_at at round number) (Granted element) g looks
+            more);
+      };
+      stands = record {
+        kinds = ap (λ c. c.kinds) looks.board ∙ moved.kinds ∙ can.stands.kinds;
+        ready = rw looks.board (after_looking-ready f.board a.place (wait_at at round number) element steps
+            can.stands.ready);
+      };
+      rounds = λ q. ap (λ c. round_of c a.place q) looks.board
+          ∙ ap (λ rs. get_or (get_or rs a.place []) q 0) (looked-rounds a.place f.board element) ∙ can.rounds q;
+      moves = rw (looks.board, looks.parties) moved;
+    }
+
+-- a leave
+more-left : (k : Option Kind) (f : Shared) (wait : JobWait) (q r : ℕ)
+    → parties_in f.parties q r ≤ parties_in (parties_left_at k f wait) q r
+more-left (Some (kind.Rounds parties rounds)) f wait q r = parties-more f.parties wait.at wait.round q r
+more-left (Some (kind.Semaphore permits)) f wait q r = omega arith
+more-left (Some kind.Mutex) f wait q r = omega arith
+more-left (Some (kind.Pool elements)) f wait q r = omega arith
+more-left (Some (kind.Latch count)) f wait q r = omega arith
+more-left None f wait q r = omega arith
+
+leave-moves : (place : ℕ) (f : Shared) (wait : JobWait) (got : FloorLeave)
+    → Moves place f.board f.parties [] (after_leave f.board place got) (parties_left f wait got) []
+leave-moves place f wait Gone =
+    moves-left place f.board f.parties (parties_left f wait Gone) [] (more-left (kind_at f wait.at) f wait)
+leave-moves place f wait (Late element) = moves-late place f.board f.parties element []
+
+pub leave-did : (a : Actor) (f g : Shared) (at round number : ℕ) (got : FloorLeave) (e : End)
+    → Stands a f (Some (wait_at at round number)) [] → HasLeft f a.place got g → e ≡ end_of got
+    → GaveUp a f (leave_end a at round number) (ended_so e) g
+leave-did a f g at round number got e stands left is =
+    let wait : JobWait = wait_at at round number in
+    let leaves : Leaves f a.place wait got g = left.at wait stands.ready.waits in
+    let moved : Moves a.place f.board f.parties [] (after_leave f.board a.place got) (parties_left f wait got) []
+    = leave-moves a.place f wait got in
+    let Goal : End → Type 0 = λ x. GaveUp a f (leave_end a at round number) (ended_so x) g in
+    subst Goal (sym is) (record {
+      hears = record {
+        later = leave-later f a.place wait got g leaves stands.ready.job stands.ready.waits;
+        answers = answer.left got leaves.stays ∷ [];
+        plays = λ more. ap (λ h. (h, end_of got)) (left-is f (role a) wait got g leaves more);
+      };
+      stands = record {
+        kinds = ap (λ c. c.kinds) leaves.board ∙ moved.kinds ∙ stands.kinds;
+        ready = rw leaves.board (leave-ready f.board a.place wait got [] stands.ready);
+      };
+      moves = rw (leaves.board, leaves.parties) moved;
+    })
+
+-- a job that gives up
+abbrev give_up_all : Actor → Heard × End → ActedIn Heard
+give_up_all a left = left_at (machine.after_all_gives heard_world (role a) left.0) (Ended left.1)
+
+pub gives-up : (a : Actor) (f g k : Shared) (at round number : ℕ) (e : End) (held : List ℕ)
+    → GaveUp a f (leave_end a at round number) (ended_so e) g → held ≡ places_held g.board a.place
+    → GaveUp a g (give_each a held) same k
+    → GaveUp a f (give_up a at round number) (left_so (Ended e)) k
+gives-up a f g k at round number e held left is gives =
+    let on : Hears f g (give_up a at round number) (λ h. give_up_all a (h, e))
+    = hears-on (give_up_all a) f g (leave_end a at round number) (ended_so e) left.hears in
+    let back : Hears g k (give_each a (places_held g.board a.place)) same
+    = subst (λ l. Hears g k (give_each a l) same) is gives.hears in
+    let all : Hears g k (λ h. give_up_all a (h, e)) (left_so (Ended e)) = record {
+      later = back.later;
+      answers = back.answers;
+      plays = λ rest. ap (left_so (Ended e)) (back.plays rest);
+    } in
+    record {
+      hears = hears-then f g k (give_up a at round number) (λ h. give_up_all a (h, e)) (left_so (Ended e)) on all;
+      stands = gives.stands;
+      moves = moves-on a.place f.board f.parties [] g.board g.parties [] k.board k.parties [] left.moves gives.moves;
+    }
+
+-- the whole turn of a job, by how far it is
+pub stands-end : (a : Actor) (f : Shared) (wait : Option JobWait) (steps : List Step) → Stands a f wait steps
+    → Stands a f wait []
+stands-end a f wait steps stands = record {
+  kinds = stands.kinds;
+  ready = ready-to-end f.board a.place wait steps stands.ready;
+}
+
+pub works-on : (a : Actor) (f : Shared) (p : Progress) (next until : ℕ) → p ≡ Working next until → a.turn < until
+    → CanAct a f p → Did a f p (act a p) (left_so p) f p
+works-on a f p next until is below can =
+    let later : nat_lt a.turn until ≡ true = lt-ltb a.turn until below in
+    record {
+      hears = record { later = later-none f; answers = []; plays = λ rest. rw (is, later) refl };
+      stands = can.stands;
+      rounds = can.rounds;
+      moves = moves-none a.place f.board f.parties (steps_left a.job.now.steps p);
+    }
+
+pub rests-on : (a : Actor) (f : Shared) (p : Progress) (e : End) → p ≡ Ended e → CanAct a f p
+    → Did a f p (act a p) (left_so p) f p
+rests-on a f p e is can = record {
+  hears = record { later = later-none f; answers = []; plays = λ rest. rw is refl };
+  stands = can.stands;
+  rounds = can.rounds;
+  moves = moves-none a.place f.board f.parties (steps_left a.job.now.steps p);
+}
+
+-- a job that worked until now can make its steps
+pub worked-can : (a : Actor) (f : Shared) (p : Progress) (next until : ℕ) → p ≡ Working next until → CanAct a f p
+    → CanAct a f (Stepping next)
+worked-can a f p next until is can =
+    let here : CanAct a f (Working next until) = subst (CanAct a f) is can in
+    record {
+      stands = here.stands;
+      rounds = here.rounds;
+      provided = here.provided;
+      few_steps = here.few_steps;
+      turn = here.turn;
+    }
+
+pub worked-did : (a : Actor) (f g : Shared) (p : Progress) (next until : ℕ) (q : Progress) → p ≡ Working next until
+    → until ≤ a.turn → Did a f (Stepping next) (go_on a next) (left_so q) g q
+    → Did a f p (act a p) (left_so q) g q
+worked-did a f g p next until q is past made =
+    let later : nat_lt a.turn until ≡ false = le-ltb a.turn until past in
+    let Goal : Progress → Type 0 = λ x. Did a f x (act a x) (left_so q) g q in
+    subst Goal (sym is) (record {
+      hears = record {
+        later = made.hears.later;
+        answers = made.hears.answers;
+        plays = λ rest. rw later
+            (made.hears.plays rest);
+      };
+      stands = made.stands;
+      rounds = made.rounds;
+      moves = made.moves;
+    })
+
+pub stepping-did : (a : Actor) (f g : Shared) (p : Progress) (next : ℕ) (q : Progress) → p ≡ Stepping next
+    → Did a f (Stepping next) (go_on a next) (left_so q) g q → Did a f p (act a p) (left_so q) g q
+stepping-did a f g p next q is made =
+    let Goal : Progress → Type 0 = λ x. Did a f x (act a x) (left_so q) g q in
+    subst Goal (sym is) (record {
+      hears = record { later = made.hears.later; answers = made.hears.answers; plays = made.hears.plays };
+      stands = made.stands;
+      rounds = made.rounds;
+      moves = made.moves;
+    })
+
+-- the turn of a job that waits, by whether its deadline has come
+abbrev turn_of_waiting : Actor → ℕ → ℕ → ℕ → ℕ → Heard → Bool → ActedIn Heard
+turn_of_waiting a next at round number h due =
+    if due then give_up a at round number h else look_at a next at round number h
+
+pub gave-up-did : (a : Actor) (f g : Shared) (p : Progress) (next at round number : ℕ) (e : End)
+    → p ≡ Waiting next at round number → is_due a.job.now.deadline a.turn ≡ true
+    → GaveUp a f (give_up a at round number) (left_so (Ended e)) g
+    → Did a f p (act a p) (left_so (Ended e)) g (Ended e)
+gave-up-did a f g p next at round number e is due gave =
+    let Goal : Progress → Type 0 = λ x. Did a f x (act a x) (left_so (Ended e)) g (Ended e) in
+    subst Goal (sym is) (record {
+      hears = record {
+        later = gave.hears.later;
+        answers = gave.hears.answers;
+        plays = λ rest. ap (turn_of_waiting a next at round number (heard f (gave.hears.answers ++ rest))) due
+            ∙ gave.hears.plays rest;
+      };
+      stands = gave.stands;
+      rounds = tt;
+      moves = moves-on a.place f.board f.parties (drop next a.job.now.steps) f.board f.parties [] g.board g.parties []
+          (moves-end a.place f.board f.parties (drop next a.job.now.steps)) gave.moves;
+    })
+
+pub looked-did : (a : Actor) (f g : Shared) (p : Progress) (next at round number : ℕ) (q : Progress)
+    → p ≡ Waiting next at round number → is_due a.job.now.deadline a.turn ≡ false
+    → Did a f (Waiting next at round number) (look_at a next at round number) (left_so q) g q
+    → Did a f p (act a p) (left_so q) g q
+looked-did a f g p next at round number q is due looked =
+    let Goal : Progress → Type 0 = λ x. Did a f x (act a x) (left_so q) g q in
+    subst Goal (sym is) (record {
+      hears = record {
+        later = looked.hears.later;
+        answers = looked.hears.answers;
+        plays = λ rest. ap (turn_of_waiting a next at round number (heard f (looked.hears.answers ++ rest))) due
+            ∙ looked.hears.plays rest;
+      };
+      stands = looked.stands;
+      rounds = looked.rounds;
+      moves = looked.moves;
+    })
+
+-- from a clause on success to another
+pub if-ok : {T E : Type 0} {P Q : T → Type 0} (r : Result T E) → ((x : T) → P x → Q x) → IfOk r P → IfOk r Q
+if-ok (Ok x) from fact = from x fact
+if-ok (Err e) from fact = tt
+
+pub on-ok : {T E P Q : Type 0} (r : Result T E) → (P → Q) → OnOk r P → OnOk r Q
+on-ok (Ok x) from fact = from fact
+on-ok (Err e) from fact = tt
+
+-- of both clauses
+pub on-ok-both : {T E P Q S : Type 0} (r : Result T E) → (P → Q → S) → OnOk r P → OnOk r Q → OnOk r S
+on-ok-both (Ok x) from first second = from first second
+on-ok-both (Err e) from first second = tt

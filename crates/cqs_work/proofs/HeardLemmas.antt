@@ -1,0 +1,147 @@
+-- Calls of a shared floor in the words of the machine over answers.
+use Rattle.std.proofs.Common.{◌≡◌, ℕ, List, [], ◌∷◌, ◌++◌, Option, true, map, refl, sym, ap, ◌∙◌, append_assoc}
+use Rattle.std.specs.Prelude.{slice_index_or, slice_set}
+use Rattle.std.proofs.Math.ListN.{get_or-map}
+use Rattle.std.proofs.lemmas.List.{map-set}
+use Rattle.std.proofs.lemmas.List.Elements.{filter-append}
+use Rattle.cqs_core.specs.Parts.{part}
+use Rattle.cqs_core.specs.SemaphoreNames.{entry_names as permit_names}
+use Rattle.cqs_pool_object.specs.PoolNames.{entry_names as element_names}
+use Rattle.cqs_latch_object.specs.LatchNames.{entry_names as latch_names}
+use Rattle.cqs_barrier_object.specs.BarrierNames.{entry_names as party_names}
+use Rattle.cqs_plan.specs.declared.floors.answers.FloorTake.{FloorTake}
+use Rattle.cqs_plan.specs.declared.floors.answers.FloorLook.{FloorLook}
+use Rattle.cqs_plan.specs.declared.floors.answers.FloorLeave.{FloorLeave}
+use Rattle.cqs_plan.specs.declared.floors.answers.FloorDown.{FloorDown}
+use Rattle.cqs_plan.specs.Floor.{PlainFloor, JobWait}
+use Rattle.cqs_plan.specs.FloorHistory.{History, of_permits, of_elements, of_latch, of_rounds, entries_in}
+use Rattle.cqs_turns.specs.Machine.{Role}
+use Rattle.cqs_shared.specs.declared.shared.SharedGive.{SharedGive}
+use Rattle.cqs_shared.specs.Entries.{Entries, at_permits, at_elements, at_latch, in_round, with_entries, own_entries, own_history}
+use Rattle.cqs_shared.specs.Shared.{Shared, Sees, seen_at}
+use Rattle.cqs_shared.specs.Calls.{Comes, Gives, Downs, Looks, Leaves}
+use Rattle.cqs_work.specs.Heard.{Heard, Answer, Hears, heard, logged, heard_came, heard_given, heard_counted, heard_looked, heard_left}
+use Rattle.cqs_work.specs.Heard as answer
+use Rattle.cqs_work.proofs.Lasting.{later-none, later-then}
+
+-- what names a caller in a longer history
+own-after : (n : ℕ) (h : History) (more : Entries)
+    → own_history n (with_entries h more) ≡ with_entries (own_history n h) (own_entries n more)
+own-after n (of_permits h) (at_permits more) = ap of_permits (filter-append (permit_names n) h more)
+own-after n (of_permits h) (at_elements more) = refl
+own-after n (of_permits h) (at_latch more) = refl
+own-after n (of_permits h) (in_round round more) = refl
+own-after n (of_elements h) (at_permits more) = refl
+own-after n (of_elements h) (at_elements more) = ap of_elements (filter-append (element_names n) h more)
+own-after n (of_elements h) (at_latch more) = refl
+own-after n (of_elements h) (in_round round more) = refl
+own-after n (of_latch h) (at_permits more) = refl
+own-after n (of_latch h) (at_elements more) = refl
+own-after n (of_latch h) (at_latch more) = ap of_latch (filter-append (latch_names n) h more)
+own-after n (of_latch h) (in_round round more) = refl
+own-after n (of_rounds all) (at_permits more) = refl
+own-after n (of_rounds all) (at_elements more) = refl
+own-after n (of_rounds all) (at_latch more) = refl
+own-after n (of_rounds all) (in_round round more) =
+    let there : entries_in (map (part party_names n) all) round ≡ part party_names n (entries_in all round)
+    = get_or-map (part party_names n) all round [] in
+    ap of_rounds (map-set (part party_names n) all round (entries_in all round ++ more)
+    ∙ ap (slice_set (map (part party_names n) all) round) (filter-append (party_names n) (entries_in all round) more
+    ∙ ap (λ l. l ++ part party_names n more) (sym there)))
+
+-- the log of a worker after a call
+log-after : (f : Shared) (at : ℕ) (entries : Entries) (g : Shared) → Sees f at entries g
+    → map (own_history g.number) g.seen ≡ logged (map (own_history f.number) f.seen) at entries
+log-after f at entries g sees =
+    let there : slice_index_or (map (own_history f.number) f.seen) at (of_permits [])
+    ≡ own_history f.number (seen_at f at)
+    = get_or-map (own_history f.number) f.seen at (of_permits []) in
+    ap (λ n. map (own_history n) g.seen) sees.same.number
+    ∙ ap (map (own_history f.number)) sees.seen
+    ∙ map-set (own_history f.number) f.seen at (with_entries (seen_at f at) sees.more)
+    ∙ ap (slice_set (map (own_history f.number) f.seen) at) (own-after f.number (seen_at f at) sees.more
+    ∙ ap (with_entries (own_history f.number (seen_at f at))) sees.mine
+    ∙ ap (λ h. with_entries h entries) (sym there))
+
+-- each call, where its answer is heard
+pub came-is : (f : Shared) (at round job : ℕ) (after : PlainFloor) (held : List (List ℕ)) (got : Option FloorTake)
+    (g : Shared) (comes : Comes f at round job after held got g) (rest : List Answer)
+    → heard_came at round job after got (heard f (answer.come got comes.drew comes.with_it ∷ rest)) ≡ heard g rest
+came-is f at round job after held got g comes rest i = record {
+  answers = rest;
+  fits = true;
+  number = sym comes.sees.same.number i;
+  board = sym comes.board i;
+  came = sym comes.came i;
+  entries = sym (log-after f at _ g comes.sees) i;
+}
+
+pub gave-is : (f : Shared) (r : Role) (at : ℕ) (got : SharedGive) (g : Shared) → Gives f at r.place got g
+    → (rest : List Answer) → heard_given r at (heard f (answer.gave got ∷ rest)) ≡ heard g rest
+gave-is f r at got g gives rest i = record {
+  answers = rest;
+  fits = true;
+  number = sym gives.sees.same.number i;
+  board = sym gives.board i;
+  came = sym gives.came i;
+  entries = sym (log-after f at _ g gives.sees) i;
+}
+
+pub counted-is : (f : Shared) (r : Role) (at : ℕ) (got : FloorDown) (g : Shared) → Downs f at got g
+    → (rest : List Answer) → heard_counted r at (heard f (answer.counted got ∷ rest)) ≡ heard g rest
+counted-is f r at got g downs rest i = record {
+  answers = rest;
+  fits = true;
+  number = sym downs.sees.same.number i;
+  board = sym downs.board i;
+  came = sym downs.came i;
+  entries = sym (log-after f at _ g downs.sees) i;
+}
+
+pub looked-is : (f : Shared) (r : Role) (wait : JobWait) (got : FloorLook) (g : Shared) → Looks f r.place wait got g
+    → (rest : List Answer)
+    → heard_looked r wait.at wait.round wait.number got (heard f (answer.looked got ∷ rest)) ≡ heard g rest
+looked-is f r wait got g looks rest i = record {
+  answers = rest;
+  fits = true;
+  number = sym looks.sees.same.number i;
+  board = sym looks.board i;
+  came = sym looks.came i;
+  entries = sym (log-after f wait.at _ g looks.sees) i;
+}
+
+pub left-is : (f : Shared) (r : Role) (wait : JobWait) (got : FloorLeave) (g : Shared)
+    (leaves : Leaves f r.place wait got g) (rest : List Answer)
+    → heard_left r wait.at wait.round wait.number got (heard f (answer.left got leaves.stays ∷ rest)) ≡ heard g rest
+left-is f r wait got g leaves rest i = record {
+  answers = rest;
+  fits = true;
+  number = sym leaves.sees.same.number i;
+  board = sym leaves.board i;
+  came = sym leaves.came i;
+  entries = sym (log-after f wait.at _ g leaves.sees) i;
+}
+
+module _ {X : Type 0} where
+  -- no call
+  pub hears-none : (f : Shared) (go : Heard → X) → Hears f f go go
+  hears-none f go = record { later = later-none f; answers = []; plays = λ rest. refl }
+
+  -- some calls, and then others
+  pub hears-then : (f g k : Shared) (go mid after : Heard → X) → Hears f g go mid → Hears g k mid after
+      → Hears f k go after
+  hears-then f g k go mid after first second = record {
+    later = later-then f g k first.later second.later;
+    answers = first.answers ++ second.answers;
+    plays = λ rest. ap (λ l. go (heard f l)) (append_assoc first.answers second.answers rest)
+        ∙ first.plays (second.answers ++ rest) ∙ second.plays rest;
+  }
+
+  -- what follows in the machine
+  pub hears-on : {Y : Type 0} (on : X → Y) (f g : Shared) (go after : Heard → X) → Hears f g go after
+      → Hears f g (λ h. on (go h)) (λ h. on (after h))
+  hears-on on f g go after hears = record {
+    later = hears.later;
+    answers = hears.answers;
+    plays = λ rest. ap on (hears.plays rest);
+  }

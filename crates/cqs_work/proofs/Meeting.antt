@@ -1,0 +1,180 @@
+-- Floors that meet, one after the other.
+use Rattle.std.proofs.Common.{◌≡◌, ◌≢◌, ◌⊎◌, inl, inr, ℕ, zero, suc, List, [], ◌∷◌, ◌++◌, Some, None, true, false, length, map, get_or, slice_get, refl, sym, ap, ◌∙◌, append_assoc, arith}
+use Rattle.std.proofs.lemmas.Bool.{cases_eq}
+use Rattle.std.proofs.lemmas.List.{map-append, append-nil}
+use Rattle.cqs_core.specs.Numbered.{EachAt}
+use Rattle.cqs_core.specs.Parts.{Has, IsPrefix, part}
+use Rattle.cqs_core.specs.SemaphoreNames.{entry_names as permit_names}
+use Rattle.cqs_core.proofs.EachAtLemmas.{EachAt-push}
+use Rattle.cqs_pool_object.specs.PoolNames.{entry_names as element_names}
+use Rattle.cqs_plan.specs.Floor.{wait_of, holds_of}
+use Rattle.cqs_plan.specs.FloorHistory.{History, of_permits, of_elements, of_latch, of_rounds, entries_in}
+use Rattle.cqs_shared.specs.Entries.{own_history, is_nothing, IsBefore}
+use Rattle.cqs_shared.specs.Shared.{Shared, seen_at}
+use Rattle.cqs_shared.specs.Calls.{Meets, HasWait, HaveAllMet, IsAtRest}
+use Rattle.cqs_work.specs.Later.{IsUnnamed}
+use Rattle.cqs_work.specs.Met.{CanMeet, HaveMet, IsKeptIn}
+
+-- these have met, so far
+pub record MetSoFar (first : Shared) (done : List Shared) (g : Shared) : Type 0 where
+  pub have : HaveMet first done g
+  pub family : g.family ≡ first.family
+
+-- all begins with itself
+before-itself : (h : History) → IsBefore h h
+before-itself (of_permits h) = ([], sym (append-nil h))
+before-itself (of_elements h) = ([], sym (append-nil h))
+before-itself (of_latch h) = ([], sym (append-nil h))
+before-itself (of_rounds all) = λ round. ([], sym (append-nil (entries_in all round)))
+
+prefix-through : {A : Type 0} (h mid all : List A) → IsPrefix h mid → IsPrefix mid all → IsPrefix h all
+prefix-through h mid all (some, first) (more, second) =
+    (some ++ more, second ∙ ap (λ l. l ++ more) first ∙ append_assoc h some more)
+
+before-through : (h mid all : History) → IsBefore h mid → IsBefore mid all → IsBefore h all
+before-through (of_permits h) (of_permits mid) (of_permits all) first second = prefix-through h mid all first second
+before-through (of_elements h) (of_elements mid) (of_elements all) first second = prefix-through h mid all first second
+before-through (of_latch h) (of_latch mid) (of_latch all) first second = prefix-through h mid all first second
+before-through (of_rounds h) (of_rounds mid) (of_rounds all) first second =
+    λ round. prefix-through (entries_in h round) (entries_in mid round) (entries_in all round) (first round)
+    (second round)
+before-through (of_permits h) (of_permits mid) (of_elements all) first second = absurd second
+before-through (of_permits h) (of_permits mid) (of_latch all) first second = absurd second
+before-through (of_permits h) (of_permits mid) (of_rounds all) first second = absurd second
+before-through (of_elements h) (of_elements mid) (of_permits all) first second = absurd second
+before-through (of_elements h) (of_elements mid) (of_latch all) first second = absurd second
+before-through (of_elements h) (of_elements mid) (of_rounds all) first second = absurd second
+before-through (of_latch h) (of_latch mid) (of_permits all) first second = absurd second
+before-through (of_latch h) (of_latch mid) (of_elements all) first second = absurd second
+before-through (of_latch h) (of_latch mid) (of_rounds all) first second = absurd second
+before-through (of_rounds h) (of_rounds mid) (of_permits all) first second = absurd second
+before-through (of_rounds h) (of_rounds mid) (of_elements all) first second = absurd second
+before-through (of_rounds h) (of_rounds mid) (of_latch all) first second = absurd second
+before-through (of_permits h) (of_elements mid) all first second = absurd first
+before-through (of_permits h) (of_latch mid) all first second = absurd first
+before-through (of_permits h) (of_rounds mid) all first second = absurd first
+before-through (of_elements h) (of_permits mid) all first second = absurd first
+before-through (of_elements h) (of_latch mid) all first second = absurd first
+before-through (of_elements h) (of_rounds mid) all first second = absurd first
+before-through (of_latch h) (of_permits mid) all first second = absurd first
+before-through (of_latch h) (of_elements mid) all first second = absurd first
+before-through (of_latch h) (of_rounds mid) all first second = absurd first
+before-through (of_rounds h) (of_permits mid) all first second = absurd first
+before-through (of_rounds h) (of_elements mid) all first second = absurd first
+before-through (of_rounds h) (of_latch mid) all first second = absurd first
+
+-- where nothing names a caller it is unnamed
+none-left : {E : Type 0} (l : List E) → (wrap : List E → History)
+    → ((e : E) (rest : List E) → is_nothing (wrap (e ∷ rest)) ≡ false)
+    → is_nothing (wrap l) ≡ true → l ≡ []
+none-left [] wrap some nothing = refl
+none-left (e ∷ rest) wrap some nothing = absurd (cc (some e rest, nothing))
+
+nothing-unnamed : (n : ℕ) (h : History) → is_nothing (own_history n h) ≡ true → IsUnnamed n h
+nothing-unnamed n (of_permits h) nothing = none-left (part permit_names n h) of_permits (λ e rest. refl) nothing
+nothing-unnamed n (of_elements h) nothing = none-left (part element_names n h) of_elements (λ e rest. refl) nothing
+nothing-unnamed n (of_latch h) nothing = tt
+nothing-unnamed n (of_rounds all) nothing = tt
+
+pub meeting-starts : (first : Shared) (given : List Shared) → CanMeet first given → MetSoFar first [] first
+meeting-starts first given can = record {
+  have = record {
+    first_kept = record { before = λ at. before-itself (seen_at first at); mine = λ at. refl };
+    kept = record { at = λ i f got. absurd (cc) };
+    number = refl;
+    met = can.first_alone;
+    floors = refl;
+    kinds = refl;
+    rest = can.first_rest;
+    legal = can.sound.legal;
+    named = λ whole at n. named whole at n (cases_eq n 0);
+  };
+  family = refl;
+}
+  where
+    named : HaveAllMet first → (at n : ℕ) → (n ≡ 0) ⊎ (n ≢ 0)
+        → IsUnnamed n (seen_at first at) ⊎ Has n (first.number ∷ first.met)
+    named whole at n (inl same) = inr (inl (same ∙ sym can.first_number))
+    named whole at n (inr other) =
+        let none : length first.met ≡ 0 = ap length can.first_alone in
+        inl (can.sound.unnamed at n (omega (arith, whole, none, other)))
+
+has-of : (done : List Shared) (i : ℕ) (f : Shared) → slice_get done i ≡ Some f → Has f.number (map (λ f. f.number) done)
+has-of [] i f got = absurd (cc)
+has-of (d ∷ done) zero f got = let same : d ≡ f = cc in inl (ap (λ x. x.number) (sym same))
+has-of (d ∷ done) (suc i) f got = inr (has-of done i f got)
+
+-- what was kept is kept by one more meeting
+keeps : (f g given k : Shared) → Has f.number (g.number ∷ g.met) → Meets g given k → IsKeptIn g f → IsKeptIn k f
+keeps f g given k own meets kept = record {
+  before = λ at. before-through (seen_at f at) (seen_at g at) (seen_at k at) (kept.before at) (meets.staying at);
+  mine = λ at. meets.mine at f.number own ∙ kept.mine at;
+}
+
+pub meets-next : (first g given k : Shared) (done : List Shared) → MetSoFar first done g → given.met ≡ []
+    → IsAtRest given.board → Meets g given k → MetSoFar first (done ++ given ∷ []) k
+meets-next first g given k done so_far alone rest meets =
+    let have = so_far.have in
+    let IsSafe : ℕ → Shared → Type 0 = λ i f. IsKeptIn k f in
+    let new : IsKeptIn k given = record {
+      before = meets.coming;
+      mine = λ at. meets.theirs at given.number (inl refl);
+    } in
+    let old : EachAt IsSafe done = record {
+      at = λ i f got. keeps f g given k (inr (rw have.met (has-of done i f got))) meets (have.kept.at i f got);
+    } in
+    record {
+      have = record {
+        first_kept = keeps first g given k (inl (sym have.number)) meets have.first_kept;
+        kept = EachAt-push IsSafe IsSafe done given new (λ i f got kept. kept) old;
+        number = meets.number ∙ have.number;
+        met = meets.met ∙ ap (λ l. g.met ++ (given.number ∷ l)) alone ∙ ap (λ l. l ++ given.number ∷ []) have.met
+            ∙ sym (map-append (λ (f : Shared). f.number) done (given ∷ []));
+        floors = meets.floors ∙ have.floors;
+        kinds = meets.kinds ∙ have.kinds;
+        rest = record {
+          waits = λ job. ap (λ l. get_or l job None) meets.waits ∙ have.rest.waits job;
+          holds = λ job. meets.holds job ∙ ap (λ l. l ++ holds_of given.board job) (have.rest.holds job)
+              ∙ rest.holds job;
+        };
+        legal = meets.legal;
+        named = λ whole at n. named whole at n (meets.all whole at n);
+      };
+      family = meets.family ∙ so_far.family;
+    }
+  where
+    named : HaveAllMet k → (at n : ℕ)
+        → (is_nothing (own_history n (seen_at k at)) ≡ true) ⊎ Has n (k.number ∷ k.met)
+        → IsUnnamed n (seen_at k at) ⊎ Has n (k.number ∷ k.met)
+    named whole at n (inl nothing) = inl (nothing-unnamed n (seen_at k at) nothing)
+    named whole at n (inr own) = inr own
+
+get-head : (before : List Shared) (x : Shared) (after : List Shared)
+    → slice_get (before ++ (x ∷ after)) (length before) ≡ Some x
+get-head [] x after = refl
+get-head (b ∷ before) x after = get-head before x after
+
+-- the floor that comes next can meet
+module _ (first g : Shared) (before : List Shared) (given : Shared) (after all : List Shared)
+    (is : before ++ (given ∷ after) ≡ all) (can : CanMeet first all) where
+  here : slice_get (before ++ (given ∷ after)) (length before) ≡ Some given
+  here = get-head before given after
+
+  pub next-family : MetSoFar first before g → given.family ≡ g.family
+  next-family so_far = can.family.at (length before) given (rw (← is) here) ∙ sym so_far.family
+
+  pub next-alone : given.met ≡ []
+  next-alone = can.alone.at (length before) given (rw (← is) here)
+
+  pub next-rest : IsAtRest given.board
+  next-rest = can.rest.at (length before) given (rw (← is) here)
+
+  pub next-idle : HasWait given.board → ⊥
+  next-idle (job, waits) =
+      let none : wait_of given.board job ≡ None = next-rest.waits job in
+      absurd (cc (none, waits))
+
+-- the floors that have met, the next one, and the rest
+pub split-of : {F : Type 0} (shared : F → Shared) (before : List F) (x : F) (after all : List F)
+    → before ++ (x ∷ after) ≡ all → map shared before ++ (shared x ∷ map shared after) ≡ map shared all
+split-of shared before x after all is = sym (map-append shared before (x ∷ after)) ∙ ap (map shared) is

@@ -1,0 +1,213 @@
+-- A floor on which nothing has happened yet: its worker can begin, and nothing is to be accounted for.
+use Rattle.std.proofs.Common.{◌≡◌, ℕ, zero, suc, ◌<◌, ◌%◌, ◌==◌, Bool, true, false, List, [], ◌∷◌, Some, None, length, map, get_or, replicate, slice_get, sum_by, refl, sym, ap, subst, ◌∙◌, arith}
+use Rattle.std.specs.Bool.{if◌then◌else◌}
+use Rattle.std.proofs.lemmas.List.{length-map, length-replicate, get_or-replicate, ext_get_or}
+use Rattle.std.proofs.lemmas.List.Sums.{sum_by-cons}
+use Rattle.std.proofs.lemmas.List.FromFn.{length-map-range_with_len, get_or-map-range_with_len}
+use Rattle.std.proofs.lemmas.Option.{get_or_from_slice_get}
+use Rattle.cqs_core.proofs.Places.{get-below, get-there}
+use Rattle.cqs_barrier_object.specs.declared.entries.BarrierEntry.{BarrierEntry}
+use Rattle.cqs_barrier_object.specs.BarrierEntries.{IsLegal as IsLegalBarrier}
+use Rattle.cqs_plan.specs.declared.plans.job.Job.{Job}
+use Rattle.cqs_plan.specs.declared.plans.kind.Kind.{Kind}
+use Rattle.cqs_plan.specs.declared.plans.kind.Kind.TheVariants as kind
+use Rattle.cqs_plan.specs.declared.plans.plan.Plan.{Plan}
+use Rattle.cqs_plan.specs.declared.plans.resource.Resource.{Resource}
+use Rattle.cqs_plan.specs.Floor.{PlainFloor, Holding, opening_floor}
+use Rattle.cqs_plan.specs.FloorHistory.{History, of_permits, no_history}
+use Rattle.cqs_plan.specs.LegalFloor.{IsHistory}
+use Rattle.cqs_plan.specs.Runnable.{IsRunnable, kinds_of}
+use Rattle.cqs_turns.specs.declared.states.End.TheVariants as end
+use Rattle.cqs_turns.specs.declared.states.JobState.{JobState}
+use Rattle.cqs_turns.specs.declared.states.Progress.TheVariants.{Stepping, Ended}
+use Rattle.cqs_turns.specs.Ready.{IsReady, wait_in, steps_left}
+use Rattle.cqs_turns.specs.Running.{IsRunning}
+use Rattle.cqs_turns.specs.Turns.{opening_machine, places_held}
+use Rattle.cqs_turns.proofs.Mapped.{get-map}
+use Rattle.cqs_turns.proofs.Opened.{opening-running}
+use Rattle.cqs_turns.proofs.Readied.{ready-to-end}
+use Rattle.cqs_shared.specs.Shared.{Shared, seen_at}
+use Rattle.cqs_work.specs.Accounts.{Weights, gains, losses, doors, enters, sum_in, waits_at, held_at, IsAccounted}
+use Rattle.cqs_work.specs.Later.{IsSound, IsUnnamed}
+use Rattle.cqs_work.specs.Needs.{IsInRounds, AreProvided}
+use Rattle.cqs_work.specs.Opening.{starting, dealt, IsStarting, AreStarting, IsOpening}
+use Rattle.cqs_work.specs.Works.{progress_of, RunsOn}
+use Rattle.cqs_work.proofs.Turning.{other-ready}
+
+-- what the worker's code keeps is how far the plan's jobs are dealt to it
+pub progress-dealt : (plan : Plan) (workers worker : ℕ) (states : List JobState)
+    → AreStarting (length plan.jobs) workers worker states → progress_of states ≡ dealt plan workers worker
+progress-dealt plan workers worker states starts =
+    ext_get_or (Ended end.Done) (progress_of states) (dealt plan workers worker)
+    (length-map states (λ (s : JobState). s.progress) ∙ starts.long
+    ∙ sym (length-map-range_with_len (starting workers worker) 0 (length plan.jobs)))
+    (λ i below. at i (omega (arith, below, length-map states (λ (s : JobState). s.progress))))
+  where
+    at : (i : ℕ) → i < length states → get_or (progress_of states) i (Ended end.Done)
+        ≡ get_or (dealt plan workers worker) i (Ended end.Done)
+    at i below =
+        let there : (s : JobState) × (slice_get states i ≡ Some s) = get-there states i below in
+        let its : IsStarting workers worker i there.0 = starts.each.at i there.0 there.1 in
+        get_or_from_slice_get (progress_of states) i there.0.progress (Ended end.Done)
+        (get-map (λ (s : JobState). s.progress) states i there.0 there.1)
+        ∙ its.progress
+        ∙ sym (get_or-map-range_with_len (starting workers worker) 0 (length plan.jobs) i i (Ended end.Done)
+        (omega (arith, below, starts.long)) (omega arith))
+
+get-replicate : {X : Type 0} (n i : ℕ) (x : X) → i < n → slice_get (replicate n x) i ≡ Some x
+get-replicate zero i x below = absurd (omega (arith, below))
+get-replicate (suc n) zero x below = refl
+get-replicate (suc n) (suc i) x below = get-replicate n i x (omega (arith, below))
+
+module _ (plan : Plan) (workers worker : ℕ) (f : Shared) (runnable : IsRunnable plan)
+    (opens : IsOpening plan workers worker f) where
+  abbrev floor : PlainFloor
+  floor = opening_floor plan
+
+  running : IsRunning plan (opening_machine plan)
+  running = opening-running plan runnable
+
+  -- a job that begins, and one that has ended
+  ready-by : (place : ℕ) (job : Job) → slice_get plan.jobs place ≡ Some job → (own : Bool)
+      → IsReady f.board place (wait_in (if own then Stepping 0 else Ended end.Done))
+      (steps_left job.steps (if own then Stepping 0 else Ended end.Done))
+  ready-by place job got own = go own
+    where
+      below : place < length plan.jobs
+      below = get-below plan.jobs place job got
+
+      first : IsReady floor place None job.steps
+      first = running.ready place job (Stepping 0) got (get-replicate (length plan.jobs) place (Stepping 0) below)
+
+      here : IsReady f.board place None job.steps
+      here =
+          other-ready place place floor f.board None job.steps opens.kinds (ap length opens.waits)
+          (ap length opens.holds) (ap length opens.rounds) (ap (λ l. get_or l place None) opens.waits)
+          (ap (λ l. get_or l place []) opens.holds) (ap (λ l. get_or l place []) opens.rounds) first
+
+      go : (own : Bool) → IsReady f.board place (wait_in (if own then Stepping 0 else Ended end.Done))
+          (steps_left job.steps (if own then Stepping 0 else Ended end.Done))
+      go true = here
+      go false = ready-to-end f.board place None job.steps here
+
+  rounds-by : (place : ℕ) (job : Job) → slice_get plan.jobs place ≡ Some job → (own : Bool)
+      → IsInRounds f.board place job.steps (if own then Stepping 0 else Ended end.Done)
+  rounds-by place job got true =
+      let below : place < length plan.jobs = get-below plan.jobs place job got in
+      λ at. ap (λ l. get_or (get_or l place []) at 0) opens.rounds
+      ∙ running.rounds place job (Stepping 0) got (get-replicate (length plan.jobs) place (Stepping 0) below) at
+  rounds-by place job got false = tt
+
+  module _ (states : List JobState) (starts : AreStarting (length plan.jobs) workers worker states) where
+    -- a worker whose floor is this can begin
+    pub opening-runs : RunsOn plan f states
+    opening-runs = record {
+      jobs = starts.long;
+      waits = ap length opens.waits ∙ length-replicate (length plan.jobs) None;
+      holds = ap length opens.holds ∙ length-replicate (length plan.jobs) [];
+      kinds = opens.kinds;
+      ready = λ place job state got_job got.
+          let its : state.progress ≡ starting workers worker place = (starts.each.at place state got).progress in
+          subst (λ p. IsReady f.board place (wait_in p) (steps_left job.steps p)) (sym its)
+          (ready-by place job got_job (place % workers == worker));
+      rounds = λ place job state got_job got.
+          let its : state.progress ≡ starting workers worker place = (starts.each.at place state got).progress in
+          subst (IsInRounds f.board place job.steps) (sym its)
+          (rounds-by place job got_job (place % workers == worker));
+      provided = subst (AreProvided f plan.jobs) (sym (progress-dealt plan workers worker states starts))
+          opens.provided;
+      kept = record {
+        held = λ place state got.
+            let below : place < length plan.jobs = omega (arith, get-below states place state got, starts.long) in
+            let none : places_held f.board place ≡ []
+            = ap (λ l. map (λ (h : Holding). h.at) (get_or l place [])) opens.holds
+            ∙ ap (map (λ (h : Holding). h.at)) (get_or-replicate (length plan.jobs) place [] [] below) in
+            (starts.each.at place state got).held ∙ sym none;
+      };
+    }
+
+-- what holds before the first call at a resource of any kind, and where none is
+opening-any : (P : History → Type 0) → ((k : Kind) → P (no_history k)) → P (of_permits []) → (resources : List Resource)
+    (at : ℕ) → P (get_or (map (λ resource. no_history resource.kind) resources) at (of_permits []))
+opening-any P none past [] at = past
+opening-any P none past (resource ∷ resources) zero = none resource.kind
+opening-any P none past (resource ∷ resources) (suc at) = opening-any P none past resources at
+
+no-rounds-legal : (parties rounds round : ℕ) (entries : List BarrierEntry)
+    → slice_get (replicate rounds []) round ≡ Some entries → IsLegalBarrier parties entries
+no-rounds-legal parties zero round entries got = absurd (cc)
+no-rounds-legal parties (suc rounds) zero entries got =
+    let none : [] ≡ entries = cc in
+    subst (IsLegalBarrier parties) none (record { at = λ n e there. absurd (cc) })
+no-rounds-legal parties (suc rounds) (suc round) entries got = no-rounds-legal parties rounds round entries got
+
+no-history-legal : (k : Kind) → IsHistory k (no_history k)
+no-history-legal (kind.Semaphore permits) = record { at = λ n e got. absurd (cc) }
+no-history-legal kind.Mutex = record { at = λ n e got. absurd (cc) }
+no-history-legal (kind.Pool elements) = record { at = λ n e got. absurd (cc) }
+no-history-legal (kind.Latch count) = record { at = λ n e got. absurd (cc) }
+no-history-legal (kind.Rounds parties rounds) = record {
+  many = length-replicate rounds [];
+  each = record { at = no-rounds-legal parties rounds };
+}
+
+opening-legal : (resources : List Resource) (at : ℕ) (k : Kind) → slice_get (kinds_of resources) at ≡ Some k
+    → IsHistory k (get_or (map (λ resource. no_history resource.kind) resources) at (of_permits []))
+opening-legal [] at k got = absurd (cc)
+opening-legal (resource ∷ resources) zero k got =
+    let same : resource.kind ≡ k = cc in
+    subst (λ j. IsHistory j (no_history resource.kind)) same (no-history-legal resource.kind)
+opening-legal (resource ∷ resources) (suc at) k got = opening-legal resources at k got
+
+no-names : (n : ℕ) (k : Kind) → IsUnnamed n (no_history k)
+no-names n (kind.Semaphore permits) = refl
+no-names n kind.Mutex = refl
+no-names n (kind.Pool elements) = refl
+no-names n (kind.Latch count) = tt
+no-names n (kind.Rounds parties rounds) = tt
+
+no-sum : (w : Weights) (n : ℕ) (k : Kind) → sum_in w n (no_history k) ≡ 0
+no-sum w n (kind.Semaphore permits) = refl
+no-sum w n kind.Mutex = refl
+no-sum w n (kind.Pool elements) = refl
+no-sum w n (kind.Latch count) = refl
+no-sum w n (kind.Rounds parties rounds) = refl
+
+sum-replicate : {X : Type 0} (w : X → ℕ) (n : ℕ) (x : X) → w x ≡ 0 → sum_by w (replicate n x) ≡ 0
+sum-replicate w zero x none = refl
+sum-replicate w (suc n) x none = omega (arith, none, sum-replicate w n x none, sum_by-cons w x (replicate n x))
+
+module _ (plan : Plan) (workers worker : ℕ) (f : Shared) (opens : IsOpening plan workers worker f) where
+  seen-any : (P : History → Type 0) → ((k : Kind) → P (no_history k)) → P (of_permits []) → (at : ℕ) → P (seen_at f at)
+  seen-any P none past at =
+      subst (λ l. P (get_or l at (of_permits []))) (sym opens.seen) (opening-any P none past plan.resources at)
+
+  pub opening-sound : IsSound f
+  opening-sound = record {
+    legal = λ at. record {
+      legal = λ k got.
+          subst (λ l. IsHistory k (get_or l at (of_permits []))) (sym opens.seen)
+          (opening-legal plan.resources at k (ap (λ ks. slice_get ks at) (sym opens.kinds) ∙ got));
+    };
+    unnamed = λ at n past. seen-any (IsUnnamed n) (no-names n) refl at;
+  }
+
+  no-sum-at : (w : Weights) (at : ℕ) → sum_in w f.number (seen_at f at) ≡ 0
+  no-sum-at w at = seen-any (λ h. sum_in w f.number h ≡ 0) (no-sum w f.number) refl at
+
+  pub opening-accounted : IsAccounted f
+  opening-accounted = record {
+    long =
+        let kinds : length f.board.kinds ≡ length plan.resources
+        = ap length opens.kinds ∙ length-map plan.resources (λ (r : Resource). r.kind) in
+        let seen : length f.seen ≡ length plan.resources
+        = ap length opens.seen ∙ length-map plan.resources (λ (r : Resource). no_history r.kind) in
+        omega (arith, kinds, seen);
+    even = λ q holdable.
+        let held : sum_by (held_at q) f.board.holds ≡ 0
+        = ap (sum_by (held_at q)) opens.holds ∙ sum-replicate (held_at q) (length plan.jobs) [] refl in
+        let waits : sum_by (waits_at q) f.board.waits ≡ 0
+        = ap (sum_by (waits_at q)) opens.waits ∙ sum-replicate (waits_at q) (length plan.jobs) None refl in
+        omega (arith, no-sum-at gains q, no-sum-at losses q, held, waits);
+    entered = λ q. no-sum-at enters q ∙ sym (no-sum-at doors q);
+  }

@@ -1,0 +1,274 @@
+-- One job of a worker has its turn, then each, turn by turn.
+use Rattle.std.proofs.Common.{◌≡◌, ◌≢◌, ◌⊎◌, inl, inr, ℕ, suc, ◌+◌, ◌<◌, ◌≤◌, List, [], ◌∷◌, ◌++◌, Option, Some, None, length, drop, map, set, get_or, slice_get, sym, ap, subst, ◌∙◌, arith}
+use Rattle.std.specs.Option.{option_map_or}
+use Rattle.std.proofs.lemmas.Bool.{cases_eq}
+use Rattle.std.proofs.lemmas.List.{map-set, drop_all, length-set}
+use Rattle.std.proofs.lemmas.Option.{get_or_from_slice_get, slice_get-get_or}
+use Rattle.cqs_core.proofs.Places.{get-set_here, get-set_else, get-there}
+use Rattle.cqs_plan.specs.declared.plans.job.Job.{Job}
+use Rattle.cqs_plan.specs.declared.plans.plan.Plan.{Plan}
+use Rattle.cqs_plan.specs.declared.plans.step.Step.{Step}
+use Rattle.cqs_plan.specs.Floor.{PlainFloor, JobWait}
+use Rattle.cqs_plan.specs.Runnable.{IsRunnable, kinds_of}
+use Rattle.cqs_turns.specs.declared.actors.Actor.{Actor}
+use Rattle.cqs_turns.specs.declared.states.JobState.{JobState}
+use Rattle.cqs_turns.specs.declared.states.End.TheVariants as end
+use Rattle.cqs_turns.specs.declared.states.Progress.{Progress}
+use Rattle.cqs_turns.specs.declared.states.Progress.TheVariants.{Stepping, Working, Waiting, Ended}
+use Rattle.cqs_turns.specs.Machine.{MachineIn, ActedIn}
+use Rattle.cqs_turns.specs.Machine as machine
+use Rattle.cqs_turns.specs.Ready.{IsReady, wait_in, steps_left}
+use Rattle.cqs_turns.specs.Roles.{role}
+use Rattle.cqs_turns.specs.Turns.{places_held}
+use Rattle.cqs_turns.proofs.Mapped.{get-map}
+use Rattle.cqs_shared.specs.Shared.{Shared}
+use Rattle.cqs_work.specs.Heard.{Heard, Hears, heard, heard_world}
+use Rattle.cqs_work.specs.Roles.{act, left_so}
+use Rattle.cqs_work.specs.Needs.{IsInRounds, AreProvided}
+use Rattle.cqs_work.specs.Doing.{Moves, CanAct, Did}
+use Rattle.cqs_work.specs.Works.{progress_of, machine_so, job_turn, job_turn_so, turn_of, turn_so, turns_of, RunsOn}
+use Rattle.cqs_work.proofs.HeardLemmas.{hears-then, hears-on, hears-none}
+use Rattle.cqs_work.proofs.Acting.{drop-at}
+use Rattle.cqs_work.proofs.Needing.{provided-of, provided-on}
+
+-- the job of the actor, with this state, is about to act
+pub record Acting (plan : Plan) (a : Actor) (f : Shared) (states : List JobState) (state : JobState) : Type 0 where
+  pub resources : (role a).resources ≡ plan.resources
+  pub job : slice_get plan.jobs a.place ≡ Some (role a).job
+  pub its_state : slice_get states a.place ≡ Some state
+  pub runnable : IsRunnable plan
+  pub runs : RunsOn plan f states
+
+pub acting-at : (plan : Plan) (a : Actor) (f : Shared) (states : List JobState) (place : ℕ) (d : JobState)
+    → (role a).resources ≡ plan.resources → (role a).place ≡ place → slice_get plan.jobs place ≡ Some (role a).job
+    → IsRunnable plan → RunsOn plan f states → place < length plan.jobs
+    → Acting plan a f states (get_or states place d)
+acting-at plan a f states place d resources there job runnable runs below = record {
+  resources = resources;
+  job = rw there job;
+  its_state = rw there (slice_get-get_or states place d (omega (arith, below, runs.jobs)));
+  runnable = runnable;
+  runs = runs;
+}
+
+-- what one job did leaves another ready, and in its rounds
+pub other-ready : (place j : ℕ) (b c : PlainFloor) (wait : Option JobWait) (steps : List Step)
+    → c.kinds ≡ b.kinds → length c.waits ≡ length b.waits → length c.holds ≡ length b.holds
+    → length c.rounds ≡ length b.rounds → get_or c.waits j None ≡ get_or b.waits j None
+    → get_or c.holds j [] ≡ get_or b.holds j [] → get_or c.rounds j [] ≡ get_or b.rounds j []
+    → IsReady b j wait steps → IsReady c j wait steps
+other-ready place j b c wait steps kinds waits holds rounds its_wait its_holds its_rounds ready =
+    let held : places_held c j ≡ places_held b j = ap (map (λ h. h.at)) its_holds in
+    record {
+      job = record {
+        waits = omega (arith, ready.job.waits, waits);
+        holds = omega (arith, ready.job.holds, holds);
+        rounds = omega (arith, ready.job.rounds, rounds);
+        each = ap length its_rounds ∙ ready.job.each ∙ ap length (sym kinds);
+      };
+      waits = its_wait ∙ ready.waits;
+      holdable = rw (kinds, held) ready.holdable;
+      makeable = rw (kinds, held, its_rounds) ready.makeable;
+    }
+
+pub moved-ready : (place j : ℕ) (b : PlainFloor) (p : List (List ℕ)) (steps : List Step) (c : PlainFloor)
+    (q : List (List ℕ)) (left : List Step) (wait : Option JobWait) (its_steps : List Step)
+    → Moves place b p steps c q left → j ≢ place → IsReady b j wait its_steps → IsReady c j wait its_steps
+moved-ready place j b p steps c q left wait its_steps moves other ready =
+    other-ready place j b c wait its_steps moves.kinds moves.waits.long moves.holds.long moves.rounds.long
+    (moves.waits.at j other) (moves.holds.at j other) (moves.rounds.at j other) ready
+
+moved-rounds : (j : ℕ) (b c : PlainFloor) (steps : List Step) (p : Progress) → get_or c.rounds j []
+    ≡ get_or b.rounds j []
+    → IsInRounds b j steps p → IsInRounds c j steps p
+moved-rounds j b c steps (Stepping next) same rounds = λ at. ap (λ row. get_or row at 0) same ∙ rounds at
+moved-rounds j b c steps (Working next until) same rounds = λ at. ap (λ row. get_or row at 0) same ∙ rounds at
+moved-rounds j b c steps (Waiting next at round number) same rounds = λ q. ap (λ row. get_or row q 0) same ∙ rounds q
+moved-rounds j b c steps (Ended e) same rounds = tt
+
+-- the state at a place, where one was written
+state-at : (states : List JobState) (place : ℕ) (state after : JobState) (j : ℕ) (s : JobState)
+    → slice_get states place ≡ Some state → slice_get (set states place after) j ≡ Some s
+    → ((j ≡ place) × (s ≡ after)) ⊎ ((j ≢ place) × (slice_get states j ≡ Some s))
+state-at states place state after j s its_state got = go (cases_eq j place)
+  where
+    go : (j ≡ place) ⊎ (j ≢ place) → ((j ≡ place) × (s ≡ after)) ⊎ ((j ≢ place) × (slice_get states j ≡ Some s))
+    go (inl here) =
+        let now : slice_get (set states place after) place
+        ≡ Some after = get-set_here states place state after its_state in
+        let here_too : slice_get (set states place after) place ≡ Some s = rw here at got in
+        let same_state : s ≡ after = cc in
+        inl (here, same_state)
+    go (inr other) = inr (other, sym (get-set_else states place j after (λ e. other (sym e))) ∙ got)
+
+module _ (plan : Plan) (a : Actor) (f : Shared) (states : List JobState) (state : JobState)
+    (acting : Acting plan a f states state) where
+  its-progress : slice_get (progress_of states) a.place ≡ Some state.progress
+  its-progress = get-map (λ (s : JobState). s.progress) states a.place state acting.its_state
+
+  pub can-act : a.turn ≤ 40000 → CanAct a f state.progress
+  can-act turn = record {
+    stands = record {
+      kinds = acting.runs.kinds ∙ ap kinds_of (sym acting.resources);
+      ready = acting.runs.ready a.place (role a).job state acting.job acting.its_state;
+    };
+    rounds = acting.runs.rounds a.place (role a).job state acting.job acting.its_state;
+    provided = provided-of f plan.jobs (progress_of states) a.place (role a).job state.progress acting.job its-progress
+        acting.runs.provided;
+    few_steps = acting.runnable.few_steps.at a.place (role a).job acting.job;
+    turn = turn;
+  }
+
+  pub its-held : state.held.items ≡ places_held f.board a.place
+  its-held = acting.runs.kept.held a.place state acting.its_state
+
+  module _ (g : Shared) (after : JobState)
+      (acts : Did a f state.progress (act a state.progress) (left_so after.progress) g after.progress)
+      (held : after.held.items ≡ places_held g.board a.place) where
+    -- what the job's turn is to the machine
+    abbrev whole : ActedIn Heard → MachineIn Heard
+    whole b = record { scene = b.scene; progress = set (progress_of states) a.place b.progress }
+
+    turn-is : (h : Heard) → job_turn_so plan a.turn a.place (progress_of states) h ≡ whole (act a state.progress h)
+    turn-is h =
+        let m : MachineIn Heard = machine_so (progress_of states) h in
+        let this_job : job_turn plan a.turn a.place m
+        ≡ machine.one_job heard_world plan.resources a.turn a.place (role a).job m
+        = ap (λ o. option_map_or (λ job. machine.one_job heard_world plan.resources a.turn a.place job m) o m)
+        acting.job in
+        let these : machine.one_job heard_world plan.resources a.turn a.place (role a).job m
+        ≡ machine.one_job heard_world (role a).resources a.turn a.place (role a).job m
+        = ap (λ rs. machine.one_job heard_world rs a.turn a.place (role a).job m) (sym acting.resources) in
+        let its_progress : get_or (progress_of states) a.place (Ended end.Done) ≡ state.progress
+        = get_or_from_slice_get (progress_of states) a.place state.progress (Ended end.Done) its-progress in
+        this_job ∙ these ∙ ap (λ p. whole (machine.after_acting heard_world (role a) p h)) its_progress
+
+    progress-after : progress_of (set states a.place after) ≡ set (progress_of states) a.place after.progress
+    progress-after = map-set (λ (s : JobState). s.progress) states a.place after
+
+    job-heard : Hears f g (job_turn_so plan a.turn a.place (progress_of states))
+        (machine_so (progress_of (set states a.place after)))
+    job-heard = record {
+      later = acts.hears.later;
+      answers = acts.hears.answers;
+      plays = λ rest. turn-is (heard f (acts.hears.answers ++ rest)) ∙ ap whole (acts.hears.plays rest)
+          ∙ ap (λ p. machine_so p (heard g rest)) (sym progress-after);
+    }
+
+    job-runs : RunsOn plan g (set states a.place after)
+    job-runs = record {
+      jobs = length-set states a.place after ∙ acting.runs.jobs;
+      kinds = acts.moves.kinds ∙ acting.runs.kinds;
+      ready = λ j job s got_job got. ready j job s got_job
+          (state-at states a.place state after j s acting.its_state got);
+      rounds = λ j job s got_job got. rounds j job s got_job
+          (state-at states a.place state after j s acting.its_state got);
+      waits = acts.moves.waits.long ∙ acting.runs.waits;
+      holds = acts.moves.holds.long ∙ acting.runs.holds;
+      provided = subst (λ progress. AreProvided g plan.jobs progress) (sym progress-after)
+          (provided-on f plan.jobs (progress_of states) a.place (role a).job state.progress acting.job its-progress
+          acting.runs.provided g after.progress acts.moves);
+      kept = record { held = λ j s got. kept j s (state-at states a.place state after j s acting.its_state got) };
+    }
+      where
+        ready : (j : ℕ) (job : Job) (s : JobState) → slice_get plan.jobs j ≡ Some job
+            → ((j ≡ a.place) × (s ≡ after)) ⊎ ((j ≢ a.place) × (slice_get states j ≡ Some s))
+            → IsReady g.board j (wait_in s.progress) (steps_left job.steps s.progress)
+        ready j job s got_job (inl (here, same)) =
+            let there : slice_get plan.jobs a.place ≡ Some job = rw here at got_job in
+            let its_job : Some job ≡ Some (role a).job = sym there ∙ acting.job in
+            let own : job ≡ (role a).job = cc in
+            rw (here, same, own) acts.stands.ready
+        ready j job s got_job (inr (other, got)) =
+            moved-ready a.place j f.board f.parties _ g.board g.parties _ (wait_in s.progress)
+            (steps_left job.steps s.progress) acts.moves other (acting.runs.ready j job s got_job got)
+
+        rounds : (j : ℕ) (job : Job) (s : JobState) → slice_get plan.jobs j ≡ Some job
+            → ((j ≡ a.place) × (s ≡ after)) ⊎ ((j ≢ a.place) × (slice_get states j ≡ Some s))
+            → IsInRounds g.board j job.steps s.progress
+        rounds j job s got_job (inl (here, same)) =
+            let there : slice_get plan.jobs a.place ≡ Some job = rw here at got_job in
+            let its_job : Some job ≡ Some (role a).job = sym there ∙ acting.job in
+            let own : job ≡ (role a).job = cc in
+            rw (here, same, own) acts.rounds
+        rounds j job s got_job (inr (other, got)) =
+            moved-rounds j f.board g.board job.steps s.progress (acts.moves.rounds.at j other)
+            (acting.runs.rounds j job s got_job got)
+
+        kept : (j : ℕ) (s : JobState) → ((j ≡ a.place) × (s ≡ after)) ⊎ ((j ≢ a.place) × (slice_get states j ≡ Some s))
+            → s.held.items ≡ places_held g.board j
+        kept j s (inl (here, same)) = rw (here, same) held
+        kept j s (inr (other, got)) =
+            acting.runs.kept.held j s got ∙ ap (map (λ h. h.at)) (sym (acts.moves.holds.at j other))
+
+    module _ (turn place : ℕ) (at_turn : (role a).turn ≡ turn) (there : (role a).place ≡ place) where
+      pub one-job-heard : Hears f g (job_turn_so plan turn place (progress_of states))
+          (machine_so (progress_of (set states place after)))
+      one-job-heard = rw (← there, ← at_turn) job-heard
+
+      pub one-job-runs : RunsOn plan g (set states place after)
+      one-job-runs = rw (← there) job-runs
+
+-- the jobs before `place` have had their turns since the start
+pub record TurningOn (plan : Plan) (turn place : ℕ) (f g : Shared) (before now : List Progress) : Type 0 where
+  pub heard : Hears f g (turn_so plan turn before)
+      (λ h. machine.each_job heard_world plan.resources turn place (drop place plan.jobs) (machine_so now h))
+
+pub turning-starts : (plan : Plan) (turn : ℕ) (f : Shared) (before : List Progress)
+    → TurningOn plan turn 0 f f before before
+turning-starts plan turn f before = record { heard = hears-none f (turn_so plan turn before) }
+
+-- what remains, seen as the next job and the rest
+unrolled : (plan : Plan) (turn place : ℕ) (m : MachineIn Heard) → place < length plan.jobs
+    → machine.each_job heard_world plan.resources turn place (drop place plan.jobs) m
+    ≡ machine.each_job heard_world plan.resources turn (place + 1) (drop (place + 1) plan.jobs)
+    (job_turn plan turn place m)
+unrolled plan turn place m below =
+    let next : (job : Job) × (slice_get plan.jobs place ≡ Some job) = get-there plan.jobs place below in
+    let split : drop place plan.jobs ≡ next.0 ∷ drop (place + 1) plan.jobs = drop-at plan.jobs place next.0 next.1 in
+    let its_turn : job_turn plan turn place m ≡ machine.one_job heard_world plan.resources turn place next.0 m
+    = ap (λ o. option_map_or (λ job. machine.one_job heard_world plan.resources turn place job m) o m) next.1 in
+    ap (λ jobs. machine.each_job heard_world plan.resources turn place jobs m) split
+    ∙ ap (machine.each_job heard_world plan.resources turn (place + 1) (drop (place + 1) plan.jobs)) (sym its_turn)
+
+pub turns-on : (plan : Plan) (turn place : ℕ) (f g k : Shared) (before now after : List Progress)
+    → TurningOn plan turn place f g before now → place < length plan.jobs
+    → Hears g k (job_turn_so plan turn place now) (machine_so after)
+    → TurningOn plan turn (place + 1) f k before after
+turns-on plan turn place f g k before now after on below job =
+    let rest : MachineIn Heard → MachineIn Heard
+    = machine.each_job heard_world plan.resources turn (place + 1) (drop (place + 1) plan.jobs) in
+    let step : Hears g k (λ h. machine.each_job heard_world plan.resources turn place (drop place plan.jobs)
+    (machine_so now h))
+    (λ h. rest (machine_so after h))
+    = record {
+      later = job.later;
+      answers = job.answers;
+      plays = λ more. unrolled plan turn place (machine_so now (heard g (job.answers ++ more))) below
+          ∙ ap rest (job.plays more);
+    } in
+    record {
+      heard = hears-then f g k (turn_so plan turn before)
+          (λ h. machine.each_job heard_world plan.resources turn place (drop place plan.jobs) (machine_so now h))
+          (λ h. rest (machine_so after h)) on.heard step;
+    }
+
+pub turn-ends : (plan : Plan) (turn place : ℕ) (f g : Shared) (before now : List Progress)
+    → TurningOn plan turn place f g before now → length plan.jobs ≡ place
+    → Hears f g (turn_so plan turn before) (machine_so now)
+turn-ends plan turn place f g before now on all =
+    subst (λ jobs. Hears f g (turn_so plan turn before)
+    (λ h. machine.each_job heard_world plan.resources turn place jobs (machine_so now h)))
+    (drop_all place plan.jobs (omega (arith, all))) on.heard
+
+-- a further turn
+pub next-turn : (plan : Plan) (turn : ℕ) (f g k : Shared) (first now after : List Progress)
+    → Hears f g (turns_of plan turn first) (machine_so now) → Hears g k (turn_so plan turn now) (machine_so after)
+    → Hears f k (turns_of plan (turn + 1) first) (machine_so after)
+next-turn plan turn f g k first now after so_far this =
+    let on : Hears f g (turns_of plan (suc turn) first) (λ h. turn_of plan turn (machine_so now h))
+    = hears-on (turn_of plan turn) f g (turns_of plan turn first) (machine_so now) so_far in
+    let all : Hears f k (turns_of plan (suc turn) first) (machine_so after)
+    = hears-then f g k (turns_of plan (suc turn) first) (turn_so plan turn now) (machine_so after) on this in
+    let next : turn + 1 ≡ suc turn = omega arith in
+    rw next all

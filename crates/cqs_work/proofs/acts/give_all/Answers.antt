@@ -1,0 +1,12 @@
+use Rattle.cqs_work.proofs.Giving.{resource-next, holds-next, gives-next}
+use Rattle.cqs_work.proofs.acts.give_all.Goals as goal
+
+pub give-requires-clause-resource : goal.give-requires-clause-resource
+give-requires-clause-resource g c = resource-next _ _ _ _ _ c.loop-at.invariant c.loop-at-test.true
+
+pub give-requires-clause-holds : goal.give-requires-clause-holds
+give-requires-clause-holds g c = holds-next _ _ _ _ _ c.loop-at.invariant c.loop-at-test.true
+
+pub loop-at-preserved : goal.loop-at-preserved
+loop-at-preserved g c =
+    gives-next _ _ _ _ _ _ c.give.result c.loop-at.invariant c.loop-at-test.true c.give.ensures

@@ -1,0 +1,11 @@
+use Rattle.std.proofs.Common.{◌≡◌}
+use Rattle.cqs_turns.specs.Turns.{places_held}
+use Rattle.cqs_work.proofs.Acting.{SteppingOn}
+use Rattle.cqs_work.proofs.acts.make_steps.Given as goal
+
+abbrev pub invariant-loop-next : goal.invariant-loop-next
+invariant-loop-next g l = record {
+  on : SteppingOn l.actor (g.F.SharedFloor.shared l.initial.clerk.floor) l.first l.next
+      (g.F.SharedFloor.shared l.clerk.floor);
+  held : l.held.items ≡ places_held (g.F.SharedFloor.shared l.clerk.floor).board l.actor.place;
+}

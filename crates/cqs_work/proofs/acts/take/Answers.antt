@@ -1,0 +1,26 @@
+use Rattle.std.proofs.Common.{Some, ap, ◌∙◌}
+use Rattle.cqs_shared.specs.Calls.{answer_of}
+use Rattle.cqs_work.proofs.Acting.{take-did, take-resource, take-room}
+use Rattle.cqs_work.proofs.acts.take.Goals as goal
+
+pub take-requires-clause-resource : goal.take-requires-clause-resource
+take-requires-clause-resource g c = take-resource c.args.actor.now _ c.args.next c.args.at c.requires.can
+    c.requires.step
+
+pub take-requires-clause-room : goal.take-requires-clause-room
+take-requires-clause-room g c = take-room c.args.actor.now _ c.args.next c.args.at c.requires.can c.requires.step
+
+pub returns-in_ok-push-in-Ok-Now-clause-did : goal.returns-in_ok-push-in-Ok-Now-clause-did
+returns-in_ok-push-in-Ok-Now-clause-did g c =
+    take-did c.args.actor.now _ _ c.args.next c.args.at _ _ c.requires.can c.requires.step c.take.ensures
+    (ap answer_of c.in-Ok-Now.is ∙ ap Some c.in-Ok-Now.field-0-is)
+
+pub returns-in-Ok-Waits-clause-did : goal.returns-in-Ok-Waits-clause-did
+returns-in-Ok-Waits-clause-did g c =
+    take-did c.args.actor.now _ _ c.args.next c.args.at _ _ c.requires.can c.requires.step c.take.ensures
+    (ap answer_of c.in-Ok-Waits.is ∙ ap Some c.in-Ok-Waits.field-0-is)
+
+pub returns-in-Err-clause-did : goal.returns-in-Err-clause-did
+returns-in-Err-clause-did g c =
+    take-did c.args.actor.now _ _ c.args.next c.args.at _ _ c.requires.can c.requires.step c.take.ensures
+    (ap answer_of c.in-Err.is)

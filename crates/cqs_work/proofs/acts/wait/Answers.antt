@@ -1,0 +1,35 @@
+use Rattle.std.proofs.Common.{Some, ap, ◌∙◌}
+use Rattle.cqs_shared.specs.Calls.{answer_of}
+use Rattle.cqs_work.proofs.Acting.{wait-did, wait-resource, wait-room, wait-held}
+use Rattle.cqs_work.proofs.acts.wait.Goals as goal
+
+pub wait-requires-clause-resource : goal.wait-requires-clause-resource
+wait-requires-clause-resource g c = wait-resource c.args.actor.now _ c.args.next c.args.at c.requires.can
+    c.requires.step
+
+pub wait-requires-clause-room : goal.wait-requires-clause-room
+wait-requires-clause-room g c = wait-room c.args.actor.now _ c.args.next c.args.at c.requires.can c.requires.step
+
+pub returns-in-Ok-Now-clause-did : goal.returns-in-Ok-Now-clause-did
+returns-in-Ok-Now-clause-did g c =
+    wait-did c.args.actor.now _ _ c.args.next c.args.at _ _ c.requires.can c.requires.step c.wait.ensures
+    (ap answer_of c.in-Ok-Now.is ∙ ap Some c.in-Ok-Now.field-0-is)
+
+pub returns-in-Ok-Waits-clause-did : goal.returns-in-Ok-Waits-clause-did
+returns-in-Ok-Waits-clause-did g c =
+    wait-did c.args.actor.now _ _ c.args.next c.args.at _ _ c.requires.can c.requires.step c.wait.ensures
+    (ap answer_of c.in-Ok-Waits.is ∙ ap Some c.in-Ok-Waits.field-0-is)
+
+pub returns-in-Err-clause-did : goal.returns-in-Err-clause-did
+returns-in-Err-clause-did g c =
+    wait-did c.args.actor.now _ _ c.args.next c.args.at _ _ c.requires.can c.requires.step c.wait.ensures
+    (ap answer_of c.in-Err.is)
+
+pub returns-in-Ok-Now-clause-held : goal.returns-in-Ok-Now-clause-held
+returns-in-Ok-Now-clause-held g c = wait-held _ _ c.args.actor.now c.args.at _ c.wait.ensures
+
+pub returns-in-Ok-Waits-clause-held : goal.returns-in-Ok-Waits-clause-held
+returns-in-Ok-Waits-clause-held g c = wait-held _ _ c.args.actor.now c.args.at _ c.wait.ensures
+
+pub returns-in-Err-clause-held : goal.returns-in-Err-clause-held
+returns-in-Err-clause-held g c = wait-held _ _ c.args.actor.now c.args.at _ c.wait.ensures

@@ -1,0 +1,11 @@
+use Rattle.std.proofs.Common.{◌≡◌, ◌++◌, length, map}
+use Rattle.std.specs.Vec.Iter.{into_iter_items, into_iter_len}
+use Rattle.cqs_work.specs.Worked.{AreParted}
+use Rattle.cqs_work.proofs.plans.part.Given as goal
+
+abbrev pub invariant-loop-one : goal.invariant-loop-one
+invariant-loop-one g l = record {
+  all : l.yielded ++ into_iter_items l.one-iterator ≡ into_iter_items l.initial.one-iterator;
+  len : into_iter_len l.one-iterator ≡ length (into_iter_items l.one-iterator);
+  parted : AreParted l.yielded l.parted.floors.items (map (λ own. own.items) l.parted.states.items);
+}

@@ -1,0 +1,17 @@
+use Rattle.cqs_work.specs.Works.{progress_of, turns_of}
+use Rattle.cqs_work.proofs.HeardLemmas.{hears-none}
+use Rattle.cqs_work.proofs.Turning.{next-turn}
+use Rattle.cqs_work.proofs.turns.all_turns.Goals as goal
+
+pub loop-turn-init : goal.loop-turn-init
+loop-turn-init g c = record {
+  heard = hears-none _ (turns_of c.args.plan.now 0 (progress_of c.args.states.now));
+  runs = c.requires.runs;
+}
+
+pub loop-turn-preserved : goal.loop-turn-preserved
+loop-turn-preserved g c = record {
+  heard = next-turn c.args.plan.now c.loop-turn.turn _ _ _ _ _ _ c.loop-turn.invariant.heard
+      c.in_ok-one_turn.ensures.heard;
+  runs = c.in_ok-one_turn.ensures.runs;
+}

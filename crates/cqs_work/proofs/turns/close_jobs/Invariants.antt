@@ -1,0 +1,7 @@
+use Rattle.cqs_work.proofs.Closing.{ClosingOn}
+use Rattle.cqs_work.proofs.turns.close_jobs.Given as goal
+
+abbrev pub invariant-loop-place : goal.invariant-loop-place
+invariant-loop-place g l =
+    ClosingOn l.plan l.place (g.F.SharedFloor.shared l.initial.clerk.floor) (g.F.SharedFloor.shared l.clerk.floor)
+    l.initial.states l.states

@@ -1,0 +1,27 @@
+-- What a worker's calls leave of its floor, whatever they are.
+use Rattle.std.specs.Prelude.{◌≡◌, ◌≤◌, ℕ, []}
+use Rattle.cqs_core.specs.Parts.{part}
+use Rattle.cqs_core.specs.SemaphoreNames.{entry_names as permit_names}
+use Rattle.cqs_pool_object.specs.PoolNames.{entry_names as element_names}
+use Rattle.cqs_plan.specs.FloorHistory.{History, of_permits, of_elements, of_latch, of_rounds}
+use Rattle.cqs_shared.specs.Shared.{Shared, IsSame, IsLegalAt, seen_at}
+use Rattle.cqs_work.specs.Accounts.{IsAccounted}
+
+-- no entry of a semaphore or a pool names the caller n
+abbrev pub IsUnnamed : ℕ → History → Type 0
+IsUnnamed n (of_permits h) = part permit_names n h ≡ []
+IsUnnamed n (of_elements h) = part element_names n h ≡ []
+IsUnnamed n (of_latch h) = Unit {0}
+IsUnnamed n (of_rounds all) = Unit {0}
+
+-- all that the pass has seen is legal, and names only passes that some floor has
+pub record IsSound (f : Shared) : Type 0 where
+  pub legal : (at : ℕ) → IsLegalAt f.board at (seen_at f at)
+  pub unnamed : (at n : ℕ) → f.floors ≤ n → IsUnnamed n (seen_at f at)
+
+-- g is the floor f some calls later
+pub record Later (f g : Shared) : Type 0 where
+  pub same : IsSame f g
+  pub kinds : g.board.kinds ≡ f.board.kinds
+  pub sound : IsSound f → IsSound g
+  pub accounted : IsAccounted f → IsAccounted g

@@ -1,0 +1,12 @@
+pub mod Even
+pub mod Accounts
+pub mod Later
+pub mod Heard
+pub mod Roles
+pub mod Needs
+pub mod Doing
+pub mod Works
+pub mod Met
+pub mod Opening
+pub mod Ends
+pub mod Worked

@@ -1,0 +1,60 @@
+-- What the jobs still need of a floor: room for their takes, waits and arrivals, and a party for
+-- each arrival.
+use Rattle.std.specs.Prelude.{◌≡◌, ℕ, ◌+◌, ◌≤◌, nat_lt, cond, List, [], ◌∷◌, count_by, take}
+use Rattle.cqs_plan.specs.declared.plans.job.Job.{Job}
+use Rattle.cqs_plan.specs.declared.plans.step.Step.{Step}
+use Rattle.cqs_plan.specs.PlanSteps.{is_arrival, may_wait}
+use Rattle.cqs_plan.specs.Floor.{PlainFloor, room_at, round_of}
+use Rattle.cqs_turns.specs.declared.states.Progress.{Progress}
+use Rattle.cqs_turns.specs.declared.states.Progress.TheVariants.{Stepping, Working, Waiting, Ended}
+use Rattle.cqs_turns.specs.Ready.{steps_left}
+use Rattle.cqs_shared.specs.Shared.{Shared, parties_at}
+
+-- how many takes of a resource, waits or arrivals there these steps have
+abbrev pub waits_in : ℕ → List Step → ℕ
+waits_in at steps = count_by (may_wait at) steps
+
+-- one, where a job that arrives next in the round `first` still comes to this round with so many
+-- arrivals
+abbrev pub comes_to : ℕ → ℕ → ℕ → ℕ
+comes_to round first arrivals =
+    cond {A = ℕ} (nat_lt round first) 0 (cond {A = ℕ} (nat_lt round (first + arrivals)) 1 0)
+
+abbrev pub parties_for : ℕ → ℕ → ℕ → List Step → ℕ
+parties_for at round first steps = comes_to round first (count_by (is_arrival at) steps)
+
+-- the floor has what a job needs for these steps
+pub record IsProvided (f : Shared) (place : ℕ) (steps : List Step) : Type 0 where
+  pub room : (at : ℕ) → waits_in at steps ≤ room_at f.board at
+  pub parties : (at round : ℕ)
+      → parties_for at round (round_of f.board place at) steps ≤ parties_at f at round
+
+-- a job that is so far arrives next in the rounds that its arrivals so far say
+abbrev pub IsInRounds : PlainFloor → ℕ → List Step → Progress → Type 0
+IsInRounds b place steps (Stepping next) =
+    (at : ℕ) → round_of b place at ≡ count_by (is_arrival at) (take next steps)
+IsInRounds b place steps (Working next until) =
+    (at : ℕ) → round_of b place at ≡ count_by (is_arrival at) (take next steps)
+IsInRounds b place steps (Waiting next at round number) =
+    (at : ℕ) → round_of b place at ≡ count_by (is_arrival at) (take next steps)
+IsInRounds b place steps (Ended end) = Unit {0}
+
+-- the sum of what each job needs that is so far; the first one's place is `place`
+abbrev pub needed : (ℕ → Job → Progress → ℕ) → ℕ → List Job → List Progress → ℕ
+needed need place [] progress = 0
+needed need place (job ∷ jobs) [] = 0
+needed need place (job ∷ jobs) (p ∷ progress) =
+    need place job p + needed need (place + 1) jobs progress
+
+abbrev pub room_needed : ℕ → ℕ → Job → Progress → ℕ
+room_needed at place job p = waits_in at (steps_left job.steps p)
+
+abbrev pub parties_needed : PlainFloor → ℕ → ℕ → ℕ → Job → Progress → ℕ
+parties_needed b at round place job p =
+    parties_for at round (round_of b place at) (steps_left job.steps p)
+
+-- the floor has what all jobs need together
+pub record AreProvided (f : Shared) (jobs : List Job) (progress : List Progress) : Type 0 where
+  pub room : (at : ℕ) → needed (room_needed at) 0 jobs progress ≤ room_at f.board at
+  pub parties : (at round : ℕ)
+      → needed (parties_needed f.board at round) 0 jobs progress ≤ parties_at f at round

@@ -1,0 +1,62 @@
+-- How a plan's jobs are dealt to workers, and how the floor of each begins.
+use Rattle.std.specs.Prelude.{◌≡◌, ℕ, ◌%◌, ◌==◌, ◌<◌, ◌≤◌, List, [], length, map, Some, slice_get, if◌then◌else◌}
+use Rattle.std.specs.List.{range_with_len}
+use Rattle.cqs_core.specs.Numbered.{EachAt}
+use Rattle.cqs_plan.specs.declared.plans.plan.Plan.{Plan}
+use Rattle.cqs_plan.specs.Floor.{opening_floor}
+use Rattle.cqs_turns.specs.declared.states.End.TheVariants as end
+use Rattle.cqs_turns.specs.declared.states.JobState.{JobState}
+use Rattle.cqs_turns.specs.declared.states.Progress.{Progress}
+use Rattle.cqs_turns.specs.declared.states.Progress.TheVariants.{Stepping, Ended}
+use Rattle.cqs_shared.specs.Shared.{Shared}
+use Rattle.cqs_work.specs.Needs.{AreProvided}
+use Rattle.cqs_work.specs.declared.works.Post.{Post}
+
+-- how far the job at a place is to a worker that hasn't begun: to it the jobs of the others have
+-- ended
+abbrev pub starting : ℕ → ℕ → ℕ → Progress
+starting workers worker place = if place % workers == worker then Stepping 0 else Ended end.Done
+
+-- and each job
+abbrev pub dealt : Plan → ℕ → ℕ → List Progress
+dealt plan workers worker = map (starting workers worker) (range_with_len 0 (length plan.jobs))
+
+-- the same, as the code keeps it
+pub record IsStarting (workers worker place : ℕ) (state : JobState) : Type 0 where
+  pub progress : state.progress ≡ starting workers worker place
+  pub held : state.held.items ≡ []
+
+pub record AreStarting (jobs workers worker : ℕ) (states : List JobState) : Type 0 where
+  pub long : length states ≡ jobs
+  pub each : EachAt (λ place state. IsStarting workers worker place state) states
+
+-- The floor of one of so many workers, before any call: nothing has happened, no job waits or holds
+-- anything, and each is in the first round of each barrier. It has room for the steps of the
+-- worker's
+-- own jobs, and a party for each of their arrivals.
+pub record IsOpening (plan : Plan) (workers worker : ℕ) (f : Shared) : Type 0 where
+  pub kinds : f.board.kinds ≡ (opening_floor plan).kinds
+  pub waits : f.board.waits ≡ (opening_floor plan).waits
+  pub holds : f.board.holds ≡ (opening_floor plan).holds
+  pub rounds : f.board.rounds ≡ (opening_floor plan).rounds
+  pub seen : f.seen ≡ (opening_floor plan).histories
+  pub provided : AreProvided f plan.jobs (dealt plan workers worker)
+  pub number : f.number ≡ worker
+  pub met : f.met ≡ []
+  pub floors : f.floors ≡ workers
+
+-- 1 to 16 floors, which are all that were split from one, in the order of their passes' numbers
+pub record AreSplit (plan : Plan) (floors : List Shared) : Type 0 where
+  pub some : 0 < length floors
+  pub few : length floors ≤ 16
+  pub each : EachAt (λ worker f. IsOpening plan (length floors) worker f) floors
+  pub family : ℕ
+  pub kin : EachAt (λ worker f. f.family ≡ family) floors
+
+-- a post for each floor, in order
+pub record ArePosts {F : Type 0} (jobs workers : ℕ) (floors : List F) (posts : List (Post F))
+    : Type 0 where
+  pub long : length posts ≡ length floors
+  pub its_floor : (i : ℕ) (post : Post F) → slice_get posts i ≡ Some post
+      → slice_get floors i ≡ Some post.floor
+  pub states : EachAt (λ worker post. AreStarting jobs workers worker post.states.items) posts

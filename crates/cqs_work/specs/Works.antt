@@ -1,0 +1,130 @@
+-- What a worker's whole work is.
+use Rattle.std.specs.Prelude.{◌≡◌, ℕ, zero, suc, ◌+◌, ◌<◌, List, [], ◌∷◌, Some, None, Result, IfOk, length, map, slice_get, slice_index_or}
+use Rattle.std.specs.Option.{option_map_or}
+use Rattle.cqs_core.specs.declared.Memory.{Memory}
+use Rattle.cqs_plan.specs.declared.plans.job.Job.{Job}
+use Rattle.cqs_plan.specs.declared.plans.plan.Plan.{Plan}
+use Rattle.cqs_plan.specs.Floor.{PlainFloor, wait_of}
+use Rattle.cqs_plan.specs.Runnable.{kinds_of}
+use Rattle.cqs_turns.specs.declared.actors.Actor.{Actor}
+use Rattle.cqs_turns.specs.declared.states.End.TheVariants as end
+use Rattle.cqs_turns.specs.declared.states.JobState.{JobState}
+use Rattle.cqs_turns.specs.declared.states.Progress.{Progress}
+use Rattle.cqs_turns.specs.declared.states.Progress.TheVariants.{Stepping, Working, Waiting, Ended}
+use Rattle.cqs_turns.specs.Machine.{Role, MachineIn}
+use Rattle.cqs_turns.specs.Machine as machine
+use Rattle.cqs_turns.specs.Ready.{IsReady, wait_in, steps_left}
+use Rattle.cqs_turns.specs.Roles.{role}
+use Rattle.cqs_turns.specs.Turns.{places_held}
+use Rattle.cqs_work.specs.declared.works.Post.{Post}
+use Rattle.cqs_work.specs.declared.works.Worker.{Worker}
+use Rattle.cqs_shared.specs.Shared.{Shared}
+use Rattle.cqs_work.specs.Heard.{Heard, Hears, heard_world}
+use Rattle.cqs_work.specs.Roles.{same}
+use Rattle.cqs_work.specs.Needs.{AreProvided, IsInRounds}
+
+-- how far the jobs are
+abbrev pub progress_of : List JobState → List Progress
+progress_of states = map (λ state. state.progress) states
+
+abbrev pub machine_so : List Progress → Heard → MachineIn Heard
+machine_so progress h = record { scene = h; progress = progress }
+
+-- the job at a place has its turn
+abbrev pub job_turn : Plan → ℕ → ℕ → MachineIn Heard → MachineIn Heard
+job_turn plan turn place m =
+    option_map_or (λ job. machine.one_job heard_world plan.resources turn place job m)
+    (slice_get plan.jobs place) m
+
+abbrev pub job_turn_so : Plan → ℕ → ℕ → List Progress → Heard → MachineIn Heard
+job_turn_so plan turn place progress h = job_turn plan turn place (machine_so progress h)
+
+-- a turn
+abbrev pub turn_of : Plan → ℕ → MachineIn Heard → MachineIn Heard
+turn_of plan turn m = machine.one_turn heard_world plan turn m
+
+abbrev pub turn_so : Plan → ℕ → List Progress → Heard → MachineIn Heard
+turn_so plan turn progress h = turn_of plan turn (machine_so progress h)
+
+-- the first so many turns
+abbrev pub turns_of : Plan → ℕ → List Progress → Heard → MachineIn Heard
+turns_of plan zero progress h = machine_so progress h
+turns_of plan (suc turn) progress h = turn_of plan turn (turns_of plan turn progress h)
+
+-- after the last turn a job leaves the line, where it waits, and gives back all that it holds
+abbrev pub line_left : Role → Progress → Heard → Heard
+line_left r (Waiting next at round number) h =
+    heard_world.after_leave r at round number (heard_world.leave_answer r h) h
+line_left r (Stepping next) h = h
+line_left r (Working next until) h = h
+line_left r (Ended end) h = h
+
+abbrev pub closed : Role → Progress → Heard → Heard
+closed r progress h = machine.after_all_gives heard_world r (line_left r progress h)
+
+abbrev pub line_left_so : Actor → Progress → Heard → Heard
+line_left_so a progress h = line_left (role a) progress h
+
+abbrev pub close : Actor → Progress → Heard → Heard
+close a progress h = closed (role a) progress h
+
+-- each job in order; the first one's place is `place`
+abbrev pub close_from : Plan → ℕ → List Job → List Progress → Heard → Heard
+close_from plan place [] progress h = h
+close_from plan place (job ∷ jobs) progress h =
+    close_from plan (place + 1) jobs progress
+    (closed
+    (record { resources = plan.resources; turn = plan.turns; place = place; job = job })
+    (slice_index_or progress place (Ended end.Done)) h)
+
+abbrev pub close_all : Plan → List Progress → Heard → Heard
+close_all plan progress h = close_from plan 0 plan.jobs progress h
+
+-- each state has the places of what the jobs hold
+pub record AreKept (b : PlainFloor) (states : List JobState) : Type 0 where
+  pub held : (place : ℕ) (state : JobState) → slice_get states place ≡ Some state
+      → state.held.items ≡ places_held b place
+
+-- every job is so far on this floor, and the floor has what all need together
+pub record RunsOn (plan : Plan) (f : Shared) (states : List JobState) : Type 0 where
+  pub jobs : length states ≡ length plan.jobs
+  pub waits : length f.board.waits ≡ length plan.jobs
+  pub holds : length f.board.holds ≡ length plan.jobs
+  pub kinds : f.board.kinds ≡ kinds_of plan.resources
+  pub ready : (place : ℕ) (job : Job) (state : JobState) → slice_get plan.jobs place ≡ Some job
+      → slice_get states place ≡ Some state
+      → IsReady f.board place (wait_in state.progress) (steps_left job.steps state.progress)
+  pub rounds : (place : ℕ) (job : Job) (state : JobState) → slice_get plan.jobs place ≡ Some job
+      → slice_get states place ≡ Some state → IsInRounds f.board place job.steps state.progress
+  pub provided : AreProvided f plan.jobs (progress_of states)
+  pub kept : AreKept f.board states
+
+-- the job has nothing left there
+pub record IsClear (b : PlainFloor) (place : ℕ) : Type 0 where
+  pub waits : wait_of b place ≡ None
+  pub holds : places_held b place ≡ []
+
+-- no job has anything left
+pub record AllClear (plan : Plan) (g : Shared) : Type 0 where
+  pub at : (place : ℕ) → place < length plan.jobs → IsClear g.board place
+  pub waits : length g.board.waits ≡ length plan.jobs
+  pub holds : length g.board.holds ≡ length plan.jobs
+
+-- A worker's work: there are answers to the calls of all turns, which leave the jobs so, and then
+-- to those after the last turn.
+pub record HasWorked (plan : Plan) (f : Shared) (states ends : List JobState) (g : Shared)
+    : Type 0 where
+  pub last : Shared
+  pub long : length ends ≡ length plan.jobs
+  pub turns : Hears f last (turns_of plan plan.turns (progress_of states))
+      (machine_so (progress_of ends))
+  pub closing : Hears last g (close_all plan (progress_of ends)) same
+  pub clear : AllClear plan g
+
+-- each worker has worked from its post
+pub record AllWorked {F : Type 0} (shared : F → Shared) (plan : Plan) (posts : List (Post F))
+    (all : List (Result (Worker F) Memory)) : Type 0 where
+  pub at : (i : ℕ) (post : Post F) (r : Result (Worker F) Memory) → slice_get posts i ≡ Some post
+      → slice_get all i ≡ Some r
+      → IfOk r (λ worker. HasWorked plan (shared post.floor) post.states.items
+      worker.states.items (shared worker.floor))

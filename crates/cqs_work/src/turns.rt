@@ -1,0 +1,169 @@
+//! The turns of a worker's jobs, and what follows the last one.
+
+ghost use Rattle.std.specs.Prelude.{◌≡◌, ◌≤◌, ◌<◌, [], None, Some, length, slice_get, OnOk};
+ghost use Rattle.cqs_plan.specs.Runnable.{IsRunnable};
+ghost use Rattle.cqs_turns.specs.Ready.{wait_in};
+ghost use Rattle.cqs_turns.specs.Roles.{role};
+ghost use Rattle.cqs_turns.specs.Turns.{places_held};
+ghost use Rattle.cqs_work.specs.Heard.{Hears};
+ghost use Rattle.cqs_work.specs.Roles.{same};
+ghost use Rattle.cqs_work.specs.Doing.{Stands, GaveUp};
+ghost use Rattle.cqs_work.specs.Works.{progress_of, machine_so, job_turn_so, turn_so, turns_of, close, close_all, line_left_so, IsClear, AllClear, RunsOn};
+
+use crate::acts::{act, give_all, leave};
+use crate::clerk::Clerk;
+use crate::gate::Gate;
+use cqs_core::Memory;
+use cqs_plan::Plan;
+use cqs_shared::SharedFloor;
+use cqs_turns::{Actor, JobState, Progress};
+use std::sync::Wait;
+use std::thread::Threads;
+
+/// The job at this place, in this turn.
+fn actor_at(plan: &Plan, turn: u32, place: u32) -> Actor<'_>
+    requires { place < length plan.now.jobs }
+    ensures resources { (role result).resources ≡ plan.now.resources }
+    ensures turn { (role result).turn ≡ turn }
+    ensures place { (role result).place ≡ place }
+    ensures job { slice_get plan.now.jobs place ≡ Some (role result).job }
+{
+    Actor {
+        resources: plan.resources.as_slice(),
+        turn,
+        place,
+        job: &plan.jobs.as_slice()[place as usize],
+    }
+}
+
+/// The job at this place has its turn.
+fn one_job<R: Threads + Wait, G: Gate, F: SharedFloor>(
+    clerk: &mut Clerk<'_, R, G, F>,
+    plan: &Plan,
+    turn: u32,
+    place: u32,
+    states: &mut [JobState],
+) -> Result<(), Memory>
+    requires runnable { IsRunnable plan.now }
+    requires runs { RunsOn plan.now (F.shared clerk.old.floor) states.old }
+    requires turn { turn ≤ 40000 }
+    requires place { place < length plan.now.jobs }
+    ensures heard { OnOk result (Hears (F.shared clerk.old.floor) (F.shared clerk.new.floor)
+        (job_turn_so plan.now turn place (progress_of states.old))
+        (machine_so (progress_of states.new))) }
+    ensures runs { OnOk result (RunsOn plan.now (F.shared clerk.new.floor) states.new) }
+{
+    let actor = actor_at(plan, turn, place);
+    act(clerk, &actor, &mut states[place as usize])
+}
+
+/// Every job has its turn, in order.
+fn one_turn<R: Threads + Wait, G: Gate, F: SharedFloor>(
+    clerk: &mut Clerk<'_, R, G, F>,
+    plan: &Plan,
+    turn: u32,
+    states: &mut [JobState],
+) -> Result<(), Memory>
+    requires runnable { IsRunnable plan.now }
+    requires runs { RunsOn plan.now (F.shared clerk.old.floor) states.old }
+    requires turn { turn ≤ 40000 }
+    ensures heard { OnOk result (Hears (F.shared clerk.old.floor) (F.shared clerk.new.floor)
+        (turn_so plan.now turn (progress_of states.old)) (machine_so (progress_of states.new))) }
+    ensures runs { OnOk result (RunsOn plan.now (F.shared clerk.new.floor) states.new) }
+{
+    for place in 0..plan.jobs.as_slice().len() {
+        one_job(clerk, plan, turn, place as u32, states)?;
+    }
+    Ok(())
+}
+
+/// All turns, one after the other.
+pub fn all_turns<R: Threads + Wait, G: Gate, F: SharedFloor>(
+    clerk: &mut Clerk<'_, R, G, F>,
+    plan: &Plan,
+    states: &mut [JobState],
+) -> Result<(), Memory>
+    requires runnable { IsRunnable plan.now }
+    requires runs { RunsOn plan.now (F.shared clerk.old.floor) states.old }
+    ensures heard { OnOk result (Hears (F.shared clerk.old.floor) (F.shared clerk.new.floor)
+        (turns_of plan.now plan.now.turns (progress_of states.old))
+        (machine_so (progress_of states.new))) }
+    ensures runs { OnOk result (RunsOn plan.now (F.shared clerk.new.floor) states.new) }
+{
+    for turn in 0..plan.turns {
+        one_turn(clerk, plan, turn, states)?;
+    }
+    Ok(())
+}
+
+/// The job leaves its line, where it waits.
+fn leave_line<R: Threads + Wait, G: Gate, F: SharedFloor>(
+    clerk: &mut Clerk<'_, R, G, F>,
+    actor: &Actor<'_>,
+    state: &mut JobState,
+) -> Result<(), Memory>
+    requires held { state.old.held.items
+        ≡ places_held (F.shared clerk.old.floor).board actor.now.place }
+    requires stands { Stands actor.now (F.shared clerk.old.floor)
+        (wait_in state.old.progress) [] }
+    ensures did { OnOk result (GaveUp actor.now (F.shared clerk.old.floor)
+        (line_left_so actor.now state.old.progress) same (F.shared clerk.new.floor)) }
+    ensures held { OnOk result (state.new.held.items
+        ≡ places_held (F.shared clerk.new.floor).board actor.now.place) }
+    ensures progress { state.new.progress ≡ state.old.progress }
+{
+    match state.progress {
+        Progress::Waiting {
+            next: _,
+            at,
+            round,
+            number,
+        } => {
+            leave(clerk, actor, &mut state.held, at, round, number)?;
+            Ok(())
+        }
+        Progress::Stepping(_) | Progress::Working { .. } | Progress::Ended(_) => Ok(()),
+    }
+}
+
+/// The job leaves its line and gives back all that it holds.
+fn close_job<R: Threads + Wait, G: Gate, F: SharedFloor>(
+    clerk: &mut Clerk<'_, R, G, F>,
+    actor: &Actor<'_>,
+    state: &mut JobState,
+) -> Result<(), Memory>
+    requires held { state.old.held.items
+        ≡ places_held (F.shared clerk.old.floor).board actor.now.place }
+    requires stands { Stands actor.now (F.shared clerk.old.floor)
+        (wait_in state.old.progress) [] }
+    ensures did { OnOk result (GaveUp actor.now (F.shared clerk.old.floor)
+        (close actor.now state.old.progress) same (F.shared clerk.new.floor)) }
+    ensures held { OnOk result (state.new.held.items
+        ≡ places_held (F.shared clerk.new.floor).board actor.now.place) }
+    ensures clear { OnOk result (IsClear (F.shared clerk.new.floor).board actor.now.place) }
+    ensures progress { state.new.progress ≡ state.old.progress }
+{
+    leave_line(clerk, actor, state)?;
+    give_all(clerk, actor, &mut state.held);
+    Ok(())
+}
+
+/// After the last turn every job leaves its line and gives back all that it holds.
+pub fn close_jobs<R: Threads + Wait, G: Gate, F: SharedFloor>(
+    clerk: &mut Clerk<'_, R, G, F>,
+    plan: &Plan,
+    states: &mut [JobState],
+) -> Result<(), Memory>
+    requires few { length plan.now.jobs ≤ 4096 }
+    requires runs { RunsOn plan.now (F.shared clerk.old.floor) states.old }
+    ensures heard { OnOk result (Hears (F.shared clerk.old.floor) (F.shared clerk.new.floor)
+        (close_all plan.now (progress_of states.old)) same) }
+    ensures clear { OnOk result (AllClear plan.now (F.shared clerk.new.floor)) }
+    ensures progress { OnOk result (progress_of states.new ≡ progress_of states.old) }
+{
+    for place in 0..plan.jobs.as_slice().len() {
+        let actor = actor_at(plan, plan.turns, place as u32);
+        close_job(clerk, &actor, &mut states[place])?;
+    }
+    Ok(())
+}

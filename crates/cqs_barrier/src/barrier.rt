@@ -1,6 +1,6 @@
 //! The barrier, and how it is made.
 
-ghost use Rattle.std.specs.Prelude.{◌≡◌, ◌⊎◌, ◌<◌, [], true, false, IfOk, IsErrOf};
+ghost use Rattle.std.specs.Prelude.{◌≡◌, ◌⊎◌, ◌<◌, [], ◌∷◌, true, false, IfOk, IsErrOf};
 ghost use mathlib.Core.Logic.{◌↔◌};
 ghost use Rattle.cqs_rule.specs.Configured.{is_config};
 ghost use Rattle.cqs_rule.specs.Passes.{pass_view, passes_of, limit_of};
@@ -37,6 +37,7 @@ impl Barrier {
         ensures passes { IfOk result (λ made. (passes_of made.0.queue ≡ config.passes)
             × (limit_of made.0.queue ≡ config.limit)) }
         ensures first { IfOk result (λ made. (pass_view made.1).number ≡ 0) }
+        ensures own { IfOk result (λ made. (pass_view made.1).own ≡ 0 ∷ []) }
         ensures nothing { IfOk result (λ made. (pass_view made.1).seen ≡ []) }
         ensures alone { IfOk result (λ made. (pass_view made.1).alone ≡ true) }
         ensures all { IfOk result
@@ -61,6 +62,7 @@ impl Barrier<Unparked> {
         ensures passes { IfOk result (λ made. (passes_of made.0.queue ≡ config.passes)
             × (limit_of made.0.queue ≡ config.limit)) }
         ensures first { IfOk result (λ made. (pass_view made.1).number ≡ 0) }
+        ensures own { IfOk result (λ made. (pass_view made.1).own ≡ 0 ∷ []) }
         ensures nothing { IfOk result (λ made. (pass_view made.1).seen ≡ []) }
         ensures alone { IfOk result (λ made. (pass_view made.1).alone ≡ true) }
         ensures all { IfOk result
@@ -83,6 +85,7 @@ impl<T: Carries + Send> Barrier<T> {
         ensures passes { IfOk result (λ made. (passes_of made.0.queue ≡ config.passes)
             × (limit_of made.0.queue ≡ config.limit)) }
         ensures first { IfOk result (λ made. (pass_view made.1).number ≡ 0) }
+        ensures own { IfOk result (λ made. (pass_view made.1).own ≡ 0 ∷ []) }
         ensures nothing { IfOk result (λ made. (pass_view made.1).seen ≡ []) }
         ensures alone { IfOk result (λ made. (pass_view made.1).alone ≡ true) }
         ensures all { IfOk result

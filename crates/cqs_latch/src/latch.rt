@@ -1,6 +1,6 @@
 //! The latch, and how it is made.
 
-ghost use Rattle.std.specs.Prelude.{◌≡◌, ◌⊎◌, ◌<◌, [], true, false, IfOk, IsErrOf};
+ghost use Rattle.std.specs.Prelude.{◌≡◌, ◌⊎◌, ◌<◌, [], ◌∷◌, true, false, IfOk, IsErrOf};
 ghost use mathlib.Core.Logic.{◌↔◌};
 ghost use Rattle.cqs_latch.specs.LatchMade.{count_of, mode_of};
 ghost use Rattle.cqs_rule.specs.Configured.{is_config};
@@ -44,6 +44,7 @@ impl Latch {
         ensures passes { IfOk result (λ made. (passes_of made.0.queue ≡ config.passes)
             × (limit_of made.0.queue ≡ config.limit)) }
         ensures first { IfOk result (λ made. (pass_view made.1).number ≡ 0) }
+        ensures own { IfOk result (λ made. (pass_view made.1).own ≡ 0 ∷ []) }
         ensures nothing { IfOk result (λ made. (pass_view made.1).seen ≡ []) }
         ensures alone { IfOk result (λ made. (pass_view made.1).alone ≡ true) }
         ensures ready { IfOk result (λ made. Rests [] (pass_view made.1)) }
@@ -71,6 +72,7 @@ impl Latch<Unparked> {
         ensures passes { IfOk result (λ made. (passes_of made.0.queue ≡ config.passes)
             × (limit_of made.0.queue ≡ config.limit)) }
         ensures first { IfOk result (λ made. (pass_view made.1).number ≡ 0) }
+        ensures own { IfOk result (λ made. (pass_view made.1).own ≡ 0 ∷ []) }
         ensures nothing { IfOk result (λ made. (pass_view made.1).seen ≡ []) }
         ensures alone { IfOk result (λ made. (pass_view made.1).alone ≡ true) }
         ensures ready { IfOk result (λ made. Rests [] (pass_view made.1)) }
@@ -96,6 +98,7 @@ impl<T: Carries + Send> Latch<T> {
         ensures passes { IfOk result (λ made. (passes_of made.0.queue ≡ config.passes)
             × (limit_of made.0.queue ≡ config.limit)) }
         ensures first { IfOk result (λ made. (pass_view made.1).number ≡ 0) }
+        ensures own { IfOk result (λ made. (pass_view made.1).own ≡ 0 ∷ []) }
         ensures nothing { IfOk result (λ made. (pass_view made.1).seen ≡ []) }
         ensures alone { IfOk result (λ made. (pass_view made.1).alone ≡ true) }
         ensures ready { IfOk result (λ made. Rests [] (pass_view made.1)) }

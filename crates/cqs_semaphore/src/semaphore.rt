@@ -1,6 +1,6 @@
 //! The semaphore, how it is made, and the reader of its state.
 
-ghost use Rattle.std.specs.Prelude.{◌≡◌, ◌⊎◌, ◌<◌, ◌≤◌, [], true, false, IfOk, IsErrOf};
+ghost use Rattle.std.specs.Prelude.{◌≡◌, ◌⊎◌, ◌<◌, ◌≤◌, [], ◌∷◌, true, false, IfOk, IsErrOf};
 ghost use mathlib.Core.Logic.{◌↔◌};
 ghost use Rattle.cqs_core.specs.SemaphoreShown.{state_of};
 ghost use Rattle.cqs_rule.specs.Configured.{is_config};
@@ -42,6 +42,7 @@ impl Semaphore {
         ensures passes { IfOk result (λ made. (passes_of made.0.queue ≡ config.passes)
             × (limit_of made.0.queue ≡ config.limit)) }
         ensures first { IfOk result (λ made. (pass_view made.1).number ≡ 0) }
+        ensures own { IfOk result (λ made. (pass_view made.1).own ≡ 0 ∷ []) }
         ensures nothing { IfOk result (λ made. (pass_view made.1).seen ≡ []) }
         ensures alone { IfOk result (λ made. (pass_view made.1).alone ≡ true) }
         ensures ready { IfOk result (λ made. Rests (pass_view made.1) 0 [] (pass_view made.1)) }
@@ -70,6 +71,7 @@ impl Semaphore<Unparked> {
         ensures passes { IfOk result (λ made. (passes_of made.0.queue ≡ config.passes)
             × (limit_of made.0.queue ≡ config.limit)) }
         ensures first { IfOk result (λ made. (pass_view made.1).number ≡ 0) }
+        ensures own { IfOk result (λ made. (pass_view made.1).own ≡ 0 ∷ []) }
         ensures nothing { IfOk result (λ made. (pass_view made.1).seen ≡ []) }
         ensures alone { IfOk result (λ made. (pass_view made.1).alone ≡ true) }
         ensures ready { IfOk result (λ made. Rests (pass_view made.1) 0 [] (pass_view made.1)) }

@@ -2,6 +2,7 @@
 -- the resumptions of the others.
 use Rattle.std.proofs.Common.{◌≡◌, inl, inr, ℕ, ◌-◌, ◌<◌, ◌≤◌, Bool, true, false, List, [], ◌∷◌, ◌++◌, length, Some, None, sym, refl, ap, ◌∙◌, subst, take, take_at, arith, if◌then◌else◌}
 use Rattle.std.proofs.lemmas.Bool.{eqb-true}
+use Rattle.std.proofs.lemmas.List.{append-nil}
 use Rattle.cqs_core.specs.declared.doings.Doing.TheVariants as doing
 use Rattle.cqs_barrier_object.specs.declared.entries.BarrierEntry.{BarrierEntry}
 use Rattle.cqs_barrier_object.specs.SoleCaller.{delivers}
@@ -225,6 +226,7 @@ module _ {T : Type 0} where
       record {
         called = call-rule v w (entry.ArriveDoor v.number ∷ entry.Enter v.number k ∷ []) (entry.Deliver k ∷ [])
             (called-weak v w _ _ named) (λ n. refl, (λ n. refl, tt)) (λ n. refl, tt) has legal;
+        ends = (named.before, named.ends);
         early = early m v x w more c on ends.called.same.opening;
       }
 
@@ -263,6 +265,7 @@ module _ {T : Type 0} where
           record {
             called = call-rule_own v w (entry.ArriveDoor v.number ∷ entry.Enter v.number k ∷ []) _ named
                 (λ n. refl, (λ n. refl, tt)) has legal;
+            ends = (w.seen, sym (append-nil w.seen));
             early = early m v x w more c on ends.called.same.opening;
           },
           e.1,

@@ -59,10 +59,11 @@ module _ {T : Type 0} where
     pub called : CallRule v (entry.ArriveLast v.number ∷ []) (delivers ks) w
     pub last : WasLast v w
 
-  -- An earlier one: it drew this number, and these entries came after it.
+  -- An earlier one: it drew this number, and these entries came after it, as the last ones.
   pub record CameEarly (k : ℕ) (further : List BarrierEntry) (v w : View BarrierEntry T)
       : Type 0 where
     pub called : CallRule v (entry.ArriveDoor v.number ∷ entry.Enter v.number k ∷ []) further w
+    pub ends : (before : List BarrierEntry) × (w.seen ≡ before ++ further)
     pub early : WasEarly v w
 
   abbrev pub Arrives : View BarrierEntry T → Arrived → View BarrierEntry T → Type 0

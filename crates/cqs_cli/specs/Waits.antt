@@ -1,10 +1,12 @@
 -- Where the cell of a wait stands: of a job's wait, and of a wait that a pass has.
-use Rattle.std.specs.Prelude.{ℕ}
+use Rattle.std.specs.Prelude.{ℕ, Option, Some, None}
 use Rattle.cqs_rule.specs.declared.config.Place.{Place}
 use Rattle.cqs_rule.specs.declared.view.View.{View}
 use Rattle.cqs_rule.specs.Lists.{Has}
 use Rattle.cqs_rule.specs.Placed.{KnowsPlace}
 use Rattle.cqs_cli.specs.declared.floors.waits.Wait.{Wait}
+use Rattle.cqs_cli.specs.declared.floors.waits.WaitSlot.{WaitSlot}
+use Rattle.cqs_cli.specs.declared.floors.waits.WaitSlot.TheVariants.{Free, Used}
 
 -- where the cell of the job's wait stands
 abbrev pub place_in : Wait → Place
@@ -14,6 +16,12 @@ place_in w = record { word = w.word; index = w.index }
 abbrev pub wait_for : ℕ → ℕ → Place → Wait
 wait_for at round place =
     record { at = at; round = round; word = place.word; index = place.index }
+
+-- the wait that a slot has
+abbrev pub slot_wait : WaitSlot → Option Wait
+slot_wait Free = None
+slot_wait (Used round at word index) =
+    Some (record { at = at; round = round; word = word; index = index })
 
 -- The pass has the wait of this place: it is one of its own that isn't closed, and it knows that
 -- the cell stands there.

@@ -11,7 +11,7 @@
 //! first. A wait is kept twice: the machine reads the one in the job's progress, to tell its line,
 //! and the floor the one in `waits`, to ask its resource.
 
-ghost use Rattle.std.specs.Prelude.{◌≡◌, ◌<◌, Some, length, map, slice_index};
+ghost use Rattle.std.specs.Prelude.{◌≡◌, ◌<◌, ◌≤◌, None, Some, length, map, slice_index, slice_set, vec_len};
 ghost use Rattle.cqs_cli.specs.DeskCalls.{
   Awaits,
   CanEndAt,
@@ -34,11 +34,11 @@ ghost use Rattle.cqs_cli.specs.Stores.{
   CanRelease,
   CanWait,
 };
-ghost use Rattle.cqs_cli.specs.Waits.{place_in};
+ghost use Rattle.cqs_cli.specs.Waits.{place_in, slot_wait};
 
 use super::sole_resource::{Left, Looked, SoleResource, Taken};
 use super::transfers::Transfer;
-use super::waits::Wait;
+use super::waits::{Wait, WaitSlot};
 use cqs_plan::{FloorDown, FloorEnd, FloorGive, FloorLeave, FloorLook, FloorTake, Kind};
 use std::marker::Model;
 
@@ -49,14 +49,16 @@ pub struct Desk<S: SoleResource> {
     pub kinds: Vec<Kind>,
     pub soles: Vec<S>,
     pub room: Vec<u32>,
-    pub waits: Vec<Option<Wait>>,
+    pub waits: Vec<WaitSlot>,
     pub rounds: Vec<Vec<u32>>,
     pub transfers: Vec<Transfer>,
+    pub ghost few: { vec_len room ≤ 64 },
 }
 
 impl<S: SoleResource> Model for Desk<S> {
     ghost use Rattle.std.specs.Prelude.{◌-◌, map, vec_len, vec_capacity};
     ghost use Rattle.cqs_cli.specs.Ledger.{Ledger};
+    ghost use Rattle.cqs_cli.specs.Waits.{slot_wait};
 
     ghost Value = { Ledger S };
 
@@ -64,7 +66,7 @@ impl<S: SoleResource> Model for Desk<S> {
       kinds = d.kinds.items;
       soles = d.soles.items;
       room = d.room.items;
-      waits = d.waits.items;
+      waits = map slot_wait d.waits.items;
       rounds = map (λ own. own.items) d.rounds.items;
       transfers = d.transfers.items;
       spare = vec_capacity d.transfers - vec_len d.transfers;
@@ -89,7 +91,7 @@ impl<S: SoleResource> Desk<S> {
                 FloorTake::Now(element)
             }
             Taken::Waits(place) => {
-                self.waits[job as usize] = Some(Wait::new(at, 0, place));
+                put_wait(&mut self.waits, job, Wait::new(at, 0, place));
                 FloorTake::Waits(place.index)
             }
         }
@@ -125,7 +127,7 @@ impl<S: SoleResource> Desk<S> {
         match self.soles[at as usize].wait(job) {
             None => FloorTake::Now(0),
             Some(place) => {
-                self.waits[job as usize] = Some(Wait::new(at, 0, place));
+                put_wait(&mut self.waits, job, Wait::new(at, 0, place));
                 FloorTake::Waits(place.index)
             }
         }
@@ -148,7 +150,7 @@ impl<S: SoleResource> Desk<S> {
         match self.soles[at as usize].arrive(job, round) {
             None => FloorTake::Now(0),
             Some(place) => {
-                self.waits[job as usize] = Some(Wait::new(at, round, place));
+                put_wait(&mut self.waits, job, Wait::new(at, round, place));
                 FloorTake::Waits(place.index)
             }
         }
@@ -162,7 +164,7 @@ impl<S: SoleResource> Desk<S> {
         ensures sole { HasAt self.now.soles result.at
             (CanEnd S.store job result.round (place_in result)) }
     {
-        match self.waits[job as usize] {
+        match self.waits[job as usize].wait() {
             Some(wait) => wait,
             None => unreachable!(),
         }
@@ -179,13 +181,13 @@ impl<S: SoleResource> Desk<S> {
         match self.soles[at as usize].look(job, wait.round, wait.place()) {
             Looked::Pending => FloorLook::Pending,
             Looked::Got(element) => {
-                self.waits[job as usize] = None;
+                take_out_wait(&mut self.waits, job);
                 self.transfers
                     .push_reserved(Transfer::Got { job, at, element });
                 FloorLook::Granted(element)
             }
             Looked::Through => {
-                self.waits[job as usize] = None;
+                take_out_wait(&mut self.waits, job);
                 FloorLook::Granted(0)
             }
         }
@@ -198,7 +200,7 @@ impl<S: SoleResource> Desk<S> {
         ensures { Leaves S.store self.old job result self.new }
     {
         let wait = self.wait_of(job);
-        self.waits[job as usize] = None;
+        take_out_wait(&mut self.waits, job);
         let at = wait.at;
         match self.soles[at as usize].leave(job, wait.round, wait.place()) {
             Left::Gone => FloorLeave::Gone,
@@ -234,4 +236,26 @@ fn count_round(rounds: &mut Vec<Vec<u32>>, at: u32, job: u32) -> u32
     let round = own[at as usize];
     own[at as usize] = round + 1;
     round
+}
+
+/// The job has this wait from now on.
+#[inline]
+fn put_wait(waits: &mut Vec<WaitSlot>, job: u32, wait: Wait)
+    requires job { job < length waits.old.items }
+    requires few_resources { wait.at < 65536 }
+    requires few_rounds { wait.round < 256 }
+    ensures { map slot_wait waits.new.items
+        ≡ slice_set (map slot_wait waits.old.items) job (Some wait) }
+{
+    waits[job as usize] = WaitSlot::of(wait);
+}
+
+/// The job has no wait any more.
+#[inline]
+fn take_out_wait(waits: &mut Vec<WaitSlot>, job: u32)
+    requires job { job < length waits.old.items }
+    ensures { map slot_wait waits.new.items
+        ≡ slice_set (map slot_wait waits.old.items) job None }
+{
+    waits[job as usize] = WaitSlot::Free;
 }

@@ -14,10 +14,11 @@ ghost use Rattle.cqs_cli.specs.Opening.{
   IsOpening,
   room_of,
 };
+ghost use Rattle.cqs_cli.specs.Waits.{slot_wait};
 
 use super::desk::Desk;
 use super::sole_resource::ForEachKind;
-use super::waits::Wait;
+use super::waits::WaitSlot;
 use cqs_core::Memory;
 use cqs_plan::{Job, Kind, Plan, Resource, Step};
 use std::alloc::{AllocError, Global};
@@ -94,12 +95,12 @@ fn total(room: &[u32]) -> usize
 }
 
 /// A list in which no job has a wait.
-fn no_waits(alloc: Global, jobs: usize) -> Result<Vec<Option<Wait>>, AllocError>
-    ensures { IfOk result (λ waits. waits.items ≡ replicate jobs None) }
+fn no_waits(alloc: Global, jobs: usize) -> Result<Vec<WaitSlot>, AllocError>
+    ensures { IfOk result (λ waits. map slot_wait waits.items ≡ replicate jobs None) }
 {
     let mut waits = Vec::with_capacity(alloc, jobs)?;
     for _job in 0..jobs {
-        waits.push(None)?;
+        waits.push(WaitSlot::Free)?;
     }
     Ok(waits)
 }

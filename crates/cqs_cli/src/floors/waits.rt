@@ -1,7 +1,7 @@
 //! The wait of a job.
 
-ghost use Rattle.std.specs.Prelude.{◌≡◌};
-ghost use Rattle.cqs_cli.specs.Waits.{place_in};
+ghost use Rattle.std.specs.Prelude.{◌≡◌, ◌<◌, Some};
+ghost use Rattle.cqs_cli.specs.Waits.{place_in, slot_wait};
 
 use cqs_rule::Place;
 
@@ -13,6 +13,19 @@ pub struct Wait {
     pub round: u32,
     pub word: u32,
     pub index: u64,
+}
+
+/// The wait of a job, or none, in 16 bytes. Where all jobs wait, each turn reads them all, and an
+/// `Option<Wait>` would take twice as many.
+#[derive(Clone, Copy)]
+pub enum WaitSlot {
+    Free,
+    Used {
+        round: u8,
+        at: u16,
+        word: u32,
+        index: u64,
+    },
 }
 
 impl Wait {
@@ -37,6 +50,43 @@ impl Wait {
         Place {
             word: self.word,
             index: self.index,
+        }
+    }
+}
+
+impl WaitSlot {
+    /// One with this wait. There are few resources and rounds.
+    pub fn of(wait: Wait) -> Self
+        requires few_resources { wait.at < 65536 }
+        requires few_rounds { wait.round < 256 }
+        ensures { slot_wait result ≡ Some wait }
+    {
+        WaitSlot::Used {
+            round: wait.round as u8,
+            at: wait.at as u16,
+            word: wait.word,
+            index: wait.index,
+        }
+    }
+
+    /// The wait that is there.
+    #[inline]
+    pub fn wait(self) -> Option<Wait>
+        ensures { result ≡ slot_wait self }
+    {
+        match self {
+            WaitSlot::Free => None,
+            WaitSlot::Used {
+                round,
+                at,
+                word,
+                index,
+            } => Some(Wait {
+                at: u32::from(at),
+                round: u32::from(round),
+                word,
+                index,
+            }),
         }
     }
 }

@@ -1,4 +1,6 @@
+use Rattle.std.proofs.Common.{ℕ, List, length, ap, ◌∙◌, arith}
 use Rattle.std.proofs.lemmas.List.FromFn.{length-map-range_with_len}
+use Rattle.cqs_plan.specs.declared.plans.resource.Resource.{Resource}
 use Rattle.cqs_cli.proofs.Counting.{runnable-countable}
 use Rattle.cqs_cli.proofs.floors.desk.Desk.new.Goals as goal
 
@@ -9,3 +11,11 @@ count_room-requires-clause-countable g c =
 pub open_soles-requires-clause-same : goal.open_soles-requires-clause-same
 open_soles-requires-clause-same g c =
     rw (c.deref-2.ensures.value, c.in_ok-room.ensures.counts) (length-map-range_with_len _ _ _)
+
+-- a room for each resource, of which a plan has few
+pub invariant_of-result : goal.invariant_of-result
+invariant_of-result g c =
+    let few = c.requires.runnable.resources in
+    let many = ap (λ (l : List ℕ). length l) c.in_ok-room.ensures.counts ∙ length-map-range_with_len _ _ _ in
+    let same = ap (λ (l : List Resource). length l) c.as_slice-resources.ensures in
+    (omega (arith, few, many, same), tt)

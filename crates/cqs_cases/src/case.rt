@@ -1,7 +1,7 @@
 //! One case: what the program is run on.
 
 use crate::floors::{Compared, compare};
-use cqs_cli::{DONE, Kept, top};
+use cqs_cli::{DONE, Kept, top_alone};
 use cqs_plan::{BytesSink, BytesSource};
 use std::alloc::{AllocError, Global};
 
@@ -59,7 +59,7 @@ impl Case {
             anyhow::bail!("no memory for the sink");
         };
         let mut kept = Kept::Nothing;
-        let ended = top(alloc, &self.words, &mut source, &mut sink, &mut kept);
+        let ended = top_alone(alloc, &self.words, &mut source, &mut sink, &mut kept);
         let right = ended == status && sink.bytes() == text.as_slice();
         let has_report = status == DONE && self.asks_for_input();
         Ok(right && (!has_report || is_same_on_both(alloc, &input, &text)))

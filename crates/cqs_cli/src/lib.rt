@@ -1,9 +1,11 @@
-//! The program `cqs` as a library: its commands over any source and sink.
+//! The program `cqs` as a library: its commands that have no workers, over any source and sink.
 //!
-//! `top` judges first and tells after. `judge` reads the words and the source and knows no sink;
-//! `tell` knows the sink alone, and writes a text that was made whole before. What each status
-//! means stands on `top`. `kept` is what a call leaves its caller of a run, and `floors` has the
-//! floor on which a plan is run. The real streams are in `standard`, the trusted edge.
+//! `top_alone` judges first and tells after. `judge` reads the words and the source and knows no
+//! sink; `tell` knows the sink alone, and writes a text that was made whole before. What each
+//! status means stands on `top_alone`. `kept` is what a call leaves its caller of a run, and
+//! `floors` has the floor on which a plan is run. The real streams are in `standard`, the trusted
+//! edge. `Verdict`, `tell` and `read_number` are public for `cqs_top`, which has the command that
+//! needs workers.
 #![tactic(auto)]
 
 mod floors;
@@ -23,4 +25,7 @@ pub use floors::queue_floor::QueueFloor;
 pub use kept::Kept;
 pub use standard::{StdinSource, StdoutSink};
 pub use statuses::{DONE, NO_COMMAND, NO_MEMORY, NO_PLAN, SINK_FAILED, SOURCE_FAILED, TOO_LONG};
-pub use top_call::top;
+pub use telling::tell;
+pub use top_call::top_alone;
+pub use verdict::Verdict;
+pub use words::read_number;

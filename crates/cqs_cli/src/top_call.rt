@@ -1,4 +1,4 @@
-//! The one call of the program, and what each of its statuses means.
+//! The call for the commands that have no workers, and what each of its statuses means.
 
 ghost use Rattle.std.specs.Prelude.{◌≡◌, ◌≢◌, ◌⊎◌, ℕ, ◌+◌, ◌<◌, ◌≤◌, List, length, map, string_bytes, IsTrue, Some};
 ghost use Rattle.cqs_plan.specs.Counts.{raised, Rises};
@@ -16,8 +16,9 @@ use crate::telling::tell;
 use cqs_plan::{LONGEST_INPUT, Sink, Source};
 use std::alloc::Global;
 
-/// One call of the program: does what the words say and gives the status
-/// that the process ends with.
+/// One call for the commands that have no workers: does what the words say and gives the status
+/// that the process ends with. It takes no handle, so it returns. To it the words of `work` are no
+/// command: `top` of `cqs_top` does them itself, and calls this for all others.
 ///
 /// The first clauses say what each status means, each by itself; then come those on what was read,
 /// whatever the status. The last four say which status must come where no fault does, unless memory
@@ -26,7 +27,7 @@ use std::alloc::Global;
 ///
 /// The floor of a run is kept where its report was made, which is before anything is written: with
 /// status 0, and with status 5 where the input is a plan.
-pub fn top<S: Source, K: Sink>(
+pub fn top_alone<S: Source, K: Sink>(
     alloc: Global,
     words: &[String],
     source: &mut S,

@@ -74,7 +74,7 @@ fn read_numbers(number: &str, jobs: &str) -> Option<Command>
 }
 
 /// The number in this range whose digits the word is: no sign and no leading zero.
-fn read_number(word: &str, least: u32, most: u32) -> Option<u32>
+pub fn read_number(word: &str, least: u32, most: u32) -> Option<u32>
     ensures { IsNumberOf word.now least most result }
 {
     match word.parse::<u32>() {

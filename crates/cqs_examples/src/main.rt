@@ -2,7 +2,7 @@
 //! one stored beside the plan.
 #![tactic(auto)]
 
-use cqs_cli::{DONE, Kept, top};
+use cqs_cli::{DONE, Kept, top_alone};
 use cqs_plan::{SureSink, SureSource};
 use std::fs;
 use std::rt::Files;
@@ -35,7 +35,7 @@ fn is_as_stored<R: Files + AllocGlobal>(rt: &R, name: &str) -> anyhow::Result<bo
         anyhow::bail!("no memory for the report");
     };
     let mut kept = Kept::Nothing;
-    let status = top(alloc, &words, &mut source, &mut sink, &mut kept);
+    let status = top_alone(alloc, &words, &mut source, &mut sink, &mut kept);
     Ok(status == DONE && sink.bytes() == Some(report.as_str().as_bytes()))
 }
 

@@ -12,7 +12,7 @@ ghost use Rattle.cqs_main.specs.Messages.{TakesPrefix, message};
 use crate::messages::finish;
 use crate::words::words_after_name;
 use cqs_cli::{
-    DONE, Kept, NO_COMMAND, NO_MEMORY, NO_PLAN, SINK_FAILED, SOURCE_FAILED, TOO_LONG, top,
+    DONE, Kept, NO_COMMAND, NO_MEMORY, NO_PLAN, SINK_FAILED, SOURCE_FAILED, TOO_LONG, top_alone,
 };
 use cqs_plan::{LONGEST_INPUT, Sink, Source};
 use std::alloc::Global;
@@ -126,7 +126,7 @@ pub fn run<S: Source, K: Sink, W: Write>(
 {
     let mut kept = Kept::Nothing;
     let status = match words_after_name(alloc, arguments) {
-        Ok(words) => top(alloc, &words, source, sink, &mut kept),
+        Ok(words) => top_alone(alloc, &words, source, sink, &mut kept),
         Err(_) => NO_MEMORY,
     };
     finish(errors, status)

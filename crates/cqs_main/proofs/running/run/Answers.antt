@@ -10,7 +10,7 @@ returns-clause-headline g c =
       | in-Ok w ↦ λ done.
           let so = sym w.status-is ∙ sym c.finish.ensures.status ∙ done in
           rw (w.source-is, w.sink-is, ← w.in-Ok.ensures.words, ← w.deref.ensures.value)
-          (w.top-status.ensures.headline so)
+          (w.top_alone-status.ensures.headline so)
       | in-Err w ↦ search rules
     ]
 
@@ -40,7 +40,7 @@ returns-clause-wrong_input g c =
     elim c.match-words_after_name.branch [
       | in-Ok w ↦ λ is_run bytes left short no_plan source_calm sink_calm.
           rw (c.finish.ensures.status, w.status-is)
-          (w.top-status.ensures.wrong_input (search rules) bytes left short no_plan (search rules) (search rules))
+          (w.top_alone-status.ensures.wrong_input (search rules) bytes left short no_plan (search rules) (search rules))
       | in-Err w ↦ search rules
     ]
 
@@ -49,7 +49,7 @@ returns-clause-complete g c =
     elim c.match-words_after_name.branch [
       | in-Ok w ↦ λ is_run bytes left short plan source_calm sink_calm.
           rw (c.finish.ensures.status, w.status-is)
-          (w.top-status.ensures.complete (search rules) bytes left short plan (search rules) (search rules))
+          (w.top_alone-status.ensures.complete (search rules) bytes left short plan (search rules) (search rules))
       | in-Err w ↦ search rules
     ]
 
@@ -58,6 +58,6 @@ returns-clause-wrong_words g c =
     elim c.match-words_after_name.branch [
       | in-Ok w ↦ λ no_command sink_calm.
           rw (c.finish.ensures.status, w.status-is)
-          (inl (w.top-status.ensures.wrong_words (search rules) (search rules)))
+          (inl (w.top_alone-status.ensures.wrong_words (search rules) (search rules)))
       | in-Err w ↦ search rules
     ]

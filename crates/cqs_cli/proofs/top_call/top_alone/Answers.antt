@@ -3,7 +3,7 @@
 use Rattle.std.proofs.Common.{rules}
 use Rattle.cqs_cli.proofs.KeptLemmas.{headline, kept_broken, kept_done}
 use Rattle.cqs_cli.proofs.MeaningLemmas.{all_statuses, answers_fault, answers_number, answers_plan, broke_off, is_status, leaves_source}
-use Rattle.cqs_cli.proofs.top_call.top.Goals as goal
+use Rattle.cqs_cli.proofs.top_call.top_alone.Goals as goal
 
 pub returns-clause-statuses : goal.returns-clause-statuses
 returns-clause-statuses g c =

@@ -22,9 +22,10 @@ pub record Shared : Type 0 where
   -- the pass's number, and those of the passes that were met into it
   pub number : ℕ
   pub met : List ℕ
-  -- how many floors were split from one with it, and the name that they share
+  -- how many floors were split from one with it, and the name that they share: for each resource
+  -- the names of its objects, which are numbers
   pub floors : ℕ
-  pub family : ℕ
+  pub family : List (List (List ℕ))
 
 abbrev pub seen_at : Shared → ℕ → History
 seen_at f at = slice_index_or f.seen at (of_permits [])

@@ -1,6 +1,7 @@
 //! The floor of one worker, over objects that all workers share.
 
-ghost use Rattle.std.specs.Prelude.{◌≡◌, ◌<◌, OnOk, IfErr, IsSome, slice_get};
+ghost use Rattle.std.specs.Prelude.{◌≡◌, ◌<◌, ℕ, ◌∷◌, OnOk, IfErr, IsSome, slice_get};
+ghost use Rattle.cqs_core.specs.Parts.{Has};
 ghost use Rattle.cqs_plan.specs.Floor.{IsJob, IsHolding, IsWaiting, IsIdle, IsHoldable, IsLatch, HasRound, room_at, round_of};
 ghost use Rattle.cqs_shared.specs.Shared.{Shared, kind_at, parties_at};
 ghost use Rattle.cqs_shared.specs.Calls.{Takes, Gives, HasLooked, HasLeft, Downs, Waits, Arrives, Meets, HasWait, HaveAllMet, IsAtRest, answer_of, end_answer};
@@ -88,9 +89,12 @@ pub trait SharedFloor: Sized {
             (round_of (shared self.old).board job at) }
         ensures { Arrives (shared self.old) at job (answer_of result) (shared self.new) };
 
-    /// Takes another floor in. It is handed back exactly where one of its jobs has a wait.
+    /// Takes another floor in. It is handed back exactly where one of its jobs has a wait. No two
+    /// floors of a family have a number in common.
     fn meet<R: Wait>(&mut self, rt: &R, given: Self) -> Result<(), Self>
-        requires { (shared given).family ≡ (shared self.old).family }
+        requires family { (shared given).family ≡ (shared self.old).family }
+        requires apart { (n : ℕ) → Has n ((shared self.old).number ∷ (shared self.old).met)
+            → Has n ((shared given).number ∷ (shared given).met) → ⊥ }
         ensures ok { OnOk result (Meets (shared self.old) (shared given) (shared self.new)) }
         ensures idle { OnOk result (HasWait (shared given).board → ⊥) }
         ensures err { IfErr result (λ back. (back ≡ given)

@@ -1,15 +1,16 @@
 -- A whole run of a plan by several workers: from what each of its parts leaves.
-use Rattle.std.proofs.Common.{◌≡◌, ◌⊎◌, inl, inr, ℕ, zero, suc, ◌<◌, ◌≤◌, ◌%◌, List, [], ◌∷◌, ◌++◌, Some, Result, IfOk, All, length, map, slice_get, refl, sym, ap, subst, ◌∙◌, arith}
+use Rattle.std.proofs.Common.{◌≡◌, ◌≢◌, ◌⊎◌, inl, inr, ℕ, zero, suc, ◌<◌, ◌≤◌, ◌%◌, List, [], ◌∷◌, ◌++◌, Some, Result, IfOk, All, AllPairs, length, map, get_or, slice_get, refl, sym, ap, subst, ◌∙◌, arith}
 use Rattle.std.proofs.Math.ListN.{get_or-map}
 use Rattle.std.proofs.lemmas.List.{append-nil, length-map}
 use Rattle.std.proofs.lemmas.List.Elements.{All-nil, All-cons}
+use Rattle.std.proofs.lemmas.Option.{get_or_from_slice_get}
 use Rattle.cqs_core.specs.Numbered.{EachAt}
 use Rattle.cqs_core.specs.Parts.{Has}
 use Rattle.cqs_core.specs.declared.Memory.{Memory}
 use Rattle.cqs_core.proofs.Places.{get-below, get-there}
 use Rattle.cqs_plan.specs.declared.plans.plan.Plan.{Plan}
 use Rattle.cqs_plan.specs.Floor.{IsHoldable}
-use Rattle.cqs_plan.specs.FloorHistory.{of_permits}
+use Rattle.cqs_plan.specs.FloorHistory.{History, of_permits, of_elements, of_latch, of_rounds}
 use Rattle.cqs_plan.specs.Runnable.{IsRunnable, kinds_of}
 use Rattle.cqs_turns.specs.declared.states.JobState.{JobState}
 use Rattle.cqs_turns.proofs.Mapped.{get-map}
@@ -19,6 +20,7 @@ use Rattle.cqs_shared.specs.Shared.{Shared, seen_at, kind_at}
 use Rattle.cqs_work.specs.declared.ends.JobEnd.{JobEnd}
 use Rattle.cqs_work.specs.declared.works.Post.{Post}
 use Rattle.cqs_work.specs.declared.works.Worker.{Worker}
+use Rattle.cqs_work.specs.Even.{IsEven, IsEvenAtPool}
 use Rattle.cqs_work.specs.Heard.{heard}
 use Rattle.cqs_work.specs.Later.{Later, IsSound, IsUnnamed}
 use Rattle.cqs_work.specs.Met.{CanMeet, CanMeetAll, HaveMet, HaveMetAll, IsKeptIn}
@@ -26,6 +28,7 @@ use Rattle.cqs_work.specs.Opening.{dealt, AreStarting, IsOpening, AreSplit, AreP
 use Rattle.cqs_work.specs.Works.{RunsOn, HasWorked, AllWorked, progress_of, turns_of, close_all}
 use Rattle.cqs_work.specs.Worked.{IsParted, AreParted, AreEnds, IsTold, AreTold, AreQuiet, HaveAllIn}
 use Rattle.cqs_work.proofs.Lasting.{later-then}
+use Rattle.cqs_work.proofs.Meeting.{has-back}
 use Rattle.cqs_work.proofs.Openings.{progress-dealt, opening-runs, opening-sound, opening-accounted}
 use Rattle.cqs_work.proofs.Quieting.{at-rest, IsEvenOwn, even-then, quiet-at}
 
@@ -35,13 +38,12 @@ map-back h [] i y got = absurd (cc)
 map-back h (x ∷ xs) zero y got = let same : h x ≡ y = cc in (x, refl, same)
 map-back h (x ∷ xs) (suc i) y got = map-back h xs i y got
 
-has-back : (list : List Shared) (n : ℕ) → Has n (map (λ (f : Shared). f.number) list)
-    → (f : Shared) × (i : ℕ) × (slice_get list i ≡ Some f) × (n ≡ f.number)
-has-back [] n none = absurd none
-has-back (f ∷ list) n (inl here) = (f, 0, refl, here)
-has-back (f ∷ list) n (inr later) =
-    let it = has-back list n later in
-    (it.0, suc it.1, it.2, it.3)
+-- a caller that is unnamed has nothing that isn't behind it
+unnamed-even : (n : ℕ) (h : History) → IsUnnamed n h → IsEvenOwn (own_history n h)
+unnamed-even n (of_permits h) none = subst IsEven (sym none) (record { given = refl; entered = refl })
+unnamed-even n (of_elements h) none = subst IsEvenAtPool (sym none) (record { given = refl })
+unnamed-even n (of_latch h) none = tt
+unnamed-even n (of_rounds all) none = tt
 
 module _ {F : Type 0} (shared : F → Shared) (plan : Plan) (floors : List F) (posts : List (Post F))
     (runnable : IsRunnable plan) (split : AreSplit plan (map shared floors))
@@ -144,7 +146,10 @@ module _ {F : Type 0} (shared : F → Shared) (plan : Plan) (floors : List F) (p
     record Left (i : ℕ) (g : Shared) : Type 0 where
       pub family : g.family ≡ split.family
       pub met : g.met ≡ []
-      pub number : g.number ≡ i
+      pub opened : Shared
+      pub opened_at : slice_get (map shared floors) i ≡ Some opened
+      pub number : g.number ≡ opened.number
+      pub below : g.number < length floors
       pub among : g.floors ≡ length floors
       pub kinds : g.board.kinds ≡ kinds_of plan.resources
       pub rest : IsAtRest g.board
@@ -163,7 +168,10 @@ module _ {F : Type 0} (shared : F → Shared) (plan : Plan) (floors : List F) (p
         record {
           family = later.same.family ∙ split.kin.at i (shared before) (get-map shared floors i before own_floor);
           met = later.same.met ∙ opens.met;
-          number = later.same.number ∙ opens.number;
+          opened = shared before;
+          opened_at = get-map shared floors i before own_floor;
+          number = later.same.number;
+          below = omega (arith, later.same.number, opens.number);
           among = later.same.floors ∙ opens.floors;
           kinds = later.kinds ∙ opens.kinds;
           rest = at-rest plan (shared after) works.clear;
@@ -171,6 +179,26 @@ module _ {F : Type 0} (shared : F → Shared) (plan : Plan) (floors : List F) (p
           even = even-then plan (shared after)
               (later.accounted (opening-accounted plan (length floors) i (shared before) opens)) works.clear;
         }
+
+    left-long : length (map shared lefts) ≡ length (map shared floors)
+    left-long = length-map lefts shared ∙ lefts-long ∙ sym many
+
+    -- the floors that are left have the numbers of those that began
+    numbers-same : (i : ℕ) (d : Shared) → i < length (map shared lefts)
+        → (get_or (map shared lefts) i d).number ≡ (get_or (map shared floors) i d).number
+    numbers-same i d below =
+        let it : (f : F) × (slice_get lefts i ≡ Some f)
+        = get-there lefts i (omega (arith, below, length-map lefts shared)) in
+        let left : Left i (shared it.0) = left-at i it.0 it.1 in
+        ap (λ x. x.number)
+        (get_or_from_slice_get (map shared lefts) i (shared it.0) d (get-map shared lefts i it.0 it.1))
+        ∙ left.number
+        ∙ sym (ap (λ x. x.number) (get_or_from_slice_get (map shared floors) i left.opened d left.opened_at))
+
+    left-apart : AllPairs (λ (f : Shared) (g : Shared). f.number ≢ g.number) (map shared lefts)
+    left-apart i j d earlier inside same =
+        split.apart i j d earlier (omega (arith, inside, left-long))
+        (sym (numbers-same i d (omega (arith, earlier, inside))) ∙ same ∙ numbers-same j d inside)
 
     module _ (first : F) (rest : List F) (is : lefts ≡ first ∷ rest) where
       first-left : Left 0 (shared first)
@@ -188,7 +216,8 @@ module _ {F : Type 0} (shared : F → Shared) (plan : Plan) (floors : List F) (p
         rest = record { at = λ i f got. (given-left i f got).rest };
         first_alone = first-left.met;
         first_rest = first-left.rest;
-        first_number = first-left.number;
+        first_number = omega (arith, first-left.below, first-left.among);
+        apart = subst (λ l. AllPairs (λ (f : Shared) (g : Shared). f.number ≢ g.number) (map shared l)) is left-apart;
         sound = first-left.sound;
       }
 
@@ -210,19 +239,11 @@ module _ {F : Type 0} (shared : F → Shared) (plan : Plan) (floors : List F) (p
 
         -- the passes that have met are those of the workers
         own-below : (n : ℕ) → Has n (final.number ∷ final.met) → n < length floors
-        own-below n (inl here) =
-            omega (arith, here, met.number, first-left.number, workers-are)
+        own-below n (inl here) = omega (arith, here, met.number, first-left.below)
         own-below n (inr later) =
             let among : Has n (map (λ (f : Shared). f.number) (map shared rest)) = subst (Has n) met.met later in
             let found = has-back (map shared rest) n among in
-            omega (
-              arith,
-              found.3,
-              (given-left found.1 found.0 found.2).number,
-              get-below (map shared rest) found.1 found.0 found.2,
-              length-map rest shared,
-              workers-are,
-            )
+            omega (arith, found.3, (given-left found.1 found.0 found.2).below)
 
         unnamed-past : (at n : ℕ) → length floors ≤ n → IsUnnamed n (seen_at final at)
         unnamed-past at n past = go (met.named met-all at n)
@@ -236,15 +257,24 @@ module _ {F : Type 0} (shared : F → Shared) (plan : Plan) (floors : List F) (p
 
         even-at : (at : ℕ) → IsHoldable (kind_at final at) → (c : ℕ) → c < length floors
             → IsEvenOwn (own_history c (seen_at final at))
-        even-at at holdable c below =
-            let it : (f : F) × (slice_get lefts c ≡ Some f) = get-there lefts c (omega (arith, below, lefts-long)) in
-            let left : Left c (shared it.0) = left-at c it.0 it.1 in
-            let kept : IsKeptIn final (shared it.0)
-            = kept-at c it.0 (ap (λ l. slice_get l c) (sym is) ∙ it.1) in
-            let there : IsHoldable (kind_at (shared it.0) at)
-            = subst (λ ks. IsHoldable (slice_get ks at)) (kinds-are ∙ sym left.kinds) holdable in
-            subst (λ n. IsEvenOwn (own_history n (seen_at final at))) left.number
-            (subst IsEvenOwn (sym (kept.mine at)) (left.even at there))
+        even-at at holdable c below = go (met.named met-all at c)
+          where
+            of-left : (i : ℕ) (f : Shared) → Left i f → IsKeptIn final f → c ≡ f.number
+                → IsEvenOwn (own_history c (seen_at final at))
+            of-left i f left kept same =
+                let there : IsHoldable (kind_at f at)
+                = subst (λ ks. IsHoldable (slice_get ks at)) (kinds-are ∙ sym left.kinds) holdable in
+                subst (λ n. IsEvenOwn (own_history n (seen_at final at))) (sym same)
+                (subst IsEvenOwn (sym (kept.mine at)) (left.even at there))
+
+            go : IsUnnamed c (seen_at final at) ⊎ Has c (final.number ∷ final.met)
+                → IsEvenOwn (own_history c (seen_at final at))
+            go (inl unnamed) = unnamed-even c (seen_at final at) unnamed
+            go (inr (inl here)) = of-left 0 (shared first) first-left met.first_kept (here ∙ met.number)
+            go (inr (inr later)) =
+                let found = has-back (map shared rest) c (subst (Has c) met.met later) in
+                of-left (suc found.1) found.0 (given-left found.1 found.0 found.2)
+                (met.kept.at found.1 found.0 found.2) found.3
 
         all-quiet_by : AreQuiet final
         all-quiet_by = record {
@@ -270,7 +300,8 @@ module _ {F : Type 0} (shared : F → Shared) (plan : Plan) (floors : List F) (p
               let states : List JobState = it.1 in
               let works = it.4.works in
               let g : Shared = shared after in
-              let left : Left i g = left-at i after it.2 in
+              let number : g.number ≡ (shared before).number = works.closing.later.same.number
+              ∙ works.turns.later.same.number in
               let kept : IsKeptIn final g = kept-at i after (ap (λ l. slice_get l i) (sym is) ∙ it.2) in
               let begun : progress_of it.4.states ≡ dealt plan (length floors) i
               = progress-dealt plan (length floors) i it.4.states it.4.starts in
@@ -288,7 +319,7 @@ module _ {F : Type 0} (shared : F → Shared) (plan : Plan) (floors : List F) (p
                 all_used = refl;
                 of_its_kind = refl;
                 entries = λ at. get_or-map (own_history g.number) g.seen at (of_permits []) ∙ sym (kept.mine at)
-                    ∙ ap (λ n. own_history n (seen_at final at)) left.number;
+                    ∙ ap (λ n. own_history n (seen_at final at)) number;
                 own_ends = λ place below mine. are.at place below states
                     (ap (λ n. slice_get own (place % n)) own-long ∙ ap (slice_get own) mine ∙ it.3);
               }
@@ -340,10 +371,10 @@ module _ {F : Type 0} (shared : F → Shared) (plan : Plan) (floors : List F) (p
           go (first ∷ rest) is = all-told_by first rest is final (met-by first rest is) ends are
 
 -- as the code keeps the states
-pub vecs-long : {S : Type 0} (items : S → List JobState) (vecs : List S) (jobs many : ℕ) → many ≡ jobs
+pub vecs-long : {S : Type 0} (items : S → List JobState) (vecs : List S) (jobs counted : ℕ) → counted ≡ jobs
     → EachAt (λ worker states. length states ≡ jobs) (map items vecs)
-    → EachAt (λ worker own. length (items own) ≡ many) vecs
-vecs-long items vecs jobs many is each = record {
+    → EachAt (λ worker own. length (items own) ≡ counted) vecs
+vecs-long items vecs jobs counted is each = record {
   at = λ i own got. each.at i (items own) (get-map items vecs i own got) ∙ sym is;
 }
 

@@ -1,4 +1,5 @@
 pub mod Lasting
+pub mod Nothing
 pub mod Accounts
 pub mod HeardLemmas
 pub mod Parties

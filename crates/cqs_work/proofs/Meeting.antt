@@ -1,12 +1,12 @@
 -- Floors that meet, one after the other.
-use Rattle.std.proofs.Common.{◌≡◌, ◌≢◌, ◌⊎◌, inl, inr, ℕ, zero, suc, List, [], ◌∷◌, ◌++◌, Some, None, true, false, length, map, get_or, slice_get, refl, sym, ap, ◌∙◌, append_assoc, arith}
+use Rattle.std.proofs.Common.{◌≡◌, ◌≢◌, ◌⊎◌, inl, inr, ℕ, zero, suc, ◌<◌, List, [], ◌∷◌, ◌++◌, Some, None, true, length, map, get_or, slice_get, refl, sym, ap, subst, ◌∙◌, append_assoc, arith}
 use Rattle.std.proofs.lemmas.Bool.{cases_eq}
 use Rattle.std.proofs.lemmas.List.{map-append, append-nil}
+use Rattle.std.proofs.lemmas.Option.{get_or_from_slice_get}
 use Rattle.cqs_core.specs.Numbered.{EachAt}
-use Rattle.cqs_core.specs.Parts.{Has, IsPrefix, part}
-use Rattle.cqs_core.specs.SemaphoreNames.{entry_names as permit_names}
+use Rattle.cqs_core.specs.Parts.{Has, IsPrefix}
 use Rattle.cqs_core.proofs.EachAtLemmas.{EachAt-push}
-use Rattle.cqs_pool_object.specs.PoolNames.{entry_names as element_names}
+use Rattle.cqs_core.proofs.Places.{get-append_left, get-below}
 use Rattle.cqs_plan.specs.Floor.{wait_of, holds_of}
 use Rattle.cqs_plan.specs.FloorHistory.{History, of_permits, of_elements, of_latch, of_rounds, entries_in}
 use Rattle.cqs_shared.specs.Entries.{own_history, is_nothing, IsBefore}
@@ -14,6 +14,7 @@ use Rattle.cqs_shared.specs.Shared.{Shared, seen_at}
 use Rattle.cqs_shared.specs.Calls.{Meets, HasWait, HaveAllMet, IsAtRest}
 use Rattle.cqs_work.specs.Later.{IsUnnamed}
 use Rattle.cqs_work.specs.Met.{CanMeet, HaveMet, IsKeptIn}
+use Rattle.cqs_work.proofs.Nothing.{nothing-unnamed}
 
 -- these have met, so far
 pub record MetSoFar (first : Shared) (done : List Shared) (g : Shared) : Type 0 where
@@ -63,19 +64,6 @@ before-through (of_rounds h) (of_permits mid) all first second = absurd first
 before-through (of_rounds h) (of_elements mid) all first second = absurd first
 before-through (of_rounds h) (of_latch mid) all first second = absurd first
 
--- where nothing names a caller it is unnamed
-none-left : {E : Type 0} (l : List E) → (wrap : List E → History)
-    → ((e : E) (rest : List E) → is_nothing (wrap (e ∷ rest)) ≡ false)
-    → is_nothing (wrap l) ≡ true → l ≡ []
-none-left [] wrap some nothing = refl
-none-left (e ∷ rest) wrap some nothing = absurd (cc (some e rest, nothing))
-
-nothing-unnamed : (n : ℕ) (h : History) → is_nothing (own_history n h) ≡ true → IsUnnamed n h
-nothing-unnamed n (of_permits h) nothing = none-left (part permit_names n h) of_permits (λ e rest. refl) nothing
-nothing-unnamed n (of_elements h) nothing = none-left (part element_names n h) of_elements (λ e rest. refl) nothing
-nothing-unnamed n (of_latch h) nothing = tt
-nothing-unnamed n (of_rounds all) nothing = tt
-
 pub meeting-starts : (first : Shared) (given : List Shared) → CanMeet first given → MetSoFar first [] first
 meeting-starts first given can = record {
   have = record {
@@ -87,22 +75,34 @@ meeting-starts first given can = record {
     kinds = refl;
     rest = can.first_rest;
     legal = can.sound.legal;
-    named = λ whole at n. named whole at n (cases_eq n 0);
+    named = λ whole at n. named whole at n (cases_eq n first.number);
   };
   family = refl;
 }
   where
-    named : HaveAllMet first → (at n : ℕ) → (n ≡ 0) ⊎ (n ≢ 0)
+    -- a floor that stands alone has the number 0, and no entry names another
+    named : HaveAllMet first → (at n : ℕ) → (n ≡ first.number) ⊎ (n ≢ first.number)
         → IsUnnamed n (seen_at first at) ⊎ Has n (first.number ∷ first.met)
-    named whole at n (inl same) = inr (inl (same ∙ sym can.first_number))
+    named whole at n (inl same) = inr (inl same)
     named whole at n (inr other) =
         let none : length first.met ≡ 0 = ap length can.first_alone in
-        inl (can.sound.unnamed at n (omega (arith, whole, none, other)))
+        let one : first.floors ≡ 1 = omega (arith, whole, none) in
+        let zero_is : first.number ≡ 0 = omega (arith, one, can.first_number) in
+        inl (can.sound.unnamed at n (omega (arith, one, zero_is, other)))
 
+-- the numbers of these floors
 has-of : (done : List Shared) (i : ℕ) (f : Shared) → slice_get done i ≡ Some f → Has f.number (map (λ f. f.number) done)
 has-of [] i f got = absurd (cc)
 has-of (d ∷ done) zero f got = let same : d ≡ f = cc in inl (ap (λ x. x.number) (sym same))
 has-of (d ∷ done) (suc i) f got = inr (has-of done i f got)
+
+pub has-back : (list : List Shared) (n : ℕ) → Has n (map (λ (f : Shared). f.number) list)
+    → (f : Shared) × (i : ℕ) × (slice_get list i ≡ Some f) × (n ≡ f.number)
+has-back [] n none = absurd none
+has-back (f ∷ list) n (inl here) = (f, 0, refl, here)
+has-back (f ∷ list) n (inr later) =
+    let it = has-back list n later in
+    (it.0, suc it.1, it.2, it.3)
 
 -- what was kept is kept by one more meeting
 keeps : (f g given k : Shared) → Has f.number (g.number ∷ g.met) → Meets g given k → IsKeptIn g f → IsKeptIn k f
@@ -162,6 +162,40 @@ module _ (first g : Shared) (before : List Shared) (given : Shared) (after all :
 
   pub next-family : MetSoFar first before g → given.family ≡ g.family
   next-family so_far = can.family.at (length before) given (rw (← is) here) ∙ sym so_far.family
+
+  there : (d : Shared) → get_or all (length before) d ≡ given
+  there d = ap (λ l. get_or l (length before) d) (sym is)
+      ∙ get_or_from_slice_get (before ++ (given ∷ after)) (length before) given d here
+
+  inside : length before < length all
+  inside = subst (λ l. length before < length l) is (get-below (before ++ (given ∷ after)) (length before) given here)
+
+  -- its number is that of no floor that has met
+  pub next-apart : MetSoFar first before g → (n : ℕ) → Has n (g.number ∷ g.met) → Has n (given.number ∷ given.met) → ⊥
+  next-apart so_far n own (inl named) = go own
+    where
+      other : (i : ℕ) → i < suc (length before)
+          → (get_or (first ∷ all) i given).number ≢ (get_or (first ∷ all) (suc (length before)) given).number
+      other i earlier = can.apart i (suc (length before)) given (omega (arith, earlier)) (omega (arith, inside))
+
+      at-next : get_or (first ∷ all) (suc (length before)) given ≡ given
+      at-next = there given
+
+      go : Has n (g.number ∷ g.met) → ⊥
+      go (inl here) =
+          other 0 (omega arith) (sym so_far.have.number ∙ sym here ∙ named ∙ ap (λ f. f.number) (sym at-next))
+      go (inr later) =
+          let found = has-back before n (subst (Has n) so_far.have.met later) in
+          let f : Shared = found.0 in
+          let i : ℕ = found.1 in
+          let below : i < length before = get-below before i f found.2 in
+          let got : slice_get all i ≡ Some f
+          = ap (λ l. slice_get l i) (sym is) ∙ get-append_left before (given ∷ after) i f found.2 in
+          let its : get_or all i given ≡ f = get_or_from_slice_get all i f given got in
+          other (suc i) (omega (arith, below)) (ap (λ x. x.number) its ∙ sym found.3 ∙ named
+          ∙ ap (λ x. x.number) (sym at-next))
+  next-apart so_far n own (inr met) =
+      subst (Has n) (can.alone.at (length before) given (ap (λ l. slice_get l (length before)) (sym is) ∙ here)) met
 
   pub next-alone : given.met ≡ []
   next-alone = can.alone.at (length before) given (rw (← is) here)

@@ -1,22 +1,16 @@
--- A floor on which nothing has happened yet: its worker can begin, and nothing is to be accounted for.
-use Rattle.std.proofs.Common.{◌≡◌, ℕ, zero, suc, ◌<◌, ◌%◌, ◌==◌, Bool, true, false, List, [], ◌∷◌, Some, None, length, map, get_or, replicate, slice_get, sum_by, refl, sym, ap, subst, ◌∙◌, arith}
+-- A floor before the first call of its pass: its worker can begin, and nothing is to be accounted for.
+use Rattle.std.proofs.Common.{◌≡◌, inl, inr, ℕ, zero, suc, ◌<◌, ◌%◌, ◌==◌, Bool, true, false, List, [], ◌∷◌, Some, None, length, map, get_or, replicate, slice_get, sum_by, refl, sym, ap, subst, ◌∙◌, arith}
 use Rattle.std.specs.Bool.{if◌then◌else◌}
 use Rattle.std.proofs.lemmas.List.{length-map, length-replicate, get_or-replicate, ext_get_or}
 use Rattle.std.proofs.lemmas.List.Sums.{sum_by-cons}
 use Rattle.std.proofs.lemmas.List.FromFn.{length-map-range_with_len, get_or-map-range_with_len}
 use Rattle.std.proofs.lemmas.Option.{get_or_from_slice_get}
 use Rattle.cqs_core.proofs.Places.{get-below, get-there}
-use Rattle.cqs_barrier_object.specs.declared.entries.BarrierEntry.{BarrierEntry}
-use Rattle.cqs_barrier_object.specs.BarrierEntries.{IsLegal as IsLegalBarrier}
 use Rattle.cqs_plan.specs.declared.plans.job.Job.{Job}
-use Rattle.cqs_plan.specs.declared.plans.kind.Kind.{Kind}
-use Rattle.cqs_plan.specs.declared.plans.kind.Kind.TheVariants as kind
 use Rattle.cqs_plan.specs.declared.plans.plan.Plan.{Plan}
 use Rattle.cqs_plan.specs.declared.plans.resource.Resource.{Resource}
 use Rattle.cqs_plan.specs.Floor.{PlainFloor, Holding, opening_floor}
-use Rattle.cqs_plan.specs.FloorHistory.{History, of_permits, no_history}
-use Rattle.cqs_plan.specs.LegalFloor.{IsHistory}
-use Rattle.cqs_plan.specs.Runnable.{IsRunnable, kinds_of}
+use Rattle.cqs_plan.specs.Runnable.{IsRunnable}
 use Rattle.cqs_turns.specs.declared.states.End.TheVariants as end
 use Rattle.cqs_turns.specs.declared.states.JobState.{JobState}
 use Rattle.cqs_turns.specs.declared.states.Progress.TheVariants.{Stepping, Ended}
@@ -28,10 +22,11 @@ use Rattle.cqs_turns.proofs.Opened.{opening-running}
 use Rattle.cqs_turns.proofs.Readied.{ready-to-end}
 use Rattle.cqs_shared.specs.Shared.{Shared, seen_at}
 use Rattle.cqs_work.specs.Accounts.{Weights, gains, losses, doors, enters, sum_in, waits_at, held_at, IsAccounted}
-use Rattle.cqs_work.specs.Later.{IsSound, IsUnnamed}
+use Rattle.cqs_work.specs.Later.{IsSound}
 use Rattle.cqs_work.specs.Needs.{IsInRounds, AreProvided}
 use Rattle.cqs_work.specs.Opening.{starting, dealt, IsStarting, AreStarting, IsOpening}
 use Rattle.cqs_work.specs.Works.{progress_of, RunsOn}
+use Rattle.cqs_work.proofs.Nothing.{nothing-unnamed, nothing-adds}
 use Rattle.cqs_work.proofs.Turning.{other-ready}
 
 -- what the worker's code keeps is how far the plan's jobs are dealt to it
@@ -126,88 +121,32 @@ module _ (plan : Plan) (workers worker : ℕ) (f : Shared) (runnable : IsRunnabl
       };
     }
 
--- what holds before the first call at a resource of any kind, and where none is
-opening-any : (P : History → Type 0) → ((k : Kind) → P (no_history k)) → P (of_permits []) → (resources : List Resource)
-    (at : ℕ) → P (get_or (map (λ resource. no_history resource.kind) resources) at (of_permits []))
-opening-any P none past [] at = past
-opening-any P none past (resource ∷ resources) zero = none resource.kind
-opening-any P none past (resource ∷ resources) (suc at) = opening-any P none past resources at
-
-no-rounds-legal : (parties rounds round : ℕ) (entries : List BarrierEntry)
-    → slice_get (replicate rounds []) round ≡ Some entries → IsLegalBarrier parties entries
-no-rounds-legal parties zero round entries got = absurd (cc)
-no-rounds-legal parties (suc rounds) zero entries got =
-    let none : [] ≡ entries = cc in
-    subst (IsLegalBarrier parties) none (record { at = λ n e there. absurd (cc) })
-no-rounds-legal parties (suc rounds) (suc round) entries got = no-rounds-legal parties rounds round entries got
-
-no-history-legal : (k : Kind) → IsHistory k (no_history k)
-no-history-legal (kind.Semaphore permits) = record { at = λ n e got. absurd (cc) }
-no-history-legal kind.Mutex = record { at = λ n e got. absurd (cc) }
-no-history-legal (kind.Pool elements) = record { at = λ n e got. absurd (cc) }
-no-history-legal (kind.Latch count) = record { at = λ n e got. absurd (cc) }
-no-history-legal (kind.Rounds parties rounds) = record {
-  many = length-replicate rounds [];
-  each = record { at = no-rounds-legal parties rounds };
-}
-
-opening-legal : (resources : List Resource) (at : ℕ) (k : Kind) → slice_get (kinds_of resources) at ≡ Some k
-    → IsHistory k (get_or (map (λ resource. no_history resource.kind) resources) at (of_permits []))
-opening-legal [] at k got = absurd (cc)
-opening-legal (resource ∷ resources) zero k got =
-    let same : resource.kind ≡ k = cc in
-    subst (λ j. IsHistory j (no_history resource.kind)) same (no-history-legal resource.kind)
-opening-legal (resource ∷ resources) (suc at) k got = opening-legal resources at k got
-
-no-names : (n : ℕ) (k : Kind) → IsUnnamed n (no_history k)
-no-names n (kind.Semaphore permits) = refl
-no-names n kind.Mutex = refl
-no-names n (kind.Pool elements) = refl
-no-names n (kind.Latch count) = tt
-no-names n (kind.Rounds parties rounds) = tt
-
-no-sum : (w : Weights) (n : ℕ) (k : Kind) → sum_in w n (no_history k) ≡ 0
-no-sum w n (kind.Semaphore permits) = refl
-no-sum w n kind.Mutex = refl
-no-sum w n (kind.Pool elements) = refl
-no-sum w n (kind.Latch count) = refl
-no-sum w n (kind.Rounds parties rounds) = refl
-
 sum-replicate : {X : Type 0} (w : X → ℕ) (n : ℕ) (x : X) → w x ≡ 0 → sum_by w (replicate n x) ≡ 0
 sum-replicate w zero x none = refl
 sum-replicate w (suc n) x none = omega (arith, none, sum-replicate w n x none, sum_by-cons w x (replicate n x))
 
 module _ (plan : Plan) (workers worker : ℕ) (f : Shared) (opens : IsOpening plan workers worker f) where
-  seen-any : (P : History → Type 0) → ((k : Kind) → P (no_history k)) → P (of_permits []) → (at : ℕ) → P (seen_at f at)
-  seen-any P none past at =
-      subst (λ l. P (get_or l at (of_permits []))) (sym opens.seen) (opening-any P none past plan.resources at)
-
   pub opening-sound : IsSound f
   opening-sound = record {
-    legal = λ at. record {
-      legal = λ k got.
-          subst (λ l. IsHistory k (get_or l at (of_permits []))) (sym opens.seen)
-          (opening-legal plan.resources at k (ap (λ ks. slice_get ks at) (sym opens.kinds) ∙ got));
-    };
-    unnamed = λ at n past. seen-any (IsUnnamed n) (no-names n) refl at;
+    legal = opens.legal;
+    unnamed = λ at n past.
+        nothing-unnamed n (seen_at f at) (opens.unnamed at n (inr (omega (arith, past, opens.floors))));
   }
 
-  no-sum-at : (w : Weights) (at : ℕ) → sum_in w f.number (seen_at f at) ≡ 0
-  no-sum-at w at = seen-any (λ h. sum_in w f.number h ≡ 0) (no-sum w f.number) refl at
+  no-sum : (w : Weights) (at : ℕ) → sum_in w f.number (seen_at f at) ≡ 0
+  no-sum w at = nothing-adds w f.number (seen_at f at) (opens.unnamed at f.number (inl refl))
 
   pub opening-accounted : IsAccounted f
   opening-accounted = record {
     long =
         let kinds : length f.board.kinds ≡ length plan.resources
         = ap length opens.kinds ∙ length-map plan.resources (λ (r : Resource). r.kind) in
-        let seen : length f.seen ≡ length plan.resources
-        = ap length opens.seen ∙ length-map plan.resources (λ (r : Resource). no_history r.kind) in
-        omega (arith, kinds, seen);
+        omega (arith, kinds, opens.long);
     even = λ q holdable.
         let held : sum_by (held_at q) f.board.holds ≡ 0
         = ap (sum_by (held_at q)) opens.holds ∙ sum-replicate (held_at q) (length plan.jobs) [] refl in
         let waits : sum_by (waits_at q) f.board.waits ≡ 0
         = ap (sum_by (waits_at q)) opens.waits ∙ sum-replicate (waits_at q) (length plan.jobs) None refl in
-        omega (arith, no-sum-at gains q, no-sum-at losses q, held, waits);
-    entered = λ q. no-sum-at enters q ∙ sym (no-sum-at doors q);
+        omega (arith, no-sum gains q, no-sum losses q, held, waits);
+    entered = λ q. no-sum enters q ∙ sym (no-sum doors q);
   }

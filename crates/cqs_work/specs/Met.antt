@@ -1,5 +1,5 @@
 -- All floors have met in one.
-use Rattle.std.specs.Prelude.{◌≡◌, ◌⊎◌, ℕ, List, [], ◌∷◌, map}
+use Rattle.std.specs.Prelude.{◌≡◌, ◌≢◌, ◌⊎◌, ℕ, ◌<◌, List, [], ◌∷◌, map, AllPairs}
 use Rattle.cqs_core.specs.Numbered.{EachAt}
 use Rattle.cqs_core.specs.Parts.{Has}
 use Rattle.cqs_shared.specs.Entries.{own_history, IsBefore}
@@ -10,15 +10,16 @@ use Rattle.cqs_work.specs.Later.{IsSound, IsUnnamed}
 abbrev pub shared_of : {F : Type 0} → (F → Shared) → List F → List Shared
 shared_of shared floors = map shared floors
 
--- These floors are of one family, none has met another, and none has a job that waits or holds
--- anything. The first is that of the pass 0, and all that it has seen is sound.
+-- These floors are of one family, no two have the same number, none has met another, and none has a
+-- job that waits or holds anything. All that the first has seen is sound.
 pub record CanMeet (first : Shared) (given : List Shared) : Type 0 where
   pub family : EachAt (λ i f. f.family ≡ first.family) given
   pub alone : EachAt (λ i f. f.met ≡ []) given
   pub rest : EachAt (λ i f. IsAtRest f.board) given
   pub first_alone : first.met ≡ []
   pub first_rest : IsAtRest first.board
-  pub first_number : first.number ≡ 0
+  pub first_number : first.number < first.floors
+  pub apart : AllPairs (λ f g. f.number ≢ g.number) (first ∷ given)
   pub sound : IsSound first
 
 abbrev pub CanMeetAll : List Shared → Type 0

@@ -52,8 +52,8 @@ pub record AreEnds (jobs : ℕ) (states : List (List JobState)) (ends : List Job
 
 -- Of one worker: there are the answers to the calls of its turns and of those after the last turn,
 -- one for each call, from which the machine leaves the jobs so far, and its own have these ends.
--- For
--- each resource the entries of these answers are, in order, those of the history that name it.
+-- For each resource the entries of these answers are, in order, those of the history that name its
+-- pass.
 pub record IsTold (plan : Plan) (workers worker : ℕ) (f final : Shared) (ends : List JobEnd)
     : Type 0 where
   pub answers : List Answer
@@ -67,7 +67,7 @@ pub record IsTold (plan : Plan) (workers worker : ℕ) (f final : Shared) (ends 
   pub all_used : end.answers ≡ []
   pub of_its_kind : end.fits ≡ true
   pub entries : (at : ℕ)
-      → slice_index_or end.entries at (of_permits []) ≡ own_history worker (seen_at final at)
+      → slice_index_or end.entries at (of_permits []) ≡ own_history f.number (seen_at final at)
   pub own_ends : (place : ℕ) → place < length plan.jobs → place % workers ≡ worker
       → slice_get ends place ≡ Some (job_end (progress_at progress place))
 

@@ -1,7 +1,7 @@
 use Rattle.std.proofs.Common.{◌≡◌, ◌∷◌, [], ◌++◌, map, length, refl, sym, ap, subst, ◌∙◌, append_assoc, arith}
 use Rattle.std.proofs.lemmas.List.{map-append}
 use Rattle.std.specs.Vec.Iter.{into_iter_items}
-use Rattle.cqs_work.proofs.Meeting.{MetSoFar, meets-next, meeting-starts, next-family, next-alone, next-rest, next-idle, split-of}
+use Rattle.cqs_work.proofs.Meeting.{MetSoFar, meets-next, meeting-starts, next-family, next-apart, next-alone, next-rest, next-idle, split-of}
 use Rattle.cqs_work.proofs.works.meet_all.Goals as goal
 
 pub loop-floor-init : goal.loop-floor-init
@@ -13,8 +13,8 @@ loop-floor-init g c =
       started.1 ∙ c.args.given.ok.0 ∙ sym (ap length started.0),
     )
 
-pub meet-requires : goal.meet-requires
-meet-requires g c =
+pub meet-requires-clause-family : goal.meet-requires-clause-family
+meet-requires-clause-family g c =
     let at = c.loop-floor in
     let shared = g.F.SharedFloor.shared in
     let steps : into_iter_items at.floor-iterator ≡ c.in-Some.floor ∷ into_iter_items c.next.new.self =
@@ -22,6 +22,19 @@ meet-requires g c =
     let whole : at.yielded ++ (c.in-Some.floor ∷ into_iter_items c.next.new.self) ≡ c.args.given.items
     = rw (← steps) at.invariant.0 ∙ c.into_iter-floor-iterator.ensures.into_iter_gives.0 in
     next-family (shared c.args.first) (shared at.first) (map shared at.yielded) (shared c.in-Some.floor)
+    (map shared (into_iter_items c.next.new.self)) (map shared c.args.given.items)
+    (split-of shared at.yielded c.in-Some.floor (into_iter_items c.next.new.self) c.args.given.items whole) c.requires
+    at.invariant.1
+
+pub meet-requires-clause-apart : goal.meet-requires-clause-apart
+meet-requires-clause-apart g c =
+    let at = c.loop-floor in
+    let shared = g.F.SharedFloor.shared in
+    let steps : into_iter_items at.floor-iterator ≡ c.in-Some.floor ∷ into_iter_items c.next.new.self =
+    c.in-Some.ensures.steps.0 in
+    let whole : at.yielded ++ (c.in-Some.floor ∷ into_iter_items c.next.new.self) ≡ c.args.given.items
+    = rw (← steps) at.invariant.0 ∙ c.into_iter-floor-iterator.ensures.into_iter_gives.0 in
+    next-apart (shared c.args.first) (shared at.first) (map shared at.yielded) (shared c.in-Some.floor)
     (map shared (into_iter_items c.next.new.self)) (map shared c.args.given.items)
     (split-of shared at.yielded c.in-Some.floor (into_iter_items c.next.new.self) c.args.given.items whole) c.requires
     at.invariant.1

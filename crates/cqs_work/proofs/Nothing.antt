@@ -1,0 +1,29 @@
+-- What follows where no entry of a history names a caller.
+use Rattle.std.proofs.Common.{◌≡◌, ℕ, true, false, List, [], ◌∷◌, sum_by, refl, ap, ◌∙◌, subst, sym}
+use Rattle.cqs_core.specs.Parts.{part}
+use Rattle.cqs_core.specs.SemaphoreNames.{entry_names as permit_names}
+use Rattle.cqs_pool_object.specs.PoolNames.{entry_names as element_names}
+use Rattle.cqs_plan.specs.FloorHistory.{History, of_permits, of_elements, of_latch, of_rounds}
+use Rattle.cqs_shared.specs.Entries.{own_history, is_nothing}
+use Rattle.cqs_work.specs.Accounts.{Weights, sum_in}
+use Rattle.cqs_work.specs.Later.{IsUnnamed}
+
+none-left : {E : Type 0} (l : List E) → (wrap : List E → History)
+    → ((e : E) (rest : List E) → is_nothing (wrap (e ∷ rest)) ≡ false)
+    → is_nothing (wrap l) ≡ true → l ≡ []
+none-left [] wrap some nothing = refl
+none-left (e ∷ rest) wrap some nothing = absurd (cc (some e rest, nothing))
+
+-- it is unnamed there
+pub nothing-unnamed : (n : ℕ) (h : History) → is_nothing (own_history n h) ≡ true → IsUnnamed n h
+nothing-unnamed n (of_permits h) nothing = none-left (part permit_names n h) of_permits (λ e rest. refl) nothing
+nothing-unnamed n (of_elements h) nothing = none-left (part element_names n h) of_elements (λ e rest. refl) nothing
+nothing-unnamed n (of_latch h) nothing = tt
+nothing-unnamed n (of_rounds all) nothing = tt
+
+-- and what it came to adds up to nothing
+pub nothing-adds : (w : Weights) (n : ℕ) (h : History) → is_nothing (own_history n h) ≡ true → sum_in w n h ≡ 0
+nothing-adds w n (of_permits h) nothing = ap (sum_by w.permit) (nothing-unnamed n (of_permits h) nothing)
+nothing-adds w n (of_elements h) nothing = ap (sum_by w.element) (nothing-unnamed n (of_elements h) nothing)
+nothing-adds w n (of_latch h) nothing = refl
+nothing-adds w n (of_rounds all) nothing = refl

@@ -70,13 +70,13 @@ module _ (f : Shared) (at : ℕ) (entries : Entries) (g : Shared) (sees : Sees f
       sum-with w f.number (seen_at f at) sees.more sees.words
       ∙ ap (λ e. sum_in w f.number (seen_at f at) + sum_of w e) sees.mine
 
-  sum-here : (w : Weights) → at < length f.seen
+  pub sum-here : (w : Weights) → at < length f.seen
       → sum_in w g.number (seen_at g at) ≡ sum_in w f.number (seen_at f at) + sum_of w entries
   sum-here w there =
       ap (λ n. sum_in w n (seen_at g at)) sees.same.number
       ∙ ap (sum_in w f.number) (seen-here f at entries g sees there) ∙ sum-more w
 
-  sum-else : (w : Weights) (q : ℕ) → q ≢ at → sum_in w g.number (seen_at g q) ≡ sum_in w f.number (seen_at f q)
+  pub sum-else : (w : Weights) (q : ℕ) → q ≢ at → sum_in w g.number (seen_at g q) ≡ sum_in w f.number (seen_at f q)
   sum-else w q other =
       ap (λ n. sum_in w n (seen_at g q)) sees.same.number
       ∙ ap (sum_in w f.number) (seen-else f at entries g sees q other)

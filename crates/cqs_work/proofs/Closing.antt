@@ -19,11 +19,14 @@ use Rattle.cqs_turns.specs.Roles.{role}
 use Rattle.cqs_turns.specs.Turns.{places_held}
 use Rattle.cqs_turns.proofs.Mapped.{get-map}
 use Rattle.cqs_turns.proofs.Readied.{ready-to-end}
-use Rattle.cqs_shared.specs.Shared.{Shared}
+use Rattle.cqs_work.specs.Desk.{Desk}
 use Rattle.cqs_work.specs.Heard.{Heard, Hears, heard, heard_world}
 use Rattle.cqs_work.specs.Roles.{same, give_each, leave_end, ended_so}
 use Rattle.cqs_work.specs.Doing.{Stands, GaveUp}
 use Rattle.cqs_work.specs.Works.{RunsOn, HasWorked, turns_of, machine_so, progress_of, line_left_so, close, closed, close_from, close_all, IsClear, AllClear, AreKept}
+use Rattle.cqs_work.specs.Adds.{Keeps}
+use Rattle.cqs_work.specs.Courses.{Went}
+use Rattle.cqs_work.proofs.Adding.{keeps-none, keeps-then}
 use Rattle.cqs_work.proofs.Lasting.{later-none}
 use Rattle.cqs_work.proofs.HeardLemmas.{hears-then, hears-on, hears-none}
 use Rattle.cqs_work.proofs.Moving.{moves-none, moves-on}
@@ -31,7 +34,7 @@ use Rattle.cqs_work.proofs.Acting.{drop-at}
 use Rattle.cqs_work.proofs.Turning.{moved-ready}
 
 -- a job that waits leaves its line
-pub left-line : (a : Actor) (f g : Shared) (p : Progress) (next at round number : ℕ) (e : End)
+pub left-line : (a : Actor) (f g : Desk) (p : Progress) (next at round number : ℕ) (e : End)
     → p ≡ Waiting next at round number → GaveUp a f (leave_end a at round number) (ended_so e) g
     → GaveUp a f (line_left_so a p) same g
 left-line a f g p next at round number e is left =
@@ -45,70 +48,78 @@ left-line a f g p next at round number e is left =
       };
       stands = left.stands;
       moves = left.moves;
+      keeps = left.keeps;
     })
 
 -- one that doesn't wait has no line to leave
-no-line : (a : Actor) (f : Shared) (p : Progress) → ((h : Heard) → line_left_so a p h ≡ h) → wait_in p ≡ None
-    → Stands a f (wait_in p) [] → GaveUp a f (line_left_so a p) same f
+no-line : (a : Actor) (f : Desk) (p : Progress) → ((h : Heard) → line_left_so a p h ≡ h) → wait_in p ≡ None
+    → Stands a f.floor (wait_in p) [] → GaveUp a f (line_left_so a p) same f
 no-line a f p stays none stands = record {
-  hears = record { later = later-none f; answers = []; plays = λ rest. stays (heard f rest) };
+  hears = record { later = later-none f.floor; answers = []; plays = λ rest. stays (heard f rest) };
   stands = rw none at stands;
-  moves = moves-none a.place f.board f.parties [];
+  moves = moves-none a.place f.floor.board f.floor.parties [];
+  keeps = keeps-none f;
 }
 
-pub no-line-stepping : (a : Actor) (f : Shared) (p : Progress) (next : ℕ) → p ≡ Stepping next
-    → Stands a f (wait_in p) [] → GaveUp a f (line_left_so a p) same f
+pub no-line-stepping : (a : Actor) (f : Desk) (p : Progress) (next : ℕ) → p ≡ Stepping next
+    → Stands a f.floor (wait_in p) [] → GaveUp a f (line_left_so a p) same f
 no-line-stepping a f p next is stands = no-line a f p (λ h. rw is refl) (ap wait_in is) stands
 
-pub no-line-working : (a : Actor) (f : Shared) (p : Progress) (next until : ℕ) → p ≡ Working next until
-    → Stands a f (wait_in p) [] → GaveUp a f (line_left_so a p) same f
+pub no-line-working : (a : Actor) (f : Desk) (p : Progress) (next until : ℕ) → p ≡ Working next until
+    → Stands a f.floor (wait_in p) [] → GaveUp a f (line_left_so a p) same f
 no-line-working a f p next until is stands = no-line a f p (λ h. rw is refl) (ap wait_in is) stands
 
-pub no-line-ended : (a : Actor) (f : Shared) (p : Progress) (e : End) → p ≡ Ended e
-    → Stands a f (wait_in p) [] → GaveUp a f (line_left_so a p) same f
+pub no-line-ended : (a : Actor) (f : Desk) (p : Progress) (e : End) → p ≡ Ended e
+    → Stands a f.floor (wait_in p) [] → GaveUp a f (line_left_so a p) same f
 no-line-ended a f p e is stands = no-line a f p (λ h. rw is refl) (ap wait_in is) stands
 
 -- and then gives back all that it holds
-pub closes : (a : Actor) (f g k : Shared) (p : Progress) (held : List ℕ) → GaveUp a f (line_left_so a p) same g
-    → held ≡ places_held g.board a.place → GaveUp a g (give_each a held) same k → GaveUp a f (close a p) same k
+pub closes : (a : Actor) (f g k : Desk) (p : Progress) (held : List ℕ) → GaveUp a f (line_left_so a p) same g
+    → held ≡ places_held g.floor.board a.place → GaveUp a g (give_each a held) same k → GaveUp a f (close a p) same k
 closes a f g k p held left is gives =
     let on : Hears f g (close a p) (machine.after_all_gives heard_world (role a))
     = hears-on (machine.after_all_gives heard_world (role a)) f g (line_left_so a p) same left.hears in
-    let back : Hears g k (give_each a (places_held g.board a.place)) same
+    let back : Hears g k (give_each a (places_held g.floor.board a.place)) same
     = subst (λ l. Hears g k (give_each a l) same) is gives.hears in
     record {
       hears = hears-then f g k (close a p) (machine.after_all_gives heard_world (role a)) same on
           (record { later = back.later; answers = back.answers; plays = back.plays });
       stands = gives.stands;
-      moves = moves-on a.place f.board f.parties [] g.board g.parties [] k.board k.parties [] left.moves gives.moves;
+      moves = moves-on a.place f.floor.board f.floor.parties [] g.floor.board g.floor.parties [] k.floor.board
+          k.floor.parties [] left.moves gives.moves;
+      keeps = keeps-then f g k left.moves.kinds left.keeps gives.keeps;
     }
 
 -- the jobs before `place` are clear, and the others can close
-pub record ClosingOn (plan : Plan) (place : ℕ) (f g : Shared) (first states : List JobState) : Type 0 where
+pub record ClosingOn (plan : Plan) (place : ℕ) (f g : Desk) (first states : List JobState) : Type 0 where
   pub heard : Hears f g (close_all plan (progress_of first))
       (close_from plan place (drop place plan.jobs) (progress_of first))
+  pub keeps : Keeps f g
+  pub same_kinds : g.floor.board.kinds ≡ f.floor.board.kinds
   pub progress : progress_of states ≡ progress_of first
   pub jobs : length states ≡ length plan.jobs
-  pub kinds : g.board.kinds ≡ kinds_of plan.resources
+  pub kinds : g.floor.board.kinds ≡ kinds_of plan.resources
   pub ready : (j : ℕ) (state : JobState) → place ≤ j → slice_get states j ≡ Some state
-      → IsReady g.board j (wait_in state.progress) []
-  pub kept : AreKept g.board states
-  pub clear : (j : ℕ) → j < place → IsClear g.board j
-  pub waits : length g.board.waits ≡ length plan.jobs
-  pub holds : length g.board.holds ≡ length plan.jobs
+      → IsReady g.floor.board j (wait_in state.progress) []
+  pub kept : AreKept g.floor.board states
+  pub clear : (j : ℕ) → j < place → IsClear g.floor.board j
+  pub waits : length g.floor.board.waits ≡ length plan.jobs
+  pub holds : length g.floor.board.holds ≡ length plan.jobs
 
 -- a worker between two turns can close
-pub closing-starts : (plan : Plan) (f : Shared) (states : List JobState) → RunsOn plan f states
+pub closing-starts : (plan : Plan) (f : Desk) (states : List JobState) → RunsOn plan f.floor states
     → ClosingOn plan 0 f f states states
 closing-starts plan f states runs = record {
   heard = hears-none f (close_all plan (progress_of states));
+  keeps = keeps-none f;
+  same_kinds = refl;
   progress = refl;
   jobs = runs.jobs;
   kinds = runs.kinds;
   ready = λ j state past got.
       let there : (job : Job) × (slice_get plan.jobs j ≡ Some job)
       = get-there plan.jobs j (omega (arith, get-below states j state got, runs.jobs)) in
-      ready-to-end f.board j (wait_in state.progress) (steps_left there.0.steps state.progress)
+      ready-to-end f.floor.board j (wait_in state.progress) (steps_left there.0.steps state.progress)
       (runs.ready j there.0 state there.1 got);
   kept = runs.kept;
   clear = λ j below. absurd (omega (arith, below));
@@ -116,18 +127,17 @@ closing-starts plan f states runs = record {
   holds = runs.holds;
 }
 
-module _ (plan : Plan) (place : ℕ) (f g k : Shared) (first states : List JobState) (state after d : JobState)
-    (a : Actor)
+module _ (plan : Plan) (place : ℕ) (f g k : Desk) (first states : List JobState) (state after d : JobState) (a : Actor)
     (on : ClosingOn plan place f g first states) (below : place < length plan.jobs)
     (is : state ≡ get_or states place d) where
   its-state : slice_get states place ≡ Some state
   its-state = rw is (slice_get-get_or states place d (omega (arith, below, on.jobs)))
 
-  pub close-held : (role a).place ≡ place → state.held.items ≡ places_held g.board a.place
+  pub close-held : (role a).place ≡ place → state.held.items ≡ places_held g.floor.board a.place
   close-held there = rw there (on.kept.held place state its-state)
 
   pub close-stands : (role a).place ≡ place → (role a).resources ≡ plan.resources
-      → Stands a g (wait_in state.progress) []
+      → Stands a g.floor (wait_in state.progress) []
   close-stands there resources = record {
     kinds = on.kinds ∙ ap kinds_of (sym resources);
     ready = rw there (on.ready place state (omega arith) its-state);
@@ -135,8 +145,8 @@ module _ (plan : Plan) (place : ℕ) (f g k : Shared) (first states : List JobSt
 
   module _ (resources : (role a).resources ≡ plan.resources) (turn : (role a).turn ≡ plan.turns)
       (there : (role a).place ≡ place) (job : slice_get plan.jobs place ≡ Some (role a).job)
-      (gave : GaveUp a g (close a state.progress) same k) (clear : IsClear k.board a.place)
-      (held : after.held.items ≡ places_held k.board a.place) (progress : after.progress ≡ state.progress) where
+      (gave : GaveUp a g (close a state.progress) same k) (clear : IsClear k.floor.board a.place)
+      (held : after.held.items ≡ places_held k.floor.board a.place) (progress : after.progress ≡ state.progress) where
     abbrev rest : Heard → Heard
     rest h = close_from plan (place + 1) (drop (place + 1) plan.jobs) (progress_of first) h
 
@@ -161,20 +171,20 @@ module _ (plan : Plan) (place : ℕ) (f g k : Shared) (first states : List JobSt
     other-place : (j : ℕ) → j ≢ place → j ≢ a.place
     other-place j other = λ e. other (e ∙ there)
 
-    clears : (j : ℕ) → j < place + 1 → (j ≡ place) ⊎ (j ≢ place) → IsClear k.board j
+    clears : (j : ℕ) → j < place + 1 → (j ≡ place) ⊎ (j ≢ place) → IsClear k.floor.board j
     clears j before (inl here) = rw (here, ← there) clear
     clears j before (inr other) =
-        let was : IsClear g.board j = on.clear j (omega (arith, before, other)) in
+        let was : IsClear g.floor.board j = on.clear j (omega (arith, before, other)) in
         record {
           waits = gave.moves.waits.at j (other-place j other) ∙ was.waits;
           holds = ap (map (λ h. h.at)) (gave.moves.holds.at j (other-place j other)) ∙ was.holds;
         }
 
     keeps : (j : ℕ) (s : JobState) → slice_get (set states place after) j ≡ Some s → (j ≡ place) ⊎ (j ≢ place)
-        → s.held.items ≡ places_held k.board j
+        → s.held.items ≡ places_held k.floor.board j
     keeps j s got (inl here) =
-        let now : slice_get (set states place after) place
-        ≡ Some after = get-set_here states place state after its-state in
+        let now : slice_get (set states place after) place ≡ Some after = get-set_here states place state after
+        its-state in
         let here_too : slice_get (set states place after) place ≡ Some s = rw here at got in
         let same_state : s ≡ after = cc in
         rw (here, same_state, ← there) held
@@ -193,6 +203,8 @@ module _ (plan : Plan) (place : ℕ) (f g k : Shared) (first states : List JobSt
         record {
           heard = hears-then f g k (close_all plan (progress_of first))
               (close_from plan place (drop place plan.jobs) (progress_of first)) rest on.heard step;
+          keeps = keeps-then f g k on.same_kinds on.keeps gave.keeps;
+          same_kinds = gave.moves.kinds ∙ on.same_kinds;
           progress = map-set (λ (s : JobState). s.progress) states place after
               ∙ ap (set (progress_of states) place) progress
               ∙ set-same (progress_of states) place state.progress
@@ -203,7 +215,8 @@ module _ (plan : Plan) (place : ℕ) (f g k : Shared) (first states : List JobSt
               let other : j ≢ place = λ e. absurd (omega (arith, past, e)) in
               let before : slice_get states j ≡ Some s
               = sym (get-set_else states place j after (λ e. other (sym e))) ∙ got in
-              moved-ready a.place j g.board g.parties [] k.board k.parties [] (wait_in s.progress) [] gave.moves
+              moved-ready a.place j g.floor.board g.floor.parties [] k.floor.board k.floor.parties []
+              (wait_in s.progress) [] gave.moves
               (other-place j other) (on.ready j s (omega (arith, past)) before);
           kept = record { held = λ j s got. keeps j s got (cases_eq j place) };
           clear = λ j before. clears j before (cases_eq j place);
@@ -211,15 +224,15 @@ module _ (plan : Plan) (place : ℕ) (f g k : Shared) (first states : List JobSt
           holds = gave.moves.holds.long ∙ on.holds;
         }
 
-pub closing-ends : (plan : Plan) (place : ℕ) (f g : Shared) (first states : List JobState)
+pub closing-ends : (plan : Plan) (place : ℕ) (f g : Desk) (first states : List JobState)
     → ClosingOn plan place f g first states → length plan.jobs ≡ place
     → Hears f g (close_all plan (progress_of first)) same
 closing-ends plan place f g first states on all =
     subst (λ jobs. Hears f g (close_all plan (progress_of first)) (close_from plan place jobs (progress_of first)))
     (drop_all place plan.jobs (omega (arith, all))) on.heard
 
-pub all-clear : (plan : Plan) (place : ℕ) (f g : Shared) (first states : List JobState)
-    → ClosingOn plan place f g first states → length plan.jobs ≡ place → AllClear plan g
+pub all-clear : (plan : Plan) (place : ℕ) (f g : Desk) (first states : List JobState)
+    → ClosingOn plan place f g first states → length plan.jobs ≡ place → AllClear plan g.floor
 all-clear plan place f g first states on all = record {
   at = λ j below. on.clear j (omega (arith, below, all));
   waits = on.waits;
@@ -227,24 +240,30 @@ all-clear plan place f g first states on all = record {
 }
 
 -- a worker's work
-worked : (plan : Plan) (f last g : Shared) (states mid ends : List JobState)
-    → Hears f last (turns_of plan plan.turns (progress_of states)) (machine_so (progress_of mid)) → RunsOn plan last mid
-    → Hears last g (close_all plan (progress_of mid)) same → AllClear plan g → progress_of ends ≡ progress_of mid
-    → HasWorked plan f states ends g
-worked plan f last g states mid ends turns runs closing clear progress = record {
+worked : (plan : Plan) (f last g : Desk) (states mid ends : List JobState)
+    → Hears f last (turns_of plan plan.turns (progress_of states)) (machine_so (progress_of mid))
+    → RunsOn plan last.floor mid
+    → Went plan f (progress_of states) last (progress_of mid) → Hears last g (close_all plan (progress_of mid)) same
+    → Keeps last g → AllClear plan g.floor → progress_of ends ≡ progress_of mid → HasWorked plan f states ends g
+worked plan f last g states mid ends turns runs went closing keeps clear progress = record {
   last = last;
   long = sym (length-map ends (λ (s : JobState). s.progress)) ∙ ap length progress
       ∙ length-map mid (λ (s : JobState). s.progress) ∙ runs.jobs;
   turns = subst (λ p. Hears f last (turns_of plan plan.turns (progress_of states)) (machine_so p)) (sym progress) turns;
+  went = subst (λ p. Went plan f (progress_of states) last p) (sym progress) went;
   closing = subst (λ p. Hears last g (close_all plan p) same) (sym progress) closing;
+  keeps = keeps;
   clear = clear;
 }
 
 -- the same, where both were made
-pub worked-ok : {T E : Type 0} (r : Result T E) (plan : Plan) (f last g : Shared) (states mid ends : List JobState)
-    → Hears f last (turns_of plan plan.turns (progress_of states)) (machine_so (progress_of mid)) → RunsOn plan last mid
-    → OnOk r (Hears last g (close_all plan (progress_of mid)) same) → OnOk r (AllClear plan g)
-    → OnOk r (progress_of ends ≡ progress_of mid) → OnOk r (HasWorked plan f states ends g)
-worked-ok (Ok x) plan f last g states mid ends turns runs closing clear progress =
-    worked plan f last g states mid ends turns runs closing clear progress
-worked-ok (Err e) plan f last g states mid ends turns runs closing clear progress = tt
+pub worked-ok : {T E : Type 0} (r : Result T E) (plan : Plan) (f last g : Desk) (states mid ends : List JobState)
+    → Hears f last (turns_of plan plan.turns (progress_of states)) (machine_so (progress_of mid))
+    → RunsOn plan last.floor mid
+    → Went plan f (progress_of states) last (progress_of mid)
+    → OnOk r (Hears last g (close_all plan (progress_of mid)) same) → OnOk r (Keeps last g)
+    → OnOk r (AllClear plan g.floor) → OnOk r (progress_of ends ≡ progress_of mid)
+    → OnOk r (HasWorked plan f states ends g)
+worked-ok (Ok x) plan f last g states mid ends turns runs went closing keeps clear progress =
+    worked plan f last g states mid ends turns runs went closing keeps clear progress
+worked-ok (Err e) plan f last g states mid ends turns runs went closing keeps clear progress = tt

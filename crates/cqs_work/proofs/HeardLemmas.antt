@@ -20,6 +20,7 @@ use Rattle.cqs_shared.specs.declared.shared.SharedGive.{SharedGive}
 use Rattle.cqs_shared.specs.Entries.{Entries, at_permits, at_elements, at_latch, in_round, with_entries, own_entries, own_history}
 use Rattle.cqs_shared.specs.Shared.{Shared, Sees, seen_at}
 use Rattle.cqs_shared.specs.Calls.{Comes, Gives, Downs, Looks, Leaves}
+use Rattle.cqs_work.specs.Desk.{Desk, told}
 use Rattle.cqs_work.specs.Heard.{Heard, Answer, Hears, heard, logged, heard_came, heard_given, heard_counted, heard_looked, heard_left}
 use Rattle.cqs_work.specs.Heard as answer
 use Rattle.cqs_work.proofs.Lasting.{later-none, later-then}
@@ -64,81 +65,88 @@ log-after f at entries g sees =
     ∙ ap (λ h. with_entries h entries) (sym there))
 
 -- each call, where its answer is heard
-pub came-is : (f : Shared) (at round job : ℕ) (after : PlainFloor) (held : List (List ℕ)) (got : Option FloorTake)
-    (g : Shared) (comes : Comes f at round job after held got g) (rest : List Answer)
+pub came-is : (f : Desk) (at round job : ℕ) (after : PlainFloor) (held : List (List ℕ)) (got : Option FloorTake)
+    (g : Desk) (comes : Comes f.floor at round job after held got g.floor) → g.waits ≡ told f.waits at round job got
+    → (rest : List Answer)
     → heard_came at round job after got (heard f (answer.come got comes.drew comes.with_it ∷ rest)) ≡ heard g rest
-came-is f at round job after held got g comes rest i = record {
+came-is f at round job after held got g comes waits rest i = record {
   answers = rest;
   fits = true;
   number = sym comes.sees.same.number i;
   board = sym comes.board i;
   came = sym comes.came i;
-  entries = sym (log-after f at _ g comes.sees) i;
+  entries = sym (log-after f.floor at _ g.floor comes.sees) i;
+  waits = sym waits i;
 }
 
-pub gave-is : (f : Shared) (r : Role) (at : ℕ) (got : SharedGive) (g : Shared) → Gives f at r.place got g
-    → (rest : List Answer) → heard_given r at (heard f (answer.gave got ∷ rest)) ≡ heard g rest
-gave-is f r at got g gives rest i = record {
+pub gave-is : (f : Desk) (r : Role) (at : ℕ) (got : SharedGive) (g : Desk) → Gives f.floor at r.place got g.floor
+    → g.waits ≡ f.waits → (rest : List Answer) → heard_given r at (heard f (answer.gave got ∷ rest)) ≡ heard g rest
+gave-is f r at got g gives waits rest i = record {
   answers = rest;
   fits = true;
   number = sym gives.sees.same.number i;
   board = sym gives.board i;
   came = sym gives.came i;
-  entries = sym (log-after f at _ g gives.sees) i;
+  entries = sym (log-after f.floor at _ g.floor gives.sees) i;
+  waits = sym waits i;
 }
 
-pub counted-is : (f : Shared) (r : Role) (at : ℕ) (got : FloorDown) (g : Shared) → Downs f at got g
-    → (rest : List Answer) → heard_counted r at (heard f (answer.counted got ∷ rest)) ≡ heard g rest
-counted-is f r at got g downs rest i = record {
+pub counted-is : (f : Desk) (r : Role) (at : ℕ) (got : FloorDown) (g : Desk) → Downs f.floor at got g.floor
+    → g.waits ≡ f.waits → (rest : List Answer) → heard_counted r at (heard f (answer.counted got ∷ rest)) ≡ heard g rest
+counted-is f r at got g downs waits rest i = record {
   answers = rest;
   fits = true;
   number = sym downs.sees.same.number i;
   board = sym downs.board i;
   came = sym downs.came i;
-  entries = sym (log-after f at _ g downs.sees) i;
+  entries = sym (log-after f.floor at _ g.floor downs.sees) i;
+  waits = sym waits i;
 }
 
-pub looked-is : (f : Shared) (r : Role) (wait : JobWait) (got : FloorLook) (g : Shared) → Looks f r.place wait got g
-    → (rest : List Answer)
+pub looked-is : (f : Desk) (r : Role) (wait : JobWait) (got : FloorLook) (g : Desk)
+    → Looks f.floor r.place wait got g.floor
+    → g.waits ≡ f.waits → (rest : List Answer)
     → heard_looked r wait.at wait.round wait.number got (heard f (answer.looked got ∷ rest)) ≡ heard g rest
-looked-is f r wait got g looks rest i = record {
+looked-is f r wait got g looks waits rest i = record {
   answers = rest;
   fits = true;
   number = sym looks.sees.same.number i;
   board = sym looks.board i;
   came = sym looks.came i;
-  entries = sym (log-after f wait.at _ g looks.sees) i;
+  entries = sym (log-after f.floor wait.at _ g.floor looks.sees) i;
+  waits = sym waits i;
 }
 
-pub left-is : (f : Shared) (r : Role) (wait : JobWait) (got : FloorLeave) (g : Shared)
-    (leaves : Leaves f r.place wait got g) (rest : List Answer)
+pub left-is : (f : Desk) (r : Role) (wait : JobWait) (got : FloorLeave) (g : Desk)
+    (leaves : Leaves f.floor r.place wait got g.floor) → g.waits ≡ f.waits → (rest : List Answer)
     → heard_left r wait.at wait.round wait.number got (heard f (answer.left got leaves.stays ∷ rest)) ≡ heard g rest
-left-is f r wait got g leaves rest i = record {
+left-is f r wait got g leaves waits rest i = record {
   answers = rest;
   fits = true;
   number = sym leaves.sees.same.number i;
   board = sym leaves.board i;
   came = sym leaves.came i;
-  entries = sym (log-after f wait.at _ g leaves.sees) i;
+  entries = sym (log-after f.floor wait.at _ g.floor leaves.sees) i;
+  waits = sym waits i;
 }
 
 module _ {X : Type 0} where
   -- no call
-  pub hears-none : (f : Shared) (go : Heard → X) → Hears f f go go
-  hears-none f go = record { later = later-none f; answers = []; plays = λ rest. refl }
+  pub hears-none : (f : Desk) (go : Heard → X) → Hears f f go go
+  hears-none f go = record { later = later-none f.floor; answers = []; plays = λ rest. refl }
 
   -- some calls, and then others
-  pub hears-then : (f g k : Shared) (go mid after : Heard → X) → Hears f g go mid → Hears g k mid after
+  pub hears-then : (f g k : Desk) (go mid after : Heard → X) → Hears f g go mid → Hears g k mid after
       → Hears f k go after
   hears-then f g k go mid after first second = record {
-    later = later-then f g k first.later second.later;
+    later = later-then f.floor g.floor k.floor first.later second.later;
     answers = first.answers ++ second.answers;
     plays = λ rest. ap (λ l. go (heard f l)) (append_assoc first.answers second.answers rest)
         ∙ first.plays (second.answers ++ rest) ∙ second.plays rest;
   }
 
   -- what follows in the machine
-  pub hears-on : {Y : Type 0} (on : X → Y) (f g : Shared) (go after : Heard → X) → Hears f g go after
+  pub hears-on : {Y : Type 0} (on : X → Y) (f g : Desk) (go after : Heard → X) → Hears f g go after
       → Hears f g (λ h. on (go h)) (λ h. on (after h))
   hears-on on f g go after hears = record {
     later = hears.later;

@@ -1,14 +1,21 @@
 -- A whole run of a plan by several workers: from what each of its parts leaves.
-use Rattle.std.proofs.Common.{◌≡◌, ◌≢◌, ◌⊎◌, inl, inr, ℕ, zero, suc, ◌<◌, ◌≤◌, ◌%◌, List, [], ◌∷◌, ◌++◌, Some, Result, IfOk, All, AllPairs, length, map, get_or, slice_get, refl, sym, ap, subst, ◌∙◌, arith}
+use Rattle.std.proofs.Common.{◌≡◌, ◌≢◌, ◌⊎◌, inl, inr, ℕ, zero, suc, ◌<◌, ◌≤◌, ◌%◌, List, [], ◌∷◌, ◌++◌, Some, Result, IfOk, All, AllPairs, Bool, flat_map, length, map, get_or, slice_get, refl, sym, ap, subst, ◌∙◌, arith}
 use Rattle.std.proofs.Math.ListN.{get_or-map}
 use Rattle.std.proofs.lemmas.List.{append-nil, length-map}
 use Rattle.std.proofs.lemmas.List.Elements.{All-nil, All-cons}
+use Rattle.std.proofs.lemmas.List.Folds.{flat_map-map}
 use Rattle.std.proofs.lemmas.Option.{get_or_from_slice_get}
 use Rattle.cqs_core.specs.Numbered.{EachAt}
 use Rattle.cqs_core.specs.Parts.{Has}
 use Rattle.cqs_core.specs.declared.Memory.{Memory}
 use Rattle.cqs_core.proofs.Places.{get-below, get-there}
+use Rattle.cqs_core.specs.Numbered.{IsIn}
+use Rattle.cqs_plan.specs.declared.plans.job.Job.{Job}
 use Rattle.cqs_plan.specs.declared.plans.plan.Plan.{Plan}
+use Rattle.cqs_plan.specs.declared.plans.resource.Resource.{Resource}
+use Rattle.cqs_turns.specs.declared.states.End.TheVariants as end
+use Rattle.cqs_turns.specs.declared.states.Progress.{Progress}
+use Rattle.cqs_turns.specs.declared.states.Progress.TheVariants.{Ended}
 use Rattle.cqs_plan.specs.Floor.{IsHoldable}
 use Rattle.cqs_plan.specs.FloorHistory.{History, of_permits, of_elements, of_latch, of_rounds}
 use Rattle.cqs_plan.specs.Runnable.{IsRunnable, kinds_of}
@@ -18,25 +25,33 @@ use Rattle.cqs_shared.specs.Calls.{HaveAllMet, IsAtRest}
 use Rattle.cqs_shared.specs.Entries.{own_history}
 use Rattle.cqs_shared.specs.Shared.{Shared, seen_at, kind_at}
 use Rattle.cqs_work.specs.declared.ends.JobEnd.{JobEnd}
+use Rattle.cqs_work.specs.declared.waits.Waited.{Waited}
 use Rattle.cqs_work.specs.declared.works.Post.{Post}
 use Rattle.cqs_work.specs.declared.works.Worker.{Worker}
+use Rattle.cqs_work.specs.declared.ends.JobEnd.TheVariants.{Unfinished}
+use Rattle.cqs_work.specs.declared.waits.WaitLine.{WaitLine}
+use Rattle.cqs_work.specs.Accounts.{sum_in}
+use Rattle.cqs_work.specs.Causes.{IsCaused, HasCause, last_wait}
+use Rattle.cqs_work.specs.Courses.{GoesOn}
+use Rattle.cqs_work.specs.Desk.{desk}
+use Rattle.cqs_work.specs.Ends.{job_end}
+use Rattle.cqs_work.specs.Noted.{draws_in, HasPermits, told_at, as_draw, IsNoted}
+use Rattle.cqs_work.specs.Rows.{AreLines}
+use Rattle.cqs_work.specs.Takes.{takes, took, take_steps}
 use Rattle.cqs_work.specs.Even.{IsEven, IsEvenAtPool}
 use Rattle.cqs_work.specs.Heard.{heard}
 use Rattle.cqs_work.specs.Later.{Later, IsSound, IsUnnamed}
 use Rattle.cqs_work.specs.Met.{CanMeet, CanMeetAll, HaveMet, HaveMetAll, IsKeptIn}
 use Rattle.cqs_work.specs.Opening.{dealt, AreStarting, IsOpening, AreSplit, ArePosts}
 use Rattle.cqs_work.specs.Works.{RunsOn, HasWorked, AllWorked, progress_of, turns_of, close_all}
-use Rattle.cqs_work.specs.Worked.{IsParted, AreParted, AreEnds, IsTold, AreTold, AreQuiet, HaveAllIn}
+use Rattle.cqs_work.specs.Worked.{IsParted, AreParted, AreEnds, IsTold, AreTold, AreQuiet, AreWaits, AreBounded, HaveAllIn, progress_at, end_at, is_own, is_own_done, seeing_all}
 use Rattle.cqs_work.proofs.Lasting.{later-then}
 use Rattle.cqs_work.proofs.Meeting.{has-back}
-use Rattle.cqs_work.proofs.Openings.{progress-dealt, opening-runs, opening-sound, opening-accounted}
+use Rattle.cqs_work.proofs.Causing.{caused-stays, seen-cause}
+use Rattle.cqs_work.proofs.Bounding.{done-made, none-made, all-left, sum-kept}
+use Rattle.cqs_work.proofs.Crews.{IsMember, AreCrew, waits-are, line-told}
+use Rattle.cqs_work.proofs.Openings.{map-back, progress-dealt, opening-runs, opening-sound, opening-accounted, opening-noted, opening-took, opening-caused, opening-own, starting-at}
 use Rattle.cqs_work.proofs.Quieting.{at-rest, IsEvenOwn, even-then, quiet-at}
-
-map-back : {X Y : Type 0} (h : X → Y) (xs : List X) (i : ℕ) (y : Y) → slice_get (map h xs) i ≡ Some y
-    → (x : X) × (slice_get xs i ≡ Some x) × (h x ≡ y)
-map-back h [] i y got = absurd (cc)
-map-back h (x ∷ xs) zero y got = let same : h x ≡ y = cc in (x, refl, same)
-map-back h (x ∷ xs) (suc i) y got = map-back h xs i y got
 
 -- a caller that is unnamed has nothing that isn't behind it
 unnamed-even : (n : ℕ) (h : History) → IsUnnamed n h → IsEvenOwn (own_history n h)
@@ -74,15 +89,15 @@ module _ {F : Type 0} (shared : F → Shared) (plan : Plan) (floors : List F) (p
           (go rest (λ i p got. each (suc i) p got))
 
   -- What one worker did: from its opening floor and states to its last ones.
-  pub record Went (i : ℕ) (before after : F) (own : List JobState) : Type 0 where
+  pub record Went (i : ℕ) (before after : F) (own : List JobState) (told : List Waited) : Type 0 where
     pub states : List JobState
     pub starts : AreStarting (length plan.jobs) (length floors) i states
     pub opens : IsOpening plan (length floors) i (shared before)
-    pub works : HasWorked plan (shared before) states own (shared after)
+    pub works : HasWorked plan (desk (shared before) []) states own (desk (shared after) told)
 
   module _ (all : List (Result (Worker F) Memory)) (lefts : List F) (own : List (List JobState))
-      (long : length all ≡ length posts) (worked : AllWorked shared plan posts all)
-      (parted : AreParted all lefts own) where
+      (told : List (List Waited)) (long : length all ≡ length posts) (worked : AllWorked shared plan posts all)
+      (parted : AreParted all lefts own told) where
     pub lefts-long : length lefts ≡ length floors
     lefts-long = parted.floors_long ∙ long ∙ posted.long
 
@@ -90,45 +105,49 @@ module _ {F : Type 0} (shared : F → Shared) (plan : Plan) (floors : List F) (p
     own-long = parted.states_long ∙ long ∙ posted.long
 
     pub went : (i : ℕ) (before : F) → slice_get floors i ≡ Some before
-        → (after : F) × (states : List JobState) × (slice_get lefts i ≡ Some after)
-        × (slice_get own i ≡ Some states) × Went i before after states
+        → (after : F) × (states : List JobState) × (waits : List Waited) × (slice_get lefts i ≡ Some after)
+        × (slice_get own i ≡ Some states) × (slice_get told i ≡ Some waits) × Went i before after states waits
     went i before got =
         let post : (p : Post F) × (slice_get posts i ≡ Some p)
         = get-there posts i (omega (arith, get-below floors i before got, posted.long)) in
         let r : (r : Result (Worker F) Memory) × (slice_get all i ≡ Some r)
         = get-there all i (omega (arith, get-below posts i post.0 post.1, long)) in
-        let is : IsParted i r.0 lefts own = parted.each.at i r.0 r.1 in
+        let is : IsParted i r.0 lefts own told = parted.each.at i r.0 r.1 in
         let floor_is : Some post.0.floor ≡ Some before = sym (posted.its_floor i post.0 post.1) ∙ got in
         let same : post.0.floor ≡ before = cc in
         let Of : Result (Worker F) Memory → Type 0 = λ x. IfOk x (λ worker.
-        HasWorked plan (shared post.0.floor) post.0.states.items worker.states.items (shared worker.floor)) in
-        let works : HasWorked plan (shared post.0.floor) post.0.states.items is.worker.states.items
-        (shared is.worker.floor)
+        HasWorked plan (desk (shared post.0.floor) []) post.0.states.items worker.states.items
+        (desk (shared worker.floor) worker.waits.items)) in
+        let works : HasWorked plan (desk (shared post.0.floor) []) post.0.states.items is.worker.states.items
+        (desk (shared is.worker.floor) is.worker.waits.items)
         = subst Of is.is (worked.at i post.0 r.0 post.1 r.1) in (
           is.worker.floor,
           is.worker.states.items,
+          is.worker.waits.items,
           is.floor,
           is.own,
+          is.told,
           record {
             states = post.0.states.items;
             starts = posted.states.at i post.0 post.1;
             opens = opens-at i before got;
-            works = subst (λ f. HasWorked plan (shared f) post.0.states.items is.worker.states.items
-                (shared is.worker.floor))
+            works = subst (λ f. HasWorked plan (desk (shared f) []) post.0.states.items is.worker.states.items
+                (desk (shared is.worker.floor) is.worker.waits.items))
                 same works;
           },
         )
 
     -- by its place among the floors that are left
     back : (i : ℕ) (after : F) → slice_get lefts i ≡ Some after
-        → (before : F) × (states : List JobState) × Went i before after states × (slice_get floors i ≡ Some before)
+        → (before : F) × (states : List JobState) × (waits : List Waited) × Went i before after states waits
+        × (slice_get floors i ≡ Some before)
     back i after got =
         let first : (f : F) × (slice_get floors i ≡ Some f)
         = get-there floors i (omega (arith, get-below lefts i after got, lefts-long)) in
         let it = went i first.0 first.1 in
-        let same_some : Some it.0 ≡ Some after = sym it.2 ∙ got in
+        let same_some : Some it.0 ≡ Some after = sym it.3 ∙ got in
         let same : it.0 ≡ after = cc in
-        (first.0, it.1, subst (λ g. Went i first.0 g it.1) same it.4, first.1)
+        (first.0, it.1, it.2, subst (λ g. Went i first.0 g it.1 it.2) same it.6, first.1)
 
     pub states-long : EachAt (λ worker states. length states ≡ length plan.jobs) own
     states-long = record { at = at }
@@ -138,9 +157,9 @@ module _ {F : Type 0} (shared : F → Shared) (plan : Plan) (floors : List F) (p
             let first : (f : F) × (slice_get floors i ≡ Some f)
             = get-there floors i (omega (arith, get-below own i states got, own-long)) in
             let it = went i first.0 first.1 in
-            let same_some : Some it.1 ≡ Some states = sym it.3 ∙ got in
+            let same_some : Some it.1 ≡ Some states = sym it.4 ∙ got in
             let same : it.1 ≡ states = cc in
-            ap length (sym same) ∙ it.4.works.long
+            ap length (sym same) ∙ it.6.works.long
 
     -- what a worker leaves of its floor
     record Left (i : ℕ) (g : Shared) : Type 0 where
@@ -160,11 +179,11 @@ module _ {F : Type 0} (shared : F → Shared) (plan : Plan) (floors : List F) (p
     left-at i after got =
         let it = back i after got in
         let before : F = it.0 in
-        let works = it.2.works in
-        let opens = it.2.opens in
+        let works = it.3.works in
+        let opens = it.3.opens in
         let later : Later (shared before) (shared after)
-        = later-then (shared before) works.last (shared after) works.turns.later works.closing.later in
-        let own_floor : slice_get floors i ≡ Some before = it.3 in
+        = later-then (shared before) works.last.floor (shared after) works.turns.later works.closing.later in
+        let own_floor : slice_get floors i ≡ Some before = it.4 in
         record {
           family = later.same.family ∙ split.kin.at i (shared before) (get-map shared floors i before own_floor);
           met = later.same.met ∙ opens.met;
@@ -291,28 +310,217 @@ module _ {F : Type 0} (shared : F → Shared) (plan : Plan) (floors : List F) (p
           legal = met.legal;
         }
 
+        -- what a worker has seen and what it has is in all histories
+        module _ (i : ℕ) (before after : F) (states : List JobState) (waits : List Waited)
+            (it : Went i before after states waits) (kept : IsKeptIn final (shared after)) where
+          number-is : (shared after).number ≡ (shared before).number
+          number-is = it.works.closing.later.same.number ∙ it.works.turns.later.same.number
+
+          kinds-same : final.board.kinds ≡ (shared after).board.kinds
+          kinds-same =
+              let opened : (shared before).board.kinds ≡ kinds_of plan.resources = it.opens.kinds in
+              kinds-are ∙ sym opened ∙ sym it.works.turns.later.kinds ∙ sym it.works.closing.later.kinds
+
+          noted-first : IsNoted (desk (shared before) [])
+          noted-first = opening-noted plan (length floors) i (shared before) it.opens
+
+          noted-last : IsNoted it.works.last
+          noted-last = it.works.went.noted noted-first
+
+          noted : IsNoted (desk (shared after) waits)
+          noted = it.works.keeps.noted noted-last
+
+          told-all : waits ≡ it.works.went.more
+          told-all = it.works.keeps.waits ∙ it.works.went.waits
+
+          own-wait : (w : Waited) → IsIn w waits → w.job % length floors ≡ i
+          own-wait w among =
+              let more : List Waited = it.works.went.more in
+              let there : slice_get it.works.went.more among.place ≡ Some w
+              = ap (λ l. slice_get l among.place) (sym told-all) ∙ among.there in
+              let goes : GoesOn (progress_of it.states) (get_or it.works.went.more among.place w).job
+              = it.works.went.whose among.place w (get-below it.works.went.more among.place w there) in
+              let same : get_or it.works.went.more among.place w ≡ w
+              = get_or_from_slice_get it.works.went.more among.place w w there in
+              opening-own plan (length floors) i it.states it.starts w.job
+              (subst (λ (x : Waited). GoesOn (progress_of it.states) x.job) same goes)
+
+          pub member-by : IsMember (map shared floors) final i (shared before) waits
+          member-by = record {
+            own = λ w among. ap (λ n. w.job % n) many ∙ own-wait w among;
+            noted = λ at permits.
+                let there : HasPermits (kind_at (shared after) at)
+                = subst (λ ks. HasPermits (slice_get ks at)) kinds-same permits in
+                subst (λ n. draws_in (own_history n (seen_at final at)) ≡ map (as_draw n) (told_at at waits)) number-is
+                (ap draws_in (kept.mine at) ∙ noted.at at there);
+          }
+
+          -- the bounds on its takes
+          took-is : (at : ℕ) → HasPermits (kind_at final at)
+              → sum_in takes (shared before).number (seen_at final at) ≡ took it.works.last.floor at
+          took-is at permits =
+              let on_last : HasPermits (kind_at it.works.last.floor at)
+              = subst (λ ks. HasPermits (slice_get ks at)) (kinds-same ∙ it.works.closing.later.kinds) permits in
+              ap (λ n. sum_in takes n (seen_at final at)) (sym number-is)
+              ∙ sum-kept takes (shared after).number (seen_at (shared after) at) (seen_at final at) (kept.mine at)
+              ∙ it.works.keeps.tally noted-last at on_last
+
+          module _ (ends : List JobEnd)
+              (ended : (place : ℕ) (p : Progress) → place % length floors ≡ i → slice_get (progress_of states) place
+              ≡ Some p
+              → end_at ends place ≡ job_end p) where
+            pub bounds-by : (at : ℕ) → HasPermits (kind_at final at)
+                → (take_steps (is_own_done (length floors) i ends) at 0 plan.jobs
+                ≤ sum_in takes (shared before).number (seen_at final at))
+                × (sum_in takes (shared before).number (seen_at final at)
+                ≤ take_steps (is_own (length floors) i) at 0 plan.jobs)
+            bounds-by at permits =
+                let first_long : length (progress_of it.states) ≡ length plan.jobs
+                = length-map it.states (λ (s : JobState). s.progress) ∙ it.starts.long in
+                let last_long : length (progress_of states) ≡ length plan.jobs
+                = length-map states (λ (s : JobState). s.progress) ∙ it.works.long in
+                let here : HasPermits (kind_at (shared before) at)
+                = subst (λ ks. HasPermits (slice_get ks at)) (kinds-are ∙ sym it.opens.kinds) permits in
+                let starts = starting-at plan (length floors) i it.states it.starts in
+                let mine : ℕ → Bool = is_own_done (length floors) i ends in
+                let least = it.works.went.least noted-first (is_own_done (length floors) i ends) at here in
+                let most = it.works.went.most noted-first at here in
+                let made = done-made plan (length floors) i at ends (progress_of it.states) (progress_of states)
+                first_long last_long starts ended in
+                let none = none-made plan (length floors) i at ends (progress_of it.states) (progress_of states)
+                first_long last_long starts ended in
+                let left = all-left plan (length floors) i at ends (progress_of it.states)
+                (progress_of states) first_long
+                last_long starts ended in
+                let begun = opening-took plan (length floors) i (shared before) it.opens at in (
+                  omega (arith, least, made, none, begun, took-is at permits),
+                  omega (arith, most, left, begun, took-is at permits),
+                )
+
+          -- what stands behind the ends of its jobs
+          pub cause-by : (place : ℕ) (job : Job) (p : Progress) → slice_get plan.jobs place ≡ Some job
+              → slice_get (progress_of states) place ≡ Some p
+              → HasCause job place (seeing_all (shared before) final (heard (desk (shared after) waits) [])) (job_end p)
+          cause-by place job p got_job got =
+              let last = it.works.went.caused noted-first
+              (opening-caused plan (length floors) i it.states it.starts (desk (shared before) [])) in
+              let now : IsCaused job place (desk (shared after) waits) p
+              = caused-stays job place it.works.last (desk (shared after) waits) p it.works.closing.later
+              (ap (last_wait place) it.works.keeps.waits) (it.works.keeps.came place)
+              (last.at place job p got_job got) in
+              seen-cause job place (desk (shared after) waits)
+              (seeing_all (shared before) final (heard (desk (shared after) waits) [])) kept.before (sym number-is)
+              (sym (it.works.closing.later.same.limits ∙ it.works.turns.later.same.limits)) refl refl p now
+
+        crew-named : (at n : ℕ) → IsUnnamed n (seen_at final at)
+            ⊎ ((i : ℕ) × (f : Shared) × (slice_get (map shared floors) i ≡ Some f) × (n ≡ f.number))
+        crew-named at n = go (met.named met-all at n)
+          where
+            go : IsUnnamed n (seen_at final at) ⊎ Has n (final.number ∷ final.met)
+                → IsUnnamed n (seen_at final at)
+                ⊎ ((i : ℕ) × (f : Shared) × (slice_get (map shared floors) i ≡ Some f) × (n ≡ f.number))
+            go (inl unnamed) = inl unnamed
+            go (inr (inl here)) =
+                inr (0, first-left.opened, first-left.opened_at, here ∙ met.number ∙ first-left.number)
+            go (inr (inr later)) =
+                let found = has-back (map shared rest) n (subst (Has n) met.met later) in
+                let left = given-left found.1 found.0 found.2 in
+                inr (suc found.1, left.opened, left.opened_at, found.3 ∙ left.number)
+
+        crew-by : AreCrew (map shared floors) told final
+        crew-by = record {
+          long = parted.waits_long ∙ long ∙ posted.long ∙ sym many;
+          each = each;
+          named = crew-named;
+          legal = met.legal;
+        }
+          where
+            each : (i : ℕ) (f : Shared) (waits : List Waited) → slice_get (map shared floors) i ≡ Some f
+                → slice_get told i ≡ Some waits → IsMember (map shared floors) final i f waits
+            each i f waits got_f got_t =
+                let back_to = map-back shared floors i f got_f in
+                let it = went i back_to.0 back_to.1 in
+                let kept : IsKeptIn final (shared it.0) = kept-at i it.0 (ap (λ l. slice_get l i) (sym is) ∙ it.3) in
+                let member = member-by i back_to.0 it.0 it.1 it.2 it.6 kept in
+                let same_some : Some it.2 ≡ Some waits = sym it.5 ∙ got_t in
+                let same : it.2 ≡ waits = cc in
+                subst (λ x. IsMember (map shared floors) final i x waits) back_to.2
+                (subst (IsMember (map shared floors) final i (shared back_to.0)) same member)
+
+        module _ (lines : List WaitLine)
+            (lined : AreLines (kinds_of plan.resources) (flat_map (λ l. l) told) (length plan.resources) lines) where
+          lined-by : AreLines final.board.kinds (flat_map (λ l. l) told) (length plan.resources) lines
+          lined-by = subst (λ ks. AreLines ks (flat_map (λ l. l) told) (length plan.resources) lines)
+              (sym kinds-are) lined
+
+          kinds-many : length plan.resources ≡ length final.board.kinds
+          kinds-many = sym (ap length kinds-are ∙ length-map plan.resources (λ (r : Resource). r.kind))
+
+          pub waits_by : AreWaits (map shared floors) final lines
+          waits_by = waits-are (map shared floors) told final crew-by (length plan.resources) lines kinds-many lined-by
+
         module _ (ends : List JobEnd) (are : AreEnds (length plan.jobs) own ends) where
+          -- how a worker's jobs ended
+          ended-by : (i : ℕ) (states : List JobState) → slice_get own i ≡ Some states → (place : ℕ) (p : Progress)
+              → place % length floors ≡ i → slice_get (progress_of states) place ≡ Some p
+              → end_at ends place ≡ job_end p
+          ended-by i states got_own place p mine got =
+              let its_long : length states ≡ length plan.jobs = states-long.at i states got_own in
+              let below : place < length plan.jobs
+              = omega (
+                arith,
+                get-below (progress_of states) place p got,
+                length-map states (λ (s : JobState). s.progress),
+                its_long,
+              ) in
+              let there = are.at place below states
+              (ap (λ n. slice_get own (place % n)) own-long ∙ ap (slice_get own) mine ∙ got_own) in
+              get_or_from_slice_get ends place (job_end (progress_at (progress_of states) place)) Unfinished there
+              ∙ ap job_end (get_or_from_slice_get (progress_of states) place p (Ended end.Done) got)
+
+          bounded_by : AreBounded plan (map shared floors) final ends
+          bounded_by = record { at = at }
+            where
+              at : (i : ℕ) (f : Shared) (q : ℕ) → slice_get (map shared floors) i ≡ Some f
+                  → HasPermits (kind_at final q)
+                  → (take_steps (is_own_done (length (map shared floors)) i ends) q 0 plan.jobs
+                  ≤ sum_in takes f.number (seen_at final q))
+                  × (sum_in takes f.number (seen_at final q)
+                  ≤ take_steps (is_own (length (map shared floors)) i) q 0 plan.jobs)
+              at i f q got_f permits =
+                  let back_to = map-back shared floors i f got_f in
+                  let it = went i back_to.0 back_to.1 in
+                  let kept : IsKeptIn final (shared it.0) = kept-at i it.0 (ap (λ l. slice_get l i) (sym is) ∙ it.3) in
+                  let bounds = bounds-by i back_to.0 it.0 it.1 it.2 it.6 kept ends (ended-by i it.1 it.4) q permits in
+                  let Bounds : ℕ → Shared → Type 0 = λ n x.
+                  (take_steps (is_own_done n i ends) q 0 plan.jobs ≤ sum_in takes x.number (seen_at final q))
+                  × (sum_in takes x.number (seen_at final q) ≤ take_steps (is_own n i) q 0 plan.jobs) in
+                  subst (λ x. Bounds (length (map shared floors)) x) back_to.2
+                  (subst (λ n. Bounds n (shared back_to.0)) (sym many) bounds)
+
+        module _ (ends : List JobEnd) (are : AreEnds (length plan.jobs) own ends) (lines : List WaitLine)
+            (lined : AreLines (kinds_of plan.resources) (flat_map (λ l. l) told) (length plan.resources) lines) where
           told-at : (i : ℕ) (before : F) → slice_get floors i ≡ Some before
-              → IsTold plan (length floors) i (shared before) final ends
+              → IsTold plan (length floors) i (shared before) final ends lines
           told-at i before got =
               let it = went i before got in
               let after : F = it.0 in
               let states : List JobState = it.1 in
-              let works = it.4.works in
+              let works = it.6.works in
               let g : Shared = shared after in
               let number : g.number ≡ (shared before).number = works.closing.later.same.number
               ∙ works.turns.later.same.number in
-              let kept : IsKeptIn final g = kept-at i after (ap (λ l. slice_get l i) (sym is) ∙ it.2) in
-              let begun : progress_of it.4.states ≡ dealt plan (length floors) i
-              = progress-dealt plan (length floors) i it.4.states it.4.starts in
+              let kept : IsKeptIn final g = kept-at i after (ap (λ l. slice_get l i) (sym is) ∙ it.3) in
+              let begun : progress_of it.6.states ≡ dealt plan (length floors) i
+              = progress-dealt plan (length floors) i it.6.states it.6.starts in
               record {
                 answers = works.turns.answers;
                 after_last = works.closing.answers;
                 progress = progress_of states;
                 mid = heard works.last works.closing.answers;
-                end = heard g [];
+                end = heard (desk g it.2) [];
                 turns = ap (λ p. turns_of plan plan.turns p
-                    (heard (shared before) (works.turns.answers ++ works.closing.answers))) (sym begun)
+                    (heard (desk (shared before) []) (works.turns.answers ++ works.closing.answers))) (sym begun)
                     ∙ works.turns.plays works.closing.answers;
                 closing = ap (λ l. close_all plan (progress_of states) (heard works.last l))
                     (sym (append-nil works.closing.answers)) ∙ works.closing.plays [];
@@ -321,16 +529,33 @@ module _ {F : Type 0} (shared : F → Shared) (plan : Plan) (floors : List F) (p
                 entries = λ at. get_or-map (own_history g.number) g.seen at (of_permits []) ∙ sym (kept.mine at)
                     ∙ ap (λ n. own_history n (seen_at final at)) number;
                 own_ends = λ place below mine. are.at place below states
-                    (ap (λ n. slice_get own (place % n)) own-long ∙ ap (slice_get own) mine ∙ it.3);
+                    (ap (λ n. slice_get own (place % n)) own-long ∙ ap (slice_get own) mine ∙ it.4);
+                waits = λ k line got_line mine.
+                    line-told (map shared floors) told final crew-by (length plan.resources) lines
+                    (kinds-many lines lined)
+                    (lined-by lines lined) i it.2 it.5 k line got_line (ap (λ n. line.job % n) many ∙ mine);
+                causes = λ place job got_job mine.
+                    let there : (p : Progress) × (slice_get (progress_of it.1) place ≡ Some p)
+                    = get-there (progress_of it.1) place
+                    (omega (
+                      arith,
+                      get-below plan.jobs place job got_job,
+                      length-map it.1 (λ (s : JobState). s.progress),
+                      it.6.works.long,
+                    )) in
+                    let ended : end_at ends place ≡ job_end there.0
+                    = ended-by ends are i it.1 it.4 place there.0 mine there.1 in
+                    subst (HasCause job place (seeing_all (shared before) final (heard (desk g it.2) []))) (sym ended)
+                    (cause-by i before after it.1 it.2 it.6 kept place job there.0 got_job there.1);
               }
 
-          all-told_by : AreTold plan (map shared floors) final ends
+          all-told_by : AreTold plan (map shared floors) final ends lines
           all-told_by = record {
             at = λ i f got.
                 let it = map-back shared floors i f got in
-                let told : IsTold plan (length floors) i f final ends
-                = subst (λ x. IsTold plan (length floors) i x final ends) it.2 (told-at i it.0 it.1) in
-                subst (λ n. IsTold plan n i f final ends) (sym many) told;
+                let its : IsTold plan (length floors) i f final ends lines
+                = subst (λ x. IsTold plan (length floors) i x final ends lines) it.2 (told-at i it.0 it.1) in
+                subst (λ n. IsTold plan n i f final ends lines) (sym many) its;
           }
 
     -- by which floors are left
@@ -362,13 +587,31 @@ module _ {F : Type 0} (shared : F → Shared) (plan : Plan) (floors : List F) (p
           go [] is = absurd (nothing-left is)
           go (first ∷ rest) is = all-in_by first rest is final (met-by first rest is)
 
-      pub all-told : (ends : List JobEnd) → AreEnds (length plan.jobs) own ends
-          → AreTold plan (map shared floors) final ends
-      all-told ends are = go lefts refl
+      pub all-told : (ends : List JobEnd) → AreEnds (length plan.jobs) own ends → (lines : List WaitLine)
+          → AreLines (kinds_of plan.resources) (flat_map (λ l. l) told) (length plan.resources) lines
+          → AreTold plan (map shared floors) final ends lines
+      all-told ends are lines lined = go lefts refl
         where
-          go : (list : List F) → lefts ≡ list → AreTold plan (map shared floors) final ends
+          go : (list : List F) → lefts ≡ list → AreTold plan (map shared floors) final ends lines
           go [] is = absurd (nothing-left is)
-          go (first ∷ rest) is = all-told_by first rest is final (met-by first rest is) ends are
+          go (first ∷ rest) is = all-told_by first rest is final (met-by first rest is) ends are lines lined
+
+      pub all-waits : (lines : List WaitLine)
+          → AreLines (kinds_of plan.resources) (flat_map (λ l. l) told) (length plan.resources) lines
+          → AreWaits (map shared floors) final lines
+      all-waits lines lined = go lefts refl
+        where
+          go : (list : List F) → lefts ≡ list → AreWaits (map shared floors) final lines
+          go [] is = absurd (nothing-left is)
+          go (first ∷ rest) is = waits_by first rest is final (met-by first rest is) lines lined
+
+      pub all-bounded : (ends : List JobEnd) → AreEnds (length plan.jobs) own ends
+          → AreBounded plan (map shared floors) final ends
+      all-bounded ends are = go lefts refl
+        where
+          go : (list : List F) → lefts ≡ list → AreBounded plan (map shared floors) final ends
+          go [] is = absurd (nothing-left is)
+          go (first ∷ rest) is = bounded_by first rest is final (met-by first rest is) ends are
 
 -- as the code keeps the states
 pub vecs-long : {S : Type 0} (items : S → List JobState) (vecs : List S) (jobs counted : ℕ) → counted ≡ jobs
@@ -384,3 +627,16 @@ pub ends-kept : {S : Type 0} (items : S → List JobState) (slice vecs : List S)
 ends-kept items slice vecs counted jobs list ends whole count same are =
     subst (AreEnds jobs (map items vecs)) (sym same)
     (subst (λ l. AreEnds jobs (map items l) list) whole (subst (λ n. AreEnds n (map items slice) list) count are))
+
+-- as the code keeps the waits
+pub lines-kept : {S : Type 0} (items : S → List Waited) (resources slice : List Resource) (vecs waits : List S)
+    (list lines : List WaitLine) → slice ≡ resources → waits ≡ vecs → lines ≡ list
+    → AreLines (kinds_of slice) (flat_map items waits) (length slice) list
+    → AreLines (kinds_of resources) (flat_map (λ l. l) (map items vecs)) (length resources) lines
+lines-kept {S} items resources slice vecs waits list lines all whole same are =
+    let flat : flat_map (λ (l : List Waited). l) (map items vecs) ≡ flat_map items vecs
+    = flat_map-map (λ (l : List Waited). l) items vecs in
+    subst (AreLines (kinds_of resources) (flat_map (λ l. l) (map items vecs)) (length resources)) (sym same)
+    (subst (λ t. AreLines (kinds_of resources) t (length resources) list) (sym flat)
+    (subst (λ (l : List S). AreLines (kinds_of resources) (flat_map items l) (length resources) list) whole
+    (subst (λ rs. AreLines (kinds_of rs) (flat_map items waits) (length rs) list) all are)))

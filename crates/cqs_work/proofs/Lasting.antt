@@ -9,10 +9,11 @@ use Rattle.cqs_core.specs.SemaphoreNames.{entry_names as permit_names}
 use Rattle.cqs_pool_object.specs.declared.entries.PoolEntry.{PoolEntry}
 use Rattle.cqs_pool_object.specs.PoolNames.{entry_names as element_names}
 use Rattle.cqs_plan.specs.FloorHistory.{History, of_permits, of_elements, of_latch, of_rounds}
-use Rattle.cqs_shared.specs.Entries.{Entries, at_permits, at_elements, at_latch, in_round, with_entries, own_entries, none_of}
+use Rattle.cqs_shared.specs.Entries.{Entries, at_permits, at_elements, at_latch, in_round, with_entries, own_entries, none_of, IsBefore}
 use Rattle.cqs_shared.specs.Shared.{Shared, Sees, IsLegalAt, seen_at}
 use Rattle.cqs_work.specs.Accounts.{IsAccounted}
 use Rattle.cqs_work.specs.Later.{IsUnnamed, IsSound, Later}
+use Rattle.cqs_work.proofs.Growing.{before-itself, before-through, before-with}
 
 -- what a pass has seen after a call: there more, and elsewhere as before
 pub seen-here : (f : Shared) (at : ℕ) (entries : Entries) (g : Shared) (sees : Sees f at entries g) → at < length f.seen
@@ -110,6 +111,8 @@ pub sees-later : (f : Shared) (at : ℕ) (entries : Entries) (g : Shared) → Se
 sees-later f at entries g sees kinds accounted = record {
   same = sees.same;
   kinds = kinds;
+  before = seen-all (λ q h. IsBefore (seen_at f q) h) f at entries g sees (before-with (seen_at f at) sees.more)
+      (λ q. before-itself (seen_at f q));
   sound = sees-sound f at entries g sees kinds;
   accounted = accounted;
 }
@@ -119,6 +122,7 @@ pub later-none : (f : Shared) → Later f f
 later-none f = record {
   same = record { limits = refl; number = refl; met = refl; floors = refl; family = refl };
   kinds = refl;
+  before = λ at. before-itself (seen_at f at);
   sound = λ sound. sound;
   accounted = λ accounted. accounted;
 }
@@ -134,6 +138,7 @@ later-then f g k first second = record {
     family = second.same.family ∙ first.same.family;
   };
   kinds = second.kinds ∙ first.kinds;
+  before = λ at. before-through (seen_at f at) (seen_at g at) (seen_at k at) (first.before at) (second.before at);
   sound = λ sound. second.sound (first.sound sound);
   accounted = λ accounted. second.accounted (first.accounted accounted);
 }

@@ -1,12 +1,17 @@
+pub mod Growing
 pub mod Lasting
 pub mod Nothing
+pub mod Leaving
 pub mod Accounts
+pub mod Adding
+pub mod Causing
 pub mod HeardLemmas
 pub mod Parties
 pub mod Moving
 pub mod Acting
 pub mod Giving
 pub mod Needing
+pub mod Coursing
 pub mod Turning
 pub mod Closing
 pub mod Meeting
@@ -17,4 +22,8 @@ pub mod Counted
 pub mod Openings
 pub mod Quieting
 pub mod Posting
+pub mod Rowing
+pub mod Entering
+pub mod Crews
+pub mod Bounding
 pub mod Joining

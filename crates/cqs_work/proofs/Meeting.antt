@@ -1,68 +1,25 @@
 -- Floors that meet, one after the other.
-use Rattle.std.proofs.Common.{◌≡◌, ◌≢◌, ◌⊎◌, inl, inr, ℕ, zero, suc, ◌<◌, List, [], ◌∷◌, ◌++◌, Some, None, true, length, map, get_or, slice_get, refl, sym, ap, subst, ◌∙◌, append_assoc, arith}
+use Rattle.std.proofs.Common.{◌≡◌, ◌≢◌, ◌⊎◌, inl, inr, ℕ, zero, suc, ◌<◌, List, [], ◌∷◌, ◌++◌, Some, None, true, length, map, get_or, slice_get, refl, sym, ap, subst, ◌∙◌, arith}
 use Rattle.std.proofs.lemmas.Bool.{cases_eq}
-use Rattle.std.proofs.lemmas.List.{map-append, append-nil}
+use Rattle.std.proofs.lemmas.List.{map-append}
 use Rattle.std.proofs.lemmas.Option.{get_or_from_slice_get}
 use Rattle.cqs_core.specs.Numbered.{EachAt}
-use Rattle.cqs_core.specs.Parts.{Has, IsPrefix}
+use Rattle.cqs_core.specs.Parts.{Has}
 use Rattle.cqs_core.proofs.EachAtLemmas.{EachAt-push}
 use Rattle.cqs_core.proofs.Places.{get-append_left, get-below}
 use Rattle.cqs_plan.specs.Floor.{wait_of, holds_of}
-use Rattle.cqs_plan.specs.FloorHistory.{History, of_permits, of_elements, of_latch, of_rounds, entries_in}
-use Rattle.cqs_shared.specs.Entries.{own_history, is_nothing, IsBefore}
+use Rattle.cqs_shared.specs.Entries.{own_history, is_nothing}
 use Rattle.cqs_shared.specs.Shared.{Shared, seen_at}
 use Rattle.cqs_shared.specs.Calls.{Meets, HasWait, HaveAllMet, IsAtRest}
 use Rattle.cqs_work.specs.Later.{IsUnnamed}
 use Rattle.cqs_work.specs.Met.{CanMeet, HaveMet, IsKeptIn}
+use Rattle.cqs_work.proofs.Growing.{before-itself, before-through}
 use Rattle.cqs_work.proofs.Nothing.{nothing-unnamed}
 
 -- these have met, so far
 pub record MetSoFar (first : Shared) (done : List Shared) (g : Shared) : Type 0 where
   pub have : HaveMet first done g
   pub family : g.family ≡ first.family
-
--- all begins with itself
-before-itself : (h : History) → IsBefore h h
-before-itself (of_permits h) = ([], sym (append-nil h))
-before-itself (of_elements h) = ([], sym (append-nil h))
-before-itself (of_latch h) = ([], sym (append-nil h))
-before-itself (of_rounds all) = λ round. ([], sym (append-nil (entries_in all round)))
-
-prefix-through : {A : Type 0} (h mid all : List A) → IsPrefix h mid → IsPrefix mid all → IsPrefix h all
-prefix-through h mid all (some, first) (more, second) =
-    (some ++ more, second ∙ ap (λ l. l ++ more) first ∙ append_assoc h some more)
-
-before-through : (h mid all : History) → IsBefore h mid → IsBefore mid all → IsBefore h all
-before-through (of_permits h) (of_permits mid) (of_permits all) first second = prefix-through h mid all first second
-before-through (of_elements h) (of_elements mid) (of_elements all) first second = prefix-through h mid all first second
-before-through (of_latch h) (of_latch mid) (of_latch all) first second = prefix-through h mid all first second
-before-through (of_rounds h) (of_rounds mid) (of_rounds all) first second =
-    λ round. prefix-through (entries_in h round) (entries_in mid round) (entries_in all round) (first round)
-    (second round)
-before-through (of_permits h) (of_permits mid) (of_elements all) first second = absurd second
-before-through (of_permits h) (of_permits mid) (of_latch all) first second = absurd second
-before-through (of_permits h) (of_permits mid) (of_rounds all) first second = absurd second
-before-through (of_elements h) (of_elements mid) (of_permits all) first second = absurd second
-before-through (of_elements h) (of_elements mid) (of_latch all) first second = absurd second
-before-through (of_elements h) (of_elements mid) (of_rounds all) first second = absurd second
-before-through (of_latch h) (of_latch mid) (of_permits all) first second = absurd second
-before-through (of_latch h) (of_latch mid) (of_elements all) first second = absurd second
-before-through (of_latch h) (of_latch mid) (of_rounds all) first second = absurd second
-before-through (of_rounds h) (of_rounds mid) (of_permits all) first second = absurd second
-before-through (of_rounds h) (of_rounds mid) (of_elements all) first second = absurd second
-before-through (of_rounds h) (of_rounds mid) (of_latch all) first second = absurd second
-before-through (of_permits h) (of_elements mid) all first second = absurd first
-before-through (of_permits h) (of_latch mid) all first second = absurd first
-before-through (of_permits h) (of_rounds mid) all first second = absurd first
-before-through (of_elements h) (of_permits mid) all first second = absurd first
-before-through (of_elements h) (of_latch mid) all first second = absurd first
-before-through (of_elements h) (of_rounds mid) all first second = absurd first
-before-through (of_latch h) (of_permits mid) all first second = absurd first
-before-through (of_latch h) (of_elements mid) all first second = absurd first
-before-through (of_latch h) (of_rounds mid) all first second = absurd first
-before-through (of_rounds h) (of_permits mid) all first second = absurd first
-before-through (of_rounds h) (of_elements mid) all first second = absurd first
-before-through (of_rounds h) (of_latch mid) all first second = absurd first
 
 pub meeting-starts : (first : Shared) (given : List Shared) → CanMeet first given → MetSoFar first [] first
 meeting-starts first given can = record {

@@ -19,7 +19,8 @@ needed-alike w v k (j ∷ jobs) (x ∷ progress) same =
     omega (arith, here, later)
 
 -- one job is further, and the needs of the others are as before
-needed-set : (w v : ℕ → Job → Progress → ℕ) (k : ℕ) (jobs : List Job) (progress : List Progress) (i n : ℕ) → n ≡ k + i
+pub needed-set : (w v : ℕ → Job → Progress → ℕ) (k : ℕ) (jobs : List Job) (progress : List Progress) (i n : ℕ) → n
+    ≡ k + i
     → (job : Job) (p q : Progress) → slice_get jobs i ≡ Some job → slice_get progress i ≡ Some p
     → ((m : ℕ) (j : Job) (x : Progress) → m ≢ n → v m j x ≡ w m j x)
     → needed v k jobs (set progress i q) + w n job p ≡ needed w k jobs progress + v n job q

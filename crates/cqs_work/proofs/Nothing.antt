@@ -1,5 +1,5 @@
 -- What follows where no entry of a history names a caller.
-use Rattle.std.proofs.Common.{◌≡◌, ℕ, true, false, List, [], ◌∷◌, sum_by, refl, ap, ◌∙◌, subst, sym}
+use Rattle.std.proofs.Common.{◌≡◌, ℕ, true, false, List, [], ◌∷◌, sum_by, refl, ap}
 use Rattle.cqs_core.specs.Parts.{part}
 use Rattle.cqs_core.specs.SemaphoreNames.{entry_names as permit_names}
 use Rattle.cqs_pool_object.specs.PoolNames.{entry_names as element_names}
@@ -7,6 +7,7 @@ use Rattle.cqs_plan.specs.FloorHistory.{History, of_permits, of_elements, of_lat
 use Rattle.cqs_shared.specs.Entries.{own_history, is_nothing}
 use Rattle.cqs_work.specs.Accounts.{Weights, sum_in}
 use Rattle.cqs_work.specs.Later.{IsUnnamed}
+use Rattle.cqs_work.specs.Noted.{draws, draws_in}
 
 none-left : {E : Type 0} (l : List E) → (wrap : List E → History)
     → ((e : E) (rest : List E) → is_nothing (wrap (e ∷ rest)) ≡ false)
@@ -27,3 +28,10 @@ nothing-adds w n (of_permits h) nothing = ap (sum_by w.permit) (nothing-unnamed 
 nothing-adds w n (of_elements h) nothing = ap (sum_by w.element) (nothing-unnamed n (of_elements h) nothing)
 nothing-adds w n (of_latch h) nothing = refl
 nothing-adds w n (of_rounds all) nothing = refl
+
+-- it drew no number there
+pub nothing-draws : (n : ℕ) (h : History) → is_nothing (own_history n h) ≡ true → draws_in (own_history n h) ≡ []
+nothing-draws n (of_permits h) nothing = ap draws (nothing-unnamed n (of_permits h) nothing)
+nothing-draws n (of_elements h) nothing = refl
+nothing-draws n (of_latch h) nothing = refl
+nothing-draws n (of_rounds all) nothing = refl

@@ -1,6 +1,7 @@
 -- A floor before the first call of its pass: its worker can begin, and nothing is to be accounted for.
-use Rattle.std.proofs.Common.{◌≡◌, inl, inr, ℕ, zero, suc, ◌<◌, ◌%◌, ◌==◌, Bool, true, false, List, [], ◌∷◌, Some, None, length, map, get_or, replicate, slice_get, sum_by, refl, sym, ap, subst, ◌∙◌, arith}
+use Rattle.std.proofs.Common.{◌≡◌, ◌≢◌, ◌⊎◌, inl, inr, ℕ, zero, suc, ◌<◌, ◌%◌, ◌==◌, Bool, true, false, List, [], ◌∷◌, Some, None, length, map, get_or, replicate, slice_get, sum_by, refl, sym, ap, subst, ◌∙◌, arith, ne_eqb}
 use Rattle.std.specs.Bool.{if◌then◌else◌}
+use Rattle.std.proofs.lemmas.Bool.{cases_eq}
 use Rattle.std.proofs.lemmas.List.{length-map, length-replicate, get_or-replicate, ext_get_or}
 use Rattle.std.proofs.lemmas.List.Sums.{sum_by-cons}
 use Rattle.std.proofs.lemmas.List.FromFn.{length-map-range_with_len, get_or-map-range_with_len}
@@ -13,6 +14,7 @@ use Rattle.cqs_plan.specs.Floor.{PlainFloor, Holding, opening_floor}
 use Rattle.cqs_plan.specs.Runnable.{IsRunnable}
 use Rattle.cqs_turns.specs.declared.states.End.TheVariants as end
 use Rattle.cqs_turns.specs.declared.states.JobState.{JobState}
+use Rattle.cqs_turns.specs.declared.states.Progress.{Progress}
 use Rattle.cqs_turns.specs.declared.states.Progress.TheVariants.{Stepping, Ended}
 use Rattle.cqs_turns.specs.Ready.{IsReady, wait_in, steps_left}
 use Rattle.cqs_turns.specs.Running.{IsRunning}
@@ -22,11 +24,17 @@ use Rattle.cqs_turns.proofs.Opened.{opening-running}
 use Rattle.cqs_turns.proofs.Readied.{ready-to-end}
 use Rattle.cqs_shared.specs.Shared.{Shared, seen_at}
 use Rattle.cqs_work.specs.Accounts.{Weights, gains, losses, doors, enters, sum_in, waits_at, held_at, IsAccounted}
+use Rattle.cqs_work.specs.Adds.{IsOver}
+use Rattle.cqs_work.specs.Causes.{IsCaused}
+use Rattle.cqs_work.specs.Courses.{AreCaused, GoesOn}
+use Rattle.cqs_work.specs.Desk.{Desk, desk}
 use Rattle.cqs_work.specs.Later.{IsSound}
 use Rattle.cqs_work.specs.Needs.{IsInRounds, AreProvided}
+use Rattle.cqs_work.specs.Noted.{IsNoted}
+use Rattle.cqs_work.specs.Takes.{takes, took}
 use Rattle.cqs_work.specs.Opening.{starting, dealt, IsStarting, AreStarting, IsOpening}
 use Rattle.cqs_work.specs.Works.{progress_of, RunsOn}
-use Rattle.cqs_work.proofs.Nothing.{nothing-unnamed, nothing-adds}
+use Rattle.cqs_work.proofs.Nothing.{nothing-unnamed, nothing-adds, nothing-draws}
 use Rattle.cqs_work.proofs.Turning.{other-ready}
 
 -- what the worker's code keeps is how far the plan's jobs are dealt to it
@@ -48,6 +56,12 @@ progress-dealt plan workers worker states starts =
         ∙ its.progress
         ∙ sym (get_or-map-range_with_len (starting workers worker) 0 (length plan.jobs) i i (Ended end.Done)
         (omega (arith, below, starts.long)) (omega arith))
+
+pub map-back : {X Y : Type 0} (h : X → Y) (xs : List X) (i : ℕ) (y : Y) → slice_get (map h xs) i ≡ Some y
+    → (x : X) × (slice_get xs i ≡ Some x) × (h x ≡ y)
+map-back h [] i y got = absurd (cc)
+map-back h (x ∷ xs) zero y got = let same : h x ≡ y = cc in (x, refl, same)
+map-back h (x ∷ xs) (suc i) y got = map-back h xs i y got
 
 get-replicate : {X : Type 0} (n i : ℕ) (x : X) → i < n → slice_get (replicate n x) i ≡ Some x
 get-replicate zero i x below = absurd (omega (arith, below))
@@ -150,3 +164,46 @@ module _ (plan : Plan) (workers worker : ℕ) (f : Shared) (opens : IsOpening pl
         omega (arith, no-sum gains q, no-sum losses q, held, waits);
     entered = λ q. no-sum enters q ∙ sym (no-sum doors q);
   }
+
+  -- no job was told a wait yet
+  pub opening-noted : IsNoted (desk f [])
+  opening-noted = record {
+    long = opening-accounted.long;
+    at = λ at permits. nothing-draws f.number (seen_at f at) (opens.unnamed at f.number (inl refl));
+  }
+
+  pub opening-took : (at : ℕ) → took f at ≡ 0
+  opening-took at = no-sum takes at
+
+-- how far a job is that was dealt
+module _ (plan : Plan) (workers worker : ℕ) (states : List JobState)
+    (starts : AreStarting (length plan.jobs) workers worker states) where
+  pub starting-at : (place : ℕ) (p : Progress) → slice_get (progress_of states) place ≡ Some p
+      → p ≡ starting workers worker place
+  starting-at place p got = go (map-back (λ (s : JobState). s.progress) states place p got)
+    where
+      go : (s : JobState) × (slice_get states place ≡ Some s) × (s.progress ≡ p) → p ≡ starting workers worker place
+      go (s, there, is) = sym is ∙ (starts.each.at place s there).progress
+
+  pub opening-caused : (d : Desk) → AreCaused plan d (progress_of states)
+  opening-caused d = record {
+    at = λ place job p got_job got. subst (IsCaused job place d) (sym (starting-at place p got))
+        (go job place (place % workers == worker));
+  }
+    where
+      go : (job : Job) (place : ℕ) (own : Bool)
+          → IsCaused job place d (if own then Stepping 0 else Ended end.Done)
+      go job place true = tt
+      go job place false = tt
+
+  -- a job that goes on is the worker's
+  pub opening-own : (place : ℕ) → GoesOn (progress_of states) place → place % workers ≡ worker
+  opening-own place goes =
+      go (cases_eq (place % workers) worker)
+    where
+      go : (place % workers ≡ worker) ⊎ (place % workers ≢ worker) → place % workers ≡ worker
+      go (inl own) = own
+      go (inr other) =
+          let no_own : place % workers == worker ≡ false = ne_eqb (place % workers) worker other in
+          let ended : goes.p ≡ Ended end.Done = starting-at place goes.p goes.there ∙ rw no_own refl in
+          absurd (goes.going (subst IsOver (sym ended) tt))

@@ -12,6 +12,7 @@ use Rattle.cqs_turns.specs.declared.states.JobState.{JobState}
 use Rattle.cqs_turns.specs.declared.states.Progress.TheVariants.{Ended}
 use Rattle.cqs_turns.proofs.Mapped.{get-map}
 use Rattle.cqs_work.specs.declared.ends.JobEnd.{JobEnd}
+use Rattle.cqs_work.specs.declared.waits.Waited.{Waited}
 use Rattle.cqs_work.specs.declared.works.Post.{Post}
 use Rattle.cqs_work.specs.declared.works.Worker.{Worker}
 use Rattle.cqs_work.specs.Ends.{job_end}
@@ -76,18 +77,21 @@ module _ {F : Type 0} where
       posts-push jobs workers floors posts post are
       (subst (λ n. AreStarting jobs workers n post.states.items) next here)
 
-  pub parted-none : (floors : List F) (states : List (List JobState)) → floors ≡ [] → states ≡ []
-      → AreParted {F = F} [] floors states
-  parted-none floors states no_floors no_states = rw (no_floors, no_states) (record {
+  pub parted-none : (floors : List F) (states : List (List JobState)) (waits : List (List Waited)) → floors ≡ []
+      → states ≡ [] → waits ≡ [] → AreParted {F = F} [] floors states waits
+  parted-none floors states waits no_floors no_states no_waits = rw (no_floors, no_states, no_waits) (record {
     floors_long = refl;
     states_long = refl;
+    waits_long = refl;
     each = record { at = λ i x got. absurd (cc) };
   })
 
   pub parted-push : (workers : List (Result (Worker F) Memory)) (floors : List F) (states : List (List JobState))
-      (r : Result (Worker F) Memory) (worker : Worker F) → r ≡ Ok worker → AreParted workers floors states
+      (waits : List (List Waited)) (r : Result (Worker F) Memory) (worker : Worker F) → r ≡ Ok worker
+      → AreParted workers floors states waits
       → AreParted (workers ++ r ∷ []) (floors ++ worker.floor ∷ []) (states ++ worker.states.items ∷ [])
-  parted-push workers floors states r worker is are = record {
+      (waits ++ worker.waits.items ∷ [])
+  parted-push workers floors states waits r worker is are = record {
     floors_long = omega (
       arith,
       length_push floors worker.floor,
@@ -100,19 +104,28 @@ module _ {F : Type 0} where
       length_push workers r,
       are.states_long,
     );
-    each = EachAt-push (λ i x. IsParted i x floors states)
-        (λ i x. IsParted i x (floors ++ worker.floor ∷ []) (states ++ worker.states.items ∷ [])) workers r
+    waits_long = omega (
+      arith,
+      length_push waits worker.waits.items,
+      length_push workers r,
+      are.waits_long,
+    );
+    each = EachAt-push (λ i x. IsParted i x floors states waits)
+        (λ i x. IsParted i x (floors ++ worker.floor ∷ []) (states ++ worker.states.items ∷ [])
+        (waits ++ worker.waits.items ∷ [])) workers r
         (record {
           worker = worker;
           is = is;
           floor = get-push_at floors worker.floor (length workers) (sym are.floors_long);
           own = get-push_at states worker.states.items (length workers) (sym are.states_long);
+          told = get-push_at waits worker.waits.items (length workers) (sym are.waits_long);
         })
         (λ i x got old. record {
           worker = old.worker;
           is = old.is;
           floor = get-append_left floors (worker.floor ∷ []) i old.worker.floor old.floor;
           own = get-append_left states (worker.states.items ∷ []) i old.worker.states.items old.own;
+          told = get-append_left waits (worker.waits.items ∷ []) i old.worker.waits.items old.told;
         })
         are.each;
   }

@@ -22,6 +22,7 @@ use Rattle.cqs_turns.specs.Roles.{role}
 use Rattle.cqs_turns.specs.Turns.{places_held}
 use Rattle.cqs_turns.proofs.Mapped.{get-map}
 use Rattle.cqs_shared.specs.Shared.{Shared}
+use Rattle.cqs_work.specs.Desk.{Desk}
 use Rattle.cqs_work.specs.Heard.{Heard, Hears, heard, heard_world}
 use Rattle.cqs_work.specs.Roles.{act, left_so}
 use Rattle.cqs_work.specs.Needs.{IsInRounds, AreProvided}
@@ -29,7 +30,9 @@ use Rattle.cqs_work.specs.Doing.{Moves, CanAct, Did}
 use Rattle.cqs_work.specs.Works.{progress_of, machine_so, job_turn, job_turn_so, turn_of, turn_so, turns_of, RunsOn}
 use Rattle.cqs_work.proofs.HeardLemmas.{hears-then, hears-on, hears-none}
 use Rattle.cqs_work.proofs.Acting.{drop-at}
+use Rattle.cqs_work.specs.Courses.{Went}
 use Rattle.cqs_work.proofs.Needing.{provided-of, provided-on}
+use Rattle.cqs_work.proofs.Coursing.{went-none, went-then, went-one}
 
 -- the job of the actor, with this state, is about to act
 pub record Acting (plan : Plan) (a : Actor) (f : Shared) (states : List JobState) (state : JobState) : Type 0 where
@@ -94,37 +97,38 @@ state-at states place state after j s its_state got = go (cases_eq j place)
   where
     go : (j ≡ place) ⊎ (j ≢ place) → ((j ≡ place) × (s ≡ after)) ⊎ ((j ≢ place) × (slice_get states j ≡ Some s))
     go (inl here) =
-        let now : slice_get (set states place after) place
-        ≡ Some after = get-set_here states place state after its_state in
+        let now : slice_get (set states place after) place ≡ Some after = get-set_here states place state after
+        its_state in
         let here_too : slice_get (set states place after) place ≡ Some s = rw here at got in
         let same_state : s ≡ after = cc in
         inl (here, same_state)
     go (inr other) = inr (other, sym (get-set_else states place j after (λ e. other (sym e))) ∙ got)
 
-module _ (plan : Plan) (a : Actor) (f : Shared) (states : List JobState) (state : JobState)
-    (acting : Acting plan a f states state) where
+module _ (plan : Plan) (a : Actor) (f : Desk) (states : List JobState) (state : JobState)
+    (acting : Acting plan a f.floor states state) where
   its-progress : slice_get (progress_of states) a.place ≡ Some state.progress
   its-progress = get-map (λ (s : JobState). s.progress) states a.place state acting.its_state
 
-  pub can-act : a.turn ≤ 40000 → CanAct a f state.progress
+  pub can-act : a.turn ≤ 40000 → CanAct a f.floor state.progress
   can-act turn = record {
     stands = record {
       kinds = acting.runs.kinds ∙ ap kinds_of (sym acting.resources);
       ready = acting.runs.ready a.place (role a).job state acting.job acting.its_state;
     };
     rounds = acting.runs.rounds a.place (role a).job state acting.job acting.its_state;
-    provided = provided-of f plan.jobs (progress_of states) a.place (role a).job state.progress acting.job its-progress
+    provided = provided-of f.floor plan.jobs (progress_of states) a.place
+        (role a).job state.progress acting.job its-progress
         acting.runs.provided;
     few_steps = acting.runnable.few_steps.at a.place (role a).job acting.job;
     turn = turn;
   }
 
-  pub its-held : state.held.items ≡ places_held f.board a.place
+  pub its-held : state.held.items ≡ places_held f.floor.board a.place
   its-held = acting.runs.kept.held a.place state acting.its_state
 
-  module _ (g : Shared) (after : JobState)
+  module _ (g : Desk) (after : JobState)
       (acts : Did a f state.progress (act a state.progress) (left_so after.progress) g after.progress)
-      (held : after.held.items ≡ places_held g.board a.place) where
+      (held : after.held.items ≡ places_held g.floor.board a.place) where
     -- what the job's turn is to the machine
     abbrev whole : ActedIn Heard → MachineIn Heard
     whole b = record { scene = b.scene; progress = set (progress_of states) a.place b.progress }
@@ -155,68 +159,82 @@ module _ (plan : Plan) (a : Actor) (f : Shared) (states : List JobState) (state 
           ∙ ap (λ p. machine_so p (heard g rest)) (sym progress-after);
     }
 
-    job-runs : RunsOn plan g (set states a.place after)
+    job-runs : RunsOn plan g.floor (set states a.place after)
     job-runs = record {
       jobs = length-set states a.place after ∙ acting.runs.jobs;
       kinds = acts.moves.kinds ∙ acting.runs.kinds;
-      ready = λ j job s got_job got. ready j job s got_job
-          (state-at states a.place state after j s acting.its_state got);
-      rounds = λ j job s got_job got. rounds j job s got_job
-          (state-at states a.place state after j s acting.its_state got);
+      ready = λ j job s got_job got. ready j job s got_job (state-at states a.place state after j s acting.its_state
+          got);
+      rounds = λ j job s got_job got. rounds j job s got_job (state-at states a.place state after j s acting.its_state
+          got);
       waits = acts.moves.waits.long ∙ acting.runs.waits;
       holds = acts.moves.holds.long ∙ acting.runs.holds;
-      provided = subst (λ progress. AreProvided g plan.jobs progress) (sym progress-after)
-          (provided-on f plan.jobs (progress_of states) a.place (role a).job state.progress acting.job its-progress
-          acting.runs.provided g after.progress acts.moves);
+      provided = subst (λ progress. AreProvided g.floor plan.jobs progress) (sym progress-after)
+          (provided-on f.floor plan.jobs (progress_of states) a.place
+          (role a).job state.progress acting.job its-progress
+          acting.runs.provided g.floor after.progress acts.moves);
       kept = record { held = λ j s got. kept j s (state-at states a.place state after j s acting.its_state got) };
     }
       where
         ready : (j : ℕ) (job : Job) (s : JobState) → slice_get plan.jobs j ≡ Some job
             → ((j ≡ a.place) × (s ≡ after)) ⊎ ((j ≢ a.place) × (slice_get states j ≡ Some s))
-            → IsReady g.board j (wait_in s.progress) (steps_left job.steps s.progress)
+            → IsReady g.floor.board j (wait_in s.progress) (steps_left job.steps s.progress)
         ready j job s got_job (inl (here, same)) =
             let there : slice_get plan.jobs a.place ≡ Some job = rw here at got_job in
             let its_job : Some job ≡ Some (role a).job = sym there ∙ acting.job in
             let own : job ≡ (role a).job = cc in
             rw (here, same, own) acts.stands.ready
         ready j job s got_job (inr (other, got)) =
-            moved-ready a.place j f.board f.parties _ g.board g.parties _ (wait_in s.progress)
+            moved-ready a.place j f.floor.board f.floor.parties _ g.floor.board g.floor.parties _ (wait_in s.progress)
             (steps_left job.steps s.progress) acts.moves other (acting.runs.ready j job s got_job got)
 
         rounds : (j : ℕ) (job : Job) (s : JobState) → slice_get plan.jobs j ≡ Some job
             → ((j ≡ a.place) × (s ≡ after)) ⊎ ((j ≢ a.place) × (slice_get states j ≡ Some s))
-            → IsInRounds g.board j job.steps s.progress
+            → IsInRounds g.floor.board j job.steps s.progress
         rounds j job s got_job (inl (here, same)) =
             let there : slice_get plan.jobs a.place ≡ Some job = rw here at got_job in
             let its_job : Some job ≡ Some (role a).job = sym there ∙ acting.job in
             let own : job ≡ (role a).job = cc in
             rw (here, same, own) acts.rounds
         rounds j job s got_job (inr (other, got)) =
-            moved-rounds j f.board g.board job.steps s.progress (acts.moves.rounds.at j other)
+            moved-rounds j f.floor.board g.floor.board job.steps s.progress (acts.moves.rounds.at j other)
             (acting.runs.rounds j job s got_job got)
 
         kept : (j : ℕ) (s : JobState) → ((j ≡ a.place) × (s ≡ after)) ⊎ ((j ≢ a.place) × (slice_get states j ≡ Some s))
-            → s.held.items ≡ places_held g.board j
+            → s.held.items ≡ places_held g.floor.board j
         kept j s (inl (here, same)) = rw (here, same) held
         kept j s (inr (other, got)) =
             acting.runs.kept.held j s got ∙ ap (map (λ h. h.at)) (sym (acts.moves.holds.at j other))
+
+    job-went : Went plan f (progress_of states) g (progress_of (set states a.place after))
+    job-went =
+        subst (Went plan f (progress_of states) g) (sym progress-after)
+        (went-one plan f g a.place (role a).job state.progress after.progress (progress_of states) acting.job
+        its-progress acts.hears.later acts.adds)
 
     module _ (turn place : ℕ) (at_turn : (role a).turn ≡ turn) (there : (role a).place ≡ place) where
       pub one-job-heard : Hears f g (job_turn_so plan turn place (progress_of states))
           (machine_so (progress_of (set states place after)))
       one-job-heard = rw (← there, ← at_turn) job-heard
 
-      pub one-job-runs : RunsOn plan g (set states place after)
+      pub one-job-runs : RunsOn plan g.floor (set states place after)
       one-job-runs = rw (← there) job-runs
 
+      pub one-job-went : Went plan f (progress_of states) g (progress_of (set states place after))
+      one-job-went = rw (← there) job-went
+
 -- the jobs before `place` have had their turns since the start
-pub record TurningOn (plan : Plan) (turn place : ℕ) (f g : Shared) (before now : List Progress) : Type 0 where
+pub record TurningOn (plan : Plan) (turn place : ℕ) (f g : Desk) (before now : List Progress) : Type 0 where
   pub heard : Hears f g (turn_so plan turn before)
       (λ h. machine.each_job heard_world plan.resources turn place (drop place plan.jobs) (machine_so now h))
+  pub went : Went plan f before g now
 
-pub turning-starts : (plan : Plan) (turn : ℕ) (f : Shared) (before : List Progress)
+pub turning-starts : (plan : Plan) (turn : ℕ) (f : Desk) (before : List Progress)
     → TurningOn plan turn 0 f f before before
-turning-starts plan turn f before = record { heard = hears-none f (turn_so plan turn before) }
+turning-starts plan turn f before = record {
+  heard = hears-none f (turn_so plan turn before);
+  went = went-none plan f before;
+}
 
 -- what remains, seen as the next job and the rest
 unrolled : (plan : Plan) (turn place : ℕ) (m : MachineIn Heard) → place < length plan.jobs
@@ -231,11 +249,11 @@ unrolled plan turn place m below =
     ap (λ jobs. machine.each_job heard_world plan.resources turn place jobs m) split
     ∙ ap (machine.each_job heard_world plan.resources turn (place + 1) (drop (place + 1) plan.jobs)) (sym its_turn)
 
-pub turns-on : (plan : Plan) (turn place : ℕ) (f g k : Shared) (before now after : List Progress)
+pub turns-on : (plan : Plan) (turn place : ℕ) (f g k : Desk) (before now after : List Progress)
     → TurningOn plan turn place f g before now → place < length plan.jobs
-    → Hears g k (job_turn_so plan turn place now) (machine_so after)
+    → Hears g k (job_turn_so plan turn place now) (machine_so after) → Went plan g now k after
     → TurningOn plan turn (place + 1) f k before after
-turns-on plan turn place f g k before now after on below job =
+turns-on plan turn place f g k before now after on below job went =
     let rest : MachineIn Heard → MachineIn Heard
     = machine.each_job heard_world plan.resources turn (place + 1) (drop (place + 1) plan.jobs) in
     let step : Hears g k (λ h. machine.each_job heard_world plan.resources turn place (drop place plan.jobs)
@@ -251,9 +269,10 @@ turns-on plan turn place f g k before now after on below job =
       heard = hears-then f g k (turn_so plan turn before)
           (λ h. machine.each_job heard_world plan.resources turn place (drop place plan.jobs) (machine_so now h))
           (λ h. rest (machine_so after h)) on.heard step;
+      went = went-then plan f g k before now after on.heard.later on.went went;
     }
 
-pub turn-ends : (plan : Plan) (turn place : ℕ) (f g : Shared) (before now : List Progress)
+pub turn-ends : (plan : Plan) (turn place : ℕ) (f g : Desk) (before now : List Progress)
     → TurningOn plan turn place f g before now → length plan.jobs ≡ place
     → Hears f g (turn_so plan turn before) (machine_so now)
 turn-ends plan turn place f g before now on all =
@@ -262,7 +281,7 @@ turn-ends plan turn place f g before now on all =
     (drop_all place plan.jobs (omega (arith, all))) on.heard
 
 -- a further turn
-pub next-turn : (plan : Plan) (turn : ℕ) (f g k : Shared) (first now after : List Progress)
+pub next-turn : (plan : Plan) (turn : ℕ) (f g k : Desk) (first now after : List Progress)
     → Hears f g (turns_of plan turn first) (machine_so now) → Hears g k (turn_so plan turn now) (machine_so after)
     → Hears f k (turns_of plan (turn + 1) first) (machine_so after)
 next-turn plan turn f g k first now after so_far this =

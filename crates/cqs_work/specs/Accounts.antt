@@ -54,8 +54,7 @@ abbrev pub count_at : PlainFloor → ℕ → ℕ
 count_at b q = sum_by (held_at q) b.holds + sum_by (waits_at q) b.waits
 
 -- Of each semaphore, mutex and pool: what the pass came to is what it has no more, and what its
--- jobs
--- have. Whoever came to a door went on from there.
+-- jobs have. Whoever came to a door went on from there.
 pub record IsAccounted (f : Shared) : Type 0 where
   pub long : length f.board.kinds ≤ length f.seen
   pub even : (q : ℕ) → IsHoldable (kind_at f q)

@@ -9,6 +9,8 @@ use Rattle.cqs_turns.specs.declared.states.Progress.{Progress}
 use Rattle.cqs_turns.specs.declared.states.Progress.TheVariants.{Stepping}
 use Rattle.cqs_turns.specs.Ready.{IsReady, wait_in, steps_left}
 use Rattle.cqs_shared.specs.Shared.{Shared, parties_in}
+use Rattle.cqs_work.specs.Adds.{Adds, Keeps}
+use Rattle.cqs_work.specs.Desk.{Desk}
 use Rattle.cqs_work.specs.Heard.{Heard, Hears}
 use Rattle.cqs_work.specs.Needs.{waits_in, parties_for, IsProvided, IsInRounds}
 
@@ -46,20 +48,22 @@ pub record CanAct (a : Actor) (f : Shared) (p : Progress) : Type 0 where
   pub turn : a.turn ≤ 40000
 
 -- the job that was so far did this, and is then so far
-pub record Did {X : Type 0} (a : Actor) (f : Shared) (p : Progress) (go after : Heard → X)
-    (g : Shared) (q : Progress) : Type 0 where
+pub record Did {X : Type 0} (a : Actor) (f : Desk) (p : Progress) (go after : Heard → X)
+    (g : Desk) (q : Progress) : Type 0 where
   pub hears : Hears f g go after
-  pub stands : Stands a g (wait_in q) (steps_left a.job.now.steps q)
-  pub rounds : IsInRounds g.board a.place a.job.now.steps q
-  pub moves : Moves a.place f.board f.parties (steps_left a.job.now.steps p)
-      g.board g.parties (steps_left a.job.now.steps q)
+  pub stands : Stands a g.floor (wait_in q) (steps_left a.job.now.steps q)
+  pub rounds : IsInRounds g.floor.board a.place a.job.now.steps q
+  pub moves : Moves a.place f.floor.board f.floor.parties (steps_left a.job.now.steps p)
+      g.floor.board g.floor.parties (steps_left a.job.now.steps q)
+  pub adds : Adds a.job.now a.place f p g q
 
 -- the job did this, by which it gave up what it had, and made no step
-pub record GaveUp {X : Type 0} (a : Actor) (f : Shared) (go after : Heard → X) (g : Shared)
+pub record GaveUp {X : Type 0} (a : Actor) (f : Desk) (go after : Heard → X) (g : Desk)
     : Type 0 where
   pub hears : Hears f g go after
-  pub stands : Stands a g None []
-  pub moves : Moves a.place f.board f.parties [] g.board g.parties []
+  pub stands : Stands a g.floor None []
+  pub moves : Moves a.place f.floor.board f.floor.parties [] g.floor.board g.floor.parties []
+  pub keeps : Keeps f g
 
 -- how far a job is then that makes a step, and where its turn ends with it
 abbrev pub after_stop : ℕ → Option Progress → Progress

@@ -16,8 +16,10 @@ use Rattle.cqs_shared.specs.declared.shared.SharedGive.{SharedGive}
 use Rattle.cqs_shared.specs.declared.shared.SharedGive.TheVariants as shared
 use Rattle.cqs_shared.specs.Entries.{Entries, with_entries, own_history}
 use Rattle.cqs_shared.specs.AnswerEntries.{came_entries, give_entries, look_entries, leave_entries, unless_came, down_entries}
-use Rattle.cqs_shared.specs.Shared.{Shared, kind_in}
+use Rattle.cqs_shared.specs.Shared.{kind_in}
 use Rattle.cqs_shared.specs.Calls.{board_taken, board_waited, board_arrived, board_given, element_held}
+use Rattle.cqs_work.specs.declared.waits.Waited.{Waited}
+use Rattle.cqs_work.specs.Desk.{Desk, told}
 use Rattle.cqs_work.specs.Later.{Later}
 
 -- what a call was answered
@@ -41,6 +43,8 @@ pub record Heard : Type 0 where
   pub board : PlainFloor
   pub came : List Bool
   pub entries : List History
+  -- the waits of its jobs so far, in order
+  pub waits : List Waited
 
 -- what the next answer says, to a call that may have to wait
 abbrev pub come_heard : List Answer → Option FloorTake
@@ -114,6 +118,7 @@ heard_came at round job board answer h = record {
   came = slice_set h.came job (with_it_heard h.answers);
   entries = logged h.entries at
       (came_entries (kind_in h.board at) round h.number answer (drew_heard h.answers));
+  waits = told h.waits at round job answer;
 }
 
 abbrev pub heard_taken : Role → ℕ → Option FloorTake → Heard → Heard
@@ -139,6 +144,7 @@ heard_given r at h = record {
   entries = logged h.entries at
       (give_entries (kind_in h.board at) h.number (element_held h.board at r.place)
       (give_heard h.answers));
+  waits = h.waits;
 }
 
 abbrev pub heard_counted : Role → ℕ → Heard → Heard
@@ -149,6 +155,7 @@ heard_counted r at h = record {
   board = h.board;
   came = h.came;
   entries = logged h.entries at (down_entries h.number (down_heard h.answers));
+  waits = h.waits;
 }
 
 abbrev pub heard_looked : Role → ℕ → ℕ → ℕ → FloorLook → Heard → Heard
@@ -161,6 +168,7 @@ heard_looked r at round number answer h = record {
   entries = logged h.entries at
       (unless_came (slice_index_or h.came r.place false)
       (look_entries (kind_in h.board at) round h.number number answer));
+  waits = h.waits;
 }
 
 abbrev pub heard_left : Role → ℕ → ℕ → ℕ → FloorLeave → Heard → Heard
@@ -173,6 +181,7 @@ heard_left r at round number answer h = record {
   entries = logged h.entries at
       (unless_came (slice_index_or h.came r.place false)
       (leave_entries (kind_in h.board at) round h.number number answer (stays_heard h.answers)));
+  waits = h.waits;
 }
 
 -- the answers of the list answer the calls
@@ -195,21 +204,21 @@ heard_world = record {
   held = λ job h. places_held h.board job;
 }
 
--- what a worker has heard whose floor is this, and who will hear these answers
-abbrev pub heard : Shared → List Answer → Heard
-heard f answers = record {
+-- what a worker has heard with this at hand, and who will hear these answers
+abbrev pub heard : Desk → List Answer → Heard
+heard d answers = record {
   answers = answers;
   fits = true;
-  number = f.number;
-  board = f.board;
-  came = f.came;
-  entries = map (own_history f.number) f.seen;
+  number = d.floor.number;
+  board = d.floor.board;
+  came = d.floor.came;
+  entries = map (own_history d.floor.number) d.floor.seen;
+  waits = d.waits;
 }
 
 -- Between f and g, which is later, the calls of `go` were answered, and then `after` is left: there
--- is
--- a list of the answers, one for each call.
-pub record Hears {X : Type 0} (f g : Shared) (go after : Heard → X) : Type 0 where
-  pub later : Later f g
+-- is a list of the answers, one for each call.
+pub record Hears {X : Type 0} (f g : Desk) (go after : Heard → X) : Type 0 where
+  pub later : Later f.floor g.floor
   pub answers : List Answer
   pub plays : (rest : List Answer) → go (heard f (answers ++ rest)) ≡ after (heard g rest)

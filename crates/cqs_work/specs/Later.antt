@@ -4,6 +4,7 @@ use Rattle.cqs_core.specs.Parts.{part}
 use Rattle.cqs_core.specs.SemaphoreNames.{entry_names as permit_names}
 use Rattle.cqs_pool_object.specs.PoolNames.{entry_names as element_names}
 use Rattle.cqs_plan.specs.FloorHistory.{History, of_permits, of_elements, of_latch, of_rounds}
+use Rattle.cqs_shared.specs.Entries.{IsBefore}
 use Rattle.cqs_shared.specs.Shared.{Shared, IsSame, IsLegalAt, seen_at}
 use Rattle.cqs_work.specs.Accounts.{IsAccounted}
 
@@ -23,5 +24,6 @@ pub record IsSound (f : Shared) : Type 0 where
 pub record Later (f g : Shared) : Type 0 where
   pub same : IsSame f g
   pub kinds : g.board.kinds ≡ f.board.kinds
+  pub before : (at : ℕ) → IsBefore (seen_at f at) (seen_at g at)
   pub sound : IsSound f → IsSound g
   pub accounted : IsAccounted f → IsAccounted g

@@ -14,8 +14,7 @@ use Rattle.cqs_shared.specs.Shared.{Shared, IsLegalAt, seen_at}
 use Rattle.cqs_work.specs.Needs.{AreProvided}
 use Rattle.cqs_work.specs.declared.works.Post.{Post}
 
--- how far the job at a place is to a worker that hasn't begun: to it the jobs of the others have
--- ended
+-- how far the job at a place is to a worker that hasn't begun: for it the others' jobs have ended
 abbrev pub starting : ℕ → ℕ → ℕ → Progress
 starting workers worker place = if place % workers == worker then Stepping 0 else Ended end.Done
 

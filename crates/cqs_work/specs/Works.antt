@@ -19,6 +19,9 @@ use Rattle.cqs_turns.specs.Turns.{places_held}
 use Rattle.cqs_work.specs.declared.works.Post.{Post}
 use Rattle.cqs_work.specs.declared.works.Worker.{Worker}
 use Rattle.cqs_shared.specs.Shared.{Shared}
+use Rattle.cqs_work.specs.Adds.{Keeps}
+use Rattle.cqs_work.specs.Courses.{Went}
+use Rattle.cqs_work.specs.Desk.{Desk, desk}
 use Rattle.cqs_work.specs.Heard.{Heard, Hears, heard_world}
 use Rattle.cqs_work.specs.Roles.{same}
 use Rattle.cqs_work.specs.Needs.{AreProvided, IsInRounds}
@@ -112,19 +115,21 @@ pub record AllClear (plan : Plan) (g : Shared) : Type 0 where
 
 -- A worker's work: there are answers to the calls of all turns, which leave the jobs so, and then
 -- to those after the last turn.
-pub record HasWorked (plan : Plan) (f : Shared) (states ends : List JobState) (g : Shared)
+pub record HasWorked (plan : Plan) (f : Desk) (states ends : List JobState) (g : Desk)
     : Type 0 where
-  pub last : Shared
+  pub last : Desk
   pub long : length ends ≡ length plan.jobs
   pub turns : Hears f last (turns_of plan plan.turns (progress_of states))
       (machine_so (progress_of ends))
+  pub went : Went plan f (progress_of states) last (progress_of ends)
   pub closing : Hears last g (close_all plan (progress_of ends)) same
-  pub clear : AllClear plan g
+  pub keeps : Keeps last g
+  pub clear : AllClear plan g.floor
 
 -- each worker has worked from its post
 pub record AllWorked {F : Type 0} (shared : F → Shared) (plan : Plan) (posts : List (Post F))
     (all : List (Result (Worker F) Memory)) : Type 0 where
   pub at : (i : ℕ) (post : Post F) (r : Result (Worker F) Memory) → slice_get posts i ≡ Some post
       → slice_get all i ≡ Some r
-      → IfOk r (λ worker. HasWorked plan (shared post.floor) post.states.items
-      worker.states.items (shared worker.floor))
+      → IfOk r (λ worker. HasWorked plan (desk (shared post.floor) []) post.states.items
+      worker.states.items (desk (shared worker.floor) worker.waits.items))

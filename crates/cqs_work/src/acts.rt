@@ -8,11 +8,14 @@ ghost use Rattle.cqs_turns.specs.Machine.{end_of};
 ghost use Rattle.cqs_turns.specs.Ready.{with_place};
 ghost use Rattle.cqs_turns.specs.Roles.{wait_at, left_with, is_holdable_at};
 ghost use Rattle.cqs_work.specs.Works.{IsClear};
+ghost use Rattle.cqs_work.specs.Hands.{at_hand};
+ghost use Rattle.cqs_work.specs.Adds.{EndsSo};
 ghost use Rattle.cqs_work.specs.Doing.{Stands, CanAct, Did, GaveUp, after_stop};
 ghost use Rattle.cqs_work.specs.Roles.{give_one, give_each, count_down, same, left_so, made_so, finish, take_step, wait_step, arrive_step, make_step, go_on, leave_end, ended_so, give_up, look_at, act};
 
 use crate::clerk::Clerk;
 use crate::gate::Gate;
+use crate::waits::note;
 use cqs_core::Memory;
 use cqs_plan::{FloorLeave, FloorLook, FloorTake, Step};
 use cqs_shared::SharedFloor;
@@ -28,8 +31,8 @@ pub fn give_all<R: Threads + Wait, G: Gate, F: SharedFloor>(
 )
     requires held { held.old.items ≡ places_held (F.shared clerk.old.floor).board actor.now.place }
     requires stands { Stands actor.now (F.shared clerk.old.floor) None [] }
-    ensures did { GaveUp actor.now (F.shared clerk.old.floor) (give_each actor.now held.old.items)
-        same (F.shared clerk.new.floor) }
+    ensures did { GaveUp actor.now (at_hand F.shared clerk.old) (give_each actor.now held.old.items)
+        same (at_hand F.shared clerk.new) }
     ensures held { held.new.items ≡ places_held (F.shared clerk.new.floor).board actor.now.place }
     ensures clear { IsClear (F.shared clerk.new.floor).board actor.now.place }
 {
@@ -47,8 +50,8 @@ fn finish<R: Threads + Wait, G: Gate, F: SharedFloor>(
 ) -> Progress
     requires held { held.old.items ≡ places_held (F.shared clerk.old.floor).board actor.now.place }
     requires stands { Stands actor.now (F.shared clerk.old.floor) None [] }
-    ensures did { GaveUp actor.now (F.shared clerk.old.floor) (finish actor.now) (left_so result)
-        (F.shared clerk.new.floor) }
+    ensures did { GaveUp actor.now (at_hand F.shared clerk.old) (finish actor.now) (left_so result)
+        (at_hand F.shared clerk.new) }
     ensures is { result ≡ Progress.Ended End.Done }
     ensures held { held.new.items ≡ places_held (F.shared clerk.new.floor).board actor.now.place }
 {
@@ -67,9 +70,9 @@ fn take<R: Threads + Wait, G: Gate, F: SharedFloor>(
     requires held { held.old.items ≡ places_held (F.shared clerk.old.floor).board actor.now.place }
     requires can { CanAct actor.now (F.shared clerk.old.floor) (Progress.Stepping next) }
     requires step { slice_get actor.now.job.now.steps next ≡ Some (Step.Take at) }
-    ensures did { IfOk result (λ stops. Did actor.now (F.shared clerk.old.floor)
+    ensures did { IfOk result (λ stops. Did actor.now (at_hand F.shared clerk.old)
         (Progress.Stepping next) (take_step actor.now next at) (made_so stops)
-        (F.shared clerk.new.floor) (after_stop next stops)) }
+        (at_hand F.shared clerk.new) (after_stop next stops)) }
     ensures held { OnOk result (held.new.items
         ≡ places_held (F.shared clerk.new.floor).board actor.now.place) }
 {
@@ -78,12 +81,15 @@ fn take<R: Threads + Wait, G: Gate, F: SharedFloor>(
             held.push(at)?;
             Ok(None)
         }
-        Ok(FloorTake::Waits(number)) => Ok(Some(Progress::Waiting {
-            next: next + 1,
-            at,
-            round: 0,
-            number,
-        })),
+        Ok(FloorTake::Waits(number)) => {
+            note(&mut clerk.waits, at, 0, number, actor.place)?;
+            Ok(Some(Progress::Waiting {
+                next: next + 1,
+                at,
+                round: 0,
+                number,
+            }))
+        }
         Err(_) => Ok(Some(Progress::Ended(End::Crowded))),
     }
 }
@@ -116,8 +122,8 @@ fn give<R: Threads + Wait, G: Gate, F: SharedFloor>(
     requires held { held.old.items ≡ places_held (F.shared clerk.old.floor).board actor.now.place }
     requires can { CanAct actor.now (F.shared clerk.old.floor) (Progress.Stepping next) }
     requires step { slice_get actor.now.job.now.steps next ≡ Some (Step.Give at) }
-    ensures did { Did actor.now (F.shared clerk.old.floor) (Progress.Stepping next)
-        (give_one actor.now at) same (F.shared clerk.new.floor) (after_stop next None) }
+    ensures did { Did actor.now (at_hand F.shared clerk.old) (Progress.Stepping next)
+        (give_one actor.now at) same (at_hand F.shared clerk.new) (after_stop next None) }
     ensures held { held.new.items ≡ places_held (F.shared clerk.new.floor).board actor.now.place }
 {
     clerk.give(at, actor.place);
@@ -133,8 +139,8 @@ fn down<R: Threads + Wait, G: Gate, F: SharedFloor>(
 )
     requires can { CanAct actor.now (F.shared clerk.old.floor) (Progress.Stepping next) }
     requires step { slice_get actor.now.job.now.steps next ≡ Some (Step.Down at) }
-    ensures did { Did actor.now (F.shared clerk.old.floor) (Progress.Stepping next)
-        (count_down actor.now at) same (F.shared clerk.new.floor) (after_stop next None) }
+    ensures did { Did actor.now (at_hand F.shared clerk.old) (Progress.Stepping next)
+        (count_down actor.now at) same (at_hand F.shared clerk.new) (after_stop next None) }
     ensures held { places_held (F.shared clerk.new.floor).board actor.now.place
         ≡ places_held (F.shared clerk.old.floor).board actor.now.place }
 {
@@ -147,24 +153,27 @@ fn wait<R: Threads + Wait, G: Gate, F: SharedFloor>(
     actor: &Actor<'_>,
     next: u32,
     at: u32,
-) -> Option<Progress>
+) -> Result<Option<Progress>, Memory>
     requires can { CanAct actor.now (F.shared clerk.old.floor) (Progress.Stepping next) }
     requires step { slice_get actor.now.job.now.steps next ≡ Some (Step.Await at) }
-    ensures did { Did actor.now (F.shared clerk.old.floor)
-        (Progress.Stepping next) (wait_step actor.now next at) (made_so result)
-        (F.shared clerk.new.floor) (after_stop next result) }
-    ensures held { places_held (F.shared clerk.new.floor).board actor.now.place
-        ≡ places_held (F.shared clerk.old.floor).board actor.now.place }
+    ensures did { IfOk result (λ stops. Did actor.now (at_hand F.shared clerk.old)
+        (Progress.Stepping next) (wait_step actor.now next at) (made_so stops)
+        (at_hand F.shared clerk.new) (after_stop next stops)) }
+    ensures held { OnOk result (places_held (F.shared clerk.new.floor).board actor.now.place
+        ≡ places_held (F.shared clerk.old.floor).board actor.now.place) }
 {
     match clerk.wait(at, actor.place) {
-        Ok(FloorTake::Now(_)) => None,
-        Ok(FloorTake::Waits(number)) => Some(Progress::Waiting {
-            next: next + 1,
-            at,
-            round: 0,
-            number,
-        }),
-        Err(_) => Some(Progress::Ended(End::Crowded)),
+        Ok(FloorTake::Now(_)) => Ok(None),
+        Ok(FloorTake::Waits(number)) => {
+            note(&mut clerk.waits, at, 0, number, actor.place)?;
+            Ok(Some(Progress::Waiting {
+                next: next + 1,
+                at,
+                round: 0,
+                number,
+            }))
+        }
+        Err(_) => Ok(Some(Progress::Ended(End::Crowded))),
     }
 }
 
@@ -174,25 +183,28 @@ fn arrive<R: Threads + Wait, G: Gate, F: SharedFloor>(
     actor: &Actor<'_>,
     next: u32,
     at: u32,
-) -> Option<Progress>
+) -> Result<Option<Progress>, Memory>
     requires can { CanAct actor.now (F.shared clerk.old.floor) (Progress.Stepping next) }
     requires step { slice_get actor.now.job.now.steps next ≡ Some (Step.Arrive at) }
-    ensures did { Did actor.now (F.shared clerk.old.floor)
-        (Progress.Stepping next) (arrive_step actor.now next at) (made_so result)
-        (F.shared clerk.new.floor) (after_stop next result) }
-    ensures held { places_held (F.shared clerk.new.floor).board actor.now.place
-        ≡ places_held (F.shared clerk.old.floor).board actor.now.place }
+    ensures did { IfOk result (λ stops. Did actor.now (at_hand F.shared clerk.old)
+        (Progress.Stepping next) (arrive_step actor.now next at) (made_so stops)
+        (at_hand F.shared clerk.new) (after_stop next stops)) }
+    ensures held { OnOk result (places_held (F.shared clerk.new.floor).board actor.now.place
+        ≡ places_held (F.shared clerk.old.floor).board actor.now.place) }
 {
     let round = actor.arrivals(next, at);
     match clerk.arrive(at, actor.place) {
-        Ok(FloorTake::Now(_)) => None,
-        Ok(FloorTake::Waits(number)) => Some(Progress::Waiting {
-            next: next + 1,
-            at,
-            round,
-            number,
-        }),
-        Err(_) => Some(Progress::Ended(End::Crowded)),
+        Ok(FloorTake::Now(_)) => Ok(None),
+        Ok(FloorTake::Waits(number)) => {
+            note(&mut clerk.waits, at, round, number, actor.place)?;
+            Ok(Some(Progress::Waiting {
+                next: next + 1,
+                at,
+                round,
+                number,
+            }))
+        }
+        Err(_) => Ok(Some(Progress::Ended(End::Crowded))),
     }
 }
 
@@ -207,9 +219,9 @@ fn make_step<R: Threads + Wait, G: Gate, F: SharedFloor>(
     requires held { held.old.items ≡ places_held (F.shared clerk.old.floor).board actor.now.place }
     requires can { CanAct actor.now (F.shared clerk.old.floor) (Progress.Stepping next) }
     requires step { slice_get actor.now.job.now.steps next ≡ Some step }
-    ensures did { IfOk result (λ stops. Did actor.now (F.shared clerk.old.floor)
+    ensures did { IfOk result (λ stops. Did actor.now (at_hand F.shared clerk.old)
         (Progress.Stepping next) (make_step actor.now next step) (made_so stops)
-        (F.shared clerk.new.floor) (after_stop next stops)) }
+        (at_hand F.shared clerk.new) (after_stop next stops)) }
     ensures held { OnOk result (held.new.items
         ≡ places_held (F.shared clerk.new.floor).board actor.now.place) }
 {
@@ -227,8 +239,8 @@ fn make_step<R: Threads + Wait, G: Gate, F: SharedFloor>(
             down(clerk, actor, next, at);
             Ok(None)
         }
-        Step::Await(at) => Ok(wait(clerk, actor, next, at)),
-        Step::Arrive(at) => Ok(arrive(clerk, actor, next, at)),
+        Step::Await(at) => wait(clerk, actor, next, at),
+        Step::Arrive(at) => arrive(clerk, actor, next, at),
     }
 }
 
@@ -241,9 +253,9 @@ fn make_steps<R: Threads + Wait, G: Gate, F: SharedFloor>(
 ) -> Result<Progress, Memory>
     requires held { held.old.items ≡ places_held (F.shared clerk.old.floor).board actor.now.place }
     requires can { CanAct actor.now (F.shared clerk.old.floor) (Progress.Stepping first) }
-    ensures did { IfOk result (λ progress. Did actor.now (F.shared clerk.old.floor)
+    ensures did { IfOk result (λ progress. Did actor.now (at_hand F.shared clerk.old)
         (Progress.Stepping first) (go_on actor.now first) (left_so progress)
-        (F.shared clerk.new.floor) progress) }
+        (at_hand F.shared clerk.new) progress) }
     ensures held { OnOk result (held.new.items
         ≡ places_held (F.shared clerk.new.floor).board actor.now.place) }
 {
@@ -300,8 +312,10 @@ pub fn leave<R: Threads + Wait, G: Gate, F: SharedFloor>(
     requires held { held.old.items ≡ places_held (F.shared clerk.old.floor).board actor.now.place }
     requires stands { Stands actor.now (F.shared clerk.old.floor)
         (Some (wait_at at round number)) [] }
-    ensures did { IfOk result (λ end. GaveUp actor.now (F.shared clerk.old.floor)
-        (leave_end actor.now at round number) (ended_so end) (F.shared clerk.new.floor)) }
+    ensures did { IfOk result (λ end. GaveUp actor.now (at_hand F.shared clerk.old)
+        (leave_end actor.now at round number) (ended_so end) (at_hand F.shared clerk.new)) }
+    ensures ends { IfOk result (λ end. EndsSo actor.now.place at round number
+        (at_hand F.shared clerk.old) (at_hand F.shared clerk.new) end) }
     ensures held { OnOk result (held.new.items
         ≡ places_held (F.shared clerk.new.floor).board actor.now.place) }
 {
@@ -321,9 +335,11 @@ fn give_up<R: Threads + Wait, G: Gate, F: SharedFloor>(
     requires held { held.old.items ≡ places_held (F.shared clerk.old.floor).board actor.now.place }
     requires stands { Stands actor.now (F.shared clerk.old.floor)
         (Some (wait_at at round number)) [] }
-    ensures did { IfOk result (λ end. GaveUp actor.now (F.shared clerk.old.floor)
+    ensures did { IfOk result (λ end. GaveUp actor.now (at_hand F.shared clerk.old)
         (give_up actor.now at round number) (left_so (Progress.Ended end))
-        (F.shared clerk.new.floor)) }
+        (at_hand F.shared clerk.new)) }
+    ensures ends { IfOk result (λ end. EndsSo actor.now.place at round number
+        (at_hand F.shared clerk.old) (at_hand F.shared clerk.new) end) }
     ensures held { OnOk result (held.new.items
         ≡ places_held (F.shared clerk.new.floor).board actor.now.place) }
 {
@@ -345,9 +361,9 @@ fn look<R: Threads + Wait, G: Gate, F: SharedFloor>(
     requires held { held.old.items ≡ places_held (F.shared clerk.old.floor).board actor.now.place }
     requires can { CanAct actor.now (F.shared clerk.old.floor)
         (Progress.Waiting next at round number) }
-    ensures did { IfOk result (λ progress. Did actor.now (F.shared clerk.old.floor)
+    ensures did { IfOk result (λ progress. Did actor.now (at_hand F.shared clerk.old)
         (Progress.Waiting next at round number) (look_at actor.now next at round number)
-        (left_so progress) (F.shared clerk.new.floor) progress) }
+        (left_so progress) (at_hand F.shared clerk.new) progress) }
     ensures held { OnOk result (held.new.items
         ≡ places_held (F.shared clerk.new.floor).board actor.now.place) }
 {
@@ -375,9 +391,9 @@ fn work<R: Threads + Wait, G: Gate, F: SharedFloor>(
 ) -> Result<Progress, Memory>
     requires held { held.old.items ≡ places_held (F.shared clerk.old.floor).board actor.now.place }
     requires can { CanAct actor.now (F.shared clerk.old.floor) (Progress.Working next until) }
-    ensures did { IfOk result (λ progress. Did actor.now (F.shared clerk.old.floor)
+    ensures did { IfOk result (λ progress. Did actor.now (at_hand F.shared clerk.old)
         (Progress.Working next until) (act actor.now (Progress.Working next until))
-        (left_so progress) (F.shared clerk.new.floor) progress) }
+        (left_so progress) (at_hand F.shared clerk.new) progress) }
     ensures held { OnOk result (held.new.items
         ≡ places_held (F.shared clerk.new.floor).board actor.now.place) }
 {
@@ -400,10 +416,10 @@ fn wait_on<R: Threads + Wait, G: Gate, F: SharedFloor>(
     requires held { held.old.items ≡ places_held (F.shared clerk.old.floor).board actor.now.place }
     requires can { CanAct actor.now (F.shared clerk.old.floor)
         (Progress.Waiting next at round number) }
-    ensures did { IfOk result (λ progress. Did actor.now (F.shared clerk.old.floor)
+    ensures did { IfOk result (λ progress. Did actor.now (at_hand F.shared clerk.old)
         (Progress.Waiting next at round number)
         (act actor.now (Progress.Waiting next at round number))
-        (left_so progress) (F.shared clerk.new.floor) progress) }
+        (left_so progress) (at_hand F.shared clerk.new) progress) }
     ensures held { OnOk result (held.new.items
         ≡ places_held (F.shared clerk.new.floor).board actor.now.place) }
 {
@@ -423,8 +439,8 @@ fn go_from<R: Threads + Wait, G: Gate, F: SharedFloor>(
 ) -> Result<Progress, Memory>
     requires held { held.old.items ≡ places_held (F.shared clerk.old.floor).board actor.now.place }
     requires can { CanAct actor.now (F.shared clerk.old.floor) progress }
-    ensures did { IfOk result (λ later. Did actor.now (F.shared clerk.old.floor) progress
-        (act actor.now progress) (left_so later) (F.shared clerk.new.floor) later) }
+    ensures did { IfOk result (λ later. Did actor.now (at_hand F.shared clerk.old) progress
+        (act actor.now progress) (left_so later) (at_hand F.shared clerk.new) later) }
     ensures held { OnOk result (held.new.items
         ≡ places_held (F.shared clerk.new.floor).board actor.now.place) }
 {
@@ -450,9 +466,9 @@ pub fn act<R: Threads + Wait, G: Gate, F: SharedFloor>(
     requires held { state.old.held.items
         ≡ places_held (F.shared clerk.old.floor).board actor.now.place }
     requires can { CanAct actor.now (F.shared clerk.old.floor) state.old.progress }
-    ensures did { OnOk result (Did actor.now (F.shared clerk.old.floor) state.old.progress
+    ensures did { OnOk result (Did actor.now (at_hand F.shared clerk.old) state.old.progress
         (act actor.now state.old.progress) (left_so state.new.progress)
-        (F.shared clerk.new.floor) state.new.progress) }
+        (at_hand F.shared clerk.new) state.new.progress) }
     ensures held { OnOk result (state.new.held.items
         ≡ places_held (F.shared clerk.new.floor).board actor.now.place) }
 {

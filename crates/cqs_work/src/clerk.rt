@@ -6,6 +6,7 @@ ghost use Rattle.cqs_shared.specs.Shared.{kind_at, parties_at};
 ghost use Rattle.cqs_shared.specs.Calls.{Takes, Gives, HasLooked, HasLeft, Downs, Waits, Arrives, answer_of};
 
 use crate::gate::Gate;
+use crate::waits::Waited;
 use cqs_plan::{FloorDown, FloorLeave, FloorLook, FloorTake};
 use cqs_shared::{SharedFloor, SharedGive, Turned};
 use std::sync::Wait;
@@ -20,11 +21,14 @@ pub struct Clerk<'a, R, G, F> {
     /// How many calls it has made.
     pub calls: u32,
     pub floor: F,
+    /// Which waits its jobs were told, in order.
+    pub waits: Vec<Waited>,
 }
 
 impl<R: Threads + Wait, G: Gate, F: SharedFloor> Clerk<'_, R, G, F> {
     fn start_call(&mut self)
-        ensures { self.new.floor ≡ self.old.floor }
+        ensures floor { self.new.floor ≡ self.old.floor }
+        ensures waits { self.new.waits.items ≡ self.old.waits.items }
     {
         self.calls = self.calls.saturating_add(1);
         self.gate.before(self.rt, self.worker, self.calls);
@@ -39,8 +43,9 @@ impl<R: Threads + Wait, G: Gate, F: SharedFloor> Clerk<'_, R, G, F> {
         requires job { IsJob (F.shared self.old.floor).board job }
         requires idle { IsIdle (F.shared self.old.floor).board job }
         requires room { 0 < room_at (F.shared self.old.floor).board at }
-        ensures { Takes (F.shared self.old.floor) at job (answer_of result)
+        ensures takes { Takes (F.shared self.old.floor) at job (answer_of result)
             (F.shared self.new.floor) }
+        ensures waits { self.new.waits.items ≡ self.old.waits.items }
     {
         self.start_call();
         let answer = self.floor.take(self.rt, at, job);
@@ -52,7 +57,8 @@ impl<R: Threads + Wait, G: Gate, F: SharedFloor> Clerk<'_, R, G, F> {
         requires resource { IsHoldable (kind_at (F.shared self.old.floor) at) }
         requires job { IsJob (F.shared self.old.floor).board job }
         requires holds { IsHolding (F.shared self.old.floor).board at job }
-        ensures { Gives (F.shared self.old.floor) at job result (F.shared self.new.floor) }
+        ensures gives { Gives (F.shared self.old.floor) at job result (F.shared self.new.floor) }
+        ensures waits { self.new.waits.items ≡ self.old.waits.items }
     {
         self.start_call();
         let answer = self.floor.give(self.rt, at, job);
@@ -63,7 +69,8 @@ impl<R: Threads + Wait, G: Gate, F: SharedFloor> Clerk<'_, R, G, F> {
     pub fn look(&mut self, job: u32) -> FloorLook
         requires job { IsJob (F.shared self.old.floor).board job }
         requires waits { IsWaiting (F.shared self.old.floor).board job }
-        ensures { HasLooked (F.shared self.old.floor) job result (F.shared self.new.floor) }
+        ensures looks { HasLooked (F.shared self.old.floor) job result (F.shared self.new.floor) }
+        ensures waits { self.new.waits.items ≡ self.old.waits.items }
     {
         self.start_call();
         let answer = self.floor.look(self.rt, job);
@@ -74,7 +81,8 @@ impl<R: Threads + Wait, G: Gate, F: SharedFloor> Clerk<'_, R, G, F> {
     pub fn leave(&mut self, job: u32) -> FloorLeave
         requires job { IsJob (F.shared self.old.floor).board job }
         requires waits { IsWaiting (F.shared self.old.floor).board job }
-        ensures { HasLeft (F.shared self.old.floor) job result (F.shared self.new.floor) }
+        ensures leaves { HasLeft (F.shared self.old.floor) job result (F.shared self.new.floor) }
+        ensures waits { self.new.waits.items ≡ self.old.waits.items }
     {
         self.start_call();
         let answer = self.floor.leave(self.rt, job);
@@ -84,7 +92,8 @@ impl<R: Threads + Wait, G: Gate, F: SharedFloor> Clerk<'_, R, G, F> {
 
     pub fn down(&mut self, at: u32) -> FloorDown
         requires resource { IsLatch (kind_at (F.shared self.old.floor) at) }
-        ensures { Downs (F.shared self.old.floor) at result (F.shared self.new.floor) }
+        ensures downs { Downs (F.shared self.old.floor) at result (F.shared self.new.floor) }
+        ensures waits { self.new.waits.items ≡ self.old.waits.items }
     {
         self.start_call();
         let answer = self.floor.down(self.rt, at);
@@ -97,8 +106,9 @@ impl<R: Threads + Wait, G: Gate, F: SharedFloor> Clerk<'_, R, G, F> {
         requires job { IsJob (F.shared self.old.floor).board job }
         requires idle { IsIdle (F.shared self.old.floor).board job }
         requires room { 0 < room_at (F.shared self.old.floor).board at }
-        ensures { Waits (F.shared self.old.floor) at job (answer_of result)
+        ensures comes { Waits (F.shared self.old.floor) at job (answer_of result)
             (F.shared self.new.floor) }
+        ensures waits { self.new.waits.items ≡ self.old.waits.items }
     {
         self.start_call();
         let answer = self.floor.wait(self.rt, at, job);
@@ -114,8 +124,9 @@ impl<R: Threads + Wait, G: Gate, F: SharedFloor> Clerk<'_, R, G, F> {
         requires room { 0 < room_at (F.shared self.old.floor).board at }
         requires party { 0 < parties_at (F.shared self.old.floor) at
             (round_of (F.shared self.old.floor).board job at) }
-        ensures { Arrives (F.shared self.old.floor) at job (answer_of result)
+        ensures comes { Arrives (F.shared self.old.floor) at job (answer_of result)
             (F.shared self.new.floor) }
+        ensures waits { self.new.waits.items ≡ self.old.waits.items }
     {
         self.start_call();
         let answer = self.floor.arrive(self.rt, at, job);

@@ -2,11 +2,11 @@
 //!
 //! `SharedFloor` is what a worker calls: one value for each worker, over objects that all share.
 //! What it answers is any order's, so a worker's jobs are judged by the answers that they had: the
-//! turn
-//! machine over a list of answers leaves them as they ended. A worker makes its turns, then
+//! turn machine over a list of answers leaves them as they ended. A worker makes its turns, then
 //! cancels the waits that are left and gives back all that its jobs still hold; each of its calls
 //! goes through a `Gate`. `work_all` runs the workers beside each other, and `meet_all` lets
-//! their floors meet in one, which has seen all.
+//! their floors meet in one, which has seen all. `work_plan` does all of this for a plan, and lists
+//! the waits at its semaphores.
 #![tactic(auto)]
 
 mod acts;
@@ -17,10 +17,12 @@ mod laws;
 mod plans;
 mod posts;
 mod turns;
+mod waits;
 mod works;
 
 pub use ends::{JobEnd, JobEnds, Totals, totals_of};
 pub use gate::{Gate, OpenGate};
 pub use laws::{even_pools_are_quiet, even_semaphores_are_quiet};
 pub use plans::{Worked, work_plan};
+pub use waits::{WaitLine, WaitLines, Waited};
 pub use works::{Post, Worker, meet_all, work_all};

@@ -6,11 +6,12 @@ ghost use Rattle.cqs_plan.specs.Runnable.{IsRunnable};
 ghost use Rattle.cqs_work.specs.Ends.{job_end};
 ghost use Rattle.cqs_work.specs.Met.{shared_of, CanMeetAll, HaveMetAll};
 ghost use Rattle.cqs_work.specs.Opening.{AreSplit};
-ghost use Rattle.cqs_work.specs.Worked.{AreParted, AreEnds, AreTold, HaveAllIn, AreQuiet};
+ghost use Rattle.cqs_work.specs.Worked.{AreParted, AreEnds, AreTold, AreWaits, AreBounded, HaveAllIn, AreQuiet};
 
 use crate::ends::{JobEnd, JobEnds};
 use crate::gate::Gate;
 use crate::posts::posts_for;
+use crate::waits::{WaitLines, Waited, lines_of};
 use crate::works::{Worker, meet_all, work_all};
 use cqs_core::Memory;
 use cqs_plan::Plan;
@@ -20,18 +21,21 @@ use std::alloc::Global;
 use std::sync::Wait;
 use std::thread::Threads;
 
-/// What workers left of a plan: the floor in which theirs have met, and how each job ended.
+/// What workers left of a plan: the floor in which theirs have met, how each job ended, and the
+/// waits of its semaphores.
 #[derive(Drop)]
 pub struct Worked<F> {
     pub floor: F,
     pub ends: JobEnds,
+    pub waits: WaitLines,
 }
 
-/// What the workers left, their floors apart from how far their jobs are.
+/// What the workers left: their floors, how far their jobs are, and which waits these were told.
 #[derive(Drop)]
 struct Parted<F> {
     floors: Vec<F>,
     states: Vec<Vec<JobState>>,
+    waits: Vec<Vec<Waited>>,
 }
 
 impl<F: Drop> Parted<F> {
@@ -40,24 +44,33 @@ impl<F: Drop> Parted<F> {
             ≡ self.old.floors.items ++ worker.floor ∷ []) }
         ensures states { OnOk result (self.new.states.items
             ≡ self.old.states.items ++ worker.states ∷ []) }
+        ensures waits { OnOk result (self.new.waits.items
+            ≡ self.old.waits.items ++ worker.waits ∷ []) }
     {
         self.floors.push(worker.floor)?;
         self.states.push(worker.states)?;
+        self.waits.push(worker.waits)?;
         Ok(())
     }
 }
 
-/// Puts all floors together, and all states, where no worker was without memory.
+/// Puts all floors together, all states and all waits, where no worker was without memory.
 fn part<F: Drop>(
     alloc: Global,
     workers: Vec<Result<Worker<F>, Memory>>,
 ) -> Result<Parted<F>, Memory>
     ensures { IfOk result (λ parted. AreParted workers.items parted.floors.items
-        (map (λ own. own.items) parted.states.items)) }
+        (map (λ own. own.items) parted.states.items)
+        (map (λ own. own.items) parted.waits.items)) }
 {
     let floors = Vec::with_capacity(alloc, workers.len())?;
     let states = Vec::with_capacity(alloc, workers.len())?;
-    let mut parted = Parted { floors, states };
+    let waits = Vec::with_capacity(alloc, workers.len())?;
+    let mut parted = Parted {
+        floors,
+        states,
+        waits,
+    };
     for one in workers {
         let worker = one?;
         parted.add(worker)?;
@@ -122,9 +135,20 @@ pub fn work_plan<R: Threads + Wait + Sync, F: SharedFloor + Send + Drop, G: Gate
     // There is one end for each job.
     ensures ends { IfOk result (λ worked. length worked.ends ≡ length plan.now.jobs) }
 
-    // For each worker there are answers, one for each call, from which its jobs ended so; and their
-    // entries are in order those of the histories that name it.
+    // For each worker there are answers, one for each call, from which its jobs ended so; their
+    // entries are in order those of the histories that name its pass; and what stands behind an end
+    // as GaveUp, Late or Crowded is in the histories.
     ensures told { IfOk result (λ worked. AreTold plan.now (shared_of F.shared floors.items)
+        (F.shared worked.floor) worked.ends worked.waits) }
+
+    // The waits at each semaphore are the numbers that were drawn there, in order, each with a job
+    // of the worker whose pass drew it.
+    ensures waits { IfOk result (λ worked. AreWaits (shared_of F.shared floors.items)
+        (F.shared worked.floor) worked.waits) }
+
+    // A worker's takes of a semaphore are at least those of its jobs that are done, and at most all
+    // of its jobs' take steps.
+    ensures bounds { IfOk result (λ worked. AreBounded plan.now (shared_of F.shared floors.items)
         (F.shared worked.floor) worked.ends) }
 
     // No semaphore, mutex or pool has anything held, on its way, at the door or in line.
@@ -136,12 +160,15 @@ pub fn work_plan<R: Threads + Wait + Sync, F: SharedFloor + Send + Drop, G: Gate
         (F.shared worked.floor)) }
 {
     let posts = posts_for(alloc, plan, floors)?;
-    let all = work_all(rt, plan, gate, posts)?;
+    let all = work_all(rt, alloc, plan, gate, posts)?;
     let parted = part(alloc, all)?;
     let jobs = plan.jobs.as_slice().len();
     let states = parted.states.as_slice();
     let ends = ends_of(alloc, jobs, states)?;
+    let resources = plan.resources.as_slice();
+    let lines = lines_of(alloc, resources, parted.waits.as_slice())?;
     let floor = meet_in_first(rt, parted.floors);
     let ends = JobEnds::from(ends);
-    Ok(Worked { floor, ends })
+    let waits = WaitLines::from(lines);
+    Ok(Worked { floor, ends, waits })
 }

@@ -7,6 +7,9 @@ ghost use Rattle.cqs_turns.specs.Roles.{role};
 ghost use Rattle.cqs_turns.specs.Turns.{places_held};
 ghost use Rattle.cqs_work.specs.Heard.{Hears};
 ghost use Rattle.cqs_work.specs.Roles.{same};
+ghost use Rattle.cqs_work.specs.Hands.{at_hand};
+ghost use Rattle.cqs_work.specs.Adds.{Keeps};
+ghost use Rattle.cqs_work.specs.Courses.{Went};
 ghost use Rattle.cqs_work.specs.Doing.{Stands, GaveUp};
 ghost use Rattle.cqs_work.specs.Works.{progress_of, machine_so, job_turn_so, turn_so, turns_of, close, close_all, line_left_so, IsClear, AllClear, RunsOn};
 
@@ -48,10 +51,12 @@ fn one_job<R: Threads + Wait, G: Gate, F: SharedFloor>(
     requires runs { RunsOn plan.now (F.shared clerk.old.floor) states.old }
     requires turn { turn ≤ 40000 }
     requires place { place < length plan.now.jobs }
-    ensures heard { OnOk result (Hears (F.shared clerk.old.floor) (F.shared clerk.new.floor)
+    ensures heard { OnOk result (Hears (at_hand F.shared clerk.old) (at_hand F.shared clerk.new)
         (job_turn_so plan.now turn place (progress_of states.old))
         (machine_so (progress_of states.new))) }
     ensures runs { OnOk result (RunsOn plan.now (F.shared clerk.new.floor) states.new) }
+    ensures went { OnOk result (Went plan.now (at_hand F.shared clerk.old)
+        (progress_of states.old) (at_hand F.shared clerk.new) (progress_of states.new)) }
 {
     let actor = actor_at(plan, turn, place);
     act(clerk, &actor, &mut states[place as usize])
@@ -67,9 +72,11 @@ fn one_turn<R: Threads + Wait, G: Gate, F: SharedFloor>(
     requires runnable { IsRunnable plan.now }
     requires runs { RunsOn plan.now (F.shared clerk.old.floor) states.old }
     requires turn { turn ≤ 40000 }
-    ensures heard { OnOk result (Hears (F.shared clerk.old.floor) (F.shared clerk.new.floor)
+    ensures heard { OnOk result (Hears (at_hand F.shared clerk.old) (at_hand F.shared clerk.new)
         (turn_so plan.now turn (progress_of states.old)) (machine_so (progress_of states.new))) }
     ensures runs { OnOk result (RunsOn plan.now (F.shared clerk.new.floor) states.new) }
+    ensures went { OnOk result (Went plan.now (at_hand F.shared clerk.old)
+        (progress_of states.old) (at_hand F.shared clerk.new) (progress_of states.new)) }
 {
     for place in 0..plan.jobs.as_slice().len() {
         one_job(clerk, plan, turn, place as u32, states)?;
@@ -85,10 +92,12 @@ pub fn all_turns<R: Threads + Wait, G: Gate, F: SharedFloor>(
 ) -> Result<(), Memory>
     requires runnable { IsRunnable plan.now }
     requires runs { RunsOn plan.now (F.shared clerk.old.floor) states.old }
-    ensures heard { OnOk result (Hears (F.shared clerk.old.floor) (F.shared clerk.new.floor)
+    ensures heard { OnOk result (Hears (at_hand F.shared clerk.old) (at_hand F.shared clerk.new)
         (turns_of plan.now plan.now.turns (progress_of states.old))
         (machine_so (progress_of states.new))) }
     ensures runs { OnOk result (RunsOn plan.now (F.shared clerk.new.floor) states.new) }
+    ensures went { OnOk result (Went plan.now (at_hand F.shared clerk.old)
+        (progress_of states.old) (at_hand F.shared clerk.new) (progress_of states.new)) }
 {
     for turn in 0..plan.turns {
         one_turn(clerk, plan, turn, states)?;
@@ -106,8 +115,8 @@ fn leave_line<R: Threads + Wait, G: Gate, F: SharedFloor>(
         ≡ places_held (F.shared clerk.old.floor).board actor.now.place }
     requires stands { Stands actor.now (F.shared clerk.old.floor)
         (wait_in state.old.progress) [] }
-    ensures did { OnOk result (GaveUp actor.now (F.shared clerk.old.floor)
-        (line_left_so actor.now state.old.progress) same (F.shared clerk.new.floor)) }
+    ensures did { OnOk result (GaveUp actor.now (at_hand F.shared clerk.old)
+        (line_left_so actor.now state.old.progress) same (at_hand F.shared clerk.new)) }
     ensures held { OnOk result (state.new.held.items
         ≡ places_held (F.shared clerk.new.floor).board actor.now.place) }
     ensures progress { state.new.progress ≡ state.old.progress }
@@ -136,8 +145,8 @@ fn close_job<R: Threads + Wait, G: Gate, F: SharedFloor>(
         ≡ places_held (F.shared clerk.old.floor).board actor.now.place }
     requires stands { Stands actor.now (F.shared clerk.old.floor)
         (wait_in state.old.progress) [] }
-    ensures did { OnOk result (GaveUp actor.now (F.shared clerk.old.floor)
-        (close actor.now state.old.progress) same (F.shared clerk.new.floor)) }
+    ensures did { OnOk result (GaveUp actor.now (at_hand F.shared clerk.old)
+        (close actor.now state.old.progress) same (at_hand F.shared clerk.new)) }
     ensures held { OnOk result (state.new.held.items
         ≡ places_held (F.shared clerk.new.floor).board actor.now.place) }
     ensures clear { OnOk result (IsClear (F.shared clerk.new.floor).board actor.now.place) }
@@ -156,8 +165,10 @@ pub fn close_jobs<R: Threads + Wait, G: Gate, F: SharedFloor>(
 ) -> Result<(), Memory>
     requires few { length plan.now.jobs ≤ 4096 }
     requires runs { RunsOn plan.now (F.shared clerk.old.floor) states.old }
-    ensures heard { OnOk result (Hears (F.shared clerk.old.floor) (F.shared clerk.new.floor)
+    ensures heard { OnOk result (Hears (at_hand F.shared clerk.old) (at_hand F.shared clerk.new)
         (close_all plan.now (progress_of states.old)) same) }
+    ensures keeps { OnOk result (Keeps (at_hand F.shared clerk.old)
+        (at_hand F.shared clerk.new)) }
     ensures clear { OnOk result (AllClear plan.now (F.shared clerk.new.floor)) }
     ensures progress { OnOk result (progress_of states.new ≡ progress_of states.old) }
 {

@@ -1,17 +1,21 @@
 //! Workers beside each other.
 
-ghost use Rattle.std.specs.Prelude.{◌≡◌, All, IfOk, OnOk, vec_len};
+ghost use Rattle.std.specs.Prelude.{◌≡◌, [], All, IfOk, OnOk, vec_len};
 ghost use Rattle.cqs_plan.specs.Runnable.{IsRunnable};
+ghost use Rattle.cqs_work.specs.Desk.{desk};
+ghost use Rattle.cqs_work.specs.Hands.{at_hand};
 ghost use Rattle.cqs_work.specs.Works.{RunsOn, HasWorked, AllWorked};
 ghost use Rattle.cqs_work.specs.Met.{CanMeet, HaveMet, shared_of};
 
 use crate::clerk::Clerk;
 use crate::gate::Gate;
 use crate::turns::{all_turns, close_jobs};
+use crate::waits::Waited;
 use cqs_core::Memory;
 use cqs_plan::Plan;
 use cqs_shared::SharedFloor;
 use cqs_turns::JobState;
+use std::alloc::Global;
 use std::sync::Wait;
 use std::thread;
 use std::thread::Threads;
@@ -30,6 +34,8 @@ pub struct Post<F> {
 pub struct Worker<F> {
     pub floor: F,
     pub states: Vec<JobState>,
+    /// Which waits its jobs were told, in order.
+    pub waits: Vec<Waited>,
 }
 
 /// A worker's work: its turns, and then the calls after the last turn.
@@ -40,8 +46,8 @@ fn work_on<R: Threads + Wait, G: Gate, F: SharedFloor>(
 ) -> Result<(), Memory>
     requires runnable { IsRunnable plan.now }
     requires runs { RunsOn plan.now (F.shared clerk.old.floor) states.old }
-    ensures { OnOk result (HasWorked plan.now (F.shared clerk.old.floor) states.old states.new
-        (F.shared clerk.new.floor)) }
+    ensures { OnOk result (HasWorked plan.now (at_hand F.shared clerk.old) states.old states.new
+        (at_hand F.shared clerk.new)) }
 {
     all_turns(clerk, plan, states)?;
     close_jobs(clerk, plan, states)
@@ -50,14 +56,16 @@ fn work_on<R: Threads + Wait, G: Gate, F: SharedFloor>(
 /// A worker works from its post on.
 fn work<R: Threads + Wait, G: Gate, F: SharedFloor + Drop>(
     rt: &R,
+    alloc: Global,
     plan: &Plan,
     gate: &G,
     post: Post<F>,
 ) -> Result<Worker<F>, Memory>
     requires runnable { IsRunnable plan.now }
     requires runs { RunsOn plan.now (F.shared post.floor) post.states.items }
-    ensures { IfOk result (λ worker. HasWorked plan.now (F.shared post.floor) post.states.items
-        worker.states.items (F.shared worker.floor)) }
+    ensures { IfOk result (λ worker. HasWorked plan.now (desk (F.shared post.floor) [])
+        post.states.items worker.states.items
+        (desk (F.shared worker.floor) worker.waits.items)) }
 {
     let Post {
         worker,
@@ -70,11 +78,13 @@ fn work<R: Threads + Wait, G: Gate, F: SharedFloor + Drop>(
         worker,
         calls: 0,
         floor,
+        waits: Vec::new(alloc),
     };
     work_on(&mut clerk, plan, states.as_mut_slice())?;
     Ok(Worker {
         floor: clerk.floor,
         states,
+        waits: clerk.waits,
     })
 }
 
@@ -82,6 +92,7 @@ fn work<R: Threads + Wait, G: Gate, F: SharedFloor + Drop>(
 /// says so in its place.
 pub fn work_all<R: Threads + Wait + Sync, G: Gate + Sync, F: SharedFloor + Send + Drop>(
     rt: &R,
+    alloc: Global,
     plan: &Plan,
     gate: &G,
     posts: Vec<Post<F>>,
@@ -92,7 +103,7 @@ pub fn work_all<R: Threads + Wait + Sync, G: Gate + Sync, F: SharedFloor + Send 
     ensures len { IfOk result (λ all. vec_len all ≡ vec_len posts) }
     ensures each { IfOk result (λ all. AllWorked F.shared plan.now posts.items all.items) }
 {
-    Ok(thread::map_vec(rt, posts, &|post| { work(rt, plan, gate, post) })?)
+    Ok(thread::map_vec(rt, posts, &|post| { work(rt, alloc, plan, gate, post) })?)
 }
 
 /// All floors meet in the first, in order.

@@ -1,40 +1,51 @@
 use Rattle.std.proofs.Common.{Some, ap, ◌∙◌, arith}
+use Rattle.cqs_plan.specs.declared.floors.answers.FloorTake.TheVariants.{Waits}
 use Rattle.cqs_shared.specs.Calls.{answer_of}
+use Rattle.cqs_work.specs.Desk.{desk, told}
 use Rattle.cqs_work.proofs.Acting.{arrive-did, arrives-in, arrive-room, arrive-party, arrive-held, next-small}
 use Rattle.cqs_work.proofs.acts.arrive.Goals as goal
 
 pub arrive-requires-clause-resource : goal.arrive-requires-clause-resource
-arrive-requires-clause-resource g c = arrives-in c.args.actor.now _ c.args.next c.args.at c.requires.can c.requires.step
+arrive-requires-clause-resource g c =
+    arrives-in c.args.actor.now (desk (g.F.SharedFloor.shared c.args.clerk.now.floor) c.args.clerk.now.waits.items)
+    c.args.next c.args.at c.requires.can c.requires.step
 
 pub arrive-requires-clause-room : goal.arrive-requires-clause-room
-arrive-requires-clause-room g c = arrive-room c.args.actor.now _ c.args.next c.args.at c.requires.can c.requires.step
+arrive-requires-clause-room g c =
+    arrive-room c.args.actor.now (desk (g.F.SharedFloor.shared c.args.clerk.now.floor) c.args.clerk.now.waits.items)
+    c.args.next c.args.at c.requires.can c.requires.step
 
 pub arrive-requires-clause-party : goal.arrive-requires-clause-party
-arrive-requires-clause-party g c = arrive-party c.args.actor.now _ c.args.next c.args.at c.requires.can c.requires.step
+arrive-requires-clause-party g c =
+    arrive-party c.args.actor.now (desk (g.F.SharedFloor.shared c.args.clerk.now.floor) c.args.clerk.now.waits.items)
+    c.args.next c.args.at c.requires.can c.requires.step
 
 pub returns-in-Ok-Now-clause-did : goal.returns-in-Ok-Now-clause-did
 returns-in-Ok-Now-clause-did g c =
-    arrive-did c.args.actor.now _ c.args.next c.args.at c.requires.can c.requires.step _ _ _ _ c.arrive.ensures
-    (ap answer_of c.in-Ok-Now.is ∙ ap Some c.in-Ok-Now.field-0-is) c.arrivals-round.ensures
+    arrive-did c.args.actor.now _ c.args.next c.args.at c.requires.can c.requires.step _ _ _ _ c.arrive.ensures.comes
+    (ap answer_of c.in-Ok-Now.is ∙ ap Some c.in-Ok-Now.field-0-is) c.arrive.ensures.waits c.arrivals-round.ensures
 
-pub returns-in-Ok-Waits-clause-did : goal.returns-in-Ok-Waits-clause-did
-returns-in-Ok-Waits-clause-did g c =
-    arrive-did c.args.actor.now _ c.args.next c.args.at c.requires.can c.requires.step _ _ _ _ c.arrive.ensures
-    (ap answer_of c.in-Ok-Waits.is ∙ ap Some c.in-Ok-Waits.field-0-is) c.arrivals-round.ensures
+pub returns-in_ok-note-in-Ok-Waits-clause-did : goal.returns-in_ok-note-in-Ok-Waits-clause-did
+returns-in_ok-note-in-Ok-Waits-clause-did g c =
+    arrive-did c.args.actor.now _ c.args.next c.args.at c.requires.can c.requires.step _ _ _ _ c.arrive.ensures.comes
+    (ap answer_of c.in-Ok-Waits.is ∙ ap Some c.in-Ok-Waits.field-0-is)
+    (c.in_ok-note-in-Ok-Waits.ensures
+    ∙ ap (λ l. told l c.args.at c.arrivals-round.result c.args.actor.now.place (Some (Waits c.in-Ok-Waits.number)))
+    c.arrive.ensures.waits) c.arrivals-round.ensures
 
 pub returns-in-Err-clause-did : goal.returns-in-Err-clause-did
 returns-in-Err-clause-did g c =
-    arrive-did c.args.actor.now _ c.args.next c.args.at c.requires.can c.requires.step _ _ _ _ c.arrive.ensures
-    (ap answer_of c.in-Err.is) c.arrivals-round.ensures
+    arrive-did c.args.actor.now _ c.args.next c.args.at c.requires.can c.requires.step _ _ _ _ c.arrive.ensures.comes
+    (ap answer_of c.in-Err.is) c.arrive.ensures.waits c.arrivals-round.ensures
 
 pub returns-in-Ok-Now-clause-held : goal.returns-in-Ok-Now-clause-held
-returns-in-Ok-Now-clause-held g c = arrive-held _ _ c.args.actor.now c.args.at _ c.arrive.ensures
+returns-in-Ok-Now-clause-held g c = arrive-held _ _ c.args.actor.now c.args.at _ c.arrive.ensures.comes
 
-pub returns-in-Ok-Waits-clause-held : goal.returns-in-Ok-Waits-clause-held
-returns-in-Ok-Waits-clause-held g c = arrive-held _ _ c.args.actor.now c.args.at _ c.arrive.ensures
+pub returns-in_ok-note-in-Ok-Waits-clause-held : goal.returns-in_ok-note-in-Ok-Waits-clause-held
+returns-in_ok-note-in-Ok-Waits-clause-held g c = arrive-held _ _ c.args.actor.now c.args.at _ c.arrive.ensures.comes
 
 pub returns-in-Err-clause-held : goal.returns-in-Err-clause-held
-returns-in-Err-clause-held g c = arrive-held _ _ c.args.actor.now c.args.at _ c.arrive.ensures
+returns-in-Err-clause-held g c = arrive-held _ _ c.args.actor.now c.args.at _ c.arrive.ensures.comes
 
 pub overflow_add-result : goal.overflow_add-result
 overflow_add-result g c =

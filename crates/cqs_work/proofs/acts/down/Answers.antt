@@ -10,7 +10,9 @@ down-requires g c = record {
 
 pub returns-clause-did : goal.returns-clause-did
 returns-clause-did g c =
-    down-did c.args.actor.now _ _ c.args.next c.args.at c.down.result c.requires.can c.requires.step c.down.ensures
+    down-did c.args.actor.now _ _ c.args.next c.args.at c.down.result c.requires.can c.requires.step
+    c.down.ensures.downs
+    c.down.ensures.waits
 
 pub returns-clause-held : goal.returns-clause-held
-returns-clause-held g c = ap (λ b. places_held b c.args.actor.now.place) c.down.ensures.board
+returns-clause-held g c = ap (λ b. places_held b c.args.actor.now.place) c.down.ensures.downs.board

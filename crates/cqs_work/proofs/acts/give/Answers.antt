@@ -12,9 +12,11 @@ give-requires-clause-holds g c = give-holds c.args.actor.now _ c.args.next c.arg
 
 pub returns-clause-did : goal.returns-clause-did
 returns-clause-did g c =
-    give-did c.args.actor.now _ _ c.args.next c.args.at c.give.result c.requires.can c.requires.step c.give.ensures
+    give-did c.args.actor.now _ _ c.args.next c.args.at c.give.result c.requires.can c.requires.step
+    c.give.ensures.gives
+    c.give.ensures.waits
 
 pub returns-clause-held : goal.returns-clause-held
 returns-clause-held g c =
     on_give-left _ _ _ c.args.at (Free 0) _ _ c.requires.can.stands.ready.job c.requires.held c.forget_oldest.ensures
-    c.give.ensures.board
+    c.give.ensures.gives.board

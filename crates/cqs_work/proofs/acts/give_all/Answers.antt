@@ -9,4 +9,5 @@ give-requires-clause-holds g c = holds-next _ _ _ _ _ c.loop-at.invariant c.loop
 
 pub loop-at-preserved : goal.loop-at-preserved
 loop-at-preserved g c =
-    gives-next _ _ _ _ _ _ c.give.result c.loop-at.invariant c.loop-at-test.true c.give.ensures
+    gives-next _ _ _ _ _ _ c.give.result c.loop-at.invariant c.loop-at-test.true c.give.ensures.gives
+    c.give.ensures.waits

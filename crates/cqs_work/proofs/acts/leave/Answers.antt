@@ -1,19 +1,26 @@
 use Rattle.cqs_turns.specs.Roles.{wait_at}
 use Rattle.cqs_turns.proofs.Readied.{leave-held}
-use Rattle.cqs_work.proofs.Acting.{leave-did, if-ok, on-ok}
+use Rattle.cqs_work.proofs.Acting.{leave-did, leave-ends, if-ok, on-ok}
 use Rattle.cqs_work.proofs.acts.leave.Goals as goal
 
 pub returns-clause-did : goal.returns-clause-did
 returns-clause-did g c =
     if-ok c.hold_late.result
     (λ end is. leave-did c.args.actor.now _ _ c.args.at c.args.round c.args.number c.leave-answer.result end
-    c.requires.stands c.leave-answer.ensures is)
+    c.requires.stands c.leave-answer.ensures.leaves c.leave-answer.ensures.waits is)
+    c.hold_late.ensures.end
+
+pub returns-clause-ends : goal.returns-clause-ends
+returns-clause-ends g c =
+    if-ok c.hold_late.result
+    (λ end is. leave-ends c.args.actor.now _ _ c.args.at c.args.round c.args.number c.leave-answer.result end
+    c.requires.stands c.leave-answer.ensures.leaves is)
     c.hold_late.ensures.end
 
 pub returns-clause-held : goal.returns-clause-held
 returns-clause-held g c =
     let wait = wait_at c.args.at c.args.round c.args.number in
-    let left = c.leave-answer.ensures.at wait c.requires.stands.ready.waits in
+    let left = c.leave-answer.ensures.leaves.at wait c.requires.stands.ready.waits in
     on-ok c.hold_late.result
     (λ held. rw (
       left.board,

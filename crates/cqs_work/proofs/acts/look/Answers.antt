@@ -1,6 +1,7 @@
 use Rattle.cqs_turns.specs.Roles.{wait_at}
 use Rattle.cqs_turns.proofs.Readied.{look-held}
 use Rattle.cqs_turns.specs.declared.states.Progress.TheVariants.{Stepping, Waiting}
+use Rattle.cqs_work.specs.Desk.{desk}
 use Rattle.cqs_work.specs.Roles.{go_on, look_at, left_so}
 use Rattle.cqs_work.proofs.Acting.{pending-did, granted-did, did-then, can-then, if-ok}
 use Rattle.cqs_work.proofs.acts.look.Goals as goal
@@ -8,7 +9,7 @@ use Rattle.cqs_work.proofs.acts.look.Goals as goal
 pub make_steps-requires-clause-held : goal.make_steps-requires-clause-held
 make_steps-requires-clause-held g c =
     let wait = wait_at c.args.at c.args.round c.args.number in
-    let looks = c.look.ensures.at wait c.requires.can.stands.ready.waits in
+    let looks = c.look.ensures.looks.at wait c.requires.can.stands.ready.waits in
     rw (
       looks.board,
       c.in-Granted.is,
@@ -20,26 +21,31 @@ make_steps-requires-clause-held g c =
 
 pub make_steps-requires-clause-can : goal.make_steps-requires-clause-can
 make_steps-requires-clause-can g c =
-    can-then c.args.actor.now _ (Waiting c.args.next c.args.at c.args.round c.args.number) _ _ _ (Stepping c.args.next)
+    let f = desk (g.F.SharedFloor.shared c.args.clerk.now.floor) c.args.clerk.now.waits.items in
+    let k = desk (g.F.SharedFloor.shared c.look.new.self.floor) c.look.new.self.waits.items in
+    can-then c.args.actor.now f (Waiting c.args.next c.args.at c.args.round c.args.number) _ _ k (Stepping c.args.next)
     c.requires.can
-    (granted-did c.args.actor.now _ _ c.args.next c.args.at c.args.round c.args.number c.in-Granted.field-0 _
-    c.requires.can c.look.ensures c.in-Granted.is)
+    (granted-did c.args.actor.now f k c.args.next c.args.at c.args.round c.args.number c.in-Granted.field-0 _
+    c.requires.can c.look.ensures.looks c.look.ensures.waits c.in-Granted.is)
 
 pub returns-in-Pending-clause-did : goal.returns-in-Pending-clause-did
 returns-in-Pending-clause-did g c =
-    pending-did c.args.actor.now _ _ c.args.next c.args.at c.args.round c.args.number _ c.requires.can c.look.ensures
-    c.in-Pending.is
+    pending-did c.args.actor.now _ _ c.args.next c.args.at c.args.round c.args.number _ c.requires.can
+    c.look.ensures.looks c.look.ensures.waits c.in-Pending.is
 
 pub returns-in-Pending-clause-held : goal.returns-in-Pending-clause-held
 returns-in-Pending-clause-held g c =
-    let looks = c.look.ensures.at (wait_at c.args.at c.args.round c.args.number) c.requires.can.stands.ready.waits in
+    let looks = c.look.ensures.looks.at (wait_at c.args.at c.args.round c.args.number) c.requires.can.stands.ready.waits
+    in
     rw (looks.board, c.in-Pending.is) c.requires.held
 
 pub returns-in_ok-hold-in-Granted-clause-did : goal.returns-in_ok-hold-in-Granted-clause-did
 returns-in_ok-hold-in-Granted-clause-did g c =
-    let looked = granted-did c.args.actor.now _ _ c.args.next c.args.at c.args.round c.args.number c.in-Granted.field-0
+    let f = desk (g.F.SharedFloor.shared c.args.clerk.now.floor) c.args.clerk.now.waits.items in
+    let k = desk (g.F.SharedFloor.shared c.look.new.self.floor) c.look.new.self.waits.items in
+    let looked = granted-did c.args.actor.now f k c.args.next c.args.at c.args.round c.args.number c.in-Granted.field-0
     _
-    c.requires.can c.look.ensures c.in-Granted.is in
+    c.requires.can c.look.ensures.looks c.look.ensures.waits c.in-Granted.is in
     if-ok c.make_steps.result
     (λ progress made. did-then c.args.actor.now _ (Waiting c.args.next c.args.at c.args.round c.args.number)
     (look_at c.args.actor.now c.args.next c.args.at c.args.round c.args.number) (go_on c.args.actor.now c.args.next)

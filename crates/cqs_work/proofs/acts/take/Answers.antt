@@ -1,5 +1,7 @@
 use Rattle.std.proofs.Common.{Some, ap, ◌∙◌}
+use Rattle.cqs_plan.specs.declared.floors.answers.FloorTake.TheVariants.{Waits}
 use Rattle.cqs_shared.specs.Calls.{answer_of}
+use Rattle.cqs_work.specs.Desk.{told}
 use Rattle.cqs_work.proofs.Acting.{take-did, take-resource, take-room}
 use Rattle.cqs_work.proofs.acts.take.Goals as goal
 
@@ -12,15 +14,17 @@ take-requires-clause-room g c = take-room c.args.actor.now _ c.args.next c.args.
 
 pub returns-in_ok-push-in-Ok-Now-clause-did : goal.returns-in_ok-push-in-Ok-Now-clause-did
 returns-in_ok-push-in-Ok-Now-clause-did g c =
-    take-did c.args.actor.now _ _ c.args.next c.args.at _ _ c.requires.can c.requires.step c.take.ensures
-    (ap answer_of c.in-Ok-Now.is ∙ ap Some c.in-Ok-Now.field-0-is)
+    take-did c.args.actor.now _ _ c.args.next c.args.at _ _ c.requires.can c.requires.step c.take.ensures.takes
+    (ap answer_of c.in-Ok-Now.is ∙ ap Some c.in-Ok-Now.field-0-is) c.take.ensures.waits
 
-pub returns-in-Ok-Waits-clause-did : goal.returns-in-Ok-Waits-clause-did
-returns-in-Ok-Waits-clause-did g c =
-    take-did c.args.actor.now _ _ c.args.next c.args.at _ _ c.requires.can c.requires.step c.take.ensures
+pub returns-in_ok-note-in-Ok-Waits-clause-did : goal.returns-in_ok-note-in-Ok-Waits-clause-did
+returns-in_ok-note-in-Ok-Waits-clause-did g c =
+    take-did c.args.actor.now _ _ c.args.next c.args.at _ _ c.requires.can c.requires.step c.take.ensures.takes
     (ap answer_of c.in-Ok-Waits.is ∙ ap Some c.in-Ok-Waits.field-0-is)
+    (c.in_ok-note-in-Ok-Waits.ensures
+    ∙ ap (λ l. told l c.args.at 0 c.args.actor.now.place (Some (Waits c.in-Ok-Waits.number))) c.take.ensures.waits)
 
 pub returns-in-Err-clause-did : goal.returns-in-Err-clause-did
 returns-in-Err-clause-did g c =
-    take-did c.args.actor.now _ _ c.args.next c.args.at _ _ c.requires.can c.requires.step c.take.ensures
-    (ap answer_of c.in-Err.is)
+    take-did c.args.actor.now _ _ c.args.next c.args.at _ _ c.requires.can c.requires.step c.take.ensures.takes
+    (ap answer_of c.in-Err.is) c.take.ensures.waits

@@ -1,11 +1,14 @@
 use Rattle.std.proofs.Common.{refl}
 use Rattle.cqs_turns.specs.declared.states.Progress.TheVariants.{Working}
-use Rattle.cqs_work.proofs.Acting.{worked-can, worked-did, if-ok}
+use Rattle.cqs_work.specs.Desk.{desk}
+use Rattle.cqs_work.proofs.Acting.{works-on, worked-can, worked-did, if-ok}
 use Rattle.cqs_work.proofs.acts.work.Goals as goal
 
 pub make_steps-requires-clause-can : goal.make_steps-requires-clause-can
 make_steps-requires-clause-can g c =
-    worked-can c.args.actor.now _ (Working c.args.next c.args.until) c.args.next c.args.until refl c.requires.can
+    worked-can c.args.actor.now
+    (desk (g.F.SharedFloor.shared c.args.clerk.now.floor) c.args.clerk.now.waits.items)
+    (Working c.args.next c.args.until) c.args.next c.args.until refl c.requires.can
 
 pub returns-clause-did : goal.returns-clause-did
 returns-clause-did g c =
@@ -13,3 +16,9 @@ returns-clause-did g c =
     (λ q made. worked-did c.args.actor.now _ _ (Working c.args.next c.args.until) c.args.next c.args.until q refl
     c.if-actor-until.false made)
     c.make_steps.ensures.did
+
+pub returns-then-actor-until-clause-did : goal.returns-then-actor-until-clause-did
+returns-then-actor-until-clause-did g c =
+    works-on c.args.actor.now
+    (desk (g.F.SharedFloor.shared c.args.clerk.now.floor) c.args.clerk.now.waits.items)
+    (Working c.args.next c.args.until) c.args.next c.args.until refl c.if-actor-until.true c.requires.can

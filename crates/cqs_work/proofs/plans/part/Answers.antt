@@ -10,8 +10,9 @@ loop-one-init g c =
     record {
       all = refl;
       len = started.1 ∙ c.args.workers.ok.0 ∙ sym (ap length started.0);
-      parted = parted-none c.in_ok-floors.floors.items _ c.in_ok-floors.ensures.items
-          (ap (map (λ own. own.items)) c.in_ok-states.ensures.items);
+      parted = parted-none c.in_ok-floors.floors.items _ _ c.in_ok-floors.ensures.items
+          (ap (map (λ own. own.items)) c.in_ok-states.ensures.items)
+          (ap (map (λ own. own.items)) c.in_ok-waits.ensures.items);
     }
 
 pub loop-one-preserved : goal.loop-one-preserved
@@ -25,7 +26,13 @@ loop-one-preserved g c =
           let gone = c.in-Some.ensures.steps.1 in
           let short = ap length steps in
           omega arith;
-      parted = rw (c.in_ok-add.ensures.floors, c.in_ok-add.ensures.states, map-append)
-          (parted-push at.yielded at.parted.floors.items _ x c.in_ok-worker.worker c.in_ok-worker.was
+      parted = rw (
+        c.in_ok-add.ensures.floors,
+        c.in_ok-add.ensures.states,
+        c.in_ok-add.ensures.waits,
+        map-append,
+        map-append,
+      )
+          (parted-push at.yielded at.parted.floors.items _ _ x c.in_ok-worker.worker c.in_ok-worker.was
           at.invariant.parted);
     }

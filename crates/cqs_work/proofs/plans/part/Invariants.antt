@@ -7,5 +7,6 @@ abbrev pub invariant-loop-one : goal.invariant-loop-one
 invariant-loop-one g l = record {
   all : l.yielded ++ into_iter_items l.one-iterator ≡ into_iter_items l.initial.one-iterator;
   len : into_iter_len l.one-iterator ≡ length (into_iter_items l.one-iterator);
-  parted : AreParted l.yielded l.parted.floors.items (map (λ own. own.items) l.parted.states.items);
+  parted : AreParted l.yielded l.parted.floors.items (map (λ own. own.items) l.parted.states.items)
+      (map (λ own. own.items) l.parted.waits.items);
 }

@@ -1,4 +1,5 @@
 use Rattle.cqs_work.specs.Works.{progress_of, turns_of}
+use Rattle.cqs_work.proofs.Coursing.{went-none, went-then}
 use Rattle.cqs_work.proofs.HeardLemmas.{hears-none}
 use Rattle.cqs_work.proofs.Turning.{next-turn}
 use Rattle.cqs_work.proofs.turns.all_turns.Goals as goal
@@ -7,6 +8,7 @@ pub loop-turn-init : goal.loop-turn-init
 loop-turn-init g c = record {
   heard = hears-none _ (turns_of c.args.plan.now 0 (progress_of c.args.states.now));
   runs = c.requires.runs;
+  went = went-none c.args.plan.now _ (progress_of c.args.states.now);
 }
 
 pub loop-turn-preserved : goal.loop-turn-preserved
@@ -14,4 +16,6 @@ loop-turn-preserved g c = record {
   heard = next-turn c.args.plan.now c.loop-turn.turn _ _ _ _ _ _ c.loop-turn.invariant.heard
       c.in_ok-one_turn.ensures.heard;
   runs = c.in_ok-one_turn.ensures.runs;
+  went = went-then c.args.plan.now _ _ _ _ _ _ c.loop-turn.invariant.heard.later c.loop-turn.invariant.went
+      c.in_ok-one_turn.ensures.went;
 }

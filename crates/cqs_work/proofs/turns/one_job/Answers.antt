@@ -1,54 +1,74 @@
 use Rattle.std.proofs.Common.{get_or}
-use Rattle.cqs_shared.specs.Shared.{Shared}
+use Rattle.cqs_work.specs.Desk.{Desk, desk}
 use Rattle.cqs_work.proofs.Acting.{on-ok-both}
-use Rattle.cqs_work.proofs.Turning.{Acting, acting-at, can-act, its-held, one-job-heard, one-job-runs}
+use Rattle.cqs_work.proofs.Turning.{Acting, acting-at, can-act, its-held, one-job-heard, one-job-runs, one-job-went}
 use Rattle.cqs_work.proofs.turns.one_job.Goals as goal
 
 pub act-requires-clause-held : goal.act-requires-clause-held
 act-requires-clause-held g c =
     let actor = c.actor_at-actor.ensures in
-    let f : Shared = g.F.SharedFloor.shared c.args.clerk.now.floor in
+    let f : Desk = desk (g.F.SharedFloor.shared c.args.clerk.now.floor) c.args.clerk.now.waits.items in
     its-held c.args.plan.now c.actor_at-actor.result f c.args.states.now
     (get_or c.args.states.now c.args.place c.index-states-place.result)
-    (acting-at c.args.plan.now c.actor_at-actor.result f c.args.states.now c.args.place c.index-states-place.result
+    (acting-at c.args.plan.now c.actor_at-actor.result f.floor c.args.states.now c.args.place
+    c.index-states-place.result
     actor.resources actor.place actor.job c.requires.runnable c.requires.runs c.requires.place)
 
 pub act-requires-clause-can : goal.act-requires-clause-can
 act-requires-clause-can g c =
     let actor = c.actor_at-actor.ensures in
-    let f : Shared = g.F.SharedFloor.shared c.args.clerk.now.floor in
+    let f : Desk = desk (g.F.SharedFloor.shared c.args.clerk.now.floor) c.args.clerk.now.waits.items in
     can-act c.args.plan.now c.actor_at-actor.result f c.args.states.now
     (get_or c.args.states.now c.args.place c.index-states-place.result)
-    (acting-at c.args.plan.now c.actor_at-actor.result f c.args.states.now c.args.place c.index-states-place.result
+    (acting-at c.args.plan.now c.actor_at-actor.result f.floor c.args.states.now c.args.place
+    c.index-states-place.result
     actor.resources actor.place actor.job c.requires.runnable c.requires.runs c.requires.place)
     (rw actor.turn c.requires.turn)
 
 pub returns-clause-heard : goal.returns-clause-heard
 returns-clause-heard g c =
     let actor = c.actor_at-actor.ensures in
-    let f : Shared = g.F.SharedFloor.shared c.args.clerk.now.floor in
-    let acting : Acting c.args.plan.now c.actor_at-actor.result f c.args.states.now
+    let f : Desk = desk (g.F.SharedFloor.shared c.args.clerk.now.floor) c.args.clerk.now.waits.items in
+    let acting : Acting c.args.plan.now c.actor_at-actor.result f.floor c.args.states.now
     (get_or c.args.states.now c.args.place c.index-states-place.result)
-    = acting-at c.args.plan.now c.actor_at-actor.result f c.args.states.now c.args.place c.index-states-place.result
+    = acting-at c.args.plan.now c.actor_at-actor.result f.floor c.args.states.now c.args.place
+    c.index-states-place.result
     actor.resources actor.place actor.job c.requires.runnable c.requires.runs c.requires.place in
     on-ok-both c.act.result
     (λ acts held. one-job-heard c.args.plan.now c.actor_at-actor.result f c.args.states.now
     (get_or c.args.states.now c.args.place c.index-states-place.result) acting
-    (g.F.SharedFloor.shared c.act.new.clerk.floor) c.act.new.state acts held c.args.turn c.args.place actor.turn
-    actor.place)
+    (desk (g.F.SharedFloor.shared c.act.new.clerk.floor) c.act.new.clerk.waits.items) c.act.new.state acts held
+    c.args.turn c.args.place actor.turn actor.place)
     c.act.ensures.did c.act.ensures.held
 
 pub returns-clause-runs : goal.returns-clause-runs
 returns-clause-runs g c =
     let actor = c.actor_at-actor.ensures in
-    let f : Shared = g.F.SharedFloor.shared c.args.clerk.now.floor in
-    let acting : Acting c.args.plan.now c.actor_at-actor.result f c.args.states.now
+    let f : Desk = desk (g.F.SharedFloor.shared c.args.clerk.now.floor) c.args.clerk.now.waits.items in
+    let acting : Acting c.args.plan.now c.actor_at-actor.result f.floor c.args.states.now
     (get_or c.args.states.now c.args.place c.index-states-place.result)
-    = acting-at c.args.plan.now c.actor_at-actor.result f c.args.states.now c.args.place c.index-states-place.result
+    = acting-at c.args.plan.now c.actor_at-actor.result f.floor c.args.states.now c.args.place
+    c.index-states-place.result
     actor.resources actor.place actor.job c.requires.runnable c.requires.runs c.requires.place in
     on-ok-both c.act.result
     (λ acts held. one-job-runs c.args.plan.now c.actor_at-actor.result f c.args.states.now
     (get_or c.args.states.now c.args.place c.index-states-place.result) acting
-    (g.F.SharedFloor.shared c.act.new.clerk.floor) c.act.new.state acts held c.args.turn c.args.place actor.turn
-    actor.place)
+    (desk (g.F.SharedFloor.shared c.act.new.clerk.floor) c.act.new.clerk.waits.items) c.act.new.state acts held
+    c.args.turn c.args.place actor.turn actor.place)
+    c.act.ensures.did c.act.ensures.held
+
+pub returns-clause-went : goal.returns-clause-went
+returns-clause-went g c =
+    let actor = c.actor_at-actor.ensures in
+    let f : Desk = desk (g.F.SharedFloor.shared c.args.clerk.now.floor) c.args.clerk.now.waits.items in
+    let acting : Acting c.args.plan.now c.actor_at-actor.result f.floor c.args.states.now
+    (get_or c.args.states.now c.args.place c.index-states-place.result)
+    = acting-at c.args.plan.now c.actor_at-actor.result f.floor c.args.states.now c.args.place
+    c.index-states-place.result
+    actor.resources actor.place actor.job c.requires.runnable c.requires.runs c.requires.place in
+    on-ok-both c.act.result
+    (λ acts held. one-job-went c.args.plan.now c.actor_at-actor.result f c.args.states.now
+    (get_or c.args.states.now c.args.place c.index-states-place.result) acting
+    (desk (g.F.SharedFloor.shared c.act.new.clerk.floor) c.act.new.clerk.waits.items) c.act.new.state acts held
+    c.args.turn c.args.place actor.turn actor.place)
     c.act.ensures.did c.act.ensures.held

@@ -11,7 +11,7 @@ loop-place-preserved g c =
     = omega (arith, c.loop-place-test.true, ap length c.as_slice-place-end.ensures) in
     record {
       on = turns-on c.args.plan.now c.args.turn c.loop-place.place _ _ _ _ _ _ c.loop-place.invariant.on below
-          c.in_ok-one_job.ensures.heard;
+          c.in_ok-one_job.ensures.heard c.in_ok-one_job.ensures.went;
       runs = c.in_ok-one_job.ensures.runs;
     }
 
@@ -20,3 +20,6 @@ returns-clause-heard g c =
     let all : length c.args.plan.now.jobs ≡ c.loop-place.place
     = omega (arith, c.loop-place-test.false, c.loop-place.auto.place-end, ap length c.as_slice-place-end.ensures) in
     turn-ends c.args.plan.now c.args.turn c.loop-place.place _ _ _ _ c.loop-place.invariant.on all
+
+pub returns-clause-went : goal.returns-clause-went
+returns-clause-went g c = c.loop-place.invariant.on.went

@@ -1,0 +1,53 @@
+-- How a worker's jobs go on from turn to turn, together.
+use Rattle.std.specs.Prelude.{◌≡◌, ℕ, ◌+◌, ◌≤◌, Bool, List, ◌++◌, All, Some, length, slice_get, if◌then◌else◌}
+use Rattle.cqs_plan.specs.declared.plans.job.Job.{Job}
+use Rattle.cqs_plan.specs.declared.plans.plan.Plan.{Plan}
+use Rattle.cqs_turns.specs.declared.states.End.{End}
+use Rattle.cqs_turns.specs.declared.states.Progress.{Progress}
+use Rattle.cqs_turns.specs.declared.states.Progress.TheVariants.{Ended}
+use Rattle.cqs_shared.specs.Shared.{kind_at}
+use Rattle.cqs_work.specs.declared.waits.Waited.{Waited}
+use Rattle.cqs_work.specs.Desk.{Desk}
+use Rattle.cqs_work.specs.Needs.{needed}
+use Rattle.cqs_work.specs.Noted.{HasPermits, IsNoted}
+use Rattle.cqs_work.specs.Takes.{takes_made, takes_left, took}
+use Rattle.cqs_work.specs.Causes.{IsCaused}
+use Rattle.cqs_work.specs.Adds.{IsOver}
+
+-- what stands behind how far each job is
+pub record AreCaused (plan : Plan) (d : Desk) (progress : List Progress) : Type 0 where
+  pub at : (place : ℕ) (job : Job) (p : Progress) → slice_get plan.jobs place ≡ Some job
+      → slice_get progress place ≡ Some p → IsCaused job place d p
+
+-- there is a job at a place, which hasn't ended
+pub record GoesOn (progress : List Progress) (place : ℕ) : Type 0 where
+  pub p : Progress
+  pub there : slice_get progress place ≡ Some p
+  pub going : IsOver p → ⊥
+
+-- how many takes a job has made, where it is one of these; and how many it may still make
+abbrev pub made_by : (ℕ → Bool) → ℕ → ℕ → Job → Progress → ℕ
+made_by mine at place job p = if mine place then takes_made at job.steps p else 0
+
+abbrev pub left_by : ℕ → ℕ → Job → Progress → ℕ
+left_by at place job p = takes_left at job.steps p
+
+-- The jobs came from as far as `before` to as far as `now`. More waits were told to jobs that
+-- hadn't ended; the takes of the pass are at least those that any of the jobs made, and at most
+-- those that all could make.
+pub record Went (plan : Plan) (f : Desk) (before : List Progress) (g : Desk) (now : List Progress)
+    : Type 0 where
+  pub long : length now ≡ length before
+  pub more : List Waited
+  pub waits : g.waits ≡ f.waits ++ more
+  pub whose : All (λ wait. GoesOn before wait.job) more
+  pub over : (place : ℕ) (e : End) → slice_get before place ≡ Some (Ended e)
+      → slice_get now place ≡ Some (Ended e)
+  pub noted : IsNoted f → IsNoted g
+  pub least : IsNoted f → (mine : ℕ → Bool) (at : ℕ) → HasPermits (kind_at f.floor at)
+      → took f.floor at + needed (made_by mine at) 0 plan.jobs now
+      ≤ took g.floor at + needed (made_by mine at) 0 plan.jobs before
+  pub most : IsNoted f → (at : ℕ) → HasPermits (kind_at f.floor at)
+      → took g.floor at + needed (left_by at) 0 plan.jobs now
+      ≤ took f.floor at + needed (left_by at) 0 plan.jobs before
+  pub caused : IsNoted f → AreCaused plan f before → AreCaused plan g now

@@ -1,3 +1,7 @@
 pub mod SemaphoreKept
 pub mod Waits
 pub mod MarkSteps
+pub mod TokenSteps
+pub mod PoolKept
+pub mod LatchKept
+pub mod BarrierKept

@@ -3,8 +3,15 @@ use Rattle.cqs_by_number.specs.declared.caller.Caller.{Caller}
 use Rattle.cqs_by_number.specs.declared.caller.Caller.TheVariants as caller
 use Rattle.cqs_by_number.specs.declared.primitive.Primitive.{Primitive}
 use Rattle.cqs_by_number.specs.declared.primitive.Primitive.TheVariants as primitive
+use Rattle.cqs_by_number.specs.BarrierCallers as barrier
+use Rattle.cqs_by_number.specs.LatchCallers as latch
+use Rattle.cqs_by_number.specs.PoolCallers as pool
 use Rattle.cqs_by_number.specs.SemaphoreCallers as semaphore
 
 -- the caller is one of the primitive, and stands as such a caller does
 abbrev pub StandsAt : Primitive → Caller → Type 0
 StandsAt (primitive.Semaphore s) (caller.Semaphore c) = semaphore.StandsAt s c
+StandsAt (primitive.Pool p) (caller.Pool c) = pool.StandsAt p c
+StandsAt (primitive.Latch l) (caller.Latch c) = latch.StandsAt l c
+StandsAt (primitive.Barrier b) (caller.Barrier c) = barrier.StandsAt b c
+StandsAt _ _ = ⊥

@@ -1,5 +1,9 @@
 pub mod Waits
+pub mod Tokens
 pub mod SemaphoreCallers
+pub mod PoolCallers
+pub mod LatchCallers
+pub mod BarrierCallers
 pub mod Callers
 pub mod Told
 pub mod Marks

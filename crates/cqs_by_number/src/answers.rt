@@ -13,8 +13,12 @@ pub enum Answer {
     OwesNothing,
     /// The pass holds no permit.
     NoPermit,
+    /// The pass holds no party, or fewer than it is to give.
+    NoParty,
     /// The pass has no wait of this number.
     NoWait,
+    /// The pass has no element of this number in hand.
+    NoElement,
     /// The primitive has no such call.
     NoCall,
     /// The pass has as many waits as there is room for.
@@ -35,19 +39,19 @@ pub enum Answer {
     Got,
     /// No permit was free.
     NoneFree,
-    /// One was free, and another caller was first: the state was loaded as the one, and then found
-    /// as the other.
+    /// Another caller was first: the state was loaded as the one, and then found as the other. So
+    /// are the parties that are still to arrive, and then the wait is still to be left by `finish`.
     Contended { saw: i64, found: i64 },
     /// The permit of the wait has come.
     Granted,
     /// The wait goes on.
     Pending,
-    /// The wait is over, and no permit came of it.
+    /// The wait is over, and nothing came of it.
     Cancelled,
-    /// The same, and a permit that was on its way to it is still to be passed on by `finish`. This
-    /// is the last number that was drawn.
+    /// The same, and what was on its way to it is still to be passed on by `finish`. This is the
+    /// last number that was drawn.
     CancelledOwing(u64),
-    /// The permit had come before, and the pass has it.
+    /// What it waited for had come before: the pass has the permit, or is through.
     TooLate,
     /// The permit is free.
     Freed,
@@ -61,6 +65,25 @@ pub enum Answer {
     Under(u64),
     /// The state: the free permits, less those who wait with none on its way.
     State(i64),
+    /// The pass has the element of this number.
+    Took(u32),
+    /// The element of this number had come before, and the pass has it.
+    LateTook(u32),
+    /// The latch is open, and the caller is through.
+    Passed,
+    /// The latch was opened, or all parties have arrived, and the wait is over.
+    Through,
+    /// So many counts are left.
+    Counted(u32),
+    /// It was the last count, or all parties have arrived: each who waited was resumed.
+    Last,
+    /// The same, but some of those who waited are still to be resumed, by `finish`. This is the
+    /// last number that was drawn.
+    LastOwing(u64),
+    /// The count was used up before.
+    Already,
+    /// All that was owed is done.
+    Finished,
     /// Whether no other pass is there.
     Sole(bool),
     /// The new pass has this number.

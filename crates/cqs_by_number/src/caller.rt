@@ -1,11 +1,17 @@
 //! Who has a pass, of whatever primitive.
 
+use crate::barrier_caller::BarrierCaller;
+use crate::latch_caller::LatchCaller;
+use crate::pool_caller::PoolCaller;
 use crate::semaphore_caller::SemaphoreCaller;
 
 /// What the number of a pass stands for, by its primitive.
 #[derive(Drop)]
 pub enum Caller {
     Semaphore(SemaphoreCaller),
+    Pool(PoolCaller),
+    Latch(LatchCaller),
+    Barrier(BarrierCaller),
 }
 
 impl Caller {
@@ -13,6 +19,9 @@ impl Caller {
     pub fn number(&self) -> u32 {
         match self {
             Caller::Semaphore(caller) => caller.pass.number(),
+            Caller::Pool(caller) => caller.pass.number(),
+            Caller::Latch(caller) => caller.pass.number(),
+            Caller::Barrier(caller) => caller.pass.number(),
         }
     }
 }

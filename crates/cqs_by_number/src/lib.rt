@@ -14,22 +14,29 @@
 #![tactic(auto)]
 
 mod answers;
+mod barrier_caller;
 mod caller;
 mod calls;
+mod latch_caller;
 mod making;
 mod marks;
 mod numbered;
 mod places;
+mod pool_caller;
 mod primitive;
 mod seats;
 mod semaphore_caller;
 mod taking;
 mod threads;
+mod tokens;
 mod verb;
 
 pub use answers::Answer;
+pub use barrier_caller::{BarrierCaller, PartyOwes};
 pub use caller::Caller;
+pub use latch_caller::LatchCaller;
 pub use numbered::Numbered;
+pub use pool_caller::PoolCaller;
 pub use primitive::Primitive;
 pub use semaphore_caller::SemaphoreCaller;
 pub use verb::Verb;

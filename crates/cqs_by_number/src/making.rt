@@ -5,13 +5,19 @@ ghost use Rattle.cqs_rule.specs.Configured.{is_config};
 ghost use Rattle.cqs_by_number.specs.Callers.{StandsAt};
 
 use crate::answers::Answer;
+use crate::barrier_caller::BarrierCaller;
 use crate::caller::Caller;
+use crate::latch_caller::LatchCaller;
 use crate::marks::{NOBODY, Slots};
 use crate::numbered::Numbered;
+use crate::pool_caller::PoolCaller;
 use crate::primitive::Primitive;
 use crate::semaphore_caller::SemaphoreCaller;
 use atomic_table::Table;
-use cqs_rule::{Config, MakeError};
+use cqs_barrier::Barrier;
+use cqs_latch::Latch;
+use cqs_pool::Pool;
+use cqs_rule::{CancelMode, Config, MakeError};
 use cqs_semaphore::Semaphore;
 use std::alloc::{AllocError, Global};
 
@@ -61,6 +67,72 @@ impl Numbered {
             alloc,
             primitive,
             Caller::Semaphore(first),
+            config.passes,
+            waits,
+        )
+    }
+
+    /// A pool of so many elements, all of them free, and its first pass, under the number 0. Each
+    /// pass has room for so many waits, and for one element more than there are.
+    pub fn pool(alloc: Global, size: u32, config: Config, waits: u32) -> Result<Numbered, MakeError>
+        ensures bad_config { (size ≡ 0) ⊎ ((4096 < size) ⊎ ((is_config config ≡ false)
+            ⊎ (1048576 < waits))) → IsErrOf result MakeError.BadConfig }
+    {
+        if waits > MOST_WAITS || !config.is_in_range() {
+            return Err(MakeError::BadConfig);
+        }
+        let (pool, pass) = Pool::unparked(alloc, size, config)?;
+        let room = Vec::with_capacity(alloc, waits as usize)?;
+        let elements = Vec::with_capacity(alloc, size as usize + 1)?;
+        let first = PoolCaller::new(&pool, pass, room, elements);
+        let primitive = Primitive::Pool(pool);
+        Numbered::open(alloc, primitive, Caller::Pool(first), config.passes, waits)
+    }
+
+    /// A latch that is to be counted down so often, whose waits leave in this mode, and its first
+    /// pass, under the number 0. Each pass has room for so many waits.
+    pub fn latch(
+        alloc: Global,
+        count: u32,
+        mode: CancelMode,
+        config: Config,
+        waits: u32,
+    ) -> Result<Numbered, MakeError>
+        ensures bad_config { (1048576 < count) ⊎ ((is_config config ≡ false) ⊎ (1048576 < waits))
+            → IsErrOf result MakeError.BadConfig }
+    {
+        if waits > MOST_WAITS || !config.is_in_range() {
+            return Err(MakeError::BadConfig);
+        }
+        let (latch, pass) = Latch::unparked(alloc, count, mode, config)?;
+        let room = Vec::with_capacity(alloc, waits as usize)?;
+        let first = LatchCaller::new(&latch, pass, room);
+        let primitive = Primitive::Latch(latch);
+        Numbered::open(alloc, primitive, Caller::Latch(first), config.passes, waits)
+    }
+
+    /// A barrier of so many parties, none of which has arrived, and its first pass, under the
+    /// number 0, which holds all of them. Each pass has room for so many waits.
+    pub fn barrier(
+        alloc: Global,
+        parties: u32,
+        config: Config,
+        waits: u32,
+    ) -> Result<Numbered, MakeError>
+        ensures bad_config { (parties ≡ 0) ⊎ ((32 < parties) ⊎ ((is_config config ≡ false)
+            ⊎ (1048576 < waits))) → IsErrOf result MakeError.BadConfig }
+    {
+        if waits > MOST_WAITS || !config.is_in_range() {
+            return Err(MakeError::BadConfig);
+        }
+        let (barrier, pass) = Barrier::unparked(alloc, parties, config)?;
+        let room = Vec::with_capacity(alloc, waits as usize)?;
+        let first = BarrierCaller::new(&barrier, pass, room);
+        let primitive = Primitive::Barrier(barrier);
+        Numbered::open(
+            alloc,
+            primitive,
+            Caller::Barrier(first),
             config.passes,
             waits,
         )

@@ -6,6 +6,9 @@ ghost use Rattle.cqs_by_number.specs.Callers.{StandsAt};
 use crate::answers::Answer;
 use crate::caller::Caller;
 use crate::verb::Verb;
+use cqs_barrier::Barrier;
+use cqs_latch::Latch;
+use cqs_pool::Pool;
 use cqs_rule::Unparked;
 use cqs_semaphore::Semaphore;
 use std::alloc::Global;
@@ -14,10 +17,13 @@ use std::alloc::Global;
 #[derive(Drop)]
 pub enum Primitive {
     Semaphore(Semaphore<Unparked>),
+    Pool(Pool<Unparked>),
+    Latch(Latch<Unparked>),
+    Barrier(Barrier<Unparked>),
 }
 
 impl Primitive {
-    /// One call with the pass of a caller. `number` is that of a wait.
+    /// One call with the pass of a caller. `number` is that of a wait or of an element.
     pub fn call(&self, caller: &mut Caller, verb: Verb, number: u64) -> Answer
         requires { StandsAt self.now caller.old }
         ensures { StandsAt self.now caller.new }
@@ -25,12 +31,31 @@ impl Primitive {
         match self {
             Primitive::Semaphore(semaphore) => match caller {
                 Caller::Semaphore(caller) => caller.call(semaphore, verb, number),
+                Caller::Pool(_) | Caller::Latch(_) | Caller::Barrier(_) => unreachable!(),
+            },
+            Primitive::Pool(pool) => match caller {
+                Caller::Pool(caller) => caller.call(pool, verb, number),
+                Caller::Semaphore(_) | Caller::Latch(_) | Caller::Barrier(_) => unreachable!(),
+            },
+            Primitive::Latch(latch) => match caller {
+                Caller::Latch(caller) => caller.call(latch, verb, number),
+                Caller::Semaphore(_) | Caller::Pool(_) | Caller::Barrier(_) => unreachable!(),
+            },
+            Primitive::Barrier(barrier) => match caller {
+                Caller::Barrier(caller) => caller.call(barrier, verb, number),
+                Caller::Semaphore(_) | Caller::Pool(_) | Caller::Latch(_) => unreachable!(),
             },
         }
     }
 
-    /// A new caller, with room for so many waits.
-    pub fn split(&self, caller: &mut Caller, alloc: Global, waits: u32) -> Result<Caller, Answer>
+    /// A new caller, with room for so many waits. Of a barrier it gets so many parties.
+    pub fn split(
+        &self,
+        caller: &mut Caller,
+        alloc: Global,
+        waits: u32,
+        gives: u32,
+    ) -> Result<Caller, Answer>
         requires { StandsAt self.now caller.old }
         ensures stands { StandsAt self.now caller.new }
         ensures made { IfOk result (λ made. StandsAt self.now made) }
@@ -44,6 +69,40 @@ impl Primitive {
                     let made = caller.split(semaphore, room)?;
                     Ok(Caller::Semaphore(made))
                 }
+                Caller::Pool(_) | Caller::Latch(_) | Caller::Barrier(_) => unreachable!(),
+            },
+            Primitive::Pool(pool) => match caller {
+                Caller::Pool(caller) => {
+                    let Ok(room) = Vec::with_capacity(alloc, waits as usize) else {
+                        return Err(Answer::Memory);
+                    };
+                    let Ok(elements) = Vec::with_capacity(alloc, caller.elements.capacity()) else {
+                        return Err(Answer::Memory);
+                    };
+                    let made = caller.split(pool, room, elements)?;
+                    Ok(Caller::Pool(made))
+                }
+                Caller::Semaphore(_) | Caller::Latch(_) | Caller::Barrier(_) => unreachable!(),
+            },
+            Primitive::Latch(latch) => match caller {
+                Caller::Latch(caller) => {
+                    let Ok(room) = Vec::with_capacity(alloc, waits as usize) else {
+                        return Err(Answer::Memory);
+                    };
+                    let made = caller.split(latch, room)?;
+                    Ok(Caller::Latch(made))
+                }
+                Caller::Semaphore(_) | Caller::Pool(_) | Caller::Barrier(_) => unreachable!(),
+            },
+            Primitive::Barrier(barrier) => match caller {
+                Caller::Barrier(caller) => {
+                    let Ok(room) = Vec::with_capacity(alloc, waits as usize) else {
+                        return Err(Answer::Memory);
+                    };
+                    let made = caller.split(barrier, room, gives)?;
+                    Ok(Caller::Barrier(made))
+                }
+                Caller::Semaphore(_) | Caller::Pool(_) | Caller::Latch(_) => unreachable!(),
             },
         }
     }
@@ -63,7 +122,39 @@ impl Primitive {
                         Ok(()) => Ok(()),
                         Err((given, refused)) => Err((Caller::Semaphore(given), refused)),
                     },
+                    Caller::Pool(_) | Caller::Latch(_) | Caller::Barrier(_) => unreachable!(),
                 },
+                Caller::Pool(_) | Caller::Latch(_) | Caller::Barrier(_) => unreachable!(),
+            },
+            Primitive::Pool(pool) => match caller {
+                Caller::Pool(caller) => match given {
+                    Caller::Pool(given) => match caller.meet(pool, given) {
+                        Ok(()) => Ok(()),
+                        Err((given, refused)) => Err((Caller::Pool(given), refused)),
+                    },
+                    Caller::Semaphore(_) | Caller::Latch(_) | Caller::Barrier(_) => unreachable!(),
+                },
+                Caller::Semaphore(_) | Caller::Latch(_) | Caller::Barrier(_) => unreachable!(),
+            },
+            Primitive::Latch(latch) => match caller {
+                Caller::Latch(caller) => match given {
+                    Caller::Latch(given) => match caller.meet(latch, given) {
+                        Ok(()) => Ok(()),
+                        Err((given, refused)) => Err((Caller::Latch(given), refused)),
+                    },
+                    Caller::Semaphore(_) | Caller::Pool(_) | Caller::Barrier(_) => unreachable!(),
+                },
+                Caller::Semaphore(_) | Caller::Pool(_) | Caller::Barrier(_) => unreachable!(),
+            },
+            Primitive::Barrier(barrier) => match caller {
+                Caller::Barrier(caller) => match given {
+                    Caller::Barrier(given) => match caller.meet(barrier, given) {
+                        Ok(()) => Ok(()),
+                        Err((given, refused)) => Err((Caller::Barrier(given), refused)),
+                    },
+                    Caller::Semaphore(_) | Caller::Pool(_) | Caller::Latch(_) => unreachable!(),
+                },
+                Caller::Semaphore(_) | Caller::Pool(_) | Caller::Latch(_) => unreachable!(),
             },
         }
     }

@@ -8,13 +8,15 @@ use crate::marks::{NOBODY, RESTS};
 use crate::numbered::Numbered;
 
 impl Numbered {
-    /// A new pass, under a number of its own.
-    pub fn split(&self, pass: u32) -> Answer {
+    /// A new pass, under a number of its own. Of a barrier it gets so many parties.
+    pub fn split(&self, pass: u32, gives: u32) -> Answer {
         let (hand, mut caller) = match self.take(pass) {
             Ok(taken) => taken,
             Err(refused) => return refused,
         };
-        let made = self.primitive.split(&mut caller, self.alloc, self.room);
+        let made = self
+            .primitive
+            .split(&mut caller, self.alloc, self.room, gives);
         self.put(pass, hand, caller);
         match made {
             Ok(made) => self.seat(made),

@@ -3,15 +3,15 @@
 /// A call with one pass. Each primitive has some of them, under names of its own.
 #[derive(Clone, Copy, Debug, PartialEq, Eq, Drop)]
 pub enum Verb {
-    /// `acquire` of a semaphore.
+    /// `acquire` of a semaphore, `take` of a pool, `wait` of a latch, `arrive` of a barrier.
     Enter,
-    /// The same, without waiting.
+    /// The same, without waiting: of a semaphore.
     Try,
     /// Looks at a wait.
     Poll,
     /// Gives a wait up.
     Cancel,
-    /// `release` of a semaphore.
+    /// `release` of a semaphore, `put` of a pool, `count_down` of a latch.
     Leave,
     /// Goes on with what is owed.
     Finish,

@@ -1,0 +1,32 @@
+use Rattle.std.proofs.Common.{◌≡◌, ap}
+use Rattle.cqs_barrier.specs.Waits.{wait_in}
+use Rattle.cqs_rule.specs.declared.view.Facts.{Facts}
+use Rattle.cqs_rule.specs.Passes.{pass_view}
+use Rattle.cqs_by_number.proofs.BarrierKept.{owes-none, apart-none}
+use Rattle.cqs_by_number.proofs.TokenSteps.{same_waits}
+use Rattle.cqs_by_number.proofs.barrier_caller.BarrierCaller.meet.Goals as goal
+
+pub returns-in-Ok-clause-stands : goal.returns-in-Ok-clause-stands
+returns-in-Ok-clause-stands c =
+    let v = pass_view c.args.self.now.pass in
+    let w = pass_view c.meet.new.pass in
+    let met = c.in-Ok.ensures.met in
+    record {
+      belongs = c.meet.ensures.belongs;
+      owes = owes-none w _ c.if-is_some.ensures c.meet.ensures.ready;
+      waits = same_waits wait_in v w _ (met.number, ap (λ (f : Facts). f.waits) met.facts_are) c.requires.stands.waits;
+      apart = apart-none _ _ c.if-is_some.ensures;
+    }
+
+pub returns-in-Err-clause-stands : goal.returns-in-Err-clause-stands
+returns-in-Err-clause-stands c =
+    let v = pass_view c.args.self.now.pass in
+    let w = pass_view c.meet.new.pass in
+    let same = c.in-Err.ensures.unchanged in
+    record {
+      belongs = c.meet.ensures.belongs;
+      owes = owes-none w _ c.if-is_some.ensures c.meet.ensures.ready;
+      waits = same_waits wait_in v w _
+          (ap (λ p. (pass_view p).number) same, ap (λ p. (pass_view p).facts.waits) same) c.requires.stands.waits;
+      apart = apart-none _ _ c.if-is_some.ensures;
+    }

@@ -1,0 +1,58 @@
+use Rattle.std.proofs.Common.{◌≡◌, ◌∙◌, ap, subst, sym}
+use Rattle.cqs_latch.specs.LeftAnswers.{IsReadyLeft}
+use Rattle.cqs_rule.specs.Passes.{pass_view}
+use Rattle.cqs_by_number.specs.Tokens.{wait_index}
+use Rattle.cqs_by_number.proofs.LatchKept.{owes-none}
+use Rattle.cqs_by_number.proofs.TokenSteps.{the_wait, tokens_others, taken_token, taken_none}
+use Rattle.cqs_by_number.proofs.latch_caller.LatchCaller.cancel.Goals as goal
+
+pub cancel-requires-clause-has : goal.cancel-requires-clause-has
+cancel-requires-clause-has c = λ κs.
+    taken_token the_wait _ _ _ _ _ c.in-Some.ensures.taken c.requires.stands.waits
+
+pub returns-in-Gone-clause-stands : goal.returns-in-Gone-clause-stands
+returns-in-Gone-clause-stands c =
+    let taken = c.in-Some.ensures.taken in
+    let old = c.requires.stands.waits in
+    let w = pass_view c.cancel.new.pass in
+    record {
+      belongs = c.cancel.ensures.belongs;
+      owes = owes-none _ _ c.if-is_some.ensures
+          (subst (λ answer. IsReadyLeft answer w.facts) c.in-Gone.is c.cancel.ensures.ready);
+      waits = tokens_others the_wait _ _ _ _ _ _ taken c.cancel.ensures.keeps old;
+    }
+
+pub returns-in-GoneOwing-clause-stands : goal.returns-in-GoneOwing-clause-stands
+returns-in-GoneOwing-clause-stands c =
+    let taken = c.in-Some.ensures.taken in
+    let old = c.requires.stands.waits in
+    let w = pass_view c.cancel.new.pass in
+    record {
+      belongs = c.cancel.ensures.belongs;
+      owes = subst (λ answer. IsReadyLeft answer w.facts) c.in-GoneOwing.is c.cancel.ensures.ready;
+      waits = tokens_others the_wait _ _ _ _ _ _ taken c.cancel.ensures.keeps old;
+    }
+
+pub returns-in-TooLate-clause-stands : goal.returns-in-TooLate-clause-stands
+returns-in-TooLate-clause-stands c =
+    let taken = c.in-Some.ensures.taken in
+    let old = c.requires.stands.waits in
+    let w = pass_view c.cancel.new.pass in
+    record {
+      belongs = c.cancel.ensures.belongs;
+      owes = owes-none _ _ c.if-is_some.ensures
+          (subst (λ answer. IsReadyLeft answer w.facts) c.in-TooLate.is c.cancel.ensures.ready);
+      waits = tokens_others the_wait _ _ _ _ _ _ taken c.cancel.ensures.keeps old;
+    }
+
+pub returns-in-Gone-clause-no_wait : goal.returns-in-Gone-clause-no_wait
+returns-in-Gone-clause-no_wait c free none =
+    absurd (taken_none wait_index _ _ _ _ c.in-Some.ensures.taken none)
+
+pub returns-in-GoneOwing-clause-no_wait : goal.returns-in-GoneOwing-clause-no_wait
+returns-in-GoneOwing-clause-no_wait c free none =
+    absurd (taken_none wait_index _ _ _ _ c.in-Some.ensures.taken none)
+
+pub returns-in-TooLate-clause-no_wait : goal.returns-in-TooLate-clause-no_wait
+returns-in-TooLate-clause-no_wait c free none =
+    absurd (taken_none wait_index _ _ _ _ c.in-Some.ensures.taken none)

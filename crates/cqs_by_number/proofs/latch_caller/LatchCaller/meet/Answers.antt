@@ -1,0 +1,17 @@
+use Rattle.cqs_by_number.proofs.LatchKept.{owes-none}
+use Rattle.cqs_by_number.proofs.TokenSteps.{the_wait, tokens_stay}
+use Rattle.cqs_by_number.proofs.latch_caller.LatchCaller.meet.Goals as goal
+
+pub returns-in-Ok-clause-stands : goal.returns-in-Ok-clause-stands
+returns-in-Ok-clause-stands c = record {
+  belongs = c.meet.ensures.belongs;
+  owes = owes-none _ _ c.if-is_some.ensures c.meet.ensures.ready;
+  waits = tokens_stay the_wait _ _ _ c.meet.ensures.keeps c.requires.stands.waits;
+}
+
+pub returns-in-Err-clause-stands : goal.returns-in-Err-clause-stands
+returns-in-Err-clause-stands c = record {
+  belongs = c.meet.ensures.belongs;
+  owes = owes-none _ _ c.if-is_some.ensures c.meet.ensures.ready;
+  waits = tokens_stay the_wait _ _ _ c.meet.ensures.keeps c.requires.stands.waits;
+}

@@ -1,0 +1,40 @@
+use Rattle.std.proofs.Common.{◌≡◌, ◌∙◌, ◌++◌, ◌∷◌, [], ap, subst, sym, Ok}
+use Rattle.cqs_latch.specs.declared.answers.LatchWait.TheVariants.{Later}
+use Rattle.cqs_latch.specs.Answers.{HasWaited}
+use Rattle.cqs_rule.specs.Passes.{pass_view}
+use Rattle.cqs_rule.specs.Waits.{place_of}
+use Rattle.cqs_by_number.specs.Tokens.{HasTokens}
+use Rattle.cqs_by_number.proofs.LatchKept.{owes-none}
+use Rattle.cqs_by_number.proofs.TokenSteps.{the_wait, tokens_stay, tokens_more, new_number}
+use Rattle.cqs_by_number.proofs.latch_caller.LatchCaller.wait.Goals as goal
+
+pub returns-in-Ok-Passed-clause-stands : goal.returns-in-Ok-Passed-clause-stands
+returns-in-Ok-Passed-clause-stands c = record {
+  belongs = c.wait.ensures.belongs;
+  owes = owes-none _ _ c.if-is_some.ensures c.wait.ensures.ready;
+  waits = tokens_stay the_wait _ _ _ c.wait.ensures.keeps c.requires.stands.waits;
+}
+
+pub returns-in-Ok-Later-clause-stands : goal.returns-in-Ok-Later-clause-stands
+returns-in-Ok-Later-clause-stands c =
+    let v = pass_view c.args.self.now.pass in
+    let w = pass_view c.wait.new.pass in
+    let wait = c.in-Ok-Later.wait in
+    let told = subst (λ answer. HasWaited v answer w) (c.in-Ok-Later.is ∙ ap Ok c.in-Ok-Later.field-0-is)
+    c.wait.ensures.waited in
+    let old = c.requires.stands.waits in
+    let others = new_number the_wait v w (place_of wait).index _ c.wait.ensures.belongs.live.inside
+    told.2.4.waits_are old in
+    record {
+      belongs = c.wait.ensures.belongs;
+      owes = owes-none _ _ c.if-is_some.ensures c.wait.ensures.ready;
+      waits = subst (HasTokens the_wait w) (sym c.push_reserved.ensures.items)
+          (tokens_more the_wait w _ wait told.2.3 others (tokens_stay the_wait v w _ c.wait.ensures.keeps old));
+    }
+
+pub returns-in-Err-clause-stands : goal.returns-in-Err-clause-stands
+returns-in-Err-clause-stands c = record {
+  belongs = c.wait.ensures.belongs;
+  owes = owes-none _ _ c.if-is_some.ensures c.wait.ensures.ready;
+  waits = tokens_stay the_wait _ _ _ c.wait.ensures.keeps c.requires.stands.waits;
+}

@@ -1,0 +1,16 @@
+use Rattle.cqs_by_number.proofs.PoolKept.{ends_owes, elements_same}
+use Rattle.cqs_by_number.proofs.TokenSteps.{the_wait, same_waits}
+use Rattle.cqs_by_number.proofs.pool_caller.PoolCaller.finish.Goals as goal
+
+pub keep-requires-clause-owes : goal.keep-requires-clause-owes
+keep-requires-clause-owes c = (ends_owes _ _ _ _ _ _ c.finish-placed.ensures.ends).0
+
+pub keep-requires-clause-waits : goal.keep-requires-clause-waits
+keep-requires-clause-waits c =
+    same_waits the_wait _ _ _
+    (c.finish-placed.ensures.called.called.same.number, (ends_owes _ _ _ _ _ _ c.finish-placed.ensures.ends).2)
+    c.requires.stands.waits
+
+pub keep-requires-clause-elements : goal.keep-requires-clause-elements
+keep-requires-clause-elements c =
+    elements_same _ _ _ (ends_owes _ _ _ _ _ _ c.finish-placed.ensures.ends).1 c.requires.stands.elements

@@ -1,0 +1,31 @@
+use Rattle.std.proofs.Common.{◌≡◌, ap, subst, sym}
+use Rattle.cqs_rule.specs.declared.view.Facts.{Facts}
+use Rattle.cqs_rule.specs.Lists.{Has}
+use Rattle.cqs_rule.specs.Passes.{pass_view}
+use Rattle.cqs_rule.proofs.Lists.{has_left}
+use Rattle.cqs_by_number.proofs.PoolKept.{owes-none, elements_same, elements_stay}
+use Rattle.cqs_by_number.proofs.TokenSteps.{the_wait, same_waits}
+use Rattle.cqs_by_number.proofs.pool_caller.PoolCaller.meet.Goals as goal
+
+pub returns-in-Ok-clause-stands : goal.returns-in-Ok-clause-stands
+returns-in-Ok-clause-stands c =
+    let met = c.in-Ok.ensures.met in
+    record {
+      belongs = c.meet.ensures.belongs;
+      owes = owes-none _ _ c.if-is_some.ensures c.meet.ensures.ready;
+      waits = same_waits the_wait _ (pass_view c.meet.new.pass) _
+          (met.number, ap (λ (f : Facts). f.waits) met.facts_are) c.requires.stands.waits;
+      elements = elements_stay _ _ _ (λ e has. subst (Has e) (sym c.in-Ok.ensures.elements) (has_left e _ _ has))
+          c.requires.stands.elements;
+    }
+
+pub returns-in-Err-clause-stands : goal.returns-in-Err-clause-stands
+returns-in-Err-clause-stands c =
+    let same = c.in-Err.ensures.unchanged in
+    record {
+      belongs = c.meet.ensures.belongs;
+      owes = owes-none _ _ c.if-is_some.ensures c.meet.ensures.ready;
+      waits = same_waits the_wait _ _ _
+          (ap (λ p. (pass_view p).number) same, ap (λ p. (pass_view p).facts.waits) same) c.requires.stands.waits;
+      elements = elements_same _ _ _ (ap (λ p. (pass_view p).facts.has.slots) same) c.requires.stands.elements;
+    }

@@ -1,0 +1,28 @@
+use Rattle.cqs_rule.specs.Passes.{pass_view}
+use Rattle.cqs_pool.specs.Answers.{IsInHand}
+use Rattle.cqs_pool.specs.Elements.{number_of}
+use Rattle.cqs_by_number.proofs.PoolKept.{ends_owes, elements_less}
+use Rattle.cqs_by_number.proofs.TokenSteps.{the_wait, same_waits, taken_one, taken_none}
+use Rattle.cqs_by_number.proofs.pool_caller.PoolCaller.put.Goals as goal
+
+pub put-requires-clause-has : goal.put-requires-clause-has
+put-requires-clause-has c = λ κs.
+    taken_one number_of _ _ _ _ c.in-Some.ensures.taken
+    (λ y. IsInHand (number_of y) (pass_view c.args.self.now.pass).facts) c.requires.stands.elements.has
+
+pub keep-requires-clause-owes : goal.keep-requires-clause-owes
+keep-requires-clause-owes c = (ends_owes _ _ _ _ _ _ c.in-Ok.ensures.ends).0
+
+pub keep-requires-clause-waits : goal.keep-requires-clause-waits
+keep-requires-clause-waits c =
+    same_waits the_wait _ _ _
+    (c.put.ensures.called.called.same.number, (ends_owes _ _ _ _ _ _ c.in-Ok.ensures.ends).2) c.requires.stands.waits
+
+pub keep-requires-clause-elements : goal.keep-requires-clause-elements
+keep-requires-clause-elements c =
+    elements_less _ _ _ _ _ _ c.in-Some.ensures.taken (ends_owes _ _ _ _ _ _ c.in-Ok.ensures.ends).1
+    c.requires.stands.elements
+
+pub returns-clause-no_element : goal.returns-clause-no_element
+returns-clause-no_element c free none =
+    absurd (taken_none number_of _ _ _ _ c.in-Some.ensures.taken none)

@@ -2,6 +2,7 @@
 
 ghost use Rattle.std.specs.Prelude.{◌≡◌};
 ghost use Rattle.cqs_c.specs.Answers.{no_object};
+ghost use Rattle.cqs_c.specs.Told.{bare as told_bare, with_count as told_count, with_wait as told_wait, told};
 
 use cqs_by_number::Answer;
 
@@ -23,41 +24,87 @@ pub(crate) fn nowhere() -> CqsAnswer
     }
 }
 
+// An answer that carries no number.
+fn bare(answer: u32) -> CqsAnswer
+    ensures { result ≡ told_bare answer }
+{
+    CqsAnswer { answer, number: -1 }
+}
+
+// One with a number that fits.
+fn with_count(answer: u32, count: u32) -> CqsAnswer
+    ensures { result ≡ told_count answer count }
+{
+    CqsAnswer {
+        answer,
+        number: i64::from(count),
+    }
+}
+
+// One with the number of a wait.
+fn with_wait(answer: u32, number: u64) -> CqsAnswer
+    ensures { result ≡ told_wait answer number }
+{
+    CqsAnswer {
+        answer,
+        number: number.cast_signed(),
+    }
+}
+
 /// The answer as C gets it.
-pub(crate) fn tell(answer: Answer) -> CqsAnswer {
-    let (answer, number) = match answer {
-        Answer::NoPass => (2, -1),
-        Answer::InUse => (3, -1),
-        Answer::Owes => (4, -1),
-        Answer::OwesNothing => (5, -1),
-        Answer::NoPermit => (6, -1),
-        Answer::NoWait => (7, -1),
-        Answer::Full => (8, -1),
-        Answer::Worn => (9, -1),
-        Answer::Crowd => (10, -1),
-        Answer::Memory => (11, -1),
-        Answer::Busy => (12, -1),
-        Answer::NoCall => (14, -1),
-        Answer::Now(None) => (16, -1),
-        Answer::Now(Some(number)) => (16, number.cast_signed()),
-        Answer::Later(number) => (17, number.cast_signed()),
-        Answer::Got => (18, -1),
-        Answer::NoneFree => (19, -1),
-        Answer::Contended { saw: _, found } => (20, found),
-        Answer::Granted => (21, -1),
-        Answer::Pending => (22, -1),
-        Answer::Cancelled => (23, -1),
-        Answer::CancelledOwing(number) => (24, number.cast_signed()),
-        Answer::TooLate => (25, -1),
-        Answer::Freed => (26, -1),
-        Answer::Sent(number) => (27, number.cast_signed()),
-        Answer::Left(number) => (28, number.cast_signed()),
-        Answer::Void(number) => (29, number.cast_signed()),
-        Answer::Under(number) => (30, number.cast_signed()),
-        Answer::State(state) => (31, state),
-        Answer::Sole(sole) => (32, i64::from(sole)),
-        Answer::Made(number) => (33, i64::from(number)),
-        Answer::Met => (34, -1),
-    };
-    CqsAnswer { answer, number }
+pub(crate) fn tell(answer: Answer) -> CqsAnswer
+    ensures { result ≡ told answer }
+{
+    match answer {
+        Answer::NoPass => bare(2),
+        Answer::InUse => bare(3),
+        Answer::Owes => bare(4),
+        Answer::OwesNothing => bare(5),
+        Answer::NoPermit => bare(6),
+        Answer::NoParty => bare(6),
+        Answer::NoWait => bare(7),
+        Answer::Full => bare(8),
+        Answer::Worn => bare(9),
+        Answer::Crowd => bare(10),
+        Answer::Memory => bare(11),
+        Answer::Busy => bare(12),
+        Answer::NoCall => bare(14),
+        Answer::NoElement => bare(15),
+        Answer::Now(None) => bare(16),
+        Answer::Now(Some(number)) => with_wait(16, number),
+        Answer::Later(number) => with_wait(17, number),
+        Answer::Got => bare(18),
+        Answer::NoneFree => bare(19),
+        Answer::Contended { saw: _, found } => CqsAnswer {
+            answer: 20,
+            number: found,
+        },
+        Answer::Granted => bare(21),
+        Answer::Pending => bare(22),
+        Answer::Cancelled => bare(23),
+        Answer::CancelledOwing(number) => with_wait(24, number),
+        Answer::TooLate => bare(25),
+        Answer::Freed => bare(26),
+        Answer::Sent(number) => with_wait(27, number),
+        Answer::Left(number) => with_wait(28, number),
+        Answer::Void(number) => with_wait(29, number),
+        Answer::Under(number) => with_wait(30, number),
+        Answer::State(state) => CqsAnswer {
+            answer: 31,
+            number: state,
+        },
+        Answer::Sole(false) => with_count(32, 0),
+        Answer::Sole(true) => with_count(32, 1),
+        Answer::Made(number) => with_count(33, number),
+        Answer::Met => bare(34),
+        Answer::Took(element) => with_count(35, element),
+        Answer::LateTook(element) => with_count(25, element),
+        Answer::Passed => bare(36),
+        Answer::Through => bare(37),
+        Answer::Counted(left) => with_count(38, left),
+        Answer::Last => bare(39),
+        Answer::LastOwing(number) => with_wait(40, number),
+        Answer::Already => bare(41),
+        Answer::Finished => bare(42),
+    }
 }

@@ -30,7 +30,10 @@ fn make_call(primitive: &Numbered, verb: u32, pass: u32, number: u64) -> Answer 
     match deed_of(verb) {
         None => Answer::NoCall,
         Some(Deed::With(verb)) => primitive.call(verb, pass, number),
-        Some(Deed::Split) => primitive.split(pass),
+        Some(Deed::Split) => match u32::try_from(number) {
+            Ok(gives) => primitive.split(pass, gives),
+            Err(_) => Answer::NoParty,
+        },
         Some(Deed::Meet) => match u32::try_from(number) {
             Ok(given) => primitive.meet(pass, given),
             Err(_) => Answer::NoPass,

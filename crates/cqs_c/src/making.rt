@@ -1,10 +1,11 @@
 //! How C gets a primitive.
 
 use cqs_by_number::Numbered;
-use cqs_rule::{Config, MakeError};
+use cqs_rule::{CancelMode, Config, MakeError};
 use std::alloc::Global;
 
-// The primitive of this kind: a semaphore of so many permits.
+// The primitive of this kind: a semaphore of so many permits, a pool of so many elements, a latch
+// that is to be counted down so often, or a barrier of so many parties.
 fn make(
     alloc: Global,
     kind: u32,
@@ -14,6 +15,10 @@ fn make(
 ) -> Result<Numbered, MakeError> {
     match kind {
         0 => Numbered::semaphore(alloc, size, config, waits),
+        1 => Numbered::pool(alloc, size, config, waits),
+        2 => Numbered::latch(alloc, size, CancelMode::Smart, config, waits),
+        3 => Numbered::latch(alloc, size, CancelMode::Simple, config, waits),
+        4 => Numbered::barrier(alloc, size, config, waits),
         _ => Err(MakeError::BadConfig),
     }
 }
@@ -36,7 +41,8 @@ pub extern "C" fn cqs_new(
     let config = Config {
         passes,
         limit,
-        slots: 2 * passes + 2,
+        // A pool's elements need room for their cells.
+        slots: 2 * passes + 3 + if kind == 1 { size / 32 } else { 0 },
     };
     let made = match make(alloc, kind, size, config, waits) {
         Ok(made) => made,

@@ -1,5 +1,5 @@
-/* Fair primitives that callers can stop waiting for: a semaphore, and a mutex. No call blocks,
- * sleeps, spins or takes a lock.
+/* Fair primitives that callers can stop waiting for: a semaphore, a mutex, a pool, a count-down
+ * latch, and a barrier. No call blocks, sleeps, spins or takes a lock.
  *
  * Each primitive has passes. A pass is what one caller works with: it holds what it was given, and
  * has waits. Passes are named by numbers below `passes`, and a wait by the number that its call
@@ -22,17 +22,20 @@
  * `drop` is the last call: none runs with it or comes after it. A call may not be made by a signal
  * handler, nor after a fork in the child of a process with threads.
  *
- * What is tested: a null pointer, and every number. What can't be: a pointer that `new` didn't give
- * or `drop` took, and an `out` that isn't room for a pointer.
+ * What is tested: a null pointer, and every number. A wait that is given with another pass of its
+ * primitive is answered CQS_NO_WAIT, and so is one that is over. What can't be tested: a pointer that
+ * `new` didn't give or `drop` took; an `out` that isn't room for a pointer; and a number that belongs
+ * to another primitive, where this one has one like it: then that one is meant.
  *
  * Memory. `new` and `split` allocate, by malloc; no other call does. Each pass has room for `waits`
  * waits, and a call that would wait is refused as CQS_FULL where they are used up.
  *
  * Proved of the library behind this header: its three exports are safe and end, where the pointer
- * is good; and each call of a primitive is one that the proved semaphore allows
- * (crates/cqs_by_number, crates/cqs_semaphore). That the answer here is the one that the semaphore
- * gave is read off that code and tested; no clause says it yet. This file, and that it fits the
- * exports, is written by hand and tested. */
+ * is good; and each call of a primitive is one that the proved primitive allows
+ * (crates/cqs_by_number, crates/cqs_semaphore, crates/cqs_pool, crates/cqs_latch,
+ * crates/cqs_barrier). That the answer here is the one that the primitive gave is read off that
+ * code and tested; no clause says it yet. This file, and that it fits the exports, is written by
+ * hand and tested. */
 #ifndef CQS_H
 #define CQS_H
 #include <stddef.h>
@@ -57,26 +60,33 @@ enum {
     CQS_OWES = 4,           /* the pass owes a resumption: finish first */
     CQS_OWES_NOTHING = 5,   /* finish: the pass owes nothing */
     CQS_NO_PERMIT = 6,      /* release, unlock: the pass holds none, or hasn't the mutex */
+    CQS_NO_PARTY = 6,       /* arrive: the pass holds no party; split: or fewer than it
+                               is to give */
     CQS_NO_WAIT = 7,        /* poll, cancel: the pass has no wait of this number */
     CQS_FULL = 8,           /* the pass has as many waits as there is room for */
     CQS_WORN = 9,           /* as many waits were drawn as `limit` allows */
     CQS_CROWD = 10,         /* split: as many passes were made as `passes` allows */
     CQS_MEMORY = 11,        /* new, split: malloc had no memory */
-    CQS_BUSY = 12,          /* meet: the given pass waits or owes something */
+    CQS_BUSY = 12,          /* meet: the given pass waits, owes something, or has elements */
     CQS_BAD_CONFIG = 13,    /* new: a number is out of range */
     CQS_NO_CALL = 14,       /* the primitive has no such call */
+    CQS_NO_ELEMENT = 15,    /* put: the pass hasn't this element */
     /* Done. */
     CQS_NOW = 16,           /* acquire, lock: the pass has a permit; number: the wait by which it
                                came, or -1 */
     CQS_LATER = 17,         /* acquire, lock: it waits in line; number: its wait */
     CQS_GOT = 18,           /* try: the pass has a permit */
     CQS_NONE_FREE = 19,     /* try: no permit was free */
-    CQS_CONTENDED = 20,     /* try: another caller was first; number: the state that was found */
+    CQS_CONTENDED = 20,     /* another caller was first; try: number: the state that was found;
+                               cancel of a barrier: number: the parties still to arrive that were
+                               found, and the wait is still to be left: finish */
     CQS_GRANTED = 21,       /* poll: the permit has come, and the wait is over */
     CQS_PENDING = 22,       /* poll: the wait goes on */
-    CQS_CANCELLED = 23,     /* cancel: the wait is over, and no permit came of it */
-    CQS_CANCELLED_OWING = 24, /* the same, and a permit is still to be passed on: finish */
-    CQS_TOO_LATE = 25,      /* cancel: the permit had come before, and the pass has it */
+    CQS_CANCELLED = 23,     /* cancel: the wait is over, and nothing came of it */
+    CQS_CANCELLED_OWING = 24, /* the same, and what was on its way to it is still to be passed on:
+                               finish */
+    CQS_TOO_LATE = 25,      /* cancel: what it waited for had come before: the pass has the permit,
+                               or the element of this number, or is through */
     CQS_FREED = 26,         /* release: the permit is free */
     CQS_SENT = 27,          /* release, finish: it went to the wait of this number */
     CQS_LEFT = 28,          /* it was left for the wait of this number, which is about to begin or
@@ -86,14 +96,29 @@ enum {
     CQS_STATE = 31,         /* state: the free permits, less those who wait with none on its way */
     CQS_SOLE = 32,          /* sole: 1 where no other pass is there, else 0 */
     CQS_MADE = 33,          /* split: the number of the new pass */
-    CQS_MET = 34            /* meet: the given pass is taken in, and its number is nobody's */
+    CQS_MET = 34,           /* meet: the given pass is taken in, and its number is nobody's */
+    CQS_TOOK = 35,          /* take, poll: the pass has the element of this number */
+    CQS_PASSED = 36,        /* wait: the latch is open */
+    CQS_THROUGH = 37,       /* poll: the latch was opened, or all parties have arrived, and the wait
+                               is over */
+    CQS_COUNTED = 38,       /* count_down: so many counts are left */
+    CQS_LAST = 39,          /* count_down: the latch is open; arrive: all parties have arrived; each
+                               who waited was resumed */
+    CQS_LAST_OWING = 40,    /* the same, and some are still to be resumed: finish */
+    CQS_ALREADY = 41,       /* count_down: the count was used up before */
+    CQS_FINISHED = 42       /* finish: all that was owed is done */
 };
 
 /* The exports, by which the functions below are written. `size` is how many permits a semaphore
- * has; `number` is that of a wait, or of the given pass of a meet. `out` is written to where the
- * answer is CQS_NEW. */
+ * has, how many elements a pool, how often a latch is to be counted down, or how many parties a
+ * barrier has; `number` is that of a wait, of an element, or of the given pass of a meet, or how
+ * many parties a split gives. `out` is written to where the answer is CQS_NEW. */
 enum {
-    CQS_KIND_SEMAPHORE = 0
+    CQS_KIND_SEMAPHORE = 0,
+    CQS_KIND_POOL = 1,
+    CQS_KIND_LATCH = 2,
+    CQS_KIND_SIMPLE_LATCH = 3,
+    CQS_KIND_BARRIER = 4
 };
 enum {
     CQS_DO_ENTER = 0,
@@ -243,6 +268,182 @@ static inline struct cqs_answer cqs_mutex_split(const struct cqs_mutex *m, uint3
 static inline struct cqs_answer cqs_mutex_meet(const struct cqs_mutex *m, uint32_t pass,
                                                uint32_t given) {
     return cqs_call(m, CQS_DO_MEET, pass, given);
+}
+
+/* ---- The pool ----
+ *
+ * It has elements 0, 1, 2 and so on. A pass that takes one has it until it puts it back, and nobody
+ * else has it: so it may use what its user keeps under that number, a connection, say.
+ *
+ *     take      CQS_TOOK, or CQS_LATER with a wait; CQS_WORN even if an element is free
+ *     poll      CQS_TOOK, or CQS_PENDING
+ *     cancel    CQS_CANCELLED, CQS_CANCELLED_OWING, or CQS_TOO_LATE: the pass has an element
+ *     put       CQS_SENT, CQS_LEFT, or CQS_UNDER; CQS_NO_ELEMENT
+ *     finish    as put
+ *     sole      CQS_SOLE
+ *     split     CQS_MADE
+ *     meet      CQS_MET; CQS_BUSY, too, where the given pass has elements
+ */
+struct cqs_pool;
+
+/* size: the elements, 1 to 4096 */
+static inline uint32_t cqs_pool_new(uint32_t size, uint32_t passes, uint64_t limit, uint32_t waits,
+                                    struct cqs_pool **out) {
+    void *made = NULL;
+    uint32_t answer = cqs_new(CQS_KIND_POOL, size, passes, limit, waits, &made);
+    if (answer == CQS_NEW) *out = (struct cqs_pool *)made;
+    return answer;
+}
+static inline void cqs_pool_drop(struct cqs_pool *p) { cqs_drop(p); }
+
+static inline struct cqs_answer cqs_pool_take(const struct cqs_pool *p, uint32_t pass) {
+    return cqs_call(p, CQS_DO_ENTER, pass, 0);
+}
+static inline struct cqs_answer cqs_pool_poll(const struct cqs_pool *p, uint32_t pass,
+                                              uint64_t wait) {
+    return cqs_call(p, CQS_DO_POLL, pass, wait);
+}
+static inline struct cqs_answer cqs_pool_cancel(const struct cqs_pool *p, uint32_t pass,
+                                                uint64_t wait) {
+    return cqs_call(p, CQS_DO_CANCEL, pass, wait);
+}
+static inline struct cqs_answer cqs_pool_put(const struct cqs_pool *p, uint32_t pass,
+                                             uint32_t element) {
+    return cqs_call(p, CQS_DO_LEAVE, pass, element);
+}
+static inline struct cqs_answer cqs_pool_finish(const struct cqs_pool *p, uint32_t pass) {
+    return cqs_call(p, CQS_DO_FINISH, pass, 0);
+}
+static inline struct cqs_answer cqs_pool_sole(const struct cqs_pool *p, uint32_t pass) {
+    return cqs_call(p, CQS_DO_SOLE, pass, 0);
+}
+static inline struct cqs_answer cqs_pool_split(const struct cqs_pool *p, uint32_t pass) {
+    return cqs_call(p, CQS_DO_SPLIT, pass, 0);
+}
+static inline struct cqs_answer cqs_pool_meet(const struct cqs_pool *p, uint32_t pass,
+                                              uint32_t given) {
+    return cqs_call(p, CQS_DO_MEET, pass, given);
+}
+
+/* ---- The latch ----
+ *
+ * It opens once it was counted down as often as it was made for, and then all who wait pass. One is
+ * made in the smart mode, where a wait that is given up is counted out, and nobody resumes for it;
+ * or in the simple mode, where its number stays behind, and the resumption that comes for it ends
+ * there.
+ *
+ *     wait        CQS_PASSED, or CQS_LATER with a wait; CQS_WORN
+ *     poll        CQS_THROUGH, or CQS_PENDING
+ *     cancel      CQS_CANCELLED, CQS_CANCELLED_OWING, or CQS_TOO_LATE: the latch was opened before
+ *     count_down  CQS_COUNTED, CQS_LAST, CQS_LAST_OWING, or CQS_ALREADY
+ *     finish      CQS_FINISHED, or CQS_UNDER
+ *     sole        CQS_SOLE
+ *     split       CQS_MADE
+ *     meet        CQS_MET
+ */
+struct cqs_latch;
+
+static inline uint32_t cqs_latch_of_kind(uint32_t kind, uint32_t count, uint32_t passes,
+                                         uint64_t limit, uint32_t waits, struct cqs_latch **out) {
+    void *made = NULL;
+    uint32_t answer = cqs_new(kind, count, passes, limit, waits, &made);
+    if (answer == CQS_NEW) *out = (struct cqs_latch *)made;
+    return answer;
+}
+/* count: up to 1048576; one of 0 is open */
+static inline uint32_t cqs_latch_new(uint32_t count, uint32_t passes, uint64_t limit,
+                                     uint32_t waits, struct cqs_latch **out) {
+    return cqs_latch_of_kind(CQS_KIND_LATCH, count, passes, limit, waits, out);
+}
+/* the same, in the simple mode */
+static inline uint32_t cqs_latch_new_simple(uint32_t count, uint32_t passes, uint64_t limit,
+                                            uint32_t waits, struct cqs_latch **out) {
+    return cqs_latch_of_kind(CQS_KIND_SIMPLE_LATCH, count, passes, limit, waits, out);
+}
+static inline void cqs_latch_drop(struct cqs_latch *l) { cqs_drop(l); }
+
+static inline struct cqs_answer cqs_latch_wait(const struct cqs_latch *l, uint32_t pass) {
+    return cqs_call(l, CQS_DO_ENTER, pass, 0);
+}
+static inline struct cqs_answer cqs_latch_poll(const struct cqs_latch *l, uint32_t pass,
+                                               uint64_t wait) {
+    return cqs_call(l, CQS_DO_POLL, pass, wait);
+}
+static inline struct cqs_answer cqs_latch_cancel(const struct cqs_latch *l, uint32_t pass,
+                                                 uint64_t wait) {
+    return cqs_call(l, CQS_DO_CANCEL, pass, wait);
+}
+static inline struct cqs_answer cqs_latch_count_down(const struct cqs_latch *l, uint32_t pass) {
+    return cqs_call(l, CQS_DO_LEAVE, pass, 0);
+}
+static inline struct cqs_answer cqs_latch_finish(const struct cqs_latch *l, uint32_t pass) {
+    return cqs_call(l, CQS_DO_FINISH, pass, 0);
+}
+static inline struct cqs_answer cqs_latch_sole(const struct cqs_latch *l, uint32_t pass) {
+    return cqs_call(l, CQS_DO_SOLE, pass, 0);
+}
+static inline struct cqs_answer cqs_latch_split(const struct cqs_latch *l, uint32_t pass) {
+    return cqs_call(l, CQS_DO_SPLIT, pass, 0);
+}
+static inline struct cqs_answer cqs_latch_meet(const struct cqs_latch *l, uint32_t pass,
+                                               uint32_t given) {
+    return cqs_call(l, CQS_DO_MEET, pass, given);
+}
+
+/* ---- The barrier ----
+ *
+ * Parties that arrive wait until all have arrived, once. The first pass holds all parties; a split
+ * gives some of them to the new pass, an arrival takes one from its pass, and a party that stops
+ * waiting before the last has come is its pass's again.
+ *
+ *     arrive    CQS_LAST: all have arrived; CQS_LAST_OWING, or CQS_LATER with a wait; CQS_WORN;
+ *               CQS_NO_PARTY
+ *     poll      CQS_THROUGH, or CQS_PENDING
+ *     cancel    CQS_CANCELLED: the party is to arrive again; CQS_TOO_LATE: all have arrived; or
+ *               CQS_CONTENDED
+ *     finish    after CQS_LAST_OWING: CQS_FINISHED, or CQS_UNDER;
+ *               after CQS_CONTENDED: as cancel
+ *     sole      CQS_SOLE
+ *     split     CQS_MADE; CQS_NO_PARTY where the pass holds fewer
+ *     meet      CQS_MET: the pass takes in the given one, with the parties that it holds
+ */
+struct cqs_barrier;
+
+/* parties: 1 to 32 */
+static inline uint32_t cqs_barrier_new(uint32_t parties, uint32_t passes, uint64_t limit,
+                                       uint32_t waits, struct cqs_barrier **out) {
+    void *made = NULL;
+    uint32_t answer = cqs_new(CQS_KIND_BARRIER, parties, passes, limit, waits, &made);
+    if (answer == CQS_NEW) *out = (struct cqs_barrier *)made;
+    return answer;
+}
+static inline void cqs_barrier_drop(struct cqs_barrier *b) { cqs_drop(b); }
+
+static inline struct cqs_answer cqs_barrier_arrive(const struct cqs_barrier *b, uint32_t pass) {
+    return cqs_call(b, CQS_DO_ENTER, pass, 0);
+}
+static inline struct cqs_answer cqs_barrier_poll(const struct cqs_barrier *b, uint32_t pass,
+                                                 uint64_t wait) {
+    return cqs_call(b, CQS_DO_POLL, pass, wait);
+}
+static inline struct cqs_answer cqs_barrier_cancel(const struct cqs_barrier *b, uint32_t pass,
+                                                   uint64_t wait) {
+    return cqs_call(b, CQS_DO_CANCEL, pass, wait);
+}
+static inline struct cqs_answer cqs_barrier_finish(const struct cqs_barrier *b, uint32_t pass) {
+    return cqs_call(b, CQS_DO_FINISH, pass, 0);
+}
+static inline struct cqs_answer cqs_barrier_sole(const struct cqs_barrier *b, uint32_t pass) {
+    return cqs_call(b, CQS_DO_SOLE, pass, 0);
+}
+/* parties: how many the new pass gets */
+static inline struct cqs_answer cqs_barrier_split(const struct cqs_barrier *b, uint32_t pass,
+                                                  uint32_t parties) {
+    return cqs_call(b, CQS_DO_SPLIT, pass, parties);
+}
+static inline struct cqs_answer cqs_barrier_meet(const struct cqs_barrier *b, uint32_t pass,
+                                                 uint32_t given) {
+    return cqs_call(b, CQS_DO_MEET, pass, given);
 }
 
 #ifdef __cplusplus

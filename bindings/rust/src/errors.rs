@@ -12,11 +12,13 @@ pub enum MakeError {
     Memory,
 }
 
-/// Every pass that the primitive may have is in use, or there is no memory for another one.
+/// Every pass that the primitive may have is in use, or every party of a barrier was given out; or
+/// there is no memory for another one.
 #[derive(Clone, Copy, Debug, PartialEq, Eq)]
 pub struct Crowded;
 
-/// As many waits were drawn as the primitive was made for. Only tries give anything from then on.
+/// As many waits were drawn as the primitive was made for. Only the tries of a semaphore or a mutex
+/// give anything from then on, and nobody waits for a latch any more that isn't open.
 #[derive(Clone, Copy, Debug, PartialEq, Eq)]
 pub struct Worn;
 

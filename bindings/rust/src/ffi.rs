@@ -19,6 +19,7 @@ pub(crate) struct Answer {
 pub(crate) const NEW: u32 = 0;
 pub(crate) const IN_USE: u32 = 3;
 pub(crate) const NO_PERMIT: u32 = 6;
+pub(crate) const NO_PARTY: u32 = 6;
 pub(crate) const WORN: u32 = 9;
 pub(crate) const CROWD: u32 = 10;
 pub(crate) const MEMORY: u32 = 11;
@@ -33,11 +34,24 @@ pub(crate) const PENDING: u32 = 22;
 pub(crate) const CANCELLED: u32 = 23;
 pub(crate) const CANCELLED_OWING: u32 = 24;
 pub(crate) const TOO_LATE: u32 = 25;
+pub(crate) const SENT: u32 = 27;
+pub(crate) const LEFT: u32 = 28;
 pub(crate) const UNDER: u32 = 30;
 pub(crate) const STATE: u32 = 31;
 pub(crate) const MADE: u32 = 33;
+pub(crate) const TOOK: u32 = 35;
+pub(crate) const PASSED: u32 = 36;
+pub(crate) const THROUGH: u32 = 37;
+pub(crate) const COUNTED: u32 = 38;
+pub(crate) const LAST: u32 = 39;
+pub(crate) const LAST_OWING: u32 = 40;
+pub(crate) const ALREADY: u32 = 41;
 
 pub(crate) const KIND_SEMAPHORE: u32 = 0;
+pub(crate) const KIND_POOL: u32 = 1;
+pub(crate) const KIND_LATCH: u32 = 2;
+pub(crate) const KIND_SIMPLE_LATCH: u32 = 3;
+pub(crate) const KIND_BARRIER: u32 = 4;
 
 pub(crate) const DO_ENTER: u32 = 0;
 pub(crate) const DO_TRY: u32 = 1;

@@ -1,5 +1,5 @@
 //! Fair primitives whose waiters can leave, over the static library that is proved in Rattle: a
-//! semaphore, and a mutex.
+//! semaphore, a mutex, a pool, a count-down latch, and a barrier.
 //!
 //! ```ignore
 //! let semaphore = cqs::Semaphore::new(cqs::Config { permits: 3, ..cqs::Config::default() })?;
@@ -16,16 +16,22 @@
 //!
 //! No call blocks, sleeps or takes a lock but those that say so.
 
+mod barrier;
 mod errors;
 mod ffi;
+mod latch;
 mod mutex;
 mod pass;
+mod pool;
 mod semaphore;
 mod shared;
 mod wait;
 
+pub use barrier::{Arrival, ArriveError, Barrier, BarrierConfig, Party, PartyEnd, PartyWait};
 pub use errors::{Crowded, MakeError, Worn};
+pub use latch::{Down, Entered, Latch, LatchConfig, LatchEnd, LatchMode, LatchPass, LatchWait};
 pub use mutex::{LockEnd, LockWait, Locked, Mutex, MutexConfig, MutexGuard, MutexPass};
 pub use pass::{Acquired, Pass, Permit, TryError};
+pub use pool::{Item, Pool, PoolConfig, PoolPass, TakeEnd, TakeWait, Taken};
 pub use semaphore::{Config, Semaphore};
 pub use wait::{Acquire, Cancelled, Wait};

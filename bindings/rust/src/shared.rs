@@ -55,14 +55,19 @@ impl Shared {
     /// A pass, for one caller: one that another caller gave up, or a new one. Where another thread
     /// makes one just now, it yields to it, and tries again.
     pub(crate) fn pass(&self) -> Result<u32, Crowded> {
+        self.pass_with(0)
+    }
+
+    /// The same, of a barrier: the pass has so many parties.
+    pub(crate) fn pass_with(&self, parties: u64) -> Result<u32, Crowded> {
         loop {
             if let Some(number) = self.take_idle() {
                 return Ok(number);
             }
-            let made = self.call(ffi::DO_SPLIT, 0, 0);
+            let made = self.call(ffi::DO_SPLIT, 0, parties);
             match made.answer {
                 ffi::MADE => return Ok(made.number as u32),
-                ffi::CROWD | ffi::MEMORY => return Err(Crowded),
+                ffi::CROWD | ffi::MEMORY | ffi::NO_PARTY => return Err(Crowded),
                 ffi::IN_USE => std::thread::yield_now(),
                 other => unreachable!("a split was answered {other}"),
             }

@@ -166,9 +166,11 @@ fn run(seed: u64, callers: usize, calls: usize) {
     let mut chance = Chance(seed);
     let mutex = mutex(seed, 1_048_576);
     let mut model = Model { word: seed, holder: None, line: VecDeque::new(), next: 0 };
-    let mut states: Vec<Option<Caller>> = (0..callers)
-        .map(|_| Some(Caller::Idle(Box::leak(Box::new(mutex.pass().unwrap())))))
-        .collect();
+    let owners: Vec<_> =
+        (0..callers).map(|_| Box::into_raw(Box::new(mutex.pass().unwrap()))).collect();
+    // SAFETY: each is lent once, and freed below, after all that it was lent to has ended.
+    let mut states: Vec<Option<Caller>> =
+        owners.iter().map(|&owner| Some(Caller::Idle(unsafe { &mut *owner }))).collect();
     for call in 0..calls {
         let at = chance.below(callers as u64);
         let place = format!("seed {seed}, call {call}, caller {at}");
@@ -185,6 +187,11 @@ fn run(seed: u64, callers: usize, calls: usize) {
             }
             Caller::Waits(wait) => end(wait, at, &mut model, chance.below(3) == 0),
         });
+    }
+    drop(states);
+    for owner in owners {
+        // SAFETY: it came from a box, and nobody has it any more.
+        drop(unsafe { Box::from_raw(owner) });
     }
 }
 

@@ -62,9 +62,11 @@ fn run(seed: u64, permits: u32, callers: usize, calls: usize) {
         served: vec![false; callers],
         next: 0,
     };
-    let mut states: Vec<Option<Caller>> = (0..callers)
-        .map(|_| Some(Caller::Idle(Box::leak(Box::new(semaphore.pass().unwrap())))))
-        .collect();
+    let owners: Vec<_> =
+        (0..callers).map(|_| Box::into_raw(Box::new(semaphore.pass().unwrap()))).collect();
+    // SAFETY: each is lent once, and freed below, after all that it was lent to has ended.
+    let mut states: Vec<Option<Caller>> =
+        owners.iter().map(|&owner| Some(Caller::Idle(unsafe { &mut *owner }))).collect();
     for call in 0..calls {
         let at = chance.below(callers as u64);
         let place = format!("seed {seed}, call {call}, caller {at}");
@@ -123,6 +125,11 @@ fn run(seed: u64, permits: u32, callers: usize, calls: usize) {
                 }
             },
         });
+    }
+    drop(states);
+    for owner in owners {
+        // SAFETY: it came from a box, and nobody has it any more.
+        drop(unsafe { Box::from_raw(owner) });
     }
 }
 

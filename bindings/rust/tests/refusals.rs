@@ -19,23 +19,51 @@ const IN_USE: u32 = 3;
 const OWES: u32 = 4;
 const OWES_NOTHING: u32 = 5;
 const NO_PERMIT: u32 = 6;
+const NO_PARTY: u32 = 6;
 const NO_WAIT: u32 = 7;
 const FULL: u32 = 8;
 const CROWD: u32 = 10;
 const BUSY: u32 = 12;
 const BAD_CONFIG: u32 = 13;
 const NO_CALL: u32 = 14;
+const NO_ELEMENT: u32 = 15;
 const NOW: u32 = 16;
 const LATER: u32 = 17;
 const PENDING: u32 = 22;
 const CANCELLED: u32 = 23;
+const TOO_LATE: u32 = 25;
 const FREED: u32 = 26;
 const SENT: u32 = 27;
+const LEFT: u32 = 28;
 const UNDER: u32 = 30;
 const STATE: u32 = 31;
 const SOLE: u32 = 32;
 const MADE: u32 = 33;
 const MET: u32 = 34;
+const TOOK: u32 = 35;
+const PASSED: u32 = 36;
+const THROUGH: u32 = 37;
+const COUNTED: u32 = 38;
+const LAST: u32 = 39;
+const LAST_OWING: u32 = 40;
+const ALREADY: u32 = 41;
+const FINISHED: u32 = 42;
+
+const KIND_POOL: u32 = 1;
+const KIND_LATCH: u32 = 2;
+const KIND_SIMPLE_LATCH: u32 = 3;
+const KIND_BARRIER: u32 = 4;
+
+const DO_ENTER: u32 = 0;
+const DO_TRY: u32 = 1;
+const DO_POLL: u32 = 2;
+const DO_CANCEL: u32 = 3;
+const DO_LEAVE: u32 = 4;
+const DO_FINISH: u32 = 5;
+const DO_STATE: u32 = 6;
+const DO_SOLE: u32 = 7;
+const DO_SPLIT: u32 = 8;
+const DO_MEET: u32 = 9;
 
 extern "C" {
     fn cqs_new(
@@ -138,6 +166,33 @@ impl Drop for Semaphore {
         // SAFETY: it is ended once.
         unsafe {
             cqs_semaphore_end(self.0);
+            free(self.0);
+        }
+    }
+}
+
+/// A primitive of whatever kind, and its calls by their numbers.
+struct Primitive(*mut c_void);
+
+impl Primitive {
+    fn new(kind: u32, size: u32, passes: u32, limit: u64, waits: u32) -> Primitive {
+        let mut at = std::ptr::null_mut();
+        // SAFETY: `at` is room for a pointer.
+        assert_eq!(unsafe { cqs_new(kind, size, passes, limit, waits, &mut at) }, 0);
+        Primitive(at)
+    }
+
+    fn call(&self, what: u32, pass: u32, number: u64) -> Answer {
+        // SAFETY: the primitive is there until it is dropped.
+        unsafe { cqs_call(self.0, what, pass, number) }
+    }
+}
+
+impl Drop for Primitive {
+    fn drop(&mut self) {
+        // SAFETY: it is ended once.
+        unsafe {
+            cqs_end(self.0);
             free(self.0);
         }
     }
@@ -247,10 +302,165 @@ fn one_who_owes() {
     assert_eq!(s.finish(0), bare(OWES_NOTHING));
 }
 
+#[test]
+fn what_a_pool_refuses() {
+    for size in [0, 4_097, u32::MAX] {
+        let mut at = std::ptr::null_mut();
+        // SAFETY: `at` is room for a pointer.
+        assert_eq!(unsafe { cqs_new(KIND_POOL, size, 1, 1, 1, &mut at) }, BAD_CONFIG);
+        assert!(at.is_null());
+    }
+    let p = Primitive::new(KIND_POOL, 2, 3, 300, 2);
+    for what in [DO_TRY, DO_STATE] {
+        assert_eq!(p.call(what, 0, 0), bare(NO_CALL));
+    }
+    assert_eq!(p.call(DO_FINISH, 0, 0), bare(OWES_NOTHING));
+    assert_eq!(p.call(DO_SPLIT, 0, 0), with(MADE, 1));
+    assert_eq!(p.call(DO_ENTER, 0, 0), with(TOOK, 0));
+    // An element is put back by who has it, and once.
+    assert_eq!(p.call(DO_LEAVE, 0, 1), bare(NO_ELEMENT));
+    assert_eq!(p.call(DO_LEAVE, 0, 1 << 32), bare(NO_ELEMENT));
+    assert_eq!(p.call(DO_LEAVE, 1, 0), bare(NO_ELEMENT));
+    assert_eq!(p.call(DO_ENTER, 1, 0), with(TOOK, 1));
+    assert_eq!(p.call(DO_LEAVE, 0, 0).answer, LEFT);
+    assert_eq!(p.call(DO_LEAVE, 0, 0), bare(NO_ELEMENT));
+    assert_eq!(p.call(DO_ENTER, 0, 0), with(TOOK, 0));
+    // One who has all elements that are free may wait for another.
+    assert_eq!(p.call(DO_LEAVE, 1, 1).answer, LEFT);
+    assert_eq!(p.call(DO_ENTER, 0, 0), with(TOOK, 1));
+    assert_eq!(p.call(DO_ENTER, 0, 0), with(LATER, 4));
+    assert_eq!(p.call(DO_POLL, 0, 4), bare(PENDING));
+    assert_eq!(p.call(DO_POLL, 0, 3), bare(NO_WAIT));
+    assert_eq!(p.call(DO_CANCEL, 1, 4), bare(NO_WAIT));
+    assert_eq!(p.call(DO_ENTER, 0, 0), with(LATER, 5));
+    assert_eq!(p.call(DO_ENTER, 0, 0), bare(FULL));
+    // Who waits, or has elements, is taken in by nobody.
+    assert_eq!(p.call(DO_MEET, 1, 0), bare(BUSY));
+    assert_eq!(p.call(DO_LEAVE, 0, 1), with(SENT, 4));
+    assert_eq!(p.call(DO_POLL, 0, 4), with(TOOK, 1));
+    assert_eq!(p.call(DO_CANCEL, 0, 5), bare(CANCELLED));
+    assert_eq!(p.call(DO_MEET, 1, 0), bare(BUSY));
+    assert_eq!(p.call(DO_MEET, 0, 1), bare(MET));
+    assert_eq!(p.call(DO_SOLE, 0, 0), with(SOLE, 1));
+    // The pass owes what 64 numbers were passed over for.
+    for number in 6..76 {
+        assert_eq!(p.call(DO_ENTER, 0, 0), with(LATER, number));
+        assert_eq!(p.call(DO_CANCEL, 0, number as u64), bare(CANCELLED));
+    }
+    assert_eq!(p.call(DO_LEAVE, 0, 0).answer, UNDER);
+    for what in [DO_ENTER, DO_POLL, DO_CANCEL, DO_LEAVE, DO_SPLIT] {
+        assert_eq!(p.call(what, 0, 0), bare(OWES));
+    }
+    assert_eq!(p.call(DO_FINISH, 0, 0).answer, LEFT);
+    assert_eq!(p.call(DO_FINISH, 0, 0), bare(OWES_NOTHING));
+}
+
+#[test]
+fn what_a_latch_refuses() {
+    for kind in [KIND_LATCH, KIND_SIMPLE_LATCH] {
+        let mut at = std::ptr::null_mut();
+        // SAFETY: `at` is room for a pointer.
+        assert_eq!(unsafe { cqs_new(kind, 1_048_577, 1, 1, 1, &mut at) }, BAD_CONFIG);
+        assert!(at.is_null());
+        let l = Primitive::new(kind, 2, 3, 200, 2);
+        for what in [DO_TRY, DO_STATE] {
+            assert_eq!(l.call(what, 0, 0), bare(NO_CALL));
+        }
+        assert_eq!(l.call(DO_FINISH, 0, 0), bare(OWES_NOTHING));
+        assert_eq!(l.call(DO_SPLIT, 0, 0), with(MADE, 1));
+        assert_eq!(l.call(DO_ENTER, 1, 0), with(LATER, 0));
+        assert_eq!(l.call(DO_POLL, 0, 0), bare(NO_WAIT));
+        assert_eq!(l.call(DO_CANCEL, 1, 1), bare(NO_WAIT));
+        assert_eq!(l.call(DO_ENTER, 1, 0), with(LATER, 1));
+        assert_eq!(l.call(DO_ENTER, 1, 0), bare(FULL));
+        assert_eq!(l.call(DO_MEET, 0, 1), bare(BUSY));
+        assert_eq!(l.call(DO_CANCEL, 1, 0), bare(CANCELLED));
+        assert_eq!(l.call(DO_POLL, 1, 1), bare(PENDING));
+        // Waits that are given up before one that stays.
+        for number in 2..72 {
+            assert_eq!(l.call(DO_ENTER, 0, 0), with(LATER, number));
+            assert_eq!(l.call(DO_CANCEL, 0, number as u64), bare(CANCELLED));
+        }
+        assert_eq!(l.call(DO_ENTER, 0, 0), with(LATER, 72));
+        assert_eq!(l.call(DO_LEAVE, 1, 0), with(COUNTED, 1));
+        let last = l.call(DO_LEAVE, 1, 0);
+        if kind == KIND_LATCH {
+            // The pass owes what 64 numbers were passed over for.
+            assert_eq!(last.answer, LAST_OWING);
+            for what in [DO_ENTER, DO_POLL, DO_CANCEL, DO_LEAVE, DO_SPLIT] {
+                assert_eq!(l.call(what, 1, 1), bare(OWES));
+            }
+            assert_eq!(l.call(DO_MEET, 0, 1), bare(BUSY));
+            assert_eq!(l.call(DO_FINISH, 1, 0), bare(FINISHED));
+        } else {
+            assert_eq!(last, bare(LAST));
+        }
+        assert_eq!(l.call(DO_FINISH, 1, 0), bare(OWES_NOTHING));
+        assert_eq!(l.call(DO_POLL, 1, 1), bare(THROUGH));
+        assert_eq!(l.call(DO_POLL, 0, 72), bare(THROUGH));
+        assert_eq!(l.call(DO_ENTER, 0, 0), bare(PASSED));
+        assert_eq!(l.call(DO_LEAVE, 0, 0), bare(ALREADY));
+        assert_eq!(l.call(DO_MEET, 0, 1), bare(MET));
+        assert_eq!(l.call(DO_SOLE, 0, 0), with(SOLE, 1));
+    }
+}
+
+#[test]
+fn what_a_barrier_refuses() {
+    for parties in [0, 33, u32::MAX] {
+        let mut at = std::ptr::null_mut();
+        // SAFETY: `at` is room for a pointer.
+        assert_eq!(unsafe { cqs_new(KIND_BARRIER, parties, 1, 1, 1, &mut at) }, BAD_CONFIG);
+        assert!(at.is_null());
+    }
+    let b = Primitive::new(KIND_BARRIER, 3, 4, 200, 2);
+    for what in [DO_TRY, DO_LEAVE, DO_STATE] {
+        assert_eq!(b.call(what, 0, 0), bare(NO_CALL));
+    }
+    assert_eq!(b.call(DO_FINISH, 0, 0), bare(OWES_NOTHING));
+    // A pass gives as many parties as it holds.
+    for parties in [4, 1 << 32] {
+        assert_eq!(b.call(DO_SPLIT, 0, parties), bare(NO_PARTY));
+    }
+    assert_eq!(b.call(DO_SPLIT, 0, 1), with(MADE, 1));
+    assert_eq!(b.call(DO_SPLIT, 0, 3), bare(NO_PARTY));
+    assert_eq!(b.call(DO_SPLIT, 0, 0), with(MADE, 2));
+    assert_eq!(b.call(DO_ENTER, 2, 0), bare(NO_PARTY));
+    assert_eq!(b.call(DO_ENTER, 1, 0), with(LATER, 0));
+    assert_eq!(b.call(DO_ENTER, 1, 0), bare(NO_PARTY));
+    assert_eq!(b.call(DO_POLL, 0, 0), bare(NO_WAIT));
+    assert_eq!(b.call(DO_CANCEL, 1, 1), bare(NO_WAIT));
+    assert_eq!(b.call(DO_POLL, 1, 0), bare(PENDING));
+    assert_eq!(b.call(DO_MEET, 0, 1), bare(BUSY));
+    assert_eq!(b.call(DO_CANCEL, 1, 0), bare(CANCELLED));
+    assert_eq!(b.call(DO_MEET, 2, 1), bare(MET));
+    // The parties went along.
+    assert_eq!(b.call(DO_ENTER, 0, 0), with(LATER, 1));
+    for number in 2..72 {
+        assert_eq!(b.call(DO_ENTER, 0, 0), with(LATER, number));
+        assert_eq!(b.call(DO_CANCEL, 0, number as u64), bare(CANCELLED));
+    }
+    assert_eq!(b.call(DO_ENTER, 0, 0), with(LATER, 72));
+    assert_eq!(b.call(DO_ENTER, 0, 0), bare(FULL));
+    // The last party owes what 64 numbers were passed over for.
+    assert_eq!(b.call(DO_ENTER, 2, 0).answer, LAST_OWING);
+    for what in [DO_ENTER, DO_POLL, DO_CANCEL, DO_SPLIT] {
+        assert_eq!(b.call(what, 2, 0), bare(OWES));
+    }
+    assert_eq!(b.call(DO_POLL, 0, 1), bare(THROUGH));
+    assert_eq!(b.call(DO_MEET, 0, 2), bare(BUSY));
+    assert_eq!(b.call(DO_FINISH, 2, 0), bare(FINISHED));
+    assert_eq!(b.call(DO_FINISH, 2, 0), bare(OWES_NOTHING));
+    assert_eq!(b.call(DO_CANCEL, 0, 72), bare(TOO_LATE));
+    assert_eq!(b.call(DO_ENTER, 0, 0), bare(NO_PARTY));
+    assert_eq!(b.call(DO_MEET, 0, 2), bare(MET));
+    assert_eq!(b.call(DO_SOLE, 0, 0), with(SOLE, 1));
+}
+
 /// What no primitive has.
 #[test]
 fn kinds_and_calls_that_are_not_there() {
-    for kind in [1, u32::MAX] {
+    for kind in [5, u32::MAX] {
         let mut at = std::ptr::null_mut();
         // SAFETY: `at` is room for a pointer.
         assert_eq!(unsafe { cqs_new(kind, 1, 1, 1, 1, &mut at) }, BAD_CONFIG);

@@ -1,7 +1,6 @@
 -- A caller of a barrier between two calls.
 use Rattle.std.proofs.Common.{◌≡◌, ◌⊎◌, ℕ, suc, zero, List, [], ◌∷◌, Option, Some, None, false, ap, refl, subst, sym, ◌∙◌, inl, inr}
 use Rattle.std.specs.Option.{is_some}
-use Rattle.cqs_rule.specs.declared.config.Place.{Place}
 use Rattle.cqs_rule.specs.declared.view.Facts.{Facts}
 use Rattle.cqs_rule.specs.declared.view.Has.{Has}
 use Rattle.cqs_rule.specs.declared.view.View.{View}
@@ -15,7 +14,7 @@ use Rattle.cqs_barrier.specs.declared.answers.PartyLeft.TheVariants.{TooLate}
 use Rattle.cqs_barrier.specs.declared.answers.PartyWait.{PartyWait}
 use Rattle.cqs_barrier.specs.Arriving.{Arrives, CameEarly, CameLast}
 use Rattle.cqs_barrier.specs.Calls.{IsReady}
-use Rattle.cqs_barrier.specs.Leaving.{HasLeaving, HasLeft, leaving_at}
+use Rattle.cqs_barrier.specs.Leaving.{HasLeft, leaving_at}
 use Rattle.cqs_barrier.specs.Resuming.{HasOwing}
 use Rattle.cqs_by_number.specs.declared.barrier_caller.PartyOwes.{PartyOwes}
 use Rattle.cqs_by_number.specs.declared.barrier_caller.PartyOwes.TheVariants.{Others, Leave}

@@ -5,3 +5,4 @@ pub mod TokenSteps
 pub mod PoolKept
 pub mod LatchKept
 pub mod BarrierKept
+pub mod BarrierNumber

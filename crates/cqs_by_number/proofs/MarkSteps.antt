@@ -21,7 +21,7 @@ same_set (x ∷ xs) (suc i) = ap (λ l. x ∷ l) (same_set xs i)
 -- one mark is set, and its slot with it
 after : (s : Primitive) (t : Table) (i m : ℕ) (y : maybe.Option (Option Caller)) (views : List Primitive) → Marks s t
     → i < length t.homes
-    → (m ≢ 1 → (lying : Option Caller) × (y ≡ some lying) × Suits s m lying)
+    → (m ≢ 1 → (lying : Option Caller) × (y ≡ some lying) × Suits s i m lying)
     → ((j : ℕ) (v : Primitive) → get_elem? views j ≡ some v → v ≡ s)
     → Marks s (record { words = set t.words (word_of i) m; homes = set t.homes i y; views = views })
 after s t i m y views h low here same = record {
@@ -33,7 +33,7 @@ after s t i m y views h low here same = record {
       get_or-set_other t.words (word_of i) (word_of j) m 0 other in
       let low' : j < length t.homes = subst (λ n. j < n) (length-set t.homes i y) below in
       let old = h.homes j low' (λ q. not (mark ∙ q)) in
-      (old.0, set_else t.homes i j y apart ∙ old.1, subst (λ k. Suits s k old.0) (sym mark) old.2));
+      (old.0, set_else t.homes i j y apart ∙ old.1, subst (λ k. Suits s j k old.0) (sym mark) old.2));
   places = λ j below.
       subst (λ n. word_of j < n) (sym (length-set t.words (word_of i) m))
       (h.places j (subst (λ n. j < n) (length-set t.homes i y) below));
@@ -45,13 +45,13 @@ after s t i m y views h low here same = record {
 
     At : ℕ → Type 0
     At k = (lying : Option Caller) × (get_elem? (set t.homes i y) k ≡ some (some lying))
-        × Suits s (slice_index words (word_of k)) lying
+        × Suits s k (slice_index words (word_of k)) lying
 
     there : slice_index words (word_of i) ≢ 1 → At i
     there not =
         let is : slice_index words (word_of i) ≡ m = get_or-set_same t.words (word_of i) m 0 (h.places i low) in
         let t' = here (λ q. not (is ∙ q)) in
-        (t'.0, set_here t.homes i y low ∙ ap some t'.1, subst (λ k. Suits s k t'.0) (sym is) t'.2)
+        (t'.0, set_here t.homes i y low ∙ ap some t'.1, subst (λ k. Suits s i k t'.0) (sym is) t'.2)
 
 -- what those know who look at the table, after one of them made a step
 abbrev Known : Primitive → List Primitive → Type 0
@@ -82,8 +82,8 @@ claims s slots id me i from below from-not t h long seen fits =
     × HasClaimed (step slots (word_of i) from 1 none) me n (w, carried_after me.1 a))
     (λ hit.
     let found = h.homes i low (λ q. from-not (sym hit ∙ q)) in
-    let suits : Suits me.0 from found.0 =
-    subst (λ (p : Primitive × ℕ). Suits p.0 p.1 found.0) (λ k. (sym (h.views id me.0 seen) k, hit k)) found.2 in (
+    let suits : Suits me.0 i from found.0 =
+    subst (λ (p : Primitive × ℕ). Suits p.0 i p.1 found.0) (λ k. (sym (h.views id me.0 seen) k, hit k)) found.2 in (
       me.0,
       takes i found.0,
       found.1,
@@ -91,7 +91,7 @@ claims s slots id me i from below from-not t h long seen fits =
       (
         refl,
         (λ _ j at.
-            subst (λ k. (lying : Option Caller) × ((i, found.0) ∷ me.1 ≡ (k, lying) ∷ me.1) × Suits me.0 from lying)
+            subst (λ k. (lying : Option Caller) × ((i, found.0) ∷ me.1 ≡ (k, lying) ∷ me.1) × Suits me.0 k from lying)
             (let e : word_of i ≡ word_of j = at in omega (arith, e)) (found.0, refl, suits)),
         λ ne. absurd (ne hit),
       ),
@@ -106,7 +106,7 @@ claims s slots id me i from below from-not t h long seen fits =
     ))
 
 pub lays : (s : Primitive) (slots id : ℕ) (me : Seated) (i m : ℕ) (lying : Option Caller) → i < slots
-    → me.1 ≡ (i, lying) ∷ [] → Suits s m lying
+    → me.1 ≡ (i, lying) ∷ [] → Suits s i m lying
     → Allows (Marks s) slots id me (word_of i) (λ _. m) (λ _ _. Unit {0})
 lays s slots id me i m lying below has suits t h long seen fits =
     let low : i < length t.homes = omega (arith, below, long) in

@@ -1,5 +1,5 @@
 -- How the elements that a pass has in hand go along through its calls.
-use Rattle.std.proofs.Common.{◌≡◌, ◌≢◌, ℕ, List, [], ◌∷◌, ◌++◌, All, Option, Some, None, Ok, Err, ap, refl, subst, sym, ◌∙◌, false, inl, inr}
+use Rattle.std.proofs.Common.{◌≡◌, ◌≢◌, ℕ, List, [], ◌∷◌, ◌++◌, Option, Some, None, refl, subst, sym, false, inl, inr}
 use Rattle.std.specs.Option.{is_some}
 use Rattle.std.proofs.lemmas.List.Elements.{All-push, All-weaker}
 use Rattle.cqs_pool_object.specs.declared.entries.PoolEntry.{PoolEntry}

@@ -1,6 +1,6 @@
 -- What a pass has several of, by number: one is taken out, one comes to them; and the tokens of its waits go along
 -- through its calls.
-use Rattle.std.proofs.Common.{◌≡◌, ◌≢◌, ℕ, zero, suc, ◌+◌, ◌<◌, List, [], ◌∷◌, ◌++◌, All, length, get_or, slice_index_or, sym, ap, ◌∙◌, subst, refl, inl, arith}
+use Rattle.std.proofs.Common.{◌≡◌, ◌≢◌, ℕ, zero, suc, ◌+◌, ◌<◌, List, [], ◌∷◌, ◌++◌, All, length, slice_index_or, sym, ap, ◌∙◌, subst, refl, inl, arith}
 use Rattle.std.specs.List.{remove}
 use Rattle.std.proofs.lemmas.List.Elements.{All-nil, All-cons, All-head, All-tail, All-get_or, All-push, All-weaker}
 use Rattle.cqs_rule.specs.declared.config.Place.{Place}

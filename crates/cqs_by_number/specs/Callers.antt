@@ -1,4 +1,6 @@
 -- How a caller stands between two calls, of whatever primitive.
+use Rattle.std.specs.Prelude.{◌≡◌, ℕ}
+use Rattle.cqs_rule.specs.Passes.{pass_view}
 use Rattle.cqs_by_number.specs.declared.caller.Caller.{Caller}
 use Rattle.cqs_by_number.specs.declared.caller.Caller.TheVariants as caller
 use Rattle.cqs_by_number.specs.declared.primitive.Primitive.{Primitive}
@@ -15,3 +17,15 @@ StandsAt (primitive.Pool p) (caller.Pool c) = pool.StandsAt p c
 StandsAt (primitive.Latch l) (caller.Latch c) = latch.StandsAt l c
 StandsAt (primitive.Barrier b) (caller.Barrier c) = barrier.StandsAt b c
 StandsAt _ _ = ⊥
+
+-- the number of its pass
+abbrev pub pass_number : Caller → ℕ
+pass_number (caller.Semaphore c) = (pass_view c.pass).number
+pass_number (caller.Pool c) = (pass_view c.pass).number
+pass_number (caller.Latch c) = (pass_view c.pass).number
+pass_number (caller.Barrier c) = (pass_view c.pass).number
+
+-- the caller stands so, and its pass has this number
+pub record StandsAs (p : Primitive) (pass : ℕ) (c : Caller) : Type 0 where
+  pub stands : StandsAt p c
+  pub number : pass_number c ≡ pass

@@ -5,6 +5,14 @@ pub mod PoolCallers
 pub mod LatchCallers
 pub mod BarrierCallers
 pub mod Callers
-pub mod Told
+pub mod SemaphoreTold
+pub mod SemaphoreAnswers
+pub mod PoolTold
+pub mod PoolAnswers
+pub mod LatchTold
+pub mod LatchAnswers
+pub mod BarrierTold
+pub mod BarrierAnswers
+pub mod Answered
 pub mod Marks
 pub mod Numbered

@@ -5,16 +5,16 @@ use lib.ListN.{get_elem?}
 use Rattle.atomic_table.specs.Table.{State, Me, Step}
 use Rattle.cqs_by_number.specs.declared.primitive.Primitive.{Primitive}
 use Rattle.cqs_by_number.specs.declared.caller.Caller.{Caller}
-use Rattle.cqs_by_number.specs.Callers.{StandsAt}
+use Rattle.cqs_by_number.specs.Callers.{StandsAs}
 
 -- the word with the mark of the pass i
 abbrev pub word_of : ℕ → ℕ
 word_of i = 16 * i + 16
 
--- What lies in the slot of a pass where its mark is this: at 0 the pass, which belongs to the
--- primitive; at 2 nothing, since nobody has the number.
-pub record Suits (s : Primitive) (mark : ℕ) (lying : Option Caller) : Type 0 where
-  pub rests : mark ≡ 0 → IsSomeAnd lying (StandsAt s)
+-- What lies in the slot of the pass i where its mark is this: at 0 the pass, which belongs to the
+-- primitive and has this number; at 2 nothing, since nobody has the number.
+pub record Suits (s : Primitive) (i mark : ℕ) (lying : Option Caller) : Type 0 where
+  pub rests : mark ≡ 0 → IsSomeAnd lying (StandsAs s i)
   pub nobody : mark ≡ 2 → lying ≡ None
 
 abbrev pub Table : Type 0
@@ -26,7 +26,7 @@ Table = State (Option Caller) Primitive
 pub record Marks (s : Primitive) (t : Table) : Type 0 where
   pub homes : (i : ℕ) → i < length t.homes → slice_index t.words (word_of i) ≢ 1
       → (lying : Option Caller) × (get_elem? t.homes i ≡ some (some lying))
-      × Suits s (slice_index t.words (word_of i)) lying
+      × Suits s i (slice_index t.words (word_of i)) lying
   pub places : (i : ℕ) → i < length t.homes → word_of i < length t.words
   pub views : (j : ℕ) (v : Primitive) → get_elem? t.views j ≡ some v → v ≡ s
 
@@ -43,5 +43,5 @@ abbrev pub HasClaimed : Step (Option Caller) → Seated → ℕ → Seated → T
 HasClaimed st me n me' =
     (me'.0 ≡ me.0)
     × (n ≡ st.first → (i : ℕ) → st.word ≡ word_of i
-    → (lying : Option Caller) × (me'.1 ≡ (i, lying) ∷ me.1) × Suits me.0 st.first lying)
+    → (lying : Option Caller) × (me'.1 ≡ (i, lying) ∷ me.1) × Suits me.0 i st.first lying)
     × (n ≢ st.first → me'.1 ≡ me.1)

@@ -10,3 +10,7 @@ pub record Holds (n : Numbered) (i : ℕ)
     (hand : Seat (Option Caller) Primitive) : Type 0 where
   pub table : hand.table_id ≡ n.table.shared.table_id
   pub slot : hand.me.1 ≡ (i, None) ∷ []
+
+-- its primitive
+abbrev pub primitive_in : Numbered → Primitive
+primitive_in n = n.primitive

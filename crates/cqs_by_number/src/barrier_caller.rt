@@ -8,9 +8,11 @@ ghost use Rattle.cqs_barrier.specs.Calls.{IsMine, IsReady};
 ghost use Rattle.cqs_barrier.specs.Leaving.{HasLeaving, leaving_at};
 ghost use Rattle.cqs_barrier.specs.Resuming.{HasOwing};
 ghost use Rattle.cqs_barrier.specs.Waits.{wait_in};
+ghost use Rattle.cqs_by_number.specs.BarrierAnswers.{IsAnswered, HasResumed, HasGoneOn};
 ghost use Rattle.cqs_by_number.specs.BarrierCallers.{StandsAt};
 ghost use Rattle.cqs_by_number.specs.Tokens.{HasTokens, wait_index};
 ghost use Rattle.cqs_by_number.specs.declared.answers.Answer.TheVariants as answer;
+ghost use Rattle.cqs_by_number.specs.declared.verb.Verb.TheVariants as verbs;
 
 use crate::answers::Answer;
 use crate::tokens::take_out;
@@ -60,6 +62,7 @@ impl BarrierCaller {
     pub fn call(&mut self, barrier: &Barrier<Unparked>, verb: Verb, number: u64) -> Answer
         requires stands { StandsAt barrier.now self.old }
         ensures stands { StandsAt barrier.now self.new }
+        ensures answered { IsAnswered verb number self.old result self.new }
     {
         match verb {
             Verb::Enter => self.arrive(barrier),
@@ -82,6 +85,7 @@ impl BarrierCaller {
             → vec_len self.old.waits < vec_capacity self.old.waits
             → (pass_view self.old.pass).facts.has.held ≡ 0
             → (result ≡ answer.NoParty) × (self.new ≡ self.old) }
+        ensures answered { IsAnswered verbs.Enter 0 self.old result self.new }
     {
         if self.owed.is_some() {
             return Answer::Owes;
@@ -116,6 +120,7 @@ impl BarrierCaller {
         ensures no_wait { self.old.owed ≡ None
             → All (λ wait. (place_of (wait_in wait)).index ≢ number) self.old.waits.items
             → (result ≡ answer.NoWait) × (self.new ≡ self.old) }
+        ensures answered { IsAnswered verbs.Poll number self.old result self.new }
     {
         if self.owed.is_some() {
             return Answer::Owes;
@@ -140,6 +145,7 @@ impl BarrierCaller {
         ensures no_wait { self.old.owed ≡ None
             → All (λ wait. (place_of (wait_in wait)).index ≢ number) self.old.waits.items
             → (result ≡ answer.NoWait) × (self.new ≡ self.old) }
+        ensures answered { IsAnswered verbs.Cancel number self.old result self.new }
     {
         if self.owed.is_some() {
             return Answer::Owes;
@@ -170,6 +176,7 @@ impl BarrierCaller {
         ensures stands { StandsAt barrier.now self.new }
         ensures owes_nothing { self.old.owed ≡ None
             → (result ≡ answer.OwesNothing) × (self.new ≡ self.old) }
+        ensures answered { IsAnswered verbs.Finish 0 self.old result self.new }
     {
         match self.owed.take() {
             None => Answer::OwesNothing,
@@ -182,6 +189,7 @@ impl BarrierCaller {
     pub fn sole(&mut self, barrier: &Barrier<Unparked>) -> Answer
         requires stands { StandsAt barrier.now self.old }
         ensures stands { StandsAt barrier.now self.new }
+        ensures answered { IsAnswered verbs.Sole 0 self.old result self.new }
     {
         Answer::Sole(barrier.sole(&mut self.pass))
     }
@@ -199,6 +207,7 @@ impl BarrierCaller {
         ensures made { IfOk result (λ made. StandsAt barrier.now made) }
         ensures refused { IfErr result
             (λ e. (e ≡ answer.Owes) ⊎ ((e ≡ answer.NoParty) ⊎ (e ≡ answer.Crowd))) }
+        ensures number { (pass_view self.new.pass).number ≡ (pass_view self.old.pass).number }
     {
         if self.owed.is_some() {
             return Err(Answer::Owes);
@@ -223,6 +232,7 @@ impl BarrierCaller {
         ensures stands { StandsAt barrier.now self.new }
         ensures back { IfErr result (λ refused. refused.0 ≡ given) }
         ensures unchanged { OnErr result (self.new ≡ self.old) }
+        ensures number { (pass_view self.new.pass).number ≡ (pass_view self.old.pass).number }
     {
         if self.owed.is_some() {
             return Err((given, Answer::Owes));
@@ -243,7 +253,8 @@ impl BarrierCaller {
         requires free { self.old.owed ≡ None }
         requires owes { HasOwing (pass_view self.old.pass).facts owing }
         requires waits { HasTokens wait_in (pass_view self.old.pass) self.old.waits.items }
-        ensures { StandsAt barrier.now self.new }
+        ensures stands { StandsAt barrier.now self.new }
+        ensures resumed { HasResumed (pass_view self.old.pass) result (pass_view self.new.pass) }
     {
         match barrier.finish(&mut self.pass, owing) {
             Ok(()) => Answer::Finished,
@@ -263,7 +274,9 @@ impl BarrierCaller {
         requires waits { HasTokens wait_in (pass_view self.old.pass) self.old.waits.items }
         requires apart { All (λ x. wait_index (wait_in x) ≢ (leaving_at leaving).index)
             self.old.waits.items }
-        ensures { StandsAt barrier.now self.new }
+        ensures stands { StandsAt barrier.now self.new }
+        ensures went { HasGoneOn (leaving_at leaving).index (pass_view self.old.pass) result
+            (pass_view self.new.pass) }
     {
         match barrier.leave_again(&mut self.pass, leaving) {
             PartyLeft::Withdrawn => Answer::Cancelled,

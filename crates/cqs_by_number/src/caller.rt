@@ -1,5 +1,8 @@
 //! Who has a pass, of whatever primitive.
 
+ghost use Rattle.std.specs.Prelude.{◌≡◌};
+ghost use Rattle.cqs_by_number.specs.Callers.{pass_number};
+
 use crate::barrier_caller::BarrierCaller;
 use crate::latch_caller::LatchCaller;
 use crate::pool_caller::PoolCaller;
@@ -16,7 +19,9 @@ pub enum Caller {
 
 impl Caller {
     /// The number of its pass.
-    pub fn number(&self) -> u32 {
+    pub fn number(&self) -> u32
+        ensures { result ≡ pass_number self.now }
+    {
         match self {
             Caller::Semaphore(caller) => caller.pass.number(),
             Caller::Pool(caller) => caller.pass.number(),

@@ -4,8 +4,10 @@ ghost use Rattle.std.specs.Prelude.{◌≡◌, ◌⊎◌, ◌≤◌, ◌<◌, �
 ghost use Rattle.cqs_rule.specs.Passes.{pass_view};
 ghost use Rattle.cqs_rule.specs.Waits.{place_of};
 ghost use Rattle.cqs_latch.specs.Calls.{IsMine, IsReady};
+ghost use Rattle.cqs_by_number.specs.LatchAnswers.{IsAnswered};
 ghost use Rattle.cqs_by_number.specs.LatchCallers.{StandsAt};
 ghost use Rattle.cqs_by_number.specs.declared.answers.Answer.TheVariants as answer;
+ghost use Rattle.cqs_by_number.specs.declared.verb.Verb.TheVariants as verbs;
 
 use crate::answers::Answer;
 use crate::tokens::take_out;
@@ -40,6 +42,7 @@ impl LatchCaller {
     pub fn call(&mut self, latch: &Latch<Unparked>, verb: Verb, number: u64) -> Answer
         requires stands { StandsAt latch.now self.old }
         ensures stands { StandsAt latch.now self.new }
+        ensures answered { IsAnswered latch.now verb number self.old result self.new }
     {
         match verb {
             Verb::Enter => self.wait(latch),
@@ -59,6 +62,7 @@ impl LatchCaller {
         ensures owes { IsSome self.old.owed → (result ≡ answer.Owes) × (self.new ≡ self.old) }
         ensures full { self.old.owed ≡ None → vec_capacity self.old.waits ≤ vec_len self.old.waits
             → (result ≡ answer.Full) × (self.new ≡ self.old) }
+        ensures answered { IsAnswered latch.now verbs.Enter 0 self.old result self.new }
     {
         if self.owed.is_some() {
             return Answer::Owes;
@@ -85,6 +89,7 @@ impl LatchCaller {
         ensures no_wait { self.old.owed ≡ None
             → All (λ wait. (place_of wait).index ≢ number) self.old.waits.items
             → (result ≡ answer.NoWait) × (self.new ≡ self.old) }
+        ensures answered { IsAnswered latch.now verbs.Poll number self.old result self.new }
     {
         if self.owed.is_some() {
             return Answer::Owes;
@@ -109,6 +114,7 @@ impl LatchCaller {
         ensures no_wait { self.old.owed ≡ None
             → All (λ wait. (place_of wait).index ≢ number) self.old.waits.items
             → (result ≡ answer.NoWait) × (self.new ≡ self.old) }
+        ensures answered { IsAnswered latch.now verbs.Cancel number self.old result self.new }
     {
         if self.owed.is_some() {
             return Answer::Owes;
@@ -132,6 +138,7 @@ impl LatchCaller {
         requires stands { StandsAt latch.now self.old }
         ensures stands { StandsAt latch.now self.new }
         ensures owes { IsSome self.old.owed → (result ≡ answer.Owes) × (self.new ≡ self.old) }
+        ensures answered { IsAnswered latch.now verbs.Leave 0 self.old result self.new }
     {
         if self.owed.is_some() {
             return Answer::Owes;
@@ -155,6 +162,7 @@ impl LatchCaller {
         ensures stands { StandsAt latch.now self.new }
         ensures owes_nothing { self.old.owed ≡ None
             → (result ≡ answer.OwesNothing) × (self.new ≡ self.old) }
+        ensures answered { IsAnswered latch.now verbs.Finish 0 self.old result self.new }
     {
         let Some(owed) = self.owed.take() else {
             return Answer::OwesNothing;
@@ -173,6 +181,7 @@ impl LatchCaller {
     pub fn sole(&mut self, latch: &Latch<Unparked>) -> Answer
         requires stands { StandsAt latch.now self.old }
         ensures stands { StandsAt latch.now self.new }
+        ensures answered { IsAnswered latch.now verbs.Sole 0 self.old result self.new }
     {
         Answer::Sole(latch.sole(&mut self.pass))
     }
@@ -184,6 +193,7 @@ impl LatchCaller {
         ensures stands { StandsAt latch.now self.new }
         ensures made { IfOk result (λ made. StandsAt latch.now made) }
         ensures refused { IfErr result (λ e. (e ≡ answer.Owes) ⊎ (e ≡ answer.Crowd)) }
+        ensures number { (pass_view self.new.pass).number ≡ (pass_view self.old.pass).number }
     {
         if self.owed.is_some() {
             return Err(Answer::Owes);
@@ -205,6 +215,7 @@ impl LatchCaller {
         ensures stands { StandsAt latch.now self.new }
         ensures back { IfErr result (λ refused. refused.0 ≡ given) }
         ensures unchanged { OnErr result (self.new ≡ self.old) }
+        ensures number { (pass_view self.new.pass).number ≡ (pass_view self.old.pass).number }
     {
         if self.owed.is_some() {
             return Err((given, Answer::Owes));

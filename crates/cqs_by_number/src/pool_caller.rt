@@ -7,9 +7,12 @@ ghost use Rattle.cqs_rule.specs.Waits.{place_of};
 ghost use Rattle.cqs_pool.specs.Calls.{IsMine, IsReady};
 ghost use Rattle.cqs_pool.specs.Owed.{owed_after};
 ghost use Rattle.cqs_pool.specs.Elements.{number_of};
+ghost use Rattle.cqs_by_number.specs.PoolAnswers.{IsAnswered};
+ghost use Rattle.cqs_by_number.specs.PoolTold.{told_placed};
 ghost use Rattle.cqs_by_number.specs.PoolCallers.{StandsAt, OwesJust, HasElements};
 ghost use Rattle.cqs_by_number.specs.Tokens.{HasTokens};
 ghost use Rattle.cqs_by_number.specs.declared.answers.Answer.TheVariants as answer;
+ghost use Rattle.cqs_by_number.specs.declared.verb.Verb.TheVariants as verbs;
 
 use crate::answers::Answer;
 use crate::tokens::take_out;
@@ -52,6 +55,7 @@ impl PoolCaller {
     pub fn call(&mut self, pool: &Pool<Unparked>, verb: Verb, number: u64) -> Answer
         requires stands { StandsAt pool.now self.old }
         ensures stands { StandsAt pool.now self.new }
+        ensures answered { IsAnswered verb number self.old result self.new }
     {
         match verb {
             Verb::Enter => self.take(pool),
@@ -71,6 +75,7 @@ impl PoolCaller {
         ensures owes { IsSome self.old.under → (result ≡ answer.Owes) × (self.new ≡ self.old) }
         ensures full { self.old.under ≡ None → vec_capacity self.old.waits ≤ vec_len self.old.waits
             → (result ≡ answer.Full) × (self.new ≡ self.old) }
+        ensures answered { IsAnswered verbs.Enter 0 self.old result self.new }
     {
         if self.under.is_some() {
             return Answer::Owes;
@@ -105,6 +110,7 @@ impl PoolCaller {
             → vec_len self.old.elements < vec_capacity self.old.elements
             → All (λ wait. (place_of wait).index ≢ number) self.old.waits.items
             → (result ≡ answer.NoWait) × (self.new ≡ self.old) }
+        ensures answered { IsAnswered verbs.Poll number self.old result self.new }
     {
         if self.under.is_some() {
             return Answer::Owes;
@@ -137,6 +143,7 @@ impl PoolCaller {
             → vec_len self.old.elements < vec_capacity self.old.elements
             → All (λ wait. (place_of wait).index ≢ number) self.old.waits.items
             → (result ≡ answer.NoWait) × (self.new ≡ self.old) }
+        ensures answered { IsAnswered verbs.Cancel number self.old result self.new }
     {
         if self.under.is_some() {
             return Answer::Owes;
@@ -170,6 +177,7 @@ impl PoolCaller {
         ensures no_element { self.old.under ≡ None
             → All (λ x. number_of x ≢ number) self.old.elements.items
             → (result ≡ answer.NoElement) × (self.new ≡ self.old) }
+        ensures answered { IsAnswered verbs.Leave number self.old result self.new }
     {
         if self.under.is_some() {
             return Answer::Owes;
@@ -189,6 +197,7 @@ impl PoolCaller {
         ensures stands { StandsAt pool.now self.new }
         ensures owes_nothing { self.old.under ≡ None
             → (result ≡ answer.OwesNothing) × (self.new ≡ self.old) }
+        ensures answered { IsAnswered verbs.Finish 0 self.old result self.new }
     {
         let Some(under) = self.under.take() else {
             return Answer::OwesNothing;
@@ -201,6 +210,7 @@ impl PoolCaller {
     pub fn sole(&mut self, pool: &Pool<Unparked>) -> Answer
         requires stands { StandsAt pool.now self.old }
         ensures stands { StandsAt pool.now self.new }
+        ensures answered { IsAnswered verbs.Sole 0 self.old result self.new }
     {
         Answer::Sole(pool.sole(&mut self.pass))
     }
@@ -218,6 +228,7 @@ impl PoolCaller {
         ensures stands { StandsAt pool.now self.new }
         ensures made { IfOk result (λ made. StandsAt pool.now made) }
         ensures refused { IfErr result (λ e. (e ≡ answer.Owes) ⊎ (e ≡ answer.Crowd)) }
+        ensures number { (pass_view self.new.pass).number ≡ (pass_view self.old.pass).number }
     {
         if self.under.is_some() {
             return Err(Answer::Owes);
@@ -239,6 +250,7 @@ impl PoolCaller {
         ensures stands { StandsAt pool.now self.new }
         ensures back { IfErr result (λ refused. refused.0 ≡ given) }
         ensures unchanged { OnErr result (self.new ≡ self.old) }
+        ensures number { (pass_view self.new.pass).number ≡ (pass_view self.old.pass).number }
     {
         if self.under.is_some() {
             return Err((given, Answer::Owes));
@@ -274,6 +286,8 @@ impl PoolCaller {
         requires waits { HasTokens (λ wait. wait) (pass_view self.old.pass) self.old.waits.items }
         requires elements { HasElements (pass_view self.old.pass).facts self.old.elements.items }
         ensures stands { StandsAt pool.now self.new }
+        ensures told { result ≡ told_placed placed }
+        ensures pass { self.new.pass ≡ self.old.pass }
     {
         match placed {
             Placed::Sent(number) => Answer::Sent(number),

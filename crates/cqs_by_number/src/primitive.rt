@@ -1,7 +1,8 @@
 //! The primitives, and a call of whichever it is.
 
 ghost use Rattle.std.specs.Prelude.{◌≡◌, IfOk, IfErr, OnErr};
-ghost use Rattle.cqs_by_number.specs.Callers.{StandsAt};
+ghost use Rattle.cqs_by_number.specs.Answered.{Leads};
+ghost use Rattle.cqs_by_number.specs.Callers.{StandsAt, pass_number};
 
 use crate::answers::Answer;
 use crate::caller::Caller;
@@ -26,7 +27,9 @@ impl Primitive {
     /// One call with the pass of a caller. `number` is that of a wait or of an element.
     pub fn call(&self, caller: &mut Caller, verb: Verb, number: u64) -> Answer
         requires { StandsAt self.now caller.old }
-        ensures { StandsAt self.now caller.new }
+        ensures stands { StandsAt self.now caller.new }
+        ensures answered { Leads self.now verb number caller.old result caller.new }
+        ensures number { pass_number caller.new ≡ pass_number caller.old }
     {
         match self {
             Primitive::Semaphore(semaphore) => match caller {
@@ -59,6 +62,7 @@ impl Primitive {
         requires { StandsAt self.now caller.old }
         ensures stands { StandsAt self.now caller.new }
         ensures made { IfOk result (λ made. StandsAt self.now made) }
+        ensures number { pass_number caller.new ≡ pass_number caller.old }
     {
         match self {
             Primitive::Semaphore(semaphore) => match caller {
@@ -114,6 +118,7 @@ impl Primitive {
         ensures stands { StandsAt self.now caller.new }
         ensures back { IfErr result (λ refused. refused.0 ≡ given) }
         ensures unchanged { OnErr result (caller.new ≡ caller.old) }
+        ensures number { pass_number caller.new ≡ pass_number caller.old }
     {
         match self {
             Primitive::Semaphore(semaphore) => match caller {

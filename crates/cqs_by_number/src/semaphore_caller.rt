@@ -6,9 +6,11 @@ ghost use Rattle.cqs_rule.specs.Passes.{pass_view};
 ghost use Rattle.cqs_semaphore.specs.Calls.{IsMine, IsReady};
 ghost use Rattle.cqs_semaphore.specs.Owed.{owed_after};
 ghost use Rattle.cqs_by_number.specs.SemaphoreCallers.{StandsAt, OwesJust, IsToken};
-ghost use Rattle.cqs_by_number.specs.Told.{told_released};
+ghost use Rattle.cqs_by_number.specs.SemaphoreAnswers.{IsAnswered};
+ghost use Rattle.cqs_by_number.specs.SemaphoreTold.{told_released};
 ghost use Rattle.cqs_by_number.specs.Waits.{HasAt, Apart};
 ghost use Rattle.cqs_by_number.specs.declared.answers.Answer.TheVariants as answer;
+ghost use Rattle.cqs_by_number.specs.declared.verb.Verb.TheVariants as verbs;
 
 use crate::answers::Answer;
 use crate::places::find;
@@ -47,6 +49,7 @@ impl SemaphoreCaller {
     pub fn call(&mut self, semaphore: &Semaphore<Unparked>, verb: Verb, number: u64) -> Answer
         requires stands { StandsAt semaphore.now self.old }
         ensures stands { StandsAt semaphore.now self.new }
+        ensures answered { IsAnswered verb number self.old result self.new }
     {
         match verb {
             Verb::Enter => self.acquire(semaphore),
@@ -67,6 +70,7 @@ impl SemaphoreCaller {
         ensures owes { IsSome self.old.under → (result ≡ answer.Owes) × (self.new ≡ self.old) }
         ensures full { self.old.under ≡ None → vec_capacity self.old.waits ≤ vec_len self.old.waits
             → (result ≡ answer.Full) × (self.new ≡ self.old) }
+        ensures answered { IsAnswered verbs.Enter 0 self.old result self.new }
     {
         if self.under.is_some() {
             return Answer::Owes;
@@ -90,6 +94,7 @@ impl SemaphoreCaller {
         requires stands { StandsAt semaphore.now self.old }
         ensures stands { StandsAt semaphore.now self.new }
         ensures owes { IsSome self.old.under → (result ≡ answer.Owes) × (self.new ≡ self.old) }
+        ensures answered { IsAnswered verbs.Try 0 self.old result self.new }
     {
         if self.under.is_some() {
             return Answer::Owes;
@@ -108,6 +113,7 @@ impl SemaphoreCaller {
         ensures owes { IsSome self.old.under → (result ≡ answer.Owes) × (self.new ≡ self.old) }
         ensures no_wait { self.old.under ≡ None → All (λ at. at.index ≢ number) self.old.waits.items
             → (result ≡ answer.NoWait) × (self.new ≡ self.old) }
+        ensures answered { IsAnswered verbs.Poll number self.old result self.new }
     {
         if self.under.is_some() {
             return Answer::Owes;
@@ -131,6 +137,7 @@ impl SemaphoreCaller {
         ensures owes { IsSome self.old.under → (result ≡ answer.Owes) × (self.new ≡ self.old) }
         ensures no_wait { self.old.under ≡ None → All (λ at. at.index ≢ number) self.old.waits.items
             → (result ≡ answer.NoWait) × (self.new ≡ self.old) }
+        ensures answered { IsAnswered verbs.Cancel number self.old result self.new }
     {
         if self.under.is_some() {
             return Answer::Owes;
@@ -163,6 +170,7 @@ impl SemaphoreCaller {
         ensures owes { IsSome self.old.under → (result ≡ answer.Owes) × (self.new ≡ self.old) }
         ensures no_permit { self.old.under ≡ None → (pass_view self.old.pass).facts.has.held ≡ 0
             → (result ≡ answer.NoPermit) × (self.new ≡ self.old) }
+        ensures answered { IsAnswered verbs.Leave 0 self.old result self.new }
     {
         if self.under.is_some() {
             return Answer::Owes;
@@ -183,6 +191,7 @@ impl SemaphoreCaller {
         ensures stands { StandsAt semaphore.now self.new }
         ensures owes_nothing { self.old.under ≡ None
             → (result ≡ answer.OwesNothing) × (self.new ≡ self.old) }
+        ensures answered { IsAnswered verbs.Finish 0 self.old result self.new }
     {
         let Some(under) = self.under.take() else {
             return Answer::OwesNothing;
@@ -196,6 +205,7 @@ impl SemaphoreCaller {
         requires stands { StandsAt semaphore.now self.old }
         ensures stands { StandsAt semaphore.now self.new }
         ensures owes { IsSome self.old.under → (result ≡ answer.Owes) × (self.new ≡ self.old) }
+        ensures answered { IsAnswered verbs.State 0 self.old result self.new }
     {
         if self.under.is_some() {
             return Answer::Owes;
@@ -207,6 +217,7 @@ impl SemaphoreCaller {
     pub fn sole(&mut self, semaphore: &Semaphore<Unparked>) -> Answer
         requires stands { StandsAt semaphore.now self.old }
         ensures stands { StandsAt semaphore.now self.new }
+        ensures answered { IsAnswered verbs.Sole 0 self.old result self.new }
     {
         Answer::Sole(semaphore.sole(&mut self.pass))
     }
@@ -222,6 +233,7 @@ impl SemaphoreCaller {
         ensures stands { StandsAt semaphore.now self.new }
         ensures made { IfOk result (λ made. StandsAt semaphore.now made) }
         ensures refused { IfErr result (λ e. (e ≡ answer.Owes) ⊎ (e ≡ answer.Crowd)) }
+        ensures number { (pass_view self.new.pass).number ≡ (pass_view self.old.pass).number }
     {
         if self.under.is_some() {
             return Err(Answer::Owes);
@@ -243,6 +255,7 @@ impl SemaphoreCaller {
         ensures stands { StandsAt semaphore.now self.new }
         ensures back { IfErr result (λ refused. refused.0 ≡ given) }
         ensures unchanged { OnErr result (self.new ≡ self.old) }
+        ensures number { (pass_view self.new.pass).number ≡ (pass_view self.old.pass).number }
     {
         if self.under.is_some() {
             return Err((given, Answer::Owes));

@@ -1,9 +1,10 @@
 //! How a call takes its pass, and puts it back.
 
-ghost use Rattle.std.specs.Prelude.{◌≡◌, ◌≢◌, ◌<◌, ◌≤◌, IfOk, IfErr};
-ghost use Rattle.cqs_by_number.specs.Callers.{StandsAt};
+ghost use Rattle.std.specs.Prelude.{◌≡◌, ◌≢◌, ◌⊎◌, ◌<◌, ◌≤◌, IfOk, IfErr};
+ghost use Rattle.cqs_by_number.specs.Callers.{StandsAs};
 ghost use Rattle.cqs_by_number.specs.Marks.{Suits};
 ghost use Rattle.cqs_by_number.specs.Numbered.{Holds};
+ghost use Rattle.cqs_by_number.specs.declared.answers.Answer.TheVariants as answer;
 
 use crate::answers::Answer;
 use crate::caller::Caller;
@@ -18,7 +19,7 @@ impl Numbered {
         requires inside { pass < self.now.passes }
         requires free { from ≢ 1 }
         ensures taken { IfOk result (λ taken. Holds self.now pass taken.0
-            × Suits self.now.primitive from taken.1) }
+            × Suits self.now.primitive pass from taken.1) }
         ensures other { IfErr result (λ found. found ≢ from) }
     {
         let shared = &self.table.shared;
@@ -37,7 +38,7 @@ impl Numbered {
     pub(crate) fn lay(&self, pass: u32, mut hand: Hand, lying: Option<Caller>, mark: u64)
         requires inside { pass < self.now.passes }
         requires holds { Holds self.now pass hand }
-        requires suits { Suits self.now.primitive mark lying }
+        requires suits { Suits self.now.primitive pass mark lying }
     {
         let shared = &self.table.shared;
         let word = 16 * pass as usize + 16;
@@ -47,9 +48,10 @@ impl Numbered {
 
     // Takes a pass, for a call.
     pub(crate) fn take(&self, pass: u32) -> Result<(Hand, Caller), Answer>
+        ensures refused { IfErr result (λ e. (e ≡ answer.NoPass) ⊎ (e ≡ answer.InUse)) }
         ensures inside { IfOk result (λ _. pass < self.now.passes) }
         ensures holds { IfOk result (λ taken. Holds self.now pass taken.0) }
-        ensures stands { IfOk result (λ taken. StandsAt self.now.primitive taken.1) }
+        ensures stands { IfOk result (λ taken. StandsAs self.now.primitive pass taken.1) }
     {
         if pass >= self.passes {
             return Err(Answer::NoPass);
@@ -71,7 +73,7 @@ impl Numbered {
     pub(crate) fn put(&self, pass: u32, hand: Hand, caller: Caller)
         requires inside { pass < self.now.passes }
         requires holds { Holds self.now pass hand }
-        requires stands { StandsAt self.now.primitive caller }
+        requires stands { StandsAs self.now.primitive pass caller }
     {
         self.lay(pass, hand, Some(caller), RESTS);
     }

@@ -1,4 +1,4 @@
-use Rattle.std.proofs.Common.{◌≡◌, ◌∙◌, ◌<◌, length, ap, subst, sym}
+use Rattle.std.proofs.Common.{◌∙◌, ap, subst}
 use Rattle.cqs_rule.proofs.Lists.{get_index}
 use Rattle.cqs_by_number.specs.Tokens.{IsAt}
 use Rattle.cqs_by_number.proofs.tokens.take_out.Goals as goal

@@ -1,10 +1,12 @@
-use Rattle.std.proofs.Common.{◌≡◌, ap, subst, sym}
+use Rattle.std.proofs.Common.{ap, subst, sym, ◌∙◌, inr, Ok}
 use Rattle.cqs_barrier.specs.Arriving.{Arrives}
 use Rattle.cqs_barrier.specs.Waits.{wait_in}
 use Rattle.cqs_rule.specs.Passes.{pass_view}
 use Rattle.cqs_by_number.specs.Tokens.{HasTokens}
 use Rattle.cqs_by_number.proofs.BarrierKept.{owes-none, apart-none, through-waits}
 use Rattle.cqs_by_number.proofs.TokenSteps.{same_waits, one_more}
+use Rattle.cqs_by_number.specs.declared.answers.Answer.TheVariants as answer
+use Rattle.cqs_by_number.specs.BarrierTold.{told_arrived}
 use Rattle.cqs_by_number.proofs.barrier_caller.BarrierCaller.arrive.Goals as goal
 
 pub returns-in-Ok-Last-clause-stands : goal.returns-in-Ok-Last-clause-stands
@@ -57,3 +59,41 @@ returns-in-Err-clause-stands c =
       waits = same_waits wait_in v w _ (worn.called.called.same.number, worn.rests.waits_are) c.requires.stands.waits;
       apart = apart-none _ _ c.if-is_some.ensures;
     }
+
+pub returns-in-Ok-Last-clause-answered : goal.returns-in-Ok-Last-clause-answered
+returns-in-Ok-Last-clause-answered c =
+    inr (record {
+      given = c.arrive.result;
+      told = ap told_arrived (sym (c.in-Ok-Last.is ∙ ap Ok c.in-Ok-Last.field-0-is));
+      worn = c.arrive.ensures.worn;
+      arrived = c.arrive.ensures.arrived;
+    })
+
+pub returns-in-Ok-LastOwing-clause-answered : goal.returns-in-Ok-LastOwing-clause-answered
+returns-in-Ok-LastOwing-clause-answered c =
+    inr (record {
+      given = c.arrive.result;
+      told = ap answer.LastOwing c.reached-reached.ensures
+          ∙ ap told_arrived (sym (c.in-Ok-LastOwing.is ∙ ap Ok c.in-Ok-LastOwing.field-0-is));
+      worn = c.arrive.ensures.worn;
+      arrived = c.arrive.ensures.arrived;
+    })
+
+pub returns-in-Ok-Later-clause-answered : goal.returns-in-Ok-Later-clause-answered
+returns-in-Ok-Later-clause-answered c =
+    inr (record {
+      given = c.arrive.result;
+      told = ap answer.Later c.number-number.ensures
+          ∙ ap told_arrived (sym (c.in-Ok-Later.is ∙ ap Ok c.in-Ok-Later.field-0-is));
+      worn = c.arrive.ensures.worn;
+      arrived = c.arrive.ensures.arrived;
+    })
+
+pub returns-in-Err-clause-answered : goal.returns-in-Err-clause-answered
+returns-in-Err-clause-answered c =
+    inr (record {
+      given = c.arrive.result;
+      told = ap told_arrived (sym c.in-Err.is);
+      worn = c.arrive.ensures.worn;
+      arrived = c.arrive.ensures.arrived;
+    })

@@ -1,10 +1,14 @@
-use Rattle.std.proofs.Common.{◌≡◌, ◌≢◌, ℕ, All, subst, sym}
+use Rattle.std.proofs.Common.{◌≢◌, ℕ, All, subst, sym, ap, inr, rules, ◌∙◌, ℤ}
 use Rattle.cqs_barrier.specs.Leaving.{HasLeft}
 use Rattle.cqs_barrier.specs.Waits.{wait_in}
 use Rattle.cqs_rule.specs.Passes.{pass_view}
 use Rattle.cqs_by_number.specs.Tokens.{wait_index}
 use Rattle.cqs_by_number.proofs.BarrierKept.{owes-none, apart-none, late-waits}
 use Rattle.cqs_by_number.proofs.TokenSteps.{taken_token, taken_none, taken_others, one_less, one_out}
+use Rattle.cqs_by_number.specs.BarrierTold.{told_left}
+use Rattle.std.proofs.lemmas.Int.{to_z-of_z}
+use mir.Syntax.{w64}
+use Rattle.cqs_by_number.specs.declared.answers.Answer.TheVariants as answer
 use Rattle.cqs_by_number.proofs.barrier_caller.BarrierCaller.cancel.Goals as goal
 
 pub cancel-requires-clause-has : goal.cancel-requires-clause-has
@@ -64,3 +68,39 @@ returns-in-TooLate-clause-no_wait c free none =
 pub returns-in-Contended-clause-no_wait : goal.returns-in-Contended-clause-no_wait
 returns-in-Contended-clause-no_wait c free none =
     absurd (taken_none (λ x. wait_index (wait_in x)) _ _ _ _ c.in-Some.ensures.taken none)
+
+pub returns-in-Withdrawn-clause-answered : goal.returns-in-Withdrawn-clause-answered
+returns-in-Withdrawn-clause-answered c =
+    inr (record {
+      wait = c.in-Some.wait;
+      has = taken_token wait_in _ _ _ _ _ c.in-Some.ensures.taken c.requires.stands.waits;
+      number_is = c.in-Some.ensures.taken.number_is;
+      given = c.cancel.result;
+      told = ap told_left (sym c.in-Withdrawn.is);
+      left = c.cancel.ensures.left;
+    })
+
+pub returns-in-TooLate-clause-answered : goal.returns-in-TooLate-clause-answered
+returns-in-TooLate-clause-answered c =
+    inr (record {
+      wait = c.in-Some.wait;
+      has = taken_token wait_in _ _ _ _ _ c.in-Some.ensures.taken c.requires.stands.waits;
+      number_is = c.in-Some.ensures.taken.number_is;
+      given = c.cancel.result;
+      told = ap told_left (sym c.in-TooLate.is);
+      left = c.cancel.ensures.left;
+    })
+
+pub returns-in-Contended-clause-answered : goal.returns-in-Contended-clause-answered
+returns-in-Contended-clause-answered c =
+    inr (record {
+      wait = c.in-Some.wait;
+      has = taken_token wait_in _ _ _ _ _ c.in-Some.ensures.taken c.requires.stands.waits;
+      number_is = c.in-Some.ensures.taken.number_is;
+      given = c.cancel.result;
+      told = ap (λ (p : ℤ × ℤ). answer.Contended p.0 p.1) (λ k. (
+        (to_z-of_z w64 c.from.result (search rules) ∙ c.from.ensures) k,
+        (to_z-of_z w64 c.from-in-Contended.result (search rules) ∙ c.from-in-Contended.ensures) k,
+      )) ∙ ap told_left (sym c.in-Contended.is);
+      left = c.cancel.ensures.left;
+    })

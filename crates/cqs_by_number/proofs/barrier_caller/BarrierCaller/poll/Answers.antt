@@ -1,10 +1,11 @@
-use Rattle.std.proofs.Common.{◌≡◌, subst, sym}
+use Rattle.std.proofs.Common.{subst, sym, ap, inr}
 use Rattle.cqs_barrier.specs.Answers.{IsPolled}
 use Rattle.cqs_barrier.specs.Waits.{wait_in}
 use Rattle.cqs_rule.specs.Passes.{pass_view}
 use Rattle.cqs_by_number.specs.Tokens.{HasTokens, wait_index}
 use Rattle.cqs_by_number.proofs.BarrierKept.{owes-none, apart-none}
 use Rattle.cqs_by_number.proofs.TokenSteps.{taken_token, taken_none, one_less, one_back}
+use Rattle.cqs_by_number.specs.BarrierTold.{told_polled}
 use Rattle.cqs_by_number.proofs.barrier_caller.BarrierCaller.poll.Goals as goal
 
 pub poll-requires-clause-has : goal.poll-requires-clause-has
@@ -46,3 +47,27 @@ returns-in-Through-clause-no_wait c free none =
 pub returns-in-Pending-clause-no_wait : goal.returns-in-Pending-clause-no_wait
 returns-in-Pending-clause-no_wait c free none =
     absurd (taken_none (λ x. wait_index (wait_in x)) _ _ _ _ c.in-Some.ensures.taken none)
+
+pub returns-in-Through-clause-answered : goal.returns-in-Through-clause-answered
+returns-in-Through-clause-answered c =
+    inr (record {
+      wait = c.in-Some.wait;
+      has = taken_token wait_in _ _ _ _ _ c.in-Some.ensures.taken c.requires.stands.waits;
+      number_is = c.in-Some.ensures.taken.number_is;
+      given = c.poll.result;
+      told = ap told_polled (sym c.in-Through.is);
+      called = c.poll.ensures.called;
+      polled = c.poll.ensures.polled;
+    })
+
+pub returns-in-Pending-clause-answered : goal.returns-in-Pending-clause-answered
+returns-in-Pending-clause-answered c =
+    inr (record {
+      wait = c.in-Some.wait;
+      has = taken_token wait_in _ _ _ _ _ c.in-Some.ensures.taken c.requires.stands.waits;
+      number_is = c.in-Some.ensures.taken.number_is;
+      given = c.poll.result;
+      told = ap told_polled (sym c.in-Pending.is);
+      called = c.poll.ensures.called;
+      polled = c.poll.ensures.polled;
+    })

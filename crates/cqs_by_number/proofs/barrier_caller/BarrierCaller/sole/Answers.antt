@@ -1,22 +1,28 @@
-use Rattle.std.proofs.Common.{◌≡◌, ap}
+use Rattle.std.proofs.Common.{ap, ◌∙◌, inr}
 use Rattle.cqs_barrier.specs.Waits.{wait_in}
 use Rattle.cqs_rule.specs.declared.view.Facts.{Facts}
 use Rattle.cqs_rule.specs.Passes.{pass_view}
 use Rattle.cqs_by_number.proofs.BarrierKept.{owes-same}
 use Rattle.cqs_by_number.proofs.TokenSteps.{same_waits}
+use Rattle.cqs_by_number.specs.declared.answers.Answer.TheVariants.{Sole}
 use Rattle.cqs_by_number.proofs.barrier_caller.BarrierCaller.sole.Goals as goal
 
-pub returns : goal.returns
-returns c =
+pub returns-clause-stands : goal.returns-clause-stands
+returns-clause-stands c =
     let v = pass_view c.args.self.now.pass in
     let w = pass_view c.sole.new.pass in
     let looked = c.sole.ensures.looked in
     record {
-      stands = record {
-        belongs = c.sole.ensures.belongs;
-        owes = owes-same v w _ looked.facts_are c.requires.stands.owes;
-        waits = same_waits wait_in v w _ (looked.same.number, ap (λ (f : Facts). f.waits) looked.facts_are)
-            c.requires.stands.waits;
-        apart = c.requires.stands.apart;
-      };
+      belongs = c.sole.ensures.belongs;
+      owes = owes-same v w _ looked.facts_are c.requires.stands.owes;
+      waits = same_waits wait_in v w _ (looked.same.number, ap (λ (f : Facts). f.waits) looked.facts_are)
+          c.requires.stands.waits;
+      apart = c.requires.stands.apart;
     }
+
+pub returns-clause-answered : goal.returns-clause-answered
+returns-clause-answered c = inr (record {
+  told = ap Sole c.sole.ensures.alone;
+  looked = c.sole.ensures.looked;
+  others = λ alone. c.sole.ensures.others (c.sole.ensures.alone ∙ alone);
+})

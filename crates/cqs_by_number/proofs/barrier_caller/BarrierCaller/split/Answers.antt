@@ -1,4 +1,4 @@
-use Rattle.std.proofs.Common.{◌≡◌, ap, subst, sym}
+use Rattle.std.proofs.Common.{ap, subst, sym}
 use Rattle.cqs_barrier.specs.Calls.{IsReady}
 use Rattle.cqs_barrier.specs.Waits.{wait_in}
 use Rattle.cqs_rule.specs.declared.view.Facts.{Facts}

@@ -1,9 +1,11 @@
-use Rattle.std.proofs.Common.{◌≡◌, ◌∙◌, ap, subst, sym}
+use Rattle.std.proofs.Common.{◌∙◌, ap, subst, sym, inr}
 use Rattle.cqs_latch.specs.LeftAnswers.{IsReadyLeft}
 use Rattle.cqs_rule.specs.Passes.{pass_view}
 use Rattle.cqs_by_number.specs.Tokens.{wait_index}
 use Rattle.cqs_by_number.proofs.LatchKept.{owes-none}
 use Rattle.cqs_by_number.proofs.TokenSteps.{the_wait, tokens_others, taken_token, taken_none}
+use Rattle.cqs_by_number.specs.declared.answers.Answer.TheVariants as answer
+use Rattle.cqs_by_number.specs.LatchTold.{told_left}
 use Rattle.cqs_by_number.proofs.latch_caller.LatchCaller.cancel.Goals as goal
 
 pub cancel-requires-clause-has : goal.cancel-requires-clause-has
@@ -56,3 +58,36 @@ returns-in-GoneOwing-clause-no_wait c free none =
 pub returns-in-TooLate-clause-no_wait : goal.returns-in-TooLate-clause-no_wait
 returns-in-TooLate-clause-no_wait c free none =
     absurd (taken_none wait_index _ _ _ _ c.in-Some.ensures.taken none)
+
+pub returns-in-Gone-clause-answered : goal.returns-in-Gone-clause-answered
+returns-in-Gone-clause-answered c =
+    inr (record {
+      wait = c.in-Some.wait;
+      has = taken_token the_wait _ _ _ _ _ c.in-Some.ensures.taken c.requires.stands.waits;
+      number_is = c.in-Some.ensures.taken.number_is;
+      given = c.cancel.result;
+      told = ap told_left (sym c.in-Gone.is);
+      left = c.cancel.ensures.left;
+    })
+
+pub returns-in-GoneOwing-clause-answered : goal.returns-in-GoneOwing-clause-answered
+returns-in-GoneOwing-clause-answered c =
+    inr (record {
+      wait = c.in-Some.wait;
+      has = taken_token the_wait _ _ _ _ _ c.in-Some.ensures.taken c.requires.stands.waits;
+      number_is = c.in-Some.ensures.taken.number_is;
+      given = c.cancel.result;
+      told = ap answer.CancelledOwing c.reached-reached.ensures ∙ ap told_left (sym c.in-GoneOwing.is);
+      left = c.cancel.ensures.left;
+    })
+
+pub returns-in-TooLate-clause-answered : goal.returns-in-TooLate-clause-answered
+returns-in-TooLate-clause-answered c =
+    inr (record {
+      wait = c.in-Some.wait;
+      has = taken_token the_wait _ _ _ _ _ c.in-Some.ensures.taken c.requires.stands.waits;
+      number_is = c.in-Some.ensures.taken.number_is;
+      given = c.cancel.result;
+      told = ap told_left (sym c.in-TooLate.is);
+      left = c.cancel.ensures.left;
+    })

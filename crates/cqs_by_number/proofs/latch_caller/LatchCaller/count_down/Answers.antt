@@ -1,8 +1,10 @@
-use Rattle.std.proofs.Common.{subst}
+use Rattle.std.proofs.Common.{subst, ◌∙◌, ap, sym, inr}
 use Rattle.cqs_latch.specs.CountAnswers.{IsReadyAfter}
 use Rattle.cqs_rule.specs.Passes.{pass_view}
 use Rattle.cqs_by_number.proofs.LatchKept.{owes-none}
 use Rattle.cqs_by_number.proofs.TokenSteps.{the_wait, tokens_stay}
+use Rattle.cqs_by_number.specs.declared.answers.Answer.TheVariants as answer
+use Rattle.cqs_by_number.specs.LatchTold.{told_counted}
 use Rattle.cqs_by_number.proofs.latch_caller.LatchCaller.count_down.Goals as goal
 
 pub returns-in-Ok-Left-clause-stands : goal.returns-in-Ok-Left-clause-stands
@@ -39,3 +41,35 @@ returns-in-Ok-Already-clause-stands c = record {
       c.in-Ok-Already.ensures.ready);
   waits = tokens_stay the_wait _ _ _ c.count_down.ensures.keeps c.requires.stands.waits;
 }
+
+pub returns-in-Ok-Left-clause-answered : goal.returns-in-Ok-Left-clause-answered
+returns-in-Ok-Left-clause-answered c =
+    inr (record {
+      given = c.in-Ok-Left.field-0;
+      told = ap told_counted (sym c.in-Ok-Left.field-0-is);
+      counted = c.in-Ok-Left.ensures.counted;
+    })
+
+pub returns-in-Ok-Last-clause-answered : goal.returns-in-Ok-Last-clause-answered
+returns-in-Ok-Last-clause-answered c =
+    inr (record {
+      given = c.in-Ok-Last.field-0;
+      told = ap told_counted (sym c.in-Ok-Last.field-0-is);
+      counted = c.in-Ok-Last.ensures.counted;
+    })
+
+pub returns-in-Ok-LastOwing-clause-answered : goal.returns-in-Ok-LastOwing-clause-answered
+returns-in-Ok-LastOwing-clause-answered c =
+    inr (record {
+      given = c.in-Ok-LastOwing.field-0;
+      told = ap answer.LastOwing c.reached-reached.ensures ∙ ap told_counted (sym c.in-Ok-LastOwing.field-0-is);
+      counted = c.in-Ok-LastOwing.ensures.counted;
+    })
+
+pub returns-in-Ok-Already-clause-answered : goal.returns-in-Ok-Already-clause-answered
+returns-in-Ok-Already-clause-answered c =
+    inr (record {
+      given = c.in-Ok-Already.field-0;
+      told = ap told_counted (sym c.in-Ok-Already.field-0-is);
+      counted = c.in-Ok-Already.ensures.counted;
+    })

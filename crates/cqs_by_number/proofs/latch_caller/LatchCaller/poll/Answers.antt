@@ -1,11 +1,10 @@
-use Rattle.std.proofs.Common.{◌≡◌, ◌≢◌, ◌∙◌, All, ap, subst, sym}
+use Rattle.std.proofs.Common.{ap, subst, sym, inr}
 use Rattle.cqs_latch.specs.Answers.{IsPolled}
-use Rattle.cqs_rule.specs.declared.config.Place.{Place}
 use Rattle.cqs_rule.specs.Passes.{pass_view}
-use Rattle.cqs_rule.specs.Waits.{place_of}
 use Rattle.cqs_by_number.specs.Tokens.{HasTokens, wait_index}
 use Rattle.cqs_by_number.proofs.LatchKept.{owes-none}
 use Rattle.cqs_by_number.proofs.TokenSteps.{the_wait, tokens_others, tokens_back, taken_token, taken_none}
+use Rattle.cqs_by_number.specs.LatchTold.{told_polled}
 use Rattle.cqs_by_number.proofs.latch_caller.LatchCaller.poll.Goals as goal
 
 pub poll-requires-clause-has : goal.poll-requires-clause-has
@@ -43,3 +42,27 @@ returns-in-Through-clause-no_wait c free none =
 pub returns-in-Pending-clause-no_wait : goal.returns-in-Pending-clause-no_wait
 returns-in-Pending-clause-no_wait c free none =
     absurd (taken_none wait_index _ _ _ _ c.in-Some.ensures.taken none)
+
+pub returns-in-Through-clause-answered : goal.returns-in-Through-clause-answered
+returns-in-Through-clause-answered c =
+    inr (record {
+      wait = c.in-Some.wait;
+      has = taken_token the_wait _ _ _ _ _ c.in-Some.ensures.taken c.requires.stands.waits;
+      number_is = c.in-Some.ensures.taken.number_is;
+      given = c.poll.result;
+      told = ap told_polled (sym c.in-Through.is);
+      called = c.poll.ensures.called;
+      polled = c.poll.ensures.polled;
+    })
+
+pub returns-in-Pending-clause-answered : goal.returns-in-Pending-clause-answered
+returns-in-Pending-clause-answered c =
+    inr (record {
+      wait = c.in-Some.wait;
+      has = taken_token the_wait _ _ _ _ _ c.in-Some.ensures.taken c.requires.stands.waits;
+      number_is = c.in-Some.ensures.taken.number_is;
+      given = c.poll.result;
+      told = ap told_polled (sym c.in-Pending.is);
+      called = c.poll.ensures.called;
+      polled = c.poll.ensures.polled;
+    })

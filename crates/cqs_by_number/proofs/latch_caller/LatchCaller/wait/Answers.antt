@@ -1,11 +1,12 @@
-use Rattle.std.proofs.Common.{◌≡◌, ◌∙◌, ◌++◌, ◌∷◌, [], ap, subst, sym, Ok}
-use Rattle.cqs_latch.specs.declared.answers.LatchWait.TheVariants.{Later}
+use Rattle.std.proofs.Common.{◌∙◌, ap, subst, sym, Ok, inr}
 use Rattle.cqs_latch.specs.Answers.{HasWaited}
 use Rattle.cqs_rule.specs.Passes.{pass_view}
 use Rattle.cqs_rule.specs.Waits.{place_of}
 use Rattle.cqs_by_number.specs.Tokens.{HasTokens}
 use Rattle.cqs_by_number.proofs.LatchKept.{owes-none}
 use Rattle.cqs_by_number.proofs.TokenSteps.{the_wait, tokens_stay, tokens_more, new_number}
+use Rattle.cqs_by_number.specs.declared.answers.Answer.TheVariants as answer
+use Rattle.cqs_by_number.specs.LatchTold.{told_waited}
 use Rattle.cqs_by_number.proofs.latch_caller.LatchCaller.wait.Goals as goal
 
 pub returns-in-Ok-Passed-clause-stands : goal.returns-in-Ok-Passed-clause-stands
@@ -38,3 +39,24 @@ returns-in-Err-clause-stands c = record {
   owes = owes-none _ _ c.if-is_some.ensures c.wait.ensures.ready;
   waits = tokens_stay the_wait _ _ _ c.wait.ensures.keeps c.requires.stands.waits;
 }
+
+pub returns-in-Ok-Passed-clause-answered : goal.returns-in-Ok-Passed-clause-answered
+returns-in-Ok-Passed-clause-answered c =
+    inr (record {
+      given = c.wait.result;
+      told = ap told_waited (sym (c.in-Ok-Passed.is ∙ ap Ok c.in-Ok-Passed.field-0-is));
+      waited = c.wait.ensures.waited;
+    })
+
+pub returns-in-Ok-Later-clause-answered : goal.returns-in-Ok-Later-clause-answered
+returns-in-Ok-Later-clause-answered c =
+    inr (record {
+      given = c.wait.result;
+      told = ap answer.Later c.number-number.ensures
+          ∙ ap told_waited (sym (c.in-Ok-Later.is ∙ ap Ok c.in-Ok-Later.field-0-is));
+      waited = c.wait.ensures.waited;
+    })
+
+pub returns-in-Err-clause-answered : goal.returns-in-Err-clause-answered
+returns-in-Err-clause-answered c =
+    inr (record { given = c.wait.result; told = ap told_waited (sym c.in-Err.is); waited = c.wait.ensures.waited })

@@ -31,5 +31,5 @@ returns-clause-taken c =
         table = here.0 ∙ (c.compare_exchange-found.ensures.0 ∙ c.load_new_seat.ensures.0);
         slot = ap (λ m. m.1) here.3 ∙ ap (λ l. (c.args.pass, None) ∷ l) bare;
       },
-      subst (λ (p : Primitive × Option Caller). Suits p.0 c.args.from p.1) (λ k. (of k, is k)) got.2,
+      subst (λ (p : Primitive × Option Caller). Suits p.0 c.args.pass c.args.from p.1) (λ k. (of k, is k)) got.2,
     )

@@ -10,7 +10,8 @@ store-requires c =
     let put = c.exchange-nothing.ensures in
     let has = ap (λ m. m.1) put.3 ∙ ap (λ l. (c.args.pass, c.args.lying) ∷ rest l) c.requires.holds.slot in
     let low : c.args.pass < shared.table_id.slots = omega (arith, c.requires.inside, c.args.self.now.slots_are) in
-    let suits = subst (λ s. Suits s c.args.mark c.args.lying) (sym c.args.self.now.key_is) c.requires.suits in (
+    let suits = subst (λ s. Suits s c.args.pass c.args.mark c.args.lying) (sym c.args.self.now.key_is)
+    c.requires.suits in (
       put.0 ∙ c.requires.holds.table,
       omega (arith, c.requires.inside, c.args.self.now.words_are),
       lays shared.key _ c.exchange-nothing.new.seat.id c.exchange-nothing.new.seat.me c.args.pass c.args.mark

@@ -1,4 +1,4 @@
-use Rattle.std.proofs.Common.{◌≡◌, ◌∙◌, ap, subst, sym, None, Some}
+use Rattle.std.proofs.Common.{◌∙◌, ap, subst, sym, inr}
 use Rattle.cqs_pool.specs.declared.answers.PoolLeft.TheVariants.{Cancelled}
 use Rattle.cqs_pool.specs.Alone.{CancelsNew}
 use Rattle.cqs_pool.specs.Answers.{LeavesPass}
@@ -7,6 +7,8 @@ use Rattle.cqs_by_number.specs.PoolCallers.{HasElements}
 use Rattle.cqs_by_number.specs.Tokens.{wait_index}
 use Rattle.cqs_by_number.proofs.PoolKept.{owes-none, elements_same, elements_more}
 use Rattle.cqs_by_number.proofs.TokenSteps.{the_wait, taken_token, taken_none, one_less}
+use Rattle.cqs_by_number.specs.declared.answers.Answer.TheVariants as answer
+use Rattle.cqs_by_number.specs.PoolTold.{told_left}
 use Rattle.cqs_by_number.proofs.pool_caller.PoolCaller.cancel.Goals as goal
 
 pub cancel-requires-clause-has : goal.cancel-requires-clause-has
@@ -69,3 +71,37 @@ returns-in-Cancelled-Some-clause-no_wait c free room none =
 pub returns-in-TooLate-clause-no_wait : goal.returns-in-TooLate-clause-no_wait
 returns-in-TooLate-clause-no_wait c free room none =
     absurd (taken_none wait_index _ _ _ _ c.in-Some.ensures.taken none)
+
+pub returns-in-Cancelled-None-clause-answered : goal.returns-in-Cancelled-None-clause-answered
+returns-in-Cancelled-None-clause-answered c =
+    inr (record {
+      wait = c.in-Some.wait;
+      has = taken_token the_wait _ _ _ _ _ c.in-Some.ensures.taken c.requires.stands.waits;
+      number_is = c.in-Some.ensures.taken.number_is;
+      given = c.cancel.result;
+      told = ap told_left (sym (c.in-Cancelled-None.is ∙ ap Cancelled c.in-Cancelled-None.field-0-is));
+      cancelled = c.cancel.ensures.cancelled;
+    })
+
+pub returns-in-Cancelled-Some-clause-answered : goal.returns-in-Cancelled-Some-clause-answered
+returns-in-Cancelled-Some-clause-answered c =
+    inr (record {
+      wait = c.in-Some.wait;
+      has = taken_token the_wait _ _ _ _ _ c.in-Some.ensures.taken c.requires.stands.waits;
+      number_is = c.in-Some.ensures.taken.number_is;
+      given = c.cancel.result;
+      told = ap answer.CancelledOwing c.reached-reached.ensures
+          ∙ ap told_left (sym (c.in-Cancelled-Some.is ∙ ap Cancelled c.in-Cancelled-Some.field-0-is));
+      cancelled = c.cancel.ensures.cancelled;
+    })
+
+pub returns-in-TooLate-clause-answered : goal.returns-in-TooLate-clause-answered
+returns-in-TooLate-clause-answered c =
+    inr (record {
+      wait = c.in-Some.wait;
+      has = taken_token the_wait _ _ _ _ _ c.in-Some.ensures.taken c.requires.stands.waits;
+      number_is = c.in-Some.ensures.taken.number_is;
+      given = c.cancel.result;
+      told = ap answer.LateTook c.number-number.ensures ∙ ap told_left (sym c.in-TooLate.is);
+      cancelled = c.cancel.ensures.cancelled;
+    })

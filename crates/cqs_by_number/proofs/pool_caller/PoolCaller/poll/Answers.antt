@@ -1,4 +1,4 @@
-use Rattle.std.proofs.Common.{◌≡◌, subst, sym}
+use Rattle.std.proofs.Common.{subst, sym, ◌∙◌, ap, inr}
 use Rattle.cqs_rule.specs.Passes.{pass_view}
 use Rattle.cqs_pool.specs.Alone.{PollsNew}
 use Rattle.cqs_pool.specs.Answers.{IsPolled}
@@ -6,6 +6,8 @@ use Rattle.cqs_by_number.specs.PoolCallers.{HasElements}
 use Rattle.cqs_by_number.specs.Tokens.{HasTokens, wait_index}
 use Rattle.cqs_by_number.proofs.PoolKept.{owes-none, elements_same, elements_more}
 use Rattle.cqs_by_number.proofs.TokenSteps.{the_wait, taken_token, taken_none, one_less, one_back}
+use Rattle.cqs_by_number.specs.declared.answers.Answer.TheVariants as answer
+use Rattle.cqs_by_number.specs.PoolTold.{told_polled}
 use Rattle.cqs_by_number.proofs.pool_caller.PoolCaller.poll.Goals as goal
 
 pub poll-requires-clause-has : goal.poll-requires-clause-has
@@ -49,3 +51,27 @@ returns-in-Granted-clause-no_wait c free room none =
 pub returns-in-Pending-clause-no_wait : goal.returns-in-Pending-clause-no_wait
 returns-in-Pending-clause-no_wait c free room none =
     absurd (taken_none wait_index _ _ _ _ c.in-Some.ensures.taken none)
+
+pub returns-in-Granted-clause-answered : goal.returns-in-Granted-clause-answered
+returns-in-Granted-clause-answered c =
+    inr (record {
+      wait = c.in-Some.wait;
+      has = taken_token the_wait _ _ _ _ _ c.in-Some.ensures.taken c.requires.stands.waits;
+      number_is = c.in-Some.ensures.taken.number_is;
+      given = c.poll.result;
+      told = ap answer.Took c.number-number.ensures ∙ ap told_polled (sym c.in-Granted.is);
+      called = c.poll.ensures.called;
+      polled = c.poll.ensures.polled;
+    })
+
+pub returns-in-Pending-clause-answered : goal.returns-in-Pending-clause-answered
+returns-in-Pending-clause-answered c =
+    inr (record {
+      wait = c.in-Some.wait;
+      has = taken_token the_wait _ _ _ _ _ c.in-Some.ensures.taken c.requires.stands.waits;
+      number_is = c.in-Some.ensures.taken.number_is;
+      given = c.poll.result;
+      told = ap told_polled (sym c.in-Pending.is);
+      called = c.poll.ensures.called;
+      polled = c.poll.ensures.polled;
+    })

@@ -1,4 +1,4 @@
-use Rattle.std.proofs.Common.{◌≡◌, ap}
+use Rattle.std.proofs.Common.{ap}
 use Rattle.cqs_rule.specs.declared.view.Facts.{Facts}
 use Rattle.cqs_by_number.proofs.PoolKept.{owes-none, elements_same}
 use Rattle.cqs_by_number.proofs.TokenSteps.{the_wait, same_waits}

@@ -1,4 +1,4 @@
-use Rattle.std.proofs.Common.{◌≡◌, ap, subst, sym}
+use Rattle.std.proofs.Common.{ap, subst, sym, ◌∙◌, inr, Ok}
 use Rattle.cqs_rule.specs.declared.view.Facts.{Facts}
 use Rattle.cqs_rule.specs.Passes.{pass_view}
 use Rattle.cqs_pool.specs.Alone.{TakesNew}
@@ -7,6 +7,8 @@ use Rattle.cqs_by_number.specs.PoolCallers.{HasElements}
 use Rattle.cqs_by_number.specs.Tokens.{HasTokens}
 use Rattle.cqs_by_number.proofs.PoolKept.{owes-none, elements_same, elements_more}
 use Rattle.cqs_by_number.proofs.TokenSteps.{the_wait, same_waits, one_more}
+use Rattle.cqs_by_number.specs.declared.answers.Answer.TheVariants as answer
+use Rattle.cqs_by_number.specs.PoolTold.{told_taken}
 use Rattle.cqs_by_number.proofs.pool_caller.PoolCaller.take.Goals as goal
 
 pub returns-in-Ok-Took-clause-stands : goal.returns-in-Ok-Took-clause-stands
@@ -50,3 +52,35 @@ returns-in-Err-clause-stands c =
           (c.take.ensures.called.called.same.number, ap (λ (f : Facts). f.waits) same) c.requires.stands.waits;
       elements = elements_same _ _ _ (ap (λ (f : Facts). f.has.slots) same) c.requires.stands.elements;
     }
+
+pub returns-in-Ok-Took-clause-answered : goal.returns-in-Ok-Took-clause-answered
+returns-in-Ok-Took-clause-answered c =
+    inr (record {
+      given = c.take.result;
+      told = ap answer.Took c.number-number.ensures
+          ∙ ap told_taken (sym (c.in-Ok-Took.is ∙ ap Ok c.in-Ok-Took.field-0-is));
+      called = c.take.ensures.called;
+      worn = c.take.ensures.worn;
+      took = c.take.ensures.took;
+    })
+
+pub returns-in-Ok-Later-clause-answered : goal.returns-in-Ok-Later-clause-answered
+returns-in-Ok-Later-clause-answered c =
+    inr (record {
+      given = c.take.result;
+      told = ap answer.Later c.number-number-in-Ok-Later.ensures
+          ∙ ap told_taken (sym (c.in-Ok-Later.is ∙ ap Ok c.in-Ok-Later.field-0-is));
+      called = c.take.ensures.called;
+      worn = c.take.ensures.worn;
+      took = c.take.ensures.took;
+    })
+
+pub returns-in-Err-clause-answered : goal.returns-in-Err-clause-answered
+returns-in-Err-clause-answered c =
+    inr (record {
+      given = c.take.result;
+      told = ap told_taken (sym c.in-Err.is);
+      called = c.take.ensures.called;
+      worn = c.take.ensures.worn;
+      took = c.take.ensures.took;
+    })

@@ -1,4 +1,4 @@
-use Rattle.std.proofs.Common.{◌≡◌, ◌≢◌, ◌++◌, ◌∷◌, [], All, ap, subst, sym}
+use Rattle.std.proofs.Common.{◌≡◌, ◌≢◌, ◌++◌, ◌∷◌, [], All, ap, subst, sym, ◌∙◌, inr, Ok}
 use Rattle.std.proofs.lemmas.List.Elements.{All-push}
 use Rattle.cqs_rule.specs.declared.view.Facts.{Facts}
 use Rattle.cqs_rule.specs.declared.config.Place.{Place}
@@ -8,6 +8,9 @@ use Rattle.cqs_semaphore.specs.Calls.{IsMine, IsReady}
 use Rattle.cqs_by_number.specs.Waits.{HasAt, Apart}
 use Rattle.cqs_by_number.proofs.SemaphoreKept.{kept-same, kept-more, new-apart, took-waits, owes-none}
 use Rattle.cqs_by_number.proofs.Waits.{apart_push}
+use Rattle.cqs_by_number.specs.declared.answers.Answer.TheVariants.{Now, Later}
+use Rattle.cqs_by_number.specs.SemaphoreAnswers.{HasAcquired}
+use Rattle.cqs_by_number.specs.SemaphoreTold.{told_acquired}
 use Rattle.cqs_by_number.proofs.semaphore_caller.SemaphoreCaller.acquire.Goals as goal
 
 pub returns-in-Ok-Now-clause-stands : goal.returns-in-Ok-Now-clause-stands
@@ -51,3 +54,35 @@ returns-in-Err-clause-stands c = record {
   waits = kept-same _ _ _ (ap (λ (f : Facts). f.waits) c.in-Err.ensures.worn.facts_are) c.requires.stands.waits;
   apart = c.requires.stands.apart;
 }
+
+pub returns-in-Ok-Now-clause-answered : goal.returns-in-Ok-Now-clause-answered
+returns-in-Ok-Now-clause-answered c =
+    inr (record {
+      given = c.acquire.result;
+      told = ap Now c.number.ensures ∙ ap told_acquired (sym (c.in-Ok-Now.is ∙ ap Ok c.in-Ok-Now.field-0-is));
+      called = c.acquire.ensures.called;
+      worn = c.acquire.ensures.worn;
+      acquired = c.acquire.ensures.acquired;
+    })
+
+pub returns-in-Ok-Later-clause-answered : goal.returns-in-Ok-Later-clause-answered
+returns-in-Ok-Later-clause-answered c =
+    inr (subst (λ p. HasAcquired (pass_view c.args.self.now.pass) (Later c.spend_wait-at.result.index) (pass_view p))
+    (sym c.spend_wait-at.ensures.same) (record {
+      given = c.acquire.result;
+      told = ap (λ (p : Place). Later p.index) c.spend_wait-at.ensures.place
+          ∙ ap told_acquired (sym (c.in-Ok-Later.is ∙ ap Ok c.in-Ok-Later.field-0-is));
+      called = c.acquire.ensures.called;
+      worn = c.acquire.ensures.worn;
+      acquired = c.acquire.ensures.acquired;
+    }))
+
+pub returns-in-Err-clause-answered : goal.returns-in-Err-clause-answered
+returns-in-Err-clause-answered c =
+    inr (record {
+      given = c.acquire.result;
+      told = ap told_acquired (sym c.in-Err.is);
+      called = c.acquire.ensures.called;
+      worn = c.acquire.ensures.worn;
+      acquired = c.acquire.ensures.acquired;
+    })

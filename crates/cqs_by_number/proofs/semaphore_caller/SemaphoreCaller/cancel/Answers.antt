@@ -1,4 +1,4 @@
-use Rattle.std.proofs.Common.{◌≡◌, ◌≢◌, ◌∙◌, All, ap, subst, sym, false, None, Some}
+use Rattle.std.proofs.Common.{◌≡◌, ◌≢◌, ◌∙◌, All, ap, subst, sym, false, None, Some, inr}
 use Rattle.std.specs.Option.{is_some}
 use Rattle.cqs_rule.specs.declared.config.Place.{Place}
 use Rattle.cqs_rule.specs.Passes.{pass_view}
@@ -9,6 +9,9 @@ use Rattle.cqs_by_number.proofs.Waits.{apart_remove, found_one}
 use Rattle.cqs_semaphore.specs.declared.answers.CancelAnswer.TheVariants.{Cancelled}
 use Rattle.cqs_semaphore.specs.Steps.{HasCancelled}
 use Rattle.cqs_by_number.proofs.SemaphoreKept.{kept-others, cancel-owing, owes-none}
+use Rattle.cqs_by_number.specs.declared.answers.Answer.TheVariants as answer
+use Rattle.cqs_by_number.specs.SemaphoreAnswers.{HasGivenUp}
+use Rattle.cqs_by_number.specs.SemaphoreTold.{told_cancelled}
 use Rattle.cqs_by_number.proofs.semaphore_caller.SemaphoreCaller.cancel.Goals as goal
 
 pub returns-in-Cancelled-None-clause-stands : goal.returns-in-Cancelled-None-clause-stands
@@ -86,3 +89,44 @@ returns-in-TooLate-clause-no_wait c free none =
     let others = subst (λ (d : SemaphoreCaller). All (λ (at : Place). at.index ≢ c.args.number) d.waits.items)
     (sym c.token.ensures.same) none in
     absurd (found_one c.args.number _ _ c.in-Some.ensures.found.at others)
+
+pub returns-in-Cancelled-None-clause-answered : goal.returns-in-Cancelled-None-clause-answered
+returns-in-Cancelled-None-clause-answered c =
+    let w = pass_view c.cancel.new.pass in
+    inr (subst (λ (d : SemaphoreCaller). HasGivenUp c.args.number (pass_view d.pass) answer.Cancelled w)
+    c.token.ensures.same (record {
+      wait = c.in-Some.wait;
+      has = c.in-Some.ensures.found.has;
+      number_is = c.in-Some.ensures.found.number_is;
+      given = c.cancel.result;
+      told = ap told_cancelled (sym (c.in-Cancelled-None.is ∙ ap Cancelled c.in-Cancelled-None.field-0-is));
+      cancelled = c.cancel.ensures.cancelled;
+    }))
+
+pub returns-in-Cancelled-Some-clause-answered : goal.returns-in-Cancelled-Some-clause-answered
+returns-in-Cancelled-Some-clause-answered c =
+    let w = pass_view c.cancel.new.pass in
+    inr (subst (λ (d : SemaphoreCaller).
+    HasGivenUp c.args.number (pass_view d.pass) (answer.CancelledOwing c.reached-reached.result) w)
+    c.token.ensures.same (record {
+      wait = c.in-Some.wait;
+      has = c.in-Some.ensures.found.has;
+      number_is = c.in-Some.ensures.found.number_is;
+      given = c.cancel.result;
+      told = ap answer.CancelledOwing c.reached-reached.ensures
+          ∙ ap told_cancelled (sym (c.in-Cancelled-Some.is ∙ ap Cancelled c.in-Cancelled-Some.field-0-is));
+      cancelled = c.cancel.ensures.cancelled;
+    }))
+
+pub returns-in-TooLate-clause-answered : goal.returns-in-TooLate-clause-answered
+returns-in-TooLate-clause-answered c =
+    let w = pass_view c.cancel.new.pass in
+    inr (subst (λ (d : SemaphoreCaller). HasGivenUp c.args.number (pass_view d.pass) answer.TooLate w)
+    c.token.ensures.same (record {
+      wait = c.in-Some.wait;
+      has = c.in-Some.ensures.found.has;
+      number_is = c.in-Some.ensures.found.number_is;
+      given = c.cancel.result;
+      told = ap told_cancelled (sym c.in-TooLate.is);
+      cancelled = c.cancel.ensures.cancelled;
+    }))

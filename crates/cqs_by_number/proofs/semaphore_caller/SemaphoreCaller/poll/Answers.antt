@@ -1,4 +1,4 @@
-use Rattle.std.proofs.Common.{◌≡◌, ◌≢◌, All, subst, sym, false}
+use Rattle.std.proofs.Common.{◌≡◌, ◌≢◌, All, ap, subst, sym, false, inr}
 use Rattle.std.specs.Option.{is_some}
 use Rattle.cqs_rule.specs.declared.config.Place.{Place}
 use Rattle.cqs_rule.specs.Passes.{pass_view}
@@ -6,6 +6,9 @@ use Rattle.cqs_by_number.specs.declared.semaphore_caller.SemaphoreCaller.{Semaph
 use Rattle.cqs_by_number.specs.Waits.{HasAt, Apart}
 use Rattle.cqs_by_number.proofs.Waits.{apart_remove, found_one}
 use Rattle.cqs_by_number.proofs.SemaphoreKept.{kept-same, kept-others, owes-none}
+use Rattle.cqs_by_number.specs.declared.answers.Answer.TheVariants.{Granted, Pending}
+use Rattle.cqs_by_number.specs.SemaphoreAnswers.{HasPolled}
+use Rattle.cqs_by_number.specs.SemaphoreTold.{told_polled}
 use Rattle.cqs_by_number.proofs.semaphore_caller.SemaphoreCaller.poll.Goals as goal
 
 pub returns-in-Granted-clause-stands : goal.returns-in-Granted-clause-stands
@@ -49,3 +52,31 @@ returns-in-Pending-clause-no_wait c free none =
     let others = subst (λ (d : SemaphoreCaller). All (λ (at : Place). at.index ≢ c.args.number) d.waits.items)
     (sym c.token.ensures.same) none in
     absurd (found_one c.args.number _ _ c.in-Some.ensures.found.at others)
+
+pub returns-in-Granted-clause-answered : goal.returns-in-Granted-clause-answered
+returns-in-Granted-clause-answered c =
+    let w = pass_view c.poll.new.pass in
+    inr (subst (λ (d : SemaphoreCaller). HasPolled c.args.number (pass_view d.pass) Granted w)
+    c.token.ensures.same (record {
+      wait = c.in-Some.wait;
+      has = c.in-Some.ensures.found.has;
+      number_is = c.in-Some.ensures.found.number_is;
+      given = c.poll.result;
+      told = ap told_polled (sym c.in-Granted.is);
+      called = c.poll.ensures.called;
+      polled = c.poll.ensures.polled;
+    }))
+
+pub returns-in-Pending-clause-answered : goal.returns-in-Pending-clause-answered
+returns-in-Pending-clause-answered c =
+    let w = pass_view c.poll.new.pass in
+    inr (subst (λ (d : SemaphoreCaller). HasPolled c.args.number (pass_view d.pass) Pending w)
+    c.token.ensures.same (record {
+      wait = c.in-Some.wait;
+      has = c.in-Some.ensures.found.has;
+      number_is = c.in-Some.ensures.found.number_is;
+      given = c.poll.result;
+      told = ap told_polled (sym c.in-Pending.is);
+      called = c.poll.ensures.called;
+      polled = c.poll.ensures.polled;
+    }))

@@ -1,4 +1,8 @@
 use Rattle.cqs_by_number.proofs.SemaphoreKept.{kept-same, owes-none}
+use Rattle.std.proofs.Common.{rules, ◌∙◌, inr, ap}
+use Rattle.std.proofs.lemmas.Int.{to_z-of_z}
+use mir.Syntax.{w64}
+use Rattle.cqs_by_number.specs.declared.answers.Answer.TheVariants.{State}
 use Rattle.cqs_by_number.proofs.semaphore_caller.SemaphoreCaller.state.Goals as goal
 
 pub returns-clause-stands : goal.returns-clause-stands
@@ -8,3 +12,10 @@ returns-clause-stands c = record {
   waits = kept-same _ _ _ c.state.ensures.rests.waits_are c.requires.stands.waits;
   apart = c.requires.stands.apart;
 }
+
+pub returns-clause-answered : goal.returns-clause-answered
+returns-clause-answered c =
+    inr (record {
+      told = ap State (to_z-of_z w64 _ (search rules) ∙ c.state.ensures.state);
+      called = c.state.ensures.called;
+    })

@@ -1,4 +1,9 @@
 use Rattle.cqs_by_number.proofs.SemaphoreKept.{kept-same, owes-none}
+use Rattle.std.proofs.Common.{rules, ◌∙◌, ℤ, ap, sym, inr}
+use Rattle.std.proofs.lemmas.Int.{to_z-of_z}
+use mir.Syntax.{w64}
+use Rattle.cqs_by_number.specs.declared.answers.Answer.TheVariants.{Contended}
+use Rattle.cqs_by_number.specs.SemaphoreTold.{told_tried}
 use Rattle.cqs_by_number.proofs.semaphore_caller.SemaphoreCaller.try_acquire.Goals as goal
 
 pub returns-in-Got-clause-stands : goal.returns-in-Got-clause-stands
@@ -30,3 +35,32 @@ returns-in-Contended-clause-stands c =
       waits = kept-same _ _ _ tries.1.waits_are c.requires.stands.waits;
       apart = c.requires.stands.apart;
     }
+
+pub returns-in-Got-clause-answered : goal.returns-in-Got-clause-answered
+returns-in-Got-clause-answered c =
+    inr (record {
+      given = c.try_acquire.result;
+      told = ap told_tried (sym c.in-Got.is);
+      called = c.try_acquire.ensures.called;
+      tries = c.try_acquire.ensures.tries;
+    })
+
+pub returns-in-Busy-clause-answered : goal.returns-in-Busy-clause-answered
+returns-in-Busy-clause-answered c =
+    inr (record {
+      given = c.try_acquire.result;
+      told = ap told_tried (sym c.in-Busy.is);
+      called = c.try_acquire.ensures.called;
+      tries = c.try_acquire.ensures.tries;
+    })
+
+pub returns-in-Contended-clause-answered : goal.returns-in-Contended-clause-answered
+returns-in-Contended-clause-answered c =
+    inr (record {
+      given = c.try_acquire.result;
+      told = ap (λ (p : ℤ × ℤ). Contended p.0 p.1) (λ k.
+          (to_z-of_z w64 c.in-Contended.saw (search rules) k, to_z-of_z w64 c.in-Contended.found (search rules) k))
+          ∙ ap told_tried (sym c.in-Contended.is);
+      called = c.try_acquire.ensures.called;
+      tries = c.try_acquire.ensures.tries;
+    })

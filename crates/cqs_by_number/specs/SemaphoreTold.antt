@@ -1,7 +1,6 @@
 -- What each answer tells, by what the semaphore's own call answered.
 use Rattle.std.specs.Prelude.{Some, None, Result, Ok, Err}
 use Rattle.cqs_rule.specs.declared.config.AcquireError.{AcquireError}
-use Rattle.cqs_rule.specs.declared.config.AcquireError.TheVariants as refused
 use Rattle.cqs_rule.specs.Waits.{place_of}
 use Rattle.cqs_rule.specs.Owed.{under_reached}
 use Rattle.cqs_semaphore.specs.declared.answers.Acquired.{Acquired}
@@ -21,8 +20,7 @@ use Rattle.cqs_by_number.specs.declared.answers.Answer.TheVariants as answer
 abbrev pub told_acquired : Result Acquired AcquireError → Answer
 told_acquired (Ok (acquired.Now permit)) = answer.Now (number_of permit)
 told_acquired (Ok (acquired.Later wait)) = answer.Later (place_of wait).index
-told_acquired (Err refused.Worn) = answer.Worn
-told_acquired (Err refused.Crowded) = answer.Worn
+told_acquired (Err e) = answer.Worn
 
 abbrev pub told_tried : Tried → Answer
 told_tried (tried.Got permit) = answer.Got

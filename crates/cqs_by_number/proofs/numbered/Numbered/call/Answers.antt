@@ -1,0 +1,14 @@
+use Rattle.std.proofs.Common.{◌∙◌, inr}
+use Rattle.cqs_by_number.proofs.numbered.Numbered.call.Goals as goal
+
+pub returns : goal.returns
+returns c = inr (inr (record {
+  before = c.in-Ok.taken.1;
+  after = c.call-answer.new.caller;
+  stood = c.in-Ok.ensures.stands;
+  stands = record {
+    stands = c.call-answer.ensures.stands;
+    number = c.call-answer.ensures.number ∙ c.in-Ok.ensures.stands.number;
+  };
+  leads = c.call-answer.ensures.answered;
+}))

@@ -1,0 +1,40 @@
+-- What a call with the pass of a number answers, of whatever primitive.
+use Rattle.std.specs.Prelude.{◌≡◌, ◌⊎◌, ℕ}
+use Rattle.cqs_by_number.specs.declared.answers.Answer.{Answer}
+use Rattle.cqs_by_number.specs.declared.answers.Answer.TheVariants as answer
+use Rattle.cqs_by_number.specs.declared.caller.Caller.{Caller}
+use Rattle.cqs_by_number.specs.declared.caller.Caller.TheVariants as caller
+use Rattle.cqs_by_number.specs.declared.primitive.Primitive.{Primitive}
+use Rattle.cqs_by_number.specs.declared.primitive.Primitive.TheVariants as primitive
+use Rattle.cqs_by_number.specs.declared.verb.Verb.{Verb}
+use Rattle.cqs_by_number.specs.Callers.{StandsAs}
+use Rattle.cqs_by_number.specs.BarrierAnswers as barrier
+use Rattle.cqs_by_number.specs.LatchAnswers as latch
+use Rattle.cqs_by_number.specs.PoolAnswers as pool
+use Rattle.cqs_by_number.specs.SemaphoreAnswers as semaphore
+
+-- a call of this verb, with this number of a wait or an element, led from the one caller to the
+-- other
+abbrev pub Leads : Primitive → Verb → ℕ → Caller → Answer → Caller → Type 0
+Leads (primitive.Semaphore s) v n (caller.Semaphore c) a (caller.Semaphore d) =
+    semaphore.IsAnswered v n c a d
+Leads (primitive.Pool p) v n (caller.Pool c) a (caller.Pool d) =
+    pool.IsAnswered v n c a d
+Leads (primitive.Latch l) v n (caller.Latch c) a (caller.Latch d) =
+    latch.IsAnswered l v n c a d
+Leads (primitive.Barrier b) v n (caller.Barrier c) a (caller.Barrier d) =
+    barrier.IsAnswered v n c a d
+Leads _ v n c a d = ⊥
+
+-- The pass of this number was taken, and put back: it stood as a caller's pass does, and the call
+-- led from there.
+pub record IsCalled (p : Primitive) (pass : ℕ) (v : Verb) (n : ℕ) (a : Answer) : Type 0 where
+  pub before : Caller
+  pub after : Caller
+  pub stood : StandsAs p pass before
+  pub stands : StandsAs p pass after
+  pub leads : Leads p v n before a after
+
+-- Nobody has the number, or another call has the pass just now; or the call was made.
+abbrev pub IsAnswered : Primitive → ℕ → Verb → ℕ → Answer → Type 0
+IsAnswered p pass v n a = (a ≡ answer.NoPass) ⊎ (a ≡ answer.InUse) ⊎ IsCalled p pass v n a

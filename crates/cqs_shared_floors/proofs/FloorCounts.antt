@@ -1,0 +1,218 @@
+-- Counting the takes, waits and arrivals of a plan, and opening its resources for several workers.
+use Rattle.std.proofs.Common.{◌≡◌, ◌≢◌, ◌⊎◌, inl, inr, ℕ, suc, ne_eqb, ◌+◌, ◌<◌, ◌≤◌, ◌==◌, Bool, false, List, [], ◌∷◌, ◌++◌, Some, length, map, take, set, get_or, slice_get, count_by, refl, ap, sym, ◌∙◌, subst, arith}
+use Rattle.std.specs.Prelude.{slice_index}
+use Rattle.std.specs.List.{range_with_len}
+use Rattle.std.proofs.lemmas.Bool.{cases_eq, cases_lt}
+use Rattle.std.proofs.lemmas.Grind.{same_number_lists}
+use Rattle.std.proofs.lemmas.List.{take_more, get_or-set_same, get_or-set_other, length_push, length-map}
+use Rattle.std.proofs.lemmas.List.FromFn.{get_or-map-range_with_len, length-map-range_with_len}
+use Rattle.std.proofs.lemmas.List.Sums.{sum_by-cons, sum_by_push}
+use Rattle.std.proofs.lemmas.Option.{slice_get-get_or}
+use Rattle.std.proofs.Math.Seq.{take-length}
+use Rattle.cqs_core.specs.Numbered.{EachAt}
+use Rattle.cqs_core.proofs.Counts.{bit}
+use Rattle.cqs_core.proofs.Places.{get-below, get-append_below, get-push_at}
+use Rattle.cqs_plan.specs.declared.plans.job.Job.{Job}
+use Rattle.cqs_plan.specs.declared.plans.kind.Kind.{Kind}
+use Rattle.cqs_plan.specs.declared.plans.plan.Plan.{Plan}
+use Rattle.cqs_plan.specs.declared.plans.resource.Resource.{Resource}
+use Rattle.cqs_plan.specs.declared.plans.step.Step.{Step}
+use Rattle.cqs_plan.specs.declared.plans.step.Step.TheVariants as step
+use Rattle.cqs_plan.specs.PlanSteps.{may_wait}
+use Rattle.cqs_plan.specs.Holding.{TookMore}
+use Rattle.cqs_plan.specs.Runnable.{IsRunnable, IsMakeable, kinds_of, round_after}
+use Rattle.cqs_shared_floors.specs.Openings.{AreWithin, HaveOpened, IsCountable, IsWithin, room_of}
+use Rattle.cqs_shared_floors.specs.ShareCalls.{IsOpened}
+use Rattle.cqs_shared_floors.specs.Shares.{Share}
+use Rattle.cqs_shared_floors.proofs.FloorLists.{bit-other, bit-same}
+use Rattle.cqs_shared_floors.proofs.FloorPlaces.{barrier-there, holdable-there, latch-there}
+
+-- a step that may wait at a resource, and one that doesn't wait
+abbrev pub WaitsAt : Step → ℕ → Type 0
+WaitsAt s at = (s ≡ step.Take at) ⊎ ((s ≡ step.Await at) ⊎ (s ≡ step.Arrive at))
+
+abbrev pub GoesOn : Step → Type 0
+GoesOn s =
+    ((at : ℕ) × (s ≡ step.Give at)) ⊎ (((at : ℕ) × (s ≡ step.Down at)) ⊎ ((turns : ℕ) × (s ≡ step.Work turns)))
+
+waits-at : (s : Step) (at : ℕ) → WaitsAt s at → (a : ℕ) → may_wait a s ≡ (at == a)
+waits-at s at (inl is) a = ap (may_wait a) is
+waits-at s at (inr (inl is)) a = ap (may_wait a) is
+waits-at s at (inr (inr is)) a = ap (may_wait a) is
+
+waits-nowhere : (s : Step) → GoesOn s → (a : ℕ) → may_wait a s ≡ false
+waits-nowhere s (inl (at, is)) a = ap (may_wait a) is
+waits-nowhere s (inr (inl (at, is))) a = ap (may_wait a) is
+waits-nowhere s (inr (inr (turns, is))) a = ap (may_wait a) is
+
+-- a step that may wait names one of the resources
+pub within-at : (n : ℕ) (steps : List Step) (i at : ℕ) → AreWithin n steps → i < length steps
+    → WaitsAt (get_or steps i (step.Take 0)) at → at < n
+within-at n steps i at within below waits =
+    go waits (within.at i _ (slice_get-get_or steps i (step.Take 0) below))
+  where
+    go : WaitsAt (get_or steps i (step.Take 0)) at → IsWithin n (get_or steps i (step.Take 0)) → at < n
+    go (inl is) inside = subst (IsWithin n) is inside
+    go (inr (inl is)) inside = subst (IsWithin n) is inside
+    go (inr (inr is)) inside = subst (IsWithin n) is inside
+
+-- one more element is counted
+pub count-more : {X : Type 0} (p : X → Bool) (xs : List X) (i : ℕ) (d : X) → i < length xs
+    → count_by p (take (i + 1) xs) ≡ count_by p (take i xs) + bit (p (get_or xs i d))
+count-more p xs i d below =
+    ap (count_by p) (take_more xs i d below) ∙ sum_by_push (λ x. bit (p x)) (take i xs) (get_or xs i d)
+
+-- so many are counted, of each resource, after the first steps
+abbrev pub Counted : List ℕ → List ℕ → List Step → Type 0
+Counted first now steps = (at : ℕ) → get_or now at 0 ≡ get_or first at 0 + count_by (may_wait at) steps
+
+-- a step that may wait is counted at its resource
+pub counted-step : (first now : List ℕ) (steps : List Step) (i at : ℕ) → i < length steps
+    → at < length now → WaitsAt (get_or steps i (step.Take 0)) at
+    → Counted first now (take i steps) → Counted first (set now at (get_or now at 0 + 1)) (take (i + 1) steps)
+counted-step first now steps i at below place waits counted a = go (cases_eq a at)
+  where
+    more : count_by (may_wait a) (take (i + 1) steps) ≡ count_by (may_wait a) (take i steps) + bit (at == a)
+    more = count-more (may_wait a) steps i (step.Take 0) below
+        ∙ ap (λ b. count_by (may_wait a) (take i steps) + bit b)
+        (waits-at (get_or steps i (step.Take 0)) at waits a)
+
+    go : (a ≡ at) ⊎ (a ≢ at)
+        → get_or (set now at (get_or now at 0 + 1)) a 0
+        ≡ get_or first a 0 + count_by (may_wait a) (take (i + 1) steps)
+    go (inl same) =
+        let one : bit (at == a) ≡ 1 = ap (λ n. bit (at == n)) same ∙ bit-same at in
+        let written : get_or (set now at (get_or now at 0 + 1)) a 0 ≡ get_or now a 0 + 1 =
+        ap (λ n. get_or (set now at (get_or now at 0 + 1)) n 0) same
+        ∙ get_or-set_same now at (get_or now at 0 + 1) 0 place ∙ ap (λ n. get_or now n 0 + 1) (sym same) in
+        omega (arith, written, counted a, more, one)
+    go (inr other) =
+        let none : bit (at == a) ≡ 0 = bit-other at a (λ e. other (sym e)) in
+        omega (arith, get_or-set_other now at a (get_or now at 0 + 1) 0 other, counted a, more, none)
+
+-- another step counts nothing
+pub counted-else : (first now : List ℕ) (steps : List Step) (i : ℕ) → i < length steps
+    → GoesOn (get_or steps i (step.Take 0)) → Counted first now (take i steps)
+    → Counted first now (take (i + 1) steps)
+counted-else first now steps i below other counted a =
+    let none : bit (may_wait a (get_or steps i (step.Take 0))) ≡ 0 =
+    ap bit (waits-nowhere (get_or steps i (step.Take 0)) other a) in
+    omega (arith, counted a, count-more (may_wait a) steps i (step.Take 0) below, none)
+
+-- one more job is counted
+pub room-more : (jobs : List Job) (i : ℕ) (job : Job) (at : ℕ) → i < length jobs → job ≡ get_or jobs i job
+    → room_of (take (i + 1) jobs) at ≡ room_of (take i jobs) at + count_by (may_wait at) job.steps
+room-more jobs i job at below is =
+    ap (λ js. room_of js at) (take_more jobs i job below)
+    ∙ sum_by_push (λ (j : Job). count_by (may_wait at) j.steps) (take i jobs) (get_or jobs i job)
+    ∙ ap (λ (j : Job). room_of (take i jobs) at + count_by (may_wait at) j.steps) (sym is)
+
+-- what was counted place by place is the list of the counts
+pub counts-all : (room : List ℕ) (jobs : List Job) (n i : ℕ) → length room ≡ n → i ≡ length jobs
+    → ((at : ℕ) → get_or room at 0 ≡ room_of (take i jobs) at)
+    → room ≡ map (room_of jobs) (range_with_len 0 n)
+counts-all room jobs n i long all counts =
+    same_number_lists room (map (room_of jobs) (range_with_len 0 n))
+    (long ∙ sym (length-map-range_with_len (room_of jobs) 0 n))
+    (λ k below. counts k ∙ whole k
+    ∙ sym (get_or-map-range_with_len (room_of jobs) 0 n k k 0 (omega arith) (omega arith)))
+  where
+    whole : (k : ℕ) → room_of (take i jobs) k ≡ room_of jobs k
+    whole k = ap (λ m. room_of (take m jobs) k) all ∙ ap (λ js. room_of js k) (take-length jobs)
+
+-- one more resource is opened
+pub opened-push : {X : Type 0} (s : Share X) (resources : List Resource) (workers : ℕ) (room : List ℕ) (shares : List X)
+    (resource : Resource) (share : X)
+    → length shares < length resources → resource ≡ get_or resources (length shares) resource
+    → IsOpened s resource.kind workers (slice_index room (length shares)) share
+    → HaveOpened s resources workers room shares → HaveOpened s resources workers room (shares ++ share ∷ [])
+opened-push {X} s resources workers room shares resource share below is opens opened =
+    record { each = λ at r x named got. go at r x named got (cases_lt at (length shares)) }
+  where
+    go : (at : ℕ) (r : Resource) (x : X) → slice_get resources at ≡ Some r
+        → slice_get (shares ++ share ∷ []) at ≡ Some x
+        → (at < length shares) ⊎ (length shares ≤ at)
+        → IsOpened s r.kind workers (slice_index room at) x
+    go at r x named got (inl before) =
+        opened.each at r x named (sym (get-append_below shares (share ∷ []) at before) ∙ got)
+    go at r x named got (inr past) =
+        let last : at ≡ length shares =
+        omega (arith, get-below (shares ++ share ∷ []) at x got, length_push shares share) in
+        let share_is : Some share ≡ Some x = sym (get-push_at shares share at last) ∙ got in
+        let same_share : share ≡ x = cc in
+        let named_is : Some (get_or resources (length shares) resource) ≡ Some r =
+        sym (slice_get-get_or resources (length shares) resource below)
+        ∙ ap (slice_get resources) (sym last) ∙ named in
+        let same : get_or resources (length shares) resource ≡ r = cc in
+        let same_resource : resource ≡ r = is ∙ same in
+        rw (last, ← same_share, ← same_resource) opens
+
+-- the steps of a plan that can be run name its resources
+pub runnable-countable : (plan : Plan) → IsRunnable plan
+    → EachAt (λ place job. IsCountable (length plan.resources) job) plan.jobs
+runnable-countable plan runnable = record {
+  at = λ place job got. record {
+    few = runnable.few_steps.at place job got;
+    within = record {
+      at = λ n s there. within s (take n job.steps) ((runnable.steps.at place job got).at n s there);
+    };
+  };
+}
+  where
+    place-below : (at : ℕ) (k : Kind) → slice_get (kinds_of plan.resources) at ≡ Some k
+        → at < length plan.resources
+    place-below at k got =
+        omega (
+          arith,
+          get-below (kinds_of plan.resources) at k got,
+          length-map plan.resources (λ (r : Resource). r.kind),
+        )
+
+    within : (s : Step) (earlier : List Step)
+        → IsMakeable (kinds_of plan.resources) (TookMore earlier) (round_after earlier) s
+        → IsWithin (length plan.resources) s
+    within (step.Take at) earlier makeable =
+        let is = holdable-there (slice_get (kinds_of plan.resources) at) makeable in
+        place-below at is.0 is.1
+    within (step.Give at) earlier makeable = tt
+    within (step.Work turns) earlier makeable = tt
+    within (step.Down at) earlier makeable = tt
+    within (step.Await at) earlier makeable =
+        let is = latch-there (slice_get (kinds_of plan.resources) at) makeable in
+        place-below at is.0 is.1
+    within (step.Arrive at) earlier makeable =
+        let is = barrier-there (slice_get (kinds_of plan.resources) at) (round_after earlier at) makeable in
+        place-below at is.0 is.1
+
+-- no step names a resource that isn't there
+step-past : (resources at : ℕ) (q : Step) → IsWithin resources q → resources ≤ at → may_wait at q ≡ false
+step-past resources at (step.Take place) within past = ne_eqb place at (λ e. absurd (omega (arith, within, past, e)))
+step-past resources at (step.Await place) within past = ne_eqb place at (λ e. absurd (omega (arith, within, past, e)))
+step-past resources at (step.Arrive place) within past = ne_eqb place at (λ e. absurd (omega (arith, within, past, e)))
+step-past resources at (step.Give place) within past = refl
+step-past resources at (step.Down place) within past = refl
+step-past resources at (step.Work turns) within past = refl
+
+steps-past : (resources at : ℕ) (steps : List Step)
+    → ((n : ℕ) (q : Step) → slice_get steps n ≡ Some q → IsWithin resources q)
+    → resources ≤ at → count_by (may_wait at) steps ≡ 0
+steps-past resources at [] within past = refl
+steps-past resources at (q ∷ steps) within past =
+    let rest = steps-past resources at steps (λ n p got. within (suc n) p got) past in
+    let here : bit (may_wait at q) ≡ 0 = ap bit (step-past resources at q (within 0 q refl) past) in
+    let all = sum_by-cons (λ (p : Step). bit (may_wait at p)) q steps in
+    omega (arith, rest, here, all)
+
+jobs-past : (resources at : ℕ) (jobs : List Job)
+    → ((n : ℕ) (job : Job) → slice_get jobs n ≡ Some job → IsCountable resources job)
+    → resources ≤ at → room_of jobs at ≡ 0
+jobs-past resources at [] countable past = refl
+jobs-past resources at (job ∷ jobs) countable past =
+    let rest = jobs-past resources at jobs (λ n j got. countable (suc n) j got) past in
+    let here = steps-past resources at job.steps (countable 0 job refl).within.at past in
+    let all = sum_by-cons (λ (j : Job). count_by (may_wait at) j.steps) job jobs in
+    omega (arith, rest, here, all)
+
+pub room-past : (plan : Plan) → IsRunnable plan → (at : ℕ) → length plan.resources ≤ at → room_of plan.jobs at ≡ 0
+room-past plan runnable at past =
+    jobs-past (length plan.resources) at plan.jobs (runnable-countable plan runnable).at past

@@ -1,0 +1,36 @@
+use Rattle.std.proofs.Common.{[], subst, ◌∙◌}
+use Rattle.cqs_core.specs.Numbered.{IsIn}
+use Rattle.cqs_pool.specs.Pool.{pool_object}
+use Rattle.cqs_pool_object.specs.declared.entries.PoolEntry.TheVariants as entry
+use Rattle.cqs_rule.specs.Passes.{pass_view}
+use Rattle.cqs_shared_floors.proofs.PoolShares.{silent}
+use Rattle.cqs_shared_floors.proofs.Runs.{last-in, went-then}
+use Rattle.cqs_shared_floors.proofs.kinds.pool.finish.Goals as goal
+
+pub returns-in-Sent-clause-went : goal.returns-in-Sent-clause-went
+returns-in-Sent-clause-went g c =
+    went-then pool_object _ _ _ [] [] c.loop.invariant.went (silent _ _ _ (rw c.in-Sent.is at c.finish.ensures.called))
+
+pub returns-in-Sent-clause-tells : goal.returns-in-Sent-clause-tells
+returns-in-Sent-clause-tells g c =
+    let rule = rw c.in-Sent.is at c.finish.ensures.called in
+    subst (λ e. IsIn (entry.Deliver c.in-Sent.number e) (pass_view c.finish.new.pass).seen) c.loop.invariant.brings
+    (last-in _ rule.called.before (entry.Deliver c.in-Sent.number _) rule.called.ends)
+
+pub returns-in-Left-clause-went : goal.returns-in-Left-clause-went
+returns-in-Left-clause-went g c =
+    went-then pool_object _ _ _ [] [] c.loop.invariant.went (silent _ _ _ (rw c.in-Left.is at c.finish.ensures.called))
+
+pub loop-preserved : goal.loop-preserved
+loop-preserved g c =
+    let ends = rw c.in-Under.is at c.finish.ensures.ends in
+    record {
+      mine = c.finish.ensures.belongs;
+      owes = ends.owes;
+      brings = ends.brings ∙ c.loop.invariant.brings;
+      further = ends.further;
+      went = went-then pool_object _ _ _ [] [] c.loop.invariant.went
+          (silent _ _ _ (rw c.in-Under.is at c.finish.ensures.called));
+      slots = ends.elements_are ∙ c.loop.invariant.slots;
+      waits = ends.waits_are ∙ c.loop.invariant.waits;
+    }

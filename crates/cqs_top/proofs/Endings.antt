@@ -1,0 +1,175 @@
+-- From a verdict on the work of a plan that is right and was told to what the status means.
+use Rattle.std.proofs.Common.{◌≡◌, ℕ, ◌≤◌, ◌⊎◌, inl, inr, Bool, List, length, Option, Some, IsTrue, ◌∙◌, sym, subst, arith}
+use Rattle.cqs_plan.specs.Counts.{Rises}
+use Rattle.cqs_plan.specs.Stream.{Gains, GainsPrefix}
+use Rattle.cqs_cli.specs.Meanings.{IsStatus, MustEnd}
+use Rattle.cqs_cli.specs.Plans.{IsPlan}
+use Rattle.cqs_cli.specs.Tellings.{Tells}
+use Rattle.cqs_cli.specs.declared.verdict.Verdict.{Verdict}
+use Rattle.cqs_cli.specs.declared.verdict.Verdict.TheVariants as verdict
+use Rattle.cqs_cli.proofs.MeaningLemmas.{all_statuses}
+use Rattle.cqs_cli.proofs.PlanLemmas.{plan_has_no_fault}
+use Rattle.cqs_shared.specs.Shared.{Shared}
+use Rattle.cqs_top.specs.declared.kept.Kept.{Kept}
+use Rattle.cqs_top.specs.declared.kept.Kept.TheVariants.{Nothing}
+use Rattle.cqs_top.specs.KeptWorks.{IsNoPlan, KeptWork}
+use Rattle.cqs_top.specs.Meanings.{WorkBroke, WorkTold}
+use Rattle.cqs_top.specs.Verdicts.{IsVerdict}
+use Rattle.cqs_top.proofs.Inputs.{gave-as-many, input-told}
+use Rattle.cqs_top.proofs.Works.{of-kept}
+
+module _ {S K F : Type 0} (shared : F → Shared) (left : S → Option (List ℕ)) (source_faults : S → ℕ)
+    (held : K → Option (List ℕ)) (is_flushed : K → Bool) (sink_faults : K → ℕ)
+    (workers : ℕ) (source source_after : S) (sink sink_after : K) (kept kept_after : Kept F) where
+  -- a verdict that is right, and was told with this status
+  abbrev Ends : Verdict → ℕ → Type 0
+  Ends given status =
+      IsVerdict shared left source_faults workers given source source_after kept kept_after
+      × Tells held is_flushed sink_faults given status sink sink_after
+
+  -- no fault came in this call
+  abbrev Calm : ℕ → ℕ → Type 0
+  Calm before after = ¬ Rises before after
+
+  pub is_status : (given : Verdict) (status : ℕ) → Ends given status → IsStatus status
+  is_status (verdict.Report text) status (judged, inl (is, wrote)) = subst IsStatus (sym is) all_statuses.0
+  is_status (verdict.Report text) status (judged, inr (is, broke)) = subst IsStatus (sym is) all_statuses.4
+  is_status (verdict.NoPlan line) status (judged, inl (is, wrote)) = subst IsStatus (sym is) all_statuses.2
+  is_status (verdict.NoPlan line) status (judged, inr (is, broke)) = subst IsStatus (sym is) all_statuses.4
+  is_status verdict.SourceFailed status (judged, (is, untouched)) = subst IsStatus (sym is) all_statuses.3
+  is_status verdict.NoMemory status (judged, (is, untouched)) = subst IsStatus (sym is) all_statuses.5
+  is_status verdict.TooLong status (judged, (is, untouched)) = subst IsStatus (sym is) all_statuses.6
+  is_status verdict.NoCommand status (judged, told) = absurd judged
+  is_status (verdict.Summary text) status (judged, told) = absurd judged
+
+  -- with status 0 the whole text was written of what is kept
+  pub kept_done : (given : Verdict) (status : ℕ) → Ends given status → status ≡ 0
+      → KeptWork shared workers (left source) (left source_after) kept_after
+      (λ text. Gains text (held sink) (held sink_after))
+      × IsTrue (is_flushed sink_after)
+  kept_done (verdict.Report text) status ((calm, read), inl (is, wrote)) zero = (
+    record {
+      bytes = read.bytes;
+      input = read.input;
+      text = text.items;
+      worked = read.right;
+      holds = wrote.whole;
+    },
+    wrote.flushed,
+  )
+  kept_done (verdict.Report text) status (judged, inr (is, broke)) zero = absurd (omega (arith, is, zero))
+  kept_done (verdict.NoPlan line) status (judged, inl (is, wrote)) zero = absurd (omega (arith, is, zero))
+  kept_done (verdict.NoPlan line) status (judged, inr (is, broke)) zero = absurd (omega (arith, is, zero))
+  kept_done verdict.SourceFailed status (judged, (is, untouched)) zero = absurd (omega (arith, is, zero))
+  kept_done verdict.NoMemory status (judged, (is, untouched)) zero = absurd (omega (arith, is, zero))
+  kept_done verdict.TooLong status (judged, (is, untouched)) zero = absurd (omega (arith, is, zero))
+  kept_done verdict.NoCommand status (judged, told) zero = absurd judged
+  kept_done (verdict.Summary text) status (judged, told) zero = absurd judged
+
+  pub headline : (given : Verdict) (status : ℕ) → Ends given status → status ≡ 0
+      → WorkTold workers (left source) (left source_after) (held sink) (held sink_after)
+      × IsTrue (is_flushed sink_after)
+  headline given status ended zero =
+      let done = kept_done given status ended zero in (
+        record {
+          bytes = done.0.bytes;
+          input = done.0.input;
+          text = done.0.text;
+          worked = of-kept shared done.0.bytes workers done.0.text kept_after done.0.worked;
+          written = done.0.holds;
+        },
+        done.1,
+      )
+
+  -- a sink that failed took a prefix of the text that was due
+  pub broke_off : (given : Verdict) (status : ℕ) → Ends given status → status ≡ 5
+      → Rises (sink_faults sink) (sink_faults sink_after)
+      × WorkBroke workers (left source) (left source_after) (held sink) (held sink_after)
+  broke_off (verdict.Report text) status ((calm, read), inr (is, broke)) five = (
+    broke.cause,
+    record {
+      text = text.items;
+      due = (
+        read.bytes,
+        read.input,
+        inl (of-kept shared read.bytes workers text.items kept_after read.right),
+      );
+      prefix = broke.prefix;
+    },
+  )
+  broke_off (verdict.NoPlan line) status ((calm, read), inr (is, broke)) five = (
+    broke.cause,
+    record {
+      text = line.items;
+      due = (read.bytes, read.input, inr read.right.0);
+      prefix = broke.prefix;
+    },
+  )
+  broke_off (verdict.Report text) status (judged, inl (is, wrote)) five = absurd (omega (arith, is, five))
+  broke_off (verdict.NoPlan line) status (judged, inl (is, wrote)) five = absurd (omega (arith, is, five))
+  broke_off verdict.SourceFailed status (judged, (is, untouched)) five = absurd (omega (arith, is, five))
+  broke_off verdict.NoMemory status (judged, (is, untouched)) five = absurd (omega (arith, is, five))
+  broke_off verdict.TooLong status (judged, (is, untouched)) five = absurd (omega (arith, is, five))
+  broke_off verdict.NoCommand status (judged, told) five = absurd judged
+  broke_off (verdict.Summary text) status (judged, told) five = absurd judged
+
+  -- where the sink failed, that is kept whose text broke off, and nothing where the input is no plan
+  pub kept_broken : (given : Verdict) (status : ℕ) → Ends given status → kept ≡ Nothing → status ≡ 5
+      → KeptWork shared workers (left source) (left source_after) kept_after
+      (λ text. GainsPrefix text (held sink) (held sink_after))
+      ⊎ ((kept_after ≡ Nothing) × IsNoPlan (left source) (left source_after))
+  kept_broken (verdict.Report text) status ((calm, read), inr (is, broke)) empty five = inl (record {
+    bytes = read.bytes;
+    input = read.input;
+    text = text.items;
+    worked = read.right;
+    holds = broke.prefix;
+  })
+  kept_broken (verdict.NoPlan line) status ((calm, read), inr (is, broke)) empty five =
+      inr (read.right.1 ∙ empty, (read.bytes, read.input, (line.items, read.right.0)))
+  kept_broken (verdict.Report text) status (judged, inl (is, wrote)) empty five = absurd (omega (arith, is, five))
+  kept_broken (verdict.NoPlan line) status (judged, inl (is, wrote)) empty five = absurd (omega (arith, is, five))
+  kept_broken verdict.SourceFailed status (judged, (is, untouched)) empty five = absurd (omega (arith, is, five))
+  kept_broken verdict.NoMemory status (judged, (is, untouched)) empty five = absurd (omega (arith, is, five))
+  kept_broken verdict.TooLong status (judged, (is, untouched)) empty five = absurd (omega (arith, is, five))
+  kept_broken verdict.NoCommand status (judged, told) empty five = absurd judged
+  kept_broken (verdict.Summary text) status (judged, told) empty five = absurd judged
+
+  -- what must come of an input that the source told and that is no plan, where no fault came
+  pub answers_fault : (given : Verdict) (status : ℕ) → Ends given status → (bytes : List ℕ)
+      → left source ≡ Some bytes → length bytes ≤ 1048576 → ¬ IsPlan bytes
+      → Calm (source_faults source) (source_faults source_after) → Calm (sink_faults sink) (sink_faults sink_after)
+      → MustEnd 3 status
+  answers_fault (verdict.Report text) status ((_, read), told) bytes tells few no_plan calm quiet =
+      absurd (no_plan (subst IsPlan (sym (input-told read.bytes bytes _ _ read.input tells))
+      (read.right.plan, read.right.says)))
+  answers_fault (verdict.NoPlan line) status (judged, inl (is, wrote)) bytes tells few no_plan calm quiet = inl is
+  answers_fault (verdict.NoPlan line) status (judged, inr (is, broke)) bytes tells few no_plan calm quiet =
+      absurd (quiet broke.cause)
+  answers_fault verdict.SourceFailed status ((rises, _), told) bytes tells few no_plan calm quiet =
+      absurd (calm rises)
+  answers_fault verdict.NoMemory status (judged, (is, untouched)) bytes tells few no_plan calm quiet = inr is
+  answers_fault verdict.TooLong status ((_, many, _), told) bytes tells few no_plan calm quiet =
+      let as_many : 1048577 ≤ length bytes = gave-as-many 1048577 bytes _ _ many tells in
+      absurd (omega (arith, few, as_many))
+  answers_fault verdict.NoCommand status (judged, told) bytes tells few no_plan calm quiet = absurd judged
+  answers_fault (verdict.Summary text) status (judged, told) bytes tells few no_plan calm quiet = absurd judged
+
+  -- what must come of a plan that the source told, where no fault came
+  pub answers_plan : (given : Verdict) (status : ℕ) → Ends given status → (bytes : List ℕ)
+      → left source ≡ Some bytes → length bytes ≤ 1048576 → IsPlan bytes
+      → Calm (source_faults source) (source_faults source_after) → Calm (sink_faults sink) (sink_faults sink_after)
+      → MustEnd 0 status
+  answers_plan (verdict.Report text) status (judged, inl (is, wrote)) bytes tells few plan calm quiet = inl is
+  answers_plan (verdict.Report text) status (judged, inr (is, broke)) bytes tells few plan calm quiet =
+      absurd (quiet broke.cause)
+  answers_plan (verdict.NoPlan line) status ((_, read), told) bytes tells few plan calm quiet =
+      absurd (plan_has_no_fault read.bytes line.items
+      (subst IsPlan (input-told read.bytes bytes _ _ read.input tells) plan) read.right.0)
+  answers_plan verdict.SourceFailed status ((rises, _), told) bytes tells few plan calm quiet = absurd (calm rises)
+  answers_plan verdict.NoMemory status (judged, (is, untouched)) bytes tells few plan calm quiet = inr is
+  answers_plan verdict.TooLong status ((_, many, _), told) bytes tells few plan calm quiet =
+      let as_many : 1048577 ≤ length bytes = gave-as-many 1048577 bytes _ _ many tells in
+      absurd (omega (arith, few, as_many))
+  answers_plan verdict.NoCommand status (judged, told) bytes tells few plan calm quiet = absurd judged
+  answers_plan (verdict.Summary text) status (judged, told) bytes tells few plan calm quiet = absurd judged

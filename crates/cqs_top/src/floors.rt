@@ -1,0 +1,6 @@
+//! The floors that the workers of a plan are given.
+
+use cqs_shared_floors::{AnyShared, ShareFloor};
+
+/// The floor of one worker, over primitives of the running queue that all workers share.
+pub type SharedQueueFloor = ShareFloor<AnyShared>;

@@ -3,29 +3,34 @@ ghost use Rattle.std.specs.Prelude.{◌≡◌, ◌≢◌, ◌⊎◌, ℕ, ◌+�
 ghost use Rattle.std.specs.Process.{exit_status};
 ghost use Rattle.cqs_plan.specs.Counts.{raised, Rises};
 ghost use Rattle.cqs_plan.specs.Stream.{Gains, GivesAtMost, GivesCount};
-ghost use Rattle.cqs_cli.specs.Meanings.{BrokeOff, HasTold, IsStatus, MustEnd, NamedFault};
+ghost use Rattle.cqs_cli.specs.Meanings.{IsStatus, MustEnd, NamedFault};
 ghost use Rattle.cqs_cli.specs.Plans.{IsPlan};
-ghost use Rattle.cqs_cli.specs.Words.{IsCommand, IsRun, IsSomeGen, usage};
+ghost use Rattle.cqs_cli.specs.Words.{IsSomeGen, usage};
+ghost use Rattle.cqs_top.specs.Meanings.{BrokeOff, HasTold};
+ghost use Rattle.cqs_top.specs.Words.{IsCommand, ReadsPlan};
 ghost use Rattle.cqs_main.specs.Arguments.{words_of};
 ghost use Rattle.cqs_main.specs.Messages.{TakesPrefix, message};
 
 use crate::messages::finish;
 use crate::words::words_after_name;
-use cqs_cli::{
-    DONE, Kept, NO_COMMAND, NO_MEMORY, NO_PLAN, SINK_FAILED, SOURCE_FAILED, TOO_LONG, top_alone,
-};
+use cqs_cli::{DONE, NO_COMMAND, NO_MEMORY, NO_PLAN, SINK_FAILED, SOURCE_FAILED, TOO_LONG};
 use cqs_plan::{LONGEST_INPUT, Sink, Source};
+use cqs_top::{Kept, top};
+use cqs_work::OpenGate;
 use std::alloc::Global;
 use std::env::Args;
 use std::io;
 use std::io::Write;
 use std::process::ExitCode;
+use std::sync::Wait;
+use std::thread::Threads;
 
 /// One run of the program: the words, the call of `top`, the line on standard error, the status.
 ///
 /// The clauses are those of `top`, said of the command line and of the status that the process ends
 /// with. Out of memory may come already while the words are read.
-pub fn run<S: Source, K: Sink, W: Write>(
+pub fn run<R: Threads + Wait + Sync, S: Source, K: Sink, W: Write>(
+    rt: &R,
     alloc: Global,
     arguments: io::Result<Args>,
     source: &mut S,
@@ -34,7 +39,8 @@ pub fn run<S: Source, K: Sink, W: Write>(
 ) -> ExitCode
     // Status 0 means: the input was a plan, and the report of the turn machine on it, over plain
     // resources with legal histories, was written whole and flushed; or the words ask for the plan
-    // of a number, and so was the summary of its report.
+    // of a number, and so was the summary of its report; or they ask for workers, and so was the
+    // text of what so many left of the plan.
     ensures headline { exit_status result ≡ DONE → HasTold (words_of arguments)
         (S.left source.old) (S.left source.new) (K.held sink.old) (K.held sink.new)
         × IsTrue (K.is_flushed sink.new) }
@@ -46,12 +52,12 @@ pub fn run<S: Source, K: Sink, W: Write>(
         × IsTrue (K.is_flushed sink.new) }
 
     // The input was no plan, and the line that says why was written and flushed.
-    ensures no_plan { exit_status result ≡ NO_PLAN → IsRun (words_of arguments)
+    ensures no_plan { exit_status result ≡ NO_PLAN → ReadsPlan (words_of arguments)
         × NamedFault (S.left source.old) (S.left source.new) (K.held sink.old) (K.held sink.new)
         × IsTrue (K.is_flushed sink.new) }
 
     // The source failed, and nothing was written.
-    ensures source_failed { exit_status result ≡ SOURCE_FAILED → IsRun (words_of arguments)
+    ensures source_failed { exit_status result ≡ SOURCE_FAILED → ReadsPlan (words_of arguments)
         × Rises (S.faults source.old) (S.faults source.new)
         × (sink.new ≡ sink.old) }
 
@@ -65,7 +71,7 @@ pub fn run<S: Source, K: Sink, W: Write>(
     ensures no_memory { exit_status result ≡ NO_MEMORY → sink.new ≡ sink.old }
 
     // One byte more than an input may have was read, and nothing was written.
-    ensures too_long { exit_status result ≡ TOO_LONG → IsRun (words_of arguments)
+    ensures too_long { exit_status result ≡ TOO_LONG → ReadsPlan (words_of arguments)
         × GivesCount (LONGEST_INPUT + 1) (S.left source.old) (S.left source.new)
         × (sink.new ≡ sink.old) }
 
@@ -77,7 +83,7 @@ pub fn run<S: Source, K: Sink, W: Write>(
         → MustEnd TOO_LONG (exit_status result) }
 
     // Nothing is read for other words than those that ask for it.
-    ensures unread { ¬ IsRun (words_of arguments) → source.new ≡ source.old }
+    ensures unread { ¬ ReadsPlan (words_of arguments) → source.new ≡ source.old }
 
     // Never are more bytes taken, and nothing is read after the end of the source or a fault of it.
     ensures taken { GivesAtMost (LONGEST_INPUT + 1) (S.left source.old) (S.left source.new) }
@@ -85,7 +91,7 @@ pub fn run<S: Source, K: Sink, W: Write>(
     ensures stops { (S.tally source.old).stops ≡ 0 → (S.tally source.new).stops ≤ 1 }
 
     // A plan, and what is none, was read until a read stopped; no fault came, so it was at the end.
-    ensures ended { IsRun (words_of arguments)
+    ensures ended { ReadsPlan (words_of arguments)
         → (exit_status result ≡ DONE) ⊎ (exit_status result ≡ NO_PLAN)
         → (S.tally source.old).stops ≡ 0 → (S.tally source.new).stops ≡ 1 }
 
@@ -100,17 +106,17 @@ pub fn run<S: Source, K: Sink, W: Write>(
     ensures wrong_words { ¬ IsCommand (words_of arguments)
         → ¬ Rises (K.faults sink.old) (K.faults sink.new)
         → MustEnd NO_COMMAND (exit_status result) }
-    ensures wrong_input { IsRun (words_of arguments)
+    ensures wrong_input { ReadsPlan (words_of arguments)
         → (bytes : List ℕ) → S.left source.old ≡ Some bytes
         → length bytes ≤ LONGEST_INPUT → ¬ IsPlan bytes
         → ¬ Rises (S.faults source.old) (S.faults source.new)
         → ¬ Rises (K.faults sink.old) (K.faults sink.new)
         → MustEnd NO_PLAN (exit_status result) }
-    ensures long_input { IsRun (words_of arguments)
+    ensures long_input { ReadsPlan (words_of arguments)
         → (bytes : List ℕ) → S.left source.old ≡ Some bytes → LONGEST_INPUT < length bytes
         → ¬ Rises (S.faults source.old) (S.faults source.new)
         → MustEnd TOO_LONG (exit_status result) }
-    ensures complete { IsRun (words_of arguments)
+    ensures complete { ReadsPlan (words_of arguments)
         → (bytes : List ℕ) → S.left source.old ≡ Some bytes
         → length bytes ≤ LONGEST_INPUT → IsPlan bytes
         → ¬ Rises (S.faults source.old) (S.faults source.new)
@@ -126,7 +132,7 @@ pub fn run<S: Source, K: Sink, W: Write>(
 {
     let mut kept = Kept::Nothing;
     let status = match words_after_name(alloc, arguments) {
-        Ok(words) => top_alone(alloc, &words, source, sink, &mut kept),
+        Ok(words) => top(rt, alloc, &words, source, sink, &OpenGate, &mut kept),
         Err(_) => NO_MEMORY,
     };
     finish(errors, status)

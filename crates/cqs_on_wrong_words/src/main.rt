@@ -2,8 +2,16 @@
 #![tactic(auto)]
 
 use cqs_main::program;
+use std::env;
 use std::process::ExitCode;
 
 fn main(rt: HostRuntime) -> ExitCode {
-    program(&rt)
+    program(
+        &rt,
+        rt.alloc(),
+        env::args(&rt),
+        rt.stdin(),
+        rt.stdout(),
+        rt.stderr(),
+    )
 }

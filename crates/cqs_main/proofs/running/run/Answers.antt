@@ -1,16 +1,164 @@
-use Rattle.std.proofs.Common.{◌∙◌, inl, sym, rules}
+-- Each clause is that of `top`, said of the command line and of the status that the process ends with; or there was no
+-- memory for the words.
+use Rattle.std.proofs.Common.{inl, rules}
 use Rattle.cqs_main.proofs.Statuses.{gives-nothing, is_no_memory}
 use Rattle.cqs_main.proofs.running.run.Goals as goal
 use Rattle.cqs_main.proofs.running.run.Goals.{in-Ok, in-Err}
 
--- the status is that of `top`, or there was no memory for the words
 pub returns-clause-headline : goal.returns-clause-headline
 returns-clause-headline g c =
     elim c.match-words_after_name.branch [
-      | in-Ok w ↦ λ done.
-          let so = sym w.status-is ∙ sym c.finish.ensures.status ∙ done in
-          rw (w.source-is, w.sink-is, ← w.in-Ok.ensures.words, ← w.deref.ensures.value)
-          (w.top_alone-status.ensures.headline so)
+      | in-Ok w ↦
+          rw (
+            c.finish.ensures.status,
+            w.status-is,
+            w.source-is,
+            w.sink-is,
+            ← w.in-Ok.ensures.words,
+            ← w.deref.ensures.value,
+          )
+          w.top-status.ensures.headline
+      | in-Err w ↦ search rules
+    ]
+
+pub returns-clause-no_plan : goal.returns-clause-no_plan
+returns-clause-no_plan g c =
+    elim c.match-words_after_name.branch [
+      | in-Ok w ↦
+          rw (
+            c.finish.ensures.status,
+            w.status-is,
+            w.source-is,
+            w.sink-is,
+            ← w.in-Ok.ensures.words,
+            ← w.deref.ensures.value,
+          )
+          w.top-status.ensures.no_plan
+      | in-Err w ↦ search rules
+    ]
+
+pub returns-clause-source_failed : goal.returns-clause-source_failed
+returns-clause-source_failed g c =
+    elim c.match-words_after_name.branch [
+      | in-Ok w ↦
+          rw (
+            c.finish.ensures.status,
+            w.status-is,
+            w.source-is,
+            w.sink-is,
+            ← w.in-Ok.ensures.words,
+            ← w.deref.ensures.value,
+          )
+          w.top-status.ensures.source_failed
+      | in-Err w ↦ search rules
+    ]
+
+pub returns-clause-sink_failed : goal.returns-clause-sink_failed
+returns-clause-sink_failed g c =
+    elim c.match-words_after_name.branch [
+      | in-Ok w ↦
+          rw (
+            c.finish.ensures.status,
+            w.status-is,
+            w.source-is,
+            w.sink-is,
+            ← w.in-Ok.ensures.words,
+            ← w.deref.ensures.value,
+          )
+          w.top-status.ensures.sink_failed
+      | in-Err w ↦ search rules
+    ]
+
+pub returns-clause-too_long : goal.returns-clause-too_long
+returns-clause-too_long g c =
+    elim c.match-words_after_name.branch [
+      | in-Ok w ↦
+          rw (
+            c.finish.ensures.status,
+            w.status-is,
+            w.source-is,
+            w.sink-is,
+            ← w.in-Ok.ensures.words,
+            ← w.deref.ensures.value,
+          )
+          w.top-status.ensures.too_long
+      | in-Err w ↦ search rules
+    ]
+
+pub returns-clause-wrong_input : goal.returns-clause-wrong_input
+returns-clause-wrong_input g c =
+    elim c.match-words_after_name.branch [
+      | in-Ok w ↦
+          rw (
+            c.finish.ensures.status,
+            w.status-is,
+            w.source-is,
+            w.sink-is,
+            ← w.in-Ok.ensures.words,
+            ← w.deref.ensures.value,
+          )
+          w.top-status.ensures.wrong_input
+      | in-Err w ↦ search rules
+    ]
+
+pub returns-clause-complete : goal.returns-clause-complete
+returns-clause-complete g c =
+    elim c.match-words_after_name.branch [
+      | in-Ok w ↦
+          rw (
+            c.finish.ensures.status,
+            w.status-is,
+            w.source-is,
+            w.sink-is,
+            ← w.in-Ok.ensures.words,
+            ← w.deref.ensures.value,
+          )
+          w.top-status.ensures.complete
+      | in-Err w ↦ search rules
+    ]
+
+pub returns-clause-unread : goal.returns-clause-unread
+returns-clause-unread g c =
+    elim c.match-words_after_name.branch [
+      | in-Ok w ↦
+          rw (w.source-is, ← w.in-Ok.ensures.words, ← w.deref.ensures.value)
+          w.top-status.ensures.unread
+      | in-Err w ↦ search rules
+    ]
+
+pub returns-clause-ended : goal.returns-clause-ended
+returns-clause-ended g c =
+    elim c.match-words_after_name.branch [
+      | in-Ok w ↦
+          rw (c.finish.ensures.status, w.status-is, w.source-is, ← w.in-Ok.ensures.words, ← w.deref.ensures.value)
+          w.top-status.ensures.ended
+      | in-Err w ↦ search rules
+    ]
+
+pub returns-clause-long_input : goal.returns-clause-long_input
+returns-clause-long_input g c =
+    elim c.match-words_after_name.branch [
+      | in-Ok w ↦
+          rw (c.finish.ensures.status, w.status-is, w.source-is, ← w.in-Ok.ensures.words, ← w.deref.ensures.value)
+          w.top-status.ensures.long_input
+      | in-Err w ↦ search rules
+    ]
+
+pub returns-clause-complete_gen : goal.returns-clause-complete_gen
+returns-clause-complete_gen g c =
+    elim c.match-words_after_name.branch [
+      | in-Ok w ↦
+          rw (c.finish.ensures.status, w.status-is, w.sink-is, ← w.in-Ok.ensures.words, ← w.deref.ensures.value)
+          w.top-status.ensures.complete_gen
+      | in-Err w ↦ search rules
+    ]
+
+pub returns-clause-wrong_words : goal.returns-clause-wrong_words
+returns-clause-wrong_words g c =
+    elim c.match-words_after_name.branch [
+      | in-Ok w ↦
+          rw (c.finish.ensures.status, w.status-is, w.sink-is, ← w.in-Ok.ensures.words, ← w.deref.ensures.value)
+          (λ wrong quiet. inl (w.top-status.ensures.wrong_words wrong quiet))
       | in-Err w ↦ search rules
     ]
 
@@ -26,38 +174,4 @@ returns-clause-statuses g c =
     elim c.match-words_after_name.branch [
       | in-Ok w ↦ search rules
       | in-Err w ↦ search (rules, is_no_memory)
-    ]
-
-pub returns-clause-sink_failed : goal.returns-clause-sink_failed
-returns-clause-sink_failed g c =
-    elim c.match-words_after_name.branch [
-      | in-Ok w ↦ search rules
-      | in-Err w ↦ search rules
-    ]
-
-pub returns-clause-wrong_input : goal.returns-clause-wrong_input
-returns-clause-wrong_input g c =
-    elim c.match-words_after_name.branch [
-      | in-Ok w ↦ λ is_run bytes left short no_plan source_calm sink_calm.
-          rw (c.finish.ensures.status, w.status-is)
-          (w.top_alone-status.ensures.wrong_input (search rules) bytes left short no_plan (search rules) (search rules))
-      | in-Err w ↦ search rules
-    ]
-
-pub returns-clause-complete : goal.returns-clause-complete
-returns-clause-complete g c =
-    elim c.match-words_after_name.branch [
-      | in-Ok w ↦ λ is_run bytes left short plan source_calm sink_calm.
-          rw (c.finish.ensures.status, w.status-is)
-          (w.top_alone-status.ensures.complete (search rules) bytes left short plan (search rules) (search rules))
-      | in-Err w ↦ search rules
-    ]
-
-pub returns-clause-wrong_words : goal.returns-clause-wrong_words
-returns-clause-wrong_words g c =
-    elim c.match-words_after_name.branch [
-      | in-Ok w ↦ λ no_command sink_calm.
-          rw (c.finish.ensures.status, w.status-is)
-          (inl (w.top_alone-status.ensures.wrong_words (search rules) (search rules)))
-      | in-Err w ↦ search rules
     ]

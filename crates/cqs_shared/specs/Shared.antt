@@ -22,8 +22,8 @@ pub record Shared : Type 0 where
   -- the pass's number, and those of the passes that were met into it
   pub number : ℕ
   pub met : List ℕ
-  -- how many floors were split from one with it, and the name that they share: for each resource
-  -- the names of its objects, which are numbers
+  -- how many floors were split from one with it, and the name that they have in common, in numbers:
+  -- first what they were all opened for, and then for each resource the names of its objects
   pub floors : ℕ
   pub family : List (List (List ℕ))
 

@@ -1,5 +1,5 @@
 -- The calls of a shared floor: what each answer means.
-use Rattle.std.specs.Prelude.{◌≡◌, ◌⊎◌, ℕ, suc, ◌+◌, ◌-◌, ◌≤◌, Bool, true, List, [], ◌∷◌, ◌++◌, length, Option, Some, None, IsSome, Result, Ok, Err, slice_index, slice_set, max}
+use Rattle.std.specs.Prelude.{◌≡◌, ◌⊎◌, ℕ, suc, ◌+◌, ◌-◌, ◌≤◌, Bool, true, false, List, [], ◌∷◌, ◌++◌, length, Option, Some, None, IsSome, Result, Ok, Err, slice_index, slice_set, max}
 use Rattle.std.specs.Option.{option_map_or}
 use Rattle.cqs_core.specs.Parts.{Has}
 use Rattle.cqs_plan.specs.declared.plans.kind.Kind.{Kind}
@@ -71,6 +71,16 @@ abbrev pub IsDrawn : Option Kind → Option FloorTake → Option ℕ → Type 0
 IsDrawn (Some (kind.Pool elements)) (Some (take.Now element)) None = ⊥
 IsDrawn k answer drew = Unit {0}
 
+-- only a permit comes with its number, of a semaphore or a mutex
+abbrev pub MayCome : Bool → Option Kind → Type 0
+MayCome false k = Unit {0}
+MayCome true (Some (kind.Semaphore permits)) = Unit {0}
+MayCome true (Some kind.Mutex) = Unit {0}
+MayCome true (Some (kind.Pool elements)) = ⊥
+MayCome true (Some (kind.Latch count)) = ⊥
+MayCome true (Some (kind.Rounds parties rounds)) = ⊥
+MayCome true None = ⊥
+
 -- A call that may have to wait there: it comes to take, to wait at a latch, or to arrive in a
 -- round.
 -- After it the jobs have this, and the pass holds these parties.
@@ -86,6 +96,7 @@ pub record Comes (f : Shared) (at round job : ℕ) (after : PlainFloor) (held : 
   pub came : g.came ≡ slice_set f.came job with_it
   pub delivered : (k : ℕ) → with_it ≡ true → answer ≡ Some (take.Waits k)
       → (e : ℕ) × IsDelivered (seen_at g at) round k e
+  pub may : MayCome with_it (kind_at f at)
   -- what it had at once under a number was delivered in this call
   pub drawn : IsDrawn (kind_at f at) answer drew
   pub had : (k e : ℕ) → drew ≡ Some k → answer ≡ Some (take.Now e)

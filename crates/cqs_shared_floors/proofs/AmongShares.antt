@@ -62,6 +62,7 @@ module _ {X Y : Type 0} (t : Share Y) (f : X → Y) where
     parties_are = made.parties_are;
     keeps = made.keeps;
     delivered = made.delivered;
+    may = made.may;
     drawn = made.drawn;
     had = made.had;
     worn = made.worn;

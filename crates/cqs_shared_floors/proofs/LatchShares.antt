@@ -432,6 +432,7 @@ module _ (x y : SharedLatch) (same_one : y.latch ≡ x.latch) (mine : IsMine (ar
         parties_are = refl;
         keeps = keeps-all v.facts.waits rests (λ k has. has);
         delivered = λ k with_it is. absurd (false≢true with_it);
+        may = tt;
         drawn = drawn-is a.kind (Some (take.Now 0)) drew funded.sort;
         had = λ k e is now. had k is;
         worn = λ none. absurd (cc);
@@ -471,6 +472,7 @@ module _ (x y : SharedLatch) (same_one : y.latch ≡ x.latch) (mine : IsMine (ar
           parties_are = refl;
           keeps = keeps-all _ rests (λ j has. has_left j v.facts.waits (k ∷ []) has);
           delivered = λ j with_it is. absurd (false≢true with_it);
+          may = tt;
           drawn = drawn-is a.kind (Some (take.Waits k)) None funded.sort;
           had = λ j e none. absurd (cc);
           worn = λ none. absurd (cc);
@@ -505,6 +507,7 @@ module _ (x y : SharedLatch) (same_one : y.latch ≡ x.latch) (mine : IsMine (ar
         parties_are = refl;
         keeps = keeps-all v.facts.waits rests (λ k has. has);
         delivered = λ k with_it is. absurd (false≢true with_it);
+        may = tt;
         drawn = drawn-is a.kind None None funded.sort;
         had = λ k e none. absurd (cc);
         worn = λ none.

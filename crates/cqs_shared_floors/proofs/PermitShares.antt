@@ -1,5 +1,5 @@
 -- A semaphore that workers share is a resource as a floor needs it: each call by what it left of the pass.
-use Rattle.std.proofs.Common.{◌≡◌, ℕ, zero, suc, ◌+◌, ◌-◌, ◌<◌, ◌≤◌, Bool, false, List, [], ◌∷◌, ◌++◌, drop, length, set, slice_index_or, sum_by, Option, Some, None, Ok, refl, ap, sym, ◌∙◌, subst, arith, rules, count_by}
+use Rattle.std.proofs.Common.{◌≡◌, ℕ, zero, suc, ◌+◌, ◌-◌, ◌<◌, ◌≤◌, Bool, true, false, List, [], ◌∷◌, ◌++◌, drop, length, set, slice_index_or, sum_by, Option, Some, None, Ok, refl, ap, sym, ◌∙◌, subst, arith, rules, count_by}
 use Rattle.std.specs.Bool.{if◌then◌else◌}
 use Rattle.std.specs.Arc.{arc_value}
 use Rattle.std.proofs.lemmas.Bool.{false≢true}
@@ -50,7 +50,7 @@ use Rattle.cqs_semaphore.specs.Steps.{HasCancelled}
 use Rattle.cqs_shared.specs.declared.shared.SharedGive.{SharedGive}
 use Rattle.cqs_shared.specs.declared.shared.SharedGive.TheVariants as shared
 use Rattle.cqs_shared.specs.AnswerEntries.{came_entries, give_entries, leave_entries, look_entries, permit_given, permit_left, permit_looked, permit_taken}
-use Rattle.cqs_shared.specs.Calls.{IsDrawn, TellsGive}
+use Rattle.cqs_shared.specs.Calls.{IsDrawn, MayCome, TellsGive}
 use Rattle.cqs_shared.specs.Entries.{at_permits, enters_for_permit}
 use Rattle.cqs_shared_floors.specs.declared.kinds.permits.SharedPermits.{SharedPermits}
 use Rattle.cqs_shared_floors.specs.declared.resource.Came.TheVariants as came
@@ -164,6 +164,13 @@ leave-is kind.Mutex round c n answer stays sort = refl
 leave-is (kind.Pool elements) round c n answer stays sort = absurd sort
 leave-is (kind.Latch count) round c n answer stays sort = absurd sort
 leave-is (kind.Rounds parties rounds) round c n answer stays sort = absurd sort
+
+may-come : (k : Kind) → IsOfPermits k → MayCome true (Some k)
+may-come (kind.Semaphore permits) sort = tt
+may-come kind.Mutex sort = tt
+may-come (kind.Pool elements) sort = absurd sort
+may-come (kind.Latch count) sort = absurd sort
+may-come (kind.Rounds parties rounds) sort = absurd sort
 
 drawn-is : (k : Kind) (answer : Option FloorTake) (drew : Option ℕ) → IsOfPermits k → IsDrawn (Some k) answer drew
 drawn-is (kind.Semaphore permits) answer drew sort = tt
@@ -387,6 +394,7 @@ module _ (x y : SharedPermits) (same_one : y.semaphore ≡ x.semaphore)
         parties_are = refl;
         keeps = keeps-all _ _ free.rests (λ k has. has);
         delivered = λ k with_it is. absurd (false≢true with_it);
+        may = tt;
         drawn = drawn-is a.kind (Some (take.Now 0)) None funded.sort;
         had = λ k e none. absurd (cc);
         worn = λ none. absurd (cc);
@@ -416,6 +424,7 @@ module _ (x y : SharedPermits) (same_one : y.semaphore ≡ x.semaphore)
           subst (λ n. IsIn (entry.Deliver n) w.seen) (waits-number k j is)
               (last-in w.seen rule'.called.before (entry.Deliver k) rule'.called.ends),
         );
+        may = may-come a.kind funded.sort;
         drawn = drawn-is a.kind (Some (take.Waits k)) None funded.sort;
         had = λ j e none. absurd (cc);
         worn = λ none. absurd (cc);
@@ -439,6 +448,7 @@ module _ (x y : SharedPermits) (same_one : y.semaphore ≡ x.semaphore)
           parties_are = refl;
           keeps = keeps-all _ _ got.3 (λ j has. has_left j v.facts.waits (k ∷ []) has);
           delivered = λ j with_it is. absurd (false≢true with_it);
+          may = tt;
           drawn = drawn-is a.kind (Some (take.Waits k)) None funded.sort;
           had = λ j e none. absurd (cc);
           worn = λ none. absurd (cc);
@@ -471,6 +481,7 @@ module _ (x y : SharedPermits) (same_one : y.semaphore ≡ x.semaphore)
         parties_are = refl;
         keeps = keeps-all _ _ rests (λ k has. has);
         delivered = λ k with_it is. absurd (false≢true with_it);
+        may = tt;
         drawn = drawn-is a.kind None None funded.sort;
         had = λ k e none. absurd (cc);
         worn = λ none. subst (λ n. v.limit ≤ n) (sym worn.counted.drawn ∙ drawn-same w.seen) worn.worn;

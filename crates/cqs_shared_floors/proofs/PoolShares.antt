@@ -315,6 +315,7 @@ module _ (x y : SharedPool) (same_one : y.pool ≡ x.pool) (mine : IsMine (arc_v
         parties_are = refl;
         keeps = keeps-all _ _ rests (λ j has. has);
         delivered = λ j with_it is. absurd (false≢true with_it);
+        may = tt;
         drawn = drew-one a.kind (Some (take.Now e)) k funded.sort;
         had = λ j f drew is. subst (λ n. IsIn (entry.Deliver n f) w.seen) (some-number k j drew)
             (subst (λ n. IsIn (entry.Deliver k n) w.seen) (taken-element e f is)
@@ -349,6 +350,7 @@ module _ (x y : SharedPool) (same_one : y.pool ≡ x.pool) (mine : IsMine (arc_v
             parties_are = refl;
             keeps = keeps-all _ _ rests (λ j has. has_left j v.facts.waits (k ∷ []) has);
             delivered = λ j with_it is. absurd (false≢true with_it);
+            may = tt;
             drawn = drew-waits a.kind k funded.sort;
             had = λ j e none. absurd (cc);
             worn = λ none. absurd (cc);
@@ -383,6 +385,7 @@ module _ (x y : SharedPool) (same_one : y.pool ≡ x.pool) (mine : IsMine (arc_v
           parties_are = refl;
           keeps = keeps-all _ _ rests (λ k has. has);
           delivered = λ k with_it is. absurd (false≢true with_it);
+          may = tt;
           drawn = drew-none a.kind funded.sort;
           had = λ k e none. absurd (cc);
           worn = λ none. subst (λ n. v.limit ≤ n) (sym worn.counted.drawn ∙ drawn-same w.seen) worn.worn;

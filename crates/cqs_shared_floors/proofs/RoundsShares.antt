@@ -311,6 +311,7 @@ module _ (x y : SharedRounds) (i : ℕ) (r s : SharedRound) (there : slice_get x
             ∙ ap (λ n. set (held_in x.rounds.items) i (n - 1)) (sym held-there);
         keeps = keeps-all x y i r s there items _ _ _ g (λ k has. has);
         delivered = λ k with_it is. absurd (false≢true with_it);
+        may = tt;
         drawn = drawn-any a.kind _ (Some (take.Now e)) on.drew funded.sort;
         had = λ k f drew is. subst (IsIn (entry.Deliver k)) (sym seen-now) (on.had k drew);
         worn = λ none. absurd (cc);
@@ -336,6 +337,7 @@ module _ (x y : SharedRounds) (i : ℕ) (r s : SharedRound) (there : slice_get x
           keeps = keeps-all x y i r s there items _ _ _ g
               (λ k had. has_left k v'.facts.waits (wait.index ∷ []) had);
           delivered = λ k with_it is. absurd (false≢true with_it);
+          may = tt;
           drawn = drawn-any a.kind _ (Some (take.Waits wait.index)) None funded.sort;
           had = λ k e none. absurd (cc);
           worn = λ none. absurd (cc);
@@ -361,6 +363,7 @@ module _ (x y : SharedRounds) (i : ℕ) (r s : SharedRound) (there : slice_get x
         parties_are = same-held _ _ g;
         keeps = keeps-all x y i r s there items _ _ _ g (λ k has. has);
         delivered = λ k with_it is. absurd (false≢true with_it);
+        may = tt;
         drawn = drawn-any a.kind _ None None funded.sort;
         had = λ k e none. absurd (cc);
         worn = λ none.

@@ -19,7 +19,7 @@ use Rattle.cqs_rule.specs.declared.config.Place.{Place}
 use Rattle.cqs_shared.specs.declared.shared.SharedGive.{SharedGive}
 use Rattle.cqs_shared.specs.Entries.{own_history, is_nothing, IsBefore, drawn_in, IsDelivered}
 use Rattle.cqs_shared.specs.AnswerEntries.{came_entries, give_entries, look_entries, leave_entries, down_entries}
-use Rattle.cqs_shared.specs.Calls.{IsDrawn, TellsGive}
+use Rattle.cqs_shared.specs.Calls.{IsDrawn, MayCome, TellsGive}
 use Rattle.cqs_shared_floors.specs.declared.resource.Came.{Came}
 use Rattle.cqs_shared_floors.specs.declared.resource.Came.TheVariants as came
 use Rattle.cqs_shared_floors.specs.Shares.{Funds, IsSame, Share, Sees, IsWhole, KeepsAll, KeepsOthers, held_by, joined, own, with_brought, with_came, with_less, with_more, with_wait}
@@ -128,6 +128,7 @@ module _ {X : Type 0} (s : Share X) where
     pub keeps : KeepsAll s x y
     pub delivered : (k : ℕ) → with_it ≡ true → answer ≡ Some (take.Waits k)
         → (e : ℕ) × IsDelivered (s.seen y) round k e
+    pub may : MayCome with_it (Some a.kind)
     pub drawn : IsDrawn (Some a.kind) answer drew
     pub had : (k e : ℕ) → drew ≡ Some k → answer ≡ Some (take.Now e)
         → IsDelivered (s.seen y) round k e

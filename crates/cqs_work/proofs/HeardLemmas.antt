@@ -1,5 +1,5 @@
 -- Calls of a shared floor in the words of the machine over answers.
-use Rattle.std.proofs.Common.{◌≡◌, ℕ, List, [], ◌∷◌, ◌++◌, Option, true, map, refl, sym, ap, ◌∙◌, append_assoc}
+use Rattle.std.proofs.Common.{◌≡◌, ℕ, List, [], ◌∷◌, ◌++◌, Option, Some, None, Bool, true, false, ◌&&◌, map, refl, sym, ap, ◌∙◌, append_assoc}
 use Rattle.std.specs.Prelude.{slice_index_or, slice_set}
 use Rattle.std.proofs.Math.ListN.{get_or-map}
 use Rattle.std.proofs.lemmas.List.{map-set}
@@ -9,19 +9,24 @@ use Rattle.cqs_core.specs.SemaphoreNames.{entry_names as permit_names}
 use Rattle.cqs_pool_object.specs.PoolNames.{entry_names as element_names}
 use Rattle.cqs_latch_object.specs.LatchNames.{entry_names as latch_names}
 use Rattle.cqs_barrier_object.specs.BarrierNames.{entry_names as party_names}
+use Rattle.cqs_plan.specs.declared.plans.kind.Kind.{Kind}
+use Rattle.cqs_plan.specs.declared.plans.kind.Kind.TheVariants as kind
 use Rattle.cqs_plan.specs.declared.floors.answers.FloorTake.{FloorTake}
+use Rattle.cqs_plan.specs.declared.floors.answers.FloorTake.TheVariants as take
 use Rattle.cqs_plan.specs.declared.floors.answers.FloorLook.{FloorLook}
+use Rattle.cqs_plan.specs.declared.floors.answers.FloorLook.TheVariants.{Pending, Granted}
 use Rattle.cqs_plan.specs.declared.floors.answers.FloorLeave.{FloorLeave}
+use Rattle.cqs_plan.specs.declared.floors.answers.FloorLeave.TheVariants.{Gone, Late}
 use Rattle.cqs_plan.specs.declared.floors.answers.FloorDown.{FloorDown}
 use Rattle.cqs_plan.specs.Floor.{PlainFloor, JobWait}
 use Rattle.cqs_plan.specs.FloorHistory.{History, of_permits, of_elements, of_latch, of_rounds, entries_in}
 use Rattle.cqs_turns.specs.Machine.{Role}
 use Rattle.cqs_shared.specs.declared.shared.SharedGive.{SharedGive}
 use Rattle.cqs_shared.specs.Entries.{Entries, at_permits, at_elements, at_latch, in_round, with_entries, own_entries, own_history}
-use Rattle.cqs_shared.specs.Shared.{Shared, Sees, seen_at}
-use Rattle.cqs_shared.specs.Calls.{Comes, Gives, Downs, Looks, Leaves}
+use Rattle.cqs_shared.specs.Shared.{Shared, Sees, seen_at, kind_at, came_of}
+use Rattle.cqs_shared.specs.Calls.{Comes, Gives, Downs, Looks, Leaves, IsDrawn, MayCome, IsFound, IsLate}
 use Rattle.cqs_work.specs.Desk.{Desk, told}
-use Rattle.cqs_work.specs.Heard.{Heard, Answer, Hears, heard, logged, heard_came, heard_given, heard_counted, heard_looked, heard_left}
+use Rattle.cqs_work.specs.Heard.{Heard, Answer, Hears, heard, logged, heard_came, heard_given, heard_counted, heard_looked, heard_left, is_drawn, may_come, is_found, is_kept}
 use Rattle.cqs_work.specs.Heard as answer
 use Rattle.cqs_work.proofs.Lasting.{later-none, later-then}
 
@@ -64,6 +69,43 @@ log-after f at entries g sees =
     ∙ ap (with_entries (own_history f.number (seen_at f at))) sees.mine
     ∙ ap (λ h. with_entries h entries) (sym there))
 
+-- the answers of a floor fit
+drawn-fits : (k : Option Kind) (answer : Option FloorTake) (drew : Option ℕ) → IsDrawn k answer drew
+    → is_drawn k answer drew ≡ true
+drawn-fits (Some (kind.Pool elements)) (Some (take.Now element)) None drawn = absurd drawn
+drawn-fits (Some (kind.Pool elements)) (Some (take.Now element)) (Some n) drawn = refl
+drawn-fits (Some (kind.Pool elements)) (Some (take.Waits n)) drew drawn = refl
+drawn-fits (Some (kind.Pool elements)) None drew drawn = refl
+drawn-fits (Some (kind.Semaphore permits)) answer drew drawn = refl
+drawn-fits (Some kind.Mutex) answer drew drawn = refl
+drawn-fits (Some (kind.Latch count)) answer drew drawn = refl
+drawn-fits (Some (kind.Rounds parties rounds)) answer drew drawn = refl
+drawn-fits None answer drew drawn = refl
+
+may-fit : (with_it : Bool) (k : Option Kind) → MayCome with_it k → may_come with_it k ≡ true
+may-fit false k may = refl
+may-fit true (Some (kind.Semaphore permits)) may = refl
+may-fit true (Some kind.Mutex) may = refl
+may-fit true (Some (kind.Pool elements)) may = absurd may
+may-fit true (Some (kind.Latch count)) may = absurd may
+may-fit true (Some (kind.Rounds parties rounds)) may = absurd may
+may-fit true None may = absurd may
+
+found-fits : (came : Bool) (answer : FloorLook) → IsFound came answer → is_found came answer ≡ true
+found-fits true Pending found = absurd found
+found-fits true (Granted element) found = refl
+found-fits false Pending found = refl
+found-fits false (Granted element) found = refl
+
+kept-fits : (came : Bool) (answer : FloorLeave) → IsLate came answer → is_kept came answer ≡ true
+kept-fits true Gone late = absurd late
+kept-fits true (Late element) late = refl
+kept-fits false Gone late = refl
+kept-fits false (Late element) late = refl
+
+both-fit : (a b : Bool) → a ≡ true → b ≡ true → (a && b) ≡ true
+both-fit a b one other = ap (λ x. x && b) one ∙ other
+
 -- each call, where its answer is heard
 pub came-is : (f : Desk) (at round job : ℕ) (after : PlainFloor) (held : List (List ℕ)) (got : Option FloorTake)
     (g : Desk) (comes : Comes f.floor at round job after held got g.floor) → g.waits ≡ told f.waits at round job got
@@ -71,7 +113,9 @@ pub came-is : (f : Desk) (at round job : ℕ) (after : PlainFloor) (held : List 
     → heard_came at round job after got (heard f (answer.come got comes.drew comes.with_it ∷ rest)) ≡ heard g rest
 came-is f at round job after held got g comes waits rest i = record {
   answers = rest;
-  fits = true;
+  fits = both-fit (is_drawn (kind_at f.floor at) got comes.drew) (may_come comes.with_it (kind_at f.floor at))
+      (drawn-fits (kind_at f.floor at) got comes.drew comes.drawn)
+      (may-fit comes.with_it (kind_at f.floor at) comes.may) i;
   number = sym comes.sees.same.number i;
   board = sym comes.board i;
   came = sym comes.came i;
@@ -109,7 +153,7 @@ pub looked-is : (f : Desk) (r : Role) (wait : JobWait) (got : FloorLook) (g : De
     → heard_looked r wait.at wait.round wait.number got (heard f (answer.looked got ∷ rest)) ≡ heard g rest
 looked-is f r wait got g looks waits rest i = record {
   answers = rest;
-  fits = true;
+  fits = found-fits (came_of f.floor r.place) got looks.found i;
   number = sym looks.sees.same.number i;
   board = sym looks.board i;
   came = sym looks.came i;
@@ -122,7 +166,7 @@ pub left-is : (f : Desk) (r : Role) (wait : JobWait) (got : FloorLeave) (g : Des
     → heard_left r wait.at wait.round wait.number got (heard f (answer.left got leaves.stays ∷ rest)) ≡ heard g rest
 left-is f r wait got g leaves waits rest i = record {
   answers = rest;
-  fits = true;
+  fits = kept-fits (came_of f.floor r.place) got leaves.found i;
   number = sym leaves.sees.same.number i;
   board = sym leaves.board i;
   came = sym leaves.came i;

@@ -1,6 +1,9 @@
 -- The turn machine over a list of answers: what a worker heard from its floor.
-use Rattle.std.specs.Prelude.{◌≡◌, ℕ, Bool, true, false, ◌&&◌, List, [], ◌∷◌, ◌++◌, drop, map, Option, None, slice_index_or, slice_set}
+use Rattle.std.specs.Prelude.{◌≡◌, ℕ, Bool, true, false, ◌&&◌, List, [], ◌∷◌, ◌++◌, drop, map, Option, Some, None, slice_index_or, slice_set}
+use Rattle.cqs_plan.specs.declared.plans.kind.Kind.{Kind}
+use Rattle.cqs_plan.specs.declared.plans.kind.Kind.TheVariants as kind
 use Rattle.cqs_plan.specs.declared.floors.answers.FloorTake.{FloorTake}
+use Rattle.cqs_plan.specs.declared.floors.answers.FloorTake.TheVariants as take
 use Rattle.cqs_plan.specs.declared.floors.answers.FloorLook.{FloorLook}
 use Rattle.cqs_plan.specs.declared.floors.answers.FloorLook.TheVariants.{Pending}
 use Rattle.cqs_plan.specs.declared.floors.answers.FloorLeave.{FloorLeave}
@@ -36,7 +39,8 @@ pub data Answer : Type 0 where
 pub record Heard : Type 0 where
   -- the answers to the calls that are still to be made
   pub answers : List Answer
-  -- each call so far had an answer of its kind
+  -- Each call so far had an answer of its kind: a take of a pool drew a number, only a permit came
+  -- with its number, and what came so was found at the next look, or was too late to be left.
   pub fits : Bool
   -- the number of the worker's pass, what its jobs have, and the entries of its calls so far
   pub number : ℕ
@@ -103,6 +107,30 @@ abbrev pub is_leave : List Answer → Bool
 is_leave (left answer stays ∷ rest) = true
 is_leave rest = false
 
+-- a take of a pool draws a number each time
+abbrev pub is_drawn : Option Kind → Option FloorTake → Option ℕ → Bool
+is_drawn (Some (kind.Pool elements)) (Some (take.Now element)) None = false
+is_drawn k answer drew = true
+
+-- only a permit comes with its number
+abbrev pub may_come : Bool → Option Kind → Bool
+may_come false k = true
+may_come true (Some (kind.Semaphore permits)) = true
+may_come true (Some kind.Mutex) = true
+may_come true (Some (kind.Pool elements)) = false
+may_come true (Some (kind.Latch count)) = false
+may_come true (Some (kind.Rounds parties rounds)) = false
+may_come true None = false
+
+-- what came with its number is found at once, and is too late to be left
+abbrev pub is_found : Bool → FloorLook → Bool
+is_found true Pending = false
+is_found came answer = true
+
+abbrev pub is_kept : Bool → FloorLeave → Bool
+is_kept true Gone = false
+is_kept came answer = true
+
 -- the log with the entries of a call at a place
 abbrev pub logged : List History → ℕ → Entries → List History
 logged all at entries =
@@ -112,7 +140,9 @@ logged all at entries =
 abbrev pub heard_came : ℕ → ℕ → ℕ → PlainFloor → Option FloorTake → Heard → Heard
 heard_came at round job board answer h = record {
   answers = drop 1 h.answers;
-  fits = h.fits && is_come h.answers;
+  fits = h.fits && is_come h.answers
+      && is_drawn (kind_in h.board at) answer (drew_heard h.answers)
+      && may_come (with_it_heard h.answers) (kind_in h.board at);
   number = h.number;
   board = board;
   came = slice_set h.came job (with_it_heard h.answers);
@@ -161,7 +191,7 @@ heard_counted r at h = record {
 abbrev pub heard_looked : Role → ℕ → ℕ → ℕ → FloorLook → Heard → Heard
 heard_looked r at round number answer h = record {
   answers = drop 1 h.answers;
-  fits = h.fits && is_look h.answers;
+  fits = h.fits && is_look h.answers && is_found (slice_index_or h.came r.place false) answer;
   number = h.number;
   board = after_look h.board r.place answer;
   came = h.came;
@@ -174,7 +204,7 @@ heard_looked r at round number answer h = record {
 abbrev pub heard_left : Role → ℕ → ℕ → ℕ → FloorLeave → Heard → Heard
 heard_left r at round number answer h = record {
   answers = drop 1 h.answers;
-  fits = h.fits && is_leave h.answers;
+  fits = h.fits && is_leave h.answers && is_kept (slice_index_or h.came r.place false) answer;
   number = h.number;
   board = after_leave h.board r.place answer;
   came = h.came;

@@ -313,7 +313,7 @@ module _ {X : Type 0} (s : Share X) (plan : Plan) (workers worker : ℕ) (least 
       long = length-map shares s.seen ∙ fresh.long;
       legal = λ at. legal at (cases_lt at (length shares));
       unnamed = λ at n which. unnamed at n which (cases_lt at (length shares));
-      number = low;
+      number = refl;
       met = refl;
       floors = refl;
     }

@@ -190,7 +190,7 @@ module _ {F : Type 0} (shared : F → Shared) (plan : Plan) (floors : List F) (p
           opened = shared before;
           opened_at = get-map shared floors i before own_floor;
           number = later.same.number;
-          below = omega (arith, later.same.number, opens.number);
+          below = omega (arith, later.same.number, opens.number, get-below floors i before own_floor);
           among = later.same.floors ∙ opens.floors;
           kinds = later.kinds ∙ opens.kinds;
           rest = at-rest plan (shared after) works.clear;

@@ -45,7 +45,7 @@ pub record IsOpening (plan : Plan) (workers worker : ℕ) (f : Shared) : Type 0 
   pub legal : (at : ℕ) → IsLegalAt f.board at (seen_at f at)
   pub unnamed : (at n : ℕ) → (n ≡ f.number) ⊎ (workers ≤ n)
       → is_nothing (own_history n (seen_at f at)) ≡ true
-  pub number : f.number < workers
+  pub number : f.number ≡ worker
   pub met : f.met ≡ []
   pub floors : f.floors ≡ workers
 

@@ -251,3 +251,24 @@ module _ {X : Type 0} (s : Share X) where
           let r = resource-at at x there in
           ap s.family (sym is)
           ∙ (e.split (no_funds s r.0.kind 0) ((fresh.each at r.0 x r.1 there).funded 0)).looked.same.family)
+
+      -- and have the same limits
+      pub made-limits : map s.limit made ≡ map s.limit old
+      made-limits = map-alike s.limit old made split.made_long
+          (λ at x y there got.
+          let e = split.each at x there in
+          let found : Some e.one ≡ Some y = sym e.its ∙ got in
+          let is : e.one ≡ y = cc in
+          let r = resource-at at x there in
+          ap s.limit (sym is)
+          ∙ (e.split (no_funds s r.0.kind 0) ((fresh.each at r.0 x r.1 there).funded 0)).limit)
+
+      pub new-limits : map s.limit new ≡ map s.limit old
+      new-limits = map-alike s.limit old new split.new_long
+          (λ at x y there got.
+          let e = split.each at x there in
+          let found : Some e.after ≡ Some y = sym e.there ∙ got in
+          let is : e.after ≡ y = cc in
+          let r = resource-at at x there in
+          ap s.limit (sym is)
+          ∙ (e.split (no_funds s r.0.kind 0) ((fresh.each at r.0 x r.1 there).funded 0)).looked.same.limit)

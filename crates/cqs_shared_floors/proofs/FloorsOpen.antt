@@ -9,12 +9,12 @@ use Rattle.cqs_plan.specs.declared.plans.plan.Plan.{Plan}
 use Rattle.cqs_shared.specs.Shared.{Shared}
 use Rattle.cqs_work.specs.Opening.{AreSplit, IsOpening}
 use Rattle.cqs_shared_floors.specs.Ledgers.{Ledger, shared_in}
-use Rattle.cqs_shared_floors.specs.Openings.{plan_name}
+use Rattle.cqs_shared_floors.specs.Openings.{AreLimits, plan_name}
 use Rattle.cqs_shared_floors.specs.Shares.{Share}
 use Rattle.cqs_shared_floors.proofs.FloorLists.{mapped-back}
 
 -- a fact of each element, and of one more
-each-push : {X : Type 0} (P : ℕ → X → Type 0) (xs : List X) (y : X) → EachAt P xs → P (length xs) y
+pub each-push : {X : Type 0} (P : ℕ → X → Type 0) (xs : List X) (y : X) → EachAt P xs → P (length xs) y
     → EachAt P (xs ++ y ∷ [])
 each-push P xs y each new = EachAt-push P P xs y new (λ k x got is. is) each
 
@@ -73,3 +73,12 @@ module _ {X : Type 0} (s : Share X) (plan : Plan) (workers : ℕ) where
           let got = slice_get-get_or (map (shared_in s) floors) i d low in
           let g = mapped-back (shared_in s) floors i (get_or (map (shared_in s) floors) i d) got in
           ap (λ (h : Shared). h.number) (sym g.2) ∙ so.numbers.at i g.0 g.1
+
+  -- all have these limits
+  pub all-wide : (floors : List (Ledger X)) → EachAt (λ i f. AreLimits plan (shared_in s f).limits) floors
+      → EachAt (λ i f. AreLimits plan f.limits) (map (shared_in s) floors)
+  all-wide floors wide = record {
+    at = λ i f got.
+        let g = mapped-back (shared_in s) floors i f got in
+        subst (λ (h : Shared). AreLimits plan h.limits) g.2 (wide.at i g.0 g.1);
+  }

@@ -1,15 +1,21 @@
 -- The loop in which the floors of a plan are made: how it begins, and what one round of it leaves.
 use Rattle.std.proofs.Common.{◌≡◌, ℕ, suc, ◌+◌, ◌-◌, ◌<◌, ◌≤◌, List, [], ◌∷◌, ◌++◌, length, map, refl, ap, sym, ◌∙◌, subst, arith}
+use Rattle.std.specs.Prelude.{slice_index}
+use Rattle.std.specs.List.{range_with_len}
 use Rattle.std.proofs.lemmas.List.{length_push}
+use Rattle.std.proofs.lemmas.List.FromFn.{get_or-map-range_with_len}
+use Rattle.cqs_core.specs.Numbered.{EachAt}
+use Rattle.cqs_core.proofs.Places.{get-there}
 use Rattle.cqs_plan.specs.declared.plans.plan.Plan.{Plan}
 use Rattle.cqs_plan.specs.Runnable.{IsRunnable}
 use Rattle.cqs_work.specs.Opening.{IsOpening}
 use Rattle.cqs_shared_floors.specs.Ledgers.{Ledger, shared_in}
-use Rattle.cqs_shared_floors.specs.Openings.{AreFresh, CanSplitEach, HaveOpened, HaveSplitEach, arriving_from, own_arriving, plan_name}
+use Rattle.cqs_shared_floors.specs.Openings.{AreFresh, AreLimits, CanSplitEach, HaveOpened, HaveSplitEach, arriving_from, own_arriving, plan_name, room_of}
 use Rattle.cqs_shared_floors.specs.Shares.{Share}
 use Rattle.cqs_shared_floors.proofs.FloorProvides.{fewer-from}
-use Rattle.cqs_shared_floors.proofs.FloorSplits.{Fresh, HaveMany, fresh-opened, last-fresh, made-fresh, made-kin, made-many, many-opened, new-fresh, new-kin, split-can}
-use Rattle.cqs_shared_floors.proofs.FloorsOpen.{SoFar, none-so-far, one-more}
+use Rattle.cqs_shared_floors.proofs.FloorSplits.{Fresh, HaveMany, fresh-opened, last-fresh, made-fresh, made-kin, made-limits, made-many, many-opened, new-fresh, new-kin, new-limits, split-can}
+use Rattle.cqs_shared_floors.proofs.FloorLists.{index-mapped}
+use Rattle.cqs_shared_floors.proofs.FloorsOpen.{SoFar, each-push, none-so-far, one-more}
 
 module _ {X : Type 0} (s : Share X) (plan : Plan) (workers : ℕ) where
   -- after the floors of the workers before this one
@@ -18,14 +24,42 @@ module _ {X : Type 0} (s : Share X) (plan : Plan) (workers : ℕ) where
     pub fresh : Fresh s plan.resources workers (worker - 1) shares
     pub parties : HaveMany s plan.resources (λ at. arriving_from workers (worker - 1) at 0 plan.jobs) shares
     pub so : SoFar s plan workers (plan_name plan workers ∷ map s.family shares) floors
+    pub limits : AreLimits plan (map s.limit shares)
+    pub wide : EachAt (λ i f. AreLimits plan (shared_in s f).limits) floors
+
+  -- one more floor with the limits of these shares
+  more-wide : (floors : List (Ledger X)) (f : Ledger X) (shares : List X) → AreLimits plan (map s.limit shares)
+      → (shared_in s f).limits ≡ map s.limit shares → EachAt (λ i g. AreLimits plan (shared_in s g).limits) floors
+      → EachAt (λ i g. AreLimits plan (shared_in s g).limits) (floors ++ f ∷ [])
+  more-wide floors f shares limits is wide =
+      each-push (λ i g. AreLimits plan (shared_in s g).limits) floors f wide (subst (AreLimits plan) (sym is) limits)
+
+  first-limits : (room : List ℕ) (shares : List X)
+      → room ≡ map (room_of plan.jobs) (range_with_len 0 (length plan.resources))
+      → HaveOpened s plan.resources workers room shares → length shares ≡ length plan.resources
+      → AreLimits plan (map s.limit shares)
+  first-limits room shares counted opened long = record {
+    at = λ at low.
+        let r = get-there plan.resources at low in
+        let x = get-there shares at (omega (arith, low, long)) in
+        let limit = (opened.each at r.0 x.0 r.1 x.1).limit in
+        let here = index-mapped s.limit shares at x.0 0 x.1 in
+        let roomy = ap (λ l. slice_index l at) counted in
+        let for_it = get_or-map-range_with_len (room_of plan.jobs) 0 (length plan.resources) at at 0 low
+        (omega arith) in
+        omega (arith, limit, here, roomy, for_it);
+  }
 
   pub ready-first : (room : List ℕ) (shares : List X) → IsRunnable plan
+      → room ≡ map (room_of plan.jobs) (range_with_len 0 (length plan.resources))
       → HaveOpened s plan.resources workers room shares → length shares ≡ length plan.resources → Ready 1 shares []
-  ready-first room shares runnable opened long = record {
+  ready-first room shares runnable counted opened long = record {
     many = refl;
     fresh = fresh-opened s plan.resources workers room shares opened long;
     parties = many-opened s plan workers room shares runnable opened;
     so = none-so-far s plan workers (plan_name plan workers ∷ map s.family shares);
+    limits = first-limits room shares counted opened long;
+    wide = record { at = λ i f got. absurd (cc) };
   }
 
   next-is : (worker : ℕ) → 1 ≤ worker → worker - 1 + 1 ≡ worker
@@ -52,8 +86,9 @@ module _ {X : Type 0} (s : Share X) (plan : Plan) (workers : ℕ) where
         pub ready-next : (f : Ledger X) → IsOpening plan workers (worker - 1) (shared_in s f)
             → f.number ≡ worker - 1
             → (shared_in s f).family ≡ plan_name plan workers ∷ map s.family new
+            → (shared_in s f).limits ≡ map s.limit new
             → Ready (worker + 1) made (floors ++ f ∷ [])
-        ready-next f opens number kin = record {
+        ready-next f opens number kin limits = record {
           many = let more = length_push floors f in omega (arith, more, r.many);
           fresh = subst (λ w. Fresh s plan.resources workers w made) (back worker)
               (made-fresh s plan.resources workers worker plan.jobs low shares r.fresh r.parties (fewer worker low)
@@ -67,6 +102,8 @@ module _ {X : Type 0} (s : Share X) (plan : Plan) (workers : ℕ) where
               (subst (λ fs. SoFar s plan workers (plan_name plan workers ∷ fs) floors) (sym kin-made) r.so)
               opens number
               (kin ∙ ap (λ fs. plan_name plan workers ∷ fs) (kin-new ∙ sym kin-made));
+          limits = subst (AreLimits plan) (sym limits-made) r.limits;
+          wide = more-wide floors f shares r.limits (limits ∙ limits-new) r.wide;
         }
           where
             back : (w : ℕ) → w ≡ w + 1 - 1
@@ -78,6 +115,14 @@ module _ {X : Type 0} (s : Share X) (plan : Plan) (workers : ℕ) where
 
             kin-new : map s.family new ≡ map s.family shares
             kin-new = new-kin s plan.resources workers worker plan.jobs low shares r.fresh r.parties
+                (fewer worker low) made new split
+
+            limits-made : map s.limit made ≡ map s.limit shares
+            limits-made = made-limits s plan.resources workers worker plan.jobs low shares r.fresh r.parties
+                (fewer worker low) made new split
+
+            limits-new : map s.limit new ≡ map s.limit shares
+            limits-new = new-limits s plan.resources workers worker plan.jobs low shares r.fresh r.parties
                 (fewer worker low) made new split
 
   -- the last floor
@@ -93,3 +138,8 @@ module _ {X : Type 0} (s : Share X) (plan : Plan) (workers : ℕ) where
   ready-all worker shares floors r low f opens number kin =
       one-more s plan workers (plan_name plan workers ∷ map s.family shares) floors f (worker - 1)
       (omega (arith, r.many)) r.so opens number kin
+
+  pub ready-wide : (worker : ℕ) (shares : List X) (floors : List (Ledger X)) → Ready worker shares floors
+      → (f : Ledger X) → (shared_in s f).limits ≡ map s.limit shares
+      → EachAt (λ i g. AreLimits plan (shared_in s g).limits) (floors ++ f ∷ [])
+  ready-wide worker shares floors r f limits = more-wide floors f shares r.limits limits r.wide

@@ -40,6 +40,11 @@ pub record IsCountable (resources : ℕ) (job : Job) : Type 0 where
 abbrev pub room_of : List Job → ℕ → ℕ
 room_of jobs at = sum_by (λ job. count_by (may_wait at) job.steps) jobs
 
+-- these limits are one more at each resource than the plan has takes, waits and arrivals there
+pub record AreLimits (plan : Plan) (limits : List ℕ) : Type 0 where
+  pub at : (at : ℕ) → at < length plan.resources
+      → slice_index limits at ≡ room_of plan.jobs at + 1
+
 -- the job at this place, of a worker from this one on, arrives at the barrier
 abbrev pub arrives_from : ℕ → ℕ → ℕ → ℕ → Job → ℕ
 arrives_from workers worker at place job =

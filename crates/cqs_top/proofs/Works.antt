@@ -1,8 +1,10 @@
 -- What workers left of a plan, apart from what was kept of it.
 use Rattle.std.proofs.Common.{◌≡◌, ℕ, List, length, refl, subst, ◌∙◌}
 use Rattle.std.proofs.lemmas.List.{length-map}
+use Rattle.cqs_core.specs.Numbered.{EachAt}
 use Rattle.cqs_plan.specs.declared.plans.plan.Plan.{Plan}
 use Rattle.cqs_shared.specs.Shared.{Shared}
+use Rattle.cqs_shared_floors.specs.Openings.{AreLimits}
 use Rattle.cqs_work.specs.declared.plans.Worked.{Worked}
 use Rattle.cqs_work.specs.Met.{shared_of}
 use Rattle.cqs_work.specs.Opening.{AreSplit}
@@ -29,6 +31,7 @@ of-kept shared bytes workers text all given = record {
 -- what workers left is kept as it is told, where the floor was asked how its resources stand
 pub keeps-work : {F : Type 0} (shared : F → Shared) (plan : Plan) (workers : ℕ) (floors : List F) (left now : Worked F)
     (text : List ℕ) → AreSplit plan (shared_of shared floors) → length floors ≡ workers
+    → EachAt (λ worker f. AreLimits plan f.limits) (shared_of shared floors)
     → length left.ends ≡ length plan.jobs
     → AreTold plan (shared_of shared floors) (shared left.floor) left.ends left.waits
     → AreWaits (shared_of shared floors) (shared left.floor) left.waits
@@ -37,12 +40,13 @@ pub keeps-work : {F : Type 0} (shared : F → Shared) (plan : Plan) (workers : �
     → now.ends ≡ left.ends → now.waits ≡ left.waits → shared now.floor ≡ shared left.floor
     → text ≡ work_text plan left.ends left.waits (shared left.floor)
     → KeepsWork shared plan workers text (kept.Worked now)
-keeps-work shared plan workers floors left now text split many one_each told drawn bounds quiet met ends waits floor
-    made =
+keeps-work shared plan workers floors left now text split many wide one_each told drawn bounds quiet met ends waits
+    floor made =
     let was : HaveWorked plan workers left.ends left.waits (shared left.floor) = record {
       floors = shared_of shared floors;
       split = split;
       many = length-map floors shared ∙ many;
+      wide = wide;
       one_each = one_each;
       told = told;
       drawn = drawn;

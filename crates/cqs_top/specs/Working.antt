@@ -1,21 +1,25 @@
 -- What it means that workers have worked on a plan, and what their text is.
 use Rattle.std.specs.Prelude.{◌≡◌, ℕ, List, length}
+use Rattle.cqs_core.specs.Numbered.{EachAt}
 use Rattle.cqs_plan.specs.declared.plans.plan.Plan.{Plan}
 use Rattle.cqs_plan.specs.PlanText.{IsPlanText}
 use Rattle.cqs_shared.specs.Shared.{Shared}
+use Rattle.cqs_shared_floors.specs.Openings.{AreLimits}
 use Rattle.cqs_work.specs.declared.ends.JobEnd.{JobEnd}
 use Rattle.cqs_work.specs.Opening.{AreSplit}
 use Rattle.cqs_work.specs.Worked.{AreBounded, AreQuiet, AreTold, AreWaits, HaveAllIn}
 use Rattle.cqs_work.specs.declared.waits.WaitLine.{WaitLine}
 use Rattle.cqs_top.specs.WorkText.{work_text}
 
--- So many workers have worked on this plan. They began on floors that were split from one, and
--- these have met in the last one, which has seen all that happened.
+-- So many workers have worked on this plan. They began on floors that were split from one; what
+-- their passes did is what the last floor has seen of them.
 pub record HaveWorked (plan : Plan) (workers : ℕ) (ends : List JobEnd) (waits : List WaitLine)
     (last : Shared) : Type 0 where
   pub floors : List Shared
   pub split : AreSplit plan floors
   pub many : length floors ≡ workers
+  -- at each resource the limit of each is above the takes, waits and arrivals that the plan has
+  pub wide : EachAt (λ worker f. AreLimits plan f.limits) floors
   -- each job has one end
   pub one_each : length ends ≡ length plan.jobs
   -- for each worker there are answers to its calls, from which its jobs ended so, and whose entries
@@ -29,7 +33,8 @@ pub record HaveWorked (plan : Plan) (workers : ℕ) (ends : List JobEnd) (waits 
   pub bounds : AreBounded plan floors last ends
   -- nothing is held, on its way, at the door or in line
   pub quiet : AreQuiet last
-  -- all floors have met, what happened is legal, and no job waits or holds anything
+  -- so many floors have met in the last one, what happened is legal and names no pass but those of
+  -- the workers, and no job waits or holds anything
   pub met : HaveAllIn plan workers last
 
 -- the bytes are a plan, and the text is that of so many workers who have worked on it

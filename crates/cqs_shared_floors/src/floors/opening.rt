@@ -11,6 +11,7 @@ ghost use Rattle.cqs_shared_floors.specs.AnyShares.{share_any};
 ghost use Rattle.cqs_shared_floors.specs.Ledgers.{shared_in};
 ghost use Rattle.cqs_shared_floors.specs.Openings.{
   AreFresh,
+  AreLimits,
   AreWithin,
   CanSplitEach,
   HaveOpened,
@@ -50,6 +51,8 @@ pub fn shared_floors(
     ensures split { IfOk result (λ floors. AreSplit plan.now
         (map (shared_in share_any) floors.items)) }
     ensures many { IfOk result (λ floors. vec_len floors ≡ workers) }
+    ensures wide { IfOk result (λ floors. EachAt (λ worker f. AreLimits plan.now f.limits)
+        (map (shared_in share_any) floors.items)) }
 {
     open_floors(alloc, plan, workers)
 }
@@ -67,6 +70,8 @@ fn open_floors<X: ForEachKind>(
     ensures split { IfOk result (λ floors. AreSplit plan.now
         (map (shared_in X.share) floors.items)) }
     ensures many { IfOk result (λ floors. vec_len floors ≡ workers) }
+    ensures wide { IfOk result (λ floors. EachAt (λ worker f. AreLimits plan.now f.limits)
+        (map (shared_in X.share) floors.items)) }
 {
     X::law();
     let resources = plan.resources.as_slice();
@@ -102,6 +107,8 @@ fn make_floor<X: SharedResource>(
     ensures number { IfOk result (λ floor. floor.number ≡ worker) }
     ensures family { IfOk result (λ floor. (shared_in X.share floor).family
         ≡ plan_name plan.now workers ∷ map X.share.family shares.items) }
+    ensures limits { IfOk result (λ floor. (shared_in X.share floor).limits
+        ≡ map X.share.limit shares.items) }
 {
     X::law();
     let desk = make_desk(alloc, plan, shares, workers, worker)?;

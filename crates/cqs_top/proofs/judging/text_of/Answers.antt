@@ -14,5 +14,5 @@ returns-clause-keeps g c =
     rw c.keep_work.ensures
     (keeps-work (shared_in share_any) c.args.plan.now c.args.workers c.in_ok-floors.floors.items c.in_ok-worked.worked
     c.work_text.new.worked c.in_ok-text.text.items c.in_ok-floors.ensures.split
-    (sym long ∙ c.in_ok-floors.ensures.many) worked.ends worked.told worked.waits
+    (sym long ∙ c.in_ok-floors.ensures.many) c.in_ok-floors.ensures.wide worked.ends worked.told worked.waits
     worked.bounds worked.quiet worked.met text.ends text.waits text.floor text.text)

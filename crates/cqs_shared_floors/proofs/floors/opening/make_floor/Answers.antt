@@ -1,3 +1,4 @@
+use Rattle.std.proofs.Common.{map, ap}
 use Rattle.cqs_shared_floors.proofs.FloorOpens.{kept-desk, name-desk, opens-desk}
 use Rattle.cqs_shared_floors.proofs.floors.opening.make_floor.Goals as goal
 
@@ -19,3 +20,6 @@ pub returns-clause-family : goal.returns-clause-family
 returns-clause-family g c =
     name-desk g.X.SharedResource.share c.args.plan.now c.args.workers c.args.worker c.args.shares.items
     c.requires.fresh c.requires.sized c.requires.worker c.requires.few c.in_ok-desk.desk c.in_ok-desk.ensures
+
+pub returns-clause-limits : goal.returns-clause-limits
+returns-clause-limits g c = ap (map g.X.SharedResource.share.limit) c.in_ok-desk.ensures.shares

@@ -1,12 +1,14 @@
-use Rattle.std.proofs.Common.{◌≡◌, ◌+◌, ◌++◌, ◌∷◌, [], length, map, ap, subst, sym, ◌∙◌, arith}
+use Rattle.std.proofs.Common.{◌≡◌, ◌+◌, ◌++◌, ◌∷◌, [], length, map, refl, ap, subst, sym, ◌∙◌, arith}
+use Rattle.std.specs.List.{range_with_len}
+use Rattle.cqs_core.specs.Numbered.{EachAt}
 use Rattle.std.proofs.lemmas.List.{length_push}
 use Rattle.std.proofs.lemmas.List.FromFn.{length-map-range_with_len}
 use Rattle.cqs_work.specs.Opening.{AreSplit}
 use Rattle.cqs_shared_floors.specs.Ledgers.{shared_in}
-use Rattle.cqs_shared_floors.specs.Openings.{CanSplitEach, HaveOpened, HaveSplitEach, arriving_from, plan_name}
+use Rattle.cqs_shared_floors.specs.Openings.{CanSplitEach, HaveOpened, AreLimits, HaveSplitEach, arriving_from, plan_name, room_of}
 use Rattle.cqs_shared_floors.proofs.FloorCounts.{runnable-countable}
-use Rattle.cqs_shared_floors.proofs.FloorsOpen.{all-split}
-use Rattle.cqs_shared_floors.proofs.OpenNext.{Ready, ready-all, ready-can, ready-first, ready-last, ready-new, ready-next}
+use Rattle.cqs_shared_floors.proofs.FloorsOpen.{all-split, all-wide}
+use Rattle.cqs_shared_floors.proofs.OpenNext.{Ready, ready-all, ready-can, ready-first, ready-last, ready-new, ready-next, ready-wide}
 use Rattle.cqs_shared_floors.proofs.floors.opening.open_floors.Goals as goal
 
 pub count_room-requires-clause-countable : goal.count_room-requires-clause-countable
@@ -24,8 +26,12 @@ loop-worker-init g c =
     let opened = subst (λ rs. HaveOpened s rs c.args.workers c.deref.result.now c.in_ok-shares.shares.items)
     c.as_slice-resources.ensures c.in_ok-shares.ensures.opened in
     let long = c.in_ok-shares.ensures.long ∙ ap length c.as_slice-resources.ensures in
+    let counted : c.deref.result.now ≡ map (room_of plan.jobs) (range_with_len 0 (length plan.resources)) =
+    rw (c.deref.ensures.value, c.in_ok-room.ensures.counts, c.as_slice-jobs.ensures, c.as_slice-resources.ensures) refl
+    in
     subst (λ fs. Ready s plan c.args.workers 1 c.in_ok-shares.shares.items fs) (sym c.in_ok-floors.ensures.items)
-    (ready-first s plan c.args.workers c.deref.result.now c.in_ok-shares.shares.items c.requires.runnable opened long)
+    (ready-first s plan c.args.workers c.deref.result.now c.in_ok-shares.shares.items c.requires.runnable counted opened
+    long)
 
 pub split_shares-requires-clause-can : goal.split_shares-requires-clause-can
 split_shares-requires-clause-can g c =
@@ -66,7 +72,7 @@ loop-worker-preserved g c =
     let e = c.in_ok-make_floor.ensures in
     subst (Ready s plan n (w + 1) c.in_ok-next.next.items) (sym c.in_ok-push.ensures.items)
     (ready-next s plan n w low c.loop-worker.shares.items c.loop-worker.floors.items r c.in_ok-next.next.items
-    c.split_shares.new.shares.items split f e.opens e.number e.family)
+    c.split_shares.new.shares.items split f e.opens e.number e.family e.limits)
 
 pub make_floor-requires-2-clause-fresh : goal.make_floor-requires-2-clause-fresh
 make_floor-requires-2-clause-fresh g c =
@@ -117,3 +123,19 @@ returns-clause-many g c =
     let long : length (c.loop-worker.floors.items ++ f ∷ []) ≡ n =
     omega (arith, length_push c.loop-worker.floors.items f, last.many) in
     c.push-2.new.self.ok.0 ∙ ap length c.in_ok-push-2.ensures.items ∙ long
+
+pub returns-clause-wide : goal.returns-clause-wide
+returns-clause-wide g c =
+    let s = g.X.SharedResource.share in
+    let plan = c.args.plan.now in
+    let n = c.args.workers in
+    let w = c.loop-worker.worker in
+    let r = c.loop-worker.invariant in
+    let same : w ≡ n =
+    omega (arith, c.loop-worker-test.false, c.loop-worker.auto.worker-end c.requires.some) in
+    let last = subst (λ v. Ready s plan n v c.loop-worker.shares.items c.loop-worker.floors.items) same r in
+    let f = c.in_ok-make_floor-2.field-0 in
+    let wide = ready-wide s plan n n c.loop-worker.shares.items c.loop-worker.floors.items last f
+    c.in_ok-make_floor-2.ensures.limits in
+    subst (λ fs. EachAt (λ i h. AreLimits plan h.limits) (map (shared_in s) fs)) (sym c.in_ok-push-2.ensures.items)
+    (all-wide s plan n (c.loop-worker.floors.items ++ f ∷ []) wide)

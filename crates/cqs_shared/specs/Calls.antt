@@ -8,7 +8,7 @@ use Rattle.cqs_plan.specs.declared.floors.answers.FloorTake.{FloorTake}
 use Rattle.cqs_plan.specs.declared.floors.answers.FloorTake.TheVariants as take
 use Rattle.cqs_plan.specs.declared.floors.answers.FloorGive.TheVariants.{Free}
 use Rattle.cqs_plan.specs.declared.floors.answers.FloorLook.{FloorLook}
-use Rattle.cqs_plan.specs.declared.floors.answers.FloorLook.TheVariants.{Pending}
+use Rattle.cqs_plan.specs.declared.floors.answers.FloorLook.TheVariants.{Pending, Granted}
 use Rattle.cqs_plan.specs.declared.floors.answers.FloorLeave.{FloorLeave}
 use Rattle.cqs_plan.specs.declared.floors.answers.FloorLeave.TheVariants.{Gone, Late}
 use Rattle.cqs_plan.specs.declared.floors.answers.FloorDown.{FloorDown}
@@ -81,6 +81,24 @@ MayCome true (Some (kind.Latch count)) = ⊥
 MayCome true (Some (kind.Rounds parties rounds)) = ⊥
 MayCome true None = ⊥
 
+-- only elements of a pool have numbers of their own: what else comes has the number 0
+abbrev pub IsElement : Option Kind → ℕ → Type 0
+IsElement (Some (kind.Pool elements)) e = Unit {0}
+IsElement k e = e ≡ 0
+
+abbrev pub TakesElement : Option Kind → Option FloorTake → Type 0
+TakesElement k (Some (take.Now e)) = IsElement k e
+TakesElement k (Some (take.Waits number)) = Unit {0}
+TakesElement k None = Unit {0}
+
+abbrev pub FindsElement : Option Kind → FloorLook → Type 0
+FindsElement k (Granted e) = IsElement k e
+FindsElement k Pending = Unit {0}
+
+abbrev pub KeepsElement : Option Kind → FloorLeave → Type 0
+KeepsElement k (Late e) = IsElement k e
+KeepsElement k Gone = Unit {0}
+
 -- A call that may have to wait there: it comes to take, to wait at a latch, or to arrive in a
 -- round.
 -- After it the jobs have this, and the pass holds these parties.
@@ -97,6 +115,7 @@ pub record Comes (f : Shared) (at round job : ℕ) (after : PlainFloor) (held : 
   pub delivered : (k : ℕ) → with_it ≡ true → answer ≡ Some (take.Waits k)
       → (e : ℕ) × IsDelivered (seen_at g at) round k e
   pub may : MayCome with_it (kind_at f at)
+  pub element : TakesElement (kind_at f at) answer
   -- what it had at once under a number was delivered in this call
   pub drawn : IsDrawn (kind_at f at) answer drew
   pub had : (k e : ℕ) → drew ≡ Some k → answer ≡ Some (take.Now e)
@@ -155,6 +174,7 @@ pub record Looks (f : Shared) (job : ℕ) (wait : JobWait) (answer : FloorLook) 
   pub parties : g.parties ≡ f.parties
   pub came : g.came ≡ f.came
   pub found : IsFound (came_of f job) answer
+  pub element : FindsElement (kind_at f wait.at) answer
 
 pub record Leaves (f : Shared) (job : ℕ) (wait : JobWait) (answer : FloorLeave) (g : Shared)
     : Type 0 where
@@ -167,6 +187,7 @@ pub record Leaves (f : Shared) (job : ℕ) (wait : JobWait) (answer : FloorLeave
   pub parties : g.parties ≡ parties_left f wait answer
   pub came : g.came ≡ f.came
   pub found : IsLate (came_of f job) answer
+  pub element : KeepsElement (kind_at f wait.at) answer
 
 -- the job looked at its wait, or wanted to leave with it
 pub record HasLooked (f : Shared) (job : ℕ) (answer : FloorLook) (g : Shared) : Type 0 where

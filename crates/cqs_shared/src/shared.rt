@@ -13,7 +13,8 @@ use std::sync::Wait;
 #[derive(Clone, Copy, Debug, PartialEq, Eq)]
 pub struct Turned;
 
-/// Where what a job gave back went. An element's number is that of a pool's element, else 0.
+/// Where what a job gave back went. The element is the one that the job held there: of a pool its
+/// number, and of anything else the 0 that it came with.
 #[derive(Clone, Copy, Debug, PartialEq, Eq)]
 pub enum SharedGive {
     /// Nobody waits: this element is free.
@@ -89,8 +90,8 @@ pub trait SharedFloor: Sized {
             (round_of (shared self.old).board job at) }
         ensures { Arrives (shared self.old) at job (answer_of result) (shared self.new) };
 
-    /// Takes another floor in. It is handed back exactly where one of its jobs has a wait. No two
-    /// floors of a family have a number in common.
+    /// Takes another floor of its family in. It is handed back exactly where one of its jobs has a
+    /// wait. That no pass is in both, be it by an earlier `meet`, is asked of the caller.
     fn meet<R: Wait>(&mut self, rt: &R, given: Self) -> Result<(), Self>
         requires family { (shared given).family ≡ (shared self.old).family }
         requires apart { (n : ℕ) → Has n ((shared self.old).number ∷ (shared self.old).met)

@@ -63,6 +63,7 @@ module _ {X Y : Type 0} (t : Share Y) (f : X → Y) where
     keeps = made.keeps;
     delivered = made.delivered;
     may = made.may;
+    element = made.element;
     drawn = made.drawn;
     had = made.had;
     worn = made.worn;
@@ -128,6 +129,7 @@ module _ {X Y : Type 0} (t : Share Y) (f : X → Y) where
       record {
         sees = sees-among a.kind x y _ m.sees;
         funded = m.funded;
+        found = m.found;
         parties_are = m.parties_are;
         keeps = m.keeps;
       }
@@ -138,6 +140,7 @@ module _ {X Y : Type 0} (t : Share Y) (f : X → Y) where
     stays = m.stays;
     sees = sees-among a.kind x y _ m.sees;
     funded = m.funded;
+    found = m.found;
     parties_are = m.parties_are;
     keeps = m.keeps;
   }

@@ -12,7 +12,7 @@ use Rattle.cqs_plan.specs.Floor.{JobWait, PlainFloor}
 use Rattle.cqs_shared.specs.Calls as floor
 use Rattle.cqs_rule.specs.declared.config.Place.{Place}
 use Rattle.cqs_shared.specs.AnswerEntries.{came_entries}
-use Rattle.cqs_shared.specs.Calls.{IsDrawn, MayCome, answer_of, board_arrived, board_taken, board_waited}
+use Rattle.cqs_shared.specs.Calls.{IsDrawn, MayCome, TakesElement, answer_of, board_arrived, board_taken, board_waited}
 use Rattle.cqs_shared.specs.Entries.{IsDelivered, drawn_in}
 use Rattle.cqs_shared.specs.Shared.{seen_at}
 use Rattle.cqs_shared_floors.specs.declared.floors.holdings.JobHolding.{JobHolding}
@@ -313,6 +313,7 @@ module _ {X : Type 0} (s : Share X) (l : Ledger X) (at job : ℕ) (x y : X) (the
               let d = comes.delivered n with_it answer in
               (d.0, subst (λ h. IsDelivered h round n d.0) (sym seen) d.1);
           may = subst (MayCome (spot_for at round c).came) (sym is) comes.may;
+          element = subst (λ o. TakesElement o (answer_of (answer_for c))) (sym is) comes.element;
           drawn = subst (λ o. IsDrawn o (answer_of (answer_for c)) comes.drew) (sym is) comes.drawn;
           had = λ n e drew answer. subst (λ h. IsDelivered h round n e) (sym seen) (comes.had n e drew answer);
           worn = λ none.

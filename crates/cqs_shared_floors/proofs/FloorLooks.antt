@@ -16,7 +16,7 @@ use Rattle.cqs_plan.specs.Language.{can_hold}
 use Rattle.cqs_plan.specs.LegalFloor.{IsHistory}
 use Rattle.cqs_shared.specs.AnswerEntries.{leave_entries, look_entries, turned_entries, unless_came}
 use Rattle.cqs_shared.specs.Calls as floor
-use Rattle.cqs_shared.specs.Calls.{HasLeft, HasLooked, IsFound, IsLate}
+use Rattle.cqs_shared.specs.Calls.{FindsElement, HasLeft, HasLooked, IsElement, IsFound, IsLate, KeepsElement}
 use Rattle.cqs_shared.specs.Entries.{AreOf, Entries, at_elements, at_permits, none_of, own_entries, with_entries}
 use Rattle.cqs_shared.specs.Shared.{IsLegalAt, Shared, came_of, parties_at, seen_at, with_parties}
 use Rattle.cqs_shared.specs.Shared as shared
@@ -31,6 +31,7 @@ use Rattle.cqs_shared_floors.specs.ShareCalls as calls
 use Rattle.cqs_shared_floors.specs.ShareCalls.{parties_left, party_more}
 use Rattle.cqs_shared_floors.specs.Shares.{Funds, IsLawful, IsSame, KeepsOthers, Sees, Share, with_brought, with_came, with_wait}
 use Rattle.cqs_shared_floors.specs.Spots.{job_wait, place_in, spot_came, spot_in}
+use Rattle.cqs_shared_floors.proofs.Elements.{no-element}
 use Rattle.cqs_shared_floors.proofs.FloorCrews.{space-within}
 use Rattle.cqs_shared_floors.proofs.FloorLists.{index-mapped, map-kept, mapped-back}
 use Rattle.cqs_shared_floors.proofs.FloorNext.{kept-next, next, parties-kept, sees-next, stands-on}
@@ -252,6 +253,7 @@ module _ {X : Type 0} (s : Share X) (l : Ledger X) (job : ℕ) (kept : IsKept s 
               parties = parties-kept s l w.at x y there l.room l.spots l.holdings l.rounds made.parties_are;
               came = refl;
               found = subst (λ b. IsFound b Pending) (sym not_came) tt;
+              element = tt;
             });
       };
     }
@@ -290,6 +292,7 @@ module _ {X : Type 0} (s : Share X) (l : Ledger X) (job : ℕ) (kept : IsKept s 
                       (and_brought k l.holdings w.at job element) l.rounds made.parties_are;
                   came = over.came-on s l job w false was kept x y there k is made.sees.same keeps;
                   found = subst (λ b. IsFound b (Granted element)) (sym not_came) tt;
+                  element = subst (λ o. FindsElement o (Granted element)) (sym is) made.found;
                 });
           };
         }
@@ -341,6 +344,7 @@ module _ {X : Type 0} (s : Share X) (l : Ledger X) (job : ℕ) (kept : IsKept s 
                   parties = left-parties k is made.parties_are;
                   came = over.came-on s l job w false was kept x y there k is made.sees.same keeps;
                   found = subst (λ b. IsLate b Gone) (sym not_came) tt;
+                  element = tt;
                 });
           };
         }
@@ -374,6 +378,7 @@ module _ {X : Type 0} (s : Share X) (l : Ledger X) (job : ℕ) (kept : IsKept s 
                       (made.parties_are ∙ late-parties k (s.parties x) w.round element);
                   came = over.came-on s l job w false was kept x y there k is made.sees.same keeps;
                   found = subst (λ b. IsLate b (Late element)) (sym not_came) tt;
+                  element = subst (λ o. KeepsElement o (Late element)) (sym is) made.found;
                 });
           };
         }
@@ -407,6 +412,7 @@ module _ {X : Type 0} (s : Share X) (l : Ledger X) (job : ℕ) (kept : IsKept s 
                     (and_brought k l.holdings w.at job 0) l.rounds refl;
                 came = over.came-on s l job w true was kept x x there k is same_x keeps;
                 found = subst (λ b. IsFound b (Granted 0)) (sym came) tt;
+                element = subst (λ o. IsElement o 0) (sym is) (no-element k);
               }));
         };
       },
@@ -432,6 +438,7 @@ module _ {X : Type 0} (s : Share X) (l : Ledger X) (job : ℕ) (kept : IsKept s 
                     (and_brought k l.holdings w.at job 0) l.rounds refl;
                 came = over.came-on s l job w true was kept x x there k is same_x keeps;
                 found = subst (λ b. IsLate b (Late 0)) (sym came) tt;
+                element = subst (λ o. IsElement o 0) (sym is) (no-element k);
               }));
         };
       },

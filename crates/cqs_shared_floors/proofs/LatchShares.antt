@@ -65,6 +65,7 @@ use Rattle.cqs_shared_floors.specs.Runs.{Went}
 use Rattle.cqs_shared_floors.specs.Shares.{Funds, KeepsAll, KeepsOthers, Sees, with_more, with_wait}
 use Rattle.cqs_shared_floors.specs.ShareCalls.{Counts, Leaves, Looks, Waits, parties_left}
 use Rattle.cqs_shared_floors.proofs.Accounts.{over-next}
+use Rattle.cqs_shared_floors.proofs.Elements.{no-element}
 use Rattle.cqs_shared_floors.proofs.Families.{name-same}
 use Rattle.cqs_shared_floors.proofs.LatchAccounts.{account-next, counts-fit, in-back, in-whole}
 use Rattle.cqs_shared_floors.proofs.LatchWaits.{drawn-more, first-drawn, next-drawn}
@@ -433,6 +434,7 @@ module _ (x y : SharedLatch) (same_one : y.latch ≡ x.latch) (mine : IsMine (ar
         keeps = keeps-all v.facts.waits rests (λ k has. has);
         delivered = λ k with_it is. absurd (false≢true with_it);
         may = tt;
+        element = no-element a.kind;
         drawn = drawn-is a.kind (Some (take.Now 0)) drew funded.sort;
         had = λ k e is now. had k is;
         worn = λ none. absurd (cc);
@@ -473,6 +475,7 @@ module _ (x y : SharedLatch) (same_one : y.latch ≡ x.latch) (mine : IsMine (ar
           keeps = keeps-all _ rests (λ j has. has_left j v.facts.waits (k ∷ []) has);
           delivered = λ j with_it is. absurd (false≢true with_it);
           may = tt;
+          element = tt;
           drawn = drawn-is a.kind (Some (take.Waits k)) None funded.sort;
           had = λ j e none. absurd (cc);
           worn = λ none. absurd (cc);
@@ -508,6 +511,7 @@ module _ (x y : SharedLatch) (same_one : y.latch ≡ x.latch) (mine : IsMine (ar
         keeps = keeps-all v.facts.waits rests (λ k has. has);
         delivered = λ k with_it is. absurd (false≢true with_it);
         may = tt;
+        element = tt;
         drawn = drawn-is a.kind None None funded.sort;
         had = λ k e none. absurd (cc);
         worn = λ none.
@@ -576,6 +580,7 @@ module _ (x y : SharedLatch) (same_one : y.latch ≡ x.latch) (mine : IsMine (ar
               (latch-sees (with_wait a) _ funded went);
           funded = subst (IsFunded y) (sym (brought-is a.kind a job 0 funded.sort))
               (closed-by a (entry.LookGranted v.number k) funded went told.1 refl refl refl);
+          found = no-element a.kind;
           parties_are = refl;
           keeps = others-on told.1;
         })
@@ -594,6 +599,7 @@ module _ (x y : SharedLatch) (same_one : y.latch ≡ x.latch) (mine : IsMine (ar
               (latch-sees (with_wait a) _ funded went);
           funded = subst (IsFunded y) (sym (brought-is a.kind a job 0 funded.sort))
               (closed-by a (entry.Late v.number k) funded went rests refl refl refl);
+          found = no-element a.kind;
           parties_are = parties-is a.kind round (leave.Late 0) funded.sort;
           keeps = others-on rests;
         })
@@ -611,6 +617,7 @@ module _ (x y : SharedLatch) (same_one : y.latch ≡ x.latch) (mine : IsMine (ar
               (sym (leave-is a.kind round v.number k leave.Gone false funded.sort))
               (latch-sees (with_wait a) _ funded went);
           funded = closed-by a (entry.Leave v.number k) funded went rests refl refl refl;
+          found = tt;
           parties_are = parties-is a.kind round leave.Gone funded.sort;
           keeps = others-on rests;
         })

@@ -1,5 +1,6 @@
 pub mod Runs
 pub mod Sights
+pub mod Elements
 pub mod Families
 pub mod Accounts
 pub mod PermitAccounts

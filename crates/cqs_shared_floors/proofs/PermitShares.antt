@@ -60,6 +60,7 @@ use Rattle.cqs_shared_floors.specs.Runs.{Went}
 use Rattle.cqs_shared_floors.specs.Shares.{Funds, KeepsAll, KeepsOthers, Sees, held_by, with_came, with_less, with_more, with_wait}
 use Rattle.cqs_shared_floors.specs.ShareCalls.{Gives, Leaves, Looks, Takes, oldest, parties_left}
 use Rattle.cqs_shared_floors.specs.PermitShares.{ArePermits, HoldPermits, IsFunded, IsResting, share_permits, total}
+use Rattle.cqs_shared_floors.proofs.Elements.{no-element}
 use Rattle.cqs_shared_floors.proofs.Families.{name-same}
 use Rattle.cqs_shared_floors.proofs.PermitAccounts.{account-next}
 use Rattle.cqs_shared_floors.proofs.Runs.{last-in, none-more, not-before, waits-number, waits-next, waits-token, went-call, went-silent, went-then}
@@ -395,6 +396,7 @@ module _ (x y : SharedPermits) (same_one : y.semaphore ≡ x.semaphore)
         keeps = keeps-all _ _ free.rests (λ k has. has);
         delivered = λ k with_it is. absurd (false≢true with_it);
         may = tt;
+        element = no-element a.kind;
         drawn = drawn-is a.kind (Some (take.Now 0)) None funded.sort;
         had = λ k e none. absurd (cc);
         worn = λ none. absurd (cc);
@@ -425,6 +427,7 @@ module _ (x y : SharedPermits) (same_one : y.semaphore ≡ x.semaphore)
               (last-in w.seen rule'.called.before (entry.Deliver k) rule'.called.ends),
         );
         may = may-come a.kind funded.sort;
+        element = tt;
         drawn = drawn-is a.kind (Some (take.Waits k)) None funded.sort;
         had = λ j e none. absurd (cc);
         worn = λ none. absurd (cc);
@@ -449,6 +452,7 @@ module _ (x y : SharedPermits) (same_one : y.semaphore ≡ x.semaphore)
           keeps = keeps-all _ _ got.3 (λ j has. has_left j v.facts.waits (k ∷ []) has);
           delivered = λ j with_it is. absurd (false≢true with_it);
           may = tt;
+          element = tt;
           drawn = drawn-is a.kind (Some (take.Waits k)) None funded.sort;
           had = λ j e none. absurd (cc);
           worn = λ none. absurd (cc);
@@ -482,6 +486,7 @@ module _ (x y : SharedPermits) (same_one : y.semaphore ≡ x.semaphore)
         keeps = keeps-all _ _ rests (λ k has. has);
         delivered = λ k with_it is. absurd (false≢true with_it);
         may = tt;
+        element = tt;
         drawn = drawn-is a.kind None None funded.sort;
         had = λ k e none. absurd (cc);
         worn = λ none. subst (λ n. v.limit ≤ n) (sym worn.counted.drawn ∙ drawn-same w.seen) worn.worn;
@@ -600,6 +605,7 @@ module _ (x y : SharedPermits) (same_one : y.semaphore ≡ x.semaphore)
               (permits-have (with_wait a) (with_more a job 0) _ _ _ funded went polled.2 refl
               (permits-more a job funded.permits) (omega (arith, r.held_is, more)) (fewer a funded)
               (omega (arith, more)) refl);
+          found = no-element a.kind;
           parties_are = refl;
           keeps = others-on _ polled.2;
         })
@@ -624,6 +630,7 @@ module _ (x y : SharedPermits) (same_one : y.semaphore ≡ x.semaphore)
               (permits-have (with_wait a) (with_more a job 0) _ _ _ funded went rests refl
               (permits-more a job funded.permits) (omega (arith, r.held_is, more)) (fewer a funded)
               (omega (arith, more)) refl);
+          found = no-element a.kind;
           parties_are = parties-is a.kind round (leave.Late 0) funded.sort;
           keeps = others-on _ rests;
         })
@@ -645,6 +652,7 @@ module _ (x y : SharedPermits) (same_one : y.semaphore ≡ x.semaphore)
               (permits-see (with_wait a) _ funded went);
           funded = permits-have (with_wait a) a _ _ _ funded went rests refl funded.permits r.held_is
               (fewer a funded) (omega arith) refl;
+          found = tt;
           parties_are = parties-is a.kind round leave.Gone funded.sort;
           keeps = others-on _ rests;
         })

@@ -42,7 +42,7 @@ use Rattle.cqs_rule.proofs.Lists.{few_below, has_left, length_without, without_h
 use Rattle.cqs_shared.specs.declared.shared.SharedGive.{SharedGive}
 use Rattle.cqs_shared.specs.declared.shared.SharedGive.TheVariants as shared
 use Rattle.cqs_shared.specs.AnswerEntries.{came_entries, element_left, element_looked, element_taken, give_entries, leave_entries, look_entries, number_drawn}
-use Rattle.cqs_shared.specs.Calls.{IsDrawn, TellsGive}
+use Rattle.cqs_shared.specs.Calls.{IsDrawn, IsElement, TellsGive}
 use Rattle.cqs_shared.specs.Entries.{at_elements, enters_for_element}
 use Rattle.cqs_shared_floors.specs.declared.kinds.held.HeldElement.{HeldElement}
 use Rattle.cqs_shared_floors.specs.declared.kinds.pool.Arrived.{Arrived}
@@ -112,6 +112,14 @@ leave-is (kind.Semaphore permits) round c n answer stays sort = absurd sort
 leave-is kind.Mutex round c n answer stays sort = absurd sort
 leave-is (kind.Latch count) round c n answer stays sort = absurd sort
 leave-is (kind.Rounds parties rounds) round c n answer stays sort = absurd sort
+
+-- elements have numbers of their own
+its-element : (k : Kind) (e : ℕ) → IsPool k → IsElement (Some k) e
+its-element (kind.Pool elements) e sort = tt
+its-element (kind.Semaphore permits) e sort = absurd sort
+its-element kind.Mutex e sort = absurd sort
+its-element (kind.Latch count) e sort = absurd sort
+its-element (kind.Rounds parties rounds) e sort = absurd sort
 
 -- a take drew a number, if it had an element at once
 drew-one : (k : Kind) (answer : Option FloorTake) (n : ℕ) → IsPool k → IsDrawn (Some k) answer (Some n)
@@ -316,6 +324,7 @@ module _ (x y : SharedPool) (same_one : y.pool ≡ x.pool) (mine : IsMine (arc_v
         keeps = keeps-all _ _ rests (λ j has. has);
         delivered = λ j with_it is. absurd (false≢true with_it);
         may = tt;
+        element = its-element a.kind e funded.sort;
         drawn = drew-one a.kind (Some (take.Now e)) k funded.sort;
         had = λ j f drew is. subst (λ n. IsIn (entry.Deliver n f) w.seen) (some-number k j drew)
             (subst (λ n. IsIn (entry.Deliver k n) w.seen) (taken-element e f is)
@@ -351,6 +360,7 @@ module _ (x y : SharedPool) (same_one : y.pool ≡ x.pool) (mine : IsMine (arc_v
             keeps = keeps-all _ _ rests (λ j has. has_left j v.facts.waits (k ∷ []) has);
             delivered = λ j with_it is. absurd (false≢true with_it);
             may = tt;
+            element = tt;
             drawn = drew-waits a.kind k funded.sort;
             had = λ j e none. absurd (cc);
             worn = λ none. absurd (cc);
@@ -386,6 +396,7 @@ module _ (x y : SharedPool) (same_one : y.pool ≡ x.pool) (mine : IsMine (arc_v
           keeps = keeps-all _ _ rests (λ k has. has);
           delivered = λ k with_it is. absurd (false≢true with_it);
           may = tt;
+          element = tt;
           drawn = drew-none a.kind funded.sort;
           had = λ k e none. absurd (cc);
           worn = λ none. subst (λ n. v.limit ≤ n) (sym worn.counted.drawn ∙ drawn-same w.seen) worn.worn;
@@ -515,6 +526,7 @@ module _ (x y : SharedPool) (same_one : y.pool ≡ x.pool) (mine : IsMine (arc_v
                 (sym (look-is a.kind round v.number k (look.Granted (number_of element)) funded.sort))
                 (pool-see (with_wait a) _ funded went);
             funded = brought a _ funded there went refl refl;
+            found = its-element a.kind (number_of element) funded.sort;
             parties_are = refl;
             keeps = others-on _ rests;
           })
@@ -530,6 +542,7 @@ module _ (x y : SharedPool) (same_one : y.pool ≡ x.pool) (mine : IsMine (arc_v
                 (sym (leave-is a.kind round v.number k (leave.Late (number_of element)) false funded.sort))
                 (pool-see (with_wait a) _ funded went);
             funded = brought a _ funded there went refl refl;
+            found = its-element a.kind (number_of element) funded.sort;
             parties_are = parties-is a.kind round (leave.Late (number_of element)) funded.sort;
             keeps = others-on _ rests;
           })
@@ -550,6 +563,7 @@ module _ (x y : SharedPool) (same_one : y.pool ≡ x.pool) (mine : IsMine (arc_v
           funded = pool-have (with_wait a) a _ _ _ funded went rests refl funded.none_came
               (here-same items (with_wait a) funded) (hands-same items (with_wait a) funded) (fewer a funded)
               (omega arith);
+          found = tt;
           parties_are = parties-is a.kind round leave.Gone funded.sort;
           keeps = others-on _ rests;
         })

@@ -29,7 +29,7 @@ use Rattle.cqs_rule.specs.declared.view.View.{View}
 use Rattle.cqs_rule.specs.Lists.{without}
 use Rattle.cqs_rule.proofs.Lists.{has_left, without_has}
 use Rattle.cqs_shared.specs.AnswerEntries.{came_entries, leave_entries, look_entries, number_drawn, party_arrived, party_left, party_looked}
-use Rattle.cqs_shared.specs.Calls.{IsDrawn}
+use Rattle.cqs_shared.specs.Calls.{IsDrawn, IsElement}
 use Rattle.cqs_shared.specs.Entries.{enters_at_barrier, in_round}
 use Rattle.cqs_shared_floors.specs.declared.kinds.round.SharedRound.{SharedRound}
 use Rattle.cqs_shared_floors.specs.declared.kinds.rounds.SharedRounds.{SharedRounds}
@@ -40,6 +40,7 @@ use Rattle.cqs_shared_floors.specs.RoundsShares.{HasIn, IsFunded, IsOfRounds, cr
 use Rattle.cqs_shared_floors.specs.Runs.{WaitsAt}
 use Rattle.cqs_shared_floors.specs.Shares.{Funds, KeepsAll, KeepsOthers, Sees, with_brought, with_more, with_wait}
 use Rattle.cqs_shared_floors.specs.ShareCalls.{Arrives, CanArrive, CanEnd, Leaves, Looks, parties_left, party_more}
+use Rattle.cqs_shared_floors.proofs.Elements.{no-element}
 use Rattle.cqs_shared_floors.proofs.Families.{name-same}
 use Rattle.cqs_shared_floors.proofs.RoundsLists.{crew-kept, map-at, map-kept, read-off, sum-there}
 use Rattle.cqs_shared_floors.proofs.Runs.{none-more, not-before, waits-next}
@@ -312,6 +313,7 @@ module _ (x y : SharedRounds) (i : ℕ) (r s : SharedRound) (there : slice_get x
         keeps = keeps-all x y i r s there items _ _ _ g (λ k has. has);
         delivered = λ k with_it is. absurd (false≢true with_it);
         may = tt;
+        element = subst (IsElement (Some a.kind)) (sym zero_is) (no-element a.kind);
         drawn = drawn-any a.kind _ (Some (take.Now e)) on.drew funded.sort;
         had = λ k f drew is. subst (IsIn (entry.Deliver k)) (sym seen-now) (on.had k drew);
         worn = λ none. absurd (cc);
@@ -338,6 +340,7 @@ module _ (x y : SharedRounds) (i : ℕ) (r s : SharedRound) (there : slice_get x
               (λ k had. has_left k v'.facts.waits (wait.index ∷ []) had);
           delivered = λ k with_it is. absurd (false≢true with_it);
           may = tt;
+          element = tt;
           drawn = drawn-any a.kind _ (Some (take.Waits wait.index)) None funded.sort;
           had = λ k e none. absurd (cc);
           worn = λ none. absurd (cc);
@@ -364,6 +367,7 @@ module _ (x y : SharedRounds) (i : ℕ) (r s : SharedRound) (there : slice_get x
         keeps = keeps-all x y i r s there items _ _ _ g (λ k has. has);
         delivered = λ k with_it is. absurd (false≢true with_it);
         may = tt;
+        element = tt;
         drawn = drawn-any a.kind _ None None funded.sort;
         had = λ k e none. absurd (cc);
         worn = λ none.
@@ -408,6 +412,7 @@ module _ (x y : SharedRounds) (i : ℕ) (r s : SharedRound) (there : slice_get x
               ∙ sym (look-is a.kind _ i (crew_of x).number k' (look.Granted e) funded.sort))
               (see x y i r s there items _ _ _ g (with_wait a) a funded funded' refl);
           funded = subst (IsFunded y) (sym (brought-is a _ job e funded.sort)) funded';
+          found = subst (IsElement (Some a.kind)) (sym zero_is) (no-element a.kind);
           parties_are = same-held _ _ g;
           keeps = keeps-others x y i r s there items _ _ _ g k' refl;
         }
@@ -425,6 +430,7 @@ module _ (x y : SharedRounds) (i : ℕ) (r s : SharedRound) (there : slice_get x
               ∙ sym (leave-is a.kind _ i (crew_of x).number k' leave.Gone false funded.sort))
               (see x y i r s there items _ _ _ g (with_wait a) a funded funded' refl);
           funded = funded';
+          found = tt;
           parties_are = parties-then x y i r s there items _ _ _ g
               ∙ ap (λ n. set (held_in x.rounds.items) i (n + 1)) (sym held-there)
               ∙ left-gone a.kind _ (held_in x.rounds.items) i funded.sort;
@@ -441,6 +447,7 @@ module _ (x y : SharedRounds) (i : ℕ) (r s : SharedRound) (there : slice_get x
               ∙ sym (leave-is a.kind _ i (crew_of x).number k' (leave.Late e) stays funded.sort))
               (see x y i r s there items _ _ _ g (with_wait a) a funded funded' refl);
           funded = subst (IsFunded y) (sym (brought-is a _ job e funded.sort)) funded';
+          found = subst (IsElement (Some a.kind)) (sym zero_is) (no-element a.kind);
           parties_are = same-held _ _ g ∙ left-late a.kind _ (held_in x.rounds.items) i e funded.sort;
           keeps = keeps-others x y i r s there items _ _ _ g k' refl;
         }

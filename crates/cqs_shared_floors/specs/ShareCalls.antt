@@ -19,7 +19,7 @@ use Rattle.cqs_rule.specs.declared.config.Place.{Place}
 use Rattle.cqs_shared.specs.declared.shared.SharedGive.{SharedGive}
 use Rattle.cqs_shared.specs.Entries.{own_history, is_nothing, IsBefore, drawn_in, IsDelivered}
 use Rattle.cqs_shared.specs.AnswerEntries.{came_entries, give_entries, look_entries, leave_entries, down_entries}
-use Rattle.cqs_shared.specs.Calls.{IsDrawn, MayCome, TellsGive}
+use Rattle.cqs_shared.specs.Calls.{FindsElement, IsDrawn, KeepsElement, MayCome, TakesElement, TellsGive}
 use Rattle.cqs_shared_floors.specs.declared.resource.Came.{Came}
 use Rattle.cqs_shared_floors.specs.declared.resource.Came.TheVariants as came
 use Rattle.cqs_shared_floors.specs.Shares.{Funds, IsSame, Share, Sees, IsWhole, KeepsAll, KeepsOthers, held_by, joined, own, with_brought, with_came, with_less, with_more, with_wait}
@@ -129,6 +129,7 @@ module _ {X : Type 0} (s : Share X) where
     pub delivered : (k : ℕ) → with_it ≡ true → answer ≡ Some (take.Waits k)
         → (e : ℕ) × IsDelivered (s.seen y) round k e
     pub may : MayCome with_it (Some a.kind)
+    pub element : TakesElement (Some a.kind) answer
     pub drawn : IsDrawn (Some a.kind) answer drew
     pub had : (k e : ℕ) → drew ≡ Some k → answer ≡ Some (take.Now e)
         → IsDelivered (s.seen y) round k e
@@ -205,6 +206,7 @@ module _ {X : Type 0} (s : Share X) where
       pub sees : Sees s a.kind x
           (look_entries (Some a.kind) round (s.number x) wait.index (Granted element)) y
       pub funded : s.funded y (with_brought a job element)
+      pub found : FindsElement (Some a.kind) (Granted element)
       pub parties_are : s.parties y ≡ s.parties x
       pub keeps : KeepsOthers s x round wait.index y
 
@@ -223,6 +225,7 @@ module _ {X : Type 0} (s : Share X) where
     pub sees : Sees s a.kind x
         (leave_entries (Some a.kind) round (s.number x) wait.index answer stays) y
     pub funded : s.funded y b
+    pub found : KeepsElement (Some a.kind) answer
     pub parties_are : s.parties y ≡ parties_left a.kind (s.parties x) round answer
     pub keeps : KeepsOthers s x round wait.index y
 

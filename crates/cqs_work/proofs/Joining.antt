@@ -308,6 +308,7 @@ module _ {F : Type 0} (shared : F → Shared) (plan : Plan) (floors : List F) (p
           floors = met.floors ∙ first-left.among;
           rest = met.rest;
           legal = met.legal;
+          only = unnamed-past;
         }
 
         -- what a worker has seen and what it has is in all histories

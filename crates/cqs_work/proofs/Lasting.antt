@@ -8,7 +8,11 @@ use Rattle.cqs_core.specs.declared.entries.Entry.{Entry}
 use Rattle.cqs_core.specs.SemaphoreNames.{entry_names as permit_names}
 use Rattle.cqs_pool_object.specs.declared.entries.PoolEntry.{PoolEntry}
 use Rattle.cqs_pool_object.specs.PoolNames.{entry_names as element_names}
-use Rattle.cqs_plan.specs.FloorHistory.{History, of_permits, of_elements, of_latch, of_rounds}
+use Rattle.cqs_latch_object.specs.declared.entries.LatchEntry.{LatchEntry}
+use Rattle.cqs_latch_object.specs.LatchNames.{entry_names as latch_names}
+use Rattle.cqs_barrier_object.specs.declared.entries.BarrierEntry.{BarrierEntry}
+use Rattle.cqs_barrier_object.specs.BarrierNames.{entry_names as party_names}
+use Rattle.cqs_plan.specs.FloorHistory.{History, of_permits, of_elements, of_latch, of_rounds, entries_in}
 use Rattle.cqs_shared.specs.Entries.{Entries, at_permits, at_elements, at_latch, in_round, with_entries, own_entries, none_of, IsBefore}
 use Rattle.cqs_shared.specs.Shared.{Shared, Sees, IsLegalAt, seen_at}
 use Rattle.cqs_work.specs.Accounts.{IsAccounted}
@@ -52,7 +56,7 @@ seen-all P f at entries g sees new old q = go (cases_eq q at)
     go (inl same) = subst (λ n. P n (seen_at g n)) (sym same) (here (cases_lt at (length f.seen)))
     go (inr other) = subst (P q) (sym (seen-else f at entries g sees q other)) (old q)
 
--- the entries of a semaphore, or of a pool
+-- the entries, by the kind of what they are of
 abbrev permits_in : Entries → List Entry
 permits_in (at_permits l) = l
 permits_in (at_elements l) = []
@@ -64,6 +68,44 @@ elements_in (at_permits l) = []
 elements_in (at_elements l) = l
 elements_in (at_latch l) = []
 elements_in (in_round round l) = []
+
+abbrev latch_in : Entries → List LatchEntry
+latch_in (at_permits l) = []
+latch_in (at_elements l) = []
+latch_in (at_latch l) = l
+latch_in (in_round round l) = []
+
+abbrev parties_in : Entries → List BarrierEntry
+parties_in (at_permits l) = []
+parties_in (at_elements l) = []
+parties_in (at_latch l) = []
+parties_in (in_round round l) = l
+
+-- of the rounds one has more
+unnamed-rounds : (n : ℕ) (all : List (List BarrierEntry)) (round : ℕ) (more : List BarrierEntry)
+    → ((r : ℕ) → part party_names n (entries_in all r) ≡ []) → part party_names n more ≡ [] → (r : ℕ)
+    → part party_names n (entries_in (set all round (entries_in all round ++ more)) r) ≡ []
+unnamed-rounds n all round more before none r = go (cases_eq r round)
+  where
+    now : List (List BarrierEntry)
+    now = set all round (entries_in all round ++ more)
+
+    longer : part party_names n (entries_in all round ++ more) ≡ []
+    longer = filter-append (party_names n) (entries_in all round) more
+        ∙ ap (λ l. l ++ part party_names n more) (before round) ∙ none
+
+    here : (round < length all) ⊎ (length all ≤ round) → part party_names n (entries_in now round) ≡ []
+    here (inl there) =
+        ap (part party_names n) (get_or-set_same all round (entries_in all round ++ more) [] there) ∙ longer
+    here (inr past) =
+        let long : length now ≤ round = omega (arith, past, length-set all round (entries_in all round ++ more)) in
+        ap (part party_names n) (get_or_past now round [] long)
+
+    go : (r ≡ round) ⊎ (r ≢ round) → part party_names n (entries_in now r) ≡ []
+    go (inl same) = subst (λ m. part party_names n (entries_in now m) ≡ []) (sym same)
+        (here (cases_lt round (length all)))
+    go (inr other) =
+        ap (part party_names n) (get_or-set_other all round r (entries_in all round ++ more) [] other) ∙ before r
 
 unnamed-with : (n : ℕ) (h : History) (more : Entries) → IsUnnamed n h → own_entries n more ≡ none_of more
     → IsUnnamed n (with_entries h more)
@@ -79,14 +121,17 @@ unnamed-with n (of_elements h) (at_elements more) before none =
 unnamed-with n (of_elements h) (at_permits more) before none = before
 unnamed-with n (of_elements h) (at_latch more) before none = before
 unnamed-with n (of_elements h) (in_round round more) before none = before
-unnamed-with n (of_latch h) (at_permits more) before none = tt
-unnamed-with n (of_latch h) (at_elements more) before none = tt
-unnamed-with n (of_latch h) (at_latch more) before none = tt
-unnamed-with n (of_latch h) (in_round round more) before none = tt
-unnamed-with n (of_rounds all) (at_permits more) before none = tt
-unnamed-with n (of_rounds all) (at_elements more) before none = tt
-unnamed-with n (of_rounds all) (at_latch more) before none = tt
-unnamed-with n (of_rounds all) (in_round round more) before none = tt
+unnamed-with n (of_latch h) (at_latch more) before none =
+    let nothing : part latch_names n more ≡ [] = ap latch_in none in
+    filter-append (latch_names n) h more ∙ ap (λ l. l ++ part latch_names n more) before ∙ nothing
+unnamed-with n (of_latch h) (at_permits more) before none = before
+unnamed-with n (of_latch h) (at_elements more) before none = before
+unnamed-with n (of_latch h) (in_round round more) before none = before
+unnamed-with n (of_rounds all) (in_round round more) before none =
+    unnamed-rounds n all round more before (ap parties_in none)
+unnamed-with n (of_rounds all) (at_permits more) before none = before
+unnamed-with n (of_rounds all) (at_elements more) before none = before
+unnamed-with n (of_rounds all) (at_latch more) before none = before
 
 sees-sound : (f : Shared) (at : ℕ) (entries : Entries) (g : Shared) → Sees f at entries g → g.board.kinds
     ≡ f.board.kinds

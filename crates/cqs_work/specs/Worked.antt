@@ -31,6 +31,7 @@ use Rattle.cqs_work.specs.Rows.{WasTold, lines_at}
 use Rattle.cqs_work.specs.Takes.{takes, take_steps}
 use Rattle.cqs_work.specs.Even.{IsQuiet, IsQuietPool}
 use Rattle.cqs_work.specs.Heard.{Heard, Answer, heard}
+use Rattle.cqs_work.specs.Later.{IsUnnamed}
 use Rattle.cqs_work.specs.Opening.{dealt}
 use Rattle.cqs_work.specs.Works.{turns_of, machine_so, progress_of, close_all}
 
@@ -159,10 +160,12 @@ IsQuietAt (kind.Pool elements) (of_rounds all) = ⊥
 pub record AreQuiet (f : Shared) : Type 0 where
   pub at : (at : ℕ) (k : Kind) → kind_at f at ≡ Some k → IsQuietAt k (seen_at f at)
 
--- all floors have met in this one, over the plan's resources; no job waits or holds anything
+-- All floors have met in this one, over the plan's resources; no job waits or holds anything, and no
+-- entry names a pass that is none of the workers'.
 pub record HaveAllIn (plan : Plan) (workers : ℕ) (g : Shared) : Type 0 where
   pub kinds : g.board.kinds ≡ kinds_of plan.resources
   pub met : HaveAllMet g
   pub floors : g.floors ≡ workers
   pub rest : IsAtRest g.board
   pub legal : (at : ℕ) → IsLegalAt g.board at (seen_at g at)
+  pub only : (at n : ℕ) → workers ≤ n → IsUnnamed n (seen_at g at)

@@ -70,7 +70,8 @@ pub record WasLate (job : Job) (place : ℕ) (d : Desk) : Type 0 where
   pub last : last_wait place d.waits ≡ Some wait
   pub late : IsCauseOf place wait.at wait.round wait.number d end.Late
 
--- no number was left of a resource at which a step of the job may wait
+-- at a resource at which a step of the job may wait as many numbers were drawn, at a barrier in one
+-- round, as the limit of the worker's floor says
 pub record WasCrowded (job : Job) (d : Desk) : Type 0 where
   pub at : ℕ
   pub round : ℕ

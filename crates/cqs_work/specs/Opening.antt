@@ -31,10 +31,10 @@ pub record AreStarting (jobs workers worker : ℕ) (states : List JobState) : Ty
   pub long : length states ≡ jobs
   pub each : EachAt (λ place state. IsStarting workers worker place state) states
 
--- The floor of one of so many workers, before any call: no job waits or holds anything, and each is
--- in the first round of each barrier. What its pass has seen is legal, and names neither this pass
--- nor one that no floor has. It has room for the steps of the worker's own jobs, and a party for
--- each of their arrivals.
+-- The floor of one of so many workers, before any call: its pass has the worker's number, no job
+-- waits or holds anything, and each is in the first round of each barrier. What its pass has seen
+-- is legal, and names neither this pass nor one that no floor has. It has room for the steps of the
+-- worker's own jobs, and a party for each of their arrivals.
 pub record IsOpening (plan : Plan) (workers worker : ℕ) (f : Shared) : Type 0 where
   pub kinds : f.board.kinds ≡ kinds_of plan.resources
   pub waits : f.board.waits ≡ (opening_floor plan).waits
@@ -49,7 +49,8 @@ pub record IsOpening (plan : Plan) (workers worker : ℕ) (f : Shared) : Type 0 
   pub met : f.met ≡ []
   pub floors : f.floors ≡ workers
 
--- 1 to 16 floors, which are all that were split from one: no two have the same number
+-- 1 to 16 floors, one for each worker, which have one name in common, as those have that were
+-- split from one: no two have the same number
 pub record AreSplit (plan : Plan) (floors : List Shared) : Type 0 where
   pub some : 0 < length floors
   pub few : length floors ≤ 16

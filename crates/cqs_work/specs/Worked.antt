@@ -160,8 +160,8 @@ IsQuietAt (kind.Pool elements) (of_rounds all) = ⊥
 pub record AreQuiet (f : Shared) : Type 0 where
   pub at : (at : ℕ) (k : Kind) → kind_at f at ≡ Some k → IsQuietAt k (seen_at f at)
 
--- All floors have met in this one, over the plan's resources; no job waits or holds anything, and no
--- entry names a pass that is none of the workers'.
+-- All floors have met in this one, over the plan's resources; no job waits or holds anything, and
+-- no entry names a pass that is none of the workers'.
 pub record HaveAllIn (plan : Plan) (workers : ℕ) (g : Shared) : Type 0 where
   pub kinds : g.board.kinds ≡ kinds_of plan.resources
   pub met : HaveAllMet g

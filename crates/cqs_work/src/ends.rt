@@ -12,7 +12,8 @@ pub enum JobEnd {
     Done,
     /// Its wait wasn't served by its deadline.
     GaveUp,
-    /// Its wait was served, but it looked only at its deadline.
+    /// It wanted to leave its wait at its deadline, and was too late: it had been served, or at a
+    /// barrier all had arrived.
     Late,
     /// A call of it was turned away.
     Crowded,

@@ -1,0 +1,85 @@
+//! Has workers run plans by the program's own call. Two workers are kept beside each other by a
+//! gate that no single thread passes, whichever of them it takes first. Then come two plans as one
+//! worker runs them, whose text is always the same, and one of them as four workers do, of which
+//! the text tells some things whatever the order in which they come.
+#![tactic(auto)]
+
+mod calls;
+mod gate;
+mod lines;
+
+use crate::calls::work_by;
+use crate::gate::Meeting;
+use crate::lines::{has_line, have_same_ends, tells_all};
+use cqs_work::OpenGate;
+use std::fs;
+use std::rt::Files;
+use std::sync::Wait;
+use std::thread::Threads;
+
+/// How many jobs the plan of the buffers has.
+const JOBS: u64 = 41;
+
+/// Two workers, of which each is held until the other has come so far.
+fn tell_meeting<R: Threads + Wait + Sync + Files + Print + AllocGlobal>(
+    rt: &R,
+) -> anyhow::Result<()> {
+    let alloc = rt.alloc();
+    let plan = fs::read_to_string(rt, "meeting.toml")?;
+    let gate = Meeting::new();
+    let text = work_by(rt, alloc, "2", plan.as_str(), &gate)?;
+    print!(rt; "{}", text.as_str())?;
+    println!(rt;
+        "the first worker came to its first call: {}",
+        gate.was_begun(rt)
+    )?;
+    println!(rt;
+        "the second was answered meanwhile: {}",
+        gate.was_served(rt)
+    )?;
+    println!(rt; "a worker was held in vain: {}", gate.was_in_vain(rt))?;
+    Ok(())
+}
+
+/// One worker on the plan of this name. Its text is stored beside the plan.
+fn tell_one_worker<R: Threads + Wait + Sync + Files + Print + AllocGlobal>(
+    rt: &R,
+    name: &str,
+) -> anyhow::Result<()> {
+    let alloc = rt.alloc();
+    let plan = fs::read_to_string(rt, format!(in alloc; "{name}.toml")?)?;
+    let stored = fs::read_to_string(rt, format!(in alloc; "{name}.text")?)?;
+    let text = work_by(rt, alloc, "1", plan.as_str(), &OpenGate)?;
+    let told = if text.as_str() == stored.as_str() {
+        "as stored"
+    } else {
+        "NOT as stored"
+    };
+    println!(rt; "{name}, one worker: {told}")?;
+    Ok(())
+}
+
+/// So many workers on the plan of the buffers.
+fn tell_workers<R: Threads + Wait + Sync + Files + Print + AllocGlobal>(
+    rt: &R,
+    workers: &str,
+) -> anyhow::Result<()> {
+    let plan = fs::read_to_string(rt, "buffers.toml")?;
+    let stored = fs::read_to_string(rt, "buffers.text")?;
+    let text = work_by(rt, rt.alloc(), workers, plan.as_str(), &OpenGate)?;
+    println!(rt;
+        "buffers, {workers} workers: all jobs told {}, boss done {}, resources as with one {}",
+        tells_all(text.as_str(), JOBS),
+        has_line(text.as_str(), "job boss done"),
+        have_same_ends(text.as_str(), stored.as_str())
+    )?;
+    Ok(())
+}
+
+fn main(rt: HostRuntime) -> anyhow::Result<()> {
+    tell_meeting(&rt)?;
+    tell_one_worker(&rt, "two-jobs")?;
+    tell_one_worker(&rt, "buffers")?;
+    tell_workers(&rt, "4")?;
+    tell_workers(&rt, "16")
+}

@@ -104,6 +104,12 @@ fn events() -> Plan {
     plan(3, 1, |j| ([Step::Take(resource_of(j)), Step::Give(resource_of(j))].repeat(7), Some(3)))
 }
 
+/// Takes and gives with no work between them, in one turn. Nobody waits; four jobs that follow one another use the same resource, so that
+/// four workers come to it at the same time.
+fn takes() -> Plan {
+    plan(3, 64, |j| ([Step::Take(resource_of(j / 4)), Step::Give(resource_of(j / 4))].repeat(7), None))
+}
+
 fn named_plan(name: &str) -> Option<Plan> {
     match name {
         "limits" => Some(limits()),
@@ -113,6 +119,7 @@ fn named_plan(name: &str) -> Option<Plan> {
         "gaveup" => Some(held(Some(10))),
         "moving" => Some(moving()),
         "events" => Some(events()),
+        "takes" => Some(takes()),
         _ => None,
     }
 }

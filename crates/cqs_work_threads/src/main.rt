@@ -1,7 +1,6 @@
 //! Has workers run plans by the program's own call. Two workers are kept beside each other by a
-//! gate that no single thread passes, whichever of them it takes first. Then come two plans as one
-//! worker runs them, whose text is always the same, and one of them as four workers do, of which
-//! the text tells some things whatever the order in which they come.
+//! gate that no single thread passes, whichever of them it takes first. Then 4 workers and 16 run a
+//! plan whose text tells some things whatever the order in which they come.
 #![tactic(auto)]
 
 mod calls;
@@ -41,24 +40,6 @@ fn tell_meeting<R: Threads + Wait + Sync + Files + Print + AllocGlobal>(
     Ok(())
 }
 
-/// One worker on the plan of this name. Its text is stored beside the plan.
-fn tell_one_worker<R: Threads + Wait + Sync + Files + Print + AllocGlobal>(
-    rt: &R,
-    name: &str,
-) -> anyhow::Result<()> {
-    let alloc = rt.alloc();
-    let plan = fs::read_to_string(rt, format!(in alloc; "{name}.toml")?)?;
-    let stored = fs::read_to_string(rt, format!(in alloc; "{name}.text")?)?;
-    let text = work_by(rt, alloc, "1", plan.as_str(), &OpenGate)?;
-    let told = if text.as_str() == stored.as_str() {
-        "as stored"
-    } else {
-        "NOT as stored"
-    };
-    println!(rt; "{name}, one worker: {told}")?;
-    Ok(())
-}
-
 /// So many workers on the plan of the buffers.
 fn tell_workers<R: Threads + Wait + Sync + Files + Print + AllocGlobal>(
     rt: &R,
@@ -78,8 +59,6 @@ fn tell_workers<R: Threads + Wait + Sync + Files + Print + AllocGlobal>(
 
 fn main(rt: HostRuntime) -> anyhow::Result<()> {
     tell_meeting(&rt)?;
-    tell_one_worker(&rt, "two-jobs")?;
-    tell_one_worker(&rt, "buffers")?;
     tell_workers(&rt, "4")?;
     tell_workers(&rt, "16")
 }

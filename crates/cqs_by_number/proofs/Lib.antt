@@ -6,3 +6,4 @@ pub mod PoolKept
 pub mod LatchKept
 pub mod BarrierKept
 pub mod BarrierNumber
+pub mod NotRefused

@@ -11,7 +11,7 @@ use Rattle.atomic_table.specs.Table.{step, Act, keeps, takes, gives, Valid, Allo
 use Rattle.atomic_table.proofs.Lists.{exchanged, set_here, set_else, set_again, at_snoc}
 use Rattle.cqs_by_number.specs.declared.primitive.Primitive.{Primitive}
 use Rattle.cqs_by_number.specs.declared.caller.Caller.{Caller}
-use Rattle.cqs_by_number.specs.Marks.{word_of, Suits, Table, Marks, Seated, StaysSeated, HasClaimed}
+use Rattle.cqs_by_number.specs.Marks.{word_of, Suits, Table, Marks, Seated, StaysSeated, HasClaimed, HasLaid}
 
 same_set : (l : List ℕ) (i : ℕ) → set l i (slice_index l i) ≡ l
 same_set [] i = refl
@@ -107,7 +107,7 @@ claims s slots id me i from below from-not t h long seen fits =
 
 pub lays : (s : Primitive) (slots id : ℕ) (me : Seated) (i m : ℕ) (lying : Option Caller) → i < slots
     → me.1 ≡ (i, lying) ∷ [] → Suits s i m lying
-    → Allows (Marks s) slots id me (word_of i) (λ _. m) (λ _ _. Unit {0})
+    → Allows (Marks s) slots id me (word_of i) (λ _. m) (λ _. HasLaid (step slots (word_of i) m 0 none) me m)
 lays s slots id me i m lying below has suits t h long seen fits =
     let low : i < length t.homes = omega (arith, below, long) in
     let views : Known s (set t.views id me.0) = subst (Known s) (sym (set_again t.views id me.0 seen)) h.views in (
@@ -116,7 +116,7 @@ lays s slots id me i m lying below has suits t h long seen fits =
       tt,
       subst (λ (c : List (ℕ × Option Caller)). Marks s (stepped t (word_of i) m id c me.0 gives)) (sym has)
           (after s t i m (some lying) _ h low (λ _. (lying, refl, suits)) views),
-      tt,
+      (refl, refl),
     )
 
 module _ {A : Type 0} where

@@ -1,13 +1,15 @@
 -- What a call with the pass of a number answers, of whatever primitive.
-use Rattle.std.specs.Prelude.{◌≡◌, ◌⊎◌, ℕ}
+use Rattle.std.specs.Prelude.{◌≡◌, ◌⊎◌, ℕ, Some}
 use Rattle.cqs_by_number.specs.declared.answers.Answer.{Answer}
 use Rattle.cqs_by_number.specs.declared.answers.Answer.TheVariants as answer
 use Rattle.cqs_by_number.specs.declared.caller.Caller.{Caller}
 use Rattle.cqs_by_number.specs.declared.caller.Caller.TheVariants as caller
+use Rattle.cqs_by_number.specs.declared.numbered.Numbered.{Numbered}
 use Rattle.cqs_by_number.specs.declared.primitive.Primitive.{Primitive}
 use Rattle.cqs_by_number.specs.declared.primitive.Primitive.TheVariants as primitive
 use Rattle.cqs_by_number.specs.declared.verb.Verb.{Verb}
 use Rattle.cqs_by_number.specs.Callers.{StandsAs}
+use Rattle.cqs_by_number.specs.Numbered.{primitive_in, IsLaid}
 use Rattle.cqs_by_number.specs.BarrierAnswers as barrier
 use Rattle.cqs_by_number.specs.LatchAnswers as latch
 use Rattle.cqs_by_number.specs.PoolAnswers as pool
@@ -28,13 +30,14 @@ Leads _ v n c a d = ⊥
 
 -- The pass of this number was taken, and put back: it stood as a caller's pass does, and the call
 -- led from there.
-pub record IsCalled (p : Primitive) (pass : ℕ) (v : Verb) (n : ℕ) (a : Answer) : Type 0 where
+pub record IsCalled (of : Numbered) (pass : ℕ) (v : Verb) (n : ℕ) (a : Answer) : Type 0 where
   pub before : Caller
   pub after : Caller
-  pub stood : StandsAs p pass before
-  pub stands : StandsAs p pass after
-  pub leads : Leads p v n before a after
+  pub stood : StandsAs (primitive_in of) pass before
+  pub leads : Leads (primitive_in of) v n before a after
+  pub stands : StandsAs (primitive_in of) pass after
+  pub back : IsLaid of pass 0 (Some after)
 
 -- Nobody has the number, or another call has the pass just now; or the call was made.
-abbrev pub IsAnswered : Primitive → ℕ → Verb → ℕ → Answer → Type 0
-IsAnswered p pass v n a = (a ≡ answer.NoPass) ⊎ (a ≡ answer.InUse) ⊎ IsCalled p pass v n a
+abbrev pub IsAnswered : Numbered → ℕ → Verb → ℕ → Answer → Type 0
+IsAnswered of pass v n a = (a ≡ answer.NoPass) ⊎ (a ≡ answer.InUse) ⊎ IsCalled of pass v n a

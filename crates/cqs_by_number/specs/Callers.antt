@@ -10,13 +10,24 @@ use Rattle.cqs_by_number.specs.LatchCallers as latch
 use Rattle.cqs_by_number.specs.PoolCallers as pool
 use Rattle.cqs_by_number.specs.SemaphoreCallers as semaphore
 
--- the caller is one of the primitive, and stands as such a caller does
+-- the caller is one of the primitive, and stands as such a caller does; none is of another kind
 abbrev pub StandsAt : Primitive → Caller → Type 0
 StandsAt (primitive.Semaphore s) (caller.Semaphore c) = semaphore.StandsAt s c
 StandsAt (primitive.Pool p) (caller.Pool c) = pool.StandsAt p c
 StandsAt (primitive.Latch l) (caller.Latch c) = latch.StandsAt l c
 StandsAt (primitive.Barrier b) (caller.Barrier c) = barrier.StandsAt b c
-StandsAt _ _ = ⊥
+StandsAt (primitive.Semaphore s) (caller.Pool c) = ⊥
+StandsAt (primitive.Semaphore s) (caller.Latch c) = ⊥
+StandsAt (primitive.Semaphore s) (caller.Barrier c) = ⊥
+StandsAt (primitive.Pool p) (caller.Semaphore c) = ⊥
+StandsAt (primitive.Pool p) (caller.Latch c) = ⊥
+StandsAt (primitive.Pool p) (caller.Barrier c) = ⊥
+StandsAt (primitive.Latch l) (caller.Semaphore c) = ⊥
+StandsAt (primitive.Latch l) (caller.Pool c) = ⊥
+StandsAt (primitive.Latch l) (caller.Barrier c) = ⊥
+StandsAt (primitive.Barrier b) (caller.Semaphore c) = ⊥
+StandsAt (primitive.Barrier b) (caller.Pool c) = ⊥
+StandsAt (primitive.Barrier b) (caller.Latch c) = ⊥
 
 -- the number of its pass
 abbrev pub pass_number : Caller → ℕ

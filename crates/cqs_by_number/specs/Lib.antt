@@ -13,6 +13,11 @@ pub mod LatchTold
 pub mod LatchAnswers
 pub mod BarrierTold
 pub mod BarrierAnswers
-pub mod Answered
 pub mod Marks
 pub mod Numbered
+pub mod Answered
+pub mod SemaphoreSeats
+pub mod PoolSeats
+pub mod LatchSeats
+pub mod BarrierSeats
+pub mod Seats

@@ -2,7 +2,7 @@
 use Rattle.std.specs.Prelude.{◌≡◌, ◌≢◌, ℕ, ◌+◌, ◌*◌, ◌<◌, ◌∷◌, Option, None, IsSomeAnd, length, slice_index}
 use mathlib.Core.Option.{some}
 use lib.ListN.{get_elem?}
-use Rattle.atomic_table.specs.Table.{State, Me, Step}
+use Rattle.atomic_table.specs.Table.{State, Me, Step, rest}
 use Rattle.cqs_by_number.specs.declared.primitive.Primitive.{Primitive}
 use Rattle.cqs_by_number.specs.declared.caller.Caller.{Caller}
 use Rattle.cqs_by_number.specs.Callers.{StandsAs}
@@ -45,3 +45,7 @@ HasClaimed st me n me' =
     × (n ≡ st.first → (i : ℕ) → st.word ≡ word_of i
     → (lying : Option Caller) × (me'.1 ≡ (i, lying) ∷ me.1) × Suits me.0 i st.first lying)
     × (n ≢ st.first → me'.1 ≡ me.1)
+
+-- It has given back what it took last.
+abbrev pub HasLaid : Step (Option Caller) → Seated → ℕ → Seated → Type 0
+HasLaid st me n me' = (me'.0 ≡ me.0) × (me'.1 ≡ rest me.1)

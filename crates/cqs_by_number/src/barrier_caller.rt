@@ -1,7 +1,7 @@
 //! What the number of a pass of a barrier stands for: the pass with the parties that it holds, its
 //! waits, and what it owes.
 
-ghost use Rattle.std.specs.Prelude.{◌≡◌, ◌⊎◌, ◌≤◌, ◌<◌, ◌≢◌, All, IsSome, None, [], IfOk, OnErr, IfErr, vec_len, vec_capacity};
+ghost use Rattle.std.specs.Prelude.{◌≡◌, ◌≤◌, ◌<◌, ◌≢◌, All, IsSome, None, [], IfOk, OnOk, OnErr, IfErr, vec_len, vec_capacity};
 ghost use Rattle.cqs_rule.specs.Passes.{pass_view};
 ghost use Rattle.cqs_rule.specs.Waits.{place_of};
 ghost use Rattle.cqs_barrier.specs.Calls.{IsMine, IsReady};
@@ -10,6 +10,7 @@ ghost use Rattle.cqs_barrier.specs.Resuming.{HasOwing};
 ghost use Rattle.cqs_barrier.specs.Waits.{wait_in};
 ghost use Rattle.cqs_by_number.specs.BarrierAnswers.{IsAnswered, HasResumed, HasGoneOn};
 ghost use Rattle.cqs_by_number.specs.BarrierCallers.{StandsAt};
+ghost use Rattle.cqs_by_number.specs.BarrierSeats.{RefusesSplit, HasSplit, RefusesMeet, TakesIn};
 ghost use Rattle.cqs_by_number.specs.Tokens.{HasTokens, wait_index};
 ghost use Rattle.cqs_by_number.specs.declared.answers.Answer.TheVariants as answer;
 ghost use Rattle.cqs_by_number.specs.declared.verb.Verb.TheVariants as verbs;
@@ -49,7 +50,10 @@ impl BarrierCaller {
         requires belongs { IsMine barrier.now pass }
         requires ready { IsReady (pass_view pass).facts }
         requires empty { room.items ≡ [] }
-        ensures { StandsAt barrier.now result }
+        ensures stands { StandsAt barrier.now result }
+        ensures pass { result.pass ≡ pass }
+        ensures waits { result.waits ≡ room }
+        ensures owes_nothing { result.owed ≡ None }
     {
         BarrierCaller {
             pass,
@@ -205,8 +209,8 @@ impl BarrierCaller {
         requires empty { room.items ≡ [] }
         ensures stands { StandsAt barrier.now self.new }
         ensures made { IfOk result (λ made. StandsAt barrier.now made) }
-        ensures refused { IfErr result
-            (λ e. (e ≡ answer.Owes) ⊎ ((e ≡ answer.NoParty) ⊎ (e ≡ answer.Crowd))) }
+        ensures split { IfOk result (HasSplit barrier.now gives self.old self.new) }
+        ensures refused { IfErr result (RefusesSplit barrier.now gives self.old self.new) }
         ensures number { (pass_view self.new.pass).number ≡ (pass_view self.old.pass).number }
     {
         if self.owed.is_some() {
@@ -231,7 +235,9 @@ impl BarrierCaller {
         requires given { StandsAt barrier.now given }
         ensures stands { StandsAt barrier.now self.new }
         ensures back { IfErr result (λ refused. refused.0 ≡ given) }
+        ensures refused { IfErr result (λ refused. RefusesMeet self.old given refused.1) }
         ensures unchanged { OnErr result (self.new ≡ self.old) }
+        ensures met { OnOk result (TakesIn self.old given self.new) }
         ensures number { (pass_view self.new.pass).number ≡ (pass_view self.old.pass).number }
     {
         if self.owed.is_some() {

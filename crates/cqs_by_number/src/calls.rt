@@ -1,7 +1,6 @@
 //! A call with the pass of a number.
 
 ghost use Rattle.cqs_by_number.specs.Answered.{IsAnswered};
-ghost use Rattle.cqs_by_number.specs.Numbered.{primitive_in};
 
 use crate::answers::Answer;
 use crate::numbered::Numbered;
@@ -10,7 +9,7 @@ use crate::verb::Verb;
 impl Numbered {
     /// One call. `number` is that of a wait or of an element.
     pub fn call(&self, verb: Verb, pass: u32, number: u64) -> Answer
-        ensures { IsAnswered (primitive_in self.now) pass verb number result }
+        ensures { IsAnswered self.now pass verb number result }
     {
         let (hand, mut caller) = match self.take(pass) {
             Ok(taken) => taken,

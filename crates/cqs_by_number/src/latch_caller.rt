@@ -1,10 +1,11 @@
 //! What the number of a pass of a latch stands for: the pass, its waits, and what it owes.
 
-ghost use Rattle.std.specs.Prelude.{◌≡◌, ◌⊎◌, ◌≤◌, ◌<◌, ◌≢◌, All, IsSome, None, [], IfOk, OnErr, IfErr, vec_len, vec_capacity};
+ghost use Rattle.std.specs.Prelude.{◌≡◌, ◌≤◌, ◌<◌, ◌≢◌, All, IsSome, None, [], IfOk, OnOk, OnErr, IfErr, vec_len, vec_capacity};
 ghost use Rattle.cqs_rule.specs.Passes.{pass_view};
 ghost use Rattle.cqs_rule.specs.Waits.{place_of};
 ghost use Rattle.cqs_latch.specs.Calls.{IsMine, IsReady};
 ghost use Rattle.cqs_by_number.specs.LatchAnswers.{IsAnswered};
+ghost use Rattle.cqs_by_number.specs.LatchSeats.{RefusesSplit, HasSplit, RefusesMeet, TakesIn};
 ghost use Rattle.cqs_by_number.specs.LatchCallers.{StandsAt};
 ghost use Rattle.cqs_by_number.specs.declared.answers.Answer.TheVariants as answer;
 ghost use Rattle.cqs_by_number.specs.declared.verb.Verb.TheVariants as verbs;
@@ -29,7 +30,10 @@ impl LatchCaller {
         requires belongs { IsMine latch.now pass }
         requires ready { IsReady (pass_view pass).facts }
         requires empty { room.items ≡ [] }
-        ensures { StandsAt latch.now result }
+        ensures stands { StandsAt latch.now result }
+        ensures pass { result.pass ≡ pass }
+        ensures waits { result.waits ≡ room }
+        ensures owes_nothing { result.owed ≡ None }
     {
         LatchCaller {
             pass,
@@ -192,7 +196,8 @@ impl LatchCaller {
         requires empty { room.items ≡ [] }
         ensures stands { StandsAt latch.now self.new }
         ensures made { IfOk result (λ made. StandsAt latch.now made) }
-        ensures refused { IfErr result (λ e. (e ≡ answer.Owes) ⊎ (e ≡ answer.Crowd)) }
+        ensures split { IfOk result (HasSplit latch.now self.old self.new) }
+        ensures refused { IfErr result (RefusesSplit latch.now self.old self.new) }
         ensures number { (pass_view self.new.pass).number ≡ (pass_view self.old.pass).number }
     {
         if self.owed.is_some() {
@@ -214,7 +219,9 @@ impl LatchCaller {
         requires given { StandsAt latch.now given }
         ensures stands { StandsAt latch.now self.new }
         ensures back { IfErr result (λ refused. refused.0 ≡ given) }
+        ensures refused { IfErr result (λ refused. RefusesMeet self.old given refused.1) }
         ensures unchanged { OnErr result (self.new ≡ self.old) }
+        ensures met { OnOk result (TakesIn self.old given self.new) }
         ensures number { (pass_view self.new.pass).number ≡ (pass_view self.old.pass).number }
     {
         if self.owed.is_some() {

@@ -1,6 +1,6 @@
 //! The table in which passes rest, and the steps on its marks.
 
-ghost use Rattle.cqs_by_number.specs.Marks.{Marks, StaysSeated, HasClaimed};
+ghost use Rattle.cqs_by_number.specs.Marks.{Marks, StaysSeated, HasClaimed, HasLaid};
 
 use crate::caller::Caller;
 use crate::primitive::Primitive;
@@ -49,5 +49,5 @@ impl Play<Option<Caller>, Primitive> for Claim {
 pub(crate) struct Lay;
 
 impl Play<Option<Caller>, Primitive> for Lay {
-    ghost then = { λ _ _ _ _. Unit {0} };
+    ghost then = { HasLaid };
 }

@@ -1,13 +1,14 @@
 //! What the number of a pass of a pool stands for: the pass, its waits, the elements that it has in
 //! hand, and what it owes.
 
-ghost use Rattle.std.specs.Prelude.{◌≡◌, ◌⊎◌, ◌≤◌, ◌<◌, ◌≢◌, All, IsSome, None, [], IfOk, OnErr, IfErr, vec_len, vec_capacity};
+ghost use Rattle.std.specs.Prelude.{◌≡◌, ◌≤◌, ◌<◌, ◌≢◌, All, IsSome, None, [], IfOk, OnOk, OnErr, IfErr, vec_len, vec_capacity};
 ghost use Rattle.cqs_rule.specs.Passes.{pass_view};
 ghost use Rattle.cqs_rule.specs.Waits.{place_of};
 ghost use Rattle.cqs_pool.specs.Calls.{IsMine, IsReady};
 ghost use Rattle.cqs_pool.specs.Owed.{owed_after};
 ghost use Rattle.cqs_pool.specs.Elements.{number_of};
 ghost use Rattle.cqs_by_number.specs.PoolAnswers.{IsAnswered};
+ghost use Rattle.cqs_by_number.specs.PoolSeats.{RefusesSplit, HasSplit, RefusesMeet, TakesIn};
 ghost use Rattle.cqs_by_number.specs.PoolTold.{told_placed};
 ghost use Rattle.cqs_by_number.specs.PoolCallers.{StandsAt, OwesJust, HasElements};
 ghost use Rattle.cqs_by_number.specs.Tokens.{HasTokens};
@@ -41,7 +42,11 @@ impl PoolCaller {
         requires ready { IsReady (pass_view pass).facts }
         requires no_waits { waits.items ≡ [] }
         requires no_elements { elements.items ≡ [] }
-        ensures { StandsAt pool.now result }
+        ensures stands { StandsAt pool.now result }
+        ensures pass { result.pass ≡ pass }
+        ensures waits { result.waits ≡ waits }
+        ensures elements { result.elements ≡ elements }
+        ensures owes_nothing { result.under ≡ None }
     {
         PoolCaller {
             pass,
@@ -227,7 +232,8 @@ impl PoolCaller {
         requires no_elements { elements.items ≡ [] }
         ensures stands { StandsAt pool.now self.new }
         ensures made { IfOk result (λ made. StandsAt pool.now made) }
-        ensures refused { IfErr result (λ e. (e ≡ answer.Owes) ⊎ (e ≡ answer.Crowd)) }
+        ensures split { IfOk result (HasSplit pool.now self.old self.new) }
+        ensures refused { IfErr result (RefusesSplit pool.now self.old self.new) }
         ensures number { (pass_view self.new.pass).number ≡ (pass_view self.old.pass).number }
     {
         if self.under.is_some() {
@@ -249,7 +255,9 @@ impl PoolCaller {
         requires given { StandsAt pool.now given }
         ensures stands { StandsAt pool.now self.new }
         ensures back { IfErr result (λ refused. refused.0 ≡ given) }
+        ensures refused { IfErr result (λ refused. RefusesMeet self.old given refused.1) }
         ensures unchanged { OnErr result (self.new ≡ self.old) }
+        ensures met { OnOk result (TakesIn self.old given self.new) }
         ensures number { (pass_view self.new.pass).number ≡ (pass_view self.old.pass).number }
     {
         if self.under.is_some() {

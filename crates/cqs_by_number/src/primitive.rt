@@ -1,8 +1,9 @@
 //! The primitives, and a call of whichever it is.
 
-ghost use Rattle.std.specs.Prelude.{◌≡◌, IfOk, IfErr, OnErr};
+ghost use Rattle.std.specs.Prelude.{◌≡◌, IfOk, OnOk, IfErr, OnErr};
 ghost use Rattle.cqs_by_number.specs.Answered.{Leads};
 ghost use Rattle.cqs_by_number.specs.Callers.{StandsAt, pass_number};
+ghost use Rattle.cqs_by_number.specs.Seats.{RefusesSplit, HasSplit, RefusesMeet, TakesIn};
 
 use crate::answers::Answer;
 use crate::caller::Caller;
@@ -62,6 +63,8 @@ impl Primitive {
         requires { StandsAt self.now caller.old }
         ensures stands { StandsAt self.now caller.new }
         ensures made { IfOk result (λ made. StandsAt self.now made) }
+        ensures split { IfOk result (HasSplit self.now gives caller.old caller.new) }
+        ensures refused { IfErr result (RefusesSplit self.now gives caller.old caller.new) }
         ensures number { pass_number caller.new ≡ pass_number caller.old }
     {
         match self {
@@ -117,7 +120,9 @@ impl Primitive {
         requires given { StandsAt self.now given }
         ensures stands { StandsAt self.now caller.new }
         ensures back { IfErr result (λ refused. refused.0 ≡ given) }
+        ensures refused { IfErr result (λ refused. RefusesMeet caller.old given refused.1) }
         ensures unchanged { OnErr result (caller.new ≡ caller.old) }
+        ensures met { OnOk result (TakesIn caller.old given caller.new) }
         ensures number { pass_number caller.new ≡ pass_number caller.old }
     {
         match self {

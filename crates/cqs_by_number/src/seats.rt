@@ -1,6 +1,7 @@
 //! How the pass of a number makes another, and how two become one.
 
 ghost use Rattle.cqs_by_number.specs.Callers.{StandsAt};
+ghost use Rattle.cqs_by_number.specs.Seats.{IsSeated, IsSplit, IsMet};
 
 use crate::answers::Answer;
 use crate::caller::Caller;
@@ -9,7 +10,9 @@ use crate::numbered::Numbered;
 
 impl Numbered {
     /// A new pass, under a number of its own. Of a barrier it gets so many parties.
-    pub fn split(&self, pass: u32, gives: u32) -> Answer {
+    pub fn split(&self, pass: u32, gives: u32) -> Answer
+        ensures { IsSplit self.now pass gives result }
+    {
         let (hand, mut caller) = match self.take(pass) {
             Ok(taken) => taken,
             Err(refused) => return refused,
@@ -27,6 +30,7 @@ impl Numbered {
     // Lays a new pass into the slot of its number.
     pub(crate) fn seat(&self, made: Caller) -> Answer
         requires { StandsAt self.now.primitive made }
+        ensures { IsSeated self.now made result }
     {
         let number = made.number();
         if number >= self.passes {
@@ -42,7 +46,9 @@ impl Numbered {
     }
 
     /// The pass takes in the given one, whose number is nobody's after that.
-    pub fn meet(&self, pass: u32, given: u32) -> Answer {
+    pub fn meet(&self, pass: u32, given: u32) -> Answer
+        ensures { IsMet self.now pass given result }
+    {
         let (hand, mut caller) = match self.take(pass) {
             Ok(taken) => taken,
             Err(refused) => return refused,

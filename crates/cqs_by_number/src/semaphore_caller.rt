@@ -1,12 +1,13 @@
 //! What the number of a pass of a semaphore stands for: the pass, the places of its waits, and what
 //! it owes.
 
-ghost use Rattle.std.specs.Prelude.{◌≡◌, ◌⊎◌, ◌≤◌, ◌<◌, ◌≢◌, All, IsSome, IfSome, None, [], IfOk, OnOk, IfErr, OnErr, vec_len, vec_capacity};
+ghost use Rattle.std.specs.Prelude.{◌≡◌, ◌≤◌, ◌<◌, ◌≢◌, All, IsSome, IfSome, None, [], IfOk, OnOk, IfErr, OnErr, vec_len, vec_capacity};
 ghost use Rattle.cqs_rule.specs.Passes.{pass_view};
 ghost use Rattle.cqs_semaphore.specs.Calls.{IsMine, IsReady};
 ghost use Rattle.cqs_semaphore.specs.Owed.{owed_after};
 ghost use Rattle.cqs_by_number.specs.SemaphoreCallers.{StandsAt, OwesJust, IsToken};
 ghost use Rattle.cqs_by_number.specs.SemaphoreAnswers.{IsAnswered};
+ghost use Rattle.cqs_by_number.specs.SemaphoreSeats.{RefusesSplit, HasSplit, RefusesMeet, TakesIn};
 ghost use Rattle.cqs_by_number.specs.SemaphoreTold.{told_released};
 ghost use Rattle.cqs_by_number.specs.Waits.{HasAt, Apart};
 ghost use Rattle.cqs_by_number.specs.declared.answers.Answer.TheVariants as answer;
@@ -36,7 +37,10 @@ impl SemaphoreCaller {
         requires belongs { IsMine semaphore.now pass }
         requires ready { IsReady (pass_view pass).facts }
         requires empty { room.items ≡ [] }
-        ensures { StandsAt semaphore.now result }
+        ensures stands { StandsAt semaphore.now result }
+        ensures pass { result.pass ≡ pass }
+        ensures waits { result.waits ≡ room }
+        ensures owes_nothing { result.under ≡ None }
     {
         SemaphoreCaller {
             pass,
@@ -232,7 +236,8 @@ impl SemaphoreCaller {
         requires empty { room.items ≡ [] }
         ensures stands { StandsAt semaphore.now self.new }
         ensures made { IfOk result (λ made. StandsAt semaphore.now made) }
-        ensures refused { IfErr result (λ e. (e ≡ answer.Owes) ⊎ (e ≡ answer.Crowd)) }
+        ensures split { IfOk result (HasSplit semaphore.now self.old self.new) }
+        ensures refused { IfErr result (RefusesSplit semaphore.now self.old self.new) }
         ensures number { (pass_view self.new.pass).number ≡ (pass_view self.old.pass).number }
     {
         if self.under.is_some() {
@@ -254,7 +259,9 @@ impl SemaphoreCaller {
         requires given { StandsAt semaphore.now given }
         ensures stands { StandsAt semaphore.now self.new }
         ensures back { IfErr result (λ refused. refused.0 ≡ given) }
+        ensures refused { IfErr result (λ refused. RefusesMeet self.old given refused.1) }
         ensures unchanged { OnErr result (self.new ≡ self.old) }
+        ensures met { OnOk result (TakesIn self.old given self.new) }
         ensures number { (pass_view self.new.pass).number ≡ (pass_view self.old.pass).number }
     {
         if self.under.is_some() {

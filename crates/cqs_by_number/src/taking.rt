@@ -1,9 +1,9 @@
 //! How a call takes its pass, and puts it back.
 
-ghost use Rattle.std.specs.Prelude.{◌≡◌, ◌≢◌, ◌⊎◌, ◌<◌, ◌≤◌, IfOk, IfErr};
+ghost use Rattle.std.specs.Prelude.{◌≡◌, ◌≢◌, ◌⊎◌, ◌<◌, ◌≤◌, Some, IfOk, IfErr};
 ghost use Rattle.cqs_by_number.specs.Callers.{StandsAs};
 ghost use Rattle.cqs_by_number.specs.Marks.{Suits};
-ghost use Rattle.cqs_by_number.specs.Numbered.{Holds};
+ghost use Rattle.cqs_by_number.specs.Numbered.{Holds, IsLaid};
 ghost use Rattle.cqs_by_number.specs.declared.answers.Answer.TheVariants as answer;
 
 use crate::answers::Answer;
@@ -39,6 +39,7 @@ impl Numbered {
         requires inside { pass < self.now.passes }
         requires holds { Holds self.now pass hand }
         requires suits { Suits self.now.primitive pass mark lying }
+        ensures { IsLaid self.now pass mark lying }
     {
         let shared = &self.table.shared;
         let word = 16 * pass as usize + 16;
@@ -74,6 +75,7 @@ impl Numbered {
         requires inside { pass < self.now.passes }
         requires holds { Holds self.now pass hand }
         requires stands { StandsAs self.now.primitive pass caller }
+        ensures { IsLaid self.now pass 0 (Some caller) }
     {
         self.lay(pass, hand, Some(caller), RESTS);
     }

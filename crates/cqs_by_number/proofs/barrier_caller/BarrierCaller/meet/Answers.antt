@@ -1,9 +1,10 @@
-use Rattle.std.proofs.Common.{ap}
+use Rattle.std.proofs.Common.{ap, refl, inl, inr}
 use Rattle.cqs_barrier.specs.Waits.{wait_in}
 use Rattle.cqs_rule.specs.declared.view.Facts.{Facts}
 use Rattle.cqs_rule.specs.Passes.{pass_view}
 use Rattle.cqs_by_number.proofs.BarrierKept.{owes-none, apart-none}
 use Rattle.cqs_by_number.proofs.TokenSteps.{same_waits}
+use Rattle.cqs_by_number.proofs.NotRefused.{no-cause}
 use Rattle.cqs_by_number.proofs.barrier_caller.BarrierCaller.meet.Goals as goal
 
 pub returns-in-Ok-clause-stands : goal.returns-in-Ok-clause-stands
@@ -30,3 +31,17 @@ returns-in-Err-clause-stands c =
           (ap (λ p. (pass_view p).number) same, ap (λ p. (pass_view p).facts.waits) same) c.requires.stands.waits;
       apart = apart-none _ _ c.if-is_some.ensures;
     }
+
+pub returns-in-Ok-clause-met : goal.returns-in-Ok-clause-met
+returns-in-Ok-clause-met c = record {
+  free = λ more. elim more [
+    | inl owes ↦ let no = c.if-is_some-2.ensures in absurd (cc)
+    | inr busy ↦ no-cause _ c.in-Ok.ensures.busy.1 busy
+  ];
+  met = c.in-Ok.ensures.met;
+  held = c.in-Ok.ensures.held;
+  keeps = record { waits = refl; owed = refl };
+}
+
+pub returns-in-Err-clause-refused : goal.returns-in-Err-clause-refused
+returns-in-Err-clause-refused c = inr (c.in-Err.ensures.busy.0 refl)

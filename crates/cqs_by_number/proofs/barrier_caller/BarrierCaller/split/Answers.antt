@@ -1,10 +1,13 @@
-use Rattle.std.proofs.Common.{ap, subst, sym}
+use Rattle.std.proofs.Common.{ap, subst, sym, refl, ◌∙◌, arith}
 use Rattle.cqs_barrier.specs.Calls.{IsReady}
 use Rattle.cqs_barrier.specs.Waits.{wait_in}
 use Rattle.cqs_rule.specs.declared.view.Facts.{Facts}
 use Rattle.cqs_rule.specs.Passes.{pass_view}
 use Rattle.cqs_by_number.proofs.BarrierKept.{owes-none, none-owed, apart-none, lessened-ready, first-ready}
 use Rattle.cqs_by_number.proofs.TokenSteps.{same_waits}
+use Rattle.cqs_rule.specs.Crew.{CameWith}
+use Rattle.cqs_barrier.specs.Barrier.{barrier_object}
+use Rattle.cqs_by_number.proofs.NotRefused.{room-there}
 use Rattle.cqs_by_number.proofs.barrier_caller.BarrierCaller.split.Goals as goal
 
 pub new-requires-clause-ready : goal.new-requires-clause-ready
@@ -37,3 +40,24 @@ returns-in-Err-clause-stands c =
           c.requires.stands.waits;
       apart = apart-none _ _ c.if-is_some.ensures;
     }
+
+pub returns-in-Ok-clause-split : goal.returns-in-Ok-clause-split
+returns-in-Ok-clause-split c = record {
+  enough = omega arith;
+  fewer = room-there _ _ c.in-Ok.ensures.crowd.1;
+  gave = c.in-Ok.ensures.gave;
+  came = subst (λ p. CameWith barrier_object c.args.gives (pass_view c.split.new.pass) (pass_view p))
+      (sym c.new.ensures.pass)
+      c.in-Ok.ensures.came;
+  keeps = record { waits = refl; owed = refl };
+  no_waits = ap (λ ws. ws.items) c.new.ensures.waits ∙ c.requires.empty;
+  owes_nothing = c.new.ensures.owes_nothing;
+}
+
+pub returns-in-Err-clause-refused : goal.returns-in-Err-clause-refused
+returns-in-Err-clause-refused c = record {
+  full = c.in-Err.ensures.crowd.0 refl;
+  looked = c.in-Err.ensures.refused;
+  kept = c.in-Err.ensures.kept;
+  keeps = record { waits = refl; owed = refl };
+}

@@ -1,5 +1,8 @@
+use Rattle.std.proofs.Common.{ap, refl}
 use Rattle.cqs_by_number.proofs.LatchKept.{owes-none}
 use Rattle.cqs_by_number.proofs.TokenSteps.{the_wait, tokens_stay}
+use Rattle.cqs_rule.specs.Passes.{pass_view}
+use Rattle.cqs_by_number.proofs.NotRefused.{no-cause}
 use Rattle.cqs_by_number.proofs.latch_caller.LatchCaller.meet.Goals as goal
 
 pub returns-in-Ok-clause-stands : goal.returns-in-Ok-clause-stands
@@ -15,3 +18,13 @@ returns-in-Err-clause-stands c = record {
   owes = owes-none _ _ c.if-is_some.ensures c.meet.ensures.ready;
   waits = tokens_stay the_wait _ _ _ c.meet.ensures.keeps c.requires.stands.waits;
 }
+
+pub returns-in-Ok-clause-met : goal.returns-in-Ok-clause-met
+returns-in-Ok-clause-met c = record {
+  free = no-cause _ c.in-Ok.ensures.busy.1;
+  met = c.in-Ok.ensures.met;
+  keeps = record { waits = refl; owed = refl; open_yet = c.meet.ensures.keeps };
+}
+
+pub returns-in-Err-clause-refused : goal.returns-in-Err-clause-refused
+returns-in-Err-clause-refused c = c.in-Err.ensures.busy.0 refl

@@ -6,9 +6,10 @@ returns c = inr (inr (record {
   before = c.in-Ok.taken.1;
   after = c.call-answer.new.caller;
   stood = c.in-Ok.ensures.stands;
+  leads = c.call-answer.ensures.answered;
   stands = record {
     stands = c.call-answer.ensures.stands;
     number = c.call-answer.ensures.number ∙ c.in-Ok.ensures.stands.number;
   };
-  leads = c.call-answer.ensures.answered;
+  back = c.put.ensures;
 }))

@@ -17,3 +17,14 @@ store-requires c =
       lays shared.key _ c.exchange-nothing.new.seat.id c.exchange-nothing.new.seat.me c.args.pass c.args.mark
           c.args.lying low has suits,
     )
+
+pub returns : goal.returns
+returns c =
+    let put = c.exchange-nothing.ensures in
+    record {
+      before = c.exchange-nothing.new.seat.me;
+      had = ap (λ m. m.1) put.3 ∙ ap (λ l. (c.args.pass, c.args.lying) ∷ rest l) c.requires.holds.slot;
+      after = c.store.new.seat;
+      table = c.store.ensures.0 ∙ (put.0 ∙ c.requires.holds.table);
+      stored = c.store.ensures.2;
+    }

@@ -1,10 +1,11 @@
-use Rattle.std.proofs.Common.{ap, subst, sym}
+use Rattle.std.proofs.Common.{ap, subst, sym, refl, inl, inr}
 use Rattle.cqs_rule.specs.declared.view.Facts.{Facts}
 use Rattle.cqs_rule.specs.Lists.{Has}
 use Rattle.cqs_rule.specs.Passes.{pass_view}
 use Rattle.cqs_rule.proofs.Lists.{has_left}
 use Rattle.cqs_by_number.proofs.PoolKept.{owes-none, elements_same, elements_stay}
 use Rattle.cqs_by_number.proofs.TokenSteps.{the_wait, same_waits}
+use Rattle.cqs_by_number.proofs.NotRefused.{no-cause, none-there}
 use Rattle.cqs_by_number.proofs.pool_caller.PoolCaller.meet.Goals as goal
 
 pub returns-in-Ok-clause-stands : goal.returns-in-Ok-clause-stands
@@ -29,3 +30,19 @@ returns-in-Err-clause-stands c =
           (ap (λ p. (pass_view p).number) same, ap (λ p. (pass_view p).facts.waits) same) c.requires.stands.waits;
       elements = elements_same _ _ _ (ap (λ p. (pass_view p).facts.has.slots) same) c.requires.stands.elements;
     }
+
+pub returns-in-Ok-clause-met : goal.returns-in-Ok-clause-met
+returns-in-Ok-clause-met c = record {
+  free = λ more. elim more [
+    | inl some ↦ none-there _ c.if-not-is_empty.ensures some
+    | inr busy ↦ no-cause _ c.in-Ok.ensures.busy.1 busy
+  ];
+  met = c.in-Ok.ensures.met;
+  laid = c.in-Ok.ensures.laid;
+  course = c.in-Ok.ensures.course;
+  elements = c.in-Ok.ensures.elements;
+  keeps = record { waits = refl; elements = refl; under = refl };
+}
+
+pub returns-in-Err-clause-refused : goal.returns-in-Err-clause-refused
+returns-in-Err-clause-refused c = inr (c.in-Err.ensures.busy.0 refl)

@@ -1,7 +1,8 @@
-use Rattle.std.proofs.Common.{ap}
+use Rattle.std.proofs.Common.{ap, refl}
 use Rattle.cqs_rule.specs.declared.view.Facts.{Facts}
 use Rattle.cqs_rule.specs.Passes.{pass_view}
 use Rattle.cqs_by_number.proofs.SemaphoreKept.{kept-same, owes-none}
+use Rattle.cqs_by_number.proofs.NotRefused.{no-cause}
 use Rattle.cqs_by_number.proofs.semaphore_caller.SemaphoreCaller.meet.Goals as goal
 
 pub returns-in-Ok-clause-stands : goal.returns-in-Ok-clause-stands
@@ -19,3 +20,16 @@ returns-in-Err-clause-stands c = record {
   waits = kept-same _ _ _ (ap (λ p. (pass_view p).facts.waits) c.in-Err.ensures.unchanged) c.requires.stands.waits;
   apart = c.requires.stands.apart;
 }
+
+pub returns-in-Ok-clause-met : goal.returns-in-Ok-clause-met
+returns-in-Ok-clause-met c = record {
+  free = no-cause _ c.in-Ok.ensures.busy.1;
+  met = c.in-Ok.ensures.met;
+  laid = c.in-Ok.ensures.laid;
+  course = c.in-Ok.ensures.course;
+  held = c.in-Ok.ensures.held;
+  keeps = record { waits = refl; under = refl };
+}
+
+pub returns-in-Err-clause-refused : goal.returns-in-Err-clause-refused
+returns-in-Err-clause-refused c = c.in-Err.ensures.busy.0 refl

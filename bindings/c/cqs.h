@@ -31,11 +31,11 @@
  * waits, and a call that would wait is refused as CQS_FULL where they are used up.
  *
  * Proved of the library behind this header: its three exports are safe and end, where the pointer
- * is good; and each call by number is refused for its cause, or is the primitive's own, with what
- * the primitive answered (crates/cqs_by_number, crates/cqs_semaphore, crates/cqs_pool,
- * crates/cqs_latch, crates/cqs_barrier). That an export hands that answer on, and what `new`,
- * `split` and `meet` have done beside their refusals, is tested. This file, and that it fits the
- * exports, is written by hand and tested. */
+ * is good; at null `cqs_call` answers so, and else what the call by number answered; and each call
+ * by number, `split` and `meet` too, is refused for its cause, or is the primitive's own, with what
+ * the primitive answered (crates/cqs_c, crates/cqs_by_number, crates/cqs_semaphore, crates/cqs_pool,
+ * crates/cqs_latch, crates/cqs_barrier). What `new` has made, and what two calls have to do with one
+ * another, is tested. This file, and that it fits the exports, is written by hand and tested. */
 #ifndef CQS_H
 #define CQS_H
 #include <stddef.h>

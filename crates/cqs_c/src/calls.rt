@@ -1,5 +1,8 @@
 //! A call, by the numbers that `cqs.h` gives to calls, with its answer as C gets it.
 
+ghost use Rattle.std.specs.Prelude.{◌≡◌};
+ghost use Rattle.cqs_c.specs.Calls.{deed_at, IsMade, IsCalled};
+
 use crate::answers::{CqsAnswer, tell};
 use cqs_by_number::{Answer, Numbered, Verb};
 
@@ -10,7 +13,9 @@ enum Deed {
     Meet,
 }
 
-fn deed_of(verb: u32) -> Option<Deed> {
+fn deed_of(verb: u32) -> Option<Deed>
+    ensures { result ≡ deed_at verb }
+{
     match verb {
         0 => Some(Deed::With(Verb::Enter)),
         1 => Some(Deed::With(Verb::Try)),
@@ -26,7 +31,9 @@ fn deed_of(verb: u32) -> Option<Deed> {
     }
 }
 
-fn make_call(primitive: &Numbered, verb: u32, pass: u32, number: u64) -> Answer {
+fn make_call(primitive: &Numbered, verb: u32, pass: u32, number: u64) -> Answer
+    ensures { IsMade (deed_at verb) primitive.now pass number result }
+{
     match deed_of(verb) {
         None => Answer::NoCall,
         Some(Deed::With(verb)) => primitive.call(verb, pass, number),
@@ -42,7 +49,7 @@ fn make_call(primitive: &Numbered, verb: u32, pass: u32, number: u64) -> Answer 
 }
 
 pub(crate) fn call(primitive: &Numbered, verb: u32, pass: u32, number: u64) -> CqsAnswer
-    ensures { Unit {0} }
+    ensures { IsCalled primitive.now verb pass number result }
 {
     tell(make_call(primitive, verb, pass, number))
 }

@@ -11,6 +11,7 @@ ghost use denote.RawPtr.{Testable};
 ghost use Rattle.cqs_by_number.specs.contracts.numbered.Numbered.{the_row};
 ghost use Rattle.cqs_by_number.specs.declared.numbered.Numbered.{Numbered as Primitive};
 ghost use Rattle.cqs_c.specs.Answers.{Answers};
+ghost use Rattle.cqs_c.specs.Calls.{IsCalled};
 
 use crate::answers::{CqsAnswer, nowhere};
 use crate::calls;
@@ -24,7 +25,7 @@ pub unsafe extern "C" fn cqs_call(at: *const u8, verb: u32, pass: u32, number: u
     requires testable { Testable at }
     requires* lent { sem 𝓛 (if_non_null at (lent_at the_row at g.0 g.1)) ∗ sem 𝓛 (flft g.1 g.2) }
     ensures* back { sem 𝓛 (flft g.1 g.2) }
-    ensures answers { Answers at (λ _. Unit {0}) result }
+    ensures answers { Answers at (IsCalled g.0 verb pass number) result }
 {
     if at.is_null() {
         return nowhere();

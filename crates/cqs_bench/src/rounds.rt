@@ -125,7 +125,7 @@ pub fn free_rounds(queue: &Queue<SemClient>, pass: &mut Pass<SemClient>, count: 
     requires limit { limit_of queue.now ≡ 1048576 }
     requires idle { (pass_view pass.old).facts.doing ≡ Idle }
 {
-    for _ in 0..count {
+    for _ in (0..count).rev() {
         if !free_round(queue, pass) {
             return;
         }
@@ -139,7 +139,7 @@ pub fn pair_rounds(queue: &Queue<SemClient>, pass: &mut Pass<SemClient>, count: 
     requires limit { limit_of queue.now ≡ 1048576 }
     requires idle { (pass_view pass.old).facts.doing ≡ Idle }
 {
-    for _ in 0..count {
+    for _ in (0..count).rev() {
         if !pair_round(queue, pass) {
             return;
         }
@@ -153,7 +153,7 @@ pub fn leave_rounds(queue: &Queue<SemClient>, pass: &mut Pass<SemClient>, count:
     requires limit { limit_of queue.now ≡ 1048576 }
     requires idle { (pass_view pass.old).facts.doing ≡ Idle }
 {
-    for _ in 0..count {
+    for _ in (0..count).rev() {
         if !leave_round(queue, pass) {
             return;
         }

@@ -45,7 +45,7 @@ use Rattle.cqs_laws.proofs.Lifting.{IsActor, CanTake, CanGive, CanAwait, CanArri
 use Rattle.cqs_laws.proofs.Kept.{always-kept}
 use Rattle.cqs_laws.proofs.Lined.{AreLined}
 use Rattle.cqs_laws.proofs.Objects.{history-here, history-else, holdable-below, latch-below, round-below}
-use Rattle.cqs_laws.proofs.Telling.{IsTelling, kept-by-events, opening-history, opening-tells, there-of, wait-there}
+use Rattle.cqs_laws.proofs.Telling.{IsTelling, told-by-events, opening-history, opening-tells, there-of, wait-there}
 
 module _ (resources : List Resource) (f : PlainFloor) (lines : List Line) (lined : AreLined resources f lines)
     (funded : AreFunded resources f) (at : ℕ) (there : at < length f.histories) (held_kind : IsHeld (history_at f at))
@@ -249,7 +249,8 @@ arrives-even f at job false last there even =
 
 -- the scene tells its events, and its resources have their funds and are even
 record IsSound (plan : Plan) (s : Scene) : Type 0 where
-  tells : IsTelling plan s
+  lines : List Line
+  tells : IsTelling plan s lines
   funded : AreFunded plan.resources s.floor
   even : AreEven s.floor
 
@@ -258,13 +259,13 @@ module _ (plan : Plan) (r : Role) (actor : IsActor plan r) (s : Scene) (sound : 
   f = s.floor
 
   there-held : (at : ℕ) → IsHoldable (slice_get f.kinds at) → at < length f.histories
-  there-held at kind = there-of plan r actor s sound.tells at (holdable-below f.kinds at kind)
+  there-held at kind = there-of plan r actor s sound.lines sound.tells at (holdable-below f.kinds at kind)
 
   there-latch : (at : ℕ) → IsLatch (slice_get f.kinds at) → at < length f.histories
-  there-latch at kind = there-of plan r actor s sound.tells at (latch-below f.kinds at kind)
+  there-latch at kind = there-of plan r actor s sound.lines sound.tells at (latch-below f.kinds at kind)
 
   there-round : (at round : ℕ) → HasRound (slice_get f.kinds at) round → at < length f.histories
-  there-round at round kind = there-of plan r actor s sound.tells at (round-below f.kinds at round kind)
+  there-round at round kind = there-of plan r actor s sound.lines sound.tells at (round-below f.kinds at round kind)
 
   own-kind : (at : ℕ) → IsOfKind (slice_get f.kinds at) (history_at f at)
   own-kind at = sound.tells.lined.kinds at
@@ -287,7 +288,7 @@ module _ (plan : Plan) (r : Role) (actor : IsActor plan r) (s : Scene) (sound : 
     where
       below : at < length f.kinds
       below =
-          let there = wait-there plan r actor s sound.tells at round number has in
+          let there = wait-there plan r actor s sound.lines sound.tells at round number has in
           omega (arith, there, sound.tells.lined.sized)
 
       go : (o : Option Kind) → slice_get f.kinds at ≡ o → IsAtHeld at round ⊎ IsAtUnheld at
@@ -323,11 +324,11 @@ module _ (plan : Plan) (r : Role) (actor : IsActor plan r) (s : Scene) (sound : 
     go (inl own) =
         let first_has : HasWait f r.place at 0 number
         = subst (λ n. HasWait f r.place at n number) own.first has in
-        serves-so plan.resources f sound.tells.lines sound.tells.lined sound.funded at
-        (wait-there plan r actor s sound.tells at round number has) own.held own.holdable r.place number element
+        serves-so plan.resources f sound.lines sound.tells.lined sound.funded at
+        (wait-there plan r actor s sound.lines sound.tells at round number has) own.held own.holdable r.place number element
         first_has served
     go (inr own) =
-        over-came plan.resources f sound.funded at (wait-there plan r actor s sound.tells at round number has)
+        over-came plan.resources f sound.funded at (wait-there plan r actor s sound.lines sound.tells at round number has)
         own.unheld
         own.holdable r.place round number element gets has
 
@@ -338,10 +339,10 @@ module _ (plan : Plan) (r : Role) (actor : IsActor plan r) (s : Scene) (sound : 
     go (inl own) =
         let first_has : HasWait f r.place at 0 number
         = subst (λ n. HasWait f r.place at n number) own.first has in
-        leaves-so plan.resources f sound.tells.lines sound.tells.lined sound.funded at
-        (wait-there plan r actor s sound.tells at round number has) own.held own.holdable r.place number first_has
+        leaves-so plan.resources f sound.lines sound.tells.lined sound.funded at
+        (wait-there plan r actor s sound.lines sound.tells at round number has) own.held own.holdable r.place number first_has
     go (inr own) =
-        leaves-over plan.resources f sound.funded at (wait-there plan r actor s sound.tells at round number has)
+        leaves-over plan.resources f sound.funded at (wait-there plan r actor s sound.lines sound.tells at round number has)
         own.unheld own.holdable r.place round number (leave_answer f r.place) has
 
   is-latch : (at : ℕ) → IsLatch (slice_get f.kinds at) → IsUnheld (history_at f at)
@@ -383,55 +384,63 @@ module _ (plan : Plan) (r : Role) (actor : IsActor plan r) (s : Scene) (sound : 
 sound-kept : (plan : Plan) → IsKeptByEvents plan (IsSound plan)
 sound-kept plan = record {
   takes = λ r at s actor can sound. record {
-    tells = (kept-by-events plan).takes r at s actor can sound.tells;
-    funded = takes-if plan.resources s.floor sound.tells.lines sound.tells.lined sound.funded at
+    lines = _;
+    tells = (told-by-events plan).takes r at s sound.lines actor can sound.tells;
+    funded = takes-if plan.resources s.floor sound.lines sound.tells.lined sound.funded at
         (there-held plan r actor s sound at can.kind) (is-held plan r actor s sound at can.kind)
         (held-kind (slice_get s.floor.kinds at) can.kind) r.place _ can refl;
     even = takes-even s.floor at r.place (take_answer s.floor at r.place) (there-held plan r actor s sound at can.kind)
         (is-held plan r actor s sound at can.kind) sound.even;
   };
   gives = λ r at s actor can sound. record {
-    tells = (kept-by-events plan).gives r at s actor can sound.tells;
-    funded = gives-by plan.resources s.floor sound.tells.lines sound.tells.lined sound.funded at
+    lines = _;
+    tells = (told-by-events plan).gives r at s sound.lines actor can sound.tells;
+    funded = gives-by plan.resources s.floor sound.lines sound.tells.lined sound.funded at
         (there-held plan r actor s sound at can.kind) (is-held plan r actor s sound at can.kind)
         (held-kind (slice_get s.floor.kinds at) can.kind) r.place (standing_at s.floor at).line can refl;
     even = gives-even s.floor at r.place (give_answer s.floor at r.place) (there-held plan r actor s sound at can.kind)
         (is-held plan r actor s sound at can.kind) sound.even;
   };
   serves = λ r at round number element s actor has served sound. record {
-    tells = (kept-by-events plan).serves r at round number element s actor has served sound.tells;
+    lines = _;
+    tells = (told-by-events plan).serves r at round number element s sound.lines actor has served sound.tells;
     funded = serves-funded plan r actor s sound at round number element has served;
     even = granted-even s.floor r.place at round number element gets
-        (wait-there plan r actor s sound.tells at round number has) has sound.even
+        (wait-there plan r actor s sound.lines sound.tells at round number has) has sound.even
         (gets-even (size_at s.floor at) (history_at s.floor at) round number element (sound.even.at at));
   };
   leaves = λ r at round number s actor has sound. record {
-    tells = (kept-by-events plan).leaves r at round number s actor has sound.tells;
+    lines = _;
+    tells = (told-by-events plan).leaves r at round number s sound.lines actor has sound.tells;
     funded = leaves-funded plan r actor s sound at round number has;
-    even = leaves-so-even s.floor r.place at round number (wait-there plan r actor s sound.tells at round number has)
+    even = leaves-so-even s.floor r.place at round number (wait-there plan r actor s sound.lines sound.tells at round number has)
         has
         sound.even;
   };
   downs = λ r at s actor kind sound. record {
-    tells = (kept-by-events plan).downs r at s actor kind sound.tells;
+    lines = _;
+    tells = (told-by-events plan).downs r at s sound.lines actor kind sound.tells;
     funded = downs-funded plan r actor s sound at (down_answer s.floor at) kind;
     even = downs-even s.floor at (to_come_at s.floor at 0) refl (there-latch plan r actor s sound at kind) sound.even;
   };
   awaits = λ r at s actor can sound. record {
-    tells = (kept-by-events plan).awaits r at s actor can sound.tells;
+    lines = _;
+    tells = (told-by-events plan).awaits r at s sound.lines actor can sound.tells;
     funded = awaits-funded plan r actor s sound at (wait_answer s.floor at) can;
     even = awaits-even s.floor at r.place (nat_lt 0 (to_come_at s.floor at 0)) refl
         (there-latch plan r actor s sound at can.kind) can.kind (own-kind plan r actor s sound at) sound.even;
   };
   arrives = λ r at s actor can sound. record {
-    tells = (kept-by-events plan).arrives r at s actor can sound.tells;
+    lines = _;
+    tells = (told-by-events plan).arrives r at s sound.lines actor can sound.tells;
     funded = arrives-funded plan r actor s sound at (arrive_answer s.floor at r.place) can;
     even = arrives-even s.floor at r.place
         (nat_lt 1 (to_come_at s.floor at (round_of s.floor r.place at))) refl
         (there-round plan r actor s sound at (round_of s.floor r.place at) can.kind) sound.even;
   };
   ends = λ r s actor sound. record {
-    tells = (kept-by-events plan).ends r s actor sound.tells;
+    lines = _;
+    tells = (told-by-events plan).ends r s sound.lines actor sound.tells;
     funded = sound.funded;
     even = record { at = sound.even.at };
   };
@@ -547,7 +556,7 @@ kind-there plan turns at resource runnable there =
 always-sound : (plan : Plan) (turns : ℕ) → IsRunnable plan → IsSound plan (machine_after plan turns).scene
 always-sound plan turns runnable =
     always-holds plan (IsSound plan) (sound-kept plan) turns runnable
-    (record { tells = opening-tells plan; funded = opening-funded plan; even = opening-even plan })
+    (record { lines = []; tells = opening-tells plan; funded = opening-funded plan; even = opening-even plan })
 
 pub every-resource-balances : EveryResourceBalances
 every-resource-balances plan turns at resource runnable there =

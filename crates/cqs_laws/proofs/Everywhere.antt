@@ -6,12 +6,13 @@ use Rattle.cqs_plan.specs.declared.plans.plan.Plan.{Plan}
 use Rattle.cqs_turns.specs.declared.states.Progress.TheVariants.{Stepping}
 use Rattle.cqs_turns.specs.Turns.{Machine, one_job, each_job, opening_machine, machine_after}
 
-module _ (plan : Plan) (P : Machine → Type 0) (opens : P (opening_machine plan))
-    (keeps : (turn place : ℕ) (job : Job) (m : Machine) → slice_get plan.jobs place ≡ Some job → P m
-    → P (one_job plan.resources turn place job m)) where
+module _ (plan : Plan) (P : ℕ → Machine → Type 0) (opens : P 0 (opening_machine plan))
+    (ages : (turn : ℕ) (m : Machine) → P turn m → P (suc turn) m)
+    (keeps : (turn place : ℕ) (job : Job) (m : Machine) → slice_get plan.jobs place ≡ Some job → P turn m
+    → P turn (one_job plan.resources turn place job m)) where
   each-job-keeps : (turn place : ℕ) (jobs : List Job) (m : Machine)
       → ((i : ℕ) (job : Job) → slice_get jobs i ≡ Some job → slice_get plan.jobs (place + i) ≡ Some job)
-      → P m → P (each_job plan.resources turn place jobs m)
+      → P turn m → P turn (each_job plan.resources turn place jobs m)
   each-job-keeps turn place [] m there holds = holds
   each-job-keeps turn place (job ∷ jobs) m there holds =
       let here : place + 0 ≡ place = omega arith in
@@ -20,11 +21,18 @@ module _ (plan : Plan) (P : Machine → Type 0) (opens : P (opening_machine plan
       each-job-keeps turn (place + 1) jobs (one_job plan.resources turn place job m) later
       (keeps turn place job m (subst (λ n. slice_get plan.jobs n ≡ Some job) here (there 0 job refl)) holds)
 
-  pub always : (turns : ℕ) → P (machine_after plan turns)
-  always zero = opens
-  always (suc turns) =
-      each-job-keeps turns 0 plan.jobs (machine_after plan turns)
-      (λ i job got. subst (λ n. slice_get plan.jobs n ≡ Some job) (omega arith) got) (always turns)
+  -- a fact that speaks of the turn that is next
+  pub always-in : (turns : ℕ) → P turns (machine_after plan turns)
+  always-in zero = opens
+  always-in (suc turns) =
+      ages turns _ (each-job-keeps turns 0 plan.jobs (machine_after plan turns)
+      (λ i job got. subst (λ n. slice_get plan.jobs n ≡ Some job) (omega arith) got) (always-in turns))
+
+pub always : (plan : Plan) (P : Machine → Type 0) → P (opening_machine plan)
+    → ((turn place : ℕ) (job : Job) (m : Machine) → slice_get plan.jobs place ≡ Some job → P m
+    → P (one_job plan.resources turn place job m))
+    → (turns : ℕ) → P (machine_after plan turns)
+always plan P opens keeps turns = always-in plan (λ turn m. P m) opens (λ turn m holds. holds) keeps turns
 
 -- there is a progress for each job
 pub all-jobs : (plan : Plan) (turns : ℕ) → length (machine_after plan turns).progress ≡ length plan.jobs

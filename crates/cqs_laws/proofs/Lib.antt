@@ -11,6 +11,7 @@ mod HeldKinds
 mod LineLemmas
 mod Lined
 mod Telling
+mod JobStories
 mod Claims
 mod PermitFunds
 mod ElementFunds

@@ -1,5 +1,5 @@
 -- What every event keeps holds after every turn: the principle by which the laws of events are proved.
-use Rattle.std.proofs.Common.{◌≡◌, ℕ, ◌+◌, ◌<◌, List, [], ◌∷◌, Bool, true, false, nat_lt, ◌==◌, Option, Some, None, length, drop, slice_get, refl, sym, subst, eq-eqb, arith}
+use Rattle.std.proofs.Common.{◌≡◌, ℕ, ◌+◌, ◌<◌, List, [], ◌∷◌, ◌++◌, Bool, true, false, nat_lt, ◌==◌, Option, Some, None, length, drop, slice_get, refl, sym, subst, eq-eqb, arith}
 use Rattle.std.specs.Bool.{if◌then◌else◌}
 use Rattle.cqs_core.proofs.Places.{get-below, get-there}
 use Rattle.cqs_plan.specs.declared.plans.job.Job.{Job}
@@ -11,20 +11,22 @@ use Rattle.cqs_plan.specs.declared.floors.answers.FloorTake.TheVariants.{Now, Wa
 use Rattle.cqs_plan.specs.declared.floors.answers.FloorLook.{FloorLook}
 use Rattle.cqs_plan.specs.declared.floors.answers.FloorLook.TheVariants.{Pending, Granted}
 use Rattle.cqs_plan.specs.Floor.{PlainFloor, IsJob, IsHoldable, IsLatch, HasRound, round_of, wait_of}
-use Rattle.cqs_plan.specs.FloorCalls.{take_answer, give_answer, wait_answer, arrive_answer, look_answer, leave_answer, after_look}
+use Rattle.cqs_plan.specs.FloorCalls.{take_answer, give_answer, wait_answer, arrive_answer, down_answer, look_answer, leave_answer, after_look}
 use Rattle.cqs_plan.specs.Runnable.{IsRunnable}
 use Rattle.cqs_turns.specs.declared.lines.Told.TheVariants as told
+use Rattle.cqs_turns.specs.declared.lines.Told.{Told}
 use Rattle.cqs_turns.specs.declared.states.Progress.{Progress}
 use Rattle.cqs_turns.specs.declared.states.Progress.TheVariants.{Stepping, Working, Waiting, Ended}
 use Rattle.cqs_turns.specs.Ready.{IsReady, wait_in, steps_left, is_held}
 use Rattle.cqs_turns.specs.Roles.{wait_at}
 use Rattle.cqs_turns.specs.Running.{IsRunning}
-use Rattle.cqs_turns.specs.Turns.{Role, Scene, Made, Acted, Machine, event, on_take, on_give, on_down, on_wait, on_arrive, after_gives, after_step, after_coming, stop_or, after_steps, after_last_step, on_leave, after_giving_up, after_looking, after_acting, is_due, one_job, opening_machine, machine_after, places_held, left_at, go_on}
+use Rattle.cqs_turns.specs.Turns.{Role, Scene, Made, Acted, Machine, event, take_told, give_told, leave_told, down_told, wait_told, arrive_told, on_take, on_give, on_down, on_wait, on_arrive, after_gives, after_step, after_coming, stop_or, after_steps, after_last_step, on_leave, after_giving_up, after_looking, after_acting, is_due, one_job, opening_machine, machine_after, places_held, left_at, go_on}
 use Rattle.cqs_turns.proofs.Opened.{opening-running}
 use Rattle.cqs_turns.proofs.Readied.{first-given, first-ready, leave-ready, after_looking-ready, can-give}
 use Rattle.cqs_turns.proofs.RunningLemmas.{room-of, running-on}
 use Rattle.cqs_turns.proofs.Stepping.{after_step-ready}
 use Rattle.cqs_turns.proofs.Turned.{after_acting-turned}
+use Rattle.cqs_laws.specs.Events.{Line}
 use Rattle.cqs_laws.proofs.Everywhere.{always}
 use Rattle.cqs_laws.proofs.OwnTurn.{role_of}
 use Rattle.cqs_laws.proofs.Kept.{one-job-is}
@@ -82,6 +84,41 @@ pub record IsKeptByEvents (plan : Plan) (P : Scene → Type 0) : Type 0 where
   pub arrives : (r : Role) (at : ℕ) (s : Scene) → IsActor plan r → CanArrive s.floor r.place at → P s
       → P (on_arrive r at (arrive_answer s.floor at r.place) s)
   pub ends : (r : Role) (s : Scene) → IsActor plan r → P s → P (event r s s.floor told.Done)
+
+-- the line of an event
+abbrev pub line_of : Role → Told → Line
+line_of r t = record { turn = r.turn; job = r.place; told = t }
+
+-- each event of the plan's jobs keeps the fact, with its line after those before
+pub record IsToldByEvents (plan : Plan) (P : Scene → List Line → Type 0) : Type 0 where
+  pub takes : (r : Role) (at : ℕ) (s : Scene) (lines : List Line) → IsActor plan r → CanTake s.floor r.place at
+      → P s lines
+      → P (on_take r at (take_answer s.floor at r.place) s)
+      (lines ++ line_of r (take_told at (take_answer s.floor at r.place)) ∷ [])
+  pub gives : (r : Role) (at : ℕ) (s : Scene) (lines : List Line) → IsActor plan r → CanGive s.floor r.place at
+      → P s lines → P (on_give r at s) (lines ++ line_of r (give_told at (give_answer s.floor at r.place)) ∷ [])
+  pub serves : (r : Role) (at round number element : ℕ) (s : Scene) (lines : List Line) → IsActor plan r
+      → HasWait s.floor r.place at round number
+      → look_answer s.floor r.place ≡ Granted element → P s lines
+      → P (event r s (after_look s.floor r.place (Granted element)) (told.Served at round number element))
+      (lines ++ line_of r (told.Served at round number element) ∷ [])
+  pub leaves : (r : Role) (at round number : ℕ) (s : Scene) (lines : List Line) → IsActor plan r
+      → HasWait s.floor r.place at round number → P s lines
+      → P (on_leave r at round number (leave_answer s.floor r.place) s)
+      (lines ++ line_of r (leave_told at round number (leave_answer s.floor r.place)) ∷ [])
+  pub downs : (r : Role) (at : ℕ) (s : Scene) (lines : List Line) → IsActor plan r
+      → IsLatch (slice_get s.floor.kinds at) → P s lines
+      → P (on_down r at s) (lines ++ line_of r (down_told at (down_answer s.floor at)) ∷ [])
+  pub awaits : (r : Role) (at : ℕ) (s : Scene) (lines : List Line) → IsActor plan r → CanAwait s.floor r.place at
+      → P s lines
+      → P (on_wait r at (wait_answer s.floor at) s)
+      (lines ++ line_of r (wait_told at (wait_answer s.floor at)) ∷ [])
+  pub arrives : (r : Role) (at : ℕ) (s : Scene) (lines : List Line) → IsActor plan r → CanArrive s.floor r.place at
+      → P s lines
+      → P (on_arrive r at (arrive_answer s.floor at r.place) s)
+      (lines ++ line_of r (arrive_told at (round_of s.floor r.place at) (arrive_answer s.floor at r.place)) ∷ [])
+  pub ends : (r : Role) (s : Scene) (lines : List Line) → IsActor plan r → P s lines
+      → P (event r s s.floor told.Done) (lines ++ line_of r told.Done ∷ [])
 
 module _ (plan : Plan) (P : Scene → Type 0) (kept : IsKeptByEvents plan P) where
   module _ (r : Role) (actor : IsActor plan r) where

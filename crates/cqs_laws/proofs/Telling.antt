@@ -23,28 +23,23 @@ use Rattle.cqs_turns.specs.declared.lines.Told.{Told}
 use Rattle.cqs_turns.specs.declared.lines.Told.TheVariants as told
 use Rattle.cqs_turns.specs.Lines.{is_pool, is_pool_at, line_text}
 use Rattle.cqs_turns.specs.Roles.{wait_at}
-use Rattle.cqs_turns.specs.Turns.{Role, Scene, event, on_take, on_give_answer, on_down_answer, on_wait, on_arrive, on_leave, opening_machine, machine_after}
-use Rattle.cqs_laws.specs.Events.{Line, name_of, lines_text, draws_at, drawn_at, WasSent, MayTell, EveryReportHasItsLines}
+use Rattle.cqs_turns.specs.Turns.{Role, Scene, event, take_told, give_told, leave_told, down_told, wait_told, arrive_told, on_take, on_give_answer, on_down_answer, on_wait, on_arrive, on_leave, opening_machine}
+use Rattle.cqs_laws.specs.Events.{Line, name_of, lines_text, draws_at, drawn_at, WasSent, MayTell}
 use Rattle.cqs_laws.proofs.Deeds.{HasPart, HasSeats, IsElse, IsOfKind, JoinsNext, came-sent, draws, held-part, is_of_pool, latch-part, line-joins, next-after, round-part, standing-away}
-use Rattle.cqs_laws.proofs.Lifting.{IsActor, HasWait, IsKeptByEvents, always-holds}
+use Rattle.cqs_laws.proofs.Lifting.{IsActor, HasWait, IsToldByEvents, line_of}
 use Rattle.cqs_laws.proofs.Lines.{in_line}
 use Rattle.cqs_laws.proofs.Objects.{holdable-below, latch-below, round-below, standing-here, standing-else}
 use Rattle.cqs_laws.proofs.LineLemmas.{text-push, drawn-push, sent-longer, may-push}
 use Rattle.cqs_laws.proofs.Lined.{Expects, AreLined, Goes, calm-on, changed_floor, expects-on, kinds-on, next-on, part-before, part-on, seated-on, sized-on, sorts-on, wait-gone}
 
 -- the report so far, as lines
-pub record IsTelling (plan : Plan) (s : Scene) : Type 0 where
-  pub lines : List Line
+pub record IsTelling (plan : Plan) (s : Scene) (lines : List Line) : Type 0 where
   pub text : s.text ≡ lines_text plan lines
   pub numbered : (at round : ℕ) → HasPart (history_at s.floor at) round
       → (stands_in s.floor at round).next ≡ drawn_at plan.resources at round lines
   pub tell : (n : ℕ) (line : Line) → slice_get lines n ≡ Some line
       → MayTell plan.resources (take n lines) line.told
   pub lined : AreLined plan.resources s.floor lines
-
--- the line of an event
-abbrev line_of : Role → Told → Line
-line_of r t = record { turn = r.turn; job = r.place; told = t }
 
 and-true : (b : Bool) → (b && true) ≡ b
 and-true true = refl
@@ -54,19 +49,20 @@ and-false : (b : Bool) → (b && false) ≡ false
 and-false true = refl
 and-false false = refl
 
-module _ (plan : Plan) (r : Role) (actor : IsActor plan r) (s : Scene) (tells : IsTelling plan s) where
+module _ (plan : Plan) (r : Role) (actor : IsActor plan r) (s : Scene) (lines : List Line)
+    (tells : IsTelling plan s lines) where
   abbrev f : PlainFloor
   f = s.floor
 
   text-on : (t : Told) → s.text ++ line_text r.resources r.turn r.job.name t
-      ≡ lines_text plan (tells.lines ++ line_of r t ∷ [])
+      ≡ lines_text plan (lines ++ line_of r t ∷ [])
   text-on t =
       let named : r.job.name ≡ name_of plan r.place
       = sym (ap (λ o. option_map_or (λ j. j.name) o []) actor.job) in
       ap (λ text. text ++ line_text r.resources r.turn r.job.name t) tells.text
-      ∙ ap (λ rs. lines_text plan tells.lines ++ line_text rs r.turn r.job.name t) actor.resources
-      ∙ ap (λ name. lines_text plan tells.lines ++ line_text plan.resources r.turn name t) named
-      ∙ sym (text-push plan tells.lines (line_of r t))
+      ∙ ap (λ rs. lines_text plan lines ++ line_text rs r.turn r.job.name t) actor.resources
+      ∙ ap (λ name. lines_text plan lines ++ line_text plan.resources r.turn name t) named
+      ∙ sym (text-push plan lines (line_of r t))
 
   pub there-of : (at : ℕ) → at < length f.kinds → at < length f.histories
   there-of at below = omega (arith, below, tells.lined.sized)
@@ -75,7 +71,7 @@ module _ (plan : Plan) (r : Role) (actor : IsActor plan r) (s : Scene) (tells : 
   record Tells (at round : ℕ) (deed : Deed) (t : Told) : Type 0 where
     here : bit (draws_at plan.resources at round t) ≡ draws (is_pool_at plan.resources at) deed
     away : (q r : ℕ) → (q ≢ at) ⊎ (r ≢ round) → draws_at plan.resources q r t ≡ false
-    may : MayTell plan.resources tells.lines t
+    may : MayTell plan.resources lines t
 
   module _ (at round : ℕ) (deed : Deed) (there : at < length f.histories) (part : HasPart (history_at f at) round)
       (room : List ℕ) (waits : List (Option JobWait)) (holds : List (List Holding)) (rounds : List (List ℕ)) (t : Told)
@@ -84,7 +80,7 @@ module _ (plan : Plan) (r : Role) (actor : IsActor plan r) (s : Scene) (tells : 
     g = changed_floor f at round deed room waits holds rounds
 
     numbered-on : (q k : ℕ) → HasPart (history_at f q) k → (q ≡ at) ⊎ (q ≢ at) → (k ≡ round) ⊎ (k ≢ round)
-        → (stands_in g q k).next ≡ drawn_at plan.resources q k (tells.lines ++ line_of r t ∷ [])
+        → (stands_in g q k).next ≡ drawn_at plan.resources q k (lines ++ line_of r t ∷ [])
     numbered-on q k own (inl here) (inl same) =
         let sort : draws (is_of_pool (history_at f at)) deed ≡ draws (is_pool_at plan.resources at) deed
         = ap (λ b. draws b deed) (tells.lined.sorts at) in
@@ -95,7 +91,7 @@ module _ (plan : Plan) (r : Role) (actor : IsActor plan r) (s : Scene) (tells : 
           sort,
           told_so.here,
           tells.numbered at round part,
-          drawn-push plan.resources at round tells.lines (line_of r t),
+          drawn-push plan.resources at round lines (line_of r t),
         ))
     numbered-on q k own (inl here) (inr other) =
         let own_here : HasPart (history_at f at) k = rw here at own in
@@ -107,7 +103,7 @@ module _ (plan : Plan) (r : Role) (actor : IsActor plan r) (s : Scene) (tells : 
               (standing-away (size_at f at) (history_at f at) round k deed part own_here other),
           none,
           tells.numbered at k own_here,
-          drawn-push plan.resources at k tells.lines (line_of r t),
+          drawn-push plan.resources at k lines (line_of r t),
         ))
     numbered-on q k own (inr other) either =
         let none : bit (draws_at plan.resources q k t) ≡ 0 = ap bit (told_so.away q k (inl other)) in
@@ -116,19 +112,18 @@ module _ (plan : Plan) (r : Role) (actor : IsActor plan r) (s : Scene) (tells : 
           ap (λ (x : Standing). x.next) (standing-else f at round deed q k other),
           none,
           tells.numbered q k own,
-          drawn-push plan.resources q k tells.lines (line_of r t),
+          drawn-push plan.resources q k lines (line_of r t),
         )
 
-    deed-tells : AreLined plan.resources g (tells.lines ++ line_of r t ∷ []) → IsTelling plan (event r s g t)
+    deed-tells : AreLined plan.resources g (lines ++ line_of r t ∷ []) → IsTelling plan (event r s g t) (lines ++ line_of r t ∷ [])
     deed-tells lined = record {
-      lines = tells.lines ++ line_of r t ∷ [];
       text = text-on t;
       numbered = λ q k own.
           numbered-on q k
-          (part-before plan.resources f tells.lines tells.lined at round deed there part room waits holds rounds
+          (part-before plan.resources f lines tells.lined at round deed there part room waits holds rounds
           (line_of r t) q k own)
           (cases_eq q at) (cases_eq k round);
-      tell = may-push plan.resources tells.lines (line_of r t) tells.tell told_so.may;
+      tell = may-push plan.resources lines (line_of r t) tells.tell told_so.may;
       lined = lined;
     }
 
@@ -136,11 +131,11 @@ module _ (plan : Plan) (r : Role) (actor : IsActor plan r) (s : Scene) (tells : 
     calm-tells : JoinsNext (stands_in f at round).next deed
         → ((j : ℕ) (w : JobWait) → wait_of g j ≡ Some w → wait_of f j ≡ Some w)
         → ((j : ℕ) (w : JobWait) → wait_of g j ≡ Some w → w.at ≡ at → w.round ≡ round
-        → Goes plan.resources f tells.lines tells.lined at round deed there part room waits holds rounds
+        → Goes plan.resources f lines tells.lined at round deed there part room waits holds rounds
         (line_of r t) w)
-        → IsTelling plan (event r s g t)
+        → IsTelling plan (event r s g t) (lines ++ line_of r t ∷ [])
     calm-tells fits were goes =
-        deed-tells (calm-on plan.resources f tells.lines tells.lined at round deed there part room waits holds rounds
+        deed-tells (calm-on plan.resources f lines tells.lined at round deed there part room waits holds rounds
         (line_of r t) fits were goes)
 
   -- the wait has a number below the next one
@@ -168,14 +163,14 @@ module _ (plan : Plan) (r : Role) (actor : IsActor plan r) (s : Scene) (tells : 
 
   -- a job takes at once
   takes-now : (at element : ℕ) → at < length f.histories → HasPart (history_at f at) 0
-      → IsTelling plan (on_take r at (Now element) s)
+      → IsTelling plan (on_take r at (Now element) s) (lines ++ line_of r (told.Takes at element) ∷ [])
   takes-now at element there part =
       calm-tells at 0 (takes element) there part _ f.waits _ f.rounds (told.Takes at element) (takes-draws at element)
       tt (λ j w has. has) (λ j w has here first. inl (below-next at j w has here first))
 
   -- nobody waits for what is given back
   gives-free : (at element : ℕ) → at < length f.histories → HasPart (history_at f at) 0
-      → IsTelling plan (on_give_answer r at (Free element) s)
+      → IsTelling plan (on_give_answer r at (Free element) s) (lines ++ line_of r (told.GivesFree at element) ∷ [])
   gives-free at element there part =
       calm-tells at 0 (frees element) there part _ f.waits _ f.rounds (told.GivesFree at element)
       (record { here = refl; away = λ q k other. refl; may = tt }) tt (λ j w has. has) (λ j w has here first. inl tt)
@@ -184,12 +179,13 @@ module _ (plan : Plan) (r : Role) (actor : IsActor plan r) (s : Scene) (tells : 
   gives-sent : (at element : ℕ) (first : Waiting) (line : List Waiting) → at < length f.histories
       → HasPart (history_at f at) 0
       → (standing_at f at).line ≡ first ∷ line → IsTelling plan (on_give_answer r at (Sent element first.wait) s)
+      (lines ++ line_of r (told.GivesSent at element first.wait) ∷ [])
   gives-sent at element first line there part is =
       calm-tells at 0 (sends element first.wait) there part _ f.waits _ f.rounds (told.GivesSent at element first.wait)
       (record { here = refl; away = λ q k other. refl; may = tt }) tt (λ j w has. has)
       (λ j w has here begins. goes w (cases_eq w.number first.wait)) where
         goes : (w : JobWait) → (w.number ≡ first.wait) ⊎ (w.number ≢ first.wait)
-            → Goes plan.resources f tells.lines tells.lined at 0 (sends element first.wait) there part f.room f.waits
+            → Goes plan.resources f lines tells.lined at 0 (sends element first.wait) there part f.room f.waits
             f.holds
             f.rounds (line_of r (told.GivesSent at element first.wait)) w
         goes w (inr other) = inl other
@@ -204,7 +200,7 @@ module _ (plan : Plan) (r : Role) (actor : IsActor plan r) (s : Scene) (tells : 
 
   -- a count down of a latch
   downs : (at : ℕ) (answer : FloorDown) → at < length f.histories → HasPart (history_at f at) 0
-      → IsTelling plan (on_down_answer r at answer s)
+      → IsTelling plan (on_down_answer r at answer s) (lines ++ line_of r (down_told at answer) ∷ [])
   downs at (Left n) there part =
       calm-tells at 0 (counts n) there part f.room f.waits f.holds f.rounds (told.DownsLeft at n)
       (record { here = refl; away = λ q k other. refl; may = tt }) tt (λ j w has. has) (λ j w has here first. inl tt)
@@ -217,7 +213,7 @@ module _ (plan : Plan) (r : Role) (actor : IsActor plan r) (s : Scene) (tells : 
 
   -- a job passes a latch, or is the last to arrive in a round
   passes-now : (at element : ℕ) → at < length f.histories → HasPart (history_at f at) 0
-      → IsTelling plan (on_wait r at (Now element) s)
+      → IsTelling plan (on_wait r at (Now element) s) (lines ++ line_of r (told.Passes at) ∷ [])
   passes-now at element there part =
       calm-tells at 0 passes there part _ f.waits f.holds f.rounds (told.Passes at)
       (record { here = refl; away = λ q k other. refl; may = tt }) tt (λ j w has. has) (λ j w has here first. inl tt)
@@ -225,6 +221,7 @@ module _ (plan : Plan) (r : Role) (actor : IsActor plan r) (s : Scene) (tells : 
   arrives-last : (at element : ℕ) → at < length f.histories
       → HasPart (history_at f at) (round_of f r.place at)
       → IsTelling plan (on_arrive r at (Now element) s)
+      (lines ++ line_of r (told.ArrivesLast at (round_of f r.place at)) ∷ [])
   arrives-last at element there part =
       let round : ℕ = round_of f r.place at in
       calm-tells at round completes there part _ f.waits f.holds _ (told.ArrivesLast at round)
@@ -236,9 +233,10 @@ module _ (plan : Plan) (r : Role) (actor : IsActor plan r) (s : Scene) (tells : 
       → at < length f.histories → ((n : ℕ) → JoinsNext n (deed number element))
       → ((n k : ℕ) → IsElse n k (deed number element)) → Tells at round (deed number element) t
       → IsTelling plan (event r s (with_granted f r.place deed (wait_of f r.place) element) t)
+      (lines ++ line_of r t ∷ [])
   granted at round number element deed t has there fits quiet told_so =
       let Goal : Option JobWait → Type 0 =
-      λ o. IsTelling plan (event r s (with_granted f r.place deed o element) t) in
+      λ o. IsTelling plan (event r s (with_granted f r.place deed o element) t) (lines ++ line_of r t ∷ []) in
       subst Goal (sym has.waits) (by (is_holdable f at)) where
         part : HasPart (history_at f at) round
         part = tells.lined.parts r.place (wait_at at round number) has.waits
@@ -248,6 +246,7 @@ module _ (plan : Plan) (r : Role) (actor : IsActor plan r) (s : Scene) (tells : 
 
         held : (holds : List (List Holding)) → IsTelling plan (event r s
             (changed_floor f at round (deed number element) f.room (set f.waits r.place None) holds f.rounds) t)
+            (lines ++ line_of r t ∷ [])
         held holds =
             calm-tells at round (deed number element) there part f.room (set f.waits r.place None) holds f.rounds t
             told_so
@@ -256,15 +255,18 @@ module _ (plan : Plan) (r : Role) (actor : IsActor plan r) (s : Scene) (tells : 
 
         by : (b : Bool)
             → IsTelling plan (event r s (if b then with_newest over r.place at element else over) t)
+            (lines ++ line_of r t ∷ [])
         by true = held (set f.holds r.place (holds_of f r.place ++ record { at = at; element = element } ∷ []))
         by false = held f.holds
 
   -- the wait of the job leaves the line
   gone : (at round number : ℕ) → HasWait f r.place at round number → at < length f.histories
       → IsTelling plan (event r s (with_left f r.place (wait_of f r.place)) (told.GaveUp at round number))
+      (lines ++ line_of r (told.GaveUp at round number) ∷ [])
   gone at round number has there =
       let Goal : Option JobWait → Type 0 =
-      λ o. IsTelling plan (event r s (with_left f r.place o) (told.GaveUp at round number)) in
+      λ o. IsTelling plan (event r s (with_left f r.place o) (told.GaveUp at round number))
+      (lines ++ line_of r (told.GaveUp at round number) ∷ []) in
       let part : HasPart (history_at f at) round = tells.lined.parts r.place (wait_at at round number) has.waits in
       subst Goal (sym has.waits)
       (calm-tells at round (leaves number) there part f.room _ f.holds f.rounds (told.GaveUp at round number)
@@ -323,27 +325,27 @@ module _ (plan : Plan) (r : Role) (actor : IsActor plan r) (s : Scene) (tells : 
         ap (λ (x : Standing). x.next) (standing-here f at round (joins k) round there)
         ∙ next-after (size_at f at) (history_at f at) round (joins k) part
 
-    expects-new : Expects plan.resources after (tells.lines ++ line ∷ []) new
+    expects-new : Expects plan.resources after (lines ++ line ∷ []) new
     expects-new =
         inl (ap (λ (x : Standing). in_line k x.line) (standing-here f at round (joins k) round there)
         ∙ line-joins (size_at f at) (history_at f at) round k part)
 
     expects-of : (j : ℕ) (w : JobWait)
         → ((j ≡ r.place) × (w ≡ new)) ⊎ (wait_of f j ≡ Some w)
-        → Expects plan.resources after (tells.lines ++ line ∷ []) w
+        → Expects plan.resources after (lines ++ line ∷ []) w
     expects-of j w (inl is) = rw is.1 expects-new
     expects-of j w (inr old) =
-        expects-on plan.resources f tells.lines tells.lined at round (joins k) there part room after.waits f.holds
+        expects-on plan.resources f lines tells.lined at round (joins k) there part room after.waits f.holds
         rounds
         line w (λ here own. inl tt) (tells.lined.parts j w old) (tells.lined.expects j w old)
 
     parts-of : (j : ℕ) (w : JobWait)
         → ((j ≡ r.place) × (w ≡ new)) ⊎ (wait_of f j ≡ Some w) → HasPart (history_at after w.at) w.round
     parts-of j w (inl is) =
-        rw is.1 (part-on plan.resources f tells.lines tells.lined at round (joins k) there part room after.waits f.holds
+        rw is.1 (part-on plan.resources f lines tells.lined at round (joins k) there part room after.waits f.holds
         rounds line at round part)
     parts-of j w (inr old) =
-        part-on plan.resources f tells.lines tells.lined at round (joins k) there part room after.waits f.holds rounds
+        part-on plan.resources f lines tells.lined at round (joins k) there part room after.waits f.holds rounds
         line w.at w.round (tells.lined.parts j w old)
 
     below-of : (j : ℕ) (w : JobWait)
@@ -353,7 +355,7 @@ module _ (plan : Plan) (r : Role) (actor : IsActor plan r) (s : Scene) (tells : 
         omega (
           arith,
           tells.lined.below j w old,
-          next-on plan.resources f tells.lines tells.lined at round (joins k) there part room after.waits f.holds rounds
+          next-on plan.resources f lines tells.lined at round (joins k) there part room after.waits f.holds rounds
               line w.at w.round (tells.lined.parts j w old),
         )
 
@@ -372,20 +374,20 @@ module _ (plan : Plan) (r : Role) (actor : IsActor plan r) (s : Scene) (tells : 
     apart-of i j w (inr first) (inl second) = absurd (not-yet i w second.1 first)
     apart-of i j w (inr first) (inr second) = tells.lined.apart i j w first second
 
-    waits-later : IsTelling plan (event r s after (told.Waits at round k))
+    waits-later : IsTelling plan (event r s after (told.Waits at round k)) (lines ++ line ∷ [])
     waits-later =
         deed-tells at round (joins k) there part room after.waits f.holds rounds (told.Waits at round k) joins-draws
         (record {
-          sized = sized-on plan.resources f tells.lines tells.lined at round (joins k) there part room after.waits
+          sized = sized-on plan.resources f lines tells.lined at round (joins k) there part room after.waits
               f.holds
               rounds line;
-          kinds = kinds-on plan.resources f tells.lines tells.lined at round (joins k) there part room after.waits
+          kinds = kinds-on plan.resources f lines tells.lined at round (joins k) there part room after.waits
               f.holds
               rounds line;
-          sorts = sorts-on plan.resources f tells.lines tells.lined at round (joins k) there part room after.waits
+          sorts = sorts-on plan.resources f lines tells.lined at round (joins k) there part room after.waits
               f.holds
               rounds line;
-          seated = seated-on plan.resources f tells.lines tells.lined at round (joins k) there part room after.waits
+          seated = seated-on plan.resources f lines tells.lined at round (joins k) there part room after.waits
               f.holds rounds line refl;
           expects = λ j w has. expects-of j w (wait-was j w has);
           parts = λ j w has. parts-of j w (wait-was j w has);
@@ -395,11 +397,13 @@ module _ (plan : Plan) (r : Role) (actor : IsActor plan r) (s : Scene) (tells : 
 
   takes-if : (at : ℕ) (b : Bool) → at < length f.histories → HasPart (history_at f at) 0 → r.place < length f.waits
       → IsTelling plan (on_take r at (if b then Now (first_free_at f at) else Waits (standing_at f at).next) s)
+      (lines ++ line_of r (take_told at (if b then Now (first_free_at f at) else Waits (standing_at f at).next)) ∷ [])
   takes-if at true there part job_there = takes-now at (first_free_at f at) there part
   takes-if at false there part job_there = waits-later at 0 there part job_there _ f.rounds
 
   awaits-if : (at : ℕ) (b : Bool) → at < length f.histories → HasPart (history_at f at) 0 → r.place < length f.waits
       → IsTelling plan (on_wait r at (if b then Waits (standing_at f at).next else Now 0) s)
+      (lines ++ line_of r (wait_told at (if b then Waits (standing_at f at).next else Now 0)) ∷ [])
   awaits-if at true there part job_there = waits-later at 0 there part job_there _ f.rounds
   awaits-if at false there part job_there = passes-now at 0 there part
 
@@ -407,48 +411,55 @@ module _ (plan : Plan) (r : Role) (actor : IsActor plan r) (s : Scene) (tells : 
       → r.place < length f.waits
       → IsTelling plan
       (on_arrive r at (if b then Waits (stands_in f at (round_of f r.place at)).next else Now 0) s)
+      (lines ++ line_of r (arrive_told at (round_of f r.place at)
+      (if b then Waits (stands_in f at (round_of f r.place at)).next else Now 0)) ∷ [])
   arrives-if at true there part job_there = waits-later at (round_of f r.place at) there part job_there _ _
   arrives-if at false there part job_there = arrives-last at 0 there part
 
   gives-by : (at : ℕ) (line : List Waiting) → at < length f.histories → HasPart (history_at f at) 0
       → (standing_at f at).line ≡ line
       → IsTelling plan (on_give_answer r at (give_of line (oldest at (holds_of f r.place))) s)
+      (lines ++ line_of r (give_told at (give_of line (oldest at (holds_of f r.place)))) ∷ [])
   gives-by at [] there part is = gives-free at _ there part
   gives-by at (first ∷ line) there part is = gives-sent at _ first line there part is
 
   -- to a wait that isn't in the line any more something was sent
   sent-so : (at round number : ℕ) → HasWait f r.place at round number
       → is_in_line f (wait_at at round number) ≡ false
-      → WasSent plan.resources at round number (came_to f (wait_at at round number)) tells.lines
+      → WasSent plan.resources at round number (came_to f (wait_at at round number)) lines
   sent-so at round number has away = go (tells.lined.expects r.place (wait_at at round number) has.waits) where
-    go : Expects plan.resources f tells.lines (wait_at at round number)
-        → WasSent plan.resources at round number (came_to f (wait_at at round number)) tells.lines
+    go : Expects plan.resources f lines (wait_at at round number)
+        → WasSent plan.resources at round number (came_to f (wait_at at round number)) lines
     go (inl stands) = absurd (cc)
     go (inr sent) = sent
 
   serves-so : (at round number element : ℕ) → HasWait f r.place at round number → at < length f.histories
       → look_answer f r.place ≡ Granted element
       → IsTelling plan (event r s (after_look f r.place (Granted element)) (told.Served at round number element))
+      (lines ++ line_of r (told.Served at round number element) ∷ [])
   serves-so at round number element has there served = go (is_in_line f (wait_at at round number)) refl
     where
       go : (b : Bool) → is_in_line f (wait_at at round number) ≡ b
           → IsTelling plan (event r s (after_look f r.place (Granted element)) (told.Served at round number element))
+          (lines ++ line_of r (told.Served at round number element) ∷ [])
       go true stands = let pending : Pending ≡ Granted element = rw (has.waits, stands) at served in absurd (cc)
       go false away =
           let answers : Granted (came_to f (wait_at at round number)) ≡ Granted element
           = rw (has.waits, away) at served in
           let is : came_to f (wait_at at round number) ≡ element = cc in
-          let sent : WasSent plan.resources at round number element tells.lines
-          = subst (λ e. WasSent plan.resources at round number e tells.lines) is (sent-so at round number has away) in
+          let sent : WasSent plan.resources at round number element lines
+          = subst (λ e. WasSent plan.resources at round number e lines) is (sent-so at round number has away) in
           granted at round number element gets (told.Served at round number element) has there (λ n. tt) (λ n k. tt)
           (record { here = refl; away = λ q k other. refl; may = sent })
 
   leaves-so : (at round number : ℕ) → HasWait f r.place at round number → at < length f.histories
       → IsTelling plan (on_leave r at round number (leave_answer f r.place) s)
+      (lines ++ line_of r (leave_told at round number (leave_answer f r.place)) ∷ [])
   leaves-so at round number has there = go (is_in_line f (wait_at at round number)) refl
     where
       go : (b : Bool) → is_in_line f (wait_at at round number) ≡ b
           → IsTelling plan (on_leave r at round number (leave_answer f r.place) s)
+          (lines ++ line_of r (leave_told at round number (leave_answer f r.place)) ∷ [])
       go true stands =
           let gone_answer : leave_answer f r.place ≡ leave.Gone = rw (has.waits, stands) refl in
           rw gone_answer (gone at round number has there)
@@ -459,17 +470,16 @@ module _ (plan : Plan) (r : Role) (actor : IsActor plan r) (s : Scene) (tells : 
           (λ n k. tt)
           (record { here = refl; away = λ q k other. refl; may = (came, sent-so at round number has away) }))
 
-  ends-so : IsTelling plan (event r s f told.Done)
+  ends-so : IsTelling plan (event r s f told.Done) (lines ++ line_of r told.Done ∷ [])
   ends-so = record {
-    lines = tells.lines ++ line_of r told.Done ∷ [];
     text = text-on told.Done;
     numbered = λ q k own.
         omega (
           arith,
           tells.numbered q k own,
-          drawn-push plan.resources q k tells.lines (line_of r told.Done),
+          drawn-push plan.resources q k lines (line_of r told.Done),
         );
-    tell = may-push plan.resources tells.lines (line_of r told.Done) tells.tell tt;
+    tell = may-push plan.resources lines (line_of r told.Done) tells.tell tt;
     lined = record {
       sized = tells.lined.sized;
       kinds = tells.lined.kinds;
@@ -482,11 +492,11 @@ module _ (plan : Plan) (r : Role) (actor : IsActor plan r) (s : Scene) (tells : 
     };
   }
     where
-      expects : (j : ℕ) (w : JobWait) → wait_of f j ≡ Some w → Expects plan.resources f tells.lines w
-          → Expects plan.resources f (tells.lines ++ line_of r told.Done ∷ []) w
+      expects : (j : ℕ) (w : JobWait) → wait_of f j ≡ Some w → Expects plan.resources f lines w
+          → Expects plan.resources f (lines ++ line_of r told.Done ∷ []) w
       expects j w has (inl stands) = inl stands
       expects j w has (inr sent) =
-          inr (sent-longer plan.resources w.at w.round w.number (came_to f w) tells.lines (line_of r told.Done) sent)
+          inr (sent-longer plan.resources w.at w.round w.number (came_to f w) lines (line_of r told.Done) sent)
 
   -- where a job has a wait there is a history
   pub wait-there : (at round number : ℕ) → HasWait f r.place at round number → at < length f.histories
@@ -513,29 +523,29 @@ module _ (plan : Plan) (r : Role) (actor : IsActor plan r) (s : Scene) (tells : 
   round-there at round kind =
       round-part (slice_get f.kinds at) (history_at f at) round kind (tells.lined.kinds at)
 
-pub kept-by-events : (plan : Plan) → IsKeptByEvents plan (IsTelling plan)
-kept-by-events plan = record {
-  takes = λ r at s actor can tells. takes-if plan r actor s tells at _
-      (there-of plan r actor s tells at (holdable-below s.floor.kinds at can.kind))
-      (held-there plan r actor s tells at can.kind) can.job.waits;
-  gives = λ r at s actor can tells. gives-by plan r actor s tells at (standing_at s.floor at).line
-      (there-of plan r actor s tells at (holdable-below s.floor.kinds at can.kind))
-      (held-there plan r actor s tells at can.kind) refl;
-  serves = λ r at round number element s actor has served tells.
-      serves-so plan r actor s tells at round number element has
-      (wait-there plan r actor s tells at round number has) served;
-  leaves = λ r at round number s actor has tells.
-      leaves-so plan r actor s tells at round number has (wait-there plan r actor s tells at round number has);
-  downs = λ r at s actor kind tells. downs plan r actor s tells at (down_answer s.floor at)
-      (there-of plan r actor s tells at (latch-below s.floor.kinds at kind))
-      (latch-there plan r actor s tells at kind);
-  awaits = λ r at s actor can tells. awaits-if plan r actor s tells at _
-      (there-of plan r actor s tells at (latch-below s.floor.kinds at can.kind))
-      (latch-there plan r actor s tells at can.kind) can.job.waits;
-  arrives = λ r at s actor can tells. arrives-if plan r actor s tells at _
-      (there-of plan r actor s tells at (round-below s.floor.kinds at (round_of s.floor r.place at) can.kind))
-      (round-there plan r actor s tells at (round_of s.floor r.place at) can.kind) can.job.waits;
-  ends = λ r s actor tells. ends-so plan r actor s tells;
+pub told-by-events : (plan : Plan) → IsToldByEvents plan (IsTelling plan)
+told-by-events plan = record {
+  takes = λ r at s lines actor can tells. takes-if plan r actor s lines tells at _
+      (there-of plan r actor s lines tells at (holdable-below s.floor.kinds at can.kind))
+      (held-there plan r actor s lines tells at can.kind) can.job.waits;
+  gives = λ r at s lines actor can tells. gives-by plan r actor s lines tells at (standing_at s.floor at).line
+      (there-of plan r actor s lines tells at (holdable-below s.floor.kinds at can.kind))
+      (held-there plan r actor s lines tells at can.kind) refl;
+  serves = λ r at round number element s lines actor has served tells.
+      serves-so plan r actor s lines tells at round number element has
+      (wait-there plan r actor s lines tells at round number has) served;
+  leaves = λ r at round number s lines actor has tells.
+      leaves-so plan r actor s lines tells at round number has (wait-there plan r actor s lines tells at round number has);
+  downs = λ r at s lines actor kind tells. downs plan r actor s lines tells at (down_answer s.floor at)
+      (there-of plan r actor s lines tells at (latch-below s.floor.kinds at kind))
+      (latch-there plan r actor s lines tells at kind);
+  awaits = λ r at s lines actor can tells. awaits-if plan r actor s lines tells at _
+      (there-of plan r actor s lines tells at (latch-below s.floor.kinds at can.kind))
+      (latch-there plan r actor s lines tells at can.kind) can.job.waits;
+  arrives = λ r at s lines actor can tells. arrives-if plan r actor s lines tells at _
+      (there-of plan r actor s lines tells at (round-below s.floor.kinds at (round_of s.floor r.place at) can.kind))
+      (round-there plan r actor s lines tells at (round_of s.floor r.place at) can.kind) can.job.waits;
+  ends = λ r s lines actor tells. ends-so plan r actor s lines tells;
 }
 
 -- a list of one value has it everywhere, also past its end
@@ -600,9 +610,8 @@ opening-sorts (resource ∷ resources) zero = kind-sort resource.kind
 opening-sorts (resource ∷ resources) (suc q) = opening-sorts resources q
 
 -- a machine that opens has told nothing, and nobody waits
-pub opening-tells : (plan : Plan) → IsTelling plan (opening_machine plan).scene
+pub opening-tells : (plan : Plan) → IsTelling plan (opening_machine plan).scene []
 opening-tells plan = record {
-  lines = [];
   text = refl;
   numbered = λ q round own. opening-history (λ h. (standing_in (size_at (opening_floor plan) q) h round).next ≡ 0)
       (no-numbers (size_at (opening_floor plan) q) round) refl plan.resources q;
@@ -620,9 +629,3 @@ opening-tells plan = record {
     apart = λ i j w first second. absurd (nobody-waits plan i w first);
   };
 }
-
-pub every-report-has-its-lines : EveryReportHasItsLines
-every-report-has-its-lines plan turns runnable =
-    let tells : IsTelling plan (machine_after plan turns).scene
-    = always-holds plan (IsTelling plan) (kept-by-events plan) turns runnable (opening-tells plan) in
-    (tells.lines, record { text = tells.text; tell = tells.tell })

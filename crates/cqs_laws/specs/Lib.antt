@@ -2,3 +2,4 @@ pub mod Totals
 pub mod Endings
 pub mod Events
 pub mod Balances
+pub mod Stories

@@ -7,6 +7,7 @@
 ghost use Rattle.cqs_laws.specs.Balances.{EveryResourceBalances, EveryRoundBalances};
 ghost use Rattle.cqs_laws.specs.Totals.{TotalsAddUp};
 ghost use Rattle.cqs_laws.specs.Events.{EveryReportHasItsLines};
+ghost use Rattle.cqs_laws.specs.Stories.{EveryJobHasItsStory};
 ghost use Rattle.cqs_laws.specs.Endings.{EndedJobsHaveNothing, NoWaitOutlivesItsDeadline};
 
 /// The four totals of a report add up to the number of the plan's jobs.
@@ -45,4 +46,12 @@ pub fn every_resource_balances()
 /// until the last has come; from then on nobody waits. So it is between any two turns.
 pub fn every_round_balances()
     ensures { EveryRoundBalances }
+{}
+
+/// The lines of each job, in order, are a story of its steps. Each step but `work` is told once, at
+/// once or by the line that a wait is served; `work n` lets n turns go by before the next line. A
+/// wait is served before the deadline, and given up, or late, only if there is a deadline and it has
+/// come. Only who has made all steps is done, and the totals count a job as its story ends.
+pub fn every_job_has_its_story()
+    ensures { EveryJobHasItsStory }
 {}

@@ -1,4 +1,4 @@
-use Rattle.cqs_laws.proofs.Telling.{every-report-has-its-lines}
+use Rattle.cqs_laws.proofs.JobStories.{every-report-has-its-lines}
 use Rattle.cqs_laws.proofs.every_report_has_its_lines.Goals as goal
 
 pub returns : goal.returns

@@ -1,0 +1,512 @@
+-- Each event of a job adds a line to its story, and none to another's.
+use Rattle.std.proofs.Common.{◌≡◌, ◌≢◌, ◌⊎◌, inl, inr, ℕ, zero, suc, ◌+◌, ◌<◌, ◌≤◌, ◌==◌, List, [], ◌∷◌, ◌++◌, Bool, true, false, nat_lt, Option, Some, None, length, set, drop, replicate, slice_get, refl, sym, ap, subst, ◌∙◌, eq-eqb, ne_eqb, leb-true, leb-false, ltb-false, arith}
+use Rattle.std.specs.Bool.{if◌then◌else◌}
+use Rattle.std.specs.Option.{option_map_or}
+use Rattle.std.proofs.lemmas.Bool.{cases_eq}
+use Rattle.std.proofs.lemmas.List.{append-nil, drop-drop}
+use Rattle.std.proofs.lemmas.List.Elements.{filter-append}
+use Rattle.cqs_core.proofs.Places.{get-below, get-drop, get-set_here, get-set_else, get-there}
+use Rattle.cqs_plan.specs.declared.plans.job.Job.{Job}
+use Rattle.cqs_plan.specs.declared.plans.plan.Plan.{Plan}
+use Rattle.cqs_plan.specs.declared.plans.step.Step.{Step}
+use Rattle.cqs_plan.specs.declared.plans.step.Step.TheVariants.{Take, Give, Down, Await, Arrive, Work}
+use Rattle.cqs_plan.specs.declared.floors.answers.FloorTake.{FloorTake}
+use Rattle.cqs_plan.specs.declared.floors.answers.FloorTake.TheVariants.{Now, Waits}
+use Rattle.cqs_plan.specs.declared.floors.answers.FloorGive.{FloorGive}
+use Rattle.cqs_plan.specs.declared.floors.answers.FloorGive.TheVariants.{Free, Sent}
+use Rattle.cqs_plan.specs.declared.floors.answers.FloorDown.{FloorDown}
+use Rattle.cqs_plan.specs.declared.floors.answers.FloorDown.TheVariants.{Left, Last, Already}
+use Rattle.cqs_plan.specs.declared.floors.answers.FloorLook.{FloorLook}
+use Rattle.cqs_plan.specs.declared.floors.answers.FloorLook.TheVariants.{Pending, Granted}
+use Rattle.cqs_plan.specs.declared.floors.answers.FloorLeave.{FloorLeave}
+use Rattle.cqs_plan.specs.declared.floors.answers.FloorLeave.TheVariants as leave
+use Rattle.cqs_plan.specs.PlanSteps.{may_wait}
+use Rattle.cqs_plan.specs.Floor.{round_of}
+use Rattle.cqs_plan.specs.FloorCalls.{take_answer, give_answer, down_answer, wait_answer, arrive_answer, look_answer, leave_answer, after_look}
+use Rattle.cqs_plan.specs.Runnable.{IsRunnable}
+use Rattle.cqs_turns.specs.declared.lines.Told.{Told}
+use Rattle.cqs_turns.specs.declared.lines.Told.TheVariants as told
+use Rattle.cqs_turns.specs.declared.states.End.{End}
+use Rattle.cqs_turns.specs.declared.states.End.TheVariants as end
+use Rattle.cqs_turns.specs.declared.states.Progress.{Progress}
+use Rattle.cqs_turns.specs.declared.states.Progress.TheVariants.{Stepping, Working, Waiting, Ended}
+use Rattle.cqs_turns.specs.Ready.{IsReady, wait_in, steps_left, is_held}
+use Rattle.cqs_turns.specs.Roles.{wait_at}
+use Rattle.cqs_turns.specs.Running.{IsRunning}
+use Rattle.cqs_turns.specs.Turns.{Role, Scene, Acted, Machine, event, take_told, give_told, leave_told, down_told, wait_told, arrive_told, on_take, on_give, on_down, on_wait, on_arrive, on_leave, after_gives, after_coming, stop_or, after_step, after_steps, after_last_step, after_giving_up, after_looking, after_acting, is_due, end_of, one_job, opening_machine, machine_after, places_held, left_at, go_on}
+use Rattle.cqs_turns.proofs.Opened.{opening-running}
+use Rattle.cqs_turns.proofs.Readied.{first-given, first-ready, leave-ready, after_looking-ready, can-give}
+use Rattle.cqs_turns.proofs.RunningLemmas.{room-of, running-on}
+use Rattle.cqs_turns.proofs.Stepping.{after_step-ready}
+use Rattle.cqs_turns.proofs.Turned.{after_acting-turned}
+use Rattle.cqs_laws.specs.Events.{Line, EveryReportHasItsLines}
+use Rattle.cqs_laws.specs.Stories.{TellsOf, Stage, AtStep, InWait, Closing, Over, Story, GoesOn, CountsAs, HasStory, AreStories, own_lines, EveryJobHasItsStory}
+use Rattle.cqs_laws.specs.Stories as story
+use Rattle.cqs_laws.proofs.Everywhere.{always-in}
+use Rattle.cqs_laws.proofs.OwnTurn.{role_of}
+use Rattle.cqs_laws.proofs.Kept.{one-job-is, with_acted}
+use Rattle.cqs_laws.proofs.Lifting.{IsActor, CanGive, HasWait, IsToldByEvents, line_of}
+use Rattle.cqs_laws.proofs.Telling.{IsTelling, told-by-events, opening-tells}
+
+-- a line of the job is one more of its own
+own-push : (place : ℕ) (lines : List Line) (line : Line) → line.job ≡ place
+    → own_lines place (lines ++ line ∷ []) ≡ own_lines place lines ++ line ∷ []
+own-push place lines line same =
+    let own : line.job == place ≡ true = eq-eqb line.job place same in
+    let one : own_lines place (line ∷ []) ≡ line ∷ [] = rw own refl in
+    filter-append (λ (x : Line). x.job == place) lines (line ∷ []) ∙ ap (λ xs. own_lines place lines ++ xs) one
+
+-- and none of another's
+other-push : (place : ℕ) (lines : List Line) (line : Line) → line.job ≢ place
+    → own_lines place (lines ++ line ∷ []) ≡ own_lines place lines
+other-push place lines line other =
+    let away : line.job == place ≡ false = ne_eqb line.job place other in
+    let none : own_lines place (line ∷ []) ≡ [] = rw away refl in
+    filter-append (λ (x : Line). x.job == place) lines (line ∷ []) ∙ ap (λ xs. own_lines place lines ++ xs) none
+    ∙ append-nil (own_lines place lines)
+
+-- what is told of a give, and of a count down
+give-tells : (at : ℕ) (answer : FloorGive) → TellsOf (Give at) (give_told at answer)
+give-tells at (Free element) = story.gives_free at element
+give-tells at (Sent element number) = story.gives_sent at element number
+
+down-tells : (at : ℕ) (answer : FloorDown) → TellsOf (Down at) (down_told at answer)
+down-tells at (Left left) = story.downs_left at left
+down-tells at Last = story.downs_open at
+down-tells at Already = story.downs_already at
+
+-- how far the machine has the job that is at this stage of its story, when a turn begins
+abbrev pub IsAt : ℕ → Progress → Stage → Type 0
+IsAt turn (Stepping next) stage = (from : ℕ) × (stage ≡ AtStep next from) × (from ≤ turn)
+IsAt turn (Working next until) stage = (from : ℕ) × (stage ≡ AtStep next from) × (from ≤ until)
+IsAt turn (Waiting next at round number) stage =
+    (step since : ℕ) × (next ≡ step + 1) × (stage ≡ InWait step at round number since) × (since ≤ turn)
+IsAt turn (Ended end) stage = stage ≡ Over end
+
+is-at-later : (turn : ℕ) (p : Progress) (stage : Stage) → IsAt turn p stage → IsAt (suc turn) p stage
+is-at-later turn (Stepping next) stage at = (at.0, at.1, omega (arith, at.2))
+is-at-later turn (Working next until) stage at = at
+is-at-later turn (Waiting next place round number) stage at = (at.0, at.1, at.2, at.3, omega (arith, at.4))
+is-at-later turn (Ended end) stage at = at
+
+counts-as : (turn : ℕ) (p : Progress) (stage : Stage) → IsAt turn p stage → CountsAs p stage
+counts-as turn (Stepping next) stage at = subst GoesOn (sym at.1) tt
+counts-as turn (Working next until) stage at = subst GoesOn (sym at.1) tt
+counts-as turn (Waiting next place round number) stage at = subst GoesOn (sym at.3) tt
+counts-as turn (Ended end) stage at = at
+
+-- the deadline has come, or has not
+has-come : (deadline : Option ℕ) (turn : ℕ) → is_due deadline turn ≡ true
+    → (d : ℕ) × (deadline ≡ Some d) × (d ≤ turn)
+has-come None turn due = absurd (cc)
+has-come (Some d) turn due = (d, refl, leb-true d turn due)
+
+not-come : (deadline : Option ℕ) (turn d : ℕ) → is_due deadline turn ≡ false → deadline ≡ Some d → turn < d
+not-come None turn d due is = absurd (cc)
+not-come (Some e) turn d due is =
+    let same : e ≡ d = cc in
+    let before : turn < e = leb-false e turn due in
+    omega (arith, same, before)
+
+ends-of : (answer : FloorLeave) → (end_of answer ≡ end.GaveUp) ⊎ (end_of answer ≡ end.Late)
+ends-of leave.Gone = inl refl
+ends-of (leave.Late element) = inr refl
+
+-- the next step, and those after it
+step-there : (steps : List Step) (next : ℕ) (step : Step) (rest : List Step) → drop next steps ≡ step ∷ rest
+    → slice_get steps next ≡ Some step
+step-there steps next step rest split =
+    sym (get-drop next steps 0 next (omega arith)) ∙ ap (λ xs. slice_get xs 0) split
+
+steps-past : (steps : List Step) (next : ℕ) → drop next steps ≡ [] → length steps ≤ next
+steps-past [] next split = omega arith
+steps-past (step ∷ steps) zero split = absurd (cc)
+steps-past (step ∷ steps) (suc next) split = omega (arith, steps-past steps next split)
+
+rest-there : (steps : List Step) (next : ℕ) (step : Step) (rest : List Step) → drop next steps ≡ step ∷ rest
+    → drop (next + 1) steps ≡ rest
+rest-there steps next step rest split = sym (drop-drop 1 next steps) ∙ ap (drop 1) split
+
+module _ (plan : Plan) (P : Scene → List Line → Type 0) (told_so : IsToldByEvents plan P) where
+  module _ (r : Role) (actor : IsActor plan r) (before : List Line) where
+    -- in the job's turn: its own lines are its story so far, and those of the others are as before
+    pub record Walked (s : Scene) (stage : Stage) : Type 0 where
+      pub lines : List Line
+      pub holds : P s lines
+      pub story : Story r.job (own_lines r.place lines) stage
+      pub others : (j : ℕ) → j ≢ r.place → own_lines j lines ≡ own_lines j before
+
+    -- what the job's turn comes to
+    pub record Acts (a : Acted) : Type 0 where
+      pub stage : Stage
+      pub walked : Walked a.scene stage
+      pub is : IsAt r.turn a.progress stage
+
+    -- one more line of the job
+    tells : (s t : Scene) (stage next : Stage) (words : Told) (w : Walked s stage)
+        → P t (w.lines ++ line_of r words ∷ [])
+        → Story r.job (own_lines r.place w.lines ++ line_of r words ∷ []) next → Walked t next
+    tells s t stage next words w holds goes = record {
+      lines = w.lines ++ line_of r words ∷ [];
+      holds = holds;
+      story = subst (λ ls. Story r.job ls next) (sym (own-push r.place w.lines (line_of r words) refl)) goes;
+      others = λ j other.
+          other-push j w.lines (line_of r words) (λ same. other (sym same)) ∙ w.others j other;
+    }
+
+    -- no more line
+    still : (s : Scene) (stage next : Stage) (w : Walked s stage) → Story r.job (own_lines r.place w.lines) next
+        → Walked s next
+    still s stage next w goes = record { lines = w.lines; holds = w.holds; story = goes; others = w.others }
+
+    after_gives-walks : (e : End) (places : List ℕ) (s : Scene) → IsReady s.floor r.place None []
+        → places_held s.floor r.place ≡ places → Walked s (Closing e r.turn)
+        → Walked (after_gives r places s) (Closing e r.turn)
+    after_gives-walks e [] s ready held w = w
+    after_gives-walks e (at ∷ places) s ready held w =
+        let first : at == at ≡ true = eq-eqb at at refl in
+        let there : is_held at (at ∷ places) ≡ true = rw first refl in
+        let can : CanGive s.floor r.place at = record {
+          job = ready.job;
+          held = rw held there;
+          kind = (rw held at ready.holdable).0;
+        } in
+        let answer : FloorGive = give_answer s.floor at r.place in
+        after_gives-walks e places (on_give r at s) (first-ready s.floor r.place at answer ready)
+        (first-given s.floor r.place at places answer ready.job held)
+        (tells s (on_give r at s) (Closing e r.turn) (Closing e r.turn) (give_told at answer) w
+        (told_so.gives r at s w.lines actor can w.holds)
+        (story.gives_back (own_lines r.place w.lines) e at (line_of r (give_told at answer)) (give-tells at answer)
+        w.story))
+
+    after_last_step-walks : (next from : ℕ) (s : Scene) → IsReady s.floor r.place None []
+        → length r.job.steps ≤ next → from ≤ r.turn → Walked s (AtStep next from) → Acts (after_last_step r s)
+    after_last_step-walks next from s ready past early w =
+        let made : Walked s (Closing end.Done r.turn)
+        = still s (AtStep next from) (Closing end.Done r.turn) w
+        (story.has_made_all (own_lines r.place w.lines) next from r.turn past early w.story) in
+        let t : Scene = after_gives r (places_held s.floor r.place) s in
+        let given : Walked t (Closing end.Done r.turn)
+        = after_gives-walks end.Done (places_held s.floor r.place) s ready refl made in
+        record {
+          stage = Over end.Done;
+          walked = tells t (event r t t.floor told.Done) (Closing end.Done r.turn) (Over end.Done) told.Done given
+              (told_so.ends r t given.lines actor given.holds)
+              (story.is_done (own_lines r.place given.lines) (line_of r told.Done) refl given.story);
+          is = refl;
+        }
+
+    -- a step that is made at once, with its line
+    makes : (next from : ℕ) (step : Step) (words : Told) (s t : Scene) → slice_get r.job.steps next ≡ Some step
+        → TellsOf step words → from ≤ r.turn → (w : Walked s (AtStep next from))
+        → P t (w.lines ++ line_of r words ∷ []) → Walked t (AtStep (next + 1) r.turn)
+    makes next from step words s t is tells_of early w holds =
+        tells s t (AtStep next from) (AtStep (next + 1) r.turn) words w holds
+        (story.makes (own_lines r.place w.lines) next from step (line_of r words) is tells_of early w.story)
+
+    -- the job goes on with these steps
+    abbrev GoesOnWith : ℕ → List Step → Type 0
+    GoesOnWith next rest =
+        (t : Scene) → IsReady t.floor r.place None rest → Walked t (AtStep (next + 1) r.turn)
+        → Acts (after_steps r rest (next + 1) t)
+
+    -- a step that may have to wait
+    coming-walks : (next from at round : ℕ) (step : Step) (rest : List Step) (on : FloorTake → Scene → Scene)
+        (words : FloorTake → Told) (answer : FloorTake) (s : Scene) → slice_get r.job.steps next ≡ Some step
+        → may_wait at step ≡ true → ((element : ℕ) → TellsOf step (words (Now element)))
+        → ((number : ℕ) → words (Waits number) ≡ told.Waits at round number) → from ≤ r.turn
+        → (w : Walked s (AtStep next from)) → P (on answer s) (w.lines ++ line_of r (words answer) ∷ [])
+        → IsReady (after_coming next at round on answer s).scene.floor r.place
+        (option_map_or wait_in (after_coming next at round on answer s).stops None) rest
+        → GoesOnWith next rest
+        → Acts (stop_or (after_coming next at round on answer s)
+        (after_steps r rest (next + 1) (after_coming next at round on answer s).scene))
+    coming-walks next from at round step rest on words (Now element) s is may now later early w holds ready onward =
+        onward (on (Now element) s) ready
+        (makes next from step (words (Now element)) s (on (Now element) s) is (now element) early w holds)
+    coming-walks next from at round step rest on words (Waits number) s is may now later early w holds ready onward =
+        record {
+          stage = InWait next at round number r.turn;
+          walked = tells s (on (Waits number) s) (AtStep next from) (InWait next at round number r.turn)
+              (words (Waits number)) w holds
+              (story.waits (own_lines r.place w.lines) next from at round number step
+              (line_of r (words (Waits number))) is may (later number) early w.story);
+          is = (next, r.turn, refl, refl, omega arith);
+        }
+
+    step-walks : (next from : ℕ) (step : Step) (rest : List Step) (s : Scene)
+        → slice_get r.job.steps next ≡ Some step → IsReady s.floor r.place None (step ∷ rest) → from ≤ r.turn
+        → Walked s (AtStep next from) → GoesOnWith next rest → Acts (after_steps r (step ∷ rest) next s)
+    step-walks next from (Work turns) rest s is ready early w onward = record {
+      stage = AtStep (next + 1) (from + turns);
+      walked = still s (AtStep next from) (AtStep (next + 1) (from + turns)) w
+          (story.works (own_lines r.place w.lines) next from turns is w.story);
+      is = (from + turns, refl, omega (arith, early));
+    }
+    step-walks next from (Take at) rest s is ready early w onward =
+        let answer : FloorTake = take_answer s.floor at r.place in
+        coming-walks next from at 0 (Take at) rest (on_take r at) (take_told at) answer s is (eq-eqb at at refl)
+        (λ element. story.takes at element) (λ number. refl) early w
+        (told_so.takes r at s w.lines actor
+        (record { job = ready.job; idle = ready.waits; kind = ready.makeable.0 }) w.holds)
+        (after_step-ready r next (Take at) rest s ready) onward
+    step-walks next from (Give at) rest s is ready early w onward =
+        let answer : FloorGive = give_answer s.floor at r.place in
+        onward (on_give r at s) (after_step-ready r next (Give at) rest s ready)
+        (makes next from (Give at) (give_told at answer) s (on_give r at s) is (give-tells at answer) early w
+        (told_so.gives r at s w.lines actor
+        (record { job = ready.job; held = ready.makeable.0; kind = can-give s.floor r.place at rest ready }) w.holds))
+    step-walks next from (Down at) rest s is ready early w onward =
+        let answer : FloorDown = down_answer s.floor at in
+        onward (on_down r at s) (after_step-ready r next (Down at) rest s ready)
+        (makes next from (Down at) (down_told at answer) s (on_down r at s) is (down-tells at answer) early w
+        (told_so.downs r at s w.lines actor ready.makeable.0 w.holds))
+    step-walks next from (Await at) rest s is ready early w onward =
+        let answer : FloorTake = wait_answer s.floor at in
+        coming-walks next from at 0 (Await at) rest (on_wait r at) (wait_told at) answer s is (eq-eqb at at refl)
+        (λ element. story.passes at) (λ number. refl) early w
+        (told_so.awaits r at s w.lines actor
+        (record { job = ready.job; idle = ready.waits; kind = ready.makeable.0 }) w.holds)
+        (after_step-ready r next (Await at) rest s ready) onward
+    step-walks next from (Arrive at) rest s is ready early w onward =
+        let answer : FloorTake = arrive_answer s.floor at r.place in
+        let round : ℕ = round_of s.floor r.place at in
+        coming-walks next from at round (Arrive at) rest (on_arrive r at) (arrive_told at round) answer s is
+        (eq-eqb at at refl)
+        (λ element. story.arrives_last at round) (λ number. refl) early w
+        (told_so.arrives r at s w.lines actor
+        (record { job = ready.job; idle = ready.waits; kind = ready.makeable.0 }) w.holds)
+        (after_step-ready r next (Arrive at) rest s ready) onward
+
+    after_steps-walks : (steps : List Step) (next from : ℕ) (s : Scene) → drop next r.job.steps ≡ steps
+        → IsReady s.floor r.place None steps → from ≤ r.turn → Walked s (AtStep next from)
+        → Acts (after_steps r steps next s)
+    after_steps-walks [] next from s split ready early w =
+        after_last_step-walks next from s ready (steps-past r.job.steps next split) early w
+    after_steps-walks (step ∷ rest) next from s split ready early w =
+        step-walks next from step rest s (step-there r.job.steps next step rest split) ready early w
+        (λ t so_ready walked.
+        after_steps-walks rest (next + 1) r.turn t (rest-there r.job.steps next step rest split) so_ready (omega arith)
+        walked)
+
+    -- the job leaves its wait
+    leaves-walks : (step at round number since deadline : ℕ) (answer : FloorLeave) (s : Scene) → since ≤ r.turn
+        → r.job.deadline ≡ Some deadline → deadline ≤ r.turn → (w : Walked s (InWait step at round number since))
+        → P (on_leave r at round number answer s) (w.lines ++ line_of r (leave_told at round number answer) ∷ [])
+        → Walked (on_leave r at round number answer s) (Closing (end_of answer) r.turn)
+    leaves-walks step at round number since deadline leave.Gone s early has come w holds =
+        tells s (on_leave r at round number leave.Gone s) (InWait step at round number since)
+        (Closing end.GaveUp r.turn)
+        (told.GaveUp at round number) w holds
+        (story.gives_up (own_lines r.place w.lines) step at round number since deadline
+        (line_of r (told.GaveUp at round number)) refl early has come w.story)
+    leaves-walks step at round number since deadline (leave.Late element) s early has come w holds =
+        tells s (on_leave r at round number (leave.Late element) s) (InWait step at round number since)
+        (Closing end.Late r.turn) (told.Late at round number) w holds
+        (story.is_late (own_lines r.place w.lines) step at round number since deadline
+        (line_of r (told.Late at round number)) refl early has come w.story)
+
+    has-wait : (s : Scene) (at round number : ℕ) (steps : List Step)
+        → IsReady s.floor r.place (Some (wait_at at round number)) steps
+        → HasWait s.floor r.place at round number
+    has-wait s at round number steps ready = record { job = ready.job; waits = ready.waits }
+
+    after_giving_up-walks : (step at round number since : ℕ) (s : Scene) (steps : List Step)
+        → IsReady s.floor r.place (Some (wait_at at round number)) steps → since ≤ r.turn
+        → is_due r.job.deadline r.turn ≡ true → Walked s (InWait step at round number since)
+        → Acts (after_giving_up r at round number (leave_answer s.floor r.place) s)
+    after_giving_up-walks step at round number since s steps ready early due w =
+        let answer : FloorLeave = leave_answer s.floor r.place in
+        let t : Scene = on_leave r at round number answer s in
+        let come = has-come r.job.deadline r.turn due in
+        let left : Walked t (Closing (end_of answer) r.turn)
+        = leaves-walks step at round number since come.0 answer s early come.1 come.2 w
+        (told_so.leaves r at round number s w.lines actor (has-wait s at round number steps ready) w.holds) in
+        let u : Scene = after_gives r (places_held t.floor r.place) t in
+        let given : Walked u (Closing (end_of answer) r.turn)
+        = after_gives-walks (end_of answer) (places_held t.floor r.place) t
+        (leave-ready s.floor r.place (wait_at at round number) answer steps ready) refl left in
+        record {
+          stage = Over (end_of answer);
+          walked = still u (Closing (end_of answer) r.turn) (Over (end_of answer)) given
+              (story.has_left (own_lines r.place given.lines) (end_of answer) r.turn (ends-of answer) given.story);
+          is = refl;
+        }
+
+    after_looking-walks : (next step at round number since : ℕ) (answer : FloorLook) (s : Scene)
+        → IsReady s.floor r.place (Some (wait_at at round number)) (drop next r.job.steps)
+        → look_answer s.floor r.place ≡ answer → next ≡ step + 1 → since ≤ r.turn
+        → is_due r.job.deadline r.turn ≡ false → Walked s (InWait step at round number since)
+        → Acts (after_looking r next at round number answer s)
+    after_looking-walks next step at round number since Pending s ready same is early due w = record {
+      stage = InWait step at round number since;
+      walked = w;
+      is = (step, since, is, refl, early);
+    }
+    after_looking-walks next step at round number since (Granted element) s ready same is early due w =
+        let words : Told = told.Served at round number element in
+        let t : Scene = event r s (after_look s.floor r.place (Granted element)) words in
+        let served : Walked t (AtStep (step + 1) r.turn)
+        = tells s t (InWait step at round number since) (AtStep (step + 1) r.turn) words w
+        (told_so.serves r at round number element s w.lines actor
+        (has-wait s at round number (drop next r.job.steps) ready) same w.holds)
+        (story.is_served (own_lines r.place w.lines) step at round number since element (line_of r words) refl early
+        (λ d has. not-come r.job.deadline r.turn d due has) w.story) in
+        after_steps-walks (drop next r.job.steps) next r.turn t refl
+        (after_looking-ready s.floor r.place (wait_at at round number) element (drop next r.job.steps) ready)
+        (omega arith) (subst (λ n. Walked t (AtStep n r.turn)) (sym is) served)
+
+    if-acts : (b : Bool) (a c : Acted) → (b ≡ true → Acts a) → (b ≡ false → Acts c) → Acts (if b then a else c)
+    if-acts true a c here there = here refl
+    if-acts false a c here there = there refl
+
+    after_acting-walks : (p : Progress) (stage : Stage) (s : Scene) → IsAt r.turn p stage
+        → IsReady s.floor r.place (wait_in p) (steps_left r.job.steps p) → Walked s stage
+        → Acts (after_acting r p s)
+    after_acting-walks (Stepping next) stage s is ready w =
+        after_steps-walks (drop next r.job.steps) next is.0 s refl ready is.2 (subst (λ x. Walked s x) is.1 w)
+    after_acting-walks (Working next until) stage s is ready w =
+        if-acts (nat_lt r.turn until) (left_at s (Working next until)) (go_on r next s)
+        (λ early. record { stage = stage; walked = w; is = is })
+        (λ late.
+        let past : until ≤ r.turn = ltb-false r.turn until late in
+        after_steps-walks (drop next r.job.steps) next is.0 s refl ready (omega (arith, is.2, past))
+        (subst (λ x. Walked s x) is.1 w))
+    after_acting-walks (Waiting next at round number) stage s is ready w =
+        let waits : Walked s (InWait is.0 at round number is.1) = subst (λ x. Walked s x) is.3 w in
+        if-acts (is_due r.job.deadline r.turn) (after_giving_up r at round number (leave_answer s.floor r.place) s)
+        (after_looking r next at round number (look_answer s.floor r.place) s)
+        (λ due.
+        after_giving_up-walks is.0 at round number is.1 s (drop next r.job.steps) ready is.4 due waits)
+        (λ due.
+        after_looking-walks next is.0 at round number is.1 (look_answer s.floor r.place) s ready refl is.2 is.4 due
+        waits)
+    after_acting-walks (Ended e) stage s is ready w = record { stage = stage; walked = w; is = is }
+
+  -- the job has its story, and is as far as that says
+  pub record IsTold (turn : ℕ) (job : Job) (p : Progress) (own : List Line) : Type 0 where
+    pub stage : Stage
+    pub story : Story job own stage
+    pub is : IsAt turn p stage
+
+  -- the machine runs, and its lines are the stories of its jobs
+  pub record IsStoried (turn : ℕ) (m : Machine) : Type 0 where
+    pub running : IsRunning plan m
+    pub lines : List Line
+    pub holds : P m.scene lines
+    pub jobs : (place : ℕ) (job : Job) (p : Progress) → slice_get plan.jobs place ≡ Some job
+        → slice_get m.progress place ≡ Some p → IsTold turn job p (own_lines place lines)
+    pub nobody : (place : ℕ) → length plan.jobs ≤ place → own_lines place lines ≡ []
+
+  module _ (runnable : IsRunnable plan) (turn place : ℕ) (job : Job) (m : Machine)
+      (there : slice_get plan.jobs place ≡ Some job) (storied : IsStoried turn m) (p : Progress)
+      (got : slice_get m.progress place ≡ Some p) where
+    abbrev role : Role
+    role = role_of plan.resources turn place job
+
+    abbrev a : Acted
+    a = after_acting role p m.scene
+
+    ready : IsReady m.scene.floor place (wait_in p) (steps_left job.steps p)
+    ready = storied.running.ready place job p there got
+
+    acts : Acts role (record { resources = refl; job = there }) storied.lines a
+    acts =
+        let own = storied.jobs place job p there got in
+        after_acting-walks role (record { resources = refl; job = there }) storied.lines p own.stage m.scene own.is
+        ready
+        (record { lines = storied.lines; holds = storied.holds; story = own.story; others = λ j other. refl })
+
+    told-after : (j : ℕ) (other_job : Job) (q : Progress) → slice_get plan.jobs j ≡ Some other_job
+        → slice_get (set m.progress place a.progress) j ≡ Some q → (j ≡ place) ⊎ (j ≢ place)
+        → IsTold turn other_job q (own_lines j acts.walked.lines)
+    told-after j other_job q is now (inl here) =
+        let own_job : job ≡ other_job = cc in
+        let own : slice_get (set m.progress place a.progress) place ≡ Some a.progress
+        = get-set_here m.progress place p a.progress got in
+        let again : slice_get (set m.progress place a.progress) place ≡ Some q = rw here at now in
+        let same : a.progress ≡ q = cc in
+        rw (here, ← own_job, ← same)
+        (record { stage = acts.stage; story = acts.walked.story; is = acts.is })
+    told-after j other_job q is now (inr other) =
+        let was : slice_get m.progress j ≡ Some q
+        = sym (get-set_else m.progress place j a.progress (λ same. other (sym same))) ∙ now in
+        subst (IsTold turn other_job q) (sym (acts.walked.others j other)) (storied.jobs j other_job q is was)
+
+    storied-after : IsStoried turn (with_acted m place a)
+    storied-after = record {
+      running = running-on plan m role p a storied.running there got
+          (after_acting-turned role p m.scene ready (room-of plan m place job storied.running runnable there p got)
+          (storied.running.rounds place job p there got));
+      lines = acts.walked.lines;
+      holds = acts.walked.holds;
+      jobs = λ j other_job q is now. told-after j other_job q is now (cases_eq j place);
+      nobody = λ j past.
+          let below : place < length plan.jobs = get-below plan.jobs place job there in
+          acts.walked.others j (λ same. omega (arith, same, below, past)) ∙ storied.nobody j past;
+    }
+
+  one-job-storied : IsRunnable plan → (turn place : ℕ) (job : Job) (m : Machine)
+      → slice_get plan.jobs place ≡ Some job → IsStoried turn m
+      → IsStoried turn (one_job plan.resources turn place job m)
+  one-job-storied runnable turn place job m there storied =
+      let below : place < length m.progress
+      = omega (arith, storied.running.jobs, get-below plan.jobs place job there) in
+      let own : (p : Progress) × (slice_get m.progress place ≡ Some p) = get-there m.progress place below in
+      subst (IsStoried turn) (sym (one-job-is plan.resources turn place job m own.0 own.1))
+      (storied-after runnable turn place job m there storied own.0 own.1)
+
+  later-storied : (turn : ℕ) (m : Machine) → IsStoried turn m → IsStoried (suc turn) m
+  later-storied turn m storied = record {
+    running = storied.running;
+    lines = storied.lines;
+    holds = storied.holds;
+    jobs = λ place job p there got.
+        let own = storied.jobs place job p there got in
+        record { stage = own.stage; story = own.story; is = is-at-later turn p own.stage own.is };
+    nobody = storied.nobody;
+  }
+
+  begun : (n place : ℕ) (p : Progress) → slice_get (replicate n (Stepping 0)) place ≡ Some p → p ≡ Stepping 0
+  begun zero place p got = absurd (cc)
+  begun (suc n) zero p got = cc
+  begun (suc n) (suc place) p got = begun n place p got
+
+  opening-storied : IsRunnable plan → P (opening_machine plan).scene [] → IsStoried 0 (opening_machine plan)
+  opening-storied runnable opens = record {
+    running = opening-running plan runnable;
+    lines = [];
+    holds = opens;
+    jobs = λ place job p there got.
+        rw (begun (length plan.jobs) place p got)
+        (record { stage = AtStep 0 0; story = story.begins; is = (0, refl, omega arith) });
+    nobody = λ place past. refl;
+  }
+
+  pub always-storied : IsRunnable plan → P (opening_machine plan).scene [] → (turns : ℕ)
+      → IsStoried turns (machine_after plan turns)
+  always-storied runnable opens turns =
+      always-in plan IsStoried (opening-storied runnable opens) later-storied (one-job-storied runnable) turns
+
+told-of : (plan : Plan) (turns : ℕ) → IsRunnable plan
+    → IsStoried plan (IsTelling plan) (told-by-events plan) turns (machine_after plan turns)
+told-of plan turns runnable =
+    always-storied plan (IsTelling plan) (told-by-events plan) runnable (opening-tells plan) turns
+
+pub every-report-has-its-lines : EveryReportHasItsLines
+every-report-has-its-lines plan turns runnable =
+    let all = told-of plan turns runnable in
+    (all.lines, record { text = all.holds.text; tell = all.holds.tell })
+
+pub every-job-has-its-story : EveryJobHasItsStory
+every-job-has-its-story plan turns runnable =
+    let all = told-of plan turns runnable in (
+      all.lines,
+      record { text = all.holds.text; tell = all.holds.tell },
+      record {
+        jobs = λ place job p there got.
+            let own = all.jobs place job p there got in
+            record { stage = own.stage; story = own.story; counts = counts-as turns p own.stage own.is };
+        nobody = all.nobody;
+      },
+    )

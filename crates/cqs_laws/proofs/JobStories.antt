@@ -1,8 +1,8 @@
 -- Each event of a job adds a line to its story, and none to another's.
-use Rattle.std.proofs.Common.{◌≡◌, ◌≢◌, ◌⊎◌, inl, inr, ℕ, zero, suc, ◌+◌, ◌<◌, ◌≤◌, ◌==◌, List, [], ◌∷◌, ◌++◌, Bool, true, false, nat_lt, Option, Some, None, length, set, drop, replicate, slice_get, refl, sym, ap, subst, ◌∙◌, eq-eqb, ne_eqb, leb-true, leb-false, ltb-false, arith}
+use Rattle.std.proofs.Common.{◌≡◌, ◌≢◌, ◌⊎◌, inl, inr, ℕ, zero, suc, ◌+◌, ◌<◌, ◌≤◌, ◌==◌, List, [], ◌∷◌, ◌++◌, Bool, true, false, nat_lt, Option, Some, None, length, set, drop, replicate, slice_get, refl, sym, ap, subst, ◌∙◌, eq-eqb, ne_eqb, leb-true, leb-false, lt-ltb, le-ltb, ltb-true, ltb-false, arith}
 use Rattle.std.specs.Bool.{if◌then◌else◌}
 use Rattle.std.specs.Option.{option_map_or}
-use Rattle.std.proofs.lemmas.Bool.{cases_eq}
+use Rattle.std.proofs.lemmas.Bool.{cases_eq, cases_lt}
 use Rattle.std.proofs.lemmas.List.{append-nil, drop-drop}
 use Rattle.std.proofs.lemmas.List.Elements.{filter-append}
 use Rattle.cqs_core.proofs.Places.{get-below, get-drop, get-set_here, get-set_else, get-there}
@@ -40,7 +40,7 @@ use Rattle.cqs_turns.proofs.RunningLemmas.{room-of, running-on}
 use Rattle.cqs_turns.proofs.Stepping.{after_step-ready}
 use Rattle.cqs_turns.proofs.Turned.{after_acting-turned}
 use Rattle.cqs_laws.specs.Events.{Line, EveryReportHasItsLines}
-use Rattle.cqs_laws.specs.Stories.{TellsOf, Stage, AtStep, InWait, Closing, Over, Story, GoesOn, CountsAs, HasStory, AreStories, own_lines, EveryJobHasItsStory}
+use Rattle.cqs_laws.specs.Stories.{TellsOf, Stage, AtStep, InWait, Closing, Over, Story, GoesOn, CountsAs, HasStory, lasts, AreStories, own_lines, EveryJobHasItsStory}
 use Rattle.cqs_laws.specs.Stories as story
 use Rattle.cqs_laws.proofs.Everywhere.{always-in}
 use Rattle.cqs_laws.proofs.OwnTurn.{role_of}
@@ -75,25 +75,33 @@ down-tells at (Left left) = story.downs_left at left
 down-tells at Last = story.downs_open at
 down-tells at Already = story.downs_already at
 
--- how far the machine has the job that is at this stage of its story, when a turn begins
-abbrev pub IsAt : ℕ → Progress → Stage → Type 0
-IsAt turn (Stepping next) stage = (from : ℕ) × (stage ≡ AtStep next from) × (from ≤ turn)
-IsAt turn (Working next until) stage = (from : ℕ) × (stage ≡ AtStep next from) × (from ≤ until)
-IsAt turn (Waiting next at round number) stage =
-    (step since : ℕ) × (next ≡ step + 1) × (stage ≡ InWait step at round number since) × (since ≤ turn)
-IsAt turn (Ended end) stage = stage ≡ Over end
+-- how far the machine has a job with this deadline that is at this stage of its story, before its turn
+abbrev pub IsAt : Option ℕ → ℕ → Progress → Stage → Type 0
+IsAt deadline turn (Stepping next) stage = stage ≡ AtStep next turn
+IsAt deadline turn (Working next until) stage =
+    (from : ℕ) × (stage ≡ AtStep next from) × (until ≤ turn → from ≡ turn) × (turn ≤ until → from ≡ until)
+IsAt deadline turn (Waiting next at round number) stage =
+    (step since : ℕ) × (next ≡ step + 1) × (stage ≡ InWait step at round number since) × (since < turn)
+    × ((d : ℕ) → deadline ≡ Some d → (turn ≤ d) ⊎ (turn ≤ since + 1))
+IsAt deadline turn (Ended end) stage = stage ≡ Over end
 
-is-at-later : (turn : ℕ) (p : Progress) (stage : Stage) → IsAt turn p stage → IsAt (suc turn) p stage
-is-at-later turn (Stepping next) stage at = (at.0, at.1, omega (arith, at.2))
-is-at-later turn (Working next until) stage at = at
-is-at-later turn (Waiting next place round number) stage at = (at.0, at.1, at.2, at.3, omega (arith, at.4))
-is-at-later turn (Ended end) stage at = at
+counts-as : (deadline : Option ℕ) (turn : ℕ) (p : Progress) (stage : Stage) → IsAt deadline turn p stage
+    → CountsAs turn deadline p stage
+counts-as deadline turn (Stepping next) stage at = subst (GoesOn turn deadline) (sym at) (omega arith)
+counts-as deadline turn (Working next until) stage at =
+    subst (GoesOn turn deadline) (sym at.1) (by (cases_lt turn until))
+  where
+    by : (turn < until) ⊎ (until ≤ turn) → turn ≤ at.0
+    by (inl below) = omega (arith, below, at.3 (omega (arith, below)))
+    by (inr past) = omega (arith, at.2 past)
+counts-as deadline turn (Waiting next place round number) stage at = subst (GoesOn turn deadline) (sym at.3) at.5
+counts-as deadline turn (Ended end) stage at = at
 
-counts-as : (turn : ℕ) (p : Progress) (stage : Stage) → IsAt turn p stage → CountsAs p stage
-counts-as turn (Stepping next) stage at = subst GoesOn (sym at.1) tt
-counts-as turn (Working next until) stage at = subst GoesOn (sym at.1) tt
-counts-as turn (Waiting next place round number) stage at = subst GoesOn (sym at.3) tt
-counts-as turn (Ended end) stage at = at
+-- a job that begins to work in this turn goes on in the turn that its story says
+works-so : (turn turns : ℕ) → (turn + turns ≤ suc turn → turn + lasts turns ≡ suc turn)
+    × (suc turn ≤ turn + turns → turn + lasts turns ≡ turn + turns)
+works-so turn zero = (λ past. omega arith, λ early. absurd (omega (arith, early)))
+works-so turn (suc n) = (λ past. omega (arith, past), λ early. refl)
 
 -- the deadline has come, or has not
 has-come : (deadline : Option ℕ) (turn : ℕ) → is_due deadline turn ≡ true
@@ -127,6 +135,31 @@ rest-there : (steps : List Step) (next : ℕ) (step : Step) (rest : List Step) �
     → drop (next + 1) steps ≡ rest
 rest-there steps next step rest split = sym (drop-drop 1 next steps) ∙ ap (drop 1) split
 
+-- in which turn a job has its next turn, where the job at this place is the next that acts
+abbrev next_turn : ℕ → ℕ → ℕ → ℕ
+next_turn turn next place = if nat_lt place next then suc turn else turn
+
+turn-here : (turn place : ℕ) → next_turn turn place place ≡ turn
+turn-here turn place = rw (le-ltb place place (omega arith)) refl
+
+turn-gone : (turn place : ℕ) → next_turn turn (place + 1) place ≡ suc turn
+turn-gone turn place = rw (lt-ltb place (place + 1) (omega arith)) refl
+
+turn-first : (turn place : ℕ) → next_turn turn 0 place ≡ turn
+turn-first turn place = rw (le-ltb place 0 (omega arith)) refl
+
+turn-else : (turn place j : ℕ) → j ≢ place → next_turn turn (place + 1) j ≡ next_turn turn place j
+turn-else turn place j other = by (cases_lt j place)
+  where
+    by : (j < place) ⊎ (place ≤ j) → next_turn turn (place + 1) j ≡ next_turn turn place j
+    by (inl below) = rw (lt-ltb j place below, lt-ltb j (place + 1) (omega (arith, below))) refl
+    by (inr past) =
+        let beyond : place + 1 ≤ j = omega (arith, past, other) in
+        rw (le-ltb j place past, le-ltb j (place + 1) beyond) refl
+
+turn-over : (turn all place : ℕ) → place < all → next_turn turn all place ≡ next_turn (suc turn) 0 place
+turn-over turn all place below = rw (lt-ltb place all below) (sym (turn-first (suc turn) place))
+
 module _ (plan : Plan) (P : Scene → List Line → Type 0) (told_so : IsToldByEvents plan P) where
   module _ (r : Role) (actor : IsActor plan r) (before : List Line) where
     -- in the job's turn: its own lines are its story so far, and those of the others are as before
@@ -140,7 +173,7 @@ module _ (plan : Plan) (P : Scene → List Line → Type 0) (told_so : IsToldByE
     pub record Acts (a : Acted) : Type 0 where
       pub stage : Stage
       pub walked : Walked a.scene stage
-      pub is : IsAt r.turn a.progress stage
+      pub is : IsAt r.job.deadline (suc r.turn) a.progress stage
 
     -- one more line of the job
     tells : (s t : Scene) (stage next : Stage) (words : Told) (w : Walked s stage)
@@ -180,11 +213,12 @@ module _ (plan : Plan) (P : Scene → List Line → Type 0) (told_so : IsToldByE
         w.story))
 
     after_last_step-walks : (next from : ℕ) (s : Scene) → IsReady s.floor r.place None []
-        → length r.job.steps ≤ next → from ≤ r.turn → Walked s (AtStep next from) → Acts (after_last_step r s)
+        → length r.job.steps ≤ next → from ≡ r.turn → Walked s (AtStep next from) → Acts (after_last_step r s)
     after_last_step-walks next from s ready past early w =
         let made : Walked s (Closing end.Done r.turn)
         = still s (AtStep next from) (Closing end.Done r.turn) w
-        (story.has_made_all (own_lines r.place w.lines) next from r.turn past early w.story) in
+        (subst (λ n. Story r.job (own_lines r.place w.lines) (Closing end.Done n)) early
+        (story.has_made_all (own_lines r.place w.lines) next from past w.story)) in
         let t : Scene = after_gives r (places_held s.floor r.place) s in
         let given : Walked t (Closing end.Done r.turn)
         = after_gives-walks end.Done (places_held s.floor r.place) s ready refl made in
@@ -198,11 +232,11 @@ module _ (plan : Plan) (P : Scene → List Line → Type 0) (told_so : IsToldByE
 
     -- a step that is made at once, with its line
     makes : (next from : ℕ) (step : Step) (words : Told) (s t : Scene) → slice_get r.job.steps next ≡ Some step
-        → TellsOf step words → from ≤ r.turn → (w : Walked s (AtStep next from))
+        → TellsOf step words → from ≡ r.turn → (w : Walked s (AtStep next from))
         → P t (w.lines ++ line_of r words ∷ []) → Walked t (AtStep (next + 1) r.turn)
     makes next from step words s t is tells_of early w holds =
         tells s t (AtStep next from) (AtStep (next + 1) r.turn) words w holds
-        (story.makes (own_lines r.place w.lines) next from step (line_of r words) is tells_of early w.story)
+        (story.makes (own_lines r.place w.lines) next from step (line_of r words) is tells_of (sym early) w.story)
 
     -- the job goes on with these steps
     abbrev GoesOnWith : ℕ → List Step → Type 0
@@ -214,7 +248,7 @@ module _ (plan : Plan) (P : Scene → List Line → Type 0) (told_so : IsToldByE
     coming-walks : (next from at round : ℕ) (step : Step) (rest : List Step) (on : FloorTake → Scene → Scene)
         (words : FloorTake → Told) (answer : FloorTake) (s : Scene) → slice_get r.job.steps next ≡ Some step
         → may_wait at step ≡ true → ((element : ℕ) → TellsOf step (words (Now element)))
-        → ((number : ℕ) → words (Waits number) ≡ told.Waits at round number) → from ≤ r.turn
+        → ((number : ℕ) → words (Waits number) ≡ told.Waits at round number) → from ≡ r.turn
         → (w : Walked s (AtStep next from)) → P (on answer s) (w.lines ++ line_of r (words answer) ∷ [])
         → IsReady (after_coming next at round on answer s).scene.floor r.place
         (option_map_or wait_in (after_coming next at round on answer s).stops None) rest
@@ -230,18 +264,18 @@ module _ (plan : Plan) (P : Scene → List Line → Type 0) (told_so : IsToldByE
           walked = tells s (on (Waits number) s) (AtStep next from) (InWait next at round number r.turn)
               (words (Waits number)) w holds
               (story.waits (own_lines r.place w.lines) next from at round number step
-              (line_of r (words (Waits number))) is may (later number) early w.story);
-          is = (next, r.turn, refl, refl, omega arith);
+              (line_of r (words (Waits number))) is may (later number) (sym early) w.story);
+          is = (next, r.turn, refl, refl, omega arith, λ d has. inr (omega arith));
         }
 
     step-walks : (next from : ℕ) (step : Step) (rest : List Step) (s : Scene)
-        → slice_get r.job.steps next ≡ Some step → IsReady s.floor r.place None (step ∷ rest) → from ≤ r.turn
+        → slice_get r.job.steps next ≡ Some step → IsReady s.floor r.place None (step ∷ rest) → from ≡ r.turn
         → Walked s (AtStep next from) → GoesOnWith next rest → Acts (after_steps r (step ∷ rest) next s)
     step-walks next from (Work turns) rest s is ready early w onward = record {
-      stage = AtStep (next + 1) (from + turns);
-      walked = still s (AtStep next from) (AtStep (next + 1) (from + turns)) w
+      stage = AtStep (next + 1) (from + lasts turns);
+      walked = still s (AtStep next from) (AtStep (next + 1) (from + lasts turns)) w
           (story.works (own_lines r.place w.lines) next from turns is w.story);
-      is = (from + turns, refl, omega (arith, early));
+      is = (from + lasts turns, refl, rw early (works-so r.turn turns).0, rw early (works-so r.turn turns).1);
     }
     step-walks next from (Take at) rest s is ready early w onward =
         let answer : FloorTake = take_answer s.floor at r.place in
@@ -279,18 +313,18 @@ module _ (plan : Plan) (P : Scene → List Line → Type 0) (told_so : IsToldByE
         (after_step-ready r next (Arrive at) rest s ready) onward
 
     after_steps-walks : (steps : List Step) (next from : ℕ) (s : Scene) → drop next r.job.steps ≡ steps
-        → IsReady s.floor r.place None steps → from ≤ r.turn → Walked s (AtStep next from)
+        → IsReady s.floor r.place None steps → from ≡ r.turn → Walked s (AtStep next from)
         → Acts (after_steps r steps next s)
     after_steps-walks [] next from s split ready early w =
         after_last_step-walks next from s ready (steps-past r.job.steps next split) early w
     after_steps-walks (step ∷ rest) next from s split ready early w =
         step-walks next from step rest s (step-there r.job.steps next step rest split) ready early w
         (λ t so_ready walked.
-        after_steps-walks rest (next + 1) r.turn t (rest-there r.job.steps next step rest split) so_ready (omega arith)
+        after_steps-walks rest (next + 1) r.turn t (rest-there r.job.steps next step rest split) so_ready refl
         walked)
 
     -- the job leaves its wait
-    leaves-walks : (step at round number since deadline : ℕ) (answer : FloorLeave) (s : Scene) → since ≤ r.turn
+    leaves-walks : (step at round number since deadline : ℕ) (answer : FloorLeave) (s : Scene) → since < r.turn
         → r.job.deadline ≡ Some deadline → deadline ≤ r.turn → (w : Walked s (InWait step at round number since))
         → P (on_leave r at round number answer s) (w.lines ++ line_of r (leave_told at round number answer) ∷ [])
         → Walked (on_leave r at round number answer s) (Closing (end_of answer) r.turn)
@@ -312,7 +346,7 @@ module _ (plan : Plan) (P : Scene → List Line → Type 0) (told_so : IsToldByE
     has-wait s at round number steps ready = record { job = ready.job; waits = ready.waits }
 
     after_giving_up-walks : (step at round number since : ℕ) (s : Scene) (steps : List Step)
-        → IsReady s.floor r.place (Some (wait_at at round number)) steps → since ≤ r.turn
+        → IsReady s.floor r.place (Some (wait_at at round number)) steps → since < r.turn
         → is_due r.job.deadline r.turn ≡ true → Walked s (InWait step at round number since)
         → Acts (after_giving_up r at round number (leave_answer s.floor r.place) s)
     after_giving_up-walks step at round number since s steps ready early due w =
@@ -335,13 +369,20 @@ module _ (plan : Plan) (P : Scene → List Line → Type 0) (told_so : IsToldByE
 
     after_looking-walks : (next step at round number since : ℕ) (answer : FloorLook) (s : Scene)
         → IsReady s.floor r.place (Some (wait_at at round number)) (drop next r.job.steps)
-        → look_answer s.floor r.place ≡ answer → next ≡ step + 1 → since ≤ r.turn
+        → look_answer s.floor r.place ≡ answer → next ≡ step + 1 → since < r.turn
         → is_due r.job.deadline r.turn ≡ false → Walked s (InWait step at round number since)
         → Acts (after_looking r next at round number answer s)
     after_looking-walks next step at round number since Pending s ready same is early due w = record {
       stage = InWait step at round number since;
       walked = w;
-      is = (step, since, is, refl, early);
+      is = (
+        step,
+        since,
+        is,
+        refl,
+        omega (arith, early),
+        λ d has. inl (omega (arith, not-come r.job.deadline r.turn d due has)),
+      );
     }
     after_looking-walks next step at round number since (Granted element) s ready same is early due w =
         let words : Told = told.Served at round number element in
@@ -354,23 +395,30 @@ module _ (plan : Plan) (P : Scene → List Line → Type 0) (told_so : IsToldByE
         (λ d has. not-come r.job.deadline r.turn d due has) w.story) in
         after_steps-walks (drop next r.job.steps) next r.turn t refl
         (after_looking-ready s.floor r.place (wait_at at round number) element (drop next r.job.steps) ready)
-        (omega arith) (subst (λ n. Walked t (AtStep n r.turn)) (sym is) served)
+        refl (subst (λ n. Walked t (AtStep n r.turn)) (sym is) served)
 
     if-acts : (b : Bool) (a c : Acted) → (b ≡ true → Acts a) → (b ≡ false → Acts c) → Acts (if b then a else c)
     if-acts true a c here there = here refl
     if-acts false a c here there = there refl
 
-    after_acting-walks : (p : Progress) (stage : Stage) (s : Scene) → IsAt r.turn p stage
+    after_acting-walks : (p : Progress) (stage : Stage) (s : Scene) → IsAt r.job.deadline r.turn p stage
         → IsReady s.floor r.place (wait_in p) (steps_left r.job.steps p) → Walked s stage
         → Acts (after_acting r p s)
     after_acting-walks (Stepping next) stage s is ready w =
-        after_steps-walks (drop next r.job.steps) next is.0 s refl ready is.2 (subst (λ x. Walked s x) is.1 w)
+        after_steps-walks (drop next r.job.steps) next r.turn s refl ready refl (subst (λ x. Walked s x) is w)
     after_acting-walks (Working next until) stage s is ready w =
         if-acts (nat_lt r.turn until) (left_at s (Working next until)) (go_on r next s)
-        (λ early. record { stage = stage; walked = w; is = is })
+        (λ early.
+        let within : r.turn < until = ltb-true r.turn until early in
+        let own : is.0 ≡ until = is.3 (omega (arith, within)) in
+        record {
+          stage = stage;
+          walked = w;
+          is = (is.0, is.1, λ past. omega (arith, past, within, own), λ more. own);
+        })
         (λ late.
         let past : until ≤ r.turn = ltb-false r.turn until late in
-        after_steps-walks (drop next r.job.steps) next is.0 s refl ready (omega (arith, is.2, past))
+        after_steps-walks (drop next r.job.steps) next is.0 s refl ready (is.2 past)
         (subst (λ x. Walked s x) is.1 w))
     after_acting-walks (Waiting next at round number) stage s is ready w =
         let waits : Walked s (InWait is.0 at round number is.1) = subst (λ x. Walked s x) is.3 w in
@@ -387,19 +435,19 @@ module _ (plan : Plan) (P : Scene → List Line → Type 0) (told_so : IsToldByE
   pub record IsTold (turn : ℕ) (job : Job) (p : Progress) (own : List Line) : Type 0 where
     pub stage : Stage
     pub story : Story job own stage
-    pub is : IsAt turn p stage
+    pub is : IsAt job.deadline turn p stage
 
   -- the machine runs, and its lines are the stories of its jobs
-  pub record IsStoried (turn : ℕ) (m : Machine) : Type 0 where
+  pub record IsStoried (turn next : ℕ) (m : Machine) : Type 0 where
     pub running : IsRunning plan m
     pub lines : List Line
     pub holds : P m.scene lines
     pub jobs : (place : ℕ) (job : Job) (p : Progress) → slice_get plan.jobs place ≡ Some job
-        → slice_get m.progress place ≡ Some p → IsTold turn job p (own_lines place lines)
+        → slice_get m.progress place ≡ Some p → IsTold (next_turn turn next place) job p (own_lines place lines)
     pub nobody : (place : ℕ) → length plan.jobs ≤ place → own_lines place lines ≡ []
 
   module _ (runnable : IsRunnable plan) (turn place : ℕ) (job : Job) (m : Machine)
-      (there : slice_get plan.jobs place ≡ Some job) (storied : IsStoried turn m) (p : Progress)
+      (there : slice_get plan.jobs place ≡ Some job) (storied : IsStoried turn place m) (p : Progress)
       (got : slice_get m.progress place ≡ Some p) where
     abbrev role : Role
     role = role_of plan.resources turn place job
@@ -413,27 +461,31 @@ module _ (plan : Plan) (P : Scene → List Line → Type 0) (told_so : IsToldByE
     acts : Acts role (record { resources = refl; job = there }) storied.lines a
     acts =
         let own = storied.jobs place job p there got in
-        after_acting-walks role (record { resources = refl; job = there }) storied.lines p own.stage m.scene own.is
+        let is : IsAt job.deadline turn p own.stage
+        = subst (λ n. IsAt job.deadline n p own.stage) (turn-here turn place) own.is in
+        after_acting-walks role (record { resources = refl; job = there }) storied.lines p own.stage m.scene is
         ready
         (record { lines = storied.lines; holds = storied.holds; story = own.story; others = λ j other. refl })
 
     told-after : (j : ℕ) (other_job : Job) (q : Progress) → slice_get plan.jobs j ≡ Some other_job
         → slice_get (set m.progress place a.progress) j ≡ Some q → (j ≡ place) ⊎ (j ≢ place)
-        → IsTold turn other_job q (own_lines j acts.walked.lines)
+        → IsTold (next_turn turn (place + 1) j) other_job q (own_lines j acts.walked.lines)
     told-after j other_job q is now (inl here) =
         let own_job : job ≡ other_job = cc in
         let own : slice_get (set m.progress place a.progress) place ≡ Some a.progress
         = get-set_here m.progress place p a.progress got in
         let again : slice_get (set m.progress place a.progress) place ≡ Some q = rw here at now in
         let same : a.progress ≡ q = cc in
-        rw (here, ← own_job, ← same)
+        rw (here, turn-gone turn place, ← own_job, ← same)
         (record { stage = acts.stage; story = acts.walked.story; is = acts.is })
     told-after j other_job q is now (inr other) =
         let was : slice_get m.progress j ≡ Some q
         = sym (get-set_else m.progress place j a.progress (λ same. other (sym same))) ∙ now in
-        subst (IsTold turn other_job q) (sym (acts.walked.others j other)) (storied.jobs j other_job q is was)
+        rw (turn-else turn place j other)
+        (subst (IsTold (next_turn turn place j) other_job q) (sym (acts.walked.others j other))
+        (storied.jobs j other_job q is was))
 
-    storied-after : IsStoried turn (with_acted m place a)
+    storied-after : IsStoried turn (place + 1) (with_acted m place a)
     storied-after = record {
       running = running-on plan m role p a storied.running there got
           (after_acting-turned role p m.scene ready (room-of plan m place job storied.running runnable there p got)
@@ -447,23 +499,24 @@ module _ (plan : Plan) (P : Scene → List Line → Type 0) (told_so : IsToldByE
     }
 
   one-job-storied : IsRunnable plan → (turn place : ℕ) (job : Job) (m : Machine)
-      → slice_get plan.jobs place ≡ Some job → IsStoried turn m
-      → IsStoried turn (one_job plan.resources turn place job m)
+      → slice_get plan.jobs place ≡ Some job → IsStoried turn place m
+      → IsStoried turn (place + 1) (one_job plan.resources turn place job m)
   one-job-storied runnable turn place job m there storied =
       let below : place < length m.progress
       = omega (arith, storied.running.jobs, get-below plan.jobs place job there) in
       let own : (p : Progress) × (slice_get m.progress place ≡ Some p) = get-there m.progress place below in
-      subst (IsStoried turn) (sym (one-job-is plan.resources turn place job m own.0 own.1))
+      subst (IsStoried turn (place + 1)) (sym (one-job-is plan.resources turn place job m own.0 own.1))
       (storied-after runnable turn place job m there storied own.0 own.1)
 
-  later-storied : (turn : ℕ) (m : Machine) → IsStoried turn m → IsStoried (suc turn) m
+  later-storied : (turn : ℕ) (m : Machine) → IsStoried turn (length plan.jobs) m → IsStoried (suc turn) 0 m
   later-storied turn m storied = record {
     running = storied.running;
     lines = storied.lines;
     holds = storied.holds;
     jobs = λ place job p there got.
-        let own = storied.jobs place job p there got in
-        record { stage = own.stage; story = own.story; is = is-at-later turn p own.stage own.is };
+        let same : next_turn turn (length plan.jobs) place ≡ next_turn (suc turn) 0 place
+        = turn-over turn (length plan.jobs) place (get-below plan.jobs place job there) in
+        rw (← same) (storied.jobs place job p there got);
     nobody = storied.nobody;
   }
 
@@ -472,24 +525,24 @@ module _ (plan : Plan) (P : Scene → List Line → Type 0) (told_so : IsToldByE
   begun (suc n) zero p got = cc
   begun (suc n) (suc place) p got = begun n place p got
 
-  opening-storied : IsRunnable plan → P (opening_machine plan).scene [] → IsStoried 0 (opening_machine plan)
+  opening-storied : IsRunnable plan → P (opening_machine plan).scene [] → IsStoried 0 0 (opening_machine plan)
   opening-storied runnable opens = record {
     running = opening-running plan runnable;
     lines = [];
     holds = opens;
     jobs = λ place job p there got.
-        rw (begun (length plan.jobs) place p got)
-        (record { stage = AtStep 0 0; story = story.begins; is = (0, refl, omega arith) });
+        rw (begun (length plan.jobs) place p got, turn-first 0 place)
+        (record { stage = AtStep 0 0; story = story.begins; is = refl });
     nobody = λ place past. refl;
   }
 
   pub always-storied : IsRunnable plan → P (opening_machine plan).scene [] → (turns : ℕ)
-      → IsStoried turns (machine_after plan turns)
+      → IsStoried turns 0 (machine_after plan turns)
   always-storied runnable opens turns =
       always-in plan IsStoried (opening-storied runnable opens) later-storied (one-job-storied runnable) turns
 
 told-of : (plan : Plan) (turns : ℕ) → IsRunnable plan
-    → IsStoried plan (IsTelling plan) (told-by-events plan) turns (machine_after plan turns)
+    → IsStoried plan (IsTelling plan) (told-by-events plan) turns 0 (machine_after plan turns)
 told-of plan turns runnable =
     always-storied plan (IsTelling plan) (told-by-events plan) runnable (opening-tells plan) turns
 
@@ -506,7 +559,9 @@ every-job-has-its-story plan turns runnable =
       record {
         jobs = λ place job p there got.
             let own = all.jobs place job p there got in
-            record { stage = own.stage; story = own.story; counts = counts-as turns p own.stage own.is };
+            let is : IsAt job.deadline turns p own.stage
+            = subst (λ n. IsAt job.deadline n p own.stage) (turn-first turns place) own.is in
+            record { stage = own.stage; story = own.story; counts = counts-as job.deadline turns p own.stage is };
         nobody = all.nobody;
       },
     )

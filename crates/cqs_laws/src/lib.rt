@@ -48,10 +48,12 @@ pub fn every_round_balances()
     ensures { EveryRoundBalances }
 {}
 
-/// The lines of each job, in order, are a story of its steps. Each step but `work` is told once, at
-/// once or by the line that a wait is served; `work n` lets n turns go by before the next line. A
-/// wait is served before the deadline, and given up, or late, only if there is a deadline and it has
-/// come. Only who has made all steps is done, and the totals count a job as its story ends.
+/// The lines of each job, in order, are a story of its steps. Each step but `work` is told once, as
+/// soon as it is made: in the turn of the line before it, or as many turns later as the job works
+/// between them. A step that must wait is told by the line that it is served, before the deadline. A
+/// job gives up, or is late, only at a deadline of its own that has come. Only who has made all steps
+/// is done, the totals count a job as its story ends, and one that is unfinished still works, or
+/// waits and is not due.
 pub fn every_job_has_its_story()
     ensures { EveryJobHasItsStory }
 {}

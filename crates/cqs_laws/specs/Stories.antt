@@ -12,6 +12,7 @@ use Rattle.cqs_turns.specs.declared.states.End.{End}
 use Rattle.cqs_turns.specs.declared.states.End.TheVariants.{Done, GaveUp, Late}
 use Rattle.cqs_turns.specs.declared.states.Progress.{Progress}
 use Rattle.cqs_turns.specs.declared.states.Progress.TheVariants.{Stepping, Working, Waiting, Ended}
+use Rattle.cqs_turns.specs.Ready.{held_next}
 use Rattle.cqs_turns.specs.Turns.{machine_after}
 use Rattle.cqs_laws.specs.Events.{Line, AreLines}
 
@@ -31,72 +32,79 @@ abbrev pub lasts : ℕ → ℕ
 lasts zero = 1
 lasts (suc n) = suc n
 
--- where a job is in its story
+-- where a job is in its story, and of which resources it holds something, oldest first
 pub data Stage : Type 0 where
   -- it has made the steps before this one, and goes on in this turn
-  AtStep : ℕ → ℕ → Stage
-  -- it waits since a turn to have made this step: at a resource, in a round, under a number
-  InWait : ℕ → ℕ → ℕ → ℕ → ℕ → Stage
+  AtStep : ℕ → ℕ → List ℕ → Stage
+  -- it waits to have made this step: at a resource, in a round, under a number, since a turn
+  InWait : ℕ → ℕ → ℕ → ℕ → ℕ → List ℕ → Stage
   -- in this turn it gives back what it holds, and ends so
-  Closing : End → ℕ → Stage
+  Closing : End → ℕ → List ℕ → Stage
   -- it has ended so
   Over : End → Stage
 
 -- The story of a job: after these lines it is at this stage.
 pub data Story (job : Job) : List Line → Stage → Type 0 where
   -- at first nothing is told, and it comes to its first step
-  begins : Story job [] (AtStep 0 0)
+  begins : Story job [] (AtStep 0 0 [])
   -- it works: that tells nothing, and it goes on so many turns later
-  works : (lines : List Line) (next from turns : ℕ) → slice_get job.steps next ≡ Some (Work turns)
-      → Story job lines (AtStep next from) → Story job lines (AtStep (next + 1) (from + lasts turns))
+  works : (lines : List Line) (next from turns : ℕ) (held : List ℕ)
+      → slice_get job.steps next ≡ Some (Work turns)
+      → Story job lines (AtStep next from held)
+      → Story job lines (AtStep (next + 1) (from + lasts turns) held)
   -- it makes its next step, and tells of it
-  makes : (lines : List Line) (next from : ℕ) (step : Step) (line : Line)
+  makes : (lines : List Line) (next from : ℕ) (held : List ℕ) (step : Step) (line : Line)
       → slice_get job.steps next ≡ Some step → TellsOf step line.told → line.turn ≡ from
-      → Story job lines (AtStep next from) → Story job (lines ++ line ∷ []) (AtStep (next + 1) line.turn)
+      → Story job lines (AtStep next from held)
+      → Story job (lines ++ line ∷ []) (AtStep (next + 1) line.turn (held_next held step))
   -- it must wait, and tells of that
-  waits : (lines : List Line) (next from at round number : ℕ) (step : Step) (line : Line)
-      → slice_get job.steps next ≡ Some step → may_wait at step ≡ true
+  waits : (lines : List Line) (next from at round number : ℕ) (held : List ℕ) (step : Step)
+      (line : Line) → slice_get job.steps next ≡ Some step → may_wait at step ≡ true
       → line.told ≡ told.Waits at round number → line.turn ≡ from
-      → Story job lines (AtStep next from)
-      → Story job (lines ++ line ∷ []) (InWait next at round number line.turn)
+      → Story job lines (AtStep next from held)
+      → Story job (lines ++ line ∷ []) (InWait next at round number line.turn held)
   -- in a later turn, before its deadline, its wait is served: now it has made the step
-  is_served : (lines : List Line) (next at round number since element : ℕ) (line : Line)
+  is_served : (lines : List Line) (next at round number since element : ℕ) (held : List ℕ)
+      (step : Step) (line : Line) → slice_get job.steps next ≡ Some step
       → line.told ≡ told.Served at round number element → since < line.turn
       → ((deadline : ℕ) → job.deadline ≡ Some deadline → line.turn < deadline)
-      → Story job lines (InWait next at round number since)
-      → Story job (lines ++ line ∷ []) (AtStep (next + 1) line.turn)
+      → Story job lines (InWait next at round number since held)
+      → Story job (lines ++ line ∷ []) (AtStep (next + 1) line.turn (held_next held step))
   -- in a later turn it gives up: it has a deadline, which has come
-  gives_up : (lines : List Line) (next at round number since deadline : ℕ) (line : Line)
-      → line.told ≡ told.GaveUp at round number → since < line.turn
+  gives_up : (lines : List Line) (next at round number since deadline : ℕ) (held : List ℕ)
+      (line : Line) → line.told ≡ told.GaveUp at round number → since < line.turn
       → job.deadline ≡ Some deadline → deadline ≤ line.turn
-      → Story job lines (InWait next at round number since)
-      → Story job (lines ++ line ∷ []) (Closing GaveUp line.turn)
-  -- it is late: it has a deadline, which has come before it saw that it was served
-  is_late : (lines : List Line) (next at round number since deadline : ℕ) (line : Line)
+      → Story job lines (InWait next at round number since held)
+      → Story job (lines ++ line ∷ []) (Closing GaveUp line.turn held)
+  -- It is late: it has a deadline, which has come before it saw that it was served; and it holds
+  -- what came.
+  is_late : (lines : List Line) (next at round number since deadline : ℕ) (held : List ℕ)
+      (step : Step) (line : Line) → slice_get job.steps next ≡ Some step
       → line.told ≡ told.Late at round number → since < line.turn
       → job.deadline ≡ Some deadline → deadline ≤ line.turn
-      → Story job lines (InWait next at round number since)
-      → Story job (lines ++ line ∷ []) (Closing Late line.turn)
+      → Story job lines (InWait next at round number since held)
+      → Story job (lines ++ line ∷ []) (Closing Late line.turn (held_next held step))
   -- all its steps are made
-  has_made_all : (lines : List Line) (next from : ℕ) → length job.steps ≤ next
-      → Story job lines (AtStep next from) → Story job lines (Closing Done from)
-  -- it gives something back
-  gives_back : (lines : List Line) (end : End) (at : ℕ) (line : Line) → TellsOf (Give at) line.told
-      → Story job lines (Closing end line.turn) → Story job (lines ++ line ∷ []) (Closing end line.turn)
-  -- who made all steps says so at last
+  has_made_all : (lines : List Line) (next from : ℕ) (held : List ℕ) → length job.steps ≤ next
+      → Story job lines (AtStep next from held) → Story job lines (Closing Done from held)
+  -- it gives back the oldest that it holds
+  gives_back : (lines : List Line) (end : End) (at : ℕ) (held : List ℕ) (line : Line)
+      → TellsOf (Give at) line.told → Story job lines (Closing end line.turn (at ∷ held))
+      → Story job (lines ++ line ∷ []) (Closing end line.turn held)
+  -- who made all steps, and holds nothing any more, says so at last
   is_done : (lines : List Line) (line : Line) → line.told ≡ told.Done
-      → Story job lines (Closing Done line.turn) → Story job (lines ++ line ∷ []) (Over Done)
+      → Story job lines (Closing Done line.turn []) → Story job (lines ++ line ∷ []) (Over Done)
   -- the others say no more
   has_left : (lines : List Line) (end : End) (turn : ℕ) → (end ≡ GaveUp) ⊎ (end ≡ Late)
-      → Story job lines (Closing end turn) → Story job lines (Over end)
+      → Story job lines (Closing end turn []) → Story job lines (Over end)
 
 -- What a job does at this stage that hasn't ended when so many turns are over: it works, until now
 -- or longer; or it waits, and its deadline hasn't come, or it began to wait in the last turn.
 abbrev pub GoesOn : ℕ → Option ℕ → Stage → Type 0
-GoesOn turns deadline (AtStep next from) = turns ≤ from
-GoesOn turns deadline (InWait next at round number since) =
+GoesOn turns deadline (AtStep next from held) = turns ≤ from
+GoesOn turns deadline (InWait next at round number since held) =
     (d : ℕ) → deadline ≡ Some d → (turns ≤ d) ⊎ (turns ≤ since + 1)
-GoesOn turns deadline (Closing end turn) = ⊥
+GoesOn turns deadline (Closing end turn held) = ⊥
 GoesOn turns deadline (Over end) = ⊥
 
 -- the totals count a job as its story ends

@@ -3,9 +3,9 @@ use Rattle.std.proofs.Common.{◌≡◌, ◌≢◌, ◌⊎◌, inl, inr, ℕ, ze
 use Rattle.std.specs.Bool.{if◌then◌else◌}
 use Rattle.std.specs.Option.{option_map_or}
 use Rattle.std.proofs.lemmas.Bool.{cases_eq, cases_lt}
-use Rattle.std.proofs.lemmas.List.{append-nil, drop-drop, get_or-set_same, get_or-replicate, map-append}
+use Rattle.std.proofs.lemmas.List.{append-nil, drop-drop, get_or-set_same, get_or-replicate, length_push, map-append}
 use Rattle.std.proofs.lemmas.List.Elements.{filter-append}
-use Rattle.cqs_core.proofs.Places.{get-below, get-drop, get-set_here, get-set_else, get-there}
+use Rattle.cqs_core.proofs.Places.{get-append_below, get-below, get-push_at, get-drop, get-set_here, get-set_else, get-there}
 use Rattle.cqs_plan.specs.declared.plans.job.Job.{Job}
 use Rattle.cqs_plan.specs.declared.plans.plan.Plan.{Plan}
 use Rattle.cqs_plan.specs.declared.plans.step.Step.{Step}
@@ -45,7 +45,7 @@ use Rattle.cqs_turns.proofs.RunningLemmas.{room-of, running-on}
 use Rattle.cqs_turns.proofs.Stepping.{after_step-ready}
 use Rattle.cqs_turns.proofs.Turned.{Turned, after_acting-turned}
 use Rattle.cqs_laws.specs.Events.{Line, EveryReportHasItsLines}
-use Rattle.cqs_laws.specs.Stories.{TellsOf, Stage, AtStep, InWait, Closing, Over, Story, GoesOn, CountsAs, HasStory, lasts, AreStories, own_lines, EveryJobHasItsStory}
+use Rattle.cqs_laws.specs.Stories.{TellsOf, Stage, AtStep, InWait, Closing, Over, Story, GoesOn, CountsAs, HasStory, lasts, IsBefore, AreInOrder, AreStories, own_lines, EveryJobHasItsStory}
 use Rattle.cqs_laws.specs.Stories as story
 use Rattle.cqs_laws.proofs.Everywhere.{always-in}
 use Rattle.cqs_laws.proofs.OwnTurn.{role_of}
@@ -69,6 +69,60 @@ other-push place lines line other =
     let none : own_lines place (line ∷ []) ≡ [] = rw away refl in
     filter-append (λ (x : Line). x.job == place) lines (line ∷ []) ∙ ap (λ xs. own_lines place lines ++ xs) none
     ∙ append-nil (own_lines place lines)
+
+-- one more line is in order where it may stand after all before it
+order-push : (lines : List Line) (line : Line) → AreInOrder lines
+    → ((n : ℕ) (x : Line) → slice_get lines n ≡ Some x → IsBefore x line) → AreInOrder (lines ++ line ∷ [])
+order-push lines line order last i j x y below got then_got = by (cases_lt j (length lines))
+  where
+    by : (j < length lines) ⊎ (length lines ≤ j) → IsBefore x y
+    by (inl within) =
+        order i j x y below (sym (get-append_below lines (line ∷ []) i (omega (arith, below, within))) ∙ got)
+        (sym (get-append_below lines (line ∷ []) j within) ∙ then_got)
+    by (inr past) =
+        let inside : j < length (lines ++ line ∷ []) = get-below (lines ++ line ∷ []) j y then_got in
+        let end_at : j ≡ length lines = omega (arith, past, inside, length_push lines line) in
+        let pushed : slice_get (lines ++ line ∷ []) j ≡ Some line = get-push_at lines line j end_at in
+        let own : line ≡ y = cc in
+        let before : i < length lines = omega (arith, below, end_at) in
+        rw (← own) (last i x (sym (get-append_below lines (line ∷ []) i before) ∙ got))
+
+-- each of the lines has a property where the last has it, and each of those before
+each-push : (P : Line → Type 0) (lines : List Line) (line : Line)
+    → ((n : ℕ) (x : Line) → slice_get lines n ≡ Some x → P x) → P line
+    → (n : ℕ) (x : Line) → slice_get (lines ++ line ∷ []) n ≡ Some x → P x
+each-push P lines line all last n x got = by (cases_lt n (length lines))
+  where
+    by : (n < length lines) ⊎ (length lines ≤ n) → P x
+    by (inl within) = all n x (sym (get-append_below lines (line ∷ []) n within) ∙ got)
+    by (inr past) =
+        let inside : n < length (lines ++ line ∷ []) = get-below (lines ++ line ∷ []) n x got in
+        let end_at : n ≡ length lines = omega (arith, past, inside, length_push lines line) in
+        let pushed : slice_get (lines ++ line ∷ []) n ≡ Some line = get-push_at lines line n end_at in
+        let own : line ≡ x = cc in
+        subst P own last
+
+-- the line is of an earlier turn, or in this one of a job before this place
+abbrev IsPast : ℕ → ℕ → Line → Type 0
+IsPast turn next line = (line.turn < turn) ⊎ ((line.turn ≡ turn) × (line.job < next))
+
+-- one of the line before, or of the job at this place, in this turn
+past-in : (turn place : ℕ) (line : Line) → IsPast turn place line → IsPast turn (place + 1) line
+past-in turn place line (inl before) = inl before
+past-in turn place line (inr now) = inr (now.0, omega (arith, now.1))
+
+past-out : (turn next : ℕ) (line : Line) → IsPast turn next line → IsPast (suc turn) 0 line
+past-out turn next line (inl before) = inl (omega (arith, before))
+past-out turn next line (inr now) = inl (omega (arith, now.0))
+
+past-over : (turn : ℕ) (line : Line) → IsPast turn 0 line → line.turn < turn
+past-over turn line (inl before) = before
+past-over turn line (inr now) = absurd (omega (arith, now.1))
+
+past-before : (r : Role) (words : Told) (line : Line) → IsPast r.turn (r.place + 1) line
+    → IsBefore line (line_of r words)
+past-before r words line (inl before) = inl before
+past-before r words line (inr now) = inr (now.0, omega (arith, now.1))
 
 -- what is told of a give, and of a count down
 give-tells : (at : ℕ) (answer : FloorGive) → TellsOf (Give at) (give_told at answer)
@@ -248,6 +302,8 @@ module _ (plan : Plan) (P : Scene → List Line → Type 0) (told_so : IsToldByE
       pub story : Story r.job (own_lines r.place lines) stage
       pub others : (j : ℕ) → j ≢ r.place → own_lines j lines ≡ own_lines j before
       pub held : places_held s.floor r.place ≡ held_at stage
+      pub past : (n : ℕ) (x : Line) → slice_get lines n ≡ Some x → IsPast r.turn (r.place + 1) x
+      pub order : AreInOrder lines
 
     -- what the job's turn comes to
     pub record Acts (a : Acted) : Type 0 where
@@ -267,13 +323,23 @@ module _ (plan : Plan) (P : Scene → List Line → Type 0) (told_so : IsToldByE
       others = λ j other.
           other-push j w.lines (line_of r words) (λ same. other (sym same)) ∙ w.others j other;
       held = held;
+      past = each-push (IsPast r.turn (r.place + 1)) w.lines (line_of r words) w.past (inr (refl, omega arith));
+      order = order-push w.lines (line_of r words) w.order (λ n x got. past-before r words x (w.past n x got));
     }
 
     -- no more line
     still : (s : Scene) (stage next : Stage) (w : Walked s stage) → Story r.job (own_lines r.place w.lines) next
         → places_held s.floor r.place ≡ held_at next → Walked s next
     still s stage next w goes held =
-        record { lines = w.lines; holds = w.holds; story = goes; others = w.others; held = held }
+        record {
+          lines = w.lines;
+          holds = w.holds;
+          story = goes;
+          others = w.others;
+          held = held;
+          past = w.past;
+          order = w.order;
+        }
 
     after_gives-walks : (e : End) (places : List ℕ) (s : Scene) → IsReady s.floor r.place None []
         → Walked s (Closing e r.turn places) → Walked (after_gives r places s) (Closing e r.turn [])
@@ -599,6 +665,8 @@ module _ (plan : Plan) (P : Scene → List Line → Type 0) (told_so : IsToldByE
         → slice_get m.progress place ≡ Some p
         → IsTold (next_turn turn next place) job p (places_held m.scene.floor place) (own_lines place lines)
     pub nobody : (place : ℕ) → length plan.jobs ≤ place → own_lines place lines ≡ []
+    pub past : (n : ℕ) (x : Line) → slice_get lines n ≡ Some x → IsPast turn next x
+    pub order : AreInOrder lines
 
   module _ (runnable : IsRunnable plan) (turn place : ℕ) (job : Job) (m : Machine)
       (there : slice_get plan.jobs place ≡ Some job) (storied : IsStoried turn place m) (p : Progress)
@@ -635,6 +703,8 @@ module _ (plan : Plan) (P : Scene → List Line → Type 0) (told_so : IsToldByE
           story = own.story;
           others = λ j other. refl;
           held = own.held;
+          past = λ n x got. past-in turn place x (storied.past n x got);
+          order = storied.order;
         })
 
     told-after : (j : ℕ) (other_job : Job) (q : Progress) → slice_get plan.jobs j ≡ Some other_job
@@ -669,6 +739,8 @@ module _ (plan : Plan) (P : Scene → List Line → Type 0) (told_so : IsToldByE
       nobody = λ j past.
           let below : place < length plan.jobs = get-below plan.jobs place job there in
           acts.walked.others j (λ same. omega (arith, same, below, past)) ∙ storied.nobody j past;
+      past = acts.walked.past;
+      order = acts.walked.order;
     }
 
   one-job-storied : IsRunnable plan → (turn place : ℕ) (job : Job) (m : Machine)
@@ -691,6 +763,8 @@ module _ (plan : Plan) (P : Scene → List Line → Type 0) (told_so : IsToldByE
         = turn-over turn (length plan.jobs) place (get-below plan.jobs place job there) in
         rw (← same) (storied.jobs place job p there got);
     nobody = storied.nobody;
+    past = λ n x got. past-out turn (length plan.jobs) x (storied.past n x got);
+    order = storied.order;
   }
 
   begun : (n place : ℕ) (p : Progress) → slice_get (replicate n (Stepping 0)) place ≡ Some p → p ≡ Stepping 0
@@ -713,6 +787,8 @@ module _ (plan : Plan) (P : Scene → List Line → Type 0) (told_so : IsToldByE
               (get-below plan.jobs place job there));
         });
     nobody = λ place past. refl;
+    past = λ n x got. absurd (cc);
+    order = λ i j x y below got then_got. absurd (cc);
   }
 
   pub always-storied : IsRunnable plan → P (opening_machine plan).scene [] → (turns : ℕ)
@@ -742,5 +818,7 @@ every-job-has-its-story plan turns runnable =
             = subst (λ n. IsAt job n p own.stage) (turn-first turns place) own.is in
             record { stage = own.stage; story = own.story; counts = counts-as job turns p own.stage is };
         nobody = all.nobody;
+        early = λ n line got. past-over turns line (all.past n line got);
+        order = all.order;
       },
     )

@@ -125,12 +125,27 @@ pub record HasStory (turns : ℕ) (job : Job) (progress : Progress) (lines : Lis
 abbrev pub own_lines : ℕ → List Line → List Line
 own_lines place lines = filter (λ line. line.job == place) lines
 
--- after so many turns the lines of each job are its story, and there are no others
+-- the one line may stand before the other: in an earlier turn, or in the same turn that of a job
+-- which isn't after the other's in the plan
+abbrev pub IsBefore : Line → Line → Type 0
+IsBefore line later =
+    (line.turn < later.turn) ⊎ ((line.turn ≡ later.turn) × (line.job ≤ later.job))
+
+-- the lines stand in order of turns, and in a turn in order of the plan's jobs
+abbrev pub AreInOrder : List Line → Type 0
+AreInOrder lines =
+    (first second : ℕ) (line later : Line) → first < second → slice_get lines first ≡ Some line
+    → slice_get lines second ≡ Some later → IsBefore line later
+
+-- After so many turns the lines of each job are its story, and there are no others; all are of
+-- these turns, and in order.
 pub record AreStories (plan : Plan) (turns : ℕ) (progress : List Progress) (lines : List Line)
     : Type 0 where
   pub jobs : (place : ℕ) (job : Job) (p : Progress) → slice_get plan.jobs place ≡ Some job
       → slice_get progress place ≡ Some p → HasStory turns job p (own_lines place lines)
   pub nobody : (place : ℕ) → length plan.jobs ≤ place → own_lines place lines ≡ []
+  pub early : (n : ℕ) (line : Line) → slice_get lines n ≡ Some line → line.turn < turns
+  pub order : AreInOrder lines
 
 -- the lines of jobs of each report are their stories
 abbrev pub EveryJobHasItsStory : Type 0

@@ -88,7 +88,7 @@ order-push lines line order last i j x y below got then_got = by (cases_lt j (le
         rw (← own) (last i x (sym (get-append_below lines (line ∷ []) i before) ∙ got))
 
 -- each of the lines has a property where the last has it, and each of those before
-each-push : (P : Line → Type 0) (lines : List Line) (line : Line)
+pub each-push : (P : Line → Type 0) (lines : List Line) (line : Line)
     → ((n : ℕ) (x : Line) → slice_get lines n ≡ Some x → P x) → P line
     → (n : ℕ) (x : Line) → slice_get (lines ++ line ∷ []) n ≡ Some x → P x
 each-push P lines line all last n x got = by (cases_lt n (length lines))

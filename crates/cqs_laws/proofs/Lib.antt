@@ -12,6 +12,7 @@ mod LineLemmas
 mod Lined
 mod Telling
 mod JobStories
+mod StoryEnds
 mod Claims
 mod PermitFunds
 mod ElementFunds

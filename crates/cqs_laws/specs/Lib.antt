@@ -1,5 +1,5 @@
 pub mod Totals
-pub mod Endings
 pub mod Events
-pub mod Balances
 pub mod Stories
+pub mod Endings
+pub mod Balances

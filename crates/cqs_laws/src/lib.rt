@@ -8,7 +8,7 @@ ghost use Rattle.cqs_laws.specs.Balances.{EveryResourceBalances, EveryRoundBalan
 ghost use Rattle.cqs_laws.specs.Totals.{TotalsAddUp};
 ghost use Rattle.cqs_laws.specs.Events.{EveryReportHasItsLines};
 ghost use Rattle.cqs_laws.specs.Stories.{EveryJobHasItsStory};
-ghost use Rattle.cqs_laws.specs.Endings.{EndedJobsHaveNothing, NoWaitOutlivesItsDeadline};
+ghost use Rattle.cqs_laws.specs.Endings.{EndedJobsHaveNothing, NoWaitOutlivesItsDeadline, NobodyGivesUpEarly, WhoIsDoneMadeAllSteps};
 
 /// The four totals of a report add up to the number of the plan's jobs.
 pub fn totals_add_up()
@@ -56,4 +56,17 @@ pub fn every_round_balances()
 /// waits and is not due.
 pub fn every_job_has_its_story()
     ensures { EveryJobHasItsStory }
+{}
+
+/// The lines of a report tell of no job that it gave up, or was late, where it has no deadline, or
+/// before that has come.
+pub fn nobody_gives_up_early()
+    ensures { NobodyGivesUpEarly }
+{}
+
+/// A job that is counted as done has made all its steps: the last of its lines says that it is done,
+/// the others tell of each step but `work` once, in order, and then of what it gives back at the end;
+/// and the last line's turn is at least the sum of the turns that it works.
+pub fn who_is_done_made_all_steps()
+    ensures { WhoIsDoneMadeAllSteps }
 {}

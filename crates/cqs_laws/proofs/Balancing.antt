@@ -325,10 +325,12 @@ module _ (plan : Plan) (r : Role) (actor : IsActor plan r) (s : Scene) (sound : 
         let first_has : HasWait f r.place at 0 number
         = subst (λ n. HasWait f r.place at n number) own.first has in
         serves-so plan.resources f sound.lines sound.tells.lined sound.funded at
-        (wait-there plan r actor s sound.lines sound.tells at round number has) own.held own.holdable r.place number element
+        (wait-there plan r actor s sound.lines sound.tells at round number has) own.held own.holdable r.place
+        number element
         first_has served
     go (inr own) =
-        over-came plan.resources f sound.funded at (wait-there plan r actor s sound.lines sound.tells at round number has)
+        over-came plan.resources f sound.funded at
+        (wait-there plan r actor s sound.lines sound.tells at round number has)
         own.unheld
         own.holdable r.place round number element gets has
 
@@ -340,9 +342,11 @@ module _ (plan : Plan) (r : Role) (actor : IsActor plan r) (s : Scene) (sound : 
         let first_has : HasWait f r.place at 0 number
         = subst (λ n. HasWait f r.place at n number) own.first has in
         leaves-so plan.resources f sound.lines sound.tells.lined sound.funded at
-        (wait-there plan r actor s sound.lines sound.tells at round number has) own.held own.holdable r.place number first_has
+        (wait-there plan r actor s sound.lines sound.tells at round number has) own.held own.holdable r.place
+        number first_has
     go (inr own) =
-        leaves-over plan.resources f sound.funded at (wait-there plan r actor s sound.lines sound.tells at round number has)
+        leaves-over plan.resources f sound.funded at
+        (wait-there plan r actor s sound.lines sound.tells at round number has)
         own.unheld own.holdable r.place round number (leave_answer f r.place) has
 
   is-latch : (at : ℕ) → IsLatch (slice_get f.kinds at) → IsUnheld (history_at f at)
@@ -413,7 +417,8 @@ sound-kept plan = record {
     lines = _;
     tells = (told-by-events plan).leaves r at round number s sound.lines actor has sound.tells;
     funded = leaves-funded plan r actor s sound at round number has;
-    even = leaves-so-even s.floor r.place at round number (wait-there plan r actor s sound.lines sound.tells at round number has)
+    even = leaves-so-even s.floor r.place at round number
+        (wait-there plan r actor s sound.lines sound.tells at round number has)
         has
         sound.even;
   };

@@ -38,7 +38,7 @@ use Rattle.cqs_turns.specs.declared.states.Progress.TheVariants.{Stepping, Worki
 use Rattle.cqs_turns.specs.Ready.{IsReady, wait_in, steps_left, is_held, held_next, is_holdable_in, with_place}
 use Rattle.cqs_turns.specs.Roles.{wait_at, is_holdable_at, left_with}
 use Rattle.cqs_turns.specs.Running.{IsRunning}
-use Rattle.cqs_turns.specs.Turns.{Role, Scene, Acted, Machine, event, take_told, give_told, leave_told, down_told, wait_told, arrive_told, on_take, on_give, on_down, on_wait, on_arrive, on_leave, after_gives, after_coming, stop_or, after_step, after_steps, after_last_step, after_giving_up, after_looking, after_acting, is_due, end_of, one_job, opening_machine, machine_after, places_held, left_at, go_on}
+use Rattle.cqs_turns.specs.Turns.{Role, Scene, Acted, Machine, event, take_told, give_told, leave_told, down_told, wait_told, arrive_told, on_take, on_give, on_down, on_wait, on_arrive, on_leave, after_gives, after_coming, stop_or, after_steps, after_last_step, after_giving_up, after_looking, after_acting, is_due, end_of, one_job, opening_machine, machine_after, places_held, left_at, go_on}
 use Rattle.cqs_turns.proofs.Opened.{opening-running}
 use Rattle.cqs_turns.proofs.Readied.{first-given, first-ready, held-kind, holdable-same, leave-held, leave-ready, look-held, after_looking-ready, can-give, on_arrive-held, on_down-held, on_give-left, on_wait-held}
 use Rattle.cqs_turns.proofs.RunningLemmas.{room-of, running-on}
@@ -191,19 +191,22 @@ came-held resources at (Take place) Holds round held may able =
     let here : place ≡ at = eqb-true place at may in
     let kind_is : is_holdable_in (kinds_of resources) at ≡ true
     = held-kind (slice_get (kinds_of resources) at) (rw here at able) in
-    let own : is_holdable_at resources at ≡ true = sym (holdable-same (kinds_of resources) resources at refl) ∙ kind_is in
+    let own : is_holdable_at resources at ≡ true
+    = sym (holdable-same (kinds_of resources) resources at refl) ∙ kind_is in
     rw (here, own) refl
 came-held resources at (Await place) Holds round held may able =
     let here : place ≡ at = eqb-true place at may in
     let kind_is : is_holdable_in (kinds_of resources) at ≡ false
     = latch-unheld (slice_get (kinds_of resources) at) (rw here at able) in
-    let own : is_holdable_at resources at ≡ false = sym (holdable-same (kinds_of resources) resources at refl) ∙ kind_is in
+    let own : is_holdable_at resources at ≡ false
+    = sym (holdable-same (kinds_of resources) resources at refl) ∙ kind_is in
     rw own refl
 came-held resources at (Arrive place) Holds round held may able =
     let here : place ≡ at = eqb-true place at may in
     let kind_is : is_holdable_in (kinds_of resources) at ≡ false
     = round-unheld (slice_get (kinds_of resources) at) (round at) (rw here at able) in
-    let own : is_holdable_at resources at ≡ false = sym (holdable-same (kinds_of resources) resources at refl) ∙ kind_is in
+    let own : is_holdable_at resources at ≡ false
+    = sym (holdable-same (kinds_of resources) resources at refl) ∙ kind_is in
     rw own refl
 came-held resources at (Give place) Holds round held may able = absurd (cc)
 came-held resources at (Down place) Holds round held may able = absurd (cc)

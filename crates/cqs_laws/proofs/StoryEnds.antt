@@ -1,12 +1,11 @@
 -- What the stories of jobs say of their ends: nobody gives up early, and who is done has made all steps.
-use Rattle.std.proofs.Common.{◌≡◌, ◌⊎◌, inl, inr, ℕ, zero, suc, ◌+◌, ◌<◌, ◌≤◌, ◌==◌, List, [], ◌∷◌, ◌++◌, Bool, true, false, Option, Some, None, length, take, filter, filter_map, sum_by, slice_get, refl, sym, ap, subst, ◌∙◌, eq-eqb, eqb-true, append_assoc, arith}
+use Rattle.std.proofs.Common.{◌≡◌, ◌⊎◌, inl, inr, ℕ, zero, suc, ◌+◌, ◌<◌, ◌≤◌, ◌==◌, List, [], ◌∷◌, ◌++◌, Bool, true, false, Some, None, length, take, filter_map, sum_by, slice_get, refl, sym, ap, subst, ◌∙◌, eq-eqb, eqb-true, append_assoc, arith}
 use Rattle.std.proofs.lemmas.Bool.{cases_lt}
 use Rattle.std.proofs.lemmas.List.{append-nil, take_all}
 use Rattle.std.proofs.lemmas.List.Elements.{filter_map-append}
 use Rattle.std.proofs.lemmas.List.Sums.{sum_by_push}
-use Rattle.cqs_core.proofs.Places.{get-below, get-there}
+use Rattle.cqs_core.proofs.Places.{get-there}
 use Rattle.cqs_plan.specs.declared.plans.job.Job.{Job}
-use Rattle.cqs_plan.specs.declared.plans.plan.Plan.{Plan}
 use Rattle.cqs_plan.specs.declared.plans.step.Step.{Step}
 use Rattle.cqs_plan.specs.declared.plans.step.Step.TheVariants.{Take, Give, Down, Await, Arrive, Work}
 use Rattle.cqs_plan.specs.PlanSteps.{may_wait}
@@ -14,11 +13,10 @@ use Rattle.cqs_turns.specs.declared.lines.Told.{Told}
 use Rattle.cqs_turns.specs.declared.lines.Told.TheVariants as told
 use Rattle.cqs_turns.specs.declared.states.End.{End}
 use Rattle.cqs_turns.specs.declared.states.End.TheVariants as end
-use Rattle.cqs_turns.specs.declared.states.Progress.{Progress}
 use Rattle.cqs_turns.specs.declared.states.Progress.TheVariants.{Ended}
 use Rattle.cqs_turns.specs.Turns.{machine_after}
 use Rattle.cqs_laws.specs.Endings.{HasCome, HasMadeAllSteps, NobodyGivesUpEarly, WhoIsDoneMadeAllSteps, made_at, place_of, turns_of}
-use Rattle.cqs_laws.specs.Events.{Line, AreLines}
+use Rattle.cqs_laws.specs.Events.{Line}
 use Rattle.cqs_laws.specs.Stories.{TellsOf, Stage, AtStep, InWait, Closing, Over, Story, HasStory, lasts, AreStories, own_lines}
 use Rattle.cqs_laws.specs.Stories as story
 use Rattle.cqs_laws.proofs.Everywhere.{all-jobs}
@@ -211,7 +209,8 @@ module _ (job : Job) where
       → (deadline : ℕ) × (job.deadline ≡ Some deadline) × (deadline ≤ line.turn)
 
   -- a line that tells something else
-  else-timely : (line : Line) (leaves : Told → Bool) → ((at round number : ℕ) → leaves (told.GaveUp at round number) ≡ true)
+  else-timely : (line : Line) (leaves : Told → Bool)
+      → ((at round number : ℕ) → leaves (told.GaveUp at round number) ≡ true)
       → ((at round number : ℕ) → leaves (told.Late at round number) ≡ true) → leaves line.told ≡ false → IsTimely line
   else-timely line leaves gone late not at round number (inl is) =
       let yes : leaves line.told ≡ true = rw is (gone at round number) in absurd (cc)

@@ -115,7 +115,8 @@ module _ (plan : Plan) (r : Role) (actor : IsActor plan r) (s : Scene) (lines : 
           drawn-push plan.resources q k lines (line_of r t),
         )
 
-    deed-tells : AreLined plan.resources g (lines ++ line_of r t ∷ []) → IsTelling plan (event r s g t) (lines ++ line_of r t ∷ [])
+    deed-tells : AreLined plan.resources g (lines ++ line_of r t ∷ [])
+        → IsTelling plan (event r s g t) (lines ++ line_of r t ∷ [])
     deed-tells lined = record {
       text = text-on t;
       numbered = λ q k own.
@@ -535,7 +536,8 @@ told-by-events plan = record {
       serves-so plan r actor s lines tells at round number element has
       (wait-there plan r actor s lines tells at round number has) served;
   leaves = λ r at round number s lines actor has tells.
-      leaves-so plan r actor s lines tells at round number has (wait-there plan r actor s lines tells at round number has);
+      leaves-so plan r actor s lines tells at round number has
+      (wait-there plan r actor s lines tells at round number has);
   downs = λ r at s lines actor kind tells. downs plan r actor s lines tells at (down_answer s.floor at)
       (there-of plan r actor s lines tells at (latch-below s.floor.kinds at kind))
       (latch-there plan r actor s lines tells at kind);

@@ -48,12 +48,14 @@ pub fn every_round_balances()
     ensures { EveryRoundBalances }
 {}
 
-/// The lines of each job, in order, are a story of its steps. Each step but `work` is told once, as
-/// soon as it is made: in the turn of the line before it, or as many turns later as the job works
-/// between them. A step that must wait is told by the line that it is served, before the deadline. A
-/// job gives up, or is late, only at a deadline of its own that has come. Only who has made all steps
-/// is done, the totals count a job as its story ends, and one that is unfinished still works, or
-/// waits and is not due.
+/// The lines are in order of turns and jobs, and those of each job are a story of its steps. Each
+/// step but `work` is told once, in order: in the turn of the job's line before it, or as many
+/// turns later as it works between them. A step that must wait is told by the line that it waits,
+/// and in a later turn, before the deadline, by the one that it is served. A job gives up, or is
+/// late, only at a deadline of its own that has come. At its end it gives back all that came to
+/// it, and only who has made all steps is done. The totals count a job as its story ends; and one
+/// that is unfinished still works, or waits, and its deadline hasn't come or it began to wait in
+/// the last turn.
 pub fn every_job_has_its_story()
     ensures { EveryJobHasItsStory }
 {}
@@ -64,9 +66,9 @@ pub fn nobody_gives_up_early()
     ensures { NobodyGivesUpEarly }
 {}
 
-/// A job that is counted as done has made all its steps: the last of its lines says that it is done,
-/// the others tell of each step but `work` once, in order, and then of what it gives back at the end;
-/// and the last line's turn is at least the sum of the turns that it works.
+/// A job that is counted as done has made all its steps: the last of its lines says that it is
+/// done, the others tell of each step but `work` once, in order, and then of what it gives back at
+/// the end; and the last line's turn is at least the sum of the turns that it works.
 pub fn who_is_done_made_all_steps()
     ensures { WhoIsDoneMadeAllSteps }
 {}

@@ -1,48 +1,61 @@
 -- What the stories of jobs say of their ends: nobody gives up early, and who is done has made all steps.
-use Rattle.std.proofs.Common.{◌≡◌, ◌⊎◌, inl, inr, ℕ, zero, suc, ◌+◌, ◌<◌, ◌≤◌, ◌==◌, List, [], ◌∷◌, ◌++◌, Bool, true, false, Some, None, length, take, filter_map, sum_by, slice_get, refl, sym, ap, subst, ◌∙◌, eq-eqb, eqb-true, append_assoc, arith}
+use Rattle.std.proofs.Common.{◌≡◌, ◌⊎◌, inl, inr, ℕ, zero, suc, ◌+◌, ◌<◌, ◌≤◌, ◌==◌, List, [], ◌∷◌, ◌++◌, Bool, true, false, Option, Some, None, length, map, take, filter, filter_map, sum_by, slice_get, refl, sym, ap, subst, ◌∙◌, eq-eqb, eqb-true, append_assoc, arith}
 use Rattle.std.proofs.lemmas.Bool.{cases_lt}
-use Rattle.std.proofs.lemmas.List.{append-nil, take_all}
-use Rattle.std.proofs.lemmas.List.Elements.{filter_map-append}
+use Rattle.std.proofs.lemmas.List.{append-nil, map-append, take_all}
+use Rattle.std.proofs.lemmas.List.Elements.{filter-append, filter_map-append}
 use Rattle.std.proofs.lemmas.List.Sums.{sum_by_push}
 use Rattle.cqs_core.proofs.Places.{get-there}
 use Rattle.cqs_plan.specs.declared.plans.job.Job.{Job}
 use Rattle.cqs_plan.specs.declared.plans.step.Step.{Step}
 use Rattle.cqs_plan.specs.declared.plans.step.Step.TheVariants.{Take, Give, Down, Await, Arrive, Work}
+use Rattle.cqs_plan.specs.declared.plans.kind.Kind.{Kind}
+use Rattle.cqs_plan.specs.declared.plans.kind.Kind.TheVariants as kind
+use Rattle.cqs_plan.specs.declared.plans.resource.Resource.{Resource}
+use Rattle.cqs_plan.specs.Floor.{IsHoldable, IsLatch, HasRound}
 use Rattle.cqs_plan.specs.PlanSteps.{may_wait}
+use Rattle.cqs_plan.specs.Runnable.{IsMakeable, AreMakeable, kinds_of}
+use Rattle.std.specs.Option.{option_map}
 use Rattle.cqs_turns.specs.declared.lines.Told.{Told}
 use Rattle.cqs_turns.specs.declared.lines.Told.TheVariants as told
 use Rattle.cqs_turns.specs.declared.states.End.{End}
 use Rattle.cqs_turns.specs.declared.states.End.TheVariants as end
 use Rattle.cqs_turns.specs.declared.states.Progress.TheVariants.{Ended}
 use Rattle.cqs_turns.specs.Turns.{machine_after}
-use Rattle.cqs_laws.specs.Endings.{HasCome, HasMadeAllSteps, NobodyGivesUpEarly, WhoIsDoneMadeAllSteps, made_at, place_of, turns_of}
+use Rattle.cqs_laws.specs.Endings.{HasCome, HasMadeAllSteps, NobodyGivesUpEarly, WhoIsDoneMadeAllSteps, is_told, made_step, turns_of, waited_for}
 use Rattle.cqs_laws.specs.Events.{Line}
 use Rattle.cqs_laws.specs.Stories.{TellsOf, Stage, AtStep, InWait, Closing, Over, Story, HasStory, lasts, AreStories, own_lines}
 use Rattle.cqs_laws.specs.Stories as story
 use Rattle.cqs_laws.proofs.Everywhere.{all-jobs}
 use Rattle.cqs_laws.proofs.JobStories.{each-push, every-job-has-its-story}
 
--- where the steps of a job are, and where its lines tell that they were made
-abbrev places : List Step → List ℕ
-places steps = filter_map place_of steps
+-- the steps of a job that are told, and those that its lines tell to be made
+abbrev told_steps : List Step → List Step
+told_steps steps = filter is_told steps
 
-abbrev made : List Line → List ℕ
-made lines = filter_map (λ line. made_at line.told) lines
+abbrev made : List Resource → List Line → List Step
+made resources lines = filter_map (λ line. made_step resources line.told) lines
+
+abbrev gives : List ℕ → List Step
+gives back = map (λ at. Give at) back
 
 abbrev worked : List Step → ℕ
 worked steps = sum_by turns_of steps
 
-made-push : (lines : List Line) (line : Line) (at : ℕ) → made_at line.told ≡ Some at
-    → made (lines ++ line ∷ []) ≡ made lines ++ at ∷ []
-made-push lines line at is =
-    let one : made (line ∷ []) ≡ at ∷ [] = rw is refl in
-    filter_map-append (λ (x : Line). made_at x.told) lines (line ∷ []) ∙ ap (λ xs. made lines ++ xs) one
+made-push : (resources : List Resource) (lines : List Line) (line : Line) (step : Step)
+    → made_step resources line.told ≡ Some step
+    → made resources (lines ++ line ∷ []) ≡ made resources lines ++ step ∷ []
+made-push resources lines line step is =
+    let one : made resources (line ∷ []) ≡ step ∷ [] = rw is refl in
+    filter_map-append (λ (x : Line). made_step resources x.told) lines (line ∷ [])
+    ∙ ap (λ xs. made resources lines ++ xs) one
 
-made-still : (lines : List Line) (line : Line) → made_at line.told ≡ None → made (lines ++ line ∷ []) ≡ made lines
-made-still lines line is =
-    let none : made (line ∷ []) ≡ [] = rw is refl in
-    filter_map-append (λ (x : Line). made_at x.told) lines (line ∷ []) ∙ ap (λ xs. made lines ++ xs) none
-    ∙ append-nil (made lines)
+made-still : (resources : List Resource) (lines : List Line) (line : Line) → made_step resources line.told ≡ None
+    → made resources (lines ++ line ∷ []) ≡ made resources lines
+made-still resources lines line is =
+    let none : made resources (line ∷ []) ≡ [] = rw is refl in
+    filter_map-append (λ (x : Line). made_step resources x.told) lines (line ∷ [])
+    ∙ ap (λ xs. made resources lines ++ xs) none
+    ∙ append-nil (made resources lines)
 
 -- the steps up to the next one, and that
 take-next : (steps : List Step) (next : ℕ) (step : Step) → slice_get steps next ≡ Some step
@@ -51,22 +64,22 @@ take-next [] next step got = absurd (cc)
 take-next (s ∷ steps) zero step got = let own : s ≡ step = cc in rw own refl
 take-next (s ∷ steps) (suc next) step got = ap (λ xs. s ∷ xs) (take-next steps next step got)
 
-places-next : (steps : List Step) (next at : ℕ) (step : Step) → slice_get steps next ≡ Some step
-    → place_of step ≡ Some at → places (take (next + 1) steps) ≡ places (take next steps) ++ at ∷ []
-places-next steps next at step got is =
-    let one : places (step ∷ []) ≡ at ∷ [] = rw is refl in
+steps-next : (steps : List Step) (next : ℕ) (step : Step) → slice_get steps next ≡ Some step
+    → is_told step ≡ true → told_steps (take (next + 1) steps) ≡ told_steps (take next steps) ++ step ∷ []
+steps-next steps next step got is =
+    let one : told_steps (step ∷ []) ≡ step ∷ [] = rw is refl in
     let same : next + 1 ≡ suc next = omega arith in
-    ap (λ n. places (take n steps)) same ∙ ap places (take-next steps next step got)
-    ∙ filter_map-append place_of (take next steps) (step ∷ []) ∙ ap (λ xs. places (take next steps) ++ xs) one
+    ap (λ n. told_steps (take n steps)) same ∙ ap told_steps (take-next steps next step got)
+    ∙ filter-append is_told (take next steps) (step ∷ []) ∙ ap (λ xs. told_steps (take next steps) ++ xs) one
 
-places-still : (steps : List Step) (next : ℕ) (step : Step) → slice_get steps next ≡ Some step
-    → place_of step ≡ None → places (take (next + 1) steps) ≡ places (take next steps)
-places-still steps next step got is =
-    let none : places (step ∷ []) ≡ [] = rw is refl in
+steps-still : (steps : List Step) (next : ℕ) (step : Step) → slice_get steps next ≡ Some step
+    → is_told step ≡ false → told_steps (take (next + 1) steps) ≡ told_steps (take next steps)
+steps-still steps next step got is =
+    let none : told_steps (step ∷ []) ≡ [] = rw is refl in
     let same : next + 1 ≡ suc next = omega arith in
-    ap (λ n. places (take n steps)) same ∙ ap places (take-next steps next step got)
-    ∙ filter_map-append place_of (take next steps) (step ∷ []) ∙ ap (λ xs. places (take next steps) ++ xs) none
-    ∙ append-nil (places (take next steps))
+    ap (λ n. told_steps (take n steps)) same ∙ ap told_steps (take-next steps next step got)
+    ∙ filter-append is_told (take next steps) (step ∷ []) ∙ ap (λ xs. told_steps (take next steps) ++ xs) none
+    ∙ append-nil (told_steps (take next steps))
 
 worked-next : (steps : List Step) (next : ℕ) (step : Step) → slice_get steps next ≡ Some step
     → worked (take (next + 1) steps) ≡ worked (take next steps) + turns_of step
@@ -80,61 +93,119 @@ lasts-all zero = omega arith
 lasts-all (suc n) = omega arith
 
 -- a step that is told of isn't `work`
-record IsMade (step : Step) (t : Told) : Type 0 where
-  at : ℕ
-  line : made_at t ≡ Some at
-  place : place_of step ≡ Some at
+record IsMade (resources : List Resource) (step : Step) (t : Told) : Type 0 where
+  line : made_step resources t ≡ Some step
+  told_so : is_told step ≡ true
   idle : turns_of step ≡ 0
 
-told-made : {step : Step} {t : Told} → TellsOf step t → IsMade step t
-told-made (story.takes at element) = record { at = at; line = refl; place = refl; idle = refl }
-told-made (story.gives_free at element) = record { at = at; line = refl; place = refl; idle = refl }
-told-made (story.gives_sent at element number) = record { at = at; line = refl; place = refl; idle = refl }
-told-made (story.downs_left at left) = record { at = at; line = refl; place = refl; idle = refl }
-told-made (story.downs_open at) = record { at = at; line = refl; place = refl; idle = refl }
-told-made (story.downs_already at) = record { at = at; line = refl; place = refl; idle = refl }
-told-made (story.passes at) = record { at = at; line = refl; place = refl; idle = refl }
-told-made (story.arrives_last at round) = record { at = at; line = refl; place = refl; idle = refl }
+told-made : (resources : List Resource) {step : Step} {t : Told} → TellsOf step t → IsMade resources step t
+told-made resources (story.takes at element) = record { line = refl; told_so = refl; idle = refl }
+told-made resources (story.gives_free at element) = record { line = refl; told_so = refl; idle = refl }
+told-made resources (story.gives_sent at element number) = record { line = refl; told_so = refl; idle = refl }
+told-made resources (story.downs_left at left) = record { line = refl; told_so = refl; idle = refl }
+told-made resources (story.downs_open at) = record { line = refl; told_so = refl; idle = refl }
+told-made resources (story.downs_already at) = record { line = refl; told_so = refl; idle = refl }
+told-made resources (story.passes at) = record { line = refl; told_so = refl; idle = refl }
+told-made resources (story.arrives_last at round) = record { line = refl; told_so = refl; idle = refl }
 
--- a step that may have to wait there is there, and isn't `work`
-waits-there : (at : ℕ) (step : Step) → may_wait at step ≡ true → (place_of step ≡ Some at) × (turns_of step ≡ 0)
-waits-there at (Take place) may = let here : place ≡ at = eqb-true place at may in (ap Some here, refl)
-waits-there at (Await place) may = let here : place ≡ at = eqb-true place at may in (ap Some here, refl)
-waits-there at (Arrive place) may = let here : place ≡ at = eqb-true place at may in (ap Some here, refl)
-waits-there at (Give place) may = absurd (cc)
-waits-there at (Down place) may = absurd (cc)
-waits-there at (Work turns) may = absurd (cc)
+-- what is waited for, by its kind
+holdable-wait : (k : Kind) (at : ℕ) → IsHoldable (Some k) → waited_for k at ≡ Take at
+holdable-wait (kind.Semaphore permits) at holdable = refl
+holdable-wait kind.Mutex at holdable = refl
+holdable-wait (kind.Pool elements) at holdable = refl
+holdable-wait (kind.Latch count) at holdable = absurd holdable
+holdable-wait (kind.Rounds parties rounds) at holdable = absurd holdable
 
-module _ (job : Job) where
+latch-wait : (k : Kind) (at : ℕ) → IsLatch (Some k) → waited_for k at ≡ Await at
+latch-wait (kind.Semaphore permits) at latch = absurd latch
+latch-wait kind.Mutex at latch = absurd latch
+latch-wait (kind.Pool elements) at latch = absurd latch
+latch-wait (kind.Latch count) at latch = refl
+latch-wait (kind.Rounds parties rounds) at latch = absurd latch
+
+round-wait : (k : Kind) (round at : ℕ) → HasRound (Some k) round → waited_for k at ≡ Arrive at
+round-wait (kind.Semaphore permits) round at has = absurd has
+round-wait kind.Mutex round at has = absurd has
+round-wait (kind.Pool elements) round at has = absurd has
+round-wait (kind.Latch count) round at has = absurd has
+round-wait (kind.Rounds parties rounds) round at has = refl
+
+-- the kind of a resource decides what is waited for there
+module _ (Is : Option Kind → Type 0) (none : Is None → ⊥) (step : Step) (at : ℕ)
+    (by : (k : Kind) → Is (Some k) → waited_for k at ≡ step) where
+  waits-by : (resources : List Resource) (i : ℕ) → Is (slice_get (kinds_of resources) i)
+      → option_map (λ resource. waited_for resource.kind at) (slice_get resources i) ≡ Some step
+  waits-by [] i is = absurd (none is)
+  waits-by (resource ∷ resources) zero is = ap Some (by resource.kind is)
+  waits-by (resource ∷ resources) (suc i) is = waits-by resources i is
+
+-- a step that may have to wait there is what is waited for there, and isn't `work`
+record IsWaited (resources : List Resource) (at : ℕ) (step : Step) : Type 0 where
+  made_so : option_map (λ resource. waited_for resource.kind at) (slice_get resources at) ≡ Some step
+  told_so : is_told step ≡ true
+  idle : turns_of step ≡ 0
+
+waits-there : (resources : List Resource) (at : ℕ) (step : Step) (Holds : ℕ → Type 0) (round : ℕ → ℕ)
+    → may_wait at step ≡ true → IsMakeable (kinds_of resources) Holds round step → IsWaited resources at step
+waits-there resources at (Take place) Holds round may able =
+    let here : place ≡ at = eqb-true place at may in
+    rw here (record {
+      made_so = waits-by IsHoldable (λ no. no) (Take at) at (λ k is. holdable-wait k at is) resources at
+          (rw here at able);
+      told_so = refl;
+      idle = refl;
+    })
+waits-there resources at (Await place) Holds round may able =
+    let here : place ≡ at = eqb-true place at may in
+    rw here (record {
+      made_so = waits-by IsLatch (λ no. no) (Await at) at (λ k is. latch-wait k at is) resources at (rw here at able);
+      told_so = refl;
+      idle = refl;
+    })
+waits-there resources at (Arrive place) Holds round may able =
+    let here : place ≡ at = eqb-true place at may in
+    rw here (record {
+      made_so = waits-by (λ o. HasRound o (round at)) (λ no. no) (Arrive at) at
+          (λ k is. round-wait k (round at) at is) resources at
+          (rw here at able);
+      told_so = refl;
+      idle = refl;
+    })
+waits-there resources at (Give place) Holds round may able = absurd (cc)
+waits-there resources at (Down place) Holds round may able = absurd (cc)
+waits-there resources at (Work turns) Holds round may able = absurd (cc)
+
+module _ (resources : List Resource) (job : Job) (able : AreMakeable (kinds_of resources) job.steps) where
   -- all steps are made, and then this was given back
   record AllMade (lines : List Line) (turn : ℕ) : Type 0 where
     back : List ℕ
-    steps : made lines ≡ places job.steps ++ back
+    steps : made resources lines ≡ told_steps job.steps ++ gives back
     time : worked job.steps ≤ turn
 
   -- what a story says of the steps that are made at a stage
   abbrev Says : List Line → Stage → Type 0
   Says lines (AtStep next from held) =
-      (made lines ≡ places (take next job.steps)) × (worked (take next job.steps) ≤ from)
+      (made resources lines ≡ told_steps (take next job.steps)) × (worked (take next job.steps) ≤ from)
   Says lines (InWait next at round number since held) =
-      (made lines ≡ places (take next job.steps)) × (worked (take next job.steps) ≤ since)
+      (made resources lines ≡ told_steps (take next job.steps)) × (worked (take next job.steps) ≤ since)
       × (step : Step) × (slice_get job.steps next ≡ Some step) × (may_wait at step ≡ true)
   Says lines (Closing end.Done turn held) = AllMade lines turn
   Says lines (Closing end.GaveUp turn held) = Unit {0}
   Says lines (Closing end.Late turn held) = Unit {0}
   Says lines (Closing end.Crowded turn held) = Unit {0}
-  Says lines (Over end.Done) = HasMadeAllSteps job lines
+  Says lines (Over end.Done) = HasMadeAllSteps resources job lines
   Says lines (Over end.GaveUp) = Unit {0}
   Says lines (Over end.Late) = Unit {0}
   Says lines (Over end.Crowded) = Unit {0}
 
   says-given : (lines : List Line) (e : End) (at : ℕ) (held more : List ℕ) (line : Line)
-      → made_at line.told ≡ Some at → Says lines (Closing e line.turn held)
+      → made_step resources line.told ≡ Some (Give at) → Says lines (Closing e line.turn held)
       → Says (lines ++ line ∷ []) (Closing e line.turn more)
   says-given lines end.Done at held more line is says = record {
     back = says.back ++ at ∷ [];
-    steps = made-push lines line at is ∙ ap (λ xs. xs ++ at ∷ []) says.steps
-        ∙ append_assoc (places job.steps) says.back (at ∷ []);
+    steps = made-push resources lines line (Give at) is ∙ ap (λ xs. xs ++ Give at ∷ []) says.steps
+        ∙ append_assoc (told_steps job.steps) (gives says.back) (Give at ∷ [])
+        ∙ ap (λ xs. told_steps job.steps ++ xs) (sym (map-append (λ p. Give p) says.back (at ∷ [])));
     time = says.time;
   }
   says-given lines end.GaveUp at held more line is says = tt
@@ -149,20 +220,20 @@ module _ (job : Job) where
   says story.begins = (refl, omega arith)
   says (story.works lines next from turns held is before) =
       let so = says before in (
-        so.0 ∙ sym (places-still job.steps next (Work turns) is refl),
+        so.0 ∙ sym (steps-still job.steps next (Work turns) is refl),
         omega (arith, so.1, worked-next job.steps next (Work turns) is, lasts-all turns),
       )
   says (story.makes lines next from held step line is tells_of now before) =
       let so = says before in
-      let one = told-made tells_of in (
-        made-push lines line one.at one.line ∙ ap (λ xs. xs ++ one.at ∷ []) so.0
-            ∙ sym (places-next job.steps next one.at step is one.place),
+      let one = told-made resources tells_of in (
+        made-push resources lines line step one.line ∙ ap (λ xs. xs ++ step ∷ []) so.0
+            ∙ sym (steps-next job.steps next step is one.told_so),
         omega (arith, so.1, now, worked-next job.steps next step is, one.idle),
       )
   says (story.waits lines next from at round number held step line is may words now before) =
       let so = says before in
-      let none : made_at line.told ≡ None = rw words refl in (
-        made-still lines line none ∙ so.0,
+      let none : made_step resources line.told ≡ None = rw words refl in (
+        made-still resources lines line none ∙ so.0,
         omega (arith, so.1, now),
         step,
         is,
@@ -170,11 +241,11 @@ module _ (job : Job) where
       )
   says (story.is_served lines next at round number since element held step line is words later early before) =
       let so = says before in
-      let some : made_at line.told ≡ Some at = rw words refl in
-      let there = waits-there at so.2 so.4 in (
-        made-push lines line at some ∙ ap (λ xs. xs ++ at ∷ []) so.0
-            ∙ sym (places-next job.steps next at so.2 so.3 there.0),
-        omega (arith, so.1, later, worked-next job.steps next so.2 so.3, there.1),
+      let there = waits-there resources at so.2 _ _ so.4 (able.at next so.2 so.3) in
+      let some : made_step resources line.told ≡ Some so.2 = rw words there.made_so in (
+        made-push resources lines line so.2 some ∙ ap (λ xs. xs ++ so.2 ∷ []) so.0
+            ∙ sym (steps-next job.steps next so.2 so.3 there.told_so),
+        omega (arith, so.1, later, worked-next job.steps next so.2 so.3, there.idle),
       )
   says (story.gives_up lines next at round number since deadline held line words later has come before) = tt
   says (story.is_late lines next at round number since deadline held step line is words later has come before) = tt
@@ -183,25 +254,27 @@ module _ (job : Job) where
       let all : take next job.steps ≡ job.steps = take_all next job.steps past in
       record {
         back = [];
-        steps = so.0 ∙ ap places all ∙ sym (append-nil (places job.steps));
+        steps = so.0 ∙ ap told_steps all ∙ sym (append-nil (told_steps job.steps));
         time = omega (arith, so.1, ap worked all);
       }
   says (story.gives_back lines e at held line tells_of before) =
-      let one = told-made tells_of in says-given lines e one.at (at ∷ held) held line one.line (says before)
+      let one = told-made resources tells_of in
+      says-given lines e at (at ∷ held) held line one.line (says before)
   says (story.is_done lines line words before) =
       let so = says before in
-      let none : made_at line.told ≡ None = rw words refl in
+      let none : made_step resources line.told ≡ None = rw words refl in
       record {
         earlier = lines;
         last = line;
         lines = refl;
         done = words;
         back = so.back;
-        steps = made-still lines line none ∙ so.steps;
+        steps = made-still resources lines line none ∙ so.steps;
         worked = so.time;
       }
   says (story.has_left lines e turn which before) = left-says lines e which
 
+module _ (job : Job) where
   -- the line gives up, or is late, only at a deadline of the job that has come
   abbrev IsTimely : Line → Type 0
   IsTimely line =
@@ -324,5 +397,5 @@ who-is-done-made-all-steps plan turns runnable =
       λ place job there done.
           let has = all.2.jobs place job (Ended end.Done) there done in
           let is : has.stage ≡ Over end.Done = has.counts in
-          says job (subst (λ x. Story job (own_lines place all.0) x) is has.story),
+          says plan.resources job (runnable.steps.at place job there) (subst (λ x. Story job (own_lines place all.0) x) is has.story),
     )

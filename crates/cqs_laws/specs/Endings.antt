@@ -1,6 +1,10 @@
 -- How jobs end.
-use Rattle.std.specs.Prelude.{◌≡◌, ◌⊎◌, ℕ, ◌+◌, ◌≤◌, List, [], ◌∷◌, ◌++◌, Option, Some, None, filter_map, sum_by, slice_get}
+use Rattle.std.specs.Prelude.{◌≡◌, ◌⊎◌, ℕ, ◌+◌, ◌≤◌, List, [], ◌∷◌, ◌++◌, Bool, true, false, Option, Some, None, filter, filter_map, map, sum_by, slice_get}
+use Rattle.std.specs.Option.{option_map}
 use Rattle.cqs_plan.specs.declared.plans.job.Job.{Job}
+use Rattle.cqs_plan.specs.declared.plans.kind.Kind.{Kind}
+use Rattle.cqs_plan.specs.declared.plans.kind.Kind.TheVariants as kind
+use Rattle.cqs_plan.specs.declared.plans.resource.Resource.{Resource}
 use Rattle.cqs_plan.specs.declared.plans.plan.Plan.{Plan}
 use Rattle.cqs_plan.specs.declared.plans.step.Step.{Step}
 use Rattle.cqs_plan.specs.declared.plans.step.Step.TheVariants.{Take, Give, Down, Await, Arrive, Work}
@@ -56,14 +60,14 @@ NobodyGivesUpEarly =
     → (line.told ≡ told.GaveUp at round number) ⊎ (line.told ≡ told.Late at round number)
     → HasCome plan line)
 
--- at which resource a step takes, gives, counts down, waits or arrives; `work` is at none
-abbrev pub place_of : Step → Option ℕ
-place_of (Take at) = Some at
-place_of (Give at) = Some at
-place_of (Down at) = Some at
-place_of (Await at) = Some at
-place_of (Arrive at) = Some at
-place_of (Work turns) = None
+-- a step that lines tell of: each but `work`
+abbrev pub is_told : Step → Bool
+is_told (Take at) = true
+is_told (Give at) = true
+is_told (Down at) = true
+is_told (Await at) = true
+is_told (Arrive at) = true
+is_told (Work turns) = false
 
 -- how many turns a step works
 abbrev pub turns_of : Step → ℕ
@@ -74,33 +78,44 @@ turns_of (Down at) = 0
 turns_of (Await at) = 0
 turns_of (Arrive at) = 0
 
--- At which resource a line tells that a step was made, at once or after a wait; or that something
--- was given back at the end. The other lines tell no such thing.
-abbrev pub made_at : Told → Option ℕ
-made_at (told.Takes at element) = Some at
-made_at (told.Served at round number element) = Some at
-made_at (told.GivesFree at element) = Some at
-made_at (told.GivesSent at element number) = Some at
-made_at (told.Passes at) = Some at
-made_at (told.DownsLeft at left) = Some at
-made_at (told.DownsOpen at) = Some at
-made_at (told.DownsAlready at) = Some at
-made_at (told.ArrivesLast at round) = Some at
-made_at (told.Waits at round number) = None
-made_at (told.GaveUp at round number) = None
-made_at (told.Late at round number) = None
-made_at told.Done = None
+-- the step that is made where a wait at a resource of this kind is served
+abbrev pub waited_for : Kind → ℕ → Step
+waited_for (kind.Semaphore permits) at = Take at
+waited_for kind.Mutex at = Take at
+waited_for (kind.Pool elements) at = Take at
+waited_for (kind.Latch count) at = Await at
+waited_for (kind.Rounds parties rounds) at = Arrive at
+
+-- The step that a line tells to be made, at once or after a wait; a give may also be one at the
+-- job's end. The other lines tell no such thing.
+abbrev pub made_step : List Resource → Told → Option Step
+made_step resources (told.Takes at element) = Some (Take at)
+made_step resources (told.Served at round number element) =
+    option_map (λ resource. waited_for resource.kind at) (slice_get resources at)
+made_step resources (told.GivesFree at element) = Some (Give at)
+made_step resources (told.GivesSent at element number) = Some (Give at)
+made_step resources (told.Passes at) = Some (Await at)
+made_step resources (told.DownsLeft at left) = Some (Down at)
+made_step resources (told.DownsOpen at) = Some (Down at)
+made_step resources (told.DownsAlready at) = Some (Down at)
+made_step resources (told.ArrivesLast at round) = Some (Arrive at)
+made_step resources (told.Waits at round number) = None
+made_step resources (told.GaveUp at round number) = None
+made_step resources (told.Late at round number) = None
+made_step resources told.Done = None
 
 -- The last of a job's lines says that it is done; the others tell of each of its steps but `work`
 -- once, in order, and then of what it gives back at the end; and the turn is at least the sum of
 -- the turns that it works.
-pub record HasMadeAllSteps (job : Job) (own : List Line) : Type 0 where
+pub record HasMadeAllSteps (resources : List Resource) (job : Job) (own : List Line)
+    : Type 0 where
   pub earlier : List Line
   pub last : Line
   pub lines : own ≡ earlier ++ last ∷ []
   pub done : last.told ≡ told.Done
   pub back : List ℕ
-  pub steps : filter_map (λ line. made_at line.told) own ≡ filter_map place_of job.steps ++ back
+  pub steps : filter_map (λ line. made_step resources line.told) own
+      ≡ filter is_told job.steps ++ map (λ at. Give at) back
   pub worked : sum_by turns_of job.steps ≤ last.turn
 
 -- by the lines of each report a job that is counted as done has made all its steps
@@ -110,4 +125,4 @@ WhoIsDoneMadeAllSteps =
     → (lines : List Line) × AreLines plan (machine_after plan turns).scene.text lines
     × ((place : ℕ) (job : Job) → slice_get plan.jobs place ≡ Some job
     → progress_of plan turns place ≡ Some (Ended Done)
-    → HasMadeAllSteps job (own_lines place lines))
+    → HasMadeAllSteps plan.resources job (own_lines place lines))

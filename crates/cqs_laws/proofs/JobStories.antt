@@ -799,7 +799,7 @@ module _ (plan : Plan) (P : Scene → List Line → Type 0) (told_so : IsToldByE
   always-storied runnable opens turns =
       always-in plan IsStoried (opening-storied runnable opens) later-storied (one-job-storied runnable) turns
 
-told-of : (plan : Plan) (turns : ℕ) → IsRunnable plan
+pub told-of : (plan : Plan) (turns : ℕ) → IsRunnable plan
     → IsStoried plan (IsTelling plan) (told-by-events plan) turns 0 (machine_after plan turns)
 told-of plan turns runnable =
     always-storied plan (IsTelling plan) (told-by-events plan) runnable (opening-tells plan) turns

@@ -13,6 +13,8 @@ mod Lined
 mod Telling
 mod JobStories
 mod StoryEnds
+mod Leaving
+mod Served
 mod Claims
 mod PermitFunds
 mod ElementFunds

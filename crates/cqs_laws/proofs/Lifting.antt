@@ -208,7 +208,7 @@ module _ (plan : Plan) (P : Scene → Type 0) (kept : IsKeptByEvents plan P) whe
         (kept.serves r at round number element s actor (waits-so s at round number (drop next r.job.steps) ready)
         same holds)
 
-    after_acting-keeps : (p : Progress) (s : Scene) → IsReady s.floor r.place (wait_in p) (steps_left r.job.steps p)
+    pub after_acting-keeps : (p : Progress) (s : Scene) → IsReady s.floor r.place (wait_in p) (steps_left r.job.steps p)
         → P s
         → P (after_acting r p s).scene
     after_acting-keeps (Stepping next) s ready holds = after_steps-keeps (drop next r.job.steps) next s ready holds

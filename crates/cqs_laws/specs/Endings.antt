@@ -1,5 +1,5 @@
 -- How jobs end.
-use Rattle.std.specs.Prelude.{◌≡◌, ◌⊎◌, ℕ, ◌+◌, ◌≤◌, List, [], ◌∷◌, ◌++◌, Bool, true, false, Option, Some, None, filter, filter_map, map, sum_by, slice_get}
+use Rattle.std.specs.Prelude.{◌≡◌, ◌≢◌, ◌⊎◌, ℕ, ◌+◌, ◌≤◌, List, [], ◌∷◌, ◌++◌, Bool, true, false, Option, Some, None, filter, filter_map, map, sum_by, slice_get}
 use Rattle.std.specs.Option.{option_map}
 use Rattle.cqs_plan.specs.declared.plans.job.Job.{Job}
 use Rattle.cqs_plan.specs.declared.plans.kind.Kind.{Kind}
@@ -9,6 +9,7 @@ use Rattle.cqs_plan.specs.declared.plans.plan.Plan.{Plan}
 use Rattle.cqs_plan.specs.declared.plans.step.Step.{Step}
 use Rattle.cqs_plan.specs.declared.plans.step.Step.TheVariants.{Take, Give, Down, Await, Arrive, Work}
 use Rattle.cqs_plan.specs.Floor.{wait_of, holds_of}
+use Rattle.cqs_plan.specs.FloorCalls.{is_in_line}
 use Rattle.cqs_plan.specs.Runnable.{IsRunnable}
 use Rattle.cqs_turns.specs.declared.lines.Told.{Told}
 use Rattle.cqs_turns.specs.declared.lines.Told.TheVariants as told
@@ -16,6 +17,7 @@ use Rattle.cqs_turns.specs.declared.states.End.{End}
 use Rattle.cqs_turns.specs.declared.states.End.TheVariants.{Done, GaveUp, Late}
 use Rattle.cqs_turns.specs.declared.states.Progress.{Progress}
 use Rattle.cqs_turns.specs.declared.states.Progress.TheVariants.{Waiting, Ended}
+use Rattle.cqs_turns.specs.Roles.{wait_at}
 use Rattle.cqs_turns.specs.Turns.{machine_after}
 use Rattle.cqs_laws.specs.Events.{Line, AreLines}
 use Rattle.cqs_laws.specs.Stories.{own_lines}
@@ -41,6 +43,15 @@ NoWaitOutlivesItsDeadline =
     → progress_of plan turn place ≡ Some (Waiting next at round number)
     → (progress_of plan (turn + 1) place ≡ Some (Ended GaveUp))
     ⊎ (progress_of plan (turn + 1) place ≡ Some (Ended Late))
+
+-- who waits when a turn begins and isn't in the line any more, so that what it waits for has come,
+-- doesn't wait for this any longer when the turn is over
+abbrev pub NoWaitOutlivesItsService : Type 0
+NoWaitOutlivesItsService =
+    (plan : Plan) (turn place next at round number : ℕ) → IsRunnable plan
+    → progress_of plan turn place ≡ Some (Waiting next at round number)
+    → is_in_line (machine_after plan turn).scene.floor (wait_at at round number) ≡ false
+    → progress_of plan (turn + 1) place ≢ Some (Waiting next at round number)
 
 -- the job of the line has a deadline, which has come by then
 pub record HasCome (plan : Plan) (line : Line) : Type 0 where

@@ -8,7 +8,7 @@ ghost use Rattle.cqs_laws.specs.Balances.{EveryResourceBalances, EveryRoundBalan
 ghost use Rattle.cqs_laws.specs.Totals.{TotalsAddUp};
 ghost use Rattle.cqs_laws.specs.Events.{EveryReportHasItsLines};
 ghost use Rattle.cqs_laws.specs.Stories.{EveryJobHasItsStory};
-ghost use Rattle.cqs_laws.specs.Endings.{EndedJobsHaveNothing, NoWaitOutlivesItsDeadline, NobodyGivesUpEarly, WhoIsDoneMadeAllSteps};
+ghost use Rattle.cqs_laws.specs.Endings.{EndedJobsHaveNothing, NoWaitOutlivesItsDeadline, NoWaitOutlivesItsService, NobodyGivesUpEarly, WhoIsDoneMadeAllSteps};
 
 /// The four totals of a report add up to the number of the plan's jobs.
 pub fn totals_add_up()
@@ -23,6 +23,12 @@ pub fn ended_jobs_have_nothing()
 /// A job that waits when a turn at or after its deadline begins has ended when that turn is over.
 pub fn no_wait_outlives_its_deadline()
     ensures { NoWaitOutlivesItsDeadline }
+{}
+
+/// A job that waits when a turn begins, and isn't in the line any more, doesn't wait for this any
+/// longer when the turn is over.
+pub fn no_wait_outlives_its_service()
+    ensures { NoWaitOutlivesItsService }
 {}
 
 /// The events of a run are lines, one after the other, whose texts are the report so far. The waits

@@ -1,7 +1,6 @@
--- Who isn't in a line any more doesn't come back to it, under the number that it had: what each deed at a resource keeps.
-use Rattle.std.proofs.Common.{◌≡◌, ◌≢◌, ◌⊎◌, inl, inr, ℕ, zero, suc, ◌+◌, ◌<◌, ◌≤◌, ◌==◌, ◌||◌, Bool, true, false, List, [], ◌∷◌, ◌++◌, Option, Some, None, length, map, set, refl, sym, ap, subst, ◌∙◌, eq-eqb, ne_eqb, arith}
-use Rattle.std.specs.Bool.{if◌then◌else◌}
-use Rattle.std.specs.List.{fold, list_any}
+-- Who isn't in a line any more doesn't come back to it under the same number: what each deed at a resource keeps.
+use Rattle.std.proofs.Common.{◌≡◌, ◌≢◌, ◌⊎◌, inl, inr, ℕ, ◌<◌, ◌==◌, ◌||◌, Bool, true, false, List, [], ◌∷◌, ◌++◌, Option, length, map, refl, sym, ap, subst, ◌∙◌, ne_eqb, arith}
+use Rattle.std.specs.List.{fold}
 use Rattle.std.proofs.lemmas.Bool.{cases_eq}
 use Rattle.std.proofs.lemmas.List.Folds.{list_any-append}
 use Rattle.cqs_core.specs.Keyed.{without}
@@ -156,7 +155,8 @@ Later f g = (at round k : ℕ) → IsGone f at round k → IsGone g at round k
 -- so it is after a deed
 pub later-by : (f : PlainFloor) (at round : ℕ) (deed : Deed) → at < length f.histories → HasPart (history_at f at) round
     → JoinsNext (stands_in f at round).next deed → (room : List ℕ) (waits : List (Option JobWait))
-    (holds : List (List Holding)) (rounds : List (List ℕ)) → Later f (changed_floor f at round deed room waits holds rounds)
+    (holds : List (List Holding)) (rounds : List (List ℕ))
+    → Later f (changed_floor f at round deed room waits holds rounds)
 later-by f at round deed there part fits room waits holds rounds q r k was = go (cases_eq q at) (cases_eq r round)
   where
     d : PlainFloor
@@ -189,7 +189,8 @@ later-by f at round deed there part fits room waits holds rounds q r k was = go 
             next-after (size_at f at) (history_at f at) round deed part,
           );
           gone = ap (λ (s : Standing). in_line k s.line) stands
-              ∙ gone-after (size_at f at) (history_at f at) round deed k part fits (λ is. omega (arith, is, below)) away;
+              ∙ gone-after (size_at f at) (history_at f at) round deed k part fits
+              (λ is. omega (arith, is, below)) away;
         })
     go (inl here) (inr other) =
         let own : HasPart (history_at f at) r = rw here at was.part in

@@ -1,8 +1,7 @@
 -- Who waits and isn't in the line any more is served, or late, in its next turn.
-use Rattle.std.proofs.Common.{◌≡◌, ◌≢◌, ◌⊎◌, inl, inr, ℕ, zero, suc, ◌+◌, ◌<◌, ◌≤◌, List, [], ◌∷◌, ◌++◌, Bool, true, false, nat_lt, Option, Some, None, length, set, drop, slice_get, refl, sym, ap, subst, ◌∙◌, arith}
+use Rattle.std.proofs.Common.{◌≡◌, ◌≢◌, ◌⊎◌, inl, inr, ℕ, suc, ◌+◌, ◌<◌, ◌≤◌, List, [], ◌∷◌, ◌++◌, Bool, true, false, Option, Some, None, length, set, drop, slice_get, refl, sym, ap, subst, ◌∙◌, arith}
 use Rattle.std.specs.Bool.{if◌then◌else◌}
-use Rattle.std.specs.Option.{option_map_or}
-use Rattle.std.proofs.lemmas.Bool.{cases_eq, cases_lt}
+use Rattle.std.proofs.lemmas.Bool.{cases_eq}
 use Rattle.cqs_core.specs.QueueLine.{Waiting as InLine}
 use Rattle.cqs_core.proofs.Places.{get-below, get-set_here, get-set_else, get-there}
 use Rattle.cqs_plan.specs.declared.plans.job.Job.{Job}
@@ -19,9 +18,8 @@ use Rattle.cqs_plan.specs.declared.floors.answers.FloorLeave.{FloorLeave}
 use Rattle.cqs_plan.specs.declared.floors.answers.FloorLeave.TheVariants as leave
 use Rattle.cqs_plan.specs.FloorHistory.{Deed, takes, joins, frees, sends, gets, leaves, is_late, passes, counts, opens, is_open, completes}
 use Rattle.cqs_plan.specs.Floor.{PlainFloor, JobWait, Holding, first_free_at, history_at, holds_of, is_holdable, oldest, round_of, standing_at, stands_in, wait_of, with_done_in, with_newest, with_wait}
-use Rattle.cqs_plan.specs.FloorCalls.{after_take, after_give, after_down, after_wait, after_arrive, after_look, after_leave, down_answer, give_of, is_in_line, leave_answer, look_answer, with_granted, with_left}
+use Rattle.cqs_plan.specs.FloorCalls.{after_take, after_give, after_down, after_wait, after_arrive, after_leave, down_answer, give_of, is_in_line, leave_answer, look_answer, with_granted, with_left}
 use Rattle.cqs_plan.specs.Runnable.{IsRunnable}
-use Rattle.cqs_turns.specs.declared.states.End.{End}
 use Rattle.cqs_turns.specs.declared.states.Progress.{Progress}
 use Rattle.cqs_turns.specs.declared.states.Progress.TheVariants.{Stepping, Working, Waiting, Ended}
 use Rattle.cqs_turns.specs.Ready.{IsReady, wait_in, steps_left}
@@ -37,7 +35,7 @@ use Rattle.cqs_laws.proofs.Everywhere.{through-turn}
 use Rattle.cqs_laws.proofs.JobStories.{told-of}
 use Rattle.cqs_laws.proofs.Kept.{one-job-is, with_acted}
 use Rattle.cqs_laws.proofs.Leaving.{IsGone, Later, later-by}
-use Rattle.cqs_laws.proofs.Lifting.{IsActor, IsKeptByEvents, HasWait, after_acting-keeps}
+use Rattle.cqs_laws.proofs.Lifting.{IsKeptByEvents, HasWait, after_acting-keeps}
 use Rattle.cqs_laws.proofs.Lined.{changed_floor}
 use Rattle.cqs_laws.proofs.Objects.{holdable-below, latch-below, round-below}
 use Rattle.cqs_laws.proofs.OwnTurn.{role_of}
@@ -69,8 +67,8 @@ module _ (f : PlainFloor) (place at : ℕ) (there : at < length f.histories) whe
       → Later f (after_arrive f at place
       (if b then Waits (stands_in f at (round_of f place at)).next else Now 0))
   arrives-later true part =
-      later-by f at (round_of f place at) (joins (stands_in f at (round_of f place at)).next) there part refl _ _ f.holds
-      _
+      later-by f at (round_of f place at) (joins (stands_in f at (round_of f place at)).next) there part refl _ _
+      f.holds _
   arrives-later false part = later-by f at (round_of f place at) completes there part tt _ f.waits f.holds _
 
   granted-later : (round number element : ℕ) (deed : ℕ → ℕ → Deed) → HasWait f place at round number
@@ -210,7 +208,8 @@ looks-past : (r : Role) (next at round number : ℕ) (s : Scene)
     → IsPast next (after_acting r (Waiting next at round number) s).progress
 looks-past r next at round number s waits away = by (is_due r.job.deadline r.turn)
   where
-    looks : (answer : FloorLook) → answer ≢ Pending → IsPast next (after_looking r next at round number answer s).progress
+    looks : (answer : FloorLook) → answer ≢ Pending
+        → IsPast next (after_looking r next at round number answer s).progress
     looks Pending some = absurd (some refl)
     looks (Granted element) some = steps-past r (drop next r.job.steps) next _
 
@@ -275,8 +274,8 @@ module _ (plan : Plan) (runnable : IsRunnable plan) (turn place : ℕ) (job : Jo
         (after_acting-turned role p m.scene ready (room-of plan m place job h.running runnable there p got)
         (h.running.rounds place job p there got));
     is = after_acting-keeps plan (IsAfter plan (machine_after plan turn).scene.floor)
-        (after-kept plan (machine_after plan turn).scene.floor) role (record { resources = refl; job = there }) p m.scene
-        ready h.is;
+        (after-kept plan (machine_after plan turn).scene.floor) role (record { resources = refl; job = there }) p
+        m.scene ready h.is;
     coming = λ j past.
         get-set_else m.progress place j a.progress (λ same. omega (arith, same, past))
         ∙ h.coming j (omega (arith, past));

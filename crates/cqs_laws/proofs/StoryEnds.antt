@@ -397,5 +397,6 @@ who-is-done-made-all-steps plan turns runnable =
       λ place job there done.
           let has = all.2.jobs place job (Ended end.Done) there done in
           let is : has.stage ≡ Over end.Done = has.counts in
-          says plan.resources job (runnable.steps.at place job there) (subst (λ x. Story job (own_lines place all.0) x) is has.story),
+          says plan.resources job (runnable.steps.at place job there)
+          (subst (λ x. Story job (own_lines place all.0) x) is has.story),
     )

@@ -9,7 +9,7 @@ use Rattle.cqs_core.specs.declared.cells.CoreCell.{CoreCell}
 use Rattle.cqs_core.specs.declared.cells.CoreState.TheVariants as state
 use Rattle.cqs_core.specs.declared.doings.Doing.{Doing}
 use Rattle.cqs_core.specs.declared.doings.Doing.TheVariants as doing
-use Rattle.cqs_core.specs.Numbered.{picked, cons_option}
+use Rattle.cqs_core.specs.Numbered.{pick_each, cons_option}
 use Rattle.cqs_core.specs.QueueLine as queue
 use Rattle.cqs_core.specs.QueueLine.{Waiting, in_line, is_resuming}
 use Rattle.cqs_core.specs.QueueState.{Queue}
@@ -57,13 +57,13 @@ use Rattle.cqs_barrier.proofs.FinishSteps.{finish_answer, ran-finished}
 -- nobody is found under a number at which nothing is read
 find-nobody : (passes : List Doing) (m k : ℕ) (cells : List CoreCell)
     → ((i : ℕ) (c : CoreCell) → k ≡ m + i → slice_get cells i ≡ Some c → in_line passes k c ≡ None)
-    → find_wait k (picked (in_line passes) m cells) ≡ None
+    → find_wait k (pick_each (in_line passes) m cells) ≡ None
 find-nobody passes m k [] none = refl
 find-nobody passes m k (c ∷ cells) none =
     go (in_line passes m c) refl (find-nobody passes (suc m) k cells (λ i z at got. none (suc i) z (omega arith) got))
   where
-    go : (o : Option Waiting) → in_line passes m c ≡ o → find_wait k (picked (in_line passes) (suc m) cells) ≡ None
-        → find_wait k (cons_option o (picked (in_line passes) (suc m) cells)) ≡ None
+    go : (o : Option Waiting) → in_line passes m c ≡ o → find_wait k (pick_each (in_line passes) (suc m) cells) ≡ None
+        → find_wait k (cons_option o (pick_each (in_line passes) (suc m) cells)) ≡ None
     go None reads rest = rest
     go (Some w) reads rest =
         let number : w.wait ≡ m = (line-keyed passes).at m c w reads in

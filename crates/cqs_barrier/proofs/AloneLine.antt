@@ -11,8 +11,8 @@ use Rattle.cqs_core.specs.declared.cells.CoreState.{CoreState}
 use Rattle.cqs_core.specs.declared.cells.CoreState.TheVariants as state
 use Rattle.cqs_core.specs.declared.doings.Doing.{Doing}
 use Rattle.cqs_core.specs.declared.doings.Doing.TheVariants as doing
-use Rattle.cqs_core.specs.Keyed.{without, placed}
-use Rattle.cqs_core.specs.Numbered.{IsIn, picked, cons_option}
+use Rattle.cqs_core.specs.Keyed.{without, insert_by}
+use Rattle.cqs_core.specs.Numbered.{IsIn, pick_each, cons_option}
 use Rattle.cqs_core.specs.QueueLine as queue
 use Rattle.cqs_core.specs.QueueLine.{Waiting, Service, in_line, is_served, service_of, is_resuming, going}
 use Rattle.cqs_core.specs.QueueState.{Queue}
@@ -50,13 +50,13 @@ cons-rising key (Some y) k high ys named rising =
     (omega arith, subst (λ n. IsRising key (n + 1) high ys) (sym is) rising)
 
 pub picked-rising : {X Y : Type 0} (f : ℕ → X → Option Y) (key : Y → ℕ) → IsKeyed f key → (k high : ℕ) (xs : List X)
-    → high ≡ k + length xs → IsRising key k high (picked f k xs)
+    → high ≡ k + length xs → IsRising key k high (pick_each f k xs)
 picked-rising f key keyed k high [] is = omega arith
 picked-rising f key keyed k high (x ∷ xs) is =
     let next : suc k ≡ k + 1 = omega arith in
     let rest = picked-rising f key keyed (suc k) high xs (omega arith) in
-    cons-rising key (f k x) k high (picked f (suc k) xs) (λ y some. keyed.at k x y some)
-    (subst (λ n. IsRising key n high (picked f (suc k) xs)) next rest)
+    cons-rising key (f k x) k high (pick_each f (suc k) xs) (λ y some. keyed.at k x y some)
+    (subst (λ n. IsRising key n high (pick_each f (suc k) xs)) next rest)
 
 -- what is read was read off an element
 pub record Read {X Y : Type 0} (f : ℕ → X → Option Y) (k : ℕ) (xs : List X) (y : Y) : Type 0 where
@@ -69,13 +69,13 @@ cons-in : {Y : Type 0} (o : Option Y) (y : Y) (ys : List Y) → IsIn y (cons_opt
 cons-in None y ys stands = inr stands
 cons-in (Some z) y ys stands = ⊎_elim (λ e. inl (ap (λ u. Some u) (sym e))) (λ l. inr l) (in-behind y z ys stands)
 
-pub read-off : {X Y : Type 0} (f : ℕ → X → Option Y) (k : ℕ) (xs : List X) (y : Y) → IsIn y (picked f k xs)
+pub read-off : {X Y : Type 0} (f : ℕ → X → Option Y) (k : ℕ) (xs : List X) (y : Y) → IsIn y (pick_each f k xs)
     → Read f k xs y
 read-off f k [] y stands = absurd (in-none y stands)
 read-off f k (x ∷ xs) y stands =
-    go (cons-in (f k x) y (picked f (suc k) xs) stands) (λ later. read-off f (suc k) xs y later)
+    go (cons-in (f k x) y (pick_each f (suc k) xs) stands) (λ later. read-off f (suc k) xs y later)
   where
-    go : (f k x ≡ Some y) ⊎ IsIn y (picked f (suc k) xs) → (IsIn y (picked f (suc k) xs) → Read f (suc k) xs y)
+    go : (f k x ≡ Some y) ⊎ IsIn y (pick_each f (suc k) xs) → (IsIn y (pick_each f (suc k) xs) → Read f (suc k) xs y)
         → Read f k (x ∷ xs) y
     go (inl here) rest =
         let same : k + 0 ≡ k = omega arith in
@@ -90,11 +90,11 @@ read-off f k (x ∷ xs) y stands =
           reads = ap (λ n. f n r.element) same ∙ r.reads;
         }
 
-pub in-placed : {Y : Type 0} (key : Y → ℕ) (y : Y) (ys : List Y) → IsIn y (placed key y ys)
+pub in-placed : {Y : Type 0} (key : Y → ℕ) (y : Y) (ys : List Y) → IsIn y (insert_by key y ys)
 in-placed key y [] = record { place = 0; there = refl }
 in-placed key y (z ∷ zs) = go (nat_lt (key y) (key z)) (in-placed key y zs)
   where
-    go : (b : Bool) → IsIn y (placed key y zs) → IsIn y (if b then y ∷ z ∷ zs else z ∷ placed key y zs)
+    go : (b : Bool) → IsIn y (insert_by key y zs) → IsIn y (if b then y ∷ z ∷ zs else z ∷ insert_by key y zs)
     go true rest = record { place = 0; there = refl }
     go false rest = record { place = suc rest.place; there = rest.there }
 
@@ -163,7 +163,7 @@ module _ (q : Queue) (sound : IsSound q) (idle : IsIdle q.doing) where
           let none : in_line q.doing i cell ≡ None = not-in_line q sound idle i cell there other in
           absurd (cc)
 
-  pub served-reached : (y : Service) → IsIn y (queue.served q) → y.wait < q.resumes
+  pub served-reached : (y : Service) → IsIn y (queue.services q) → y.wait < q.resumes
   served-reached y stands =
       let r = read-off is_served 0 q.cells y stands in
       let same : 0 + r.place ≡ r.place = zero-add r.place in

@@ -3,7 +3,7 @@ use Rattle.std.proofs.Common.{◌≡◌, ℕ, ◌<◌, true, List, [], ◌∷◌
 use Rattle.std.specs.List.{fold}
 use Rattle.std.proofs.lemmas.List.Sums.{fold-append}
 use Rattle.cqs_core.specs.declared.doings.Doing.TheVariants as doing
-use Rattle.cqs_core.specs.Keyed.{placed}
+use Rattle.cqs_core.specs.Keyed.{insert_by}
 use Rattle.cqs_core.specs.Numbered.{IsIn}
 use Rattle.cqs_core.specs.QueueLine.{Service}
 use Rattle.cqs_core.specs.QueueWaiters.{Waits, Waiters, waiters, with_service, is_reached}
@@ -93,7 +93,7 @@ module _ {T : Type 0} where
       let shows : is_reached o.waiters k ≡ waiters q = ap (λ (z : Barrier). z.waiters) (sym now) ∙ sees w b in
       let rests = all-idle w b idle in
       let y : Service = record { wait = found.wait.wait; pass = found.wait.pass; is_open = true } in
-      let there : IsIn y (placed (λ (s : Service). s.wait) y o.waiters.served) =
+      let there : IsIn y (insert_by (λ (s : Service). s.wait) y o.waiters.served) =
       in-placed (λ (s : Service). s.wait) y o.waiters.served in
       let there_too : IsIn y (is_reached o.waiters k).served =
       subst (λ z. IsIn y (with_service z o.waiters.served)) (sym found.is) there in

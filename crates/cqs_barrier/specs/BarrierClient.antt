@@ -20,7 +20,7 @@ use Rattle.cqs_barrier_object.proofs.Steps.{step-keeps}
 use Rattle.cqs_barrier_object.proofs.WordSteps.{barrier-opens, handover-keeps}
 use Rattle.cqs_rule.specs.declared.view.Has.{Has}
 use Rattle.cqs_rule.specs.Client.{IsClient, IsBegun, IsPaid, IsPayload, begun_by}
-use Rattle.cqs_rule.specs.Hidden.{Hidden, happened, has_after, has_gained, has_paid, has_both, has_none, hands_over}
+use Rattle.cqs_rule.specs.Hidden.{Hidden, hidden_after, has_after, has_gained, has_paid, has_both, has_none, hands_over}
 use Rattle.cqs_rule.specs.Lists.{NamesOnly}
 use Rattle.cqs_rule.specs.Manner.{Suits}
 use Rattle.cqs_rule.specs.Opened.{first_hidden, four}
@@ -188,7 +188,7 @@ steps-barrier : {T : Type 0} (parties : ℕ) (c : Hidden) (t : QueueStep) (p k :
     → ShowsBarrier parties c words log handed → IsOpenStep c.queue t p k found
     → slice_get c.has p ≡ Some has
     → IsPayload (row_of t) has (c.payloads k) payload → Suits barrier_manner t
-    → ShowsBarrier parties (happened no_more c t p k found has payload) words
+    → ShowsBarrier parties (hidden_after no_more c t p k found has payload) words
     (log ++ step_entries t p k) handed
 steps-barrier parties c t p k found has payload words log handed shown opens there paid suits =
     let s = barrier_shown parties c words log in

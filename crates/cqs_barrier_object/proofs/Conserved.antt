@@ -3,7 +3,7 @@ use Rattle.std.proofs.Common.{◌≡◌, ◌⊎◌, inl, inr, ℕ, suc, ◌+◌,
 use Rattle.std.proofs.lemmas.Bool.{cases_lt}
 use Rattle.std.proofs.lemmas.List.{length_push}
 use Rattle.cqs_core.specs.Numbered.{IsIn}
-use Rattle.cqs_core.specs.Keyed.{placed, without}
+use Rattle.cqs_core.specs.Keyed.{insert_by, without}
 use Rattle.cqs_core.specs.QueueLine.{Waiting}
 use Rattle.cqs_core.specs.QueueWaiters.{Waits, due_of, enters}
 use Rattle.cqs_core.proofs.Histories.{walk, walk-end, before, take-next, object-next}
@@ -38,7 +38,7 @@ module _ (parties : ℕ) where
   balanced-entry o (entry.ArriveLast c) one b = record { before = λ some. absurd (omega arith); after = λ none. refl }
   balanced-entry o (entry.ArriveDoor c) more b =
       let was = b.before (omega arith) in
-      let longer : length (placed (λ d. d) c o.waiters.door) ≡ length o.waiters.door + 1 =
+      let longer : length (insert_by (λ d. d) c o.waiters.door) ≡ length o.waiters.door + 1 =
       length-placed (λ d. d) c o.waiters.door in
       record { before = λ some. (omega (arith, was.0), was.1); after = λ none. absurd (omega arith) }
   balanced-entry o (entry.Enter c k) (stands, next) b =

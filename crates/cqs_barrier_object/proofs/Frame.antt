@@ -14,7 +14,7 @@ use Rattle.cqs_barrier_object.specs.declared.entries.BarrierEntry.{BarrierEntry}
 use Rattle.cqs_barrier_object.specs.declared.entries.BarrierEntry.TheVariants as entry
 use Rattle.cqs_barrier_object.specs.BarrierObject.{Barrier, opening}
 use Rattle.cqs_barrier_object.specs.BarrierEntries.{IsAllowed, after_entry, object_after, IsLegal}
-use Rattle.cqs_barrier_object.specs.BarrierShown.{Shape, stayed_in, shown_by, shown, HasParty, IsBefore, IsBarrier}
+use Rattle.cqs_barrier_object.specs.BarrierShown.{Shape, stayed_in, shown_by, shown_barrier, HasParty, IsBefore, IsBarrier}
 
 pub same-barrier : {a b : Barrier} → a.remaining ≡ b.remaining → a.way ≡ b.way → a.waiters ≡ b.waiters
     → a.stayed ≡ b.stayed
@@ -80,7 +80,7 @@ quiet-barrier s owed q n is sound quiet resumes kept owners passes party =
 
 -- a step with an entry
 pub push-barrier : (s : Shape) (remaining : ℕ) (held owed : List ℕ) (e : BarrierEntry) (q : Queue)
-    → IsBarrier s → IsSound q → IsAllowed (shown s) e → after_entry (shown s) e ≡ shown_by remaining owed q
+    → IsBarrier s → IsSound q → IsAllowed (shown_barrier s) e → after_entry (shown_barrier s) e ≡ shown_by remaining owed q
     → length held ≡ length s.held → length owed ≡ length s.owed → length q.doing ≡ length s.queue.doing
     → remaining ≡ sum held
     → (0 < remaining → IsBefore s.parties remaining owed q)

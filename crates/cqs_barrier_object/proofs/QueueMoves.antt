@@ -8,7 +8,7 @@ use Rattle.cqs_core.specs.declared.doings.Doing.TheVariants as doing
 use Rattle.cqs_core.specs.Numbered.{IsIn, EachAt}
 use Rattle.cqs_core.specs.QueueLine.{going, ending, due, door, is_resuming, at_door, in_line}
 use Rattle.cqs_core.specs.QueueMoves as move
-use Rattle.cqs_core.specs.QueueMoves.{Move, Works, Owns, IsOpen, moved, at_state}
+use Rattle.cqs_core.specs.QueueMoves.{Move, Works, Owns, IsOpen, move_queue, at_state}
 use Rattle.cqs_core.specs.QueueState.{Queue}
 use Rattle.cqs_core.specs.QueueSteps.{begins}
 use Rattle.cqs_core.specs.QueueWaiters.{IsServed, closes}
@@ -23,17 +23,17 @@ use Rattle.cqs_core.proofs.Sound.{sound-moved}
 use Rattle.cqs_barrier_object.specs.declared.entries.BarrierEntry.{BarrierEntry}
 use Rattle.cqs_barrier_object.specs.declared.entries.BarrierEntry.TheVariants as entry
 use Rattle.cqs_barrier_object.specs.BarrierEntries.{IsAllowed, after_entry}
-use Rattle.cqs_barrier_object.specs.BarrierShown.{Shape, stayed_in, shown, HasParty, IsBarrier}
+use Rattle.cqs_barrier_object.specs.BarrierShown.{Shape, stayed_in, shown_barrier, HasParty, IsBarrier}
 use Rattle.cqs_barrier_object.proofs.Frame.{same-barrier, quiet-barrier, push-barrier, delivered-barrier}
 use Rattle.cqs_barrier_object.proofs.Parties.{party-turn, owed-there, held-within, owed-within}
 use Rattle.cqs_barrier_object.proofs.Stayed.{stayed-turn, stayed-write, stayed-reached, stayed-drawn, stayed-collected, stayed-refused}
 
 -- the barrier after a move that nobody sees, and after one with an entry
 abbrev pub after_move : Shape → Move → Shape
-after_move s m = record s { queue = moved s.queue m }
+after_move s m = record s { queue = move_queue s.queue m }
 
 abbrev pub after_entry_move : Shape → Move → BarrierEntry → Shape
-after_entry_move s m e = record s { history = s.history ++ e ∷ []; queue = moved s.queue m }
+after_entry_move s m e = record s { history = s.history ++ e ∷ []; queue = move_queue s.queue m }
 
 module _ (s : Shape) (p k : ℕ) (is : IsBarrier s) where
   -- a pass that is in the middle of a resumption: all have arrived
@@ -46,11 +46,11 @@ module _ (s : Shape) (p k : ℕ) (is : IsBarrier s) where
   -- a move by which a pass goes on from one thing to another, unseen
   unseen : (m : Move) (from to : Doing) (n : ℕ) → IsOpen s.queue m → slice_get s.queue.doing p ≡ Some from
       → HasParty s.held p to
-      → (moved s.queue m).doing ≡ set s.queue.doing p to → Keeps s.queue (moved s.queue m) n
-      → (0 < s.remaining → (moved s.queue m).resumes ≡ 0)
-      → stayed_in (moved s.queue m) ≡ stayed_in s.queue → IsBarrier (after_move s m)
+      → (move_queue s.queue m).doing ≡ set s.queue.doing p to → Keeps s.queue (move_queue s.queue m) n
+      → (0 < s.remaining → (move_queue s.queue m).resumes ≡ 0)
+      → stayed_in (move_queue s.queue m) ≡ stayed_in s.queue → IsBarrier (after_move s m)
   unseen m from to n opens does party is_doing keeps resumes kept =
-      let r : Queue = moved s.queue m in
+      let r : Queue = move_queue s.queue m in
       let parties : EachAt (HasParty s.held) r.doing =
       rw is_doing (party-turn s.held s.queue.doing p from to does party is.party) in
       quiet-barrier s s.owed r n is (sound-moved s.queue m is.sound opens)
@@ -139,7 +139,7 @@ module _ (s : Shape) (p k : ℕ) (is : IsBarrier s) where
   pub barrier-serve : (found : CoreCell) → Works s.queue p (doing.Ticket k) k found state.Waiter
       → IsBarrier (after_entry_move s (move.serve p k found) (entry.Deliver k))
   barrier-serve found w =
-      let r : Queue = moved s.queue (move.serve p k found) in
+      let r : Queue = move_queue s.queue (move.serve p k found) in
       let serves = serves-serve s.queue p k found is.sound w in
       delivered-barrier s s.owed r k serves.0 is (sound-moved s.queue (move.serve p k found) is.sound w)
       (delivered-serves s.queue r s.owed k serves.0 serves.1)
@@ -151,7 +151,7 @@ module _ (s : Shape) (p k : ℕ) (is : IsBarrier s) where
   pub barrier-take_value : (found : CoreCell) → Works s.queue p (doing.Drawn k) k found state.Value
       → IsBarrier (after_entry_move s (move.take_value p k found) (entry.Deliver k))
   barrier-take_value found w =
-      let r : Queue = moved s.queue (move.take_value p k found) in
+      let r : Queue = move_queue s.queue (move.take_value p k found) in
       delivered-barrier s s.owed r k p is (sound-moved s.queue (move.take_value p k found) is.sound w)
       (delivered-serves s.queue r s.owed k p (serves-take_value s.queue p k found is.sound w))
       (stayed-write s.queue p (doing.Drawn k) doing.Idle k found
@@ -166,7 +166,7 @@ module _ (s : Shape) (p k : ℕ) (is : IsBarrier s) where
       → IsBarrier (after_entry_move s (move.draw p s.queue.suspends found) (entry.Enter p s.queue.suspends))
   barrier-draw found does finds =
       let m : Move = move.draw p s.queue.suspends found in
-      let r : Queue = moved s.queue m in
+      let r : Queue = move_queue s.queue m in
       let enters = enters-draw s.queue p found is.sound does finds in
       let ways : going s.queue + sum s.owed - ending s.queue ≡ going r + sum s.owed - ending r =
       omega (arith, enters.going, enters.ending) in
@@ -201,10 +201,10 @@ module _ (s : Shape) (p k : ℕ) (is : IsBarrier s) where
       → slice_get s.queue.cells s.queue.resumes ≡ found
       → IsBarrier (record s {
         owed = one_fewer s.owed p;
-        queue = moved s.queue (move.reach p s.queue.resumes found);
+        queue = move_queue s.queue (move.reach p s.queue.resumes found);
       })
   barrier-begin found does some finds =
-      let r : Queue = moved s.queue (move.reach p s.queue.resumes found) in
+      let r : Queue = move_queue s.queue (move.reach p s.queue.resumes found) in
       let within = owed-within s p doing.Idle is does in
       quiet-barrier s (one_fewer s.owed p) r 0 is
       (sound-after s.queue begins p s.queue.resumes found is.sound (does, refl, finds))
@@ -216,11 +216,11 @@ module _ (s : Shape) (p k : ℕ) (is : IsBarrier s) where
 
   -- what came is looked at
   looked : (e : BarrierEntry) (found : CoreCell) → Works s.queue p doing.Idle k found state.Resumed → Owns p found
-      → (IsServed k p (shown s).waiters.served → IsAllowed (shown s) e)
-      → after_entry (shown s) e ≡ record (shown s) { waiters = closes (shown s).waiters k }
+      → (IsServed k p (shown_barrier s).waiters.served → IsAllowed (shown_barrier s) e)
+      → after_entry (shown_barrier s) e ≡ record (shown_barrier s) { waiters = closes (shown_barrier s).waiters k }
       → IsBarrier (after_entry_move s (move.collect p k found) e)
   looked e found w owns may is_closed =
-      let r : Queue = moved s.queue (move.collect p k found) in
+      let r : Queue = move_queue s.queue (move.collect p k found) in
       let closing = closes-collect s.queue p k found w owns in
       let dues : due r ≡ due s.queue = ap (λ v. length v.door + length v.line) closing.waiters in
       let ways : going s.queue + sum s.owed - ending s.queue ≡ going r + sum s.owed - ending r =

@@ -7,11 +7,11 @@ use Rattle.cqs_core.specs.declared.cells.CoreState.{CoreState}
 use Rattle.cqs_core.specs.declared.cells.CoreState.TheVariants as state
 use Rattle.cqs_core.specs.declared.doings.Doing.{Doing}
 use Rattle.cqs_core.specs.declared.doings.Doing.TheVariants as doing
-use Rattle.cqs_core.specs.Numbered.{picked, cons_option}
+use Rattle.cqs_core.specs.Numbered.{pick_each, cons_option}
 use Rattle.cqs_core.specs.QueueCover.{is_declined, is_declined_at}
 use Rattle.cqs_core.specs.QueueLine.{Waiting, waiting_of}
 use Rattle.cqs_core.specs.QueueMoves as move
-use Rattle.cqs_core.specs.QueueMoves.{Works, IsCancelling, moved, now_doing, with_cell, at_state, cells_drawn}
+use Rattle.cqs_core.specs.QueueMoves.{Works, IsCancelling, move_queue, now_doing, with_cell, at_state, cells_drawn}
 use Rattle.cqs_core.specs.QueueSound.{IsSound, IsUntaken, IsOwn}
 use Rattle.cqs_core.specs.QueueState.{Queue, owner_doing, is_refusing}
 use Rattle.cqs_core.proofs.DrawMoves.{picked-reached, undrawn}
@@ -69,7 +69,7 @@ stayed-frame passes p from to k cell does same =
 pub stayed-turn : (passes : List Doing) (cells : List CoreCell) (p : ℕ) (from to : Doing)
     → slice_get passes p ≡ Some from
     → ((k : ℕ) → is_refusing k (Some to) ≡ is_refusing k (Some from))
-    → picked (is_stayed (set passes p to)) 0 cells ≡ picked (is_stayed passes) 0 cells
+    → pick_each (is_stayed (set passes p to)) 0 cells ≡ pick_each (is_stayed passes) 0 cells
 stayed-turn passes cells p from to does same =
     sym (picked-same (is_stayed passes) (is_stayed (set passes p to))
     (λ k cell. stayed-frame passes p from to k cell does (same k)) 0 cells)
@@ -78,7 +78,7 @@ stayed-around : (passes : List Doing) (cells : List CoreCell) (p : ℕ) (from to
     (found new : CoreCell)
     → slice_get passes p ≡ Some from → slice_get cells k ≡ Some found
     → ((m : ℕ) → m ≢ k → is_refusing m (Some to) ≡ is_refusing m (Some from))
-    → Around wait_of k (picked (is_stayed passes) 0 cells) (picked (is_stayed (set passes p to)) 0 (set cells k new))
+    → Around wait_of k (pick_each (is_stayed passes) 0 cells) (pick_each (is_stayed (set passes p to)) 0 (set cells k new))
     (is_stayed passes k found) (is_stayed (set passes p to) k new)
 stayed-around passes cells p from to k found new does finds same =
     let agree : AgreeBut (is_stayed passes) (is_stayed (set passes p to)) k =
@@ -110,7 +110,7 @@ stayed-write q p from to k found new does finds same owner was now =
 -- a number is drawn to resume at, by a pass that refuses nothing
 pub stayed-reached : (q : Queue) (p : ℕ) (from : Doing) (found : Option CoreCell) → slice_get q.doing p ≡ Some from
     → ((m : ℕ) → false ≡ is_refusing m (Some from))
-    → stayed_in (moved q (move.reach p q.resumes found)) ≡ stayed_in q
+    → stayed_in (move_queue q (move.reach p q.resumes found)) ≡ stayed_in q
 stayed-reached q p from found does same =
     picked-reached (is_stayed (set q.doing p (doing.Ticket q.resumes))) (λ n. refl) q.cells found
     ∙ stayed-turn q.doing q.cells p from (doing.Ticket q.resumes) does same
@@ -118,13 +118,13 @@ stayed-reached q p from found does same =
 -- a number is drawn to suspend at
 pub stayed-drawn : (q : Queue) (p : ℕ) (found : Option CoreCell) → IsSound q
     → slice_get q.doing p ≡ Some doing.Door
-    → slice_get q.cells q.suspends ≡ found → stayed_in (moved q (move.draw p q.suspends found)) ≡ stayed_in q
+    → slice_get q.cells q.suspends ≡ found → stayed_in (move_queue q (move.draw p q.suspends found)) ≡ stayed_in q
 stayed-drawn q p found sound does finds = at found finds ∙ turned
   where
     after : List Doing
     after = set q.doing p (doing.Drawn q.suspends)
 
-    turned : picked (is_stayed after) 0 q.cells ≡ stayed_in q
+    turned : pick_each (is_stayed after) 0 q.cells ≡ stayed_in q
     turned = stayed-turn q.doing q.cells p doing.Door (doing.Drawn q.suspends) does (λ m. refl)
 
     untaken : (s : CoreState) → IsUntaken s → IsUnrefused s
@@ -144,7 +144,7 @@ stayed-drawn q p found sound does finds = at found finds ∙ turned
         ap (waiting_of q.suspends (Some p)) isnt
 
     at : (o : Option CoreCell) → slice_get q.cells q.suspends ≡ o
-        → picked (is_stayed after) 0 (cells_drawn q.cells q.suspends p o) ≡ picked (is_stayed after) 0 q.cells
+        → pick_each (is_stayed after) 0 (cells_drawn q.cells q.suspends p o) ≡ pick_each (is_stayed after) 0 q.cells
     at (Some cell) there =
         let was = undrawn q q.suspends cell sound there (omega arith) in
         let nobody : is_stayed after q.suspends cell ≡ None =
@@ -158,8 +158,8 @@ stayed-drawn q p found sound does finds = at found finds ∙ turned
         let few : length q.cells ≤ q.suspends = last (cases_lt q.suspends (length q.cells)) in
         let made = sound.made in
         picked-push (is_stayed after) 0 q.cells (new state.Empty false) q.suspends (omega arith)
-        ∙ ap (λ o. picked (is_stayed after) 0 q.cells ++ cons_option o []) (none state.Empty false tt)
-        ∙ append-nil (picked (is_stayed after) 0 q.cells)
+        ∙ ap (λ o. pick_each (is_stayed after) 0 q.cells ++ cons_option o []) (none state.Empty false tt)
+        ∙ append-nil (pick_each (is_stayed after) 0 q.cells)
       where
         last : (q.suspends < length q.cells) ⊎ (length q.cells ≤ q.suspends) → length q.cells ≤ q.suspends
         last (inr few) = few
@@ -169,7 +169,7 @@ stayed-drawn q p found sound does finds = at found finds ∙ turned
             absurd (cc)
 
 pub stayed-collected : (q : Queue) (p k : ℕ) (found : CoreCell) → Works q p doing.Idle k found state.Resumed
-    → stayed_in (moved q (move.collect p k found)) ≡ stayed_in q
+    → stayed_in (move_queue q (move.collect p k found)) ≡ stayed_in q
 stayed-collected q p k found w =
     around-kept wait_of k _ _ _ _
     (picked-around (is_stayed q.doing) (is_stayed q.doing) wait_of (stayed-keyed q.doing) k
@@ -185,7 +185,7 @@ declined-cancelling k _ o at = absurd at
 
 -- the canceller was told that the cell is refused
 pub stayed-declines : (q : Queue) (p k : ℕ) → IsSound q → slice_get q.doing p ≡ Some (doing.Leaving k)
-    → stayed_in (moved q (move.decide p k false)) ≡ stays (stayed_in q) k p
+    → stayed_in (move_queue q (move.decide p k false)) ≡ stays (stayed_in q) k p
 stayed-declines q p k sound does =
     let to : Doing = doing.Decided k false in
     let own : IsOwn q p k IsCancelling = sound.passes.at p (doing.Leaving k) does in
@@ -200,10 +200,10 @@ stayed-declines q p k sound does =
     ap₂ (waiting_of k) own.owner
     (declined-cancelling k cell.state (owner_doing (set q.doing p to) cell) own.at ∙ ap (is_refusing k) now
     ∙ eq-eqb k k refl) in
-    let around : Around wait_of k (stayed_in q) (picked (is_stayed (set q.doing p to)) 0 q.cells)
+    let around : Around wait_of k (stayed_in q) (pick_each (is_stayed (set q.doing p to)) 0 q.cells)
     (is_stayed q.doing k cell) (is_stayed (set q.doing p to) k cell) =
     subst (λ (cells : List CoreCell). Around wait_of k (stayed_in q)
-    (picked (is_stayed (set q.doing p to)) 0 cells)
+    (pick_each (is_stayed (set q.doing p to)) 0 cells)
     (is_stayed q.doing k cell) (is_stayed (set q.doing p to) k cell))
     (set-same q.cells k cell own.found)
     (stayed-around q.doing q.cells p (doing.Leaving k) to k cell cell does own.found
@@ -214,7 +214,7 @@ stayed-declines q p k sound does =
 pub stayed-refused : (q : Queue) (p k : ℕ) (found : CoreCell) → IsSound q
     → slice_get q.doing p ≡ Some (doing.Decided k false)
     → slice_get q.cells k ≡ Some found → IsCancelling found.state
-    → stayed_in (moved q (move.refuse p k found)) ≡ stayed_in q
+    → stayed_in (move_queue q (move.refuse p k found)) ≡ stayed_in q
 stayed-refused q p k found sound does finds at =
     let own : IsOwn q p k IsCancelling = sound.passes.at p (doing.Decided k false) does in
     let own_found : slice_get q.cells k ≡ Some own.cell = own.found in

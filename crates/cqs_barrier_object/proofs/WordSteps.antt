@@ -6,7 +6,7 @@ use Rattle.std.proofs.lemmas.List.Sums.{sum_by-set, sum_by-cons}
 use Rattle.cqs_core.specs.declared.doings.Doing.TheVariants as doing
 use Rattle.cqs_core.specs.QueueLine.{going, ending, due}
 use Rattle.cqs_core.specs.QueueMoves as move
-use Rattle.cqs_core.specs.QueueMoves.{moved}
+use Rattle.cqs_core.specs.QueueMoves.{move_queue}
 use Rattle.cqs_core.specs.QueueOpening.{opened_queue}
 use Rattle.cqs_core.specs.QueueState.{Queue}
 use Rattle.cqs_core.proofs.LineMoves.{turn-door, decide-leaves}
@@ -21,7 +21,7 @@ use Rattle.cqs_barrier_object.proofs.Stayed.{stayed-turn, stayed-declines}
 -- a party arrives, and is not the last
 pub arrival-keeps : EveryArrivalKeepsTheBarrier
 arrival-keeps s p is may more =
-    let r : Queue = moved s.queue (move.turn p doing.Idle doing.Door) in
+    let r : Queue = move_queue s.queue (move.turn p doing.Idle doing.Door) in
     let came = turn-door s.queue p may.idle in
     let holds : 0 < get_or s.held p 0 = may.holds in
     let there = held-there s p doing.Idle is may.idle in
@@ -69,7 +69,7 @@ last-keeps s p is may one =
 -- a canceller raises the remaining number: the party is its pass's again
 pub withdrawal-keeps : EveryWithdrawalKeepsTheBarrier
 withdrawal-keeps s p k is does some =
-    let r : Queue = moved s.queue (move.decide p k true) in
+    let r : Queue = move_queue s.queue (move.decide p k true) in
     let leaves = decide-leaves s.queue p k true is.sound does in
     let there = held-there s p (doing.Leaving k) is does in
     let sums = sum_by-set (λ n. n) s.held p (get_or s.held p 0 + 1) 0 there in
@@ -98,7 +98,7 @@ withdrawal-keeps s p k is does some =
 -- a canceller loads 0: the party counts as through, and one resumption will end at its cell
 pub stay-keeps : EveryStayKeepsTheBarrier
 stay-keeps s p k is does none =
-    let r : Queue = moved s.queue (move.decide p k false) in
+    let r : Queue = move_queue s.queue (move.decide p k false) in
     let leaves = decide-leaves s.queue p k false is.sound does in
     let over = is.over none in
     let ways : going s.queue + sum s.owed - ending s.queue - 1 ≡ going r + sum s.owed - ending r =

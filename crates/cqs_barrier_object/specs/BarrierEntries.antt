@@ -3,7 +3,7 @@
 use Rattle.std.specs.Prelude.{◌≡◌, ℕ, ◌+◌, ◌-◌, ◌<◌, List, take}
 use Rattle.std.specs.List.{fold}
 use Rattle.cqs_core.specs.Histories.{IsLegalFrom}
-use Rattle.cqs_core.specs.Keyed.{placed}
+use Rattle.cqs_core.specs.Keyed.{insert_by}
 use Rattle.cqs_core.specs.Numbered.{IsIn}
 use Rattle.cqs_core.specs.QueueLine.{Waiting}
 use Rattle.cqs_core.specs.QueueWaiters.{Waits, IsServed, due_of, comes, enters, is_reached, goes, closes}
@@ -41,7 +41,7 @@ abbrev pub after_withdrawal : Barrier → ℕ → Barrier
 after_withdrawal o k = record o { remaining = o.remaining + 1; waiters = goes o.waiters k }
 
 abbrev pub stays : List Waiting → ℕ → ℕ → List Waiting
-stays waits k c = placed (λ w. w.wait) (record { wait = k; pass = c }) waits
+stays waits k c = insert_by (λ w. w.wait) (record { wait = k; pass = c }) waits
 
 -- wait k of c is over without its resumption, which goes nowhere
 abbrev pub after_stay : Barrier → ℕ → ℕ → Barrier

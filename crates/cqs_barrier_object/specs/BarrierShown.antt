@@ -4,7 +4,7 @@ use Rattle.std.specs.Prelude.{◌≡◌, ℕ, ◌+◌, ◌-◌, ◌<◌, true, f
 use Rattle.cqs_core.specs.declared.cells.CoreCell.{CoreCell}
 use Rattle.cqs_core.specs.declared.doings.Doing.{Doing}
 use Rattle.cqs_core.specs.declared.doings.Doing.TheVariants as doing
-use Rattle.cqs_core.specs.Numbered.{EachAt, picked}
+use Rattle.cqs_core.specs.Numbered.{EachAt, pick_each}
 use Rattle.cqs_core.specs.QueueCover.{is_declined}
 use Rattle.cqs_core.specs.QueueLine as queue
 use Rattle.cqs_core.specs.QueueLine.{Waiting, going, ending, waiting_of}
@@ -31,7 +31,7 @@ abbrev pub is_stayed : List Doing → ℕ → CoreCell → Option Waiting
 is_stayed passes k cell = waiting_of k cell.owner (is_declined passes k cell)
 
 abbrev pub stayed_in : Queue → List Waiting
-stayed_in q = picked (is_stayed q.doing) 0 q.cells
+stayed_in q = pick_each (is_stayed q.doing) 0 q.cells
 
 -- as many resumptions are on their way as go on or are owed, but for those that
 -- end at refused cells
@@ -43,8 +43,8 @@ shown_by remaining owed q = record {
   stayed = stayed_in q;
 }
 
-abbrev pub shown : Shape → Barrier
-shown s = shown_by s.remaining s.owed s.queue
+abbrev pub shown_barrier : Shape → Barrier
+shown_barrier s = shown_by s.remaining s.owed s.queue
 
 -- a pass whose withdrawal counts has its party back
 abbrev pub HasParty : List ℕ → ℕ → Doing → Type 0
@@ -69,7 +69,7 @@ pub record IsBefore (all remaining : ℕ) (owed : List ℕ) (q : Queue) : Type 0
 pub record IsBarrier (s : Shape) : Type 0 where
   pub sound : IsSound s.queue
   pub legal : IsLegal s.parties s.history
-  pub object : object_after s.parties s.history ≡ shown s
+  pub object : object_after s.parties s.history ≡ shown_barrier s
   pub holders : length s.held ≡ length s.queue.doing
   pub owners : length s.owed ≡ length s.queue.doing
   -- those still to come are with the passes

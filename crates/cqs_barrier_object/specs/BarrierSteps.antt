@@ -5,7 +5,7 @@ use Rattle.cqs_core.specs.declared.cells.CoreCell.{CoreCell}
 use Rattle.cqs_core.specs.declared.cells.CoreState.TheVariants as state
 use Rattle.cqs_core.specs.declared.doings.Doing.TheVariants as doing
 use Rattle.cqs_core.specs.QueueMoves as move
-use Rattle.cqs_core.specs.QueueMoves.{Works, moved}
+use Rattle.cqs_core.specs.QueueMoves.{Works, move_queue}
 use Rattle.cqs_core.specs.QueueOpening.{opened_queue}
 use Rattle.cqs_core.specs.QueueSteps.{pends, grants, late, QueueStep, draws, enters, reaches, begins, puts, installs, takes, serves, leaves, delegates, passes_over, ends_refused, ends_missed, starts_leaving, leaves_line, leaves_at_once, settles, settles_owing, refuses, refuses_value, looks, StepRow, at_counter, at_cell, Cost, no_cost, one_owed, one_element, row_of, IsOpenStep, queue_after}
 use Rattle.cqs_barrier_object.specs.declared.entries.BarrierEntry.{BarrierEntry}
@@ -114,7 +114,7 @@ after_arrival s p = record {
   held = holding s.held p (slice_index s.held p - 1);
   owed = s.owed;
   history = s.history ++ entry.ArriveDoor p ∷ [];
-  queue = moved s.queue (move.turn p doing.Idle doing.Door);
+  queue = move_queue s.queue (move.turn p doing.Idle doing.Door);
 }
 
 -- the last party arrives: its pass owes a resumption for each of the others
@@ -136,7 +136,7 @@ after_withdrawal s p k = record {
   held = holding s.held p (slice_index s.held p + 1);
   owed = s.owed;
   history = s.history ++ entry.Withdraw p k ∷ [];
-  queue = moved s.queue (move.decide p k true);
+  queue = move_queue s.queue (move.decide p k true);
 }
 
 -- a canceller finds that all have arrived
@@ -147,7 +147,7 @@ after_staying s p k = record {
   held = s.held;
   owed = s.owed;
   history = s.history ++ entry.Stay p k ∷ [];
-  queue = moved s.queue (move.decide p k false);
+  queue = move_queue s.queue (move.decide p k false);
 }
 
 -- the pass p may arrive: it is between two calls, and has a party that hasn't arrived

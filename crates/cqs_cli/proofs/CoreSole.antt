@@ -15,7 +15,7 @@ use Rattle.cqs_core.specs.Resting.{IsIdle}
 use Rattle.cqs_core.specs.SemaphoreAnswers.{Room}
 use Rattle.cqs_core.specs.SemaphoreEntries.{IsLegal, find_wait, object_after}
 use Rattle.cqs_core.specs.SemaphoreObject.{Semaphore}
-use Rattle.cqs_core.specs.SemaphoreShown.{free_of, short_of, shown, opened}
+use Rattle.cqs_core.specs.SemaphoreShown.{free_of, short_of, shown_semaphore, opening_shape}
 use Rattle.cqs_core.specs.SemaphoreTable.{Shape}
 use Rattle.cqs_core.specs.SoleCaller.{HasWait, MayCall}
 use Rattle.cqs_core.proofs.FirstOfWay.{ending-within}
@@ -33,7 +33,7 @@ use Rattle.cqs_cli.proofs.Stays.{in-head}
 
 -- the plain semaphore of a core is the one that it shows
 object-shown : (x : Room) (kind : Option Kind) (room waiting held : ℕ) → IsFunded x (size_of kind) room waiting held
-    → object sole_core kind x ≡ shown x.shape
+    → object sole_core kind x ≡ shown_semaphore x.shape
 object-shown x kind room waiting held funded =
     ap (λ n. object_after n x.shape.history) (sym funded.permits) ∙ funded.sole.core.object
 
@@ -52,7 +52,7 @@ core-lawful = record {
 idle-one : IsIdle (replicate 1 doing.Idle)
 idle-one = record { at = λ p d got. replicate-all 1 doing.Idle d p got }
 
-sole-opened : (permits : ℕ) → 0 < permits → permits ≤ 1048576 → IsSole (opened permits 1)
+sole-opened : (permits : ℕ) → 0 < permits → permits ≤ 1048576 → IsSole (opening_shape permits 1)
 sole-opened permits some few = record {
   core = opened-core permits 1
       (record { some_permits = some; few_permits = few; some_passes = lit< tt; few_passes = lit≤ tt });
@@ -62,7 +62,7 @@ sole-opened permits some few = record {
 }
 
 pub core-opened : (kind : Option Kind) (takes : ℕ) (x : Room) → 0 < size_of kind → size_of kind ≤ 1048576
-    → takes ≤ 262144 → x.shape ≡ opened (size_of kind) 1 → 9 * takes ≤ x.spare → IsOpened sole_core kind takes x
+    → takes ≤ 262144 → x.shape ≡ opening_shape (size_of kind) 1 → 9 * takes ≤ x.spare → IsOpened sole_core kind takes x
 core-opened kind takes x some few few_takes opens spare =
     let suspends : x.shape.queue.suspends ≡ 0 = ap (λ (s : Shape). s.queue.suspends) opens in
     record {
@@ -98,13 +98,13 @@ end-ready x wait can = funded-ready x _ _ _ _ can.funded (omega (arith, can.some
 -- a call of a core that was between two calls
 module _ (x y : Room) (answer : Reply) (sole : IsSole x.shape) where
   object-is : (kind : Option Kind) (room waiting held : ℕ) → IsFunded x (size_of kind) room waiting held
-      → shown x.shape ≡ object sole_core kind x
+      → shown_semaphore x.shape ≡ object sole_core kind x
   object-is kind room waiting held funded = sym (object-shown x kind room waiting held funded)
 
   pub core-acquires : HasMade x (call.Acquire 0) answer y → Acquires sole_core x (wait_in answer) y
-  core-acquires made = go (nat_lt 0 (shown x.shape).free) refl
+  core-acquires made = go (nat_lt 0 (shown_semaphore x.shape).free) refl
     where
-      go : (b : Bool) → nat_lt 0 (shown x.shape).free ≡ b → Acquires sole_core x (wait_in answer) y
+      go : (b : Bool) → nat_lt 0 (shown_semaphore x.shape).free ≡ b → Acquires sole_core x (wait_in answer) y
       go true some =
           let came = came-now x y answer sole made some in
           subst (λ a. Acquires sole_core x (wait_in a) y) (sym came.is)
@@ -123,7 +123,7 @@ module _ (x y : Room) (answer : Reply) (sole : IsSole x.shape) where
           let came = came-later x y answer sole made none in
           subst (λ a. Acquires sole_core x (wait_in a) y) (sym came.is)
           (λ kind room waiting held funded left.
-          let next : (shown x.shape).next ≡ (object sole_core kind x).next =
+          let next : (shown_semaphore x.shape).next ≡ (object sole_core kind x).next =
           ap (λ (o : Semaphore). o.next) (object-is kind room waiting held funded) in
           record {
             none = ap (λ (o : Semaphore). nat_lt 0 o.free) (object-shown x kind room waiting held funded) ∙ none;
@@ -134,16 +134,16 @@ module _ (x y : Room) (answer : Reply) (sole : IsSole x.shape) where
                   (omega (arith, made.call.numbers, left)) (omega (arith, left))
                   (omega (arith, came.holds, funded.holds));
             };
-            has = subst (λ (o : Semaphore). HasWait (shown x.shape).next 0 o) (sym came.shows)
-                (comes-entered (shown x.shape));
+            has = subst (λ (o : Semaphore). HasWait (shown_semaphore x.shape).next 0 o) (sym came.shows)
+                (comes-entered (shown_semaphore x.shape));
             keeps = λ wait has. subst (λ (o : Semaphore). HasWait wait.index 0 o) (sym came.shows)
-                (stays-entered (shown x.shape) wait.index 0 has);
+                (stays-entered (shown_semaphore x.shape) wait.index 0 has);
           })
 
   pub core-releases : HasMade x (call.Release 0) answer y → Releases sole_core x (sent_in answer) y
-  core-releases made = go (shown x.shape).line refl
+  core-releases made = go (shown_semaphore x.shape).line refl
     where
-      go : (line : List Waiting) → (shown x.shape).line ≡ line → Releases sole_core x (sent_in answer) y
+      go : (line : List Waiting) → (shown_semaphore x.shape).line ≡ line → Releases sole_core x (sent_in answer) y
       go [] is =
           let came = came-freed x y answer sole made is in
           let next : y.shape.queue.suspends ≡ x.shape.queue.suspends = ap (λ (o : Semaphore). o.next) came.shows in
@@ -166,7 +166,7 @@ module _ (x y : Room) (answer : Reply) (sole : IsSole x.shape) where
           let line : (object sole_core kind x).line ≡ first ∷ rest =
           ap (λ (o : Semaphore). o.line) (object-shown x kind room waiting held funded) ∙ is in
           let stands = in-head (record { wait = first.wait; pass = first.pass }) first rest refl in
-          let waits : HasWait first.wait first.pass (shown x.shape) = inl (rw is stands) in
+          let waits : HasWait first.wait first.pass (shown_semaphore x.shape) = inl (rw is stands) in
           let alone = (read-wait x.shape sole (funded-rests x _ _ _ _ funded) first.wait first.pass waits).alone in
           record {
             first = rw line refl;
@@ -176,7 +176,7 @@ module _ (x y : Room) (answer : Reply) (sole : IsSole x.shape) where
                   (omega (arith, next)) (omega (arith, some)) (omega (arith, came.holds, funded.holds));
             };
             keeps = λ wait has. subst (λ (o : Semaphore). HasWait wait.index 0 o) (sym came.shows)
-                (stays-sent (shown x.shape) first rest wait.index is alone has);
+                (stays-sent (shown_semaphore x.shape) first rest wait.index is alone has);
           })
 
 -- some wait of the number is in the line where the first of it is found
@@ -211,15 +211,15 @@ not-false false is = absurd (cc)
 module _ (x : Room) (wait : Place) where
   -- whether the wait stands in the line
   line-reads : (kind : Option Kind) (room waiting held : ℕ) → IsFunded x (size_of kind) room waiting held
-      → (stands : Bool) → is_some (find_wait wait.index (shown x.shape).line) ≡ stands
+      → (stands : Bool) → is_some (find_wait wait.index (shown_semaphore x.shape).line) ≡ stands
       → is_in_line wait.index (object sole_core kind x).line ≡ stands
   line-reads kind room waiting held funded stands is =
       ap (λ (o : Semaphore). is_in_line wait.index o.line) (object-shown x kind room waiting held funded)
-      ∙ any-find wait.index (shown x.shape).line ∙ is
+      ∙ any-find wait.index (shown_semaphore x.shape).line ∙ is
 
-  served-reads : IsSole x.shape → x.shape.queue.suspends ≤ 1048576 → HasWait wait.index 0 (shown x.shape)
+  served-reads : IsSole x.shape → x.shape.queue.suspends ≤ 1048576 → HasWait wait.index 0 (shown_semaphore x.shape)
       → is_served_at (slice_get x.shape.queue.cells wait.index)
-      ≡ not (is_some (find_wait wait.index (shown x.shape).line))
+      ≡ not (is_some (find_wait wait.index (shown_semaphore x.shape).line))
   served-reads sole few has =
       (read-wait x.shape sole (record { idle = sole.idle; numbers = omega (arith, few) }) wait.index 0 has).reads
 
@@ -257,19 +257,19 @@ module _ (x : Room) (wait : Place) where
                 (omega (arith, next)) (omega (arith, some)) (omega (arith, came.holds, funded.holds));
           };
           keeps = λ other differs has. subst (λ (o : Semaphore). HasWait other.index 0 o) (sym came.shows)
-              (stays-closed (shown x.shape) wait.index other.index differs has);
+              (stays-closed (shown_semaphore x.shape) wait.index other.index differs has);
         }
 
     pub core-cancels : HasMade x (call.Cancel 0 wait.index) answer y → Cancels sole_core x wait (has_left answer) y
-    core-cancels made = go (is_some (find_wait wait.index (shown x.shape).line)) refl
+    core-cancels made = go (is_some (find_wait wait.index (shown_semaphore x.shape).line)) refl
       where
-        go : (b : Bool) → is_some (find_wait wait.index (shown x.shape).line) ≡ b
+        go : (b : Bool) → is_some (find_wait wait.index (shown_semaphore x.shape).line) ≡ b
             → Cancels sole_core x wait (has_left answer) y
         go true there =
             let found = some-found _ there in
             let came = came-left x y answer sole wait.index found.0 made found.1 in
             let next : y.shape.queue.suspends ≡ x.shape.queue.suspends =
-            ap (λ (o : Semaphore). o.next) came.shows ∙ left-next (shown x.shape) wait.index in
+            ap (λ (o : Semaphore). o.next) came.shows ∙ left-next (shown_semaphore x.shape) wait.index in
             subst (λ a. Cancels sole_core x wait (has_left a) y) (sym came.is)
             (λ kind room waiting held funded some.
             record {
@@ -280,7 +280,7 @@ module _ (x : Room) (wait : Place) where
                     (omega (arith, next)) (omega (arith, some)) (omega (arith, came.holds, funded.holds));
               };
               keeps = λ other differs has. subst (λ (o : Semaphore). HasWait other.index 0 o) (sym came.shows)
-                  (stays-left (shown x.shape) wait.index other.index differs has);
+                  (stays-left (shown_semaphore x.shape) wait.index other.index differs has);
             })
         go false missing =
             let came = came-late x y answer sole wait.index made (none-found _ missing) in
@@ -295,7 +295,7 @@ module _ (x : Room) (wait : Place) where
                     (omega (arith, next)) (omega (arith, some)) (omega (arith, came.holds, funded.holds));
               };
               keeps = λ other differs has. subst (λ (o : Semaphore). HasWait other.index 0 o) (sym came.shows)
-                  (stays-closed (shown x.shape) wait.index other.index differs has);
+                  (stays-closed (shown_semaphore x.shape) wait.index other.index differs has);
             })
 
 -- a state that counts no more than so many free permits
@@ -309,7 +309,7 @@ module _ (x : Room) (kind : Option Kind) (room waiting held : ℕ)
   quiet : IsQuiet x.shape
   quiet = quiet-core x.shape funded.sole.core (funded-rests x (size_of kind) room waiting held funded)
 
-  all-there : (shown x.shape).held + free_of x.shape.state ≡ size_of kind
+  all-there : (shown_semaphore x.shape).held + free_of x.shape.state ≡ size_of kind
   all-there =
       let still : going x.shape.queue ≡ 0 =
       none-going x.shape.queue funded.sole.core.sound funded.sole.idle quiet.behind in

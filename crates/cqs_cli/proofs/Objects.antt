@@ -3,9 +3,9 @@
 use Rattle.std.proofs.Common.{◌≡◌, ◌≢◌, ◌⊎◌, inl, inr, ℕ, nat_lt, Bool, true, false, List, ◌∷◌, Some, refl, ap, ◌∙◌, eq-eqb}
 use Rattle.std.proofs.lemmas.Bool.{cases_eq}
 use Rattle.cqs_core.specs.declared.entries.Entry.TheVariants as entry
-use Rattle.cqs_core.specs.Keyed.{placed, without}
+use Rattle.cqs_core.specs.Keyed.{insert_by, without}
 use Rattle.cqs_core.specs.QueueLine.{Waiting, Service}
-use Rattle.cqs_core.specs.SemaphoreEntries.{after_entry, find_wait, with_service, turned_back, left, IsServed}
+use Rattle.cqs_core.specs.SemaphoreEntries.{after_entry, find_wait, with_service, turned_back, after_leave, IsServed}
 use Rattle.cqs_core.specs.SemaphoreObject.{Semaphore, due}
 use Rattle.cqs_core.specs.SoleCaller.{HasWait}
 use Rattle.cqs_cli.proofs.Stays.{stays-append, comes-last, stays-without, stays-placed, comes-placed, stays-changed}
@@ -27,7 +27,7 @@ sent_to o first = after_entry (after_entry o (entry.GiveSent 0)) (entry.Deliver 
 
 sent-served : (o : Semaphore) (first : Waiting) (rest : List Waiting) → o.line ≡ first ∷ rest
     → (sent_to o first).served
-    ≡ placed (λ v. v.wait) (record { wait = first.wait; pass = first.pass; is_open = true }) o.served
+    ≡ insert_by (λ v. v.wait) (record { wait = first.wait; pass = first.pass; is_open = true }) o.served
 sent-served o first rest is =
     let found : find_wait first.wait (first ∷ rest) ≡ Some first = rw (eq-eqb first.wait first.wait refl) refl in
     ap (λ w. with_service w o.served) (ap (find_wait first.wait) is ∙ found)
@@ -62,7 +62,7 @@ abbrev line_without : Semaphore → ℕ → Semaphore
 line_without o k = record o { line = without (λ w. w.wait) k o.line }
 
 -- a caller that left the line, whether a permit turned back with it or not
-pub stays-left : (o : Semaphore) (k j : ℕ) → j ≢ k → HasWait j 0 o → HasWait j 0 (left o k)
+pub stays-left : (o : Semaphore) (k j : ℕ) → j ≢ k → HasWait j 0 o → HasWait j 0 (after_leave o k)
 stays-left o k j other has = turn (nat_lt (due (line_without o k)) o.way) refl (go has)
   where
     go : HasWait j 0 o → HasWait j 0 (line_without o k)
@@ -74,7 +74,7 @@ stays-left o k j other has = turn (nat_lt (due (line_without o k)) o.way) refl (
     turn true is stands = rw is stands
     turn false is stands = rw is stands
 
-pub left-next : (o : Semaphore) (k : ℕ) → (left o k).next ≡ o.next
+pub left-next : (o : Semaphore) (k : ℕ) → (after_leave o k).next ≡ o.next
 left-next o k = turn (nat_lt (due (line_without o k)) o.way) refl
   where
     turn : (b : Bool) → nat_lt (due (line_without o k)) o.way ≡ b → (turned_back (line_without o k)).next ≡ o.next

@@ -8,7 +8,7 @@ use Rattle.cqs_core.specs.declared.entries.Entry.{Entry}
 use Rattle.cqs_core.specs.declared.entries.Entry.TheVariants as entry
 use Rattle.cqs_core.specs.Keyed as keyed
 use Rattle.cqs_core.specs.QueueLine.{Waiting}
-use Rattle.cqs_core.specs.SemaphoreEntries.{IsFirst, after_entry, find_wait, left, object_after}
+use Rattle.cqs_core.specs.SemaphoreEntries.{IsFirst, after_entry, find_wait, after_leave, object_after}
 use Rattle.cqs_core.specs.SemaphoreObject.{Semaphore, due, opening}
 use Rattle.cqs_core.specs.SoleCaller.{Told, sole_call, tells}
 use Rattle.cqs_core.proofs.Counts.{bit}
@@ -39,18 +39,18 @@ module _ (o : Semaphore) (still : IsStill o) where
   pub still-sent : (k : ℕ) → IsStill (after_entry (after_entry o (entry.GiveSent 0)) (entry.Deliver k))
   still-sent k = let none = still.way in record { way = omega (arith, none); door = still.door }
 
-  pub still-left : (k : ℕ) → IsStill (left o k)
+  pub still-left : (k : ℕ) → IsStill (after_leave o k)
   still-left k = turn (nat_lt (due (line_left o k)) (line_left o k).way) refl
     where
-      turn : (b : Bool) → nat_lt (due (line_left o k)) (line_left o k).way ≡ b → IsStill (left o k)
+      turn : (b : Bool) → nat_lt (due (line_left o k)) (line_left o k).way ≡ b → IsStill (after_leave o k)
       turn true is = rw is (let none = still.way in record { way = omega (arith, none); door = still.door })
       turn false is = rw is (record { way = still.way; door = still.door })
 
 -- no permit is on its way where a wait has left, if none was before
-pub left-way : (o : Semaphore) (k : ℕ) → o.way ≡ 0 → (left o k).way ≡ 0
+pub left-way : (o : Semaphore) (k : ℕ) → o.way ≡ 0 → (after_leave o k).way ≡ 0
 left-way o k none = turn (nat_lt (due (line_left o k)) (line_left o k).way) refl
   where
-    turn : (b : Bool) → nat_lt (due (line_left o k)) (line_left o k).way ≡ b → (left o k).way ≡ 0
+    turn : (b : Bool) → nat_lt (due (line_left o k)) (line_left o k).way ≡ b → (after_leave o k).way ≡ 0
     turn true is = rw is (omega (arith, none))
     turn false is = rw is none
 

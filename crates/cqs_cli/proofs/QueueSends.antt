@@ -5,7 +5,7 @@ use Rattle.std.proofs.lemmas.List.Sums.{fold-append}
 use Rattle.std.proofs.lemmas.List.{append_assoc, append-nil}
 use Rattle.cqs_core.specs.declared.entries.Entry.{Entry}
 use Rattle.cqs_core.specs.declared.entries.Entry.TheVariants as entry
-use Rattle.cqs_core.specs.SemaphoreEntries.{IsAllowed, IsLegal, Waits, after_entry, left, object_after}
+use Rattle.cqs_core.specs.SemaphoreEntries.{IsAllowed, IsLegal, Waits, after_entry, after_leave, object_after}
 use Rattle.cqs_core.specs.SemaphoreObject.{Semaphore, opening}
 use Rattle.cqs_rule.specs.declared.queue.tokens.Under.{Under as Token}
 use Rattle.cqs_core.proofs.Places.{get-push_at}
@@ -141,7 +141,7 @@ module _ {T : Type 0} (k : ℕ) (v u : View Entry T) (alone : v.alone ≡ true) 
       → u.seen ≡ v.seen ++ (left_entries ++ passed_further passed)
   seen-left passed rule = went v u _ _ rule alone
 
-  none-left : (left (plain_after v) k).way ≡ 0
+  none-left : (after_leave (plain_after v) k).way ≡ 0
   none-left = left-way (plain_after v) k still
 
   -- nothing was delivered after it

@@ -9,7 +9,7 @@ use Rattle.cqs_core.specs.declared.entries.Entry.{Entry}
 use Rattle.cqs_core.specs.declared.entries.Entry.TheVariants as entry
 use Rattle.cqs_core.specs.Keyed.{without}
 use Rattle.cqs_core.specs.QueueLine.{Waiting}
-use Rattle.cqs_core.specs.SemaphoreEntries.{IsBalanced, IsLegal, after_entry, left, object_after}
+use Rattle.cqs_core.specs.SemaphoreEntries.{IsBalanced, IsLegal, after_entry, after_leave, object_after}
 use Rattle.cqs_core.specs.SemaphoreObject.{Semaphore, due, opening}
 use Rattle.cqs_core.specs.SemaphoreShown.{free_of, short_of, state_of}
 use Rattle.cqs_core.proofs.Balance.{every-history-balanced}
@@ -47,10 +47,10 @@ without-le k (w ∷ ws) = go (k == w.wait) refl (without-le k ws)
     go true is less = rw is (omega arith)
     go false is less = rw is (omega (arith, less))
 
-left-line : (o : Semaphore) (k : ℕ) → length (left o k).line ≤ length o.line
+left-line : (o : Semaphore) (k : ℕ) → length (after_leave o k).line ≤ length o.line
 left-line o k = turn (nat_lt (due (line_left o k)) (line_left o k).way) refl
   where
-    turn : (b : Bool) → nat_lt (due (line_left o k)) (line_left o k).way ≡ b → length (left o k).line ≤ length o.line
+    turn : (b : Bool) → nat_lt (due (line_left o k)) (line_left o k).way ≡ b → length (after_leave o k).line ≤ length o.line
     turn true is = rw is (without-le k o.line)
     turn false is = rw is (without-le k o.line)
 

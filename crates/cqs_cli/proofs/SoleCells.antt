@@ -2,11 +2,11 @@
 use Rattle.std.proofs.Common.{◌≡◌, ◌≢◌, ◌⊎◌, inl, inr, ℕ, suc, ◌<◌, ◌≤◌, not, List, [], ◌∷◌, Option, Some, None, is_some, length, slice_get, refl, subst, arith}
 use Rattle.cqs_core.specs.declared.cells.CoreState.{CoreState}
 use Rattle.cqs_core.specs.declared.cells.CoreState.TheVariants as state
-use Rattle.cqs_core.specs.Numbered.{cons_option, picked}
+use Rattle.cqs_core.specs.Numbered.{cons_option, pick_each}
 use Rattle.cqs_core.specs.QueueLine.{line, in_line}
 use Rattle.cqs_core.specs.Resting.{IsResting}
 use Rattle.cqs_core.specs.SemaphoreEntries.{find_wait}
-use Rattle.cqs_core.specs.SemaphoreShown.{shown}
+use Rattle.cqs_core.specs.SemaphoreShown.{shown_semaphore}
 use Rattle.cqs_core.specs.SemaphoreTable.{Shape, last_number}
 use Rattle.cqs_core.specs.SoleCaller.{HasWait}
 use Rattle.cqs_core.proofs.Quiet.{IsQuietAt, IsQuiet, quiet-cell, quiet-core}
@@ -24,7 +24,7 @@ pub record IsRead (s : Shape) (k p : ℕ) : Type 0 where
   pub drawn : k < s.queue.suspends
   pub reads : is_served_at (slice_get s.queue.cells k) ≡ not (is_some (find_wait k (line s.queue)))
 
-pub read-wait : (s : Shape) → IsSole s → IsResting s → (k p : ℕ) → HasWait k p (shown s) → IsRead s k p
+pub read-wait : (s : Shape) → IsSole s → IsResting s → (k p : ℕ) → HasWait k p (shown_semaphore s) → IsRead s k p
 read-wait s sole rests k p has = go (has-wait s p k sole.core rests sole.untaken has)
   where
     quiet-at : (at : CoreState) (own : IsOwnWait s.queue p k at) → IsQuietAt s.queue k own.cell at
@@ -52,17 +52,17 @@ read-wait s sole rests k p has = go (has-wait s p k sole.core rests sole.untaken
         }
 
 module _ {X Y : Type 0} (f : ℕ → X → Option Y) where
-  length-picked-le : (n : ℕ) (xs : List X) → length (picked f n xs) ≤ length xs
+  length-picked-le : (n : ℕ) (xs : List X) → length (pick_each f n xs) ≤ length xs
   length-picked-le n [] = omega arith
   length-picked-le n (x ∷ xs) = go (f n x) (length-picked-le (suc n) xs)
     where
-      go : (o : Option Y) → length (picked f (suc n) xs) ≤ length xs
-          → length (cons_option o (picked f (suc n) xs)) ≤ length (x ∷ xs)
+      go : (o : Option Y) → length (pick_each f (suc n) xs) ≤ length xs
+          → length (cons_option o (pick_each f (suc n) xs)) ≤ length (x ∷ xs)
       go None few = omega arith
       go (Some y) few = omega arith
 
 -- no more wait than numbers were drawn
-pub line-few : (s : Shape) → IsSole s → IsResting s → length (shown s).line ≤ s.queue.suspends
+pub line-few : (s : Shape) → IsSole s → IsResting s → length (shown_semaphore s).line ≤ s.queue.suspends
 line-few s sole rests =
     let quiet : IsQuiet s = quiet-core s sole.core rests in
     omega (arith, quiet.made, length-picked-le (in_line s.queue.doing) 0 s.queue.cells)

@@ -6,7 +6,7 @@ use Rattle.cqs_plan.specs.Floor.{history_at}
 use Rattle.cqs_plan.specs.FloorHistory.{History}
 use Rattle.cqs_plan.specs.PlanText.{IsPlanText}
 use Rattle.cqs_plan.specs.Runnable.{kinds_of}
-use Rattle.cqs_generator.specs.Generated.{generated}
+use Rattle.cqs_generator.specs.Generated.{plan_of_number}
 use Rattle.cqs_turns.specs.Report.{report_of}
 use Rattle.cqs_cli.specs.declared.floors.any_sole.AnySole.{AnySole}
 use Rattle.cqs_cli.specs.declared.floors.running_sole.RunningSole.{RunningSole}
@@ -72,7 +72,7 @@ pub record KeptRun (left after : Option (List ℕ)) (kept : Kept) (Holds : List 
 
 -- with the verdict on the plan of a number, the run of a summary is kept, and else nothing more
 abbrev pub KeepsFor : ℕ → ℕ → Verdict → Kept → Kept → Type 0
-KeepsFor number jobs (verdict.Summary text) old new = KeepsRun (generated number jobs) new
+KeepsFor number jobs (verdict.Summary text) old new = KeepsRun (plan_of_number number jobs) new
 KeepsFor number jobs (verdict.Report text) old new = new ≡ old
 KeepsFor number jobs (verdict.NoPlan line) old new = new ≡ old
 KeepsFor number jobs verdict.NoMemory old new = new ≡ old
@@ -87,7 +87,7 @@ pub record KeptSummary (words : List (List ℕ)) (kept : Kept) (Holds : List ℕ
   pub number : ℕ
   pub jobs : ℕ
   pub asked : IsGen number jobs words
-  pub run : KeepsRun (generated number jobs) kept
+  pub run : KeepsRun (plan_of_number number jobs) kept
   pub holds : Holds (summary_text number jobs)
 
 -- what is kept is the floor on which the plan has run that was read or made, and of the text for it

@@ -8,7 +8,7 @@ use Rattle.cqs_core.specs.declared.cells.CoreState.{CoreState}
 use Rattle.cqs_core.specs.declared.cells.CoreState.TheVariants as state
 use Rattle.cqs_core.specs.Resting.{IsIdle}
 use Rattle.cqs_core.specs.SemaphoreAnswers.{Room}
-use Rattle.cqs_core.specs.SemaphoreShown.{IsCore, shown}
+use Rattle.cqs_core.specs.SemaphoreShown.{IsCore, shown_semaphore}
 use Rattle.cqs_core.specs.SemaphoreTable.{Shape, last_number}
 use Rattle.cqs_core.specs.SoleCaller.{HasWait, IsSoleCall, NoneTaken, ShowsNext}
 use Rattle.cqs_plan.specs.Floor.{size_of}
@@ -70,7 +70,7 @@ abbrev pub sole_core : Sole Room
 sole_core = record {
   entries = λ core. core.shape.history;
   funded = λ core kind. IsFunded core (size_of kind);
-  has = λ core wait. HasWait wait.index 0 (shown core.shape);
+  has = λ core wait. HasWait wait.index 0 (shown_semaphore core.shape);
 }
 
 -- what a resource is on a floor of cores

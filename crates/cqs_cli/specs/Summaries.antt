@@ -2,7 +2,7 @@
 use Rattle.std.specs.Prelude.{◌≡◌, ℕ, List, ◌++◌, codes}
 use Rattle.std.specs.Fmt.{decimal}
 use Rattle.cqs_plan.specs.LegalFloor.{IsLegalFor}
-use Rattle.cqs_generator.specs.Generated.{generated}
+use Rattle.cqs_generator.specs.Generated.{plan_of_number}
 use Rattle.cqs_turns.specs.Report.{summary_of}
 use Rattle.cqs_cli.specs.Plans.{floor_after}
 use Rattle.cqs_cli.specs.Words.{IsGen}
@@ -14,13 +14,13 @@ asked_line number jobs =
 
 -- what is written for the plan of this number with so many jobs
 abbrev pub summary_text : ℕ → ℕ → List ℕ
-summary_text number jobs = asked_line number jobs ++ summary_of (generated number jobs)
+summary_text number jobs = asked_line number jobs ++ summary_of (plan_of_number number jobs)
 
 -- The text is that of the turn machine on this plan, and what happened to each of the plan's
 -- resources is a legal history of it.
 pub record IsSummaryOf (number jobs : ℕ) (text : List ℕ) : Type 0 where
   pub summed : text ≡ summary_text number jobs
-  pub legal : IsLegalFor (generated number jobs) (floor_after (generated number jobs))
+  pub legal : IsLegalFor (plan_of_number number jobs) (floor_after (plan_of_number number jobs))
 
 -- the words ask for the plan of a number, and the text is what is written for it
 pub record IsSummary (words : List (List ℕ)) (text : List ℕ) : Type 0 where

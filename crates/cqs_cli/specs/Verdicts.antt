@@ -1,6 +1,6 @@
 -- Which verdict is right for words and an input or a number.
 use Rattle.std.specs.Prelude.{◌≡◌, ℕ, ◌+◌, ◌≤◌, List, Option}
-use Rattle.cqs_plan.specs.Counts.{raised, Rises}
+use Rattle.cqs_plan.specs.Counts.{raise, Rises}
 use Rattle.cqs_plan.specs.Stream.{GivesCount}
 use Rattle.cqs_plan.specs.declared.streams.reading.TheConstants.{LONGEST_INPUT}
 use Rattle.cqs_plan.specs.declared.streams.tally.Tally.{Tally}
@@ -70,4 +70,4 @@ HasTaken verdict.SourceFailed old new = StopsWithin LONGEST_INPUT old new
 HasTaken verdict.NoMemory old new =
     (new.given ≤ old.given + (LONGEST_INPUT + 1)) × (old.stops ≡ 0 → new.stops ≤ 1)
 HasTaken verdict.TooLong old new =
-    (new.given ≡ raised old.given (LONGEST_INPUT + 1)) × (old.stops ≡ 0 → new.stops ≡ 0)
+    (new.given ≡ raise old.given (LONGEST_INPUT + 1)) × (old.stops ≡ 0 → new.stops ≡ 0)

@@ -2,7 +2,7 @@
 
 ghost use Rattle.std.specs.Prelude.{◌≡◌, ◌<◌, ◌≤◌, ◌^◌, IfOk, OnErr, OnOk};
 ghost use Rattle.cqs_plan.specs.LegalFloor.{IsLegalFor};
-ghost use Rattle.cqs_generator.specs.Generated.{generated};
+ghost use Rattle.cqs_generator.specs.Generated.{plan_of_number};
 ghost use Rattle.cqs_cli.specs.KeptRuns.{KeepsFor, KeepsRun};
 ghost use Rattle.cqs_cli.specs.Plans.{floor_after};
 ghost use Rattle.cqs_cli.specs.Summaries.{asked_line, summary_text};
@@ -38,8 +38,8 @@ fn summary_of(alloc: Global, number: u32, jobs: u32, kept: &mut Kept) -> Result<
     requires jobs { (1 ≤ jobs) × (jobs ≤ 4096) }
     ensures summed { IfOk result (λ text. text.items ≡ summary_text number jobs) }
     ensures legal { OnOk result
-        (IsLegalFor (generated number jobs) (floor_after (generated number jobs))) }
-    ensures keeps { OnOk result (KeepsRun (generated number jobs) kept.new) }
+        (IsLegalFor (plan_of_number number jobs) (floor_after (plan_of_number number jobs))) }
+    ensures keeps { OnOk result (KeepsRun (plan_of_number number jobs) kept.new) }
     ensures err { OnErr result (kept.new ≡ kept.old) }
 {
     let plan = make_plan(alloc, number, jobs)?;

@@ -1,7 +1,7 @@
 //! The call for the commands that have no workers, and what each of its statuses means.
 
 ghost use Rattle.std.specs.Prelude.{◌≡◌, ◌≢◌, ◌⊎◌, ℕ, ◌+◌, ◌<◌, ◌≤◌, List, length, map, string_bytes, IsTrue, Some};
-ghost use Rattle.cqs_plan.specs.Counts.{raised, Rises};
+ghost use Rattle.cqs_plan.specs.Counts.{raise, Rises};
 ghost use Rattle.cqs_plan.specs.Stream.{Gains, GainsPrefix, GivesAtMost, GivesCount};
 ghost use Rattle.cqs_cli.specs.KeptRuns.{IsNoRun, KeptText};
 ghost use Rattle.cqs_cli.specs.Meanings.{BrokeOff, HasTold, IsStatus, MustEnd, NamedFault};
@@ -77,7 +77,7 @@ pub fn top_alone<S: Source, K: Sink>(
     // By the source's tally that many bytes were read then; and where so many were, this status
     // comes, unless memory ran out.
     ensures too_many { result ≡ TOO_LONG →
-        (S.tally source.new).given ≡ raised (S.tally source.old).given (LONGEST_INPUT + 1) }
+        (S.tally source.new).given ≡ raise (S.tally source.old).given (LONGEST_INPUT + 1) }
     ensures many_bytes { (S.tally source.old).given + LONGEST_INPUT < (S.tally source.new).given
         → MustEnd TOO_LONG result }
 

@@ -5,10 +5,10 @@ use Rattle.std.proofs.lemmas.List.{length_push, take_all}
 use Rattle.cqs_core.specs.declared.entries.Entry.{Entry}
 use Rattle.cqs_core.specs.declared.entries.Entry.TheVariants as entry
 use Rattle.cqs_core.specs.Numbered.{IsIn}
-use Rattle.cqs_core.specs.Keyed.{placed, without}
+use Rattle.cqs_core.specs.Keyed.{insert_by, without}
 use Rattle.cqs_core.specs.QueueLine.{Waiting}
 use Rattle.cqs_core.specs.SemaphoreObject.{Semaphore, opening, due}
-use Rattle.cqs_core.specs.SemaphoreEntries.{IsAllowed, Waits, after_entry, object_after, taken, turned_back, IsBalanced, IsFirst}
+use Rattle.cqs_core.specs.SemaphoreEntries.{IsAllowed, Waits, after_entry, object_after, after_take, turned_back, IsBalanced, IsFirst}
 use Rattle.cqs_core.specs.SemaphoreLaws.{object_before, EveryLegalHistoryIsBalanced, OnePermitGoesToTheFirst}
 use Rattle.cqs_core.proofs.Histories.{walk-all}
 use Rattle.cqs_core.proofs.Rising.{in-take, in-behind, in-none, length-without, length-placed}
@@ -34,7 +34,7 @@ balanced-turned permits o conserved wanted eager = go (cases_Bool (nat_lt (due o
 
 -- a caller takes a free permit
 balanced-taken : (permits : ℕ) (o : Semaphore) → 0 < o.free → IsBalanced permits o
-    → IsBalanced permits (taken o)
+    → IsBalanced permits (after_take o)
 balanced-taken permits o free b =
     let conserved : o.held + o.free + o.way ≡ permits = b.conserved in
     let all : o.way ≡ due o = omega (arith, b.eager, free) in
@@ -58,7 +58,7 @@ pub balanced-entry : (permits : ℕ) (o : Semaphore) (e : Entry) → IsAllowed o
     → IsBalanced permits (after_entry o e)
 balanced-entry permits o (entry.TakeNow c) free b = balanced-taken permits o free b
 balanced-entry permits o (entry.TakeDoor c) none b =
-    let longer : length (placed (λ d. d) c o.door) ≡ length o.door + 1 = length-placed (λ d. d) c o.door in
+    let longer : length (insert_by (λ d. d) c o.door) ≡ length o.door + 1 = length-placed (λ d. d) c o.door in
     let wanted : o.way < due o + 1 = b.wanted in
     record { conserved = b.conserved; wanted = omega arith; eager = inl none }
 balanced-entry permits o (entry.Enter c k) (stands, next) b =

@@ -4,10 +4,10 @@ use Rattle.std.proofs.lemmas.Bool.{cases_order}
 use Rattle.cqs_core.specs.declared.entries.Entry.{Entry}
 use Rattle.cqs_core.specs.declared.entries.Entry.TheVariants as entry
 use Rattle.cqs_core.specs.Numbered.{IsIn}
-use Rattle.cqs_core.specs.Keyed.{placed, without}
+use Rattle.cqs_core.specs.Keyed.{insert_by, without}
 use Rattle.cqs_core.specs.QueueLine.{Service}
 use Rattle.cqs_core.specs.SemaphoreObject.{Semaphore, opening, due}
-use Rattle.cqs_core.specs.SemaphoreEntries.{IsAllowed, after_entry, find_wait, with_service, turned_back, closed, IsLegal}
+use Rattle.cqs_core.specs.SemaphoreEntries.{IsAllowed, after_entry, find_wait, with_service, turned_back, after_look, IsLegal}
 use Rattle.cqs_core.specs.SemaphoreLaws.{object_before, EndsWait, Collects, EveryCollectionFollowsItsDelivery, EveryWaitIsCollectedOnce}
 use Rattle.cqs_core.proofs.Places.{get-below, get-append_left, get-push_at}
 use Rattle.cqs_core.proofs.Rising.{in-take, in-none}
@@ -28,7 +28,7 @@ IsNew o e s = WasServed o s ⊎ (e ≡ entry.Deliver s.wait)
 was-there : (o : Semaphore) (s : Service) → IsIn s o.served → WasServed o s
 was-there o s there = record { old = s; there = there; is = inl refl }
 
-was-closed : (o : Semaphore) (k : ℕ) (s : Service) → IsIn s (closed o k).served → WasServed o s
+was-closed : (o : Semaphore) (k : ℕ) (s : Service) → IsIn s (after_look o k).served → WasServed o s
 was-closed o k s stands =
     let from : IsFrom service_key looked_at (λ t. refl) s o.served =
     in-changed service_key looked_at (λ t. refl) k s o.served stands in
@@ -61,7 +61,7 @@ served-from o (entry.Deliver k) s (c, waits) stands =
     new : Service
     new = record { wait = found.wait.wait; pass = found.wait.pass; is_open = true }
 
-    now : with_service (find_wait k o.line) o.served ≡ placed service_key new o.served
+    now : with_service (find_wait k o.line) o.served ≡ insert_by service_key new o.served
     now = ap (λ w. with_service w o.served) found.is
 
     go : (s ≡ new) ⊎ IsIn s o.served → IsNew o (entry.Deliver k) s
@@ -170,7 +170,7 @@ closed-entry o e k allowed c = record {
     go s is (inr delivers) =
         absurd (gone-ends_not o e k allowed (subst (λ f. EndsWait k f) (sym delivers) is) c.gone)
 
-closed-by : (o : Semaphore) (k : ℕ) → AreWaitsApart o → IsAwaitingLook o k → IsClosed (closed o k) k
+closed-by : (o : Semaphore) (k : ℕ) → AreWaitsApart o → IsAwaitingLook o k → IsClosed (after_look o k) k
 closed-by o k a look = record {
   gone =
       let gone : IsGone o k = subst (IsGone o) look.number (a.served look.service look.there) in
@@ -185,10 +185,10 @@ closed-collected : (o : Semaphore) (e : Entry) (k : ℕ) → AreWaitsApart o →
     → IsClosed (after_entry o e) k
 closed-collected o (entry.LookGranted c j) k a served is =
     let look : IsAwaitingLook o j = collects-open o (entry.LookGranted c j) j served refl in
-    subst (λ i. IsClosed (closed o j) i) is (closed-by o j a look)
+    subst (λ i. IsClosed (after_look o j) i) is (closed-by o j a look)
 closed-collected o (entry.Late c j) k a served is =
     let look : IsAwaitingLook o j = collects-open o (entry.Late c j) j served refl in
-    subst (λ i. IsClosed (closed o j) i) is (closed-by o j a look)
+    subst (λ i. IsClosed (after_look o j) i) is (closed-by o j a look)
 closed-collected o (entry.TakeNow c) k a allowed is = absurd is
 closed-collected o (entry.TakeDoor c) k a allowed is = absurd is
 closed-collected o (entry.Enter c j) k a allowed is = absurd is

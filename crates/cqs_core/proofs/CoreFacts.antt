@@ -7,7 +7,7 @@ use Rattle.std.proofs.lemmas.List.{get_or_past}
 use Rattle.cqs_core.specs.SemaphoreObject.{Semaphore, due}
 use Rattle.cqs_core.specs.SemaphoreEntries.{object_after, IsBalanced}
 use Rattle.cqs_core.specs.SemaphoreTable.{Shape, last_number}
-use Rattle.cqs_core.specs.SemaphoreShown.{IsCore, Shows, shown, free_of, short_of}
+use Rattle.cqs_core.specs.SemaphoreShown.{IsCore, Shows, shown_semaphore, free_of, short_of}
 use Rattle.cqs_core.proofs.CoreSteps.{held-within}
 use Rattle.cqs_core.proofs.FirstOfWay.{ending-within}
 
@@ -17,13 +17,13 @@ state-apart (pos n) = omega (arith, ints)
 state-apart (negsuc n) = omega (arith, ints)
 
 -- those who wait with none on its way
-short-is : (s : Shape) → IsCore s → due (shown s) - (shown s).way ≡ short_of s.state
+short-is : (s : Shape) → IsCore s → due (shown_semaphore s) - (shown_semaphore s).way ≡ short_of s.state
 short-is s core =
     let within = ending-within s.queue core.sound core.covered in
     omega (arith, core.short)
 
 -- a core shows what is read off it
-shows-shown : (s : Shape) → IsCore s → Shows s (shown s)
+shows-shown : (s : Shape) → IsCore s → Shows s (shown_semaphore s)
 shows-shown s core =
     let within = ending-within s.queue core.sound core.covered in
     record {
@@ -45,13 +45,13 @@ free-or-short (pos n) = inr refl
 free-or-short (negsuc n) = inl refl
 
 eager-shown : (s : Shape) → IsCore s → (free_of s.state ≡ 0) ⊎ (short_of s.state ≡ 0)
-    → (free_of s.state ≡ 0) ⊎ ((shown s).way ≡ due (shown s))
+    → (free_of s.state ≡ 0) ⊎ ((shown_semaphore s).way ≡ due (shown_semaphore s))
 eager-shown s core (inl none_free) = inl none_free
 eager-shown s core (inr none_short) =
     let within = ending-within s.queue core.sound core.covered in
     inr (omega (arith, core.short))
 
-balanced-shown : (s : Shape) → IsCore s → IsBalanced s.permits (shown s)
+balanced-shown : (s : Shape) → IsCore s → IsBalanced s.permits (shown_semaphore s)
 balanced-shown s core =
     let within = ending-within s.queue core.sound core.covered in
     record {

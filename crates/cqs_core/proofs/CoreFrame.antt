@@ -9,13 +9,13 @@ use Rattle.cqs_core.specs.Numbered.{EachAt}
 use Rattle.cqs_core.specs.QueueState.{Queue}
 use Rattle.cqs_core.specs.QueueLine as queue
 use Rattle.cqs_core.specs.QueueMoves as move
-use Rattle.cqs_core.specs.QueueMoves.{Move, IsOpen, moved}
+use Rattle.cqs_core.specs.QueueMoves.{Move, IsOpen, move_queue}
 use Rattle.cqs_core.specs.QueueCover.{IsFair}
 use Rattle.cqs_core.specs.QueueWaiters.{Waiters}
 use Rattle.cqs_core.specs.SemaphoreObject.{Semaphore, opening}
 use Rattle.cqs_core.specs.SemaphoreEntries.{IsAllowed, after_entry, object_after, IsLegal}
 use Rattle.cqs_core.specs.SemaphoreTable.{Shape, lowest, last_number}
-use Rattle.cqs_core.specs.SemaphoreShown.{IsCore, HasLoaded, shown, free_of, short_of}
+use Rattle.cqs_core.specs.SemaphoreShown.{IsCore, HasLoaded, shown_semaphore, free_of, short_of}
 use Rattle.cqs_core.proofs.EachAtLemmas.{EachAt-write}
 use Rattle.cqs_core.proofs.Histories.{object-push, legal-push}
 use Rattle.cqs_core.proofs.Sound.{sound-moved}
@@ -52,7 +52,7 @@ seen z held q = record {
   door = queue.door q;
   line = queue.line q;
   next = q.suspends;
-  served = queue.served q;
+  served = queue.services q;
   held = sum held + queue.ready q;
 }
 
@@ -67,9 +67,9 @@ Conserves permits z held q = sum held + queue.ready q + free_of z + queue.going 
 -- the words that a step writes, the state word and what the passes hold, fit; and so do the queue's own
 pub record WordsFit (s : Shape) (m : Move) (z : ℤ) (held : List ℕ) : Type 0 where
   pub state : lowest ≤ℤ z
-  pub suspends : (moved s.queue m).suspends ≤ last_number
-  pub resumes : (moved s.queue m).resumes ≤ last_number
-  pub loaded : EachAt HasLoaded (moved s.queue m).doing
+  pub suspends : (move_queue s.queue m).suspends ≤ last_number
+  pub resumes : (move_queue s.queue m).resumes ≤ last_number
+  pub loaded : EachAt HasLoaded (move_queue s.queue m).doing
   pub holders : length held ≡ length s.held
 
 -- the shape after a step
@@ -77,7 +77,7 @@ abbrev pub altered : Shape → ℤ → List ℕ → List Entry → Queue → Sha
 altered s z held history q =
     record { permits = s.permits; state = z; held = held; history = history; queue = q }
 
-pub passes-moved : (q : Queue) (m : Move) → length (moved q m).doing ≡ length q.doing
+pub passes-moved : (q : Queue) (m : Move) → length (move_queue q m).doing ≡ length q.doing
 passes-moved q move.stay = refl
 passes-moved q (move.turn p from to) = length-set q.doing p to
 passes-moved q (move.draw p k found) = length-set q.doing p (doing.Drawn k)
@@ -106,11 +106,11 @@ loaded-turn passes p from to does now each =
 -- what a step owes, for any history after it
 core-step : (s : Shape) (m : Move) (z : ℤ) (held : List ℕ) (history : List Entry)
     → IsCore s → IsOpen s.queue m → IsFair s.queue m → WordsFit s m z held
-    → TellsShort z (moved s.queue m) → Conserves s.permits z held (moved s.queue m)
-    → IsLegal s.permits history → object_after s.permits history ≡ seen z held (moved s.queue m)
-    → IsCore (altered s z held history (moved s.queue m))
+    → TellsShort z (move_queue s.queue m) → Conserves s.permits z held (move_queue s.queue m)
+    → IsLegal s.permits history → object_after s.permits history ≡ seen z held (move_queue s.queue m)
+    → IsCore (altered s z held history (move_queue s.queue m))
 core-step s m z held history core opens fair words short conserved legal object =
-    let passes : length (moved s.queue m).doing ≡ length s.queue.doing = passes-moved s.queue m in
+    let passes : length (move_queue s.queue m).doing ≡ length s.queue.doing = passes-moved s.queue m in
     record {
       range = record {
         some_permits = core.range.some_permits;
@@ -133,11 +133,11 @@ core-step s m z held history core opens fair words short conserved legal object 
 -- a step with an entry
 pub core-push : (s : Shape) (m : Move) (z : ℤ) (held : List ℕ) (e : Entry)
     → IsCore s → IsOpen s.queue m → IsFair s.queue m → WordsFit s m z held
-    → TellsShort z (moved s.queue m) → Conserves s.permits z held (moved s.queue m)
-    → IsAllowed (shown s) e → after_entry (shown s) e ≡ seen z held (moved s.queue m)
-    → IsCore (altered s z held (s.history ++ e ∷ []) (moved s.queue m))
+    → TellsShort z (move_queue s.queue m) → Conserves s.permits z held (move_queue s.queue m)
+    → IsAllowed (shown_semaphore s) e → after_entry (shown_semaphore s) e ≡ seen z held (move_queue s.queue m)
+    → IsCore (altered s z held (s.history ++ e ∷ []) (move_queue s.queue m))
 core-push s m z held e core opens fair words short conserved allowed shows =
-    let object : object_after s.permits s.history ≡ shown s = core.object in
+    let object : object_after s.permits s.history ≡ shown_semaphore s = core.object in
     let may_come : IsAllowed (object_after s.permits s.history) e =
     subst (λ (o : Semaphore). IsAllowed o e) (sym object) allowed in
     core-step s m z held (s.history ++ e ∷ []) core opens fair words short conserved
@@ -147,8 +147,8 @@ core-push s m z held e core opens fair words short conserved allowed shows =
 -- a step without one
 pub core-quiet : (s : Shape) (m : Move) (z : ℤ) (held : List ℕ)
     → IsCore s → IsOpen s.queue m → IsFair s.queue m → WordsFit s m z held
-    → TellsShort z (moved s.queue m) → Conserves s.permits z held (moved s.queue m)
-    → shown s ≡ seen z held (moved s.queue m)
-    → IsCore (altered s z held s.history (moved s.queue m))
+    → TellsShort z (move_queue s.queue m) → Conserves s.permits z held (move_queue s.queue m)
+    → shown_semaphore s ≡ seen z held (move_queue s.queue m)
+    → IsCore (altered s z held s.history (move_queue s.queue m))
 core-quiet s m z held core opens fair words short conserved shows =
     core-step s m z held s.history core opens fair words short conserved core.legal (core.object ∙ shows)

@@ -6,12 +6,12 @@ use Rattle.cqs_core.specs.declared.entries.Entry.{Entry}
 use Rattle.cqs_core.specs.declared.entries.Entry.TheVariants as entry
 use Rattle.cqs_core.specs.Numbered.{EachAt}
 use Rattle.cqs_core.specs.QueueLine.{due, way, ready}
-use Rattle.cqs_core.specs.QueueMoves.{Move, IsOpen, moved}
+use Rattle.cqs_core.specs.QueueMoves.{Move, IsOpen, move_queue}
 use Rattle.cqs_core.specs.QueueCover.{IsFair}
 use Rattle.cqs_core.specs.SemaphoreObject.{Semaphore}
-use Rattle.cqs_core.specs.SemaphoreEntries.{IsAllowed, after_entry, closed}
+use Rattle.cqs_core.specs.SemaphoreEntries.{IsAllowed, after_entry, after_look}
 use Rattle.cqs_core.specs.SemaphoreTable.{Shape, moves, last_number}
-use Rattle.cqs_core.specs.SemaphoreShown.{IsCore, HasLoaded, shown, free_of, short_of}
+use Rattle.cqs_core.specs.SemaphoreShown.{IsCore, HasLoaded, shown_semaphore, free_of, short_of}
 use Rattle.cqs_core.proofs.CoreFrame.{WordsFit, TellsShort, Conserves, seen, altered, same-by_waiters, core-push, core-quiet}
 use Rattle.cqs_core.proofs.DeliveryMoves.{Delivers, Closes}
 use Rattle.cqs_core.proofs.QueueServes.{Serves}
@@ -49,37 +49,37 @@ abbrev pub with_permits : Semaphore → ℕ → ℕ → Semaphore
 with_permits o free held = record o { free = free; held = held }
 
 way-same : (s : Shape) (m : Move) (n : ℕ) → IsCore s → IsOpen s.queue m → IsFair s.queue m
-    → Keeps s.queue (moved s.queue m) n → way s.queue ≡ way (moved s.queue m)
+    → Keeps s.queue (move_queue s.queue m) n → way s.queue ≡ way (move_queue s.queue m)
 way-same s m n core opens fair keeps =
     let sound_after = sound-moved s.queue m core.sound opens in
     let covered_after = covered-moved s.queue m core.sound core.covered opens fair in
     let within = ending-within s.queue core.sound core.covered in
-    let within_after = ending-within (moved s.queue m) sound_after covered_after in
+    let within_after = ending-within (move_queue s.queue m) sound_after covered_after in
     omega (arith, keeps.going, keeps.ending, within, within_after)
 
-hidden-short : (s : Shape) (m : Move) (n : ℕ) (z : ℤ) → IsCore s → Keeps s.queue (moved s.queue m) n
-    → short_of z ≡ short_of s.state → TellsShort z (moved s.queue m)
+hidden-short : (s : Shape) (m : Move) (n : ℕ) (z : ℤ) → IsCore s → Keeps s.queue (move_queue s.queue m) n
+    → short_of z ≡ short_of s.state → TellsShort z (move_queue s.queue m)
 hidden-short s m n z core keeps short_same =
-    omega (arith, keeps.going, keeps.ending, keeps-due s.queue (moved s.queue m) n keeps, core.short)
+    omega (arith, keeps.going, keeps.ending, keeps-due s.queue (move_queue s.queue m) n keeps, core.short)
 
 hidden-conserved : (s : Shape) (m : Move) (n : ℕ) (z : ℤ) (held : List ℕ) → IsCore s
-    → Keeps s.queue (moved s.queue m) n
-    → sum held + free_of z ≡ sum s.held + free_of s.state → Conserves s.permits z held (moved s.queue m)
+    → Keeps s.queue (move_queue s.queue m) n
+    → sum held + free_of z ≡ sum s.held + free_of s.state → Conserves s.permits z held (move_queue s.queue m)
 hidden-conserved s m n z held core keeps permits_same =
     omega (arith, keeps.ready, keeps.going, keeps.ending, core.conserved)
 
-hidden-shows : (s : Shape) (m : Move) (n : ℕ) (z : ℤ) (held : List ℕ) → way s.queue ≡ way (moved s.queue m)
-    → Keeps s.queue (moved s.queue m) n
-    → with_permits (shown s) (free_of z) (sum held + ready s.queue) ≡ seen z held (moved s.queue m)
+hidden-shows : (s : Shape) (m : Move) (n : ℕ) (z : ℤ) (held : List ℕ) → way s.queue ≡ way (move_queue s.queue m)
+    → Keeps s.queue (move_queue s.queue m) n
+    → with_permits (shown_semaphore s) (free_of z) (sum held + ready s.queue) ≡ seen z held (move_queue s.queue m)
 hidden-shows s m n z held ways keeps =
     same-by_waiters refl ways (sym keeps.waiters) (ap (λ n. sum held + n) (sym keeps.ready))
 
 pub hidden-push : {n : ℕ} (s : Shape) (m : Move) (z : ℤ) (held : List ℕ) (e : Entry)
-    → IsCore s → IsOpen s.queue m → IsFair s.queue m → Keeps s.queue (moved s.queue m) n → WordsFit s m z held
+    → IsCore s → IsOpen s.queue m → IsFair s.queue m → Keeps s.queue (move_queue s.queue m) n → WordsFit s m z held
     → short_of z ≡ short_of s.state → sum held + free_of z ≡ sum s.held + free_of s.state
-    → IsAllowed (shown s) e
-    → after_entry (shown s) e ≡ with_permits (shown s) (free_of z) (sum held + ready s.queue)
-    → IsCore (altered s z held (s.history ++ e ∷ []) (moved s.queue m))
+    → IsAllowed (shown_semaphore s) e
+    → after_entry (shown_semaphore s) e ≡ with_permits (shown_semaphore s) (free_of z) (sum held + ready s.queue)
+    → IsCore (altered s z held (s.history ++ e ∷ []) (move_queue s.queue m))
 hidden-push {n} s m z held e core opens fair keeps words short_same permits_same allowed changes =
     core-push s m z held e core opens fair words
     (hidden-short s m n z core keeps short_same)
@@ -88,8 +88,8 @@ hidden-push {n} s m z held e core opens fair keeps words short_same permits_same
     (changes ∙ hidden-shows s m n z held (way-same s m n core opens fair keeps) keeps)
 
 pub hidden-quiet : {n : ℕ} (s : Shape) (m : Move)
-    → IsCore s → IsOpen s.queue m → IsFair s.queue m → Keeps s.queue (moved s.queue m) n
-    → (moved s.queue m).resumes ≤ last_number → EachAt HasLoaded (moved s.queue m).doing
+    → IsCore s → IsOpen s.queue m → IsFair s.queue m → Keeps s.queue (move_queue s.queue m) n
+    → (move_queue s.queue m).resumes ≤ last_number → EachAt HasLoaded (move_queue s.queue m).doing
     → IsCore (moves s m)
 hidden-quiet {n} s m core opens fair keeps resumes loaded =
     let words : WordsFit s m s.state s.held = record {
@@ -106,13 +106,13 @@ hidden-quiet {n} s m core opens fair keeps resumes loaded =
 
 -- A permit on its way reaches wait k of pass c.
 pub delivered-core : (s : Shape) (m : Move) (held : List ℕ) (k c : ℕ)
-    → IsCore s → IsOpen s.queue m → IsFair s.queue m → Delivers s.queue (moved s.queue m) k c
-    → (moved s.queue m).resumes ≤ last_number → EachAt HasLoaded (moved s.queue m).doing
-    → length held ≡ length s.held → sum held + ready (moved s.queue m) ≡ sum s.held + ready s.queue + 1
-    → IsCore (altered s s.state held (s.history ++ entry.Deliver k ∷ []) (moved s.queue m))
+    → IsCore s → IsOpen s.queue m → IsFair s.queue m → Delivers s.queue (move_queue s.queue m) k c
+    → (move_queue s.queue m).resumes ≤ last_number → EachAt HasLoaded (move_queue s.queue m).doing
+    → length held ≡ length s.held → sum held + ready (move_queue s.queue m) ≡ sum s.held + ready s.queue + 1
+    → IsCore (altered s s.state held (s.history ++ entry.Deliver k ∷ []) (move_queue s.queue m))
 delivered-core s m held k c core opens fair delivers resumes loaded holders more =
     let q : Queue = s.queue in
-    let r : Queue = moved s.queue m in
+    let r : Queue = move_queue s.queue m in
     let serves : Serves q r k c = delivers.serves in
     let words : WordsFit s m s.state held = record {
       state = core.range.state;
@@ -125,17 +125,17 @@ delivered-core s m held k c core opens fair delivers resumes loaded holders more
     let conserved : Conserves s.permits s.state held r =
     omega (arith, more, serves.going, serves.ending, core.conserved) in
     let one_fewer : way q - 1 ≡ way r = omega (arith, serves.going, serves.ending) in
-    let shows : after_entry (shown s) (entry.Deliver k) ≡ seen s.state held r =
+    let shows : after_entry (shown_semaphore s) (entry.Deliver k) ≡ seen s.state held r =
     same-by_waiters refl one_fewer (sym serves.waiters) (sym more) in
     core-push s m s.state held (entry.Deliver k) core opens fair words short conserved (c, delivers.first) shows
 
 -- The permit of wait k, which was served, is looked at: it is the pass's.
 pub closed-core : (s : Shape) (m : Move) (held : List ℕ) (e : Entry) (k c : ℕ)
-    → IsCore s → IsOpen s.queue m → IsFair s.queue m → Closes s.queue (moved s.queue m) k c
-    → (moved s.queue m).resumes ≤ last_number → EachAt HasLoaded (moved s.queue m).doing
+    → IsCore s → IsOpen s.queue m → IsFair s.queue m → Closes s.queue (move_queue s.queue m) k c
+    → (move_queue s.queue m).resumes ≤ last_number → EachAt HasLoaded (move_queue s.queue m).doing
     → length held ≡ length s.held → sum held ≡ sum s.held + 1
-    → IsAllowed (shown s) e → after_entry (shown s) e ≡ closed (shown s) k
-    → IsCore (altered s s.state held (s.history ++ e ∷ []) (moved s.queue m))
+    → IsAllowed (shown_semaphore s) e → after_entry (shown_semaphore s) e ≡ after_look (shown_semaphore s) k
+    → IsCore (altered s s.state held (s.history ++ e ∷ []) (move_queue s.queue m))
 closed-core s m held e k c core opens fair closes resumes loaded holders more allowed changes =
     let words : WordsFit s m s.state held = record {
       state = core.range.state;
@@ -144,13 +144,13 @@ closed-core s m held e k c core opens fair closes resumes loaded holders more al
       loaded = loaded;
       holders = holders;
     } in
-    let as_due : due (moved s.queue m) ≡ due s.queue = ap due_of closes.waiters in
-    let short : TellsShort s.state (moved s.queue m) = omega (arith, closes.going, closes.ending, core.short) in
-    let conserved : Conserves s.permits s.state held (moved s.queue m) =
+    let as_due : due (move_queue s.queue m) ≡ due s.queue = ap due_of closes.waiters in
+    let short : TellsShort s.state (move_queue s.queue m) = omega (arith, closes.going, closes.ending, core.short) in
+    let conserved : Conserves s.permits s.state held (move_queue s.queue m) =
     omega (arith, more, closes.ready, closes.going, closes.ending, core.conserved) in
-    let as_many : way s.queue ≡ way (moved s.queue m) = omega (arith, closes.going, closes.ending) in
-    let held_same : sum s.held + ready s.queue ≡ sum held + ready (moved s.queue m) =
+    let as_many : way s.queue ≡ way (move_queue s.queue m) = omega (arith, closes.going, closes.ending) in
+    let held_same : sum s.held + ready s.queue ≡ sum held + ready (move_queue s.queue m) =
     omega (arith, closes.ready) in
-    let shows : closed (shown s) k ≡ seen s.state held (moved s.queue m) =
+    let shows : after_look (shown_semaphore s) k ≡ seen s.state held (move_queue s.queue m) =
     same-by_waiters refl as_many (sym closes.waiters) held_same in
     core-push s m s.state held e core opens fair words short conserved allowed (changes ∙ shows)

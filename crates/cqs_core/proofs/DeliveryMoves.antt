@@ -6,10 +6,10 @@ use Rattle.cqs_core.specs.declared.cells.CoreState.TheVariants as state
 use Rattle.cqs_core.specs.declared.doings.Doing.TheVariants as doing
 use Rattle.cqs_core.specs.Numbered.{IsIn}
 use Rattle.cqs_core.specs.QueueState.{Queue}
-use Rattle.cqs_core.specs.QueueLine.{in_line, line, is_served, served, has_left, is_unmet, has_ready, ready, going, ending, way}
+use Rattle.cqs_core.specs.QueueLine.{in_line, line, is_served, services, has_left, is_unmet, has_ready, ready, going, ending, way}
 use Rattle.cqs_core.specs.QueueWaiters.{waiters, closes}
 use Rattle.cqs_core.specs.QueueMoves as move
-use Rattle.cqs_core.specs.QueueMoves.{Works, Owns, moved, now_doing, with_cell, at_state}
+use Rattle.cqs_core.specs.QueueMoves.{Works, Owns, move_queue, now_doing, with_cell, at_state}
 use Rattle.cqs_core.specs.QueueSound.{IsSound, IsSoundAt}
 use Rattle.cqs_core.specs.QueueCover.{IsCovered}
 use Rattle.cqs_core.proofs.Counts.{bit, count_by-write, count_at-write}
@@ -33,12 +33,12 @@ delivers q r k c sound covered serves = record {
 
 -- Install, Took
 pub delivers-take_value : (q : Queue) (p k : ℕ) (found : CoreCell) → IsSound q → IsCovered q
-    → Works q p (doing.Drawn k) k found state.Value → Delivers q (moved q (move.take_value p k found)) k p
+    → Works q p (doing.Drawn k) k found state.Value → Delivers q (move_queue q (move.take_value p k found)) k p
 delivers-take_value q p k found sound covered works =
-    delivers q (moved q (move.take_value p k found)) k p sound covered (serves-take_value q p k found sound works)
+    delivers q (move_queue q (move.take_value p k found)) k p sound covered (serves-take_value q p k found sound works)
 
 pub take_value-ready : (q : Queue) (p k : ℕ) (found : CoreCell) → Works q p (doing.Drawn k) k found state.Value
-    → ready (moved q (move.take_value p k found)) ≡ ready q
+    → ready (move_queue q (move.take_value p k found)) ≡ ready q
 take_value-ready q p k found works =
     let new : CoreCell = record { state = state.Taken; owner = found.owner; collected = true } in
     let looked = count_by-write has_ready q.cells k found new works.finds in
@@ -48,14 +48,14 @@ take_value-ready q p k found works =
 -- Meet, Served
 pub delivers-serve : (q : Queue) (p k : ℕ) (found : CoreCell) → IsSound q → IsCovered q
     → Works q p (doing.Ticket k) k found state.Waiter
-    → (c : ℕ) × Delivers q (moved q (move.serve p k found)) k c
+    → (c : ℕ) × Delivers q (move_queue q (move.serve p k found)) k c
 delivers-serve q p k found sound covered works =
     let serves = serves-serve q p k found sound works in
-    (serves.0, delivers q (moved q (move.serve p k found)) k serves.0 sound covered serves.1)
+    (serves.0, delivers q (move_queue q (move.serve p k found)) k serves.0 sound covered serves.1)
 
 pub serve-ready : (q : Queue) (p k : ℕ) (found : CoreCell) → IsSound q
     → Works q p (doing.Ticket k) k found state.Waiter
-    → ready (moved q (move.serve p k found)) ≡ ready q + 1
+    → ready (move_queue q (move.serve p k found)) ≡ ready q + 1
 serve-ready q p k found sound works =
     let cell : IsSoundAt q k found state.Waiter =
     subst (λ (s : CoreState). IsSoundAt q k found s) works.at (sound.cells.at k found works.finds) in
@@ -67,7 +67,7 @@ serve-ready q p k found sound works =
 
 -- What came for wait k, which is pass c's, is looked at: for any client.
 pub record Closes (q r : Queue) (k c : ℕ) : Type 0 where
-  pub served_open : IsIn (service k c true) (served q)
+  pub served_open : IsIn (service k c true) (services q)
   pub waiters : waiters r ≡ closes (waiters q) k
   pub ready : ready r + 1 ≡ ready q
   pub going : going r ≡ going q
@@ -75,7 +75,7 @@ pub record Closes (q r : Queue) (k c : ℕ) : Type 0 where
 
 pub closes-collect : (q : Queue) (p k : ℕ) (found : CoreCell)
     → Works q p doing.Idle k found state.Resumed → Owns p found
-    → Closes q (moved q (move.collect p k found)) k p
+    → Closes q (move_queue q (move.collect p k found)) k p
 closes-collect q p k found works owns =
     let new : CoreCell = record { state = found.state; owner = found.owner; collected = true } in
     let was_open : is_served k found ≡ Some (service k p true) =

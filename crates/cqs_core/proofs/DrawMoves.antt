@@ -8,12 +8,12 @@ use Rattle.cqs_core.specs.declared.cells.CoreState.{CoreState}
 use Rattle.cqs_core.specs.declared.cells.CoreState.TheVariants as state
 use Rattle.cqs_core.specs.declared.doings.Doing.{Doing}
 use Rattle.cqs_core.specs.declared.doings.Doing.TheVariants as doing
-use Rattle.cqs_core.specs.Numbered.{cons_option, picked, count_at}
+use Rattle.cqs_core.specs.Numbered.{cons_option, pick_each, count_at}
 use Rattle.cqs_core.specs.QueueState.{Queue, fresh_cell, owner_doing, has_ticket}
 use Rattle.cqs_core.specs.QueueLine.{Waiting, in_line, stays_in_line, waiting_of, line, service_of, is_served, is_resuming, is_told_refused, has_left, is_unmet, is_unmet_refusal, going, ending, due, has_ready, ready}
 use Rattle.cqs_core.specs.QueueWaiters.{waiters, enters}
 use Rattle.cqs_core.specs.QueueMoves as move
-use Rattle.cqs_core.specs.QueueMoves.{moved, cells_drawn, cells_reached}
+use Rattle.cqs_core.specs.QueueMoves.{move_queue, cells_drawn, cells_reached}
 use Rattle.cqs_core.specs.QueueSound.{IsSound, IsSoundAt, IsUninstalled, IsUntaken}
 use Rattle.cqs_core.proofs.Counts.{bit, count_at-same, count_at-push, count_at-write, count_by-write, count_by-push}
 use Rattle.cqs_core.proofs.HiddenMoves.{Keeps, same-waiters}
@@ -27,12 +27,12 @@ use Rattle.cqs_core.proofs.WaysChange.{unmet-frame}
 -- a cell that a draw makes adds nothing that it doesn't show
 pub picked-reached : {Y : Type 0} (f : ℕ → CoreCell → Option Y) → ((n : ℕ) → f n fresh_cell ≡ None)
     → (cells : List CoreCell) (found : Option CoreCell)
-    → picked f 0 (cells_reached cells found) ≡ picked f 0 cells
+    → pick_each f 0 (cells_reached cells found) ≡ pick_each f 0 cells
 picked-reached f none cells (Some found) = refl
 picked-reached f none cells None =
     picked-push f 0 cells fresh_cell (length cells) (omega arith)
-    ∙ ap (λ o. picked f 0 cells ++ cons_option o []) (none (length cells))
-    ∙ append-nil (picked f 0 cells)
+    ∙ ap (λ o. pick_each f 0 cells ++ cons_option o []) (none (length cells))
+    ∙ append-nil (pick_each f 0 cells)
 
 pub count_by-reached : (p : CoreCell → Bool) → p fresh_cell ≡ false
     → (cells : List CoreCell) (found : Option CoreCell)
@@ -80,7 +80,7 @@ unmet-reached q p j state.Refused does = go (cases_eq j q.resumes)
 unmet-reached q p j _ does = refl
 
 pub keeps-reach : (q : Queue) (p : ℕ) (found : Option CoreCell) → slice_get q.doing p ≡ Some doing.Owes
-    → Keeps q (moved q (move.reach p q.resumes found)) 0
+    → Keeps q (move_queue q (move.reach p q.resumes found)) 0
 keeps-reach q p found does =
     let ticket : Doing = doing.Ticket q.resumes in
     let after : List Doing = set q.doing p ticket in
@@ -148,8 +148,8 @@ pub record Enters (q r : Queue) (p k : ℕ) : Type 0 where
 
 -- what the drawn cell shows: the new wait in line, and nothing else
 record Drawn (passes : List Doing) (p k : ℕ) (cells after : List CoreCell) : Type 0 where
-  line : picked (in_line passes) 0 after ≡ picked (in_line passes) 0 cells ++ record { wait = k; pass = p } ∷ []
-  served : picked is_served 0 after ≡ picked is_served 0 cells
+  line : pick_each (in_line passes) 0 after ≡ pick_each (in_line passes) 0 cells ++ record { wait = k; pass = p } ∷ []
+  served : pick_each is_served 0 after ≡ pick_each is_served 0 cells
   ready : count_by has_ready after ≡ count_by has_ready cells
   left : count_by has_left after ≡ count_by has_left cells
   unmet : (resumes : ℕ)
@@ -172,7 +172,7 @@ untaken-unserved k _ owner collected untaken = absurd untaken
 
 -- nobody waits under a number that no suspend has drawn
 line-below : (q : Queue) (passes : List Doing) → IsSound q
-    → AllBelow wait_of q.suspends (picked (in_line passes) 0 q.cells)
+    → AllBelow wait_of q.suspends (pick_each (in_line passes) 0 q.cells)
 line-below q passes sound = picked-low (in_line passes) wait_of (line-keyed passes) q.suspends 0 q.cells none
   where
     none : (i m : ℕ) (cell : CoreCell) → m ≡ 0 + i → slice_get q.cells i ≡ Some cell → q.suspends ≤ m
@@ -226,7 +226,7 @@ drawn-fresh q passes p sound finds =
       line = picked-push (in_line passes) 0 q.cells new q.suspends (omega arith);
       served =
           picked-push is_served 0 q.cells new q.suspends (omega arith) ∙ append-nil
-          (picked is_served 0 q.cells);
+          (pick_each is_served 0 q.cells);
       ready = omega arith;
       left = omega arith;
       unmet = λ resumes. let push = count_at-push (is_unmet resumes passes) q.cells new in omega arith;
@@ -247,7 +247,7 @@ drawn-either q passes p None sound finds = drawn-fresh q passes p sound finds
 
 pub enters-draw : (q : Queue) (p : ℕ) (found : Option CoreCell) → IsSound q
     → slice_get q.doing p ≡ Some doing.Door
-    → slice_get q.cells q.suspends ≡ found → Enters q (moved q (move.draw p q.suspends found)) p q.suspends
+    → slice_get q.cells q.suspends ≡ found → Enters q (move_queue q (move.draw p q.suspends found)) p q.suspends
 enters-draw q p found sound does finds =
     let to : Doing = doing.Drawn q.suspends in
     let after : List Doing = set q.doing p to in
@@ -259,7 +259,7 @@ enters-draw q p found sound does finds =
     let unmets = drawn.unmet q.resumes in
     let kept =
     count_at-same (is_unmet q.resumes q.doing) (is_unmet q.resumes after) q.cells q.cells refl others in
-    let lines : line (moved q (move.draw p q.suspends found))
+    let lines : line (move_queue q (move.draw p q.suspends found))
     ≡ line q ++ record { wait = q.suspends; pass = p } ∷ [] =
     drawn.line
     ∙ ap (λ waits. waits ++ record { wait = q.suspends; pass = p } ∷ [])

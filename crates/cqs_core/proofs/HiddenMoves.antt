@@ -8,10 +8,10 @@ use Rattle.cqs_core.specs.declared.cells.CoreState.TheVariants as state
 use Rattle.cqs_core.specs.declared.doings.Doing.{Doing}
 use Rattle.cqs_core.specs.declared.doings.Doing.TheVariants as doing
 use Rattle.cqs_core.specs.QueueState.{Queue, owner_doing, is_leaving, has_ticket, is_ticket}
-use Rattle.cqs_core.specs.QueueLine.{at_door, door, due, in_line, stays_in_line, waiting_of, line, is_served, served, is_resuming, is_told_refused, has_left, is_unmet, going, ending, has_ready, ready}
+use Rattle.cqs_core.specs.QueueLine.{at_door, door, due, in_line, stays_in_line, waiting_of, line, is_served, services, is_resuming, is_told_refused, has_left, is_unmet, going, ending, has_ready, ready}
 use Rattle.cqs_core.specs.QueueWaiters.{Waiters, waiters, due_of}
 use Rattle.cqs_core.specs.QueueMoves as move
-use Rattle.cqs_core.specs.QueueMoves.{IsCancelling, Works, Owns, moved, now_doing, with_cell, at_state}
+use Rattle.cqs_core.specs.QueueMoves.{IsCancelling, Works, Owns, move_queue, now_doing, with_cell, at_state}
 use Rattle.cqs_core.specs.QueueSound.{IsSound, IsSoundAt, IsOwn, IsTicket, IsUnended}
 use Rattle.cqs_core.proofs.Counts.{bit, count_by-write}
 use Rattle.cqs_core.proofs.Keys.{around-kept}
@@ -113,7 +113,7 @@ pub no-other-ticket : (k m : ℕ) → m ≢ k → false ≡ is_ticket m (doing.T
 no-other-ticket k m other = sym (is_ticket-other m k (λ e. other (sym e)))
 
 pub keeps-install : (q : Queue) (p k : ℕ) (found : CoreCell) → Works q p (doing.Drawn k) k found state.Empty
-    → Keeps q (moved q (move.install p k found)) 0
+    → Keeps q (move_queue q (move.install p k found)) 0
 keeps-install q p k found works =
     keeps-write q p (doing.Drawn k) doing.Idle k found (at_state found state.Waiter) 0
     (record { does = works.does; finds = works.finds; leaves = λ m other. refl; tickets = λ m other. refl })
@@ -127,7 +127,7 @@ keeps-install q p k found works =
     })
 
 pub keeps-leave_value : (q : Queue) (p k : ℕ) (found : CoreCell) → Works q p (doing.Ticket k) k found state.Empty
-    → Keeps q (moved q (move.leave_value p k found)) 0
+    → Keeps q (move_queue q (move.leave_value p k found)) 0
 keeps-leave_value q p k found works =
     keeps-write q p (doing.Ticket k) doing.Idle k found (at_state found state.Value) 0
     (record { does = works.does; finds = works.finds; leaves = λ m other. refl; tickets = no-other-ticket k })
@@ -142,7 +142,7 @@ keeps-leave_value q p k found works =
 
 pub keeps-delegate : (q : Queue) (p k : ℕ) (found : CoreCell)
     → Works q p (doing.Ticket k) k found state.Cancelling
-    → Keeps q (moved q (move.delegate p k found)) 0
+    → Keeps q (move_queue q (move.delegate p k found)) 0
 keeps-delegate q p k found works =
     let leaves : is_leaving k (owner_doing (set q.doing p doing.Idle) found) ≡ is_leaving k
     (owner_doing q.doing found) =
@@ -162,7 +162,7 @@ keeps-delegate q p k found works =
 
 pub keeps-pass_over : (q : Queue) (p k : ℕ) (found : CoreCell)
     → Works q p (doing.Ticket k) k found state.Cancelled
-    → Keeps q (moved q (move.pass_over p k found)) 0
+    → Keeps q (move_queue q (move.pass_over p k found)) 0
 keeps-pass_over q p k found works =
     keeps-there q p (doing.Ticket k) doing.Owes k found 0
     (record { does = works.does; finds = works.finds; leaves = λ m other. refl; tickets = no-other-ticket k })
@@ -177,7 +177,7 @@ keeps-pass_over q p k found works =
 
 -- the one resumption of a refused cell ends there
 pub keeps-meet_refused : (q : Queue) (p k : ℕ) (found : CoreCell) → IsSound q
-    → Works q p (doing.Ticket k) k found state.Refused → Keeps q (moved q (move.meet_refused p k found)) 1
+    → Works q p (doing.Ticket k) k found state.Refused → Keeps q (move_queue q (move.meet_refused p k found)) 1
 keeps-meet_refused q p k found sound works =
     let ticket : IsTicket q k = sound.passes.at p (doing.Ticket k) works.does in
     let after : List Doing = set q.doing p doing.Idle in
@@ -201,7 +201,7 @@ keeps-meet_refused q p k found sound works =
 
 pub keeps-begin_cancel : (q : Queue) (p k : ℕ) (found : CoreCell) → Works q p doing.Idle k found state.Waiter
     → Owns p found
-    → Keeps q (moved q (move.begin_cancel p k found)) 0
+    → Keeps q (move_queue q (move.begin_cancel p k found)) 0
 keeps-begin_cancel q p k found works owns =
     let new : CoreCell = at_state found state.Cancelling in
     let leaves : owner_doing (set q.doing p (doing.Leaving k)) new ≡ Some (doing.Leaving k) =
@@ -258,7 +258,7 @@ settled-gone : (passes : List Doing) (k p : ℕ) (cell : CoreCell) (s : CoreStat
 settled-gone passes k p cell s owner stays = ap₂ (waiting_of k) owner stays
 
 pub keeps-cancel : (q : Queue) (p k : ℕ) (found : CoreCell) → IsSound q
-    → Works q p (doing.Decided k true) k found state.Cancelling → Keeps q (moved q (move.cancel p k found)) 0
+    → Works q p (doing.Decided k true) k found state.Cancelling → Keeps q (move_queue q (move.cancel p k found)) 0
 keeps-cancel q p k found sound works =
     let told = told-gone q p k true found sound works.does works.finds in
     keeps-write q p (doing.Decided k true) doing.Idle k found (at_state found state.Cancelled) 0
@@ -275,7 +275,7 @@ keeps-cancel q p k found sound works =
 
 pub keeps-cancel_owing : (q : Queue) (p k : ℕ) (found : CoreCell) → IsSound q
     → Works q p (doing.Decided k true) k found state.Delegated
-    → Keeps q (moved q (move.cancel_owing p k found)) 0
+    → Keeps q (move_queue q (move.cancel_owing p k found)) 0
 keeps-cancel_owing q p k found sound works =
     let told = told-gone q p k true found sound works.does works.finds in
     keeps-write q p (doing.Decided k true) doing.Owes k found (at_state found state.Cancelled) 0
@@ -292,7 +292,7 @@ keeps-cancel_owing q p k found sound works =
 
 -- no resume has met the cell, and the one that will ends there
 pub keeps-refuse : (q : Queue) (p k : ℕ) (found : CoreCell) → IsSound q
-    → Works q p (doing.Decided k false) k found state.Cancelling → Keeps q (moved q (move.refuse p k found)) 0
+    → Works q p (doing.Decided k false) k found state.Cancelling → Keeps q (move_queue q (move.refuse p k found)) 0
 keeps-refuse q p k found sound works =
     let told = told-gone q p k false found sound works.does works.finds in
     let after : List Doing = set q.doing p doing.Idle in
@@ -320,7 +320,7 @@ keeps-refuse q p k found sound works =
 
 -- a resume left its value to the canceller: it ends with the cell
 pub keeps-refuse_left : (q : Queue) (p k : ℕ) (found : CoreCell) → IsSound q
-    → Works q p (doing.Decided k false) k found state.Delegated → Keeps q (moved q (move.refuse p k found)) 1
+    → Works q p (doing.Decided k false) k found state.Delegated → Keeps q (move_queue q (move.refuse p k found)) 1
 keeps-refuse_left q p k found sound works =
     let told = told-gone q p k false found sound works.does works.finds in
     let after : List Doing = set q.doing p doing.Idle in

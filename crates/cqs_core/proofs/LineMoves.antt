@@ -5,13 +5,13 @@ use Rattle.cqs_core.specs.declared.cells.CoreState.{CoreState}
 use Rattle.cqs_core.specs.declared.cells.CoreState.TheVariants as state
 use Rattle.cqs_core.specs.declared.doings.Doing.{Doing}
 use Rattle.cqs_core.specs.declared.doings.Doing.TheVariants as doing
-use Rattle.cqs_core.specs.Numbered.{picked, IsIn}
-use Rattle.cqs_core.specs.Keyed.{placed}
+use Rattle.cqs_core.specs.Numbered.{pick_each, IsIn}
+use Rattle.cqs_core.specs.Keyed.{insert_by}
 use Rattle.cqs_core.specs.QueueState.{Queue, owner_doing, is_leaving}
 use Rattle.cqs_core.specs.QueueLine.{at_door, door, in_line, stays_in_line, waiting_of, line, going, ending, due, is_resuming, is_told_refused}
 use Rattle.cqs_core.specs.QueueWaiters.{waiters, comes, goes}
 use Rattle.cqs_core.specs.QueueMoves as move
-use Rattle.cqs_core.specs.QueueMoves.{IsCancelling, moved}
+use Rattle.cqs_core.specs.QueueMoves.{IsCancelling, move_queue}
 use Rattle.cqs_core.specs.QueueSound.{IsSound, IsOwn}
 use Rattle.cqs_core.proofs.Counts.{bit}
 use Rattle.cqs_core.proofs.QueueServes.{waiting}
@@ -31,12 +31,12 @@ pub record ComesToDoor (q r : Queue) (p : ℕ) : Type 0 where
   pub ending : ending r ≡ ending q
 
 pub turn-door : (q : Queue) (p : ℕ) → slice_get q.doing p ≡ Some doing.Idle
-    → ComesToDoor q (moved q (move.turn p doing.Idle doing.Door)) p
+    → ComesToDoor q (move_queue q (move.turn p doing.Idle doing.Door)) p
 turn-door q p does =
     let ways = ways-turn q p doing.Idle doing.Door does (λ m. refl) in
-    let came : door (moved q (move.turn p doing.Idle doing.Door)) ≡ placed caller p (door q) =
+    let came : door (move_queue q (move.turn p doing.Idle doing.Door)) ≡ insert_by caller p (door q) =
     around-came caller p _ _ _ _ (door-around q.doing p doing.Idle doing.Door does) p refl refl refl in
-    let lines : line (moved q (move.turn p doing.Idle doing.Door)) ≡ line q =
+    let lines : line (move_queue q (move.turn p doing.Idle doing.Door)) ≡ line q =
     line-turn q.doing q.cells p doing.Idle doing.Door does (λ k. refl) in
     record {
       waiters = same-waiters came lines refl refl;
@@ -52,7 +52,7 @@ pub record BeginsResume (q r : Queue) : Type 0 where
   pub ending : ending r ≡ ending q
 
 pub turn-owes : (q : Queue) (p : ℕ) → slice_get q.doing p ≡ Some doing.Idle
-    → BeginsResume q (moved q (move.turn p doing.Idle doing.Owes))
+    → BeginsResume q (move_queue q (move.turn p doing.Idle doing.Owes))
 turn-owes q p does =
     let ways = ways-turn q p doing.Idle doing.Owes does (λ m. refl) in
     record {
@@ -78,7 +78,7 @@ stays-leaving k state.Delegated o at leaves = leaves
 stays-leaving k _ o at leaves = absurd at
 
 pub decide-leaves : (q : Queue) (p k : ℕ) (on : Bool) → IsSound q → slice_get q.doing p ≡ Some (doing.Leaving k)
-    → LeavesLine q (moved q (move.decide p k on)) k p (bit (is_told_refused (doing.Decided k on)))
+    → LeavesLine q (move_queue q (move.decide p k on)) k p (bit (is_told_refused (doing.Decided k on)))
 decide-leaves q p k on sound does =
     let to : Doing = doing.Decided k on in
     let after : List Doing = set q.doing p to in
@@ -97,14 +97,14 @@ decide-leaves q p k on sound does =
     ap₂ (waiting_of k) own.owner (stays-leaving k cell.state (owner_doing q.doing cell) own.at was_leaving) in
     let gone : in_line after k cell ≡ None =
     ap₂ (waiting_of k) own.owner (stays-not k cell.state (owner_doing after cell) own.at is_decided) in
-    let went : Around wait_of k (line q) (picked (in_line after) 0 q.cells) (in_line q.doing k cell)
+    let went : Around wait_of k (line q) (pick_each (in_line after) 0 q.cells) (in_line q.doing k cell)
     (in_line after k cell) =
     subst (λ (cells : List CoreCell).
-    Around wait_of k (line q) (picked (in_line after) 0 cells) (in_line q.doing k cell) (in_line after k cell))
+    Around wait_of k (line q) (pick_each (in_line after) 0 cells) (in_line q.doing k cell) (in_line after k cell))
     (set-same q.cells k cell own.found)
     (line-around q.doing q.cells p (doing.Leaving k) to k cell cell does own.found
     (λ m other. decided-other k m on other)) in
-    let doors : door (moved q (move.decide p k on)) ≡ door q =
+    let doors : door (move_queue q (move.decide p k on)) ≡ door q =
     around-kept caller p _ _ _ _ (door-around q.doing p (doing.Leaving k) to does) (decided-door p k on) in
     let fewer = around-shorter wait_of k _ _ _ _ went (waiting k p) waits gone in
     record {

@@ -6,7 +6,7 @@ use Rattle.cqs_core.specs.declared.cells.CoreState.{CoreState}
 use Rattle.cqs_core.specs.declared.cells.CoreState.TheVariants as state
 use Rattle.cqs_core.specs.declared.doings.Doing.{Doing}
 use Rattle.cqs_core.specs.declared.doings.Doing.TheVariants as doing
-use Rattle.cqs_core.specs.Numbered.{picked}
+use Rattle.cqs_core.specs.Numbered.{pick_each}
 use Rattle.cqs_core.specs.QueueState.{owner_doing, is_leaving}
 use Rattle.cqs_core.specs.QueueLine.{Waiting, Service, at_door, stays_in_line, waiting_of, in_line, service_of, is_served}
 use Rattle.cqs_core.proofs.Keys.{Around}
@@ -82,7 +82,7 @@ in_line-frame passes p from to k cell does same =
 pub line-turn : (passes : List Doing) (cells : List CoreCell) (p : ℕ) (from to : Doing)
     → slice_get passes p ≡ Some from
     → ((k : ℕ) → is_leaving k (Some to) ≡ is_leaving k (Some from))
-    → picked (in_line (set passes p to)) 0 cells ≡ picked (in_line passes) 0 cells
+    → pick_each (in_line (set passes p to)) 0 cells ≡ pick_each (in_line passes) 0 cells
 line-turn passes cells p from to does same =
     sym (picked-same (in_line passes) (in_line (set passes p to))
     (λ k cell. in_line-frame passes p from to k cell does (same k)) 0 cells)
@@ -92,8 +92,8 @@ pub line-around : (passes : List Doing) (cells : List CoreCell) (p : ℕ) (from 
     (found new : CoreCell)
     → slice_get passes p ≡ Some from → slice_get cells k ≡ Some found
     → ((m : ℕ) → m ≢ k → is_leaving m (Some to) ≡ is_leaving m (Some from))
-    → Around wait_of k (picked (in_line passes) 0 cells)
-    (picked (in_line (set passes p to)) 0 (set cells k new))
+    → Around wait_of k (pick_each (in_line passes) 0 cells)
+    (pick_each (in_line (set passes p to)) 0 (set cells k new))
     (in_line passes k found) (in_line (set passes p to) k new)
 line-around passes cells p from to k found new does finds same =
     let agree : AgreeBut (in_line passes) (in_line (set passes p to)) k =
@@ -103,7 +103,7 @@ line-around passes cells p from to k found new does finds same =
     (omega arith) finds
 
 pub served-around : (cells : List CoreCell) (k : ℕ) (found new : CoreCell) → slice_get cells k ≡ Some found
-    → Around service_wait k (picked is_served 0 cells) (picked is_served 0 (set cells k new))
+    → Around service_wait k (pick_each is_served 0 cells) (pick_each is_served 0 (set cells k new))
     (is_served k found) (is_served k new)
 served-around cells k found new finds =
     picked-around is_served is_served service_wait served-keyed k (record { at = λ m cell other. refl }) 0
@@ -111,7 +111,7 @@ served-around cells k found new finds =
     (omega arith) finds
 
 pub door-around : (passes : List Doing) (p : ℕ) (from to : Doing) → slice_get passes p ≡ Some from
-    → Around caller p (picked at_door 0 passes) (picked at_door 0 (set passes p to)) (at_door p from)
+    → Around caller p (pick_each at_door 0 passes) (pick_each at_door 0 (set passes p to)) (at_door p from)
     (at_door p to)
 door-around passes p from to does =
     picked-around at_door at_door caller door-keyed p (record { at = λ m d other. refl }) 0 passes p from to

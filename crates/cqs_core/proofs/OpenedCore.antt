@@ -9,16 +9,16 @@ use Rattle.cqs_core.specs.declared.events.Event.{Event}
 use Rattle.cqs_core.specs.QueueState.{Queue}
 use Rattle.cqs_core.specs.QueueLine.{going, ending, ready}
 use Rattle.cqs_core.specs.SemaphoreTable.{Shape, Stepped, step}
-use Rattle.cqs_core.specs.SemaphoreShown.{IsCore, IsSize, opened, shown}
-use Rattle.cqs_core.specs.SemaphoreRuns.{Step, makes, hands_over, handed, hand_over, shape_of, run_step, run, EveryRunIsLegal}
+use Rattle.cqs_core.specs.SemaphoreShown.{IsCore, IsSize, opening_shape, shown_semaphore}
+use Rattle.cqs_core.specs.SemaphoreRuns.{Step, makes, hands_over, held_after, hand_over, shape_of, run_step, run, EveryRunIsLegal}
 use Rattle.cqs_core.specs.QueueWaiters.{waiters, no_waiters}
 use Rattle.cqs_core.proofs.CoreFrame.{same-by_waiters}
 use Rattle.cqs_core.proofs.QueueOpens.{get-replicate, sum-replicate, opened-sound, opened-waiters, opened-due, opened-going, opened-ending}
 use Rattle.cqs_core.proofs.StepKeeps.{row-core}
 
-pub opened-core : (permits passes : ℕ) → IsSize permits passes → IsCore (opened permits passes)
+pub opened-core : (permits passes : ℕ) → IsSize permits passes → IsCore (opening_shape permits passes)
 opened-core permits passes size =
-    let q : Queue = (opened permits passes).queue in
+    let q : Queue = (opening_shape permits passes).queue in
     let nobody : waiters q ≡ no_waiters = opened-waiters 0 passes in
     let none_held : sum (replicate passes 0) ≡ 0 = sum-replicate passes in
     let going_none : going q ≡ 0 = opened-going 0 passes in
@@ -51,7 +51,7 @@ opened-core permits passes size =
 -- What one pass gives, another has: the sum stays.
 handed-sum : (held : List ℕ) (from to many : ℕ) → from < length held → to < length held
     → many ≤ get_or held from 0
-    → sum (handed held from to many) ≡ sum held
+    → sum (held_after held from to many) ≡ sum held
 handed-sum held from to many there other enough =
     let rest : List ℕ = set held from (get_or held from 0 - many) in
     let less = sum_by-set (λ n. n) held from (get_or held from 0 - many) 0 there in
@@ -59,7 +59,7 @@ handed-sum held from to many there other enough =
     let more = sum_by-set (λ n. n) rest to (get_or rest to 0 + many) 0 (omega arith) in
     omega arith
 
-handed-length : (held : List ℕ) (from to many : ℕ) → length (handed held from to many) ≡ length held
+handed-length : (held : List ℕ) (from to many : ℕ) → length (held_after held from to many) ≡ length held
 handed-length held from to many =
     let rest : List ℕ = set held from (get_or held from 0 - many) in
     length-set rest to (get_or rest to 0 + many) ∙ length-set held from (get_or held from 0 - many)
@@ -82,7 +82,7 @@ hands-core s held core long same =
       loaded = core.loaded;
       holders = long ∙ core.holders;
       legal = core.legal;
-      object = core.object ∙ ap (λ n. record (shown s) { held = n + ready s.queue }) (sym same);
+      object = core.object ∙ ap (λ n. record (shown_semaphore s) { held = n + ready s.queue }) (sym same);
       short = core.short;
       conserved = rw same core.conserved;
     }
@@ -96,7 +96,7 @@ hand_over-core s next from to many core given = go (may from to many) refl given
         nat_lt from (length s.held) && (nat_lt to (length s.held) && nat_le many (slice_index s.held from))
 
     after : Shape
-    after = record s { held = handed s.held from to many }
+    after = record s { held = held_after s.held from to many }
 
     go : (b : Bool) → may from to many ≡ b → (if b then Some after else None) ≡ Some next → IsCore next
     go false test given = absurd (cc)
@@ -110,7 +110,7 @@ hand_over-core s next from to many core given = go (may from to many) refl given
         let enough : many ≤ slice_index s.held from = leb-true many (slice_index s.held from) rest.1 in
         let is : after ≡ next = cc in
         subst (λ (x : Shape). IsCore x) is
-        (hands-core s (handed s.held from to many) core (handed-length s.held from to many)
+        (hands-core s (held_after s.held from to many) core (handed-length s.held from to many)
         (handed-sum s.held from to many there other enough))
 
 -- an event that is made
@@ -138,4 +138,4 @@ run-core (t ∷ steps) s last core ran = go (run_step s t) refl ran (λ next. ru
 
 pub every-run-is-legal : EveryRunIsLegal
 every-run-is-legal permits passes size steps s ran =
-    run-core steps (opened permits passes) s (opened-core permits passes size) ran
+    run-core steps (opening_shape permits passes) s (opened-core permits passes size) ran

@@ -1,7 +1,7 @@
 -- What `picked` reads off a list becomes, after a write, a push, or by another reading.
 use Rattle.std.proofs.Common.{◌≡◌, ◌≢◌, ◌⊎◌, inl, inr, ℕ, zero, suc, ◌+◌, ◌<◌, ◌≤◌, List, [], ◌∷◌, ◌++◌, Option, Some, None, length, set, slice_get, refl, ap, ap₂, sym, ◌∙◌, arith}
 use Rattle.std.proofs.lemmas.Bool.{cases_lt}
-use Rattle.cqs_core.specs.Numbered.{cons_option, picked, IsIn}
+use Rattle.cqs_core.specs.Numbered.{cons_option, pick_each, IsIn}
 use Rattle.cqs_core.proofs.Keys.{AllBelow, AllAbove, Around}
 
 -- what is read has its element's number for a key
@@ -37,33 +37,33 @@ module _ {Y : Type 0} where
 
 module _ {X Y : Type 0} where
   pub picked-same : (f g : ℕ → X → Option Y) → ((n : ℕ) (x : X) → f n x ≡ g n x)
-      → (k : ℕ) (xs : List X) → picked f k xs ≡ picked g k xs
+      → (k : ℕ) (xs : List X) → pick_each f k xs ≡ pick_each g k xs
   picked-same f g same k [] = refl
   picked-same f g same k (x ∷ xs) = ap₂ cons_option (same k x) (picked-same f g same (suc k) xs)
 
   -- behind number n the two read the same
   pub picked-behind : (f g : ℕ → X → Option Y) (n : ℕ) → AgreeBut f g n
-      → (k : ℕ) (xs : List X) → n < k → picked f k xs ≡ picked g k xs
+      → (k : ℕ) (xs : List X) → n < k → pick_each f k xs ≡ pick_each g k xs
   picked-behind f g n agree k [] past = refl
   picked-behind f g n agree k (x ∷ xs) past =
       let other : k ≢ n = λ e. omega arith in
       ap₂ cons_option (agree.at k x other) (picked-behind f g n agree (suc k) xs (omega arith))
 
   pub picked-high : (f : ℕ → X → Option Y) (key : Y → ℕ) → IsKeyed f key
-      → (n k : ℕ) (xs : List X) → n < k → AllAbove key n (picked f k xs)
+      → (n k : ℕ) (xs : List X) → n < k → AllAbove key n (pick_each f k xs)
   picked-high f key keyed n k [] past = tt
   picked-high f key keyed n k (x ∷ xs) past =
-      high-cons key n (f k x) (picked f (suc k) xs)
+      high-cons key n (f k x) (pick_each f (suc k) xs)
       (λ y some. let here : key y ≡ k = keyed.at k x y some in omega arith)
       (picked-high f key keyed n (suc k) xs (omega arith))
 
   -- all keys are below n, where nothing is read from number n on
   pub picked-low : (f : ℕ → X → Option Y) (key : Y → ℕ) → IsKeyed f key → (n k : ℕ) (xs : List X)
       → ((i m : ℕ) (x : X) → m ≡ k + i → slice_get xs i ≡ Some x → n ≤ m → f m x ≡ None)
-      → AllBelow key n (picked f k xs)
+      → AllBelow key n (pick_each f k xs)
   picked-low f key keyed n k [] none = tt
   picked-low f key keyed n k (x ∷ xs) none =
-      low-cons key n (f k x) (picked f (suc k) xs) (λ y some. below y some (cases_lt k n))
+      low-cons key n (f k x) (pick_each f (suc k) xs) (λ y some. below y some (cases_lt k n))
       (picked-low f key keyed n (suc k) xs (λ i m z at got past. none (suc i) m z (omega arith) got past))
     where
       below : (y : Y) → f k x ≡ Some y → (k < n) ⊎ (n ≤ k) → key y < n
@@ -73,17 +73,17 @@ module _ {X Y : Type 0} where
   -- a write at number n, and a reading that differs at n alone
   pub picked-around : (f g : ℕ → X → Option Y) (key : Y → ℕ) → IsKeyed f key → (n : ℕ) → AgreeBut f g n
       → (k : ℕ) (xs : List X) (i : ℕ) (old new : X) → n ≡ k + i → slice_get xs i ≡ Some old
-      → Around key n (picked f k xs) (picked g k (set xs i new)) (f n old) (g n new)
+      → Around key n (pick_each f k xs) (pick_each g k (set xs i new)) (f n old) (g n new)
   picked-around f g key keyed n agree k [] i old new at there = absurd (cc)
   picked-around f g key keyed n agree k (x ∷ xs) zero old new at there =
       let here : k ≡ n = omega arith in
       let first : x ≡ old = cc in
-      let behind : picked g (suc k) xs ≡ picked f (suc k) xs =
+      let behind : pick_each g (suc k) xs ≡ pick_each f (suc k) xs =
       sym (picked-behind f g n agree (suc k) xs (omega arith)) in
       record {
         front = [];
-        back = picked f (suc k) xs;
-        was = ap₂ (λ m y. cons_option (f m y) (picked f (suc k) xs)) here first;
+        back = pick_each f (suc k) xs;
+        was = ap₂ (λ m y. cons_option (f m y) (pick_each f (suc k) xs)) here first;
         is = ap₂ (λ m ys. cons_option (g m new) ys) here behind;
         low = tt;
         high = picked-high f key keyed n (suc k) xs (omega arith);
@@ -106,19 +106,19 @@ module _ {X Y : Type 0} where
 
   -- one more element
   pub picked-push : (f : ℕ → X → Option Y) (k : ℕ) (xs : List X) (x : X) (n : ℕ) → n ≡ k + length xs
-      → picked f k (xs ++ x ∷ []) ≡ picked f k xs ++ cons_option (f n x) []
+      → pick_each f k (xs ++ x ∷ []) ≡ pick_each f k xs ++ cons_option (f n x) []
   picked-push f k [] x n at = let here : k ≡ n = omega arith in ap (λ m. cons_option (f m x) []) here
   picked-push f k (z ∷ xs) x n at =
       ap (cons_option (f k z)) (picked-push f (suc k) xs x n (omega arith))
-      ∙ cons-append (f k z) (picked f (suc k) xs) (cons_option (f n x) [])
+      ∙ cons-append (f k z) (pick_each f (suc k) xs) (cons_option (f n x) [])
 
   -- what is read off an element is in the list
   pub picked-in : (f : ℕ → X → Option Y) (k : ℕ) (xs : List X) (i n : ℕ) (x : X) (y : Y)
-      → n ≡ k + i → slice_get xs i ≡ Some x → f n x ≡ Some y → IsIn y (picked f k xs)
+      → n ≡ k + i → slice_get xs i ≡ Some x → f n x ≡ Some y → IsIn y (pick_each f k xs)
   picked-in f k [] i n x y at there some = absurd (cc)
   picked-in f k (z ∷ xs) zero n x y at there some =
       let first : z ≡ x = cc in
       let here : k ≡ n = omega arith in
-      in-front (f k z) y (picked f (suc k) xs) (ap₂ f here first ∙ some)
+      in-front (f k z) y (pick_each f (suc k) xs) (ap₂ f here first ∙ some)
   picked-in f k (z ∷ xs) (suc i) n x y at there some =
-      in-behind (f k z) y (picked f (suc k) xs) (picked-in f (suc k) xs i n x y (omega arith) there some)
+      in-behind (f k z) y (pick_each f (suc k) xs) (picked-in f (suc k) xs i n x y (omega arith) there some)

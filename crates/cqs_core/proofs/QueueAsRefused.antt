@@ -14,7 +14,7 @@ use Rattle.cqs_core.specs.Numbered.{IsIn}
 use Rattle.cqs_core.specs.QueueLine.{line, going, ending, due}
 use Rattle.cqs_core.specs.QueueAsRefused.{refused_state, refused_cell, all_refused, as_refused}
 use Rattle.cqs_core.specs.QueueMoves as move
-use Rattle.cqs_core.specs.QueueMoves.{IsCancelling, Works, Owns, moved, with_cell, cells_drawn, cells_reached, at_state}
+use Rattle.cqs_core.specs.QueueMoves.{IsCancelling, Works, Owns, move_queue, with_cell, cells_drawn, cells_reached, at_state}
 use Rattle.cqs_core.specs.QueueWaiters.{Waiters, waiters, goes, due_of}
 use Rattle.cqs_core.proofs.HiddenMoves.{Keeps, keeps-begin_cancel, keeps-refuse}
 use Rattle.cqs_core.proofs.LineMoves.{LeavesLine, decide-leaves}
@@ -214,10 +214,10 @@ simply-left q p k found sound w owns =
     cell = at_state found state.Cancelling
 
     first : Queue
-    first = moved q (move.begin_cancel p k found)
+    first = move_queue q (move.begin_cancel p k found)
 
     second : Queue
-    second = moved first (move.decide p k false)
+    second = move_queue first (move.decide p k false)
 
     begins : Keeps q first 0
     begins = keeps-begin_cancel q p k found w owns
@@ -240,7 +240,7 @@ simply-left q p k found sound w owns =
     told : slice_get second.doing p ≡ Some (doing.Decided k false)
     told = get-set_here first.doing p (doing.Leaving k) (doing.Decided k false) leaving
 
-    refuses : Keeps second (moved second (move.refuse p k cell)) 0
+    refuses : Keeps second (move_queue second (move.refuse p k cell)) 0
     refuses = keeps-refuse second p k cell sound_second (record { does = told; finds = finds; at = refl })
 
     doings : set (set (set q.doing p (doing.Leaving k)) p (doing.Decided k false)) p doing.Idle ≡ q.doing
@@ -251,5 +251,5 @@ simply-left q p k found sound w owns =
     cells : set (set q.cells k cell) k (at_state cell state.Refused) ≡ set q.cells k (at_state found state.Refused)
     cells = set-set q.cells k cell (at_state cell state.Refused)
 
-    whole : moved second (move.refuse p k cell) ≡ with_cell q k (at_state found state.Refused)
+    whole : move_queue second (move.refuse p k cell) ≡ with_cell q k (at_state found state.Refused)
     whole = λ i. record { suspends = q.suspends; resumes = q.resumes; cells = cells i; doing = doings i }

@@ -7,11 +7,11 @@ use Rattle.cqs_core.specs.declared.cells.CoreState.TheVariants as state
 use Rattle.cqs_core.specs.declared.doings.Doing.{Doing}
 use Rattle.cqs_core.specs.declared.doings.Doing.TheVariants as doing
 use Rattle.cqs_core.specs.Numbered.{cons_option, IsIn}
-use Rattle.cqs_core.specs.Keyed.{placed, without}
+use Rattle.cqs_core.specs.Keyed.{insert_by, without}
 use Rattle.cqs_core.specs.QueueState.{Queue}
-use Rattle.cqs_core.specs.QueueLine.{Waiting, Service, at_door, door, in_line, waiting_of, line, service_of, is_served, served, is_resuming, is_told_refused, has_left, is_unmet, going, ending, due}
+use Rattle.cqs_core.specs.QueueLine.{Waiting, Service, at_door, door, in_line, waiting_of, line, service_of, is_served, services, is_resuming, is_told_refused, has_left, is_unmet, going, ending, due}
 use Rattle.cqs_core.specs.QueueMoves as move
-use Rattle.cqs_core.specs.QueueMoves.{Works, moved, now_doing, with_cell, at_state}
+use Rattle.cqs_core.specs.QueueMoves.{Works, move_queue, now_doing, with_cell, at_state}
 use Rattle.cqs_core.specs.QueueSound.{IsSound, IsSoundAt, IsOwn, IsUntaken, IsTicket}
 use Rattle.cqs_core.specs.QueueWaiters.{find_wait, with_service, waiters, is_reached}
 use Rattle.cqs_core.proofs.Counts.{bit}
@@ -84,7 +84,7 @@ hands-over q p from k c found new writes hands =
     around-went wait_of k _ _ _ _ went (waiting k c) hands.waits hands.gone refl in
     let here : find_wait k (line q) ≡ Some (waiting k c) =
     find-went k _ _ _ _ (waiting k c) went hands.waits refl in
-    let serves : served r ≡ placed service_wait (service k c true) (served q) =
+    let serves : services r ≡ insert_by service_wait (service k c true) (services q) =
     around-came service_wait k _ _ _ _ (served-around q.cells k found new writes.finds) (service k c true)
     hands.unserved hands.serves refl in
     let fewer = around-shorter wait_of k _ _ _ _ went (waiting k c) hands.waits hands.gone in
@@ -94,7 +94,7 @@ hands-over q p from k c found new writes hands =
       waits = hands.waits;
       reached = hands.reached;
       here = here;
-      waiters = same-waiters doors lines refl (serves ∙ ap (λ w. with_service w (served q)) (sym here));
+      waiters = same-waiters doors lines refl (serves ∙ ap (λ w. with_service w (services q)) (sym here));
       shorter = fewer;
       due = omega (arith, fewer, ap length doors);
       going = omega (arith, ways.goes, going_one);
@@ -112,7 +112,7 @@ drawn-own q p k found sound does finds =
 
 -- a suspend takes the value that a resume left
 pub serves-take_value : (q : Queue) (p k : ℕ) (found : CoreCell) → IsSound q
-    → Works q p (doing.Drawn k) k found state.Value → Serves q (moved q (move.take_value p k found)) k p
+    → Works q p (doing.Drawn k) k found state.Value → Serves q (move_queue q (move.take_value p k found)) k p
 serves-take_value q p k found sound works =
     let owner : found.owner ≡ Some p = drawn-own q p k found sound works.does works.finds in
     let cell : IsSoundAt q k found state.Value =
@@ -134,7 +134,7 @@ serves-take_value q p k found sound works =
 -- a resume serves a waiter: the wait is that of the cell's owner
 serve-owner : (q : Queue) (p k c : ℕ) (found : CoreCell) → IsSound q
     → Works q p (doing.Ticket k) k found state.Waiter → found.owner ≡ Some c → found.collected ≡ false
-    → Serves q (moved q (move.serve p k found)) k c
+    → Serves q (move_queue q (move.serve p k found)) k c
 serve-owner q p k c found sound works owner uncollected =
     let ticket : IsTicket q k = sound.passes.at p (doing.Ticket k) works.does in
     hands-over q p (doing.Ticket k) k c found (at_state found state.Resumed)
@@ -152,7 +152,7 @@ serve-owner q p k c found sound works owner uncollected =
 
 pub serves-serve : (q : Queue) (p k : ℕ) (found : CoreCell) → IsSound q
     → Works q p (doing.Ticket k) k found state.Waiter
-    → (c : ℕ) × Serves q (moved q (move.serve p k found)) k c
+    → (c : ℕ) × Serves q (move_queue q (move.serve p k found)) k c
 serves-serve q p k found sound works =
     let cell : IsSoundAt q k found state.Waiter =
     subst (λ (s : CoreState). IsSoundAt q k found s) works.at (sound.cells.at k found works.finds) in

@@ -10,7 +10,7 @@ use Rattle.cqs_core.specs.declared.doings.Doing.{Doing}
 use Rattle.cqs_core.specs.declared.doings.Doing.TheVariants as doing
 use Rattle.cqs_core.specs.QueueState.{Queue, has_ticket, is_ticket, fresh_cell}
 use Rattle.cqs_core.specs.QueueMoves as move
-use Rattle.cqs_core.specs.QueueMoves.{Move, IsOpen, IsLight, IsClear, IsCancelling, Works, moved, at_state}
+use Rattle.cqs_core.specs.QueueMoves.{Move, IsOpen, IsLight, IsClear, IsCancelling, Works, move_queue, at_state}
 use Rattle.cqs_core.specs.QueueSound.{IsSound, IsSoundAt, IsTicket, IsUnended}
 use Rattle.cqs_core.proofs.Places.{push-back, get-set_here, get-set_else, get-append_left}
 use Rattle.cqs_core.proofs.HiddenMoves.{no-other-ticket}
@@ -54,21 +54,21 @@ record StaysAround (q r : Queue) (k : ℕ) : Type 0 where
   met : (j : ℕ) → j ≢ k → IsMet q j → IsMet r j
   back : (j : ℕ) → j ≢ k → IsMet r j → IsMet q j
 
-settling : (q : Queue) (m : Move) (k : ℕ) → StaysAround q (moved q m) k
-    → (IsSettled q k → IsSettled (moved q m) k)
-    → (IsSettled (moved q m) k → IsSettled q k ⊎ Settles m k)
+settling : (q : Queue) (m : Move) (k : ℕ) → StaysAround q (move_queue q m) k
+    → (IsSettled q k → IsSettled (move_queue q m) k)
+    → (IsSettled (move_queue q m) k → IsSettled q k ⊎ Settles m k)
     → ((j : ℕ) → Settles m j → j ≡ k)
-    → (Settles m k → IsSettled (moved q m) k × (IsSettled q k → ⊥))
+    → (Settles m k → IsSettled (move_queue q m) k × (IsSettled q k → ⊥))
     → IsSettling q m
 settling q m k around stays by only once = record {
   stays = λ j s. dite (ℕ_discrete j k)
-      (λ (e : j ≡ k). subst (IsSettled (moved q m)) (sym e) (stays (subst (IsSettled q) e s)))
-      (λ (a : j ≢ k). same-cell q (moved q m) j (around.cells j a) (around.met j a) s);
+      (λ (e : j ≡ k). subst (IsSettled (move_queue q m)) (sym e) (stays (subst (IsSettled q) e s)))
+      (λ (a : j ≢ k). same-cell q (move_queue q m) j (around.cells j a) (around.met j a) s);
   by = λ j s. dite (ℕ_discrete j k)
-      (λ (e : j ≡ k). subst (λ z. IsSettled q z ⊎ Settles m z) (sym e) (by (subst (IsSettled (moved q m)) e s)))
-      (λ (a : j ≢ k). inl (same-cell (moved q m) q j (sym (around.cells j a)) (around.back j a) s));
+      (λ (e : j ≡ k). subst (λ z. IsSettled q z ⊎ Settles m z) (sym e) (by (subst (IsSettled (move_queue q m)) e s)))
+      (λ (a : j ≢ k). inl (same-cell (move_queue q m) q j (sym (around.cells j a)) (around.back j a) s));
   once = λ j s. let e = only j s in
-      subst (λ z. IsSettled (moved q m) z × (IsSettled q z → ⊥)) (sym e) (once (subst (Settles m) e s));
+      subst (λ z. IsSettled (move_queue q m) z × (IsSettled q z → ⊥)) (sym e) (once (subst (Settles m) e s));
 }
 
 -- the pass goes from one doing to another, neither with another ticket than that of k
@@ -99,71 +99,71 @@ around-turn p k old d q r t is = record {
 
 -- A cell is written, by a move that doesn't settle: it was unsettled, and is.
 writes : (q : Queue) (m : Move) (p k : ℕ) (old d : Doing) (found new : CoreCell) (x y : CoreState)
-    → Turns p k old d q (moved q m)
-    → (moved q m).cells ≡ set q.cells k new → slice_get q.cells k ≡ Some found → found.state ≡ x → new.state ≡ y
-    → (IsSettledAt q k found x → ⊥) → (IsSettledAt (moved q m) k new y → ⊥) → ((j : ℕ) → Settles m j → ⊥)
+    → Turns p k old d q (move_queue q m)
+    → (move_queue q m).cells ≡ set q.cells k new → slice_get q.cells k ≡ Some found → found.state ≡ x → new.state ≡ y
+    → (IsSettledAt q k found x → ⊥) → (IsSettledAt (move_queue q m) k new y → ⊥) → ((j : ℕ) → Settles m j → ⊥)
     → IsSettling q m
 writes q m p k old d found new x y t is there was now before after none-settled =
-    let here : slice_get (moved q m).cells k ≡ Some new =
+    let here : slice_get (move_queue q m).cells k ≡ Some new =
     ap (λ (l : List CoreCell). slice_get l k) is ∙ get-set_here q.cells k found new there in
-    settling q m k (around-write p k old d q (moved q m) new t is)
+    settling q m k (around-write p k old d q (move_queue q m) new t is)
     (λ s. absurd (unsettled q k found x there was before s))
-    (λ s. absurd (unsettled (moved q m) k new y here now after s))
+    (λ s. absurd (unsettled (move_queue q m) k new y here now after s))
     (λ j s. absurd (none-settled j s))
     (λ s. absurd (none-settled k s))
 
 -- A cell is written, by a move that settles it.
 writes-settles : (q : Queue) (m : Move) (p k : ℕ) (old d : Doing) (found new : CoreCell) (x y : CoreState)
-    → Turns p k old d q (moved q m)
-    → (moved q m).cells ≡ set q.cells k new → slice_get q.cells k ≡ Some found → found.state ≡ x → new.state ≡ y
-    → (IsSettledAt q k found x → ⊥) → IsSettledAt (moved q m) k new y → ((j : ℕ) → Settles m j → j ≡ k) → Settles m k
+    → Turns p k old d q (move_queue q m)
+    → (move_queue q m).cells ≡ set q.cells k new → slice_get q.cells k ≡ Some found → found.state ≡ x → new.state ≡ y
+    → (IsSettledAt q k found x → ⊥) → IsSettledAt (move_queue q m) k new y → ((j : ℕ) → Settles m j → j ≡ k) → Settles m k
     → IsSettling q m
 writes-settles q m p k old d found new x y t is there was now before after only settles =
-    let here : slice_get (moved q m).cells k ≡ Some new =
+    let here : slice_get (move_queue q m).cells k ≡ Some new =
     ap (λ (l : List CoreCell). slice_get l k) is ∙ get-set_here q.cells k found new there in
-    let done : IsSettled (moved q m) k =
-    record { cell = new; there = here; at = subst (IsSettledAt (moved q m) k new) (sym now) after } in
-    settling q m k (around-write p k old d q (moved q m) new t is)
+    let done : IsSettled (move_queue q m) k =
+    record { cell = new; there = here; at = subst (IsSettledAt (move_queue q m) k new) (sym now) after } in
+    settling q m k (around-write p k old d q (move_queue q m) new t is)
     (λ s. absurd (unsettled q k found x there was before s))
     (λ s. inr settles) only (λ _. (done, unsettled q k found x there was before))
 
 -- The pass goes on, and the cells stay with their tickets.
 turns : (q : Queue) (m : Move) (p : ℕ) (old d : Doing) → slice_get q.doing p ≡ Some old
-    → (moved q m).doing ≡ set q.doing p d
-    → (moved q m).resumes ≡ q.resumes → (moved q m).cells ≡ q.cells → ((j : ℕ) → is_ticket j d ≡ is_ticket j old)
+    → (move_queue q m).doing ≡ set q.doing p d
+    → (move_queue q m).resumes ≡ q.resumes → (move_queue q m).cells ≡ q.cells → ((j : ℕ) → is_ticket j d ≡ is_ticket j old)
     → ((j : ℕ) → Settles m j → ⊥) → IsSettling q m
 turns q m p old d does now resumes cells tickets none-settled = record {
   stays =
-      λ j s. same-cell q (moved q m) j (ap (λ (l : List CoreCell). slice_get l j) cells)
+      λ j s. same-cell q (move_queue q m) j (ap (λ (l : List CoreCell). slice_get l j) cells)
       (λ u. (let l = u.0 in omega arith, ticket j ∙ u.1)) s;
-  by = λ j s. inl (same-cell (moved q m) q j (sym (ap (λ (l : List CoreCell). slice_get l j) cells))
+  by = λ j s. inl (same-cell (move_queue q m) q j (sym (ap (λ (l : List CoreCell). slice_get l j) cells))
       (λ u. (let l = u.0 in omega arith, sym (ticket j) ∙ u.1)) s);
   once = λ j s. absurd (none-settled j s);
 }
   where
-    ticket : (j : ℕ) → has_ticket j (moved q m).doing ≡ has_ticket j q.doing
+    ticket : (j : ℕ) → has_ticket j (move_queue q m).doing ≡ has_ticket j q.doing
     ticket j = ap (has_ticket j) now ∙ has_ticket-frame q.doing p j old d does (tickets j)
 
 -- An empty cell is made behind the others.
 pushes : (q : Queue) (m : Move) (k : ℕ) (new : CoreCell) → slice_get q.cells k ≡ None
-    → (moved q m).cells ≡ q.cells ++ new ∷ []
-    → new.state ≡ state.Empty → ((j : ℕ) → j ≢ k → IsMet q j → IsMet (moved q m) j)
-    → ((j : ℕ) → j ≢ k → IsMet (moved q m) j → IsMet q j)
+    → (move_queue q m).cells ≡ q.cells ++ new ∷ []
+    → new.state ≡ state.Empty → ((j : ℕ) → j ≢ k → IsMet q j → IsMet (move_queue q m) j)
+    → ((j : ℕ) → j ≢ k → IsMet (move_queue q m) j → IsMet q j)
     → ((j : ℕ) → Settles m j → ⊥) → IsSettling q m
 pushes q m k new nothing is empty met back none-settled = record {
   stays = λ j s. record {
     cell = s.cell;
     there = ap (λ (l : List CoreCell). slice_get l j) is ∙ get-append_left q.cells (new ∷ []) j s.cell s.there;
-    at = same-at q (moved q m) j s.cell s.cell s.cell.state refl (met j (λ e. other j s.cell s.there e)) s.at;
+    at = same-at q (move_queue q m) j s.cell s.cell s.cell.state refl (met j (λ e. other j s.cell s.there e)) s.at;
   };
   by = λ j s. inl (⊎_elim
       (λ (old : slice_get q.cells j ≡ Some s.cell). record {
         cell = s.cell;
         there = old;
-        at = same-at (moved q m) q j s.cell s.cell s.cell.state refl (back j (λ e. other j s.cell old e)) s.at;
+        at = same-at (move_queue q m) q j s.cell s.cell s.cell.state refl (back j (λ e. other j s.cell old e)) s.at;
       })
-      (λ (one : s.cell ≡ new). absurd (subst (λ (c : CoreCell). IsSettledAt (moved q m) j c c.state → ⊥) (sym one)
-      (subst (λ z. IsSettledAt (moved q m) j new z → ⊥) (sym empty) (λ z. z)) s.at))
+      (λ (one : s.cell ≡ new). absurd (subst (λ (c : CoreCell). IsSettledAt (move_queue q m) j c c.state → ⊥) (sym one)
+      (subst (λ z. IsSettledAt (move_queue q m) j new z → ⊥) (sym empty) (λ z. z)) s.at))
       (push-back q.cells new j s.cell (sym (ap (λ (l : List CoreCell). slice_get l j) is) ∙ s.there)));
   once = λ j s. absurd (none-settled j s);
 }
@@ -218,22 +218,22 @@ refuse-by : (q : Queue) (p k : ℕ) (found : CoreCell) → IsSound q → slice_g
 refuse-by q p k found sound does there state.Cancelling is c =
     let m = move.refuse p k found in
     let calm : IsSoundAt q k found state.Cancelling = subst (IsSoundAt q k found) is (sound.cells.at k found there) in
-    let ticket : has_ticket k (moved q m).doing ≡ has_ticket k q.doing =
+    let ticket : has_ticket k (move_queue q m).doing ≡ has_ticket k q.doing =
     has_ticket-frame q.doing p k (doing.Decided k false) doing.Idle does refl in
     let new : CoreCell = at_state found state.Refused in
     let here = get-set_here q.cells k found new there in
-    settling q m k (around-write p k (doing.Decided k false) doing.Idle q (moved q m) new
+    settling q m k (around-write p k (doing.Decided k false) doing.Idle q (move_queue q m) new
     (record { does = does; now = refl; resumes = refl; tickets = λ j a. refl }) refl)
     (λ s. absurd (unsettled q k found state.Cancelling there is (λ z. z) s))
-    (λ s. absurd (unsettled (moved q m) k new state.Refused here refl
-    (λ (u : IsMet (moved q m) k). let open_yet = calm.1 u.0 in
+    (λ s. absurd (unsettled (move_queue q m) k new state.Refused here refl
+    (λ (u : IsMet (move_queue q m) k). let open_yet = calm.1 u.0 in
     let both : true ≡ false = sym open_yet ∙ (sym ticket ∙ u.1) in absurd (cc)) s))
     (λ j s. s.0)
     (λ s. let both : state.Cancelling ≡ state.Delegated = sym is ∙ s.1 in absurd (cc))
 refuse-by q p k found sound does there state.Delegated is c =
     let m = move.refuse p k found in
     let calm : IsSoundAt q k found state.Delegated = subst (IsSoundAt q k found) is (sound.cells.at k found there) in
-    let ticket : has_ticket k (moved q m).doing ≡ has_ticket k q.doing =
+    let ticket : has_ticket k (move_queue q m).doing ≡ has_ticket k q.doing =
     has_ticket-frame q.doing p k (doing.Decided k false) doing.Idle does refl in
     let closed : has_ticket k q.doing ≡ false =
     has_ticket-none q.doing k (λ r e.
@@ -260,30 +260,30 @@ moves-settle q (move.turn p from to) sound opens =
     (λ j. light-ticket j to opens.2 ∙ sym (clear-ticket j from opens.1)) (λ j s. s)
 moves-settle q (move.draw p k None) sound opens =
     let m = move.draw p k None in
-    let ticket : (j : ℕ) → has_ticket j (moved q m).doing ≡ has_ticket j q.doing =
+    let ticket : (j : ℕ) → has_ticket j (move_queue q m).doing ≡ has_ticket j q.doing =
     λ j. has_ticket-frame q.doing p j doing.Door (doing.Drawn k) opens.0 refl in
     pushes q m k (record { state = state.Empty; owner = Some p; collected = false }) opens.2 refl refl
     (λ j a u. (u.0, ticket j ∙ u.1)) (λ j a u. (u.0, sym (ticket j) ∙ u.1)) (λ j s. s)
 moves-settle q (move.draw p k (Some found)) sound opens =
     let m = move.draw p k (Some found) in
     let new : CoreCell = record { state = found.state; owner = Some p; collected = found.collected } in
-    let t : Turns p k doing.Door (doing.Drawn k) q (moved q m) =
+    let t : Turns p k doing.Door (doing.Drawn k) q (move_queue q m) =
     record { does = opens.0; now = refl; resumes = refl; tickets = λ j a. refl } in
-    let ticket : has_ticket k (moved q m).doing ≡ has_ticket k q.doing =
+    let ticket : has_ticket k (move_queue q m).doing ≡ has_ticket k q.doing =
     has_ticket-frame q.doing p k doing.Door (doing.Drawn k) opens.0 refl in
-    settling q m k (around-write p k doing.Door (doing.Drawn k) q (moved q m) new t refl)
+    settling q m k (around-write p k doing.Door (doing.Drawn k) q (move_queue q m) new t refl)
     (λ s. record {
       cell = new;
       there = get-set_here q.cells k found new opens.2;
       at =
-          same-at q (moved q m) k found new found.state refl (λ u. (u.0, ticket ∙ u.1))
+          same-at q (move_queue q m) k found new found.state refl (λ u. (u.0, ticket ∙ u.1))
           (settled-at q k found opens.2 s);
     })
     (λ s. inl (record {
       cell = found;
       there = opens.2;
-      at = same-at (moved q m) q k new found found.state refl (λ u. (u.0, sym ticket ∙ u.1))
-          (settled-at (moved q m) k new (get-set_here q.cells k found new opens.2) s);
+      at = same-at (move_queue q m) q k new found found.state refl (λ u. (u.0, sym ticket ∙ u.1))
+          (settled-at (move_queue q m) k new (get-set_here q.cells k found new opens.2) s);
     }))
     (λ j s. absurd s) (λ s. absurd s)
 moves-settle q (move.install p k found) sound opens =
@@ -310,15 +310,15 @@ moves-settle q (move.reach p k (Some found)) sound opens =
     (λ s. record {
       cell = found;
       there = opens.2;
-      at = reach-here (moved q m) q k found found.state
+      at = reach-here (move_queue q m) q k found found.state
           (λ (u : IsMet q k). let e = opens.1 in let l = u.0 in absurd (omega arith)) (settled-at q k found opens.2 s);
     })
     (λ s. inl (record {
       cell = found;
       there = opens.2;
-      at = reach-here q (moved q m) k found found.state
-          (λ (u : IsMet (moved q m) k). let open_now = has_ticket-opens q.doing p k doing.Owes opens.0 in
-          let both : true ≡ false = sym open_now ∙ u.1 in absurd (cc)) (settled-at (moved q m) k found opens.2 s);
+      at = reach-here q (move_queue q m) k found found.state
+          (λ (u : IsMet (move_queue q m) k). let open_now = has_ticket-opens q.doing p k doing.Owes opens.0 in
+          let both : true ≡ false = sym open_now ∙ u.1 in absurd (cc)) (settled-at (move_queue q m) k found opens.2 s);
     }))
     (λ j s. absurd s) (λ s. absurd s)
 moves-settle q (move.serve p k found) sound opens =
@@ -340,30 +340,30 @@ moves-settle q (move.delegate p k found) sound opens =
     refl opens.finds opens.at refl (λ z. z) (λ z. z) (λ j s. s)
 moves-settle q (move.pass_over p k found) sound opens =
     let m = move.pass_over p k found in
-    let t : Turns p k (doing.Ticket k) doing.Owes q (moved q m) =
+    let t : Turns p k (doing.Ticket k) doing.Owes q (move_queue q m) =
     record { does = opens.does; now = refl; resumes = refl; tickets = no-other-ticket k } in
-    settling q m k (around-turn p k (doing.Ticket k) doing.Owes q (moved q m) t refl)
-    (λ s. record { cell = found; there = opens.finds; at = subst (IsSettledAt (moved q m) k found) (sym opens.at) tt })
+    settling q m k (around-turn p k (doing.Ticket k) doing.Owes q (move_queue q m) t refl)
+    (λ s. record { cell = found; there = opens.finds; at = subst (IsSettledAt (move_queue q m) k found) (sym opens.at) tt })
     (λ s. inl (record { cell = found; there = opens.finds; at = subst (IsSettledAt q k found) (sym opens.at) tt }))
     (λ j s. absurd s) (λ s. absurd s)
 moves-settle q (move.meet_refused p k found) sound opens =
     let m = move.meet_refused p k found in
-    let t : Turns p k (doing.Ticket k) doing.Idle q (moved q m) =
+    let t : Turns p k (doing.Ticket k) doing.Idle q (move_queue q m) =
     record { does = opens.does; now = refl; resumes = refl; tickets = no-other-ticket k } in
     let ticket : IsTicket q k = sound.passes.at p (doing.Ticket k) opens.does in
     let open_yet : has_ticket k q.doing ≡ true = has_ticket-from q.doing p k opens.does in
     let closed : has_ticket k (set q.doing p doing.Idle) ≡ false =
     has_ticket-closes q.doing p k doing.Idle sound.apart opens.does refl in
-    let done : IsSettled (moved q m) k =
+    let done : IsSettled (move_queue q m) k =
     record {
       cell = found;
       there = opens.finds;
-      at = subst (IsSettledAt (moved q m) k found) (sym opens.at)
+      at = subst (IsSettledAt (move_queue q m) k found) (sym opens.at)
           (ticket.reached, closed);
     } in
     let before : IsSettled q k → ⊥ = unsettled q k found state.Refused opens.finds opens.at
     (λ z. let both : true ≡ false = sym open_yet ∙ z.1 in absurd (cc)) in
-    settling q m k (around-turn p k (doing.Ticket k) doing.Idle q (moved q m) t refl)
+    settling q m k (around-turn p k (doing.Ticket k) doing.Idle q (move_queue q m) t refl)
     (λ s. absurd (before s)) (λ s. inr refl) (λ j s. s) (λ s. (done, before))
 moves-settle q (move.begin_cancel p k found) sound opens =
     let w = opens.0 in
@@ -376,8 +376,8 @@ moves-settle q (move.collect p k found) sound opens =
     let m = move.collect p k found in
     let new : CoreCell = record { state = found.state; owner = found.owner; collected = true } in
     let here = get-set_here q.cells k found new w.finds in
-    let done : IsSettled (moved q m) k =
-    record { cell = new; there = here; at = subst (IsSettledAt (moved q m) k new) (sym w.at) refl } in
+    let done : IsSettled (move_queue q m) k =
+    record { cell = new; there = here; at = subst (IsSettledAt (move_queue q m) k new) (sym w.at) refl } in
     let before : IsSettled q k → ⊥ = unsettled q k found state.Resumed w.finds w.at
     (λ z. let u = opens.1.uncollected in let both : true ≡ false = sym z ∙ u in absurd (cc)) in
     settling q m k (record {

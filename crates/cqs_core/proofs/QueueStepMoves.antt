@@ -7,7 +7,7 @@ use Rattle.cqs_core.specs.declared.cells.CoreState.TheVariants as state
 use Rattle.cqs_core.specs.declared.doings.Doing.{Doing}
 use Rattle.cqs_core.specs.declared.doings.Doing.TheVariants as doing
 use Rattle.cqs_core.specs.QueueState.{Queue}
-use Rattle.cqs_core.specs.QueueMoves.{Move, IsCancelling, moved, at_state}
+use Rattle.cqs_core.specs.QueueMoves.{Move, IsCancelling, move_queue, at_state}
 use Rattle.cqs_core.specs.QueueSound.{IsSound, IsSoundAt, IsCell, IsEntered}
 use Rattle.cqs_core.specs.QueueSteps.{pends, grants, late, QueueStep, draws, enters, reaches, begins, puts, installs, takes, serves, leaves, delegates, passes_over, ends_refused, ends_missed, starts_leaving, leaves_line, leaves_at_once, settles, settles_owing, refuses, refuses_value, looks, IsOpenStep, queue_after}
 use Rattle.cqs_core.specs.QueueStepMoves.{moves_of, moved_all, AreOpen}
@@ -150,7 +150,7 @@ module _ (q : Queue) (p k : ℕ) where
 
 pub sound-all : (ms : List Move) (q : Queue) → IsSound q → AreOpen q ms → IsSound (moved_all q ms)
 sound-all [] q sound opens = sound
-sound-all (m ∷ ms) q sound opens = sound-all ms (moved q m) (sound-moved q m sound opens.0) opens.1
+sound-all (m ∷ ms) q sound opens = sound-all ms (move_queue q m) (sound-moved q m sound opens.0) opens.1
 
 sound-led : (q r : Queue) (ms : Option (List Move)) → LeadTo q ms r → IsSound q → IsSound r
 sound-led q r (Some ms) led sound = subst IsSound (sym led.1) (sound-all ms q sound led.0)

@@ -3,7 +3,7 @@ use Rattle.std.proofs.Common.{◌≡◌, ◌⊎◌, inl, inr, ⊎_elim, ℕ, Lis
 use Rattle.cqs_core.specs.declared.cells.CoreCell.{CoreCell}
 use Rattle.cqs_core.specs.declared.cells.CoreState.TheVariants as state
 use Rattle.cqs_core.specs.QueueState.{Queue}
-use Rattle.cqs_core.specs.QueueMoves.{Move, moved}
+use Rattle.cqs_core.specs.QueueMoves.{Move, move_queue}
 use Rattle.cqs_core.specs.QueueSettled.{IsSettled, Settles, IsSettling}
 use Rattle.cqs_core.specs.QueueSound.{IsSound}
 use Rattle.cqs_core.specs.QueueSteps.{pends, grants, late, QueueStep, draws, enters, reaches, begins, puts, installs, takes, serves, leaves, delegates, passes_over, ends_refused, ends_missed, starts_leaving, leaves_line, leaves_at_once, settles, settles_owing, refuses, refuses_value, looks, IsOpenStep, queue_after}
@@ -35,13 +35,13 @@ all-settle [] q sound opens = record {
 }
 all-settle (m ∷ ms) q sound opens =
     let one : IsSettling q m = moves-settle q m sound opens.0 in
-    let rest : AllSettle (moved q m) (moved_all (moved q m) ms) ms =
-    all-settle ms (moved q m) (sound-moved q m sound opens.0) opens.1 in
+    let rest : AllSettle (move_queue q m) (moved_all (move_queue q m) ms) ms =
+    all-settle ms (move_queue q m) (sound-moved q m sound opens.0) opens.1 in
     record {
       stays = λ j s. rest.stays j (one.stays j s);
       same = λ j s. rest.same j (one.stays j s) ∙ frozen q m sound opens.0 j s;
       by = λ j s. ⊎_elim
-          (λ (was : IsSettled (moved q m) j). ⊎_elim (λ before. inl before) (λ now. inr (inl now)) (one.by j was))
+          (λ (was : IsSettled (move_queue q m) j). ⊎_elim (λ before. inl before) (λ now. inr (inl now)) (one.by j was))
           (λ (later : SettlesAny ms j). inr (inr later))
           (rest.by j s);
       once = λ j s. ⊎_elim

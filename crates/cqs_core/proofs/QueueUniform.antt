@@ -13,7 +13,7 @@ use Rattle.cqs_core.specs.QueueSound.{IsSound, IsSoundAt, IsUnended, IsUntaken, 
 use Rattle.cqs_core.proofs.SoundWrite.{cancelling-left}
 use Rattle.cqs_core.specs.QueueStages as stage
 use Rattle.cqs_core.specs.QueueStages.{Stage, doing_at, MayFind, MayWork}
-use Rattle.cqs_core.specs.QueueSteps.{pends, grants, late, QueueStep, draws, enters, reaches, begins, puts, installs, takes, serves, leaves, delegates, passes_over, ends_refused, ends_missed, starts_leaving, leaves_line, leaves_at_once, settles, settles_owing, refuses, refuses_value, looks, WaitChange, wait_stays, wait_opens, wait_closes, Gain, nothing, its_own, a_debt, CellRow, StepRow, at_counter, at_cell, Counter, to_suspend, to_resume, stage_counted, counted, row_of, cell_after, IsOpenRow}
+use Rattle.cqs_core.specs.QueueSteps.{pends, grants, late, QueueStep, draws, enters, reaches, begins, puts, installs, takes, serves, leaves, delegates, passes_over, ends_refused, ends_missed, starts_leaving, leaves_line, leaves_at_once, settles, settles_owing, refuses, refuses_value, looks, WaitChange, wait_stays, wait_opens, wait_closes, Gain, nothing, its_own, a_debt, CellRow, StepRow, at_counter, at_cell, Counter, to_suspend, to_resume, stage_counted, after_count, row_of, cell_after, IsOpenRow}
 
 -- a pass at this stage has a number that it is at work on
 abbrev pub HasNumber : Stage → Type 0
@@ -374,6 +374,6 @@ turns q p k row found is sound opens =
 
 -- a pass that draws a number from a counter goes on with it
 pub counted-doing : (c : Counter) (q : Queue) (p k : ℕ) (found : Option CoreCell)
-    → (counted c q p k found).doing ≡ set q.doing p (doing_at (stage_counted c) k)
+    → (after_count c q p k found).doing ≡ set q.doing p (doing_at (stage_counted c) k)
 counted-doing to_suspend q p k found = refl
 counted-doing to_resume q p k found = refl

@@ -2,7 +2,7 @@
 use Rattle.std.proofs.Common.{◌≡◌, ◌≢◌, ◌⊎◌, inl, inr, ℕ, zero, suc, ◌+◌, ◌<◌, ◌≤◌, ◌==◌, nat_lt, Bool, true, false, List, [], ◌∷◌, ◌++◌, Some, length, take, slice_get, if◌then◌else◌, refl, ap, sym, ◌∙◌, arith, eqb-true}
 use Rattle.std.proofs.lemmas.Bool.{cases_Bool, eqb-false}
 use Rattle.cqs_core.specs.Numbered.{IsIn}
-use Rattle.cqs_core.specs.Keyed.{placed, without}
+use Rattle.cqs_core.specs.Keyed.{insert_by, without}
 use Rattle.cqs_core.proofs.Places.{get-take_back}
 
 -- an element of a longer list is its first, or is behind it
@@ -49,11 +49,11 @@ module _ {Y : Type 0} (key : Y → ℕ) where
       go true rest = lacks.1
       go false rest = (lacks.0, rest)
 
-  pub lacks-placed : (n : ℕ) (y : Y) (ys : List Y) → key y ≢ n → Lacks n ys → Lacks n (placed key y ys)
+  pub lacks-placed : (n : ℕ) (y : Y) (ys : List Y) → key y ≢ n → Lacks n ys → Lacks n (insert_by key y ys)
   lacks-placed n y [] other lacks = (other, tt)
   lacks-placed n y (z ∷ zs) other lacks = go (nat_lt (key y) (key z)) (lacks-placed n y zs other lacks.1)
     where
-      go : (b : Bool) → Lacks n (placed key y zs) → Lacks n (if b then y ∷ z ∷ zs else z ∷ placed key y zs)
+      go : (b : Bool) → Lacks n (insert_by key y zs) → Lacks n (if b then y ∷ z ∷ zs else z ∷ insert_by key y zs)
       go true rest = (other, lacks)
       go false rest = (lacks.0, rest)
 
@@ -74,12 +74,12 @@ module _ {Y : Type 0} (key : Y → ℕ) where
           let shorter : length (without key n zs) + 1 ≡ length zs = rest later in
           rw other (omega arith)
 
-  pub length-placed : (y : Y) (ys : List Y) → length (placed key y ys) ≡ length ys + 1
+  pub length-placed : (y : Y) (ys : List Y) → length (insert_by key y ys) ≡ length ys + 1
   length-placed y [] = refl
   length-placed y (z ∷ zs) = go (nat_lt (key y) (key z)) (length-placed y zs)
     where
-      go : (b : Bool) → length (placed key y zs) ≡ length zs + 1
-          → length (if b then y ∷ z ∷ zs else z ∷ placed key y zs) ≡ suc (length zs) + 1
+      go : (b : Bool) → length (insert_by key y zs) ≡ length zs + 1
+          → length (if b then y ∷ z ∷ zs else z ∷ insert_by key y zs) ≡ suc (length zs) + 1
       go true rest = omega arith
       go false rest = omega arith
 

@@ -7,11 +7,11 @@ use Rattle.cqs_core.specs.declared.doings.Doing.TheVariants as doing
 use Rattle.cqs_core.specs.declared.entries.Entry.TheVariants as entry
 use Rattle.cqs_core.specs.QueueWaiters.{due_of}
 use Rattle.cqs_core.specs.QueueMoves as move
-use Rattle.cqs_core.specs.QueueMoves.{Move, moved, Works}
+use Rattle.cqs_core.specs.QueueMoves.{Move, move_queue, Works}
 use Rattle.cqs_core.specs.QueueLine.{going, ending, way, due, ready}
 use Rattle.cqs_core.specs.SemaphoreEntries.{after_entry}
 use Rattle.cqs_core.specs.SemaphoreTable.{Shape, loses, adds, records, moves, last_number}
-use Rattle.cqs_core.specs.SemaphoreShown.{IsCore, shown, free_of, short_of}
+use Rattle.cqs_core.specs.SemaphoreShown.{IsCore, shown_semaphore, free_of, short_of}
 use Rattle.cqs_core.proofs.CoreFrame.{WordsFit, TellsShort, Conserves, seen, same-by_waiters, core-push, loaded-turn}
 use Rattle.cqs_core.proofs.CoreSteps.{loses-sum, held-within, holds-there, with_permits, hidden-push, hidden-quiet, delivered-core}
 use Rattle.cqs_core.proofs.DeliveryMoves.{delivers-serve, serve-ready}
@@ -37,7 +37,7 @@ give-sent s p core does holds below =
     let one_fewer : sum held + 1 ≡ sum s.held = loses-sum s.held p there holds in
     let within : ending s.queue ≤ going s.queue = ending-within s.queue core.sound core.covered in
     let begins = turn-owes s.queue p does in
-    let as_due : due (moved s.queue m) ≡ due s.queue = ap due_of begins.waiters in
+    let as_due : due (move_queue s.queue m) ≡ due s.queue = ap due_of begins.waiters in
     let none_free : free_of s.state ≡ 0 = free-below s.state (below-within s.state below) in
     let none_free_after : free_of z ≡ 0 = add-short_free s.state below in
     let some_short : 0 < short_of s.state = short-below s.state below in
@@ -49,12 +49,12 @@ give-sent s p core does holds below =
       loaded = loaded-turn s.queue.doing p doing.Idle doing.Owes does tt core.loaded;
       holders = length-set s.held p (slice_index s.held p - 1);
     } in
-    let short : TellsShort z (moved s.queue m) = omega (arith, begins.going, begins.ending, core.short) in
-    let conserved : Conserves s.permits z held (moved s.queue m) =
+    let short : TellsShort z (move_queue s.queue m) = omega (arith, begins.going, begins.ending, core.short) in
+    let conserved : Conserves s.permits z held (move_queue s.queue m) =
     omega (arith, begins.going, begins.ending, core.conserved) in
     let too_few : way s.queue < due s.queue = omega (arith, core.short) in
-    let one_more_way : way s.queue + 1 ≡ way (moved s.queue m) = omega (arith, begins.going, begins.ending) in
-    let shows : after_entry (shown s) (entry.GiveSent p) ≡ seen z held (moved s.queue m) =
+    let one_more_way : way s.queue + 1 ≡ way (move_queue s.queue m) = omega (arith, begins.going, begins.ending) in
+    let shows : after_entry (shown_semaphore s) (entry.GiveSent p) ≡ seen z held (move_queue s.queue m) =
     same-by_waiters (none_free ∙ sym none_free_after) one_more_way (sym begins.waiters) (omega arith) in
     core-push s m z held (entry.GiveSent p) core (does, tt, tt) tt words short conserved
     (some-held s p there holds, too_few) shows
@@ -83,7 +83,7 @@ give-freed s p core does holds above =
     (add-free_short s.state above ∙ sym none_short)
     (omega arith)
     (some-held s p there holds, as_many)
-    (ap₂ (with_permits (shown s)) (sym one_free) (omega arith))
+    (ap₂ (with_permits (shown_semaphore s)) (sym one_free) (omega arith))
 
 -- Reach
 pub reach-number : (s : Shape) (p : ℕ) → IsCore s → slice_get s.queue.doing p ≡ Some doing.Owes

@@ -7,11 +7,11 @@ use Rattle.cqs_core.specs.declared.doings.Doing.TheVariants as doing
 use Rattle.cqs_core.specs.declared.entries.Entry.TheVariants as entry
 use Rattle.cqs_core.specs.Numbered.{IsIn}
 use Rattle.cqs_core.specs.QueueMoves as move
-use Rattle.cqs_core.specs.QueueMoves.{Move, moved, Works}
+use Rattle.cqs_core.specs.QueueMoves.{Move, move_queue, Works}
 use Rattle.cqs_core.specs.QueueLine.{at_door, door, way}
 use Rattle.cqs_core.specs.SemaphoreEntries.{after_entry}
 use Rattle.cqs_core.specs.SemaphoreTable.{Shape, gains, records, moves, last_number}
-use Rattle.cqs_core.specs.SemaphoreShown.{IsCore, shown}
+use Rattle.cqs_core.specs.SemaphoreShown.{IsCore, shown_semaphore}
 use Rattle.cqs_core.proofs.CoreFrame.{WordsFit, TellsShort, Conserves, seen, same-by_waiters, core-push, loaded-turn}
 use Rattle.cqs_core.proofs.CoreSteps.{gains-sum, holds-there, hidden-quiet, delivered-core}
 use Rattle.cqs_core.proofs.DeliveryMoves.{delivers-take_value, take_value-ready}
@@ -35,14 +35,14 @@ draw-number s p core does below =
       loaded = loaded-turn s.queue.doing p doing.Door (doing.Drawn k) does tt core.loaded;
       holders = refl;
     } in
-    let short : TellsShort s.state (moved s.queue m) =
+    let short : TellsShort s.state (move_queue s.queue m) =
     omega (arith, enters.due, enters.going, enters.ending, core.short) in
-    let conserved : Conserves s.permits s.state s.held (moved s.queue m) =
+    let conserved : Conserves s.permits s.state s.held (move_queue s.queue m) =
     omega (arith, enters.ready, enters.going, enters.ending, core.conserved) in
-    let ways : way s.queue ≡ way (moved s.queue m) = omega (arith, enters.going, enters.ending) in
+    let ways : way s.queue ≡ way (move_queue s.queue m) = omega (arith, enters.going, enters.ending) in
     let stands : IsIn p (door s.queue) =
     picked-in at_door 0 s.queue.doing p p doing.Door p (omega arith) does refl in
-    let shows : after_entry (shown s) (entry.Enter p k) ≡ seen s.state s.held (moved s.queue m) =
+    let shows : after_entry (shown_semaphore s) (entry.Enter p k) ≡ seen s.state s.held (move_queue s.queue m) =
     same-by_waiters refl ways (sym enters.waiters) (ap (λ n. sum s.held + n) (sym enters.ready)) in
     core-push s m s.state s.held (entry.Enter p k) core (does, refl, refl) tt words short conserved
     (stands, refl)

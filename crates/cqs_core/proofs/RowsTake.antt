@@ -4,11 +4,11 @@ use Rattle.std.proofs.lemmas.List.{length-set}
 use Rattle.cqs_core.specs.declared.doings.Doing.TheVariants as doing
 use Rattle.cqs_core.specs.declared.entries.Entry.TheVariants as entry
 use Rattle.cqs_core.specs.QueueMoves as move
-use Rattle.cqs_core.specs.QueueMoves.{Move, moved}
+use Rattle.cqs_core.specs.QueueMoves.{Move, move_queue}
 use Rattle.cqs_core.specs.QueueLine.{way}
 use Rattle.cqs_core.specs.SemaphoreEntries.{after_entry}
 use Rattle.cqs_core.specs.SemaphoreTable.{Shape, gains, takes, records, moves, lowest}
-use Rattle.cqs_core.specs.SemaphoreShown.{IsCore, shown, free_of, short_of}
+use Rattle.cqs_core.specs.SemaphoreShown.{IsCore, shown_semaphore, free_of, short_of}
 use Rattle.cqs_core.proofs.CoreFrame.{WordsFit, TellsShort, Conserves, seen, same-by_waiters, core-push, loaded-turn}
 use Rattle.cqs_core.proofs.CoreSteps.{gains-sum, holds-there, with_permits, hidden-push, hidden-quiet}
 use Rattle.cqs_core.proofs.HiddenMoves.{keeps-same, keeps-turn}
@@ -35,7 +35,7 @@ take-now s p core does above free =
     (take-free_short s.state free ∙ sym (short-above s.state (above-within s.state free)))
     (omega arith)
     (free-above s.state free)
-    (ap₂ (with_permits (shown s)) (omega arith) (omega arith))
+    (ap₂ (with_permits (shown_semaphore s)) (omega arith) (omega arith))
 
 -- Take, none is free
 pub take-door : (s : Shape) (p : ℕ) → IsCore s → slice_get s.queue.doing p ≡ Some doing.Idle
@@ -55,12 +55,12 @@ take-door s p core does above none =
       loaded = loaded-turn s.queue.doing p doing.Idle doing.Door does tt core.loaded;
       holders = refl;
     } in
-    let short : TellsShort z (moved s.queue m) =
+    let short : TellsShort z (move_queue s.queue m) =
     omega (arith, comes.due, comes.going, comes.ending, core.short) in
-    let conserved : Conserves s.permits z s.held (moved s.queue m) =
+    let conserved : Conserves s.permits z s.held (move_queue s.queue m) =
     omega (arith, comes.going, comes.ending, core.conserved) in
-    let ways : way s.queue ≡ way (moved s.queue m) = omega (arith, comes.going, comes.ending) in
-    let shows : after_entry (shown s) (entry.TakeDoor p) ≡ seen z s.held (moved s.queue m) =
+    let ways : way s.queue ≡ way (move_queue s.queue m) = omega (arith, comes.going, comes.ending) in
+    let shows : after_entry (shown_semaphore s) (entry.TakeDoor p) ≡ seen z s.held (move_queue s.queue m) =
     same-by_waiters (not_free ∙ sym not_free_after) ways (sym comes.waiters) refl in
     core-push s m z s.held (entry.TakeDoor p) core (does, tt, tt) tt words short conserved not_free shows
 
@@ -111,7 +111,7 @@ try-got s p v core does same =
     (take-free_short s.state free ∙ sym (short-above s.state (above-within s.state free)))
     (omega arith)
     (free-above s.state free)
-    (ap₂ (with_permits (shown s)) (omega arith) (omega arith))
+    (ap₂ (with_permits (shown_semaphore s)) (omega arith) (omega arith))
 
 -- TrySwap, the state has changed
 pub try-contended : (s : Shape) (p : ℕ) (v : ℤ) → IsCore s → slice_get s.queue.doing p ≡ Some (doing.TryAt v)

@@ -8,7 +8,7 @@ use Rattle.cqs_core.specs.declared.entries.Entry.TheVariants as entry
 use Rattle.cqs_core.specs.QueueState.{Queue}
 use Rattle.cqs_core.specs.QueueMoves as move
 use Rattle.cqs_core.specs.QueueSteps.{pends, grants, late, QueueStep, draws, enters, reaches, begins, puts, installs, takes, serves, leaves, delegates, passes_over, ends_refused, ends_missed, starts_leaving, leaves_line, leaves_at_once, settles, settles_owing, refuses, refuses_value, looks, IsOpenStep}
-use Rattle.cqs_core.specs.SemaphoreSteps.{IsSemaphoreStep, stepped}
+use Rattle.cqs_core.specs.SemaphoreSteps.{IsSemaphoreStep, shape_after}
 use Rattle.cqs_core.specs.SemaphoreShown.{IsCore}
 use Rattle.cqs_core.specs.SemaphoreTable.{Shape, last_number, moves, gains, records}
 use Rattle.cqs_core.proofs.QueueStepMoves.{leads}
@@ -36,15 +36,15 @@ quiet s r q histories queues core = same-core r (s.history ++ []) q (append-nil 
 
 pub step-core : (s : Shape) (step : QueueStep) (p k : ℕ) (found : Option CoreCell) → IsCore s → IsSemaphoreStep step
     → IsOpenStep s.queue step p k found → s.queue.suspends < last_number → s.queue.resumes < last_number
-    → IsCore (stepped s step p k found)
+    → IsCore (shape_after s step p k found)
 step-core s draws p k found core is w low low' =
     let here : slice_get s.queue.cells s.queue.suspends ≡ found =
     ap (slice_get s.queue.cells) (sym w.1) ∙ w.2 in
-    subst (λ (z : ℕ × Option CoreCell). IsCore (stepped s draws p z.0 z.1)) (λ i. (sym w.1 i, here i))
+    subst (λ (z : ℕ × Option CoreCell). IsCore (shape_after s draws p z.0 z.1)) (λ i. (sym w.1 i, here i))
     (draw-number s p core w.0 low)
 step-core s reaches p k found core is w low low' =
     let here : slice_get s.queue.cells s.queue.resumes ≡ found = ap (slice_get s.queue.cells) (sym w.1) ∙ w.2 in
-    subst (λ (z : ℕ × Option CoreCell). IsCore (stepped s reaches p z.0 z.1)) (λ i. (sym w.1 i, here i))
+    subst (λ (z : ℕ × Option CoreCell). IsCore (shape_after s reaches p z.0 z.1)) (λ i. (sym w.1 i, here i))
     (quiet s (moves s (move.reach p s.queue.resumes (slice_get s.queue.cells s.queue.resumes))) _ refl refl
     (reach-number s p core w.0 low'))
 step-core s installs p k (Some found) core is w low low' =

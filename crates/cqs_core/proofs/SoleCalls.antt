@@ -13,7 +13,7 @@ use Rattle.cqs_core.specs.SemaphoreAnswers.{Room}
 use Rattle.cqs_core.specs.SemaphoreCalls.{Course, refused, replied, stuck, course, HasEnd, MakesCallReady}
 use Rattle.cqs_core.specs.SemaphoreEntries.{after_entry, object_after}
 use Rattle.cqs_core.specs.SemaphoreObject.{opening}
-use Rattle.cqs_core.specs.SemaphoreShown.{IsCore, shown}
+use Rattle.cqs_core.specs.SemaphoreShown.{IsCore, shown_semaphore}
 use Rattle.cqs_core.specs.SemaphoreTable.{Shape}
 use Rattle.cqs_core.specs.SoleCaller.{IsSoleCall, IsSoleRefusal, ShowsNext, TellsWait, NoneTaken, sole_call}
 use Rattle.cqs_core.proofs.CallsKeep.{call_ready-core}
@@ -73,8 +73,8 @@ next-shown old new c answer before after sole =
     sym after.object
     ∙ ap (λ n. object_after n new.history) sole.permits
     ∙ ap (object_after old.permits) sole.appended
-    ∙ fold-append after_entry (opening old.permits) old.history (sole_call (shown old) c).entries
-    ∙ ap (λ o. fold after_entry o (sole_call (shown old) c).entries) before.object
+    ∙ fold-append after_entry (opening old.permits) old.history (sole_call (shown_semaphore old) c).entries
+    ∙ ap (λ o. fold after_entry o (sole_call (shown_semaphore old) c).entries) before.object
 
 pub sole-shown : (old new : Room) (c : Call) (r : Option Reply) → IsCore old.shape → IsResting old.shape
     → MakesCallReady (course old.shape c) r old new → IfSome r (λ answer. ShowsNext old.shape c new.shape)

@@ -10,7 +10,7 @@ use Rattle.cqs_core.specs.declared.entries.Entry.TheVariants as entry
 use Rattle.cqs_core.specs.declared.events.Event.TheVariants as event
 use Rattle.cqs_core.specs.declared.outcomes.Outcome.TheVariants as outcome
 use Rattle.cqs_core.specs.QueueMoves as move
-use Rattle.cqs_core.specs.QueueMoves.{moved, at_state}
+use Rattle.cqs_core.specs.QueueMoves.{move_queue, at_state}
 use Rattle.cqs_core.specs.SemaphoreCalls.{resumes_in, after_meet}
 use Rattle.cqs_core.specs.SemaphoreTable.{Shape, Stepped, step, records, moves, last_number}
 use Rattle.cqs_core.proofs.Places.{get-set_here}

@@ -19,7 +19,7 @@ use Rattle.cqs_core.specs.QueueMoves.{at_state}
 use Rattle.cqs_core.specs.Resting.{IsResting}
 use Rattle.cqs_core.specs.SemaphoreCalls.{replied, first, onward, cancels_at, after_look, after_leave, after_decide, after_settle}
 use Rattle.cqs_core.specs.SemaphoreEntries.{find_wait}
-use Rattle.cqs_core.specs.SemaphoreShown.{IsCore, shown}
+use Rattle.cqs_core.specs.SemaphoreShown.{IsCore, shown_semaphore}
 use Rattle.cqs_core.specs.SemaphoreTable.{Shape, step, look_at, look_with, look_row, leave_at, leave_with, leave_row, adds, records, moves, is_with}
 use Rattle.cqs_core.specs.SoleCaller.{HasWait, NoneTaken}
 use Rattle.cqs_core.proofs.EachAtLemmas.{EachAt-write}
@@ -41,19 +41,19 @@ line-lacks s k cell core rests found served =
 
 -- a wait that is allowed to be asked for is the pass's own
 has-waiter : (s : Shape) (p k : ℕ) (cell : CoreCell) → slice_get s.queue.cells k ≡ Some cell → is_with p cell ≡ true
-    → state.Waiter ≡ cell.state → HasWait k p (shown s)
+    → state.Waiter ≡ cell.state → HasWait k p (shown_semaphore s)
 has-waiter s p k cell found own waits =
     inl (waiter-waits s.queue p k cell found (owns-from p cell own).owner (sym waits))
 
 has-served : (s : Shape) (p k : ℕ) (cell : CoreCell) → slice_get s.queue.cells k ≡ Some cell → is_with p cell ≡ true
-    → state.Resumed ≡ cell.state → HasWait k p (shown s)
+    → state.Resumed ≡ cell.state → HasWait k p (shown_semaphore s)
 has-served s p k cell found own served =
     let owns = owns-from p cell own in
     inr (resumed-served s.queue p k cell found owns.owner owns.uncollected (sym served))
 
 -- a call that finds no such cell, or none of the pass's, or none that waits or was resumed, is refused rightly
 no-pass : (s : Shape) (p k : ℕ) → IsCore s → IsResting s → slice_get s.queue.doing p ≡ None → NoneTaken s
-    → ¬ HasWait k p (shown s)
+    → ¬ HasWait k p (shown_semaphore s)
 no-pass s p k core rests none untaken may = go (has-wait s p k core rests untaken may)
   where
     go : (IsOwnWait s.queue p k state.Waiter) ⊎ (IsOwnWait s.queue p k state.Resumed) → ⊥
@@ -61,7 +61,7 @@ no-pass s p k core rests none untaken may = go (has-wait s p k core rests untake
     go (inr own) = pass-there s.queue.doing p none own.there
 
 no-cell : (s : Shape) (p k : ℕ) → IsCore s → IsResting s → slice_get s.queue.cells k ≡ None → NoneTaken s
-    → ¬ HasWait k p (shown s)
+    → ¬ HasWait k p (shown_semaphore s)
 no-cell s p k core rests none untaken may = go (has-wait s p k core rests untaken may)
   where
     go : (IsOwnWait s.queue p k state.Waiter) ⊎ (IsOwnWait s.queue p k state.Resumed) → ⊥
@@ -69,7 +69,7 @@ no-cell s p k core rests none untaken may = go (has-wait s p k core rests untake
     go (inr own) = absurd (cc (none, own.found))
 
 not-own : (s : Shape) (p k : ℕ) (cell : CoreCell) → IsCore s → IsResting s → slice_get s.queue.cells k ≡ Some cell
-    → is_with p cell ≡ false → NoneTaken s → ¬ HasWait k p (shown s)
+    → is_with p cell ≡ false → NoneTaken s → ¬ HasWait k p (shown_semaphore s)
 not-own s p k cell core rests found other untaken may = go (has-wait s p k core rests untaken may)
   where
     another : (at : CoreState) → IsOwnWait s.queue p k at → ⊥
@@ -82,7 +82,7 @@ not-own s p k cell core rests found other untaken may = go (has-wait s p k core 
     go (inr own) = another state.Resumed own
 
 neither-own : (s : Shape) (p k : ℕ) (cell : CoreCell) → IsCore s → IsResting s → slice_get s.queue.cells k ≡ Some cell
-    → cell.state ≢ state.Waiter → cell.state ≢ state.Resumed → NoneTaken s → ¬ HasWait k p (shown s)
+    → cell.state ≢ state.Waiter → cell.state ≢ state.Resumed → NoneTaken s → ¬ HasWait k p (shown_semaphore s)
 neither-own s p k cell core rests found waits served untaken may = go (has-wait s p k core rests untaken may)
   where
     stands : (at : CoreState) → IsOwnWait s.queue p k at → cell.state ≡ at

@@ -8,7 +8,7 @@ use Rattle.cqs_core.specs.declared.doings.Doing.{Doing}
 use Rattle.cqs_core.specs.declared.doings.Doing.TheVariants as doing
 use Rattle.cqs_core.specs.QueueState.{Queue, owner_doing, is_ticket, has_ticket, fresh_cell}
 use Rattle.cqs_core.specs.QueueMoves as move
-use Rattle.cqs_core.specs.QueueMoves.{IsLight, IsClear, IsCancelling, IsOpen, moved, now_doing}
+use Rattle.cqs_core.specs.QueueMoves.{IsLight, IsClear, IsCancelling, IsOpen, move_queue, now_doing}
 use Rattle.cqs_core.specs.QueueSound.{IsEntered, IsUninstalled, IsAwaited, IsSoundAt, IsCell, IsUnended, IsTicket, IsPass, AreApart, IsSound}
 use Rattle.cqs_core.proofs.Places.{get-below, get-past, get-push_at}
 use Rattle.cqs_core.proofs.Tickets.{has_ticket-none, has_ticket-opens, owner_doing-kept, AreApart-write, AreApart-draw}
@@ -99,7 +99,7 @@ module _ (q : Queue) (p k : ℕ) (does : slice_get q.doing p ≡ Some doing.Owes
 
 -- the resume counter passes the number first: a new cell, with its ticket
 sound-reach_new : (q : Queue) (p k : ℕ) → IsSound q → IsOpen q (move.reach p k None)
-    → IsSound (moved q (move.reach p k None))
+    → IsSound (move_queue q (move.reach p k None))
 sound-reach_new q p k sound (does, next, none) =
     sound-step q (after_reach q p k cells) p k doing.Owes (doing.Ticket k)
     (reached-move q p k does next cells (λ j other. get-push_else q.cells fresh_cell j (λ e. other (e ∙ long))))
@@ -137,7 +137,7 @@ sound-reach_new q p k sound (does, next, none) =
 -- a suspend drew the number first: its cell gets a ticket
 sound-reach_found : (q : Queue) (p k : ℕ) (found : CoreCell) → IsSound q
     → IsOpen q (move.reach p k (Some found))
-    → IsSound (moved q (move.reach p k (Some found)))
+    → IsSound (move_queue q (move.reach p k (Some found)))
 sound-reach_found q p k found sound (does, next, finds) =
     sound-step q (after_reach q p k q.cells) p k doing.Owes (doing.Ticket k)
     (reached-move q p k does next q.cells (λ j other. refl))
@@ -173,7 +173,7 @@ sound-reach_found q p k found sound (does, next, finds) =
         subst (λ y. IsCell (after_reach q p k q.cells) k y) same now.1
 
 pub sound-reach : (q : Queue) (p k : ℕ) (found : Option CoreCell) → IsSound q → IsOpen q (move.reach p k found)
-    → IsSound (moved q (move.reach p k found))
+    → IsSound (move_queue q (move.reach p k found))
 sound-reach q p k None sound opens = sound-reach_new q p k sound opens
 sound-reach q p k (Some found) sound opens = sound-reach_found q p k found sound opens
 
@@ -221,7 +221,7 @@ light-pass q p (doing.Decided k on) is = absurd is
 
 -- No cell has the number at which the cells end, so nothing changes at a cell.
 pub sound-turn : (q : Queue) (p : ℕ) (from to : Doing) → IsSound q → IsOpen q (move.turn p from to)
-    → IsSound (moved q (move.turn p from to))
+    → IsSound (move_queue q (move.turn p from to))
 sound-turn q p from to sound (does, clear, lighter) =
     let past : slice_get q.cells (length q.cells) ≡ None = get-past q.cells (length q.cells) (omega arith) in
     sound-step q (now_doing q p to) p (length q.cells) from to

@@ -5,10 +5,10 @@ use Rattle.std.proofs.lemmas.Bool.{cases_Bool, eqb-false}
 use Rattle.cqs_core.specs.declared.entries.Entry.{Entry}
 use Rattle.cqs_core.specs.declared.entries.Entry.TheVariants as entry
 use Rattle.cqs_core.specs.Numbered.{IsIn}
-use Rattle.cqs_core.specs.Keyed.{placed, without}
+use Rattle.cqs_core.specs.Keyed.{insert_by, without}
 use Rattle.cqs_core.specs.QueueLine.{Waiting, Service}
 use Rattle.cqs_core.specs.SemaphoreObject.{Semaphore, opening, due}
-use Rattle.cqs_core.specs.SemaphoreEntries.{IsAllowed, Waits, after_entry, find_wait, with_service, taken, at_door, delivered, turned_back, closed}
+use Rattle.cqs_core.specs.SemaphoreEntries.{IsAllowed, Waits, after_entry, find_wait, with_service, after_take, at_door, after_deliver, turned_back, after_look}
 use Rattle.cqs_core.specs.SemaphoreLaws.{EndsWait}
 use Rattle.cqs_core.proofs.Rising.{in-take, in-behind, in-none, Lacks, lacks-in, lacks-push, lacks-without, IsRising, rising-push, rising-without, rising-left_out, rising-below}
 use Rattle.cqs_core.proofs.Distinct.{lacks-from, AreDistinct, distinct-placed, in-placed, IsFrom, in-changed, distinct-changed}
@@ -167,14 +167,14 @@ apart-same o n next line served a = record {
 }
 
 -- the permit of a wait has been looked at
-apart-closed : (o : Semaphore) (k : ℕ) → AreWaitsApart o → AreWaitsApart (closed o k)
+apart-closed : (o : Semaphore) (k : ℕ) → AreWaitsApart o → AreWaitsApart (after_look o k)
 apart-closed o k a = record {
   line = a.line;
   served = λ s stands. go s (in-changed service_key looked_at (λ t. refl) k s o.served stands);
   apart = distinct-changed service_key looked_at (λ t. refl) k o.served a.apart;
 }
   where
-    go : (s : Service) → IsFrom service_key looked_at (λ t. refl) s o.served → IsGone (closed o k) s.wait
+    go : (s : Service) → IsFrom service_key looked_at (λ t. refl) s o.served → IsGone (after_look o k) s.wait
     go s from = record { entered = rw same gone.entered; absent = rw same gone.absent }
       where
         number : (s ≡ from.old) ⊎ (s ≡ looked_at from.old) → s.wait ≡ from.old.wait
@@ -188,7 +188,7 @@ apart-closed o k a = record {
         gone = a.served from.old from.there
 
 -- a wait of the line is served
-apart-delivered : (o : Semaphore) (c k : ℕ) → AreWaitsApart o → Waits k c o.line → AreWaitsApart (delivered o k)
+apart-delivered : (o : Semaphore) (c k : ℕ) → AreWaitsApart o → Waits k c o.line → AreWaitsApart (after_deliver o k)
 apart-delivered o c k a waits = record {
   line = rising-without waiting_key k 0 o.next o.line a.line;
   served = λ s stands. gone s (in-placed service_key s new o.served (rw now at stands));
@@ -201,7 +201,7 @@ apart-delivered o c k a waits = record {
     new : Service
     new = record { wait = found.wait.wait; pass = found.wait.pass; is_open = true }
 
-    now : with_service (find_wait k o.line) o.served ≡ placed service_key new o.served
+    now : with_service (find_wait k o.line) o.served ≡ insert_by service_key new o.served
     now = ap (λ w. with_service w o.served) found.is
 
     out : IsGone (record o { line = without waiting_key k o.line }) k
@@ -212,7 +212,7 @@ apart-delivered o c k a waits = record {
         lacks-in waiting_key t.wait (record { wait = k; pass = c }) o.line
         (sym (same ∙ found.number)) waits (a.served t there).absent)
 
-    gone : (s : Service) → (s ≡ new) ⊎ IsIn s o.served → IsGone (delivered o k) s.wait
+    gone : (s : Service) → (s ≡ new) ⊎ IsIn s o.served → IsGone (after_deliver o k) s.wait
     gone s (inl is) =
         let number : s.wait ≡ k = ap service_key is ∙ found.number in
         record { entered = rw number out.entered; absent = rw number out.absent }
@@ -222,14 +222,14 @@ apart-delivered o c k a waits = record {
 
 pub apart-entry : (o : Semaphore) (e : Entry) → IsAllowed o e → AreWaitsApart o
     → AreWaitsApart (after_entry o e)
-apart-entry o (entry.TakeNow c) allowed a = apart-same o (taken o) refl refl refl a
+apart-entry o (entry.TakeNow c) allowed a = apart-same o (after_take o) refl refl refl a
 apart-entry o (entry.TakeDoor c) allowed a = apart-same o (at_door o c) refl refl refl a
 apart-entry o (entry.Enter c j) (stands, next) a = record {
   line = rising-push waiting_key 0 o.next (record { wait = j; pass = c }) o.line next a.line;
   served = λ s there. gone-entry o (entry.Enter c j) s.wait (stands, next) (a.served s there);
   apart = a.apart;
 }
-apart-entry o (entry.TryGot c) allowed a = apart-same o (taken o) refl refl refl a
+apart-entry o (entry.TryGot c) allowed a = apart-same o (after_take o) refl refl refl a
 apart-entry o (entry.TryBusy c) allowed a = a
 apart-entry o (entry.GiveFreed c) allowed a =
     apart-same o (record o { held = o.held - 1; free = o.free + 1 }) refl refl refl a

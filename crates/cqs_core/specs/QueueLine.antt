@@ -6,7 +6,7 @@ use Rattle.cqs_core.specs.declared.cells.CoreState.{CoreState}
 use Rattle.cqs_core.specs.declared.cells.CoreState.TheVariants as state
 use Rattle.cqs_core.specs.declared.doings.Doing.{Doing}
 use Rattle.cqs_core.specs.declared.doings.Doing.TheVariants as doing
-use Rattle.cqs_core.specs.Numbered.{picked, count_at}
+use Rattle.cqs_core.specs.Numbered.{pick_each, count_at}
 use Rattle.cqs_core.specs.QueueState.{Queue, owner_doing, is_leaving, has_ticket}
 
 -- a wait in the line: its number, and the pass that drew it
@@ -34,7 +34,7 @@ at_door p (doing.Decided j on) = None
 
 -- the passes at the door, in order of number
 abbrev pub door : Queue → List ℕ
-door q = picked at_door 0 q.doing
+door q = pick_each at_door 0 q.doing
 
 -- a number stays in line while its cell is Empty, Waiter or Value, and while its
 -- cancellation has no answer yet
@@ -62,7 +62,7 @@ in_line passes k cell =
 
 -- the line, in order of number: an owned cell is one that a suspend drew
 abbrev pub line : Queue → List Waiting
-line q = picked (in_line q.doing) 0 q.cells
+line q = pick_each (in_line q.doing) 0 q.cells
 
 abbrev pub service_of : ℕ → CoreState → Option ℕ → Bool → Option Service
 service_of k state.Taken (Some p) collected = Some (record { wait = k; pass = p; is_open = true })
@@ -84,8 +84,8 @@ is_served k cell = service_of k cell.state cell.owner cell.collected
 
 -- the waits that were served, in order of number. One that took its value from the cell
 -- never looks, and stays open
-abbrev pub served : Queue → List Service
-served q = picked is_served 0 q.cells
+abbrev pub services : Queue → List Service
+services q = pick_each is_served 0 q.cells
 
 -- the pass is in the middle of a resumption
 abbrev pub is_resuming : Doing → Bool

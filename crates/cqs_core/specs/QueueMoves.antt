@@ -127,40 +127,40 @@ cells_reached cells (Some found) = cells
 cells_reached cells None = cells ++ fresh_cell ∷ []
 
 -- what a move makes of the queue
-abbrev pub moved : Queue → Move → Queue
-moved q stay = q
-moved q (turn p from to) = now_doing q p to
-moved q (draw p k found) =
+abbrev pub move_queue : Queue → Move → Queue
+move_queue q stay = q
+move_queue q (turn p from to) = now_doing q p to
+move_queue q (draw p k found) =
     record {
       suspends = q.suspends + 1;
       resumes = q.resumes;
       cells = cells_drawn q.cells k p found;
       doing = slice_set q.doing p (doing.Drawn k);
     }
-moved q (install p k found) = now_doing (with_cell q k (at_state found state.Waiter)) p doing.Idle
-moved q (take_value p k found) =
+move_queue q (install p k found) = now_doing (with_cell q k (at_state found state.Waiter)) p doing.Idle
+move_queue q (take_value p k found) =
     now_doing (with_cell q k
     (record { state = state.Taken; owner = found.owner; collected = true })) p doing.Idle
-moved q (reach p k found) =
+move_queue q (reach p k found) =
     record {
       suspends = q.suspends;
       resumes = q.resumes + 1;
       cells = cells_reached q.cells found;
       doing = slice_set q.doing p (doing.Ticket k);
     }
-moved q (serve p k found) = now_doing (with_cell q k (at_state found state.Resumed)) p doing.Idle
-moved q (leave_value p k found) =
+move_queue q (serve p k found) = now_doing (with_cell q k (at_state found state.Resumed)) p doing.Idle
+move_queue q (leave_value p k found) =
     now_doing (with_cell q k (at_state found state.Value)) p doing.Idle
-moved q (delegate p k found) =
+move_queue q (delegate p k found) =
     now_doing (with_cell q k (at_state found state.Delegated)) p doing.Idle
-moved q (pass_over p k found) = now_doing q p doing.Owes
-moved q (meet_refused p k found) = now_doing q p doing.Idle
-moved q (begin_cancel p k found) =
+move_queue q (pass_over p k found) = now_doing q p doing.Owes
+move_queue q (meet_refused p k found) = now_doing q p doing.Idle
+move_queue q (begin_cancel p k found) =
     now_doing (with_cell q k (at_state found state.Cancelling)) p (doing.Leaving k)
-moved q (collect p k found) =
+move_queue q (collect p k found) =
     with_cell q k (record { state = found.state; owner = found.owner; collected = true })
-moved q (decide p k on) = now_doing q p (doing.Decided k on)
-moved q (cancel p k found) = now_doing (with_cell q k (at_state found state.Cancelled)) p doing.Idle
-moved q (cancel_owing p k found) =
+move_queue q (decide p k on) = now_doing q p (doing.Decided k on)
+move_queue q (cancel p k found) = now_doing (with_cell q k (at_state found state.Cancelled)) p doing.Idle
+move_queue q (cancel_owing p k found) =
     now_doing (with_cell q k (at_state found state.Cancelled)) p doing.Owes
-moved q (refuse p k found) = now_doing (with_cell q k (at_state found state.Refused)) p doing.Idle
+move_queue q (refuse p k found) = now_doing (with_cell q k (at_state found state.Refused)) p doing.Idle

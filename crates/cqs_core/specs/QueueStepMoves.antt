@@ -6,7 +6,7 @@ use Rattle.cqs_core.specs.declared.cells.CoreState.TheVariants as state
 use Rattle.cqs_core.specs.declared.doings.Doing.TheVariants as doing
 use Rattle.cqs_core.specs.QueueState.{Queue}
 use Rattle.cqs_core.specs.QueueMoves as move
-use Rattle.cqs_core.specs.QueueMoves.{Move, IsOpen, moved, at_state}
+use Rattle.cqs_core.specs.QueueMoves.{Move, IsOpen, move_queue, at_state}
 use Rattle.cqs_core.specs.QueueSteps.{LookEvent, pends, grants, late, QueueStep, draws, enters, reaches, begins, puts, installs, takes, serves, leaves, delegates, passes_over, ends_refused, ends_missed, starts_leaving, leaves_line, leaves_at_once, settles, settles_owing, refuses, refuses_value, looks}
 
 -- the moves of a step at a cell, where there is one
@@ -51,9 +51,9 @@ moves_of (looks e) p k found = at_found (look_moves e p k) found
 
 abbrev pub moved_all : Queue → List Move → Queue
 moved_all q [] = q
-moved_all q (m ∷ ms) = moved_all (moved q m) ms
+moved_all q (m ∷ ms) = moved_all (move_queue q m) ms
 
 -- each move is open where it is made
 abbrev pub AreOpen : Queue → List Move → Type 0
 AreOpen q [] = Unit {0}
-AreOpen q (m ∷ ms) = IsOpen q m × AreOpen (moved q m) ms
+AreOpen q (m ∷ ms) = IsOpen q m × AreOpen (move_queue q m) ms

@@ -7,7 +7,7 @@ use Rattle.cqs_core.specs.declared.cells.CoreState.TheVariants as state
 use Rattle.cqs_core.specs.Keyed.{without}
 use Rattle.cqs_core.specs.QueueState.{Queue}
 use Rattle.cqs_core.specs.QueueMoves as move
-use Rattle.cqs_core.specs.QueueMoves.{Works, moved}
+use Rattle.cqs_core.specs.QueueMoves.{Works, move_queue}
 use Rattle.cqs_core.specs.QueueSound.{IsSound}
 use Rattle.cqs_core.specs.QueueStages as stage
 use Rattle.cqs_core.specs.QueueStages.{Stage, doing_at, MayWork}
@@ -247,13 +247,13 @@ stage_counted to_suspend = stage.drawn
 stage_counted to_resume = stage.ticket
 
 -- the number is drawn
-abbrev pub counted : Counter → Queue → ℕ → ℕ → Option CoreCell → Queue
-counted to_suspend q p k found = moved q (move.draw p k found)
-counted to_resume q p k found = moved q (move.reach p k found)
+abbrev pub after_count : Counter → Queue → ℕ → ℕ → Option CoreCell → Queue
+after_count to_suspend q p k found = move_queue q (move.draw p k found)
+after_count to_resume q p k found = move_queue q (move.reach p k found)
 
 -- what the step makes of the queue: at a cell, it sets that cell and what the pass does
 abbrev pub row_after : StepRow → Queue → ℕ → ℕ → Option CoreCell → Queue
-row_after (at_counter row) q p k found = counted row.counter q p k found
+row_after (at_counter row) q p k found = after_count row.counter q p k found
 row_after (at_cell row) q p k (Some found) = record {
   suspends = q.suspends;
   resumes = q.resumes;

@@ -5,7 +5,7 @@ use Rattle.cqs_core.specs.declared.errors.CoreError.TheVariants.{Memory, BadSize
 use Rattle.cqs_core.specs.declared.outcomes.Outcome.{Outcome}
 use Rattle.cqs_core.specs.declared.outcomes.Outcome.TheVariants as outcome
 use Rattle.cqs_core.specs.SemaphoreTable.{Shape, Stepped}
-use Rattle.cqs_core.specs.SemaphoreShown.{IsSize, opened}
+use Rattle.cqs_core.specs.SemaphoreShown.{IsSize, opening_shape}
 
 -- An allowed event is made, and one that isn't is refused; being out of memory alone may refuse an
 -- allowed one. Every refusal leaves the core unchanged.
@@ -63,7 +63,7 @@ HasPassed outcome.Granted = ⊥
 -- A core is made where its numbers are in their ranges, and refused elsewhere; being out of memory
 -- alone may refuse one of these numbers.
 abbrev pub Opens : ℕ → ℕ → Result Room CoreError → Type 0
-Opens permits passes (Ok core) = IsSize permits passes × (core.shape ≡ opened permits passes)
+Opens permits passes (Ok core) = IsSize permits passes × (core.shape ≡ opening_shape permits passes)
 Opens permits passes (Err Memory) = IsSize permits passes
 Opens permits passes (Err BadSize) = ¬ IsSize permits passes
 Opens permits passes (Err NotEnabled) = ⊥

@@ -6,7 +6,7 @@ use Rattle.cqs_core.specs.declared.entries.Entry.{Entry}
 use Rattle.cqs_core.specs.declared.entries.Entry.TheVariants as entry
 use Rattle.cqs_core.specs.Histories.{IsLegalFrom}
 use Rattle.cqs_core.specs.Numbered.{IsIn}
-use Rattle.cqs_core.specs.Keyed.{placed, without, changed}
+use Rattle.cqs_core.specs.Keyed.{insert_by, without, change_by}
 use Rattle.cqs_core.specs.QueueLine.{Waiting}
 pub use Rattle.cqs_core.specs.QueueWaiters.{Waits, IsServed, find_wait, with_service}
 use Rattle.cqs_core.specs.SemaphoreObject.{Semaphore, opening, due}
@@ -27,14 +27,14 @@ IsAllowed o (entry.LookGranted c k) = IsServed k c o.served
 IsAllowed o (entry.LookPending c k) = Waits k c o.line
 
 -- one permit goes from the free ones to a caller
-abbrev pub taken : Semaphore → Semaphore
-taken o = record o { free = o.free - 1; held = o.held + 1 }
+abbrev pub after_take : Semaphore → Semaphore
+after_take o = record o { free = o.free - 1; held = o.held + 1 }
 
 abbrev pub at_door : Semaphore → ℕ → Semaphore
-at_door o c = record o { door = placed (λ d. d) c o.door }
+at_door o c = record o { door = insert_by (λ d. d) c o.door }
 
-abbrev pub entered : Semaphore → ℕ → ℕ → Semaphore
-entered o c k =
+abbrev pub after_enter : Semaphore → ℕ → ℕ → Semaphore
+after_enter o c k =
     record o {
       door = without (λ d. d) c o.door;
       line = o.line ++ record { wait = k; pass = c } ∷ [];
@@ -42,8 +42,8 @@ entered o c k =
     }
 
 -- a permit on its way reaches wait k
-abbrev pub delivered : Semaphore → ℕ → Semaphore
-delivered o k =
+abbrev pub after_deliver : Semaphore → ℕ → Semaphore
+after_deliver o k =
     record o {
       way = o.way - 1;
       held = o.held + 1;
@@ -55,30 +55,30 @@ delivered o k =
 abbrev pub turned_back : Semaphore → Semaphore
 turned_back o = if nat_lt (due o) o.way then record o { way = o.way - 1; free = o.free + 1 } else o
 
-abbrev pub left : Semaphore → ℕ → Semaphore
-left o k = turned_back (record o { line = without (λ w. w.wait) k o.line })
+abbrev pub after_leave : Semaphore → ℕ → Semaphore
+after_leave o k = turned_back (record o { line = without (λ w. w.wait) k o.line })
 
 -- the permit of wait k has been looked at
-abbrev pub closed : Semaphore → ℕ → Semaphore
-closed o k =
+abbrev pub after_look : Semaphore → ℕ → Semaphore
+after_look o k =
     record o {
-      served = changed (λ s. s.wait) k
+      served = change_by (λ s. s.wait) k
           (λ s. record { wait = s.wait; pass = s.pass; is_open = false }) o.served;
     }
 
 -- what an entry changes
 abbrev pub after_entry : Semaphore → Entry → Semaphore
-after_entry o (entry.TakeNow c) = taken o
+after_entry o (entry.TakeNow c) = after_take o
 after_entry o (entry.TakeDoor c) = at_door o c
-after_entry o (entry.Enter c k) = entered o c k
-after_entry o (entry.TryGot c) = taken o
+after_entry o (entry.Enter c k) = after_enter o c k
+after_entry o (entry.TryGot c) = after_take o
 after_entry o (entry.TryBusy c) = o
 after_entry o (entry.GiveFreed c) = record o { held = o.held - 1; free = o.free + 1 }
 after_entry o (entry.GiveSent c) = record o { held = o.held - 1; way = o.way + 1 }
-after_entry o (entry.Deliver k) = delivered o k
-after_entry o (entry.Leave c k) = left o k
-after_entry o (entry.Late c k) = closed o k
-after_entry o (entry.LookGranted c k) = closed o k
+after_entry o (entry.Deliver k) = after_deliver o k
+after_entry o (entry.Leave c k) = after_leave o k
+after_entry o (entry.Late c k) = after_look o k
+after_entry o (entry.LookGranted c k) = after_look o k
 after_entry o (entry.LookPending c k) = o
 
 -- the semaphore after a history

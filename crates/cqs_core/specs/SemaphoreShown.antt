@@ -22,14 +22,14 @@ short_of (pos n) = 0
 short_of (negsuc n) = n + 1
 
 -- the fair semaphore that a core shows
-abbrev pub shown : Shape → Semaphore
-shown s = record {
+abbrev pub shown_semaphore : Shape → Semaphore
+shown_semaphore s = record {
   free = free_of s.state;
   way = queue.way s.queue;
   door = queue.door s.queue;
   line = queue.line s.queue;
   next = s.queue.suspends;
-  served = queue.served s.queue;
+  served = queue.services s.queue;
   held = sum s.held + queue.ready s.queue;
 }
 
@@ -44,7 +44,7 @@ pub record Shows (s : Shape) (o : Semaphore) : Type 0 where
   pub door : o.door ≡ queue.door s.queue
   pub line : o.line ≡ queue.line s.queue
   pub way : o.way + queue.ending s.queue ≡ queue.going s.queue
-  pub served : o.served ≡ queue.served s.queue
+  pub served : o.served ≡ queue.services s.queue
   pub held : o.held ≡ sum s.held + queue.ready s.queue
 
 -- a pass that tries has loaded a state above 0
@@ -75,7 +75,7 @@ pub record IsCore (s : Shape) : Type 0 where
   pub loaded : EachAt HasLoaded s.queue.doing
   pub holders : length s.held ≡ length s.queue.doing
   pub legal : IsLegal s.permits s.history
-  pub object : object_after s.permits s.history ≡ shown s
+  pub object : object_after s.permits s.history ≡ shown_semaphore s
   -- the state word tells how many wait with no permit on its way
   pub short : queue.going s.queue + short_of s.state ≡ queue.due s.queue + queue.ending s.queue
   -- no permit is lost
@@ -84,8 +84,8 @@ pub record IsCore (s : Shape) : Type 0 where
       ≡ s.permits + queue.ending s.queue
 
 -- a core as it is made
-abbrev pub opened : ℕ → ℕ → Shape
-opened permits passes = record {
+abbrev pub opening_shape : ℕ → ℕ → Shape
+opening_shape permits passes = record {
   permits = permits;
   state = pos permits;
   held = replicate passes 0;

@@ -70,8 +70,8 @@ gain_of (at_counter row) = nothing
 gain_of (at_cell row) = row.gain
 
 -- the core after the step
-abbrev pub stepped : Shape → QueueStep → ℕ → ℕ → Option CoreCell → Shape
-stepped s step p k found = record {
+abbrev pub shape_after : Shape → QueueStep → ℕ → ℕ → Option CoreCell → Shape
+shape_after s step p k found = record {
   permits = s.permits;
   state = s.state;
   held = held_by (gain_of (row_of step)) s.held p;
@@ -85,4 +85,4 @@ EveryStepKeepsTheCore =
     → IsSemaphoreStep step
     → IsOpenStep s.queue step p k found → s.queue.suspends < last_number
     → s.queue.resumes < last_number
-    → IsCore (stepped s step p k found)
+    → IsCore (shape_after s step p k found)

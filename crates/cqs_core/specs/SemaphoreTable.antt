@@ -16,7 +16,7 @@ use Rattle.cqs_core.specs.declared.outcomes.Outcome.{Outcome}
 use Rattle.cqs_core.specs.declared.outcomes.Outcome.TheVariants as outcome
 use Rattle.cqs_core.specs.QueueState.{Queue}
 use Rattle.cqs_core.specs.QueueMoves as move
-use Rattle.cqs_core.specs.QueueMoves.{Move, moved}
+use Rattle.cqs_core.specs.QueueMoves.{Move, move_queue}
 
 -- A core: the permits that it was made with, the state word, what each pass holds, the
 -- history, and the queue part.
@@ -52,7 +52,7 @@ abbrev pub records : Shape → Entry → Shape
 records s e = record s { history = s.history ++ e ∷ [] }
 
 abbrev pub moves : Shape → Move → Shape
-moves s m = record s { queue = moved s.queue m }
+moves s m = record s { queue = move_queue s.queue m }
 
 abbrev pub answers : Shape → Outcome → Option Stepped
 answers s o = Some (record { shape = s; outcome = o })

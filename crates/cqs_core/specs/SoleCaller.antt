@@ -16,7 +16,7 @@ use Rattle.cqs_core.specs.QueueLine.{Waiting}
 use Rattle.cqs_core.specs.Resting.{IsIdle}
 use Rattle.cqs_core.specs.SemaphoreEntries.{find_wait, Waits, IsServed, after_entry}
 use Rattle.cqs_core.specs.SemaphoreObject.{Semaphore}
-use Rattle.cqs_core.specs.SemaphoreShown.{shown}
+use Rattle.cqs_core.specs.SemaphoreShown.{shown_semaphore}
 use Rattle.cqs_core.specs.SemaphoreTable.{Shape}
 
 -- what a call does to the plain semaphore: the entries that it appends, and its reply
@@ -64,11 +64,11 @@ HasWait k p o = Waits k p o.line ⊎ IsServed k p o.served
 
 -- where a sole caller's call is allowed
 abbrev pub MayCall : Shape → Call → Type 0
-MayCall s (call.Acquire p) = (p < length s.queue.doing) × (length (shown s).line < most_waiters)
+MayCall s (call.Acquire p) = (p < length s.queue.doing) × (length (shown_semaphore s).line < most_waiters)
 MayCall s (call.Try p) = p < length s.queue.doing
 MayCall s (call.Release p) = 0 < slice_index s.held p
-MayCall s (call.Poll p k) = HasWait k p (shown s)
-MayCall s (call.Cancel p k) = HasWait k p (shown s)
+MayCall s (call.Poll p k) = HasWait k p (shown_semaphore s)
+MayCall s (call.Cancel p k) = HasWait k p (shown_semaphore s)
 
 -- No suspend found its value before it came. It never does where a sole caller made all the
 -- calls; a wait of such a cell is closed from the start, though the plain semaphore counts it
@@ -106,8 +106,8 @@ held_after held c answer = held_by held (caller c) answer
 -- a call was made as a sole caller's, and every pass is idle again
 pub record IsSoleCall (old : Shape) (c : Call) (answer : Reply) (new : Shape) : Type 0 where
   pub allowed : MayCall old c
-  pub appended : new.history ≡ old.history ++ (sole_call (shown old) c).entries
-  pub replied : answer ≡ (sole_call (shown old) c).answer
+  pub appended : new.history ≡ old.history ++ (sole_call (shown_semaphore old) c).entries
+  pub replied : answer ≡ (sole_call (shown_semaphore old) c).answer
   pub held : new.held ≡ held_after old.held c answer
   pub permits : new.permits ≡ old.permits
   pub idle : IsIdle new.queue.doing
@@ -116,7 +116,7 @@ pub record IsSoleCall (old : Shape) (c : Call) (answer : Reply) (new : Shape) : 
 
 -- the semaphore that is shown afterwards is the one after the call's entries
 abbrev pub ShowsNext : Shape → Call → Shape → Type 0
-ShowsNext old c new = shown new ≡ fold after_entry (shown old) (sole_call (shown old) c).entries
+ShowsNext old c new = shown_semaphore new ≡ fold after_entry (shown_semaphore old) (sole_call (shown_semaphore old) c).entries
 
 -- a call was refused as a sole caller's
 abbrev pub IsSoleRefusal : Shape → Call → Type 0
@@ -124,7 +124,7 @@ IsSoleRefusal s c = NoneTaken s → ¬ MayCall s c
 
 -- a cell tells a sole caller of its wait: a Waiter stands in the line, and a Resumed one was served
 pub record TellsWait (s : Shape) (k : ℕ) (found : Option CoreCell) : Type 0 where
-  pub waits : (p : ℕ) → Waits k p (shown s).line
+  pub waits : (p : ℕ) → Waits k p (shown_semaphore s).line
       → IsSomeAnd found (λ cell. cell.state ≡ state.Waiter)
-  pub served : (p : ℕ) → IsServed k p (shown s).served
+  pub served : (p : ℕ) → IsServed k p (shown_semaphore s).served
       → IsSomeAnd found (λ cell. cell.state ≡ state.Resumed)

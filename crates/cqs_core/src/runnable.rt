@@ -4,7 +4,7 @@ ghost use Rattle.std.specs.Prelude.{◌≡◌, ◌+◌, ◌<◌, ◌≤◌, Err,
 ghost use Rattle.cqs_core.specs.SemaphoreAnswers.{Makes, MakesReady, Opens};
 ghost use Rattle.cqs_core.specs.SemaphoreCalls.{MakesCall, MakesCallReady, course};
 ghost use Rattle.cqs_core.specs.SemaphoreEntries.{object_after, IsBalanced, IsLegal};
-ghost use Rattle.cqs_core.specs.SemaphoreShown.{Shows, shown};
+ghost use Rattle.cqs_core.specs.SemaphoreShown.{Shows, shown_semaphore};
 ghost use Rattle.cqs_core.specs.SemaphoreTable.{step};
 ghost use Rattle.cqs_core.specs.Resting.{IsIdle, IsResting};
 ghost use Rattle.cqs_core.specs.SoleCaller.{IsSoleCall, IsSoleRefusal, NoneTaken, ShowsNext, TellsWait};
@@ -185,7 +185,7 @@ impl Core {
         // that the core shows.
         ensures legal { IsLegal self.now.shape.permits self.now.shape.history }
         ensures object { object_after self.now.shape.permits self.now.shape.history
-            ≡ shown self.now.shape }
+            ≡ shown_semaphore self.now.shape }
         ensures shows { Shows self.now.shape
             (object_after self.now.shape.permits self.now.shape.history) }
         ensures balanced { IsBalanced self.now.shape.permits

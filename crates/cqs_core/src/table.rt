@@ -9,7 +9,7 @@ ghost use Rattle.cqs_core.specs.declared.events.Event.TheVariants as event;
 ghost use Rattle.cqs_core.specs.QueueMoves.{cells_drawn, cells_reached};
 ghost use Rattle.cqs_core.specs.SemaphoreAnswers.{MakesReady, HasPassed};
 ghost use Rattle.cqs_core.specs.SemaphoreTable.{step, is_with as wait_is_with};
-ghost use Rattle.cqs_core.specs.SemaphoreShown.{opened};
+ghost use Rattle.cqs_core.specs.SemaphoreShown.{opening_shape};
 ghost use Rattle.cqs_core.specs.SemaphoreWords.{FitsWords};
 
 use crate::cells::{CoreCell, CoreState};
@@ -66,7 +66,7 @@ impl Model for Table {
 impl Table {
     /// A table before any event: every permit is free, and every pass is idle.
     pub fn new(alloc: Global, permits: u32, passes: u32) -> Result<Self, AllocError>
-        ensures { IfOk result (λ table. table.shape ≡ opened permits passes) }
+        ensures { IfOk result (λ table. table.shape ≡ opening_shape permits passes) }
     {
         Ok(Table {
             permits,

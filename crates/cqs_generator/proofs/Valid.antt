@@ -17,7 +17,7 @@ use Rattle.cqs_plan.specs.Runnable.{AreSized, IsRunnable}
 use Rattle.cqs_plan.specs.Validity.{IsJob, IsKind, IsResource, IsStep, IsValid, ArrivesInRounds, GivesWhatItTook}
 use Rattle.cqs_plan.proofs.RunnablePlans.{runnable}
 use Rattle.cqs_generator.specs.Draws.{draw}
-use Rattle.cqs_generator.specs.Generated.{resources, steps_of, deadline_of, job_of, nth_job, generated}
+use Rattle.cqs_generator.specs.Generated.{resources, steps_of, deadline_of, job_of, nth_job, plan_of_number}
 
 -- a digit may stand in a name
 digit-named : (n : ℕ) → n < 10 → is_name_byte (48 + n) ≡ true
@@ -111,13 +111,13 @@ in-order : AreInOrder resources
 in-order = record { order = search rules; distinct = search rules }
 
 module _ (number jobs : ℕ) (some : 1 ≤ jobs) (few : jobs ≤ 4096) where
-  many : length (generated number jobs).jobs ≡ jobs
+  many : length (plan_of_number number jobs).jobs ≡ jobs
   many = length-map-range_with_len (nth_job number) 0 jobs
 
-  at-place : (k : ℕ) (d : Job) → k < jobs → get_or (generated number jobs).jobs k d ≡ nth_job number k
+  at-place : (k : ℕ) (d : Job) → k < jobs → get_or (plan_of_number number jobs).jobs k d ≡ nth_job number k
   at-place k d below = get_or-map-range_with_len (nth_job number) 0 jobs k k d below (omega arith)
 
-  pub generated-valid : IsValid (generated number jobs)
+  pub generated-valid : IsValid (plan_of_number number jobs)
   generated-valid = record {
     version = refl;
     turns = (omega arith, omega arith);
@@ -129,7 +129,7 @@ module _ (number jobs : ℕ) (some : 1 ≤ jobs) (few : jobs ≤ 4096) where
         let inside : k < jobs = rw (← many) below in
         rw (at-place k d inside)
         (job-is k (draw number (3 * k)) (draw number (3 * k + 1)) (draw number (3 * k + 2)) (omega arith));
-    parties = record { at = λ at r there. no-parties (arriving at (generated number jobs).jobs) at r there };
+    parties = record { at = λ at r there. no-parties (arriving at (plan_of_number number jobs).jobs) at r there };
     names = λ i j d less below.
         let inside : j < jobs = rw (← many) below in
         rw (at-place i d (omega arith), at-place j d inside) (λ same.
@@ -138,5 +138,5 @@ module _ (number jobs : ℕ) (some : 1 ≤ jobs) (few : jobs ≤ 4096) where
         absurd (omega arith));
   }
 
-  pub generated-runnable : IsRunnable (generated number jobs)
-  generated-runnable = runnable (generated number jobs) generated-valid
+  pub generated-runnable : IsRunnable (plan_of_number number jobs)
+  generated-runnable = runnable (plan_of_number number jobs) generated-valid

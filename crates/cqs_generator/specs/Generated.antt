@@ -40,8 +40,8 @@ nth_job number i =
     job_of i (draw number (3 * i)) (draw number (3 * i + 1)) (draw number (3 * i + 2))
 
 -- the plan of this number, with so many jobs
-abbrev pub generated : ℕ → ℕ → Plan
-generated number jobs = record {
+abbrev pub plan_of_number : ℕ → ℕ → Plan
+plan_of_number number jobs = record {
   version = 1;
   turns = 8 * jobs + 16;
   resources = resources;

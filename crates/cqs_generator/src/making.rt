@@ -4,7 +4,7 @@ ghost use Rattle.std.specs.Prelude.{◌≡◌, ◌*◌, ◌+◌, ◌<◌, ◌≤
 ghost use Rattle.cqs_plan.specs.Validity.{IsValid};
 ghost use Rattle.cqs_plan.specs.Runnable.{AreSized, IsRunnable};
 ghost use Rattle.cqs_generator.specs.Draws.{number_of, next_state};
-ghost use Rattle.cqs_generator.specs.Generated.{generated, job_of, resources, deadline_of, steps_of};
+ghost use Rattle.cqs_generator.specs.Generated.{plan_of_number, job_of, resources, deadline_of, steps_of};
 
 use crate::draws::Draws;
 use cqs_plan::{Job, Jobs, Kind, Memory, Name, Plan, Resource, Resources, Step, Steps};
@@ -17,7 +17,7 @@ use std::alloc::Global;
 pub fn make_plan(alloc: Global, number: u32, jobs: u32) -> Result<Plan, Memory>
     requires number { number < 2 ^ 31 }
     requires jobs { (1 ≤ jobs) × (jobs ≤ 4096) }
-    ensures plan { IfOk result (λ plan. plan ≡ generated number jobs) }
+    ensures plan { IfOk result (λ plan. plan ≡ plan_of_number number jobs) }
     ensures valid { IfOk result IsValid }
     ensures runnable { IfOk result IsRunnable }
     ensures sized { IfOk result (λ plan. AreSized plan.resources) }
@@ -56,7 +56,7 @@ fn name_of(alloc: Global, text: &str) -> Result<Name, Memory>
 /// The jobs, each of which has the next three numbers that are drawn.
 fn make_jobs(alloc: Global, number: u32, jobs: u32) -> Result<Jobs, Memory>
     requires number { number < 2 ^ 31 }
-    ensures { IfOk result (λ made. made ≡ (generated number jobs).jobs) }
+    ensures { IfOk result (λ made. made ≡ (plan_of_number number jobs).jobs) }
 {
     let mut draws = Draws::new(number);
     let mut made = Vec::with_capacity(alloc, jobs as usize)?;

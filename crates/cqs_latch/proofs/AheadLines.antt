@@ -7,8 +7,8 @@ use Rattle.std.proofs.lemmas.Option.{same_Some}
 use Rattle.cqs_core.specs.declared.cells.CoreCell.{CoreCell}
 use Rattle.cqs_core.specs.declared.cells.CoreState.{CoreState}
 use Rattle.cqs_core.specs.declared.cells.CoreState.TheVariants as state
-use Rattle.cqs_core.specs.Keyed.{without, placed}
-use Rattle.cqs_core.specs.Numbered.{IsIn, picked, cons_option}
+use Rattle.cqs_core.specs.Keyed.{without, insert_by}
+use Rattle.cqs_core.specs.Numbered.{IsIn, pick_each, cons_option}
 use Rattle.cqs_core.specs.QueueLine as queue
 use Rattle.cqs_core.specs.QueueLine.{Waiting, Service, in_line, is_served, service_of}
 use Rattle.cqs_core.specs.QueueState.{Queue}
@@ -36,13 +36,13 @@ cons-rising key (Some y) k high ys named rising =
     (omega arith, subst (λ n. IsRising key (n + 1) high ys) (sym is) rising)
 
 pub picked-rising : {X Y : Type 0} (f : ℕ → X → Option Y) (key : Y → ℕ) → IsKeyed f key → (k high : ℕ) (xs : List X)
-    → high ≡ k + length xs → IsRising key k high (picked f k xs)
+    → high ≡ k + length xs → IsRising key k high (pick_each f k xs)
 picked-rising f key keyed k high [] is = omega arith
 picked-rising f key keyed k high (x ∷ xs) is =
     let next : suc k ≡ k + 1 = omega arith in
     let rest = picked-rising f key keyed (suc k) high xs (omega arith) in
-    cons-rising key (f k x) k high (picked f (suc k) xs) (λ y some. keyed.at k x y some)
-    (subst (λ n. IsRising key n high (picked f (suc k) xs)) next rest)
+    cons-rising key (f k x) k high (pick_each f (suc k) xs) (λ y some. keyed.at k x y some)
+    (subst (λ n. IsRising key n high (pick_each f (suc k) xs)) next rest)
 
 -- what is read was read off an element
 pub record Read {X Y : Type 0} (f : ℕ → X → Option Y) (k : ℕ) (xs : List X) (y : Y) : Type 0 where
@@ -55,13 +55,13 @@ cons-in : {Y : Type 0} (o : Option Y) (y : Y) (ys : List Y) → IsIn y (cons_opt
 cons-in None y ys stands = inr stands
 cons-in (Some z) y ys stands = ⊎_elim (λ e. inl (ap (λ u. Some u) (sym e))) (λ l. inr l) (in-behind y z ys stands)
 
-pub read-off : {X Y : Type 0} (f : ℕ → X → Option Y) (k : ℕ) (xs : List X) (y : Y) → IsIn y (picked f k xs)
+pub read-off : {X Y : Type 0} (f : ℕ → X → Option Y) (k : ℕ) (xs : List X) (y : Y) → IsIn y (pick_each f k xs)
     → Read f k xs y
 read-off f k [] y stands = absurd (in-none y stands)
 read-off f k (x ∷ xs) y stands =
-    go (cons-in (f k x) y (picked f (suc k) xs) stands) (λ later. read-off f (suc k) xs y later)
+    go (cons-in (f k x) y (pick_each f (suc k) xs) stands) (λ later. read-off f (suc k) xs y later)
   where
-    go : (f k x ≡ Some y) ⊎ IsIn y (picked f (suc k) xs) → (IsIn y (picked f (suc k) xs) → Read f (suc k) xs y)
+    go : (f k x ≡ Some y) ⊎ IsIn y (pick_each f (suc k) xs) → (IsIn y (pick_each f (suc k) xs) → Read f (suc k) xs y)
         → Read f k (x ∷ xs) y
     go (inl here) rest =
         let same : k + 0 ≡ k = omega arith in
@@ -76,11 +76,11 @@ read-off f k (x ∷ xs) y stands =
           reads = ap (λ n. f n r.element) same ∙ r.reads;
         }
 
-pub in-placed : {Y : Type 0} (key : Y → ℕ) (y : Y) (ys : List Y) → IsIn y (placed key y ys)
+pub in-placed : {Y : Type 0} (key : Y → ℕ) (y : Y) (ys : List Y) → IsIn y (insert_by key y ys)
 in-placed key y [] = record { place = 0; there = refl }
 in-placed key y (z ∷ zs) = go (nat_lt (key y) (key z)) (in-placed key y zs)
   where
-    go : (b : Bool) → IsIn y (placed key y zs) → IsIn y (if b then y ∷ z ∷ zs else z ∷ placed key y zs)
+    go : (b : Bool) → IsIn y (insert_by key y zs) → IsIn y (if b then y ∷ z ∷ zs else z ∷ insert_by key y zs)
     go true rest = record { place = 0; there = refl }
     go false rest = record { place = suc rest.place; there = rest.there }
 
@@ -142,7 +142,7 @@ module _ (q : Queue) (sound : IsSound q) (idle : IsIdle q.doing) where
           let none : in_line q.doing i cell ≡ None = not-in_line q sound idle i cell there other in
           absurd (cc)
 
-  pub served-reached : (y : Service) → IsIn y (queue.served q) → y.wait < q.resumes
+  pub served-reached : (y : Service) → IsIn y (queue.services q) → y.wait < q.resumes
   served-reached y stands =
       let r = read-off is_served 0 q.cells y stands in
       let same : 0 + r.place ≡ r.place = zero-add r.place in
@@ -160,7 +160,7 @@ pub served-first : (q : Queue) (w : Waiters) (k c : ℕ) → IsSound q → IsIdl
 served-first q w k c sound idle low high rising waits shows =
     let found = found-waits k c w.line waits in
     let y : Service = record { wait = found.wait.wait; pass = found.wait.pass; is_open = true } in
-    let there : IsIn y (placed (λ (s : Service). s.wait) y w.served) =
+    let there : IsIn y (insert_by (λ (s : Service). s.wait) y w.served) =
     in-placed (λ (s : Service). s.wait) y w.served in
     let there_too : IsIn y (is_reached w k).served =
     subst (λ z. IsIn y (with_service z w.served)) (sym found.is) there in
@@ -184,7 +184,7 @@ none-there k r (x ∷ line) low ahead =
     let other : x.wait == k ≡ false = ne_eqb x.wait k (λ same. absurd (omega (arith, low, past, same))) in
     rw other (none-there k r line low (λ y stands. ahead y (record { place = suc stands.place; there = stands.there })))
 
-pub served-past : (q : Queue) (k c : ℕ) → IsSound q → IsIdle q.doing → IsServed k c (queue.served q)
+pub served-past : (q : Queue) (k c : ℕ) → IsSound q → IsIdle q.doing → IsServed k c (queue.services q)
     → list_any (λ (w : Waiting). w.wait == k) (queue.line q) ≡ false
 served-past q k c sound idle served =
     none-there k q.resumes (queue.line q)

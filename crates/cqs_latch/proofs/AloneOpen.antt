@@ -18,7 +18,7 @@ use Rattle.cqs_latch_object.specs.declared.entries.LatchEntry.{LatchEntry}
 use Rattle.cqs_latch_object.specs.declared.entries.LatchEntry.TheVariants as entry
 use Rattle.cqs_latch_object.specs.LatchEntries.{object_after, after_entry}
 use Rattle.cqs_latch_object.specs.LatchObject.{Latch, opening}
-use Rattle.cqs_latch_object.specs.LatchShown.{IsLatch, IsOpened, as_read, read_as, shown}
+use Rattle.cqs_latch_object.specs.LatchShown.{IsLatch, IsOpened, as_read, read_as, shown_latch}
 use Rattle.cqs_rule.specs.declared.view.Has.{Has}
 use Rattle.cqs_rule.specs.declared.view.Opening.{Opening}
 use Rattle.cqs_rule.specs.declared.view.View.{View}
@@ -78,7 +78,7 @@ module _ {T : Type 0} where
   -- what the pass has seen, as the plain latch, and as the queue of a pass that is alone shows it
   pub shows-plain_after : (v : View LatchEntry T) (a : IsAlone primitive_of v)
       → plain_after v
-      ≡ shown (as_read (latch_shown (mode_of a.client) (count_of a.client) a.hidden a.words v.seen))
+      ≡ shown_latch (as_read (latch_shown (mode_of a.client) (count_of a.client) a.hidden a.words v.seen))
   shows-plain_after v a = sym (ap (λ o. object_of o v.seen) a.opening_is) ∙ a.shown.core.object
 
   -- every pass is idle

@@ -4,7 +4,7 @@ use Rattle.std.proofs.lemmas.List.{append-nil}
 use Rattle.cqs_latch_object.specs.declared.entries.LatchEntry.{LatchEntry}
 use Rattle.cqs_latch_object.specs.LatchObject.{Latch, due}
 use Rattle.cqs_latch_object.specs.LatchEntries.{object_after}
-use Rattle.cqs_latch_object.specs.LatchShown.{LatchShape, left_of, shown, as_read, IsLatchCore}
+use Rattle.cqs_latch_object.specs.LatchShown.{LatchShape, left_of, shown_latch, as_read, IsLatchCore}
 use Rattle.cqs_latch_object.proofs.LatchBounds.{every-count-is-high, core-counted, core-next}
 use Rattle.cqs_latch.specs.declared.client.LatchClient.{LatchClient}
 use Rattle.cqs_latch.specs.Latch.{is_simple, latch_shown, latch_object, latch_primitive}
@@ -35,7 +35,7 @@ module _ {T : Type 0} where
     abbrev shape : LatchShape
     shape = latch_shown (mode_of was.client) (count_of was.client) was.hidden was.words history
 
-    shown-is : plain opening history ≡ shown (as_read shape)
+    shown-is : plain opening history ≡ shown_latch (as_read shape)
     shown-is = sym (ap (λ (o : Opening). plain o history) was.opening_is) ∙ was.shown.core.object
 
   reads-count : (opening : Opening) (n : ℕ) (history : List LatchEntry)

@@ -32,7 +32,7 @@ use Rattle.cqs_rule.specs.declared.view.Has.{Has}
 use Rattle.cqs_rule.specs.declared.config.CancelMode.{CancelMode}
 use Rattle.cqs_rule.specs.declared.config.CancelMode.TheVariants.{Smart, Simple}
 use Rattle.cqs_rule.specs.Client.{IsClient, IsPaid, IsPayload, IsBegun, begun_by, no_number}
-use Rattle.cqs_rule.specs.Hidden.{Hidden, happened, has_after, has_gained, has_paid, has_both, has_none, hands_over}
+use Rattle.cqs_rule.specs.Hidden.{Hidden, hidden_after, has_after, has_gained, has_paid, has_both, has_none, hands_over}
 use Rattle.cqs_rule.specs.Lists.{NamesOnly}
 use Rattle.cqs_rule.specs.Manner.{Suits}
 use Rattle.cqs_rule.specs.Opened.{first_hidden, four}
@@ -305,7 +305,7 @@ steps-latch : (mode : CancelMode) (size : ℕ) (c : Hidden) (t : QueueStep) (p k
     → ShowsLatch mode size c words log → IsOpenStep c.queue t p k found
     → slice_get c.has p ≡ Some has → IsPayload (row_of t) has (c.payloads k) payload
     → Suits (latch_manner mode) t → c.queue.suspends < no_number
-    → ShowsLatch mode size (happened nothing_more c t p k found has payload) words
+    → ShowsLatch mode size (hidden_after nothing_more c t p k found has payload) words
     (log ++ step_entries t p k)
 steps-latch mode size c t p k found has payload words log shows opens there paid suits low =
     let s = latch_shown mode size c words log in

@@ -4,7 +4,7 @@ use Rattle.std.specs.List.{count_by}
 use Rattle.std.proofs.lemmas.Bool.{both_ways}
 use Rattle.std.proofs.lemmas.List.{length_push, take_all}
 use Rattle.cqs_core.specs.Numbered.{IsIn}
-use Rattle.cqs_core.specs.Keyed.{placed, without}
+use Rattle.cqs_core.specs.Keyed.{insert_by, without}
 use Rattle.cqs_core.specs.QueueLine.{Waiting}
 use Rattle.cqs_core.specs.QueueWaiters.{Waits}
 use Rattle.cqs_core.proofs.Counts.{bit, count_by-push}
@@ -30,7 +30,7 @@ balanced-left : (simple opened : Bool) (way line fewer door : ℕ) (k : ℕ) (ho
     → fewer + 1 ≡ line → (opened ≡ true → way ≡ door + line + length holes) → opened ≡ true
     → way_left simple opened way ≡ door + fewer + length (holes_left simple k holes)
 balanced-left true opened way line fewer door k holes shorter ways is =
-    let longer : length (placed (λ h. h) k holes) ≡ length holes + 1 = length-placed (λ h. h) k holes in
+    let longer : length (insert_by (λ h. h) k holes) ≡ length holes + 1 = length-placed (λ h. h) k holes in
     let all = ways is in
     omega arith
 balanced-left false true way line fewer door k holes shorter ways is = let all = ways refl in omega arith

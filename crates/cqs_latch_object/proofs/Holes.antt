@@ -7,12 +7,12 @@ use Rattle.cqs_core.specs.declared.cells.CoreState.{CoreState}
 use Rattle.cqs_core.specs.declared.cells.CoreState.TheVariants as state
 use Rattle.cqs_core.specs.declared.doings.Doing.{Doing}
 use Rattle.cqs_core.specs.declared.doings.Doing.TheVariants as doing
-use Rattle.cqs_core.specs.Numbered.{IsIn, picked, count_at}
-use Rattle.cqs_core.specs.Keyed.{placed, without}
+use Rattle.cqs_core.specs.Numbered.{IsIn, pick_each, count_at}
+use Rattle.cqs_core.specs.Keyed.{insert_by, without}
 use Rattle.cqs_core.specs.QueueState.{Queue, is_ticket, has_ticket}
 use Rattle.cqs_core.specs.QueueLine.{ending, is_told_refused, is_unmet, is_unmet_refusal}
 use Rattle.cqs_core.specs.QueueMoves as move
-use Rattle.cqs_core.specs.QueueMoves.{Works, moved, now_doing, with_cell, at_state, cells_drawn}
+use Rattle.cqs_core.specs.QueueMoves.{Works, move_queue, now_doing, with_cell, at_state, cells_drawn}
 use Rattle.cqs_core.specs.QueueSound.{IsSound, IsSoundAt, IsTicket, IsUntaken}
 use Rattle.cqs_core.proofs.Counts.{count_at-agree}
 use Rattle.cqs_core.proofs.DrawMoves.{picked-reached, unmet-reached}
@@ -97,27 +97,27 @@ pub holes-there : (q : Queue) (p : ℕ) (from to : Doing) (k : ℕ) (found : Cor
     → ((m : ℕ) → m ≢ k → is_ticket m to ≡ is_ticket m from)
     → IsUnrefused found.state → holes (now_doing q p to) ≡ holes q
 holes-there q p from to k found does finds same was =
-    subst (λ (cells : List CoreCell). picked (is_hole q.resumes (set q.doing p to)) 0 cells ≡ holes q)
+    subst (λ (cells : List CoreCell). pick_each (is_hole q.resumes (set q.doing p to)) 0 cells ≡ holes q)
     (set-same q.cells k found finds) (holes-write q p from to k found found does finds same was was)
 
 -- the counter passes a hole, and its ticket opens: it stays
 pub holes-reached : (q : Queue) (p : ℕ) (found : Option CoreCell) → slice_get q.doing p ≡ Some doing.Owes
-    → holes (moved q (move.reach p q.resumes found)) ≡ holes q
+    → holes (move_queue q (move.reach p q.resumes found)) ≡ holes q
 holes-reached q p found does =
     picked-reached (is_hole (q.resumes + 1) (set q.doing p (doing.Ticket q.resumes))) (λ n. refl) q.cells found
     ∙ sym (picked-same (is_hole q.resumes q.doing) (is_hole (q.resumes + 1) (set q.doing p (doing.Ticket q.resumes)))
     (λ k cell. ap (hole_of k) (unmet-reached q p k cell.state does)) 0 q.cells)
 
 pub holes-begun : (q : Queue) (p : ℕ) (found : Option CoreCell) → slice_get q.doing p ≡ Some doing.Idle
-    → holes (moved q (move.reach p q.resumes found)) ≡ holes q
+    → holes (move_queue q (move.reach p q.resumes found)) ≡ holes q
 holes-begun q p found does =
-    let owing : Queue = moved q (move.turn p doing.Idle doing.Owes) in
+    let owing : Queue = move_queue q (move.turn p doing.Idle doing.Owes) in
     subst (λ (r : Queue). holes r ≡ holes q) (turn-reach q p found)
     (holes-reached owing p found (get-set_here q.doing p doing.Idle doing.Owes does)
     ∙ holes-turn q p doing.Idle doing.Owes does (λ m. refl))
 
 pub holes-drawn : (q : Queue) (p : ℕ) (found : Option CoreCell) → IsSound q → slice_get q.doing p ≡ Some doing.Door
-    → slice_get q.cells q.suspends ≡ found → holes (moved q (move.draw p q.suspends found)) ≡ holes q
+    → slice_get q.cells q.suspends ≡ found → holes (move_queue q (move.draw p q.suspends found)) ≡ holes q
 holes-drawn q p found sound does finds =
     at found finds ∙ holes-turn q p doing.Door (doing.Drawn q.suspends) does (λ m. refl)
   where
@@ -133,8 +133,8 @@ holes-drawn q p found sound does finds =
     new s b = record { state = s; owner = Some p; collected = b }
 
     at : (o : Option CoreCell) → slice_get q.cells q.suspends ≡ o
-        → picked (is_hole q.resumes after) 0 (cells_drawn q.cells q.suspends p o)
-        ≡ picked (is_hole q.resumes after) 0 q.cells
+        → pick_each (is_hole q.resumes after) 0 (cells_drawn q.cells q.suspends p o)
+        ≡ pick_each (is_hole q.resumes after) 0 q.cells
     at (Some cell) there =
         around-kept number q.suspends _ _ _ _
         (picked-around (is_hole q.resumes after) (is_hole q.resumes after) number (hole-keyed q.resumes after)
@@ -145,7 +145,7 @@ holes-drawn q p found sound does finds =
         let few : length q.cells ≤ q.suspends = last (cases_lt q.suspends (length q.cells)) in
         let made = sound.made in
         picked-push (is_hole q.resumes after) 0 q.cells (new state.Empty false) q.suspends (omega arith)
-        ∙ append-nil (picked (is_hole q.resumes after) 0 q.cells)
+        ∙ append-nil (pick_each (is_hole q.resumes after) 0 q.cells)
       where
         last : (q.suspends < length q.cells) ⊎ (length q.cells ≤ q.suspends) → length q.cells ≤ q.suspends
         last (inr few) = few
@@ -155,7 +155,7 @@ holes-drawn q p found sound does finds =
             absurd (cc)
 
 pub holes-collected : (q : Queue) (p k : ℕ) (found : CoreCell) → Works q p doing.Idle k found state.Resumed
-    → holes (moved q (move.collect p k found)) ≡ holes q
+    → holes (move_queue q (move.collect p k found)) ≡ holes q
 holes-collected q p k found w =
     around-kept number k _ _ _ _
     (picked-around (is_hole q.resumes q.doing) (is_hole q.resumes q.doing) number (hole-keyed q.resumes q.doing) k
@@ -165,7 +165,7 @@ holes-collected q p k found w =
 
 -- the wait leaves at once, and its cell is a hole
 pub holes-came : (q : Queue) (p k : ℕ) (found : CoreCell) → IsSound q → Works q p doing.Idle k found state.Waiter
-    → holes (with_cell q k (at_state found state.Refused)) ≡ placed number k (holes q)
+    → holes (with_cell q k (at_state found state.Refused)) ≡ insert_by number k (holes q)
 holes-came q p k found sound w =
     let cell : IsSoundAt q k found state.Waiter =
     subst (λ (s : CoreState). IsSoundAt q k found s) w.at (sound.cells.at k found w.finds) in
@@ -190,7 +190,7 @@ pub record Missed (q r : Queue) (k : ℕ) : Type 0 where
   pub holes : holes r ≡ without number k (holes q)
 
 pub holes-missed : (q : Queue) (p k : ℕ) (found : CoreCell) → IsSound q
-    → Works q p (doing.Ticket k) k found state.Refused → Missed q (moved q (move.meet_refused p k found)) k
+    → Works q p (doing.Ticket k) k found state.Refused → Missed q (move_queue q (move.meet_refused p k found)) k
 holes-missed q p k found sound works =
     let ticket : IsTicket q k = sound.passes.at p (doing.Ticket k) works.does in
     let after : List Doing = set q.doing p doing.Idle in
@@ -201,9 +201,9 @@ holes-missed q p k found sound works =
     let is_met : is_unmet q.resumes after k found ≡ false = rw (works.at, reached) closed in
     let was : is_hole q.resumes q.doing k found ≡ Some k = ap (hole_of k) was_unmet in
     let gone : is_hole q.resumes after k found ≡ None = ap (hole_of k) is_met in
-    let around : Around number k (holes q) (picked (is_hole q.resumes after) 0 q.cells)
+    let around : Around number k (holes q) (pick_each (is_hole q.resumes after) 0 q.cells)
     (is_hole q.resumes q.doing k found) (is_hole q.resumes after k found) =
-    subst (λ (cells : List CoreCell). Around number k (holes q) (picked (is_hole q.resumes after) 0 cells)
+    subst (λ (cells : List CoreCell). Around number k (holes q) (pick_each (is_hole q.resumes after) 0 cells)
     (is_hole q.resumes q.doing k found) (is_hole q.resumes after k found))
     (set-same q.cells k found works.finds)
     (holes-around q p (doing.Ticket k) doing.Idle k found found works.does works.finds

@@ -13,7 +13,7 @@ use Rattle.cqs_core.proofs.LineMoves.{decide-leaves}
 use Rattle.cqs_core.proofs.QueueAsRefused.{sound-back}
 use Rattle.cqs_core.proofs.QueueReaches.{reaches-few, begins-few}
 use Rattle.cqs_latch_object.specs.LatchObject as plain
-use Rattle.cqs_latch_object.specs.LatchShown.{LatchShape, as_read, read_as, has_loaded, holes, holes_shown, shown, IsShut, IsLatch, IsLatchCore}
+use Rattle.cqs_latch_object.specs.LatchShown.{LatchShape, as_read, read_as, has_loaded, holes, holes_shown, shown_latch, IsShut, IsLatch, IsLatchCore}
 use Rattle.cqs_latch_object.specs.LatchLaws.{EveryCountIsHigh, EveryCountIsLow, WaitersAreFew}
 use Rattle.cqs_latch_object.specs.LatchWords.{IsToOpen}
 use Rattle.cqs_latch_object.proofs.LatchFrame.{owes-there}
@@ -139,7 +139,7 @@ core-leaver s p k core smart does = go s.simple smart core
     go false is_smart is = leaver-read (record s { simple = false }) p k is refl does
 
 -- before it is open, the word counts all who are due
-core-counted-read : (s : LatchShape) → IsLatch s → s.done ≡ false → s.word ≡ plain.due (shown s)
+core-counted-read : (s : LatchShape) → IsLatch s → s.done ≡ false → s.word ≡ plain.due (shown_latch s)
 core-counted-read s is shut = go s.simple refl
   where
     was : IsShut s
@@ -151,9 +151,9 @@ core-counted-read s is shut = go s.simple refl
         omega (arith, was.counted, long)
     go false at = omega (arith, was.counted, was.kept (sym at))
 
-pub core-counted : (s : LatchShape) → IsLatchCore s → s.done ≡ false → s.word ≡ plain.due (shown (as_read s))
+pub core-counted : (s : LatchShape) → IsLatchCore s → s.done ≡ false → s.word ≡ plain.due (shown_latch (as_read s))
 core-counted s core shut = core-counted-read (as_read s) core shut
 
 -- the next number is that of the queue
-pub core-next : (s : LatchShape) → (shown (as_read s)).waiters.next ≡ s.queue.suspends
+pub core-next : (s : LatchShape) → (shown_latch (as_read s)).waiters.next ≡ s.queue.suspends
 core-next s = read-suspends s.simple s.queue

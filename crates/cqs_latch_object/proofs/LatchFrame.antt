@@ -8,7 +8,7 @@ use Rattle.cqs_core.specs.declared.doings.Doing.{Doing}
 use Rattle.cqs_core.specs.QueueState.{Queue}
 use Rattle.cqs_core.specs.QueueLine.{going, is_resuming, is_told_refused}
 use Rattle.cqs_core.specs.QueueMoves as move
-use Rattle.cqs_core.specs.QueueMoves.{IsOpen, moved}
+use Rattle.cqs_core.specs.QueueMoves.{IsOpen, move_queue}
 use Rattle.cqs_core.specs.QueueSound.{IsSound}
 use Rattle.cqs_core.proofs.Histories.{object-push, legal-push}
 use Rattle.cqs_core.proofs.HiddenMoves.{Keeps}
@@ -20,7 +20,7 @@ use Rattle.cqs_latch_object.specs.declared.entries.LatchEntry.TheVariants as ent
 use Rattle.cqs_latch_object.specs.LatchObject.{Latch, opening}
 use Rattle.cqs_latch_object.specs.LatchEntries.{IsAllowed, after_entry}
 use Rattle.cqs_core.specs.QueueWaiters.{Waiters, waiters}
-use Rattle.cqs_latch_object.specs.LatchShown.{LatchShape, holes, holes_shown, way_shown, shown_by, shown, is_opening, has_loaded, IsFit, IsShut, IsOpened, IsLatch}
+use Rattle.cqs_latch_object.specs.LatchShown.{LatchShape, holes, holes_shown, way_shown, shown_by, shown_latch, is_opening, has_loaded, IsFit, IsShut, IsOpened, IsLatch}
 use Rattle.cqs_latch_object.proofs.Counting.{same-count, floor-same}
 
 pub same-latch : {a b : Latch} → a.simple ≡ b.simple → a.count ≡ b.count → a.opened ≡ b.opened → a.way ≡ b.way
@@ -59,7 +59,7 @@ latch_of s count word done owed history q = record {
 
 -- One entry more.
 pub push-latch : (s : LatchShape) (count : ℤ) (word : ℕ) (done : Bool) (owed : List ℕ) (q : Queue) (e : LatchEntry)
-    → IsLatch s → IsSound q → IsAllowed (shown s) e → after_entry (shown s) e ≡ shown_by s.simple count done owed q
+    → IsLatch s → IsSound q → IsAllowed (shown_latch s) e → after_entry (shown_latch s) e ≡ shown_by s.simple count done owed q
     → length owed ≡ length q.doing
     → (done ≡ false → IsShut (latch_of s count word done owed (s.history ++ e ∷ []) q))
     → (done ≡ true → IsOpened (latch_of s count word done owed (s.history ++ e ∷ []) q))
@@ -189,14 +189,14 @@ module _ (s : LatchShape) (p : ℕ) (is : IsLatch s) where
 
   -- a move of one pass that nobody sees, and by which no resumption ends
   pub unseen : (m : move.Move) (from to : Doing) → IsOpen s.queue m → slice_get s.queue.doing p ≡ Some from
-      → (moved s.queue m).doing ≡ set s.queue.doing p to
+      → (move_queue s.queue m).doing ≡ set s.queue.doing p to
       → is_opening from ≡ is_opening to → is_told_refused from ≡ is_told_refused to → has_loaded from ≡ has_loaded to
-      → Keeps s.queue (moved s.queue m) 0
-      → (s.done ≡ false → (moved s.queue m).resumes ≡ 0)
-      → holes (moved s.queue m) ≡ holes s.queue
-      → IsLatch (record s { queue = moved s.queue m })
+      → Keeps s.queue (move_queue s.queue m) 0
+      → (s.done ≡ false → (move_queue s.queue m).resumes ≡ 0)
+      → holes (move_queue s.queue m) ≡ holes s.queue
+      → IsLatch (record s { queue = move_queue s.queue m })
   unseen m from to may does turns opener tells loads keeps resumes kept =
-      let r : Queue = moved s.queue m in
+      let r : Queue = move_queue s.queue m in
       let quiet = quiet-keeps s.queue r s.owed 0 keeps in
       quiet-latch s s.owed r 0 is (sound-moved s.queue m is.sound may) quiet
       (passes-set s.queue r p from to does turns opener tells loads) resumes

@@ -9,11 +9,11 @@ use Rattle.cqs_core.specs.declared.cells.CoreState.TheVariants as state
 use Rattle.cqs_core.specs.declared.doings.Doing.{Doing}
 use Rattle.cqs_core.specs.declared.doings.Doing.TheVariants as doing
 use Rattle.cqs_core.specs.Numbered.{IsIn}
-use Rattle.cqs_core.specs.Keyed.{placed, without}
+use Rattle.cqs_core.specs.Keyed.{insert_by, without}
 use Rattle.cqs_core.specs.QueueState.{Queue}
 use Rattle.cqs_core.specs.QueueLine.{going, is_told_refused}
 use Rattle.cqs_core.specs.QueueMoves as move
-use Rattle.cqs_core.specs.QueueMoves.{Works, Owns, IsCancelling, moved, with_cell, at_state}
+use Rattle.cqs_core.specs.QueueMoves.{Works, Owns, IsCancelling, move_queue, with_cell, at_state}
 use Rattle.cqs_core.proofs.Counts.{count_by-write}
 use Rattle.cqs_core.proofs.HiddenMoves.{Keeps, keeps-begin_cancel, keeps-cancel, keeps-cancel_owing, keeps-refuse, keeps-refuse_left, keeps-meet_refused}
 use Rattle.cqs_core.proofs.LineMoves.{LeavesLine, decide-leaves}
@@ -57,7 +57,7 @@ module _ (s : LatchShape) (p k : ℕ) (is : IsLatch s) where
   -- under way to it ends at its cell.
   module _ (smart : s.simple ≡ false) (does : slice_get s.queue.doing p ≡ Some (doing.Leaving k)) where
     abbrev told : Bool → Queue
-    told on = moved s.queue (move.decide p k on)
+    told on = move_queue s.queue (move.decide p k on)
 
     told-passes : (f : Doing → Bool) (on : Bool) → f (doing.Leaving k) ≡ f (doing.Decided k on)
         → count_by f (told on).doing ≡ count_by f s.queue.doing
@@ -149,10 +149,10 @@ module _ (s : LatchShape) (p k : ℕ) (is : IsLatch s) where
   -- Smart mode, and the latch is open: the cell is refused, and the resumption that comes or has come ends there.
   refused : (found : CoreCell) (n : ℕ) → slice_get s.queue.doing p ≡ Some (doing.Decided k false)
       → slice_get s.queue.cells k ≡ Some found → IsCancelling found.state
-      → Keeps s.queue (moved s.queue (move.refuse p k found)) n
+      → Keeps s.queue (move_queue s.queue (move.refuse p k found)) n
       → IsLatch (after_move s p k is (move.refuse p k found))
   refused found n does finds at keeps =
-      let r : Queue = moved s.queue (move.refuse p k found) in
+      let r : Queue = move_queue s.queue (move.refuse p k found) in
       let smart : s.simple ≡ false = refusing-smart s.simple refl does in
       let quiet = quiet-keeps s.queue r s.owed n keeps in
       record {
@@ -201,7 +201,7 @@ module _ (s : LatchShape) (p k : ℕ) (is : IsLatch s) where
       → s.simple ≡ false → IsLatch (after_move s p k is (move.meet_refused p k found))
   latch-meet_refused found w smart =
       let m : move.Move = move.meet_refused p k found in
-      let r : Queue = moved s.queue m in
+      let r : Queue = move_queue s.queue m in
       let quiet = quiet-keeps s.queue r s.owed 1 (keeps-meet_refused s.queue p k found is.sound w) in
       quiet-latch s s.owed r 1 is (sound-moved s.queue m is.sound w) quiet
       (passes-set s.queue r p (doing.Ticket k) doing.Idle w.does refl refl refl refl)
@@ -213,7 +213,7 @@ module _ (s : LatchShape) (p k : ℕ) (is : IsLatch s) where
       { history = s.history ++ entry.Miss k ∷ [] })
   latch-miss found w simple =
       let m : move.Move = move.meet_refused p k found in
-      let r : Queue = moved s.queue m in
+      let r : Queue = move_queue s.queue m in
       let quiet = quiet-keeps s.queue r s.owed 1 (keeps-meet_refused s.queue p k found is.sound w) in
       let same = passes-set s.queue r p (doing.Ticket k) doing.Idle w.does refl refl refl refl in
       let done : s.done ≡ true = resuming-open s p is (doing.Ticket k) w.does refl in
@@ -285,7 +285,7 @@ module _ (s : LatchShape) (p k : ℕ) (is : IsLatch s) where
       same-ways false at goes = absurd (cc)
 
       more-holes : (b : Bool) → b ≡ true
-          → holes (with_cell s.queue k (at_state found state.Refused)) ≡ placed number k (holes s.queue)
+          → holes (with_cell s.queue k (at_state found state.Refused)) ≡ insert_by number k (holes s.queue)
           → holes_left b k (holes_shown b s.queue) ≡ holes_shown b (with_cell s.queue k (at_state found state.Refused))
       more-holes true at is = sym is
       more-holes false at is = absurd (cc)

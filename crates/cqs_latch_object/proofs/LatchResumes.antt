@@ -11,7 +11,7 @@ use Rattle.cqs_core.specs.QueueState.{Queue}
 use Rattle.cqs_core.specs.QueueLine as queue
 use Rattle.cqs_core.specs.QueueLine.{going, ending, door, at_door}
 use Rattle.cqs_core.specs.QueueMoves as move
-use Rattle.cqs_core.specs.QueueMoves.{Works, Owns, moved, at_state}
+use Rattle.cqs_core.specs.QueueMoves.{Works, Owns, move_queue, at_state}
 use Rattle.cqs_core.specs.QueueSound.{IsSound}
 use Rattle.cqs_core.specs.QueueWaiters.{IsServed, closes, due_of}
 use Rattle.cqs_core.proofs.DeliveryMoves.{closes-collect}
@@ -25,7 +25,7 @@ use Rattle.cqs_core.proofs.Sound.{sound-moved}
 use Rattle.cqs_latch_object.specs.declared.entries.LatchEntry.{LatchEntry}
 use Rattle.cqs_latch_object.specs.declared.entries.LatchEntry.TheVariants as entry
 use Rattle.cqs_latch_object.specs.LatchEntries.{IsAllowed, after_entry}
-use Rattle.cqs_latch_object.specs.LatchShown.{LatchShape, way_shown, shown, IsLatch}
+use Rattle.cqs_latch_object.specs.LatchShown.{LatchShape, way_shown, shown_latch, IsLatch}
 use Rattle.cqs_latch_object.proofs.Holes.{holes-write, holes-there, holes-reached, holes-begun, holes-drawn, holes-collected}
 use Rattle.cqs_latch_object.proofs.LatchFrame.{same-latch, shown-holes, owes-there, push-latch, SamePasses, passes-set, passes-fit, ways-quiet, quiet-latch, delivered-latch, resuming-open, unseen}
 
@@ -37,7 +37,7 @@ same-way false owed q r goes ends = omega (arith, goes, ends)
 
 module _ (s : LatchShape) (p k : ℕ) (is : IsLatch s) where
   abbrev pub after_move : move.Move → LatchShape
-  after_move m = record s { queue = moved s.queue m }
+  after_move m = record s { queue = move_queue s.queue m }
 
   pub latch-install : (found : CoreCell) → Works s.queue p (doing.Drawn k) k found state.Empty
       → IsLatch (after_move (move.install p k found))
@@ -84,8 +84,8 @@ module _ (s : LatchShape) (p k : ℕ) (is : IsLatch s) where
       → 0 < get_or s.owed p 0 → slice_get s.queue.cells s.queue.resumes ≡ found
       → IsLatch (record (after_move (move.reach p s.queue.resumes found)) { owed = one_fewer s.owed p })
   latch-begin found does some finds =
-      let r : Queue = moved s.queue (move.reach p s.queue.resumes found) in
-      let owing : Queue = moved s.queue (move.turn p doing.Idle doing.Owes) in
+      let r : Queue = move_queue s.queue (move.reach p s.queue.resumes found) in
+      let owing : Queue = move_queue s.queue (move.turn p doing.Idle doing.Owes) in
       let owes : slice_get owing.doing p ≡ Some doing.Owes = get-set_here s.queue.doing p doing.Idle doing.Owes does in
       let sound_r : IsSound r = subst IsSound (turn-reach s.queue p found)
       (sound-moved owing (move.reach p s.queue.resumes found)
@@ -104,7 +104,7 @@ module _ (s : LatchShape) (p k : ℕ) (is : IsLatch s) where
   pub latch-serve : (found : CoreCell) → Works s.queue p (doing.Ticket k) k found state.Waiter
       → IsLatch (record (after_move (move.serve p k found)) { history = s.history ++ entry.Deliver k ∷ [] })
   latch-serve found w =
-      let r : Queue = moved s.queue (move.serve p k found) in
+      let r : Queue = move_queue s.queue (move.serve p k found) in
       let serves = serves-serve s.queue p k found is.sound w in
       delivered-latch s s.owed r k serves.0 is (sound-moved s.queue (move.serve p k found) is.sound w)
       (delivered-serves s.queue r s.owed k serves.0 serves.1)
@@ -116,7 +116,7 @@ module _ (s : LatchShape) (p k : ℕ) (is : IsLatch s) where
   pub latch-take_value : (found : CoreCell) → Works s.queue p (doing.Drawn k) k found state.Value
       → IsLatch (record (after_move (move.take_value p k found)) { history = s.history ++ entry.Deliver k ∷ [] })
   latch-take_value found w =
-      let r : Queue = moved s.queue (move.take_value p k found) in
+      let r : Queue = move_queue s.queue (move.take_value p k found) in
       let taken : CoreCell = record { state = state.Taken; owner = found.owner; collected = true } in
       delivered-latch s s.owed r k p is (sound-moved s.queue (move.take_value p k found) is.sound w)
       (delivered-serves s.queue r s.owed k p (serves-take_value s.queue p k found is.sound w))
@@ -130,7 +130,7 @@ module _ (s : LatchShape) (p k : ℕ) (is : IsLatch s) where
       { history = s.history ++ entry.Enter p s.queue.suspends ∷ [] })
   latch-draw found does finds =
       let m : move.Move = move.draw p s.queue.suspends found in
-      let r : Queue = moved s.queue m in
+      let r : Queue = move_queue s.queue m in
       let enters = enters-draw s.queue p found is.sound does finds in
       let stands : IsIn p (door s.queue) = picked-in at_door 0 s.queue.doing p p doing.Door p (omega arith) does refl in
       let same : SamePasses s.queue r =
@@ -158,11 +158,11 @@ module _ (s : LatchShape) (p k : ℕ) (is : IsLatch s) where
 
   -- The looks.
   closed : (e : LatchEntry) (found : CoreCell) → Works s.queue p doing.Idle k found state.Resumed → Owns p found
-      → (IsServed k p (shown s).waiters.served → IsAllowed (shown s) e)
-      → after_entry (shown s) e ≡ record (shown s) { waiters = closes (shown s).waiters k }
+      → (IsServed k p (shown_latch s).waiters.served → IsAllowed (shown_latch s) e)
+      → after_entry (shown_latch s) e ≡ record (shown_latch s) { waiters = closes (shown_latch s).waiters k }
       → IsLatch (record (after_move (move.collect p k found)) { history = s.history ++ e ∷ [] })
   closed e found w owns may is_closed =
-      let r : Queue = moved s.queue (move.collect p k found) in
+      let r : Queue = move_queue s.queue (move.collect p k found) in
       let closing = closes-collect s.queue p k found w owns in
       let dues : queue.due r ≡ queue.due s.queue = ap due_of closing.waiters in
       push-latch s s.count s.word s.done s.owed r e is

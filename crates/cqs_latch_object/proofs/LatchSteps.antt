@@ -9,7 +9,7 @@ use Rattle.cqs_core.specs.declared.doings.Doing.TheVariants as doing
 use Rattle.cqs_core.specs.QueueAsRefused.{refused_state, refused_cell, all_refused, as_refused}
 use Rattle.cqs_core.specs.QueueState.{Queue}
 use Rattle.cqs_core.specs.QueueMoves as move
-use Rattle.cqs_core.specs.QueueMoves.{Works, Owns, moved, at_state}
+use Rattle.cqs_core.specs.QueueMoves.{Works, Owns, move_queue, at_state}
 use Rattle.cqs_core.specs.QueueSteps.{pends, grants, late, QueueStep, draws, enters, reaches, begins, puts, installs, takes, serves, leaves, delegates, passes_over, ends_refused, ends_missed, starts_leaving, leaves_line, leaves_at_once, settles, settles_owing, refuses, refuses_value, looks, row_of, IsOpenStep}
 use Rattle.cqs_core.proofs.Places.{set-same}
 use Rattle.cqs_core.proofs.QueueAsRefused.{read_option, get-refused, get-read, set-refused, drawn-refused, reached-refused}
@@ -157,8 +157,8 @@ module _ (size : ℕ) (count : ℤ) (word : ℕ) (done : Bool) where
       }
 
       read-reached : (found : Option CoreCell)
-          → as_refused (moved q (move.reach p q.resumes found))
-          ≡ moved (as_refused q) (move.reach p q.resumes (read_option found))
+          → as_refused (move_queue q (move.reach p q.resumes found))
+          ≡ move_queue (as_refused q) (move.reach p q.resumes (read_option found))
       read-reached found = λ i. record {
         suspends = q.suspends;
         resumes = q.resumes + 1;

@@ -11,7 +11,7 @@ use Rattle.cqs_core.specs.QueueState.{Queue, is_ticket, is_leaving}
 use Rattle.cqs_core.specs.QueueWaiters as waiters
 use Rattle.cqs_core.specs.QueueLine.{going, ending, due, is_resuming, is_told_refused, at_door}
 use Rattle.cqs_core.specs.QueueMoves as move
-use Rattle.cqs_core.specs.QueueMoves.{moved, now_doing}
+use Rattle.cqs_core.specs.QueueMoves.{move_queue, now_doing}
 use Rattle.cqs_core.proofs.Counts.{bit, count_by-write}
 use Rattle.cqs_core.proofs.Histories.{object-push, legal-push}
 use Rattle.cqs_core.proofs.HiddenMoves.{keeps-turn, keeps-due}
@@ -23,7 +23,7 @@ use Rattle.cqs_latch_object.specs.declared.entries.LatchEntry.{LatchEntry}
 use Rattle.cqs_latch_object.specs.declared.entries.LatchEntry.TheVariants as entry
 use Rattle.cqs_latch_object.specs.LatchObject.{opening}
 use Rattle.cqs_latch_object.specs.LatchEntries.{IsAllowed, after_entry, object_after, IsLegal}
-use Rattle.cqs_latch_object.specs.LatchShown.{LatchShape, left_of, holes, holes_shown, way_shown, shown, is_opening, has_loaded, one_where, IsLatch}
+use Rattle.cqs_latch_object.specs.LatchShown.{LatchShape, left_of, holes, holes_shown, way_shown, shown_latch, is_opening, has_loaded, one_where, IsLatch}
 use Rattle.cqs_latch_object.specs.LatchWords.{WordStep, loads_to_count, counts_down, loads_to_wait, comes, turns_back, opens, leaves, IsOpenWord, after_word_step, is_used, is_last, loaded_entries, loaded_doing, counted_entry, counted_doing, come_entry, come_doing}
 use Rattle.cqs_latch_object.proofs.Counting.{above-not, used-none, used-yes, used-less, used-still, used-below, less-high, down-more, down-some, down-above, down-still, one-where_le, one-used, same-count, floor-same, floor-above, fewer-loaded, floor-takes, floor-leaves}
 use Rattle.cqs_latch_object.proofs.Holes.{length-holes, holes-turn}
@@ -105,19 +105,19 @@ module _ (s : LatchShape) (p : ℕ) (is : IsLatch s) where
   still-long d = length-set s.queue.doing p d
 
   -- one entry more after the history
-  pushed : (e : LatchEntry) → IsAllowed (shown s) e → IsLegal s.simple s.size (s.history ++ e ∷ [])
+  pushed : (e : LatchEntry) → IsAllowed (shown_latch s) e → IsLegal s.simple s.size (s.history ++ e ∷ [])
   pushed e allowed =
       legal-push IsAllowed after_entry (opening s.simple s.size) s.history e
       (subst (λ o. IsAllowed o e) (sym is.object) allowed) is.legal
 
-  object-then : (e : LatchEntry) → object_after s.simple s.size (s.history ++ e ∷ []) ≡ after_entry (shown s) e
+  object-then : (e : LatchEntry) → object_after s.simple s.size (s.history ++ e ∷ []) ≡ after_entry (shown_latch s) e
   object-then e =
       object-push IsAllowed after_entry (opening s.simple s.size) s.history e ∙ ap (λ o. after_entry o e) is.object
 
   -- a pass turns that opens nothing and stands at no door, and the count becomes this
   turned : (from to : Doing) (count : ℤ) (word : ℕ) (history : List LatchEntry) → slice_get s.queue.doing p ≡ Some from
       → IsClearTurn from to → IsLegal s.simple s.size history
-      → object_after s.simple s.size history ≡ record (shown s) { count = left_of count }
+      → object_after s.simple s.size history ≡ record (shown_latch s) { count = left_of count }
       → (s.done ≡ false → (word ≡ s.word) × (count_by is_opening (now to).doing ≡ one_where (int_le count (pos 0))))
       → (s.done ≡ true → (count ≤ℤ pos 0) × (count_by is_opening (now to).doing ≡ 0) × (s.word ≤ word)
       × (word + count_by has_loaded (now to).doing ≤ s.word + count_by has_loaded s.queue.doing))
@@ -168,7 +168,7 @@ module _ (s : LatchShape) (p : ℕ) (is : IsLatch s) where
       (floor-above s.count (now (doing.TryAt s.count)).doing above) is.fit.high
 
   -- an entry by which nothing changes
-  unchanged : (e : LatchEntry) → IsAllowed (shown s) e → after_entry (shown s) e ≡ shown s
+  unchanged : (e : LatchEntry) → IsAllowed (shown_latch s) e → after_entry (shown_latch s) e ≡ shown_latch s
       → IsLatch (record s { history = s.history ++ e ∷ [] })
   unchanged e allowed same =
       push-latch s s.count s.word s.done s.owed s.queue e is is.sound allowed same is.owners
@@ -416,7 +416,7 @@ not-last z many = grind (arith, ints)
 module _ (s : LatchShape) (p : ℕ) (is : IsLatch s) where
   -- a load of the count, with its entry where that is used up
   loads : (e : LatchEntry) → slice_get s.queue.doing p ≡ Some doing.Idle
-      → (left_of s.count ≡ 0 → IsAllowed (shown s) e) → after_entry (shown s) e ≡ shown s → Range s.count
+      → (left_of s.count ≡ 0 → IsAllowed (shown_latch s) e) → after_entry (shown_latch s) e ≡ shown_latch s → Range s.count
       → IsLatch (latch_of s s.count s.word s.done s.owed (s.history ++ loaded_entries e s.count)
       (now s p is (loaded_doing s.count)))
   loads e does allowed same (used_up used) =

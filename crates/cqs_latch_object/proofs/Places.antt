@@ -8,7 +8,7 @@ use Rattle.cqs_core.specs.declared.cells.CoreState.{CoreState}
 use Rattle.cqs_core.specs.declared.cells.CoreState.TheVariants as state
 use Rattle.cqs_core.specs.declared.doings.Doing.{Doing}
 use Rattle.cqs_core.specs.declared.doings.Doing.TheVariants as doing
-use Rattle.cqs_core.specs.Numbered.{picked, count_at, cons_option}
+use Rattle.cqs_core.specs.Numbered.{pick_each, count_at, cons_option}
 use Rattle.cqs_core.specs.QueueState.{Queue, owner_doing}
 use Rattle.cqs_core.specs.QueueLine.{at_door, in_line, waiting_of, is_told_refused, is_unmet, is_unmet_refusal, stays_in_line, due, ending}
 use Rattle.cqs_core.specs.QueueSound.{IsSound}
@@ -40,13 +40,13 @@ one-pass k (doing.Decided j true) = omega arith
 one-pass k (doing.Decided j false) = omega arith
 
 few-passes : (k : ℕ) (passes : List Doing)
-    → length (picked at_door k passes) + count_by is_told_refused passes + count_by has_loaded passes
+    → length (pick_each at_door k passes) + count_by is_told_refused passes + count_by has_loaded passes
     ≤ length passes
 few-passes k [] = omega arith
 few-passes k (d ∷ ds) =
     let rest = few-passes (suc k) ds in
     let one = one-pass k d in
-    let doors = longer (at_door k d) (picked at_door (suc k) ds) in
+    let doors = longer (at_door k d) (pick_each at_door (suc k) ds) in
     let told = sum_by-cons (λ x. bit (is_told_refused x)) d ds in
     let loaded = sum_by-cons (λ x. bit (has_loaded x)) d ds in
     omega arith
@@ -89,12 +89,12 @@ one-cell resumes passes k c = at c.state
         let few = waits c.owner (stays_in_line k state.Delegated (owner_doing passes c)) in omega arith
 
 few-cells : (resumes : ℕ) (passes : List Doing) (k : ℕ) (cells : List CoreCell)
-    → length (picked (in_line passes) k cells) + count_at (is_unmet resumes passes) k cells ≤ length cells
+    → length (pick_each (in_line passes) k cells) + count_at (is_unmet resumes passes) k cells ≤ length cells
 few-cells resumes passes k [] = omega arith
 few-cells resumes passes k (c ∷ cs) =
     let rest = few-cells resumes passes (suc k) cs in
     let one = one-cell resumes passes k c in
-    let lines = longer (in_line passes k c) (picked (in_line passes) (suc k) cs) in
+    let lines = longer (in_line passes k c) (pick_each (in_line passes) (suc k) cs) in
     omega arith
 
 -- where nobody resumed yet, those who wait and those cells, with the passes that have loaded the count, are no more

@@ -4,7 +4,7 @@ use Rattle.std.specs.Prelude.{◌≡◌, ℕ, ◌+◌, ◌-◌, ◌<◌, Bool, t
 use Rattle.std.specs.List.{fold}
 use Rattle.cqs_core.specs.Histories.{IsLegalFrom}
 use Rattle.cqs_core.specs.Numbered.{IsIn}
-use Rattle.cqs_core.specs.Keyed.{placed, without}
+use Rattle.cqs_core.specs.Keyed.{insert_by, without}
 use Rattle.cqs_core.specs.QueueWaiters.{Waits, IsServed, comes, enters, is_reached, goes, closes}
 use Rattle.cqs_latch_object.specs.declared.entries.LatchEntry.{LatchEntry}
 use Rattle.cqs_latch_object.specs.declared.entries.LatchEntry.TheVariants as entry
@@ -33,7 +33,7 @@ way_left false false way = way
 way_left true opened way = way
 
 abbrev pub holes_left : Bool → ℕ → List ℕ → List ℕ
-holes_left true k holes = placed (λ h. h) k holes
+holes_left true k holes = insert_by (λ h. h) k holes
 holes_left false k holes = holes
 
 -- wait k leaves the line

@@ -7,7 +7,7 @@ use Rattle.std.specs.Prelude.{◌≡◌, ℕ, ◌+◌, ◌-◌, ◌≤◌, Bool,
 use Rattle.cqs_core.specs.declared.cells.CoreCell.{CoreCell}
 use Rattle.cqs_core.specs.declared.doings.Doing.{Doing}
 use Rattle.cqs_core.specs.declared.doings.Doing.TheVariants as doing
-use Rattle.cqs_core.specs.Numbered.{picked}
+use Rattle.cqs_core.specs.Numbered.{pick_each}
 use Rattle.cqs_core.specs.QueueState.{Queue}
 use Rattle.cqs_core.specs.QueueAsRefused.{as_refused}
 use Rattle.cqs_core.specs.QueueLine as queue
@@ -54,7 +54,7 @@ abbrev pub is_hole : ℕ → List Doing → ℕ → CoreCell → Option ℕ
 is_hole resumes passes k cell = hole_of k (is_unmet resumes passes k cell)
 
 abbrev pub holes : Queue → List ℕ
-holes q = picked (is_hole q.resumes q.doing) 0 q.cells
+holes q = pick_each (is_hole q.resumes q.doing) 0 q.cells
 
 abbrev pub holes_shown : Bool → Queue → List ℕ
 holes_shown true q = holes q
@@ -76,8 +76,8 @@ shown_by simple count done owed q = record {
 }
 
 -- the latch that a core shows
-abbrev pub shown : LatchShape → Latch
-shown s = shown_by s.simple s.count s.done s.owed s.queue
+abbrev pub shown_latch : LatchShape → Latch
+shown_latch s = shown_by s.simple s.count s.done s.owed s.queue
 
 -- the pass used the count up, and is to open the latch: it found the count at 0
 abbrev pub is_opening : Doing → Bool
@@ -135,7 +135,7 @@ pub record IsOpened (s : LatchShape) : Type 0 where
 pub record IsLatch (s : LatchShape) : Type 0 where
   pub sound : IsSound s.queue
   pub legal : IsLegal s.simple s.size s.history
-  pub object : object_after s.simple s.size s.history ≡ shown s
+  pub object : object_after s.simple s.size s.history ≡ shown_latch s
   pub owners : length s.owed ≡ length s.queue.doing
   pub shut : s.done ≡ false → IsShut s
   pub opened : s.done ≡ true → IsOpened s

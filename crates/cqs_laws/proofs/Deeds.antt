@@ -13,7 +13,7 @@ use Rattle.cqs_core.proofs.Counts.{bit}
 use Rattle.cqs_pool_object.specs.declared.entries.PoolEntry.{PoolEntry}
 use Rattle.cqs_pool_object.specs.PoolObject.{Pool}
 use Rattle.cqs_pool_object.specs.PoolObject as pool
-use Rattle.cqs_pool_object.specs.PoolEntries.{delivered, entered, put}
+use Rattle.cqs_pool_object.specs.PoolEntries.{after_deliver, after_enter, put}
 use Rattle.cqs_pool_object.specs.PoolEntries as elements
 use Rattle.cqs_latch_object.specs.declared.entries.LatchEntry.TheVariants as latch
 use Rattle.cqs_latch_object.specs.LatchEntries.{after_entry as latch_entry}
@@ -334,7 +334,7 @@ line-permits o completes k other stands = stands
 line-elements : (o : Pool) (deed : Deed) (k : ℕ) → IsElse o.next k deed → in_line k o.line ≡ true
     → in_line k (pool_then o deed).line ≡ true
 line-elements o (takes e) k other stands =
-    line-fewer k o.next (entered o 0 o.next).line other
+    line-fewer k o.next (after_enter o 0 o.next).line other
     (line-longer k o.line (record { wait = o.next; pass = 0 }) stands)
 line-elements o (joins j) k other stands = line-longer k o.line (record { wait = j; pass = 0 }) stands
 line-elements o (frees e) k other stands = stands
@@ -436,7 +436,7 @@ JoinsNext n completes = Unit {0}
 
 seats-elements : (o : Pool) (deed : Deed) → JoinsNext o.next deed → AreSeated o → AreSeated (pool_then o deed)
 seats-elements o (takes e) fits seated =
-    seated-delivered (entered o 0 o.next) o.next e (seated-entered o 0 seated)
+    seated-delivered (after_enter o 0 o.next) o.next e (seated-entered o 0 seated)
 seats-elements o (joins k) fits seated = rw fits (seated-entered o 0 seated)
 seats-elements o (frees e) fits seated = record { once = seated.once; later = seated.later }
 seats-elements o (sends e k) fits seated =
@@ -461,7 +461,7 @@ seats-after size (of_rounds all) round deed fits seated = tt
 
 came-elements : (o : Pool) (deed : Deed) (k : ℕ) → IsElse o.next k deed
     → came_in k (pool_then o deed).served ≡ came_in k o.served
-came-elements o (takes e) k other = came-delivered-else (entered o 0 o.next) o.next e k other
+came-elements o (takes e) k other = came-delivered-else (after_enter o 0 o.next) o.next e k other
 came-elements o (joins j) k other = refl
 came-elements o (frees e) k other = refl
 came-elements o (sends e j) k other = came-delivered-else (put o e) j e k other

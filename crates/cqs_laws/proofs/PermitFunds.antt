@@ -3,7 +3,7 @@ use Rattle.std.proofs.Common.{◌≡◌, ◌≢◌, ◌⊎◌, inl, inr, ℕ, �
 use Rattle.cqs_core.specs.Keyed.{without}
 use Rattle.cqs_core.specs.QueueLine.{Waiting}
 use Rattle.cqs_core.specs.SemaphoreObject.{Semaphore, due}
-use Rattle.cqs_core.specs.SemaphoreEntries.{taken, at_door, entered, delivered, left, closed, turned_back}
+use Rattle.cqs_core.specs.SemaphoreEntries.{after_take, at_door, after_enter, after_deliver, after_leave, after_look, turned_back}
 
 -- No permit is on its way and nobody is at the door; somebody waits only where none is free; the permits are all there,
 -- and those held are enough for what the jobs hold and for what came to their waits.
@@ -19,7 +19,7 @@ none-waits free less line below (inl none) = inl (omega (arith, below, none))
 none-waits free less line below (inr empty) = inr empty
 
 pub funds-taken : (size : ℕ) (o : Semaphore) (h c h' : ℕ) → 0 < o.free → h' ≡ h + 1 → ArePermitFunds size o h c
-    → ArePermitFunds size (taken o) h' c
+    → ArePermitFunds size (after_take o) h' c
 funds-taken size o h c h' some more funds = record {
   way = funds.way;
   door = funds.door;
@@ -29,7 +29,7 @@ funds-taken size o h c h' some more funds = record {
 }
 
 pub funds-joined : (size : ℕ) (o : Semaphore) (h c c' k : ℕ) → o.free ≡ 0 → c' ≤ c → ArePermitFunds size o h c
-    → ArePermitFunds size (entered (at_door o 0) 0 k) h c'
+    → ArePermitFunds size (after_enter (at_door o 0) 0 k) h c'
 funds-joined size o h c c' k none fewer funds = record {
   way = funds.way;
   door = rw funds.door refl;
@@ -54,7 +54,7 @@ none-free free line some (inr empty) = absurd (some empty)
 
 pub funds-sent : (size : ℕ) (o : Semaphore) (h c h' c' k : ℕ) → o.line ≢ [] → h' + 1 ≡ h → c' ≤ c + 1
     → ArePermitFunds size o h c
-    → ArePermitFunds size (delivered (record o { held = o.held - 1; way = o.way + 1 }) k) h' c'
+    → ArePermitFunds size (after_deliver (record o { held = o.held - 1; way = o.way + 1 }) k) h' c'
 funds-sent size o h c h' c' k some less claims funds = record {
   way = omega (arith, funds.way);
   door = funds.door;
@@ -64,7 +64,7 @@ funds-sent size o h c h' c' k some less claims funds = record {
 }
 
 pub funds-closed : (size : ℕ) (o : Semaphore) (h c h' c' k : ℕ) → h' ≡ h + 1 → c' + 1 ≡ c → ArePermitFunds size o h c
-    → ArePermitFunds size (closed o k) h' c'
+    → ArePermitFunds size (after_look o k) h' c'
 funds-closed size o h c h' c' k more less funds = record {
   way = funds.way;
   door = funds.door;
@@ -87,7 +87,7 @@ stays-away o none = go (nat_lt (due o) o.way) refl
     go true same = let below : due o < o.way = ltb-true (due o) o.way same in absurd (omega (arith, below, none))
 
 pub funds-left : (size : ℕ) (o : Semaphore) (h c c' k : ℕ) → c' ≤ c → ArePermitFunds size o h c
-    → ArePermitFunds size (left o k) h c'
+    → ArePermitFunds size (after_leave o k) h c'
 funds-left size o h c c' k fewer funds =
     rw (stays-away (record o { line = without (λ w. w.wait) k o.line }) funds.way) (record {
       way = funds.way;

@@ -1,7 +1,7 @@
 //! One run of the program, over any streams.
 ghost use Rattle.std.specs.Prelude.{◌≡◌, ◌≢◌, ◌⊎◌, ℕ, ◌+◌, ◌<◌, ◌≤◌, List, length, IsTrue, Some};
 ghost use Rattle.std.specs.Process.{exit_status};
-ghost use Rattle.cqs_plan.specs.Counts.{raised, Rises};
+ghost use Rattle.cqs_plan.specs.Counts.{raise, Rises};
 ghost use Rattle.cqs_plan.specs.Stream.{Gains, GivesAtMost, GivesCount};
 ghost use Rattle.cqs_cli.specs.Meanings.{IsStatus, MustEnd, NamedFault};
 ghost use Rattle.cqs_cli.specs.Plans.{IsPlan};
@@ -78,7 +78,7 @@ pub fn run<R: Threads + Wait + Sync, S: Source, K: Sink, W: Write>(
     // By the source's tally that many bytes were read then; and where so many
     // were, this status comes.
     ensures too_many { exit_status result ≡ TOO_LONG →
-        (S.tally source.new).given ≡ raised (S.tally source.old).given (LONGEST_INPUT + 1) }
+        (S.tally source.new).given ≡ raise (S.tally source.old).given (LONGEST_INPUT + 1) }
     ensures many_bytes { (S.tally source.old).given + LONGEST_INPUT < (S.tally source.new).given
         → MustEnd TOO_LONG (exit_status result) }
 

@@ -7,7 +7,7 @@ use Rattle.cqs_plan.specs.declared.plans.fault_kind.FaultKind.{FaultKind}
 use Rattle.cqs_plan.specs.declared.plans.fault_kind.FaultKind.TheVariants as fault
 use Rattle.cqs_plan.specs.FaultRules.{Fault}
 use Rattle.cqs_plan.specs.Faults.{faults_in}
-use Rattle.cqs_plan.specs.Places.{indexed, part_place}
+use Rattle.cqs_plan.specs.Places.{at_index, part_place}
 
 -- the first fault of a text, if it is a document
 abbrev first_fault : List ℕ → Option Fault
@@ -17,7 +17,7 @@ abbrev HasFirst : List ℕ → List ℕ → FaultKind → Type 0
 HasFirst text place kind = first_fault text ≡ Some (record { place = place; kind = kind })
 
 abbrev step_place : ℕ → ℕ → List ℕ
-step_place i j = indexed (part_place i (codes "steps")) j
+step_place i j = at_index (part_place i (codes "steps")) j
 
 -- a plan with nothing, one with a semaphore, and one with a job besides, which has these steps
 abbrev empty : List ℕ

@@ -1,6 +1,6 @@
 -- What the loops that read and write keep from turn to turn.
 use Rattle.std.proofs.Common.{◌≡◌, ℕ, ◌≤◌, List, length, take, Option}
-use Rattle.cqs_plan.specs.Counts.{raised}
+use Rattle.cqs_plan.specs.Counts.{raise}
 use Rattle.cqs_plan.specs.Stream.{Gives, Gains}
 use Rattle.cqs_plan.specs.declared.streams.tally.Tally.{Tally}
 
@@ -12,7 +12,7 @@ pub record HasRead (bytes : List ℕ) (left now : Option (List ℕ)) (before aft
 
 -- the source counted so many bytes, and no read that stopped
 pub record HasCounted (bytes : List ℕ) (before after : Tally) : Type 0 where
-  pub given : after.given ≡ raised before.given (length bytes)
+  pub given : after.given ≡ raise before.given (length bytes)
   pub unstopped : before.stops ≡ 0 → after.stops ≡ 0
 
 -- the sink took just this prefix of the text, and no fault came

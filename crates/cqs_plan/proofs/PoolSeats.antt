@@ -6,7 +6,7 @@ use Rattle.std.specs.List.{list_any}
 use Rattle.std.specs.Option.{option_map_or}
 use Rattle.std.proofs.lemmas.Bool.{cases_eq}
 use Rattle.std.proofs.lemmas.List.Sums.{sum_by-cons, sum_by_push}
-use Rattle.cqs_core.specs.Keyed.{placed, without}
+use Rattle.cqs_core.specs.Keyed.{insert_by, without}
 use Rattle.cqs_core.specs.Numbered.{IsIn}
 use Rattle.cqs_core.specs.QueueLine.{Waiting}
 use Rattle.cqs_core.specs.QueueWaiters.{Waits, find_wait}
@@ -16,7 +16,7 @@ use Rattle.cqs_core.proofs.Rising.{in-behind, in-none}
 use Rattle.cqs_pool_object.specs.declared.entries.PoolEntry.{PoolEntry}
 use Rattle.cqs_pool_object.specs.declared.entries.PoolEntry.TheVariants as entry
 use Rattle.cqs_pool_object.specs.PoolObject.{Given, IsGiven, Pool, opening}
-use Rattle.cqs_pool_object.specs.PoolEntries.{IsAllowed, IsLegal, after_entry, closed, delivered, entered, object_after, with_given}
+use Rattle.cqs_pool_object.specs.PoolEntries.{IsAllowed, IsLegal, after_entry, after_look, after_deliver, after_enter, object_after, with_given}
 
 -- the wait of this number stands in the line
 abbrev pub in_line : ℕ → List Waiting → Bool
@@ -47,7 +47,7 @@ line-cons : (k : ℕ) (w : Waiting) (ws : List Waiting) → in_seats k (w ∷ ws
 line-cons k w ws = sum_by-cons (λ (x : Waiting). bit (x.wait == k)) w ws
 
 abbrev put_in : Given → List Given → List Given
-put_in g served = placed (λ x. x.wait) g served
+put_in g served = insert_by (λ x. x.wait) g served
 
 seats-placed : (k : ℕ) (g : Given) (gs : List Given)
     → served_seats k (put_in g gs) ≡ bit (g.wait == k) + served_seats k gs
@@ -87,17 +87,17 @@ seats-without n k (w ∷ line) = go (n == w.wait) (seats-without n k line)
     go true rest = omega (arith, line-cons k w line)
     go false rest = omega (arith, rest, line-cons k w line, line-cons k w (without (λ w. w.wait) n line))
 
-seats-closed : (n k : ℕ) (served : List Given) → served_seats k (closed n served) ≡ served_seats k served
+seats-closed : (n k : ℕ) (served : List Given) → served_seats k (after_look n served) ≡ served_seats k served
 seats-closed n k [] = refl
 seats-closed n k (g ∷ served) = go (n == g.wait) (seats-closed n k served)
   where
     shut : Given
     shut = record { wait = g.wait; pass = g.pass; element = g.element; is_open = false }
 
-    go : (b : Bool) → served_seats k (closed n served) ≡ served_seats k served
-        → served_seats k (if b then shut ∷ served else g ∷ closed n served) ≡ served_seats k (g ∷ served)
+    go : (b : Bool) → served_seats k (after_look n served) ≡ served_seats k served
+        → served_seats k (if b then shut ∷ served else g ∷ after_look n served) ≡ served_seats k (g ∷ served)
     go true rest = omega (arith, served-cons k g served, served-cons k shut served)
-    go false rest = omega (arith, rest, served-cons k g served, served-cons k g (closed n served))
+    go false rest = omega (arith, rest, served-cons k g served, served-cons k g (after_look n served))
 
 -- who stands in the line has a seat there
 pub stands-seated : (k : ℕ) (line : List Waiting) → in_line k line ≡ true → 0 < in_seats k line
@@ -116,10 +116,10 @@ pub unseated-away : (k : ℕ) (line : List Waiting) → in_seats k line ≡ 0 �
 unseated-away k line none stands = omega (arith, none, stands-seated k line stands)
 
 -- the next number goes to the end of the line
-pub seated-entered : (o : Pool) (c : ℕ) → AreSeated o → AreSeated (entered o c o.next)
+pub seated-entered : (o : Pool) (c : ℕ) → AreSeated o → AreSeated (after_enter o c o.next)
 seated-entered o c seated = record { once = λ k. once k (cases_eq o.next k); later = λ k high. later k high }
   where
-    more : (k : ℕ) → seats k (entered o c o.next) ≡ seats k o + bit (o.next == k)
+    more : (k : ℕ) → seats k (after_enter o c o.next) ≡ seats k o + bit (o.next == k)
     more k = omega (
       arith,
       sum_by_push (λ (x : Waiting). bit (x.wait == k)) o.line (record {
@@ -128,7 +128,7 @@ seated-entered o c seated = record { once = λ k. once k (cases_eq o.next k); la
       }),
     )
 
-    once : (k : ℕ) → (o.next ≡ k) ⊎ (o.next ≢ k) → seats k (entered o c o.next) ≤ 1
+    once : (k : ℕ) → (o.next ≡ k) ⊎ (o.next ≢ k) → seats k (after_enter o c o.next) ≤ 1
     once k (inl same) =
         let one : bit (o.next == k) ≡ 1 = ap bit (eq-eqb o.next k same) in
         omega (arith, more k, one, seated.later k (omega (arith, same)))
@@ -136,12 +136,12 @@ seated-entered o c seated = record { once = λ k. once k (cases_eq o.next k); la
         let none : bit (o.next == k) ≡ 0 = ap bit (ne_eqb o.next k other) in
         omega (arith, more k, none, seated.once k)
 
-    later : (k : ℕ) → (entered o c o.next).next ≤ k → seats k (entered o c o.next) ≡ 0
+    later : (k : ℕ) → (after_enter o c o.next).next ≤ k → seats k (after_enter o c o.next) ≡ 0
     later k high =
         let none : bit (o.next == k) ≡ 0 = ap bit (ne_eqb o.next k (λ same. omega (arith, same, high))) in
         omega (arith, more k, none, seated.later k (omega (arith, high)))
 
-pub seated-delivered : (o : Pool) (n e : ℕ) → AreSeated o → AreSeated (delivered o n e)
+pub seated-delivered : (o : Pool) (n e : ℕ) → AreSeated o → AreSeated (after_deliver o n e)
 seated-delivered o n e seated = record {
   once = λ k. omega (arith, seats-moved n e k o.line o.served, seated.once k);
   later = λ k high. omega (arith, seats-moved n e k o.line o.served, seated.later k high);
@@ -154,7 +154,7 @@ seated-left o n seated = record {
   later = λ k high. omega (arith, seats-without n k o.line, seated.later k high);
 }
 
-pub seated-closed : (o : Pool) (n : ℕ) → AreSeated o → AreSeated (record o { served = closed n o.served })
+pub seated-closed : (o : Pool) (n : ℕ) → AreSeated o → AreSeated (record o { served = after_look n o.served })
 seated-closed o n seated = record {
   once = λ k. omega (arith, seats-closed n k o.served, seated.once k);
   later = λ k high. omega (arith, seats-closed n k o.served, seated.later k high);
@@ -193,15 +193,15 @@ came-placed-here g (x ∷ gs) none =
     go true rest = rw (eq-eqb g.wait g.wait refl) refl
     go false rest = rw (away (x.wait == g.wait) refl) rest
 
-pub came-closed : (n k : ℕ) (served : List Given) → came_in k (closed n served) ≡ came_in k served
+pub came-closed : (n k : ℕ) (served : List Given) → came_in k (after_look n served) ≡ came_in k served
 came-closed n k [] = refl
 came-closed n k (g ∷ served) = go (n == g.wait) (g.wait == k) refl (came-closed n k served)
   where
     shut : Given
     shut = record { wait = g.wait; pass = g.pass; element = g.element; is_open = false }
 
-    go : (b a : Bool) → g.wait == k ≡ a → came_in k (closed n served) ≡ came_in k served
-        → came_in k (if b then shut ∷ served else g ∷ closed n served) ≡ came_in k (g ∷ served)
+    go : (b a : Bool) → g.wait == k ≡ a → came_in k (after_look n served) ≡ came_in k served
+        → came_in k (if b then shut ∷ served else g ∷ after_look n served) ≡ came_in k (g ∷ served)
     go true true same rest = rw same refl
     go true false same rest = rw same refl
     go false true same rest = rw same refl
@@ -218,7 +218,7 @@ found-is n (v ∷ line) w got = go (n == v.wait) refl (found-is n line w)
         rw (← is) (sym (eqb-true n v.wait same))
     go false other rest = rest (rw other at got)
 
-pub came-delivered-else : (o : Pool) (n e k : ℕ) → k ≢ n → came_in k (delivered o n e).served ≡ came_in k o.served
+pub came-delivered-else : (o : Pool) (n e k : ℕ) → k ≢ n → came_in k (after_deliver o n e).served ≡ came_in k o.served
 came-delivered-else o n e k other = go (find_wait n o.line) refl
   where
     go : (found : Option Waiting) → find_wait n o.line ≡ found
@@ -235,7 +235,7 @@ first-found w line = rw (eq-eqb w.wait w.wait refl) refl
 
 -- what is delivered to the first of the line has come for it
 pub came-delivered-here : (o : Pool) (w : Waiting) (line : List Waiting) (e : ℕ) → o.line ≡ w ∷ line → AreSeated o
-    → came_in w.wait (delivered o w.wait e).served ≡ e
+    → came_in w.wait (after_deliver o w.wait e).served ≡ e
 came-delivered-here o w line e is seated =
     let one : bit (w.wait == w.wait) ≡ 1 = ap bit (eq-eqb w.wait w.wait refl) in
     let here : in_seats w.wait o.line ≡ bit (w.wait == w.wait) + in_seats w.wait line

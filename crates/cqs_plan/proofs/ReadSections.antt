@@ -19,9 +19,9 @@ use Rattle.cqs_plan.specs.declared.plans.fault_kind.FaultKind.TheVariants as fau
 use Rattle.cqs_plan.specs.declared.reader.sections.Section.{Section}
 use Rattle.cqs_plan.specs.declared.reader.sections.Section.TheVariants.{Semaphore, Mutex, Pool, Latch, Barrier}
 use Rattle.cqs_plan.specs.Language.{is_name, ResourceKind, resource_kinds, mutexes, pools, latches, barriers}
-use Rattle.cqs_plan.specs.FaultRules.{Fault, each, optional, required, shaped, unless}
+use Rattle.cqs_plan.specs.FaultRules.{Fault, each, optional, require, expect_shape, unless}
 use Rattle.cqs_plan.specs.Faults.{kind_faults, kinds_faults, names_in, number_faults, resource_faults, resource_number_faults, resources_faults}
-use Rattle.cqs_plan.specs.Places.{dotted}
+use Rattle.cqs_plan.specs.Places.{below_place}
 use Rattle.cqs_plan.specs.Meaning.{members_in, members_list, resource_in, resources_in}
 use Rattle.cqs_plan.specs.Order.{IsBelow, NamesAscend, Precedes, rank}
 use Rattle.cqs_plan.specs.Reading.{StopsAt}
@@ -131,28 +131,28 @@ sized : (section : Section) (name : List ℕ) (value : Data) (table : Members) �
     → resource_number_faults (kind_of section) name table ≡ []
     → IsKind (resource_in (kind_of section) (name, value)).kind
 sized Semaphore name value table is none =
-    let place = dotted (dotted (codes "semaphore") name) (codes "size") in
+    let place = below_place (below_place (codes "semaphore") name) (codes "size") in
     let size = get_member (codes "size") table in
-    let number = no_faults (required place size (number_faults place 1 1048576)) [] none in
+    let number = no_faults (require place size (number_faults place 1 1048576)) [] none in
     rw (get-table (codes "size") value table is) (required_number-valid place 1 1048576 size number.0)
 sized Mutex name value table is none = tt
 sized Pool name value table is none =
-    let place = dotted (dotted (codes "pool") name) (codes "size") in
+    let place = below_place (below_place (codes "pool") name) (codes "size") in
     let size = get_member (codes "size") table in
-    let number = no_faults (required place size (number_faults place 1 4096)) [] none in
+    let number = no_faults (require place size (number_faults place 1 4096)) [] none in
     rw (get-table (codes "size") value table is) (required_number-valid place 1 4096 size number.0)
 sized Latch name value table is none =
-    let place = dotted (dotted (codes "latch") name) (codes "count") in
+    let place = below_place (below_place (codes "latch") name) (codes "count") in
     let count = get_member (codes "count") table in
-    let number = no_faults (required place count (number_faults place 1 1048576)) [] none in
+    let number = no_faults (require place count (number_faults place 1 1048576)) [] none in
     rw (get-table (codes "count") value table is) (required_number-valid place 1 1048576 count number.0)
 sized Barrier name value table is none =
-    let first = dotted (dotted (codes "barrier") name) (codes "parties") in
-    let second = dotted (dotted (codes "barrier") name) (codes "rounds") in
+    let first = below_place (below_place (codes "barrier") name) (codes "parties") in
+    let second = below_place (below_place (codes "barrier") name) (codes "rounds") in
     let parties = get_member (codes "parties") table in
     let rounds = get_member (codes "rounds") table in
-    let both = no_faults (required first parties (number_faults first 1 32)) _ none in
-    let other = no_faults (required second rounds (number_faults second 1 64)) [] both.1 in
+    let both = no_faults (require first parties (number_faults first 1 32)) _ none in
+    let other = no_faults (require second rounds (number_faults second 1 64)) [] both.1 in
     rw (get-table (codes "parties") value table is, get-table (codes "rounds") value table is)
     (required_number-valid first 1 32 parties both.0, required_number-valid second 1 64 rounds other.0)
 
@@ -166,7 +166,7 @@ sound : (section : Section) (earlier : List (List ℕ)) (i : ℕ) (m : List ℕ 
     → resource_faults (kind_of section) earlier i m ≡ [] → IsSound section earlier i m
 sound section earlier i (name, value) none =
     let kind = kind_of section in
-    let place = dotted kind.key name in
+    let place = below_place kind.key name in
     let front = no_faults (unless (is_name name) kind.key fault.Name) _ none in
     let (table, is, faultless) = shaped-right place (as_table value) _ front.1 in
     let last = no_faults _ (resource_number_faults kind name table) faultless in
@@ -187,7 +187,7 @@ members_in-there d found is = rw is refl
 
 -- the faults of a section's table are those of its members
 members-faultless : (key : List ℕ) (value : Option Data) (faults : ℕ → List ℕ × Data → List Fault)
-    → optional value (λ d. shaped key (as_table d) (λ found. each (members_list found) faults)) ≡ []
+    → optional value (λ d. expect_shape key (as_table d) (λ found. each (members_list found) faults)) ≡ []
     → faults_from faults 0 (members_in value) ≡ []
 members-faultless key None faults none = refl
 members-faultless key (Some d) faults none =

@@ -10,7 +10,7 @@ use Rattle.cqs_plan.specs.declared.plans.fault_kind.FaultKind.TheVariants as fau
 use Rattle.cqs_plan.specs.Language.{is_name, ResourceKind}
 use Rattle.cqs_plan.specs.FaultRules.{Fault, fault_at, has_only, unless}
 use Rattle.cqs_plan.specs.Faults.{resource_faults, resource_number_faults}
-use Rattle.cqs_plan.specs.Places.{dotted}
+use Rattle.cqs_plan.specs.Places.{below_place}
 use Rattle.cqs_plan.specs.Reading.{StopsAt}
 use Rattle.cqs_plan.specs.Sections.{names_of}
 use Rattle.cqs_plan.proofs.FirstFaults.{StopsAt-append}
@@ -31,8 +31,8 @@ pub record IsTable (kind : ResourceKind) (name : List ℕ) (value : Data) (table
 -- what is looked for after the keys
 abbrev later : ResourceKind → List (List ℕ) → ℕ → List ℕ → Members → List Fault
 later kind earlier i name table =
-    unless (not (list_any (bytes_eq name) earlier)) (dotted kind.key name) fault.Name
-    ++ unless (nat_lt (length earlier + i) 64) (dotted kind.key name) fault.Many
+    unless (not (list_any (bytes_eq name) earlier)) (below_place kind.key name) fault.Name
+    ++ unless (nat_lt (length earlier + i) 64) (below_place kind.key name) fault.Many
     ++ resource_number_faults kind name table
 
 module _ (kind : ResourceKind) (earlier : List (List ℕ)) (i : ℕ) (name : List ℕ) (value : Data) (table : Members)
@@ -42,21 +42,21 @@ module _ (kind : ResourceKind) (earlier : List (List ℕ)) (i : ℕ) (name : Lis
 
   -- the name stands already
   pub stands : (e : PlanError) → list_any (bytes_eq name) earlier ≡ true
-      → StopsAt (fault_at (dotted kind.key name) fault.Name) e
+      → StopsAt (fault_at (below_place kind.key name) fault.Name) e
       → StopsAt (resource_faults kind earlier i (name, value)) e
   stands e known stops =
-      let many = unless (nat_lt (length earlier + i) 64) (dotted kind.key name) fault.Many in
-      let first = fault_at (dotted kind.key name) fault.Name in
+      let many = unless (nat_lt (length earlier + i) 64) (below_place kind.key name) fault.Many in
+      let first = fault_at (below_place kind.key name) fault.Name in
       rw (after-keys, known)
       (StopsAt-append (first ++ many) (resource_number_faults kind name table) e (StopsAt-append first many e stops))
 
   -- it is one too many
   pub too-many : (e : PlanError) → list_any (bytes_eq name) earlier ≡ false → 64 ≤ length earlier + i
-      → StopsAt (fault_at (dotted kind.key name) fault.Many) e
+      → StopsAt (fault_at (below_place kind.key name) fault.Many) e
       → StopsAt (resource_faults kind earlier i (name, value)) e
   too-many e new over stops =
       let passed : nat_lt (length earlier + i) 64 ≡ false = le-ltb (length earlier + i) 64 over in
-      let first = fault_at (dotted kind.key name) fault.Many in
+      let first = fault_at (below_place kind.key name) fault.Many in
       rw (after-keys, new, passed) (StopsAt-append first (resource_number_faults kind name table) e stops)
 
   -- its numbers are what is left

@@ -12,11 +12,11 @@ use Rattle.cqs_plan.specs.declared.plans.resource.Resource.{Resource}
 use Rattle.cqs_plan.specs.declared.plans.step.Step.{Step}
 use Rattle.cqs_plan.specs.declared.plans.step.Step.TheVariants.{Arrive, Give}
 use Rattle.cqs_plan.specs.Language.{is_name}
-use Rattle.cqs_plan.specs.FaultRules.{has_only, optional, required, unless}
+use Rattle.cqs_plan.specs.FaultRules.{has_only, optional, require, unless}
 use Rattle.cqs_plan.specs.Faults.{job_faults, job_keys, job_step_faults, name_faults, number_faults, read_step_faults, step_faults, steps_faults, steps_part_faults}
 use Rattle.cqs_plan.specs.Arriving.{has_round}
 use Rattle.cqs_plan.specs.Holding.{is_held}
-use Rattle.cqs_plan.specs.Places.{indexed, job_place, part_place}
+use Rattle.cqs_plan.specs.Places.{at_index, job_place, part_place}
 use Rattle.cqs_plan.specs.Meaning.{items_in, items_list, text_in, job_in, job_name, number_in, step_in, step_of, steps_in}
 use Rattle.cqs_plan.specs.Validity.{IsStep, IsJob, ArrivesInRounds, GivesWhatItTook}
 use Rattle.cqs_plan.proofs.ValidNumbers.{no_faults, unless-passed, required-there, shaped-right, number-valid, each-faultless}
@@ -111,7 +111,7 @@ all_read place resources values none =
     let parts = no_faults (unless (nat_le (length values) 64) place fault.Many) _ none in record {
       few = leb-true (length values) 64 (unless-passed _ place _ parts.0);
       each = λ j d below.
-          reads (indexed place j) resources (steps_in resources (take j values)) (get_or values j d)
+          reads (at_index place j) resources (steps_in resources (take j values)) (get_or values j d)
           (each-faultless (job_step_faults place resources values) 0 j values j d parts.1
           (omega arith) below);
     }
@@ -183,7 +183,7 @@ pub items_in-there : (value : Option Data) (d : Data) (items : Items) → value 
 items_in-there value d items is says = rw (is, says)
 
 name-valid : (place : List ℕ) (stands : List ℕ → Bool) (value : Option Data)
-    → required place value (name_faults place stands) ≡ []
+    → require place value (name_faults place stands) ≡ []
     → IsNewName stands (text_in value)
 name-valid place stands value none =
     let (d, is, faultless) = required-there place value (name_faults place stands) none in

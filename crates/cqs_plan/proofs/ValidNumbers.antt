@@ -5,7 +5,7 @@ use Rattle.std.specs.Int.{IsInRange}
 use Rattle.std.proofs.lemmas.Bool.{and_parts, false≢true, leb-true}
 use Rattle.toml.specs.Data.{Data, as_integer}
 use Rattle.cqs_plan.specs.declared.plans.fault_kind.FaultKind.{FaultKind}
-use Rattle.cqs_plan.specs.FaultRules.{Fault, required, shaped, unless}
+use Rattle.cqs_plan.specs.FaultRules.{Fault, require, expect_shape, unless}
 use Rattle.cqs_plan.specs.Faults.{number_faults}
 use Rattle.cqs_plan.specs.Meaning.{count_in, number_in}
 use Rattle.cqs_plan.proofs.FirstFaults.{faults_from}
@@ -22,14 +22,14 @@ unless-passed false place kind none = cc
 
 -- the value that has to be there
 pub required-there : (place : List ℕ) (value : Option Data) (faults : Data → List Fault)
-    → required place value faults ≡ []
+    → require place value faults ≡ []
     → (d : Data) × (value ≡ Some d) × (faults d ≡ [])
 required-there place None faults none = cc
 required-there place (Some d) faults none = (d, refl, none)
 
 -- the value of the type that it has to have
 pub shaped-right : {X : Type 0} (place : List ℕ) (value : Option X) (faults : X → List Fault)
-    → shaped place value faults ≡ []
+    → expect_shape place value faults ≡ []
     → (x : X) × (value ≡ Some x) × (faults x ≡ [])
 shaped-right place None faults none = cc
 shaped-right place (Some x) faults none = (x, refl, none)
@@ -49,7 +49,7 @@ number-valid place least most d none =
     rw is (in_range least most z (unless-passed _ place _ passed))
 
 pub required_number-valid : (place : List ℕ) (least most : ℕ) (value : Option Data)
-    → required place value (number_faults place least most) ≡ [] → IsInRange least most (number_in value)
+    → require place value (number_faults place least most) ≡ [] → IsInRange least most (number_in value)
 required_number-valid place least most value none =
     let (d, is, faultless) = required-there place value (number_faults place least most) none in
     rw is (number-valid place least most d faultless)

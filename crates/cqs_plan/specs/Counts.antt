@@ -6,8 +6,8 @@ abbrev pub last_count : ℕ
 last_count = 2 ^ 64 - 1
 
 -- so many more, as far as a count goes
-abbrev pub raised : ℕ → ℕ → ℕ
-raised count more = max count (min (count + more) last_count)
+abbrev pub raise : ℕ → ℕ → ℕ
+raise count more = max count (min (count + more) last_count)
 
 -- the count rose, or it stands at its end
 abbrev pub Rises : ℕ → ℕ → Type 0

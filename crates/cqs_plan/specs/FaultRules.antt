@@ -21,18 +21,18 @@ unless true place kind = []
 unless false place kind = fault_at place kind
 
 -- `missing`, or the faults of what is there
-abbrev pub required : List ℕ → Option Data → (Data → List Fault) → List Fault
-required place None faults = fault_at place fault.Missing
-required place (Some value) faults = faults value
+abbrev pub require : List ℕ → Option Data → (Data → List Fault) → List Fault
+require place None faults = fault_at place fault.Missing
+require place (Some value) faults = faults value
 
 abbrev pub optional : Option Data → (Data → List Fault) → List Fault
 optional None faults = []
 optional (Some value) faults = faults value
 
 -- `shape`, or the faults of what the value is
-abbrev pub shaped : {X : Type 0} → List ℕ → Option X → (X → List Fault) → List Fault
-shaped place None faults = fault_at place fault.Shape
-shaped place (Some value) faults = faults value
+abbrev pub expect_shape : {X : Type 0} → List ℕ → Option X → (X → List Fault) → List Fault
+expect_shape place None faults = fault_at place fault.Shape
+expect_shape place (Some value) faults = faults value
 
 -- the faults of each element, at its place
 abbrev pub each : {X : Type 0} → List X → (ℕ → X → List Fault) → List Fault

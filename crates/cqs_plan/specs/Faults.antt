@@ -9,32 +9,32 @@ use Rattle.cqs_plan.specs.declared.plans.job.Job.{Job}
 use Rattle.cqs_plan.specs.declared.plans.fault_kind.FaultKind.{FaultKind}
 use Rattle.cqs_plan.specs.declared.plans.fault_kind.FaultKind.TheVariants as fault
 use Rattle.cqs_plan.specs.declared.plans.step.Step.{Step}
-use Rattle.cqs_plan.specs.FaultRules.{Fault, fault_at, unless, required, optional, shaped, each, has_only}
+use Rattle.cqs_plan.specs.FaultRules.{Fault, fault_at, unless, require, optional, expect_shape, each, has_only}
 use Rattle.cqs_plan.specs.Arriving.{arriving, has_parties, has_round}
 use Rattle.cqs_plan.specs.Holding.{is_held}
 use Rattle.cqs_plan.specs.Language.{is_name, ResourceKind, resource_kinds}
 use Rattle.cqs_plan.specs.Meaning.{items_in, items_list, members_list, members_in, resources_in, step_of, steps_in, job_in, job_name}
-use Rattle.cqs_plan.specs.Places.{dotted, indexed, job_place, part_place}
+use Rattle.cqs_plan.specs.Places.{below_place, at_index, job_place, part_place}
 
 -- an integer from least to most
 abbrev pub number_faults : List ℕ → ℕ → ℕ → Data → List Fault
 number_faults place least most value =
-    shaped place (as_integer value) (λ number.
+    expect_shape place (as_integer value) (λ number.
     unless (int_le (pos least) number && int_le number (pos most)) place fault.Range)
 
 -- the faults of the numbers that a kind requires
 abbrev pub resource_number_faults : ResourceKind → List ℕ → Members → List Fault
 resource_number_faults kind name table = flat_map (λ number.
-    let place = dotted (dotted kind.key name) number.key in
-    required place (get_member number.key table) (number_faults place number.least number.most))
+    let place = below_place (below_place kind.key name) number.key in
+    require place (get_member number.key table) (number_faults place number.least number.most))
     kind.numbers
 
 -- the faults of the i-th resource of a kind, where these names stand in earlier kinds
 abbrev pub resource_faults : ResourceKind → List (List ℕ) → ℕ → List ℕ × Data → List Fault
 resource_faults kind earlier i (name, value) =
-    let place = dotted kind.key name in
+    let place = below_place kind.key name in
     unless (is_name name) kind.key fault.Name
-    ++ shaped place (as_table value) (λ table.
+    ++ expect_shape place (as_table value) (λ table.
     unless (has_only (map (λ number. number.key) kind.numbers) table) place fault.Key
     ++ unless (not (list_any (bytes_eq name) earlier)) place fault.Name
     ++ unless (nat_lt (length earlier + i) 64) place fault.Many
@@ -48,7 +48,7 @@ names_in kinds root =
 -- the faults of the resources of a kind, name by name, in byte order
 abbrev pub kind_faults : ResourceKind → List (List ℕ) → Members → List Fault
 kind_faults kind earlier root = optional (get_member kind.key root) (λ value.
-    shaped kind.key (as_table value) (λ table.
+    expect_shape kind.key (as_table value) (λ table.
     each (members_list table) (resource_faults kind earlier)))
 
 -- the faults of the resources of these kinds, kind by kind
@@ -70,13 +70,13 @@ read_step_faults place resources earlier (Err kind) = fault_at place kind
 
 abbrev pub step_faults : List ℕ → List Resource → List Step → Data → List Fault
 step_faults place resources earlier value =
-    shaped place (as_str value) (λ text.
+    expect_shape place (as_str value) (λ text.
     read_step_faults place resources earlier (step_of resources text))
 
 -- the faults of the j-th of the steps of a job
 abbrev pub job_step_faults : List ℕ → List Resource → List Data → ℕ → Data → List Fault
 job_step_faults place resources steps j value =
-    step_faults (indexed place j) resources (steps_in resources (take j steps)) value
+    step_faults (at_index place j) resources (steps_in resources (take j steps)) value
 
 abbrev pub steps_faults : List ℕ → List Resource → List Data → List Fault
 steps_faults place resources steps =
@@ -87,13 +87,13 @@ steps_faults place resources steps =
 abbrev pub steps_part_faults : ℕ → List Resource → Option Data → List Fault
 steps_part_faults i resources value =
     let place = part_place i (codes "steps") in
-    required place value (λ steps.
-    shaped place (as_array steps) (λ items. steps_faults place resources (items_list items)))
+    require place value (λ steps.
+    expect_shape place (as_array steps) (λ items. steps_faults place resources (items_list items)))
 
 -- the faults of a name, where some names stand already
 abbrev pub name_faults : List ℕ → (List ℕ → Bool) → Data → List Fault
 name_faults place stands value =
-    shaped place (as_str value) (λ text.
+    expect_shape place (as_str value) (λ text.
     unless (is_name text && not (stands text)) place fault.Name)
 
 -- one of these jobs has the name
@@ -109,9 +109,9 @@ abbrev pub job_faults : List Resource → (List ℕ → Bool) → ℕ → Data �
 job_faults resources stands i value =
     let name_place = part_place i (codes "name") in
     let deadline_place = part_place i (codes "deadline") in
-    shaped (job_place i) (as_table value) (λ job.
+    expect_shape (job_place i) (as_table value) (λ job.
     unless (has_only job_keys job) (job_place i) fault.Key
-    ++ required name_place (get_member (codes "name") job) (name_faults name_place stands)
+    ++ require name_place (get_member (codes "name") job) (name_faults name_place stands)
     ++ optional (get_member (codes "deadline") job) (number_faults deadline_place 0 40000)
     ++ steps_part_faults i resources (get_member (codes "steps") job))
 
@@ -127,12 +127,12 @@ jobs_faults resources jobs =
 -- the faults of what the root has at `job`
 abbrev pub jobs_part_faults : List Resource → Option Data → List Fault
 jobs_part_faults resources value = optional value (λ jobs.
-    shaped (codes "job") (as_array jobs) (λ items. jobs_faults resources (items_list items)))
+    expect_shape (codes "job") (as_array jobs) (λ items. jobs_faults resources (items_list items)))
 
 -- the fault of a barrier at which more jobs arrive than it has parties
 abbrev pub barrier_faults : List Job → ℕ → Resource → List Fault
 barrier_faults jobs at resource =
-    unless (has_parties resource.kind (arriving at jobs)) (dotted (codes "barrier") resource.name)
+    unless (has_parties resource.kind (arriving at jobs)) (below_place (codes "barrier") resource.name)
     fault.Many
 
 abbrev pub barriers_faults : List Resource → List Job → List Fault
@@ -152,7 +152,7 @@ root_keys = codes "version" ∷ codes "turns" ∷ map (λ kind. kind.key) resour
 -- the faults of an integer that the root has to have
 abbrev pub root_number_faults : List ℕ → ℕ → ℕ → Members → List Fault
 root_number_faults key least most root =
-    required key (get_member key root) (number_faults key least most)
+    require key (get_member key root) (number_faults key least most)
 
 -- all faults of a document, in order
 abbrev pub faults_in : Members → List Fault

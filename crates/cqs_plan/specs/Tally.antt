@@ -2,11 +2,11 @@
 use Rattle.std.specs.Prelude.{ℕ, ◌||◌, ◌==◌, nat_lt, Result, Ok, Err, if◌then◌else◌}
 use Rattle.cqs_plan.specs.declared.streams.failed.Failed.{Failed}
 use Rattle.cqs_plan.specs.declared.streams.tally.Tally.{Tally}
-use Rattle.cqs_plan.specs.Counts.{raised}
+use Rattle.cqs_plan.specs.Counts.{raise}
 
 -- before the first read
-abbrev pub untouched : Tally
-untouched = record { given = 0; stops = 0 }
+abbrev pub no_reads : Tally
+no_reads = record { given = 0; stops = 0 }
 
 -- how many bytes a read gave
 abbrev pub bytes_of : Result ℕ Failed → ℕ
@@ -17,6 +17,6 @@ bytes_of (Err failed) = 0
 -- where an earlier one stopped
 abbrev pub after_read : Tally → ℕ → Tally
 after_read tally bytes = record {
-  given = raised tally.given bytes;
-  stops = if nat_lt 0 tally.stops || bytes == 0 then raised tally.stops 1 else tally.stops;
+  given = raise tally.given bytes;
+  stops = if nat_lt 0 tally.stops || bytes == 0 then raise tally.stops 1 else tally.stops;
 }

@@ -18,19 +18,19 @@ use Rattle.cqs_core.specs.declared.doings.Doing.TheVariants as doing
 use Rattle.cqs_core.specs.Numbered.{IsIn, EachAt}
 use Rattle.cqs_core.specs.QueueOpening.{value_cell}
 use Rattle.cqs_core.specs.QueueState.{Queue, fresh_cell}
-use Rattle.cqs_core.specs.QueueSteps.{QueueStep, draws, enters, reaches, begins, puts, installs, takes, serves, leaves, delegates, passes_over, ends_refused, ends_missed, starts_leaving, leaves_line, leaves_at_once, settles, settles_owing, refuses, refuses_value, looks, pends, grants, late, row_of, StepRow, at_counter, at_cell, Gain, nothing, its_own, a_debt, Cost, no_cost, one_owed, one_element, IsOpenStep, payload_told, CellRow, IsOpenRow, row_after, cell_after, state_made, Counter, to_suspend, to_resume, counter_of, counted}
+use Rattle.cqs_core.specs.QueueSteps.{QueueStep, draws, enters, reaches, begins, puts, installs, takes, serves, leaves, delegates, passes_over, ends_refused, ends_missed, starts_leaving, leaves_line, leaves_at_once, settles, settles_owing, refuses, refuses_value, looks, pends, grants, late, row_of, StepRow, at_counter, at_cell, Gain, nothing, its_own, a_debt, Cost, no_cost, one_owed, one_element, IsOpenStep, payload_told, CellRow, IsOpenRow, row_after, cell_after, state_made, Counter, to_suspend, to_resume, counter_of, after_count}
 use Rattle.cqs_core.proofs.Counts.{bit}
 use Rattle.cqs_core.proofs.EachAtLemmas.{EachAt-write}
 use Rattle.cqs_core.proofs.Places.{get-below, get-set_else, set-same, get-append_below, get-push_at}
 use Rattle.cqs_core.proofs.QueueOpens.{get-replicate}
 use Rattle.cqs_pool_object.specs.declared.entries.PoolEntry.{PoolEntry}
 use Rattle.cqs_pool_object.specs.PoolEntries.{less, object_after}
-use Rattle.cqs_pool_object.specs.PoolLaws.{opened, handed_over}
+use Rattle.cqs_pool_object.specs.PoolLaws.{opening_shape, handed_over}
 use Rattle.cqs_pool_object.specs.PoolNames.{entry_names}
 use Rattle.cqs_pool_object.specs.PoolObject.{times}
 use Rattle.cqs_pool_object.specs.PoolOrder.{IsInOrder}
 use Rattle.cqs_pool_object.specs.PoolShown.{PoolShape, IsPool, held_times}
-use Rattle.cqs_pool_object.specs.PoolSteps.{IsPoolStep, IsPaid, IsPayload, step_entries, hold_of, loads_after, holds_after, loads_paid, loads_gained, holds_paid, holds_gained, stepped}
+use Rattle.cqs_pool_object.specs.PoolSteps.{IsPoolStep, IsPaid, IsPayload, step_entries, hold_of, loads_after, holds_after, loads_paid, loads_gained, holds_paid, holds_gained, shape_after}
 use Rattle.cqs_pool_object.proofs.PoolConserved.{conserved-after}
 use Rattle.cqs_pool_object.proofs.PoolCounts.{times-cons}
 use Rattle.cqs_pool_object.proofs.PoolOpens.{opened-pool, handed-pool, numbers-left}
@@ -39,7 +39,7 @@ use Rattle.cqs_pool_object.proofs.PoolSteps.{step-pool}
 use Rattle.cqs_rule.specs.declared.view.Has.{Has}
 use Rattle.cqs_rule.specs.Client as client
 use Rattle.cqs_rule.specs.Client.{IsClient, IsBegun, begun_by}
-use Rattle.cqs_rule.specs.Hidden.{Hidden, happened, has_after, has_gained, has_paid, has_both, has_none, hands_over}
+use Rattle.cqs_rule.specs.Hidden.{Hidden, hidden_after, has_after, has_gained, has_paid, has_both, has_none, hands_over}
 use Rattle.cqs_rule.specs.Lists as lists
 use Rattle.cqs_rule.specs.Lists.{NamesOnly}
 use Rattle.cqs_rule.specs.Manner.{Suits}
@@ -417,7 +417,7 @@ unrefused-cell row q p k None other opens all = absurd opens
 
 unrefused-counted : (counter : Counter) (q : Queue) (p k : ℕ) (found : Option CoreCell)
     → k ≡ counter_of counter q → slice_get q.cells k ≡ found
-    → Unrefused q.cells → Unrefused (counted counter q p k found).cells
+    → Unrefused q.cells → Unrefused (after_count counter q p k found).cells
 unrefused-counted to_suspend q p k (Some found) is there all =
     unrefused-set q.cells k found
     (record { state = found.state; owner = Some p; collected = found.collected }) there
@@ -448,7 +448,7 @@ steps-pool : (size : ℕ) (c : Hidden) (t : QueueStep) (p k : ℕ) (found : Opti
     (has : Has) (payload : ℕ) (log : List PoolEntry)
     → ShowsPool size c log → IsOpenStep c.queue t p k found → slice_get c.has p ≡ Some has
     → client.IsPayload (row_of t) has (c.payloads k) payload → Suits pool_manner t
-    → ShowsPool size (happened in_hand c t p k found has payload)
+    → ShowsPool size (hidden_after in_hand c t p k found has payload)
     (log ++ step_entries t p k payload)
 steps-pool size c t p k found has payload log shows opens there paid suits =
     let s : PoolShape = pool_shown size c log in
@@ -457,7 +457,7 @@ steps-pool size c t p k found has payload log shows opens there paid suits =
     let once : times payload has.slots ≤ 1 =
     subst (λ xs. times payload xs ≤ 1) (hold-is c.has p has there)
     (once-held s p payload shows.is_pool at) in
-    let after : PoolShape = stepped s t p k found payload in
+    let after : PoolShape = shape_after s t p k found payload in
     record {
       is_pool = subst (λ (z : List ℕ × List (List ℕ)).
           IsPool (record after { loads = z.0; holds = z.1 }))
@@ -500,14 +500,14 @@ begins-pool size passes any =
     λ k low. ap (λ b. if b then k else 0) (lt-ltb k size low) in
     record {
       is_pool = subst (λ (z : List ℕ × List (List ℕ)). IsPool (record
-          (opened size passes (first_payload size)) { loads = z.0; holds = z.1 }))
+          (opening_shape size passes (first_payload size)) { loads = z.0; holds = z.1 }))
           (λ i. (
             (sym (first-loads passes) ∙ ap loads_of (sym all)) i,
             (sym (first-holds passes) ∙ ap holds_of (sym all)) i,
           ))
           (opened-pool size passes (first_payload size) own);
       in_order = subst (λ (l : List ℕ). IsInOrder (record
-          (opened size passes (first_payload size)) { loads = l }))
+          (opening_shape size passes (first_payload size)) { loads = l }))
           (sym (first-loads passes) ∙ ap loads_of (sym all))
           (opened-in_order size passes (first_payload size) own);
       uncounted = subst Uncounted (sym all)

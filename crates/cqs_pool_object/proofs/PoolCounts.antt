@@ -9,7 +9,7 @@ use Rattle.cqs_core.specs.declared.cells.CoreCell.{CoreCell}
 use Rattle.cqs_core.specs.declared.cells.CoreState.{CoreState}
 use Rattle.cqs_core.specs.declared.cells.CoreState.TheVariants as state
 use Rattle.cqs_core.specs.declared.doings.Doing.{Doing}
-use Rattle.cqs_core.specs.Numbered.{IsIn, picked, count_at}
+use Rattle.cqs_core.specs.Numbered.{IsIn, pick_each, count_at}
 use Rattle.cqs_core.specs.Keyed.{without}
 use Rattle.cqs_core.specs.QueueState.{Queue, fresh_cell, owner_doing, is_refusing}
 use Rattle.cqs_core.specs.QueueLine.{is_resuming, is_told_refused, has_left, is_unmet, going, ending}
@@ -26,7 +26,7 @@ use Rattle.cqs_core.proofs.Picked.{picked-around, picked-push}
 use Rattle.cqs_core.proofs.Places.{get-set_here, get-set_else}
 use Rattle.cqs_core.proofs.Rising.{in-behind, in-none}
 use Rattle.cqs_pool_object.specs.PoolObject.{Given, times}
-use Rattle.cqs_pool_object.specs.PoolShown.{brings, way_times, given_of, is_given, given}
+use Rattle.cqs_pool_object.specs.PoolShown.{brings, way_times, given_of, is_given, services}
 
 abbrev pub itself : ℕ → ℕ
 itself n = n
@@ -170,7 +170,7 @@ given_of-key k state.Refused owner collected e v some = absurd (cc)
 pub given-around : (cells : List CoreCell) (k : ℕ) (found new : CoreCell) (payloads after : ℕ → ℕ)
     → slice_get cells k ≡ Some found
     → PayloadsBut k payloads after
-    → Around given_wait k (picked (is_given payloads) 0 cells) (picked (is_given after) 0 (set cells k new))
+    → Around given_wait k (pick_each (is_given payloads) 0 cells) (pick_each (is_given after) 0 (set cells k new))
     (is_given payloads k found) (is_given after k new)
 given-around cells k found new payloads after finds but =
     picked-around (is_given payloads) (is_given after) given_wait
@@ -208,7 +208,7 @@ unserved-none k state.Refused owner collected e un = refl
 pub given-write : (cells : List CoreCell) (k : ℕ) (found new : CoreCell) (payloads after : ℕ → ℕ)
     → slice_get cells k ≡ Some found
     → PayloadsBut k payloads after → IsUnserved found.state → IsUnserved new.state
-    → picked (is_given after) 0 (set cells k new) ≡ picked (is_given payloads) 0 cells
+    → pick_each (is_given after) 0 (set cells k new) ≡ pick_each (is_given payloads) 0 cells
 given-write cells k found new payloads after finds but was now =
     around-kept given_wait k _ _ _ _ (given-around cells k found new payloads after finds but)
     (unserved-none k found.state found.owner found.collected (payloads k) was
@@ -216,7 +216,7 @@ given-write cells k found new payloads after finds but was now =
 
 pub given-drawn : (q : Queue) (p : ℕ) (found : Option CoreCell) (payloads : ℕ → ℕ) → IsSound q
     → slice_get q.cells q.suspends ≡ found
-    → picked (is_given payloads) 0 (cells_drawn q.cells q.suspends p found) ≡ given q payloads
+    → pick_each (is_given payloads) 0 (cells_drawn q.cells q.suspends p found) ≡ services q payloads
 given-drawn q p (Some found) payloads sound finds =
     let was = undrawn q q.suspends found sound finds (omega arith) in
     given-write q.cells q.suspends found (record { state = found.state; owner = Some p; collected = found.collected })
@@ -230,14 +230,14 @@ given-drawn q p (Some found) payloads sound finds =
 given-drawn q p None payloads sound finds =
     picked-push (is_given payloads) 0 q.cells (record { state = state.Empty; owner = Some p; collected = false })
     (length q.cells) (omega arith)
-    ∙ append-nil (picked (is_given payloads) 0 q.cells)
+    ∙ append-nil (pick_each (is_given payloads) 0 q.cells)
 
 pub given-reached : (payloads : ℕ → ℕ) (cells : List CoreCell) (found : Option CoreCell)
-    → picked (is_given payloads) 0 (cells_reached cells found) ≡ picked (is_given payloads) 0 cells
+    → pick_each (is_given payloads) 0 (cells_reached cells found) ≡ pick_each (is_given payloads) 0 cells
 given-reached payloads cells (Some found) = refl
 given-reached payloads cells None =
     picked-push (is_given payloads) 0 cells fresh_cell (length cells) (omega arith)
-    ∙ append-nil (picked (is_given payloads) 0 cells)
+    ∙ append-nil (pick_each (is_given payloads) 0 cells)
 
 -- Lists of elements.
 pub times-in : (e : ℕ) (xs : List ℕ) → 0 < times e xs → IsIn e xs

@@ -9,12 +9,12 @@ use Rattle.cqs_core.specs.declared.cells.CoreState.TheVariants as state
 use Rattle.cqs_core.specs.declared.doings.Doing.{Doing}
 use Rattle.cqs_core.specs.declared.doings.Doing.TheVariants as doing
 use Rattle.cqs_core.specs.Numbered.{IsIn, count_at}
-use Rattle.cqs_core.specs.Keyed.{placed, without}
+use Rattle.cqs_core.specs.Keyed.{insert_by, without}
 use Rattle.cqs_core.specs.QueueState.{Queue, owner_doing}
 use Rattle.cqs_core.specs.QueueLine as queue
 use Rattle.cqs_core.specs.QueueLine.{Waiting, going, ending, line, in_line, is_resuming, has_left, has_ready, at_door, waiting_of}
 use Rattle.cqs_core.specs.QueueMoves as move
-use Rattle.cqs_core.specs.QueueMoves.{Works, Owns, IsOpen, moved, now_doing, with_cell, at_state, cells_reached, cells_drawn}
+use Rattle.cqs_core.specs.QueueMoves.{Works, Owns, IsOpen, move_queue, now_doing, with_cell, at_state, cells_reached, cells_drawn}
 use Rattle.cqs_core.specs.QueueSound.{IsSound, IsSoundAt}
 use Rattle.cqs_core.specs.QueueWaiters.{find_wait, Waits}
 use Rattle.cqs_core.proofs.Counts.{bit}
@@ -34,8 +34,8 @@ use Rattle.cqs_core.proofs.QueueServes.{waiting, drawn-own, Serves, serves-take_
 use Rattle.cqs_pool_object.specs.declared.entries.PoolEntry.{PoolEntry}
 use Rattle.cqs_pool_object.specs.declared.entries.PoolEntry.TheVariants as entry
 use Rattle.cqs_pool_object.specs.PoolObject.{Given, Pool, opening, IsGiven, times}
-use Rattle.cqs_pool_object.specs.PoolEntries.{IsAllowed, with_given, closed, after_entry, object_after, IsLegal}
-use Rattle.cqs_pool_object.specs.PoolShown.{PoolShape, way_times, held_times, is_given, given, given_of, Shows, IsPool}
+use Rattle.cqs_pool_object.specs.PoolEntries.{IsAllowed, with_given, after_look, after_entry, object_after, IsLegal}
+use Rattle.cqs_pool_object.specs.PoolShown.{PoolShape, way_times, held_times, is_given, services, given_of, Shows, IsPool}
 use Rattle.cqs_pool_object.proofs.PoolCounts.{itself, given_wait, loads-same, loads-set, put_at, PayloadsBut, payloads-same, payloads-set, put-here, brings-write, cells-write, cells-reached, cells-drawn, way-write, way-turn, given-around, given-write, given-drawn, given-reached, times-in, times-cons, times-push, times-without, expected-within}
 
 -- the cell of a waiter isn't collected
@@ -120,7 +120,7 @@ module _ (s : PoolShape) (p k : ℕ) (is : IsPool s) where
 
   -- a step that nobody sees: elements go from one place on their way to another
   pool-quiet : (loads : List ℕ) (payloads : ℕ → ℕ) (q : Queue) → IsSound q → Keeps s.queue q 0
-      → given q payloads ≡ given s.queue s.payloads
+      → services q payloads ≡ services s.queue s.payloads
       → ((e : ℕ) → way_times e q loads payloads ≡ way_times e s.queue s.loads s.payloads)
       → ((e : ℕ) → held_times e q payloads s.holds ≡ held_times e s.queue s.payloads s.holds)
       → length loads ≡ length s.loads → length q.doing ≡ length s.queue.doing
@@ -159,10 +159,10 @@ module _ (s : PoolShape) (p k : ℕ) (is : IsPool s) where
   left_by = put_at s.payloads k load_of
 
   pub pool-install : (found : CoreCell) → Works s.queue p (doing.Drawn k) k found state.Empty
-      → IsPool (record s { queue = moved s.queue (move.install p k found) })
+      → IsPool (record s { queue = move_queue s.queue (move.install p k found) })
   pool-install found w =
       let new : CoreCell = at_state found state.Waiter in
-      pool-quiet s.loads s.payloads (moved s.queue (move.install p k found))
+      pool-quiet s.loads s.payloads (move_queue s.queue (move.install p k found))
       (sound-moved s.queue (move.install p k found) is.sound w) (keeps-install s.queue p k found w)
       (given-write s.queue.cells k found new s.payloads s.payloads w.finds (payloads-same k s.payloads) (rw w.at tt) tt)
       (λ e. let write = way-write e s.queue p (doing.Drawn k) doing.Idle k found new s.loads s.loads s.payloads
@@ -175,12 +175,12 @@ module _ (s : PoolShape) (p k : ℕ) (is : IsPool s) where
 
   -- a resumption leaves its element in the cell
   pub pool-leave_value : (found : CoreCell) → Works s.queue p (doing.Ticket k) k found state.Empty
-      → IsPool (record s { payloads = put_at s.payloads k load_of; queue = moved s.queue (move.leave_value p k found) })
+      → IsPool (record s { payloads = put_at s.payloads k load_of; queue = move_queue s.queue (move.leave_value p k found) })
   pool-leave_value found w =
       let new : CoreCell = at_state found state.Value in
       let payloads : ℕ → ℕ = put_at s.payloads k load_of in
       let but = payloads-set k load_of s.payloads in
-      pool-quiet s.loads payloads (moved s.queue (move.leave_value p k found))
+      pool-quiet s.loads payloads (move_queue s.queue (move.leave_value p k found))
       (sound-moved s.queue (move.leave_value p k found) is.sound w) (keeps-leave_value s.queue p k found w)
       (given-write s.queue.cells k found new s.payloads payloads w.finds but (rw w.at tt) tt)
       (λ e. let write = way-write e s.queue p (doing.Ticket k) doing.Idle k found new s.loads s.loads s.payloads
@@ -193,12 +193,12 @@ module _ (s : PoolShape) (p k : ℕ) (is : IsPool s) where
       refl (length-set s.queue.doing p doing.Idle)
 
   pub pool-delegate : (found : CoreCell) → Works s.queue p (doing.Ticket k) k found state.Cancelling
-      → IsPool (record s { payloads = put_at s.payloads k load_of; queue = moved s.queue (move.delegate p k found) })
+      → IsPool (record s { payloads = put_at s.payloads k load_of; queue = move_queue s.queue (move.delegate p k found) })
   pool-delegate found w =
       let new : CoreCell = at_state found state.Delegated in
       let payloads : ℕ → ℕ = put_at s.payloads k load_of in
       let but = payloads-set k load_of s.payloads in
-      pool-quiet s.loads payloads (moved s.queue (move.delegate p k found))
+      pool-quiet s.loads payloads (move_queue s.queue (move.delegate p k found))
       (sound-moved s.queue (move.delegate p k found) is.sound w) (keeps-delegate s.queue p k found w)
       (given-write s.queue.cells k found new s.payloads payloads w.finds but (rw w.at tt) tt)
       (λ e. let write = way-write e s.queue p (doing.Ticket k) doing.Idle k found new s.loads s.loads s.payloads
@@ -212,9 +212,9 @@ module _ (s : PoolShape) (p k : ℕ) (is : IsPool s) where
 
   -- it passes over a cancelled cell, with its element
   pub pool-pass_over : (found : CoreCell) → Works s.queue p (doing.Ticket k) k found state.Cancelled
-      → IsPool (record s { queue = moved s.queue (move.pass_over p k found) })
+      → IsPool (record s { queue = move_queue s.queue (move.pass_over p k found) })
   pool-pass_over found w =
-      pool-quiet s.loads s.payloads (moved s.queue (move.pass_over p k found))
+      pool-quiet s.loads s.payloads (move_queue s.queue (move.pass_over p k found))
       (sound-moved s.queue (move.pass_over p k found) is.sound w) (keeps-pass_over s.queue p k found w) refl
       (λ e. let turn = way-turn e s.queue p (doing.Ticket k) doing.Owes s.loads s.loads s.payloads w.does
       (loads-same p s.loads) in
@@ -224,10 +224,10 @@ module _ (s : PoolShape) (p k : ℕ) (is : IsPool s) where
   -- nor does a further number change anything
   pub pool-reach : (found : Option CoreCell) → slice_get s.queue.doing p ≡ Some doing.Owes
       → slice_get s.queue.cells s.queue.resumes ≡ found
-      → IsPool (record s { queue = moved s.queue (move.reach p s.queue.resumes found) })
+      → IsPool (record s { queue = move_queue s.queue (move.reach p s.queue.resumes found) })
   pool-reach found does finds =
       let m : move.Move = move.reach p s.queue.resumes found in
-      pool-quiet s.loads s.payloads (moved s.queue m)
+      pool-quiet s.loads s.payloads (move_queue s.queue m)
       (sound-moved s.queue m is.sound (does, refl, finds)) (keeps-reach s.queue p found does)
       (given-reached s.payloads s.queue.cells found)
       (λ e. let passes = brings-write e s.queue.doing p doing.Owes (doing.Ticket s.queue.resumes) s.loads s.loads does
@@ -238,10 +238,10 @@ module _ (s : PoolShape) (p k : ℕ) (is : IsPool s) where
       refl (length-set s.queue.doing p (doing.Ticket s.queue.resumes))
 
   pub pool-cancel : (found : CoreCell) → Works s.queue p (doing.Decided k true) k found state.Cancelling
-      → IsPool (record s { queue = moved s.queue (move.cancel p k found) })
+      → IsPool (record s { queue = move_queue s.queue (move.cancel p k found) })
   pool-cancel found w =
       let new : CoreCell = at_state found state.Cancelled in
-      pool-quiet s.loads s.payloads (moved s.queue (move.cancel p k found))
+      pool-quiet s.loads s.payloads (move_queue s.queue (move.cancel p k found))
       (sound-moved s.queue (move.cancel p k found) is.sound w) (keeps-cancel s.queue p k found is.sound w)
       (given-write s.queue.cells k found new s.payloads s.payloads w.finds (payloads-same k s.payloads) (rw w.at tt) tt)
       (λ e. let write = way-write e s.queue p (doing.Decided k true) doing.Idle k found new s.loads s.loads s.payloads
@@ -254,11 +254,11 @@ module _ (s : PoolShape) (p k : ℕ) (is : IsPool s) where
 
   -- the canceller takes the element that was left to it, and owes its resumption
   pub pool-cancel_owing : (found : CoreCell) → Works s.queue p (doing.Decided k true) k found state.Delegated
-      → IsPool (record s { loads = set s.loads p (s.payloads k); queue = moved s.queue (move.cancel_owing p k found) })
+      → IsPool (record s { loads = set s.loads p (s.payloads k); queue = move_queue s.queue (move.cancel_owing p k found) })
   pool-cancel_owing found w =
       let new : CoreCell = at_state found state.Cancelled in
       let loads : List ℕ = set s.loads p (s.payloads k) in
-      pool-quiet loads s.payloads (moved s.queue (move.cancel_owing p k found))
+      pool-quiet loads s.payloads (move_queue s.queue (move.cancel_owing p k found))
       (sound-moved s.queue (move.cancel_owing p k found) is.sound w) (keeps-cancel_owing s.queue p k found is.sound w)
       (given-write s.queue.cells k found new s.payloads s.payloads w.finds (payloads-same k s.payloads) (rw w.at tt) tt)
       (λ e. let write = way-write e s.queue p (doing.Decided k true) doing.Owes k found new s.loads loads s.payloads
@@ -292,8 +292,8 @@ module _ (s : PoolShape) (p k : ℕ) (is : IsPool s) where
 
   -- an element on its way reaches wait k of c
   delivered : (c e : ℕ) (payloads : ℕ → ℕ) (holds : List (List ℕ)) (q : Queue) → IsSound q → Serves s.queue q k c
-      → given q payloads ≡ placed given_wait (record { wait = k; pass = c; element = e; is_open = true })
-      (given s.queue s.payloads)
+      → services q payloads ≡ insert_by given_wait (record { wait = k; pass = c; element = e; is_open = true })
+      (services s.queue s.payloads)
       → ((f : ℕ) → way_times f q s.loads payloads + bit (e == f) ≡ way_times f s.queue s.loads s.payloads)
       → ((f : ℕ) → held_times f q payloads holds ≡ held_times f s.queue s.payloads s.holds + bit (e == f))
       → length holds ≡ length s.holds → length q.doing ≡ length s.queue.doing
@@ -323,7 +323,7 @@ module _ (s : PoolShape) (p k : ℕ) (is : IsPool s) where
         next = shows.next ∙ ap (λ w. w.next) (sym serves.waiters);
         served =
             ap₂ (λ l v. with_given e (find_wait k l) v) shows.line shows.served
-            ∙ ap (λ w. with_given e w (given s.queue s.payloads)) serves.here ∙ sym served;
+            ∙ ap (λ w. with_given e w (services s.queue s.payloads)) serves.here ∙ sym served;
         many = omega (arith, fewer, shows.many, serves.going);
         way = λ f. omega (arith, times-without f e o.way within, shows.way f, ways f);
         held = λ f. omega (arith, times-cons f e o.held, shows.held f, holding f);
@@ -334,7 +334,7 @@ module _ (s : PoolShape) (p k : ℕ) (is : IsPool s) where
   pub pool-take_value : (found : CoreCell) → Works s.queue p (doing.Drawn k) k found state.Value
       → IsPool (record s {
         holds = set s.holds p (s.payloads k ∷ held_of);
-        queue = moved s.queue (move.take_value p k found);
+        queue = move_queue s.queue (move.take_value p k found);
         history = s.history ++ entry.Deliver k (s.payloads k) ∷ [];
       })
   pool-take_value found w =
@@ -344,7 +344,7 @@ module _ (s : PoolShape) (p k : ℕ) (is : IsPool s) where
       let owner : found.owner ≡ Some p = drawn-own s.queue p k found is.sound w.does w.finds in
       let around = given-around s.queue.cells k found new s.payloads s.payloads w.finds (payloads-same k s.payloads) in
       let there : p < length s.holds = holds-there (doing.Drawn k) w.does in
-      delivered p e s.payloads (set s.holds p (e ∷ held_of)) (moved s.queue (move.take_value p k found))
+      delivered p e s.payloads (set s.holds p (e ∷ held_of)) (move_queue s.queue (move.take_value p k found))
       (sound-moved s.queue (move.take_value p k found) is.sound w) serves
       (around-came given_wait k _ _ _ _ around (record { wait = k; pass = p; element = e; is_open = true })
       (rw w.at refl)
@@ -363,7 +363,7 @@ module _ (s : PoolShape) (p k : ℕ) (is : IsPool s) where
   pub pool-serve : (found : CoreCell) → Works s.queue p (doing.Ticket k) k found state.Waiter
       → IsPool (record s {
         payloads = put_at s.payloads k load_of;
-        queue = moved s.queue (move.serve p k found);
+        queue = move_queue s.queue (move.serve p k found);
         history = s.history ++ entry.Deliver k load_of ∷ [];
       })
   pool-serve found w =
@@ -376,7 +376,7 @@ module _ (s : PoolShape) (p k : ℕ) (is : IsPool s) where
       let owner : found.owner ≡ Some serves.0 = waits-owner s.queue k found serves.0 serves.1 w.finds in
       let around = given-around s.queue.cells k found new s.payloads payloads w.finds but in
       let here : payloads k ≡ e = put-here k e s.payloads in
-      delivered serves.0 e payloads s.holds (moved s.queue (move.serve p k found))
+      delivered serves.0 e payloads s.holds (move_queue s.queue (move.serve p k found))
       (sound-moved s.queue (move.serve p k found) is.sound w) serves.1
       (around-came given_wait k _ _ _ _ around (record { wait = k; pass = serves.0; element = e; is_open = true })
       (rw w.at refl)
@@ -399,13 +399,13 @@ module _ (s : PoolShape) (p k : ℕ) (is : IsPool s) where
       → IsPool (record s {
         loads = set s.loads p e;
         holds = set s.holds p (without itself e held_of);
-        queue = moved (moved s.queue (move.turn p doing.Idle doing.Owes)) (move.reach p s.queue.resumes found);
+        queue = move_queue (move_queue s.queue (move.turn p doing.Idle doing.Owes)) (move.reach p s.queue.resumes found);
         history = s.history ++ entry.Put p e ∷ [];
       })
   pool-put e found does has finds =
       let loads : List ℕ = set s.loads p e in
       let holds : List (List ℕ) = set s.holds p (without itself e held_of) in
-      let r : Queue = moved s.queue (move.turn p doing.Idle doing.Owes) in
+      let r : Queue = move_queue s.queue (move.turn p doing.Idle doing.Owes) in
       let m : move.Move = move.reach p s.queue.resumes found in
       let owes : slice_get r.doing p ≡ Some doing.Owes = get-set_here s.queue.doing p doing.Idle doing.Owes does in
       let begins = turn-owes s.queue p does in
@@ -425,7 +425,7 @@ module _ (s : PoolShape) (p k : ℕ) (is : IsPool s) where
       let readies = (λ (f : ℕ). cells-reached has_ready f s.payloads s.queue.cells found refl) in
       let brings_e : (f : ℕ) → bit (get_or loads p 0 == f) ≡ bit (e == f) = λ f. ap (λ n. bit (n == f)) loaded in
       let within = times-in e o.held held in
-      pool-push loads s.payloads holds (entry.Put p e) (moved r m) (sound-moved r m sound_r (owes, refl, finds)) within
+      pool-push loads s.payloads holds (entry.Put p e) (move_queue r m) (sound-moved r m sound_r (owes, refl, finds)) within
       (record {
         line = shows.line ∙ ap (λ w. w.line) (sym begins.waiters) ∙ ap (λ w. w.line) (sym keeps.waiters);
         next = shows.next ∙ ap (λ w. w.next) (sym keeps.waiters);
@@ -442,7 +442,7 @@ module _ (s : PoolShape) (p k : ℕ) (is : IsPool s) where
   pub pool-draw_at_door : (found : Option CoreCell) → slice_get s.queue.doing p ≡ Some doing.Door
       → slice_get s.queue.cells s.queue.suspends ≡ found
       → IsPool (record s {
-        queue = moved s.queue (move.draw p s.queue.suspends found);
+        queue = move_queue s.queue (move.draw p s.queue.suspends found);
         history = s.history ++ entry.Enter p s.queue.suspends ∷ [];
       })
   pool-draw_at_door found does finds =
@@ -454,7 +454,7 @@ module _ (s : PoolShape) (p k : ℕ) (is : IsPool s) where
       (loads-same p s.loads)) in
       let cells = (λ (f : ℕ). cells-drawn has_left f s.payloads s.queue p found finds (λ c. refl) refl) in
       let readies = (λ (f : ℕ). cells-drawn has_ready f s.payloads s.queue p found finds (λ c. refl) refl) in
-      pool-push s.loads s.payloads s.holds (entry.Enter p s.queue.suspends) (moved s.queue m)
+      pool-push s.loads s.payloads s.holds (entry.Enter p s.queue.suspends) (move_queue s.queue m)
       (sound-moved s.queue m is.sound (does, refl, finds)) (sym shows.next)
       (record {
         line = ap (λ l. l ++ record { wait = s.queue.suspends; pass = p } ∷ []) shows.line
@@ -473,11 +473,11 @@ module _ (s : PoolShape) (p k : ℕ) (is : IsPool s) where
   pub pool-draw : (found : Option CoreCell) → slice_get s.queue.doing p ≡ Some doing.Idle
       → slice_get s.queue.cells s.queue.suspends ≡ found
       → IsPool (record s {
-        queue = moved (moved s.queue (move.turn p doing.Idle doing.Door)) (move.draw p s.queue.suspends found);
+        queue = move_queue (move_queue s.queue (move.turn p doing.Idle doing.Door)) (move.draw p s.queue.suspends found);
         history = s.history ++ entry.Enter p s.queue.suspends ∷ [];
       })
   pool-draw found does finds =
-      let r : Queue = moved s.queue (move.turn p doing.Idle doing.Door) in
+      let r : Queue = move_queue s.queue (move.turn p doing.Idle doing.Door) in
       let m : move.Move = move.draw p s.queue.suspends found in
       let door : slice_get r.doing p ≡ Some doing.Door = get-set_here s.queue.doing p doing.Idle doing.Door does in
       let door_came = turn-door s.queue p does in
@@ -490,7 +490,7 @@ module _ (s : PoolShape) (p k : ℕ) (is : IsPool s) where
       (loads-same p s.loads)) in
       let cells = (λ (f : ℕ). cells-drawn has_left f s.payloads s.queue p found finds (λ c. refl) refl) in
       let readies = (λ (f : ℕ). cells-drawn has_ready f s.payloads s.queue p found finds (λ c. refl) refl) in
-      pool-push s.loads s.payloads s.holds (entry.Enter p s.queue.suspends) (moved r m)
+      pool-push s.loads s.payloads s.holds (entry.Enter p s.queue.suspends) (move_queue r m)
       (sound-moved r m sound_r (door, refl, finds))
       (sym shows.next)
       (record {
@@ -509,13 +509,13 @@ module _ (s : PoolShape) (p k : ℕ) (is : IsPool s) where
   -- A wait leaves: the exchange itself decides that resumptions pass on.
   pub pool-leave : (found : CoreCell) → Works s.queue p doing.Idle k found state.Waiter → Owns p found
       → IsPool (record s {
-        queue = moved (moved s.queue (move.begin_cancel p k found)) (move.decide p k true);
+        queue = move_queue (move_queue s.queue (move.begin_cancel p k found)) (move.decide p k true);
         history = s.history ++ entry.Leave p k ∷ [];
       })
   pool-leave found w owns =
       let new : CoreCell = at_state found state.Cancelling in
-      let r : Queue = moved s.queue (move.begin_cancel p k found) in
-      let q : Queue = moved r (move.decide p k true) in
+      let r : Queue = move_queue s.queue (move.begin_cancel p k found) in
+      let q : Queue = move_queue r (move.decide p k true) in
       let begins = keeps-begin_cancel s.queue p k found w owns in
       let sound_r : IsSound r = sound-moved s.queue (move.begin_cancel p k found) is.sound (w, owns) in
       let leaving : slice_get r.doing p ≡ Some (doing.Leaving k) = get-set_here s.queue.doing p doing.Idle
@@ -555,16 +555,16 @@ module _ (s : PoolShape) (p k : ℕ) (is : IsPool s) where
   -- The looks: the element that came is the pass's.
   looked : (e : PoolEntry) (found : CoreCell) → Works s.queue p doing.Idle k found state.Resumed → Owns p found
       → (IsGiven k p (s.payloads k) o.served → IsAllowed o e)
-      → after_entry o e ≡ record o { served = closed k o.served }
+      → after_entry o e ≡ record o { served = after_look k o.served }
       → IsPool (record s {
         holds = set s.holds p (s.payloads k ∷ held_of);
-        queue = moved s.queue (move.collect p k found);
+        queue = move_queue s.queue (move.collect p k found);
         history = s.history ++ e ∷ [];
       })
   looked e found w owns may changes =
       let x : ℕ = s.payloads k in
       let new : CoreCell = record { state = found.state; owner = found.owner; collected = true } in
-      let q : Queue = moved s.queue (move.collect p k found) in
+      let q : Queue = move_queue s.queue (move.collect p k found) in
       let closing = closes-collect s.queue p k found w owns in
       let there : p < length s.holds = holds-there doing.Idle w.does in
       let shows = is.shows in
@@ -572,11 +572,11 @@ module _ (s : PoolShape) (p k : ℕ) (is : IsPool s) where
       rw (w.at, owns.owner, owns.uncollected) refl in
       let now : is_given s.payloads k new ≡ Some (record { wait = k; pass = p; element = x; is_open = false }) =
       rw (w.at, owns.owner) refl in
-      let was_in : IsGiven k p x (given s.queue s.payloads) =
+      let was_in : IsGiven k p x (services s.queue s.payloads) =
       picked-in (is_given s.payloads) 0 s.queue.cells k k found
       (record { wait = k; pass = p; element = x; is_open = true }) (omega arith) w.finds was in
       let around = given-around s.queue.cells k found new s.payloads s.payloads w.finds (payloads-same k s.payloads) in
-      let served : given q s.payloads ≡ closed k (given s.queue s.payloads) =
+      let served : services q s.payloads ≡ after_look k (services s.queue s.payloads) =
       around-changed given_wait k _ _ _ _ around (record { wait = k; pass = p; element = x; is_open = true })
       (λ g. record { wait = g.wait; pass = g.pass; element = g.element; is_open = false }) was now refl in
       let lefts = (λ (f : ℕ). cells-write has_left f s.queue.cells k found new s.payloads s.payloads w.finds
@@ -592,7 +592,7 @@ module _ (s : PoolShape) (p k : ℕ) (is : IsPool s) where
       (record {
         line = shows.line ∙ ap (λ w. w.line) (sym closing.waiters);
         next = shows.next ∙ ap (λ w. w.next) (sym closing.waiters);
-        served = ap (closed k) shows.served ∙ sym served;
+        served = ap (after_look k) shows.served ∙ sym served;
         many = omega (arith, shows.many, closing.going);
         way = λ f. omega (arith, shows.way f, lefts f, none f);
         held = λ f. omega (arith, shows.held f, readies f, had f, gained x f there);
@@ -612,7 +612,7 @@ module _ (s : PoolShape) (p k : ℕ) (is : IsPool s) where
   pub pool-granted : (found : CoreCell) → Works s.queue p doing.Idle k found state.Resumed → Owns p found
       → IsPool (record s {
         holds = set s.holds p (s.payloads k ∷ held_of);
-        queue = moved s.queue (move.collect p k found);
+        queue = move_queue s.queue (move.collect p k found);
         history = s.history ++ entry.LookGranted p k (s.payloads k) ∷ [];
       })
   pool-granted found w owns = looked (entry.LookGranted p k (s.payloads k)) found w owns (λ h. h) refl
@@ -620,7 +620,7 @@ module _ (s : PoolShape) (p k : ℕ) (is : IsPool s) where
   pub pool-late : (found : CoreCell) → Works s.queue p doing.Idle k found state.Resumed → Owns p found
       → IsPool (record s {
         holds = set s.holds p (s.payloads k ∷ held_of);
-        queue = moved s.queue (move.collect p k found);
+        queue = move_queue s.queue (move.collect p k found);
         history = s.history ++ entry.Late p k (s.payloads k) ∷ [];
       })
   pool-late found w owns = looked (entry.Late p k (s.payloads k)) found w owns (λ h. h) refl

@@ -18,7 +18,7 @@ use Rattle.cqs_core.proofs.QueueReaches.{reaches-few, begins-few}
 use Rattle.cqs_pool_object.specs.PoolObject.{Pool, numbers_from, times}
 use Rattle.cqs_pool_object.specs.PoolEntries.{object_after}
 use Rattle.cqs_pool_object.specs.PoolShown.{PoolShape, IsPool, brings, has_it, has_given, is_given}
-use Rattle.cqs_pool_object.specs.PoolLaws.{opened, handed_over, MayReach}
+use Rattle.cqs_pool_object.specs.PoolLaws.{opening_shape, handed_over, MayReach}
 use Rattle.cqs_pool_object.proofs.PoolCounts.{times-cons, times-without}
 use Rattle.cqs_pool_object.proofs.PoolConserved.{long-numbers, conserved-after}
 
@@ -39,7 +39,7 @@ none-held e (suc n) =
     omega arith
 
 pub opened-pool : (size passes : ℕ) (payloads : ℕ → ℕ) → ((k : ℕ) → k < size → payloads k ≡ k)
-    → IsPool (opened size passes payloads)
+    → IsPool (opening_shape size passes payloads)
 opened-pool size passes payloads own =
     let q : Queue = opened_queue size passes in
     let idles : length q.doing ≡ passes = length-replicate passes doing.Idle in

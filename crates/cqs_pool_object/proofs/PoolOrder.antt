@@ -13,11 +13,11 @@ use Rattle.cqs_core.specs.declared.cells.CoreState.{CoreState}
 use Rattle.cqs_core.specs.declared.cells.CoreState.TheVariants as state
 use Rattle.cqs_core.specs.declared.doings.Doing.{Doing}
 use Rattle.cqs_core.specs.declared.doings.Doing.TheVariants as doing
-use Rattle.cqs_core.specs.Numbered.{picked, cons_option, EachAt}
+use Rattle.cqs_core.specs.Numbered.{pick_each, cons_option, EachAt}
 use Rattle.cqs_core.specs.Parts.{part}
 use Rattle.cqs_core.specs.QueueLine.{has_left, is_left, is_resuming}
 use Rattle.cqs_core.specs.QueueMoves as move
-use Rattle.cqs_core.specs.QueueMoves.{Works, moved}
+use Rattle.cqs_core.specs.QueueMoves.{Works, move_queue}
 use Rattle.cqs_core.specs.QueueOpening.{value_cell}
 use Rattle.cqs_core.specs.QueueSound.{IsSound, IsSoundAt, IsUninstalled, IsLeft, IsOwn, IsUntaken}
 use Rattle.cqs_core.specs.QueueStages.{doing_at}
@@ -35,8 +35,8 @@ use Rattle.cqs_pool_object.specs.PoolObject.{Pool, opening, numbers_from, times}
 use Rattle.cqs_pool_object.specs.PoolEntries.{after_entry, object_after, less}
 use Rattle.cqs_pool_object.specs.PoolNames.{entry_names}
 use Rattle.cqs_pool_object.specs.PoolShown.{PoolShape, IsPool}
-use Rattle.cqs_pool_object.specs.PoolSteps.{IsPoolStep, IsPayload, step_entries, loads_gained, loads_after, left_after, stepped}
-use Rattle.cqs_pool_object.specs.PoolLaws.{opened}
+use Rattle.cqs_pool_object.specs.PoolSteps.{IsPoolStep, IsPayload, step_entries, loads_gained, loads_after, left_after, shape_after}
+use Rattle.cqs_pool_object.specs.PoolLaws.{opening_shape}
 use Rattle.cqs_pool_object.specs.PoolOrder.{IsFirstOnWay, IsByOne, element_in, left_in, elements_left, brought, InOrder, IsInOrder}
 use Rattle.cqs_pool_object.proofs.PoolConserved.{conserved-after}
 use Rattle.cqs_pool_object.proofs.PoolCounts.{put_at, payloads-set, put-here, times-cons, times-push}
@@ -46,7 +46,7 @@ use Rattle.cqs_pool_object.proofs.PoolLaw.{pool-none_refused}
 module _ {X Y : Type 0} where
   -- the same is read
   picked-kept : (f g : ℕ → X → Option Y) (n : ℕ) → AgreeBut f g n → (k : ℕ) (xs : List X) (i : ℕ) (old new : X)
-      → n ≡ k + i → slice_get xs i ≡ Some old → f n old ≡ g n new → picked g k (set xs i new) ≡ picked f k xs
+      → n ≡ k + i → slice_get xs i ≡ Some old → f n old ≡ g n new → pick_each g k (set xs i new) ≡ pick_each f k xs
   picked-kept f g n agree k [] i old new at there same = absurd (cc)
   picked-kept f g n agree k (x ∷ xs) zero old new at there same =
       let here : k ≡ n = omega arith in
@@ -61,7 +61,7 @@ module _ {X Y : Type 0} where
   picked-went : (f : ℕ → X → Option Y) (k : ℕ) (xs : List X) (i n : ℕ) (old new : X) (y : Y)
       → n ≡ k + i → slice_get xs i ≡ Some old → f n old ≡ Some y → f n new ≡ None
       → ((j m : ℕ) (x : X) → m ≡ k + j → j < i → slice_get xs j ≡ Some x → f m x ≡ None)
-      → picked f k xs ≡ y ∷ picked f k (set xs i new)
+      → pick_each f k xs ≡ y ∷ pick_each f k (set xs i new)
   picked-went f k [] i n old new y at there some none before = absurd (cc)
   picked-went f k (x ∷ xs) zero n old new y at there some none before =
       let here : k ≡ n = omega arith in
@@ -78,21 +78,21 @@ module _ {X Y : Type 0} where
   picked-came : (f g : ℕ → X → Option Y) (n : ℕ) → AgreeBut f g n → (k : ℕ) (xs : List X) (i : ℕ) (old new : X) (y : Y)
       → n ≡ k + i → slice_get xs i ≡ Some old → f n old ≡ None → g n new ≡ Some y
       → ((j m : ℕ) (x : X) → m ≡ k + j → i < j → slice_get xs j ≡ Some x → f m x ≡ None)
-      → picked g k (set xs i new) ≡ picked f k xs ++ y ∷ []
+      → pick_each g k (set xs i new) ≡ pick_each f k xs ++ y ∷ []
   picked-came f g n agree k [] i old new y at there none some behind = absurd (cc)
   picked-came f g n agree k (x ∷ xs) zero old new y at there none some behind =
       let here : k ≡ n = omega arith in
       let first : x ≡ old = cc in
       let was : f k x ≡ None = rw (here, first) none in
       let now : g k new ≡ Some y = rw here some in
-      let nothing : picked f (suc k) xs ≡ [] =
+      let nothing : pick_each f (suc k) xs ≡ [] =
       picked-none f (suc k) xs (λ j m z is got. behind (suc j) m z (omega arith) (omega arith) got) in
       rw (was, now, sym (picked-behind f g n agree (suc k) xs (omega arith)), nothing) refl
   picked-came f g n agree k (x ∷ xs) (suc i) old new y at there none some behind =
       let rest = picked-came f g n agree (suc k) xs i old new y (omega arith) there none some
       (λ j m z is low got. behind (suc j) m z (omega arith) (omega arith) got) in
       let same : f k x ≡ g k x = agree.at k x (λ e. omega arith) in
-      ap₂ cons_option (sym same) rest ∙ behind-cons (f k x) (picked f (suc k) xs) y
+      ap₂ cons_option (sym same) rest ∙ behind-cons (f k x) (pick_each f (suc k) xs) y
     where
       behind-cons : (o : Option Y) (ys : List Y) (y : Y) → cons_option o (ys ++ y ∷ []) ≡ cons_option o ys ++ y ∷ []
       behind-cons None ys y = refl
@@ -278,7 +278,7 @@ module _ (s : PoolShape) (p k e : ℕ) (is : IsPool s) (was : IsInOrder s) where
       → (InOrderNow o.way p
       → InOrder (queue_after step s.queue p k found) (loads_after (row_of step) s.loads p e)
       (left_after (row_of step) s.payloads k e) (fold after_entry o (step_entries step p k e)).way p)
-      → IsInOrder (stepped s step p k found e)
+      → IsInOrder (shape_after s step p k found e)
   order-of step found the_one now one by =
       let split = by-both one s.history (step_entries step p k e) by in
       let before : InOrderNow o.way one = was one split.0 in
@@ -302,7 +302,7 @@ module _ (s : PoolShape) (p k e : ℕ) (is : IsPool s) (was : IsInOrder s) where
       → Works s.queue p (doing_at row.works_at k) k found row.finds
       → (cell_after row found).state ≢ state.Delegated
       → ((j : ℕ) → doing_at row.goes_to k ≢ doing.Ticket j)
-      → on_way ≡ picked (element_in (payloads_after row s.payloads k e)) 0 (set s.queue.cells k (cell_after row found))
+      → on_way ≡ pick_each (element_in (payloads_after row s.payloads k e)) 0 (set s.queue.cells k (cell_after row found))
       ++ brought (Some (doing_at row.goes_to k)) (slice_index (loads_gained row.gain s.loads p e) p)
       → InOrderNow o.way p
       → InOrder (row_after (at_cell row) s.queue p k (Some found)) (loads_gained row.gain s.loads p e)
@@ -316,14 +316,14 @@ module _ (s : PoolShape) (p k e : ℕ) (is : IsPool s) (was : IsInOrder s) where
         undelegated = undelegated-set s.queue.cells k found (cell_after row found) works.finds not before.undelegated;
         last = λ j at. absurd (over j (same_Some to (doing.Ticket j) (sym here ∙ at)));
         way = way
-            ∙ ap (λ x. picked (element_in (payloads_after row s.payloads k e)) 0
+            ∙ ap (λ x. pick_each (element_in (payloads_after row s.payloads k e)) 0
             (set s.queue.cells k (cell_after row found))
             ++ brought x (slice_index (loads_gained row.gain s.loads p e) p)) (sym here);
       }
 
   -- the cells with one that is written, in which the same is left
   left-kept : (found new : CoreCell) → slice_get s.queue.cells k ≡ Some found → has_left found ≡ has_left new
-      → picked (element_in s.payloads) 0 (set s.queue.cells k new) ≡ elements_left s.queue s.payloads
+      → pick_each (element_in s.payloads) 0 (set s.queue.cells k new) ≡ elements_left s.queue s.payloads
   left-kept found new there same =
       picked-kept (element_in s.payloads) (element_in s.payloads) k (agree-same s.payloads k) 0 s.queue.cells k found
       new
@@ -332,7 +332,7 @@ module _ (s : PoolShape) (p k e : ℕ) (is : IsPool s) (was : IsInOrder s) where
   -- a number is drawn to suspend at
   drawn-order : (found : Option CoreCell) (d : Doing) → slice_get s.queue.doing p ≡ Some d → is_resuming d ≡ false
       → k ≡ s.queue.suspends → slice_get s.queue.cells k ≡ found → InOrderNow o.way p
-      → InOrder (moved s.queue (move.draw p k found)) s.loads s.payloads o.way p
+      → InOrder (move_queue s.queue (move.draw p k found)) s.loads s.payloads o.way p
   drawn-order found d does none at there before = by found there
     where
       here : slice_get (set s.queue.doing p (doing.Drawn k)) p ≡ Some (doing.Drawn k)
@@ -343,7 +343,7 @@ module _ (s : PoolShape) (p k e : ℕ) (is : IsPool s) (was : IsInOrder s) where
           ∙ ap (λ b. elements_left s.queue s.payloads ++ (if b then slice_index s.loads p ∷ [] else [])) none
 
       order : (cells : List CoreCell) → Undelegated cells
-          → picked (element_in s.payloads) 0 cells ≡ elements_left s.queue s.payloads
+          → pick_each (element_in s.payloads) 0 cells ≡ elements_left s.queue s.payloads
           → InOrder (record {
             suspends = s.queue.suspends + 1;
             resumes = s.queue.resumes;
@@ -362,7 +362,7 @@ module _ (s : PoolShape) (p k e : ℕ) (is : IsPool s) (was : IsInOrder s) where
           not-ticket j e = absurd (cc)
 
       by : (found : Option CoreCell) → slice_get s.queue.cells k ≡ found
-          → InOrder (moved s.queue (move.draw p k found)) s.loads s.payloads o.way p
+          → InOrder (move_queue s.queue (move.draw p k found)) s.loads s.payloads o.way p
       by (Some cell) there =
           let new : CoreCell = record { state = cell.state; owner = Some p; collected = cell.collected } in
           order (set s.queue.cells k new)
@@ -379,14 +379,14 @@ module _ (s : PoolShape) (p k e : ℕ) (is : IsPool s) (was : IsInOrder s) where
   reached-order : (found : Option CoreCell) (d : Doing) (loads on_way : List ℕ) → slice_get s.queue.doing p ≡ Some d
       → k ≡ s.queue.resumes
       → on_way ≡ elements_left s.queue s.payloads ++ slice_index loads p ∷ [] → InOrderNow o.way p
-      → InOrder (moved s.queue (move.reach p k found)) loads s.payloads on_way p
+      → InOrder (move_queue s.queue (move.reach p k found)) loads s.payloads on_way p
   reached-order found d loads on_way does at ways before = by found
     where
       here : slice_get (set s.queue.doing p (doing.Ticket k)) p ≡ Some (doing.Ticket k)
       here = get-set_here s.queue.doing p d (doing.Ticket k) does
 
       order : (cells : List CoreCell) → Undelegated cells
-          → picked (element_in s.payloads) 0 cells ≡ elements_left s.queue s.payloads
+          → pick_each (element_in s.payloads) 0 cells ≡ elements_left s.queue s.payloads
           → InOrder (record {
             suspends = s.queue.suspends;
             resumes = s.queue.resumes + 1;
@@ -405,7 +405,7 @@ module _ (s : PoolShape) (p k e : ℕ) (is : IsPool s) (was : IsInOrder s) where
           ticket-number : {m n : ℕ} → doing.Ticket m ≡ doing.Ticket n → m ≡ n
           ticket-number e = cc
 
-      by : (found : Option CoreCell) → InOrder (moved s.queue (move.reach p k found)) loads s.payloads on_way p
+      by : (found : Option CoreCell) → InOrder (move_queue s.queue (move.reach p k found)) loads s.payloads on_way p
       by (Some cell) = order s.queue.cells before.undelegated refl
       by None =
           order (s.queue.cells ++ fresh_cell ∷ [])
@@ -434,9 +434,9 @@ module _ (s : PoolShape) (p k e : ℕ) (is : IsPool s) (was : IsInOrder s) where
           → (λ (j : ℕ). if b then (if j == k then e else s.payloads j) else s.payloads j) ≡ s.payloads
       payloads_same b is = rw is refl
 
-      left : picked (element_in (payloads_after row s.payloads k e)) 0 (set s.queue.cells k (cell_after row found))
+      left : pick_each (element_in (payloads_after row s.payloads k e)) 0 (set s.queue.cells k (cell_after row found))
           ≡ elements_left s.queue s.payloads
-      left = ap (λ (f : ℕ → ℕ). picked (element_in f) 0 (set s.queue.cells k (cell_after row found)))
+      left = ap (λ (f : ℕ → ℕ). pick_each (element_in f) 0 (set s.queue.cells k (cell_after row found)))
           (payloads_same row.brings none)
           ∙ left-kept found (cell_after row found) works.finds same
 
@@ -446,7 +446,7 @@ module _ (s : PoolShape) (p k e : ℕ) (is : IsPool s) (was : IsInOrder s) where
 
   -- each step
   steps-order : (step : QueueStep) (found : Option CoreCell) → IsPoolStep step → IsOpenStep s.queue step p k found
-      → IsPayload (row_of step) s p k e → IsInOrder (stepped s step p k found e)
+      → IsPayload (row_of step) s p k e → IsInOrder (shape_after s step p k found e)
   steps-order draws found may w paid =
       order-of draws found (λ one by others. named-one p one (entry.Enter p k) (eq-eqb p p refl) by)
       (drawn-order found doing.Door w.0 refl w.1 w.2)
@@ -476,7 +476,7 @@ module _ (s : PoolShape) (p k e : ℕ) (is : IsPool s) (was : IsInOrder s) where
       let own : IsOwn s.queue p k IsUntaken = is.sound.passes.at p (doing.Drawn k) w.0.does in
       let was_left : has_left found ≡ true = rw w.0.at refl in
       let first : elements_left s.queue s.payloads
-      ≡ s.payloads k ∷ picked (element_in s.payloads) 0 (set s.queue.cells k new) =
+      ≡ s.payloads k ∷ pick_each (element_in s.payloads) 0 (set s.queue.cells k new) =
       picked-went (element_in s.payloads) 0 s.queue.cells k k found new (s.payloads k) (omega arith) w.0.finds
       (left-some s.payloads k found was_left) refl
       (λ j m cell at low got.
@@ -484,7 +484,7 @@ module _ (s : PoolShape) (p k e : ℕ) (is : IsPool s) (was : IsInOrder s) where
       (none-left s.queue is.sound p before.others k j cell cell.state w.0.does (λ e. omega arith)
       (let drawn = own.drawn in omega arith)
       (is.sound.cells.at j cell got) (before.undelegated.at j cell got))) in
-      let ways : o.way ≡ s.payloads k ∷ picked (element_in s.payloads) 0 (set s.queue.cells k new) =
+      let ways : o.way ≡ s.payloads k ∷ pick_each (element_in s.payloads) 0 (set s.queue.cells k new) =
       way-at (doing.Drawn k) w.0.does before ∙ append-nil _ ∙ first in
       cell-order (row_at takes) found (less e o.way) w.0 (λ x. absurd (cc)) (λ j x. absurd (cc))
       ((λ i. less (paid i) (ways i)) ∙ less-first (s.payloads k) _ ∙ sym (append-nil _)) before)
@@ -496,7 +496,7 @@ module _ (s : PoolShape) (p k e : ℕ) (is : IsPool s) (was : IsInOrder s) where
       let ways : o.way ≡ left ++ e ∷ [] =
       way-at (doing.Ticket k) w.0.does before ∙ ap (λ n. left ++ n ∷ []) (sym paid) in
       let once : times e left ≡ 0 = once-on_way left ways in
-      let kept : picked (element_in (put_at s.payloads k e)) 0 (set s.queue.cells k new) ≡ left =
+      let kept : pick_each (element_in (put_at s.payloads k e)) 0 (set s.queue.cells k new) ≡ left =
       picked-kept (element_in s.payloads) (element_in (put_at s.payloads k e)) k (agree-brought s.payloads k e) 0
       s.queue.cells k found new (omega arith) w.0.finds
       (left-none s.payloads k found (rw w.0.at refl)) in
@@ -526,7 +526,7 @@ module _ (s : PoolShape) (p k e : ℕ) (is : IsPool s) (was : IsInOrder s) where
       let ways : o.way ≡ left ++ e ∷ [] =
       way-at (doing.Ticket k) w.0.does before ∙ ap (λ n. left ++ n ∷ []) (sym paid) in
       let last : s.queue.resumes ≡ k + 1 = before.last k w.0.does in
-      let came : picked (element_in (put_at s.payloads k e)) 0 (set s.queue.cells k new) ≡ left ++ e ∷ [] =
+      let came : pick_each (element_in (put_at s.payloads k e)) 0 (set s.queue.cells k new) ≡ left ++ e ∷ [] =
       picked-came (element_in s.payloads) (element_in (put_at s.payloads k e)) k (agree-brought s.payloads k e) 0
       s.queue.cells k found new e (omega arith) w.0.finds
       (left-none s.payloads k found (rw w.0.at refl)) (ap Some (put-here k e s.payloads))
@@ -594,19 +594,19 @@ module _ (s : PoolShape) (p k e : ℕ) (is : IsPool s) (was : IsInOrder s) where
 
 pub step-in_order : (s : PoolShape) (step : QueueStep) (p k : ℕ) (found : Option CoreCell) (e : ℕ) → IsPool s
     → IsInOrder s → IsPoolStep step → IsOpenStep s.queue step p k found → IsPayload (row_of step) s p k e
-    → IsInOrder (stepped s step p k found e)
+    → IsInOrder (shape_after s step p k found e)
 step-in_order s step p k found e is was may w paid = steps-order s p k e is was step found may w paid
 
 -- the pool opens with its elements in order
 numbers-left_in : (n k : ℕ) (payloads : ℕ → ℕ) → ((j : ℕ) → j < k + n → payloads j ≡ j)
-    → numbers_from k n ≡ picked (element_in payloads) k (replicate n value_cell)
+    → numbers_from k n ≡ pick_each (element_in payloads) k (replicate n value_cell)
 numbers-left_in zero k payloads own = refl
 numbers-left_in (suc n) k payloads own =
     ap₂ (λ (x : ℕ) (l : List ℕ). x ∷ l) (sym (own k (omega arith)))
     (numbers-left_in n (suc k) payloads (λ j low. own j (omega arith)))
 
 pub opened-in_order : (size passes : ℕ) (payloads : ℕ → ℕ) → ((k : ℕ) → k < size → payloads k ≡ k)
-    → IsInOrder (opened size passes payloads)
+    → IsInOrder (opening_shape size passes payloads)
 opened-in_order size passes payloads own one by = record {
   others = record { at = λ n d got other. get-replicate passes n doing.Idle d got };
   undelegated = record {
@@ -616,8 +616,8 @@ opened-in_order size passes payloads own one by = record {
       let idle : doing.Ticket k ≡ doing.Idle = get-replicate passes one doing.Idle (doing.Ticket k) is in
       absurd (cc);
   way = numbers-left_in size 0 payloads (λ j low. own j (omega arith))
-      ∙ sym (append-nil (picked (element_in payloads) 0 (replicate size value_cell)))
-      ∙ ap (λ l. picked (element_in payloads) 0 (replicate size value_cell) ++ l)
+      ∙ sym (append-nil (pick_each (element_in payloads) 0 (replicate size value_cell)))
+      ∙ ap (λ l. pick_each (element_in payloads) 0 (replicate size value_cell) ++ l)
       (sym (none-brought (slice_get (replicate passes doing.Idle) one) (get-replicate passes one doing.Idle)));
 }
   where
@@ -638,7 +638,7 @@ first-taken s p k cell is orders by there at low =
     value-drawn s.queue is.sound p order.others k cell sound.0 low in
     let left : has_left cell ≡ true = rw at refl in
     let first : elements_left s.queue s.payloads
-    ≡ s.payloads k ∷ picked (element_in s.payloads) 0 (set s.queue.cells k fresh_cell) =
+    ≡ s.payloads k ∷ pick_each (element_in s.payloads) 0 (set s.queue.cells k fresh_cell) =
     picked-went (element_in s.payloads) 0 s.queue.cells k k cell fresh_cell (s.payloads k) (omega arith) there
     (left-some s.payloads k cell left) refl
     (λ j m x is_at before got.
@@ -646,7 +646,7 @@ first-taken s p k cell is orders by there at low =
     (none-left s.queue is.sound p order.others k j x x.state drawn (λ e. omega arith) (omega arith)
     (is.sound.cells.at j x got) (order.undelegated.at j x got))) in
     let ways : (object_after s.size s.history).way
-    ≡ s.payloads k ∷ picked (element_in s.payloads) 0 (set s.queue.cells k fresh_cell) =
+    ≡ s.payloads k ∷ pick_each (element_in s.payloads) 0 (set s.queue.cells k fresh_cell) =
     order.way ∙ ap (λ d. elements_left s.queue s.payloads ++ brought d (slice_index s.loads p)) drawn
     ∙ append-nil _ ∙ first in
     subst (λ l. IsFirstOnWay (s.payloads k) l) (sym ways) refl

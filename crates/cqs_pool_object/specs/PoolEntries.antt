@@ -6,7 +6,7 @@ use Rattle.cqs_pool_object.specs.declared.entries.PoolEntry.{PoolEntry}
 use Rattle.cqs_pool_object.specs.declared.entries.PoolEntry.TheVariants as entry
 use Rattle.cqs_core.specs.Histories.{IsLegalFrom}
 use Rattle.cqs_core.specs.Numbered.{IsIn}
-use Rattle.cqs_core.specs.Keyed.{placed, without, changed}
+use Rattle.cqs_core.specs.Keyed.{insert_by, without, change_by}
 use Rattle.cqs_core.specs.QueueLine.{Waiting}
 use Rattle.cqs_core.specs.QueueWaiters.{Waits, find_wait}
 use Rattle.cqs_pool_object.specs.PoolObject.{Given, Pool, IsGiven, opening}
@@ -31,26 +31,26 @@ less e elements = without (λ x. x) e elements
 abbrev pub with_given : ℕ → Option Waiting → List Given → List Given
 with_given e None served = served
 with_given e (Some w) served =
-    placed (λ g. g.wait) (record { wait = w.wait; pass = w.pass; element = e; is_open = true })
+    insert_by (λ g. g.wait) (record { wait = w.wait; pass = w.pass; element = e; is_open = true })
     served
 
 -- what came for wait k was looked at
-abbrev pub closed : ℕ → List Given → List Given
-closed k served =
-    changed (λ g. g.wait) k
+abbrev pub after_look : ℕ → List Given → List Given
+after_look k served =
+    change_by (λ g. g.wait) k
     (λ g. record { wait = g.wait; pass = g.pass; element = g.element; is_open = false }) served
 
 -- an element that is held goes on its way
 abbrev pub put : Pool → ℕ → Pool
 put o e = record o { way = o.way ++ e ∷ []; held = less e o.held }
 
-abbrev pub entered : Pool → ℕ → ℕ → Pool
-entered o c k =
+abbrev pub after_enter : Pool → ℕ → ℕ → Pool
+after_enter o c k =
     record o { line = o.line ++ record { wait = k; pass = c } ∷ []; next = o.next + 1 }
 
 -- an element on its way reaches wait k
-abbrev pub delivered : Pool → ℕ → ℕ → Pool
-delivered o k e = record {
+abbrev pub after_deliver : Pool → ℕ → ℕ → Pool
+after_deliver o k e = record {
   way = less e o.way;
   line = without (λ w. w.wait) k o.line;
   next = o.next;
@@ -61,11 +61,11 @@ delivered o k e = record {
 -- what an entry changes
 abbrev pub after_entry : Pool → PoolEntry → Pool
 after_entry o (entry.Put c e) = put o e
-after_entry o (entry.Enter c k) = entered o c k
-after_entry o (entry.Deliver k e) = delivered o k e
+after_entry o (entry.Enter c k) = after_enter o c k
+after_entry o (entry.Deliver k e) = after_deliver o k e
 after_entry o (entry.Leave c k) = record o { line = without (λ w. w.wait) k o.line }
-after_entry o (entry.Late c k e) = record o { served = closed k o.served }
-after_entry o (entry.LookGranted c k e) = record o { served = closed k o.served }
+after_entry o (entry.Late c k e) = record o { served = after_look k o.served }
+after_entry o (entry.LookGranted c k e) = record o { served = after_look k o.served }
 after_entry o (entry.LookPending c k) = o
 
 -- the pool after a history

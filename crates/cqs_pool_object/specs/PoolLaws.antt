@@ -10,7 +10,7 @@ use Rattle.cqs_pool_object.specs.declared.entries.PoolEntry.{PoolEntry}
 use Rattle.cqs_pool_object.specs.PoolObject.{Pool, times}
 use Rattle.cqs_pool_object.specs.PoolEntries.{IsLegal, object_after}
 use Rattle.cqs_pool_object.specs.PoolShown.{PoolShape, IsPool}
-use Rattle.cqs_pool_object.specs.PoolSteps.{IsPoolStep, IsPayload, hold_of, stepped}
+use Rattle.cqs_pool_object.specs.PoolSteps.{IsPoolStep, IsPayload, hold_of, shape_after}
 
 -- each element is on its way or held, once in all, and no other number is; so no element is lost,
 -- and none is with two callers
@@ -25,8 +25,8 @@ EveryElementIsInOnePlace =
     → IsConserved size (object_after size history)
 
 -- what a table stands for as it opens: the cells below the size have their own numbers
-abbrev pub opened : ℕ → ℕ → (ℕ → ℕ) → PoolShape
-opened size passes payloads = record {
+abbrev pub opening_shape : ℕ → ℕ → (ℕ → ℕ) → PoolShape
+opening_shape size passes payloads = record {
   size = size;
   loads = replicate passes 0;
   payloads = payloads;
@@ -38,13 +38,13 @@ opened size passes payloads = record {
 abbrev pub EveryPoolOpens : Type 0
 EveryPoolOpens =
     (size passes : ℕ) (payloads : ℕ → ℕ) → ((k : ℕ) → k < size → payloads k ≡ k)
-    → IsPool (opened size passes payloads)
+    → IsPool (opening_shape size passes payloads)
 
 abbrev pub EveryStepKeepsThePool : Type 0
 EveryStepKeepsThePool =
     (s : PoolShape) (step : QueueStep) (p k : ℕ) (found : Option CoreCell) (e : ℕ) → IsPool s
     → IsPoolStep step → IsOpenStep s.queue step p k found → IsPayload (row_of step) s p k e
-    → IsPool (stepped s step p k found e)
+    → IsPool (shape_after s step p k found e)
 
 -- all that one pass has in hand becomes another's
 abbrev pub handed_over : List (List ℕ) → ℕ → ℕ → List (List ℕ)

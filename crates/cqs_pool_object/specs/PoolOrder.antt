@@ -7,7 +7,7 @@ use Rattle.cqs_core.specs.declared.cells.CoreCell.{CoreCell}
 use Rattle.cqs_core.specs.declared.cells.CoreState.TheVariants as state
 use Rattle.cqs_core.specs.declared.doings.Doing.{Doing}
 use Rattle.cqs_core.specs.declared.doings.Doing.TheVariants as doing
-use Rattle.cqs_core.specs.Numbered.{picked, EachAt}
+use Rattle.cqs_core.specs.Numbered.{pick_each, EachAt}
 use Rattle.cqs_core.specs.Parts.{NamesOnly}
 use Rattle.cqs_core.specs.QueueState.{Queue}
 use Rattle.cqs_core.specs.QueueLine.{is_resuming, has_left}
@@ -16,8 +16,8 @@ use Rattle.cqs_pool_object.specs.declared.entries.PoolEntry.{PoolEntry}
 use Rattle.cqs_pool_object.specs.PoolEntries.{object_after}
 use Rattle.cqs_pool_object.specs.PoolNames.{entry_names}
 use Rattle.cqs_pool_object.specs.PoolShown.{PoolShape, IsPool}
-use Rattle.cqs_pool_object.specs.PoolSteps.{IsPoolStep, IsPayload, stepped}
-use Rattle.cqs_pool_object.specs.PoolLaws.{opened}
+use Rattle.cqs_pool_object.specs.PoolSteps.{IsPoolStep, IsPayload, shape_after}
+use Rattle.cqs_pool_object.specs.PoolLaws.{opening_shape}
 
 -- the element is the first of those on their way
 abbrev pub IsFirstOnWay : ℕ → List ℕ → Type 0
@@ -38,7 +38,7 @@ element_in payloads k cell = left_in (has_left cell) (payloads k)
 
 -- those that were left in cells, in order of the cells
 abbrev pub elements_left : Queue → (ℕ → ℕ) → List ℕ
-elements_left q payloads = picked (element_in payloads) 0 q.cells
+elements_left q payloads = pick_each (element_in payloads) 0 q.cells
 
 -- and the one that a pass brings
 abbrev pub brought : Option Doing → ℕ → List ℕ
@@ -63,14 +63,14 @@ IsInOrder s =
 abbrev pub EveryPoolOpensInOrder : Type 0
 EveryPoolOpensInOrder =
     (size passes : ℕ) (payloads : ℕ → ℕ) → ((k : ℕ) → k < size → payloads k ≡ k)
-    → IsInOrder (opened size passes payloads)
+    → IsInOrder (opening_shape size passes payloads)
 
 -- and each of its steps keeps the order
 abbrev pub EveryStepKeepsTheOrder : Type 0
 EveryStepKeepsTheOrder =
     (s : PoolShape) (step : QueueStep) (p k : ℕ) (found : Option CoreCell) (e : ℕ) → IsPool s
     → IsInOrder s → IsPoolStep step → IsOpenStep s.queue step p k found
-    → IsPayload (row_of step) s p k e → IsInOrder (stepped s step p k found e)
+    → IsPayload (row_of step) s p k e → IsInOrder (shape_after s step p k found e)
 
 -- A taker whose cell has an element has the first of those that were on their way.
 abbrev pub EveryTakerHasTheFirst : Type 0

@@ -5,7 +5,7 @@ use Rattle.cqs_core.specs.declared.cells.CoreCell.{CoreCell}
 use Rattle.cqs_core.specs.declared.cells.CoreState.{CoreState}
 use Rattle.cqs_core.specs.declared.cells.CoreState.TheVariants as state
 use Rattle.cqs_core.specs.declared.doings.Doing.{Doing}
-use Rattle.cqs_core.specs.Numbered.{picked, count_at}
+use Rattle.cqs_core.specs.Numbered.{pick_each, count_at}
 use Rattle.cqs_core.specs.QueueState.{Queue}
 use Rattle.cqs_core.specs.QueueLine as queue
 use Rattle.cqs_core.specs.QueueLine.{going, ending, is_resuming, has_left, has_ready}
@@ -70,15 +70,15 @@ abbrev pub is_given : (ℕ → ℕ) → ℕ → CoreCell → Option Given
 is_given payloads k cell = given_of k cell.state cell.owner cell.collected (payloads k)
 
 -- the waits that were served, in order of number
-abbrev pub given : Queue → (ℕ → ℕ) → List Given
-given q payloads = picked (is_given payloads) 0 q.cells
+abbrev pub services : Queue → (ℕ → ℕ) → List Given
+services q payloads = pick_each (is_given payloads) 0 q.cells
 
 -- the queue and what the passes have show this plain pool
 pub record Shows (q : Queue) (loads : List ℕ) (payloads : ℕ → ℕ) (holds : List (List ℕ)) (o : Pool)
     : Type 0 where
   pub line : o.line ≡ queue.line q
   pub next : o.next ≡ q.suspends
-  pub served : o.served ≡ given q payloads
+  pub served : o.served ≡ services q payloads
   pub many : length o.way ≡ going q
   pub way : (e : ℕ) → times e o.way ≡ way_times e q loads payloads
   pub held : (e : ℕ) → times e o.held ≡ held_times e q payloads holds

@@ -111,8 +111,8 @@ holds_after (at_counter row) holds p e = holds_paid row.cost holds p e
 holds_after (at_cell row) holds p e = holds_gained row.gain holds p e
 
 -- what the table stands for after the step
-abbrev pub stepped : PoolShape → QueueStep → ℕ → ℕ → Option CoreCell → ℕ → PoolShape
-stepped s step p k found e = record {
+abbrev pub shape_after : PoolShape → QueueStep → ℕ → ℕ → Option CoreCell → ℕ → PoolShape
+shape_after s step p k found e = record {
   size = s.size;
   loads = loads_after (row_of step) s.loads p e;
   payloads = left_after (row_of step) s.payloads k e;

@@ -14,7 +14,7 @@ use Rattle.cqs_core.specs.declared.cells.CoreCell.{CoreCell}
 use Rattle.cqs_core.specs.declared.cells.CoreState.TheVariants as state
 use Rattle.cqs_core.specs.declared.doings.Doing.{Doing}
 use Rattle.cqs_core.specs.declared.doings.Doing.TheVariants as doing
-use Rattle.cqs_core.specs.Numbered.{picked}
+use Rattle.cqs_core.specs.Numbered.{pick_each}
 use Rattle.cqs_core.specs.QueueCells.{IsInstalled}
 use Rattle.cqs_core.specs.QueueLine.{at_door}
 use Rattle.cqs_core.specs.QueueLine as queue
@@ -22,7 +22,7 @@ use Rattle.cqs_core.specs.QueueSound.{IsSound}
 use Rattle.cqs_core.specs.QueueStages as stage
 use Rattle.cqs_core.specs.QueueStages.{Stage, doing_at}
 use Rattle.cqs_core.specs.QueueState.{fresh_cell}
-use Rattle.cqs_core.specs.QueueSteps.{QueueStep, draws, enters, reaches, begins, puts, installs, takes, serves, leaves, delegates, passes_over, ends_refused, ends_missed, starts_leaving, leaves_line, leaves_at_once, settles, settles_owing, refuses, refuses_value, looks, pends, grants, late, row_of, CounterRow, at_counter, Counter, to_suspend, to_resume, Cost, no_cost, one_owed, one_element, counted, IsOpenRow}
+use Rattle.cqs_core.specs.QueueSteps.{QueueStep, draws, enters, reaches, begins, puts, installs, takes, serves, leaves, delegates, passes_over, ends_refused, ends_missed, starts_leaving, leaves_line, leaves_at_once, settles, settles_owing, refuses, refuses_value, looks, pends, grants, late, row_of, CounterRow, at_counter, Counter, to_suspend, to_resume, Cost, no_cost, one_owed, one_element, after_count, IsOpenRow}
 use Rattle.cqs_core.proofs.Places.{get-set_here, get-set_else, get-append_left}
 use Rattle.cqs_rule.specs.declared.view.View.{View}
 use Rattle.cqs_rule.specs.declared.view.Facts.{Facts}
@@ -52,7 +52,7 @@ use Rattle.cqs_rule.proofs.Words.{this-word, crew-else, cells-else, client-below
 -- the passes at the door are among those who may draw
 doors-draw : (doings : List Doing) (may : List Bool) (k : ℕ)
     → ((p : ℕ) → slice_get doings p ≡ Some doing.Door → slice_get may p ≡ Some true)
-    → length (picked at_door k doings) ≤ count_by (λ b. b) may
+    → length (pick_each at_door k doings) ≤ count_by (λ b. b) may
 doors-draw [] may k door = omega arith
 doors-draw (doing.Door ∷ ds) [] k door = let e = door 0 refl in absurd (cc)
 doors-draw (doing.Door ∷ ds) (m ∷ may) k door =
@@ -97,18 +97,18 @@ paid-spares one_element payload h = refl
 module _ (c : Hidden) (p k : ℕ) where
   -- a number is drawn: each cell keeps its state
   pub drawn-state : (found : Option CoreCell) (j : ℕ) → slice_get c.queue.cells k ≡ found
-      → state_at (counted to_suspend c.queue p k found) j ≡ state_at c.queue j
+      → state_at (after_count to_suspend c.queue p k found) j ≡ state_at c.queue j
   drawn-state None j e = made_same c.queue.cells _ j refl
   drawn-state (Some found) j e = written_same c.queue.cells k j found _ e refl
 
   pub reached-state : (found : Option CoreCell) (j : ℕ)
-      → state_at (counted to_resume c.queue p k found) j ≡ state_at c.queue j
+      → state_at (after_count to_resume c.queue p k found) j ≡ state_at c.queue j
   reached-state None j = made_same c.queue.cells fresh_cell j refl
   reached-state (Some found) j = refl
 
   -- a wait is of a number that was drawn before
   pub drawn-wait : (found : Option CoreCell) (n j : ℕ) → slice_get c.queue.cells k ≡ found → k ≡ c.queue.suspends
-      → IsWaitOf c.queue n j → IsWaitOf (counted to_suspend c.queue p k found) n j
+      → IsWaitOf c.queue n j → IsWaitOf (after_count to_suspend c.queue p k found) n j
   drawn-wait None n j e next w = record {
     cell = w.cell;
     there = get-append_left c.queue.cells _ j w.cell w.there;
@@ -127,7 +127,7 @@ module _ (c : Hidden) (p k : ℕ) where
   }
 
   pub reached-wait : (found : Option CoreCell) (n j : ℕ)
-      → IsWaitOf c.queue n j → IsWaitOf (counted to_resume c.queue p k found) n j
+      → IsWaitOf c.queue n j → IsWaitOf (after_count to_resume c.queue p k found) n j
   reached-wait None n j w = record {
     cell = w.cell;
     there = get-append_left c.queue.cells _ j w.cell w.there;
@@ -148,7 +148,7 @@ module _ (c : Hidden) (p k : ℕ) where
   -- a wait that stands after a number was drawn stood before
   pub drawn-wait_back : (found : Option CoreCell) (n j : ℕ) → slice_get c.queue.cells k ≡ found → k ≡ c.queue.suspends
       → IsSound c.queue
-      → IsWaitOf (counted to_suspend c.queue p k found) n j → IsWaitOf c.queue n j
+      → IsWaitOf (after_count to_suspend c.queue p k found) n j → IsWaitOf c.queue n j
   drawn-wait_back None n j e next sound w = ⊎_elim
       (λ (old : slice_get c.queue.cells j ≡ Some w.cell).
       let apart : j ≢ k = λ q.
@@ -183,7 +183,7 @@ module _ (c : Hidden) (p k : ℕ) where
       })
 
   pub reached-wait_back : (found : Option CoreCell) (n j : ℕ)
-      → IsWaitOf (counted to_resume c.queue p k found) n j → IsWaitOf c.queue n j
+      → IsWaitOf (after_count to_resume c.queue p k found) n j → IsWaitOf c.queue n j
   reached-wait_back None n j w = ⊎_elim
       (λ (old : slice_get c.queue.cells j ≡ Some w.cell). record {
         cell = w.cell;

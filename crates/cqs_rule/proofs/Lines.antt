@@ -2,7 +2,7 @@
 -- few, the state of a semaphore is far above the lowest.
 use Rattle.std.proofs.Common.{◌≡◌, ℕ, suc, ◌+◌, ◌<◌, ◌≤◌, max, List, [], ◌∷◌, length, Option, Some, None, arith, ℤ, pos, negsuc, ◌<ℤ◌}
 use Rattle.std.proofs.lemmas.Int.{ints}
-use Rattle.cqs_core.specs.Numbered.{picked, cons_option}
+use Rattle.cqs_core.specs.Numbered.{pick_each, cons_option}
 use Rattle.cqs_core.specs.QueueLine.{door, line, going, ending, due}
 use Rattle.cqs_core.specs.QueueSound.{IsSound}
 use Rattle.cqs_core.specs.QueueState.{Queue}
@@ -12,9 +12,9 @@ use Rattle.cqs_core.proofs.FirstOfWay.{ending-within}
 use Rattle.cqs_rule.specs.Events.{longest_line}
 
 -- no more are picked from a list than stand there
-picked-short : {X Y : Type 0} (f : ℕ → X → Option Y) (k : ℕ) (xs : List X) → length (picked f k xs) ≤ length xs
+picked-short : {X Y : Type 0} (f : ℕ → X → Option Y) (k : ℕ) (xs : List X) → length (pick_each f k xs) ≤ length xs
 picked-short f k [] = omega arith
-picked-short {X} {Y} f k (x ∷ xs) = one (f k x) (picked f (suc k) xs) (picked-short f (suc k) xs)
+picked-short {X} {Y} f k (x ∷ xs) = one (f k x) (pick_each f (suc k) xs) (picked-short f (suc k) xs)
   where
     one : (o : Option Y) (ys : List Y) → length ys ≤ length xs → length (cons_option o ys) ≤ suc (length xs)
     one None ys few = omega arith

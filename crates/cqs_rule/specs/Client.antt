@@ -7,7 +7,7 @@ use Rattle.cqs_core.specs.QueueLine.{door}
 use Rattle.cqs_core.specs.QueueSound.{IsSound}
 use Rattle.cqs_core.specs.QueueSteps.{QueueStep, reaches, begins, puts, row_of, StepRow, at_counter, at_cell, Cost, no_cost, one_owed, one_element, payload_told, IsOpenStep}
 use Rattle.cqs_rule.specs.declared.view.Has.{Has}
-use Rattle.cqs_rule.specs.Hidden.{Hidden, happened, has_after, now_may_draw, has_both, has_none, hands_over}
+use Rattle.cqs_rule.specs.Hidden.{Hidden, hidden_after, has_after, now_may_draw, has_both, has_none, hands_over}
 use Rattle.cqs_rule.specs.Lists.{NamesOnly}
 use Rattle.cqs_rule.specs.Lists as lists
 use Rattle.cqs_rule.specs.Manner.{Suits}
@@ -98,7 +98,7 @@ module _ {E S : Type 0} (object : Object E) (primitive : Primitive E S) where
         → slice_get c.has p ≡ Some has
         → IsPayload (row_of s) has (c.payloads k) payload → Suits primitive.manner s
         → c.queue.suspends < no_number → c.queue.resumes < no_number
-        → primitive.shows (happened object.gains c s p k found has payload) words
+        → primitive.shows (hidden_after object.gains c s p k found has payload) words
         (log ++ object.entries s p k payload) handed
     -- who may draw is no part of what it shows
     pub counts : (c : Hidden) (p : ℕ) (may : Bool) (words : List ℕ) (log : List E)

@@ -65,8 +65,8 @@ happened_by gains c row p k found has payload = record {
 }
 
 -- what a step of the queue makes
-abbrev pub happened : Gains → Hidden → QueueStep → ℕ → ℕ → Option CoreCell → Has → ℕ → Hidden
-happened gains c s p k found has payload = happened_by gains c (row_of s) p k found has payload
+abbrev pub hidden_after : Gains → Hidden → QueueStep → ℕ → ℕ → Option CoreCell → Has → ℕ → Hidden
+hidden_after gains c s p k found has payload = happened_by gains c (row_of s) p k found has payload
 
 -- a pass is now at this, and has this
 abbrev pub stands_at : Hidden → ℕ → Doing → Has → Hidden

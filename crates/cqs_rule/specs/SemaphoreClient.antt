@@ -14,18 +14,18 @@ use Rattle.cqs_core.specs.declared.cells.CoreCell.{CoreCell}
 use Rattle.cqs_core.specs.declared.entries.Entry.{Entry}
 use Rattle.cqs_core.specs.QueueSteps.{QueueStep, draws, enters, reaches, begins, puts, installs, takes, serves, leaves, delegates, passes_over, ends_refused, ends_missed, starts_leaving, leaves_line, leaves_at_once, settles, settles_owing, refuses, refuses_value, looks, pends, grants, late, row_of, StepRow, at_counter, at_cell, Gain, nothing, its_own, a_debt, Cost, no_cost, one_owed, one_element, IsOpenStep}
 use Rattle.cqs_core.specs.SemaphoreNames.{entry_names}
-use Rattle.cqs_core.specs.SemaphoreSteps.{IsSemaphoreStep, step_entries, stepped, held_by, gain_of}
+use Rattle.cqs_core.specs.SemaphoreSteps.{IsSemaphoreStep, step_entries, shape_after, held_by, gain_of}
 use Rattle.cqs_core.proofs.SemaphoreSteps.{step-core}
 use Rattle.cqs_core.specs.SemaphoreTable.{Shape}
-use Rattle.cqs_core.specs.SemaphoreShown.{IsCore, opened}
-use Rattle.cqs_core.specs.SemaphoreRuns.{handed}
+use Rattle.cqs_core.specs.SemaphoreShown.{IsCore, opening_shape}
+use Rattle.cqs_core.specs.SemaphoreRuns.{held_after}
 use Rattle.cqs_core.proofs.OpenedCore.{opened-core, hand_over-core}
 use Rattle.cqs_core.proofs.Places.{get-below, get-set_else, set-same}
 use Rattle.cqs_core.proofs.Bounds.{reached-few, held-small}
 use Rattle.cqs_core.proofs.FirstOfWay.{ending-within}
 use Rattle.cqs_rule.specs.declared.view.Has.{Has}
 use Rattle.cqs_rule.specs.Client.{IsClient, KeepsSlots, IsBegun, begun_by, no_number}
-use Rattle.cqs_rule.specs.Hidden.{Hidden, happened, has_after, has_gained, has_paid, has_both, has_none, hands_over}
+use Rattle.cqs_rule.specs.Hidden.{Hidden, hidden_after, has_after, has_gained, has_paid, has_both, has_none, hands_over}
 use Rattle.cqs_rule.specs.Lists.{NamesOnly}
 use Rattle.cqs_rule.specs.Manner.{Suits}
 use Rattle.cqs_rule.specs.Opened.{first_hidden, four}
@@ -133,11 +133,11 @@ steps-core : (permits : ℕ) (c : Hidden) (t : QueueStep) (p k : ℕ) (found : O
     → IsCore (core_shown permits c words log) → IsOpenStep c.queue t p k found
     → slice_get c.has p ≡ Some has
     → Suits semaphore_manner t → c.queue.suspends < no_number → c.queue.resumes < no_number
-    → IsCore (core_shown permits (happened one_more c t p k found has payload) words
+    → IsCore (core_shown permits (hidden_after one_more c t p k found has payload) words
     (log ++ step_entries t p k))
 steps-core permits c t p k found has payload words log core opens there suits low low' =
     let s = core_shown permits c words log in
-    let after : Shape = stepped s t p k found in
+    let after : Shape = shape_after s t p k found in
     subst (λ l. IsCore (record after { held = l }))
     (held-after (row_of t) c.has p payload has there)
     (step-core s t p k found core (suiting t suits) opens low low')
@@ -160,7 +160,7 @@ begins-core : (permits passes : ℕ) → 0 < permits → permits ≤ 1048576 →
     → IsCore (core_shown permits (first_hidden passes 0 0) (four (state_word (pos permits) ∷ []))
     [])
 begins-core permits passes some low any few =
-    let queue = (opened permits passes).queue in
+    let queue = (opening_shape permits passes).queue in
     subst (λ (z : List ℕ × ℤ).
     IsCore (record { permits = permits; state = z.1; held = z.0; history = []; queue = queue }))
     (λ i. (sym (first-held passes any) i, sym (opens-state permits) i))
@@ -191,12 +191,12 @@ given-permits permits c from to many mine theirs gave got words log core apart h
     let lies : slice_index rest to ≡ theirs.held =
     get_or_from_slice_get rest to theirs.held 0
     (get-set_else held from to (slice_index held from - many) apart ∙ to_has) in
-    let is : handed held from to many ≡ held_of (slice_set (slice_set c.has from gave) to got) =
+    let is : held_after held from to many ≡ held_of (slice_set (slice_set c.has from gave) to got) =
     (λ i. slice_set (slice_set held from (holds i - many)) to (lies i + many))
     ∙ (ap (λ l. set l to (theirs.held + many)) (held-set c.has from gave (mine.held - many) left)
     ∙ held-set (slice_set c.has from gave) to got (theirs.held + many) more) in
     subst (λ l. IsCore (record s { held = l })) is
-    (hand_over-core s (record s { held = handed held from to many }) from to many core
+    (hand_over-core s (record s { held = held_after held from to many }) from to many core
     (rw (first, second, few) refl))
 
 -- a semaphore begins no resumption but by a release

@@ -17,7 +17,7 @@ use Rattle.cqs_core.specs.declared.doings.Doing.TheVariants as doing
 use Rattle.cqs_core.specs.declared.entries.Entry.{Entry}
 use Rattle.cqs_core.specs.declared.entries.Entry.TheVariants as entry
 use Rattle.cqs_core.specs.Keyed.{without}
-use Rattle.cqs_core.specs.Numbered.{picked, cons_option}
+use Rattle.cqs_core.specs.Numbered.{pick_each, cons_option}
 use Rattle.cqs_core.specs.QueueLine.{Waiting, line, in_line}
 use Rattle.cqs_core.specs.QueueState.{Queue}
 use Rattle.cqs_core.specs.Resting.{IsIdle}
@@ -74,13 +74,13 @@ pub record IsQuiet (o : Semaphore) : Type 0 where
 -- nobody is found under a number at which nothing is read
 find-nobody : (passes : List Doing) (m k : ℕ) (cells : List CoreCell)
     → ((i : ℕ) (c : CoreCell) → k ≡ m + i → slice_get cells i ≡ Some c → in_line passes k c ≡ None)
-    → find_wait k (picked (in_line passes) m cells) ≡ None
+    → find_wait k (pick_each (in_line passes) m cells) ≡ None
 find-nobody passes m k [] none = refl
 find-nobody passes m k (c ∷ cells) none =
     go (in_line passes m c) refl (find-nobody passes (suc m) k cells (λ i z at got. none (suc i) z (omega arith) got))
   where
-    go : (o : Option Waiting) → in_line passes m c ≡ o → find_wait k (picked (in_line passes) (suc m) cells) ≡ None
-        → find_wait k (cons_option o (picked (in_line passes) (suc m) cells)) ≡ None
+    go : (o : Option Waiting) → in_line passes m c ≡ o → find_wait k (pick_each (in_line passes) (suc m) cells) ≡ None
+        → find_wait k (cons_option o (pick_each (in_line passes) (suc m) cells)) ≡ None
     go None reads rest = rest
     go (Some w) reads rest =
         let number : w.wait ≡ m = (line-keyed passes).at m c w reads in

@@ -29,7 +29,7 @@ use Rattle.cqs_shared_floors.specs.Holdings.{held_at, held_by_job, held_by_jobs}
 use Rattle.cqs_shared_floors.specs.Ledgers.{Ledger, holds_in, kind_numbers, own_name, own_rounds, shared_in}
 use Rattle.cqs_shared_floors.specs.Meeting.{CanJoin, HasJoined, HasMetAt, has_wait}
 use Rattle.cqs_shared_floors.specs.ShareCalls.{CanMeet, Joins, Meets}
-use Rattle.cqs_shared_floors.specs.Shares.{Funds, IsLawful, Share, joined, own}
+use Rattle.cqs_shared_floors.specs.Shares.{Funds, IsLawful, Share, join_held, own}
 use Rattle.cqs_shared_floors.specs.Spots.{job_wait, place_in, spot_in}
 use Rattle.cqs_shared_floors.proofs.FloorCrews.{few-met, index-past, whole-at}
 use Rattle.cqs_shared_floors.proofs.FloorEnds.{none-in}
@@ -285,10 +285,10 @@ module _ {X : Type 0} (s : Share X) (l given : Ledger X) (kept : IsKept s l) (th
 
     -- the funds of both
     both-funds : (at : ℕ) (kind_is : Kind)
-        → record (funds_in l at kind_is) { held = joined (held_at (holds_in l) at) (held_at (holds_in given) at) }
+        → record (funds_in l at kind_is) { held = join_held (held_at (holds_in l) at) (held_at (holds_in given) at) }
         ≡ funds_in met at kind_is
     both-funds at kind_is i = record (funds_in l at kind_is) {
-      held = (ap (λ m. joined (held_at (holds_in l) at) (held_at (held_by_jobs m given.holdings) at)) same-jobs
+      held = (ap (λ m. join_held (held_at (holds_in l) at) (held_at (held_by_jobs m given.holdings) at)) same-jobs
           ∙ sym (held-joined (length l.spots) at l.holdings given.holdings)) i;
     }
 

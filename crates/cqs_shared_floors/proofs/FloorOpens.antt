@@ -25,7 +25,7 @@ use Rattle.cqs_plan.specs.Runnable.{AreSized, IsRunnable, kinds_of}
 use Rattle.cqs_plan.specs.Validity.{IsKind}
 use Rattle.cqs_shared.specs.Entries.{is_nothing, own_history}
 use Rattle.cqs_shared.specs.Shared.{IsLegalAt, parties_at, seen_at}
-use Rattle.cqs_work.specs.Needs.{needed, parties_needed, room_needed}
+use Rattle.cqs_work.specs.Needs.{sum_of_needs, parties_needed, room_needed}
 use Rattle.cqs_work.specs.Opening.{IsOpening, dealt}
 use Rattle.cqs_shared_floors.specs.declared.floors.spots.FloorWait.{FloorWait}
 use Rattle.cqs_shared_floors.specs.declared.floors.spots.Spot.{Spot}
@@ -240,12 +240,12 @@ module _ {X : Type 0} (s : Share X) (plan : Plan) (workers worker : ℕ) (least 
 
   module _ (lawful : IsLawful s) (runnable : IsRunnable plan)
       (dealt_less : (at : ℕ) → least at ≡ own_arriving workers worker at plan.jobs) where
-    room-there : (at : ℕ) → needed (room_needed at) 0 plan.jobs (dealt plan workers worker)
+    room-there : (at : ℕ) → sum_of_needs (room_needed at) 0 plan.jobs (dealt plan workers worker)
         ≤ room_at (shared_in s made).board at
     room-there at = go (cases_lt at (length plan.resources))
       where
         go : (at < length plan.resources) ⊎ (length plan.resources ≤ at)
-            → needed (room_needed at) 0 plan.jobs (dealt plan workers worker) ≤ room_at (shared_in s made).board at
+            → sum_of_needs (room_needed at) 0 plan.jobs (dealt plan workers worker) ≤ room_at (shared_in s made).board at
         go (inl there) =
             let here = get_or-map-range_with_len (room_of plan.jobs) 0 (length plan.resources) at at 0 there
             (omega arith) in
@@ -255,7 +255,7 @@ module _ {X : Type 0} (s : Share X) (plan : Plan) (workers worker : ℕ) (least 
             omega (arith, room-enough workers worker at 0 plan.jobs, none)
 
     parties-there : (at round : ℕ)
-        → needed (parties_needed (shared_in s made).board at round) 0 plan.jobs (dealt plan workers worker)
+        → sum_of_needs (parties_needed (shared_in s made).board at round) 0 plan.jobs (dealt plan workers worker)
         ≤ parties_at (shared_in s made) at round
     parties-there at round = go (cases_lt at (length shares))
       where
@@ -264,14 +264,14 @@ module _ {X : Type 0} (s : Share X) (plan : Plan) (workers worker : ℕ) (least 
 
         nobody : (bound : ℕ) → ((n : ℕ) → HasRound (slice_get (kinds_of plan.resources) at) n → n < bound)
             → bound ≤ round
-            → needed (parties_needed (shared_in s made).board at round) 0 plan.jobs (dealt plan workers worker) ≡ 0
+            → sum_of_needs (parties_needed (shared_in s made).board at round) 0 plan.jobs (dealt plan workers worker) ≡ 0
         nobody bound most past =
             parties-none (shared_in s made).board no-round workers worker at round 0 plan.jobs
             (λ i job got. none-for (kinds_of plan.resources) job.steps at bound round (runnable.steps.at i job got) most
             past)
 
         go : (at < length shares) ⊎ (length shares ≤ at)
-            → needed (parties_needed (shared_in s made).board at round) 0 plan.jobs (dealt plan workers worker)
+            → sum_of_needs (parties_needed (shared_in s made).board at round) 0 plan.jobs (dealt plan workers worker)
             ≤ parties_at (shared_in s made) at round
         go (inr past) =
             let nothing = get-past (kinds_of plan.resources) at (omega (arith, past, fresh.long, kinds-long)) in
@@ -290,7 +290,7 @@ module _ {X : Type 0} (s : Share X) (plan : Plan) (workers worker : ℕ) (least 
                 → slice_get (kinds_of plan.resources) at ≡ Some r.kind
                 → get_or (map s.parties shares) at [] ≡ s.parties x
                 → (round < rounds_of r.kind) ⊎ (rounds_of r.kind ≤ round)
-                → needed (parties_needed (shared_in s made).board at round) 0 plan.jobs (dealt plan workers worker)
+                → sum_of_needs (parties_needed (shared_in s made).board at round) 0 plan.jobs (dealt plan workers worker)
                 ≤ parties_at (shared_in s made) at round
             inside x got r named k_is seen (inl early) =
                 let has = fresh.parties at r x named got round early in

@@ -21,7 +21,7 @@ use Rattle.cqs_plan.specs.Runnable.{AreMakeable}
 use Rattle.cqs_turns.specs.declared.states.End.TheVariants as end
 use Rattle.cqs_turns.specs.declared.states.Progress.{Progress}
 use Rattle.cqs_turns.specs.declared.states.Progress.TheVariants.{Stepping, Ended}
-use Rattle.cqs_work.specs.Needs.{comes_to, needed, parties_for, parties_needed, room_needed, waits_in}
+use Rattle.cqs_work.specs.Needs.{comes_to, sum_of_needs, parties_for, parties_needed, room_needed, waits_in}
 use Rattle.cqs_work.specs.Opening.{starting}
 use Rattle.cqs_shared_floors.specs.Openings.{arrives_from, arriving_from, room_of}
 
@@ -36,7 +36,7 @@ starts workers worker place P own other = go (place % workers == worker)
 
 -- the room
 pub room-enough : (workers worker at place : ℕ) (jobs : List Job)
-    → needed (room_needed at) place jobs (map (starting workers worker) (range_with_len place (length jobs)))
+    → sum_of_needs (room_needed at) place jobs (map (starting workers worker) (range_with_len place (length jobs)))
     ≤ room_of jobs at
 room-enough workers worker at place [] = omega arith
 room-enough workers worker at place (job ∷ jobs) =
@@ -121,7 +121,7 @@ from-else workers worker at place job other = go (cases_lt (place % workers) (wo
 -- the parties
 pub parties-enough : (b : PlainFloor) → ((job at : ℕ) → round_of b job at ≡ 0) → (workers worker at round place : ℕ)
     (jobs : List Job)
-    → needed (parties_needed b at round) place jobs
+    → sum_of_needs (parties_needed b at round) place jobs
     (map (starting workers worker) (range_with_len place (length jobs)))
     + arriving_from workers (worker + 1) at place jobs ≤ arriving_from workers worker at place jobs
 parties-enough b none workers worker at round place [] = omega arith
@@ -225,7 +225,7 @@ none-for kinds steps at bound round makeable rounds past =
 pub parties-none : (b : PlainFloor) → ((job at : ℕ) → round_of b job at ≡ 0) → (workers worker at round place : ℕ)
     (jobs : List Job)
     → ((i : ℕ) (job : Job) → slice_get jobs i ≡ Some job → parties_for at round 0 job.steps ≡ 0)
-    → needed (parties_needed b at round) place jobs
+    → sum_of_needs (parties_needed b at round) place jobs
     (map (starting workers worker) (range_with_len place (length jobs))) ≡ 0
 parties-none b none workers worker at round place [] nobody = refl
 parties-none b none workers worker at round place (job ∷ jobs) nobody =

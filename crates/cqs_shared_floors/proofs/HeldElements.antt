@@ -14,7 +14,7 @@ use Rattle.cqs_rule.proofs.Lists.{has_without, length_without as length-gone}
 use Rattle.cqs_shared_floors.specs.declared.kinds.held.HeldElement.{HeldElement}
 use Rattle.cqs_shared_floors.specs.HeldElements.{all_held, elements_held}
 use Rattle.cqs_shared_floors.specs.PoolShares.{AreInHand}
-use Rattle.cqs_shared_floors.specs.Shares.{held_by, joined}
+use Rattle.cqs_shared_floors.specs.Shares.{held_by, join_held}
 
 -- what each job holds after one more and after one less
 abbrev more : List (List ℕ) → ℕ → ℕ → List (List ℕ)
@@ -357,7 +357,7 @@ held-both job (h ∷ hs) gs = go (h.job == job) refl (held-both job hs gs)
     go true is rest = rw is (ap (λ es. number_of h.element ∷ es) rest)
     go false is rest = rw is rest
 
-by-joined : (held theirs : List (List ℕ)) (job : ℕ) → held_by (joined held theirs) job
+by-joined : (held theirs : List (List ℕ)) (job : ℕ) → held_by (join_held held theirs) job
     ≡ held_by held job ++ held_by theirs job
 by-joined [] theirs job = refl
 by-joined (es ∷ held) [] zero = sym (append-none es)
@@ -367,7 +367,7 @@ by-joined (es ∷ held) (fs ∷ theirs) (suc job) = by-joined held theirs job
 
 pub here-both : (held theirs : List (List ℕ)) (hs gs : List HeldElement)
     → ((j : ℕ) → elements_held j hs ≡ held_by held j) → ((j : ℕ) → elements_held j gs ≡ held_by theirs j)
-    → (j : ℕ) → elements_held j (hs ++ gs) ≡ held_by (joined held theirs) j
+    → (j : ℕ) → elements_held j (hs ++ gs) ≡ held_by (join_held held theirs) j
 here-both held theirs hs gs mine also j =
     held-both j hs gs ∙ ap (λ es. es ++ elements_held j gs) (mine j) ∙ ap (λ es. held_by held j ++ es) (also j)
     ∙ sym (by-joined held theirs j)

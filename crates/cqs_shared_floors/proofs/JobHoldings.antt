@@ -9,7 +9,7 @@ use Rattle.cqs_core.specs.Keyed.{without}
 use Rattle.cqs_plan.specs.Floor.{Holding, oldest}
 use Rattle.cqs_shared_floors.specs.declared.floors.holdings.JobHolding.{JobHolding}
 use Rattle.cqs_shared_floors.specs.Holdings.{and_more, elements_of, held_at, held_by_job, held_by_jobs, is_of, less_oldest}
-use Rattle.cqs_shared_floors.specs.Shares.{held_by, joined}
+use Rattle.cqs_shared_floors.specs.Shares.{held_by, join_held}
 
 -- one job: of two lists
 pub job-append : (job : ℕ) (hs gs : List JobHolding)
@@ -265,7 +265,7 @@ module _ (holds : List (List Holding)) (job at : ℕ) where
 -- of two lists, resource by resource
 mapped-joined : (at : ℕ) (a b : ℕ → List Holding) (jobs : List ℕ)
     → map (elements_of at) (map (λ j. a j ++ b j) jobs)
-    ≡ joined (map (elements_of at) (map a jobs)) (map (elements_of at) (map b jobs))
+    ≡ join_held (map (elements_of at) (map a jobs)) (map (elements_of at) (map b jobs))
 mapped-joined at a b [] = refl
 mapped-joined at a b (j ∷ jobs) =
     (λ i. elements-append at (a j) (b j) i ∷ mapped-joined at a b jobs i)
@@ -276,7 +276,7 @@ map-same a b (j ∷ jobs) same = (λ i. same j i ∷ map-same a b jobs same i)
 
 pub held-joined : (n at : ℕ) (hs gs : List JobHolding)
     → held_at (held_by_jobs n (hs ++ gs)) at
-    ≡ joined (held_at (held_by_jobs n hs) at) (held_at (held_by_jobs n gs) at)
+    ≡ join_held (held_at (held_by_jobs n hs) at) (held_at (held_by_jobs n gs) at)
 held-joined n at hs gs =
     ap (map (elements_of at))
     (map-same (λ j. held_by_job j (hs ++ gs)) (λ j. held_by_job j hs ++ held_by_job j gs) (range_with_len 0 n)

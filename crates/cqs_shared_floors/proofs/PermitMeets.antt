@@ -23,7 +23,7 @@ use Rattle.cqs_shared.specs.Entries.{is_nothing, own_history}
 use Rattle.cqs_shared_floors.specs.declared.kinds.permits.SharedPermits.{SharedPermits}
 use Rattle.cqs_shared_floors.specs.PermitAccounts.{IsAccounted}
 use Rattle.cqs_shared_floors.specs.PermitRuns.{IsOfPermits}
-use Rattle.cqs_shared_floors.specs.Shares.{IsLawful, joined, with_more}
+use Rattle.cqs_shared_floors.specs.Shares.{IsLawful, join_held, with_more}
 use Rattle.cqs_shared_floors.specs.ShareCalls.{CanTell, HoldNothing, Meets}
 use Rattle.cqs_shared_floors.specs.PermitShares.{ArePermits, HoldPermits, IsFunded, share_permits, total}
 use Rattle.cqs_shared_floors.proofs.Families.{name-same}
@@ -36,12 +36,12 @@ permits-both : (es fs : List ℕ) → ArePermits es → ArePermits fs → ArePer
 permits-both [] fs mine theirs = theirs
 permits-both (e ∷ es) fs mine theirs = (mine.0, permits-both es fs mine.1 theirs)
 
-hold-both : (held theirs : List (List ℕ)) → HoldPermits held → HoldPermits theirs → HoldPermits (joined held theirs)
+hold-both : (held theirs : List (List ℕ)) → HoldPermits held → HoldPermits theirs → HoldPermits (join_held held theirs)
 hold-both [] theirs a b = b
 hold-both (es ∷ held) [] a b = a
 hold-both (es ∷ held) (fs ∷ theirs) a b = (permits-both es fs a.0 b.0, hold-both held theirs a.1 b.1)
 
-total-both : (held theirs : List (List ℕ)) → total (joined held theirs) ≡ total held + total theirs
+total-both : (held theirs : List (List ℕ)) → total (join_held held theirs) ≡ total held + total theirs
 total-both [] theirs = omega arith
 total-both (es ∷ held) [] = omega arith
 total-both (es ∷ held) (fs ∷ theirs) =
@@ -49,7 +49,7 @@ total-both (es ∷ held) (fs ∷ theirs) =
       arith,
       total-both held theirs,
       length-append es fs,
-      sum_by-cons (λ (xs : List ℕ). length xs) (es ++ fs) (joined held theirs),
+      sum_by-cons (λ (xs : List ℕ). length xs) (es ++ fs) (join_held held theirs),
       sum_by-cons (λ (xs : List ℕ). length xs) es held,
       sum_by-cons (λ (xs : List ℕ). length xs) fs theirs,
     )
@@ -114,7 +114,7 @@ module _ (x given y : SharedPermits) (same_one : y.semaphore ≡ x.semaphore)
                 (λ n one other. apart n (subst (Has n) r.numbers one) (subst (Has n) t.numbers other)));
             held_is = omega (arith, held, r.held_is, t.held_is, both, all_seen);
             waits_are = ap (λ (l : List ℕ). length l) waits ∙ r.waits_are;
-            account = subst (λ own. IsAccounted own w.seen (total (joined a.held b.held) + a.came + a.waiting))
+            account = subst (λ own. IsAccounted own w.seen (total (join_held a.held b.held) + a.came + a.waiting))
                 (sym met.own_is)
                 (subst (λ n. IsAccounted (v.own ++ u.own) w.seen n) (omega (arith, both, all_seen, waitless)) account);
           };

@@ -25,7 +25,7 @@ use Rattle.cqs_shared_floors.specs.Families.{queue_name}
 use Rattle.cqs_shared_floors.specs.RoundsOne.{CanTakeIn, Crew, HasTakenIn, IsRound, lasts, numbers_of, to_arrive, view_of}
 use Rattle.cqs_shared_floors.specs.RoundsShares.{IsFunded, IsOfRounds, crew_at, crew_in, crew_of, held_in, held_of, name_of, seen_in, seen_of, share_rounds, waits_of}
 use Rattle.cqs_shared_floors.specs.Runs.{WaitsAt}
-use Rattle.cqs_shared_floors.specs.Shares.{IsLawful, joined}
+use Rattle.cqs_shared_floors.specs.Shares.{IsLawful, join_held}
 use Rattle.cqs_shared_floors.specs.ShareCalls.{CanMeet, CanTell, Meets}
 use Rattle.cqs_shared_floors.proofs.Accounts.{over-both, over-parts}
 use Rattle.cqs_shared_floors.proofs.Families.{name-same}
@@ -275,7 +275,7 @@ module _ (x given y : SharedRounds) (long : length given.rounds.items ≡ length
       crew-both size (crew_of x) (crew_of given) r g s (funded.each.at i r old)
       (subst (λ k. IsRound (size_of (Some k)) (crew_of given) g) same_kind (theirs.each.at i g their_one)) apart
       (called i r g s old their_one now)) in
-      let funded' : IsFunded y (record a { held = joined a.held b.held })
+      let funded' : IsFunded y (record a { held = join_held a.held b.held })
       = record {
         sort = subst (IsOfRounds a.kind) (sym many) funded.sort;
         few = subst (λ n. n ≤ 64) (sym many) funded.few;
@@ -295,7 +295,7 @@ module _ (x given y : SharedRounds) (long : length given.rounds.items ≡ length
       record {
         staying = λ i. staying i (three-or i);
         coming = λ i. coming i (three-or i);
-        legal = rounds-history y (record a { held = joined a.held b.held }) funded';
+        legal = rounds-history y (record a { held = join_held a.held b.held }) funded';
         mine = λ n has. ap of_rounds (mine-same n has);
         theirs = λ n has. ap of_rounds (theirs-same n has);
         number = ap (λ (c : Crew). c.number) crew;

@@ -22,7 +22,7 @@ use Rattle.cqs_shared.specs.AnswerEntries.{came_entries, give_entries, look_entr
 use Rattle.cqs_shared.specs.Calls.{FindsElement, IsDrawn, KeepsElement, MayCome, TakesElement, TellsGive}
 use Rattle.cqs_shared_floors.specs.declared.resource.Came.{Came}
 use Rattle.cqs_shared_floors.specs.declared.resource.Came.TheVariants as came
-use Rattle.cqs_shared_floors.specs.Shares.{Funds, IsSame, Share, Sees, IsWhole, KeepsAll, KeepsOthers, held_by, joined, own, with_brought, with_came, with_less, with_more, with_wait}
+use Rattle.cqs_shared_floors.specs.Shares.{Funds, IsSame, Share, Sees, IsWhole, KeepsAll, KeepsOthers, held_by, join_held, own, with_brought, with_came, with_less, with_more, with_wait}
 
 -- the oldest that a job holds, or 0
 abbrev pub oldest : Funds → ℕ → ℕ
@@ -253,7 +253,7 @@ module _ {X : Type 0} (s : Share X) where
     pub limit : s.limit y ≡ s.limit x
     pub family : s.family y ≡ s.family x
     pub parties : AreSums (s.parties x) (s.parties given) (s.parties y)
-    pub funded : s.funded y (record a { held = joined a.held b.held })
+    pub funded : s.funded y (record a { held = join_held a.held b.held })
     pub keeps : KeepsAll s x y
 
   abbrev pub Meets : X → X → X → Type 0

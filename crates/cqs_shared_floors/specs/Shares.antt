@@ -60,10 +60,10 @@ abbrev pub with_came : Funds → Funds
 with_came a = record a { came = a.came + 1 }
 
 -- what each job holds of two: first of the one, and then of the other
-abbrev pub joined : List (List ℕ) → List (List ℕ) → List (List ℕ)
-joined [] theirs = theirs
-joined (es ∷ held) [] = es ∷ held
-joined (es ∷ held) (fs ∷ theirs) = (es ++ fs) ∷ joined held theirs
+abbrev pub join_held : List (List ℕ) → List (List ℕ) → List (List ℕ)
+join_held [] theirs = theirs
+join_held (es ∷ held) [] = es ∷ held
+join_held (es ∷ held) (fs ∷ theirs) = (es ++ fs) ∷ join_held held theirs
 
 module _ {X : Type 0} (s : Share X) where
   -- all numbers of its pass

@@ -1,7 +1,7 @@
 //! The one call of the program, and what each of its statuses means.
 
 ghost use Rattle.std.specs.Prelude.{◌≡◌, ◌≢◌, ◌⊎◌, ℕ, ◌+◌, ◌<◌, ◌≤◌, List, length, map, string_bytes, IsTrue, Some};
-ghost use Rattle.cqs_plan.specs.Counts.{raised, Rises};
+ghost use Rattle.cqs_plan.specs.Counts.{raise, Rises};
 ghost use Rattle.cqs_plan.specs.Stream.{Gains, GainsPrefix, GivesAtMost, GivesCount};
 ghost use Rattle.cqs_cli.specs.Meanings.{IsStatus, MustEnd, NamedFault};
 ghost use Rattle.cqs_cli.specs.Plans.{IsPlan};
@@ -93,7 +93,7 @@ pub fn top<R: Threads + Wait + Sync, S: Source, K: Sink, G: Gate + Sync>(
     // By the source's tally that many bytes were read then; and where so many were, this status
     // comes, unless memory ran out.
     ensures too_many { result ≡ TOO_LONG →
-        (S.tally source.new).given ≡ raised (S.tally source.old).given (LONGEST_INPUT + 1) }
+        (S.tally source.new).given ≡ raise (S.tally source.old).given (LONGEST_INPUT + 1) }
     ensures many_bytes { (S.tally source.old).given + LONGEST_INPUT < (S.tally source.new).given
         → MustEnd TOO_LONG result }
 

@@ -1,7 +1,7 @@
 //! The command that has workers run a plan.
 
 ghost use Rattle.std.specs.Prelude.{◌≡◌, ◌≢◌, ◌⊎◌, ℕ, ◌+◌, ◌<◌, ◌≤◌, List, length, IsTrue, Some};
-ghost use Rattle.cqs_plan.specs.Counts.{raised, Rises};
+ghost use Rattle.cqs_plan.specs.Counts.{raise, Rises};
 ghost use Rattle.cqs_plan.specs.Stream.{Gains, GainsPrefix, GivesAtMost, GivesCount};
 ghost use Rattle.cqs_cli.specs.Meanings.{IsStatus, MustEnd, NamedFault};
 ghost use Rattle.cqs_cli.specs.Plans.{IsPlan};
@@ -52,7 +52,7 @@ pub fn work<R: Threads + Wait + Sync, S: Source, K: Sink, G: Gate + Sync>(
         GivesCount (LONGEST_INPUT + 1) (S.left source.old) (S.left source.new)
         × (sink.new ≡ sink.old) }
     ensures too_many { result ≡ TOO_LONG →
-        (S.tally source.new).given ≡ raised (S.tally source.old).given (LONGEST_INPUT + 1) }
+        (S.tally source.new).given ≡ raise (S.tally source.old).given (LONGEST_INPUT + 1) }
     ensures many_bytes { (S.tally source.old).given + LONGEST_INPUT < (S.tally source.new).given
         → MustEnd TOO_LONG result }
     ensures taken { GivesAtMost (LONGEST_INPUT + 1) (S.left source.old) (S.left source.new) }

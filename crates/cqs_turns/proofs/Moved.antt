@@ -23,7 +23,7 @@ use Rattle.cqs_plan.specs.Floor.{PlainFloor, JobWait, Holding, IsJob, IsHoldable
 use Rattle.cqs_plan.specs.FloorHistory.{with_deed_in, Deed, takes, joins, frees, sends, gets, leaves, is_late, passes, counts, opens, is_open, completes}
 use Rattle.cqs_plan.specs.FloorCalls.{after_take, after_give, after_look, after_leave, after_down, after_wait, after_arrive, arrive_answer, with_granted, with_left, with_arrival}
 use Rattle.cqs_turns.specs.Ready.{HasRoom}
-use Rattle.cqs_turns.specs.Running.{arrived, HasParties}
+use Rattle.cqs_turns.specs.Running.{count_arrived, HasParties}
 use Rattle.cqs_turns.proofs.ToCome.{CostsOne, IsNoBarrier, KeepsBarriers, done-history, keeps-barriers, keeps-elsewhere, keeps-takes, keeps-frees, keeps-sends, keeps-gets, keeps-late, keeps-leaves, joins-costs, completes-costs}
 
 -- The job at `place`, which had `steps` to make on the floor f, has `left` to make on the floor g. The other jobs wait,
@@ -443,25 +443,25 @@ module _ (place : ℕ) (f : PlainFloor) (at : ℕ) (deed : Deed) (steps : List S
 
   -- one more is past its round
   counted : (q r : ℕ)
-      → arrived g q r + cond (nat_lt r (round_of f place q)) 1 0
-      ≡ arrived f q r + cond (nat_lt r (get_or (row_after f place at) q 0)) 1 0
+      → count_arrived g q r + cond (nat_lt r (round_of f place q)) 1 0
+      ≡ count_arrived f q r + cond (nat_lt r (get_or (row_after f place at) q 0)) 1 0
   counted q r = rows-set f.rounds place q r (row_after f place at) job.rounds
 
   now-at : get_or (row_after f place at) at 0 ≡ r0 + 1
   now-at = get_or-set_same (own_rounds f place) at (r0 + 1) 0 (omega (arith, has-place f.kinds at r0 has, job.each))
 
-  arrival-parties : (q r parties : ℕ) → (q ≡ at) ⊎ (q ≢ at) → parties ≤ to_come_at f q r + arrived f q r
-      → parties ≤ to_come_at g q r + arrived g q r
+  arrival-parties : (q r parties : ℕ) → (q ≡ at) ⊎ (q ≢ at) → parties ≤ to_come_at f q r + count_arrived f q r
+      → parties ≤ to_come_at g q r + count_arrived g q r
   arrival-parties q r parties (inl same) before =
-      let all : parties ≤ to_come_at f at r + arrived f at r = rw same at before in
+      let all : parties ≤ to_come_at f at r + count_arrived f at r = rw same at before in
       let one : to_come_at f at r ≤ to_come_at g at r + cond (nat_lt r (r0 + 1)) 1 0
       = costs-if r (done-history less at r0 deed at) (cases_eq r r0) in
       rw same (passing r all one (cases_lt r r0))
     where
-      passing : (r : ℕ) → parties ≤ to_come_at f at r + arrived f at r
+      passing : (r : ℕ) → parties ≤ to_come_at f at r + count_arrived f at r
           → to_come_at f at r ≤ to_come_at g at r + cond (nat_lt r (r0 + 1)) 1 0
           → (r < r0) ⊎ (r0 ≤ r)
-          → parties ≤ to_come_at g at r + arrived g at r
+          → parties ≤ to_come_at g at r + count_arrived g at r
       passing r all one (inl below) =
           let other : r ≢ r0 = λ is. omega (arith, below, is) in
           let kept : to_come_at f at r ≤ to_come_at g at r

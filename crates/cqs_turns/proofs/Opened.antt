@@ -22,7 +22,7 @@ use Rattle.cqs_plan.specs.Runnable.{IsRunnable, IsMakeable, AreMakeable, kinds_o
 use Rattle.cqs_turns.specs.declared.states.Progress.{Progress}
 use Rattle.cqs_turns.specs.declared.states.Progress.TheVariants.{Stepping}
 use Rattle.cqs_turns.specs.Ready.{CanMake, is_held, IsReady, wait_in, steps_left}
-use Rattle.cqs_turns.specs.Running.{HasParties, IsInRounds, IsRunning, arrived, waits_left}
+use Rattle.cqs_turns.specs.Running.{HasParties, IsInRounds, IsRunning, count_arrived, waits_left}
 use Rattle.cqs_turns.proofs.Moved.{has-place}
 use Rattle.cqs_turns.specs.Turns.{opening_machine, places_held}
 
@@ -390,7 +390,7 @@ opening-parties plan = record { all = all }
   where
     all : (at round parties rounds : ℕ)
         → slice_get (kinds_of plan.resources) at ≡ Some (Rounds parties rounds)
-        → parties ≤ to_come_at (opening_floor plan) at round + arrived (opening_floor plan) at round
+        → parties ≤ to_come_at (opening_floor plan) at round + count_arrived (opening_floor plan) at round
     all at round parties rounds is =
         let f : PlainFloor = opening_floor plan in
         let size : size_at f at ≡ parties = ap size_of is in

@@ -22,15 +22,15 @@ waits_left at (job ∷ jobs) (p ∷ progress) =
     count_by (may_wait at) (steps_left job.steps p) + waits_left at jobs progress
 
 -- how many jobs have arrived in a round of a barrier
-abbrev pub arrived : PlainFloor → ℕ → ℕ → ℕ
-arrived f at round = count_by (λ rounds. nat_lt round (slice_index_or rounds at 0)) f.rounds
+abbrev pub count_arrived : PlainFloor → ℕ → ℕ → ℕ
+count_arrived f at round = count_by (λ rounds. nat_lt round (slice_index_or rounds at 0)) f.rounds
 
 -- in each round of a barrier, those still to come and those that have arrived are all its parties,
 -- or more, where some have withdrawn
 pub record HasParties (f : PlainFloor) : Type 0 where
   pub all : (at round parties rounds : ℕ)
       → slice_get f.kinds at ≡ Some (Rounds parties rounds)
-      → parties ≤ to_come_at f at round + arrived f at round
+      → parties ≤ to_come_at f at round + count_arrived f at round
 
 -- the job is in the rounds that its arrivals so far say; one that has ended is at most in the last
 abbrev pub IsInRounds : PlainFloor → ℕ → List Step → Progress → Type 0

@@ -39,7 +39,7 @@ use Rattle.cqs_shared.specs.declared.shared.SharedGive.{SharedGive}
 use Rattle.cqs_shared.specs.AnswerEntries.{came_entries}
 use Rattle.cqs_shared.specs.Shared.{Shared, kind_at, seen_at, came_of, parties_at, parties_in}
 use Rattle.cqs_shared.specs.Calls.{board_waited, board_arrived, Takes, Waits as Waits_at, Arrives, Comes, Gives, Downs, HasLooked, HasLeft, Leaves, Looks, parties_left, parties_left_at, element_held}
-use Rattle.cqs_work.specs.Desk.{Desk, told}
+use Rattle.cqs_work.specs.Desk.{Desk, with_answer}
 use Rattle.cqs_work.specs.Heard.{Heard, Answer, Hears, heard, heard_world}
 use Rattle.cqs_work.specs.Heard as answer
 use Rattle.cqs_work.specs.Roles.{same, left_so, made_so, give_one, give_each, finish, count_down, take_step, wait_step, arrive_step, make_step, go_on, leave_end, ended_so, give_up, look_at, act}
@@ -180,7 +180,7 @@ module _ (a : Actor) (f g : Desk) (next at round : ℕ) (step : Step) (after : P
           absurd (cc (now, none, had))
 
   came-cause : (got : Option FloorTake) → Comes f.floor at round a.place after held got g.floor
-      → g.waits ≡ told f.waits at round a.place got
+      → g.waits ≡ with_answer f.waits at round a.place got
       → IsCaused a.job.now a.place g (after_stop next (stop_of next at round got))
   came-cause (Some (Now element)) comes waits = tt
   came-cause (Some (Waits number)) comes waits = record {
@@ -211,21 +211,21 @@ module _ (a : Actor) (f g : Desk) (next at round : ℕ) (step : Step) (after : P
       tally-crowded q a.job.now.steps next (took f.floor q) (took g.floor q) (omega (arith, is))
 
   came-adds : (got : Option FloorTake) (comes : Comes f.floor at round a.place after held got g.floor)
-      → g.waits ≡ told f.waits at round a.place got
+      → g.waits ≡ with_answer f.waits at round a.place got
       → (HasPermits (kind_at f.floor at)
       → drawn_by (came_entries (kind_at f.floor at) round f.floor.number got comes.drew)
-      ≡ map (as_draw f.floor.number) (told_at at (told [] at round a.place got)))
+      ≡ map (as_draw f.floor.number) (told_at at (with_answer [] at round a.place got)))
       → (IsNoted f → (q : ℕ) → HasPermits (kind_at f.floor q)
       → took g.floor q ≡ took f.floor q + takes_of q step got)
       → Adds a.job.now a.place f (Stepping next) g (after_stop next (stop_of next at round got))
   came-adds got comes waits draws takes = record {
-    more = told [] at round a.place got;
+    more = with_answer [] at round a.place got;
     waits = waits ∙ told-is f.waits at round a.place got;
     whose = told-whose at round a.place got;
     over = λ over. absurd over;
     came = λ j other. ap (λ l. get_or l j false) comes.came
         ∙ get_or-set_other f.floor.came a.place j comes.with_it false other;
-    noted = call-noted f at _ g comes.sees kinds (told [] at round a.place got)
+    noted = call-noted f at _ g comes.sees kinds (with_answer [] at round a.place got)
         (waits ∙ told-is f.waits at round a.place got) draws (told-else at round a.place got);
     tally = λ noted q permits. came-tally got q (takes noted q permits);
     caused = λ noted its. came-cause got comes waits;
@@ -268,7 +268,7 @@ no-takes q step None none = refl
 take-adds : (a : Actor) (f g : Desk) (next at : ℕ) (got : Option FloorTake)
     → slice_get a.job.now.steps next ≡ Some (Take at) → IsHoldable (kind_at f.floor at)
     → g.floor.board.kinds ≡ f.floor.board.kinds → Takes f.floor at a.place got g.floor
-    → g.waits ≡ told f.waits at 0 a.place got
+    → g.waits ≡ with_answer f.waits at 0 a.place got
     → Adds a.job.now a.place f (Stepping next) g (after_stop next (stop_of next at 0 got))
 take-adds a f g next at got its_step holdable kinds comes waits =
     came-adds a f g next at 0 (Take at) _ _ its_step (may-take at) (holdable-some (kind_at f.floor at) holdable) kinds
@@ -287,7 +287,7 @@ take-adds a f g next at got its_step holdable kinds comes waits =
         let told = take-told (kind_at f.floor at) at a.place f.floor.number got comes.drew here in
         let more = took-here f at _ g comes.sees kinds noted here in
         let so : took g.floor at ≡ took f.floor at + takes_of at (Take at) got
-        = omega (arith, more, told.taken, one-take got) in
+        = omega (arith, more, with_answer.taken, one-take got) in
         subst (λ n. took g.floor n ≡ took f.floor n + takes_of n (Take at) got) (sym same) so
     go noted q permits (inr other) =
         let none : takes_of q (Take at) got ≡ 0
@@ -299,7 +299,7 @@ else-adds : (a : Actor) (f g : Desk) (next at round : ℕ) (step : Step) (after 
     (got : Option FloorTake) → slice_get a.job.now.steps next ≡ Some step → may_wait at step ≡ true
     → ((q : ℕ) → is_take q step ≡ false) → IsSome (kind_at f.floor at) → (HasPermits (kind_at f.floor at) → ⊥)
     → g.floor.board.kinds ≡ f.floor.board.kinds → Comes f.floor at round a.place after held got g.floor
-    → g.waits ≡ told f.waits at round a.place got
+    → g.waits ≡ with_answer f.waits at round a.place got
     → Adds a.job.now a.place f (Stepping next) g (after_stop next (stop_of next at round got))
 else-adds a f g next at round step after held got its_step may no_take some never kinds comes waits =
     came-adds a f g next at round step after held its_step may some kinds got comes waits
@@ -388,7 +388,7 @@ arrive-held f g a at got comes = ap (λ b. places_held b a.place) comes.board �
 -- a take
 take-by : (a : Actor) (f g : Desk) (next at : ℕ) (got : Option FloorTake) → CanAct a f.floor (Stepping next)
     → slice_get a.job.now.steps next ≡ Some (Take at) → Takes f.floor at a.place got g.floor
-    → g.waits ≡ told f.waits at 0 a.place got
+    → g.waits ≡ with_answer f.waits at 0 a.place got
     → Did a f (Stepping next) (take_step a next at) (made_so (stop_of next at 0 got)) g
     (after_stop next (stop_of next at 0 got))
 take-by a f g next at (Some (Now element)) can its_step comes waits =
@@ -454,7 +454,7 @@ take-by a f g next at None can its_step comes waits =
 
 pub take-did : (a : Actor) (f g : Desk) (next at : ℕ) (got known : Option FloorTake) → CanAct a f.floor (Stepping next)
     → slice_get a.job.now.steps next ≡ Some (Take at) → Takes f.floor at a.place got g.floor
-    → got ≡ known → g.waits ≡ told f.waits at 0 a.place known
+    → got ≡ known → g.waits ≡ with_answer f.waits at 0 a.place known
     → Did a f (Stepping next) (take_step a next at) (made_so (stop_of next at 0 known)) g
     (after_stop next (stop_of next at 0 known))
 take-did a f g next at got known can its_step comes is waits =
@@ -462,12 +462,12 @@ take-did a f g next at got known can its_step comes is waits =
     Did a f (Stepping next) (take_step a next at) (made_so (stop_of next at 0 o)) g
     (after_stop next (stop_of next at 0 o)) in
     subst Goal is
-    (take-by a f g next at got can its_step comes (waits ∙ ap (told f.waits at 0 a.place) (sym is)))
+    (take-by a f g next at got can its_step comes (waits ∙ ap (with_answer f.waits at 0 a.place) (sym is)))
 
 -- a wait at a latch
 wait-by : (a : Actor) (f g : Desk) (next at : ℕ) (got : Option FloorTake) → CanAct a f.floor (Stepping next)
     → slice_get a.job.now.steps next ≡ Some (Await at) → Waits_at f.floor at a.place got g.floor
-    → g.waits ≡ told f.waits at 0 a.place got
+    → g.waits ≡ with_answer f.waits at 0 a.place got
     → Did a f (Stepping next) (wait_step a next at) (made_so (stop_of next at 0 got)) g
     (after_stop next (stop_of next at 0 got))
 wait-by a f g next at (Some (Now element)) can its_step comes waits =
@@ -540,7 +540,7 @@ wait-by a f g next at None can its_step comes waits =
 
 pub wait-did : (a : Actor) (f g : Desk) (next at : ℕ) (got known : Option FloorTake) → CanAct a f.floor (Stepping next)
     → slice_get a.job.now.steps next ≡ Some (Await at) → Waits_at f.floor at a.place got g.floor
-    → got ≡ known → g.waits ≡ told f.waits at 0 a.place known
+    → got ≡ known → g.waits ≡ with_answer f.waits at 0 a.place known
     → Did a f (Stepping next) (wait_step a next at) (made_so (stop_of next at 0 known)) g
     (after_stop next (stop_of next at 0 known))
 wait-did a f g next at got known can its_step comes is waits =
@@ -548,7 +548,7 @@ wait-did a f g next at got known can its_step comes is waits =
     Did a f (Stepping next) (wait_step a next at) (made_so (stop_of next at 0 o)) g
     (after_stop next (stop_of next at 0 o)) in
     subst Goal is
-    (wait-by a f g next at got can its_step comes (waits ∙ ap (told f.waits at 0 a.place) (sym is)))
+    (wait-by a f g next at got can its_step comes (waits ∙ ap (with_answer f.waits at 0 a.place) (sym is)))
 
 -- an arrival
 module _ (a : Actor) (f : Desk) (next at : ℕ) (can : CanAct a f.floor (Stepping next))
@@ -594,7 +594,7 @@ module _ (a : Actor) (f : Desk) (next at : ℕ) (can : CanAct a f.floor (Steppin
           omega (arith, kept, can.rounds q, made-count q a.job.now.steps next (Arrive at) its_step, none)
 
   arrive-by : (g : Desk) (got : Option FloorTake) → Arrives f.floor at a.place got g.floor
-      → g.waits ≡ told f.waits at round a.place got
+      → g.waits ≡ with_answer f.waits at round a.place got
       → Did a f (Stepping next) (arrive_step a next at) (made_so (stop_of next at round got)) g
       (after_stop next (stop_of next at round got))
   arrive-by g (Some (Now element)) comes waits =
@@ -657,14 +657,14 @@ module _ (a : Actor) (f : Desk) (next at : ℕ) (can : CanAct a f.floor (Steppin
 
   -- the code counts the round from the steps before
   pub arrive-did : (g : Desk) (got known : Option FloorTake) (counted : ℕ) → Arrives f.floor at a.place got g.floor
-      → got ≡ known → g.waits ≡ told f.waits at counted a.place known
+      → got ≡ known → g.waits ≡ with_answer f.waits at counted a.place known
       → counted ≡ count_by (is_arrival at) (take next a.job.now.steps)
       → Did a f (Stepping next) (arrive_step a next at) (made_so (stop_of next at counted known)) g
       (after_stop next (stop_of next at counted known))
   arrive-did g got known counted comes is waits count =
-      let here : g.waits ≡ told f.waits at round a.place got
-      = waits ∙ ap (told f.waits at counted a.place) (sym is)
-      ∙ ap (λ r. told f.waits at r a.place got) (count ∙ sym (can.rounds at)) in
+      let here : g.waits ≡ with_answer f.waits at round a.place got
+      = waits ∙ ap (with_answer f.waits at counted a.place) (sym is)
+      ∙ ap (λ r. with_answer f.waits at r a.place got) (count ∙ sym (can.rounds at)) in
       let Goal : ℕ → Option FloorTake → Type 0 = λ r o.
       Did a f (Stepping next) (arrive_step a next at) (made_so (stop_of next at r o)) g
       (after_stop next (stop_of next at r o)) in

@@ -23,7 +23,7 @@ use Rattle.cqs_shared.specs.AnswerEntries.{came_entries, give_entries, look_entr
 use Rattle.cqs_shared.specs.Shared.{Sees, seen_at, kind_at}
 use Rattle.cqs_work.specs.declared.waits.Waited.{Waited}
 use Rattle.cqs_work.specs.Accounts.{sum_of}
-use Rattle.cqs_work.specs.Desk.{Desk, told}
+use Rattle.cqs_work.specs.Desk.{Desk, with_answer}
 use Rattle.cqs_work.specs.Noted.{draw_of, draws_in, drawn_by, HasPermits, told_at, as_draw, IsNoted}
 use Rattle.cqs_work.specs.Takes.{takes, took}
 use Rattle.cqs_work.specs.Adds.{Keeps}
@@ -212,20 +212,20 @@ keeps-then f g k kinds first second = record {
 
 -- what a job is told by an answer
 pub told-is : (waits : List Waited) (at round job : ℕ) (got : Option FloorTake)
-    → told waits at round job got ≡ waits ++ told [] at round job got
+    → with_answer waits at round job got ≡ waits ++ with_answer [] at round job got
 told-is waits at round job None = sym (append-nil waits)
 told-is waits at round job (Some (Now element)) = sym (append-nil waits)
 told-is waits at round job (Some (Waits number)) = refl
 
 pub told-whose : (at round job : ℕ) (got : Option FloorTake) → All (λ (w : Waited). w.job ≡ job)
-    (told [] at round job got)
+    (with_answer [] at round job got)
 told-whose at round job None = All-nil (λ (w : Waited). w.job ≡ job)
 told-whose at round job (Some (Now element)) = All-nil (λ (w : Waited). w.job ≡ job)
 told-whose at round job (Some (Waits number)) =
     All-cons (λ (w : Waited). w.job ≡ job) (record { at = at; round = round; number = number; job = job }) [] refl
     (All-nil (λ (w : Waited). w.job ≡ job))
 
-pub told-else : (at round job : ℕ) (got : Option FloorTake) (q : ℕ) → q ≢ at → told_at q (told [] at round job got) ≡ []
+pub told-else : (at round job : ℕ) (got : Option FloorTake) (q : ℕ) → q ≢ at → told_at q (with_answer [] at round job got) ≡ []
 told-else at round job None q other = refl
 told-else at round job (Some (Now element)) q other = refl
 told-else at round job (Some (Waits number)) q other =
@@ -238,7 +238,7 @@ ones_of (Some answer) = 1
 ones_of None = 0
 
 pub record TakeTold (at job c : ℕ) (got : Option FloorTake) (entries : Entries) : Type 0 where
-  pub drawn : drawn_by entries ≡ map (as_draw c) (told_at at (told [] at 0 job got))
+  pub drawn : drawn_by entries ≡ map (as_draw c) (told_at at (with_answer [] at 0 job got))
   pub taken : sum_of takes entries ≡ ones_of got
 
 pub take-told : (k : Option Kind) (at job c : ℕ) (got : Option FloorTake) (drew : Option ℕ) → HasPermits k

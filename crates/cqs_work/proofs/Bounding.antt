@@ -13,7 +13,7 @@ use Rattle.cqs_work.specs.declared.ends.JobEnd.{JobEnd}
 use Rattle.cqs_work.specs.Accounts.{Weights, sum_in}
 use Rattle.cqs_work.specs.Courses.{made_by, left_by}
 use Rattle.cqs_work.specs.Ends.{job_end, is_done}
-use Rattle.cqs_work.specs.Needs.{needed}
+use Rattle.cqs_work.specs.Needs.{sum_of_needs}
 use Rattle.cqs_work.specs.Opening.{starting}
 use Rattle.cqs_work.specs.Takes.{takes_in, take_steps}
 use Rattle.cqs_work.specs.Worked.{is_own, is_own_done, end_at}
@@ -23,7 +23,7 @@ steps-needed : (w : ℕ → Job → Progress → ℕ) (counts : ℕ → Bool) (a
     → length progress ≡ length jobs
     → ((i : ℕ) (job : Job) (p : Progress) → slice_get jobs i ≡ Some job → slice_get progress i ≡ Some p
     → w (k + i) job p ≡ (if counts (k + i) then takes_in at job.steps else 0))
-    → needed w k jobs progress ≡ take_steps counts at k jobs
+    → sum_of_needs w k jobs progress ≡ take_steps counts at k jobs
 steps-needed w counts at k [] progress long same = refl
 steps-needed w counts at k (job ∷ jobs) [] long same = absurd (omega (arith, long))
 steps-needed w counts at k (job ∷ jobs) (p ∷ progress) long same =
@@ -40,7 +40,7 @@ steps-needed w counts at k (job ∷ jobs) (p ∷ progress) long same =
 
 none-needed : (w : ℕ → Job → Progress → ℕ) (k : ℕ) (jobs : List Job) (progress : List Progress)
     → ((i : ℕ) (job : Job) (p : Progress) → slice_get jobs i ≡ Some job → slice_get progress i ≡ Some p
-    → w (k + i) job p ≡ 0) → needed w k jobs progress ≡ 0
+    → w (k + i) job p ≡ 0) → sum_of_needs w k jobs progress ≡ 0
 none-needed w k [] progress none = refl
 none-needed w k (job ∷ jobs) [] none = refl
 none-needed w k (job ∷ jobs) (p ∷ progress) none =
@@ -83,7 +83,7 @@ module _ (plan : Plan) (workers worker at : ℕ) (ends : List JobEnd) (first las
     (ended : (place : ℕ) (p : Progress) → place % workers ≡ worker → slice_get last place ≡ Some p
     → end_at ends place ≡ job_end p) where
   -- the jobs that are done have made all their takes
-  pub done-made : needed (made_by (is_own_done workers worker ends) at) 0 plan.jobs last
+  pub done-made : sum_of_needs (made_by (is_own_done workers worker ends) at) 0 plan.jobs last
       ≡ take_steps (is_own_done workers worker ends) at 0 plan.jobs
   done-made = steps-needed (made_by (is_own_done workers worker ends) at)
       (is_own_done workers worker ends) at 0 plan.jobs last last_long
@@ -104,7 +104,7 @@ module _ (plan : Plan) (workers worker at : ℕ) (ends : List JobEnd) (first las
       go i job p got false is = rw is refl
 
   -- and before the first turn none had made any
-  pub none-made : needed (made_by (is_own_done workers worker ends) at) 0 plan.jobs first ≡ 0
+  pub none-made : sum_of_needs (made_by (is_own_done workers worker ends) at) 0 plan.jobs first ≡ 0
   none-made = none-needed (made_by (is_own_done workers worker ends) at) 0 plan.jobs first
       (λ i job p got_job got. from-first i (λ n. made_by (is_own_done workers worker ends) at n job p ≡ 0)
       (go i job p got (is_own_done workers worker ends i) refl))
@@ -119,7 +119,7 @@ module _ (plan : Plan) (workers worker at : ℕ) (ends : List JobEnd) (first las
       go i job p got false is = rw is refl
 
   -- those of a worker may make all of theirs
-  pub all-left : needed (left_by at) 0 plan.jobs first ≡ take_steps (is_own workers worker) at 0 plan.jobs
+  pub all-left : sum_of_needs (left_by at) 0 plan.jobs first ≡ take_steps (is_own workers worker) at 0 plan.jobs
   all-left = steps-needed (left_by at) (is_own workers worker) at 0 plan.jobs first first_long
       (λ i job p got_job got. from-first i (λ n. left_by at n job p
       ≡ (if is_own workers worker n then takes_in at job.steps else 0))

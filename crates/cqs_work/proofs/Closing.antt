@@ -23,7 +23,7 @@ use Rattle.cqs_work.specs.Desk.{Desk}
 use Rattle.cqs_work.specs.Heard.{Heard, Hears, heard, heard_world}
 use Rattle.cqs_work.specs.Roles.{same, give_each, leave_end, ended_so}
 use Rattle.cqs_work.specs.Doing.{Stands, GaveUp}
-use Rattle.cqs_work.specs.Works.{RunsOn, HasWorked, turns_of, machine_so, progress_of, line_left_so, close, closed, close_from, close_all, IsClear, AllClear, AreKept}
+use Rattle.cqs_work.specs.Works.{RunsOn, HasWorked, turns_of, machine_so, progress_of, line_left_so, close, after_last_gives, close_from, close_all, IsClear, AllClear, AreKept}
 use Rattle.cqs_work.specs.Adds.{Keeps}
 use Rattle.cqs_work.specs.Courses.{Went}
 use Rattle.cqs_work.proofs.Adding.{keeps-none, keeps-then}
@@ -161,7 +161,7 @@ module _ (plan : Plan) (place : ℕ) (f g k : Desk) (first states : List JobStat
         let found : get_or (progress_of first) place (Ended end.Done) ≡ state.progress
         = get_or_from_slice_get (progress_of first) place state.progress (Ended end.Done) its_progress in
         ap (λ jobs. close_from plan place jobs (progress_of first) h) split
-        ∙ ap rest (λ i. closed (record {
+        ∙ ap rest (λ i. after_last_gives (record {
           resources = sym resources i;
           turn = sym turn i;
           place = sym there i;

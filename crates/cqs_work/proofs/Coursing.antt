@@ -14,7 +14,7 @@ use Rattle.cqs_shared.specs.Shared.{kind_at}
 use Rattle.cqs_work.specs.declared.waits.Waited.{Waited}
 use Rattle.cqs_work.specs.Desk.{Desk}
 use Rattle.cqs_work.specs.Later.{Later}
-use Rattle.cqs_work.specs.Needs.{needed}
+use Rattle.cqs_work.specs.Needs.{sum_of_needs}
 use Rattle.cqs_work.specs.Noted.{HasPermits, IsNoted}
 use Rattle.cqs_work.specs.Takes.{takes_made, took, Tallies}
 use Rattle.cqs_work.specs.Causes.{IsCaused}
@@ -129,8 +129,8 @@ went-one plan f g place job p q progress got_job got later adds = record {
     over j e ended (inr other) = get-set_else progress place j q (λ e. other (sym e)) ∙ ended
 
     least : IsNoted f → (mine : ℕ → Bool) (at : ℕ) → HasPermits (kind_at f.floor at) → (b : Bool) → mine place ≡ b
-        → took f.floor at + needed (made_by mine at) 0 plan.jobs (set progress place q)
-        ≤ took g.floor at + needed (made_by mine at) 0 plan.jobs progress
+        → took f.floor at + sum_of_needs (made_by mine at) 0 plan.jobs (set progress place q)
+        ≤ took g.floor at + sum_of_needs (made_by mine at) 0 plan.jobs progress
     least noted mine at permits b is =
         let tally = adds.tally noted at permits in
         let moved = needed-set (made_by mine at) (made_by mine at) 0 plan.jobs progress place place itself job p q

@@ -25,8 +25,8 @@ use Rattle.cqs_shared.specs.declared.shared.SharedGive.{SharedGive}
 use Rattle.cqs_shared.specs.Entries.{Entries, at_permits, at_elements, at_latch, in_round, with_entries, own_entries, own_history}
 use Rattle.cqs_shared.specs.Shared.{Shared, Sees, seen_at, kind_at, came_of}
 use Rattle.cqs_shared.specs.Calls.{Comes, Gives, Downs, Looks, Leaves, IsDrawn, MayCome, IsFound, IsLate}
-use Rattle.cqs_work.specs.Desk.{Desk, told}
-use Rattle.cqs_work.specs.Heard.{Heard, Answer, Hears, heard, logged, heard_came, heard_given, heard_counted, heard_looked, heard_left, is_drawn, may_come, is_found, is_kept}
+use Rattle.cqs_work.specs.Desk.{Desk, with_answer}
+use Rattle.cqs_work.specs.Heard.{Heard, Answer, Hears, heard, with_call, heard_came, heard_given, heard_counted, heard_looked, heard_left, is_drawn, may_come, is_found, is_kept}
 use Rattle.cqs_work.specs.Heard as answer
 use Rattle.cqs_work.proofs.Lasting.{later-none, later-then}
 
@@ -57,7 +57,7 @@ own-after n (of_rounds all) (in_round round more) =
 
 -- the log of a worker after a call
 log-after : (f : Shared) (at : ℕ) (entries : Entries) (g : Shared) → Sees f at entries g
-    → map (own_history g.number) g.seen ≡ logged (map (own_history f.number) f.seen) at entries
+    → map (own_history g.number) g.seen ≡ with_call (map (own_history f.number) f.seen) at entries
 log-after f at entries g sees =
     let there : slice_index_or (map (own_history f.number) f.seen) at (of_permits [])
     ≡ own_history f.number (seen_at f at)
@@ -108,7 +108,7 @@ both-fit a b one other = ap (λ x. x && b) one ∙ other
 
 -- each call, where its answer is heard
 pub came-is : (f : Desk) (at round job : ℕ) (after : PlainFloor) (held : List (List ℕ)) (got : Option FloorTake)
-    (g : Desk) (comes : Comes f.floor at round job after held got g.floor) → g.waits ≡ told f.waits at round job got
+    (g : Desk) (comes : Comes f.floor at round job after held got g.floor) → g.waits ≡ with_answer f.waits at round job got
     → (rest : List Answer)
     → heard_came at round job after got (heard f (answer.come got comes.drew comes.with_it ∷ rest)) ≡ heard g rest
 came-is f at round job after held got g comes waits rest i = record {

@@ -4,13 +4,13 @@ use Rattle.cqs_plan.specs.declared.plans.job.Job.{Job}
 use Rattle.cqs_turns.specs.declared.states.Progress.{Progress}
 use Rattle.cqs_turns.specs.Ready.{steps_left}
 use Rattle.cqs_shared.specs.Shared.{Shared}
-use Rattle.cqs_work.specs.Needs.{needed, parties_for, room_needed, parties_needed, IsProvided, AreProvided}
+use Rattle.cqs_work.specs.Needs.{sum_of_needs, parties_for, room_needed, parties_needed, IsProvided, AreProvided}
 use Rattle.cqs_work.specs.Doing.{Moves}
 
 -- two needs that are the same from a place on
 needed-alike : (w v : ℕ → Job → Progress → ℕ) (k : ℕ) (jobs : List Job) (progress : List Progress)
-    → ((m : ℕ) (j : Job) (x : Progress) → k ≤ m → v m j x ≡ w m j x) → needed v k jobs progress
-    ≡ needed w k jobs progress
+    → ((m : ℕ) (j : Job) (x : Progress) → k ≤ m → v m j x ≡ w m j x) → sum_of_needs v k jobs progress
+    ≡ sum_of_needs w k jobs progress
 needed-alike w v k [] progress same = refl
 needed-alike w v k (j ∷ jobs) [] same = refl
 needed-alike w v k (j ∷ jobs) (x ∷ progress) same =
@@ -23,14 +23,14 @@ pub needed-set : (w v : ℕ → Job → Progress → ℕ) (k : ℕ) (jobs : List
     ≡ k + i
     → (job : Job) (p q : Progress) → slice_get jobs i ≡ Some job → slice_get progress i ≡ Some p
     → ((m : ℕ) (j : Job) (x : Progress) → m ≢ n → v m j x ≡ w m j x)
-    → needed v k jobs (set progress i q) + w n job p ≡ needed w k jobs progress + v n job q
+    → sum_of_needs v k jobs (set progress i q) + w n job p ≡ sum_of_needs w k jobs progress + v n job q
 needed-set w v k [] progress i n is job p q got_job got same = absurd (cc)
 needed-set w v k (j ∷ jobs) [] i n is job p q got_job got same = absurd (cc)
 needed-set w v k (j ∷ jobs) (x ∷ progress) zero n is job p q got_job got same =
     let same_job : j ≡ job = cc in
     let same_progress : x ≡ p = cc in
     let here : k ≡ n = omega (arith, is) in
-    let later : needed v (n + 1) jobs progress ≡ needed w (n + 1) jobs progress
+    let later : sum_of_needs v (n + 1) jobs progress ≡ sum_of_needs w (n + 1) jobs progress
     = needed-alike w v (n + 1) jobs progress (λ m y z past. same m y z (λ e. absurd (omega (arith, past, e)))) in
     rw (same_job, same_progress, here) (omega (arith, later))
 needed-set w v k (j ∷ jobs) (x ∷ progress) (suc i) n is job p q got_job got same =
@@ -41,7 +41,7 @@ needed-set w v k (j ∷ jobs) (x ∷ progress) (suc i) n is job p q got_job got 
 
 needed-of : (w : ℕ → Job → Progress → ℕ) (k : ℕ) (jobs : List Job) (progress : List Progress) (i n : ℕ) → n ≡ k + i
     → (job : Job) (p : Progress) → slice_get jobs i ≡ Some job → slice_get progress i ≡ Some p
-    → w n job p ≤ needed w k jobs progress
+    → w n job p ≤ sum_of_needs w k jobs progress
 needed-of w k [] progress i n is job p got_job got = absurd (cc)
 needed-of w k (j ∷ jobs) [] i n is job p got_job got = absurd (cc)
 needed-of w k (j ∷ jobs) (x ∷ progress) zero n is job p got_job got =
@@ -70,7 +70,7 @@ module _ (f : Shared) (jobs : List Job) (progress : List Progress) (place : ℕ)
               got,
         );
     parties = λ at round.
-        let own : parties_needed f.board at round place job p ≤ needed (parties_needed f.board at round) 0 jobs progress
+        let own : parties_needed f.board at round place job p ≤ sum_of_needs (parties_needed f.board at round) 0 jobs progress
         = needed-of (parties_needed f.board at round) 0 jobs progress place place itself job p got_job got in
         omega (arith, provided.parties at round, own);
   }

@@ -8,7 +8,7 @@ use Rattle.cqs_turns.specs.declared.states.Progress.TheVariants.{Ended}
 use Rattle.cqs_shared.specs.Shared.{kind_at}
 use Rattle.cqs_work.specs.declared.waits.Waited.{Waited}
 use Rattle.cqs_work.specs.Desk.{Desk}
-use Rattle.cqs_work.specs.Needs.{needed}
+use Rattle.cqs_work.specs.Needs.{sum_of_needs}
 use Rattle.cqs_work.specs.Noted.{HasPermits, IsNoted}
 use Rattle.cqs_work.specs.Takes.{takes_made, takes_left, took}
 use Rattle.cqs_work.specs.Causes.{IsCaused}
@@ -45,9 +45,9 @@ pub record Went (plan : Plan) (f : Desk) (before : List Progress) (g : Desk) (no
       → slice_get now place ≡ Some (Ended e)
   pub noted : IsNoted f → IsNoted g
   pub least : IsNoted f → (mine : ℕ → Bool) (at : ℕ) → HasPermits (kind_at f.floor at)
-      → took f.floor at + needed (made_by mine at) 0 plan.jobs now
-      ≤ took g.floor at + needed (made_by mine at) 0 plan.jobs before
+      → took f.floor at + sum_of_needs (made_by mine at) 0 plan.jobs now
+      ≤ took g.floor at + sum_of_needs (made_by mine at) 0 plan.jobs before
   pub most : IsNoted f → (at : ℕ) → HasPermits (kind_at f.floor at)
-      → took g.floor at + needed (left_by at) 0 plan.jobs now
-      ≤ took f.floor at + needed (left_by at) 0 plan.jobs before
+      → took g.floor at + sum_of_needs (left_by at) 0 plan.jobs now
+      ≤ took f.floor at + sum_of_needs (left_by at) 0 plan.jobs before
   pub caused : IsNoted f → AreCaused plan f before → AreCaused plan g now

@@ -14,8 +14,8 @@ abbrev pub desk : Shared → List Waited → Desk
 desk floor waits = record { floor = floor; waits = waits }
 
 -- a job that came there, in this round, was answered so
-abbrev pub told : List Waited → ℕ → ℕ → ℕ → Option FloorTake → List Waited
-told waits at round job None = waits
-told waits at round job (Some (Now element)) = waits
-told waits at round job (Some (Waits number)) =
+abbrev pub with_answer : List Waited → ℕ → ℕ → ℕ → Option FloorTake → List Waited
+with_answer waits at round job None = waits
+with_answer waits at round job (Some (Now element)) = waits
+with_answer waits at round job (Some (Waits number)) =
     waits ++ record { at = at; round = round; number = number; job = job } ∷ []

@@ -22,7 +22,7 @@ use Rattle.cqs_shared.specs.AnswerEntries.{came_entries, give_entries, look_entr
 use Rattle.cqs_shared.specs.Shared.{kind_in}
 use Rattle.cqs_shared.specs.Calls.{board_taken, board_waited, board_arrived, board_given, element_held}
 use Rattle.cqs_work.specs.declared.waits.Waited.{Waited}
-use Rattle.cqs_work.specs.Desk.{Desk, told}
+use Rattle.cqs_work.specs.Desk.{Desk, with_answer}
 use Rattle.cqs_work.specs.Later.{Later}
 
 -- what a call was answered
@@ -132,8 +132,8 @@ is_kept true Gone = false
 is_kept came answer = true
 
 -- the log with the entries of a call at a place
-abbrev pub logged : List History → ℕ → Entries → List History
-logged all at entries =
+abbrev pub with_call : List History → ℕ → Entries → List History
+with_call all at entries =
     slice_set all at (with_entries (slice_index_or all at (of_permits [])) entries)
 
 -- a job came there, in this round, and was answered so; after it the jobs have this
@@ -146,9 +146,9 @@ heard_came at round job board answer h = record {
   number = h.number;
   board = board;
   came = slice_set h.came job (with_it_heard h.answers);
-  entries = logged h.entries at
+  entries = with_call h.entries at
       (came_entries (kind_in h.board at) round h.number answer (drew_heard h.answers));
-  waits = told h.waits at round job answer;
+  waits = with_answer h.waits at round job answer;
 }
 
 abbrev pub heard_taken : Role → ℕ → Option FloorTake → Heard → Heard
@@ -171,7 +171,7 @@ heard_given r at h = record {
   number = h.number;
   board = board_given h.board at r.place;
   came = h.came;
-  entries = logged h.entries at
+  entries = with_call h.entries at
       (give_entries (kind_in h.board at) h.number (element_held h.board at r.place)
       (give_heard h.answers));
   waits = h.waits;
@@ -184,7 +184,7 @@ heard_counted r at h = record {
   number = h.number;
   board = h.board;
   came = h.came;
-  entries = logged h.entries at (down_entries h.number (down_heard h.answers));
+  entries = with_call h.entries at (down_entries h.number (down_heard h.answers));
   waits = h.waits;
 }
 
@@ -195,7 +195,7 @@ heard_looked r at round number answer h = record {
   number = h.number;
   board = after_look h.board r.place answer;
   came = h.came;
-  entries = logged h.entries at
+  entries = with_call h.entries at
       (unless_came (slice_index_or h.came r.place false)
       (look_entries (kind_in h.board at) round h.number number answer));
   waits = h.waits;
@@ -208,7 +208,7 @@ heard_left r at round number answer h = record {
   number = h.number;
   board = after_leave h.board r.place answer;
   came = h.came;
-  entries = logged h.entries at
+  entries = with_call h.entries at
       (unless_came (slice_index_or h.came r.place false)
       (leave_entries (kind_in h.board at) round h.number number answer (stays_heard h.answers)));
   waits = h.waits;

@@ -40,11 +40,11 @@ IsInRounds b place steps (Waiting next at round number) =
 IsInRounds b place steps (Ended end) = Unit {0}
 
 -- the sum of what each job needs that is so far; the first one's place is `place`
-abbrev pub needed : (ℕ → Job → Progress → ℕ) → ℕ → List Job → List Progress → ℕ
-needed need place [] progress = 0
-needed need place (job ∷ jobs) [] = 0
-needed need place (job ∷ jobs) (p ∷ progress) =
-    need place job p + needed need (place + 1) jobs progress
+abbrev pub sum_of_needs : (ℕ → Job → Progress → ℕ) → ℕ → List Job → List Progress → ℕ
+sum_of_needs need place [] progress = 0
+sum_of_needs need place (job ∷ jobs) [] = 0
+sum_of_needs need place (job ∷ jobs) (p ∷ progress) =
+    need place job p + sum_of_needs need (place + 1) jobs progress
 
 abbrev pub room_needed : ℕ → ℕ → Job → Progress → ℕ
 room_needed at place job p = waits_in at (steps_left job.steps p)
@@ -55,6 +55,6 @@ parties_needed b at round place job p =
 
 -- the floor has what all jobs need together
 pub record AreProvided (f : Shared) (jobs : List Job) (progress : List Progress) : Type 0 where
-  pub room : (at : ℕ) → needed (room_needed at) 0 jobs progress ≤ room_at f.board at
+  pub room : (at : ℕ) → sum_of_needs (room_needed at) 0 jobs progress ≤ room_at f.board at
   pub parties : (at round : ℕ)
-      → needed (parties_needed f.board at round) 0 jobs progress ≤ parties_at f at round
+      → sum_of_needs (parties_needed f.board at round) 0 jobs progress ≤ parties_at f at round

@@ -62,21 +62,21 @@ line_left r (Stepping next) h = h
 line_left r (Working next until) h = h
 line_left r (Ended end) h = h
 
-abbrev pub closed : Role → Progress → Heard → Heard
-closed r progress h = machine.after_all_gives heard_world r (line_left r progress h)
+abbrev pub after_last_gives : Role → Progress → Heard → Heard
+after_last_gives r progress h = machine.after_all_gives heard_world r (line_left r progress h)
 
 abbrev pub line_left_so : Actor → Progress → Heard → Heard
 line_left_so a progress h = line_left (role a) progress h
 
 abbrev pub close : Actor → Progress → Heard → Heard
-close a progress h = closed (role a) progress h
+close a progress h = after_last_gives (role a) progress h
 
 -- each job in order; the first one's place is `place`
 abbrev pub close_from : Plan → ℕ → List Job → List Progress → Heard → Heard
 close_from plan place [] progress h = h
 close_from plan place (job ∷ jobs) progress h =
     close_from plan (place + 1) jobs progress
-    (closed
+    (after_last_gives
     (record { resources = plan.resources; turn = plan.turns; place = place; job = job })
     (slice_index_or progress place (Ended end.Done)) h)
 

@@ -2,7 +2,7 @@
 
 ghost use Rattle.std.specs.Prelude.{◌≡◌, ◌≤◌, [], ◌∷◌, ◌++◌, Some, IfOk, OnOk, length, flat_map};
 ghost use Rattle.cqs_plan.specs.Runnable.{kinds_of};
-ghost use Rattle.cqs_work.specs.Desk.{told};
+ghost use Rattle.cqs_work.specs.Desk.{with_answer};
 ghost use Rattle.cqs_work.specs.Rows.{IsLonger, IsNote, IsRow, IsRowAfter, AddsAt, AreLines, lines_from};
 
 use cqs_core::Memory;
@@ -77,7 +77,7 @@ pub fn note(
     job: u32,
 ) -> Result<(), Memory>
     ensures { OnOk result (waits.new.items
-        ≡ told waits.old.items at round job (Some (FloorTake.Waits number))) }
+        ≡ with_answer waits.old.items at round job (Some (FloorTake.Waits number))) }
 {
     waits.push(Waited {
         at,

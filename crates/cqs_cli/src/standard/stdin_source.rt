@@ -3,7 +3,7 @@
 ghost use Rattle.std.specs.Prelude.{◌≡◌, ◌≢◌, None, IfErr};
 ghost use Rattle.std.specs.Io.{ReadsAtMost};
 ghost use Rattle.std.specs.IoError.{error_kind};
-ghost use Rattle.cqs_plan.specs.Tally.{untouched};
+ghost use Rattle.cqs_plan.specs.Tally.{no_reads};
 
 use super::counting::count_fault;
 use cqs_plan::{Failed, Source, Tally};
@@ -30,7 +30,7 @@ impl Model for StdinSource {
 impl StdinSource {
     /// Standard input before its first read.
     pub fn new(stdin: Stdin) -> StdinSource
-        ensures { result ≡ record { tally = untouched; faults = 0 } }
+        ensures { result ≡ record { tally = no_reads; faults = 0 } }
     {
         StdinSource {
             stdin,

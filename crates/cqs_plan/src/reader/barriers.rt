@@ -3,7 +3,7 @@ ghost use Rattle.std.specs.Prelude.{◌≡◌, IfErr, IfOk, codes};
 ghost use Rattle.cqs_plan.specs.Arriving.{arrives, arriving, has_parties};
 ghost use Rattle.cqs_plan.specs.Faults.{barrier_faults, barriers_faults};
 ghost use Rattle.cqs_plan.specs.Order.{AreFew};
-ghost use Rattle.cqs_plan.specs.Places.{dotted};
+ghost use Rattle.cqs_plan.specs.Places.{below_place};
 ghost use Rattle.cqs_plan.specs.Reading.{Reads};
 
 use crate::plans::error::PlanError;
@@ -38,7 +38,7 @@ fn has_parties(kind: Kind, jobs: usize) -> bool
 
 /// The place of a barrier in a document, as `barrier.start`.
 fn barrier_place(alloc: Global, name: &[u8]) -> Result<Name, PlanError>
-    ensures value { IfOk result (λ place. place ≡ dotted (codes "barrier") name.now) }
+    ensures value { IfOk result (λ place. place ≡ below_place (codes "barrier") name.now) }
     ensures memory { IfErr result (λ error. error ≡ PlanError.Memory) }
 {
     let mut place = "barrier.".as_bytes().to_vec(alloc)?;

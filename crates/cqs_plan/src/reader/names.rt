@@ -2,7 +2,7 @@
 ghost use Rattle.std.specs.Prelude.{◌≡◌, IfOk};
 ghost use Rattle.std.specs.BTreeSet.{contains_text};
 ghost use Rattle.std.specs.List.{list_all};
-ghost use Rattle.cqs_plan.specs.FaultRules.{required};
+ghost use Rattle.cqs_plan.specs.FaultRules.{require};
 ghost use Rattle.cqs_plan.specs.Faults.{name_faults};
 ghost use Rattle.cqs_plan.specs.Places.{place_text};
 ghost use Rattle.cqs_plan.specs.Language.{is_name, is_name_byte};
@@ -45,7 +45,7 @@ pub fn new_name(
 ) -> Result<Name, PlanError>
     ensures faults { let place = place_text place.entry in
         let stands = contains_text names.old in
-        Reads result (required place (data_in value.entry) (name_faults place stands)) }
+        Reads result (require place (data_in value.entry) (name_faults place stands)) }
     ensures value { IfOk result (λ name. name ≡ text_in (data_in value.entry)) }
     ensures added { IfOk result (AddsName names.old names.new) }
 {

@@ -1,7 +1,7 @@
 //! Integers in a range.
 ghost use Rattle.std.specs.Prelude.{◌≡◌, IfOk, Some};
 ghost use Rattle.toml.specs.View.{view};
-ghost use Rattle.cqs_plan.specs.FaultRules.{required};
+ghost use Rattle.cqs_plan.specs.FaultRules.{require};
 ghost use Rattle.cqs_plan.specs.Faults.{number_faults};
 ghost use Rattle.cqs_plan.specs.Places.{place_text};
 ghost use Rattle.cqs_plan.specs.Meaning.{number_in};
@@ -43,7 +43,7 @@ pub fn required_number(
     most: u32,
 ) -> Result<u32, PlanError>
     ensures faults { let place = place_text place.entry in
-        Reads result (required place (data_in value.entry) (number_faults place least most)) }
+        Reads result (require place (data_in value.entry) (number_faults place least most)) }
     ensures value { IfOk result (λ number. number ≡ number_in (data_in value.entry)) }
 {
     match value {

@@ -5,7 +5,7 @@ ghost use Rattle.std.specs.Str.{bytes_eq};
 ghost use Rattle.toml.specs.Data.{get_member};
 ghost use Rattle.toml.specs.View.{table_view, view};
 ghost use Rattle.cqs_plan.specs.declared.plans.kind.Kind.{Kind};
-ghost use Rattle.cqs_plan.specs.FaultRules.{each, required};
+ghost use Rattle.cqs_plan.specs.FaultRules.{each, require};
 ghost use Rattle.cqs_plan.specs.Faults.{kind_faults, number_faults, resource_faults, resource_number_faults, resources_faults};
 ghost use Rattle.cqs_plan.specs.Language.{barriers, latches, pools, resource_kinds, semaphores};
 ghost use Rattle.cqs_plan.specs.Meaning.{members_in, members_list, number_in, resource_in};

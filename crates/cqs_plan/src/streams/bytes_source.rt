@@ -25,7 +25,7 @@ impl Model for BytesSource {
 
 impl BytesSource {
     ghost use Rattle.std.specs.Prelude.{◌≡◌, ◌≤◌, IfOk};
-    ghost use Rattle.cqs_plan.specs.Tally.{untouched};
+    ghost use Rattle.cqs_plan.specs.Tally.{no_reads};
 
     /// A source of a copy of these bytes, before its first read.
     pub fn new(
@@ -36,7 +36,7 @@ impl BytesSource {
     ) -> Result<BytesSource, Memory>
         requires { 1 ≤ chunk }
         ensures bytes { IfOk result (λ source. source.plain
-            ≡ record { left = bytes.now; chunk = chunk; tally = untouched }) }
+            ≡ record { left = bytes.now; chunk = chunk; tally = no_reads }) }
         ensures faults { IfOk result
             (λ source. source.script ≡ record { failing = failing.now; calls = 0; faults = 0 }) }
     {

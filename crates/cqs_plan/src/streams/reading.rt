@@ -2,7 +2,7 @@
 
 ghost use Rattle.std.specs.Prelude.{◌≡◌, ◌+◌, ◌≤◌, [], vec_len, IfOk, OnOk, IsErrOf};
 ghost use Rattle.cqs_plan.specs.Stops.{stops_of};
-ghost use Rattle.cqs_plan.specs.Counts.{raised};
+ghost use Rattle.cqs_plan.specs.Counts.{raise};
 ghost use Rattle.cqs_plan.specs.Stream.{Gives, GivesAtMost, GivesCount, IsAll, Rises};
 ghost use Rattle.cqs_plan.specs.declared.streams.reading.ReadError.TheVariants.{Memory as OutOfMemory, Failed as ReadFailed};
 
@@ -57,9 +57,9 @@ pub fn read_input<S: Source>(alloc: Global, source: &mut S) -> Result<Vec<u8>, R
 
     // How many bytes were taken is known of every source.
     ensures given { IfOk result (λ bytes. (S.tally source.new).given
-        ≡ raised (S.tally source.old).given (vec_len bytes)) }
+        ≡ raise (S.tally source.old).given (vec_len bytes)) }
     ensures given_too_long { IsErrOf result ReadError.TooLong →
-        (S.tally source.new).given ≡ raised (S.tally source.old).given (LONGEST_INPUT + 1) }
+        (S.tally source.new).given ≡ raise (S.tally source.old).given (LONGEST_INPUT + 1) }
     ensures given_failed { IsErrOf result ReadError.Failed →
         (S.tally source.new).given ≤ (S.tally source.old).given + LONGEST_INPUT }
     ensures given_most { (S.tally source.new).given

@@ -31,13 +31,13 @@ impl Model for SureSource {
 impl SureSource {
     ghost use Rattle.std.specs.Prelude.{◌≡◌, ◌≤◌, IfOk};
     ghost use Rattle.cqs_plan.specs.InMemory.{with_read};
-    ghost use Rattle.cqs_plan.specs.Tally.{untouched};
+    ghost use Rattle.cqs_plan.specs.Tally.{no_reads};
 
     /// A source of a copy of these bytes.
     pub fn new(alloc: Global, bytes: &[u8], chunk: u32) -> Result<SureSource, Memory>
         requires { 1 ≤ chunk }
         ensures { IfOk result (λ source. source
-            ≡ record { left = bytes.now; chunk = chunk; tally = untouched }) }
+            ≡ record { left = bytes.now; chunk = chunk; tally = no_reads }) }
     {
         Ok(SureSource {
             bytes: Vec::from_slice(alloc, bytes)?,

@@ -1,7 +1,7 @@
 //! What a source counts of its reads.
 
 ghost use Rattle.std.specs.Prelude.{◌≡◌};
-ghost use Rattle.cqs_plan.specs.Tally.{after_read, untouched};
+ghost use Rattle.cqs_plan.specs.Tally.{after_read, no_reads};
 
 /// What a source counts of its reads, whether it tells its bytes or not.
 #[derive(Clone, Copy, Debug, PartialEq, Eq)]
@@ -16,7 +16,7 @@ pub struct Tally {
 impl Tally {
     /// The tally before the first read.
     pub fn new() -> Tally
-        ensures { result ≡ untouched }
+        ensures { result ≡ no_reads }
     {
         Tally { given: 0, stops: 0 }
     }

@@ -1,7 +1,7 @@
 use Rattle.std.proofs.Common.{Some, ap, ◌∙◌, arith}
 use Rattle.cqs_plan.specs.declared.floors.answers.FloorTake.TheVariants.{Waits}
 use Rattle.cqs_shared.specs.Calls.{answer_of}
-use Rattle.cqs_work.specs.Desk.{desk, told}
+use Rattle.cqs_work.specs.Desk.{desk, with_answer}
 use Rattle.cqs_work.proofs.Acting.{arrive-did, arrives-in, arrive-room, arrive-party, arrive-held, next-small}
 use Rattle.cqs_work.proofs.acts.arrive.Goals as goal
 
@@ -30,7 +30,7 @@ returns-in_ok-note-in-Ok-Waits-clause-did g c =
     arrive-did c.args.actor.now _ c.args.next c.args.at c.requires.can c.requires.step _ _ _ _ c.arrive.ensures.comes
     (ap answer_of c.in-Ok-Waits.is ∙ ap Some c.in-Ok-Waits.field-0-is)
     (c.in_ok-note-in-Ok-Waits.ensures
-    ∙ ap (λ l. told l c.args.at c.arrivals-round.result c.args.actor.now.place (Some (Waits c.in-Ok-Waits.number)))
+    ∙ ap (λ l. with_answer l c.args.at c.arrivals-round.result c.args.actor.now.place (Some (Waits c.in-Ok-Waits.number)))
     c.arrive.ensures.waits) c.arrivals-round.ensures
 
 pub returns-in-Err-clause-did : goal.returns-in-Err-clause-did

@@ -1,7 +1,7 @@
 use Rattle.std.proofs.Common.{Some, ap, ◌∙◌}
 use Rattle.cqs_plan.specs.declared.floors.answers.FloorTake.TheVariants.{Waits}
 use Rattle.cqs_shared.specs.Calls.{answer_of}
-use Rattle.cqs_work.specs.Desk.{told}
+use Rattle.cqs_work.specs.Desk.{with_answer}
 use Rattle.cqs_work.proofs.Acting.{wait-did, wait-resource, wait-room, wait-held}
 use Rattle.cqs_work.proofs.acts.wait.Goals as goal
 
@@ -22,7 +22,7 @@ returns-in_ok-note-in-Ok-Waits-clause-did g c =
     wait-did c.args.actor.now _ _ c.args.next c.args.at _ _ c.requires.can c.requires.step c.wait.ensures.comes
     (ap answer_of c.in-Ok-Waits.is ∙ ap Some c.in-Ok-Waits.field-0-is)
     (c.in_ok-note-in-Ok-Waits.ensures
-    ∙ ap (λ l. told l c.args.at 0 c.args.actor.now.place (Some (Waits c.in-Ok-Waits.number))) c.wait.ensures.waits)
+    ∙ ap (λ l. with_answer l c.args.at 0 c.args.actor.now.place (Some (Waits c.in-Ok-Waits.number))) c.wait.ensures.waits)
 
 pub returns-in-Err-clause-did : goal.returns-in-Err-clause-did
 returns-in-Err-clause-did g c =

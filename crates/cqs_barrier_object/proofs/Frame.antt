@@ -80,7 +80,8 @@ quiet-barrier s owed q n is sound quiet resumes kept owners passes party =
 
 -- a step with an entry
 pub push-barrier : (s : Shape) (remaining : ℕ) (held owed : List ℕ) (e : BarrierEntry) (q : Queue)
-    → IsBarrier s → IsSound q → IsAllowed (shown_barrier s) e → after_entry (shown_barrier s) e ≡ shown_by remaining owed q
+    → IsBarrier s → IsSound q → IsAllowed (shown_barrier s) e
+    → after_entry (shown_barrier s) e ≡ shown_by remaining owed q
     → length held ≡ length s.held → length owed ≡ length s.owed → length q.doing ≡ length s.queue.doing
     → remaining ≡ sum held
     → (0 < remaining → IsBefore s.parties remaining owed q)

@@ -78,7 +78,8 @@ stayed-around : (passes : List Doing) (cells : List CoreCell) (p : ℕ) (from to
     (found new : CoreCell)
     → slice_get passes p ≡ Some from → slice_get cells k ≡ Some found
     → ((m : ℕ) → m ≢ k → is_refusing m (Some to) ≡ is_refusing m (Some from))
-    → Around wait_of k (pick_each (is_stayed passes) 0 cells) (pick_each (is_stayed (set passes p to)) 0 (set cells k new))
+    → Around wait_of k (pick_each (is_stayed passes) 0 cells)
+    (pick_each (is_stayed (set passes p to)) 0 (set cells k new))
     (is_stayed passes k found) (is_stayed (set passes p to) k new)
 stayed-around passes cells p from to k found new does finds same =
     let agree : AgreeBut (is_stayed passes) (is_stayed (set passes p to)) k =

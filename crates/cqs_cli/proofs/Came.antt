@@ -25,7 +25,8 @@ pub record Came (core after : Room) (answer told : Reply) (entries : List Entry)
 
 module _ (core after : Room) (c : Call) (answer : Reply) (sole : IsSole core.shape)
     (made : HasMade core c answer after) where
-  came : (entries : List Entry) (told : Reply) (held : ℕ) → sole_call (shown_semaphore core.shape) c ≡ tells entries told
+  came : (entries : List Entry) (told : Reply) (held : ℕ)
+      → sole_call (shown_semaphore core.shape) c ≡ tells entries told
       → slice_index (held_after core.shape.held c told) 0 ≡ held → Came core after answer told entries held
   came entries told held says holds =
       let is : answer ≡ told = made.call.replied ∙ ap (λ (t : Told). t.answer) says in

@@ -50,7 +50,8 @@ without-le k (w ∷ ws) = go (k == w.wait) refl (without-le k ws)
 left-line : (o : Semaphore) (k : ℕ) → length (after_leave o k).line ≤ length o.line
 left-line o k = turn (nat_lt (due (line_left o k)) (line_left o k).way) refl
   where
-    turn : (b : Bool) → nat_lt (due (line_left o k)) (line_left o k).way ≡ b → length (after_leave o k).line ≤ length o.line
+    turn : (b : Bool) → nat_lt (due (line_left o k)) (line_left o k).way ≡ b
+        → length (after_leave o k).line ≤ length o.line
     turn true is = rw is (without-le k o.line)
     turn false is = rw is (without-le k o.line)
 

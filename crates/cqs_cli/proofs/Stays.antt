@@ -51,7 +51,8 @@ module _ {Y : Type 0} where
         go true before later = rw before (in-head x x (y ∷ ys) refl)
         go false after later = rw after (in-tail x y (insert_by key x ys) later)
 
-    pub stays-changed : (x : Y) (n : ℕ) (f : Y → Y) (ys : List Y) → key x ≢ n → IsIn x ys → IsIn x (change_by key n f ys)
+    pub stays-changed : (x : Y) (n : ℕ) (f : Y → Y) (ys : List Y) → key x ≢ n → IsIn x ys
+        → IsIn x (change_by key n f ys)
     stays-changed x n f [] other stands = absurd (in-none x stands)
     stays-changed x n f (y ∷ ys) other stands =
         go (n == key y) refl (stays-changed x n f ys other) (in-behind x y ys stands)

@@ -116,7 +116,8 @@ writes q m p k old d found new x y t is there was now before after none-settled 
 writes-settles : (q : Queue) (m : Move) (p k : ℕ) (old d : Doing) (found new : CoreCell) (x y : CoreState)
     → Turns p k old d q (move_queue q m)
     → (move_queue q m).cells ≡ set q.cells k new → slice_get q.cells k ≡ Some found → found.state ≡ x → new.state ≡ y
-    → (IsSettledAt q k found x → ⊥) → IsSettledAt (move_queue q m) k new y → ((j : ℕ) → Settles m j → j ≡ k) → Settles m k
+    → (IsSettledAt q k found x → ⊥) → IsSettledAt (move_queue q m) k new y
+    → ((j : ℕ) → Settles m j → j ≡ k) → Settles m k
     → IsSettling q m
 writes-settles q m p k old d found new x y t is there was now before after only settles =
     let here : slice_get (move_queue q m).cells k ≡ Some new =
@@ -130,7 +131,8 @@ writes-settles q m p k old d found new x y t is there was now before after only 
 -- The pass goes on, and the cells stay with their tickets.
 turns : (q : Queue) (m : Move) (p : ℕ) (old d : Doing) → slice_get q.doing p ≡ Some old
     → (move_queue q m).doing ≡ set q.doing p d
-    → (move_queue q m).resumes ≡ q.resumes → (move_queue q m).cells ≡ q.cells → ((j : ℕ) → is_ticket j d ≡ is_ticket j old)
+    → (move_queue q m).resumes ≡ q.resumes → (move_queue q m).cells ≡ q.cells
+    → ((j : ℕ) → is_ticket j d ≡ is_ticket j old)
     → ((j : ℕ) → Settles m j → ⊥) → IsSettling q m
 turns q m p old d does now resumes cells tickets none-settled = record {
   stays =
@@ -343,7 +345,12 @@ moves-settle q (move.pass_over p k found) sound opens =
     let t : Turns p k (doing.Ticket k) doing.Owes q (move_queue q m) =
     record { does = opens.does; now = refl; resumes = refl; tickets = no-other-ticket k } in
     settling q m k (around-turn p k (doing.Ticket k) doing.Owes q (move_queue q m) t refl)
-    (λ s. record { cell = found; there = opens.finds; at = subst (IsSettledAt (move_queue q m) k found) (sym opens.at) tt })
+    (λ s.
+    record {
+      cell = found;
+      there = opens.finds;
+      at = subst (IsSettledAt (move_queue q m) k found) (sym opens.at) tt;
+    })
     (λ s. inl (record { cell = found; there = opens.finds; at = subst (IsSettledAt q k found) (sym opens.at) tt }))
     (λ j s. absurd s) (λ s. absurd s)
 moves-settle q (move.meet_refused p k found) sound opens =

@@ -53,7 +53,8 @@ decide-passes s p k core does below =
     let z : ℤ = s.state +ℤ pos 1 in
     let leaves = decide-leaves s.queue p k true core.sound does in
     let within : ending s.queue ≤ going s.queue = ending-within s.queue core.sound core.covered in
-    let fewer : queue.due (move_queue s.queue m) ≡ due (without_wait (shown_semaphore s) k) = ap due_of leaves.waiters in
+    let fewer : queue.due (move_queue s.queue m) ≡ due (without_wait (shown_semaphore s) k) =
+    ap due_of leaves.waiters in
     let none_free : free_of s.state ≡ 0 = free-below s.state (below-within s.state below) in
     let none_free_after : free_of z ≡ 0 = add-short_free s.state below in
     let some_short : 0 < short_of s.state = short-below s.state below in
@@ -65,7 +66,8 @@ decide-passes s p k core does below =
     let enough : way s.queue ≤ due (without_wait (shown_semaphore s) k) = omega (arith, leaves.due, core.short) in
     let ways : way s.queue ≡ way (move_queue s.queue m) = omega (arith, leaves.going, leaves.ending) in
     let stays : after_entry (shown_semaphore s) (entry.Leave p k) ≡ without_wait (shown_semaphore s) k =
-    none-turned (without_wait (shown_semaphore s) k) (le-ltb (due (without_wait (shown_semaphore s) k)) (way s.queue) enough) in
+    none-turned (without_wait (shown_semaphore s) k)
+    (le-ltb (due (without_wait (shown_semaphore s) k)) (way s.queue) enough) in
     let shows : without_wait (shown_semaphore s) k ≡ seen z s.held (move_queue s.queue m) =
     same-by_waiters (none_free ∙ sym none_free_after) ways (sym leaves.waiters) refl in
     core-push s m z s.held (entry.Leave p k) core does tt (decide-words s p k true core does) short conserved
@@ -82,14 +84,16 @@ decide-refuses s p k core does above =
     let none_short_after : short_of z ≡ 0 = add-free_short s.state above in
     let one_free : free_of z ≡ free_of s.state + 1 = add-free s.state above in
     let as_many : going s.queue ≡ queue.due s.queue + ending s.queue = omega (arith, core.short) in
-    let fewer : queue.due (move_queue s.queue m) ≡ due (without_wait (shown_semaphore s) k) = ap due_of leaves.waiters in
+    let fewer : queue.due (move_queue s.queue m) ≡ due (without_wait (shown_semaphore s) k) =
+    ap due_of leaves.waiters in
     let short : TellsShort z (move_queue s.queue m) = omega (arith, leaves.due, leaves.going, leaves.ending) in
     let conserved : Conserves s.permits z s.held (move_queue s.queue m) =
     omega (arith, leaves.going, leaves.ending, core.conserved) in
     let too_many : due (without_wait (shown_semaphore s) k) < way s.queue = omega (arith, leaves.due) in
     let ways : way s.queue - 1 ≡ way (move_queue s.queue m) = omega (arith, leaves.going, leaves.ending) in
     let turns : after_entry (shown_semaphore s) (entry.Leave p k) ≡ one_back (without_wait (shown_semaphore s) k) =
-    one-turned (without_wait (shown_semaphore s) k) (lt-ltb (due (without_wait (shown_semaphore s) k)) (way s.queue) too_many) in
+    one-turned (without_wait (shown_semaphore s) k)
+    (lt-ltb (due (without_wait (shown_semaphore s) k)) (way s.queue) too_many) in
     let shows : one_back (without_wait (shown_semaphore s) k) ≡ seen z s.held (move_queue s.queue m) =
     same-by_waiters (sym one_free) ways (sym leaves.waiters) refl in
     core-push s m z s.held (entry.Leave p k) core does as_many (decide-words s p k false core does) short

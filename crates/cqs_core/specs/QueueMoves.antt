@@ -137,7 +137,8 @@ move_queue q (draw p k found) =
       cells = cells_drawn q.cells k p found;
       doing = slice_set q.doing p (doing.Drawn k);
     }
-move_queue q (install p k found) = now_doing (with_cell q k (at_state found state.Waiter)) p doing.Idle
+move_queue q (install p k found) =
+    now_doing (with_cell q k (at_state found state.Waiter)) p doing.Idle
 move_queue q (take_value p k found) =
     now_doing (with_cell q k
     (record { state = state.Taken; owner = found.owner; collected = true })) p doing.Idle
@@ -148,7 +149,8 @@ move_queue q (reach p k found) =
       cells = cells_reached q.cells found;
       doing = slice_set q.doing p (doing.Ticket k);
     }
-move_queue q (serve p k found) = now_doing (with_cell q k (at_state found state.Resumed)) p doing.Idle
+move_queue q (serve p k found) =
+    now_doing (with_cell q k (at_state found state.Resumed)) p doing.Idle
 move_queue q (leave_value p k found) =
     now_doing (with_cell q k (at_state found state.Value)) p doing.Idle
 move_queue q (delegate p k found) =
@@ -160,7 +162,9 @@ move_queue q (begin_cancel p k found) =
 move_queue q (collect p k found) =
     with_cell q k (record { state = found.state; owner = found.owner; collected = true })
 move_queue q (decide p k on) = now_doing q p (doing.Decided k on)
-move_queue q (cancel p k found) = now_doing (with_cell q k (at_state found state.Cancelled)) p doing.Idle
+move_queue q (cancel p k found) =
+    now_doing (with_cell q k (at_state found state.Cancelled)) p doing.Idle
 move_queue q (cancel_owing p k found) =
     now_doing (with_cell q k (at_state found state.Cancelled)) p doing.Owes
-move_queue q (refuse p k found) = now_doing (with_cell q k (at_state found state.Refused)) p doing.Idle
+move_queue q (refuse p k found) =
+    now_doing (with_cell q k (at_state found state.Refused)) p doing.Idle

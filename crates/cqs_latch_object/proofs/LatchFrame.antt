@@ -59,7 +59,8 @@ latch_of s count word done owed history q = record {
 
 -- One entry more.
 pub push-latch : (s : LatchShape) (count : ℤ) (word : ℕ) (done : Bool) (owed : List ℕ) (q : Queue) (e : LatchEntry)
-    → IsLatch s → IsSound q → IsAllowed (shown_latch s) e → after_entry (shown_latch s) e ≡ shown_by s.simple count done owed q
+    → IsLatch s → IsSound q → IsAllowed (shown_latch s) e
+    → after_entry (shown_latch s) e ≡ shown_by s.simple count done owed q
     → length owed ≡ length q.doing
     → (done ≡ false → IsShut (latch_of s count word done owed (s.history ++ e ∷ []) q))
     → (done ≡ true → IsOpened (latch_of s count word done owed (s.history ++ e ∷ []) q))

@@ -416,7 +416,8 @@ not-last z many = grind (arith, ints)
 module _ (s : LatchShape) (p : ℕ) (is : IsLatch s) where
   -- a load of the count, with its entry where that is used up
   loads : (e : LatchEntry) → slice_get s.queue.doing p ≡ Some doing.Idle
-      → (left_of s.count ≡ 0 → IsAllowed (shown_latch s) e) → after_entry (shown_latch s) e ≡ shown_latch s → Range s.count
+      → (left_of s.count ≡ 0 → IsAllowed (shown_latch s) e) → after_entry (shown_latch s) e ≡ shown_latch s
+      → Range s.count
       → IsLatch (latch_of s s.count s.word s.done s.owed (s.history ++ loaded_entries e s.count)
       (now s p is (loaded_doing s.count)))
   loads e does allowed same (used_up used) =

@@ -132,8 +132,8 @@ jobs_part_faults resources value = optional value (λ jobs.
 -- the fault of a barrier at which more jobs arrive than it has parties
 abbrev pub barrier_faults : List Job → ℕ → Resource → List Fault
 barrier_faults jobs at resource =
-    unless (has_parties resource.kind (arriving at jobs)) (below_place (codes "barrier") resource.name)
-    fault.Many
+    unless (has_parties resource.kind (arriving at jobs))
+    (below_place (codes "barrier") resource.name) fault.Many
 
 abbrev pub barriers_faults : List Resource → List Job → List Fault
 barriers_faults resources jobs = each resources (barrier_faults jobs)

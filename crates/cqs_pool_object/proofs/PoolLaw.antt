@@ -175,7 +175,10 @@ module _ (s : PoolShape) (p k : ℕ) (is : IsPool s) where
 
   -- a resumption leaves its element in the cell
   pub pool-leave_value : (found : CoreCell) → Works s.queue p (doing.Ticket k) k found state.Empty
-      → IsPool (record s { payloads = put_at s.payloads k load_of; queue = move_queue s.queue (move.leave_value p k found) })
+      → IsPool (record s {
+        payloads = put_at s.payloads k load_of;
+        queue = move_queue s.queue (move.leave_value p k found);
+      })
   pool-leave_value found w =
       let new : CoreCell = at_state found state.Value in
       let payloads : ℕ → ℕ = put_at s.payloads k load_of in
@@ -193,7 +196,10 @@ module _ (s : PoolShape) (p k : ℕ) (is : IsPool s) where
       refl (length-set s.queue.doing p doing.Idle)
 
   pub pool-delegate : (found : CoreCell) → Works s.queue p (doing.Ticket k) k found state.Cancelling
-      → IsPool (record s { payloads = put_at s.payloads k load_of; queue = move_queue s.queue (move.delegate p k found) })
+      → IsPool (record s {
+        payloads = put_at s.payloads k load_of;
+        queue = move_queue s.queue (move.delegate p k found);
+      })
   pool-delegate found w =
       let new : CoreCell = at_state found state.Delegated in
       let payloads : ℕ → ℕ = put_at s.payloads k load_of in
@@ -254,7 +260,10 @@ module _ (s : PoolShape) (p k : ℕ) (is : IsPool s) where
 
   -- the canceller takes the element that was left to it, and owes its resumption
   pub pool-cancel_owing : (found : CoreCell) → Works s.queue p (doing.Decided k true) k found state.Delegated
-      → IsPool (record s { loads = set s.loads p (s.payloads k); queue = move_queue s.queue (move.cancel_owing p k found) })
+      → IsPool (record s {
+        loads = set s.loads p (s.payloads k);
+        queue = move_queue s.queue (move.cancel_owing p k found);
+      })
   pool-cancel_owing found w =
       let new : CoreCell = at_state found state.Cancelled in
       let loads : List ℕ = set s.loads p (s.payloads k) in
@@ -399,7 +408,8 @@ module _ (s : PoolShape) (p k : ℕ) (is : IsPool s) where
       → IsPool (record s {
         loads = set s.loads p e;
         holds = set s.holds p (without itself e held_of);
-        queue = move_queue (move_queue s.queue (move.turn p doing.Idle doing.Owes)) (move.reach p s.queue.resumes found);
+        queue = move_queue (move_queue s.queue (move.turn p doing.Idle doing.Owes))
+            (move.reach p s.queue.resumes found);
         history = s.history ++ entry.Put p e ∷ [];
       })
   pool-put e found does has finds =
@@ -425,7 +435,8 @@ module _ (s : PoolShape) (p k : ℕ) (is : IsPool s) where
       let readies = (λ (f : ℕ). cells-reached has_ready f s.payloads s.queue.cells found refl) in
       let brings_e : (f : ℕ) → bit (get_or loads p 0 == f) ≡ bit (e == f) = λ f. ap (λ n. bit (n == f)) loaded in
       let within = times-in e o.held held in
-      pool-push loads s.payloads holds (entry.Put p e) (move_queue r m) (sound-moved r m sound_r (owes, refl, finds)) within
+      pool-push loads s.payloads holds (entry.Put p e) (move_queue r m)
+      (sound-moved r m sound_r (owes, refl, finds)) within
       (record {
         line = shows.line ∙ ap (λ w. w.line) (sym begins.waiters) ∙ ap (λ w. w.line) (sym keeps.waiters);
         next = shows.next ∙ ap (λ w. w.next) (sym keeps.waiters);
@@ -473,7 +484,8 @@ module _ (s : PoolShape) (p k : ℕ) (is : IsPool s) where
   pub pool-draw : (found : Option CoreCell) → slice_get s.queue.doing p ≡ Some doing.Idle
       → slice_get s.queue.cells s.queue.suspends ≡ found
       → IsPool (record s {
-        queue = move_queue (move_queue s.queue (move.turn p doing.Idle doing.Door)) (move.draw p s.queue.suspends found);
+        queue = move_queue (move_queue s.queue (move.turn p doing.Idle doing.Door))
+            (move.draw p s.queue.suspends found);
         history = s.history ++ entry.Enter p s.queue.suspends ∷ [];
       })
   pool-draw found does finds =

@@ -302,7 +302,8 @@ module _ (s : PoolShape) (p k e : ℕ) (is : IsPool s) (was : IsInOrder s) where
       → Works s.queue p (doing_at row.works_at k) k found row.finds
       → (cell_after row found).state ≢ state.Delegated
       → ((j : ℕ) → doing_at row.goes_to k ≢ doing.Ticket j)
-      → on_way ≡ pick_each (element_in (payloads_after row s.payloads k e)) 0 (set s.queue.cells k (cell_after row found))
+      → on_way ≡ pick_each (element_in (payloads_after row s.payloads k e)) 0
+      (set s.queue.cells k (cell_after row found))
       ++ brought (Some (doing_at row.goes_to k)) (slice_index (loads_gained row.gain s.loads p e) p)
       → InOrderNow o.way p
       → InOrder (row_after (at_cell row) s.queue p k (Some found)) (loads_gained row.gain s.loads p e)

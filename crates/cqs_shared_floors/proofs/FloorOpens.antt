@@ -245,7 +245,8 @@ module _ {X : Type 0} (s : Share X) (plan : Plan) (workers worker : ℕ) (least 
     room-there at = go (cases_lt at (length plan.resources))
       where
         go : (at < length plan.resources) ⊎ (length plan.resources ≤ at)
-            → sum_of_needs (room_needed at) 0 plan.jobs (dealt plan workers worker) ≤ room_at (shared_in s made).board at
+            → sum_of_needs (room_needed at) 0 plan.jobs (dealt plan workers worker)
+            ≤ room_at (shared_in s made).board at
         go (inl there) =
             let here = get_or-map-range_with_len (room_of plan.jobs) 0 (length plan.resources) at at 0 there
             (omega arith) in
@@ -264,7 +265,8 @@ module _ {X : Type 0} (s : Share X) (plan : Plan) (workers worker : ℕ) (least 
 
         nobody : (bound : ℕ) → ((n : ℕ) → HasRound (slice_get (kinds_of plan.resources) at) n → n < bound)
             → bound ≤ round
-            → sum_of_needs (parties_needed (shared_in s made).board at round) 0 plan.jobs (dealt plan workers worker) ≡ 0
+            → sum_of_needs (parties_needed (shared_in s made).board at round) 0 plan.jobs
+            (dealt plan workers worker) ≡ 0
         nobody bound most past =
             parties-none (shared_in s made).board no-round workers worker at round 0 plan.jobs
             (λ i job got. none-for (kinds_of plan.resources) job.steps at bound round (runnable.steps.at i job got) most
@@ -290,7 +292,8 @@ module _ {X : Type 0} (s : Share X) (plan : Plan) (workers worker : ℕ) (least 
                 → slice_get (kinds_of plan.resources) at ≡ Some r.kind
                 → get_or (map s.parties shares) at [] ≡ s.parties x
                 → (round < rounds_of r.kind) ⊎ (rounds_of r.kind ≤ round)
-                → sum_of_needs (parties_needed (shared_in s made).board at round) 0 plan.jobs (dealt plan workers worker)
+                → sum_of_needs (parties_needed (shared_in s made).board at round) 0 plan.jobs
+                (dealt plan workers worker)
                 ≤ parties_at (shared_in s made) at round
             inside x got r named k_is seen (inl early) =
                 let has = fresh.parties at r x named got round early in

@@ -225,7 +225,8 @@ told-whose at round job (Some (Waits number)) =
     All-cons (λ (w : Waited). w.job ≡ job) (record { at = at; round = round; number = number; job = job }) [] refl
     (All-nil (λ (w : Waited). w.job ≡ job))
 
-pub told-else : (at round job : ℕ) (got : Option FloorTake) (q : ℕ) → q ≢ at → told_at q (with_answer [] at round job got) ≡ []
+pub told-else : (at round job : ℕ) (got : Option FloorTake) (q : ℕ) → q ≢ at
+    → told_at q (with_answer [] at round job got) ≡ []
 told-else at round job None q other = refl
 told-else at round job (Some (Now element)) q other = refl
 told-else at round job (Some (Waits number)) q other =

@@ -108,7 +108,8 @@ both-fit a b one other = ap (λ x. x && b) one ∙ other
 
 -- each call, where its answer is heard
 pub came-is : (f : Desk) (at round job : ℕ) (after : PlainFloor) (held : List (List ℕ)) (got : Option FloorTake)
-    (g : Desk) (comes : Comes f.floor at round job after held got g.floor) → g.waits ≡ with_answer f.waits at round job got
+    (g : Desk) (comes : Comes f.floor at round job after held got g.floor)
+    → g.waits ≡ with_answer f.waits at round job got
     → (rest : List Answer)
     → heard_came at round job after got (heard f (answer.come got comes.drew comes.with_it ∷ rest)) ≡ heard g rest
 came-is f at round job after held got g comes waits rest i = record {

@@ -70,7 +70,8 @@ module _ (f : Shared) (jobs : List Job) (progress : List Progress) (place : ℕ)
               got,
         );
     parties = λ at round.
-        let own : parties_needed f.board at round place job p ≤ sum_of_needs (parties_needed f.board at round) 0 jobs progress
+        let own : parties_needed f.board at round place job p
+        ≤ sum_of_needs (parties_needed f.board at round) 0 jobs progress
         = needed-of (parties_needed f.board at round) 0 jobs progress place place itself job p got_job got in
         omega (arith, provided.parties at round, own);
   }

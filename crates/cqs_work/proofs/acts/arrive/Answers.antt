@@ -30,8 +30,8 @@ returns-in_ok-note-in-Ok-Waits-clause-did g c =
     arrive-did c.args.actor.now _ c.args.next c.args.at c.requires.can c.requires.step _ _ _ _ c.arrive.ensures.comes
     (ap answer_of c.in-Ok-Waits.is ∙ ap Some c.in-Ok-Waits.field-0-is)
     (c.in_ok-note-in-Ok-Waits.ensures
-    ∙ ap (λ l. with_answer l c.args.at c.arrivals-round.result c.args.actor.now.place (Some (Waits c.in-Ok-Waits.number)))
-    c.arrive.ensures.waits) c.arrivals-round.ensures
+    ∙ ap (λ l. with_answer l c.args.at c.arrivals-round.result c.args.actor.now.place
+    (Some (Waits c.in-Ok-Waits.number))) c.arrive.ensures.waits) c.arrivals-round.ensures
 
 pub returns-in-Err-clause-did : goal.returns-in-Err-clause-did
 returns-in-Err-clause-did g c =

@@ -22,7 +22,8 @@ returns-in_ok-note-in-Ok-Waits-clause-did g c =
     wait-did c.args.actor.now _ _ c.args.next c.args.at _ _ c.requires.can c.requires.step c.wait.ensures.comes
     (ap answer_of c.in-Ok-Waits.is ∙ ap Some c.in-Ok-Waits.field-0-is)
     (c.in_ok-note-in-Ok-Waits.ensures
-    ∙ ap (λ l. with_answer l c.args.at 0 c.args.actor.now.place (Some (Waits c.in-Ok-Waits.number))) c.wait.ensures.waits)
+    ∙ ap (λ l. with_answer l c.args.at 0 c.args.actor.now.place (Some (Waits c.in-Ok-Waits.number)))
+    c.wait.ensures.waits)
 
 pub returns-in-Err-clause-did : goal.returns-in-Err-clause-did
 returns-in-Err-clause-did g c =

@@ -1,4 +1,4 @@
--- What `picked` reads off a list becomes, after a write, a push, or by another reading.
+-- What `pick_each` reads off a list becomes, after a write, a push, or by another reading.
 use Rattle.std.proofs.Common.{◌≡◌, ◌≢◌, ◌⊎◌, inl, inr, ℕ, zero, suc, ◌+◌, ◌<◌, ◌≤◌, List, [], ◌∷◌, ◌++◌, Option, Some, None, length, set, slice_get, refl, ap, ap₂, sym, ◌∙◌, arith}
 use Rattle.std.proofs.lemmas.Bool.{cases_lt}
 use Rattle.cqs_core.specs.Numbered.{cons_option, pick_each, IsIn}

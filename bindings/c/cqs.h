@@ -98,7 +98,7 @@ enum {
     CQS_MADE = 33,          /* split: the number of the new pass */
     CQS_MET = 34,           /* meet: the given pass is taken in, and its number is nobody's */
     CQS_TOOK = 35,          /* take, poll: the pass has the element of this number */
-    CQS_PASSED = 36,        /* wait: the latch is open */
+    CQS_PASSED = 36,        /* wait: the latch's count was used up */
     CQS_THROUGH = 37,       /* poll: the latch was opened, or all parties have arrived, and the wait
                                is over */
     CQS_COUNTED = 38,       /* count_down: so many counts are left */

@@ -83,7 +83,7 @@ pub enum Down {
 
 /// What became of a wait.
 pub enum Entered<'a> {
-    /// The latch is open.
+    /// The count was used up.
     Passed,
     /// The caller waits in line.
     Later(LatchWait<'a>),
@@ -114,7 +114,7 @@ impl LatchPass {
         }
     }
 
-    /// Passes where the latch is open, and else waits in line.
+    /// Passes where the count is used up, and else waits in line.
     pub fn wait(&mut self) -> Result<Entered<'_>, Worn> {
         self.end_forgotten();
         let answer = self.shared.call(ffi::DO_ENTER, self.number, 0);

@@ -69,7 +69,7 @@ pub enum Answer {
     Took(u32),
     /// The element of this number had come before, and the pass has it.
     LateTook(u32),
-    /// The latch is open, and the caller is through.
+    /// The latch's count was used up, and the caller is through.
     Passed,
     /// The latch was opened, or all parties have arrived, and the wait is over.
     Through,

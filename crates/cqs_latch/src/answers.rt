@@ -8,7 +8,7 @@ use cqs_rule::{Under, Wait};
 /// What became of a wait.
 #[derive(Drop)]
 pub enum LatchWait {
-    /// The latch is open, and the caller is through.
+    /// The count was used up, and the caller is through.
     Passed,
     /// The caller waits in line.
     Later(Wait),

@@ -16,8 +16,9 @@ use cqs_suspend::{Suspended, suspend};
 use cqs_words::{StateWord, WaitersWord};
 
 impl<T: Carries + Send> Latch<T> {
-    /// Passes where the latch is open, and else comes to wait for that. It is refused as worn where
-    /// the count isn't used up, and as many numbers were drawn as the limit allows.
+    /// Passes where the count is used up, and else comes to wait until the latch is opened. It is
+    /// refused as worn where the count isn't used up, and as many numbers were drawn as the limit
+    /// allows.
     pub fn wait(&self, pass: &mut LatchPass<T>) -> Result<LatchWait, AcquireError>
         requires belongs { IsMine self.now pass.old }
         requires ready { IsReady (pass_view pass.old).facts }

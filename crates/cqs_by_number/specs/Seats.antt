@@ -58,8 +58,8 @@ TakesIn (caller.Latch c) (caller.Latch given) (caller.Latch d) = latch.TakesIn c
 TakesIn (caller.Barrier c) (caller.Barrier given) (caller.Barrier d) = barrier.TakesIn c given d
 TakesIn _ given d = ⊥
 
--- A new caller was laid under the number of its pass, which is told; or that slot wasn't free, which
--- is told as a crowd.
+-- A new caller was laid under the number of its pass, which is told; or that slot wasn't free,
+-- which is told as a crowd.
 abbrev pub IsSeated : Numbered → Caller → Answer → Type 0
 IsSeated of made a =
     ((a ≡ answer.Made (pass_number made)) × IsLaid of (pass_number made) 0 (Some made))

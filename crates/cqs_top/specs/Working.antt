@@ -31,7 +31,8 @@ pub record HaveWorked (plan : Plan) (workers : ℕ) (ends : List JobEnd) (waits 
   -- each worker's takes of a semaphore are at least those of its jobs that are done, and at most
   -- all take steps of its jobs
   pub bounds : AreBounded plan floors last ends
-  -- nothing is held, on its way, at the door or in line
+  -- at each semaphore and mutex nothing is held, on its way, at the door or in line, and at each
+  -- pool no element is held and nobody is in line
   pub quiet : AreQuiet last
   -- so many floors have met in the last one, what happened is legal and names no pass but those of
   -- the workers, and no job waits or holds anything

@@ -151,7 +151,8 @@ pub fn work_plan<R: Threads + Wait + Sync, F: SharedFloor + Send + Drop, G: Gate
     ensures bounds { IfOk result (λ worked. AreBounded plan.now (shared_of F.shared floors.items)
         (F.shared worked.floor) worked.ends) }
 
-    // No semaphore, mutex or pool has anything held, on its way, at the door or in line.
+    // No semaphore or mutex has anything held, on its way, at the door or in line, and no pool has
+    // an element held or anybody in line.
     ensures quiet { IfOk result (λ worked. AreQuiet (F.shared worked.floor)) }
 
     // All floors have met in this one, which has seen legal histories; no job waits or holds

@@ -287,7 +287,7 @@ take-adds a f g next at got its_step holdable kinds comes waits =
         let told = take-told (kind_at f.floor at) at a.place f.floor.number got comes.drew here in
         let more = took-here f at _ g comes.sees kinds noted here in
         let so : took g.floor at ≡ took f.floor at + takes_of at (Take at) got
-        = omega (arith, more, with_answer.taken, one-take got) in
+        = omega (arith, more, told.taken, one-take got) in
         subst (λ n. took g.floor n ≡ took f.floor n + takes_of n (Take at) got) (sym same) so
     go noted q permits (inr other) =
         let none : takes_of q (Take at) got ≡ 0

@@ -30,7 +30,7 @@ use Rattle.cqs_work.proofs.Adding.{keeps-none, keeps-then}
 use Rattle.cqs_work.proofs.Lasting.{later-none}
 use Rattle.cqs_work.proofs.HeardLemmas.{hears-then, hears-on, hears-none}
 use Rattle.cqs_work.proofs.Moving.{moves-none, moves-on}
-use Rattle.cqs_work.proofs.Acting.{drop-at}
+use Rattle.cqs_work.proofs.StepNeeds.{drop-at}
 use Rattle.cqs_work.proofs.Turning.{moved-ready}
 
 -- a job that waits leaves its line

@@ -19,7 +19,7 @@ use Rattle.cqs_work.specs.Roles.{give_one, give_each, same}
 use Rattle.cqs_work.specs.Doing.{Stands, GaveUp}
 use Rattle.cqs_work.specs.Works.{IsClear}
 use Rattle.cqs_work.proofs.Accounts.{give-later}
-use Rattle.cqs_work.proofs.Acting.{given-keeps}
+use Rattle.cqs_work.proofs.StepCalls.{given-keeps}
 use Rattle.cqs_work.proofs.Adding.{keeps-none, keeps-then}
 use Rattle.cqs_work.proofs.HeardLemmas.{gave-is, hears-then, hears-on, hears-none}
 use Rattle.cqs_work.proofs.Moving.{moves-none, moves-on, moves-given}

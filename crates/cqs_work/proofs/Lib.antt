@@ -8,6 +8,10 @@ pub mod Causing
 pub mod HeardLemmas
 pub mod Parties
 pub mod Moving
+pub mod StepNeeds
+pub mod StepAdds
+pub mod StepCalls
+pub mod WaitCalls
 pub mod Acting
 pub mod Giving
 pub mod Needing

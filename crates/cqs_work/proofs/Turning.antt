@@ -29,7 +29,7 @@ use Rattle.cqs_work.specs.Needs.{IsInRounds, AreProvided}
 use Rattle.cqs_work.specs.Doing.{Moves, CanAct, Did}
 use Rattle.cqs_work.specs.Works.{progress_of, machine_so, job_turn, job_turn_so, turn_of, turn_so, turns_of, RunsOn}
 use Rattle.cqs_work.proofs.HeardLemmas.{hears-then, hears-on, hears-none}
-use Rattle.cqs_work.proofs.Acting.{drop-at}
+use Rattle.cqs_work.proofs.StepNeeds.{drop-at}
 use Rattle.cqs_work.specs.Courses.{Went}
 use Rattle.cqs_work.proofs.Needing.{provided-of, provided-on}
 use Rattle.cqs_work.proofs.Coursing.{went-none, went-then, went-one}

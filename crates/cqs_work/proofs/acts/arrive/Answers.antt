@@ -2,7 +2,8 @@ use Rattle.std.proofs.Common.{Some, ap, ◌∙◌, arith}
 use Rattle.cqs_plan.specs.declared.floors.answers.FloorTake.TheVariants.{Waits}
 use Rattle.cqs_shared.specs.Calls.{answer_of}
 use Rattle.cqs_work.specs.Desk.{desk, with_answer}
-use Rattle.cqs_work.proofs.Acting.{arrive-did, arrives-in, arrive-room, arrive-party, arrive-held, next-small}
+use Rattle.cqs_work.proofs.StepNeeds.{arrive-held, next-small}
+use Rattle.cqs_work.proofs.StepCalls.{arrive-did, arrives-in, arrive-room, arrive-party}
 use Rattle.cqs_work.proofs.acts.arrive.Goals as goal
 
 pub arrive-requires-clause-resource : goal.arrive-requires-clause-resource

@@ -1,6 +1,7 @@
 use Rattle.std.proofs.Common.{ap}
 use Rattle.cqs_turns.specs.Turns.{places_held}
-use Rattle.cqs_work.proofs.Acting.{down-did, down-resource}
+use Rattle.cqs_work.proofs.StepNeeds.{down-resource}
+use Rattle.cqs_work.proofs.StepCalls.{down-did}
 use Rattle.cqs_work.proofs.acts.down.Goals as goal
 
 pub down-requires : goal.down-requires

@@ -1,6 +1,7 @@
 use Rattle.cqs_plan.specs.declared.floors.answers.FloorGive.TheVariants.{Free}
 use Rattle.cqs_turns.proofs.Readied.{on_give-left}
-use Rattle.cqs_work.proofs.Acting.{give-did, give-resource, give-holds}
+use Rattle.cqs_work.proofs.StepNeeds.{give-resource, give-holds}
+use Rattle.cqs_work.proofs.StepCalls.{give-did}
 use Rattle.cqs_work.proofs.acts.give.Goals as goal
 
 pub give-requires-clause-resource : goal.give-requires-clause-resource

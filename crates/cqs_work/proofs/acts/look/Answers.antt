@@ -3,7 +3,8 @@ use Rattle.cqs_turns.proofs.Readied.{look-held}
 use Rattle.cqs_turns.specs.declared.states.Progress.TheVariants.{Stepping, Waiting}
 use Rattle.cqs_work.specs.Desk.{desk}
 use Rattle.cqs_work.specs.Roles.{go_on, look_at, left_so}
-use Rattle.cqs_work.proofs.Acting.{pending-did, granted-did, did-then, can-then, if-ok}
+use Rattle.cqs_work.proofs.WaitCalls.{pending-did, granted-did}
+use Rattle.cqs_work.proofs.Acting.{did-then, can-then, if-ok}
 use Rattle.cqs_work.proofs.acts.look.Goals as goal
 
 pub make_steps-requires-clause-held : goal.make_steps-requires-clause-held

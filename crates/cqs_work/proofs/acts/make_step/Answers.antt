@@ -1,5 +1,6 @@
 use Rattle.std.proofs.Common.{arith}
-use Rattle.cqs_work.proofs.Acting.{work-did, work-small}
+use Rattle.cqs_work.proofs.StepNeeds.{work-small}
+use Rattle.cqs_work.proofs.StepCalls.{work-did}
 use Rattle.cqs_work.proofs.acts.make_step.Goals as goal
 
 pub returns-in-Work-clause-did : goal.returns-in-Work-clause-did

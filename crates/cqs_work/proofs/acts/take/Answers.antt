@@ -2,7 +2,8 @@ use Rattle.std.proofs.Common.{Some, ap, ◌∙◌}
 use Rattle.cqs_plan.specs.declared.floors.answers.FloorTake.TheVariants.{Waits}
 use Rattle.cqs_shared.specs.Calls.{answer_of}
 use Rattle.cqs_work.specs.Desk.{with_answer}
-use Rattle.cqs_work.proofs.Acting.{take-did, take-resource, take-room}
+use Rattle.cqs_work.proofs.StepNeeds.{take-resource, take-room}
+use Rattle.cqs_work.proofs.StepCalls.{take-did}
 use Rattle.cqs_work.proofs.acts.take.Goals as goal
 
 pub take-requires-clause-resource : goal.take-requires-clause-resource

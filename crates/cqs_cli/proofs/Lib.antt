@@ -42,6 +42,9 @@ pub mod PoolCalls
 pub mod PoolPlaced
 pub mod HeldElements
 pub mod PoolSole
+pub mod PoolTakes
+pub mod PoolWaits
+pub mod PoolGives
 pub mod FreshHistories
 pub mod LatchRests
 pub mod LatchSole

@@ -1,6 +1,7 @@
 use Rattle.std.proofs.Common.{refl, arith}
 use Rattle.cqs_cli.proofs.PoolPlaced.{placed-only}
-use Rattle.cqs_cli.proofs.PoolSole.{few-counted_at, in-hand, pool-frees, pool-sends}
+use Rattle.cqs_cli.proofs.PoolSole.{few-counted_at, in-hand}
+use Rattle.cqs_cli.proofs.PoolGives.{pool-frees, pool-sends}
 use Rattle.cqs_cli.proofs.floors.pool_sole.PoolSole.give.Goals as goal
 
 pub put-requires-clause-has : goal.put-requires-clause-has

@@ -1,7 +1,8 @@
 use Rattle.std.proofs.Common.{refl, sym, subst}
 use Rattle.cqs_pool.specs.Calls.{IsMine}
 use Rattle.cqs_cli.proofs.PoolCalls.{lates-comes, leaves-comes}
-use Rattle.cqs_cli.proofs.PoolSole.{pool-lates_at, pool-leaves_at}
+use Rattle.cqs_cli.proofs.PoolTakes.{pool-lates_at}
+use Rattle.cqs_cli.proofs.PoolWaits.{pool-leaves_at}
 use Rattle.cqs_cli.proofs.floors.pool_sole.PoolSole.leave.Goals as goal
 
 pub cancel-requires-clause-belongs : goal.cancel-requires-clause-belongs

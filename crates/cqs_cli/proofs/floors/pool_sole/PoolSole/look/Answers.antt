@@ -1,7 +1,8 @@
 use Rattle.std.proofs.Common.{refl, sym, subst}
 use Rattle.cqs_pool.specs.Calls.{IsMine}
 use Rattle.cqs_cli.proofs.PoolCalls.{grants-comes, pends-comes}
-use Rattle.cqs_cli.proofs.PoolSole.{pool-grants_at, pool-pends_at}
+use Rattle.cqs_cli.proofs.PoolTakes.{pool-grants_at}
+use Rattle.cqs_cli.proofs.PoolWaits.{pool-pends_at}
 use Rattle.cqs_cli.proofs.floors.pool_sole.PoolSole.look.Goals as goal
 
 pub poll-requires-clause-belongs : goal.poll-requires-clause-belongs

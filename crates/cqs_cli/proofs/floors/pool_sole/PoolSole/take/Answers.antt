@@ -6,7 +6,8 @@ use Rattle.cqs_rule.specs.Waits.{place_of}
 use Rattle.cqs_cli.specs.Waits.{WaitsAt}
 use Rattle.cqs_cli.proofs.PoolCalls.{takes-comes, waits-comes}
 use Rattle.cqs_cli.proofs.PoolRests.{Comes}
-use Rattle.cqs_cli.proofs.PoolSole.{pool-takes, pool-waits_at}
+use Rattle.cqs_cli.proofs.PoolTakes.{pool-takes}
+use Rattle.cqs_cli.proofs.PoolWaits.{pool-waits_at}
 use Rattle.cqs_cli.proofs.floors.pool_sole.PoolSole.take.Goals as goal
 
 pub returns-in-Ok-Took : goal.returns-in-Ok-Took

@@ -11,6 +11,9 @@ mod HeldKinds
 mod LineLemmas
 mod Lined
 mod Telling
+mod StoryLines
+mod StoryStages
+mod StorySteps
 mod JobStories
 mod StoryEnds
 mod Leaving

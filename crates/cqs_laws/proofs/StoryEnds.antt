@@ -26,7 +26,8 @@ use Rattle.cqs_laws.specs.Events.{Line}
 use Rattle.cqs_laws.specs.Stories.{TellsOf, Stage, AtStep, InWait, Closing, Over, Story, HasStory, lasts, AreStories, own_lines}
 use Rattle.cqs_laws.specs.Stories as story
 use Rattle.cqs_laws.proofs.Everywhere.{all-jobs}
-use Rattle.cqs_laws.proofs.JobStories.{each-push, every-job-has-its-story}
+use Rattle.cqs_laws.proofs.StoryLines.{each-push}
+use Rattle.cqs_laws.proofs.JobStories.{every-job-has-its-story}
 
 -- the steps of a job that are told, and those that its lines tell to be made
 abbrev told_steps : List Step → List Step

@@ -23,7 +23,7 @@ use Rattle.cqs_barrier_object.specs.declared.entries.BarrierEntry.TheVariants as
 use Rattle.cqs_barrier_object.specs.BarrierEntries.{object_after, after_entry, IsLegal}
 use Rattle.cqs_barrier_object.specs.BarrierObject.{Barrier}
 use Rattle.cqs_barrier_object.specs.SoleCaller as plain
-use Rattle.cqs_barrier_object.specs.SoleCaller.{tells, delivers, sole_arrive, sole_poll, sole_cancel, look_at, leave_at, numbers_of}
+use Rattle.cqs_barrier_object.specs.SoleCaller.{tells, delivers, sole_arrive, look_at, leave_at, numbers_of}
 use Rattle.cqs_rule.specs.declared.queue.tokens.Wait.{Wait}
 use Rattle.cqs_rule.specs.declared.view.View.{View}
 use Rattle.cqs_rule.specs.Alone.{IsAlone}

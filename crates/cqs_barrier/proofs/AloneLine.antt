@@ -14,7 +14,7 @@ use Rattle.cqs_core.specs.declared.doings.Doing.TheVariants as doing
 use Rattle.cqs_core.specs.Keyed.{without, insert_by}
 use Rattle.cqs_core.specs.Numbered.{IsIn, pick_each, cons_option}
 use Rattle.cqs_core.specs.QueueLine as queue
-use Rattle.cqs_core.specs.QueueLine.{Waiting, Service, in_line, is_served, service_of, is_resuming, going}
+use Rattle.cqs_core.specs.QueueLine.{Waiting, Service, in_line, is_served, service_of}
 use Rattle.cqs_core.specs.QueueState.{Queue}
 use Rattle.cqs_core.specs.QueueWaiters.{Waits, Waiters, waiters}
 use Rattle.cqs_core.specs.Resting.{IsIdle}

@@ -1,5 +1,5 @@
 -- A count down of a latch, and a wait there: what they rest on, what they answer, and what they leave.
-use Rattle.std.proofs.Common.{◌≡◌, ℕ, ◌<◌, Some, None, length, set, slice_get, refl, ap, sym, ◌∙◌, subst, arith}
+use Rattle.std.proofs.Common.{◌≡◌, ℕ, ◌<◌, length, set, slice_get, refl, ap, sym, ◌∙◌, subst, arith}
 use Rattle.std.specs.Prelude.{slice_index}
 use Rattle.std.proofs.lemmas.List.{length-map}
 use Rattle.cqs_plan.specs.declared.floors.answers.FloorDown.{FloorDown}
@@ -10,7 +10,7 @@ use Rattle.cqs_plan.specs.FloorHistory.{passes}
 use Rattle.cqs_plan.specs.Floor.{PlainFloor, IsIdle, IsJob, IsLatch, room_at, with_done}
 use Rattle.cqs_plan.specs.FloorCalls.{after_down, after_wait, down_answer, down_of, wait_answer}
 use Rattle.cqs_cli.specs.DeskCalls.{Awaits, Downs, HasAt}
-use Rattle.cqs_cli.specs.Kept.{IsKept, elements_of, held_at, waiting_at}
+use Rattle.cqs_cli.specs.Kept.{IsKept, elements_of}
 use Rattle.cqs_cli.specs.Ledger.{Ledger, holds_in, plain_floor, with_less_room, with_soles, with_waiting}
 use Rattle.cqs_cli.specs.Stores.{CanCount, CanWait, IsLawful, Store, deed_of}
 use Rattle.cqs_cli.proofs.Joining.{kept-later, plain-later}

@@ -1,6 +1,6 @@
 -- A call by which nobody gets anything, gives it back, or waits: a count down, a latch that is passed, and the last
 -- arrival at a barrier.
-use Rattle.std.proofs.Common.{◌≡◌, ℕ, ◌-◌, ◌<◌, length, set, slice_get, refl, ap, sym, ◌∙◌, subst, length-set, arith, Some}
+use Rattle.std.proofs.Common.{◌≡◌, ℕ, ◌<◌, length, set, slice_get, refl, sym, length-set, arith, Some}
 use Rattle.std.specs.Prelude.{slice_index}
 use Rattle.cqs_plan.specs.FloorHistory.{Deed}
 use Rattle.cqs_plan.specs.Floor.{size_of, with_done_in, with_less_room as with_less_room_plain}

@@ -10,7 +10,7 @@ use Rattle.cqs_plan.specs.declared.plans.kind.Kind.{Kind}
 use Rattle.cqs_core.proofs.Counts.{bit}
 use Rattle.cqs_core.proofs.Places.{get-set_here, get-set_else, get-below}
 use Rattle.cqs_plan.specs.FloorHistory.{Deed, of_permits, with_deed_in}
-use Rattle.cqs_plan.specs.Floor.{JobWait, size_of}
+use Rattle.cqs_plan.specs.Floor.{size_of}
 use Rattle.cqs_cli.specs.declared.floors.transfers.Transfer.TheVariants.{Got}
 use Rattle.cqs_cli.specs.declared.floors.waits.Wait.{Wait}
 use Rattle.cqs_cli.specs.Kept.{IsKept, StandsIn, AreApart, waiting_at, held_at, is_wait_at}

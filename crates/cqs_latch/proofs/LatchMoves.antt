@@ -7,7 +7,7 @@ use Rattle.cqs_latch_object.specs.declared.entries.LatchEntry.TheVariants as ent
 use Rattle.cqs_latch_object.specs.LatchNames.{entry_names}
 use Rattle.cqs_latch_object.specs.LatchShown.{LatchShape, left_of, IsLatchCore}
 use Rattle.cqs_latch_object.specs.LatchWords as word
-use Rattle.cqs_latch_object.specs.LatchWords.{WordStep, IsOpenWord, word_entries, word_doing, count_after, word_after, done_after, owed_after, after_word_step, is_used, is_last, loaded_entries, loaded_doing, counted_entry, counted_doing, come_entry, come_doing}
+use Rattle.cqs_latch_object.specs.LatchWords.{WordStep, IsOpenWord, word_entries, word_doing, count_after, word_after, done_after, owed_after, after_word_step, is_used, is_last, counted_entry, come_entry}
 use Rattle.cqs_latch_object.proofs.LatchSteps.{word-core}
 use Rattle.cqs_latch_object.proofs.LatchBounds.{every-count-is-high, waiters-are-few, core-still_shut, core-leaver}
 use Rattle.cqs_rule.specs.declared.config.CancelMode.{CancelMode}

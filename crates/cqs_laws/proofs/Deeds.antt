@@ -13,7 +13,7 @@ use Rattle.cqs_core.proofs.Counts.{bit}
 use Rattle.cqs_pool_object.specs.declared.entries.PoolEntry.{PoolEntry}
 use Rattle.cqs_pool_object.specs.PoolObject.{Pool}
 use Rattle.cqs_pool_object.specs.PoolObject as pool
-use Rattle.cqs_pool_object.specs.PoolEntries.{after_deliver, after_enter, put}
+use Rattle.cqs_pool_object.specs.PoolEntries.{after_enter, put}
 use Rattle.cqs_pool_object.specs.PoolEntries as elements
 use Rattle.cqs_latch_object.specs.declared.entries.LatchEntry.TheVariants as latch
 use Rattle.cqs_latch_object.specs.LatchEntries.{after_entry as latch_entry}

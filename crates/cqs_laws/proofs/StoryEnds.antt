@@ -23,7 +23,7 @@ use Rattle.cqs_turns.specs.declared.states.Progress.TheVariants.{Ended}
 use Rattle.cqs_turns.specs.Turns.{machine_after}
 use Rattle.cqs_laws.specs.Endings.{HasCome, HasMadeAllSteps, NobodyGivesUpEarly, WhoIsDoneMadeAllSteps, is_told, made_step, turns_of, waited_for}
 use Rattle.cqs_laws.specs.Events.{Line}
-use Rattle.cqs_laws.specs.Stories.{TellsOf, Stage, AtStep, InWait, Closing, Over, Story, HasStory, lasts, AreStories, own_lines}
+use Rattle.cqs_laws.specs.Stories.{TellsOf, Stage, AtStep, InWait, Closing, Over, Story, lasts, AreStories, own_lines}
 use Rattle.cqs_laws.specs.Stories as story
 use Rattle.cqs_laws.proofs.Everywhere.{all-jobs}
 use Rattle.cqs_laws.proofs.StoryLines.{each-push}

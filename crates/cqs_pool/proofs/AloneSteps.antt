@@ -30,7 +30,6 @@ use Rattle.cqs_pool_object.specs.PoolEntries.{object_after, after_entry, IsLegal
 use Rattle.cqs_pool_object.specs.PoolNames.{entry_names}
 use Rattle.cqs_pool_object.specs.PoolObject.{Pool, opening, IsGiven}
 use Rattle.cqs_pool_object.specs.PoolOrder.{IsByOne, IsFirstOnWay}
-use Rattle.cqs_pool_object.specs.PoolObject.{times}
 use Rattle.cqs_pool_object.proofs.PoolOrder.{first-taken}
 use Rattle.cqs_rule.specs.declared.view.View.{View}
 use Rattle.cqs_rule.specs.declared.view.Opening.{Opening}

@@ -1,7 +1,6 @@
 -- What is one of several kinds of resource is a resource as a floor needs it, where it is one in its own kind.
-use Rattle.std.proofs.Common.{◌≡◌, ℕ, ◌<◌, Bool, List, [], ◌∷◌, Option, Some, None, length}
+use Rattle.std.proofs.Common.{ℕ, Bool, List, Option}
 use Rattle.cqs_plan.specs.declared.floors.answers.FloorDown.{FloorDown}
-use Rattle.cqs_plan.specs.declared.floors.answers.FloorEnd.{FloorEnd}
 use Rattle.cqs_plan.specs.declared.floors.answers.FloorLeave.{FloorLeave}
 use Rattle.cqs_plan.specs.declared.floors.answers.FloorLeave.TheVariants.{Gone, Late}
 use Rattle.cqs_plan.specs.declared.floors.answers.FloorLook.{FloorLook}
@@ -13,7 +12,7 @@ use Rattle.cqs_shared.specs.declared.shared.SharedGive.{SharedGive}
 use Rattle.cqs_shared.specs.Entries.{Entries}
 use Rattle.cqs_shared_floors.specs.declared.resource.Came.{Came}
 use Rattle.cqs_shared_floors.specs.declared.resource.Came.TheVariants as came
-use Rattle.cqs_shared_floors.specs.ShareCalls.{Arrives, Brings, CanArrive, CanCount, CanEnd, CanGive, CanMeet, CanSplit, CanTake, CanTell, CanWait, Comes, ComesTo, Counts, EndsWait, Gives, HasSplit, IsOpened, Leaves, Looks, LooksOn, Meets, Stands, Takes, Tells, Waits, party_less}
+use Rattle.cqs_shared_floors.specs.ShareCalls.{Arrives, CanArrive, CanCount, CanEnd, CanGive, CanMeet, CanSplit, CanTake, CanTell, CanWait, Comes, ComesTo, Counts, EndsWait, Gives, HasSplit, IsOpened, Leaves, Looks, Meets, Takes, Waits, party_less}
 use Rattle.cqs_shared_floors.specs.Shares.{Funds, IsSame, Sees, Share, with_brought, with_more}
 
 -- as one kind among others sees it

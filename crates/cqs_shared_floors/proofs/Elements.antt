@@ -1,5 +1,5 @@
 -- Only elements of a pool have numbers of their own.
-use Rattle.std.proofs.Common.{ℕ, Some, refl}
+use Rattle.std.proofs.Common.{Some, refl}
 use Rattle.cqs_plan.specs.declared.plans.kind.Kind.{Kind}
 use Rattle.cqs_plan.specs.declared.plans.kind.Kind.TheVariants as kind
 use Rattle.cqs_shared.specs.Calls.{IsElement}

@@ -12,7 +12,7 @@ use Rattle.cqs_plan.specs.Floor.{JobWait, PlainFloor}
 use Rattle.cqs_shared.specs.Calls as floor
 use Rattle.cqs_rule.specs.declared.config.Place.{Place}
 use Rattle.cqs_shared.specs.AnswerEntries.{came_entries}
-use Rattle.cqs_shared.specs.Calls.{IsDrawn, MayCome, TakesElement, answer_of, board_arrived, board_taken, board_waited}
+use Rattle.cqs_shared.specs.Calls.{IsDrawn, MayCome, TakesElement, answer_of}
 use Rattle.cqs_shared.specs.Entries.{IsDelivered, drawn_in}
 use Rattle.cqs_shared.specs.Shared.{seen_at}
 use Rattle.cqs_shared_floors.specs.declared.floors.holdings.JobHolding.{JobHolding}

@@ -1,10 +1,9 @@
 -- How a resource stands once all floors have met, and no job has anything.
-use Rattle.std.proofs.Common.{◌≡◌, ℕ, zero, suc, ◌+◌, ◌<◌, Bool, false, Option, List, [], ◌∷◌, Some, None, IsSome, length, map, get_or, slice_get, refl, ap, sym, ◌∙◌, subst, count_by, arith}
+use Rattle.std.proofs.Common.{◌≡◌, ℕ, suc, Bool, Option, List, [], ◌∷◌, Some, None, IsSome, get_or, slice_get, refl, ap, sym, ◌∙◌, count_by, arith}
 use Rattle.std.specs.Option.{option_map}
 use Rattle.std.proofs.lemmas.List.Sums.{sum_by-cons}
 use Rattle.cqs_core.proofs.Counts.{bit}
 use Rattle.cqs_plan.specs.declared.floors.answers.FloorEnd.{FloorEnd}
-use Rattle.cqs_plan.specs.declared.plans.kind.Kind.{Kind}
 use Rattle.cqs_plan.specs.Floor.{Holding, size_of}
 use Rattle.cqs_plan.specs.FloorHistory.{ending, of_permits}
 use Rattle.cqs_shared.specs.Calls.{HaveAllMet, IsAtRest, end_answer}

@@ -1,9 +1,7 @@
 -- A give, a count down, and the question how a resource stands.
-use Rattle.std.proofs.Common.{◌≡◌, ◌≢◌, ◌⊎◌, inl, inr, ℕ, suc, ◌+◌, ◌<◌, ◌≤◌, IsTrue, List, [], ◌∷◌, ◌++◌, Option, Some, None, IsSome, drop, length, map, set, get_or, slice_get, refl, ap, sym, ◌∙◌, subst, arith}
+use Rattle.std.proofs.Common.{◌≡◌, ℕ, ◌<◌, IsTrue, [], Some, length, get_or, slice_get, refl, ap, sym, ◌∙◌, subst, arith}
 use Rattle.std.specs.List.{list_any}
-use Rattle.cqs_core.specs.Keyed.{without}
 use Rattle.cqs_plan.specs.declared.floors.answers.FloorDown.{FloorDown}
-use Rattle.cqs_plan.specs.declared.plans.kind.Kind.{Kind}
 use Rattle.cqs_plan.specs.Floor.{IsHoldable, IsHolding, IsJob, IsLatch, oldest}
 use Rattle.cqs_shared.specs.declared.shared.SharedGive.{SharedGive}
 use Rattle.cqs_shared.specs.AnswerEntries.{down_entries, give_entries}
@@ -11,11 +9,11 @@ use Rattle.cqs_shared.specs.Calls as floor
 use Rattle.cqs_shared.specs.Calls.{TellsGive, element_held}
 use Rattle.cqs_shared.specs.Shared.{seen_at}
 use Rattle.cqs_shared_floors.specs.DeskCalls.{Downs, Gives, HasAt}
-use Rattle.cqs_shared_floors.specs.FloorKept.{IsFundedAt, IsKept, funds_in}
-use Rattle.cqs_shared_floors.specs.Holdings.{held_at, held_by_jobs, is_of, less_oldest}
+use Rattle.cqs_shared_floors.specs.FloorKept.{IsKept, funds_in}
+use Rattle.cqs_shared_floors.specs.Holdings.{held_at, is_of, less_oldest}
 use Rattle.cqs_shared_floors.specs.Ledgers.{Ledger, holds_in, shared_in, with_shares}
 use Rattle.cqs_shared_floors.specs.ShareCalls as calls
-use Rattle.cqs_shared_floors.specs.Shares.{Funds, Sees, Share, held_by, with_less}
+use Rattle.cqs_shared_floors.specs.Shares.{Sees, Share, held_by}
 use Rattle.cqs_shared_floors.specs.Spots.{place_in}
 use Rattle.cqs_shared_floors.proofs.FloorNext.{kept-next, next, parties-kept, sees-next, seen-next, stands-on}
 use Rattle.cqs_shared_floors.proofs.FloorPlaces.{Here, Well, here, holdable-there, job-there, latch-there}

@@ -1,15 +1,15 @@
 -- A look at a wait, and a leave: what they rest on, and what they leave.
-use Rattle.std.proofs.Common.{◌≡◌, ◌≢◌, ◌⊎◌, inl, inr, ℕ, zero, suc, ◌+◌, ◌*◌, ◌<◌, ◌≤◌, Bool, true, false, List, [], ◌∷◌, Option, Some, None, IsSome, length, map, set, get_or, slice_get, refl, ap, sym, ◌∙◌, subst, arith}
+use Rattle.std.proofs.Common.{◌≡◌, ◌≢◌, inl, inr, ℕ, ◌<◌, Bool, true, false, List, [], Option, Some, None, IsSome, length, map, set, slice_get, refl, ap, sym, ◌∙◌, subst, arith}
 use Rattle.std.specs.Option.{option_map}
 use Rattle.std.proofs.lemmas.List.{append-nil, map-set}
-use Rattle.cqs_core.proofs.Places.{get-below, get-there, set-same}
+use Rattle.cqs_core.proofs.Places.{get-there, set-same}
 use Rattle.cqs_plan.specs.declared.floors.answers.FloorLeave.{FloorLeave}
 use Rattle.cqs_plan.specs.declared.floors.answers.FloorLeave.TheVariants.{Gone, Late}
 use Rattle.cqs_plan.specs.declared.floors.answers.FloorLook.{FloorLook}
 use Rattle.cqs_plan.specs.declared.floors.answers.FloorLook.TheVariants.{Pending, Granted}
 use Rattle.cqs_plan.specs.declared.plans.kind.Kind.{Kind}
 use Rattle.cqs_plan.specs.declared.plans.kind.Kind.TheVariants as kind
-use Rattle.cqs_plan.specs.Floor.{IsJob, IsWaiting, JobWait, PlainFloor, wait_of}
+use Rattle.cqs_plan.specs.Floor.{IsJob, IsWaiting}
 use Rattle.cqs_plan.specs.FloorCalls.{with_granted, with_left}
 use Rattle.cqs_plan.specs.FloorHistory.{History, gets, is_late, of_elements, of_latch, of_permits, of_rounds}
 use Rattle.cqs_plan.specs.Language.{can_hold}
@@ -17,26 +17,25 @@ use Rattle.cqs_plan.specs.LegalFloor.{IsHistory}
 use Rattle.cqs_shared.specs.AnswerEntries.{leave_entries, look_entries, turned_entries, unless_came}
 use Rattle.cqs_shared.specs.Calls as floor
 use Rattle.cqs_shared.specs.Calls.{FindsElement, HasLeft, HasLooked, IsElement, IsFound, IsLate, KeepsElement}
-use Rattle.cqs_shared.specs.Entries.{AreOf, Entries, at_elements, at_permits, none_of, own_entries, with_entries}
-use Rattle.cqs_shared.specs.Shared.{IsLegalAt, Shared, came_of, parties_at, seen_at, with_parties}
+use Rattle.cqs_shared.specs.Entries.{AreOf, at_elements, at_permits, none_of, own_entries, with_entries}
+use Rattle.cqs_shared.specs.Shared.{came_of}
 use Rattle.cqs_shared.specs.Shared as shared
-use Rattle.cqs_shared_floors.specs.declared.floors.holdings.JobHolding.{JobHolding}
 use Rattle.cqs_shared_floors.specs.declared.floors.spots.FloorWait.{FloorWait}
 use Rattle.cqs_shared_floors.specs.declared.floors.spots.Spot.{Spot}
-use Rattle.cqs_shared_floors.specs.DeskCalls.{Asked, CanEndWait, Finds, HasAt, Leaves, Looks}
+use Rattle.cqs_shared_floors.specs.DeskCalls.{CanEndWait, HasAt, Leaves, Looks}
 use Rattle.cqs_shared_floors.specs.FloorKept.{IsFundedAt, IsKept, StandsIn, funds_in}
-use Rattle.cqs_shared_floors.specs.Holdings.{and_brought, held_at}
-use Rattle.cqs_shared_floors.specs.Ledgers.{Ledger, holds_in, shared_in, with_grant, with_shares, without_wait}
+use Rattle.cqs_shared_floors.specs.Holdings.{and_brought}
+use Rattle.cqs_shared_floors.specs.Ledgers.{Ledger, shared_in, with_grant, with_shares}
 use Rattle.cqs_shared_floors.specs.ShareCalls as calls
 use Rattle.cqs_shared_floors.specs.ShareCalls.{parties_left, party_more}
 use Rattle.cqs_shared_floors.specs.Shares.{Funds, IsLawful, IsSame, KeepsOthers, Sees, Share, with_brought, with_came, with_wait}
 use Rattle.cqs_shared_floors.specs.Spots.{job_wait, place_in, spot_came, spot_in}
 use Rattle.cqs_shared_floors.proofs.Elements.{no-element}
 use Rattle.cqs_shared_floors.proofs.FloorCrews.{space-within}
-use Rattle.cqs_shared_floors.proofs.FloorLists.{index-mapped, map-kept, mapped-back}
+use Rattle.cqs_shared_floors.proofs.FloorLists.{index-mapped, map-kept}
 use Rattle.cqs_shared_floors.proofs.FloorNext.{kept-next, next, parties-kept, sees-next, stands-on}
 use Rattle.cqs_shared_floors.proofs.FloorOver as over
-use Rattle.cqs_shared_floors.proofs.FloorPlaces.{Here, IsThere, Well, funds-long, here, job-there, one-there}
+use Rattle.cqs_shared_floors.proofs.FloorPlaces.{Here, Well, funds-long, here, job-there}
 
 -- what can be held has no rounds, and a call that has no entry there leaves its history
 module _ (h : History) where

@@ -1,6 +1,5 @@
 -- Two floors that meet: what that rests on, and what it leaves.
-use Rattle.std.proofs.Common.{◌≡◌, ◌≢◌, ◌⊎◌, inl, inr, ℕ, zero, suc, ◌+◌, ◌*◌, ◌<◌, ◌≤◌, ◌^◌, Bool, true, false, ◌||◌, is_some, List, [], ◌∷◌, ◌++◌, Option, Some, None, IsSome, drop, length, map, max, set, get_or, slice_get, refl, ap, sym, ◌∙◌, subst, sum, length-append, mul-add, arith}
-use Rattle.std.specs.Prelude.{slice_index}
+use Rattle.std.proofs.Common.{◌≡◌, ◌⊎◌, inl, inr, ℕ, zero, suc, ◌+◌, ◌*◌, ◌<◌, ◌≤◌, true, false, ◌||◌, is_some, List, [], ◌∷◌, ◌++◌, Option, Some, None, IsSome, drop, length, map, get_or, slice_get, refl, ap, sym, ◌∙◌, subst, sum, length-append, mul-add, arith}
 use Rattle.std.specs.List.{list_any}
 use Rattle.std.specs.Option.{option_map}
 use Rattle.std.proofs.lemmas.Bool.{cases_lt}
@@ -9,31 +8,30 @@ use Rattle.std.proofs.lemmas.List.Sums.{get_or-le-sum_by, sum_by-cons}
 use Rattle.std.proofs.lemmas.Nat.{mul-le}
 use Rattle.std.proofs.Math.Nat.{mul-le-mul_left}
 use Rattle.cqs_core.specs.Parts.{Has}
-use Rattle.cqs_core.proofs.Places.{get-below, get-past, get-there}
+use Rattle.cqs_core.proofs.Places.{get-below, get-there}
 use Rattle.cqs_plan.specs.declared.plans.kind.Kind.{Kind}
 use Rattle.cqs_plan.specs.declared.plans.kind.Kind.TheVariants as kind
-use Rattle.cqs_plan.specs.Floor.{Holding, JobWait, holds_of, wait_of}
-use Rattle.cqs_plan.specs.FloorHistory.{History, of_permits}
+use Rattle.cqs_plan.specs.Floor.{JobWait}
+use Rattle.cqs_plan.specs.FloorHistory.{of_permits}
 use Rattle.cqs_plan.specs.LegalFloor.{IsHistory}
 use Rattle.cqs_rule.specs.Lists.{IsDistinct}
 use Rattle.cqs_rule.proofs.Lists.{few_below, has_append}
 use Rattle.cqs_shared.specs.Calls as floor
-use Rattle.cqs_shared.specs.Calls.{HasWait, HaveAllMet}
+use Rattle.cqs_shared.specs.Calls.{HasWait}
 use Rattle.cqs_shared.specs.Entries.{IsBefore, is_nothing, own_history}
 use Rattle.cqs_shared.specs.Shared.{IsLegalAt, parties_at, seen_at}
-use Rattle.cqs_shared_floors.specs.declared.floors.holdings.JobHolding.{JobHolding}
 use Rattle.cqs_shared_floors.specs.declared.floors.spots.FloorWait.{FloorWait}
 use Rattle.cqs_shared_floors.specs.declared.floors.spots.Spot.{Spot}
-use Rattle.cqs_shared_floors.specs.FloorKept.{IsFundedAt, IsKept, StandsIn, came_in, funds_in, holdings_to_come, standing_in}
-use Rattle.cqs_shared_floors.specs.Holdings.{held_at, held_by_job, held_by_jobs}
+use Rattle.cqs_shared_floors.specs.FloorKept.{IsFundedAt, IsKept, StandsIn, funds_in, holdings_to_come}
+use Rattle.cqs_shared_floors.specs.Holdings.{held_at, held_by_jobs}
 use Rattle.cqs_shared_floors.specs.Ledgers.{Ledger, holds_in, kind_numbers, own_name, own_rounds, shared_in}
-use Rattle.cqs_shared_floors.specs.Meeting.{CanJoin, HasJoined, HasMetAt, has_wait}
+use Rattle.cqs_shared_floors.specs.Meeting.{CanJoin, HasJoined, has_wait}
 use Rattle.cqs_shared_floors.specs.ShareCalls.{CanMeet, Joins, Meets}
-use Rattle.cqs_shared_floors.specs.Shares.{Funds, IsLawful, Share, join_held, own}
+use Rattle.cqs_shared_floors.specs.Shares.{IsLawful, Share, join_held, own}
 use Rattle.cqs_shared_floors.specs.Spots.{job_wait, place_in, spot_in}
-use Rattle.cqs_shared_floors.proofs.FloorCrews.{few-met, index-past, whole-at}
+use Rattle.cqs_shared_floors.proofs.FloorCrews.{index-past, whole-at}
 use Rattle.cqs_shared_floors.proofs.FloorEnds.{none-in}
-use Rattle.cqs_shared_floors.proofs.FloorLists.{get-mapped, index-mapped, mapped-back}
+use Rattle.cqs_shared_floors.proofs.FloorLists.{get-mapped, index-mapped}
 use Rattle.cqs_shared_floors.proofs.FloorPlaces.{Well}
 use Rattle.cqs_shared_floors.proofs.JobHoldings.{held-joined, job-append, jobs-long, jobs-there}
 use Rattle.cqs_shared_floors.proofs.Runs.{distinct-both}

@@ -1,24 +1,18 @@
 -- A floor as it is made for a plan: what it keeps, and that it is one on which a worker can begin.
-use Rattle.std.proofs.Common.{◌≡◌, ◌≢◌, ◌⊎◌, inl, inr, ℕ, zero, suc, ◌+◌, ◌-◌, ◌*◌, ◌%◌, ◌<◌, ◌≤◌, ◌==◌, nat_le, nat_lt, cond, ◌&&◌, Bool, true, false, List, [], ◌∷◌, ◌++◌, Option, Some, None, is_some, length, map, replicate, set, take, get_or, slice_get, refl, ap, sym, ◌∙◌, subst, sum, sum_by, count_by, lt-ltb, le-ltb, le-leb, arith}
-use Rattle.std.specs.Prelude.{slice_index, if◌then◌else◌}
-use Rattle.std.specs.List.{list_any, range_with_len}
+use Rattle.std.proofs.Common.{◌≡◌, ◌⊎◌, inl, inr, ℕ, zero, suc, ◌+◌, ◌*◌, ◌<◌, ◌≤◌, cond, Bool, true, false, List, [], ◌∷◌, Some, None, is_some, length, map, replicate, get_or, slice_get, refl, ap, sym, ◌∙◌, subst, sum, count_by, arith}
+use Rattle.std.specs.List.{range_with_len}
 use Rattle.std.specs.Option.{option_map}
-use Rattle.std.proofs.lemmas.Bool.{cases_eq, cases_lt}
+use Rattle.std.proofs.lemmas.Bool.{cases_lt}
 use Rattle.std.proofs.lemmas.List.{length-map, length-replicate}
 use Rattle.std.proofs.lemmas.List.Folds.{sum_by-replicate}
 use Rattle.std.proofs.lemmas.List.FromFn.{get_or-map-range_with_len, length-map-range_with_len}
-use Rattle.std.proofs.lemmas.List.Sums.{sum_by-cons}
-use Rattle.cqs_core.specs.Numbered.{EachAt}
 use Rattle.cqs_core.specs.Parts.{Has}
-use Rattle.cqs_core.proofs.Counts.{bit}
 use Rattle.cqs_core.proofs.Places.{get-below, get-past, get-there}
-use Rattle.cqs_plan.specs.declared.plans.job.Job.{Job}
 use Rattle.cqs_plan.specs.declared.plans.kind.Kind.{Kind}
 use Rattle.cqs_plan.specs.declared.plans.plan.Plan.{Plan}
 use Rattle.cqs_plan.specs.declared.plans.resource.Resource.{Resource}
-use Rattle.cqs_plan.specs.declared.plans.step.Step.{Step}
 use Rattle.cqs_plan.specs.Arriving.{rounds_of}
-use Rattle.cqs_plan.specs.Floor.{HasRound, Holding, JobWait, PlainFloor, opening_floor, room_at}
+use Rattle.cqs_plan.specs.Floor.{HasRound, PlainFloor, room_at}
 use Rattle.cqs_plan.specs.FloorHistory.{of_permits}
 use Rattle.cqs_plan.specs.LegalFloor.{IsHistory}
 use Rattle.cqs_plan.specs.Runnable.{AreSized, IsRunnable, kinds_of}
@@ -27,11 +21,10 @@ use Rattle.cqs_shared.specs.Entries.{is_nothing, own_history}
 use Rattle.cqs_shared.specs.Shared.{IsLegalAt, parties_at, seen_at}
 use Rattle.cqs_work.specs.Needs.{sum_of_needs, parties_needed, room_needed}
 use Rattle.cqs_work.specs.Opening.{IsOpening, dealt}
-use Rattle.cqs_shared_floors.specs.declared.floors.spots.FloorWait.{FloorWait}
 use Rattle.cqs_shared_floors.specs.declared.floors.spots.Spot.{Spot}
-use Rattle.cqs_shared_floors.specs.FloorKept.{IsFundedAt, IsKept, came_in, funds_in, standing_in}
+use Rattle.cqs_shared_floors.specs.FloorKept.{IsFundedAt, IsKept, funds_in}
 use Rattle.cqs_shared_floors.specs.Holdings.{elements_of, held_at, held_by_jobs}
-use Rattle.cqs_shared_floors.specs.Ledgers.{Ledger, holds_in, kind_numbers, own_rounds, shared_in}
+use Rattle.cqs_shared_floors.specs.Ledgers.{Ledger, holds_in, kind_numbers, shared_in}
 use Rattle.cqs_shared_floors.specs.Openings.{AreFresh, IsFresh, IsMade, own_arriving, plan_name, room_of}
 use Rattle.cqs_shared_floors.specs.ShareCalls.{no_funds}
 use Rattle.cqs_shared_floors.specs.Shares.{IsLawful, Share}

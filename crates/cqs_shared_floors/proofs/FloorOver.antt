@@ -1,5 +1,5 @@
 -- The wait of a job is over: it looked at what came, left the line, or was too late to leave.
-use Rattle.std.proofs.Common.{◌≡◌, ◌≢◌, ◌⊎◌, inl, inr, ℕ, suc, ◌+◌, ◌<◌, ◌≤◌, ◌==◌, Bool, true, false, not, ◌&&◌, List, [], ◌∷◌, ◌++◌, Option, Some, None, is_some, length, map, set, get_or, slice_get, refl, ap, sym, ◌∙◌, subst, length-set, count_by, arith}
+use Rattle.std.proofs.Common.{◌≡◌, ◌≢◌, ◌⊎◌, inl, inr, ℕ, ◌+◌, ◌<◌, ◌≤◌, ◌==◌, Bool, true, false, not, ◌&&◌, List, Some, None, is_some, length, map, set, get_or, slice_get, refl, ap, sym, ◌∙◌, subst, length-set, count_by, arith}
 use Rattle.std.specs.Prelude.{if◌then◌else◌}
 use Rattle.std.specs.Option.{option_map, option_map_or}
 use Rattle.std.proofs.lemmas.Bool.{cases_eq}
@@ -8,18 +8,17 @@ use Rattle.std.proofs.lemmas.Option.{get_or_from_slice_get}
 use Rattle.cqs_core.proofs.Counts.{bit}
 use Rattle.cqs_core.proofs.Places.{get-below, get-set_here, get-set_else}
 use Rattle.cqs_plan.specs.declared.plans.kind.Kind.{Kind}
-use Rattle.cqs_plan.specs.Floor.{Holding, JobWait, PlainFloor, wait_of, with_came as with_came_plain, with_newest}
+use Rattle.cqs_plan.specs.Floor.{PlainFloor, wait_of, with_came as with_came_plain, with_newest}
 use Rattle.cqs_plan.specs.Language.{can_hold}
-use Rattle.cqs_rule.specs.declared.config.Place.{Place}
 use Rattle.cqs_shared_floors.specs.declared.floors.holdings.JobHolding.{JobHolding}
 use Rattle.cqs_shared_floors.specs.declared.floors.spots.FloorWait.{FloorWait}
 use Rattle.cqs_shared_floors.specs.declared.floors.spots.Spot.{Spot}
-use Rattle.cqs_shared_floors.specs.FloorKept.{AreApart, IsKept, StandsIn, came_in, funds_in, standing_in}
+use Rattle.cqs_shared_floors.specs.FloorKept.{IsKept, came_in, funds_in, standing_in}
 use Rattle.cqs_shared_floors.specs.Holdings.{and_brought, and_more, held_at, held_by_jobs}
-use Rattle.cqs_shared_floors.specs.Ledgers.{Ledger, brought_to, holds_in, shared_in, spot_of, with_grant, without_wait}
+use Rattle.cqs_shared_floors.specs.Ledgers.{Ledger, brought_to, holds_in, shared_in, with_grant, without_wait}
 use Rattle.cqs_shared_floors.specs.Shares.{Funds, IsSame, KeepsOthers, Share, with_brought, with_came, with_more, with_wait}
-use Rattle.cqs_shared_floors.specs.Spots.{came_at, job_wait, no_spot, place_in, spot_in, spot_over, stands_at, waits_at}
-use Rattle.cqs_shared_floors.proofs.FloorComes.{none-came, none-stands, none-waits}
+use Rattle.cqs_shared_floors.specs.Spots.{came_at, job_wait, no_spot, place_in, spot_in, spot_over, stands_at}
+use Rattle.cqs_shared_floors.proofs.FloorComes.{none-came, none-stands}
 use Rattle.cqs_shared_floors.proofs.FloorLists.{bit-other, bit-same, count-set, index-mapped, map-kept}
 use Rattle.cqs_shared_floors.proofs.FloorNext.{Follows, kept-next, next, stands-on}
 use Rattle.cqs_shared_floors.proofs.JobHoldings.{else-more, held-more, jobs-more}

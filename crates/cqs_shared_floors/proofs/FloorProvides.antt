@@ -1,5 +1,5 @@
 -- What a worker's jobs need of a plan's resources: no more than the plan's steps, and than its own jobs that arrive.
-use Rattle.std.proofs.Common.{◌≡◌, ◌≢◌, ◌⊎◌, inl, inr, ℕ, zero, suc, ◌+◌, ◌-◌, ◌%◌, ◌<◌, ◌≤◌, ◌==◌, nat_le, nat_lt, cond, ◌&&◌, ◌||◌, Bool, true, false, List, [], ◌∷◌, ◌++◌, Some, length, map, take, drop, get_or, slice_get, refl, ap, sym, ◌∙◌, subst, sum_by, count_by, lt-ltb, le-ltb, le-leb, eq-eqb, ne_eqb, eqb-true, arith}
+use Rattle.std.proofs.Common.{◌≡◌, ◌≢◌, ◌⊎◌, inl, inr, ℕ, zero, suc, ◌+◌, ◌%◌, ◌<◌, ◌≤◌, ◌==◌, nat_le, nat_lt, cond, ◌&&◌, ◌||◌, Bool, true, false, List, [], ◌∷◌, ◌++◌, Some, length, map, take, get_or, slice_get, refl, ap, sym, ◌∙◌, count_by, le-ltb, le-leb, eq-eqb, ne_eqb, eqb-true, arith}
 use Rattle.std.specs.Prelude.{if◌then◌else◌}
 use Rattle.std.specs.List.{list_any, range_with_len}
 use Rattle.std.proofs.lemmas.Bool.{cases_eq, cases_lt, lt-leb}
@@ -7,7 +7,6 @@ use Rattle.std.proofs.lemmas.List.{take_more}
 use Rattle.std.proofs.lemmas.List.Sums.{sum_by-cons, sum_by_push}
 use Rattle.std.proofs.lemmas.Option.{slice_get-get_or}
 use Rattle.std.proofs.Math.Seq.{take-length}
-use Rattle.cqs_core.specs.Numbered.{EachAt}
 use Rattle.cqs_core.proofs.Counts.{bit}
 use Rattle.cqs_plan.specs.declared.plans.job.Job.{Job}
 use Rattle.cqs_plan.specs.declared.plans.kind.Kind.{Kind}
@@ -21,7 +20,7 @@ use Rattle.cqs_plan.specs.Runnable.{AreMakeable}
 use Rattle.cqs_turns.specs.declared.states.End.TheVariants as end
 use Rattle.cqs_turns.specs.declared.states.Progress.{Progress}
 use Rattle.cqs_turns.specs.declared.states.Progress.TheVariants.{Stepping, Ended}
-use Rattle.cqs_work.specs.Needs.{comes_to, sum_of_needs, parties_for, parties_needed, room_needed, waits_in}
+use Rattle.cqs_work.specs.Needs.{comes_to, sum_of_needs, parties_for, parties_needed, room_needed}
 use Rattle.cqs_work.specs.Opening.{starting}
 use Rattle.cqs_shared_floors.specs.Openings.{arrives_from, arriving_from, room_of}
 

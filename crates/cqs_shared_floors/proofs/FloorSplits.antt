@@ -1,6 +1,6 @@
 -- The resources of a plan as they are opened, and as a pass for the next worker is split from each.
-use Rattle.std.proofs.Common.{◌≡◌, ◌≢◌, ◌⊎◌, inl, inr, ℕ, zero, suc, ◌+◌, ◌-◌, ◌<◌, ◌≤◌, nat_le, IsTrue, Bool, true, false, List, [], ◌∷◌, ◌++◌, Option, Some, length, map, replicate, set, get_or, slice_get, filter, refl, ap, sym, ◌∙◌, subst, arith}
-use Rattle.std.proofs.lemmas.Bool.{cases_lt, leb-true}
+use Rattle.std.proofs.Common.{◌≡◌, inl, ℕ, zero, suc, ◌+◌, ◌-◌, ◌<◌, ◌≤◌, IsTrue, true, List, [], ◌∷◌, Some, length, map, replicate, get_or, slice_get, refl, ap, sym, ◌∙◌, subst, arith}
+use Rattle.std.proofs.lemmas.Bool.{leb-true}
 use Rattle.cqs_core.specs.Parts.{part}
 use Rattle.cqs_core.proofs.Places.{get-below, get-there}
 use Rattle.cqs_barrier_object.specs.BarrierNames.{entry_names as party_names}
@@ -14,9 +14,8 @@ use Rattle.cqs_plan.specs.FloorHistory.{no_history}
 use Rattle.cqs_plan.specs.Runnable.{IsRunnable}
 use Rattle.cqs_shared.specs.Entries.{are_nothing, is_nothing, own_history}
 use Rattle.cqs_shared_floors.specs.Openings.{AreFresh, CanSplitEach, HaveOpened, HaveSplitEach, IsFresh, arriving_from, own_arriving}
-use Rattle.cqs_shared_floors.specs.ShareCalls.{CanSplit, IsOpened, Splits, first_parties, no_funds}
+use Rattle.cqs_shared_floors.specs.ShareCalls.{Splits, first_parties, no_funds}
 use Rattle.cqs_shared_floors.specs.Shares.{Share}
-use Rattle.cqs_shared_floors.proofs.FloorCrews.{index-past}
 use Rattle.cqs_shared_floors.proofs.FloorMeets.{map-alike}
 use Rattle.cqs_shared_floors.proofs.FloorProvides.{all-from}
 

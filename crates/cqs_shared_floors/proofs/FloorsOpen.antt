@@ -1,6 +1,5 @@
 -- All floors of a plan, as they are made one after the other.
-use Rattle.std.proofs.Common.{◌≡◌, ◌≢◌, ◌⊎◌, inl, inr, ℕ, zero, suc, ◌+◌, ◌-◌, ◌<◌, ◌≤◌, List, [], ◌∷◌, ◌++◌, Some, length, map, get_or, slice_get, refl, ap, sym, ◌∙◌, subst, arith}
-use Rattle.std.specs.Prelude.{AllPairs}
+use Rattle.std.proofs.Common.{◌≡◌, ℕ, ◌<◌, ◌≤◌, List, [], ◌∷◌, ◌++◌, length, map, get_or, ap, sym, ◌∙◌, subst, arith}
 use Rattle.std.proofs.lemmas.List.{length-map}
 use Rattle.std.proofs.lemmas.Option.{slice_get-get_or}
 use Rattle.cqs_core.specs.Numbered.{EachAt}
@@ -9,7 +8,7 @@ use Rattle.cqs_plan.specs.declared.plans.plan.Plan.{Plan}
 use Rattle.cqs_shared.specs.Shared.{Shared}
 use Rattle.cqs_work.specs.Opening.{AreSplit, IsOpening}
 use Rattle.cqs_shared_floors.specs.Ledgers.{Ledger, shared_in}
-use Rattle.cqs_shared_floors.specs.Openings.{AreLimits, plan_name}
+use Rattle.cqs_shared_floors.specs.Openings.{AreLimits}
 use Rattle.cqs_shared_floors.specs.Shares.{Share}
 use Rattle.cqs_shared_floors.proofs.FloorLists.{mapped-back}
 

@@ -1,8 +1,7 @@
 -- Lists of what resources are kept as, of which one after the other is split.
-use Rattle.std.proofs.Common.{◌≡◌, ◌≢◌, ◌⊎◌, inl, inr, ℕ, ◌+◌, ◌<◌, ◌≤◌, List, [], ◌∷◌, ◌++◌, Some, length, set, slice_get, refl, ap, sym, ◌∙◌, subst, length-set, arith}
+use Rattle.std.proofs.Common.{◌≡◌, ◌≢◌, ◌⊎◌, inl, inr, ℕ, ◌+◌, ◌<◌, List, [], ◌∷◌, ◌++◌, Some, length, set, slice_get, ap, sym, ◌∙◌, subst, arith}
 use Rattle.std.proofs.lemmas.Bool.{cases_eq}
-use Rattle.std.proofs.lemmas.List.{length_push}
-use Rattle.cqs_core.proofs.Places.{get-append_below, get-append_left, get-below, get-push_at, get-set_else, get-set_here}
+use Rattle.cqs_core.proofs.Places.{get-append_left, get-push_at, get-set_else, get-set_here}
 use Rattle.cqs_shared_floors.specs.Openings.{HasSplitAt}
 use Rattle.cqs_shared_floors.specs.ShareCalls.{HasSplit}
 use Rattle.cqs_shared_floors.specs.Shares.{Share}

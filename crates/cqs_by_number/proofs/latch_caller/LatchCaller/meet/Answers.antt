@@ -1,7 +1,6 @@
-use Rattle.std.proofs.Common.{ap, refl}
+use Rattle.std.proofs.Common.{refl}
 use Rattle.cqs_by_number.proofs.LatchKept.{owes-none}
 use Rattle.cqs_by_number.proofs.TokenSteps.{the_wait, tokens_stay}
-use Rattle.cqs_rule.specs.Passes.{pass_view}
 use Rattle.cqs_by_number.proofs.NotRefused.{no-cause}
 use Rattle.cqs_by_number.proofs.latch_caller.LatchCaller.meet.Goals as goal
 

@@ -1,4 +1,4 @@
-use Rattle.std.proofs.Common.{◌≡◌, ℕ, ◌+◌, ◌<◌, List, [], Some, length, map, set, get_or, slice_get, ap, sym, subst, ◌∙◌, length-set, arith}
+use Rattle.std.proofs.Common.{◌≡◌, ◌+◌, ◌<◌, [], Some, length, map, set, get_or, ap, sym, subst, ◌∙◌, length-set, arith}
 use Rattle.std.proofs.lemmas.List.{length-map, map-set}
 use Rattle.std.proofs.lemmas.Option.{slice_get-get_or}
 use Rattle.cqs_shared_floors.proofs.FloorLists.{index-mapped}

@@ -1,4 +1,4 @@
-use Rattle.std.proofs.Common.{◌≡◌, ℕ, ◌<◌, ◌≤◌, get_or, length, map, max}
+use Rattle.std.proofs.Common.{◌≡◌, ℕ, ◌<◌, ◌≤◌, length, map, max}
 use Rattle.cqs_shared_floors.specs.Ledgers.{own_round, own_rounds}
 use Rattle.cqs_shared_floors.proofs.floors.meeting.raise_rounds.Given as goal
 

@@ -1,4 +1,4 @@
-use Rattle.cqs_shared_floors.specs.declared.kinds.any.AnyShared.TheVariants.{Permits, Pool, Latch, Rounds}
+use Rattle.cqs_shared_floors.specs.declared.kinds.any.AnyShared.TheVariants.{Permits, Pool}
 use Rattle.cqs_shared_floors.specs.AnyShares.{share_any}
 use Rattle.cqs_shared_floors.proofs.AmongShares.{gives-among}
 use Rattle.cqs_shared_floors.proofs.kinds.any.AnySharedSharedResource.give.Goals as goal

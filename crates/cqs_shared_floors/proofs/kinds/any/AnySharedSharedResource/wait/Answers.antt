@@ -1,4 +1,4 @@
-use Rattle.cqs_shared_floors.specs.declared.kinds.any.AnyShared.TheVariants.{Permits, Pool, Latch, Rounds}
+use Rattle.cqs_shared_floors.specs.declared.kinds.any.AnyShared.TheVariants.{Latch}
 use Rattle.cqs_shared_floors.specs.AnyShares.{share_any}
 use Rattle.cqs_shared_floors.proofs.AmongShares.{waits-among}
 use Rattle.cqs_shared_floors.proofs.kinds.any.AnySharedSharedResource.wait.Goals as goal

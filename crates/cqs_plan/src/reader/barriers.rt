@@ -27,11 +27,12 @@ fn arriving(jobs: &[Job], barrier: u32) -> usize
     jobs.iter().filter(|job| arrives(job, barrier)).count()
 }
 
-fn has_parties(kind: Kind, jobs: usize) -> bool
-    ensures { result ≡ has_parties kind jobs }
+/// No more jobs arrive at a resource than its kind allows: only a barrier limits them.
+fn has_parties(kind: Kind, jobs: &[Job], at: u32) -> bool
+    ensures { result ≡ has_parties kind (arriving at jobs.now) }
 {
     match kind {
-        Kind::Rounds { parties, .. } => jobs <= parties as usize,
+        Kind::Rounds { parties, .. } => arriving(jobs, at) <= parties as usize,
         Kind::Semaphore(_) | Kind::Mutex | Kind::Pool(_) | Kind::Latch(_) => true,
     }
 }
@@ -50,7 +51,7 @@ fn barrier_place(alloc: Global, name: &[u8]) -> Result<Name, PlanError>
 fn barrier(alloc: Global, at: u32, resource: &Resource, jobs: &[Job]) -> Result<(), PlanError>
     ensures { Reads result (barrier_faults jobs.now at resource.now) }
 {
-    if has_parties(resource.kind, arriving(jobs, at)) {
+    if has_parties(resource.kind, jobs, at) {
         return Ok(());
     }
     let place = barrier_place(alloc, resource.name.as_slice())?;

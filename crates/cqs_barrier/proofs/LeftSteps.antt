@@ -1,6 +1,5 @@
 -- A cancel, and a leaving that goes on: the call rule and the cause of each answer.
 use Rattle.std.proofs.Common.{◌≡◌, inl, inr, ℕ, ◌+◌, List, [], ◌∷◌, sym, refl, ap, ◌∙◌, subst}
-use Rattle.std.proofs.lemmas.List.{append-nil}
 use Rattle.cqs_core.specs.declared.doings.Doing.TheVariants as doing
 use Rattle.cqs_core.specs.QueueSteps.{starts_leaving, row_of}
 use Rattle.cqs_barrier_object.specs.declared.entries.BarrierEntry.{BarrierEntry}
@@ -10,7 +9,7 @@ use Rattle.cqs_rule.specs.declared.view.Facts.{Facts}
 use Rattle.cqs_rule.specs.declared.view.View.{View}
 use Rattle.cqs_rule.specs.Called.{Called}
 use Rattle.cqs_rule.specs.Lists.{Has, without}
-use Rattle.cqs_rule.proofs.Calls.{called-by, called-and}
+use Rattle.cqs_rule.proofs.Calls.{called-none, called-by, called-and}
 use Rattle.cqs_cell.specs.Transitions.{MadeBy}
 use Rattle.cqs_cancel.specs.Cancels.{CameLate}
 use Rattle.cqs_barrier.specs.declared.answers.PartyLeft.{PartyLeft}
@@ -33,28 +32,7 @@ module _ {T : Type 0} where
 
   pub starts-here : (v : View BarrierEntry T) → v.facts.has.further ≡ 0 → Starts v v
   starts-here v none = record {
-    called = record {
-      more = [];
-      seen = sym (append-nil v.seen);
-      mine = λ n h. refl;
-      before = v.seen;
-      ends = sym (append-nil v.seen);
-      same = record {
-        number = refl;
-        weight = refl;
-        own = refl;
-        crew = refl;
-        alone = refl;
-        limit = refl;
-        cells = refl;
-        passes = refl;
-        opening = refl;
-      };
-      handed = ([], sym (append-nil v.handed));
-      unlaid = λ j bare. bare;
-      homes = ([], sym (append-nil v.homes));
-      sole = λ a. refl;
-    };
+    called = called-none barrier_object v;
     held = refl;
     further = none;
     same_further = refl;

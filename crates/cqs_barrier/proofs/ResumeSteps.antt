@@ -15,7 +15,7 @@ use Rattle.cqs_rule.specs.declared.view.Facts.{Facts}
 use Rattle.cqs_rule.specs.declared.view.View.{View}
 use Rattle.cqs_rule.specs.Called.{Called}
 use Rattle.cqs_rule.specs.Counts.{Drew}
-use Rattle.cqs_rule.proofs.Calls.{called-by, called-and}
+use Rattle.cqs_rule.proofs.Calls.{called-none, called-by, called-and}
 use Rattle.cqs_resume.specs.declared.resumed.Resumed.TheVariants as resumed
 use Rattle.cqs_resume.specs.Resumes.{Ended, Resumes}
 use Rattle.cqs_resume.specs.Rounds.{Round, draw_entries, round_entries, over_entries, drawn_in, one_if, numbers}
@@ -164,28 +164,7 @@ module _ {T : Type 0} where
 -- nothing was resumed yet
 pub ran-none : {T : Type 0} (v : View BarrierEntry T) → Ran [] [] v v
 ran-none v = record {
-  called = record {
-    more = [];
-    seen = sym (append-nil v.seen);
-    mine = λ n h. refl;
-    before = v.seen;
-    ends = sym (append-nil v.seen);
-    same = record {
-      number = refl;
-      weight = refl;
-      own = refl;
-      crew = refl;
-      alone = refl;
-      limit = refl;
-      cells = refl;
-      passes = refl;
-      opening = refl;
-    };
-    handed = ([], sym (append-nil v.handed));
-    unlaid = λ j bare. bare;
-    homes = ([], sym (append-nil v.homes));
-    sole = λ a. refl;
-  };
+  called = called-none barrier_object v;
   held = refl;
   waits = refl;
   passed = sym (append-nil v.facts.passed);

@@ -33,8 +33,8 @@ use Rattle.cqs_rule.specs.declared.queue.tokens.Wait.{Wait}
 use Rattle.cqs_rule.specs.declared.view.Opening.{Opening}
 use Rattle.cqs_rule.specs.declared.view.View.{View}
 use Rattle.cqs_rule.specs.Lists.{without}
-use Rattle.cqs_rule.specs.Views.{IsSame}
 use Rattle.cqs_rule.specs.Waits.{HasWait, place_of}
+use Rattle.cqs_rule.proofs.Calls.{same-then}
 use Rattle.cqs_cli.specs.LatchEnds.{ServesAll}
 use Rattle.cqs_cli.proofs.LatchRests.{Comes, allowed-next, plain-next, went}
 
@@ -57,32 +57,6 @@ kept-simple o (entry.LookGranted c k) = refl
 stays-simple : (o : Latch) (es : List LatchEntry) → (fold after_entry o es).simple ≡ o.simple
 stays-simple o [] = refl
 stays-simple o (e ∷ es) = stays-simple (after_entry o e) es ∙ kept-simple o e
-
-pub same-here : {T : Type 0} (v : View LatchEntry T) → IsSame v v
-same-here v = record {
-  number = refl;
-  weight = refl;
-  own = refl;
-  crew = refl;
-  alone = refl;
-  limit = refl;
-  cells = refl;
-  passes = refl;
-  opening = refl;
-}
-
-pub then-same : {T : Type 0} (v u w : View LatchEntry T) → IsSame v u → IsSame u w → IsSame v w
-then-same v u w a b = record {
-  number = b.number ∙ a.number;
-  weight = b.weight ∙ a.weight;
-  own = b.own ∙ a.own;
-  crew = b.crew ∙ a.crew;
-  alone = b.alone ∙ a.alone;
-  limit = b.limit ∙ a.limit;
-  cells = b.cells ∙ a.cells;
-  passes = b.passes ∙ a.passes;
-  opening = b.opening ∙ a.opening;
-}
 
 module _ {T : Type 0} (v w : View LatchEntry T) (alone : v.alone ≡ true) (zero : v.number ≡ 0) where
   pub counts-comes : (n : ℕ) → HasCounted v (down.Left n) w → Comes v w (entry.DownLeft 0 n ∷ []) v.facts.waits
@@ -122,7 +96,7 @@ module _ {T : Type 0} (v w : View LatchEntry T) (alone : v.alone ≡ true) (zero
         line = served.line;
       } in
       record {
-        same = then-same v u w rule.called.same served.same;
+        same = same-then v u w rule.called.same served.same;
         seen = all-served own v w (serves-then own v u w order rest) served.none
             ∙ ap (λ p. v.seen ++ (entry.DownLast p ∷ entry.Open p ∷ delivers (waiting_in v))) zero;
         rests = record { ready = served.rests.ready; waits_are = served.rests.waits_are ∙ hands.waits_are };

@@ -5,13 +5,13 @@ use Rattle.cqs_core.specs.QueueLine.{Waiting}
 use Rattle.cqs_latch_object.specs.declared.entries.LatchEntry.{LatchEntry}
 use Rattle.cqs_rule.specs.declared.view.View.{View}
 use Rattle.cqs_rule.specs.Views.{IsSame}
+use Rattle.cqs_rule.proofs.Calls.{same-here, same-then}
 use Rattle.cqs_latch.specs.declared.answers.Owed.{Owed}
 use Rattle.cqs_latch.specs.Alone.{HasServedAll, ServesFirst, delivers, waiting_in}
 use Rattle.cqs_latch.specs.CountAnswers.{HasFinished}
 use Rattle.cqs_latch.specs.Owed.{owed_reached}
 use Rattle.cqs_latch.proofs.AloneOrder.{all-served, serves-nobody, serves-then}
 use Rattle.cqs_cli.specs.LatchEnds.{ServesAll}
-use Rattle.cqs_cli.proofs.LatchCalls.{same-here, then-same}
 
 module _ {T : Type 0} where
   -- from v to u the first of the line were served, in order, and nothing else happened
@@ -26,7 +26,7 @@ module _ {T : Type 0} where
   pub ending-goes_on : (owed again : Owed) (v u w : View LatchEntry T) → IsEnding v u
       → HasFinished owed u (Err again) w → ServesFirst [] u w → IsEnding v w
   ending-goes_on owed again v u w e (ends, rule, (hands, grown, more)) first = record {
-    same = then-same v u w e.same rule.called.same;
+    same = same-then v u w e.same rule.called.same;
     first = serves-then [] v u w e.first first;
     waits = hands.waits_are ∙ e.waits;
   }
@@ -45,7 +45,7 @@ module _ {T : Type 0} where
         line = sym (append-nil (waiting_in u)) ∙ ap (λ l. waiting_in u ++ l) (sym none);
       } in
       record {
-        same = then-same v u w e.same rule.called.same;
+        same = same-then v u w e.same rule.called.same;
         seen = all-served [] v w (serves-then [] v u w e.first first) none;
         line = sym (append-nil (waiting_in v)) ∙ ap (λ l. waiting_in v ++ l) (sym none);
         none = none;

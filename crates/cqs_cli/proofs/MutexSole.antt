@@ -18,6 +18,7 @@ use Rattle.cqs_rule.specs.Passes.{pass_view}
 use Rattle.cqs_rule.specs.SlotSteps.{Swapped}
 use Rattle.cqs_rule.specs.Views.{IsSame}
 use Rattle.cqs_rule.specs.Waits.{HasWait, place_of}
+use Rattle.cqs_rule.proofs.Calls.{same-then}
 use Rattle.cqs_semaphore.specs.declared.answers.CancelAnswer.TheVariants as cancel
 use Rattle.cqs_semaphore.specs.declared.answers.Released.TheVariants.{Freed, Sent, Under}
 use Rattle.cqs_semaphore.specs.Alone.{IsFirstOf}
@@ -37,7 +38,7 @@ use Rattle.cqs_cli.specs.declared.floors.mutex_sole.MutexSole.{MutexSole}
 use Rattle.cqs_cli.specs.Soles.{Acquires, Cancels, IsLawful, IsOpened, Polls, Releases}
 use Rattle.cqs_cli.specs.SoleQueue.{IsStill, mutex_pass, news, sole_mutex}
 use Rattle.cqs_cli.proofs.OnePasses.{one-frees, one-grants, one-lates, one-lawful, one-leaves, one-pends, one-sends, one-takes, one-waits}
-use Rattle.cqs_cli.proofs.PassCalls.{frees-comes, grants-comes, hands-comes, hands-first, lates-comes, pends-comes, same-then, sent-comes, takes-comes, takes-free, waits-comes, waits-next}
+use Rattle.cqs_cli.proofs.PassCalls.{frees-comes, grants-comes, hands-comes, hands-first, lates-comes, pends-comes, sent-comes, takes-comes, takes-free, waits-comes, waits-next}
 use Rattle.cqs_cli.proofs.PassRests.{Comes, empty-found, first-found, late-found, left-found, pending-found, served-found, waits-at}
 use Rattle.cqs_cli.proofs.QueueSends.{HasLeft}
 

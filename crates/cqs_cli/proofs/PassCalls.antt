@@ -12,6 +12,7 @@ use Rattle.cqs_rule.specs.declared.view.View.{View}
 use Rattle.cqs_rule.specs.Lists.{without}
 use Rattle.cqs_rule.specs.Views.{IsSame}
 use Rattle.cqs_rule.specs.Waits.{place_of}
+use Rattle.cqs_rule.proofs.Calls.{same-then}
 use Rattle.cqs_semaphore.specs.declared.answers.Acquired.TheVariants.{Now, Later}
 use Rattle.cqs_semaphore.specs.declared.answers.CancelAnswer.TheVariants.{TooLate}
 use Rattle.cqs_semaphore.specs.declared.answers.Permit.{Permit}
@@ -27,20 +28,6 @@ use Rattle.cqs_cli.proofs.PassRests.{Comes, IsNext, free-found, next-found, plai
 first-of : (line : List Waiting) (k : ℕ) → IsFirstOf line k → IsFirst k line
 first-of [] k first = absurd first
 first-of (w ∷ line) k first = first
-
-module _ {T : Type 0} where
-  pub same-then : (u v w : View Entry T) → IsSame u v → IsSame v w → IsSame u w
-  same-then u v w one two = record {
-    number = two.number ∙ one.number;
-    weight = two.weight ∙ one.weight;
-    own = two.own ∙ one.own;
-    crew = two.crew ∙ one.crew;
-    alone = two.alone ∙ one.alone;
-    limit = two.limit ∙ one.limit;
-    cells = two.cells ∙ one.cells;
-    passes = two.passes ∙ one.passes;
-    opening = two.opening ∙ one.opening;
-  }
 
 module _ {T : Type 0} (v w : View Entry T) where
   -- An acquire.

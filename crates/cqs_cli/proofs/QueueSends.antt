@@ -15,6 +15,7 @@ use Rattle.cqs_rule.specs.declared.view.View.{View}
 use Rattle.cqs_rule.specs.Lists.{without}
 use Rattle.cqs_rule.specs.Owed.{HasUnder}
 use Rattle.cqs_rule.specs.Views.{IsSame}
+use Rattle.cqs_rule.proofs.Calls.{same-then}
 use Rattle.cqs_semaphore.specs.declared.answers.Released.{Released}
 use Rattle.cqs_semaphore.specs.declared.answers.CancelAnswer.TheVariants.{Cancelled}
 use Rattle.cqs_semaphore.specs.declared.answers.Released.TheVariants.{Freed, Left, Sent, Under, Void}
@@ -23,23 +24,9 @@ use Rattle.cqs_semaphore.specs.Answers.{Ends}
 use Rattle.cqs_semaphore.specs.Calls.{CallRule, Rests, plain_after}
 use Rattle.cqs_semaphore.specs.Entries.{passed_further, resumed_further}
 use Rattle.cqs_semaphore.specs.Steps.{HasCancelled}
-use Rattle.cqs_cli.proofs.PassCalls.{same-then}
 use Rattle.cqs_cli.proofs.PassRests.{Comes, left-way, plain-next, went}
 
 module _ {T : Type 0} where
-  pub same-first : (v : View Entry T) → IsSame v v
-  same-first v = record {
-    number = refl;
-    weight = refl;
-    own = refl;
-    crew = refl;
-    alone = refl;
-    limit = refl;
-    cells = refl;
-    passes = refl;
-    opening = refl;
-  }
-
   -- the pass rests as it did, and has seen nothing
   pub record HasEnded (u w : View Entry T) : Type 0 where
     pub seen : w.seen ≡ u.seen

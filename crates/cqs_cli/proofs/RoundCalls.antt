@@ -26,12 +26,13 @@ use Rattle.cqs_rule.specs.declared.view.View.{View}
 use Rattle.cqs_rule.specs.Lists.{Has, without}
 use Rattle.cqs_rule.specs.Passes.{limit_of, pass_view}
 use Rattle.cqs_rule.specs.Waits.{place_of}
+use Rattle.cqs_rule.proofs.Calls.{same-then}
 use Rattle.cqs_cli.specs.declared.floors.round_sole.RoundSole.{RoundSole}
 use Rattle.cqs_cli.specs.declared.floors.sole_resource.Left.TheVariants as left
 use Rattle.cqs_cli.specs.declared.floors.sole_resource.Looked.TheVariants as looked
 use Rattle.cqs_cli.specs.RoundEnds.{ServesAll}
 use Rattle.cqs_cli.specs.SoleRound.{HasArrived, HasLeft as RoundLeft, HasLooked, IsFundedRound, IsOpenedRound}
-use Rattle.cqs_cli.proofs.RoundRests.{comes-to, delivered-remaining, then-same, told}
+use Rattle.cqs_cli.proofs.RoundRests.{comes-to, delivered-remaining, told}
 
 -- the first entry of a call was allowed after all that the pass had seen
 module _ {T : Type 0} (v w : View BarrierEntry T) (alone : v.alone ≡ true) where
@@ -81,7 +82,7 @@ module _ (parties room : ℕ) (x y : RoundSole) (funded : IsFundedRound parties 
       let none : v.facts.has.held - 1 ≡ 0 = omega (arith, may, before) in
       let after = delivered-remaining (waiting_in v) (complete o) in (
         may,
-        comes-to x y _ (v.facts.has.held - 1) _ mine (then-same v u w rule.called.same all.same)
+        comes-to x y _ (v.facts.has.held - 1) _ mine (same-then v u w rule.called.same all.same)
             (seen ∙ ap (λ p. v.seen ++ (entry.ArriveLast p ∷ delivers (waiting_in v))) funded.rests.number)
             (record {
               ready = all.rests.ready;

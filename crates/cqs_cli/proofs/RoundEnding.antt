@@ -10,8 +10,9 @@ use Rattle.cqs_barrier.specs.Calls.{CallRule, waiting_in}
 use Rattle.cqs_barrier.proofs.ResumeSteps.{delivers-append}
 use Rattle.cqs_rule.specs.declared.view.View.{View}
 use Rattle.cqs_rule.specs.Views.{IsSame}
+use Rattle.cqs_rule.proofs.Calls.{same-here, same-then}
 use Rattle.cqs_cli.specs.RoundEnds.{ServesAll}
-use Rattle.cqs_cli.proofs.RoundRests.{same-here, then-same, told}
+use Rattle.cqs_cli.proofs.RoundRests.{told}
 
 module _ {T : Type 0} where
   -- from v to u the first of the line were served, in order, and nothing else happened
@@ -49,7 +50,7 @@ module _ {T : Type 0} where
   pub ending-goes_on : (again : Owing) (v u w : View BarrierEntry T) → IsEnding v u → v.alone ≡ true
       → Finishes u (Err again) w → IsPlainFinish u (Err again) w → IsEnding v w
   ending-goes_on again v u w e alone (ks, over, f, many, owes) (more, rule, line) = record {
-    same = then-same v u w e.same rule.called.same;
+    same = same-then v u w e.same rule.called.same;
     served = e.served ++ more;
     seen = seen-on v u w e alone more rule;
     line = line-on v u w e alone more rule (waiting_in w) line;
@@ -60,7 +61,7 @@ module _ {T : Type 0} where
   pub ending-ends : (v u w : View BarrierEntry T) → IsEnding v u → v.alone ≡ true
       → Finishes u (Ok tt) w → IsPlainFinish u (Ok tt) w → ServesAll v w
   ending-ends v u w e alone (ks, over, f, ready) (rule, none) = record {
-    same = then-same v u w e.same rule.called.same;
+    same = same-then v u w e.same rule.called.same;
     seen = seen-on v u w e alone (waiting_in u) rule ∙ ap (λ l. v.seen ++ delivers l) (sym e.line);
     none = none;
     rests = record { ready = ready; held_is = f.held ∙ e.held; waits_are = f.waits ∙ e.waits };

@@ -22,32 +22,6 @@ pub delivered-remaining : (ks : List ℕ) (o : Barrier) → (fold after_entry o 
 delivered-remaining [] o = refl
 delivered-remaining (k ∷ ks) o = delivered-remaining ks (after_entry o (entry.Deliver k))
 
-pub same-here : {T : Type 0} (v : View BarrierEntry T) → IsSame v v
-same-here v = record {
-  number = refl;
-  weight = refl;
-  own = refl;
-  crew = refl;
-  alone = refl;
-  limit = refl;
-  cells = refl;
-  passes = refl;
-  opening = refl;
-}
-
-pub then-same : {T : Type 0} (v u w : View BarrierEntry T) → IsSame v u → IsSame u w → IsSame v w
-then-same v u w a b = record {
-  number = b.number ∙ a.number;
-  weight = b.weight ∙ a.weight;
-  own = b.own ∙ a.own;
-  crew = b.crew ∙ a.crew;
-  alone = b.alone ∙ a.alone;
-  limit = b.limit ∙ a.limit;
-  cells = b.cells ∙ a.cells;
-  passes = b.passes ∙ a.passes;
-  opening = b.opening ∙ a.opening;
-}
-
 module _ {T : Type 0} (v w : View BarrierEntry T) where
   -- the plain barrier then
   pub plain-next : (entries : List BarrierEntry) → IsSame v w → w.seen ≡ v.seen ++ entries

@@ -7,7 +7,7 @@ use Rattle.cqs_rule.specs.declared.view.View.{View}
 use Rattle.cqs_rule.specs.Object.{Object}
 use Rattle.cqs_rule.specs.Placed.{KnowsPlace}
 use Rattle.cqs_rule.specs.Saw.{Saw}
-use Rattle.cqs_rule.proofs.Calls.{saw-then}
+use Rattle.cqs_rule.proofs.Calls.{same-here, saw-then}
 use Rattle.cqs_rule.proofs.Places.{knows-saw}
 use Rattle.cqs_find.specs.Finds.{Searched}
 
@@ -26,17 +26,7 @@ module _ {E S : Type 0} (object : Object E) where
         heads = sym (append-nil v.facts.heads) i;
         found = sym (append-nil v.facts.found) i;
       };
-      same = record {
-        number = refl;
-        weight = refl;
-        own = refl;
-        crew = refl;
-        alone = refl;
-        limit = refl;
-        cells = refl;
-        passes = refl;
-        opening = refl;
-      };
+      same = same-here v;
       handed = ([], sym (append-nil v.handed));
       unlaid = λ j bare. bare;
       homes = ([], sym (append-nil v.homes));

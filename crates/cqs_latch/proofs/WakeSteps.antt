@@ -27,6 +27,7 @@ use Rattle.cqs_rule.specs.Exchanges.{FoundCell, HasCell}
 use Rattle.cqs_rule.specs.Layout.{resumes_place}
 use Rattle.cqs_rule.specs.Owed.{HasUnder, under_payload, under_ticket}
 use Rattle.cqs_rule.specs.Saw.{WasFound}
+use Rattle.cqs_rule.proofs.Calls.{called-none}
 use Rattle.cqs_latch.specs.Causes.{primitive_of, cell_of, CellWas}
 use Rattle.cqs_latch.specs.Latch.{latch_object}
 use Rattle.cqs_latch.specs.Waking.{Ending, served_at, left_at, refused_at, missed_at, ending_entries, woken_entries, handed_back, NextEnded, NextHanded, Next, OnEnded, On, Woke}
@@ -105,28 +106,7 @@ module _ {T : Type 0} where
   -- nothing was done yet
   pub along-none : (v : View LatchEntry T) → Along v [] [] v
   along-none v = record {
-    called = record {
-      more = [];
-      seen = sym (append-nil v.seen);
-      mine = λ n h. refl;
-      before = v.seen;
-      ends = sym (append-nil v.seen);
-      same = record {
-        number = refl;
-        weight = refl;
-        own = refl;
-        crew = refl;
-        alone = refl;
-        limit = refl;
-        cells = refl;
-        passes = refl;
-        opening = refl;
-      };
-      handed = ([], sym (append-nil v.handed));
-      unlaid = λ j bare. bare;
-      homes = ([], sym (append-nil v.homes));
-      sole = λ a. refl;
-    };
+    called = called-none latch_object v;
     found = [];
     found_is = sym (append-nil v.facts.found);
   }

@@ -1,5 +1,5 @@
 -- A call is its steps, one after the other.
-use Rattle.std.proofs.Common.{◌≡◌, ℕ, Bool, List, [], ◌++◌, sym, ap, ◌∙◌, subst, append_assoc}
+use Rattle.std.proofs.Common.{◌≡◌, ℕ, Bool, List, [], ◌++◌, sym, refl, ap, ◌∙◌, subst, append_assoc}
 use Rattle.std.proofs.lemmas.List.{append-nil}
 use Rattle.std.proofs.lemmas.List.Elements.{filter-append}
 use Rattle.cqs_rule.specs.declared.view.View.{View}
@@ -14,7 +14,21 @@ prefix-then : {A : Type 0} (a b c : List A) → IsPrefix a b → IsPrefix b c �
 prefix-then a b c p q = (p.0 ++ q.0, q.1 ∙ (ap (λ l. l ++ q.0) p.1 ∙ append_assoc a p.0 q.0))
 
 module _ {E S : Type 0} where
-  same-then : (v u w : View E S) → IsSame v u → IsSame u w → IsSame v w
+  -- before any step
+  pub same-here : (v : View E S) → IsSame v v
+  same-here v = record {
+    number = refl;
+    weight = refl;
+    own = refl;
+    crew = refl;
+    alone = refl;
+    limit = refl;
+    cells = refl;
+    passes = refl;
+    opening = refl;
+  }
+
+  pub same-then : (v u w : View E S) → IsSame v u → IsSame u w → IsSame v w
   same-then v u w p q = record {
     number = q.number ∙ p.number;
     weight = q.weight ∙ p.weight;
@@ -33,6 +47,21 @@ module _ {E : Type 0} (names : ℕ → E → Bool) where
   part-step n between es none = filter-append (names n) between es ∙ ap (λ l. l ++ part names n es) none
 
 module _ {E S : Type 0} (object : Object E) where
+  -- a call of no step
+  pub called-none : (v : View E S) → Called object v [] [] v
+  called-none v = record {
+    more = [];
+    seen = sym (append-nil v.seen);
+    mine = λ n h. refl;
+    before = v.seen;
+    ends = sym (append-nil v.seen);
+    same = same-here v;
+    handed = ([], sym (append-nil v.handed));
+    unlaid = λ j bare. bare;
+    homes = ([], sym (append-nil v.homes));
+    sole = λ a. refl;
+  }
+
   -- a call of one step
   pub called-by : (v w : View E S) (f : Facts) (es : List E) → Saw object v f es w → Called object v es es w
   called-by v w f es s = record {

@@ -86,6 +86,7 @@ module _ {T : Type 0} (v w : View Entry T) (laid : List (ℕ × Option T)) (swap
     own = ap (λ (z : View Entry T). z.own) swapped.is;
     crew = ap (λ (z : View Entry T). z.crew) swapped.is;
     alone = ap (λ (z : View Entry T). z.alone) swapped.is;
+    drawn = ap (λ (z : View Entry T). z.drawn) swapped.is;
     limit = ap (λ (z : View Entry T). z.limit) swapped.is;
     cells = ap (λ (z : View Entry T). z.cells) swapped.is;
     passes = ap (λ (z : View Entry T). z.passes) swapped.is;

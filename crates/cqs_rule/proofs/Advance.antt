@@ -1,6 +1,6 @@
 -- A step of a live pass: it sees the whole history, to which it adds entries of its own. What the rule says of all
 -- other passes stays, whatever kind of step it is; a kind has to show only what `Turned` asks.
-use Rattle.std.proofs.Common.{◌≡◌, ◌≢◌, ℕ, ◌<◌, ◌≤◌, ◌^◌, Bool, true, List, [], ◌++◌, length, set, sym, refl, ap, ◌∙◌, subst, ⊎_elim, inl, arith, length-set, Option, slice_get}
+use Rattle.std.proofs.Common.{◌≡◌, ◌≢◌, ℕ, ◌+◌, ◌<◌, ◌≤◌, ◌^◌, Bool, true, List, [], ◌++◌, length, set, sym, refl, ap, ◌∙◌, subst, ⊎_elim, inl, arith, length-set, Option, slice_get}
 use Rattle.std.specs.Prelude.{slice_index, slice_set}
 use Rattle.std.proofs.lemmas.List.{append-nil}
 use mathlib.Core.Option.{some}
@@ -10,8 +10,10 @@ use Rattle.atomic_table.proofs.Lists.{at_set, set_else}
 use mathlib.Core.Logic.{dite}
 use native.Mathlib.Decide.{ℕ_discrete}
 use Rattle.cqs_rule.specs.declared.view.View.{View}
+use Rattle.cqs_rule.specs.declared.view.Drawn.{Drawn}
 use Rattle.cqs_rule.specs.declared.view.Facts.{Facts}
 use Rattle.cqs_rule.specs.declared.view.Opening.{Opening}
+use Rattle.cqs_rule.specs.Drawn.{draws_in}
 use Rattle.cqs_rule.specs.Hidden.{Hidden}
 use Rattle.cqs_rule.specs.Layout.{client_words}
 use Rattle.cqs_rule.specs.Lists.{Has, IsDistinct, NamesOnly}
@@ -68,10 +70,15 @@ stands-out c p facts out at = record {
 }
 
 -- a view after a step that changes its slots too
-abbrev pub slotted : {E S : Type 0} → View E S → Facts → List E → List (ℕ × S) → ℕ → Bool → Option ℕ
+abbrev pub slotted : {E S : Type 0} → View E S → Facts → List E → List (ℕ × S) → ℕ → Bool → Drawn → Option ℕ
     → List (ℕ × Option S) → View E S
-slotted v facts seen handed crew alone out laid =
-    record (grown v (record facts { open_slot = out }) seen handed) { crew = crew; alone = alone; laid = laid }
+slotted v facts seen handed crew alone drawn out laid =
+    record (grown v (record facts { open_slot = out }) seen handed) {
+      crew = crew;
+      alone = alone;
+      drawn = drawn;
+      laid = laid;
+    }
 
 -- a view's numbers are those of cells, where the table has so many
 pub is-inside : {E S : Type 0} (w : View E S) (cells : ℕ) → w.cells ≡ cells → number_at w.facts.doing < cells
@@ -148,6 +155,7 @@ module _ {E S : Type 0} (object : Object E) (primitive : Primitive E S) (passes 
     pub silent : NamesOnly object.names v.number es
     pub payload_fits : facts.has.payload < 2 ^ 20
     pub slots : Keeps primitive.opens v facts
+    pub draws : d.queue.resumes + draws_in v.facts.found ≡ r.hidden.queue.resumes + draws_in facts.found
     pub now : Segments
     pub later : IsLater r.segments now
 
@@ -198,15 +206,16 @@ module _ {E S : Type 0} (object : Object E) (primitive : Primitive E S) (passes 
   -- the view may take slots from their homes, or put them back
   pub advance-on : (s : State (Option S) (View E S)) (r : R s) (id : ℕ) (cs : List (ℕ × Option S)) (v : View E S)
       (i x : ℕ)
-      (d : Hidden) (es : List E) (facts : Facts) (crew : ℕ) (alone : Bool) (out : Option ℕ)
+      (d : Hidden) (es : List E) (facts : Facts) (crew : ℕ) (alone : Bool) (drawn : Drawn) (out : Option ℕ)
       (laid : List (ℕ × Option S)) (act : Act (Option S))
       → get_elem? s.views id ≡ some v → v.weight ≡ 1 → WasCrew r.made r.live crew → (alone ≡ true → r.live ≡ 1)
+      → (alone ≡ true → d.queue.resumes + drawn.own ≡ drawn.all + draws_in facts.found)
       → Turned s r v i x d es facts
       → Shelf primitive.opens r.handed r.live (homes_after s.homes cs act)
-      (set s.views id (slotted v facts (r.log ++ es) r.handed crew alone out laid))
-      → R (stepped s i x id cs (slotted v facts (r.log ++ es) r.handed crew alone out laid) act)
-  advance-on s r id cs v i x d es facts crew alone out laid act here one found single t shelf =
-      let w : View E S = slotted v facts (r.log ++ es) r.handed crew alone out laid in
+      (set s.views id (slotted v facts (r.log ++ es) r.handed crew alone drawn out laid))
+      → R (stepped s i x id cs (slotted v facts (r.log ++ es) r.handed crew alone drawn out laid) act)
+  advance-on s r id cs v i x d es facts crew alone drawn out laid act here one found single knows t shelf =
+      let w : View E S = slotted v facts (r.log ++ es) r.handed crew alone drawn out laid in
       let k = r.each_view id v here (omega arith) in
       let own : Has v.number v.own = k.own in
       let mine : Has v.number (all_own v) = has_left v.number v.own v.others own in
@@ -252,7 +261,7 @@ module _ {E S : Type 0} (object : Object E) (primitive : Primitive E S) (passes 
               resting = λ n h other. rests-on r.hidden d n (λ f. t.others.stands n f other) (k.resting n h other);
               second = λ two. absurd (omega arith);
               crew = found;
-              alone = λ a. (single a, one, refl, refl);
+              alone = λ a. (single a, one, refl, refl, knows a);
               limit_is = k.limit_is;
               cells_are = k.cells_are;
               passes_are = k.passes_are;
@@ -290,13 +299,15 @@ module _ {E S : Type 0} (object : Object E) (primitive : Primitive E S) (passes 
       }
 
   pub advance : (s : State (Option S) (View E S)) (r : R s) (id : ℕ) (cs : List (ℕ × Option S)) (v : View E S) (i x : ℕ)
-      (d : Hidden) (es : List E) (facts : Facts) (crew : ℕ) (alone : Bool)
+      (d : Hidden) (es : List E) (facts : Facts) (crew : ℕ) (alone : Bool) (drawn : Drawn)
       → get_elem? s.views id ≡ some v → v.weight ≡ 1 → WasCrew r.made r.live crew → (alone ≡ true → r.live ≡ 1)
+      → (alone ≡ true → d.queue.resumes + drawn.own ≡ drawn.all + draws_in facts.found)
       → Turned s r v i x d es facts
-      → R (stepped s i x id cs (record (grown v facts (r.log ++ es) r.handed) { crew = crew; alone = alone }) keeps)
-  advance s r id cs v i x d es facts crew alone here one found single t =
-      let w : View E S = record (grown v facts (r.log ++ es) r.handed) { crew = crew; alone = alone } in
-      advance-on s r id cs v i x d es facts crew alone facts.open_slot v.laid keeps here one found single t
+      → R (stepped s i x id cs
+      (record (grown v facts (r.log ++ es) r.handed) { crew = crew; alone = alone; drawn = drawn }) keeps)
+  advance s r id cs v i x d es facts crew alone drawn here one found single knows t =
+      let w : View E S = record (grown v facts (r.log ++ es) r.handed) { crew = crew; alone = alone; drawn = drawn } in
+      advance-on s r id cs v i x d es facts crew alone drawn facts.open_slot v.laid keeps here one found single knows t
       (shelf-set primitive.opens r.handed r.live s.homes s.views id v w here (omega arith)
       (record { live = omega arith; laid = refl; keeps = t.slots }) r.shelf)
 
@@ -315,6 +326,7 @@ module _ {E S : Type 0} (object : Object E) (primitive : Primitive E S) (passes 
           own = refl;
           crew = refl;
           alone = refl;
+          drawn = refl;
           limit = refl;
           cells = refl;
           passes = refl;

@@ -38,4 +38,5 @@ module _ {C E S : Type 0} (object : Object E) (all : C → Primitive E S) (passe
             alone-rests object (all x) passes limit client s r id v here (omega arith) alone n other
             (let same = k.passes_are in omega arith);
         places = r.room.doing ∙ sym k.passes_are;
+        drawn = (k.alone alone).4;
       }

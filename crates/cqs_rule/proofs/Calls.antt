@@ -22,6 +22,7 @@ module _ {E S : Type 0} where
     own = refl;
     crew = refl;
     alone = refl;
+    drawn = refl;
     limit = refl;
     cells = refl;
     passes = refl;
@@ -35,6 +36,7 @@ module _ {E S : Type 0} where
     own = q.own ∙ p.own;
     crew = q.crew ∙ p.crew;
     alone = q.alone ∙ p.alone;
+    drawn = q.drawn ∙ p.drawn;
     limit = q.limit ∙ p.limit;
     cells = q.cells ∙ p.cells;
     passes = q.passes ∙ p.passes;

@@ -40,6 +40,7 @@ use Rattle.cqs_rule.proofs.CellsStand.{CellAt, cell-at, one-number, place-low}
 use Rattle.cqs_rule.proofs.CellSteps.{WorksAt, works-at, works, since-last}
 use Rattle.cqs_rule.proofs.Lists.{length_without}
 use Rattle.cqs_rule.proofs.WordStays.{looks-to, found-so, counted-at}
+use Rattle.cqs_rule.proofs.Drawing.{draws-cell}
 use Rattle.cqs_rule.proofs.Shelves.{keeps-all}
 use Rattle.cqs_rule.proofs.Worked.{loaded-same}
 
@@ -465,7 +466,7 @@ module _ {E S : Type 0} (object : Object E) (primitive : Primitive E S) (passes 
             once = at.once;
             last = at.last;
             behind = record { reached = at.behind.reached; passed = at.behind.passed };
-          }) known.payload_fits (keeps-all primitive.opens v facts refl (λ j o. o)) in
+          }) known.payload_fits (keeps-all primitive.opens v facts refl (λ j o. o)) (draws-cell f.found k n) in
           let w : View E S = grown v facts (r.log ++ []) r.handed in (
             w,
             keeps,
@@ -572,7 +573,7 @@ module _ {E S : Type 0} (object : Object E) (primitive : Primitive E S) (passes 
         once = at.once;
         last = at.last;
         behind = record { reached = at.behind.reached; passed = at.behind.passed };
-      }) known.payload_fits (keeps-all primitive.opens v facts refl (λ j o. o)) in
+      }) known.payload_fits (keeps-all primitive.opens v facts refl (λ j o. o)) (draws-cell f.found k n) in
       let w : View E S = grown v facts (r.log ++ []) r.handed in (
         w,
         keeps,

@@ -28,6 +28,7 @@ use Rattle.cqs_rule.specs.declared.view.View.{View}
 use Rattle.cqs_rule.specs.declared.view.Facts.{Facts}
 use Rattle.cqs_rule.specs.declared.view.Glimpse.{Glimpse}
 use Rattle.cqs_rule.specs.Client.{IsClient, IsPayload, KeepsSlot}
+use Rattle.cqs_rule.specs.Drawn.{TellsCome}
 use Rattle.cqs_rule.specs.Exchanges.{IsOwnWait, payload_left, Exchanges, MayExchange, IsCrossing, FoundCell, SinceLast, HasCell, Crossed, CrossedBy, crossed}
 use Rattle.cqs_rule.specs.declared.view.Has.{Has}
 use Rattle.cqs_rule.specs.Facts.{facts_worked, facts_missed, waits_then, is_owing}
@@ -46,6 +47,8 @@ use Rattle.cqs_rule.proofs.Advance.{Turned}
 use Rattle.cqs_rule.proofs.Cells.{installed-drawn, idle-stands}
 use Rattle.cqs_rule.proofs.Lists.{length_without}
 use Rattle.cqs_rule.proofs.WordStays.{looks-to, found-so}
+use Rattle.cqs_rule.proofs.Comes.{tells-come}
+use Rattle.cqs_rule.proofs.Drawing.{draws-cell}
 use Rattle.cqs_rule.proofs.Shelves.{keeps-all}
 use Rattle.cqs_rule.proofs.Others.{door-keeps}
 use Rattle.cqs_rule.proofs.Segments.{later-same}
@@ -360,6 +363,7 @@ module _ {E S : Type 0} (object : Object E) (primitive : Primitive E S) (passes 
         slots = keeps-all primitive.opens v (facts_worked object.gains row k n payload f) refl
             (λ j o. subst (λ z. primitive.opens (has_after object.gains z payload f.has) j) is
             (client.slots.steps st f.has payload j suits (subst (λ z. KeepsSlot z payload j) (sym is) tt) o));
+        draws = ap (λ m. c.queue.resumes + m) (sym (draws-cell f.found k n));
         now = r.segments;
         later = later-same r.segments;
       } in
@@ -412,6 +416,7 @@ module _ {E S : Type 0} (object : Object E) (primitive : Primitive E S) (passes 
             cell = cell;
             may = may;
             since = since;
+            come = come;
             entries = es;
             was = found-so object primitive passes limit client all y all_is s r
                 (grown v (facts_worked object.gains row k n pay f) (r.log ++ es) r.handed)
@@ -438,7 +443,7 @@ module _ {E S : Type 0} (object : Object E) (primitive : Primitive E S) (passes 
         once = at.once;
         last = inl (refl, refl);
         behind = record { reached = at.behind.reached; passed = at.behind.passed };
-      }) known.payload_fits (keeps-all primitive.opens v facts refl (λ j o. o)) in (
+      }) known.payload_fits (keeps-all primitive.opens v facts refl (λ j o. o)) (draws-cell f.found k n) in (
         grown v facts (r.log ++ []) r.handed,
         keeps,
         tt,
@@ -450,6 +455,7 @@ module _ {E S : Type 0} (object : Object E) (primitive : Primitive E S) (passes 
             cell = cell;
             may = may;
             since = since;
+            come = come;
             entries = [];
             was = found-so object primitive passes limit client all y all_is s r (grown v facts (r.log ++ []) r.handed)
                 (HasCell g) []
@@ -517,6 +523,9 @@ module _ {E S : Type 0} (object : Object E) (primitive : Primitive E S) (passes 
 
       since : SinceLast g f.last
       since = since-last c k f.last at.last
+
+      come : TellsCome v k g.state
+      come = tells-come object primitive passes limit client s r id v k here one
 
       T : Bool → Type 0
       T b = (w : View E S) × (a : Act (Option S)) × Valid s.homes me.1 a

@@ -45,6 +45,7 @@ use Rattle.cqs_rule.proofs.Advance.{Turned, OthersStay}
 use Rattle.cqs_rule.proofs.Lists.{fewer_draw}
 use Rattle.cqs_rule.proofs.Others.{door-keeps}
 use Rattle.cqs_rule.proofs.Segments.{later-same}
+use Rattle.cqs_rule.proofs.Drawing.{draws-word, draws-one}
 use Rattle.cqs_rule.proofs.Shelves.{Keeps}
 use Rattle.cqs_rule.proofs.Tells.{steps, suspends-low, resumes-low}
 use Rattle.cqs_rule.proofs.Words.{this-word, crew-else, cells-else, client-below, idle-else, other-word}
@@ -383,6 +384,7 @@ module _ {E S : Type 0} (object : Object E) (primitive : Primitive E S) (passes 
         silent = client.silent st p n payload;
         payload_fits = paid-fits cost payload f.has fits known.payload_fits;
         slots = keeps-paid st cost payload v facts is refl refl suits stays;
+        draws = ap (λ k. c.queue.resumes + k) (sym (draws-word f.found 16 n (λ e. omega arith)));
         now = r.segments;
         later = later-same r.segments;
       } in
@@ -496,6 +498,7 @@ module _ {E S : Type 0} (object : Object E) (primitive : Primitive E S) (passes 
         silent = client.silent st p n payload;
         payload_fits = paid-fits cost payload f.has fits known.payload_fits;
         slots = keeps-paid st cost payload v facts is refl refl suits stays;
+        draws = let more = draws-one f.found n in omega arith;
         now = r.segments;
         later = later-same r.segments;
       } in

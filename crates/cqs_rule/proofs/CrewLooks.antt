@@ -1,5 +1,5 @@
 -- The loads of the crew's word: what a pass finds there, and that all others rest where it is alone.
-use Rattle.std.proofs.Common.{◌≡◌, ◌≢◌, ℕ, ◌<◌, ◌≤◌, Bool, true, List, [], ◌++◌, sym, refl, ◌∙◌, subst, ⊎_elim, inr, arith, eq-eqb, Option}
+use Rattle.std.proofs.Common.{◌≡◌, ◌≢◌, ℕ, ◌+◌, ◌<◌, ◌≤◌, Bool, true, List, [], ◌++◌, sym, refl, ◌∙◌, subst, ⊎_elim, inr, arith, eq-eqb, Option}
 use Rattle.std.specs.Prelude.{slice_index, ◌==◌}
 use Rattle.std.proofs.lemmas.List.{append-nil}
 use Rattle.std.proofs.lemmas.Bool.{eqb-true, cases_lt}
@@ -8,7 +8,9 @@ use mathlib.Core.Logic.{dite}
 use native.Mathlib.Decide.{ℕ_discrete}
 use lib.ListN.{get_elem?}
 use Rattle.atomic_table.specs.Table.{State, Me, step, stepped, keeps, Allows}
+use Rattle.cqs_rule.specs.declared.view.Drawn.{Drawn}
 use Rattle.cqs_rule.specs.declared.view.View.{View}
+use Rattle.cqs_rule.specs.Drawn.{draws_in}
 use Rattle.cqs_rule.specs.Hidden.{Hidden}
 use Rattle.cqs_rule.specs.Layout.{client_words}
 use Rattle.cqs_rule.specs.Lists.{Has}
@@ -76,20 +78,26 @@ module _ {E S : Type 0} (object : Object E) (primitive : Primitive E S) (passes 
 
   -- the pass only looks at the crew's word
   pub looks : (s : State (Option S) (View E S)) (r : R s) (id : ℕ) (me : Me (Option S) (View E S)) (alone : Bool)
+      (drawn : Drawn)
       → get_elem? s.views id ≡ some me.0 → me.0.weight ≡ 1 → (alone ≡ true → r.live ≡ 1)
+      → (alone ≡ true → r.hidden.queue.resumes + drawn.own ≡ drawn.all + draws_in me.0.facts.found)
       → R (stepped s 0 (slice_index s.words 0) id me.1
-      (record (grown me.0 me.0.facts (r.log ++ []) r.handed) { crew = slice_index s.words 0; alone = alone }) keeps)
+      (record (grown me.0 me.0.facts (r.log ++ []) r.handed) {
+        crew = slice_index s.words 0;
+        alone = alone;
+        drawn = drawn;
+      }) keeps)
       × Saw object me.0 me.0.facts [] (grown me.0 me.0.facts (r.log ++ []) r.handed)
       × IsLive object (grown me.0 me.0.facts (r.log ++ []) r.handed)
-  looks s r id me alone here one sole =
+  looks s r id me alone drawn here one sole knows =
       let v = me.0 in
       let k = r.each_view id v here (omega arith) in
       let n = slice_index s.words 0 in
       let t = still object primitive passes limit client s r v 0 r.hidden v.facts
       r.counters r.cells r.room r.door r.shown (others-same r.hidden v.number) k.stands k.payload_fits
-      (keeps-same primitive.opens v) in (
-        advance object primitive passes limit s r id me.1 v 0 n r.hidden [] v.facts n alone here one
-            (inr r.crew.word) sole t,
+      (keeps-same primitive.opens v) refl in (
+        advance object primitive passes limit s r id me.1 v 0 n r.hidden [] v.facts n alone drawn here one
+            (inr r.crew.word) sole knows t,
         (steps object primitive passes limit client s r id me 0 n r.hidden [] v.facts here one t).1,
         (steps object primitive passes limit client s r id me 0 n r.hidden [] v.facts here one t).2,
       )
@@ -108,8 +116,9 @@ module _ {E S : Type 0} (object : Object E) (primitive : Primitive E S) (passes 
       let l = crew-of n r.made r.live r.crew.word (omega arith) in
       let b : Bool = live_in n == 1 in
       let is_one : b ≡ true → r.live ≡ 1 = λ e. sym l.0 ∙ eqb-true (live_in n) 1 e in
-      let t = looks s r id me b here one is_one in (
-        record (grown v v.facts (r.log ++ []) r.handed) { crew = n; alone = b },
+      let drawn : Drawn = record { all = r.hidden.queue.resumes; own = draws_in v.facts.found } in
+      let t = looks s r id me b drawn here one is_one (λ a. refl) in (
+        record (grown v v.facts (r.log ++ []) r.handed) { crew = n; alone = b; drawn = drawn },
         keeps,
         tt,
         t.0,
@@ -122,9 +131,10 @@ module _ {E S : Type 0} (object : Object E) (primitive : Primitive E S) (passes 
             saw = t.1;
           },
           refl,
-          live-before object v (record (grown v v.facts (r.log ++ []) r.handed) { crew = n; alone = b }) t.2,
+          live-before object v (record (grown v v.facts (r.log ++ []) r.handed) { crew = n; alone = b; drawn = drawn })
+              t.2,
           λ a. tells r.hidden (client_words s.words)
-              (record (grown v v.facts (r.log ++ []) r.handed) { crew = n; alone = b })
+              (record (grown v v.facts (r.log ++ []) r.handed) { crew = n; alone = b; drawn = drawn })
               (subst (λ h. primitive.shows r.hidden (client_words s.words) h r.handed) (sym (append-nil r.log)) r.shown)
               (sym k.opening_is) k.stands
               (λ m other low. sole-rests s r id v here one (is_one a) m other (let same = k.passes_are in omega arith)),

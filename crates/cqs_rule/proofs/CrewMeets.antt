@@ -150,7 +150,7 @@ module _ {E S : Type 0} (object : Object E) (primitive : Primitive E S) (passes 
             })
             (λ i y a at not live. knows-on object r.hidden d r.log r.handed r.made r.live r.made r.live passes limit
             (cell_count passes limit primitive.values) primitive.opening y
-            (omega arith) (else-stands i y a not at) (r.each_view i y at live).crew (λ z. refl)
+            (omega arith) (else-stands i y a not at) (r.each_view i y at live).crew (λ z. refl) refl
             (r.each_view i y at live))
             j x e b);
         apart = apart-joined s.views id other v u w r.apart here at-other apart refl refl;
@@ -337,7 +337,7 @@ module _ {E S : Type 0} (object : Object E) (primitive : Primitive E S) (passes 
               (omega arith) (λ i f h stands. stands) (crew-met r.made r.live u.crew more few-made (omega arith) p.crew)
               (λ a. let was = p.alone a in let both =
               two_of weight s.views j id u v apart at here in absurd (omega arith))
-              p);
+              refl p);
           apart = apart-set s.views id v w r.apart here (λ j h. inl (only-left j (v.own ++ v.others) h));
           spent = spent-set object primitive passes limit s.views id w (omega arith) r.spent;
           unnamed = r.unnamed;

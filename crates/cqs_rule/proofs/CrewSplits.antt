@@ -219,7 +219,7 @@ module _ {E S : Type 0} (object : Object E) (primitive : Primitive E S) (passes 
                   let was = p.alone a in
                   let two = two_of weight s.views j id u v apart at here in
                   let l = r.crew.live_is in absurd (omega arith))
-                  p);
+                  refl p);
               apart = apart-set s.views id v w r.apart here
                   (λ j h. ⊎_elim (λ q. inl (has_left j v.own v.others q))
                   (λ q. ⊎_elim (λ (z : j ≡ m). inr (λ i u a at g. unmade i u at j g (omega arith))) (λ z. absurd z) q)
@@ -281,6 +281,7 @@ module _ {E S : Type 0} (object : Object E) (primitive : Primitive E S) (passes 
                     own = refl;
                     crew = refl;
                     alone = refl;
+                    drawn = refl;
                     limit = refl;
                     cells = refl;
                     passes = refl;
@@ -302,10 +303,12 @@ module _ {E S : Type 0} (object : Object E) (primitive : Primitive E S) (passes 
           )
         where
           told : Saw object v v.facts [] (grown v v.facts (r.log ++ []) r.handed)
-          told = (looks object primitive passes limit client s r id me false here one (λ t. absurd (off t))).1
+          told = (looks object primitive passes limit client s r id me false v.drawn here one (λ t. absurd (off t))
+              (λ t. absurd (off t))).1
 
           alive : IsLive object (grown v v.facts (r.log ++ []) r.handed)
-          alive = (looks object primitive passes limit client s r id me false here one (λ t. absurd (off t))).2
+          alive = (looks object primitive passes limit client s r id me false v.drawn here one (λ t. absurd (off t))
+              (λ t. absurd (off t))).2
 
           -- no other view has a number that isn't made
           unmade : (i : ℕ) (u : View E S) → get_elem? s.views i ≡ some u → (j : ℕ) → Has j (all_own u) → r.made ≤ j → ⊥
@@ -316,7 +319,8 @@ module _ {E S : Type 0} (object : Object E) (primitive : Primitive E S) (passes 
 
       miss : n ≢ first → Done n
       miss other =
-          let t = looks object primitive passes limit client s r id me v.alone here one (λ a. (k.alone a).0) in
+          let t = looks object primitive passes limit client s r id me v.alone v.drawn here one (λ a. (k.alone a).0)
+          (λ a. (k.alone a).4) in
           let live : live_in n ≡ r.live = crew.0 in
           let made : made_in n ≡ r.made = crew.1 in (
             record (grown v v.facts (r.log ++ []) r.handed) { crew = n },

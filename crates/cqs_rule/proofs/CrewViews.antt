@@ -1,5 +1,5 @@
 -- The numbers of the views, where one is changed, cut in two or joined, and what the rule says of the others.
-use Rattle.std.proofs.Common.{◌≡◌, ◌≢◌, ◌⊎◌, ℕ, ◌<◌, ◌≤◌, true, List, [], ◌∷◌, ◌++◌, length, set, sym, refl, ◌∙◌, subst, ⊎_elim, inl, inr, arith}
+use Rattle.std.proofs.Common.{◌≡◌, ◌≢◌, ◌⊎◌, ℕ, ◌+◌, ◌<◌, ◌≤◌, true, List, [], ◌∷◌, ◌++◌, length, set, sym, refl, ap, ◌∙◌, subst, ⊎_elim, inl, inr, arith}
 use mathlib.Core.Option.{some}
 use mathlib.Core.Logic.{dite}
 use native.Mathlib.Decide.{ℕ_discrete}
@@ -123,10 +123,10 @@ module _ {E S : Type 0} (object : Object E) where
   pub knows-on : (c d : Hidden) (log : List E) (given : List (ℕ × S)) (made live made' live' passes limit cells : ℕ)
       (opening : Opening) (u : View E S)
       → made ≤ made' → ((n : ℕ) (facts : Facts) → Has n (all_own u) → Stands c n facts → Stands d n facts)
-      → WasCrew made' live' u.crew → (u.alone ≡ true → live' ≡ live)
+      → WasCrew made' live' u.crew → (u.alone ≡ true → live' ≡ live) → d.queue.resumes ≡ c.queue.resumes
       → Knows object c log given made live passes limit cells opening u
       → Knows object d log given made' live' passes limit cells opening u
-  knows-on c d log given made live made' live' passes limit cells opening u more stay crew alone k = record {
+  knows-on c d log given made live made' live' passes limit cells opening u more stay crew alone resumes k = record {
     sees = k.sees;
     below = λ n h. let b = k.below n h in omega arith;
     light = k.light;
@@ -136,7 +136,9 @@ module _ {E S : Type 0} (object : Object E) where
     resting = λ n h other. rests-on c d n (λ f. stay n f (has_left n u.own u.others h)) (k.resting n h other);
     second = λ two. second-on c d u (λ n f h. stay n f (has_right n u.own u.others h)) (k.second two);
     crew = crew;
-    alone = λ a. let was = k.alone a in (alone a ∙ was.0, was.1, was.2, was.3);
+    alone = λ a.
+        let was = k.alone a in
+        (alone a ∙ was.0, was.1, was.2, was.3, ap (λ n. n + u.drawn.own) resumes ∙ was.4);
     limit_is = k.limit_is;
     cells_are = k.cells_are;
     passes_are = k.passes_are;

@@ -127,7 +127,7 @@ module _ {E S : Type 0} (object : Object E) where
     second = λ two. let t = k.second two in
         record { own = t.own; stands = t.stands; resting = t.resting; payload_fits = t.payload_fits };
     crew = k.crew;
-    alone = λ a. let was = k.alone a in (was.0, was.1, was.2, whole a);
+    alone = λ a. let was = k.alone a in (was.0, was.1, was.2, whole a, was.4);
     limit_is = k.limit_is;
     cells_are = k.cells_are;
     passes_are = k.passes_are;

@@ -5,6 +5,7 @@ pub mod Places
 pub mod Words
 pub mod Segments
 pub mod Shelves
+pub mod Drawing
 pub mod Advance
 pub mod Others
 pub mod CellsStand
@@ -20,6 +21,7 @@ pub mod CrewWords
 pub mod CrewHeld
 pub mod CrewViews
 pub mod CrewLooks
+pub mod Comes
 pub mod CrewSplits
 pub mod CrewMeets
 pub mod Swaps

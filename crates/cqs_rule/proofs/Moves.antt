@@ -25,6 +25,7 @@ use Rattle.cqs_rule.specs.Saw.{Saw, IsLive, WasFound}
 use Rattle.cqs_rule.specs.Views.{grown}
 use Rattle.cqs_rule.proofs.CellPlaces.{behind-client, client-inside}
 use Rattle.cqs_rule.proofs.Advance.{Turned}
+use Rattle.cqs_rule.proofs.Drawing.{draws-word}
 use Rattle.cqs_rule.proofs.Shelves.{never-open}
 use Rattle.cqs_rule.proofs.Lines.{line-flat}
 use Rattle.cqs_rule.proofs.Others.{others-moved, door-keeps}
@@ -163,6 +164,7 @@ module _ {C E S : Type 0} (object : Object E) (primitive : C → Primitive E S) 
               omega arith) is o;
           out = λ k is o. absurd (never-open v k may.shut is);
         };
+        draws = ap (λ k. c.queue.resumes + k) (sym (draws-word facts.found word n (λ e. omega arith)));
         now = r.segments;
         later = later-same r.segments;
       } in

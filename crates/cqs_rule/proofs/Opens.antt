@@ -226,7 +226,7 @@ module _ {E S : Type 0} (object : Object E) (primitive : Primitive E S) (passes 
         resting = λ n has other. absurd (other (is-zero n has));
         second = λ two. absurd (omega arith);
         crew = inl (omega arith);
-        alone = λ _. (refl, refl, refl, refl);
+        alone = λ _. (refl, refl, refl, refl, omega arith);
         limit_is = refl;
         cells_are = refl;
         passes_are = refl;

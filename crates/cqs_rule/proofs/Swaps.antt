@@ -82,6 +82,7 @@ module _ {E S : Type 0} (laid : List (ℕ × Option S)) (v w : View E S) (swap :
         stands = a.stands;
         others = a.others;
         places = a.places;
+        drawn = a.drawn;
       })
 
 -- a pass that handed something in just before its step saw what it would have seen without
@@ -99,6 +100,7 @@ saw-given {E} {S} object v g w {facts} {es} t same more less = record {
     own = t.same.own ∙ ap (λ u. u.own) same;
     crew = t.same.crew ∙ ap (λ u. u.crew) same;
     alone = t.same.alone ∙ ap (λ u. u.alone) same;
+    drawn = t.same.drawn ∙ ap (λ u. u.drawn) same;
     limit = t.same.limit ∙ ap (λ u. u.limit) same;
     cells = t.same.cells ∙ ap (λ u. u.cells) same;
     passes = t.same.passes ∙ ap (λ u. u.passes) same;

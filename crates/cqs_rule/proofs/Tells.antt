@@ -68,8 +68,8 @@ module _ {E S : Type 0} (object : Object E) (primitive : Primitive E S) (passes 
       let k = r.each_view id me.0 here (omega arith) in
       let words = client_words (slice_set s.words i x) in
       let log = r.log ++ es in (
-        advance object primitive passes limit s r id me.1 me.0 i x d es facts me.0.crew me.0.alone here one k.crew
-            (λ a. (k.alone a).0) t,
+        advance object primitive passes limit s r id me.1 me.0 i x d es facts me.0.crew me.0.alone me.0.drawn here one
+            k.crew (λ a. (k.alone a).0) (λ a. let was = (k.alone a).4 in let more = t.draws in omega arith) t,
         saw object primitive passes limit s r id me.0 es facts here one,
         live object primitive passes limit s r id me.0 es facts here (omega arith)
             (client.legal_shown d words log r.handed t.shown) t.silent

@@ -103,6 +103,7 @@ module _ {E S : Type 0} (object : Object E) where
           own = s.same.own;
           crew = refl;
           alone = refl;
+          drawn = refl;
           limit = s.same.limit;
           cells = s.same.cells;
           passes = s.same.passes;

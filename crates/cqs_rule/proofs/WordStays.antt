@@ -9,6 +9,7 @@ use lib.Seq.{set-get_or}
 use Rattle.atomic_table.specs.Table.{State, Me, keeps, step, Allows}
 use Rattle.cqs_rule.specs.declared.view.View.{View}
 use Rattle.cqs_rule.specs.declared.view.Facts.{Facts}
+use Rattle.cqs_rule.specs.Drawn.{draws_in}
 use Rattle.cqs_rule.specs.Hidden.{Hidden, now_may_draw}
 use Rattle.cqs_rule.specs.Object.{Object, Primitive}
 use Rattle.cqs_rule.specs.Layout.{client_words}
@@ -23,6 +24,7 @@ use Rattle.cqs_rule.specs.Saw.{WasFound}
 use Rattle.cqs_rule.proofs.Lists.{all_draw}
 use Rattle.cqs_rule.proofs.Segments.{later-same}
 use Rattle.cqs_rule.proofs.Advance.{Turned, OthersStay}
+use Rattle.cqs_rule.proofs.Drawing.{draws-word}
 use Rattle.cqs_rule.proofs.Shelves.{Keeps, keeps-all}
 use Rattle.cqs_rule.proofs.Others.{others-same, others-counted, door-keeps}
 use Rattle.cqs_rule.proofs.Tells.{steps, Steps}
@@ -39,8 +41,9 @@ module _ {E S : Type 0} (object : Object E) (primitive : Primitive E S) (passes 
       → primitive.shows d (client_words s.words) (r.log ++ es) r.handed → OthersStay r.hidden d v.number
       → Stands d v.number facts
       → NamesOnly object.names v.number es → facts.has.payload < 2 ^ 20 → Keeps primitive.opens v facts
+      → d.queue.resumes + draws_in v.facts.found ≡ r.hidden.queue.resumes + draws_in facts.found
       → Turned object primitive passes limit s r v i (slice_index s.words i) d es facts
-  stays s r v i d es facts counters cells room door shown others self silent owed slots =
+  stays s r v i d es facts counters cells room door shown others self silent owed slots draws =
       let same : slice_set s.words i (slice_index s.words i) ≡ s.words = set-get_or s.words i 0 in
       record {
         crew = ap (λ l. slice_index l 0) same;
@@ -55,6 +58,7 @@ module _ {E S : Type 0} (object : Object E) (primitive : Primitive E S) (passes 
         silent = silent;
         payload_fits = owed;
         slots = slots;
+        draws = draws;
         now = r.segments;
         later = later-same r.segments;
       }
@@ -68,24 +72,26 @@ module _ {E S : Type 0} (object : Object E) (primitive : Primitive E S) (passes 
       → primitive.shows d (client_words s.words) r.log r.handed → OthersStay r.hidden d v.number
       → Stands d v.number facts
       → facts.has.payload < 2 ^ 20 → Keeps primitive.opens v facts
+      → d.queue.resumes + draws_in v.facts.found ≡ r.hidden.queue.resumes + draws_in facts.found
       → Turned object primitive passes limit s r v i (slice_index s.words i) d [] facts
-  still s r v i d facts counters cells room door shown others self owed slots =
+  still s r v i d facts counters cells room door shown others self owed slots draws =
       stays s r v i d [] facts counters cells room door
       (subst (λ l. primitive.shows d (client_words s.words) l r.handed) (sym (append-nil r.log)) shown) others self
-      (λ n apart. refl) owed slots
+      (λ n apart. refl) owed slots draws
 
   -- nothing hidden changes, and the pass goes on to these facts
   pub looks-to : (s : State (Option S) (View E S)) (r : Ruled object primitive passes limit s) (id : ℕ)
       (me : Me (Option S) (View E S)) (i : ℕ) (facts : Facts)
       → get_elem? s.views id ≡ some me.0 → me.0.weight ≡ 1 → Stands r.hidden me.0.number facts
       → facts.has.payload < 2 ^ 20 → Keeps primitive.opens me.0 facts
+      → draws_in facts.found ≡ draws_in me.0.facts.found
       → Steps object primitive passes limit client s id me i
       (slice_index s.words i) [] facts (grown me.0 facts (r.log ++ []) r.handed)
-  looks-to s r id me i facts here one self owed slots =
+  looks-to s r id me i facts here one self owed slots draws =
       steps object primitive passes limit client s r id me i
       (slice_index s.words i) r.hidden [] facts here one
       (still s r me.0 i r.hidden facts r.counters r.cells r.room r.door r.shown
-      (others-same r.hidden me.0.number) self owed slots)
+      (others-same r.hidden me.0.number) self owed slots (ap (λ n. r.hidden.queue.resumes + n) (sym draws)))
 
   -- what was found is told by what the client shows
   pub found-so : {C : Type 0} (all : C → Primitive E S) (x : C) → all x ≡ primitive → (s : State (Option S) (View E S))
@@ -144,7 +150,8 @@ module _ {E S : Type 0} (object : Object E) (primitive : Primitive E S) (passes 
         last = at.last;
         behind = record { reached = at.behind.reached; passed = at.behind.passed };
       })
-      k.payload_fits (keeps-all primitive.opens me.0 (facts_counted me.0.limit n f) refl (λ j o. o))) in (
+      k.payload_fits (keeps-all primitive.opens me.0 (facts_counted me.0.limit n f) refl (λ j o. o))
+      (ap (λ m. r.hidden.queue.resumes + m) (sym (draws-word f.found 16 n (λ e. omega arith))))) in (
         grown me.0 (facts_counted me.0.limit n f) (r.log ++ []) r.handed,
         keeps,
         tt,

@@ -2,13 +2,15 @@
 use Rattle.std.specs.Prelude.{◌≡◌, ◌≢◌, ℕ, ◌<◌, true, List, length, Option}
 use Rattle.atomic_table.specs.Table.{Me, Step}
 use Rattle.cqs_rule.specs.declared.view.View.{View}
+use Rattle.cqs_rule.specs.Drawn.{KnowsDrawn}
 use Rattle.cqs_rule.specs.Hidden.{Hidden}
 use Rattle.cqs_rule.specs.Object.{Primitive}
 use Rattle.cqs_rule.specs.Ruled.{Stands, Rests}
 
 module _ {C E S : Type 0} (primitive : C → Primitive E S) where
   -- The pass of this view is alone: what the client shows goes with all that it has seen, and some
-  -- values handed in; the pass stands there at its facts, and every other number rests.
+  -- values handed in; the pass stands there at its facts, every other number rests, and as many
+  -- numbers were drawn to resume at as the pass knows.
   pub record IsAlone (v : View E S) : Type 0 where
     pub client : C
     pub opening_is : (primitive client).opening ≡ v.opening
@@ -19,6 +21,7 @@ module _ {C E S : Type 0} (primitive : C → Primitive E S) where
     pub stands : Stands hidden v.number v.facts
     pub others : (n : ℕ) → n ≢ v.number → n < v.passes → Rests hidden n
     pub places : length hidden.queue.doing ≡ v.passes
+    pub drawn : KnowsDrawn v hidden.queue.resumes
 
   abbrev pub TellsAlone : View E S → Type 0
   TellsAlone v = v.weight ≡ 1 → v.alone ≡ true → IsAlone v

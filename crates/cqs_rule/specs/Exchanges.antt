@@ -10,6 +10,7 @@ use Rattle.cqs_words.specs.Cell.{index_in}
 use Rattle.cqs_rule.specs.declared.view.View.{View}
 use Rattle.cqs_rule.specs.declared.view.Facts.{Facts}
 use Rattle.cqs_rule.specs.declared.view.Glimpse.{Glimpse}
+use Rattle.cqs_rule.specs.Drawn.{TellsCome}
 use Rattle.cqs_rule.specs.Facts.{facts_worked, facts_missed}
 use Rattle.cqs_rule.specs.Hidden.{Hidden, state_at}
 use Rattle.cqs_rule.specs.Kinds.{Carries}
@@ -88,6 +89,7 @@ module _ {C E S : Type 0} (object : Object E) (primitive : C → Primitive E S) 
     pub cell : FoundCell n found
     pub may : MayFind row.works_at found.state
     pub since : SinceLast found v.facts.last
+    pub come : TellsCome v k found.state
     pub entries : List E
     pub was : WasFound primitive (HasCell found) entries w
     pub made : n ≡ expected

@@ -7,6 +7,7 @@ pub mod Object
 pub mod Segments
 pub mod Slots
 pub mod Placed
+pub mod Drawn
 pub mod Ruled
 pub mod Opened
 pub mod Client

@@ -21,6 +21,7 @@ use Rattle.cqs_core.specs.QueueCells.{rank, IsInstalled, IsBare}
 use Rattle.cqs_rule.specs.declared.view.Opening.{Opening}
 use Rattle.cqs_rule.specs.Object.{Object, Primitive}
 use Rattle.cqs_rule.specs.Layout.{crew_place, suspends_place, resumes_place, cell_place, words_for, client_words, IsIdle}
+use Rattle.cqs_rule.specs.Drawn.{KnowsDrawn}
 use Rattle.cqs_rule.specs.Hidden.{Hidden, state_at}
 use Rattle.cqs_rule.specs.Lists.{Has, IsDistinct, total, IsPrefix, part}
 use Rattle.cqs_rule.specs.Facts.{IsBehind}
@@ -187,6 +188,7 @@ module _ {E S : Type 0} (object : Object E) where
     pub crew : WasCrew made live v.crew
     pub alone : v.alone ≡ true
         → (live ≡ 1) × (v.weight ≡ 1) × (v.seen ≡ log) × (v.handed ≡ handed)
+        × KnowsDrawn v c.queue.resumes
     pub limit_is : v.limit ≡ limit
     pub cells_are : v.cells ≡ cells
     pub passes_are : v.passes ≡ passes

@@ -1,7 +1,7 @@
 -- The views of the passes: the first one, what of them the rule counts, and what stays of one at
 -- each step.
 pub use Rattle.cqs_rule.specs.Hidden.{has_both, has_none, has_less}
-use Rattle.std.specs.Prelude.{◌≡◌, ◌⊎◌, ℕ, ◌-◌, ◌*◌, ◌<◌, true, false, List, [], ◌∷◌, ◌++◌, None}
+use Rattle.std.specs.Prelude.{◌≡◌, ◌⊎◌, ℕ, ◌+◌, ◌-◌, ◌*◌, ◌<◌, true, false, List, [], ◌∷◌, ◌++◌, None}
 use mathlib.Core.Option.{some}
 use lib.ListN.{get_elem?}
 use Rattle.cqs_core.specs.declared.doings.Doing.TheVariants as doing
@@ -62,6 +62,7 @@ module _ {E S : Type 0} where
     second = first_facts 0;
     crew = 0;
     alone = true;
+    drawn = record { all = cells - (limit + passes); own = 0 };
     limit = limit;
     cells = cells;
     homes = [];
@@ -132,6 +133,7 @@ module _ {E S : Type 0} where
     second = v.second;
     crew = v.crew;
     alone = v.alone;
+    drawn = v.drawn;
   }
 
   -- what no step but those of the crew changes
@@ -141,6 +143,7 @@ module _ {E S : Type 0} where
     pub own : w.own ≡ v.own
     pub crew : w.crew ≡ v.crew
     pub alone : w.alone ≡ v.alone
+    pub drawn : w.drawn ≡ v.drawn
     pub limit : w.limit ≡ v.limit
     pub cells : w.cells ≡ v.cells
     pub passes : w.passes ≡ v.passes

@@ -36,4 +36,4 @@ pub use semaphore::{
     load_state, next_wait, read_state, take_permit, try_take,
 };
 pub use silent::Silent;
-pub use view::{Facts, Glimpse, Has, Opening, Sighting, View};
+pub use view::{Drawn, Facts, Glimpse, Has, Opening, Sighting, View};

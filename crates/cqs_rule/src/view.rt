@@ -66,6 +66,14 @@ pub struct Facts {
     pub found: LinkedList<Sighting>,
 }
 
+/// How many numbers were drawn to resume at when a pass was found to be alone.
+pub struct Drawn {
+    /// In all. A value that stands in a cell from the opening on counts as drawn.
+    pub all: u64,
+    /// By the pass itself.
+    pub own: u64,
+}
+
 /// What a pass knows.
 pub struct View<E, S> {
     pub number: u64,
@@ -95,6 +103,8 @@ pub struct View<E, S> {
     pub crew: u64,
     /// Whether no other pass is there.
     pub alone: bool,
+    /// What was drawn to resume at when it was last found to be alone.
+    pub drawn: Drawn,
     /// How many passes may be made in all.
     pub passes: u64,
     /// The limit of the suspend counter.

@@ -17,6 +17,7 @@ use Rattle.cqs_rule.specs.declared.view.Facts.{Facts}
 use Rattle.cqs_rule.specs.declared.view.Glimpse.{Glimpse}
 use Rattle.cqs_rule.specs.declared.view.Sighting.TheVariants.{Cell}
 use Rattle.cqs_rule.specs.declared.view.View.{View}
+use Rattle.cqs_rule.specs.Drawn.{draws_in, TellsCome}
 use Rattle.cqs_rule.specs.Exchanges.{FoundCell, SinceLast, HasCell, Crossed, CrossedBy}
 use Rattle.cqs_rule.specs.Facts.{facts_worked, facts_missed}
 use Rattle.cqs_rule.specs.Manner.{Leaving, asks, passes_on, at_once, Asks, IsSmart}
@@ -26,6 +27,7 @@ use Rattle.cqs_rule.specs.Ruled.{shown_state, word_of}
 use Rattle.cqs_rule.specs.Saw.{Saw, WasFound}
 use Rattle.cqs_rule.proofs.Calls.{saw-then}
 use Rattle.cqs_rule.proofs.CellSteps.{word_of-injective}
+use Rattle.cqs_rule.proofs.Drawing.{draws-cell, knows-still}
 use Rattle.cqs_rule.proofs.Places.{knows-saw}
 use Rattle.cqs_cell.specs.Crossings.{CrossesRow, CrossesBy, Crosses, IsSureBy, IsLastBy}
 use Rattle.cqs_cell.specs.Transitions.{facts_since, Made, Missed, MissedCell, MissedCellBy, MadeBy}
@@ -56,6 +58,7 @@ module _ {C E S : Type 0} (object : Object E) (primitive : C → Primitive E S) 
       record {
         word = n;
         cell = subst (FoundCell n) g c.cell;
+        come = subst (TellsCome v at.index) is.1 c.come;
         before = v.facts;
         found = [];
         few = omega arith;
@@ -173,6 +176,12 @@ module _ {C E S : Type 0} (object : Object E) (primitive : C → Primitive E S) 
       record {
         word = d.word;
         cell = d.cell;
+        come = λ alone away.
+            let t = d.come (m.saw.same.alone ∙ alone)
+            (λ e. away (sym (ap (λ (f : Facts). f.doing) m.saw.facts_are) ∙ e)) in
+            let found : draws_in u.facts.found ≡ draws_in v.facts.found =
+            ap (λ (f : Facts). draws_in f.found) m.saw.facts_are ∙ draws-cell v.facts.found m.glimpse.number m.word in
+            (t.0, knows-still v u t.0 m.saw.same.drawn found t.1, t.2);
         before = d.before;
         found = Cell m.glimpse.number m.word ∷ [];
         few = omega arith;

@@ -12,6 +12,7 @@ use Rattle.cqs_rule.specs.declared.view.Facts.{Facts}
 use Rattle.cqs_rule.specs.declared.view.Glimpse.{Glimpse}
 use Rattle.cqs_rule.specs.declared.view.Sighting.{Sighting}
 use Rattle.cqs_rule.specs.declared.view.View.{View}
+use Rattle.cqs_rule.specs.Drawn.{TellsCome}
 use Rattle.cqs_rule.specs.Exchanges.{FoundCell, SinceLast, HasCell}
 use Rattle.cqs_rule.specs.Facts.{facts_worked, facts_missed}
 use Rattle.cqs_rule.specs.Object.{Object, Primitive}
@@ -26,11 +27,13 @@ facts_since found last f = record f { last = last; found = found }
 module _ {C E S : Type 0} (object : Object E) (primitive : C → Primitive E S) where
   -- A step of this row was made at the cell of the number k: it found the cell in the state that
   -- the row wants, with this payload. The step's entries are the only ones, and the pass is where
-  -- the row leads. Before the step it may have tried in vain, and found these.
+  -- the row leads. Before the step it may have tried in vain, and found these. A pass that is alone
+  -- knows by what was drawn that the cell was to be found so.
   pub record Made (s : QueueStep) (row : CellRow) (tried : ℕ) (k payload : ℕ) (v w : View E S)
       : Type 0 where
     pub word : ℕ
     pub cell : FoundCell word (record { number = k; state = row.finds; payload = payload })
+    pub come : TellsCome v k row.finds
     pub before : Facts
     pub found : List Sighting
     pub few : length found ≤ tried

@@ -1,3 +1,4 @@
 pub mod Cancels
 pub mod Unasked
 pub mod AtOnce
+pub mod Alone

@@ -1,6 +1,6 @@
 //! The cancel.
 
-ghost use Rattle.std.specs.Prelude.{◌≡◌};
+ghost use Rattle.std.specs.Prelude.{◌≡◌, true};
 ghost use Rattle.cqs_core.specs.declared.doings.Doing.TheVariants as doing;
 ghost use Rattle.cqs_rule.specs.Callbacks.{IsAsked};
 ghost use Rattle.cqs_rule.specs.Lists.{Has};
@@ -8,6 +8,7 @@ ghost use Rattle.cqs_rule.specs.Manner.{Asks};
 ghost use Rattle.cqs_rule.specs.Passes.{pass_view, client_of, IsOf};
 ghost use Rattle.cqs_rule.specs.Placed.{KnowsPlace};
 ghost use Rattle.cqs_rule.specs.Waits.{place_of, HasWait};
+ghost use Rattle.cqs_cancel.specs.Alone.{OwesNone, IsAhead};
 ghost use Rattle.cqs_cancel.specs.Cancels.{HasCancelled, HasLeft};
 
 use cqs_cell::{begin_cancel, look, settle};
@@ -37,6 +38,7 @@ pub fn cancel<C: Client>(queue: &Queue<C>, pass: &mut Pass<C>, wait: Wait) -> Le
     requires has { HasWait (pass_view pass.old) wait }
     ensures belongs { IsOf queue.now pass.new }
     ensures cancelled { HasCancelled C.asking (place_of wait).index pass.old result pass.new }
+    ensures alone { (pass_view pass.old).alone ≡ true → OwesNone result }
 {
     let at = queue.spend_wait(pass, wait);
     cancel_at(queue, pass, at)
@@ -54,6 +56,7 @@ fn cancel_at<C: Client>(queue: &Queue<C>, pass: &mut Pass<C>, at: Place) -> Left
     requires place { KnowsPlace (pass_view pass.old) at }
     ensures belongs { IsOf queue.now pass.new }
     ensures cancelled { HasCancelled C.asking at.index pass.old result pass.new }
+    ensures alone { (pass_view pass.old).alone ≡ true → OwesNone result }
 {
     match begin_cancel(queue, pass, at) {
         Ok(()) => leave(queue, pass, at),
@@ -69,9 +72,11 @@ fn leave<C: Client>(queue: &Queue<C>, pass: &mut Pass<C>, at: Place) -> Left
     requires asks { Asks (C.primitive (client_of queue.now)).manner.leaving }
     requires asked { IsAsked C.asking }
     requires leaving { (pass_view pass.old).facts.doing ≡ doing.Leaving at.index }
+    requires ahead { IsAhead at.index (pass_view pass.old) }
     requires place { KnowsPlace (pass_view pass.old) at }
     ensures belongs { IsOf queue.now pass.new }
     ensures left { HasLeft C.asking at.index pass.old result pass.new }
+    ensures alone { (pass_view pass.old).alone ≡ true → OwesNone result }
 {
     let passes_on = C::on_cancellation(queue, pass, at.index);
     match settle(queue, pass, at, passes_on) {

@@ -1,12 +1,13 @@
 //! The cancel of a client that isn't asked.
 
-ghost use Rattle.std.specs.Prelude.{◌≡◌};
+ghost use Rattle.std.specs.Prelude.{◌≡◌, true};
 ghost use Rattle.cqs_core.specs.declared.doings.Doing.TheVariants as doing;
 ghost use Rattle.cqs_rule.specs.Lists.{Has};
 ghost use Rattle.cqs_rule.specs.Manner.{PassesOn};
 ghost use Rattle.cqs_rule.specs.Passes.{pass_view, client_of, IsOf};
 ghost use Rattle.cqs_rule.specs.Placed.{KnowsPlace};
 ghost use Rattle.cqs_rule.specs.Waits.{place_of, HasWait};
+ghost use Rattle.cqs_cancel.specs.Alone.{OwesNone};
 ghost use Rattle.cqs_cancel.specs.Unasked.{HasCancelledUnasked, left_of};
 
 use crate::cancelling::Left;
@@ -22,6 +23,7 @@ pub fn cancel_unasked<C: ClientWords>(queue: &Queue<C>, pass: &mut Pass<C>, wait
     requires has { HasWait (pass_view pass.old) wait }
     ensures belongs { IsOf queue.now pass.new }
     ensures cancelled { HasCancelledUnasked (place_of wait).index pass.old result pass.new }
+    ensures alone { (pass_view pass.old).alone ≡ true → OwesNone result }
 {
     let at = queue.spend_wait(pass, wait);
     cancel_at(queue, pass, at)
@@ -38,6 +40,7 @@ fn cancel_at<C: ClientWords>(queue: &Queue<C>, pass: &mut Pass<C>, at: Place) ->
     requires place { KnowsPlace (pass_view pass.old) at }
     ensures belongs { IsOf queue.now pass.new }
     ensures cancelled { HasCancelledUnasked at.index pass.old result pass.new }
+    ensures alone { (pass_view pass.old).alone ≡ true → OwesNone result }
 {
     match leave_line(queue, pass, at) {
         Ok(()) => left_by(settle_left(queue, pass, at)),

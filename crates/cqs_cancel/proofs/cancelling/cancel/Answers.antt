@@ -1,5 +1,6 @@
-use Rattle.std.proofs.Common.{subst}
+use Rattle.std.proofs.Common.{ap, ◌∙◌, subst}
 use Rattle.cqs_rule.specs.declared.config.Place.{Place}
+use Rattle.cqs_rule.specs.Passes.{pass_view}
 use Rattle.cqs_cancel.specs.Cancels.{HasCancelled}
 use Rattle.cqs_cancel.proofs.cancelling.cancel.Goals as goal
 
@@ -10,3 +11,7 @@ returns-clause-cancelled g c =
     at.ensures.same
     (subst (λ (p : Place). HasCancelled g.C.Client.asking p.index at.new.pass c.cancel_at.result c.cancel_at.new.pass)
     at.ensures.place c.cancel_at.ensures.cancelled)
+
+pub returns-clause-alone : goal.returns-clause-alone
+returns-clause-alone g c = λ alone.
+    c.cancel_at.ensures.alone (ap (λ q. (pass_view q).alone) c.spend_wait-at.ensures.same ∙ alone)

@@ -1,6 +1,8 @@
 use Rattle.std.proofs.Common.{ℕ, Bool, Option, subst}
+use Rattle.cqs_rule.specs.Callbacks.{HasAnswered}
 use Rattle.cqs_cell.specs.Transitions.{HasSettled}
 use Rattle.cqs_cancel.proofs.Steps.{may-ask, answered-place, refused-ended}
+use Rattle.cqs_cancel.proofs.AloneSteps.{asked-none}
 use Rattle.cqs_cancel.proofs.cancelling.leave.Goals as goal
 
 pub on_cancellation-passes_on-requires-clause-begun : goal.on_cancellation-passes_on-requires-clause-begun
@@ -20,3 +22,14 @@ complete_refused_resume-requires-clause-ended g c =
     refused-ended c.args.at.index c.in-Ok-Some.payload a.new.pass c.settle.new.pass
     (subst (λ (z : Bool × Option ℕ). HasSettled z.0 c.args.at.index z.1 a.new.pass c.settle.new.pass)
     (λ i. (no i, c.in-Ok-Some.field-0-is i)) c.in-Ok-Some.ensures.settled)
+
+pub returns-then-passes_on-clause-alone : goal.returns-then-passes_on-clause-alone
+returns-then-passes_on-clause-alone g c = λ alone.
+    let a = c.on_cancellation-passes_on in
+    let p = c.args.pass.now in
+    let k = c.args.at.index in
+    let yes = c.if-passes_on.true in
+    asked-none g.C.Client.asking k c.in-Ok-Some.payload p a.new.pass c.settle.new.pass c.requires.asked c.requires.ahead
+    (subst (λ (b : Bool). HasAnswered g.C.Client.asking k b p a.new.pass) yes a.ensures.answered)
+    (subst (λ (z : Bool × Option ℕ). HasSettled z.0 k z.1 a.new.pass c.settle.new.pass)
+    (λ i. (yes i, c.in-Ok-Some.field-0-is i)) c.in-Ok-Some.ensures.settled) alone

@@ -2,6 +2,7 @@ use Rattle.std.proofs.Common.{refl}
 use Rattle.cqs_rule.specs.Passes.{pass_view}
 use Rattle.cqs_cancel.proofs.Steps.{missed-late}
 use Rattle.cqs_cancel.proofs.UnaskedSteps.{left-place, found-place}
+use Rattle.cqs_cancel.proofs.AloneSteps.{unasked-none}
 use Rattle.cqs_cancel.proofs.unasked.cancel_at.Goals as goal
 
 pub settle_left-requires-clause-place : goal.settle_left-requires-clause-place
@@ -19,3 +20,8 @@ returns-in-Err-clause-cancelled g c =
     let C = g.C.ClientWords in
     missed-late C.object C.primitive _ c.args.at.index c.in-Err.field-0 c.look.result (pass_view c.args.pass.now)
     (pass_view c.leave_line.new.pass) (pass_view c.look.new.pass) c.in-Err.ensures.missed c.look.ensures.looks refl refl
+
+pub returns-in-Ok-clause-alone : goal.returns-in-Ok-clause-alone
+returns-in-Ok-clause-alone g c =
+    unasked-none c.args.at.index c.settle_left.result c.left_by.result c.args.pass.now c.leave_line.new.pass
+    c.settle_left.new.pass c.in-Ok.ensures.made c.requires.idle c.settle_left.ensures.settled c.left_by.ensures

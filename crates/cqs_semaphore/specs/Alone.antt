@@ -32,6 +32,12 @@ abbrev pub HasLine : List Waiting → Type 0
 HasLine [] = ⊥
 HasLine (w ∷ line) = Unit {0}
 
+-- a cancel hands no resumption back
+abbrev pub HandsNone : CancelAnswer → Type 0
+HandsNone (Cancelled None) = Unit {0}
+HandsNone (Cancelled (Some under)) = ⊥
+HandsNone (TooLate permit) = Unit {0}
+
 module _ {T : Type 0} where
   abbrev pub IsPlainAcquire : View Entry T → Acquired → Type 0
   IsPlainAcquire v (Now permit) =

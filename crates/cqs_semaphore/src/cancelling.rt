@@ -5,7 +5,7 @@ ghost use Rattle.cqs_core.specs.declared.doings.Doing.TheVariants as doing;
 ghost use Rattle.cqs_rule.specs.Crew.{IsBetween};
 ghost use Rattle.cqs_rule.specs.Passes.{pass_view};
 ghost use Rattle.cqs_rule.specs.Waits.{place_of, HasWait};
-ghost use Rattle.cqs_semaphore.specs.Alone.{IsPlainCancel, HasNoneOnWay};
+ghost use Rattle.cqs_semaphore.specs.Alone.{IsPlainCancel, HandsNone, HasNoneOnWay};
 ghost use Rattle.cqs_semaphore.specs.Answers.{Cancels};
 ghost use Rattle.cqs_semaphore.specs.Calls.{IsReady, IsMine, CallRule};
 ghost use Rattle.cqs_semaphore.specs.Entries.{cancelled_entries, passed_further};
@@ -32,6 +32,7 @@ impl<T: Carries + Send> Semaphore<T> {
         ensures between { IsBetween (pass_view pass.new).facts }
         ensures alone { (pass_view pass.old).alone ≡ true
             → IsPlainCancel (place_of wait).index (pass_view pass.old) result }
+        ensures alone_hands_none { (pass_view pass.old).alone ≡ true → HandsNone result }
         ensures alone_brings_none { (pass_view pass.old).alone ≡ true
             → HasNoneOnWay (pass_view pass.new) }
     {

@@ -4,6 +4,7 @@ use Rattle.cqs_rule.specs.Waits.{place_of}
 use Rattle.cqs_core.specs.declared.entries.Entry.TheVariants as entry
 use Rattle.cqs_semaphore.specs.Calls.{CallRule}
 use Rattle.cqs_semaphore.specs.Entries.{passed_further}
+use Rattle.cqs_cancel.specs.Alone.{OwesNone}
 use Rattle.cqs_semaphore.proofs.AloneSteps.{quiet, plain-left, plain-late, none-brought, none-late}
 use Rattle.cqs_semaphore.proofs.Between.{passed-between}
 use Rattle.cqs_semaphore.proofs.CancelSteps.{gone, gone-owing, late}
@@ -66,3 +67,7 @@ returns-in-Late-clause-alone_brings_none g c = λ alone.
     none-late _ _ k (quiet _ c.requires.belongs.alone c.args.pass.now.live.0 alone c.requires.ready.idle)
     (subst (λ p. CallRule v (entry.Late v.number k ∷ []) (passed_further p) (pass_view c.cancel.new.pass)) so.2.0 so.1)
     alone
+
+pub returns-in-GoneOwing-clause-alone_hands_none : goal.returns-in-GoneOwing-clause-alone_hands_none
+returns-in-GoneOwing-clause-alone_hands_none g c = λ alone.
+    absurd (subst OwesNone c.in-GoneOwing.is (c.cancel.ensures.alone alone))

@@ -19,7 +19,7 @@ use Rattle.cqs_semaphore.specs.declared.answers.CancelAnswer.{CancelAnswer}
 use Rattle.cqs_semaphore.specs.declared.answers.CancelAnswer.TheVariants as cancelled
 use Rattle.cqs_semaphore.specs.declared.answers.Released.{Released}
 use Rattle.cqs_semaphore.specs.declared.answers.Released.TheVariants.{Freed, Sent, Left, Void, Under}
-use Rattle.cqs_semaphore.specs.Alone.{IsPlainAcquire, IsPlainTry, IsPlainPoll, IsPlainCancel, IsPlainRelease}
+use Rattle.cqs_semaphore.specs.Alone.{IsPlainAcquire, IsPlainTry, IsPlainPoll, IsPlainCancel, IsPlainRelease, HandsNone}
 use Rattle.cqs_semaphore.specs.Answers.{IsWorn, IsBelow, Acquires, Tries, IsPolled, Releases}
 use Rattle.cqs_semaphore.specs.Calls.{IsReady, CallRule}
 use Rattle.cqs_semaphore.specs.Entries.{acquired_entries, acquired_further, tried_entries, polled_entries, gave_entries, resumed_further}
@@ -151,6 +151,7 @@ module _ {T : Type 0} where
     pub between : View Entry (Kept T)
     pub cancelled : HasCancelled (place_of wait).index v (as_cancelled answer) between
     pub alone : v.alone ≡ true → IsPlainCancel (place_of wait).index v (as_cancelled answer)
+    pub hands_none : v.alone ≡ true → HandsNone (as_cancelled answer)
     pub value : LeftValue answer between w
 
   -- An unlock lays the value into the slot, and is a release then.

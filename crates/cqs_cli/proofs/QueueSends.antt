@@ -27,12 +27,6 @@ use Rattle.cqs_semaphore.specs.Steps.{HasCancelled}
 use Rattle.cqs_cli.proofs.PassRests.{Comes, left-way, plain-next, went}
 
 module _ {T : Type 0} where
-  -- the pass rests as it did, and has seen nothing
-  pub record HasEnded (u w : View Entry T) : Type 0 where
-    pub seen : w.seen ≡ u.seen
-    pub same : IsSame u w
-    pub rests : Rests u u.facts.has.held u.facts.waits w
-
   -- The pass went from u to v, where it owes this, and has seen nothing since; so many permits are on their way.
   pub record IsSending (way : ℕ) (u v : View Entry T) (under : Token) : Type 0 where
     pub same : IsSame u v
@@ -92,28 +86,6 @@ never-sent size k seen legal none =
     let allowed : May seen = subst May whole (legal.at (length seen) (entry.Deliver k) got) in
     absurd (in-none _ (subst (λ n. Waits k allowed.0 (take n (object_after size seen).line)) none allowed.1))
 
-module _ {T : Type 0} where
-  pub never-ends-sent : (u v w : View Entry T) (under : Token) (k : ℕ) → IsSending 0 u v under
-      → CallRule v [] (resumed_further (Sent k)) w → ⊥
-  never-ends-sent u v w under k sending rule =
-      let seen : w.seen ≡ v.seen ++ entry.Deliver k ∷ [] = went v w _ _ rule sending.alone in
-      let size : w.opening.size ≡ v.opening.size = ap (λ (o : Opening). o.size) rule.called.same.opening in
-      never-sent v.opening.size k v.seen
-      (subst (λ es. IsLegal v.opening.size es) seen (subst (λ n. IsLegal n w.seen) size rule.legal)) sending.ways
-
-  -- a resumption that ended without a permit to deliver: the pass rests
-  pub ends-quiet : (u v w : View Entry T) (under : Token) → IsSending 0 u v under → CallRule v [] [] w
-      → Rests v v.facts.has.held v.facts.waits w → HasEnded u w
-  ends-quiet u v w under sending rule rests = record {
-    seen = went v w _ _ rule sending.alone ∙ append-nil v.seen ∙ sending.seen;
-    same = same-then u v w sending.same rule.called.same;
-    rests = record {
-      ready = rests.ready;
-      held_is = rests.held_is ∙ sending.held;
-      waits_are = rests.waits_are ∙ sending.waits;
-    };
-  }
-
 -- the wait k left the line, and nothing else happened
 abbrev pub HasLeft : {T : Type 0} → ℕ → View Entry T → View Entry T → Type 0
 HasLeft k v w = Comes v w (entry.Leave v.number k ∷ []) v.facts.has.held (without k v.facts.waits)
@@ -155,43 +127,3 @@ module _ {T : Type 0} (k : ℕ) (v u : View Entry T) (alone : v.alone ≡ true) 
   left-now under none (Some (Void j), rule, (cell, passes, why)) = left-rests rule passes.2.1
   left-now under none (Some (Under token), rule, (cell, passes, why)) =
       let other : Some token ≡ None = sym passes.0 ∙ none in absurd (cc)
-
-  -- one is still owed: the wait has left once that has ended
-  pub record OwesStill (under : Token) : Type 0 where
-    pub owes : HasUnder u.facts under
-    pub further : u.facts.has.further ≡ 0
-    pub is_alone : u.alone ≡ true
-    pub ways : (plain_after u).way ≡ 0
-    pub then : (w : View Entry T) → w.seen ≡ u.seen → IsSame u w → Rests u u.facts.has.held u.facts.waits w
-        → HasLeft k v w
-
-  pub owes-still : (under : Option Token) (token : Token) → under ≡ Some token
-      → HasCancelled k v (Cancelled under) u → OwesStill token
-  owes-still under token some (None, rule, (cell, passes, why)) =
-      let other : None ≡ Some token = sym passes.0 ∙ some in absurd (cc)
-  owes-still under token some (Some Freed, rule, (cell, passes, why)) = absurd passes.2
-  owes-still under token some (Some (Sent j), rule, (cell, passes, why)) = absurd (none-sent j rule)
-  owes-still under token some (Some (Left j), rule, (cell, passes, why)) =
-      let other : None ≡ Some token = sym passes.0 ∙ some in absurd (cc)
-  owes-still under token some (Some (Void j), rule, (cell, passes, why)) =
-      let other : None ≡ Some token = sym passes.0 ∙ some in absurd (cc)
-  owes-still under token some (Some (Under owed), rule, (cell, passes, why)) =
-      let both : Some owed ≡ Some token = sym passes.0 ∙ some in
-      let one : owed ≡ token = cc in
-      let ended = passes.2 in
-      record {
-        owes = subst (λ t. HasUnder u.facts t) one ended.owes;
-        further = ended.further;
-        is_alone = rule.called.same.alone ∙ alone;
-        ways = ap (λ (o : Semaphore). o.way) (plain-next v u left_entries rule.called.same (went v u _ _ rule alone))
-            ∙ none-left;
-        then = λ w seen same rests. record {
-          same = same-then v u w rule.called.same same;
-          seen = seen ∙ went v u _ _ rule alone;
-          rests = record {
-            ready = rests.ready;
-            held_is = rests.held_is ∙ ended.held_is;
-            waits_are = rests.waits_are ∙ ended.waits_are;
-          };
-        };
-      }

@@ -98,11 +98,7 @@ impl SoleSemaphore for MutexSole {
         let token = self.mutex.wait_of(&mut self.pass, wait);
         match self.mutex.cancel(&mut self.pass, token) {
             LockLeft::Cancelled(None) => true,
-            // Nobody leaves the mutex to a pass that is alone, but no clause of a cancel says so.
-            LockLeft::Cancelled(Some(under)) => {
-                end(&self.mutex, &mut self.pass, under);
-                true
-            }
+            LockLeft::Cancelled(Some(_)) => unreachable!(),
             LockLeft::TooLate(guard) => {
                 self.guards.push_reserved(guard);
                 false
@@ -159,36 +155,6 @@ fn send(mutex: &Mutex<()>, pass: &mut MutexPass<()>, under: Under) -> u64
                 under = next;
             }
             _ => unreachable!(),
-        }
-    }
-}
-
-/// Goes on with a resumption for which the mutex isn't on its way, until it ends.
-#[cold]
-#[inline(never)]
-fn end(mutex: &Mutex<()>, pass: &mut MutexPass<()>, under: Under)
-    requires belongs { Belongs mutex.now pass.old }
-    requires owes { HasUnder (pass_view pass.old).facts under }
-    requires further { (pass_view pass.old).facts.has.further ≡ 0 }
-    requires alone { (pass_view pass.old).alone ≡ true }
-    requires way { (plain_after (pass_view pass.old)).way ≡ 0 }
-    ensures belongs { Belongs mutex.now pass.new }
-    ensures seen { (pass_view pass.new).seen ≡ (pass_view pass.old).seen }
-    ensures same { IsSame (pass_view pass.old) (pass_view pass.new) }
-    ensures rests { Rests (pass_view pass.old) (pass_view pass.old).facts.has.held
-        (pass_view pass.old).facts.waits (pass_view pass.new) }
-{
-    let mut reached = under.reached();
-    let mut under = under;
-    loop {
-        match mutex.finish(pass, under) {
-            Released::Left(_) | Released::Void(_) => return,
-            Released::Under(next) => {
-                reached = next.reached();
-                under = next;
-            }
-            Released::Freed => unreachable!(),
-            Released::Sent(_) => unreachable!(),
         }
     }
 }

@@ -99,11 +99,7 @@ impl SoleSemaphore for QueueSole {
         let token = self.semaphore.queue().wait_of(&mut self.pass, wait);
         match self.semaphore.cancel(&mut self.pass, token) {
             CancelAnswer::Cancelled(None) => true,
-            // Nobody leaves a permit to a pass that is alone, but no clause of a cancel says so.
-            CancelAnswer::Cancelled(Some(under)) => {
-                end(&self.semaphore, &mut self.pass, under);
-                true
-            }
+            CancelAnswer::Cancelled(Some(_)) => unreachable!(),
             CancelAnswer::TooLate(permit) => {
                 self.permits.push_reserved(permit);
                 false
@@ -160,36 +156,6 @@ fn send(semaphore: &Semaphore, pass: &mut SemPass, under: Under) -> u64
                 under = next;
             }
             _ => unreachable!(),
-        }
-    }
-}
-
-/// Goes on with a resumption for which no permit is on its way, until it ends.
-#[cold]
-#[inline(never)]
-fn end(semaphore: &Semaphore, pass: &mut SemPass, under: Under)
-    requires mine { IsMine semaphore.now pass.old }
-    requires owes { HasUnder (pass_view pass.old).facts under }
-    requires further { (pass_view pass.old).facts.has.further ≡ 0 }
-    requires alone { (pass_view pass.old).alone ≡ true }
-    requires way { (plain_after (pass_view pass.old)).way ≡ 0 }
-    ensures mine { IsMine semaphore.now pass.new }
-    ensures seen { (pass_view pass.new).seen ≡ (pass_view pass.old).seen }
-    ensures same { IsSame (pass_view pass.old) (pass_view pass.new) }
-    ensures rests { Rests (pass_view pass.old) (pass_view pass.old).facts.has.held
-        (pass_view pass.old).facts.waits (pass_view pass.new) }
-{
-    let mut reached = under.reached();
-    let mut under = under;
-    loop {
-        match semaphore.finish(pass, under) {
-            Released::Left(_) | Released::Void(_) => return,
-            Released::Under(next) => {
-                reached = next.reached();
-                under = next;
-            }
-            Released::Freed => unreachable!(),
-            Released::Sent(_) => unreachable!(),
         }
     }
 }

@@ -1,6 +1,6 @@
 //! How a pass makes another, and how two become one.
 
-ghost use Rattle.std.specs.Prelude.{◌≡◌, ◌+◌, ◌-◌, ◌≤◌, [], true, IsTrue, IsErr, IfOk, IfErr, OnErr, OnOk};
+ghost use Rattle.std.specs.Prelude.{◌≡◌, ◌+◌, ◌-◌, ◌++◌, ◌≤◌, [], true, IsTrue, IsErr, IfOk, IfErr, OnErr, OnOk};
 ghost use mathlib.Core.Logic.{◌↔◌};
 ghost use Rattle.cqs_rule.specs.Alone.{IsAlone};
 ghost use Rattle.cqs_rule.specs.Crew.{IsBetween, CameWith};
@@ -51,6 +51,8 @@ impl<T: Carries + Send> Barrier<T> {
         ensures back { IfErr result (λ refused. refused.0 ≡ given) }
         ensures unchanged { OnErr result (pass.new ≡ pass.old) }
         ensures met { OnOk result (HasMet pass.old given pass.new) }
+        ensures laid { OnOk result ((pass_view pass.new).laid
+            ≡ (pass_view pass.old).laid ++ (pass_view given).laid) }
         ensures held { OnOk result ((pass_view pass.new).facts.has.held
             ≡ (pass_view pass.old).facts.has.held + (pass_view given).facts.has.held) }
         ensures ready { IsReady (pass_view pass.new).facts }

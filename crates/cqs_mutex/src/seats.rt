@@ -1,6 +1,6 @@
 //! How a pass makes another, and how two become one.
 
-ghost use Rattle.std.specs.Prelude.{◌≡◌, ◌≤◌, [], true, IsTrue, IsErr, IfOk, IfErr, OnErr, OnOk};
+ghost use Rattle.std.specs.Prelude.{◌≡◌, ◌++◌, ◌≤◌, [], true, IsTrue, IsErr, IfOk, IfErr, OnErr, OnOk};
 ghost use mathlib.Core.Logic.{◌↔◌};
 ghost use Rattle.cqs_rule.specs.Crew.{IsBetween, Came};
 ghost use Rattle.cqs_rule.specs.Passes.{pass_view, passes_of};
@@ -50,6 +50,8 @@ impl<T: Send + Drop> Mutex<T> {
         ensures back { IfErr result (λ refused. refused.0 ≡ given) }
         ensures unchanged { OnErr result (pass.new ≡ pass.old) }
         ensures met { OnOk result (HasMet pass.old given pass.new) }
+        ensures laid { OnOk result ((pass_view pass.new).laid
+            ≡ (pass_view pass.old).laid ++ (pass_view given).laid) }
         ensures course { OnOk result (Course (pass_view pass.old) [] (pass_view pass.new)) }
         ensures ready { IsReady (pass_view pass.new).facts }
     {

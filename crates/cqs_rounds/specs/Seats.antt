@@ -46,6 +46,7 @@ module _ {g : Ghosts BarrierClient (Unit {0}) BarrierEntry} where
   -- the pass took a given one in, and holds what both held
   pub record HasTakenIn (given p q : Pass BarrierClient (Unit {0}) BarrierEntry g) : Type 0 where
     pub met : HasMet p given q
+    pub laid : (pass_view q).laid ≡ (pass_view p).laid ++ (pass_view given).laid
     pub held : (pass_view q).facts.has.held
         ≡ (pass_view p).facts.has.held + (pass_view given).facts.has.held
     pub ready : IsReady (pass_view q).facts

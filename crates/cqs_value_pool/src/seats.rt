@@ -50,6 +50,8 @@ impl<T: Send + Drop> ValuePool<T> {
         ensures back { IfErr result (λ refused. refused.0 ≡ given) }
         ensures unchanged { OnErr result (pass.new ≡ pass.old) }
         ensures met { OnOk result (HasMet pass.old given pass.new) }
+        ensures laid { OnOk result ((pass_view pass.new).laid
+            ≡ (pass_view pass.old).laid ++ (pass_view given).laid) }
         ensures course { OnOk result (Course (pass_view pass.old) [] (pass_view pass.new)) }
         ensures elements { OnOk result ((pass_view pass.new).facts.has.slots
             ≡ (pass_view pass.old).facts.has.slots ++ (pass_view given).facts.has.slots) }

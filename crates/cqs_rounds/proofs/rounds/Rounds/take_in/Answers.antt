@@ -76,7 +76,12 @@ loop-given-preserved c =
       taken = take-more _ _ _ _ _ _ _ _ _ c.loop-given.invariant.first c.in-Some.ensures.items at
           c.loop-given.invariant.taken
           (at-pass _ _ _ _ c.loop-given.invariant.mine low c.index_mut.ensures.value)
-          (record { met = c.in-Ok.ensures.met; held = c.in-Ok.ensures.held; ready = c.in-Ok.ensures.ready });
+          (record {
+            met = c.in-Ok.ensures.met;
+            laid = c.in-Ok.ensures.laid;
+            held = c.in-Ok.ensures.held;
+            ready = c.in-Ok.ensures.ready;
+          });
     }
 
 pub unreachable-requires : goal.unreachable-requires

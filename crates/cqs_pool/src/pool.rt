@@ -60,6 +60,8 @@ impl Pool<Unparked> {
             ⊎ (is_config config ≡ false)) }
         ensures belongs { IfOk result (λ made. IsMine made.0 made.1) }
         ensures size { IfOk result (λ made. size_of made.0 ≡ elements) }
+        ensures passes { IfOk result (λ made. (passes_of made.0.queue ≡ config.passes)
+            × (limit_of made.0.queue ≡ config.limit)) }
         ensures first { IfOk result (λ made. (pass_view made.1).number ≡ 0) }
         ensures own { IfOk result (λ made. (pass_view made.1).own ≡ 0 ∷ []) }
         ensures nothing { IfOk result (λ made. (pass_view made.1).seen ≡ []) }

@@ -24,7 +24,7 @@ use Rattle.cqs_suspend.specs.Suspends.{EndsBy}
 use Rattle.cqs_barrier.specs.declared.answers.Arrived.{Arrived}
 use Rattle.cqs_barrier.specs.declared.answers.Arrived.TheVariants.{Last, LastOwing, Later}
 use Rattle.cqs_barrier.specs.declared.answers.Owing.{Owing}
-use Rattle.cqs_barrier.specs.Arriving.{NextIs, IsWorn, IsBelow, WasEarly, CameEarly, CameLast, Arrives, WaitsForOthers}
+use Rattle.cqs_barrier.specs.Arriving.{NextIs, IsWorn, IsBelow, WasEarly, CameEarly, CameLast, Arrives, EndsAtCell, WaitsForOthers}
 use Rattle.cqs_barrier.specs.Barrier.{barrier_object, arrives}
 use Rattle.cqs_barrier.specs.BarrierWord.{OnWord}
 use Rattle.cqs_barrier.specs.Calls.{IsReady}
@@ -280,3 +280,34 @@ module _ {T : Type 0} where
         ),
         below-later false m v x w c on ends.called.same.opening,
       )
+
+  -- at which cell it ended
+  pub ends-last : (m : ℕ) (v x w : View BarrierEntry T) → is_last m ≡ true → Came true m v x → RanAll x None w
+      → Has v.number v.own → IsLegal w.opening.size w.seen → EndsAtCell v Last w
+  ends-last m v x w is c r has legal = inl (r.0, last-called m r.0 r.1 v x w is c r.2 has legal)
+
+  pub ends-early : (m : ℕ) (answer : Arrived) (v x w : View BarrierEntry T) → 1 < remaining_in m → Came false m v x
+      → WaitsForOthers x answer w → Has v.number v.own → IsLegal w.opening.size w.seen → EndsAtCell v answer w
+  ends-early m Last v x w more c e has legal =
+      let ends = e.2 in
+      inr (
+        e.0,
+        came-meanwhile m e.0 e.1 v x w more c ends has legal,
+        record {
+          word = ends.word;
+          payload = e.1;
+          cell = ends.cell;
+          found = (_, ap (λ (f : Facts). f.found) ends.facts_are);
+          was = ends.was;
+        },
+      )
+  ends-early m (LastOwing owing) v x w more c e has legal = tt
+  ends-early m (Later wait) v x w more c e has legal =
+      let ends = e.0 in
+      record {
+        word = ends.word;
+        payload = 0;
+        cell = ends.cell;
+        found = (_, ap (λ (f : Facts). f.found) ends.facts_are);
+        was = ends.was;
+      }

@@ -1,5 +1,6 @@
 -- What an arrival answers, and why.
 use Rattle.std.specs.Prelude.{◌≡◌, ◌⊎◌, ℕ, ◌-◌, ◌<◌, ◌≤◌, List, [], ◌∷◌, ◌++◌, length, Result, Ok, Err}
+use Rattle.cqs_core.specs.declared.cells.CoreState.TheVariants as state
 use Rattle.cqs_core.specs.QueueSteps.{installs, takes}
 use Rattle.cqs_barrier_object.specs.declared.entries.BarrierEntry.{BarrierEntry}
 use Rattle.cqs_barrier_object.specs.SoleCaller.{delivers}
@@ -16,7 +17,7 @@ use Rattle.cqs_barrier.specs.declared.answers.Arrived.TheVariants.{Last, LastOwi
 use Rattle.cqs_barrier.specs.declared.answers.Owing.{Owing}
 use Rattle.cqs_barrier.specs.Barrier.{barrier_object}
 use Rattle.cqs_barrier.specs.Calls.{CallRule, IsReady, Rests, plain_after}
-use Rattle.cqs_barrier.specs.Causes.{primitive_of}
+use Rattle.cqs_barrier.specs.Causes.{primitive_of, CellWas}
 use Rattle.cqs_barrier.specs.Leaving.{RemainingWas}
 use Rattle.cqs_barrier.specs.Resuming.{HasOwing, most_passed_over}
 use Rattle.cqs_barrier.specs.Waits.{wait_in}
@@ -79,6 +80,16 @@ module _ {T : Type 0} where
       CameEarly (place_of (wait_in wait)).index [] v w
       × HasWait w (wait_in wait)
       × Rests v (v.facts.has.held - 1) (v.facts.waits ++ (place_of (wait_in wait)).index ∷ []) w
+
+  -- The last step of an arrival that drew a number was made at the cell of it: the value of its
+  -- resume was there, or nothing was, and the party waits.
+  abbrev pub EndsAtCell : View BarrierEntry T → Arrived → View BarrierEntry T → Type 0
+  EndsAtCell v Last w =
+      ((ks : List ℕ) × CameLast ks v w)
+      ⊎ ((k : ℕ) × CameEarly k (entry.Deliver k ∷ []) v w
+      × CellWas state.Value k (entry.Deliver k ∷ []) w)
+  EndsAtCell v (LastOwing owing) w = Unit {0}
+  EndsAtCell v (Later wait) w = CellWas state.Empty (place_of (wait_in wait)).index [] w
 
   -- a party at the door drew a number: the value of its resume was there, or the party waits
   abbrev pub WaitsForOthers : View BarrierEntry T → Arrived → View BarrierEntry T → Type 0

@@ -4,7 +4,7 @@ ghost use Rattle.std.specs.Prelude.{◌≡◌, ◌<◌, true, OnErr, OnOk, IfOk,
 ghost use Rattle.cqs_core.specs.declared.doings.Doing.TheVariants as doing;
 ghost use Rattle.cqs_rule.specs.Passes.{pass_view};
 ghost use Rattle.cqs_barrier.specs.Alone.{IsPlainArrive, IsPlainFinish};
-ghost use Rattle.cqs_barrier.specs.Arriving.{Arrives, Finishes, IsWorn, IsBelow, NextIs, WaitsForOthers};
+ghost use Rattle.cqs_barrier.specs.Arriving.{Arrives, EndsAtCell, Finishes, IsWorn, IsBelow, NextIs, WaitsForOthers};
 ghost use Rattle.cqs_barrier.specs.Calls.{IsReady, IsMine};
 ghost use Rattle.cqs_barrier.specs.Resuming.{HasOwing, owing_reached};
 
@@ -28,6 +28,8 @@ impl<T: Carries + Send> Barrier<T> {
         ensures below { OnOk result (IsBelow (pass_view pass.old) (pass_view pass.new)) }
         ensures arrived { IfOk result
             (λ arrived. Arrives (pass_view pass.old) arrived (pass_view pass.new)) }
+        ensures cell { IfOk result
+            (λ arrived. EndsAtCell (pass_view pass.old) arrived (pass_view pass.new)) }
         ensures alone { (pass_view pass.old).alone ≡ true → IfOk result
             (λ arrived. IsPlainArrive (pass_view pass.old) arrived (pass_view pass.new)) }
     {

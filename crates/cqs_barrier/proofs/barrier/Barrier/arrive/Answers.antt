@@ -4,7 +4,7 @@ use Rattle.cqs_barrier.specs.declared.answers.Owing.{Owing}
 use Rattle.cqs_barrier.specs.Resuming.{RanAll}
 use Rattle.cqs_barrier.specs.Word.{is_last}
 use Rattle.cqs_barrier.proofs.AloneCalls.{plain-last, plain-waits}
-use Rattle.cqs_barrier.proofs.ArriveSteps.{last-called, worn, came, more-to-come, came-last, came-owing, came-early}
+use Rattle.cqs_barrier.proofs.ArriveSteps.{last-called, worn, came, more-to-come, came-last, came-owing, came-early, ends-last, ends-early}
 use Rattle.cqs_barrier.proofs.barrier.Barrier.arrive.Goals as goal
 
 pub returns-then-next_wait-limit-clause-worn : goal.returns-then-next_wait-limit-clause-worn
@@ -109,6 +109,38 @@ returns-clause-arrived g c =
     (came-early m c.wait_for_others.result v x w
     (more-to-come m v x t c.arrive_once-found.ensures.belongs.live.legal) c.requires.ready t
     c.wait_for_others.ensures.waits c.requires.belongs.live.own c.wait_for_others.ensures.belongs.live.legal).0
+
+pub returns-in-None-clause-cell : goal.returns-in-None-clause-cell
+returns-in-None-clause-cell g c =
+    let same = c.requires.belongs.limit in
+    let low = c.if-next_wait-limit.false in
+    let v = pass_view c.args.pass.now in
+    let u = pass_view c.next_wait.new.pass in
+    let x = pass_view c.arrive_once-found.new.pass in
+    let w = pass_view c.resume_all.new.pass in
+    let m = c.arrive_once-found.result in
+    let is : is_last m ≡ true = sym c.last.ensures ∙ c.if-last.true in
+    let below : c.next_wait.result < v.limit = omega (arith, c.limit.ensures) in
+    ends-last m v x w is (came true v u x c.next_wait.result m is below c.next_wait.ensures.saw
+    c.arrive_once-found.ensures.saw)
+    (subst (λ (z : Option Owing). RanAll x z w) c.in-None.is c.resume_all.ensures.ran) c.requires.belongs.live.own
+    c.resume_all.ensures.belongs.live.legal
+
+pub returns-clause-cell : goal.returns-clause-cell
+returns-clause-cell g c =
+    let same = c.requires.belongs.limit in
+    let low = c.if-next_wait-limit.false in
+    let v = pass_view c.args.pass.now in
+    let u = pass_view c.next_wait.new.pass in
+    let x = pass_view c.arrive_once-found.new.pass in
+    let w = pass_view c.wait_for_others.new.pass in
+    let m = c.arrive_once-found.result in
+    let is : is_last m ≡ false = sym c.last.ensures ∙ c.if-last.false in
+    let below : c.next_wait.result < v.limit = omega (arith, c.limit.ensures) in
+    let t = came false v u x c.next_wait.result m is below c.next_wait.ensures.saw c.arrive_once-found.ensures.saw in
+    ends-early m c.wait_for_others.result v x w
+    (more-to-come m v x t c.arrive_once-found.ensures.belongs.live.legal) t c.wait_for_others.ensures.waits
+    c.requires.belongs.live.own c.wait_for_others.ensures.belongs.live.legal
 
 pub returns-in-None-clause-alone : goal.returns-in-None-clause-alone
 returns-in-None-clause-alone g c =

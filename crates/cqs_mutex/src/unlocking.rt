@@ -5,7 +5,7 @@ ghost use Rattle.cqs_rule.specs.Crew.{IsBetween};
 ghost use Rattle.cqs_rule.specs.Owed.{HasUnder, under_reached};
 ghost use Rattle.cqs_rule.specs.Passes.{pass_view};
 ghost use Rattle.cqs_rule.specs.SlotSteps.{WasHandedIn};
-ghost use Rattle.cqs_semaphore.specs.Alone.{IsPlainEnd};
+ghost use Rattle.cqs_semaphore.specs.Alone.{IsPlainEnd, IsTurnedBack};
 ghost use Rattle.cqs_semaphore.specs.Answers.{Ends};
 ghost use Rattle.cqs_semaphore.specs.Calls.{IsMine, IsReady, CallRule, plain_after};
 ghost use Rattle.cqs_semaphore.specs.Entries.{resumed_further};
@@ -77,6 +77,9 @@ impl<T: Send + Drop> Mutex<T> {
         ensures alone { (pass_view pass.old).alone ≡ true
             → (plain_after (pass_view pass.old)).way ≡ 1
             → IsPlainEnd (pass_view pass.old) result (pass_view pass.new) }
+        ensures alone_turned { (pass_view pass.old).alone ≡ true
+            → (plain_after (pass_view pass.old)).way ≡ 0
+            → IsTurnedBack (pass_view pass.old) result (pass_view pass.new) }
     {
         self.semaphore.finish(pass, under)
     }

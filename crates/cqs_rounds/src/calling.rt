@@ -1,10 +1,10 @@
 //! The arrival of a member in its round, what the last of a round still owes, and the look at a
 //! wait.
 
-ghost use Rattle.std.specs.Prelude.{◌≡◌, ◌<◌, ◌≤◌, Err};
+ghost use Rattle.std.specs.Prelude.{◌≡◌, ◌<◌, ◌≤◌, Err, IfErr};
 ghost use Rattle.cqs_rule.specs.Waits.{HasWait};
 ghost use Rattle.cqs_barrier.specs.Calls.{IsReady};
-ghost use Rattle.cqs_barrier.specs.Resuming.{HasOwing};
+ghost use Rattle.cqs_barrier.specs.Resuming.{HasOwing, owing_reached};
 ghost use Rattle.cqs_barrier.specs.Waits.{wait_in};
 ghost use Rattle.cqs_rounds.specs.Calls.{ArrivesAt, FinishesAt, PollsAt};
 ghost use Rattle.cqs_rounds.specs.Members.{round_of, owing_of, owing_round, wait_of, wait_round};
@@ -52,6 +52,8 @@ impl Rounds {
         ensures belongs { AreMine (barriers_of self.now) pass.new.passes.items }
         ensures finished { IsCalled (λ v w. FinishesAt (owing_round owing) v result w)
             (owing_round owing) pass.old.passes.items pass.new.passes.items }
+        ensures grown { IfErr result
+            (λ again. owing_reached (owing_of owing) < owing_reached (owing_of again)) }
     {
         let MemberOwing { round, owing } = owing;
         let at = round as usize;

@@ -1,13 +1,14 @@
 //! The calls of a member at the barrier of its round.
 
-ghost use Rattle.std.specs.Prelude.{◌<◌};
+ghost use Rattle.std.specs.Prelude.{◌<◌, IfErr};
 ghost use Rattle.cqs_rule.specs.Passes.{pass_view};
 ghost use Rattle.cqs_rule.specs.Waits.{HasWait};
 ghost use Rattle.cqs_barrier.specs.Calls.{IsMine, IsReady};
 ghost use Rattle.cqs_barrier.specs.Leaving.{HasLeaving, leaving_at};
-ghost use Rattle.cqs_barrier.specs.Resuming.{HasOwing};
+ghost use Rattle.cqs_barrier.specs.Resuming.{HasOwing, owing_reached};
 ghost use Rattle.cqs_barrier.specs.Waits.{wait_in};
 ghost use Rattle.cqs_rounds.specs.Calls.{ArrivesAt, CancelsAt, FinishesAt, LeavesAt, PollsAt};
+ghost use Rattle.cqs_rounds.specs.Members.{owing_of};
 
 use crate::answers::{RoundArrived, RoundError, RoundLeft, RoundPolled};
 use crate::members::{Member, MemberLeaving, MemberOwing, MemberWait};
@@ -48,6 +49,7 @@ pub(crate) fn finish_at(
     requires below { round < 64 }
     ensures belongs { IsMine barrier.now pass.new }
     ensures finished { FinishesAt round (pass_view pass.old) result (pass_view pass.new) }
+    ensures grown { IfErr result (λ again. owing_reached owing < owing_reached (owing_of again)) }
 {
     match barrier.finish(pass, owing) {
         Ok(()) => Ok(Member { round: round + 1 }),

@@ -45,7 +45,7 @@ impl<T: Carries + Send> Barrier<T> {
         self.queue.spend_wait(pass, wait)
     }
 
-    /// Looks whether the party goes through: one load.
+    /// Looks whether the party goes through.
     pub fn poll(&self, pass: &mut BarrierPass<T>, wait: PartyWait) -> PartyPolled
         requires belongs { IsMine self.now pass.old }
         requires ready { IsReady (pass_view pass.old).facts }

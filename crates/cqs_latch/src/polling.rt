@@ -15,7 +15,7 @@ use cqs_cell::look_for_grant;
 use cqs_rule::{Carries, Wait};
 
 impl<T: Carries + Send> Latch<T> {
-    /// Looks whether the wait was served: one load.
+    /// Looks whether the wait was served.
     #[inline]
     pub fn poll(&self, pass: &mut LatchPass<T>, wait: Wait) -> LatchPolled
         requires belongs { IsMine self.now pass.old }

@@ -16,7 +16,7 @@ use cqs_cell::look_for_grant;
 use cqs_rule::{Carries, Wait};
 
 impl<T: Carries + Send> Pool<T> {
-    /// Looks whether the wait was served: one load.
+    /// Looks whether the wait was served.
     pub fn poll(&self, pass: &mut PoolPass<T>, wait: Wait) -> PoolPolled
         requires belongs { IsMine self.now pass.old }
         requires ready { IsReady (pass_view pass.old).facts }

@@ -14,7 +14,7 @@ use cqs_cell::look_for_grant;
 use cqs_rule::{Carries, Wait};
 
 impl<T: Carries + Send> Semaphore<T> {
-    /// Looks whether the wait was served: one load.
+    /// Looks whether the wait was served.
     #[inline(always)]
     pub fn poll(&self, pass: &mut SemPass<T>, wait: Wait) -> Polled
         requires belongs { IsMine self.now pass.old }

@@ -15,7 +15,7 @@ use cqs_rule::{Carries, load_state, try_take};
 use cqs_words::{PackedState, StateWord};
 
 impl<T: Carries + Send> Semaphore<T> {
-    /// A permit where one is free, by one load and at most one exchange. It never waits.
+    /// A permit where one is free. It never waits.
     #[inline(always)]
     pub fn try_acquire(&self, pass: &mut SemPass<T>) -> Tried
         requires belongs { IsMine self.now pass.old }

@@ -13,7 +13,7 @@ use Rattle.cqs_barrier.specs.declared.answers.PartyPolled.{PartyPolled}
 use Rattle.cqs_barrier.specs.declared.answers.PartyWait.{PartyWait}
 use Rattle.cqs_barrier.specs.Alone.{IsPlainArrive, IsPlainFinish, IsPlainPoll, IsPlainCancel}
 use Rattle.cqs_barrier.specs.Answers.{IsPolled}
-use Rattle.cqs_barrier.specs.Arriving.{Arrives, Finishes, IsBelow, IsWorn}
+use Rattle.cqs_barrier.specs.Arriving.{Arrives, EndsAtCell, Finishes, IsBelow, IsWorn}
 use Rattle.cqs_barrier.specs.Calls.{CallRule, IsReady}
 use Rattle.cqs_barrier.specs.Entries.{polled_entries}
 use Rattle.cqs_barrier.specs.Leaving.{HasLeft}
@@ -37,6 +37,7 @@ Party = View BarrierEntry (Unit {0})
 pub record HasArrived (answer : Arrived) (v w : Party) : Type 0 where
   pub below : IsBelow v w
   pub arrives : Arrives v answer w
+  pub cell : EndsAtCell v answer w
   pub alone : v.alone ≡ true → IsPlainArrive v answer w
 
 pub record HasFinished (answer : Result (Unit {0}) Owing) (v w : Party) : Type 0 where

@@ -7,6 +7,7 @@ returns-in-Ok-Last-clause-arrived c = (
   record {
     below = c.in-Ok-Last.ensures.below;
     arrives = rw c.in-Ok-Last.field-0-is at c.in-Ok-Last.ensures.arrived;
+    cell = rw c.in-Ok-Last.field-0-is at c.in-Ok-Last.ensures.cell;
     alone = rw c.in-Ok-Last.field-0-is at c.in-Ok-Last.ensures.alone;
   },
 )

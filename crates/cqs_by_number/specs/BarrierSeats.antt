@@ -1,6 +1,6 @@
 -- What a split and a meet by number have done, of a barrier: each is refused, for a cause that is
 -- the callers'; or it was the barrier's own, of which all holds that its contract says.
-use Rattle.std.specs.Prelude.{◌≡◌, ◌⊎◌, ℕ, ◌+◌, ◌<◌, ◌≤◌, true, [], None, IsSome}
+use Rattle.std.specs.Prelude.{◌≡◌, ◌⊎◌, ℕ, ◌+◌, ◌++◌, ◌<◌, ◌≤◌, true, [], None, IsSome}
 use Rattle.cqs_rule.specs.declared.semaphore.carries.Unparked.{Unparked}
 use Rattle.cqs_rule.specs.Crew.{CameWith}
 use Rattle.cqs_rule.specs.Passes.{pass_view, passes_of}
@@ -57,6 +57,7 @@ RefusesMeet c given a = ⊥
 pub record TakesIn (c given d : BarrierCaller) : Type 0 where
   pub free : HasMore given → ⊥
   pub met : HasMet c.pass given.pass d.pass
+  pub laid : (pass_view d.pass).laid ≡ (pass_view c.pass).laid ++ (pass_view given.pass).laid
   pub held : (pass_view d.pass).facts.has.held
       ≡ (pass_view c.pass).facts.has.held + (pass_view given.pass).facts.has.held
   pub keeps : Keeps c d

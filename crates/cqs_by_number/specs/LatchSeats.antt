@@ -1,6 +1,6 @@
 -- What a split and a meet by number have done, of a latch: each is refused, for a cause that is the
 -- callers'; or it was the latch's own, of which all holds that its contract says.
-use Rattle.std.specs.Prelude.{◌≡◌, ◌<◌, ◌≤◌, true, [], None, IsSome}
+use Rattle.std.specs.Prelude.{◌≡◌, ◌++◌, ◌<◌, ◌≤◌, true, [], None, IsSome}
 use Rattle.cqs_rule.specs.declared.semaphore.carries.Unparked.{Unparked}
 use Rattle.cqs_rule.specs.Crew.{Came}
 use Rattle.cqs_rule.specs.Passes.{pass_view, passes_of}
@@ -53,4 +53,5 @@ RefusesMeet c given a = ⊥
 pub record TakesIn (c given d : LatchCaller) : Type 0 where
   pub free : IsBusy (pass_view given.pass).facts → ⊥
   pub met : HasMet c.pass given.pass d.pass
+  pub laid : (pass_view d.pass).laid ≡ (pass_view c.pass).laid ++ (pass_view given.pass).laid
   pub keeps : Keeps c d

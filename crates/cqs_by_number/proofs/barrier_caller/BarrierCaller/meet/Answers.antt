@@ -39,6 +39,7 @@ returns-in-Ok-clause-met c = record {
     | inr busy ↦ no-cause _ c.in-Ok.ensures.busy.1 busy
   ];
   met = c.in-Ok.ensures.met;
+  laid = c.in-Ok.ensures.laid;
   held = c.in-Ok.ensures.held;
   keeps = record { waits = refl; owed = refl };
 }

@@ -22,6 +22,7 @@ pub returns-in-Ok-clause-met : goal.returns-in-Ok-clause-met
 returns-in-Ok-clause-met c = record {
   free = no-cause _ c.in-Ok.ensures.busy.1;
   met = c.in-Ok.ensures.met;
+  laid = c.in-Ok.ensures.laid;
   keeps = record { waits = refl; owed = refl; open_yet = c.meet.ensures.keeps };
 }
 

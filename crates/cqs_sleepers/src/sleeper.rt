@@ -10,10 +10,14 @@ use cqs_rule::Under;
 use cqs_semaphore::{Permit, Released, SemPass, Semaphore};
 use cqs_waiter::acquire_wait;
 use std::sync::Wait;
-use std::thread;
+use std::{hint, thread};
 
-/// Sleeps for a permit so often, and gives it back each time after other threads may have run. It
-/// answers how often one came.
+/// So many pauses of the processor are made while a permit is held: twice as many as a caller makes
+/// between its looks.
+const PAUSES: u32 = 4096;
+
+/// Sleeps for a permit so often, and gives it back each time after other threads may have run, and
+/// have come to sleep. It answers how often one came.
 pub fn sleep_all<R: Wait>(
     rt: &R,
     semaphore: &Semaphore,
@@ -28,11 +32,19 @@ pub fn sleep_all<R: Wait>(
     for _ in 0..rounds {
         if let Some(permit) = come(rt, semaphore, &mut pass) {
             came = came.saturating_add(1);
-            thread::yield_now();
+            stay();
             give_back(semaphore, &mut pass, permit);
         }
     }
     (pass, came)
+}
+
+// Lets others run, and those who wait come to sleep.
+fn stay() {
+    thread::yield_now();
+    for _ in 0..PAUSES {
+        hint::spin_loop();
+    }
 }
 
 // Sleeps until a permit comes. There is none where no further number may be drawn.

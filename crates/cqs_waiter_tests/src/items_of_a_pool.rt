@@ -5,12 +5,16 @@ use cqs_value_pool::{ItemTaking, ValuePool};
 use cqs_waiter::{TakeFuture, take_wait};
 use std::test::Fail;
 use std::thread;
+use std::time::Duration;
 
 const CONFIG: Config = Config {
     passes: 2,
     limit: 4,
     slots: 8,
 };
+
+/// So many milliseconds are far longer than a caller looks: who still waits then sleeps.
+const ASLEEP: u64 = 10;
 
 #[test]
 fn a_free_item_comes_without_sleep(rt: HostRuntime) -> Result<(), Fail> {
@@ -47,7 +51,10 @@ fn a_put_wakes_who_sleeps(rt: HostRuntime) -> Result<(), Fail> {
             Ok(item) => Some(*item.get()),
             Err(_) => None,
         },
-        move || shared.put(&mut pass, item).is_ok(),
+        move || {
+            thread::sleep(host, Duration::from_millis(ASLEEP));
+            shared.put(&mut pass, item).is_ok()
+        },
     );
     assert!(rt; gave);
     assert_eq!(rt; came, Some(6));

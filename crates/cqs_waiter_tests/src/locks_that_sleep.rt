@@ -5,12 +5,16 @@ use cqs_rule::Config;
 use cqs_waiter::lock_wait;
 use std::test::Fail;
 use std::thread;
+use std::time::Duration;
 
 const CONFIG: Config = Config {
     passes: 2,
     limit: 4,
     slots: 6,
 };
+
+/// So many milliseconds are far longer than a caller looks: who still waits then sleeps.
+const ASLEEP: u64 = 10;
 
 #[test]
 fn a_free_mutex_comes_without_sleep(rt: HostRuntime) -> Result<(), Fail> {
@@ -43,7 +47,10 @@ fn an_unlock_wakes_who_sleeps(rt: HostRuntime) -> Result<(), Fail> {
             Ok(guard) => Some(*guard.get()),
             Err(_) => None,
         },
-        move || shared.unlock(&mut pass, guard).is_ok(),
+        move || {
+            thread::sleep(host, Duration::from_millis(ASLEEP));
+            shared.unlock(&mut pass, guard).is_ok()
+        },
     );
     assert!(rt; gave);
     assert_eq!(rt; came, Some(6));

@@ -5,12 +5,16 @@ use cqs_semaphore::{Acquired, Semaphore};
 use cqs_waiter::acquire_wait;
 use std::test::Fail;
 use std::thread;
+use std::time::Duration;
 
 const CONFIG: Config = Config {
     passes: 2,
     limit: 4,
     slots: 6,
 };
+
+/// So many milliseconds are far longer than a caller looks: who still waits then sleeps.
+const ASLEEP: u64 = 10;
 
 #[test]
 fn a_free_permit_comes_without_sleep(rt: HostRuntime) -> Result<(), Fail> {
@@ -36,7 +40,10 @@ fn a_release_wakes_who_sleeps(rt: HostRuntime) -> Result<(), Fail> {
     let (came, gave) = thread::join(
         host,
         move || acquire_wait(host, shared, &mut second).is_ok(),
-        move || shared.release(&mut pass, permit).is_ok(),
+        move || {
+            thread::sleep(host, Duration::from_millis(ASLEEP));
+            shared.release(&mut pass, permit).is_ok()
+        },
     );
     assert!(rt; came && gave);
     Ok(())

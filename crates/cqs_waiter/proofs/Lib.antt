@@ -1,3 +1,4 @@
+mod Arriving
 mod ItemWaits
 mod Locks
-mod Waiting
+mod PermitWaits

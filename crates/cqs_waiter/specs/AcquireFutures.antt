@@ -8,15 +8,15 @@ use Rattle.cqs_rule.specs.declared.queue.tokens.Wait.{Wait}
 use Rattle.cqs_rule.specs.declared.semaphore.SemClient.{SemClient}
 use Rattle.cqs_rule.specs.declared.view.View.{View}
 use Rattle.cqs_rule.specs.Passes.{pass_view}
-use Rattle.cqs_rule.specs.Waits.{place_of, HasWait}
+use Rattle.cqs_rule.specs.Waits.{HasWait}
 use Rattle.cqs_semaphore.specs.declared.answers.Acquired.{Acquired}
 use Rattle.cqs_semaphore.specs.declared.answers.Acquired.TheVariants.{Now, Later}
 use Rattle.cqs_semaphore.specs.declared.answers.CancelAnswer.{CancelAnswer}
 use Rattle.cqs_semaphore.specs.declared.answers.Permit.{Permit}
 use Rattle.cqs_semaphore.specs.declared.semaphore.Semaphore.{Semaphore}
 use Rattle.cqs_semaphore.specs.Calls.{IsMine, IsReady}
-use Rattle.cqs_semaphore.specs.Steps.{HasCancelled}
-use Rattle.cqs_waiter.specs.Arrivals.{Arrives, Pends}
+use Rattle.cqs_waiter.specs.Arrivals.{Pends}
+use Rattle.cqs_waiter.specs.Permits.{HasLeft, PermitArrives, permit_calls}
 
 module _ {T : Type 0} where
   -- the pass has the wait that an acquire got
@@ -37,13 +37,13 @@ module _ {T : Type 0} {g : Ghosts (SemClient T) T Entry} where
 
   abbrev pub Acquires : Pass (SemClient T) T Entry g → Option Wait → Result Permit AcquireError
       → Pass (SemClient T) T Entry g → Type 0
-  Acquires p wait got after = Arrives (pass_view p) wait got (pass_view after)
+  Acquires p wait got after = PermitArrives (pass_view p) wait got (pass_view after)
 
   abbrev pub AcquirePends : Pass (SemClient T) T Entry g → Option Wait → Wait
       → Pass (SemClient T) T Entry g → Type 0
-  AcquirePends p wait again after = Pends (pass_view p) wait again (pass_view after)
+  AcquirePends p wait again after =
+      Pends permit_calls (pass_view p) wait again (pass_view after)
 
   abbrev pub EndsWait : Pass (SemClient T) T Entry g → Wait → CancelAnswer
       → Pass (SemClient T) T Entry g → Type 0
-  EndsWait p wait answer after =
-      HasCancelled (place_of wait).index (pass_view p) answer (pass_view after)
+  EndsWait p wait answer after = HasLeft wait (pass_view p) answer (pass_view after)

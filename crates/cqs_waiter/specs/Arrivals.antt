@@ -1,96 +1,70 @@
--- How a permit came to a caller who acquired, and looked at its wait until it was served.
-use Rattle.std.specs.Prelude.{◌≡◌, ◌⊎◌, ℕ, ◌+◌, List, [], ◌∷◌, ◌++◌, Option, Some, None, Result, Ok, Err}
-use Rattle.cqs_core.specs.declared.cells.CoreState.TheVariants as state
-use Rattle.cqs_core.specs.declared.entries.Entry.{Entry}
-use Rattle.cqs_core.specs.declared.entries.Entry.TheVariants as entry
+-- How what a caller waits for came to it: what the calls gave that it made, one after the other.
+-- What a call tells, each kind of waiter says.
+use Rattle.std.specs.Prelude.{◌≡◌, ◌⊎◌, ℕ, zero, suc, Option, Some, None, Result, Ok, Err}
 use Rattle.cqs_rule.specs.declared.config.AcquireError.{AcquireError}
 use Rattle.cqs_rule.specs.declared.config.AcquireError.TheVariants.{Worn}
-use Rattle.cqs_rule.specs.declared.queue.tokens.Wait.{Wait}
-use Rattle.cqs_rule.specs.declared.view.View.{View}
-use Rattle.cqs_rule.specs.Lists.{without}
-use Rattle.cqs_rule.specs.Waits.{place_of, HasWait}
-use Rattle.cqs_semaphore.specs.declared.answers.Acquired.{Acquired}
-use Rattle.cqs_semaphore.specs.declared.answers.Acquired.TheVariants.{Now, Later}
-use Rattle.cqs_semaphore.specs.declared.answers.Permit.{Permit}
-use Rattle.cqs_semaphore.specs.Answers.{IsWorn, Takes}
-use Rattle.cqs_semaphore.specs.Calls.{Course, Rests}
-use Rattle.cqs_semaphore.specs.Causes.{CellWas}
-use Rattle.cqs_semaphore.specs.Entries.{took_entries}
-use Rattle.cqs_semaphore.specs.Permits.{number_of}
-use Rattle.cqs_waiter.specs.Looks.{came_entries, pending_entries, look_entries}
 
-module _ {T : Type 0} where
-  -- The permit came at once: it was free, or lay in the cell of the number that was drawn.
-  pub record CameAtOnce (v : View Entry T) (permit : Permit) (w : View Entry T) : Type 0 where
-    pub course : Course v (took_entries v.number (number_of permit)) w
-    pub takes : Takes v (number_of permit) w
+-- What the calls of one who waits tell of its pass before and after (V), of the token of a wait (W)
+-- and of what is waited for (X): all that the contract of the call says.
+pub record WaiterCalls (V W X : Type 0) : Type 1 where
+  -- a call that asks had it at once, or got a wait, or was refused
+  pub at_once : V → X → V → Type 0
+  pub waits : V → W → V → Type 0
+  pub refuses : V → AcquireError → V → Type 0
+  -- a look at a wait found it served; or nothing new, and gave its token again
+  pub serves : W → V → X → V → Type 0
+  pub pends : W → V → W → V → Type 0
 
-  -- The permit came by the wait k, after some looks that found nothing new: the last one found the
-  -- cell served. Before the looks the pass had made these entries, and had these waits then.
-  pub record CameByWait (k : ℕ) (before : List Entry) (waits : List ℕ) (v : View Entry T)
-      (permit : Permit) (w : View Entry T)
-      : Type 0 where
-    pub number : number_of permit ≡ Some k
+module _ {V W X : Type 0} (calls : WaiterCalls V W X) where
+  -- so many looks that found nothing new, one after the other, from this token to the last one
+  abbrev pub LooksOn : ℕ → W → V → W → V → Type 0
+  LooksOn zero wait v last w = (last ≡ wait) × (w ≡ v)
+  LooksOn (suc times) wait v last w =
+      (next : W) × (u : V) × calls.pends wait v next u × LooksOn times next u last w
+
+  -- It came by this wait: after some looks that found nothing new, one found it served.
+  pub record ComesBy (wait : W) (v : V) (it : X) (w : V) : Type 0 where
     pub times : ℕ
-    pub course : Course v (before ++ look_entries v.number k times) w
-    pub served : CellWas state.Resumed k (entry.LookGranted v.number k ∷ []) w
-    pub rests : Rests v (v.facts.has.held + 1) (without k waits) w
+    pub last : W
+    pub before : V
+    pub looked : LooksOn times wait v last before
+    pub served : calls.serves last before it w
 
-  -- What came of an acquire, or of the wait that it had got before. Only an acquire is refused, and
-  -- only as worn.
-  abbrev pub Arrives : View Entry T → Option Wait → Result Permit AcquireError → View Entry T
-      → Type 0
-  Arrives v None (Ok permit) w =
-      CameAtOnce v permit w
-      ⊎ ((k : ℕ)
-      × CameByWait k (came_entries v.number k) (v.facts.waits ++ k ∷ []) v permit w)
-  Arrives v None (Err e) w = (e ≡ Worn) × Course v [] w × IsWorn v w
-  Arrives v (Some wait) (Ok permit) w =
-      CameByWait (place_of wait).index [] v.facts.waits v permit w
+  -- What came of a call that asks, or of the wait that it had got before. Only a call that asks is
+  -- refused, and only as worn.
+  abbrev pub Arrives : V → Option W → Result X AcquireError → V → Type 0
+  Arrives v None (Ok it) w =
+      calls.at_once v it w
+      ⊎ ((wait : W) × (u : V) × calls.waits v wait u × ComesBy wait u it w)
+  Arrives v None (Err e) w = (e ≡ Worn) × calls.refuses v e w
+  Arrives v (Some wait) (Ok it) w = ComesBy wait v it w
   Arrives v (Some wait) (Err e) w = ⊥
 
-  -- the pass acquired and got this wait
-  pub record JustCame (v : View Entry T) (wait : Wait) (w : View Entry T) : Type 0 where
-    pub course : Course v (came_entries v.number (place_of wait).index) w
-    pub has : HasWait w wait
-    pub rests : Rests v v.facts.has.held (v.facts.waits ++ (place_of wait).index ∷ []) w
+  -- What a poll begins with: the wait of before, or what a call gave that asks: this, at once; or a
+  -- wait; or a refusal.
+  abbrev pub BeginsAtOnce : V → Option W → X → V → Type 0
+  BeginsAtOnce v None it w = calls.at_once v it w
+  BeginsAtOnce v (Some wait) it w = ⊥
 
-  -- The pass acquired and got this wait, and has looked at it so often and found nothing new.
-  pub record StillWaits (v : View Entry T) (wait : Wait) (w : View Entry T) : Type 0 where
+  abbrev pub BeginsToWait : V → Option W → W → V → Type 0
+  BeginsToWait v None wait w = calls.waits v wait w
+  BeginsToWait v (Some before) wait w = (wait ≡ before) × (w ≡ v)
+
+  abbrev pub BeginsRefused : V → Option W → AcquireError → V → Type 0
+  BeginsRefused v None e w = (e ≡ Worn) × calls.refuses v e w
+  BeginsRefused v (Some wait) e w = ⊥
+
+  -- What a poll found that is pending: it began with a wait, and its look found nothing new.
+  pub record Pends (v : V) (wait : Option W) (again : W) (w : V) : Type 0 where
+    pub first : W
+    pub from : V
+    pub begins : BeginsToWait v wait first from
+    pub looked : calls.pends first from again w
+
+  -- the pass asked, got a wait, and has looked at it some times
+  pub record StillLooks (v : V) (wait : W) (w : V) : Type 0 where
+    pub first : W
+    pub from : V
+    pub asked : calls.waits v first from
     pub times : ℕ
-    pub course : Course v
-        (came_entries v.number (place_of wait).index
-        ++ pending_entries v.number (place_of wait).index times) w
-    pub has : HasWait w wait
-    pub rests : Rests v v.facts.has.held (v.facts.waits ++ (place_of wait).index ∷ []) w
-
-  -- what a poll begins with: the wait of before, or what an acquire got
-  abbrev pub Begins : View Entry T → Option Wait → Result Acquired AcquireError → View Entry T
-      → Type 0
-  Begins v None (Ok (Now permit)) w = CameAtOnce v permit w
-  Begins v None (Ok (Later wait)) w = JustCame v wait w
-  Begins v None (Err e) w = (e ≡ Worn) × Course v [] w × IsWorn v w
-  Begins v (Some wait) (Ok (Later same)) w = (same ≡ wait) × (w ≡ v)
-  Begins v (Some wait) (Ok (Now permit)) w = ⊥
-  Begins v (Some wait) (Err e) w = ⊥
-
-  -- the entries of such a poll, and what the pass is at then
-  abbrev pub HasLooked : View Entry T → Option Wait → Wait → View Entry T → Type 0
-  HasLooked v None again w =
-      Course v
-      (came_entries v.number (place_of again).index
-      ++ entry.LookPending v.number (place_of again).index ∷ []) w
-      × Rests v v.facts.has.held (v.facts.waits ++ (place_of again).index ∷ []) w
-  HasLooked v (Some wait) again w =
-      (place_of again ≡ place_of wait)
-      × Course v (entry.LookPending v.number (place_of again).index ∷ []) w
-      × Rests v v.facts.has.held v.facts.waits w
-
-  -- What a poll found that is pending: the wait is the one of before, or one that it got first; and
-  -- its look found the cell with its waiter.
-  pub record Pends (v : View Entry T) (wait : Option Wait) (again : Wait) (w : View Entry T)
-      : Type 0 where
-    pub has : HasWait w again
-    pub looked : CellWas state.Waiter (place_of again).index
-        (entry.LookPending v.number (place_of again).index ∷ []) w
-    pub made : HasLooked v wait again w
+    pub looked : LooksOn times first from wait w

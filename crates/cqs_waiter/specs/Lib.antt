@@ -1,5 +1,5 @@
-pub mod Looks
 pub mod Arrivals
+pub mod Permits
 pub mod Futures
 pub mod AcquireFutures
 pub mod Locks

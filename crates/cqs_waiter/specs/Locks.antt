@@ -1,50 +1,46 @@
--- How a mutex came to a caller who locked, and looked at its wait until it was served: as a permit
--- does; and then its value moved to the guard.
-use Rattle.std.specs.Prelude.{◌≡◌, ◌<◌, Option, Some, None, Result, Ok, Err, OnOk}
+-- How a mutex came to a caller who locked, and looked at its wait until it was served: what the
+-- mutex's own calls gave, one after the other.
+use Rattle.std.specs.Prelude.{Option, Result, Ok, Err}
 use Rattle.cqs_core.specs.declared.entries.Entry.{Entry}
 use Rattle.cqs_rule.specs.declared.config.AcquireError.{AcquireError}
-use Rattle.cqs_rule.specs.declared.queue.tokens.Wait.{Wait}
 use Rattle.cqs_rule.specs.declared.semaphore.carries.Kept.{Kept}
 use Rattle.cqs_rule.specs.declared.view.View.{View}
 use Rattle.cqs_mutex.specs.declared.answers.Locked.{Locked}
+use Rattle.cqs_mutex.specs.declared.answers.Locked.TheVariants.{Now, Later}
+use Rattle.cqs_mutex.specs.declared.answers.PolledLock.{PolledLock}
+use Rattle.cqs_mutex.specs.declared.answers.PolledLock.TheVariants.{Granted, Pending}
 use Rattle.cqs_mutex.specs.declared.guard.Guard.{Guard}
 use Rattle.cqs_mutex.specs.declared.guard.LockWait.{LockWait}
-use Rattle.cqs_mutex.specs.Calls.{as_answer, LockedHolds, LockedValue}
-use Rattle.cqs_mutex.specs.Guards.{value_of, permit_of, wait_in}
-use Rattle.cqs_mutex.specs.Values.{TookValue}
-use Rattle.cqs_semaphore.specs.declared.answers.Permit.{Permit}
-use Rattle.cqs_waiter.specs.Arrivals.{Arrives, Begins}
-
--- the wait of the semaphore below, if there is one
-abbrev pub waits_in : Option LockWait → Option Wait
-waits_in None = None
-waits_in (Some wait) = Some (wait_in wait)
+use Rattle.cqs_mutex.specs.Calls.{HasLocked, HasPolled, LockedHolds, PolledHolds}
+use Rattle.cqs_mutex.specs.Guards.{wait_in}
+use Rattle.cqs_waiter.specs.Arrivals.{WaiterCalls, Arrives, BeginsAtOnce, BeginsToWait, BeginsRefused}
 
 module _ {T : Type 0} where
-  -- what came of it, where nothing is said of the value
-  abbrev pub as_permit : Result (Guard T) AcquireError → Result Permit AcquireError
-  as_permit (Ok guard) = Ok (permit_of guard)
-  as_permit (Err e) = Err e
-
-  -- the value left its slot with the guard, and else nothing was done
-  abbrev pub GotValue : Result (Guard T) AcquireError → View Entry (Kept T) → View Entry (Kept T)
+  -- a lock, and a look at a wait, each with what the pass holds then or waits for
+  abbrev pub Locks : View Entry (Kept T) → Result (Locked T) AcquireError → View Entry (Kept T)
       → Type 0
-  GotValue (Ok guard) v w = TookValue (value_of guard) v w
-  GotValue (Err e) v w = w ≡ v
+  Locks v answer w = HasLocked v answer w × LockedHolds answer w
 
-  -- What came of a lock, or of the wait that it had got before: a permit came, or the lock was
-  -- refused as worn, which led to a view in between; and then the value moved.
-  pub record LockArrives (v : View Entry (Kept T)) (wait : Option Wait)
-      (got : Result (Guard T) AcquireError) (w : View Entry (Kept T)) : Type 0 where
-    pub between : View Entry (Kept T)
-    pub arrives : Arrives v wait (as_permit got) between
-    pub value : GotValue got between w
-    pub holds : OnOk got (0 < w.facts.has.held)
+  abbrev pub Looks : LockWait → View Entry (Kept T) → PolledLock T → View Entry (Kept T) → Type 0
+  Looks wait v answer w = HasPolled (wait_in wait) v answer w × PolledHolds answer w
+
+  abbrev pub lock_calls : WaiterCalls (View Entry (Kept T)) LockWait (Guard T)
+  lock_calls = record {
+    at_once = λ v guard w. Locks v (Ok (Now guard)) w;
+    waits = λ v wait w. Locks v (Ok (Later wait)) w;
+    refuses = λ v e w. Locks v (Err e) w;
+    serves = λ wait v guard w. Looks wait v (Granted guard) w;
+    pends = λ wait v again w. Looks wait v (Pending again) w;
+  }
+
+  -- what came of a lock, or of the wait that it had got before
+  abbrev pub LockArrives : View Entry (Kept T) → Option LockWait → Result (Guard T) AcquireError
+      → View Entry (Kept T) → Type 0
+  LockArrives = Arrives lock_calls
 
   -- what a poll begins with: the wait of before, or what a lock got
-  pub record LockBegins (v : View Entry (Kept T)) (wait : Option Wait)
-      (answer : Result (Locked T) AcquireError) (w : View Entry (Kept T)) : Type 0 where
-    pub between : View Entry (Kept T)
-    pub begins : Begins v wait (as_answer answer) between
-    pub value : LockedValue answer between w
-    pub holds : LockedHolds answer w
+  abbrev pub LockBegins : View Entry (Kept T) → Option LockWait → Result (Locked T) AcquireError
+      → View Entry (Kept T) → Type 0
+  LockBegins v wait (Ok (Now guard)) w = BeginsAtOnce lock_calls v wait guard w
+  LockBegins v wait (Ok (Later got)) w = BeginsToWait lock_calls v wait got w
+  LockBegins v wait (Err e) w = BeginsRefused lock_calls v wait e w

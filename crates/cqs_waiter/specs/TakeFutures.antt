@@ -19,8 +19,9 @@ use Rattle.cqs_value_pool.specs.Items.{number_of}
 use Rattle.cqs_value_pool.specs.Pools.{Belongs}
 use Rattle.cqs_waiter.specs.declared.take_future.TakeFuture.{TakeFuture}
 use Rattle.cqs_waiter.specs.declared.take_future.TakeOutcome.{TakeOutcome}
+use Rattle.cqs_waiter.specs.Arrivals.{Pends}
 use Rattle.cqs_waiter.specs.Futures.{CanPoll, Gives, LookPended}
-use Rattle.cqs_waiter.specs.Takes.{ItemArrives, ItemPends}
+use Rattle.cqs_waiter.specs.Takes.{ItemArrives, take_calls}
 
 module _ {T : Type 0} {g : Ghosts (PoolClient (Kept T)) (Kept T) PoolEntry} where
   -- the pass is one of this pool, between two calls
@@ -43,7 +44,7 @@ module _ {T : Type 0} {g : Ghosts (PoolClient (Kept T)) (Kept T) PoolEntry} wher
 
   abbrev pub TakePends : Pass (PoolClient (Kept T)) (Kept T) PoolEntry g → Option Wait → Wait
       → Pass (PoolClient (Kept T)) (Kept T) PoolEntry g → Type 0
-  TakePends p wait again after = ItemPends (pass_view p) wait again (pass_view after)
+  TakePends p wait again after = Pends take_calls (pass_view p) wait again (pass_view after)
 
   abbrev pub EndsTakeWait : Pass (PoolClient (Kept T)) (Kept T) PoolEntry g → Wait → ItemLeft T
       → Pass (PoolClient (Kept T)) (Kept T) PoolEntry g → Type 0

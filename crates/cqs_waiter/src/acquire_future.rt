@@ -8,9 +8,9 @@ ghost use Rattle.cqs_rule.specs.Waits.{HasWait};
 ghost use Rattle.futures.specs.Poll.{IfReady, OnPending};
 ghost use Rattle.futures.specs.Task.{Covers, Keeps};
 ghost use Rattle.cqs_semaphore.specs.Calls.{IsMine, IsReady};
-ghost use Rattle.cqs_waiter.specs.Arrivals.{Begins};
 ghost use Rattle.cqs_waiter.specs.AcquireFutures.{Acquires, AcquirePends, EndsWait, GotWait, IsIn, Waits};
 ghost use Rattle.cqs_waiter.specs.Futures.{CanPoll, Gives, LookPended, GivesUp};
+ghost use Rattle.cqs_waiter.specs.Permits.{PermitBegins};
 
 use cqs_rule::{AcquireError, Wait};
 use cqs_semaphore::{Acquired, CancelAnswer, Permit, Polled, SemPass, Semaphore};
@@ -81,7 +81,7 @@ impl<'a> AcquireFuture<'a> {
 }
 
 // The wait that the future has, or what its acquire gets.
-#[tactic(auto, using(crate::proofs::Waiting::acquire_begins))]
+#[tactic(auto, using(crate::proofs::PermitWaits::acquire_begins))]
 fn begin(
     semaphore: &Semaphore,
     pass: &mut SemPass,
@@ -92,7 +92,7 @@ fn begin(
     requires has { IfSome wait (HasWait (pass_view pass.old)) }
     ensures belongs { IsMine semaphore.now pass.new }
     ensures ready { IsReady (pass_view pass.new).facts }
-    ensures begins { Begins (pass_view pass.old) wait result (pass_view pass.new) }
+    ensures begins { PermitBegins (pass_view pass.old) wait result (pass_view pass.new) }
     ensures waits { GotWait result (pass_view pass.new) }
 {
     match wait {

@@ -4,16 +4,16 @@ ghost use Rattle.std.specs.Prelude.{◌≡◌, None};
 ghost use Rattle.cqs_rule.specs.Passes.{pass_view};
 ghost use Rattle.cqs_rule.specs.Waits.{HasWait};
 ghost use Rattle.cqs_semaphore.specs.Calls.{IsMine, IsReady};
-ghost use Rattle.cqs_waiter.specs.Arrivals.{Arrives};
+ghost use Rattle.cqs_waiter.specs.Permits.{PermitArrives};
 
 use crate::looks::Looks;
 use cqs_rule::{AcquireError, Wait};
 use cqs_semaphore::{Acquired, Permit, Polled, SemPass, Semaphore};
 use std::sync::Wait as MayWait;
 
-/// Acquires, and where a wait came of that, looks a while and then sleeps until its permit has
-/// come. The thread parks on the cell of its wait; whoever serves the wait wakes it. It is refused
-/// as `acquire` is, and then hasn't slept.
+/// Acquires, and where a wait came of that, looks a while and then may sleep until its permit has
+/// come. The thread parks on the cell of its wait; whoever serves the wait is to wake it. It is
+/// refused as `acquire` is, and then no wait was made.
 pub fn acquire_wait<R: MayWait>(
     rt: &R,
     semaphore: &Semaphore,
@@ -23,7 +23,7 @@ pub fn acquire_wait<R: MayWait>(
     requires ready { IsReady (pass_view pass.old).facts }
     ensures belongs { IsMine semaphore.now pass.new }
     ensures ready { IsReady (pass_view pass.new).facts }
-    ensures arrives { Arrives (pass_view pass.old) None result (pass_view pass.new) }
+    ensures arrives { PermitArrives (pass_view pass.old) None result (pass_view pass.new) }
 {
     let mut wait = match semaphore.acquire(pass) {
         Ok(Acquired::Later(wait)) => wait,

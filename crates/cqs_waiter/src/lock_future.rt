@@ -7,12 +7,11 @@ ghost use Rattle.cqs_rule.specs.Passes.{pass_view};
 ghost use Rattle.futures.specs.Poll.{IfReady, OnPending};
 ghost use Rattle.futures.specs.Task.{Covers, Keeps};
 ghost use Rattle.cqs_semaphore.specs.Calls.{IsReady};
-ghost use Rattle.cqs_mutex.specs.Calls.{as_answer};
+ghost use Rattle.cqs_mutex.specs.Calls.{LockedHolds};
 ghost use Rattle.cqs_mutex.specs.Mutexes.{Belongs};
-ghost use Rattle.cqs_waiter.specs.AcquireFutures.{GotWait, Waits};
 ghost use Rattle.cqs_waiter.specs.Futures.{CanPoll, GivesUp};
-ghost use Rattle.cqs_waiter.specs.LockFutures.{CanPollLock, EndsLockWait, GivesLock, IsOfMutex, LeadsTo, LockPended};
-ghost use Rattle.cqs_waiter.specs.Locks.{waits_in, LockBegins};
+ghost use Rattle.cqs_waiter.specs.LockFutures.{CanPollLock, EndsLockWait, GivesLock, IsOfMutex, LeadsTo, LockPended, WaitsForLock};
+ghost use Rattle.cqs_waiter.specs.Locks.{LockBegins};
 
 use cqs_core::Entry;
 use cqs_mutex::{Guard, LockLeft, LockWait, Locked, Mutex, MutexPass, PolledLock};
@@ -112,7 +111,7 @@ impl<'a, T: Send + Drop> LockFuture<'a, T> {
         ensures belongs { Belongs self.entry.mutex.now result.0 }
         ensures between { IsBetween (pass_view result.0).facts }
         ensures gave_up { IsSomeAnd self.entry.pass
-            (λ pass. GivesUp EndsLockWait pass (waits_in self.entry.wait) result.0 result.1) }
+            (λ pass. GivesUp EndsLockWait pass self.entry.wait result.0 result.1) }
         ensures none { (result.1 ≡ None) ↔ (self.entry.wait ≡ None) }
     {
         let LockFuture { mutex, pass, wait } = self;
@@ -128,17 +127,17 @@ impl<'a, T: Send + Drop> LockFuture<'a, T> {
 }
 
 // The wait that the future has, or what its lock gets.
-#[tactic(auto, using(crate::proofs::Locks::lock_begins, crate::proofs::Locks::wait_begins))]
+#[tactic(auto, using(crate::proofs::Locks::lock_begins))]
 fn begin<T: Send + Drop>(
     mutex: &Mutex<T>,
     pass: &mut MutexPass<T>,
     wait: Option<LockWait>,
 ) -> Result<Locked<T>, AcquireError>
-    requires can_poll { CanPoll (IsOfMutex mutex.now) Waits (Some pass.old) (waits_in wait) }
+    requires can_poll { CanPoll (IsOfMutex mutex.now) WaitsForLock (Some pass.old) wait }
     ensures belongs { Belongs mutex.now pass.new }
     ensures ready { IsReady (pass_view pass.new).facts }
-    ensures begins { LockBegins (pass_view pass.old) (waits_in wait) result (pass_view pass.new) }
-    ensures waits { GotWait (as_answer result) (pass_view pass.new) }
+    ensures begins { LockBegins (pass_view pass.old) wait result (pass_view pass.new) }
+    ensures waits { LockedHolds result (pass_view pass.new) }
 {
     match wait {
         Some(wait) => Ok(Locked::Later(wait)),

@@ -13,9 +13,9 @@ use cqs_mutex::{Guard, LockWait, Locked, Mutex, MutexPass, PolledLock};
 use cqs_rule::AcquireError;
 use std::sync::Wait;
 
-/// Locks, and where a wait came of that, looks a while and then sleeps until the mutex has come.
-/// The thread parks on the cell of its wait; whoever serves the wait wakes it. It is refused as
-/// `lock` is, and then hasn't slept.
+/// Locks, and where a wait came of that, looks a while and then may sleep until the mutex has come.
+/// The thread parks on the cell of its wait; whoever serves the wait is to wake it. It is refused
+/// as `lock` is, and then no wait was made.
 pub fn lock_wait<R: Wait, T: Send + Drop>(
     rt: &R,
     mutex: &Mutex<T>,

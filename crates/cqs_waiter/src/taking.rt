@@ -13,9 +13,9 @@ use cqs_rule::{AcquireError, Wait};
 use cqs_value_pool::{Item, ItemPolled, ItemTaking, ValuePass, ValuePool};
 use std::sync::Wait as MayWait;
 
-/// Takes, and where a wait came of that, looks a while and then sleeps until an item has come. The
-/// thread parks on the cell of its wait; whoever serves the wait wakes it. It is refused as `take`
-/// is, and then hasn't slept.
+/// Takes, and where a wait came of that, looks a while and then may sleep until an item has come.
+/// The thread parks on the cell of its wait; whoever serves the wait is to wake it. It is refused
+/// as `take` is, and then no wait was made.
 pub fn take_wait<R: MayWait, T: Send + Drop>(
     rt: &R,
     pool: &ValuePool<T>,

@@ -2,7 +2,8 @@ use Rattle.cqs_rule.specs.Passes.{pass_view}
 use Rattle.cqs_rule.specs.Waits.{HasWait}
 use Rattle.cqs_pool.specs.Calls.{IsReady}
 use Rattle.cqs_value_pool.specs.Pools.{Belongs}
-use Rattle.cqs_waiter.specs.Takes.{StillLooks}
+use Rattle.cqs_waiter.specs.Arrivals.{StillLooks}
+use Rattle.cqs_waiter.specs.Takes.{take_calls}
 use Rattle.cqs_waiter.proofs.taking.take_wait.Given as goal
 
 abbrev pub invariant-loop : goal.invariant-loop
@@ -10,5 +11,5 @@ invariant-loop g l = record {
   belongs : Belongs l.pool l.pass;
   ready : IsReady (pass_view l.pass).facts;
   has : HasWait (pass_view l.pass) l.wait;
-  looks : StillLooks (pass_view l.fn.pass) l.wait (pass_view l.pass);
+  looks : StillLooks take_calls (pass_view l.fn.pass) l.wait (pass_view l.pass);
 }

@@ -1,6 +1,8 @@
 use Rattle.std.proofs.Common.{◌≡◌, sym, ◌∙◌, Some, inr}
 use Rattle.cqs_rule.specs.Passes.{pass_view}
-use Rattle.cqs_waiter.proofs.ItemWaits.{granted-item, in-hand, item-still, pending-item}
+use Rattle.cqs_waiter.specs.Takes.{take_calls}
+use Rattle.cqs_waiter.proofs.Arriving.{arrives-still, looked-pends, served-arrives}
+use Rattle.cqs_waiter.proofs.ItemWaits.{in-hand}
 use Rattle.cqs_waiter.proofs.take_future.TakeFuture.poll.Goals as goal
 
 pub returns-in-Granted-clause-value : goal.returns-in-Granted-clause-value
@@ -10,7 +12,7 @@ returns-in-Granted-clause-value g c =
     let begins = rw (c.in-Ok-Later.is, c.in-Ok-Later.field-0-is) at c.begin.ensures.begins in
     let polled = rw c.in-Granted.is at c.poll.ensures.polled in
     let leaves = rw c.in-Granted.is at c.poll.ensures.leaves in
-    let arrives = granted-item _ _ _ _ _ _ begins (polled, leaves) in
+    let arrives = served-arrives take_calls _ _ _ _ _ c.in-Granted.item begins (polled, leaves) in
     rw (had, sym wait) ((c.poll.ensures.belongs, c.poll.ensures.ready), (arrives, in-hand _ _ _ _ _ leaves))
 
 pub returns-in-Pending-clause-same : goal.returns-in-Pending-clause-same
@@ -20,10 +22,10 @@ returns-in-Pending-clause-same g c =
     let begins = rw (c.in-Ok-Later.is, c.in-Ok-Later.field-0-is) at c.begin.ensures.begins in
     let polled = rw c.in-Pending.is at c.poll.ensures.polled in
     let leaves = rw c.in-Pending.is at c.poll.ensures.leaves in
-    let pends = pending-item _ _ _ _ _ c.in-Pending.wait begins (polled, leaves) in
+    let pends = looked-pends take_calls _ _ _ _ _ c.in-Pending.wait begins (polled, leaves) in
     rw (c.yield_now-in-Pending.ensures.pending, had, sym wait)
     (λ out gives.
-    (gives.0, (item-still _ _ (pass_view out.pass) _ _ out.got pends gives.1.0, gives.1.1)))
+    (gives.0, (arrives-still take_calls _ _ (pass_view out.pass) _ _ out.got pends gives.1.0, gives.1.1)))
 
 pub returns-in-Pending-clause-pending : goal.returns-in-Pending-clause-pending
 returns-in-Pending-clause-pending g c =
@@ -32,5 +34,5 @@ returns-in-Pending-clause-pending g c =
     let begins = rw (c.in-Ok-Later.is, c.in-Ok-Later.field-0-is) at c.begin.ensures.begins in
     let polled = rw c.in-Pending.is at c.poll.ensures.polled in
     let leaves = rw c.in-Pending.is at c.poll.ensures.leaves in
-    let pends = pending-item _ _ _ _ _ c.in-Pending.wait begins (polled, leaves) in
+    let pends = looked-pends take_calls _ _ _ _ _ c.in-Pending.wait begins (polled, leaves) in
     (λ is. inr (rw (had, sym wait) pends), λ looked. c.yield_now-in-Pending.ensures.pending)

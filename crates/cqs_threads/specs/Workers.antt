@@ -1,5 +1,5 @@
 -- What a worker's pass is at between its calls.
-use Rattle.std.specs.Prelude.{◌≡◌, ℕ, ◌+◌, List, [], ◌∷◌, ◌++◌, length, Option, Some, None}
+use Rattle.std.specs.Prelude.{◌≡◌, ℕ, ◌+◌, ◌<◌, ◌≤◌, List, [], ◌∷◌, ◌++◌, length, Option, Some, None}
 use Rattle.cqs_core.specs.declared.entries.Entry.{Entry}
 use Rattle.cqs_rule.specs.declared.client.ClientWords.{Ghosts}
 use Rattle.cqs_rule.specs.declared.queue.Pass.{Pass}
@@ -8,7 +8,8 @@ use Rattle.cqs_rule.specs.declared.queue.tokens.Wait.{Wait}
 use Rattle.cqs_rule.specs.declared.semaphore.SemClient.{SemClient}
 use Rattle.cqs_rule.specs.declared.view.View.{View}
 use Rattle.cqs_rule.specs.Owed.{HasUnder}
-use Rattle.cqs_rule.specs.Passes.{pass_view}
+use Rattle.cqs_rule.specs.Passes.{pass_view, passes_of}
+use Rattle.cqs_rule.specs.Views.{made_in}
 use Rattle.cqs_rule.specs.Waits.{place_of, HasWait}
 use Rattle.cqs_semaphore.specs.declared.answers.Permit.{Permit}
 use Rattle.cqs_semaphore.specs.declared.answers.Polled.{Polled}
@@ -70,3 +71,13 @@ module _ {T : Type 0} where
     pub numbers : List ℕ
     pub own_is : w.own ≡ v.own ++ numbers
     pub many_are : length numbers ≡ many
+
+  -- The pass has looked on, and then as many passes were made as the semaphore allows. It has met
+  -- some others since, fewer than so many: those that it had made before.
+  pub record IsCrowded (s : Semaphore T) (threads : ℕ) (v w : View Entry T) : Type 0 where
+    pub between : View Entry T
+    pub looked : HasMetAll v 0 between
+    pub full : passes_of s.queue ≤ made_in between.crew
+    pub many : ℕ
+    pub few : many < threads
+    pub back : HasMetAll between many w

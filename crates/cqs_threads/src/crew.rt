@@ -1,40 +1,34 @@
 //! A crew of workers, each with a thread and a pass of its own.
 
-ghost use Rattle.std.specs.Prelude.{◌≡◌, All, IfOk, OnOk, length, vec_len};
-ghost use Rattle.cqs_rule.specs.Passes.{pass_view};
-ghost use Rattle.cqs_threads.specs.Workers.{held_by, HasMetAll, IsAtRest, IsHired};
+ghost use Rattle.std.specs.Prelude.{◌≡◌, ◌≤◌, All, IfOk, IsErr, IsErrOf, OnOk, length, vec_len};
+ghost use Rattle.cqs_rule.specs.Passes.{pass_view, passes_of};
+ghost use Rattle.cqs_rule.specs.Views.{made_in};
+ghost use Rattle.cqs_threads.specs.declared.crew.CrewError.TheVariants.{Memory};
+ghost use Rattle.cqs_threads.specs.Workers.{held_by, HasMetAll, IsAtRest, IsCrowded, IsHired};
 
 use crate::counts::Counts;
 use crate::worker::work;
 use cqs_rule::Crowd;
 use cqs_semaphore::{SemPass, Semaphore};
-use std::alloc::{AllocError, AllocFailed, Global};
+use std::alloc::{AllocError, Global};
 use std::thread::{self, Threads};
 
 /// Why no crew worked, or its counts were lost.
 #[derive(Clone, Copy, Debug, PartialEq, Eq)]
 pub enum CrewError {
-    /// There was no memory for a list of passes.
+    /// There was no memory: for the list of passes, and then none was made; or for the threads, and
+    /// then the passes of the crew are lost.
     Memory,
-    /// The semaphore allows no further pass.
+    /// As many passes were made as the semaphore allows. Those that were made for the crew were
+    /// met back, and they count as made.
     Crowd,
 }
 
 impl From<AllocError> for CrewError {
+    ghost from_gives = { λ _ e. e ≡ Memory };
+
     fn from(_error: AllocError) -> Self {
         CrewError::Memory
-    }
-}
-
-impl<T: Drop> From<AllocFailed<T>> for CrewError {
-    fn from(_error: AllocFailed<T>) -> Self {
-        CrewError::Memory
-    }
-}
-
-impl From<Crowd> for CrewError {
-    fn from(_error: Crowd) -> Self {
-        CrewError::Crowd
     }
 }
 
@@ -51,13 +45,17 @@ pub fn together<R: Threads + Sync>(
     requires rest { IsAtRest semaphore.now (held_by pass.old) pass.old }
     ensures rest { IsAtRest semaphore.now (held_by pass.old) pass.new }
     ensures met { OnOk result (HasMetAll (pass_view pass.old) threads (pass_view pass.new)) }
+    ensures memory { IsErrOf result CrewError.Memory
+        → HasMetAll (pass_view pass.old) 0 (pass_view pass.new) }
+    ensures crowd { IsErrOf result CrewError.Crowd
+        → IsCrowded semaphore.now threads (pass_view pass.old) (pass_view pass.new) }
 {
     let passes = hire(alloc, semaphore, pass, threads)?;
     let worked = thread::map_vec(rt, passes, &|pass| work_hired(semaphore, pass, rounds))?;
     Ok(dismiss(semaphore, pass, worked))
 }
 
-// So many new passes.
+// So many new passes. Where one is refused, those that were made are taken in again.
 fn hire(
     alloc: Global,
     semaphore: &Semaphore,
@@ -66,13 +64,22 @@ fn hire(
 ) -> Result<Vec<SemPass>, CrewError>
     requires rest { IsAtRest semaphore.now (held_by pass.old) pass.old }
     ensures rest { IsAtRest semaphore.now (held_by pass.old) pass.new }
-    ensures met { HasMetAll (pass_view pass.old) 0 (pass_view pass.new) }
+    ensures met { OnOk result (HasMetAll (pass_view pass.old) 0 (pass_view pass.new)) }
+    ensures memory { IsErrOf result CrewError.Memory → pass.new ≡ pass.old }
+    ensures crowd { IsErrOf result CrewError.Crowd
+        → IsCrowded semaphore.now count (pass_view pass.old) (pass_view pass.new) }
     ensures hired { IfOk result (λ passes. All (IsHired semaphore.now) passes.items) }
     ensures many { IfOk result (λ passes. vec_len passes ≡ count) }
 {
-    let mut passes = Vec::new(alloc);
+    let mut passes = Vec::with_capacity(alloc, count as usize)?;
     for _made in 0..count {
-        passes.push(hire_one(semaphore, pass)?)?;
+        match hire_one(semaphore, pass) {
+            Ok(new) => passes.push_reserved(new),
+            Err(Crowd) => {
+                take_back(semaphore, pass, passes);
+                return Err(CrewError::Crowd);
+            }
+        }
     }
     Ok(passes)
 }
@@ -82,9 +89,23 @@ fn hire_one(semaphore: &Semaphore, pass: &mut SemPass) -> Result<SemPass, Crowd>
     requires rest { IsAtRest semaphore.now (held_by pass.old) pass.old }
     ensures rest { IsAtRest semaphore.now (held_by pass.old) pass.new }
     ensures met { HasMetAll (pass_view pass.old) 0 (pass_view pass.new) }
+    ensures crowd { IsErr result
+        → passes_of semaphore.now.queue ≤ made_in (pass_view pass.new).crew }
     ensures hired { IfOk result (λ made. IsHired semaphore.now made) }
 {
     semaphore.split(pass)
+}
+
+// Takes all these passes in again.
+fn take_back(semaphore: &Semaphore, pass: &mut SemPass, passes: Vec<SemPass>)
+    requires rest { IsAtRest semaphore.now (held_by pass.old) pass.old }
+    requires hired { All (IsHired semaphore.now) passes.items }
+    ensures rest { IsAtRest semaphore.now (held_by pass.old) pass.new }
+    ensures met { HasMetAll (pass_view pass.old) (vec_len passes) (pass_view pass.new) }
+{
+    for given in passes {
+        take_in(semaphore, pass, given);
+    }
 }
 
 // What each thread does.

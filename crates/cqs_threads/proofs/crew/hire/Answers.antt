@@ -9,9 +9,10 @@ pub loop-made-init : goal.loop-made-init
 loop-made-init c = record {
   rest = c.requires.rest;
   met = met-none _ _ (course-none _ c.requires.rest.belongs.live.legal) refl;
-  hired = subst (All (IsHired c.args.semaphore.now)) (sym c.new-passes.ensures.items)
+  hired = subst (All (IsHired c.args.semaphore.now)) (sym c.in_ok-passes.ensures.items)
       (All-nil (IsHired c.args.semaphore.now));
-  many = omega arith;
+  many = omega (arith, c.in_ok-passes.ensures.len);
+  room = omega (arith, c.in_ok-passes.ensures.capacity);
 }
 
 -- one more, which is at rest too
@@ -28,13 +29,19 @@ loop-made-preserved c =
         waits_are = rest.waits_are;
       };
       met = met-then 0 0 _ _ _ so_far.met c.hire_one.ensures.met;
-      hired = subst (All free) (sym c.in_ok-push.ensures.items)
-          (All-push free c.loop-made.passes.items c.in_ok-hire_one.field-0 so_far.hired c.in_ok-hire_one.ensures.hired);
-      many = let more = c.in_ok-push.ensures.len in let few = so_far.many in omega arith;
+      hired = subst (All free) (sym c.push_reserved.ensures.items)
+          (All-push free c.loop-made.passes.items c.in-Ok.new so_far.hired c.in-Ok.ensures.hired);
+      many = let more = c.push_reserved.ensures.len in let few = so_far.many in omega arith;
+      room = let same = c.push_reserved.ensures.capacity in let few = so_far.room in omega arith;
     }
 
-pub returns-in_err-hire_one-clause-met : goal.returns-in_err-hire_one-clause-met
-returns-in_err-hire_one-clause-met c = met-then 0 0 _ _ _ c.loop-made.invariant.met c.hire_one.ensures.met
-
-pub returns-in_err-push-clause-met : goal.returns-in_err-push-clause-met
-returns-in_err-push-clause-met c = met-then 0 0 _ _ _ c.loop-made.invariant.met c.hire_one.ensures.met
+-- those that were made before are taken in again
+pub returns-in-Err-clause-crowd : goal.returns-in-Err-clause-crowd
+returns-in-Err-clause-crowd c = λ refused. record {
+  between = _;
+  looked = met-then 0 0 _ _ _ c.loop-made.invariant.met c.hire_one.ensures.met;
+  full = c.in-Err.ensures.crowd;
+  many = _;
+  few = let few = c.loop-made.invariant.many in omega arith;
+  back = c.take_back.ensures.met;
+}

@@ -1,4 +1,4 @@
-use Rattle.std.proofs.Common.{◌≡◌, All, vec_len}
+use Rattle.std.proofs.Common.{◌≡◌, ◌≤◌, All, vec_len, vec_capacity}
 use Rattle.cqs_rule.specs.Passes.{pass_view}
 use Rattle.cqs_threads.specs.Workers.{held_by, HasMetAll, IsAtRest, IsHired}
 use Rattle.cqs_threads.proofs.crew.hire.Given as goal
@@ -10,4 +10,5 @@ invariant-loop-made l = record {
   met : HasMetAll (pass_view l.fn.pass) 0 (pass_view l.pass);
   hired : All (IsHired l.semaphore) l.passes.items;
   many : vec_len l.passes ≡ l._made;
+  room : l.fn.count ≤ vec_capacity l.passes;
 }

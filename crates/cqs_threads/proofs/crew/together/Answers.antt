@@ -8,4 +8,4 @@ pub returns-clause-met : goal.returns-clause-met
 returns-clause-met g c =
     subst (λ n. HasMetAll (pass_view c.args.pass.now) n (pass_view c.dismiss.new.pass))
     (zero-add _ ∙ (c.in_ok-worked.ensures.len ∙ c.in_ok-passes.ensures.many))
-    (met-then 0 _ _ _ _ c.hire.ensures.met c.dismiss.ensures.met)
+    (met-then 0 _ _ _ _ c.in_ok-passes.ensures.met c.dismiss.ensures.met)

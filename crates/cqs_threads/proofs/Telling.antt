@@ -10,6 +10,7 @@ use Rattle.cqs_core.specs.SemaphoreEntries.{IsLegal}
 use Rattle.cqs_core.specs.SemaphoreNames.{entry_names}
 use Rattle.cqs_rule.specs.declared.view.View.{View}
 use Rattle.cqs_rule.specs.Lists.{Has, part}
+use Rattle.cqs_rule.specs.Views.{IsSame}
 use Rattle.cqs_semaphore.specs.Calls.{CallRule, Course}
 use Rattle.cqs_semaphore.specs.Entries.{took_entries, came_by}
 use Rattle.cqs_semaphore.proofs.Courses.{course-call, course-then}
@@ -29,13 +30,39 @@ abbrev one_more : ℕ → ℕ
 one_more x = count_of (x + 1)
 
 module _ {T : Type 0} where
+  same-none : (v : View Entry T) → IsSame v v
+  same-none v = record {
+    number = refl;
+    weight = refl;
+    own = refl;
+    crew = refl;
+    alone = refl;
+    limit = refl;
+    cells = refl;
+    passes = refl;
+    opening = refl;
+  }
+
+  same-then : (v u w : View Entry T) → IsSame v u → IsSame u w → IsSame v w
+  same-then v u w p q = record {
+    number = q.number ∙ p.number;
+    weight = q.weight ∙ p.weight;
+    own = q.own ∙ p.own;
+    crew = q.crew ∙ p.crew;
+    alone = q.alone ∙ p.alone;
+    limit = q.limit ∙ p.limit;
+    cells = q.cells ∙ p.cells;
+    passes = q.passes ∙ p.passes;
+    opening = q.opening ∙ p.opening;
+  }
+
   -- nothing
   pub adds-none : (due : ℕ) (v : View Entry T) (c : Counts) → IsLegal v.opening.size v.seen → Adds due due v c v c
   adds-none due v c legal = record {
     own = [];
     course = course-none v legal;
     named = refl;
-    numbers = refl;
+    same = same-none v;
     tells = λ es t. subst (λ l. TellsBut due (tally_of l) c) (sym (append-nil es)) t;
   }
 
@@ -47,7 +74,7 @@ module _ {T : Type 0} where
     course = course-then v u w x.own y.own x.course y.course;
     named = filter-append (entry_names v.number) x.own y.own
         ∙ (λ i. x.named i ++ (ap (λ n. part entry_names n y.own) (sym x.course.number) ∙ y.named) i);
-    numbers = y.numbers ∙ x.numbers;
+    same = same-then v u w x.same y.same;
     tells = λ es t. subst (λ l. TellsBut e (tally_of l) f) (append_assoc es x.own y.own)
         (y.tells (es ++ x.own) (x.tells es t));
   }
@@ -59,7 +86,7 @@ module _ {T : Type 0} where
     own = own;
     course = course-call v w own further rule;
     named = rule.all;
-    numbers = rule.called.same.own;
+    same = rule.called.same;
     tells = λ es t. subst (λ s. TellsBut b s d) (sym (tally-then es own)) (step (tally_of es) t);
   }
 
@@ -497,7 +524,7 @@ module _ {T : Type 0} where
     own = a.own;
     course = a.course;
     named = a.named;
-    numbers = a.numbers;
+    same = a.same;
     tells = λ es told. let t = a.tells es told in record {
       acquires = t.acquires;
       tries = t.tries;

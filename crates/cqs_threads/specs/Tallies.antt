@@ -6,6 +6,7 @@ use Rattle.cqs_core.specs.declared.entries.Entry.TheVariants as entry
 use Rattle.cqs_core.specs.SemaphoreNames.{entry_names}
 use Rattle.cqs_rule.specs.declared.view.View.{View}
 use Rattle.cqs_rule.specs.Lists.{part}
+use Rattle.cqs_rule.specs.Views.{IsSame}
 use Rattle.cqs_semaphore.specs.Calls.{Course}
 use Rattle.cqs_threads.specs.declared.counts.Acquires.{Acquires}
 use Rattle.cqs_threads.specs.declared.counts.Cancels.{Cancels}
@@ -111,8 +112,8 @@ pub record TellsBut (due : ℕ) (t : Tally) (c : Counts) : Type 0 where
   pub ends : TellsEnds due t.freed t.sent t.gone t.late c.releases c.cancels
 
 module _ {T : Type 0} where
-  -- The pass made these entries, which all name it, and the counts were of what it had made before,
-  -- and are of that and these now. Of the permits that were sent so many hadn't arrived before, and
+  -- The pass made these entries, which all name it, and no step of the crew. The counts were of what
+  -- it had made before, and are of that and these now. Of the permits that were sent so many hadn't arrived before, and
   -- so many haven't now.
   pub record Adds (due_before due : ℕ) (v : View Entry T) (before : Counts) (w : View Entry T)
       (after : Counts)
@@ -120,14 +121,14 @@ module _ {T : Type 0} where
     pub own : List Entry
     pub course : Course v own w
     pub named : part entry_names v.number own ≡ own
-    pub numbers : w.own ≡ v.own
+    pub same : IsSame v w
     pub tells : (earlier : List Entry) → TellsBut due_before (tally_of earlier) before
         → TellsBut due (tally_of (earlier ++ own)) after
 
-  -- the pass made entries since, and the counts are just of them
+  -- the pass made entries since, and no step of the crew, and the counts are just of the entries
   pub record HasWorked (v w : View Entry T) (counts : Counts) : Type 0 where
     pub own : List Entry
     pub course : Course v own w
     pub named : part entry_names v.number own ≡ own
-    pub numbers : w.own ≡ v.own
+    pub same : IsSame v w
     pub tells : TellsBut 0 (tally_of own) counts

@@ -26,6 +26,6 @@ returns-clause-worked c =
       own = adds.own;
       course = adds.course;
       named = adds.named;
-      numbers = adds.numbers;
+      same = adds.same;
       tells = adds.tells [] c.none_yet-counts.ensures;
     }

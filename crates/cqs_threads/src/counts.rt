@@ -2,6 +2,7 @@
 
 ghost use Rattle.std.specs.Prelude.{◌≡◌, ◌+◌};
 ghost use Rattle.cqs_threads.specs.Tallies.{count_of, nothing_yet, TellsBut};
+ghost use Rattle.cqs_threads.specs.Sums.{both_acquires, both_tries, both_releases, both_polls, both_cancels, both_counts};
 
 use std::fmt;
 
@@ -110,7 +111,9 @@ pub(crate) fn count(answers: &mut u64)
 
 impl Counts {
     /// The counts of both.
-    pub fn with(self, other: Counts) -> Counts {
+    pub fn with(self, other: Counts) -> Counts
+        ensures { result ≡ both_counts self other }
+    {
         Counts {
             acquires: self.acquires.with(other.acquires),
             tries: self.tries.with(other.tries),
@@ -121,7 +124,10 @@ impl Counts {
     }
 
     /// How many permits came.
-    pub fn came(&self) -> u64 {
+    pub fn came(&self) -> u64
+        ensures { result ≡ count_of (self.now.acquires.free + self.now.acquires.took
+            + self.now.tries.got + self.now.polls.granted + self.now.cancels.too_late) }
+    {
         self.acquires
             .free
             .saturating_add(self.acquires.took)
@@ -131,7 +137,10 @@ impl Counts {
     }
 
     /// How many permits arrived where they were sent, or are free again.
-    pub fn arrivals(&self) -> u64 {
+    pub fn arrivals(&self) -> u64
+        ensures { result ≡ count_of (self.now.releases.freed + self.now.releases.sent
+            + self.now.releases.left + self.now.releases.void) }
+    {
         self.releases
             .freed
             .saturating_add(self.releases.sent)
@@ -140,7 +149,10 @@ impl Counts {
     }
 
     /// How many waits have ended.
-    pub fn ends(&self) -> u64 {
+    pub fn ends(&self) -> u64
+        ensures { result ≡ count_of (self.now.polls.granted + self.now.cancels.cancelled
+            + self.now.cancels.owing + self.now.cancels.too_late) }
+    {
         self.polls
             .granted
             .saturating_add(self.cancels.cancelled)
@@ -151,14 +163,19 @@ impl Counts {
 
 impl Acquires {
     /// How many calls there were.
-    pub fn total(&self) -> u64 {
+    pub fn total(&self) -> u64
+        ensures { result ≡ count_of (self.now.free + self.now.took + self.now.waited
+            + self.now.worn) }
+    {
         self.free
             .saturating_add(self.took)
             .saturating_add(self.waited)
             .saturating_add(self.worn)
     }
 
-    fn with(self, other: Acquires) -> Acquires {
+    fn with(self, other: Acquires) -> Acquires
+        ensures { result ≡ both_acquires self other }
+    {
         Acquires {
             free: self.free.saturating_add(other.free),
             took: self.took.saturating_add(other.took),
@@ -170,13 +187,17 @@ impl Acquires {
 
 impl Tries {
     /// How many calls there were.
-    pub fn total(&self) -> u64 {
+    pub fn total(&self) -> u64
+        ensures { result ≡ count_of (self.now.got + self.now.busy + self.now.contended) }
+    {
         self.got
             .saturating_add(self.busy)
             .saturating_add(self.contended)
     }
 
-    fn with(self, other: Tries) -> Tries {
+    fn with(self, other: Tries) -> Tries
+        ensures { result ≡ both_tries self other }
+    {
         Tries {
             got: self.got.saturating_add(other.got),
             busy: self.busy.saturating_add(other.busy),
@@ -186,7 +207,9 @@ impl Tries {
 }
 
 impl Releases {
-    fn with(self, other: Releases) -> Releases {
+    fn with(self, other: Releases) -> Releases
+        ensures { result ≡ both_releases self other }
+    {
         Releases {
             freed: self.freed.saturating_add(other.freed),
             sent: self.sent.saturating_add(other.sent),
@@ -198,7 +221,9 @@ impl Releases {
 }
 
 impl Polls {
-    fn with(self, other: Polls) -> Polls {
+    fn with(self, other: Polls) -> Polls
+        ensures { result ≡ both_polls self other }
+    {
         Polls {
             granted: self.granted.saturating_add(other.granted),
             pending: self.pending.saturating_add(other.pending),
@@ -207,7 +232,9 @@ impl Polls {
 }
 
 impl Cancels {
-    fn with(self, other: Cancels) -> Cancels {
+    fn with(self, other: Cancels) -> Cancels
+        ensures { result ≡ both_cancels self other }
+    {
         Cancels {
             cancelled: self.cancelled.saturating_add(other.cancelled),
             owing: self.owing.saturating_add(other.owing),

@@ -10,7 +10,7 @@ use Rattle.cqs_core.specs.SemaphoreEntries.{IsLegal}
 use Rattle.cqs_core.specs.SemaphoreNames.{entry_names}
 use Rattle.cqs_rule.specs.declared.view.View.{View}
 use Rattle.cqs_rule.specs.Lists.{Has, part}
-use Rattle.cqs_rule.specs.Views.{IsSame}
+use Rattle.cqs_rule.proofs.Calls.{same-here, same-then}
 use Rattle.cqs_semaphore.specs.Calls.{CallRule, Course}
 use Rattle.cqs_semaphore.specs.Entries.{took_entries, came_by}
 use Rattle.cqs_semaphore.proofs.Courses.{course-call, course-then}
@@ -30,39 +30,13 @@ abbrev one_more : ℕ → ℕ
 one_more x = count_of (x + 1)
 
 module _ {T : Type 0} where
-  same-none : (v : View Entry T) → IsSame v v
-  same-none v = record {
-    number = refl;
-    weight = refl;
-    own = refl;
-    crew = refl;
-    alone = refl;
-    limit = refl;
-    cells = refl;
-    passes = refl;
-    opening = refl;
-  }
-
-  same-then : (v u w : View Entry T) → IsSame v u → IsSame u w → IsSame v w
-  same-then v u w p q = record {
-    number = q.number ∙ p.number;
-    weight = q.weight ∙ p.weight;
-    own = q.own ∙ p.own;
-    crew = q.crew ∙ p.crew;
-    alone = q.alone ∙ p.alone;
-    limit = q.limit ∙ p.limit;
-    cells = q.cells ∙ p.cells;
-    passes = q.passes ∙ p.passes;
-    opening = q.opening ∙ p.opening;
-  }
-
   -- nothing
   pub adds-none : (due : ℕ) (v : View Entry T) (c : Counts) → IsLegal v.opening.size v.seen → Adds due due v c v c
   adds-none due v c legal = record {
     own = [];
     course = course-none v legal;
     named = refl;
-    same = same-none v;
+    same = same-here v;
     tells = λ es t. subst (λ l. TellsBut due (tally_of l) c) (sym (append-nil es)) t;
   }
 

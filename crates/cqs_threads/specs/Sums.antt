@@ -1,5 +1,5 @@
--- Counts that are added up.
-use Rattle.std.specs.Prelude.{ℕ, ◌+◌}
+-- Counts that are added up, and how many calls they are of.
+use Rattle.std.specs.Prelude.{◌≡◌, ℕ, ◌+◌, ◌^◌, ◌<◌}
 use Rattle.cqs_threads.specs.declared.counts.Acquires.{Acquires}
 use Rattle.cqs_threads.specs.declared.counts.Cancels.{Cancels}
 use Rattle.cqs_threads.specs.declared.counts.Counts.{Counts}
@@ -58,3 +58,28 @@ both_counts a b = record {
   polls = both_polls a.polls b.polls;
   cancels = both_cancels a.cancels b.cancels;
 }
+
+-- how many acquires these are
+abbrev pub acquires_of : Acquires → ℕ
+acquires_of a = a.free + a.took + a.waited + a.worn
+
+-- how many tries
+abbrev pub tries_of : Tries → ℕ
+tries_of t = t.got + t.busy + t.contended
+
+-- the counts of acquires and of tries are as they were
+pub record KeepsCalls (before after : Counts) : Type 0 where
+  pub acquires : after.acquires ≡ before.acquires
+  pub tries : after.tries ≡ before.tries
+
+-- so many acquires and so many tries more were counted, where so many go into a count
+pub record CountsCalls (acquires tries : ℕ) (before after : Counts) : Type 0 where
+  pub acquires_are : acquires_of before.acquires + acquires < 2 ^ 64
+      → acquires_of after.acquires ≡ acquires_of before.acquires + acquires
+  pub tries_are : tries_of before.tries + tries < 2 ^ 64
+      → tries_of after.tries ≡ tries_of before.tries + tries
+
+-- so many rounds were counted, each with an acquire and a try
+pub record CountsRounds (rounds : ℕ) (counts : Counts) : Type 0 where
+  pub acquires : acquires_of counts.acquires ≡ rounds
+  pub tries : tries_of counts.tries ≡ rounds

@@ -1,5 +1,5 @@
 -- What a worker's counts say of the entries that its pass made.
-use Rattle.std.specs.Prelude.{◌≡◌, ℕ, ◌+◌, ◌-◌, ◌^◌, min, List, [], ◌∷◌, ◌++◌, Option, Some, None}
+use Rattle.std.specs.Prelude.{◌≡◌, ◌⊎◌, ℕ, ◌+◌, ◌-◌, ◌^◌, min, List, [], ◌∷◌, ◌++◌, All, Option, Some, None}
 use Rattle.std.specs.List.{fold}
 use Rattle.cqs_core.specs.declared.entries.Entry.{Entry}
 use Rattle.cqs_core.specs.declared.entries.Entry.TheVariants as entry
@@ -7,6 +7,10 @@ use Rattle.cqs_core.specs.SemaphoreNames.{entry_names}
 use Rattle.cqs_rule.specs.declared.view.View.{View}
 use Rattle.cqs_rule.specs.Lists.{part}
 use Rattle.cqs_rule.specs.Views.{IsSame}
+use Rattle.cqs_rule.specs.Waits.{place_of}
+use Rattle.cqs_semaphore.specs.declared.answers.Permit.{Permit}
+use Rattle.cqs_semaphore.specs.declared.answers.Polled.{Polled}
+use Rattle.cqs_semaphore.specs.declared.answers.Polled.TheVariants.{Granted, Pending}
 use Rattle.cqs_semaphore.specs.Calls.{Course}
 use Rattle.cqs_threads.specs.declared.counts.Acquires.{Acquires}
 use Rattle.cqs_threads.specs.declared.counts.Cancels.{Cancels}
@@ -111,7 +115,33 @@ pub record TellsBut (due : ℕ) (t : Tally) (c : Counts) : Type 0 where
   pub polls : TellsPolls t.granted t.pending c.polls
   pub ends : TellsEnds due t.freed t.sent t.gone t.late c.releases c.cancels
 
+-- The pass p gave its wait k up: it came too late, where it has its permit, or it left the line.
+abbrev pub given_up : ℕ → ℕ → Option Permit → Entry
+given_up p k (Some permit) = entry.Late p k
+given_up p k None = entry.Leave p k
+
+-- with this entry the wait k of the pass p ended, which has its permit or none
+abbrev pub EndsWait : ℕ → ℕ → Option Permit → Entry → Type 0
+EndsWait p k (Some permit) last = (last ≡ entry.LookGranted p k) ⊎ (last ≡ entry.Late p k)
+EndsWait p k None last = last ≡ entry.Leave p k
+
 module _ {T : Type 0} where
+  -- the pass looked some times at its wait k, which went on each time, and then made these entries
+  pub record LooksThen (k : ℕ) (last : List Entry) (v w : View Entry T) : Type 0 where
+    pub looks : List Entry
+    pub pending : All (λ e. e ≡ entry.LookPending v.number k) looks
+    pub course : Course v (looks ++ last) w
+
+  -- a look found its permit at last, or the wait still goes on
+  abbrev pub LooksUntil : ℕ → View Entry T → Polled → View Entry T → Type 0
+  LooksUntil k v (Granted permit) w = LooksThen k (entry.LookGranted v.number k ∷ []) v w
+  LooksUntil k v (Pending wait) w = LooksThen k [] v w × ((place_of wait).index ≡ k)
+
+  -- after some looks the wait ended: with its permit, or it was given up
+  abbrev pub WaitsUntil : ℕ → View Entry T → Option Permit → View Entry T → Type 0
+  WaitsUntil k v answer w =
+      (last : Entry) × EndsWait v.number k answer last × LooksThen k (last ∷ []) v w
+
   -- The pass made these entries, which all name it, and no step of the crew. The counts were of what
   -- it had made before, and are of that and these now. Of the permits that were sent so many hadn't arrived before, and
   -- so many haven't now.

@@ -2,7 +2,7 @@
 
 ghost use Rattle.std.specs.Prelude.{◌≡◌, ◌+◌};
 ghost use Rattle.cqs_threads.specs.Tallies.{count_of, nothing_yet, TellsBut};
-ghost use Rattle.cqs_threads.specs.Sums.{both_acquires, both_tries, both_releases, both_polls, both_cancels, both_counts};
+ghost use Rattle.cqs_threads.specs.Sums.{acquires_of, both_acquires, both_cancels, both_counts, both_polls, both_releases, both_tries, tries_of, CountsRounds};
 
 use std::fmt;
 
@@ -69,7 +69,8 @@ pub struct Counts {
 
 /// Nothing has come yet.
 pub(crate) fn none_yet() -> Counts
-    ensures { TellsBut 0 nothing_yet result }
+    ensures tells { TellsBut 0 nothing_yet result }
+    ensures none { CountsRounds 0 result }
 {
     Counts {
         acquires: Acquires {
@@ -164,8 +165,7 @@ impl Counts {
 impl Acquires {
     /// How many calls there were.
     pub fn total(&self) -> u64
-        ensures { result ≡ count_of (self.now.free + self.now.took + self.now.waited
-            + self.now.worn) }
+        ensures { result ≡ count_of (acquires_of self.now) }
     {
         self.free
             .saturating_add(self.took)
@@ -188,7 +188,7 @@ impl Acquires {
 impl Tries {
     /// How many calls there were.
     pub fn total(&self) -> u64
-        ensures { result ≡ count_of (self.now.got + self.now.busy + self.now.contended) }
+        ensures { result ≡ count_of (tries_of self.now) }
     {
         self.got
             .saturating_add(self.busy)

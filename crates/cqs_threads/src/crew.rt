@@ -1,12 +1,13 @@
 //! A crew of workers, each with a thread and a pass of its own.
 
-ghost use Rattle.std.specs.Prelude.{◌≡◌, ◌≤◌, All, IfOk, IsErr, IsErrOf, OnOk, length, vec_len};
+ghost use Rattle.std.specs.Prelude.{◌≡◌, ◌*◌, ◌^◌, ◌<◌, ◌≤◌, All, IfOk, IsErr, IsErrOf, OnOk, length, vec_len};
 ghost use Rattle.cqs_rule.specs.Passes.{pass_view, passes_of};
 ghost use Rattle.cqs_rule.specs.Views.{made_in};
 ghost use Rattle.cqs_threads.specs.declared.crew.CrewError.TheVariants.{Memory};
+ghost use Rattle.cqs_threads.specs.Sums.{CountsRounds};
 ghost use Rattle.cqs_threads.specs.Workers.{held_by, HasMetAll, IsAtRest, IsCrowded, IsHired};
 
-use crate::counts::Counts;
+use crate::counts::{Counts, none_yet};
 use crate::worker::work;
 use cqs_rule::Crowd;
 use cqs_semaphore::{SemPass, Semaphore};
@@ -45,6 +46,7 @@ pub fn together<R: Threads + Sync>(
     requires rest { IsAtRest semaphore.now (held_by pass.old) pass.old }
     ensures rest { IsAtRest semaphore.now (held_by pass.old) pass.new }
     ensures met { OnOk result (HasMetAll (pass_view pass.old) threads (pass_view pass.new)) }
+    ensures rounds { IfOk result (CountsRounds (threads * rounds)) }
     ensures memory { IsErrOf result CrewError.Memory
         → HasMetAll (pass_view pass.old) 0 (pass_view pass.new) }
     ensures crowd { IsErrOf result CrewError.Crowd
@@ -52,7 +54,7 @@ pub fn together<R: Threads + Sync>(
 {
     let passes = hire(alloc, semaphore, pass, threads)?;
     let worked = thread::map_vec(rt, passes, &|pass| work_hired(semaphore, pass, rounds))?;
-    Ok(dismiss(semaphore, pass, worked))
+    Ok(dismiss(semaphore, pass, worked, rounds))
 }
 
 // So many new passes. Where one is refused, those that were made are taken in again.
@@ -65,7 +67,8 @@ fn hire(
     requires rest { IsAtRest semaphore.now (held_by pass.old) pass.old }
     ensures rest { IsAtRest semaphore.now (held_by pass.old) pass.new }
     ensures met { OnOk result (HasMetAll (pass_view pass.old) 0 (pass_view pass.new)) }
-    ensures memory { IsErrOf result CrewError.Memory → pass.new ≡ pass.old }
+    ensures memory { IsErrOf result CrewError.Memory
+        → HasMetAll (pass_view pass.old) 0 (pass_view pass.new) }
     ensures crowd { IsErrOf result CrewError.Crowd
         → IsCrowded semaphore.now count (pass_view pass.old) (pass_view pass.new) }
     ensures hired { IfOk result (λ passes. All (IsHired semaphore.now) passes.items) }
@@ -111,19 +114,29 @@ fn take_back(semaphore: &Semaphore, pass: &mut SemPass, passes: Vec<SemPass>)
 // What each thread does.
 fn work_hired(semaphore: &Semaphore, pass: SemPass, rounds: u32) -> (SemPass, Counts)
     requires { IsHired semaphore.now pass }
-    ensures { IsHired semaphore.now result.0 }
+    ensures hired { IsHired semaphore.now result.0 }
+    ensures rounds { CountsRounds rounds result.1 }
 {
     work(semaphore, pass, rounds)
 }
 
 // Takes the passes in again, and adds up what was counted with them.
-fn dismiss(semaphore: &Semaphore, pass: &mut SemPass, worked: Vec<(SemPass, Counts)>) -> Counts
+// Each has made so many rounds.
+fn dismiss(
+    semaphore: &Semaphore,
+    pass: &mut SemPass,
+    worked: Vec<(SemPass, Counts)>,
+    _rounds: u32,
+) -> Counts
     requires rest { IsAtRest semaphore.now (held_by pass.old) pass.old }
     requires worked { All (λ w. IsHired semaphore.now w.0) worked.items }
+    requires made { All (λ w. CountsRounds _rounds w.1) worked.items }
+    requires few { vec_len worked < 2 ^ 32 }
     ensures rest { IsAtRest semaphore.now (held_by pass.old) pass.new }
     ensures met { HasMetAll (pass_view pass.old) (vec_len worked) (pass_view pass.new) }
+    ensures rounds { CountsRounds (vec_len worked * _rounds) result }
 {
-    let mut counts = Counts::default();
+    let mut counts = none_yet();
     for (given, counted) in worked {
         take_in(semaphore, pass, given);
         counts = counts.with(counted);

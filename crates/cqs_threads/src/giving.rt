@@ -1,7 +1,9 @@
 //! How a permit is given back, to the end.
 
-ghost use Rattle.std.specs.Prelude.{◌-◌, ◌<◌};
+ghost use Rattle.std.specs.Prelude.{◌-◌, ◌<◌, []};
 ghost use Rattle.cqs_rule.specs.Passes.{pass_view};
+ghost use Rattle.cqs_semaphore.specs.Calls.{Course};
+ghost use Rattle.cqs_threads.specs.Sums.{KeepsCalls};
 ghost use Rattle.cqs_threads.specs.Tallies.{Adds};
 ghost use Rattle.cqs_threads.specs.Workers.{held_by, IsAtRest, IsOwing};
 
@@ -15,6 +17,7 @@ pub fn give_back(semaphore: &Semaphore, pass: &mut SemPass, permit: Permit, coun
     requires holds { 0 < held_by pass.old }
     ensures rest { IsAtRest semaphore.now (held_by pass.old - 1) pass.new }
     ensures adds { Adds 0 0 (pass_view pass.old) counts.old (pass_view pass.new) counts.new }
+    ensures keeps { KeepsCalls counts.old counts.new }
 {
     match semaphore.release(pass, permit) {
         Ok(Released::Freed) => count(&mut counts.releases.freed),
@@ -26,11 +29,13 @@ pub fn give_back(semaphore: &Semaphore, pass: &mut SemPass, permit: Permit, coun
     }
 }
 
-/// Goes on with a permit that is on its way until it has arrived.
+/// Goes on with a permit that is on its way until it has arrived. The pass makes no entry.
 pub fn finish_all(semaphore: &Semaphore, pass: &mut SemPass, under: Under, counts: &mut Counts)
     requires owes { IsOwing semaphore.now (held_by pass.old) under pass.old }
     ensures rest { IsAtRest semaphore.now (held_by pass.old) pass.new }
     ensures adds { Adds 1 0 (pass_view pass.old) counts.old (pass_view pass.new) counts.new }
+    ensures keeps { KeepsCalls counts.old counts.new }
+    ensures silent { Course (pass_view pass.old) [] (pass_view pass.new) }
 {
     let mut under = under;
     'arrive: loop {

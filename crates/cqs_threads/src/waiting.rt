@@ -1,7 +1,11 @@
 //! How a wait ends: by a look that finds it served, or by a cancel.
 
+ghost use Rattle.std.specs.Prelude.{[], ◌∷◌};
 ghost use Rattle.cqs_rule.specs.Passes.{pass_view};
-ghost use Rattle.cqs_threads.specs.Tallies.{Adds};
+ghost use Rattle.cqs_rule.specs.Waits.{place_of};
+ghost use Rattle.cqs_semaphore.specs.Calls.{Course};
+ghost use Rattle.cqs_threads.specs.Sums.{KeepsCalls};
+ghost use Rattle.cqs_threads.specs.Tallies.{Adds, LooksUntil, WaitsUntil, given_up};
 ghost use Rattle.cqs_threads.specs.Workers.{held_by, IsWaiting, HasLooked, HasEnded};
 
 use crate::counts::{Counts, count};
@@ -19,6 +23,9 @@ fn look_on(semaphore: &Semaphore, pass: &mut SemPass, wait: Wait, counts: &mut C
     requires waits { IsWaiting semaphore.now (held_by pass.old) wait pass.old }
     ensures looked { HasLooked semaphore.now (held_by pass.old) result pass.new }
     ensures adds { Adds 0 0 (pass_view pass.old) counts.old (pass_view pass.new) counts.new }
+    ensures keeps { KeepsCalls counts.old counts.new }
+    ensures looks { LooksUntil (place_of wait).index (pass_view pass.old) result
+        (pass_view pass.new) }
 {
     let mut wait = wait;
     for _ in 0..LOOKS {
@@ -47,6 +54,9 @@ pub fn wait_for(
     requires waits { IsWaiting semaphore.now (held_by pass.old) wait pass.old }
     ensures ended { HasEnded semaphore.now (held_by pass.old) result pass.new }
     ensures adds { Adds 0 0 (pass_view pass.old) counts.old (pass_view pass.new) counts.new }
+    ensures keeps { KeepsCalls counts.old counts.new }
+    ensures by { WaitsUntil (place_of wait).index (pass_view pass.old) result
+        (pass_view pass.new) }
 {
     match look_on(semaphore, pass, wait, counts) {
         Polled::Granted(permit) => Some(permit),
@@ -64,6 +74,10 @@ pub fn give_up(
     requires waits { IsWaiting semaphore.now (held_by pass.old) wait pass.old }
     ensures ended { HasEnded semaphore.now (held_by pass.old) result pass.new }
     ensures adds { Adds 0 0 (pass_view pass.old) counts.old (pass_view pass.new) counts.new }
+    ensures keeps { KeepsCalls counts.old counts.new }
+    ensures by { Course (pass_view pass.old)
+        (given_up (pass_view pass.old).number (place_of wait).index result ∷ [])
+        (pass_view pass.new) }
 {
     match semaphore.cancel(pass, wait) {
         CancelAnswer::Cancelled(None) => {

@@ -2,6 +2,7 @@
 
 ghost use Rattle.cqs_rule.specs.Passes.{pass_view};
 ghost use Rattle.cqs_semaphore.specs.Permits.{number_of};
+ghost use Rattle.cqs_threads.specs.Sums.{CountsCalls, CountsRounds};
 ghost use Rattle.cqs_threads.specs.Tallies.{Adds, CountsNow, HasWorked};
 ghost use Rattle.cqs_threads.specs.Workers.{held_by, IsAtRest, HasEnded};
 
@@ -21,6 +22,7 @@ pub fn work(semaphore: &Semaphore, pass: SemPass, rounds: u32) -> (SemPass, Coun
     requires rest { IsAtRest semaphore.now (held_by pass) pass }
     ensures rest { IsAtRest semaphore.now (held_by pass) result.0 }
     ensures worked { HasWorked (pass_view pass) (pass_view result.0) result.1 }
+    ensures rounds { CountsRounds rounds result.1 }
 {
     let mut pass = pass;
     let mut counts = none_yet();
@@ -37,6 +39,7 @@ fn acquire_once(semaphore: &Semaphore, pass: &mut SemPass, hasty: bool, counts: 
     requires rest { IsAtRest semaphore.now (held_by pass.old) pass.old }
     ensures rest { IsAtRest semaphore.now (held_by pass.old) pass.new }
     ensures adds { Adds 0 0 (pass_view pass.old) counts.old (pass_view pass.new) counts.new }
+    ensures calls { CountsCalls 1 0 counts.old counts.new }
 {
     if let Some(permit) = seek(semaphore, pass, hasty, counts) {
         for _ in 0..PAUSES {
@@ -56,6 +59,7 @@ fn seek(
     requires rest { IsAtRest semaphore.now (held_by pass.old) pass.old }
     ensures ended { HasEnded semaphore.now (held_by pass.old) result pass.new }
     ensures adds { Adds 0 0 (pass_view pass.old) counts.old (pass_view pass.new) counts.new }
+    ensures calls { CountsCalls 1 0 counts.old counts.new }
 {
     match semaphore.acquire(pass) {
         Ok(Acquired::Now(permit)) => {
@@ -91,6 +95,7 @@ fn try_once(semaphore: &Semaphore, pass: &mut SemPass, counts: &mut Counts)
     requires rest { IsAtRest semaphore.now (held_by pass.old) pass.old }
     ensures rest { IsAtRest semaphore.now (held_by pass.old) pass.new }
     ensures adds { Adds 0 0 (pass_view pass.old) counts.old (pass_view pass.new) counts.new }
+    ensures calls { CountsCalls 0 1 counts.old counts.new }
 {
     match semaphore.try_acquire(pass) {
         Tried::Got(permit) => {

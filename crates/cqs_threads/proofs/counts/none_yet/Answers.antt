@@ -1,8 +1,8 @@
 use Rattle.std.proofs.Common.{refl}
 use Rattle.cqs_threads.proofs.counts.none_yet.Goals as goal
 
-pub returns : goal.returns
-returns c = record {
+pub returns-clause-tells : goal.returns-clause-tells
+returns-clause-tells c = record {
   acquires = record { free_is = refl; took = 0; waited = 0; entered_is = refl; took_is = refl; waited_is = refl };
   tries = record { got_is = refl; busy_is = refl };
   polls = record { granted_is = refl; pending_is = refl };

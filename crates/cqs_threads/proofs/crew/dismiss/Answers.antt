@@ -1,8 +1,11 @@
-use Rattle.std.proofs.Common.{◌≡◌, ◌+◌, ℕ, length, rules, arith, All, refl, subst, sym, ap, ◌∙◌}
+use Rattle.std.proofs.Common.{◌≡◌, ◌+◌, ◌≤◌, ℕ, length, rules, arith, All, refl, subst, sym, ap, ◌∙◌}
+use Rattle.std.proofs.Math.Nat.{zero-mul}
 use Rattle.std.proofs.lemmas.List.{length_push}
 use Rattle.std.proofs.lemmas.List.Elements.{All-tail}
 use Rattle.std.specs.Vec.Iter.{into_iter_items}
 use Rattle.cqs_threads.specs.Workers.{IsHired}
+use Rattle.cqs_threads.specs.Sums.{CountsRounds}
+use Rattle.cqs_threads.proofs.Calls.{rounds-with}
 use Rattle.cqs_threads.proofs.Meeting.{met-none, met-then, course-none}
 use Rattle.cqs_threads.proofs.crew.dismiss.Goals as goal
 
@@ -12,6 +15,9 @@ loop-given-init c =
       rest = c.requires.rest;
       met = met-none _ _ (course-none _ c.requires.rest.belongs.live.legal) refl;
       left = subst (All (λ w. IsHired c.args.semaphore.now w.0)) (sym all) c.requires.worked;
+      made = subst (All (λ w. CountsRounds c.args._rounds w.1)) (sym all) c.requires.made;
+      rounds = subst (λ n. CountsRounds n c.none_yet-counts.result) (sym (zero-mul c.args._rounds))
+          c.none_yet-counts.ensures.none;
       all = let same = ap (λ l. length l) all in omega arith;
     }
 
@@ -26,7 +32,9 @@ loop-given-preserved c =
     let rest = c.take_in.ensures.rest in
     let so_far = c.loop-given.invariant in
     let left = subst (All (λ w. IsHired c.args.semaphore.now w.0)) c.in-Some.ensures.steps.0 so_far.left in
+    let made = subst (All (λ w. CountsRounds c.args._rounds w.1)) c.in-Some.ensures.steps.0 so_far.made in
     let less = ap (λ l. length l) c.in-Some.ensures.steps.0 in
+    let few : length c.loop-given.yielded + 1 ≤ 4294967295 = let all = so_far.all in omega (arith, c.requires.few) in
     record {
       rest = record {
         belongs = rest.belongs;
@@ -36,5 +44,9 @@ loop-given-preserved c =
       };
       met = rw length_push (met-then (length c.loop-given.yielded) 1 _ _ _ so_far.met c.take_in.ensures.met);
       left = All-tail (λ w. IsHired c.args.semaphore.now w.0) (c.in-Some.given, c.in-Some.counted) _ left;
+      made = All-tail (λ w. CountsRounds c.args._rounds w.1) (c.in-Some.given, c.in-Some.counted) _ made;
+      rounds = rw length_push (subst (CountsRounds _) (sym c.with-counts.ensures)
+          (rounds-with (length c.loop-given.yielded) c.args._rounds _ _ so_far.rounds
+          (made 0 (c.in-Some.given, c.in-Some.counted) (omega arith)) few (omega (arith, c.ranges._rounds.fits))));
       all = rw length_push (let all = so_far.all in omega arith);
     }

@@ -1,6 +1,7 @@
-use Rattle.std.proofs.Common.{◌≡◌, ◌+◌, All, length, vec_len}
+use Rattle.std.proofs.Common.{◌≡◌, ◌+◌, ◌*◌, All, length, vec_len}
 use Rattle.std.specs.Vec.Iter.{into_iter_items}
 use Rattle.cqs_rule.specs.Passes.{pass_view}
+use Rattle.cqs_threads.specs.Sums.{CountsRounds}
 use Rattle.cqs_threads.specs.Workers.{held_by, HasMetAll, IsAtRest, IsHired}
 use Rattle.cqs_threads.proofs.crew.dismiss.Given as goal
 
@@ -10,5 +11,7 @@ invariant-loop-given l = record {
   rest : IsAtRest l.semaphore (held_by l.fn.pass) l.pass;
   met : HasMetAll (pass_view l.fn.pass) (length l.yielded) (pass_view l.pass);
   left : All (λ w. IsHired l.semaphore w.0) (into_iter_items l.given-iterator);
+  made : All (λ w. CountsRounds l.fn._rounds w.1) (into_iter_items l.given-iterator);
+  rounds : CountsRounds (length l.yielded * l.fn._rounds) l.counts;
   all : length l.yielded + length (into_iter_items l.given-iterator) ≡ vec_len l.fn.worked;
 }

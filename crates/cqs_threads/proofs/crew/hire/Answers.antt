@@ -1,6 +1,7 @@
-use Rattle.std.proofs.Common.{All, arith, refl, subst, sym, ◌∙◌}
+use Rattle.std.proofs.Common.{All, arith, refl, subst, sym, vec_len, ◌∙◌}
 use Rattle.std.proofs.lemmas.List.{length_push}
 use Rattle.std.proofs.lemmas.List.Elements.{All-nil, All-push}
+use Rattle.cqs_rule.specs.Passes.{pass_view}
 use Rattle.cqs_threads.specs.Workers.{IsHired}
 use Rattle.cqs_threads.proofs.Meeting.{course-none, met-none, met-then}
 use Rattle.cqs_threads.proofs.crew.hire.Goals as goal
@@ -38,10 +39,24 @@ loop-made-preserved c =
 -- those that were made before are taken in again
 pub returns-in-Err-clause-crowd : goal.returns-in-Err-clause-crowd
 returns-in-Err-clause-crowd c = λ refused. record {
-  between = _;
+  between = pass_view c.hire_one.new.pass;
   looked = met-then 0 0 _ _ _ c.loop-made.invariant.met c.hire_one.ensures.met;
-  full = c.in-Err.ensures.crowd;
-  many = _;
+  full = c.in-Err.ensures.crowd refl;
+  many = vec_len c.loop-made.passes;
   few = let few = c.loop-made.invariant.many in omega arith;
   back = c.take_back.ensures.met;
 }
+
+pub returns-in-Err-clause-rest : goal.returns-in-Err-clause-rest
+returns-in-Err-clause-rest c =
+    let rest = c.take_back.ensures.rest in
+    record {
+      belongs = rest.belongs;
+      ready = rest.ready;
+      held_is = rest.held_is ∙ (c.hire_one.ensures.rest.held_is ∙ c.loop-made.invariant.rest.held_is);
+      waits_are = rest.waits_are;
+    }
+
+-- none was made
+pub returns-in_err-passes-clause-memory : goal.returns-in_err-passes-clause-memory
+returns-in_err-passes-clause-memory c = λ refused. met-none _ _ (course-none _ c.requires.rest.belongs.live.legal) refl

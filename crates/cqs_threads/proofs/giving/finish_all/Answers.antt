@@ -1,9 +1,16 @@
-use Rattle.std.proofs.Common.{◌∙◌}
+use Rattle.std.proofs.Common.{◌∙◌, refl, []}
+use Rattle.cqs_semaphore.proofs.Courses.{course-call, course-then}
+use Rattle.cqs_threads.proofs.Meeting.{course-none}
 use Rattle.cqs_threads.proofs.Telling.{adds-none, adds-under, adds-silent, adds-then_sent, adds-then_left, adds-then_void, adds-then}
 use Rattle.cqs_threads.proofs.giving.finish_all.Goals as goal
 
 pub arrive-init : goal.arrive-init
-arrive-init c = record { owing = c.requires.owes; adds = adds-none 1 _ _ c.requires.owes.belongs.live.legal }
+arrive-init c = record {
+  owing = c.requires.owes;
+  adds = adds-none 1 _ _ c.requires.owes.belongs.live.legal;
+  keeps = record { acquires = refl; tries = refl };
+  silent = course-none _ c.requires.owes.belongs.live.legal;
+}
 
 pub arrive-preserved : goal.arrive-preserved
 arrive-preserved c =
@@ -19,6 +26,8 @@ arrive-preserved c =
       };
       adds = adds-then 1 1 1 _ _ _ _ _ _ (adds-under _ _ _ _ _ c.arrive.invariant.adds)
           (adds-silent 1 _ _ _ _ (rw c.in-Under.is at c.finish.ensures.called));
+      keeps = record { acquires = c.arrive.invariant.keeps.acquires; tries = c.arrive.invariant.keeps.tries };
+      silent = course-then _ _ _ [] [] c.arrive.invariant.silent (course-call _ _ [] _ c.finish.ensures.called);
     }
 
 pub returns-in-Sent-clause-adds : goal.returns-in-Sent-clause-adds
@@ -35,3 +44,27 @@ pub returns-in-Void-clause-adds : goal.returns-in-Void-clause-adds
 returns-in-Void-clause-adds c =
     adds-then 1 1 0 _ _ _ _ _ _ (adds-under _ _ _ _ _ c.arrive.invariant.adds)
     (adds-then_void _ _ _ _ (rw c.in-Void.is at c.finish.ensures.called) c.count-in-Void.ensures)
+
+pub returns-in-Sent-clause-silent : goal.returns-in-Sent-clause-silent
+returns-in-Sent-clause-silent c =
+    course-then _ _ _ [] [] c.arrive.invariant.silent (course-call _ _ [] _ c.finish.ensures.called)
+
+pub returns-in-Left-clause-silent : goal.returns-in-Left-clause-silent
+returns-in-Left-clause-silent c =
+    course-then _ _ _ [] [] c.arrive.invariant.silent (course-call _ _ [] _ c.finish.ensures.called)
+
+pub returns-in-Void-clause-silent : goal.returns-in-Void-clause-silent
+returns-in-Void-clause-silent c =
+    course-then _ _ _ [] [] c.arrive.invariant.silent (course-call _ _ [] _ c.finish.ensures.called)
+
+pub returns-in-Sent-clause-keeps : goal.returns-in-Sent-clause-keeps
+returns-in-Sent-clause-keeps c =
+    record { acquires = c.arrive.invariant.keeps.acquires; tries = c.arrive.invariant.keeps.tries }
+
+pub returns-in-Left-clause-keeps : goal.returns-in-Left-clause-keeps
+returns-in-Left-clause-keeps c =
+    record { acquires = c.arrive.invariant.keeps.acquires; tries = c.arrive.invariant.keeps.tries }
+
+pub returns-in-Void-clause-keeps : goal.returns-in-Void-clause-keeps
+returns-in-Void-clause-keeps c =
+    record { acquires = c.arrive.invariant.keeps.acquires; tries = c.arrive.invariant.keeps.tries }

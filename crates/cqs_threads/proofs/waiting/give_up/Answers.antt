@@ -1,9 +1,11 @@
-use Rattle.std.proofs.Common.{refl, ap, ◌∙◌, subst, None, Some}
+use Rattle.std.proofs.Common.{refl, ap, ◌∙◌, subst, [], ◌∷◌, None, Some}
+use Rattle.cqs_core.specs.declared.entries.Entry.TheVariants as entry
 use Rattle.cqs_rule.specs.Lists.{without}
 use Rattle.cqs_rule.specs.Passes.{pass_view}
 use Rattle.cqs_rule.specs.Waits.{place_of}
 use Rattle.cqs_semaphore.specs.declared.answers.CancelAnswer.TheVariants.{Cancelled}
 use Rattle.cqs_semaphore.specs.Steps.{HasCancelled}
+use Rattle.cqs_semaphore.proofs.Courses.{course-call, course-then}
 use Rattle.cqs_threads.proofs.Ends.{without-one, left-done, left-owing}
 use Rattle.cqs_threads.proofs.Telling.{adds-cancelled, adds-owing, adds-late, adds-then}
 use Rattle.cqs_threads.proofs.waiting.give_up.Goals as goal
@@ -44,6 +46,8 @@ returns-in-Cancelled-None c =
         waits_are = rests.waits_are ∙ (ap (without k) c.requires.waits.0.waits_are ∙ without-one k);
       };
       adds = adds-cancelled v w _ _ k _ told.1 c.count.ensures;
+      keeps = record { acquires = refl; tries = refl };
+      by = course-call v w (entry.Leave v.number k ∷ []) _ told.1;
     }
 
 pub returns-in-Cancelled-Some-clause-ended : goal.returns-in-Cancelled-Some-clause-ended
@@ -74,7 +78,26 @@ returns-in-Cancelled-Some-clause-adds c =
     adds-then 0 1 0 _ _ _ _ _ _ (adds-owing v w _ _ k _ told.1 c.count-in-Cancelled-Some.ensures)
     c.finish_all.ensures.adds
 
+pub returns-in-Cancelled-Some-clause-by : goal.returns-in-Cancelled-Some-clause-by
+returns-in-Cancelled-Some-clause-by c =
+    let k = (place_of c.args.wait).index in
+    let v = pass_view c.args.pass.now in
+    let w = pass_view c.cancel.new.pass in
+    let answer = c.in-Cancelled-Some.is ∙ ap Cancelled c.in-Cancelled-Some.field-0-is in
+    let told : HasCancelled k v (Cancelled (Some c.in-Cancelled-Some.under)) w =
+    subst (λ answer. HasCancelled k v answer w) answer c.cancel.ensures.cancelled in
+    course-then v w _ (entry.Leave v.number k ∷ []) [] (course-call v w (entry.Leave v.number k ∷ []) _ told.1)
+    c.finish_all.ensures.silent
+
 pub returns-in-TooLate-clause-adds : goal.returns-in-TooLate-clause-adds
 returns-in-TooLate-clause-adds c =
     let told = rw c.in-TooLate.is at c.cancel.ensures.cancelled in
     adds-late _ _ _ _ _ _ told.1 c.count-in-TooLate.ensures
+
+pub returns-in-TooLate-clause-by : goal.returns-in-TooLate-clause-by
+returns-in-TooLate-clause-by c =
+    let told = rw c.in-TooLate.is at c.cancel.ensures.cancelled in course-call _ _ _ _ told.1
+
+pub returns-in-Cancelled-Some-clause-keeps : goal.returns-in-Cancelled-Some-clause-keeps
+returns-in-Cancelled-Some-clause-keeps c =
+    record { acquires = c.finish_all.ensures.keeps.acquires; tries = c.finish_all.ensures.keeps.tries }

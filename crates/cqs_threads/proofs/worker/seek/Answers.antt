@@ -1,3 +1,4 @@
+use Rattle.cqs_threads.proofs.Calls.{calls-kept, calls-now, calls-waited, calls-worn}
 use Rattle.cqs_threads.proofs.Telling.{adds-now, adds-waited, adds-worn, adds-then}
 use Rattle.cqs_threads.proofs.worker.seek.Goals as goal
 
@@ -19,3 +20,15 @@ returns-else-hasty-clause-adds c =
 
 pub returns-in-Err-clause-adds : goal.returns-in-Err-clause-adds
 returns-in-Err-clause-adds c = adds-worn _ _ _ _ c.in-Err.ensures.called
+
+pub returns-in-Ok-Now-clause-calls : goal.returns-in-Ok-Now-clause-calls
+returns-in-Ok-Now-clause-calls c = calls-now _ _ _ c.count_now.ensures
+
+pub returns-then-hasty-clause-calls : goal.returns-then-hasty-clause-calls
+returns-then-hasty-clause-calls c = calls-kept 1 0 _ _ _ (calls-waited _ _ c.count.ensures) c.give_up.ensures.keeps
+
+pub returns-else-hasty-clause-calls : goal.returns-else-hasty-clause-calls
+returns-else-hasty-clause-calls c = calls-kept 1 0 _ _ _ (calls-waited _ _ c.count.ensures) c.wait_for.ensures.keeps
+
+pub returns-in-Err-clause-calls : goal.returns-in-Err-clause-calls
+returns-in-Err-clause-calls c = calls-worn _ _ c.count-in-Err.ensures

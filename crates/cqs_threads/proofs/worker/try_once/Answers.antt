@@ -1,3 +1,4 @@
+use Rattle.cqs_threads.proofs.Calls.{calls-busy, calls-contended, calls-got, calls-kept}
 use Rattle.cqs_threads.proofs.Telling.{adds-got, adds-busy, adds-contended, adds-then}
 use Rattle.cqs_threads.proofs.worker.try_once.Goals as goal
 
@@ -13,3 +14,12 @@ returns-in-Busy-clause-adds c =
 pub returns-in-Contended-clause-adds : goal.returns-in-Contended-clause-adds
 returns-in-Contended-clause-adds c =
     adds-contended _ _ _ _ (rw c.in-Contended.is at c.try_acquire.ensures.called)
+
+pub returns-in-Got-clause-calls : goal.returns-in-Got-clause-calls
+returns-in-Got-clause-calls c = calls-kept 0 1 _ _ _ (calls-got _ _ c.count.ensures) c.give_back.ensures.keeps
+
+pub returns-in-Busy-clause-calls : goal.returns-in-Busy-clause-calls
+returns-in-Busy-clause-calls c = calls-busy _ _ c.count-in-Busy.ensures
+
+pub returns-in-Contended-clause-calls : goal.returns-in-Contended-clause-calls
+returns-in-Contended-clause-calls c = calls-contended _ _ c.count-in-Contended.ensures

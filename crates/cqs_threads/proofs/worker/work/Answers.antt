@@ -1,14 +1,22 @@
-use Rattle.std.proofs.Common.{[], ◌∙◌}
+use Rattle.std.proofs.Common.{[], ◌∙◌, arith}
+use Rattle.cqs_threads.proofs.Calls.{calls-then}
 use Rattle.cqs_threads.proofs.Telling.{adds-none, adds-then}
 use Rattle.cqs_threads.proofs.worker.work.Goals as goal
 
 pub loop-round-init : goal.loop-round-init
-loop-round-init c = record { rest = c.requires.rest; adds = adds-none 0 _ _ c.requires.rest.belongs.live.legal }
+loop-round-init c = record {
+  rest = c.requires.rest;
+  adds = adds-none 0 _ _ c.requires.rest.belongs.live.legal;
+  calls = c.none_yet-counts.ensures.none;
+}
 
 pub loop-round-preserved : goal.loop-round-preserved
 loop-round-preserved c =
     let so_far = c.loop-round.invariant in
     let rest = c.try_once.ensures.rest in
+    let both = calls-then 1 0 0 1 _ _ _ c.acquire_once.ensures.calls c.try_once.ensures.calls in
+    let acquires = so_far.calls.acquires in
+    let tries = so_far.calls.tries in
     record {
       rest = record {
         belongs = rest.belongs;
@@ -18,6 +26,10 @@ loop-round-preserved c =
       };
       adds = adds-then 0 0 0 _ _ _ _ _ _ so_far.adds
           (adds-then 0 0 0 _ _ _ _ _ _ c.acquire_once.ensures.adds c.try_once.ensures.adds);
+      calls = record {
+        acquires = let more = both.acquires_are (omega (arith, acquires, c.ranges.rounds.fits)) in omega (arith, more, acquires);
+        tries = let more = both.tries_are (omega (arith, tries, c.ranges.rounds.fits)) in omega (arith, more, tries);
+      };
     }
 
 pub returns-clause-worked : goal.returns-clause-worked
@@ -27,5 +39,5 @@ returns-clause-worked c =
       course = adds.course;
       named = adds.named;
       same = adds.same;
-      tells = adds.tells [] c.none_yet-counts.ensures;
+      tells = adds.tells [] c.none_yet-counts.ensures.tells;
     }

@@ -1,4 +1,5 @@
 use Rattle.cqs_rule.specs.Passes.{pass_view}
+use Rattle.cqs_threads.specs.Sums.{CountsRounds}
 use Rattle.cqs_threads.specs.Tallies.{Adds}
 use Rattle.cqs_threads.specs.Workers.{held_by, IsAtRest}
 use Rattle.cqs_threads.proofs.worker.work.Given as goal
@@ -8,4 +9,5 @@ abbrev pub invariant-loop-round : goal.invariant-loop-round
 invariant-loop-round l = record {
   rest : IsAtRest l.semaphore (held_by l.fn.pass) l.pass;
   adds : Adds 0 0 (pass_view l.fn.pass) l.initial.counts (pass_view l.pass) l.counts;
+  calls : CountsRounds l.round l.counts;
 }

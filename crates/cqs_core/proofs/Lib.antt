@@ -8,8 +8,9 @@ pub mod SoundMeets
 pub mod SoundDraws
 pub mod SoundReach
 pub mod Sound
-pub mod QueueStepMoves
+pub mod OpenRows
 pub mod QueueUniform
+pub mod QueueStepMoves
 pub mod DoubleCounting
 pub mod CellReads
 pub mod Letters

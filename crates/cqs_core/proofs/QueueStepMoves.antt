@@ -7,10 +7,13 @@ use Rattle.cqs_core.specs.declared.cells.CoreState.TheVariants as state
 use Rattle.cqs_core.specs.declared.doings.Doing.{Doing}
 use Rattle.cqs_core.specs.declared.doings.Doing.TheVariants as doing
 use Rattle.cqs_core.specs.QueueState.{Queue}
-use Rattle.cqs_core.specs.QueueMoves.{Move, IsCancelling, move_queue, at_state}
+use Rattle.cqs_core.specs.QueueMoves as move
+use Rattle.cqs_core.specs.QueueMoves.{Move, Works, IsCancelling, move_queue, at_state}
 use Rattle.cqs_core.specs.QueueSound.{IsSound, IsSoundAt, IsCell, IsEntered}
-use Rattle.cqs_core.specs.QueueSteps.{pends, grants, late, QueueStep, draws, enters, reaches, begins, puts, installs, takes, serves, leaves, delegates, passes_over, ends_refused, ends_missed, starts_leaving, leaves_line, leaves_at_once, settles, settles_owing, refuses, refuses_value, looks, IsOpenStep, queue_after}
+use Rattle.cqs_core.specs.QueueSteps as step
+use Rattle.cqs_core.specs.QueueSteps.{QueueStep, row_of, IsOpenStep, queue_after}
 use Rattle.cqs_core.specs.QueueStepMoves.{moves_of, moved_all, AreOpen}
+use Rattle.cqs_core.proofs.OpenRows.{WhereOpen, where-open}
 use Rattle.cqs_core.proofs.Places.{get-set_here, set-same}
 use Rattle.cqs_core.proofs.Sound.{sound-moved}
 use Rattle.cqs_core.proofs.SoundWrite.{written, at-state, from-state, kept-ticket, entered-written, sound-written}
@@ -40,9 +43,18 @@ module _ (q : Queue) (p k : ℕ) where
   turned : (d e : Doing) → set (set q.doing p d) p e ≡ set q.doing p e
   turned d e = set-set q.doing p d e
 
+  -- An owner's load leaves the queue as it is, or collects the cell: in any queue, sound or not.
+  pub pends-still : (found : CoreCell) → Works q p doing.Idle k found state.Waiter
+      → queue_after (step.looks step.pends) q p k (Some found) ≡ q
+  pends-still found w = with-parts (set-same q.cells k found w.finds) (set-same q.doing p doing.Idle w.does)
+
+  pub grants-collects : (found : CoreCell) → Works q p doing.Idle k found state.Resumed
+      → queue_after (step.looks step.grants) q p k (Some found) ≡ move_queue q (move.collect p k found)
+  grants-collects found w = with-parts refl (set-same q.doing p doing.Idle w.does)
+
   -- a resumption ends at a cancelled cell: nobody relies on a ticket there
-  sound-missed : (found : CoreCell) → IsSound q → IsOpenStep q ends_missed p k (Some found)
-      → IsSound (queue_after ends_missed q p k (Some found))
+  sound-missed : (found : CoreCell) → IsSound q → IsOpenStep q step.ends_missed p k (Some found)
+      → IsSound (queue_after step.ends_missed q p k (Some found))
   sound-missed found sound w =
       let here : IsSoundAt q k found state.Cancelled =
       at-state q k found state.Cancelled w.0.at (sound.cells.at k found w.0.finds) in
@@ -54,51 +66,54 @@ module _ (q : Queue) (p k : ℕ) where
       (only-named k (doing.Ticket k) refl) (only-none k doing.Idle refl) (λ j. refl)
       (kept-ticket q p k found found sound.apart w.0.does refl (λ h. h) (λ h. h)) after tt sound
 
-  pub leads : (s : QueueStep) (found : Option CoreCell) → IsOpenStep q s p k found
-      → LeadTo q (moves_of s p k found) (queue_after s q p k found)
-  leads draws found w = ((w, tt), refl)
-  leads reaches found w = ((w, tt), refl)
-  leads enters found w = (
+  -- where the step is open in a sound queue
+  abbrev Leads : QueueStep → Option CoreCell → Type 0
+  Leads s found = LeadTo q (moves_of s p k found) (queue_after s q p k found)
+
+  led : (s : QueueStep) → IsSound q → WhereOpen q p k (Leads s) (row_of s)
+  led step.draws sound = λ found w. ((w, tt), refl)
+  led step.reaches sound = λ found w. ((w, tt), refl)
+  led step.enters sound = λ found w. (
     ((w.0, tt, tt), ((get-set_here q.doing p doing.Idle doing.Door w.0, w.1, w.2), tt)),
     (λ i. record {
-      suspends = (queue_after enters q p k found).suspends;
+      suspends = (queue_after step.enters q p k found).suspends;
       resumes = q.resumes;
-      cells = (queue_after enters q p k found).cells;
+      cells = (queue_after step.enters q p k found).cells;
       doing = sym (turned doing.Door (doing.Drawn k)) i;
     }),
   )
-  leads begins found w = (
+  led step.begins sound = λ found w. (
     ((w.0, tt, tt), ((get-set_here q.doing p doing.Idle doing.Owes w.0, w.1, w.2), tt)),
     (λ i. record {
       suspends = q.suspends;
-      resumes = (queue_after begins q p k found).resumes;
-      cells = (queue_after begins q p k found).cells;
+      resumes = (queue_after step.begins q p k found).resumes;
+      cells = (queue_after step.begins q p k found).cells;
       doing = sym (turned doing.Owes (doing.Ticket k)) i;
     }),
   )
-  leads puts found w = (
+  led step.puts sound = λ found w. (
     ((w.0, tt, tt), ((get-set_here q.doing p doing.Idle doing.Owes w.0, w.1, w.2), tt)),
     (λ i. record {
       suspends = q.suspends;
-      resumes = (queue_after puts q p k found).resumes;
-      cells = (queue_after puts q p k found).cells;
+      resumes = (queue_after step.puts q p k found).resumes;
+      cells = (queue_after step.puts q p k found).cells;
       doing = sym (turned doing.Owes (doing.Ticket k)) i;
     }),
   )
-  leads installs (Some found) w = ((w.0, tt), refl)
-  leads takes (Some found) w = ((w.0, tt), refl)
-  leads serves (Some found) w = ((w.0, tt), refl)
-  leads leaves (Some found) w = ((w.0, tt), refl)
-  leads delegates (Some found) w = ((w.0, tt), refl)
-  leads passes_over (Some found) w = ((w.0, tt), stays-found found doing.Owes w.0.finds)
-  leads ends_refused (Some found) w = ((w.0, tt), stays-found found doing.Idle w.0.finds)
-  leads ends_missed (Some found) w = λ sound. sound-missed found sound w
-  leads starts_leaving (Some found) w = ((w, tt), refl)
-  leads leaves_line (Some found) w = (
+  led step.installs sound = λ found w. ((w.0, tt), refl)
+  led step.takes sound = λ found w. ((w.0, tt), refl)
+  led step.serves sound = λ found w. ((w.0, tt), refl)
+  led step.leaves sound = λ found w. ((w.0, tt), refl)
+  led step.delegates sound = λ found w. ((w.0, tt), refl)
+  led step.passes_over sound = λ found w. ((w.0, tt), stays-found found doing.Owes w.0.finds)
+  led step.ends_refused sound = λ found w. ((w.0, tt), stays-found found doing.Idle w.0.finds)
+  led step.ends_missed sound = λ found w again. sound-missed found sound w
+  led step.starts_leaving sound = λ found w. ((w, tt), refl)
+  led step.leaves_line sound = λ found w. (
     (w, (get-set_here q.doing p doing.Idle (doing.Leaving k) w.0.does, tt)),
     with-parts refl (sym (turned (doing.Leaving k) (doing.Decided k true))),
   )
-  leads leaves_at_once (Some found) w = (
+  led step.leaves_at_once sound = λ found w. (
     (
       w,
       (
@@ -119,34 +134,17 @@ module _ (q : Queue) (p k : ℕ) where
         (sym (set-set (set q.doing p (doing.Leaving k)) p (doing.Decided k true) doing.Idle
         ∙ turned (doing.Leaving k) doing.Idle)),
   )
-  leads settles (Some found) w = ((w.0, tt), refl)
-  leads settles_owing (Some found) w = ((w.0, tt), refl)
-  leads refuses (Some found) w = (((w.0.does, w.0.finds, subst IsCancelling (sym w.0.at) tt), tt), refl)
-  leads refuses_value (Some found) w = (((w.0.does, w.0.finds, subst IsCancelling (sym w.0.at) tt), tt), refl)
-  leads (looks pends) (Some found) w = (
-    tt,
-    with-parts (set-same q.cells k found w.0.finds) (set-same q.doing p doing.Idle w.0.does),
-  )
-  leads (looks grants) (Some found) w = ((w, tt), with-parts refl (set-same q.doing p doing.Idle w.0.does))
-  leads (looks late) (Some found) w = ((w, tt), with-parts refl (set-same q.doing p doing.Idle w.0.does))
-  leads installs None w = absurd w
-  leads takes None w = absurd w
-  leads serves None w = absurd w
-  leads leaves None w = absurd w
-  leads delegates None w = absurd w
-  leads passes_over None w = absurd w
-  leads ends_refused None w = absurd w
-  leads ends_missed None w = absurd w
-  leads starts_leaving None w = absurd w
-  leads leaves_line None w = absurd w
-  leads leaves_at_once None w = absurd w
-  leads settles None w = absurd w
-  leads settles_owing None w = absurd w
-  leads refuses None w = absurd w
-  leads refuses_value None w = absurd w
-  leads (looks pends) None w = absurd w
-  leads (looks grants) None w = absurd w
-  leads (looks late) None w = absurd w
+  led step.settles sound = λ found w. ((w.0, tt), refl)
+  led step.settles_owing sound = λ found w. ((w.0, tt), refl)
+  led step.refuses sound = λ found w. (((w.0.does, w.0.finds, subst IsCancelling (sym w.0.at) tt), tt), refl)
+  led step.refuses_value sound = λ found w. (((w.0.does, w.0.finds, subst IsCancelling (sym w.0.at) tt), tt), refl)
+  led (step.looks step.pends) sound = λ found w. (tt, pends-still found w.0)
+  led (step.looks step.grants) sound = λ found w. ((w, tt), grants-collects found w.0)
+  led (step.looks step.late) sound = λ found w. ((w, tt), grants-collects found w.0)
+
+  pub leads : (s : QueueStep) (found : Option CoreCell) → IsOpenStep q s p k found → IsSound q
+      → LeadTo q (moves_of s p k found) (queue_after s q p k found)
+  leads s found w sound = where-open q p k (Leads s) (row_of s) (led s sound) found w
 
 pub sound-all : (ms : List Move) (q : Queue) → IsSound q → AreOpen q ms → IsSound (moved_all q ms)
 sound-all [] q sound opens = sound
@@ -160,4 +158,4 @@ sound-led q r None led sound = led sound
 pub sound-after : (q : Queue) (s : QueueStep) (p k : ℕ) (found : Option CoreCell) → IsSound q → IsOpenStep q s p k found
     → IsSound (queue_after s q p k found)
 sound-after q s p k found sound opens =
-    sound-led q (queue_after s q p k found) (moves_of s p k found) (leads q p k s found opens) sound
+    sound-led q (queue_after s q p k found) (moves_of s p k found) (leads q p k s found opens sound) sound

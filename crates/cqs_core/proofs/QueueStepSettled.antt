@@ -6,9 +6,11 @@ use Rattle.cqs_core.specs.QueueState.{Queue}
 use Rattle.cqs_core.specs.QueueMoves.{Move, move_queue}
 use Rattle.cqs_core.specs.QueueSettled.{IsSettled, Settles, IsSettling}
 use Rattle.cqs_core.specs.QueueSound.{IsSound}
-use Rattle.cqs_core.specs.QueueSteps.{pends, grants, late, QueueStep, draws, enters, reaches, begins, puts, installs, takes, serves, leaves, delegates, passes_over, ends_refused, ends_missed, starts_leaving, leaves_line, leaves_at_once, settles, settles_owing, refuses, refuses_value, looks, IsOpenStep, queue_after}
+use Rattle.cqs_core.specs.QueueSteps as step
+use Rattle.cqs_core.specs.QueueSteps.{QueueStep, row_of, IsOpenStep, queue_after}
 use Rattle.cqs_core.specs.QueueStepMoves.{moves_of, moved_all, AreOpen}
 use Rattle.cqs_core.specs.QueueStepSettled.{PassesOn, IsSettler, StepSettles}
+use Rattle.cqs_core.proofs.OpenRows.{WhereOpen, where-open}
 use Rattle.cqs_core.proofs.QueueFrozen.{frozen}
 use Rattle.cqs_core.proofs.QueueSettling.{moves-settle}
 use Rattle.cqs_core.proofs.QueueStepMoves.{LeadTo, leads}
@@ -63,21 +65,21 @@ neither s = ⊎_elim (λ z. z) (λ z. z) s
 none-of-two : ⊥ ⊎ (⊥ ⊎ ⊥) → ⊥
 none-of-two s = ⊎_elim (λ z. z) (λ z. neither z) s
 
-told : (q : Queue) (s : QueueStep) (p k : ℕ) (found : Option CoreCell) → PassesOn s → IsOpenStep q s p k found
-    → Told s k (moves_of s p k found)
-told q draws p k found on w = (λ j s. absurd (neither s), λ is. absurd is)
-told q reaches p k found on w = (λ j s. absurd (neither s), λ is. absurd is)
-told q enters p k found on w = (λ j s. absurd (none-of-two s), λ is. absurd is)
-told q begins p k found on w = (λ j s. absurd (none-of-two s), λ is. absurd is)
-told q puts p k found on w = (λ j s. absurd (none-of-two s), λ is. absurd is)
-told q installs p k (Some found) on w = (λ j s. absurd (neither s), λ is. absurd is)
-told q serves p k (Some found) on w = (λ j s. absurd (neither s), λ is. absurd is)
-told q leaves p k (Some found) on w = (λ j s. absurd (neither s), λ is. absurd is)
-told q delegates p k (Some found) on w = (λ j s. absurd (neither s), λ is. absurd is)
-told q passes_over p k (Some found) on w = (λ j s. absurd (neither s), λ is. absurd is)
-told q starts_leaving p k (Some found) on w = (λ j s. absurd (neither s), λ is. absurd is)
-told q leaves_line p k (Some found) on w = (λ j s. absurd (none-of-two s), λ is. absurd is)
-told q refuses p k (Some found) on w = (
+tells : (q : Queue) (s : QueueStep) (p k : ℕ) → PassesOn s
+    → WhereOpen q p k (λ found. Told s k (moves_of s p k found)) (row_of s)
+tells q step.draws p k on = λ found w. (λ j s. absurd (neither s), λ is. absurd is)
+tells q step.reaches p k on = λ found w. (λ j s. absurd (neither s), λ is. absurd is)
+tells q step.enters p k on = λ found w. (λ j s. absurd (none-of-two s), λ is. absurd is)
+tells q step.begins p k on = λ found w. (λ j s. absurd (none-of-two s), λ is. absurd is)
+tells q step.puts p k on = λ found w. (λ j s. absurd (none-of-two s), λ is. absurd is)
+tells q step.installs p k on = λ found w. (λ j s. absurd (neither s), λ is. absurd is)
+tells q step.serves p k on = λ found w. (λ j s. absurd (neither s), λ is. absurd is)
+tells q step.leaves p k on = λ found w. (λ j s. absurd (neither s), λ is. absurd is)
+tells q step.delegates p k on = λ found w. (λ j s. absurd (neither s), λ is. absurd is)
+tells q step.passes_over p k on = λ found w. (λ j s. absurd (neither s), λ is. absurd is)
+tells q step.starts_leaving p k on = λ found w. (λ j s. absurd (neither s), λ is. absurd is)
+tells q step.leaves_line p k on = λ found w. (λ j s. absurd (none-of-two s), λ is. absurd is)
+tells q step.refuses p k on = λ found w. (
   λ j s. ⊎_elim
       (λ (z : (j ≡ k) × (found.state ≡ state.Delegated)).
       let both : state.Cancelling ≡ state.Delegated = sym w.0.at ∙ z.1 in absurd (cc))
@@ -85,33 +87,22 @@ told q refuses p k (Some found) on w = (
       s,
   λ is. absurd is,
 )
-told q (looks pends) p k (Some found) on w = (λ j s. absurd s, λ is. absurd is)
-told q takes p k (Some found) on w = (λ j s. ⊎_elim (λ z. (z, tt)) (λ z. absurd z) s, λ is. inl refl)
-told q ends_refused p k (Some found) on w = (λ j s. ⊎_elim (λ z. (z, tt)) (λ z. absurd z) s, λ is. inl refl)
-told q settles p k (Some found) on w = (λ j s. ⊎_elim (λ z. (z, tt)) (λ z. absurd z) s, λ is. inl refl)
-told q settles_owing p k (Some found) on w = (λ j s. ⊎_elim (λ z. (z, tt)) (λ z. absurd z) s, λ is. inl refl)
-told q refuses_value p k (Some found) on w =
+tells q (step.looks step.pends) p k on = λ found w. (λ j s. absurd s, λ is. absurd is)
+tells q step.takes p k on = λ found w. (λ j s. ⊎_elim (λ z. (z, tt)) (λ z. absurd z) s, λ is. inl refl)
+tells q step.ends_refused p k on = λ found w. (λ j s. ⊎_elim (λ z. (z, tt)) (λ z. absurd z) s, λ is. inl refl)
+tells q step.settles p k on = λ found w. (λ j s. ⊎_elim (λ z. (z, tt)) (λ z. absurd z) s, λ is. inl refl)
+tells q step.settles_owing p k on = λ found w. (λ j s. ⊎_elim (λ z. (z, tt)) (λ z. absurd z) s, λ is. inl refl)
+tells q step.refuses_value p k on = λ found w.
     (λ j s. ⊎_elim (λ z. (z.0, tt)) (λ z. absurd z) s, λ is. inl (refl, w.0.at))
-told q (looks grants) p k (Some found) on w = (λ j s. ⊎_elim (λ z. (z, tt)) (λ z. absurd z) s, λ is. inl refl)
-told q (looks late) p k (Some found) on w = (λ j s. ⊎_elim (λ z. (z, tt)) (λ z. absurd z) s, λ is. inl refl)
-told q ends_missed p k found on w = absurd on
-told q leaves_at_once p k found on w = absurd on
-told q installs p k None on w = absurd w
-told q serves p k None on w = absurd w
-told q leaves p k None on w = absurd w
-told q delegates p k None on w = absurd w
-told q passes_over p k None on w = absurd w
-told q starts_leaving p k None on w = absurd w
-told q leaves_line p k None on w = absurd w
-told q refuses p k None on w = absurd w
-told q takes p k None on w = absurd w
-told q ends_refused p k None on w = absurd w
-told q settles p k None on w = absurd w
-told q settles_owing p k None on w = absurd w
-told q refuses_value p k None on w = absurd w
-told q (looks pends) p k None on w = absurd w
-told q (looks grants) p k None on w = absurd w
-told q (looks late) p k None on w = absurd w
+tells q (step.looks step.grants) p k on = λ found w. (λ j s. ⊎_elim (λ z. (z, tt)) (λ z. absurd z) s, λ is. inl refl)
+tells q (step.looks step.late) p k on = λ found w. (λ j s. ⊎_elim (λ z. (z, tt)) (λ z. absurd z) s, λ is. inl refl)
+tells q step.ends_missed p k on = absurd on
+tells q step.leaves_at_once p k on = absurd on
+
+told : (q : Queue) (s : QueueStep) (p k : ℕ) (found : Option CoreCell) → PassesOn s → IsOpenStep q s p k found
+    → Told s k (moves_of s p k found)
+told q s p k found on w =
+    where-open q p k (λ found. Told s k (moves_of s p k found)) (row_of s) (tells q s p k on) found w
 
 by-moves : (q : Queue) (s : QueueStep) (p k : ℕ) (found : Option CoreCell) (ms : Option (List Move)) → IsSound q
     → LeadTo q ms (queue_after s q p k found) → Told s k ms → StepSettles q s p k found
@@ -129,4 +120,4 @@ by-moves q s p k found (Some ms) sound led says =
 pub step-settles : (q : Queue) (s : QueueStep) (p k : ℕ) (found : Option CoreCell) → PassesOn s → IsSound q
     → IsOpenStep q s p k found → StepSettles q s p k found
 step-settles q s p k found on sound w =
-    by-moves q s p k found (moves_of s p k found) sound (leads q p k s found w) (told q s p k found on w)
+    by-moves q s p k found (moves_of s p k found) sound (leads q p k s found w sound) (told q s p k found on w)

@@ -71,7 +71,7 @@ has-cell q p stage.idle k sound does has = absurd has
 has-cell q p stage.door k sound does has = absurd has
 has-cell q p stage.owes k sound does has = absurd has
 
-has-owner : (q : Queue) (p k : ℕ) (cell : CoreCell) (at : Stage) → IsSound q
+pub has-owner : (q : Queue) (p k : ℕ) (cell : CoreCell) (at : Stage) → IsSound q
     → slice_get q.doing p ≡ Some (doing_at at k) → slice_get q.cells k ≡ Some cell → HasNumber at → IsOfOwn at
     → cell.owner ≡ Some p
 has-owner q p k cell at sound does there has own =

@@ -1,6 +1,6 @@
 -- Each step of the queue that a latch makes keeps what it shows. In simple mode the queue is read with its cancelled
 -- cells as refused ones: a step at a cell sets the cell that is read so, too.
-use Rattle.std.proofs.Common.{◌≡◌, ℕ, ◌+◌, true, false, Bool, List, Option, Some, None, set, slice_get, refl, sym, ap, ◌∙◌, subst, append-nil, ℤ}
+use Rattle.std.proofs.Common.{◌≡◌, ℕ, ◌+◌, true, false, Bool, List, Option, Some, set, slice_get, refl, sym, ap, ◌∙◌, subst, append-nil, ℤ}
 use Rattle.cqs_core.specs.declared.cells.CoreCell.{CoreCell}
 use Rattle.cqs_core.specs.declared.cells.CoreState.{CoreState}
 use Rattle.cqs_core.specs.declared.cells.CoreState.TheVariants as state
@@ -10,11 +10,13 @@ use Rattle.cqs_core.specs.QueueAsRefused.{refused_state, refused_cell, all_refus
 use Rattle.cqs_core.specs.QueueState.{Queue}
 use Rattle.cqs_core.specs.QueueMoves as move
 use Rattle.cqs_core.specs.QueueMoves.{Works, Owns, move_queue, at_state}
-use Rattle.cqs_core.specs.QueueSteps.{pends, grants, late, QueueStep, draws, enters, reaches, begins, puts, installs, takes, serves, leaves, delegates, passes_over, ends_refused, ends_missed, starts_leaving, leaves_line, leaves_at_once, settles, settles_owing, refuses, refuses_value, looks, row_of, IsOpenStep}
+use Rattle.cqs_core.specs.QueueSteps as step
+use Rattle.cqs_core.specs.QueueSteps.{QueueStep, row_of, IsOpenStep}
 use Rattle.cqs_core.proofs.Places.{set-same}
 use Rattle.cqs_core.proofs.QueueAsRefused.{read_option, get-refused, get-read, set-refused, drawn-refused, reached-refused}
 use Rattle.cqs_core.proofs.QueueBegins.{one_fewer}
-use Rattle.cqs_core.proofs.QueueStepMoves.{leads}
+use Rattle.cqs_core.proofs.OpenRows.{WhereOpen, where-open}
+use Rattle.cqs_core.proofs.QueueStepMoves.{leads, pends-still, grants-collects}
 use Rattle.cqs_latch_object.specs.declared.entries.LatchEntry.{LatchEntry}
 use Rattle.cqs_latch_object.specs.LatchShown.{LatchShape, as_read, IsLatch, IsLatchCore}
 use Rattle.cqs_latch_object.specs.LatchSteps.{IsLatchStep, cost_of, IsPaid, after_queue_step}
@@ -50,74 +52,65 @@ module _ (size : ℕ) (count : ℤ) (word : ℕ) (done : Bool) where
       abbrev smart : LatchShape
       smart = core false owed log q
 
+      keeps-smart : (step : QueueStep) → IsLatchStep false step → IsPaid (cost_of (row_of step)) owed p
+          → WhereOpen q p k (λ found. IsLatch (after_queue_step smart step p k found)) (row_of step)
+      keeps-smart step.draws may paid = λ found w.
+          let here : slice_get q.cells q.suspends ≡ found = ap (slice_get q.cells) (sym w.1) ∙ w.2 in
+          subst (λ j. IsLatch (after_queue_step smart step.draws p j found)) (sym w.1)
+          (latch-draw smart p k is found w.0 here)
+      keeps-smart step.reaches may paid = λ found w.
+          let here : slice_get q.cells q.resumes ≡ found = ap (slice_get q.cells) (sym w.1) ∙ w.2 in
+          subst (λ j. IsLatch (after_queue_step smart step.reaches p j found)) (sym w.1)
+          (same-latch false owed (append-nil log) refl (latch-reach smart p k is found w.0 here))
+      keeps-smart step.begins may paid = λ found w.
+          let here : slice_get q.cells q.resumes ≡ found = ap (slice_get q.cells) (sym w.1) ∙ w.2 in
+          subst (λ j. IsLatch (after_queue_step smart step.begins p j found)) (sym w.1)
+          (same-latch false (one_fewer owed p) (append-nil log) refl (latch-begin smart p k is found w.0 paid here))
+      keeps-smart step.installs may paid = λ found w.
+          same-latch false owed (append-nil log) refl (latch-install smart p k is found w.0)
+      keeps-smart step.takes may paid = λ found w. latch-take_value smart p k is found w.0
+      keeps-smart step.serves may paid = λ found w. latch-serve smart p k is found w.0
+      keeps-smart step.leaves may paid = λ found w.
+          same-latch false owed (append-nil log) refl (latch-leave_value smart p k is found w.0)
+      keeps-smart step.delegates may paid = λ found w.
+          same-latch false owed (append-nil log) refl (latch-delegate smart p k is found w.0)
+      keeps-smart step.passes_over may paid = λ found w.
+          same-latch false owed (append-nil log) (leads q p k step.passes_over (Some found) w is.sound).1
+          (latch-pass_over smart p k is found w.0)
+      keeps-smart step.ends_refused may paid = λ found w.
+          same-latch false owed (append-nil log) (leads q p k step.ends_refused (Some found) w is.sound).1
+          (latch-meet_refused smart p k is found w.0 refl)
+      keeps-smart step.starts_leaving may paid = λ found w.
+          same-latch false owed (append-nil log) refl (latch-begin_cancel smart p k is found w.0 w.1)
+      keeps-smart step.settles may paid = λ found w.
+          same-latch false owed (append-nil log) refl (latch-cancel smart p k is found w.0)
+      keeps-smart step.settles_owing may paid = λ found w.
+          same-latch false owed (append-nil log) refl (latch-cancel_owing smart p k is found w.0)
+      keeps-smart step.refuses may paid = λ found w.
+          same-latch false owed (append-nil log) refl (latch-refuse smart p k is found w.0)
+      keeps-smart step.refuses_value may paid = λ found w.
+          same-latch false owed (append-nil log) refl (latch-refuse_value smart p k is found w.0)
+      keeps-smart (step.looks step.pends) may paid = λ found w.
+          same-latch false owed refl (leads q p k (step.looks step.pends) (Some found) w is.sound).1
+          (latch-pending smart p k is found w.0 w.1)
+      keeps-smart (step.looks step.grants) may paid = λ found w.
+          same-latch false owed refl (leads q p k (step.looks step.grants) (Some found) w is.sound).1
+          (latch-granted smart p k is found w.0 w.1)
+      keeps-smart (step.looks step.late) may paid = λ found w.
+          same-latch false owed refl (leads q p k (step.looks step.late) (Some found) w is.sound).1
+          (latch-late smart p k is found w.0 w.1)
+      keeps-smart step.enters may paid = absurd may
+      keeps-smart step.puts may paid = absurd may
+      keeps-smart step.leaves_line may paid = absurd may
+      keeps-smart step.ends_missed may paid = absurd (cc)
+      keeps-smart step.leaves_at_once may paid = absurd (cc)
+
       pub smart-step : (step : QueueStep) (found : Option CoreCell) → IsLatchStep false step
           → IsOpenStep q step p k found → IsPaid (cost_of (row_of step)) owed p
           → IsLatch (after_queue_step smart step p k found)
-      smart-step draws found may w paid =
-          let here : slice_get q.cells q.suspends ≡ found = ap (slice_get q.cells) (sym w.1) ∙ w.2 in
-          subst (λ j. IsLatch (after_queue_step smart draws p j found)) (sym w.1)
-          (latch-draw smart p k is found w.0 here)
-      smart-step reaches found may w paid =
-          let here : slice_get q.cells q.resumes ≡ found = ap (slice_get q.cells) (sym w.1) ∙ w.2 in
-          subst (λ j. IsLatch (after_queue_step smart reaches p j found)) (sym w.1)
-          (same-latch false owed (append-nil log) refl (latch-reach smart p k is found w.0 here))
-      smart-step begins found may w paid =
-          let here : slice_get q.cells q.resumes ≡ found = ap (slice_get q.cells) (sym w.1) ∙ w.2 in
-          subst (λ j. IsLatch (after_queue_step smart begins p j found)) (sym w.1)
-          (same-latch false (one_fewer owed p) (append-nil log) refl (latch-begin smart p k is found w.0 paid here))
-      smart-step installs (Some found) may w paid =
-          same-latch false owed (append-nil log) refl (latch-install smart p k is found w.0)
-      smart-step takes (Some found) may w paid = latch-take_value smart p k is found w.0
-      smart-step serves (Some found) may w paid = latch-serve smart p k is found w.0
-      smart-step leaves (Some found) may w paid =
-          same-latch false owed (append-nil log) refl (latch-leave_value smart p k is found w.0)
-      smart-step delegates (Some found) may w paid =
-          same-latch false owed (append-nil log) refl (latch-delegate smart p k is found w.0)
-      smart-step passes_over (Some found) may w paid =
-          same-latch false owed (append-nil log) (leads q p k passes_over (Some found) w).1
-          (latch-pass_over smart p k is found w.0)
-      smart-step ends_refused (Some found) may w paid =
-          same-latch false owed (append-nil log) (leads q p k ends_refused (Some found) w).1
-          (latch-meet_refused smart p k is found w.0 refl)
-      smart-step starts_leaving (Some found) may w paid =
-          same-latch false owed (append-nil log) refl (latch-begin_cancel smart p k is found w.0 w.1)
-      smart-step settles (Some found) may w paid =
-          same-latch false owed (append-nil log) refl (latch-cancel smart p k is found w.0)
-      smart-step settles_owing (Some found) may w paid =
-          same-latch false owed (append-nil log) refl (latch-cancel_owing smart p k is found w.0)
-      smart-step refuses (Some found) may w paid =
-          same-latch false owed (append-nil log) refl (latch-refuse smart p k is found w.0)
-      smart-step refuses_value (Some found) may w paid =
-          same-latch false owed (append-nil log) refl (latch-refuse_value smart p k is found w.0)
-      smart-step (looks pends) (Some found) may w paid =
-          same-latch false owed refl (leads q p k (looks pends) (Some found) w).1
-          (latch-pending smart p k is found w.0 w.1)
-      smart-step (looks grants) (Some found) may w paid =
-          same-latch false owed refl (leads q p k (looks grants) (Some found) w).1
-          (latch-granted smart p k is found w.0 w.1)
-      smart-step (looks late) (Some found) may w paid =
-          same-latch false owed refl (leads q p k (looks late) (Some found) w).1
-          (latch-late smart p k is found w.0 w.1)
-      smart-step enters found may w paid = absurd may
-      smart-step puts found may w paid = absurd may
-      smart-step leaves_line found may w paid = absurd may
-      smart-step ends_missed found may w paid = absurd (cc)
-      smart-step leaves_at_once found may w paid = absurd (cc)
-      smart-step installs None may w paid = absurd w
-      smart-step takes None may w paid = absurd w
-      smart-step serves None may w paid = absurd w
-      smart-step leaves None may w paid = absurd w
-      smart-step delegates None may w paid = absurd w
-      smart-step passes_over None may w paid = absurd w
-      smart-step ends_refused None may w paid = absurd w
-      smart-step starts_leaving None may w paid = absurd w
-      smart-step settles None may w paid = absurd w
-      smart-step settles_owing None may w paid = absurd w
-      smart-step refuses None may w paid = absurd w
-      smart-step refuses_value None may w paid = absurd w
-      smart-step (looks pends) None may w paid = absurd w
-      smart-step (looks grants) None may w paid = absurd w
-      smart-step (looks late) None may w paid = absurd w
+      smart-step step found may w paid =
+          where-open q p k (λ cell. IsLatch (after_queue_step smart step p k cell)) (row_of step)
+          (keeps-smart step may paid) found w
 
     -- Simple mode.
     module _ (is : IsLatch (core true owed log (as_refused q))) where
@@ -188,12 +181,11 @@ module _ (size : ℕ) (count : ℤ) (word : ℕ) (done : Bool) where
       abbrev idle : List Doing
       idle = set q.doing p doing.Idle
 
-      pub simple-step : (step : QueueStep) (found : Option CoreCell) → IsLatchStep true step
-          → IsOpenStep q step p k found → IsPaid (cost_of (row_of step)) owed p
-          → IsLatch (after step k found)
-      simple-step draws found may w paid =
+      keeps-simple : (step : QueueStep) → IsLatchStep true step → IsPaid (cost_of (row_of step)) owed p
+          → WhereOpen q p k (λ found. IsLatch (after step k found)) (row_of step)
+      keeps-simple step.draws may paid = λ found w.
           let here : slice_get q.cells q.suspends ≡ found = ap (slice_get q.cells) (sym w.1) ∙ w.2 in
-          subst (λ j. IsLatch (after draws j found)) (sym w.1)
+          subst (λ j. IsLatch (after step.draws j found)) (sym w.1)
           (same-latch true owed refl
           (λ i. record {
             suspends = q.suspends + 1;
@@ -202,30 +194,30 @@ module _ (size : ℕ) (count : ℤ) (word : ℕ) (done : Bool) where
             doing = set q.doing p (doing.Drawn q.suspends);
           })
           (latch-draw simple p k is (read_option found) w.0 (get-read q.cells q.suspends found here)))
-      simple-step reaches found may w paid =
+      keeps-simple step.reaches may paid = λ found w.
           let here : slice_get q.cells q.resumes ≡ found = ap (slice_get q.cells) (sym w.1) ∙ w.2 in
-          subst (λ j. IsLatch (after reaches j found)) (sym w.1)
+          subst (λ j. IsLatch (after step.reaches j found)) (sym w.1)
           (same-latch true owed (append-nil log) (read-reached found)
           (latch-reach simple p k is (read_option found) w.0 (get-read q.cells q.resumes found here)))
-      simple-step begins found may w paid =
+      keeps-simple step.begins may paid = λ found w.
           let here : slice_get q.cells q.resumes ≡ found = ap (slice_get q.cells) (sym w.1) ∙ w.2 in
-          subst (λ j. IsLatch (after begins j found)) (sym w.1)
+          subst (λ j. IsLatch (after step.begins j found)) (sym w.1)
           (same-latch true (one_fewer owed p) (append-nil log) (read-reached found)
           (latch-begin simple p k is (read_option found) w.0 paid (get-read q.cells q.resumes found here)))
-      simple-step installs (Some found) may w paid =
+      keeps-simple step.installs may paid = λ found w.
           same-latch true owed (append-nil log) (read-set (at_state found state.Waiter) idle)
           (latch-install simple p k is (refused_cell found) (reads (doing.Drawn k) found state.Empty w.0))
-      simple-step takes (Some found) may w paid =
+      keeps-simple step.takes may paid = λ found w.
           same-latch true owed refl
           (read-set (record { state = state.Taken; owner = found.owner; collected = true }) idle)
           (latch-take_value simple p k is (refused_cell found) (reads (doing.Drawn k) found state.Value w.0))
-      simple-step serves (Some found) may w paid =
+      keeps-simple step.serves may paid = λ found w.
           same-latch true owed refl (read-set (at_state found state.Resumed) idle)
           (latch-serve simple p k is (refused_cell found) (reads (doing.Ticket k) found state.Waiter w.0))
-      simple-step leaves (Some found) may w paid =
+      keeps-simple step.leaves may paid = λ found w.
           same-latch true owed (append-nil log) (read-set (at_state found state.Value) idle)
           (latch-leave_value simple p k is (refused_cell found) (reads (doing.Ticket k) found state.Empty w.0))
-      simple-step ends_missed (Some found) may w paid =
+      keeps-simple step.ends_missed may paid = λ found w.
           same-latch true owed refl
           (λ i. as_refused (record {
             suspends = q.suspends;
@@ -234,46 +226,43 @@ module _ (size : ℕ) (count : ℤ) (word : ℕ) (done : Bool) where
             doing = idle;
           }))
           (latch-miss simple p k is (refused_cell found) (reads (doing.Ticket k) found state.Cancelled w.0) refl)
-      simple-step leaves_at_once (Some found) may w paid =
+      keeps-simple step.leaves_at_once may paid = λ found w.
           same-latch true owed refl
           (read-set (at_state found state.Cancelled) idle
           ∙ still w.0.does (set (all_refused q.cells) k (at_state (refused_cell found) state.Refused)))
           (latch-leave_at_once simple p k is (refused_cell found) (reads doing.Idle found state.Waiter w.0)
           (owned found w.1) refl)
-      simple-step (looks pends) (Some found) may w paid =
-          same-latch true owed refl (ap as_refused (leads q p k (looks pends) (Some found) w).1)
+      keeps-simple (step.looks step.pends) may paid = λ found w.
+          same-latch true owed refl (ap as_refused (pends-still q p k found w.0))
           (latch-pending simple p k is (refused_cell found) (reads doing.Idle found state.Waiter w.0)
           (owned found w.1))
-      simple-step (looks grants) (Some found) may w paid =
+      keeps-simple (step.looks step.grants) may paid = λ found w.
           same-latch true owed refl
-          (ap as_refused (leads q p k (looks grants) (Some found) w).1 ∙ read-set (looked found) q.doing)
+          (ap as_refused (grants-collects q p k found w.0) ∙ read-set (looked found) q.doing)
           (latch-granted simple p k is (refused_cell found) (reads doing.Idle found state.Resumed w.0)
           (owned found w.1))
-      simple-step (looks late) (Some found) may w paid =
+      keeps-simple (step.looks step.late) may paid = λ found w.
           same-latch true owed refl
-          (ap as_refused (leads q p k (looks late) (Some found) w).1 ∙ read-set (looked found) q.doing)
+          (ap as_refused (grants-collects q p k found w.0) ∙ read-set (looked found) q.doing)
           (latch-late simple p k is (refused_cell found) (reads doing.Idle found state.Resumed w.0)
           (owned found w.1))
-      simple-step enters found may w paid = absurd may
-      simple-step puts found may w paid = absurd may
-      simple-step leaves_line found may w paid = absurd may
-      simple-step delegates found may w paid = absurd (cc)
-      simple-step passes_over found may w paid = absurd (cc)
-      simple-step ends_refused found may w paid = absurd (cc)
-      simple-step starts_leaving found may w paid = absurd (cc)
-      simple-step settles found may w paid = absurd (cc)
-      simple-step settles_owing found may w paid = absurd (cc)
-      simple-step refuses found may w paid = absurd (cc)
-      simple-step refuses_value found may w paid = absurd (cc)
-      simple-step installs None may w paid = absurd w
-      simple-step takes None may w paid = absurd w
-      simple-step serves None may w paid = absurd w
-      simple-step leaves None may w paid = absurd w
-      simple-step ends_missed None may w paid = absurd w
-      simple-step leaves_at_once None may w paid = absurd w
-      simple-step (looks pends) None may w paid = absurd w
-      simple-step (looks grants) None may w paid = absurd w
-      simple-step (looks late) None may w paid = absurd w
+      keeps-simple step.enters may paid = absurd may
+      keeps-simple step.puts may paid = absurd may
+      keeps-simple step.leaves_line may paid = absurd may
+      keeps-simple step.delegates may paid = absurd (cc)
+      keeps-simple step.passes_over may paid = absurd (cc)
+      keeps-simple step.ends_refused may paid = absurd (cc)
+      keeps-simple step.starts_leaving may paid = absurd (cc)
+      keeps-simple step.settles may paid = absurd (cc)
+      keeps-simple step.settles_owing may paid = absurd (cc)
+      keeps-simple step.refuses may paid = absurd (cc)
+      keeps-simple step.refuses_value may paid = absurd (cc)
+
+      pub simple-step : (step : QueueStep) (found : Option CoreCell) → IsLatchStep true step
+          → IsOpenStep q step p k found → IsPaid (cost_of (row_of step)) owed p
+          → IsLatch (after step k found)
+      simple-step step found may w paid =
+          where-open q p k (λ cell. IsLatch (after step k cell)) (row_of step) (keeps-simple step may paid) found w
 
 -- Both modes: the parts of the latch are given one by one, so that its mode may be told apart.
 module _ (size : ℕ) (count : ℤ) (word : ℕ) (done : Bool) (owed : List ℕ) (log : List LatchEntry) (q : Queue) where

@@ -1,61 +1,34 @@
 -- Which steps of the queue settle their cell: for a client whose resumes
 -- pass over a cancelled cell.
-use Rattle.std.specs.Prelude.{◌≡◌, ◌⊎◌, ℕ, Option, slice_get}
+use Rattle.std.specs.Prelude.{◌≡◌, ◌⊎◌, ℕ, Bool, true, false, Option, slice_get}
 use Rattle.cqs_core.specs.declared.cells.CoreCell.{CoreCell}
 use Rattle.cqs_core.specs.QueueState.{Queue}
 use Rattle.cqs_core.specs.QueueSettled.{IsSettled}
 use Rattle.cqs_core.specs.QueueSound.{IsSound}
-use Rattle.cqs_core.specs.QueueSteps.{pends, grants, late, QueueStep, draws, enters, reaches, begins, puts, installs, takes, serves, leaves, delegates, passes_over, ends_refused, ends_missed, starts_leaving, leaves_line, leaves_at_once, settles, settles_owing, refuses, refuses_value, looks, IsOpenStep, queue_after}
+use Rattle.cqs_core.specs.QueueSteps as maker
+use Rattle.cqs_core.specs.QueueSteps.{QueueStep, Makers, card_of, IsOpenStep, queue_after}
+
+abbrev pub PassOver : Makers → Type 0
+PassOver maker.each_client = Unit {0}
+PassOver maker.without_door = Unit {0}
+PassOver maker.with_debts = Unit {0}
+PassOver maker.with_elements = Unit {0}
+PassOver maker.in_smart_mode = Unit {0}
+PassOver maker.who_ask = Unit {0}
+PassOver maker.who_pass_on = Unit {0}
+PassOver maker.who_leave_at_once = ⊥
 
 -- the steps of such a client
 abbrev pub PassesOn : QueueStep → Type 0
-PassesOn draws = Unit {0}
-PassesOn enters = Unit {0}
-PassesOn reaches = Unit {0}
-PassesOn begins = Unit {0}
-PassesOn puts = Unit {0}
-PassesOn installs = Unit {0}
-PassesOn takes = Unit {0}
-PassesOn serves = Unit {0}
-PassesOn leaves = Unit {0}
-PassesOn delegates = Unit {0}
-PassesOn passes_over = Unit {0}
-PassesOn ends_refused = Unit {0}
-PassesOn ends_missed = ⊥
-PassesOn starts_leaving = Unit {0}
-PassesOn leaves_line = Unit {0}
-PassesOn leaves_at_once = ⊥
-PassesOn settles = Unit {0}
-PassesOn settles_owing = Unit {0}
-PassesOn refuses = Unit {0}
-PassesOn refuses_value = Unit {0}
-PassesOn (looks e) = Unit {0}
+PassesOn s = PassOver (card_of s).makers
+
+abbrev pub Settling : Bool → Type 0
+Settling true = Unit {0}
+Settling false = ⊥
 
 -- the step settles the cell of its number, and its pass is the one that is to count it
 abbrev pub IsSettler : QueueStep → Type 0
-IsSettler draws = ⊥
-IsSettler enters = ⊥
-IsSettler reaches = ⊥
-IsSettler begins = ⊥
-IsSettler puts = ⊥
-IsSettler installs = ⊥
-IsSettler takes = Unit {0}
-IsSettler serves = ⊥
-IsSettler leaves = ⊥
-IsSettler delegates = ⊥
-IsSettler passes_over = ⊥
-IsSettler ends_refused = Unit {0}
-IsSettler ends_missed = ⊥
-IsSettler starts_leaving = ⊥
-IsSettler leaves_line = ⊥
-IsSettler leaves_at_once = ⊥
-IsSettler settles = Unit {0}
-IsSettler settles_owing = Unit {0}
-IsSettler refuses = ⊥
-IsSettler refuses_value = Unit {0}
-IsSettler (looks pends) = ⊥
-IsSettler (looks grants) = Unit {0}
-IsSettler (looks late) = Unit {0}
+IsSettler s = Settling (card_of s).settles
 
 -- A step makes no settled cell unsettled, and leaves each as it is. A cell that is settled
 -- after it was so before, or it is that of a step which settles it; and such a step

@@ -10,6 +10,8 @@ pub mod SoundReach
 pub mod Sound
 pub mod OpenRows
 pub mod QueueUniform
+pub mod StepFacts
+pub mod QueueRows
 pub mod QueueStepMoves
 pub mod DoubleCounting
 pub mod CellReads

@@ -16,7 +16,8 @@ use Rattle.cqs_core.proofs.Places.{set-same}
 use Rattle.cqs_core.proofs.QueueAsRefused.{read_option, get-refused, get-read, set-refused, drawn-refused, reached-refused}
 use Rattle.cqs_core.proofs.QueueBegins.{one_fewer}
 use Rattle.cqs_core.proofs.OpenRows.{WhereOpen, where-open}
-use Rattle.cqs_core.proofs.QueueStepMoves.{leads, pends-still, grants-collects}
+use Rattle.cqs_core.proofs.QueueRows.{pends-still, grants-collects}
+use Rattle.cqs_core.proofs.QueueStepMoves.{leads}
 use Rattle.cqs_latch_object.specs.declared.entries.LatchEntry.{LatchEntry}
 use Rattle.cqs_latch_object.specs.LatchShown.{LatchShape, as_read, IsLatch, IsLatchCore}
 use Rattle.cqs_latch_object.specs.LatchSteps.{IsLatchStep, cost_of, IsPaid, after_queue_step}

@@ -12,7 +12,8 @@ use Rattle.cqs_core.specs.QueueSound.{IsSound}
 use Rattle.cqs_core.specs.QueueStages as stage
 use Rattle.cqs_core.specs.QueueStages.{Stage, doing_at, MayFind, MayWork}
 use Rattle.cqs_core.specs.QueueSteps.{wait_stays, wait_closes, nothing, its_own, QueueStep, looks, pends, grants, late, passes_over, ends_refused, ends_missed, row_of, CellRow, at_cell, payload_told, IsOpenRow}
-use Rattle.cqs_core.proofs.QueueUniform.{IsCellRow, row-of, IsAtCell}
+use Rattle.cqs_core.proofs.QueueRows.{row-of}
+use Rattle.cqs_core.proofs.QueueUniform.{IsCellRow, IsAtCell}
 use Rattle.cqs_words.specs.declared.cell.CellState.{CellState}
 use Rattle.cqs_words.specs.Cell.{unpacked_cell}
 use Rattle.cqs_words.proofs.CellLaws.{unpacked_cell-packed_cell}

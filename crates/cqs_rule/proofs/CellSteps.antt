@@ -19,7 +19,8 @@ use Rattle.cqs_core.specs.QueueStages as stage
 use Rattle.cqs_core.specs.QueueStages.{Stage, doing_at, MayFind, MayWork}
 use Rattle.cqs_core.specs.QueueSteps.{QueueStep, draws, enters, reaches, begins, puts, installs, takes, serves, leaves, delegates, passes_over, ends_refused, ends_missed, starts_leaving, leaves_line, leaves_at_once, settles, settles_owing, refuses, refuses_value, looks, pends, grants, late, row_of, StepRow, CellRow, at_counter, at_cell, Gain, nothing, its_own, a_debt, payload_told, state_made, IsOpenRow, cell_after, WaitChange, wait_stays, wait_opens, wait_closes}
 use Rattle.cqs_core.proofs.Places.{get-set_here}
-use Rattle.cqs_core.proofs.QueueUniform.{IsCellRow, IsRow, rows, row-of, IsAtCell, has-cell, turns, TellsWait, IsOwnChange}
+use Rattle.cqs_core.proofs.QueueRows.{rows, row-of}
+use Rattle.cqs_core.proofs.QueueUniform.{IsCellRow, IsRow, IsAtCell, has-cell, turns, TellsWait, IsOwnChange}
 use Rattle.cqs_words.specs.declared.cell.CellState.{CellState}
 use Rattle.cqs_words.specs.declared.cell.CellState.TheVariants as shown
 use Rattle.cqs_words.specs.Cell.{state_code, index_in}

@@ -17,10 +17,10 @@ use Rattle.cqs_core.specs.declared.doings.Doing.TheVariants as doing
 use Rattle.cqs_core.specs.QueueSound.{IsSound}
 use Rattle.cqs_core.specs.QueueStages as stage
 use Rattle.cqs_core.specs.QueueStages.{Stage, doing_at, MayFind, MayWork}
-use Rattle.cqs_core.specs.QueueSteps.{QueueStep, draws, enters, reaches, begins, puts, installs, takes, serves, leaves, delegates, passes_over, ends_refused, ends_missed, starts_leaving, leaves_line, leaves_at_once, settles, settles_owing, refuses, refuses_value, looks, pends, grants, late, row_of, StepRow, CellRow, at_counter, at_cell, Gain, nothing, its_own, a_debt, payload_told, state_made, IsOpenRow, cell_after, WaitChange, wait_stays, wait_opens, wait_closes}
+use Rattle.cqs_core.specs.QueueSteps.{QueueStep, row_of, StepRow, CellRow, at_counter, at_cell, Gain, nothing, its_own, a_debt, payload_told, state_made, IsOpenRow, cell_after, WaitChange, wait_stays, wait_opens, wait_closes}
 use Rattle.cqs_core.proofs.Places.{get-set_here}
 use Rattle.cqs_core.proofs.QueueRows.{rows, row-of}
-use Rattle.cqs_core.proofs.QueueUniform.{IsCellRow, IsRow, IsAtCell, has-cell, turns, TellsWait, IsOwnChange}
+use Rattle.cqs_core.proofs.QueueUniform.{IsCellRow, IsRow, IsAtCell, IsInside, has-cell, turns, TellsWait, IsOwnChange}
 use Rattle.cqs_words.specs.declared.cell.CellState.{CellState}
 use Rattle.cqs_words.specs.declared.cell.CellState.TheVariants as shown
 use Rattle.cqs_words.specs.Cell.{state_code, index_in}
@@ -99,44 +99,6 @@ word_of-injective j k s t p q p_fits q_fits same =
     (parts.0, shown-injective s t states, parts.2)
 
 -- no step at a cell leads to the door
-abbrev IsInside : Stage → Type 0
-IsInside stage.idle = Unit {0}
-IsInside stage.door = ⊥
-IsInside stage.owes = Unit {0}
-IsInside stage.drawn = Unit {0}
-IsInside stage.ticket = Unit {0}
-IsInside stage.leaving = Unit {0}
-IsInside (stage.decided on) = Unit {0}
-
-abbrev GoesInside : StepRow → Type 0
-GoesInside (at_counter row) = Unit {0}
-GoesInside (at_cell row) = IsInside row.goes_to
-
-goes-inside : (s : QueueStep) → GoesInside (row_of s)
-goes-inside draws = tt
-goes-inside enters = tt
-goes-inside reaches = tt
-goes-inside begins = tt
-goes-inside puts = tt
-goes-inside installs = tt
-goes-inside takes = tt
-goes-inside serves = tt
-goes-inside leaves = tt
-goes-inside delegates = tt
-goes-inside passes_over = tt
-goes-inside ends_refused = tt
-goes-inside ends_missed = tt
-goes-inside starts_leaving = tt
-goes-inside leaves_line = tt
-goes-inside leaves_at_once = tt
-goes-inside settles = tt
-goes-inside settles_owing = tt
-goes-inside refuses = tt
-goes-inside refuses_value = tt
-goes-inside (looks pends) = tt
-goes-inside (looks grants) = tt
-goes-inside (looks late) = tt
-
 no-door : (at : Stage) (k : ℕ) → IsInside at → doing_at at k ≡ doing.Door → ⊥
 no-door stage.idle k i e = absurd (cc)
 no-door stage.door k i e = i
@@ -352,7 +314,7 @@ module _ {E S : Type 0} (object : Object E) (primitive : Primitive E S) (passes 
           resumes = r.room.resumes;
         };
         door = door-keeps c d p r.door others.doing (λ m a. refl)
-            (λ q. absurd (no-door row.goes_to k (inside st row is)
+            (λ q. absurd (no-door row.goes_to k row_is.inside
             (same_Some (doing_at row.goes_to k) doing.Door
             (sym (get-set_here c.queue.doing p f.doing (doing_at row.goes_to k) at.doing) ∙ q))));
         shown = subst (λ (ws : List ℕ). primitive.shows d ws (r.log ++ es) r.handed)
@@ -370,9 +332,6 @@ module _ {E S : Type 0} (object : Object E) (primitive : Primitive E S) (passes 
       } in
       steps object primitive passes limit client s r id me word x d es
       (facts_worked object.gains row k n payload f) here one turned
-    where
-      inside : (t : QueueStep) (row : CellRow) → row_of t ≡ at_cell row → IsInside row.goes_to
-      inside t row e = subst GoesInside e (goes-inside t)
 
   -- an exchange of this row
   crosses : {C : Type 0} (all : C → Primitive E S) (y : C) → all y ≡ primitive

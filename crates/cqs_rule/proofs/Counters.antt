@@ -22,14 +22,16 @@ use Rattle.cqs_core.specs.QueueSound.{IsSound}
 use Rattle.cqs_core.specs.QueueStages as stage
 use Rattle.cqs_core.specs.QueueStages.{Stage, doing_at}
 use Rattle.cqs_core.specs.QueueState.{fresh_cell}
-use Rattle.cqs_core.specs.QueueSteps.{QueueStep, draws, enters, reaches, begins, puts, installs, takes, serves, leaves, delegates, passes_over, ends_refused, ends_missed, starts_leaving, leaves_line, leaves_at_once, settles, settles_owing, refuses, refuses_value, looks, pends, grants, late, row_of, CounterRow, at_counter, Counter, to_suspend, to_resume, Cost, no_cost, one_owed, one_element, after_count, IsOpenRow}
+use Rattle.cqs_core.specs.QueueSteps.{QueueStep, draws, enters, reaches, begins, puts, row_of, StepRow, CounterRow, at_counter, at_cell, Counter, to_suspend, to_resume, Cost, no_cost, one_owed, one_element, after_count, IsOpenRow}
+use Rattle.cqs_core.proofs.QueueRows.{step-facts}
+use Rattle.cqs_core.proofs.StepFacts.{IsDraw, is_draws, is_enters, is_reaches, is_begins, is_puts, DrawOf}
 use Rattle.cqs_core.proofs.Places.{get-set_here, get-set_else, get-append_left}
 use Rattle.cqs_rule.specs.declared.view.View.{View}
 use Rattle.cqs_rule.specs.declared.view.Facts.{Facts}
 use Rattle.cqs_rule.specs.declared.view.Has.{Has}
 use Rattle.cqs_rule.specs.Client.{IsClient, IsPaid, IsPayload, KeepsSlot, KeepsSlotAt}
-use Rattle.cqs_rule.specs.Counts.{IsCount, PaysNoElement, DrewBy, drew, IsDrawnBy}
-use Rattle.cqs_rule.specs.Facts.{facts_counted_by, IsBehind}
+use Rattle.cqs_rule.specs.Counts.{IsCount, IsCountBy, PaysNoElement, DrewBy, drew, IsDrawnBy}
+use Rattle.cqs_rule.specs.Facts.{counter_place, facts_counted_by, IsBehind}
 use Rattle.cqs_rule.specs.Hidden.{Hidden, Gains, has_paid, has_after, happened_by, state_at}
 use Rattle.cqs_rule.specs.Kinds.{Carries, further_paid}
 use Rattle.cqs_rule.specs.Layout.{words_for, client_words}
@@ -534,25 +536,25 @@ module _ {E S : Type 0} (object : Object E) (primitive : Primitive E S) (passes 
       here small in
       (t.0, keeps, tt, t.1, t.2)
 
-  -- a number is drawn from the counter that the step names
-  pub count : (slots id : ℕ) (me : Me (Option S) (View E S)) (t : QueueStep) (word amount : ℕ) (by : ℤ)
-      → me.0.weight ≡ 1
+  -- a number is drawn by one of the steps that draw
+  count-draw : (slots id : ℕ) (me : Me (Option S) (View E S)) (t : QueueStep) (word amount : ℕ) (by : ℤ)
+      → IsDraw t → me.0.weight ≡ 1
       → amount ≡ unsigned_abs by → Suits primitive.manner t → IsCount t me.0.facts word by → PaysNoElement (row_of t)
       → Allows (Ruled object primitive passes limit) slots id me word (λ n. (n + amount) % 2 ^ 64)
       (drew object t (step slots word amount 0 none) me)
-  count slots id me draws word amount by one is suits c free =
+  count-draw slots id me t word amount by is_draws one is suits c free =
       subst (λ (z : ℕ × ℕ). Allows (Ruled object primitive passes limit) slots id me z.0 (λ n. (n + z.1) % 2 ^ 64)
       (drew object draws (step slots z.0 z.1 0 none) me))
       (λ i. (sym c.word_is i, sym (one-more amount by is c.one) i))
       (draw slots id me draws stage.door no_cost me.0.facts.has.payload refl one suits c.works (λ k. refl)
       (inl c.works) c.paid c.fits (record { laid = λ k x laid. tt; out = λ k out. tt }))
-  count slots id me enters word amount by one is suits c free =
+  count-draw slots id me t word amount by is_enters one is suits c free =
       subst (λ (z : ℕ × ℕ). Allows (Ruled object primitive passes limit) slots id me z.0 (λ n. (n + z.1) % 2 ^ 64)
       (drew object enters (step slots z.0 z.1 0 none) me))
       (λ i. (sym c.word_is i, sym (one-more amount by is c.one) i))
       (draw slots id me enters stage.idle no_cost me.0.facts.has.payload refl one suits c.works (λ k. refl)
       (inr c.may) c.paid c.fits (record { laid = λ k x laid. tt; out = λ k out. tt }))
-  count slots id me reaches word amount by one is suits c free =
+  count-draw slots id me t word amount by is_reaches one is suits c free =
       subst (λ (z : ℕ × ℕ). Allows (Ruled object primitive passes limit) slots id me z.0 (λ n. (n + z.1) % 2 ^ 64)
       (drew object reaches (step slots z.0 z.1 0 none) me))
       (λ i. (sym c.word_is i, sym (one-more amount by is c.one) i))
@@ -560,7 +562,7 @@ module _ {E S : Type 0} (object : Object E) (primitive : Primitive E S) (passes 
       (λ k. refl) c.paid c.fits (record { laid = λ k x laid. tt; out = λ k out. tt })
       (λ h words log handed shown does has. client.reaches_few h words log handed me.0.number shown (does
       ∙ ap Some c.works)))
-  count slots id me begins word amount by one is suits c free =
+  count-draw slots id me t word amount by is_begins one is suits c free =
       subst (λ (z : ℕ × ℕ). Allows (Ruled object primitive passes limit) slots id me z.0 (λ n. (n + z.1) % 2 ^ 64)
       (drew object begins (step slots z.0 z.1 0 none) me))
       (λ i. (sym c.word_is i, sym (one-more amount by is c.one) i))
@@ -568,49 +570,31 @@ module _ {E S : Type 0} (object : Object E) (primitive : Primitive E S) (passes 
       (λ k. refl) c.paid c.fits (record { laid = λ k x laid. tt; out = λ k out. tt })
       (λ h words log handed shown does has. client.begins_few h words log handed me.0.number me.0.facts.has one_owed
       me.0.facts.has.payload shown (does ∙ ap Some c.works) has c.paid tt suits))
-  count slots id me puts word amount by one is suits c free = absurd free
-  count slots id me installs word amount by one is suits c free = absurd c
-  count slots id me takes word amount by one is suits c free = absurd c
-  count slots id me serves word amount by one is suits c free = absurd c
-  count slots id me leaves word amount by one is suits c free = absurd c
-  count slots id me delegates word amount by one is suits c free = absurd c
-  count slots id me passes_over word amount by one is suits c free = absurd c
-  count slots id me ends_refused word amount by one is suits c free = absurd c
-  count slots id me ends_missed word amount by one is suits c free = absurd c
-  count slots id me starts_leaving word amount by one is suits c free = absurd c
-  count slots id me leaves_line word amount by one is suits c free = absurd c
-  count slots id me leaves_at_once word amount by one is suits c free = absurd c
-  count slots id me settles word amount by one is suits c free = absurd c
-  count slots id me settles_owing word amount by one is suits c free = absurd c
-  count slots id me refuses word amount by one is suits c free = absurd c
-  count slots id me refuses_value word amount by one is suits c free = absurd c
-  count slots id me (looks pends) word amount by one is suits c free = absurd c
-  count slots id me (looks grants) word amount by one is suits c free = absurd c
-  count slots id me (looks late) word amount by one is suits c free = absurd c
+  count-draw slots id me t word amount by is_puts one is suits c free = absurd free
+
+  -- a number is drawn from the counter that the step names
+  pub count : (slots id : ℕ) (me : Me (Option S) (View E S)) (t : QueueStep) (word amount : ℕ) (by : ℤ)
+      → me.0.weight ≡ 1
+      → amount ≡ unsigned_abs by → Suits primitive.manner t → IsCount t me.0.facts word by → PaysNoElement (row_of t)
+      → Allows (Ruled object primitive passes limit) slots id me word (λ n. (n + amount) % 2 ^ 64)
+      (drew object t (step slots word amount 0 none) me)
+  count slots id me t word amount by one is suits c free = of (row_of t) (step-facts t).draw c
+    where
+      of : (row : StepRow) → DrawOf row t → IsCountBy row me.0.facts word by
+          → Allows (Ruled object primitive passes limit) slots id me word (λ n. (n + amount) % 2 ^ 64)
+          (drew object t (step slots word amount 0 none) me)
+      of (at_counter row) d counts = count-draw slots id me t word amount by d one is suits c free
+      of (at_cell row) d counts = absurd counts
+
+place-inside : (c : Counter) (cells : ℕ) → counter_place c < words_for cells
+place-inside to_suspend cells = suspends-inside cells
+place-inside to_resume cells = resumes-inside cells
 
 -- the word of a counter is one of the table's
 pub counter-low : (t : QueueStep) (facts : Facts) (word : ℕ) (by : ℤ) → IsCount t facts word by
     → (cells : ℕ) → word < words_for cells
-counter-low draws facts word by c cells = subst (λ z. z < words_for cells) (sym c.word_is) (suspends-inside cells)
-counter-low enters facts word by c cells = subst (λ z. z < words_for cells) (sym c.word_is) (suspends-inside cells)
-counter-low reaches facts word by c cells = subst (λ z. z < words_for cells) (sym c.word_is) (resumes-inside cells)
-counter-low begins facts word by c cells = subst (λ z. z < words_for cells) (sym c.word_is) (resumes-inside cells)
-counter-low puts facts word by c cells = subst (λ z. z < words_for cells) (sym c.word_is) (resumes-inside cells)
-counter-low installs facts word by c cells = absurd c
-counter-low takes facts word by c cells = absurd c
-counter-low serves facts word by c cells = absurd c
-counter-low leaves facts word by c cells = absurd c
-counter-low delegates facts word by c cells = absurd c
-counter-low passes_over facts word by c cells = absurd c
-counter-low ends_refused facts word by c cells = absurd c
-counter-low ends_missed facts word by c cells = absurd c
-counter-low starts_leaving facts word by c cells = absurd c
-counter-low leaves_line facts word by c cells = absurd c
-counter-low leaves_at_once facts word by c cells = absurd c
-counter-low settles facts word by c cells = absurd c
-counter-low settles_owing facts word by c cells = absurd c
-counter-low refuses facts word by c cells = absurd c
-counter-low refuses_value facts word by c cells = absurd c
-counter-low (looks pends) facts word by c cells = absurd c
-counter-low (looks grants) facts word by c cells = absurd c
-counter-low (looks late) facts word by c cells = absurd c
+counter-low t facts word by c cells = of (row_of t) c
+  where
+    of : (row : StepRow) → IsCountBy row facts word by → word < words_for cells
+    of (at_counter row) counts = subst (λ z. z < words_for cells) (sym counts.word_is) (place-inside row.counter cells)
+    of (at_cell row) counts = absurd counts

@@ -2,7 +2,8 @@
 use Rattle.std.specs.Prelude.{◌≡◌, Bool, false}
 use Rattle.cqs_rule.specs.declared.config.CancelMode.{CancelMode}
 use Rattle.cqs_rule.specs.declared.config.CancelMode.TheVariants.{Smart, Simple}
-use Rattle.cqs_core.specs.QueueSteps.{QueueStep, draws, enters, reaches, begins, puts, installs, takes, serves, leaves, delegates, passes_over, ends_refused, ends_missed, starts_leaving, leaves_line, leaves_at_once, settles, settles_owing, refuses, refuses_value, looks}
+use Rattle.cqs_core.specs.QueueSteps as maker
+use Rattle.cqs_core.specs.QueueSteps.{QueueStep, Makers, card_of}
 
 -- How a wait leaves: its client is asked, in steps of its own; or resumes pass on in any case; or
 -- at once, and the resume that comes ends there.
@@ -62,26 +63,17 @@ HasElements owed = ⊥
 HasElements owed_further = ⊥
 HasElements elements = Unit {0}
 
+-- a client of this manner is one of these
+abbrev pub IsOneOf : Manner → Makers → Type 0
+IsOneOf m maker.each_client = Unit {0}
+IsOneOf m maker.without_door = m.has_door ≡ false
+IsOneOf m maker.with_debts = OwesFurther m.source
+IsOneOf m maker.with_elements = HasElements m.source
+IsOneOf m maker.in_smart_mode = IsSmart m.leaving
+IsOneOf m maker.who_ask = Asks m.leaving
+IsOneOf m maker.who_pass_on = PassesOn m.leaving
+IsOneOf m maker.who_leave_at_once = IsAtOnce m.leaving
+
 -- the steps that a client of this manner makes
 abbrev pub Suits : Manner → QueueStep → Type 0
-Suits m draws = Unit {0}
-Suits m enters = m.has_door ≡ false
-Suits m reaches = Unit {0}
-Suits m begins = OwesFurther m.source
-Suits m puts = HasElements m.source
-Suits m installs = Unit {0}
-Suits m takes = Unit {0}
-Suits m serves = Unit {0}
-Suits m leaves = Unit {0}
-Suits m delegates = IsSmart m.leaving
-Suits m passes_over = IsSmart m.leaving
-Suits m ends_refused = IsSmart m.leaving
-Suits m ends_missed = IsAtOnce m.leaving
-Suits m starts_leaving = Asks m.leaving
-Suits m leaves_line = PassesOn m.leaving
-Suits m leaves_at_once = IsAtOnce m.leaving
-Suits m settles = IsSmart m.leaving
-Suits m settles_owing = IsSmart m.leaving
-Suits m refuses = Asks m.leaving
-Suits m refuses_value = Asks m.leaving
-Suits m (looks e) = Unit {0}
+Suits m s = IsOneOf m (card_of s).makers

@@ -7,7 +7,8 @@ use Rattle.cqs_core.specs.declared.doings.Doing.TheVariants as doing
 use Rattle.cqs_core.specs.QueueMoves as move
 use Rattle.cqs_core.specs.QueueMoves.{Works, move_queue}
 use Rattle.cqs_core.specs.QueueOpening.{opened_queue}
-use Rattle.cqs_core.specs.QueueSteps.{pends, grants, late, QueueStep, draws, enters, reaches, begins, puts, installs, takes, serves, leaves, delegates, passes_over, ends_refused, ends_missed, starts_leaving, leaves_line, leaves_at_once, settles, settles_owing, refuses, refuses_value, looks, StepRow, at_counter, at_cell, Cost, no_cost, one_owed, one_element, row_of, IsOpenStep, queue_after}
+use Rattle.cqs_core.specs.QueueSteps as step
+use Rattle.cqs_core.specs.QueueSteps.{QueueStep, StepRow, at_counter, at_cell, Cost, no_cost, one_owed, one_element, row_of, IsOpenStep, queue_after}
 use Rattle.cqs_barrier_object.specs.declared.entries.BarrierEntry.{BarrierEntry}
 use Rattle.cqs_barrier_object.specs.declared.entries.BarrierEntry.TheVariants as entry
 use Rattle.cqs_barrier_object.specs.BarrierShown.{Shape, IsBarrier}
@@ -15,27 +16,27 @@ use Rattle.cqs_barrier_object.specs.BarrierShown.{Shape, IsBarrier}
 -- Its passes come to the door by a step on the remaining number; the last owes several resumptions,
 -- and begins each by drawing its number; a wait leaves as the remaining number says.
 abbrev pub IsBarrierStep : QueueStep → Type 0
-IsBarrierStep draws = Unit {0}
-IsBarrierStep enters = ⊥
-IsBarrierStep reaches = Unit {0}
-IsBarrierStep begins = Unit {0}
-IsBarrierStep puts = ⊥
-IsBarrierStep installs = Unit {0}
-IsBarrierStep takes = Unit {0}
-IsBarrierStep serves = Unit {0}
-IsBarrierStep leaves = Unit {0}
-IsBarrierStep delegates = Unit {0}
-IsBarrierStep passes_over = Unit {0}
-IsBarrierStep ends_refused = Unit {0}
-IsBarrierStep ends_missed = ⊥
-IsBarrierStep starts_leaving = Unit {0}
-IsBarrierStep leaves_line = ⊥
-IsBarrierStep leaves_at_once = ⊥
-IsBarrierStep settles = Unit {0}
-IsBarrierStep settles_owing = Unit {0}
-IsBarrierStep refuses = Unit {0}
-IsBarrierStep refuses_value = Unit {0}
-IsBarrierStep (looks e) = Unit {0}
+IsBarrierStep step.draws = Unit {0}
+IsBarrierStep step.enters = ⊥
+IsBarrierStep step.reaches = Unit {0}
+IsBarrierStep step.begins = Unit {0}
+IsBarrierStep step.puts = ⊥
+IsBarrierStep step.installs = Unit {0}
+IsBarrierStep step.takes = Unit {0}
+IsBarrierStep step.serves = Unit {0}
+IsBarrierStep step.leaves = Unit {0}
+IsBarrierStep step.delegates = Unit {0}
+IsBarrierStep step.passes_over = Unit {0}
+IsBarrierStep step.ends_refused = Unit {0}
+IsBarrierStep step.ends_missed = ⊥
+IsBarrierStep step.starts_leaving = Unit {0}
+IsBarrierStep step.leaves_line = ⊥
+IsBarrierStep step.leaves_at_once = ⊥
+IsBarrierStep step.settles = Unit {0}
+IsBarrierStep step.settles_owing = Unit {0}
+IsBarrierStep step.refuses = Unit {0}
+IsBarrierStep step.refuses_value = Unit {0}
+IsBarrierStep (step.looks e) = Unit {0}
 
 -- what no history has: a party that is the last arrives, and another one after it
 abbrev pub never : ℕ → List BarrierEntry
@@ -44,29 +45,29 @@ never p = entry.ArriveLast p ∷ entry.ArriveLast p ∷ []
 -- The entries of a step of the pass p at the number k. One that withdraws never finds that a value
 -- was left to it, and so the entries of that step are such as no history has.
 abbrev pub step_entries : QueueStep → ℕ → ℕ → List BarrierEntry
-step_entries draws p k = entry.Enter p k ∷ []
-step_entries enters p k = []
-step_entries reaches p k = []
-step_entries begins p k = []
-step_entries puts p k = []
-step_entries installs p k = []
-step_entries takes p k = entry.Deliver k ∷ []
-step_entries serves p k = entry.Deliver k ∷ []
-step_entries leaves p k = []
-step_entries delegates p k = []
-step_entries passes_over p k = []
-step_entries ends_refused p k = []
-step_entries ends_missed p k = []
-step_entries starts_leaving p k = []
-step_entries leaves_line p k = []
-step_entries leaves_at_once p k = []
-step_entries settles p k = []
-step_entries settles_owing p k = never p
-step_entries refuses p k = []
-step_entries refuses_value p k = []
-step_entries (looks pends) p k = entry.LookPending p k ∷ []
-step_entries (looks grants) p k = entry.LookGranted p k ∷ []
-step_entries (looks late) p k = entry.Late p k ∷ []
+step_entries step.draws p k = entry.Enter p k ∷ []
+step_entries step.enters p k = []
+step_entries step.reaches p k = []
+step_entries step.begins p k = []
+step_entries step.puts p k = []
+step_entries step.installs p k = []
+step_entries step.takes p k = entry.Deliver k ∷ []
+step_entries step.serves p k = entry.Deliver k ∷ []
+step_entries step.leaves p k = []
+step_entries step.delegates p k = []
+step_entries step.passes_over p k = []
+step_entries step.ends_refused p k = []
+step_entries step.ends_missed p k = []
+step_entries step.starts_leaving p k = []
+step_entries step.leaves_line p k = []
+step_entries step.leaves_at_once p k = []
+step_entries step.settles p k = []
+step_entries step.settles_owing p k = never p
+step_entries step.refuses p k = []
+step_entries step.refuses_value p k = []
+step_entries (step.looks step.pends) p k = entry.LookPending p k ∷ []
+step_entries (step.looks step.grants) p k = entry.LookGranted p k ∷ []
+step_entries (step.looks step.late) p k = entry.Late p k ∷ []
 
 -- what p owes further pays for the resumption that it begins
 abbrev pub IsPaid : Cost → List ℕ → ℕ → Type 0

@@ -4,60 +4,61 @@ use Rattle.std.specs.Prelude.{ℕ, ◌+◌, ◌<◌, List, [], ◌∷◌, ◌++�
 use Rattle.cqs_core.specs.declared.cells.CoreCell.{CoreCell}
 use Rattle.cqs_core.specs.declared.entries.Entry.{Entry}
 use Rattle.cqs_core.specs.declared.entries.Entry.TheVariants as entry
-use Rattle.cqs_core.specs.QueueSteps.{pends, grants, late, QueueStep, draws, enters, reaches, begins, puts, installs, takes, serves, leaves, delegates, passes_over, ends_refused, ends_missed, starts_leaving, leaves_line, leaves_at_once, settles, settles_owing, refuses, refuses_value, looks, Gain, nothing, its_own, a_debt, StepRow, at_counter, at_cell, row_of, IsOpenStep, queue_after}
+use Rattle.cqs_core.specs.QueueSteps as step
+use Rattle.cqs_core.specs.QueueSteps.{QueueStep, Gain, nothing, its_own, a_debt, StepRow, at_counter, at_cell, row_of, IsOpenStep, queue_after}
 use Rattle.cqs_core.specs.SemaphoreShown.{IsCore}
 use Rattle.cqs_core.specs.SemaphoreTable.{Shape, last_number}
 
 -- Its passes come to the door and owe one resumption by steps on its state; a wait leaves as the
 -- state's old value answers.
 abbrev pub IsSemaphoreStep : QueueStep → Type 0
-IsSemaphoreStep draws = Unit {0}
-IsSemaphoreStep enters = ⊥
-IsSemaphoreStep reaches = Unit {0}
-IsSemaphoreStep begins = ⊥
-IsSemaphoreStep puts = ⊥
-IsSemaphoreStep installs = Unit {0}
-IsSemaphoreStep takes = Unit {0}
-IsSemaphoreStep serves = Unit {0}
-IsSemaphoreStep leaves = Unit {0}
-IsSemaphoreStep delegates = Unit {0}
-IsSemaphoreStep passes_over = Unit {0}
-IsSemaphoreStep ends_refused = Unit {0}
-IsSemaphoreStep ends_missed = ⊥
-IsSemaphoreStep starts_leaving = Unit {0}
-IsSemaphoreStep leaves_line = ⊥
-IsSemaphoreStep leaves_at_once = ⊥
-IsSemaphoreStep settles = Unit {0}
-IsSemaphoreStep settles_owing = Unit {0}
-IsSemaphoreStep refuses = Unit {0}
-IsSemaphoreStep refuses_value = Unit {0}
-IsSemaphoreStep (looks e) = Unit {0}
+IsSemaphoreStep step.draws = Unit {0}
+IsSemaphoreStep step.enters = ⊥
+IsSemaphoreStep step.reaches = Unit {0}
+IsSemaphoreStep step.begins = ⊥
+IsSemaphoreStep step.puts = ⊥
+IsSemaphoreStep step.installs = Unit {0}
+IsSemaphoreStep step.takes = Unit {0}
+IsSemaphoreStep step.serves = Unit {0}
+IsSemaphoreStep step.leaves = Unit {0}
+IsSemaphoreStep step.delegates = Unit {0}
+IsSemaphoreStep step.passes_over = Unit {0}
+IsSemaphoreStep step.ends_refused = Unit {0}
+IsSemaphoreStep step.ends_missed = ⊥
+IsSemaphoreStep step.starts_leaving = Unit {0}
+IsSemaphoreStep step.leaves_line = ⊥
+IsSemaphoreStep step.leaves_at_once = ⊥
+IsSemaphoreStep step.settles = Unit {0}
+IsSemaphoreStep step.settles_owing = Unit {0}
+IsSemaphoreStep step.refuses = Unit {0}
+IsSemaphoreStep step.refuses_value = Unit {0}
+IsSemaphoreStep (step.looks e) = Unit {0}
 
 -- the entries of a step of the pass p at the number k
 abbrev pub step_entries : QueueStep → ℕ → ℕ → List Entry
-step_entries draws p k = entry.Enter p k ∷ []
-step_entries enters p k = []
-step_entries reaches p k = []
-step_entries begins p k = []
-step_entries puts p k = []
-step_entries installs p k = []
-step_entries takes p k = entry.Deliver k ∷ []
-step_entries serves p k = entry.Deliver k ∷ []
-step_entries leaves p k = []
-step_entries delegates p k = []
-step_entries passes_over p k = []
-step_entries ends_refused p k = []
-step_entries ends_missed p k = []
-step_entries starts_leaving p k = []
-step_entries leaves_line p k = []
-step_entries leaves_at_once p k = []
-step_entries settles p k = []
-step_entries settles_owing p k = []
-step_entries refuses p k = []
-step_entries refuses_value p k = []
-step_entries (looks pends) p k = entry.LookPending p k ∷ []
-step_entries (looks grants) p k = entry.LookGranted p k ∷ []
-step_entries (looks late) p k = entry.Late p k ∷ []
+step_entries step.draws p k = entry.Enter p k ∷ []
+step_entries step.enters p k = []
+step_entries step.reaches p k = []
+step_entries step.begins p k = []
+step_entries step.puts p k = []
+step_entries step.installs p k = []
+step_entries step.takes p k = entry.Deliver k ∷ []
+step_entries step.serves p k = entry.Deliver k ∷ []
+step_entries step.leaves p k = []
+step_entries step.delegates p k = []
+step_entries step.passes_over p k = []
+step_entries step.ends_refused p k = []
+step_entries step.ends_missed p k = []
+step_entries step.starts_leaving p k = []
+step_entries step.leaves_line p k = []
+step_entries step.leaves_at_once p k = []
+step_entries step.settles p k = []
+step_entries step.settles_owing p k = []
+step_entries step.refuses p k = []
+step_entries step.refuses_value p k = []
+step_entries (step.looks step.pends) p k = entry.LookPending p k ∷ []
+step_entries (step.looks step.grants) p k = entry.LookGranted p k ∷ []
+step_entries (step.looks step.late) p k = entry.Late p k ∷ []
 
 -- a pass that gets what it waited for holds one permit more
 abbrev pub held_by : Gain → List ℕ → ℕ → List ℕ

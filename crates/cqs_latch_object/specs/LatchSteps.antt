@@ -2,7 +2,8 @@
 -- what they make of it.
 use Rattle.std.specs.Prelude.{◌≡◌, ℕ, ◌-◌, ◌<◌, Bool, true, false, List, [], ◌∷◌, ◌++◌, Option, slice_index, slice_set}
 use Rattle.cqs_core.specs.declared.cells.CoreCell.{CoreCell}
-use Rattle.cqs_core.specs.QueueSteps.{pends, grants, late, QueueStep, draws, enters, reaches, begins, puts, installs, takes, serves, leaves, delegates, passes_over, ends_refused, ends_missed, starts_leaving, leaves_line, leaves_at_once, settles, settles_owing, refuses, refuses_value, looks, Cost, no_cost, one_owed, one_element, StepRow, at_counter, at_cell, row_of, IsOpenStep, queue_after}
+use Rattle.cqs_core.specs.QueueSteps as step
+use Rattle.cqs_core.specs.QueueSteps.{QueueStep, Cost, no_cost, one_owed, one_element, StepRow, at_counter, at_cell, row_of, IsOpenStep, queue_after}
 use Rattle.cqs_latch_object.specs.declared.entries.LatchEntry.{LatchEntry}
 use Rattle.cqs_latch_object.specs.declared.entries.LatchEntry.TheVariants as entry
 use Rattle.cqs_latch_object.specs.LatchShown.{LatchShape, IsLatchCore}
@@ -11,53 +12,53 @@ use Rattle.cqs_latch_object.specs.LatchShown.{LatchShape, IsLatchCore}
 -- they are idle. In smart mode a wait leaves as the waiters' old word answers, and resumes pass
 -- over its cell. In simple mode it leaves at once, and a resume ends at its cell.
 abbrev pub IsLatchStep : Bool → QueueStep → Type 0
-IsLatchStep simple draws = Unit {0}
-IsLatchStep simple enters = ⊥
-IsLatchStep simple reaches = Unit {0}
-IsLatchStep simple begins = Unit {0}
-IsLatchStep simple puts = ⊥
-IsLatchStep simple installs = Unit {0}
-IsLatchStep simple takes = Unit {0}
-IsLatchStep simple serves = Unit {0}
-IsLatchStep simple leaves = Unit {0}
-IsLatchStep simple delegates = simple ≡ false
-IsLatchStep simple passes_over = simple ≡ false
-IsLatchStep simple ends_refused = simple ≡ false
-IsLatchStep simple ends_missed = simple ≡ true
-IsLatchStep simple starts_leaving = simple ≡ false
-IsLatchStep simple leaves_line = ⊥
-IsLatchStep simple leaves_at_once = simple ≡ true
-IsLatchStep simple settles = simple ≡ false
-IsLatchStep simple settles_owing = simple ≡ false
-IsLatchStep simple refuses = simple ≡ false
-IsLatchStep simple refuses_value = simple ≡ false
-IsLatchStep simple (looks e) = Unit {0}
+IsLatchStep simple step.draws = Unit {0}
+IsLatchStep simple step.enters = ⊥
+IsLatchStep simple step.reaches = Unit {0}
+IsLatchStep simple step.begins = Unit {0}
+IsLatchStep simple step.puts = ⊥
+IsLatchStep simple step.installs = Unit {0}
+IsLatchStep simple step.takes = Unit {0}
+IsLatchStep simple step.serves = Unit {0}
+IsLatchStep simple step.leaves = Unit {0}
+IsLatchStep simple step.delegates = simple ≡ false
+IsLatchStep simple step.passes_over = simple ≡ false
+IsLatchStep simple step.ends_refused = simple ≡ false
+IsLatchStep simple step.ends_missed = simple ≡ true
+IsLatchStep simple step.starts_leaving = simple ≡ false
+IsLatchStep simple step.leaves_line = ⊥
+IsLatchStep simple step.leaves_at_once = simple ≡ true
+IsLatchStep simple step.settles = simple ≡ false
+IsLatchStep simple step.settles_owing = simple ≡ false
+IsLatchStep simple step.refuses = simple ≡ false
+IsLatchStep simple step.refuses_value = simple ≡ false
+IsLatchStep simple (step.looks e) = Unit {0}
 
 -- the entries of a step of the pass p at the number k
 abbrev pub step_entries : QueueStep → ℕ → ℕ → List LatchEntry
-step_entries draws p k = entry.Enter p k ∷ []
-step_entries enters p k = []
-step_entries reaches p k = []
-step_entries begins p k = []
-step_entries puts p k = []
-step_entries installs p k = []
-step_entries takes p k = entry.Deliver k ∷ []
-step_entries serves p k = entry.Deliver k ∷ []
-step_entries leaves p k = []
-step_entries delegates p k = []
-step_entries passes_over p k = []
-step_entries ends_refused p k = []
-step_entries ends_missed p k = entry.Miss k ∷ []
-step_entries starts_leaving p k = []
-step_entries leaves_line p k = []
-step_entries leaves_at_once p k = entry.Leave p k ∷ []
-step_entries settles p k = []
-step_entries settles_owing p k = []
-step_entries refuses p k = []
-step_entries refuses_value p k = []
-step_entries (looks pends) p k = entry.LookPending p k ∷ []
-step_entries (looks grants) p k = entry.LookGranted p k ∷ []
-step_entries (looks late) p k = entry.Late p k ∷ []
+step_entries step.draws p k = entry.Enter p k ∷ []
+step_entries step.enters p k = []
+step_entries step.reaches p k = []
+step_entries step.begins p k = []
+step_entries step.puts p k = []
+step_entries step.installs p k = []
+step_entries step.takes p k = entry.Deliver k ∷ []
+step_entries step.serves p k = entry.Deliver k ∷ []
+step_entries step.leaves p k = []
+step_entries step.delegates p k = []
+step_entries step.passes_over p k = []
+step_entries step.ends_refused p k = []
+step_entries step.ends_missed p k = entry.Miss k ∷ []
+step_entries step.starts_leaving p k = []
+step_entries step.leaves_line p k = []
+step_entries step.leaves_at_once p k = entry.Leave p k ∷ []
+step_entries step.settles p k = []
+step_entries step.settles_owing p k = []
+step_entries step.refuses p k = []
+step_entries step.refuses_value p k = []
+step_entries (step.looks step.pends) p k = entry.LookPending p k ∷ []
+step_entries (step.looks step.grants) p k = entry.LookGranted p k ∷ []
+step_entries (step.looks step.late) p k = entry.Late p k ∷ []
 
 abbrev pub cost_of : StepRow → Cost
 cost_of (at_counter row) = row.cost

@@ -3,7 +3,8 @@
 use Rattle.std.specs.Prelude.{◌≡◌, ℕ, List, [], ◌∷◌, ◌++◌, Option, slice_index, slice_index_or, slice_set}
 use Rattle.cqs_core.specs.declared.cells.CoreCell.{CoreCell}
 use Rattle.cqs_core.specs.Numbered.{IsIn}
-use Rattle.cqs_core.specs.QueueSteps.{pends, grants, late, QueueStep, draws, enters, reaches, begins, puts, installs, takes, serves, leaves, delegates, passes_over, ends_refused, ends_missed, starts_leaving, leaves_line, leaves_at_once, settles, settles_owing, refuses, refuses_value, looks, Cost, no_cost, one_owed, one_element, Gain, nothing, its_own, a_debt, payload_told, payloads_after, StepRow, at_counter, at_cell, row_of, queue_after}
+use Rattle.cqs_core.specs.QueueSteps as step
+use Rattle.cqs_core.specs.QueueSteps.{QueueStep, Cost, no_cost, one_owed, one_element, Gain, nothing, its_own, a_debt, payload_told, payloads_after, StepRow, at_counter, at_cell, row_of, queue_after}
 use Rattle.cqs_pool_object.specs.declared.entries.PoolEntry.{PoolEntry}
 use Rattle.cqs_pool_object.specs.declared.entries.PoolEntry.TheVariants as entry
 use Rattle.cqs_pool_object.specs.PoolEntries.{less}
@@ -12,53 +13,53 @@ use Rattle.cqs_pool_object.specs.PoolShown.{PoolShape}
 -- A taker draws its number, by a step from idle, and would from the door; a put draws by a step
 -- from idle. A wait leaves by the exchange itself, and resumes pass over its cell.
 abbrev pub IsPoolStep : QueueStep → Type 0
-IsPoolStep draws = Unit {0}
-IsPoolStep enters = Unit {0}
-IsPoolStep reaches = Unit {0}
-IsPoolStep begins = ⊥
-IsPoolStep puts = Unit {0}
-IsPoolStep installs = Unit {0}
-IsPoolStep takes = Unit {0}
-IsPoolStep serves = Unit {0}
-IsPoolStep leaves = Unit {0}
-IsPoolStep delegates = Unit {0}
-IsPoolStep passes_over = Unit {0}
-IsPoolStep ends_refused = Unit {0}
-IsPoolStep ends_missed = ⊥
-IsPoolStep starts_leaving = ⊥
-IsPoolStep leaves_line = Unit {0}
-IsPoolStep leaves_at_once = ⊥
-IsPoolStep settles = Unit {0}
-IsPoolStep settles_owing = Unit {0}
-IsPoolStep refuses = ⊥
-IsPoolStep refuses_value = ⊥
-IsPoolStep (looks e) = Unit {0}
+IsPoolStep step.draws = Unit {0}
+IsPoolStep step.enters = Unit {0}
+IsPoolStep step.reaches = Unit {0}
+IsPoolStep step.begins = ⊥
+IsPoolStep step.puts = Unit {0}
+IsPoolStep step.installs = Unit {0}
+IsPoolStep step.takes = Unit {0}
+IsPoolStep step.serves = Unit {0}
+IsPoolStep step.leaves = Unit {0}
+IsPoolStep step.delegates = Unit {0}
+IsPoolStep step.passes_over = Unit {0}
+IsPoolStep step.ends_refused = Unit {0}
+IsPoolStep step.ends_missed = ⊥
+IsPoolStep step.starts_leaving = ⊥
+IsPoolStep step.leaves_line = Unit {0}
+IsPoolStep step.leaves_at_once = ⊥
+IsPoolStep step.settles = Unit {0}
+IsPoolStep step.settles_owing = Unit {0}
+IsPoolStep step.refuses = ⊥
+IsPoolStep step.refuses_value = ⊥
+IsPoolStep (step.looks e) = Unit {0}
 
 -- the entries of a step of the pass p at the number k, whose payload is this
 abbrev pub step_entries : QueueStep → ℕ → ℕ → ℕ → List PoolEntry
-step_entries draws p k e = entry.Enter p k ∷ []
-step_entries enters p k e = entry.Enter p k ∷ []
-step_entries reaches p k e = []
-step_entries begins p k e = []
-step_entries puts p k e = entry.Put p e ∷ []
-step_entries installs p k e = []
-step_entries takes p k e = entry.Deliver k e ∷ []
-step_entries serves p k e = entry.Deliver k e ∷ []
-step_entries leaves p k e = []
-step_entries delegates p k e = []
-step_entries passes_over p k e = []
-step_entries ends_refused p k e = []
-step_entries ends_missed p k e = []
-step_entries starts_leaving p k e = []
-step_entries leaves_line p k e = entry.Leave p k ∷ []
-step_entries leaves_at_once p k e = []
-step_entries settles p k e = []
-step_entries settles_owing p k e = []
-step_entries refuses p k e = []
-step_entries refuses_value p k e = []
-step_entries (looks pends) p k e = entry.LookPending p k ∷ []
-step_entries (looks grants) p k e = entry.LookGranted p k e ∷ []
-step_entries (looks late) p k e = entry.Late p k e ∷ []
+step_entries step.draws p k e = entry.Enter p k ∷ []
+step_entries step.enters p k e = entry.Enter p k ∷ []
+step_entries step.reaches p k e = []
+step_entries step.begins p k e = []
+step_entries step.puts p k e = entry.Put p e ∷ []
+step_entries step.installs p k e = []
+step_entries step.takes p k e = entry.Deliver k e ∷ []
+step_entries step.serves p k e = entry.Deliver k e ∷ []
+step_entries step.leaves p k e = []
+step_entries step.delegates p k e = []
+step_entries step.passes_over p k e = []
+step_entries step.ends_refused p k e = []
+step_entries step.ends_missed p k e = []
+step_entries step.starts_leaving p k e = []
+step_entries step.leaves_line p k e = entry.Leave p k ∷ []
+step_entries step.leaves_at_once p k e = []
+step_entries step.settles p k e = []
+step_entries step.settles_owing p k e = []
+step_entries step.refuses p k e = []
+step_entries step.refuses_value p k e = []
+step_entries (step.looks step.pends) p k e = entry.LookPending p k ∷ []
+step_entries (step.looks step.grants) p k e = entry.LookGranted p k e ∷ []
+step_entries (step.looks step.late) p k e = entry.Late p k e ∷ []
 
 -- the elements that a pass has in hand
 abbrev pub hold_of : List (List ℕ) → ℕ → List ℕ

@@ -12,7 +12,8 @@ use Rattle.std.specs.Option.{option_map}
 use Rattle.std.proofs.lemmas.Int.{ints}
 use Rattle.cqs_core.specs.declared.cells.CoreCell.{CoreCell}
 use Rattle.cqs_core.specs.declared.entries.Entry.{Entry}
-use Rattle.cqs_core.specs.QueueSteps.{QueueStep, draws, enters, reaches, begins, puts, installs, takes, serves, leaves, delegates, passes_over, ends_refused, ends_missed, starts_leaving, leaves_line, leaves_at_once, settles, settles_owing, refuses, refuses_value, looks, pends, grants, late, row_of, StepRow, at_counter, at_cell, Gain, nothing, its_own, a_debt, Cost, no_cost, one_owed, one_element, IsOpenStep}
+use Rattle.cqs_core.specs.QueueSteps as step
+use Rattle.cqs_core.specs.QueueSteps.{QueueStep, row_of, StepRow, at_counter, at_cell, Gain, nothing, its_own, a_debt, Cost, no_cost, one_owed, one_element, IsOpenStep}
 use Rattle.cqs_core.specs.SemaphoreNames.{entry_names}
 use Rattle.cqs_core.specs.SemaphoreSteps.{IsSemaphoreStep, step_entries, shape_after, held_by, gain_of}
 use Rattle.cqs_core.proofs.SemaphoreSteps.{step-core}
@@ -34,29 +35,29 @@ use Rattle.cqs_rule.specs.Views.{first_has}
 use Rattle.cqs_words.specs.State.{state_word, count_in}
 
 silent-step : (s : QueueStep) (p k payload : ℕ) → NamesOnly entry_names p (step_entries s p k)
-silent-step draws p k payload n apart = rw (ne_eqb p n (λ q. apart (sym q))) refl
-silent-step enters p k payload n apart = refl
-silent-step reaches p k payload n apart = refl
-silent-step begins p k payload n apart = refl
-silent-step puts p k payload n apart = refl
-silent-step installs p k payload n apart = refl
-silent-step takes p k payload n apart = refl
-silent-step serves p k payload n apart = refl
-silent-step leaves p k payload n apart = refl
-silent-step delegates p k payload n apart = refl
-silent-step passes_over p k payload n apart = refl
-silent-step ends_refused p k payload n apart = refl
-silent-step ends_missed p k payload n apart = refl
-silent-step starts_leaving p k payload n apart = refl
-silent-step leaves_line p k payload n apart = refl
-silent-step leaves_at_once p k payload n apart = refl
-silent-step settles p k payload n apart = refl
-silent-step settles_owing p k payload n apart = refl
-silent-step refuses p k payload n apart = refl
-silent-step refuses_value p k payload n apart = refl
-silent-step (looks pends) p k payload n apart = rw (ne_eqb p n (λ q. apart (sym q))) refl
-silent-step (looks grants) p k payload n apart = rw (ne_eqb p n (λ q. apart (sym q))) refl
-silent-step (looks late) p k payload n apart = rw (ne_eqb p n (λ q. apart (sym q))) refl
+silent-step step.draws p k payload n apart = rw (ne_eqb p n (λ q. apart (sym q))) refl
+silent-step step.enters p k payload n apart = refl
+silent-step step.reaches p k payload n apart = refl
+silent-step step.begins p k payload n apart = refl
+silent-step step.puts p k payload n apart = refl
+silent-step step.installs p k payload n apart = refl
+silent-step step.takes p k payload n apart = refl
+silent-step step.serves p k payload n apart = refl
+silent-step step.leaves p k payload n apart = refl
+silent-step step.delegates p k payload n apart = refl
+silent-step step.passes_over p k payload n apart = refl
+silent-step step.ends_refused p k payload n apart = refl
+silent-step step.ends_missed p k payload n apart = refl
+silent-step step.starts_leaving p k payload n apart = refl
+silent-step step.leaves_line p k payload n apart = refl
+silent-step step.leaves_at_once p k payload n apart = refl
+silent-step step.settles p k payload n apart = refl
+silent-step step.settles_owing p k payload n apart = refl
+silent-step step.refuses p k payload n apart = refl
+silent-step step.refuses_value p k payload n apart = refl
+silent-step (step.looks step.pends) p k payload n apart = rw (ne_eqb p n (λ q. apart (sym q))) refl
+silent-step (step.looks step.grants) p k payload n apart = rw (ne_eqb p n (λ q. apart (sym q))) refl
+silent-step (step.looks step.late) p k payload n apart = rw (ne_eqb p n (λ q. apart (sym q))) refl
 
 -- how much the pass holds that has this
 pub held-at : (l : List Has) (p : ℕ) (has : Has) → slice_get l p ≡ Some has
@@ -101,30 +102,30 @@ held-after (at_cell row) l p payload has there = gained row.gain
 
 -- the steps that suit a semaphore are those that keep its core
 suiting : (t : QueueStep) → Suits semaphore_manner t → IsSemaphoreStep t
-suiting draws suits = tt
-suiting enters suits = absurd (door-drawn suits)
+suiting step.draws suits = tt
+suiting step.enters suits = absurd (door-drawn suits)
   where
     door-drawn : true ≡ false → ⊥
     door-drawn q = cc
-suiting reaches suits = tt
-suiting begins suits = suits
-suiting puts suits = suits
-suiting installs suits = tt
-suiting takes suits = tt
-suiting serves suits = tt
-suiting leaves suits = tt
-suiting delegates suits = tt
-suiting passes_over suits = tt
-suiting ends_refused suits = tt
-suiting ends_missed suits = suits
-suiting starts_leaving suits = tt
-suiting leaves_line suits = suits
-suiting leaves_at_once suits = suits
-suiting settles suits = tt
-suiting settles_owing suits = tt
-suiting refuses suits = tt
-suiting refuses_value suits = tt
-suiting (looks e) suits = tt
+suiting step.reaches suits = tt
+suiting step.begins suits = suits
+suiting step.puts suits = suits
+suiting step.installs suits = tt
+suiting step.takes suits = tt
+suiting step.serves suits = tt
+suiting step.leaves suits = tt
+suiting step.delegates suits = tt
+suiting step.passes_over suits = tt
+suiting step.ends_refused suits = tt
+suiting step.ends_missed suits = suits
+suiting step.starts_leaving suits = tt
+suiting step.leaves_line suits = suits
+suiting step.leaves_at_once suits = suits
+suiting step.settles suits = tt
+suiting step.settles_owing suits = tt
+suiting step.refuses suits = tt
+suiting step.refuses_value suits = tt
+suiting (step.looks e) suits = tt
 
 -- each of them is an event of the core, or none
 steps-core : (permits : ℕ) (c : Hidden) (t : QueueStep) (p k : ℕ) (found : Option CoreCell)

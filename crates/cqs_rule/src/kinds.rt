@@ -1,25 +1,7 @@
 //! The steps of the queue itself that draw a number or make an exchange, as type parameters of the
 //! calls that make them.
 
-ghost use Rattle.cqs_core.specs.QueueSteps.{
-  draws,
-  enters,
-  reaches,
-  begins,
-  puts,
-  installs,
-  takes,
-  serves,
-  leaves,
-  delegates,
-  starts_leaving,
-  leaves_line,
-  leaves_at_once,
-  settles,
-  settles_owing,
-  refuses,
-  refuses_value,
-};
+ghost use Rattle.cqs_core.specs.QueueSteps as steps;
 
 use crate::client::ClientWords;
 
@@ -55,7 +37,7 @@ pub trait Kind {
 pub struct Draws;
 
 impl Kind for Draws {
-    ghost step = { draws };
+    ghost step = { steps.draws };
 
     fn held_after<C: ClientWords>(held: u32) -> u32 {
         held
@@ -78,7 +60,7 @@ impl Kind for Draws {
 pub struct Enters;
 
 impl Kind for Enters {
-    ghost step = { enters };
+    ghost step = { steps.enters };
 
     fn held_after<C: ClientWords>(held: u32) -> u32 {
         held
@@ -101,7 +83,7 @@ impl Kind for Enters {
 pub struct Reaches;
 
 impl Kind for Reaches {
-    ghost step = { reaches };
+    ghost step = { steps.reaches };
 
     fn held_after<C: ClientWords>(held: u32) -> u32 {
         held
@@ -125,7 +107,7 @@ impl Kind for Reaches {
 pub struct Begins;
 
 impl Kind for Begins {
-    ghost step = { begins };
+    ghost step = { steps.begins };
 
     fn held_after<C: ClientWords>(held: u32) -> u32 {
         held
@@ -148,7 +130,7 @@ impl Kind for Begins {
 pub struct Installs;
 
 impl Kind for Installs {
-    ghost step = { installs };
+    ghost step = { steps.installs };
 
     fn held_after<C: ClientWords>(held: u32) -> u32 {
         held
@@ -171,7 +153,7 @@ impl Kind for Installs {
 pub struct Takes;
 
 impl Kind for Takes {
-    ghost step = { takes };
+    ghost step = { steps.takes };
 
     fn held_after<C: ClientWords>(held: u32) -> u32 {
         C::held_after_take(held)
@@ -194,7 +176,7 @@ impl Kind for Takes {
 pub struct Serves;
 
 impl Kind for Serves {
-    ghost step = { serves };
+    ghost step = { steps.serves };
 
     fn held_after<C: ClientWords>(held: u32) -> u32 {
         held
@@ -217,7 +199,7 @@ impl Kind for Serves {
 pub struct Leaves;
 
 impl Kind for Leaves {
-    ghost step = { leaves };
+    ghost step = { steps.leaves };
 
     fn held_after<C: ClientWords>(held: u32) -> u32 {
         held
@@ -240,7 +222,7 @@ impl Kind for Leaves {
 pub struct Delegates;
 
 impl Kind for Delegates {
-    ghost step = { delegates };
+    ghost step = { steps.delegates };
 
     fn held_after<C: ClientWords>(held: u32) -> u32 {
         held
@@ -263,7 +245,7 @@ impl Kind for Delegates {
 pub struct StartsLeaving;
 
 impl Kind for StartsLeaving {
-    ghost step = { starts_leaving };
+    ghost step = { steps.starts_leaving };
 
     fn held_after<C: ClientWords>(held: u32) -> u32 {
         held
@@ -286,7 +268,7 @@ impl Kind for StartsLeaving {
 pub struct LeavesLine;
 
 impl Kind for LeavesLine {
-    ghost step = { leaves_line };
+    ghost step = { steps.leaves_line };
 
     fn held_after<C: ClientWords>(held: u32) -> u32 {
         held
@@ -309,7 +291,7 @@ impl Kind for LeavesLine {
 pub struct LeavesAtOnce;
 
 impl Kind for LeavesAtOnce {
-    ghost step = { leaves_at_once };
+    ghost step = { steps.leaves_at_once };
 
     fn held_after<C: ClientWords>(held: u32) -> u32 {
         held
@@ -332,7 +314,7 @@ impl Kind for LeavesAtOnce {
 pub struct Settles;
 
 impl Kind for Settles {
-    ghost step = { settles };
+    ghost step = { steps.settles };
 
     fn held_after<C: ClientWords>(held: u32) -> u32 {
         held
@@ -355,7 +337,7 @@ impl Kind for Settles {
 pub struct SettlesOwing;
 
 impl Kind for SettlesOwing {
-    ghost step = { settles_owing };
+    ghost step = { steps.settles_owing };
 
     fn held_after<C: ClientWords>(held: u32) -> u32 {
         held
@@ -378,7 +360,7 @@ impl Kind for SettlesOwing {
 pub struct Refuses;
 
 impl Kind for Refuses {
-    ghost step = { refuses };
+    ghost step = { steps.refuses };
 
     fn held_after<C: ClientWords>(held: u32) -> u32 {
         held
@@ -401,7 +383,7 @@ impl Kind for Refuses {
 pub struct RefusesValue;
 
 impl Kind for RefusesValue {
-    ghost step = { refuses_value };
+    ghost step = { steps.refuses_value };
 
     fn held_after<C: ClientWords>(held: u32) -> u32 {
         held

@@ -22,7 +22,9 @@ use Rattle.cqs_core.specs.QueueOpening.{value_cell}
 use Rattle.cqs_core.specs.QueueSound.{IsSound, IsSoundAt, IsUninstalled, IsLeft, IsOwn, IsUntaken}
 use Rattle.cqs_core.specs.QueueStages.{doing_at}
 use Rattle.cqs_core.specs.QueueState.{Queue, owner_doing, fresh_cell}
-use Rattle.cqs_core.specs.QueueSteps.{pends, grants, late, QueueStep, draws, enters, reaches, begins, puts, installs, takes, serves, leaves, delegates, passes_over, ends_refused, ends_missed, starts_leaving, leaves_line, leaves_at_once, settles, settles_owing, refuses, refuses_value, looks, row_of, StepRow, CellRow, at_cell, at_counter, wait_stays, nothing, IsOpenStep, cell_after, row_after, queue_after, payloads_after}
+use Rattle.cqs_core.specs.QueueSteps as step
+use Rattle.cqs_core.specs.QueueSteps.{QueueStep, row_of, StepRow, CellRow, at_cell, at_counter, wait_stays, nothing, IsOpenStep, cell_after, row_after, queue_after, payloads_after}
+use Rattle.cqs_core.proofs.OpenRows.{WhereOpen, where-open}
 use Rattle.cqs_core.proofs.Counts.{bit}
 use Rattle.cqs_core.proofs.EachAtLemmas.{EachAt-write, EachAt-push}
 use Rattle.cqs_core.proofs.Picked.{AgreeBut, picked-behind, picked-push}
@@ -446,19 +448,19 @@ module _ (s : PoolShape) (p k e : ℕ) (is : IsPool s) (was : IsInOrder s) where
   at-one d does busy one others = busy-one s.queue.doing p one d others does busy
 
   -- each step
-  steps-order : (step : QueueStep) (found : Option CoreCell) → IsPoolStep step → IsOpenStep s.queue step p k found
-      → IsPayload (row_of step) s p k e → IsInOrder (shape_after s step p k found e)
-  steps-order draws found may w paid =
-      order-of draws found (λ one by others. named-one p one (entry.Enter p k) (eq-eqb p p refl) by)
+  orders : (t : QueueStep) → IsPoolStep t → IsPayload (row_of t) s p k e
+      → WhereOpen s.queue p k (λ found. IsInOrder (shape_after s t p k found e)) (row_of t)
+  orders step.draws may paid = λ found w.
+      order-of step.draws found (λ one by others. named-one p one (entry.Enter p k) (eq-eqb p p refl) by)
       (drawn-order found doing.Door w.0 refl w.1 w.2)
-  steps-order enters found may w paid =
-      order-of enters found (λ one by others. named-one p one (entry.Enter p k) (eq-eqb p p refl) by)
+  orders step.enters may paid = λ found w.
+      order-of step.enters found (λ one by others. named-one p one (entry.Enter p k) (eq-eqb p p refl) by)
       (drawn-order found doing.Idle w.0 refl w.1 w.2)
-  steps-order reaches found may w paid =
-      order-of reaches found (λ one by others. at-one doing.Owes w.0 (λ e. absurd (cc)) one others)
+  orders step.reaches may paid = λ found w.
+      order-of step.reaches found (λ one by others. at-one doing.Owes w.0 (λ e. absurd (cc)) one others)
       (λ before. reached-order found doing.Owes s.loads o.way w.0 w.1 (way-at doing.Owes w.0 before) before)
-  steps-order puts found may w paid =
-      order-of puts found (λ one by others. named-one p one (entry.Put p e) (eq-eqb p p refl) by)
+  orders step.puts may paid = λ found w.
+      order-of step.puts found (λ one by others. named-one p one (entry.Put p e) (eq-eqb p p refl) by)
       (λ before.
       let below : p < length s.loads =
       let there = get-below s.queue.doing p doing.Idle w.0 in omega (arith, is.loaders) in
@@ -466,12 +468,13 @@ module _ (s : PoolShape) (p k e : ℕ) (is : IsPool s) (was : IsInOrder s) where
       let ways : o.way ≡ elements_left s.queue s.payloads = way-at doing.Idle w.0 before ∙ append-nil _ in
       reached-order found doing.Idle (set s.loads p e) (o.way ++ e ∷ []) w.0 w.1
       (λ i. ways i ++ sym loaded i ∷ []) before)
-  steps-order installs (Some found) may w paid =
-      order-of installs (Some found) (λ one by others. at-one (doing.Drawn k) w.0.does (λ e. absurd (cc)) one others)
-      (kept-order (row_at installs) found o.way refl w.0 (λ x. absurd (cc)) (ap is_left w.0.at)
+  orders step.installs may paid = λ found w.
+      order-of step.installs (Some found)
+      (λ one by others. at-one (doing.Drawn k) w.0.does (λ e. absurd (cc)) one others)
+      (kept-order (row_at step.installs) found o.way refl w.0 (λ x. absurd (cc)) (ap is_left w.0.at)
       (λ j x. absurd (cc)) refl refl)
-  steps-order takes (Some found) may w paid =
-      order-of takes (Some found) (λ one by others. at-one (doing.Drawn k) w.0.does (λ e. absurd (cc)) one others)
+  orders step.takes may paid = λ found w.
+      order-of step.takes (Some found) (λ one by others. at-one (doing.Drawn k) w.0.does (λ e. absurd (cc)) one others)
       (λ before.
       let new : CoreCell = record { state = state.Taken; owner = found.owner; collected = true } in
       let own : IsOwn s.queue p k IsUntaken = is.sound.passes.at p (doing.Drawn k) w.0.does in
@@ -487,10 +490,11 @@ module _ (s : PoolShape) (p k e : ℕ) (is : IsPool s) (was : IsInOrder s) where
       (is.sound.cells.at j cell got) (before.undelegated.at j cell got))) in
       let ways : o.way ≡ s.payloads k ∷ pick_each (element_in s.payloads) 0 (set s.queue.cells k new) =
       way-at (doing.Drawn k) w.0.does before ∙ append-nil _ ∙ first in
-      cell-order (row_at takes) found (less e o.way) w.0 (λ x. absurd (cc)) (λ j x. absurd (cc))
+      cell-order (row_at step.takes) found (less e o.way) w.0 (λ x. absurd (cc)) (λ j x. absurd (cc))
       ((λ i. less (paid i) (ways i)) ∙ less-first (s.payloads k) _ ∙ sym (append-nil _)) before)
-  steps-order serves (Some found) may w paid =
-      order-of serves (Some found) (λ one by others. at-one (doing.Ticket k) w.0.does (λ e. absurd (cc)) one others)
+  orders step.serves may paid = λ found w.
+      order-of step.serves (Some found)
+      (λ one by others. at-one (doing.Ticket k) w.0.does (λ e. absurd (cc)) one others)
       (λ before.
       let left : List ℕ = elements_left s.queue s.payloads in
       let new : CoreCell = record { state = state.Resumed; owner = found.owner; collected = found.collected } in
@@ -501,7 +505,7 @@ module _ (s : PoolShape) (p k e : ℕ) (is : IsPool s) (was : IsInOrder s) where
       picked-kept (element_in s.payloads) (element_in (put_at s.payloads k e)) k (agree-brought s.payloads k e) 0
       s.queue.cells k found new (omega arith) w.0.finds
       (left-none s.payloads k found (rw w.0.at refl)) in
-      cell-order (row_at serves) found (less e o.way) w.0 (λ x. absurd (cc)) (λ j x. absurd (cc))
+      cell-order (row_at step.serves) found (less e o.way) w.0 (λ x. absurd (cc)) (λ j x. absurd (cc))
       (ap (less e) ways ∙ less-last e left once ∙ sym kept ∙ sym (append-nil _)) before)
     where
       once-on_way : (left : List ℕ) → o.way ≡ left ++ e ∷ [] → times e left ≡ 0
@@ -519,8 +523,9 @@ module _ (s : PoolShape) (p k e : ℕ) (is : IsPool s) (was : IsInOrder s) where
               → times e o.way ≡ times e (left ++ e ∷ []) → bit (e == e) ≡ 1 → times e left ≡ 0
           go (inl low) each others pushed here one = let all = each low in omega arith
           go (inr high) each others pushed here one = let all = others high in omega arith
-  steps-order leaves (Some found) may w paid =
-      order-of leaves (Some found) (λ one by others. at-one (doing.Ticket k) w.0.does (λ e. absurd (cc)) one others)
+  orders step.leaves may paid = λ found w.
+      order-of step.leaves (Some found)
+      (λ one by others. at-one (doing.Ticket k) w.0.does (λ e. absurd (cc)) one others)
       (λ before.
       let left : List ℕ = elements_left s.queue s.payloads in
       let new : CoreCell = record { state = state.Value; owner = found.owner; collected = found.collected } in
@@ -535,63 +540,59 @@ module _ (s : PoolShape) (p k e : ℕ) (is : IsPool s) (was : IsInOrder s) where
       left-none s.payloads m cell
       (none-past s.queue is.sound p before.others j cell cell.state (omega arith)
       (is.sound.cells.at j cell got) (before.undelegated.at j cell got))) in
-      cell-order (row_at leaves) found o.way w.0 (λ x. absurd (cc)) (λ j x. absurd (cc))
+      cell-order (row_at step.leaves) found o.way w.0 (λ x. absurd (cc)) (λ j x. absurd (cc))
       (ways ∙ sym came ∙ sym (append-nil _)) before)
-  steps-order delegates (Some found) may w paid =
-      order-of delegates (Some found) (λ one by others. at-one (doing.Ticket k) w.0.does (λ e. absurd (cc)) one others)
+  orders step.delegates may paid = λ found w.
+      order-of step.delegates (Some found)
+      (λ one by others. at-one (doing.Ticket k) w.0.does (λ e. absurd (cc)) one others)
       (λ before.
       let cell : IsSoundAt s.queue k found state.Cancelling =
       subst (λ (x : CoreState). IsSoundAt s.queue k found x) w.0.at (is.sound.cells.at k found w.0.finds) in
       absurd (none-cancelling s.queue is.sound p before.others k k found w.0.does cell.0))
-  steps-order passes_over (Some found) may w paid =
-      order-of passes_over (Some found)
+  orders step.passes_over may paid = λ found w.
+      order-of step.passes_over (Some found)
       (λ one by others. at-one (doing.Ticket k) w.0.does (λ e. absurd (cc)) one others)
-      (kept-order (row_at passes_over) found o.way refl w.0 (λ x. absurd (cc)) refl (λ j x. absurd (cc)) refl refl)
-  steps-order ends_refused (Some found) may w paid = absurd (pool-none_refused s p k is found w.0)
-  steps-order leaves_line (Some found) may w paid =
-      order-of leaves_line (Some found) (λ one by others. named-one p one (entry.Leave p k) (eq-eqb p p refl) by)
-      (kept-order (row_at leaves_line) found o.way refl w.0 (λ x. absurd (cc)) (ap is_left w.0.at)
+      (kept-order (row_at step.passes_over) found o.way refl w.0 (λ x. absurd (cc)) refl (λ j x. absurd (cc)) refl refl)
+  orders step.ends_refused may paid = λ found w. absurd (pool-none_refused s p k is found w.0)
+  orders step.leaves_line may paid = λ found w.
+      order-of step.leaves_line (Some found) (λ one by others. named-one p one (entry.Leave p k) (eq-eqb p p refl) by)
+      (kept-order (row_at step.leaves_line) found o.way refl w.0 (λ x. absurd (cc)) (ap is_left w.0.at)
       (λ j x. absurd (cc)) refl refl)
-  steps-order settles (Some found) may w paid =
-      order-of settles (Some found)
+  orders step.settles may paid = λ found w.
+      order-of step.settles (Some found)
       (λ one by others. at-one (doing.Decided k true) w.0.does (λ e. absurd (cc)) one others)
-      (kept-order (row_at settles) found o.way refl w.0 (λ x. absurd (cc)) (ap is_left w.0.at)
+      (kept-order (row_at step.settles) found o.way refl w.0 (λ x. absurd (cc)) (ap is_left w.0.at)
       (λ j x. absurd (cc)) refl refl)
-  steps-order settles_owing (Some found) may w paid =
-      order-of settles_owing (Some found)
+  orders step.settles_owing may paid = λ found w.
+      order-of step.settles_owing (Some found)
       (λ one by others. at-one (doing.Decided k true) w.0.does (λ e. absurd (cc)) one others)
       (λ before. absurd (before.undelegated.at k found w.0.finds w.0.at))
-  steps-order (looks pends) (Some found) may w paid =
-      order-of (looks pends) (Some found)
+  orders (step.looks step.pends) may paid = λ found w.
+      order-of (step.looks step.pends) (Some found)
       (λ one by others. named-one p one (entry.LookPending p k) (eq-eqb p p refl) by)
-      (kept-order (row_at (looks pends)) found o.way refl w.0 (λ x. absurd (cc)) refl (λ j x. absurd (cc)) refl refl)
-  steps-order (looks grants) (Some found) may w paid =
-      order-of (looks grants) (Some found)
+      (kept-order (row_at (step.looks step.pends)) found o.way refl w.0 (λ x. absurd (cc)) refl (λ j x. absurd (cc)) refl
+      refl)
+  orders (step.looks step.grants) may paid = λ found w.
+      order-of (step.looks step.grants) (Some found)
       (λ one by others. named-one p one (entry.LookGranted p k e) (eq-eqb p p refl) by)
-      (kept-order (row_at (looks grants)) found o.way refl w.0 (λ x. absurd (cc)) refl (λ j x. absurd (cc)) refl refl)
-  steps-order (looks late) (Some found) may w paid =
-      order-of (looks late) (Some found)
+      (kept-order (row_at (step.looks step.grants)) found o.way refl w.0 (λ x. absurd (cc)) refl (λ j x. absurd (cc)) refl
+      refl)
+  orders (step.looks step.late) may paid = λ found w.
+      order-of (step.looks step.late) (Some found)
       (λ one by others. named-one p one (entry.Late p k e) (eq-eqb p p refl) by)
-      (kept-order (row_at (looks late)) found o.way refl w.0 (λ x. absurd (cc)) refl (λ j x. absurd (cc)) refl refl)
-  steps-order begins found may w paid = absurd may
-  steps-order ends_missed found may w paid = absurd may
-  steps-order starts_leaving found may w paid = absurd may
-  steps-order leaves_at_once found may w paid = absurd may
-  steps-order refuses found may w paid = absurd may
-  steps-order refuses_value found may w paid = absurd may
-  steps-order installs None may w paid = absurd w
-  steps-order takes None may w paid = absurd w
-  steps-order serves None may w paid = absurd w
-  steps-order leaves None may w paid = absurd w
-  steps-order delegates None may w paid = absurd w
-  steps-order passes_over None may w paid = absurd w
-  steps-order ends_refused None may w paid = absurd w
-  steps-order leaves_line None may w paid = absurd w
-  steps-order settles None may w paid = absurd w
-  steps-order settles_owing None may w paid = absurd w
-  steps-order (looks pends) None may w paid = absurd w
-  steps-order (looks grants) None may w paid = absurd w
-  steps-order (looks late) None may w paid = absurd w
+      (kept-order (row_at (step.looks step.late)) found o.way refl w.0 (λ x. absurd (cc)) refl (λ j x. absurd (cc)) refl
+      refl)
+  orders step.begins may paid = absurd may
+  orders step.ends_missed may paid = absurd may
+  orders step.starts_leaving may paid = absurd may
+  orders step.leaves_at_once may paid = absurd may
+  orders step.refuses may paid = absurd may
+  orders step.refuses_value may paid = absurd may
+
+  steps-order : (t : QueueStep) (found : Option CoreCell) → IsPoolStep t → IsOpenStep s.queue t p k found
+      → IsPayload (row_of t) s p k e → IsInOrder (shape_after s t p k found e)
+  steps-order t found may w paid =
+      where-open s.queue p k (λ cell. IsInOrder (shape_after s t p k cell e)) (row_of t) (orders t may paid) found w
 
 pub step-in_order : (s : PoolShape) (step : QueueStep) (p k : ℕ) (found : Option CoreCell) (e : ℕ) → IsPool s
     → IsInOrder s → IsPoolStep step → IsOpenStep s.queue step p k found → IsPayload (row_of step) s p k e

@@ -142,9 +142,9 @@ module _ {T : Type 0} where
   WaitsUntil k v answer w =
       (last : Entry) × EndsWait v.number k answer last × LooksThen k (last ∷ []) v w
 
-  -- The pass made these entries, which all name it, and no step of the crew. The counts were of what
-  -- it had made before, and are of that and these now. Of the permits that were sent so many hadn't arrived before, and
-  -- so many haven't now.
+  -- The pass made these entries, which all name it, and no step of the crew. The counts were of
+  -- what it had made before, and are of that and these now. Of the permits that were sent so many
+  -- hadn't arrived before, and so many haven't now.
   pub record Adds (due_before due : ℕ) (v : View Entry T) (before : Counts) (w : View Entry T)
       (after : Counts)
       : Type 0 where

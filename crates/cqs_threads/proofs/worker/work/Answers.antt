@@ -17,6 +17,7 @@ loop-round-preserved c =
     let both = calls-then 1 0 0 1 _ _ _ c.acquire_once.ensures.calls c.try_once.ensures.calls in
     let acquires = so_far.calls.acquires in
     let tries = so_far.calls.tries in
+    let few = c.ranges.rounds.fits in
     record {
       rest = record {
         belongs = rest.belongs;
@@ -27,8 +28,8 @@ loop-round-preserved c =
       adds = adds-then 0 0 0 _ _ _ _ _ _ so_far.adds
           (adds-then 0 0 0 _ _ _ _ _ _ c.acquire_once.ensures.adds c.try_once.ensures.adds);
       calls = record {
-        acquires = let more = both.acquires_are (omega (arith, acquires, c.ranges.rounds.fits)) in omega (arith, more, acquires);
-        tries = let more = both.tries_are (omega (arith, tries, c.ranges.rounds.fits)) in omega (arith, more, tries);
+        acquires = let more = both.acquires_are (omega (arith, acquires, few)) in omega (arith, more, acquires);
+        tries = let more = both.tries_are (omega (arith, tries, few)) in omega (arith, more, tries);
       };
     }
 

@@ -1,5 +1,5 @@
 -- How a cancel of the one wait leaves the pass: at rest, or with a resumption that it owes.
-use Rattle.std.proofs.Common.{◌≡◌, refl, inl, inr, true, false, ℕ, [], ◌∷◌, ◌∙◌, Option, Some, None, sym, ap, subst, rules}
+use Rattle.std.proofs.Common.{◌≡◌, refl, inl, inr, true, false, ℕ, [], ◌∷◌, ◌∙◌, Option, Some, None, sym, subst, rules}
 use Rattle.cqs_core.specs.declared.entries.Entry.{Entry}
 use Rattle.cqs_core.specs.declared.doings.Doing.TheVariants as doing
 use Rattle.cqs_rule.specs.declared.queue.tokens.Under as token

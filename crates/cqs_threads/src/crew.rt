@@ -1,6 +1,6 @@
 //! A crew of workers, each with a thread and a pass of its own.
 
-ghost use Rattle.std.specs.Prelude.{◌≡◌, ◌*◌, ◌^◌, ◌<◌, ◌≤◌, All, IfOk, IsErr, IsErrOf, OnOk, length, vec_len};
+ghost use Rattle.std.specs.Prelude.{◌≡◌, ◌*◌, ◌^◌, ◌<◌, ◌≤◌, All, IfOk, IsErr, IsErrOf, OnOk, vec_len};
 ghost use Rattle.cqs_rule.specs.Passes.{pass_view, passes_of};
 ghost use Rattle.cqs_rule.specs.Views.{made_in};
 ghost use Rattle.cqs_threads.specs.declared.crew.CrewError.TheVariants.{Memory};

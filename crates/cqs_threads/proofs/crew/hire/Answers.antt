@@ -1,5 +1,4 @@
 use Rattle.std.proofs.Common.{All, arith, refl, subst, sym, vec_len, ◌∙◌}
-use Rattle.std.proofs.lemmas.List.{length_push}
 use Rattle.std.proofs.lemmas.List.Elements.{All-nil, All-push}
 use Rattle.cqs_rule.specs.Passes.{pass_view}
 use Rattle.cqs_threads.specs.Workers.{IsHired}

@@ -1,6 +1,6 @@
 -- What is told on standard error.
-use Rattle.std.specs.Prelude.{ℕ, ◌≤◌, List, [], length, take, codes, Option, ◌==◌, if◌then◌else◌}
-use Rattle.std.specs.Io.KnownBytes.{Appends}
+use Rattle.std.specs.Prelude.{ℕ, List, [], codes, Option, ◌==◌, if◌then◌else◌}
+use Rattle.cqs_plan.specs.Stream.{Gains, GainsPrefix, Rises}
 use Rattle.cqs_cli.specs.declared.statuses.TheConstants.{NO_COMMAND, NO_MEMORY, SINK_FAILED, SOURCE_FAILED, TOO_LONG}
 
 -- the line that tells the cause of a status; none where standard output has
@@ -15,7 +15,8 @@ message status =
     else if status == TOO_LONG then codes "cqs: the plan is longer than 1,048,576 bytes\n"
     else []
 
--- a writer, if it tells what it holds, took a prefix of these bytes behind it
-abbrev pub TakesPrefix : List ℕ → Option (List ℕ) → Option (List ℕ) → Type 0
-TakesPrefix bytes held after =
-    (count : ℕ) × (count ≤ length bytes) × Appends held after (take count bytes)
+-- a sink was handed this text: it took all of it where it counted no fault, and a prefix in any
+-- case
+pub record IsTold (text : List ℕ) (faults now : ℕ) (held after : Option (List ℕ)) : Type 0 where
+  pub whole : ¬ Rises faults now → Gains text held after
+  pub part : GainsPrefix text held after

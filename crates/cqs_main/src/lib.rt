@@ -2,16 +2,16 @@
 //! line on standard error, the status that the process ends with.
 //!
 //! It is a library so that programs beside `cqs` can do the same on other words and another input,
-//! which the gate then runs. `run` does all of it, over any streams; `program` hands it the real
-//! ones.
+//! which the gate then runs. `run` does all of it, over any streams; `main` makes the real ones and
+//! hands them to it.
 #![tactic(auto)]
 
 mod messages;
-mod real_streams;
 mod running;
+mod stderr_sink;
 mod words;
 
 pub use messages::{finish, message_of};
-pub use real_streams::program;
 pub use running::run;
+pub use stderr_sink::StderrSink;
 pub use words::words_after_name;

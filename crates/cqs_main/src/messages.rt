@@ -1,10 +1,10 @@
 //! The line on standard error, and the end of the process.
 ghost use Rattle.std.specs.Prelude.{◌≡◌};
 ghost use Rattle.std.specs.Process.{exit_status};
-ghost use Rattle.cqs_main.specs.Messages.{TakesPrefix, message};
+ghost use Rattle.cqs_main.specs.Messages.{IsTold, message};
 
 use cqs_cli::{NO_COMMAND, NO_MEMORY, SINK_FAILED, SOURCE_FAILED, TOO_LONG};
-use std::io::Write;
+use cqs_plan::{Sink, write_all};
 use std::process::ExitCode;
 
 /// What a user is told of a status whose cause the output doesn't tell.
@@ -21,12 +21,14 @@ pub fn message_of(status: u8) -> &'static str
     }
 }
 
-/// Ends with a status, and tells its cause if it can.
-pub fn finish<W: Write>(errors: &mut W, status: u8) -> ExitCode
+/// Ends with a status, and tells its cause: whole, unless standard error counted a fault.
+#[tactic(auto, using(crate::proofs::Told::is_told))]
+pub fn finish<E: Sink>(errors: &mut E, status: u8) -> ExitCode
     ensures status { exit_status result ≡ status }
-    ensures message { TakesPrefix (message status) (W.contents errors.old) (W.contents errors.new) }
+    ensures message { IsTold (message status) (E.faults errors.old) (E.faults errors.new)
+        (E.held errors.old) (E.held errors.new) }
 {
-    // One write, so that the line isn't cut by another program's. Whether it comes changes nothing.
-    let _ = errors.write(message_of(status).as_bytes());
+    // Whether the line comes changes no status.
+    let _ = write_all(errors, message_of(status).as_bytes());
     ExitCode::from(status)
 }

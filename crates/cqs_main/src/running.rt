@@ -9,7 +9,7 @@ ghost use Rattle.cqs_cli.specs.Words.{IsSomeGen, usage};
 ghost use Rattle.cqs_top.specs.Meanings.{BrokeOff, HasTold};
 ghost use Rattle.cqs_top.specs.Words.{IsCommand, ReadsPlan};
 ghost use Rattle.cqs_main.specs.Arguments.{words_of};
-ghost use Rattle.cqs_main.specs.Messages.{TakesPrefix, message};
+ghost use Rattle.cqs_main.specs.Messages.{IsTold, message};
 
 use crate::messages::finish;
 use crate::words::words_after_name;
@@ -20,7 +20,6 @@ use cqs_work::OpenGate;
 use std::alloc::Global;
 use std::env::Args;
 use std::io;
-use std::io::Write;
 use std::process::ExitCode;
 use std::sync::Wait;
 use std::thread::Threads;
@@ -29,13 +28,13 @@ use std::thread::Threads;
 ///
 /// The clauses are those of `top`, said of the command line and of the status that the process ends
 /// with. Out of memory may come already while the words are read.
-pub fn run<R: Threads + Wait + Sync, S: Source, K: Sink, W: Write>(
+pub fn run<R: Threads + Wait + Sync, S: Source, K: Sink, E: Sink>(
     rt: &R,
     alloc: Global,
     arguments: io::Result<Args>,
     source: &mut S,
     sink: &mut K,
-    errors: &mut W,
+    errors: &mut E,
 ) -> ExitCode
     // Status 0 means: the input was a plan, and the report of the turn machine on it, over plain
     // resources with legal histories, was written whole and flushed; or the words ask for the plan
@@ -126,9 +125,10 @@ pub fn run<R: Threads + Wait + Sync, S: Source, K: Sink, W: Write>(
         → ¬ Rises (K.faults sink.old) (K.faults sink.new)
         → MustEnd DONE (exit_status result) }
 
-    // Standard error gets the message of the status, or a prefix of it.
-    ensures message { TakesPrefix (message (exit_status result))
-        (W.contents errors.old) (W.contents errors.new) }
+    // Standard error gets the message of the status: whole where it counted no fault, and a prefix
+    // of it in any case.
+    ensures message { IsTold (message (exit_status result))
+        (E.faults errors.old) (E.faults errors.new) (E.held errors.old) (E.held errors.new) }
 {
     let mut kept = Kept::Nothing;
     let status = match words_after_name(alloc, arguments) {

@@ -1,17 +1,21 @@
 //! The program `cqs`, started with words that are no command.
 #![tactic(auto)]
 
-use cqs_main::program;
+use cqs_cli::{StdinSource, StdoutSink};
+use cqs_main::{StderrSink, run};
 use std::env;
 use std::process::ExitCode;
 
 fn main(rt: HostRuntime) -> ExitCode {
-    program(
+    let mut source = StdinSource::new(rt.stdin());
+    let mut sink = StdoutSink::new(rt.stdout());
+    let mut errors = StderrSink::new(rt.stderr());
+    run(
         &rt,
         rt.alloc(),
         env::args(&rt),
-        rt.stdin(),
-        rt.stdout(),
-        rt.stderr(),
+        &mut source,
+        &mut sink,
+        &mut errors,
     )
 }

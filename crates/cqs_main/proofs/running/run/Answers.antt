@@ -175,3 +175,7 @@ returns-clause-statuses g c =
       | in-Ok w ↦ search rules
       | in-Err w ↦ search (rules, is_no_memory)
     ]
+
+-- the line is that of the status that `finish` was given
+pub returns-clause-message : goal.returns-clause-message
+returns-clause-message g c = rw c.finish.ensures.status c.finish.ensures.message

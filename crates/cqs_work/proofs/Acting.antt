@@ -1,5 +1,5 @@
 -- What a worker's job does in its turn: one step after another, by how far it is.
-use Rattle.std.proofs.Common.{◌≡◌, ℕ, ◌+◌, ◌<◌, ◌≤◌, List, [], ◌++◌, Bool, true, false, Option, Some, None, IsSome, Result, Ok, Err, IfOk, OnOk, drop, get_or, slice_get, length, nat_lt, lt-ltb, le-ltb, ◌⊎◌, inl, inr, refl, sym, ap, subst, ◌∙◌, arith}
+use Rattle.std.proofs.Common.{◌≡◌, ℕ, ◌+◌, ◌<◌, ◌≤◌, List, [], ◌++◌, Bool, true, false, Some, None, IsSome, Result, Ok, Err, IfOk, OnOk, drop, get_or, slice_get, length, nat_lt, lt-ltb, le-ltb, ◌⊎◌, inl, inr, refl, sym, ap, subst, ◌∙◌, arith}
 use Rattle.std.specs.Bool.{if◌then◌else◌}
 use Rattle.std.proofs.lemmas.List.{append-nil, drop_all}
 use Rattle.std.proofs.lemmas.List.Elements.{All-nil}
@@ -7,7 +7,6 @@ use Rattle.std.proofs.lemmas.Option.{slice_get-get_or}
 use Rattle.cqs_plan.specs.declared.plans.step.Step.{Step}
 use Rattle.cqs_plan.specs.declared.floors.answers.FloorLeave.{FloorLeave}
 use Rattle.cqs_plan.specs.declared.floors.answers.FloorLeave.TheVariants.{Gone, Late}
-use Rattle.cqs_plan.specs.Floor.{JobWait}
 use Rattle.cqs_turns.specs.declared.actors.Actor.{Actor}
 use Rattle.cqs_turns.specs.declared.states.End.{End}
 use Rattle.cqs_turns.specs.declared.states.End.TheVariants as end
@@ -209,13 +208,6 @@ ends-on a f g k at round number e ends later keeps = record {
 }
 
 -- the whole turn of a job, by how far it is
-pub stands-end : (a : Actor) (f : Desk) (wait : Option JobWait) (steps : List Step) → Stands a f.floor wait steps
-    → Stands a f.floor wait []
-stands-end a f wait steps stands = record {
-  kinds = stands.kinds;
-  ready = ready-to-end f.floor.board a.place wait steps stands.ready;
-}
-
 pub works-on : (a : Actor) (f : Desk) (p : Progress) (next until : ℕ) → p ≡ Working next until → a.turn < until
     → CanAct a f.floor p → Did a f p (act a p) (left_so p) f p
 works-on a f p next until is below can =
@@ -270,18 +262,6 @@ worked-did a f g p next until q is past made =
       adds = adds-as a.job.now a.place f g (Stepping next) (Working next until) q (λ at. refl) (λ at. refl)
           (λ over. over)
           (λ its. tt) made.adds;
-    })
-
-pub stepping-did : (a : Actor) (f g : Desk) (p : Progress) (next : ℕ) (q : Progress) → p ≡ Stepping next
-    → Did a f (Stepping next) (go_on a next) (left_so q) g q → Did a f p (act a p) (left_so q) g q
-stepping-did a f g p next q is made =
-    let Goal : Progress → Type 0 = λ x. Did a f x (act a x) (left_so q) g q in
-    subst Goal (sym is) (record {
-      hears = record { later = made.hears.later; answers = made.hears.answers; plays = made.hears.plays };
-      stands = made.stands;
-      rounds = made.rounds;
-      moves = made.moves;
-      adds = made.adds;
     })
 
 -- the turn of a job that waits, by whether its deadline has come

@@ -17,6 +17,7 @@ use Rattle.cqs_pool_object.specs.PoolObject as plain
 use Rattle.cqs_pool_object.specs.PoolObject.{times}
 use Rattle.cqs_pool.specs.Alone.{IsFirstOf, IsOnlyCaller}
 use Rattle.cqs_pool.specs.Calls.{IsMine, plain_after}
+use Rattle.cqs_pool.proofs.ElementTimes.{times-gone, times-other}
 use Rattle.cqs_rule.specs.declared.view.View.{View}
 use Rattle.cqs_rule.specs.Lists.{without}
 use Rattle.cqs_rule.specs.Passes.{pass_view}
@@ -25,7 +26,7 @@ use Rattle.cqs_cli.specs.declared.floors.pool_sole.PoolSole.{PoolSole}
 use Rattle.cqs_cli.specs.PoolEnds.{HasPlaced}
 use Rattle.cqs_cli.specs.SolePool.{all_held, elements_held, store_pool}
 use Rattle.cqs_cli.specs.Stores.{Releases, held_by, with_less}
-use Rattle.cqs_cli.proofs.PoolRests.{Comes, all-less, held-less, length-less, plain-next, rests-next, times-gone, times-other}
+use Rattle.cqs_cli.proofs.PoolRests.{Comes, all-less, held-less, length-less, plain-next, rests-next}
 use Rattle.cqs_cli.proofs.PoolSole.{seen-object, less-first, done-by, keeps-by}
 
 less-line : (k : ℕ) (line : List Waiting) → IsFirstOf line k

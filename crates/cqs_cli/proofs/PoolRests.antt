@@ -1,6 +1,5 @@
 -- What the only caller of a pool is after a call, and what its calls find.
-use Rattle.std.proofs.Common.{◌≡◌, ◌≢◌, ◌⊎◌, inl, inr, ℕ, zero, suc, ◌+◌, ◌<◌, ◌≤◌, ◌==◌, Bool, true, false, List, [], ◌∷◌, ◌++◌, Some, drop, length, slice_get, refl, ap, sym, ◌∙◌, subst, eq-eqb, ne_eqb, eqb-true, arith}
-use Rattle.std.specs.Bool.{if◌then◌else◌}
+use Rattle.std.proofs.Common.{◌≡◌, ◌≢◌, ◌⊎◌, inl, inr, ℕ, ◌+◌, ◌<◌, ◌≤◌, ◌==◌, Bool, true, false, List, [], ◌∷◌, ◌++◌, Some, drop, length, slice_get, refl, ap, sym, ◌∙◌, subst, eq-eqb, ne_eqb, eqb-true, arith}
 use Rattle.std.specs.List.{fold}
 use Rattle.std.proofs.lemmas.Bool.{cases_eq}
 use Rattle.std.proofs.lemmas.List.{get_or-set_same, get_or-set_other}
@@ -210,42 +209,3 @@ length-less job (h ∷ hs) some = go (h.job == job) refl (length-less job hs)
         let differs : job ≢ h.job = λ same. absurd (cc (eq-eqb h.job job (sym same), other)) in
         let fewer = later (rw other at some) in
         rw (ne_eqb job h.job differs) (omega (arith, fewer))
-
--- a number that is in a list, and one that isn't
-pub has-times : (e : ℕ) (xs : List ℕ) → 0 < times e xs → Has e xs
-has-times e [] some = absurd (omega (arith, some))
-has-times e (x ∷ xs) some = go (cases_eq e x) (has-times e xs)
-  where
-    go : (e ≡ x) ⊎ (e ≢ x) → (0 < times e xs → Has e xs) → Has e (x ∷ xs)
-    go (inl same) later = inl same
-    go (inr other) later =
-        let none : bit (x == e) ≡ 0 = ap bit (ne_eqb x e (λ same. other (sym same))) in
-        inr (later (omega (arith, some, none, times-cons e x xs)))
-
-pub times-none : (e : ℕ) (xs : List ℕ) → (Has e xs → ⊥) → times e xs ≡ 0
-times-none e xs never = go (times e xs) refl
-  where
-    go : (n : ℕ) → times e xs ≡ n → times e xs ≡ 0
-    go zero is = is
-    go (suc n) is = absurd (never (has-times e xs (omega (arith, is))))
-
--- the list without an element has no more of it, and as many of the others
-pub times-gone : (e x : ℕ) (xs : List ℕ) → times x (without e xs) ≤ times x xs
-times-gone e x [] = omega arith
-times-gone e x (y ∷ ys) = go (y == e) (times-gone e x ys)
-  where
-    go : (b : Bool) → times x (without e ys) ≤ times x ys
-        → times x (if b then without e ys else y ∷ without e ys) ≤ times x (y ∷ ys)
-    go true rest = omega (arith, rest, times-cons x y ys)
-    go false rest = omega (arith, rest, times-cons x y ys, times-cons x y (without e ys))
-
-pub times-other : (e x : ℕ) (xs : List ℕ) → e ≢ x → times x (without e xs) ≡ times x xs
-times-other e x [] other = refl
-times-other e x (y ∷ ys) other = go (y == e) refl (times-other e x ys other)
-  where
-    go : (b : Bool) → y == e ≡ b → times x (without e ys) ≡ times x ys
-        → times x (without e (y ∷ ys)) ≡ times x (y ∷ ys)
-    go true same rest =
-        let none : bit (y == x) ≡ 0 = ap bit (ne_eqb y x (λ is. other (sym (eqb-true y e same) ∙ is))) in
-        rw same (omega (arith, rest, none, times-cons x y ys))
-    go false differs rest = rw differs (omega (arith, rest, times-cons x y ys, times-cons x y (without e ys)))

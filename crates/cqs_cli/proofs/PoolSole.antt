@@ -16,6 +16,7 @@ use Rattle.cqs_pool_object.proofs.PoolConserved.{conserved-after, long-numbers}
 use Rattle.cqs_pool.specs.Answers.{IsInHand}
 use Rattle.cqs_pool.specs.Calls.{IsMine, Rests, plain_after, size_of as pool_size}
 use Rattle.cqs_pool.specs.Causes.{drawn_in}
+use Rattle.cqs_pool.proofs.ElementTimes.{times-has}
 use Rattle.cqs_rule.specs.declared.config.Place.{Place}
 use Rattle.cqs_rule.specs.declared.view.Opening.{Opening}
 use Rattle.cqs_rule.specs.declared.view.View.{View}
@@ -27,7 +28,7 @@ use Rattle.cqs_cli.specs.SolePool.{IsFunded, IsPool, all_held, elements_held, is
 use Rattle.cqs_cli.specs.Stores.{IsLawful, IsOpened, Tells, held_by}
 use Rattle.cqs_cli.specs.Waits.{WaitsAt}
 use Rattle.cqs_cli.proofs.PoolNews.{news-legal, news-object}
-use Rattle.cqs_cli.proofs.PoolRests.{Comes, all-less, has-next, has-times}
+use Rattle.cqs_cli.proofs.PoolRests.{Comes, all-less, has-next}
 
 -- the plain pool that a floor sees is the one after all that the pass has seen
 pub seen-object : (x : PoolSole) (kind : Option Kind) → (pass_view x.pass).opening.size ≡ size_of kind
@@ -124,7 +125,7 @@ pub in-hand : (x : PoolSole) (job e : ℕ) → slice_get (elements_held job x.he
     × (times n (pass_view x.pass).facts.has.slots ≤ 1)) → IsInHand e (pass_view x.pass).facts
 in-hand x job e first hands =
     let one : bit (e == e) ≡ 1 = ap bit (eq-eqb e e refl) in
-    has-times e (pass_view x.pass).facts.has.slots
+    times-has e (pass_view x.pass).facts.has.slots
     (omega (arith, one, (hands e).0, all-less job e x.held.items e first))
 
 -- how it stands

@@ -25,6 +25,7 @@ use Rattle.cqs_pool.specs.Calls.{IsMine, plain_after}
 use Rattle.cqs_pool.specs.Causes.{drawn_in}
 use Rattle.cqs_pool.specs.Elements.{number_of}
 use Rattle.cqs_pool.specs.declared.element.Element.{Element}
+use Rattle.cqs_pool.proofs.ElementTimes.{times-none}
 use Rattle.cqs_rule.specs.declared.config.Place.{Place}
 use Rattle.cqs_rule.specs.declared.view.View.{View}
 use Rattle.cqs_rule.specs.Lists.{without}
@@ -37,7 +38,7 @@ use Rattle.cqs_cli.specs.declared.floors.sole_resource.Looked.TheVariants as loo
 use Rattle.cqs_cli.specs.declared.floors.sole_resource.Taken.TheVariants as taken
 use Rattle.cqs_cli.specs.SolePool.{IsFunded, IsPool, all_held, elements_held, store_pool}
 use Rattle.cqs_cli.specs.Stores.{Acquires, Cancels, KeepsOthers, Polls, held_by, is_holdable, is_in_line, stands, with_more}
-use Rattle.cqs_cli.proofs.PoolRests.{Comes, all-more, held-more, plain-next, rests-next, times-none}
+use Rattle.cqs_cli.proofs.PoolRests.{Comes, all-more, held-more, plain-next, rests-next}
 use Rattle.cqs_cli.proofs.PoolSole.{seen-object, legal-seen, less-first, done-by, keeps-by}
 
 -- elements can be held

@@ -8,3 +8,4 @@ pub mod PutSteps
 pub mod CancelSteps
 pub mod AloneSteps
 pub mod Values
+pub mod ElementTimes

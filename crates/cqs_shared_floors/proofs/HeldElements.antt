@@ -1,12 +1,12 @@
 -- The elements of a pool that jobs hold: after one more, after one less, and of two lists.
-use Rattle.std.proofs.Common.{◌≡◌, ◌≢◌, ◌⊎◌, inl, inr, ℕ, zero, suc, ◌+◌, ◌<◌, ◌≤◌, ◌==◌, Bool, true, false, List, [], ◌∷◌, ◌++◌, drop, length, set, take, slice_get, Some, None, refl, ap, sym, ◌∙◌, subst, eq-eqb, ne_eqb, eqb-true, arith}
-use Rattle.std.specs.Bool.{if◌then◌else◌}
+use Rattle.std.proofs.Common.{◌≡◌, ◌≢◌, ◌⊎◌, inl, inr, ℕ, zero, suc, ◌+◌, ◌<◌, ◌==◌, Bool, true, false, List, [], ◌∷◌, ◌++◌, drop, length, set, take, slice_get, Some, None, refl, ap, sym, ◌∙◌, subst, eq-eqb, ne_eqb, eqb-true, arith}
 use Rattle.std.specs.List.{position_from}
 use Rattle.std.proofs.lemmas.Bool.{cases_eq}
 use Rattle.std.proofs.lemmas.List.{get_or-set_same, get_or-set_other, length_push}
 use Rattle.cqs_core.specs.Keyed as keyed
 use Rattle.cqs_core.proofs.Counts.{bit}
 use Rattle.cqs_pool.specs.Elements.{number_of}
+use Rattle.cqs_pool.proofs.ElementTimes.{times-has, times-none, times-other}
 use Rattle.cqs_pool_object.specs.PoolObject.{times}
 use Rattle.cqs_pool_object.proofs.PoolCounts.{times-cons}
 use Rattle.cqs_rule.specs.Lists.{Has, IsDistinct, without}
@@ -221,45 +221,6 @@ length-less job (h ∷ hs) some = go (h.job == job) refl (length-less job hs)
         let fewer = later (rw other at some) in
         rw (ne_eqb job h.job differs) (omega (arith, fewer))
 
--- a number that is in a list, and one that isn't
-pub has-times : (e : ℕ) (xs : List ℕ) → 0 < times e xs → Has e xs
-has-times e [] some = absurd (omega (arith, some))
-has-times e (x ∷ xs) some = go (cases_eq e x) (has-times e xs)
-  where
-    go : (e ≡ x) ⊎ (e ≢ x) → (0 < times e xs → Has e xs) → Has e (x ∷ xs)
-    go (inl same) later = inl same
-    go (inr other) later =
-        let none : bit (x == e) ≡ 0 = ap bit (ne_eqb x e (λ same. other (sym same))) in
-        inr (later (omega (arith, some, none, times-cons e x xs)))
-
-pub times-none : (e : ℕ) (xs : List ℕ) → (Has e xs → ⊥) → times e xs ≡ 0
-times-none e xs never = go (times e xs) refl
-  where
-    go : (n : ℕ) → times e xs ≡ n → times e xs ≡ 0
-    go zero is = is
-    go (suc n) is = absurd (never (has-times e xs (omega (arith, is))))
-
--- the list without an element has no more of it, and as many of the others
-pub times-gone : (e x : ℕ) (xs : List ℕ) → times x (without e xs) ≤ times x xs
-times-gone e x [] = omega arith
-times-gone e x (y ∷ ys) = go (y == e) (times-gone e x ys)
-  where
-    go : (b : Bool) → times x (without e ys) ≤ times x ys
-        → times x (if b then without e ys else y ∷ without e ys) ≤ times x (y ∷ ys)
-    go true rest = omega (arith, rest, times-cons x y ys)
-    go false rest = omega (arith, rest, times-cons x y ys, times-cons x y (without e ys))
-
-pub times-other : (e x : ℕ) (xs : List ℕ) → e ≢ x → times x (without e xs) ≡ times x xs
-times-other e x [] other = refl
-times-other e x (y ∷ ys) other = go (y == e) refl (times-other e x ys other)
-  where
-    go : (b : Bool) → y == e ≡ b → times x (without e ys) ≡ times x ys
-        → times x (without e (y ∷ ys)) ≡ times x (y ∷ ys)
-    go true same rest =
-        let none : bit (y == x) ≡ 0 = ap bit (ne_eqb y x (λ is. other (sym (eqb-true y e same) ∙ is))) in
-        rw same (omega (arith, rest, none, times-cons x y ys))
-    go false differs rest = rw differs (omega (arith, rest, times-cons x y ys, times-cons x y (without e ys)))
-
 -- an element of a list without doubles is there once
 times-once : (e : ℕ) (xs : List ℕ) → IsDistinct xs → Has e xs → times e xs ≡ 1
 times-once e [] distinct has = absurd has
@@ -277,7 +238,7 @@ pub first-in-hand : (job e : ℕ) (hs : List HeldElement) (slots : List ℕ) →
 first-in-hand job e hs slots hands first =
     let here = all-less job e hs e first in
     let one : bit (e == e) ≡ 1 = ap bit (eq-eqb e e refl) in
-    has-times e slots (omega (arith, here, one, hands.each e))
+    times-has e slots (omega (arith, here, one, hands.each e))
 
 some-of : (e : ℕ) (es : List ℕ) → slice_get es 0 ≡ Some e → 0 < length es
 some-of e [] first = absurd (cc)

@@ -11,6 +11,7 @@ use Rattle.cqs_plan.specs.declared.floors.answers.FloorTake.TheVariants.{Now, Wa
 use Rattle.cqs_plan.specs.FloorHistory.{completes}
 use Rattle.cqs_plan.specs.Floor.{PlainFloor, HasRound, IsIdle, IsJob, room_at, round_of, to_come_at}
 use Rattle.cqs_plan.specs.FloorCalls.{after_arrive, arrive_answer}
+use Rattle.cqs_turns.proofs.KindsThere.{barrier-there}
 use Rattle.cqs_cli.specs.DeskCalls.{Comes, HasAt}
 use Rattle.cqs_cli.specs.Kept.{IsKept, elements_of}
 use Rattle.cqs_cli.specs.Ledger.{Ledger, holds_in, plain_floor, round_in, rounds_of, with_arrived, with_less_room, with_soles, with_waiting}
@@ -18,7 +19,7 @@ use Rattle.cqs_cli.specs.Stores.{CanArrive, IsLawful, Store}
 use Rattle.cqs_cli.proofs.Joining.{kept-later, plain-later}
 use Rattle.cqs_cli.proofs.KeptNext.{kept-rounds}
 use Rattle.cqs_cli.proofs.Passing.{kept-through, plain-through}
-use Rattle.cqs_cli.proofs.Resources.{Funds, barrier-there, comes-there, funds-at, idle-there, job-there, place-room, stands-there}
+use Rattle.cqs_cli.proofs.Resources.{Funds, comes-there, funds-at, idle-there, job-there, place-room, stands-there}
 
 module _ {X : Type 0} (s : Store X) where
   can-arrive : (l : Ledger X) (at job : ℕ) → IsKept s l → HasRound (slice_get l.kinds at) (round_in l job at)

@@ -6,12 +6,13 @@ use Rattle.cqs_plan.specs.declared.floors.answers.FloorEnd.{FloorEnd}
 use Rattle.cqs_plan.specs.FloorHistory.{ending}
 use Rattle.cqs_plan.specs.Floor.{PlainFloor, size_of}
 use Rattle.cqs_plan.specs.FloorCalls.{end_answer}
+use Rattle.cqs_turns.proofs.KindsThere.{some-there}
 use Rattle.cqs_cli.specs.DeskCalls.{CanEndAt, Ends}
 use Rattle.cqs_cli.specs.Kept.{IsKept, held_at, waiting_at}
 use Rattle.cqs_cli.specs.Ledger.{Ledger, holds_in, plain_floor, with_soles}
 use Rattle.cqs_cli.specs.Stores.{Store, Rests}
 use Rattle.cqs_cli.proofs.Looks.{kept-same, plain-same}
-use Rattle.cqs_cli.proofs.Resources.{Funds, funds-at, history-there, some-there}
+use Rattle.cqs_cli.proofs.Resources.{Funds, funds-at, history-there}
 
 module _ {X : Type 0} (s : Store X) where
   can-end : (l : Ledger X) (at : ℕ) → IsKept s l → IsSome (slice_get l.kinds at) → CanEndAt s l at

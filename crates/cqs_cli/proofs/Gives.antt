@@ -9,6 +9,7 @@ use Rattle.cqs_plan.specs.declared.floors.answers.FloorGive.TheVariants.{Free, S
 use Rattle.cqs_plan.specs.FloorHistory.{Deed, Standing, frees, sends}
 use Rattle.cqs_plan.specs.Floor.{PlainFloor, Holding, IsHoldable, IsJob, IsHolding, oldest, holds_of, size_of, standing_at, with_done, without_oldest}
 use Rattle.cqs_plan.specs.FloorCalls as plain
+use Rattle.cqs_turns.proofs.KindsThere.{holdable-there}
 use Rattle.cqs_cli.specs.declared.floors.transfers.Transfer.TheVariants.{GaveBack}
 use Rattle.cqs_cli.specs.DeskCalls.{Gives, HasAt}
 use Rattle.cqs_cli.specs.Kept.{IsKept, held_at, waiting_at}
@@ -17,7 +18,7 @@ use Rattle.cqs_cli.specs.Stores.{Store, CanRelease, Goes, KeepsAll, held_by, wit
 use Rattle.cqs_cli.specs.Waits.{place_in}
 use Rattle.cqs_cli.proofs.Holdings.{held-gave, else-gave, held-there, many-gave, holds-transfer, oldest-elements, some-elements}
 use Rattle.cqs_cli.proofs.KeptNext.{funded-as, kept-next, stands-on, histories-next}
-use Rattle.cqs_cli.proofs.Resources.{Funds, funds-at, holdable-there, standing-there}
+use Rattle.cqs_cli.proofs.Resources.{Funds, funds-at, standing-there}
 
 -- what a plain give answers, where what is given goes to the first of the line
 sent-first : (line : List Waiting) (k : ℕ) → IsFirst k line → (held : Option Holding) (element : ℕ)

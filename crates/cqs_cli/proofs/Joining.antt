@@ -11,6 +11,7 @@ use Rattle.cqs_core.proofs.Places.{get-set_here, get-set_else, get-there}
 use Rattle.cqs_plan.specs.FloorHistory.{joins}
 use Rattle.cqs_plan.specs.Floor.{JobWait, size_of, with_done_in, with_less_room, with_wait}
 use Rattle.cqs_rule.specs.declared.config.Place.{Place}
+use Rattle.cqs_turns.proofs.StepCounts.{bit-same, bit-other}
 use Rattle.cqs_cli.specs.declared.floors.waits.Wait.{Wait}
 use Rattle.cqs_cli.specs.Kept.{IsKept, IsFundedAt, StandsIn, waiting_at, held_at, is_wait_at}
 use Rattle.cqs_cli.specs.Ledger.{Ledger, plain_floor, with_waiting, with_soles, job_wait, holds_in, holds_after}
@@ -18,7 +19,6 @@ use Rattle.cqs_cli.specs.Stores.{Store, IsLawful, Joins, stands_in}
 use Rattle.cqs_cli.specs.Waits.{place_in, wait_for}
 use Rattle.cqs_cli.proofs.Holdings.{count-set}
 use Rattle.cqs_cli.proofs.KeptNext.{funded-as, kept-next, stands-on, histories-next}
-use Rattle.cqs_cli.proofs.Resources.{bit-same, bit-other}
 
 -- One take, wait or arrival of a resource less has room.
 module _ {X : Type 0} (l : Ledger X) (at : ℕ) where

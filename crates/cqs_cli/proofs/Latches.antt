@@ -9,13 +9,14 @@ use Rattle.cqs_plan.specs.declared.floors.answers.FloorTake.TheVariants.{Now, Wa
 use Rattle.cqs_plan.specs.FloorHistory.{passes}
 use Rattle.cqs_plan.specs.Floor.{PlainFloor, IsIdle, IsJob, IsLatch, room_at, with_done}
 use Rattle.cqs_plan.specs.FloorCalls.{after_down, after_wait, down_answer, down_of, wait_answer}
+use Rattle.cqs_turns.proofs.KindsThere.{latch-there}
 use Rattle.cqs_cli.specs.DeskCalls.{Awaits, Downs, HasAt}
 use Rattle.cqs_cli.specs.Kept.{IsKept, elements_of}
 use Rattle.cqs_cli.specs.Ledger.{Ledger, holds_in, plain_floor, with_less_room, with_soles, with_waiting}
 use Rattle.cqs_cli.specs.Stores.{CanCount, CanWait, IsLawful, Store, deed_of}
 use Rattle.cqs_cli.proofs.Joining.{kept-later, plain-later}
 use Rattle.cqs_cli.proofs.Passing.{kept-passed, kept-through, plain-passed, plain-through}
-use Rattle.cqs_cli.proofs.Resources.{Funds, comes-there, funds-at, idle-there, job-there, latch-there, place-room, standing-there}
+use Rattle.cqs_cli.proofs.Resources.{Funds, comes-there, funds-at, idle-there, job-there, place-room, standing-there}
 
 -- a count down does this, by what it answers
 down-does : (f : PlainFloor) (at : ℕ) (answer : FloorDown) → with_done f at (deed_of answer) ≡ after_down f at answer

@@ -1,42 +1,15 @@
 -- The resources of a ledger, and what each is kept as.
-use Rattle.std.proofs.Common.{◌≡◌, ◌≢◌, ℕ, zero, suc, ◌<◌, ◌==◌, List, [], ◌∷◌, Option, Some, None, IsSome, length, map, get_or, slice_get, refl, ap, eq-eqb, ne_eqb, arith}
+use Rattle.std.proofs.Common.{◌≡◌, ℕ, zero, suc, ◌<◌, List, [], ◌∷◌, Option, Some, None, length, map, get_or, slice_get, refl, ap, arith}
 use Rattle.std.specs.Option.{option_map}
 use Rattle.std.proofs.lemmas.List.{length-map}
-use Rattle.cqs_core.proofs.Counts.{bit}
 use Rattle.cqs_core.proofs.Places.{get-below, get-there}
-use Rattle.cqs_plan.specs.declared.plans.kind.Kind.{Kind}
-use Rattle.cqs_plan.specs.Floor.{HasRound, IsHoldable, IsJob, IsLatch, size_of, standing_at, stands_in as stands_at, to_come_at}
+use Rattle.cqs_plan.specs.Floor.{IsJob, size_of, standing_at, stands_in as stands_at, to_come_at}
 use Rattle.cqs_plan.specs.FloorHistory.{of_permits, standing_in, to_come}
+use Rattle.cqs_turns.proofs.KindsThere.{IsThere}
 use Rattle.cqs_cli.specs.declared.floors.waits.Wait.{Wait}
 use Rattle.cqs_cli.specs.Kept.{IsKept, IsFundedAt}
 use Rattle.cqs_cli.specs.Ledger.{Ledger, job_wait, plain_floor}
 use Rattle.cqs_cli.specs.Stores.{Store, comes_in, stands, stands_in}
-
-pub bit-same : (n : ℕ) → bit (n == n) ≡ 1
-bit-same n = ap bit (eq-eqb n n refl)
-
-pub bit-other : (n m : ℕ) → n ≢ m → bit (n == m) ≡ 0
-bit-other n m other = ap bit (ne_eqb n m other)
-
--- a resource is there: one that can be held, a latch, or a barrier
-abbrev pub IsThere : Option Kind → Type 0
-IsThere k = (there : Kind) × (k ≡ Some there)
-
-pub holdable-there : (k : Option Kind) → IsHoldable k → IsThere k
-holdable-there None holdable = absurd holdable
-holdable-there (Some there) holdable = (there, refl)
-
-pub latch-there : (k : Option Kind) → IsLatch k → IsThere k
-latch-there None latch = absurd latch
-latch-there (Some there) latch = (there, refl)
-
-pub barrier-there : (k : Option Kind) (round : ℕ) → HasRound k round → IsThere k
-barrier-there None round barrier = absurd barrier
-barrier-there (Some there) round barrier = (there, refl)
-
-pub some-there : (k : Option Kind) → IsSome k → IsThere k
-some-there None some = absurd (cc)
-some-there (Some there) some = (there, refl)
 
 module _ {X : Type 0} (s : Store X) where
   -- what a resource is kept as, with its funds

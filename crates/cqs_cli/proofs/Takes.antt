@@ -8,6 +8,7 @@ use Rattle.cqs_plan.specs.declared.floors.answers.FloorTake.TheVariants.{Now, Wa
 use Rattle.cqs_plan.specs.FloorHistory.{takes, first_free}
 use Rattle.cqs_plan.specs.Floor.{PlainFloor, IsHoldable, IsJob, IsIdle, room_at, size_of}
 use Rattle.cqs_plan.specs.FloorCalls.{take_answer, after_take}
+use Rattle.cqs_turns.proofs.KindsThere.{holdable-there}
 use Rattle.cqs_cli.specs.declared.floors.transfers.Transfer.TheVariants.{Got}
 use Rattle.cqs_cli.specs.DeskCalls.{HasAt, Takes}
 use Rattle.cqs_cli.specs.Kept.{elements_of, IsKept, waiting_at, held_at}
@@ -17,7 +18,7 @@ use Rattle.cqs_cli.specs.Waits.{place_in}
 use Rattle.cqs_cli.proofs.Holdings.{held-got, else-got, many-got, holds-transfer}
 use Rattle.cqs_cli.proofs.Joining.{fewer-room, kept-later, plain-later, room-else, room-here}
 use Rattle.cqs_cli.proofs.KeptNext.{funded-as, kept-next, stands-on, histories-next}
-use Rattle.cqs_cli.proofs.Resources.{Funds, funds-at, history-there, holdable-there, standing-there, place-room, job-there, idle-there}
+use Rattle.cqs_cli.proofs.Resources.{Funds, funds-at, history-there, standing-there, place-room, job-there, idle-there}
 
 module _ {X : Type 0} (s : Store X) where
   -- a resource with room can take one more call

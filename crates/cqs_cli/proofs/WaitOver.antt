@@ -11,6 +11,7 @@ use Rattle.cqs_core.proofs.Counts.{bit}
 use Rattle.cqs_core.proofs.Places.{get-set_here, get-set_else, get-below}
 use Rattle.cqs_plan.specs.FloorHistory.{Deed, of_permits, with_deed_in}
 use Rattle.cqs_plan.specs.Floor.{size_of}
+use Rattle.cqs_turns.proofs.StepCounts.{bit-same, bit-other}
 use Rattle.cqs_cli.specs.declared.floors.transfers.Transfer.TheVariants.{Got}
 use Rattle.cqs_cli.specs.declared.floors.waits.Wait.{Wait}
 use Rattle.cqs_cli.specs.Kept.{IsKept, StandsIn, AreApart, waiting_at, held_at, is_wait_at}
@@ -19,7 +20,6 @@ use Rattle.cqs_cli.specs.Stores.{Store, Goes, KeepsOthers, with_more}
 use Rattle.cqs_cli.specs.Waits.{place_in}
 use Rattle.cqs_cli.proofs.Holdings.{count-set, held-got, else-got, many-got, holds-transfer}
 use Rattle.cqs_cli.proofs.KeptNext.{funded-as, kept-next, stands-on, histories-next}
-use Rattle.cqs_cli.proofs.Resources.{bit-same, bit-other}
 
 -- a job whose wait stands
 module _ {X : Type 0} (s : Store X) (l : Ledger X) (job : ℕ) (wait : Wait) (kept : IsKept s l)

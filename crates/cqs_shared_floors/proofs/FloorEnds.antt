@@ -6,6 +6,7 @@ use Rattle.cqs_core.proofs.Counts.{bit}
 use Rattle.cqs_plan.specs.declared.floors.answers.FloorEnd.{FloorEnd}
 use Rattle.cqs_plan.specs.Floor.{Holding, size_of}
 use Rattle.cqs_plan.specs.FloorHistory.{ending, of_permits}
+use Rattle.cqs_turns.proofs.KindsThere.{some-there}
 use Rattle.cqs_shared.specs.Calls.{HaveAllMet, IsAtRest, end_answer}
 use Rattle.cqs_shared_floors.specs.declared.floors.spots.FloorWait.{FloorWait}
 use Rattle.cqs_shared_floors.specs.declared.floors.spots.Spot.{Spot}
@@ -19,7 +20,7 @@ use Rattle.cqs_shared_floors.specs.Spots.{came_at, job_wait, stands_at}
 use Rattle.cqs_shared_floors.proofs.FloorComes.{none-came, none-stands}
 use Rattle.cqs_shared_floors.proofs.FloorCrews.{whole-at}
 use Rattle.cqs_shared_floors.proofs.FloorLists.{index-mapped}
-use Rattle.cqs_shared_floors.proofs.FloorPlaces.{here, some-there}
+use Rattle.cqs_shared_floors.proofs.FloorPlaces.{here}
 
 -- of what never is so none is counted
 count-none : (p : Spot → Bool) (spots : List Spot)

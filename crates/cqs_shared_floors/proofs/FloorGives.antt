@@ -3,6 +3,7 @@ use Rattle.std.proofs.Common.{◌≡◌, ℕ, ◌<◌, IsTrue, [], Some, length,
 use Rattle.std.specs.List.{list_any}
 use Rattle.cqs_plan.specs.declared.floors.answers.FloorDown.{FloorDown}
 use Rattle.cqs_plan.specs.Floor.{IsHoldable, IsHolding, IsJob, IsLatch, oldest}
+use Rattle.cqs_turns.proofs.KindsThere.{holdable-there, latch-there}
 use Rattle.cqs_shared.specs.declared.shared.SharedGive.{SharedGive}
 use Rattle.cqs_shared.specs.AnswerEntries.{down_entries, give_entries}
 use Rattle.cqs_shared.specs.Calls as floor
@@ -16,7 +17,7 @@ use Rattle.cqs_shared_floors.specs.ShareCalls as calls
 use Rattle.cqs_shared_floors.specs.Shares.{Sees, Share, held_by}
 use Rattle.cqs_shared_floors.specs.Spots.{place_in}
 use Rattle.cqs_shared_floors.proofs.FloorNext.{kept-next, next, parties-kept, sees-next, seen-next, stands-on}
-use Rattle.cqs_shared_floors.proofs.FloorPlaces.{Here, Well, here, holdable-there, job-there, latch-there}
+use Rattle.cqs_shared_floors.proofs.FloorPlaces.{Here, Well, here, job-there}
 use Rattle.cqs_shared_floors.proofs.JobHoldings.{else-less, held-less, held-there, holding-any, jobs-less, less-long, oldest-is, some-elements}
 
 module _ {X : Type 0} (s : Share X) (l : Ledger X) (at job : ℕ) (kept : IsKept s l)

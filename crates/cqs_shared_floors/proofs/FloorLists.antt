@@ -1,16 +1,10 @@
 -- Lists of what resources are kept as: what is read off each, and after one of them has made a call.
-use Rattle.std.proofs.Common.{◌≡◌, ◌≢◌, ℕ, zero, suc, ◌+◌, ◌==◌, Bool, List, [], ◌∷◌, Some, map, set, get_or, slice_get, refl, ap, sym, ◌∙◌, eq-eqb, ne_eqb}
+use Rattle.std.proofs.Common.{◌≡◌, ℕ, zero, suc, ◌+◌, Bool, List, [], ◌∷◌, Some, map, set, get_or, slice_get, refl, ap, sym, ◌∙◌}
 use Rattle.std.specs.List.{count_by}
 use Rattle.std.proofs.lemmas.List.Sums.{sum_by-set}
 use Rattle.std.proofs.lemmas.Option.{get_or_from_slice_get}
 use Rattle.cqs_core.proofs.Counts.{bit}
 use Rattle.cqs_core.proofs.Places.{get-below}
-
-pub bit-same : (n : ℕ) → bit (n == n) ≡ 1
-bit-same n = ap bit (eq-eqb n n refl)
-
-pub bit-other : (n m : ℕ) → n ≢ m → bit (n == m) ≡ 0
-bit-other n m other = ap bit (ne_eqb n m other)
 
 module _ {X Y : Type 0} (f : X → Y) where
   pub get-mapped : (xs : List X) (i : ℕ) (x : X) → slice_get xs i ≡ Some x → slice_get (map f xs) i ≡ Some (f x)

@@ -10,6 +10,7 @@ use Rattle.cqs_core.proofs.Places.{get-below, get-set_here, get-set_else}
 use Rattle.cqs_plan.specs.declared.plans.kind.Kind.{Kind}
 use Rattle.cqs_plan.specs.Floor.{PlainFloor, wait_of, with_came as with_came_plain, with_newest}
 use Rattle.cqs_plan.specs.Language.{can_hold}
+use Rattle.cqs_turns.proofs.StepCounts.{bit-other, bit-same}
 use Rattle.cqs_shared_floors.specs.declared.floors.holdings.JobHolding.{JobHolding}
 use Rattle.cqs_shared_floors.specs.declared.floors.spots.FloorWait.{FloorWait}
 use Rattle.cqs_shared_floors.specs.declared.floors.spots.Spot.{Spot}
@@ -19,7 +20,7 @@ use Rattle.cqs_shared_floors.specs.Ledgers.{Ledger, brought_to, holds_in, shared
 use Rattle.cqs_shared_floors.specs.Shares.{Funds, IsSame, KeepsOthers, Share, with_brought, with_came, with_more, with_wait}
 use Rattle.cqs_shared_floors.specs.Spots.{came_at, job_wait, no_spot, place_in, spot_in, spot_over, stands_at}
 use Rattle.cqs_shared_floors.proofs.FloorComes.{none-came, none-stands}
-use Rattle.cqs_shared_floors.proofs.FloorLists.{bit-other, bit-same, count-set, index-mapped, map-kept}
+use Rattle.cqs_shared_floors.proofs.FloorLists.{count-set, index-mapped, map-kept}
 use Rattle.cqs_shared_floors.proofs.FloorNext.{Follows, kept-next, next, stands-on}
 use Rattle.cqs_shared_floors.proofs.JobHoldings.{else-more, held-more, jobs-more}
 

@@ -1,10 +1,11 @@
 -- What a call of a floor finds: its resource, with what the jobs have of it, and its job.
-use Rattle.std.proofs.Common.{◌≡◌, ℕ, ◌<◌, List, Option, Some, None, IsSome, length, slice_get, refl, sym, ◌∙◌, arith}
+use Rattle.std.proofs.Common.{◌≡◌, ℕ, ◌<◌, List, Option, Some, None, length, slice_get, refl, sym, ◌∙◌, arith}
 use Rattle.std.specs.Option.{option_map}
 use Rattle.std.proofs.lemmas.List.{length-map}
 use Rattle.cqs_core.proofs.Places.{get-below, get-there}
 use Rattle.cqs_plan.specs.declared.plans.kind.Kind.{Kind}
-use Rattle.cqs_plan.specs.Floor.{HasRound, IsHoldable, IsIdle, IsJob, IsLatch}
+use Rattle.cqs_plan.specs.Floor.{IsIdle, IsJob}
+use Rattle.cqs_turns.proofs.KindsThere.{IsThere}
 use Rattle.cqs_shared.specs.Shared.{Shared}
 use Rattle.cqs_shared_floors.specs.declared.floors.spots.FloorWait.{FloorWait}
 use Rattle.cqs_shared_floors.specs.declared.floors.spots.Spot.{Spot}
@@ -15,26 +16,6 @@ use Rattle.cqs_shared_floors.specs.Shares.{Share}
 use Rattle.cqs_shared_floors.specs.Spots.{job_wait}
 use Rattle.cqs_shared_floors.proofs.FloorLists.{index-mapped}
 use Rattle.cqs_shared_floors.proofs.JobHoldings.{jobs-long}
-
--- a resource is there: one that can be held, a latch, or a barrier
-abbrev pub IsThere : Option Kind → Type 0
-IsThere k = (there : Kind) × (k ≡ Some there)
-
-pub holdable-there : (k : Option Kind) → IsHoldable k → IsThere k
-holdable-there None holdable = absurd holdable
-holdable-there (Some there) holdable = (there, refl)
-
-pub latch-there : (k : Option Kind) → IsLatch k → IsThere k
-latch-there None latch = absurd latch
-latch-there (Some there) latch = (there, refl)
-
-pub barrier-there : (k : Option Kind) (round : ℕ) → HasRound k round → IsThere k
-barrier-there None round barrier = absurd barrier
-barrier-there (Some there) round barrier = (there, refl)
-
-pub some-there : (k : Option Kind) → IsSome k → IsThere k
-some-there None some = absurd (cc)
-some-there (Some there) some = (there, refl)
 
 -- what a call leaves: the floor keeps what it keeps, and is this to its caller
 pub record Well {X : Type 0} (s : Share X) (Does : Shared → Type 0) (n : Ledger X) : Type 0 where

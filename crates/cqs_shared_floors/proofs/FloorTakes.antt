@@ -11,6 +11,8 @@ use Rattle.cqs_plan.specs.declared.plans.kind.Kind.{Kind}
 use Rattle.cqs_plan.specs.declared.plans.kind.Kind.TheVariants as kind
 use Rattle.cqs_plan.specs.Floor.{HasRound, Holding, IsHoldable, IsIdle, IsJob, IsLatch, JobWait, PlainFloor, room_at}
 use Rattle.cqs_plan.specs.Validity.{IsKind}
+use Rattle.cqs_turns.proofs.KindsThere.{barrier-there, holdable-there, latch-there}
+use Rattle.cqs_turns.proofs.StepCounts.{bit-same}
 use Rattle.cqs_shared.specs.declared.shared.Turned.{Turned}
 use Rattle.cqs_shared.specs.Calls as floor
 use Rattle.cqs_shared.specs.Calls.{answer_of, board_arrived, board_taken, board_waited, parties_arrived}
@@ -29,9 +31,9 @@ use Rattle.cqs_shared_floors.specs.Shares.{Funds, Share, with_more}
 use Rattle.cqs_shared_floors.specs.Spots.{answer_for, came_at, job_wait, no_spot, spot_for, stands_at}
 use Rattle.cqs_shared_floors.proofs.FloorComes.{comes-of, floor-come, got, kept-come, came-after, standing-after, parties_then}
 use Rattle.cqs_shared_floors.proofs.FloorCrews.{index-past, space-within}
-use Rattle.cqs_shared_floors.proofs.FloorLists.{bit-same, index-mapped, map-kept}
+use Rattle.cqs_shared_floors.proofs.FloorLists.{index-mapped, map-kept}
 use Rattle.cqs_shared_floors.proofs.FloorNext.{next}
-use Rattle.cqs_shared_floors.proofs.FloorPlaces.{Idles, Well, barrier-there, funds-long, here, holdable-there, idle-there, job-there, latch-there}
+use Rattle.cqs_shared_floors.proofs.FloorPlaces.{Idles, Well, funds-long, here, idle-there, job-there}
 use Rattle.cqs_shared_floors.proofs.JobHoldings.{else-more, held-more, jobs-more}
 
 -- a job that is there without a wait, and a resource with room that it comes to

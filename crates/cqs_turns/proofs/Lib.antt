@@ -14,3 +14,5 @@ pub mod Turning
 pub mod Ends
 pub mod Mapped
 pub mod NoneTurnedAway
+pub mod KindsThere
+pub mod StepCounts

@@ -67,6 +67,7 @@ impl<T: Carries + Send> Barrier<T> {
         ensures belongs { IsMine self.now pass.new }
         ensures sole { IsTrue result ↔ (live_in (pass_view pass.new).crew ≡ 1) }
         ensures alone { result ≡ (pass_view pass.new).alone }
+        ensures kept { (pass_view pass.old).alone ≡ true → (pass_view pass.new).alone ≡ true }
         ensures looked { HasLookedOn pass.old pass.new }
         ensures others { IsTrue result → IsAlone primitive_of (pass_view pass.new) }
     {

@@ -1,7 +1,7 @@
 //! What the number of a pass of a barrier stands for: the pass with the parties that it holds, its
 //! waits, and what it owes.
 
-ghost use Rattle.std.specs.Prelude.{◌≡◌, ◌≤◌, ◌<◌, ◌≢◌, All, IsSome, None, [], IfOk, OnOk, OnErr, IfErr, vec_len, vec_capacity};
+ghost use Rattle.std.specs.Prelude.{◌≡◌, ◌≤◌, ◌<◌, ◌≢◌, All, IsSome, None, [], IfOk, OnOk, OnErr, IfErr, vec_len, vec_capacity, true};
 ghost use Rattle.cqs_rule.specs.Passes.{pass_view};
 ghost use Rattle.cqs_rule.specs.Waits.{place_of};
 ghost use Rattle.cqs_barrier.specs.Calls.{IsMine, IsReady};
@@ -194,6 +194,8 @@ impl BarrierCaller {
         requires stands { StandsAt barrier.now self.old }
         ensures stands { StandsAt barrier.now self.new }
         ensures answered { IsAnswered verbs.Sole 0 self.old result self.new }
+        ensures kept { (pass_view self.old.pass).alone ≡ true
+            → (pass_view self.new.pass).alone ≡ true }
     {
         Answer::Sole(barrier.sole(&mut self.pass))
     }

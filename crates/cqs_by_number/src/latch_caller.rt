@@ -1,6 +1,6 @@
 //! What the number of a pass of a latch stands for: the pass, its waits, and what it owes.
 
-ghost use Rattle.std.specs.Prelude.{◌≡◌, ◌≤◌, ◌<◌, ◌≢◌, All, IsSome, None, [], IfOk, OnOk, OnErr, IfErr, vec_len, vec_capacity};
+ghost use Rattle.std.specs.Prelude.{◌≡◌, ◌≤◌, ◌<◌, ◌≢◌, All, IsSome, None, [], IfOk, OnOk, OnErr, IfErr, vec_len, vec_capacity, true};
 ghost use Rattle.cqs_rule.specs.Passes.{pass_view};
 ghost use Rattle.cqs_rule.specs.Waits.{place_of};
 ghost use Rattle.cqs_latch.specs.Calls.{IsMine, IsReady};
@@ -186,6 +186,8 @@ impl LatchCaller {
         requires stands { StandsAt latch.now self.old }
         ensures stands { StandsAt latch.now self.new }
         ensures answered { IsAnswered latch.now verbs.Sole 0 self.old result self.new }
+        ensures kept { (pass_view self.old.pass).alone ≡ true
+            → (pass_view self.new.pass).alone ≡ true }
     {
         Answer::Sole(latch.sole(&mut self.pass))
     }

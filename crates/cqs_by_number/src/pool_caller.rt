@@ -1,7 +1,7 @@
 //! What the number of a pass of a pool stands for: the pass, its waits, the elements that it has in
 //! hand, and what it owes.
 
-ghost use Rattle.std.specs.Prelude.{◌≡◌, ◌≤◌, ◌<◌, ◌≢◌, All, IsSome, None, [], IfOk, OnOk, OnErr, IfErr, vec_len, vec_capacity};
+ghost use Rattle.std.specs.Prelude.{◌≡◌, ◌≤◌, ◌<◌, ◌≢◌, All, IsSome, None, [], IfOk, OnOk, OnErr, IfErr, vec_len, vec_capacity, true};
 ghost use Rattle.cqs_rule.specs.Passes.{pass_view};
 ghost use Rattle.cqs_rule.specs.Waits.{place_of};
 ghost use Rattle.cqs_pool.specs.Calls.{IsMine, IsReady};
@@ -216,6 +216,8 @@ impl PoolCaller {
         requires stands { StandsAt pool.now self.old }
         ensures stands { StandsAt pool.now self.new }
         ensures answered { IsAnswered verbs.Sole 0 self.old result self.new }
+        ensures kept { (pass_view self.old.pass).alone ≡ true
+            → (pass_view self.new.pass).alone ≡ true }
     {
         Answer::Sole(pool.sole(&mut self.pass))
     }

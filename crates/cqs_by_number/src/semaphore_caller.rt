@@ -1,7 +1,7 @@
 //! What the number of a pass of a semaphore stands for: the pass, the places of its waits, and what
 //! it owes.
 
-ghost use Rattle.std.specs.Prelude.{◌≡◌, ◌≤◌, ◌<◌, ◌≢◌, All, IsSome, IfSome, None, [], IfOk, OnOk, IfErr, OnErr, vec_len, vec_capacity};
+ghost use Rattle.std.specs.Prelude.{◌≡◌, ◌≤◌, ◌<◌, ◌≢◌, All, IsSome, IfSome, None, [], IfOk, OnOk, IfErr, OnErr, vec_len, vec_capacity, true};
 ghost use Rattle.cqs_rule.specs.Passes.{pass_view};
 ghost use Rattle.cqs_semaphore.specs.Calls.{IsMine, IsReady};
 ghost use Rattle.cqs_semaphore.specs.Owed.{owed_after};
@@ -222,6 +222,8 @@ impl SemaphoreCaller {
         requires stands { StandsAt semaphore.now self.old }
         ensures stands { StandsAt semaphore.now self.new }
         ensures answered { IsAnswered verbs.Sole 0 self.old result self.new }
+        ensures kept { (pass_view self.old.pass).alone ≡ true
+            → (pass_view self.new.pass).alone ≡ true }
     {
         Answer::Sole(semaphore.sole(&mut self.pass))
     }

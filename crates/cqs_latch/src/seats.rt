@@ -64,6 +64,7 @@ impl<T: Carries + Send> Latch<T> {
         ensures belongs { IsMine self.now pass.new }
         ensures sole { IsTrue result ↔ (live_in (pass_view pass.new).crew ≡ 1) }
         ensures alone { result ≡ (pass_view pass.new).alone }
+        ensures kept { (pass_view pass.old).alone ≡ true → (pass_view pass.new).alone ≡ true }
         ensures looked { LookedOn (pass_view pass.old) (pass_view pass.new) }
         ensures keeps { KeepsWaits (pass_view pass.old) (pass_view pass.new) }
         ensures ready { IsReady (pass_view pass.old).facts → IsReady (pass_view pass.new).facts }

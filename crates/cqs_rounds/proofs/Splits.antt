@@ -74,9 +74,11 @@ module _ {g : Ghosts BarrierClient (Unit {0}) BarrierEntry} where
 
   pub asked-by : (p q : Pass BarrierClient (Unit {0}) BarrierEntry g) (result : Bool) → HasLookedOn p q
       → result ≡ (pass_view q).alone → (IsTrue result ↔ live_in (pass_view q).crew ≡ 1)
-      → (IsTrue result → IsAlone primitive_of (pass_view q)) → HasAsked p q
-  asked-by p q result looked same sole others = record {
+      → (IsTrue result → IsAlone primitive_of (pass_view q))
+      → ((pass_view p).alone ≡ true → (pass_view q).alone ≡ true) → HasAsked p q
+  asked-by p q result looked same sole others kept = record {
     looked = looked;
     sole = (λ alone. sole.0 (same ∙ alone), λ one. sym same ∙ sole.1 one);
     others = λ alone. others (same ∙ alone);
+    kept = kept;
   }

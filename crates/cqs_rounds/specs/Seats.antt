@@ -115,6 +115,7 @@ module _ {g : Ghosts BarrierClient (Unit {0}) BarrierEntry} where
     pub looked : HasLookedOn p q
     pub sole : (pass_view q).alone ≡ true ↔ live_in (pass_view q).crew ≡ 1
     pub others : (pass_view q).alone ≡ true → IsAlone primitive_of (pass_view q)
+    pub kept : (pass_view p).alone ≡ true → (pass_view q).alone ≡ true
 
   -- a pass between two calls that has no wait and owes nothing
   pub record IsFree (p : Pass BarrierClient (Unit {0}) BarrierEntry g) : Type 0 where

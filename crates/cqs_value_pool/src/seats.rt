@@ -67,6 +67,7 @@ impl<T: Send + Drop> ValuePool<T> {
         ensures belongs { Belongs self.now pass.new }
         ensures sole { IsTrue result ↔ (live_in (pass_view pass.new).crew ≡ 1) }
         ensures alone { result ≡ (pass_view pass.new).alone }
+        ensures kept { (pass_view pass.old).alone ≡ true → (pass_view pass.new).alone ≡ true }
         ensures looked { LookedOn (pass_view pass.old) (pass_view pass.new) }
         ensures ready { IsReady (pass_view pass.old).facts → IsReady (pass_view pass.new).facts }
         ensures others { IsTrue result → SeesAll (pass_view pass.new) }

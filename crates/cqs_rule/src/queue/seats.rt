@@ -29,6 +29,7 @@ impl<C: ClientWords> Queue<C> {
         ensures belongs { IsOf self.now pass.new }
         ensures sole { IsTrue result ↔ (live_in (pass_view pass.new).crew ≡ 1) }
         ensures alone { result ≡ (pass_view pass.new).alone }
+        ensures kept { (pass_view pass.old).alone ≡ true → (pass_view pass.new).alone ≡ true }
         ensures looked { HasLookedOn pass.old pass.new }
         ensures others { IsTrue result → IsSole C.primitive (pass_view pass.new) }
     {

@@ -28,3 +28,6 @@ load-found-requires g c =
             ),
           )),
     )
+
+pub returns-clause-kept : goal.returns-clause-kept
+returns-clause-kept g c = c.load-found.ensures.2.0.0.kept

@@ -13,7 +13,7 @@ use cqs_cell::{leave_at_once, look};
 use cqs_rule::{Cancels, ClientWords, Pass, Place, Queue, Wait};
 
 /// What became of a wait that was to leave at once.
-#[derive(Clone, Copy, Debug, PartialEq, Eq)]
+#[derive(Clone, Copy)]
 pub enum AtOnce {
     /// The wait is over, and the resume that comes to its cell ends there.
     Gone,

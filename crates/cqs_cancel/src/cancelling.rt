@@ -15,7 +15,7 @@ use cqs_cell::{begin_cancel, look, settle};
 use cqs_rule::{Cancels, Client, Pass, Place, Queue, Wait};
 
 /// What became of a cancel.
-#[derive(Clone, Copy, Debug, PartialEq, Eq)]
+#[derive(Clone, Copy)]
 pub enum Left {
     /// The wait is over, and nothing is owed for it: the waiter has left the line, or it was
     /// refused and what was on its way to it ended.

@@ -1,7 +1,7 @@
 //! What a pass is in the middle of.
 
 /// What a pass does between two atomic steps of one call.
-#[derive(Clone, Copy, PartialEq, Eq, Debug)]
+#[derive(Clone, Copy)]
 pub enum Doing {
     /// Between two calls.
     Idle,

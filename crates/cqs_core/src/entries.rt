@@ -1,7 +1,7 @@
 //! The entries of a history of the fair semaphore.
 
 /// One entry of a history: what a call did to the plain semaphore with its line of waiters.
-#[derive(Clone, Copy, PartialEq, Eq, Debug)]
+#[derive(Clone, Copy)]
 pub enum Entry {
     /// The caller took a free permit.
     TakeNow { pass: u32 },

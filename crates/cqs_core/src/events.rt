@@ -1,7 +1,7 @@
 //! The events of the core: one atomic step of one pass each.
 
 /// One atomic step of a pass. `Core::step` makes it where the table of events allows it.
-#[derive(Clone, Copy, PartialEq, Eq, Debug)]
+#[derive(Clone, Copy)]
 pub enum Event {
     /// Acquire: one is taken from the state.
     Take { pass: u32 },

@@ -1,7 +1,7 @@
 //! What an event answers.
 
 /// What an event found and did.
-#[derive(Clone, Copy, PartialEq, Eq, Debug)]
+#[derive(Clone, Copy)]
 pub enum Outcome {
     /// Take: a permit was free.
     Now,

@@ -12,7 +12,7 @@ ghost use Rattle.cqs_rule.specs.Ruled.{number_at};
 use cqs_rule::{CELLS_WORD, ClientWords, Pass, Place, Queue};
 
 /// Where a cell was found.
-#[derive(Clone, Copy, Debug, PartialEq, Eq)]
+#[derive(Clone, Copy)]
 pub enum Found {
     /// At this place.
     At(Place),

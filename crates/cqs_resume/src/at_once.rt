@@ -13,7 +13,7 @@ use cqs_rule::{Begins, ClientWords, Misses, Pass, Queue, RESUMES_WORD, Reaches, 
 use cqs_words::CellState;
 
 /// How a resumption ended where waits leave at once.
-#[derive(Clone, Copy, Debug, PartialEq, Eq)]
+#[derive(Clone, Copy)]
 pub enum EndedAtOnce {
     /// The waiter of this number was served.
     Served(u64),

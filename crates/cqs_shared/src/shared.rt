@@ -10,12 +10,12 @@ use cqs_plan::{FloorDown, FloorEnd, FloorLeave, FloorLook, FloorTake};
 use std::sync::Wait;
 
 /// The call was turned away: no number is left in the resource's line.
-#[derive(Clone, Copy, Debug, PartialEq, Eq)]
+#[derive(Clone, Copy)]
 pub struct Turned;
 
 /// Where what a job gave back went. The element is the one that the job held there: of a pool its
 /// number, and of anything else the 0 that it came with.
-#[derive(Clone, Copy, Debug, PartialEq, Eq)]
+#[derive(Clone, Copy)]
 pub enum SharedGive {
     /// Nobody waits: this element is free.
     Free(u32),

@@ -3,7 +3,7 @@
 /// What a job did: at the place of a resource, with the number of a wait or an element of a pool.
 /// What isn't of a pool has the element 0, and tells none; what isn't of a barrier has the round 0,
 /// and tells none.
-#[derive(Clone, Copy, Debug, PartialEq, Eq)]
+#[derive(Clone, Copy)]
 pub enum Told {
     Takes {
         at: u32,

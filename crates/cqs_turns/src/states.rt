@@ -5,7 +5,7 @@ ghost use Rattle.cqs_turns.specs.Lines.{is_done, has_given_up, is_late, is_unfin
 ghost use Rattle.cqs_turns.specs.Machine.{rests};
 
 /// How a job ended.
-#[derive(Clone, Copy, Debug, PartialEq, Eq)]
+#[derive(Clone, Copy)]
 pub enum End {
     /// It made all its steps.
     Done,
@@ -18,7 +18,7 @@ pub enum End {
 }
 
 /// How far a job is. `next` is the place of the step that it makes next.
-#[derive(Clone, Copy, Debug, PartialEq, Eq)]
+#[derive(Clone, Copy)]
 pub enum Progress {
     /// It has just begun.
     Stepping(u32),

@@ -6,7 +6,7 @@ ghost use Rattle.cqs_work.specs.Ends.{AreTotals, is_done, has_given_up, is_late,
 use std::marker::Model;
 
 /// How a job ended that was one worker's.
-#[derive(Clone, Copy, Debug, PartialEq, Eq)]
+#[derive(Clone, Copy)]
 pub enum JobEnd {
     /// It made all its steps.
     Done,
@@ -22,7 +22,7 @@ pub enum JobEnd {
 }
 
 /// How each job of a plan ended, in the plan's order.
-#[derive(Debug, Drop)]
+#[derive(Drop)]
 pub struct JobEnds {
     items: Vec<JobEnd>,
 }
@@ -59,7 +59,7 @@ impl JobEnds {
 }
 
 /// How many jobs ended in each way.
-#[derive(Clone, Copy, Debug, PartialEq, Eq)]
+#[derive(Clone, Copy)]
 pub struct Totals {
     pub done: u32,
     pub gave_up: u32,

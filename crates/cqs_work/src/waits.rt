@@ -12,7 +12,7 @@ use std::marker::Model;
 
 /// A job was answered that it waits: at which place of the plan's resources, in which round where
 /// that is a barrier, and under which number. What isn't a barrier has the round 0.
-#[derive(Clone, Copy, Debug, PartialEq, Eq)]
+#[derive(Clone, Copy)]
 pub struct Waited {
     pub at: u32,
     pub round: u32,
@@ -23,7 +23,7 @@ pub struct Waited {
 
 /// A wait at a semaphore: at which place of the plan's resources, under which number, and the place
 /// of the job that waited.
-#[derive(Clone, Copy, Debug, PartialEq, Eq)]
+#[derive(Clone, Copy)]
 pub struct WaitLine {
     pub at: u32,
     pub number: u64,
@@ -32,7 +32,7 @@ pub struct WaitLine {
 
 /// All waits at a plan's semaphores: those of each semaphore together, in the order of their
 /// numbers.
-#[derive(Debug, Drop)]
+#[derive(Drop)]
 pub struct WaitLines {
     items: Vec<WaitLine>,
 }

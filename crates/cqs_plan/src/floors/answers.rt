@@ -2,7 +2,7 @@
 //! every other kind of resource.
 
 /// What a job's take, its wait at a latch or its arrival at a barrier came to.
-#[derive(Clone, Copy, Debug, PartialEq, Eq)]
+#[derive(Clone, Copy)]
 pub enum FloorTake {
     /// The job holds this element; or it goes on, and the element is 0.
     Now(u32),
@@ -11,7 +11,7 @@ pub enum FloorTake {
 }
 
 /// Where what a job gave back went.
-#[derive(Clone, Copy, Debug, PartialEq, Eq)]
+#[derive(Clone, Copy)]
 pub enum FloorGive {
     /// Nobody waits: this element is free.
     Free(u32),
@@ -20,7 +20,7 @@ pub enum FloorGive {
 }
 
 /// What a job found that looked at its wait.
-#[derive(Clone, Copy, Debug, PartialEq, Eq)]
+#[derive(Clone, Copy)]
 pub enum FloorLook {
     /// It isn't served yet.
     Pending,
@@ -29,7 +29,7 @@ pub enum FloorLook {
 }
 
 /// What a job found that wanted to leave the line.
-#[derive(Clone, Copy, Debug, PartialEq, Eq)]
+#[derive(Clone, Copy)]
 pub enum FloorLeave {
     /// Its wait is gone.
     Gone,
@@ -38,7 +38,7 @@ pub enum FloorLeave {
 }
 
 /// What a count down of a latch came to.
-#[derive(Clone, Copy, Debug, PartialEq, Eq)]
+#[derive(Clone, Copy)]
 pub enum FloorDown {
     /// The latch is still to be counted down so often.
     Left(u32),
@@ -49,7 +49,7 @@ pub enum FloorDown {
 }
 
 /// How a resource stands.
-#[derive(Clone, Copy, Debug, PartialEq, Eq)]
+#[derive(Clone, Copy)]
 pub enum FloorEnd {
     /// What can be taken and given: how many are free, how many jobs hold or were sent and not yet
     /// looked at, and how many waits stand in the line.

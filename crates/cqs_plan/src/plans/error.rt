@@ -8,7 +8,7 @@ use super::name::Name;
 use std::alloc::{AllocError, AllocFailed};
 
 /// Why bytes weren't read as a plan.
-#[derive(Debug, Drop)]
+#[derive(Drop)]
 pub enum PlanError {
     /// Memory ran out.
     Memory,

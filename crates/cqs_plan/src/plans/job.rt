@@ -7,7 +7,7 @@ use super::step::Steps;
 use std::marker::Model;
 
 /// A caller of the resources, with what it does.
-#[derive(Debug, Drop)]
+#[derive(Drop)]
 pub struct Job {
     pub name: Name,
     pub steps: Steps,
@@ -16,7 +16,7 @@ pub struct Job {
 }
 
 /// The jobs of a plan, in the order in which each turn lets them act.
-#[derive(Debug, Drop)]
+#[derive(Drop)]
 pub struct Jobs {
     items: Vec<Job>,
 }

@@ -1,7 +1,7 @@
 //! The kinds of resource.
 
 /// What a resource is, with its numbers.
-#[derive(Clone, Copy, Debug, PartialEq, Eq)]
+#[derive(Clone, Copy)]
 pub enum Kind {
     /// A semaphore with this many permits.
     Semaphore(u32),

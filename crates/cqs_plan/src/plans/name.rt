@@ -6,7 +6,7 @@ use std::marker::Model;
 
 /// The bytes of a name, or of the place of a fault. A plan's own names are 1 to 32 ASCII letters,
 /// digits, `_` and `-`; a place may quote a name that breaks this rule.
-#[derive(Debug, Drop)]
+#[derive(Drop)]
 pub struct Name {
     bytes: Vec<u8>,
 }

@@ -4,7 +4,7 @@ use super::job::Jobs;
 use super::resource::Resources;
 
 /// What to run: resources, jobs over them, and for how many turns.
-#[derive(Debug, Drop)]
+#[derive(Drop)]
 pub struct Plan {
     /// The version of the plan language.
     pub version: u32,

@@ -7,14 +7,14 @@ use super::name::Name;
 use std::marker::Model;
 
 /// What jobs share: a name and what stands behind it.
-#[derive(Debug, Drop)]
+#[derive(Drop)]
 pub struct Resource {
     pub name: Name,
     pub kind: Kind,
 }
 
 /// The resources of a plan. A step names one by its place here.
-#[derive(Debug, Drop)]
+#[derive(Drop)]
 pub struct Resources {
     items: Vec<Resource>,
 }

@@ -6,7 +6,7 @@ use std::marker::Model;
 
 /// One step of a job. The number is the place of a resource among the plan's resources, but in
 /// `Work`, where it counts turns.
-#[derive(Clone, Copy, Debug, PartialEq, Eq)]
+#[derive(Clone, Copy)]
 pub enum Step {
     /// Takes a permit, the lock or an element.
     Take(u32),
@@ -23,7 +23,7 @@ pub enum Step {
 }
 
 /// The steps of a job, in order.
-#[derive(Debug, Drop)]
+#[derive(Drop)]
 pub struct Steps {
     items: Vec<Step>,
 }

@@ -16,7 +16,7 @@ pub const LONGEST_INPUT: usize = 1_048_576;
 const PIECE: usize = 4096;
 
 /// Why an input could not be read whole.
-#[derive(Clone, Copy, Debug, PartialEq, Eq)]
+#[derive(Clone, Copy)]
 pub enum ReadError {
     /// There was no memory for it.
     Memory,

@@ -4,7 +4,7 @@ ghost use Rattle.std.specs.Prelude.{◌≡◌};
 ghost use Rattle.cqs_plan.specs.Tally.{after_read, no_reads};
 
 /// What a source counts of its reads, whether it tells its bytes or not.
-#[derive(Clone, Copy, Debug, PartialEq, Eq)]
+#[derive(Clone, Copy)]
 pub struct Tally {
     /// How many bytes they gave.
     pub given: u64,

@@ -9,6 +9,13 @@ use cqs_core::Memory;
 use cqs_plan::{FloorEnd, Kind, Resource};
 use itoa::Buffer;
 
+fn push_words(line: &mut Vec<u8>, words: &[u8]) -> Result<(), Memory>
+    ensures { OnOk result (line.new.items ≡ line.old.items ++ words.now) }
+{
+    line.extend_from_slice(words)?;
+    Ok(())
+}
+
 fn push_number(line: &mut Vec<u8>, number: u64) -> Result<(), Memory>
     ensures { OnOk result (line.new.items ≡ line.old.items ++ decimal number) }
 {
@@ -123,14 +130,27 @@ fn push_element(
     Ok(())
 }
 
+/// A verb, the resource that it is done to, and the element, where that is a pool.
+fn push_moved(
+    line: &mut Vec<u8>,
+    verb: &[u8],
+    resources: &[Resource],
+    at: u32,
+    element: u32,
+) -> Result<(), Memory>
+    ensures { OnOk result (line.new.items
+        ≡ line.old.items ++ verb.now ++ name_at resources.now at
+        ++ element_text resources.now at element) }
+{
+    push_verb(line, verb, name_of(resources, at))?;
+    push_element(line, resources, at, element)
+}
+
 fn push_told(line: &mut Vec<u8>, resources: &[Resource], told: Told) -> Result<(), Memory>
     ensures { OnOk result (line.new.items ≡ line.old.items ++ told_text resources.now told) }
 {
     match told {
-        Told::Takes { at, element } => {
-            push_verb(line, b"takes ", name_of(resources, at))?;
-            push_element(line, resources, at, element)
-        }
+        Told::Takes { at, element } => push_moved(line, b"takes ", resources, at, element),
         Told::Waits { at, round, number } => {
             push_wait(line, b"waits ", resources, at, round, number)
         }
@@ -144,18 +164,15 @@ fn push_told(line: &mut Vec<u8>, resources: &[Resource], told: Told) -> Result<(
             push_element(line, resources, at, element)
         }
         Told::GivesFree { at, element } => {
-            push_verb(line, b"gives ", name_of(resources, at))?;
-            push_element(line, resources, at, element)?;
-            line.extend_from_slice(b" free")?;
-            Ok(())
+            push_moved(line, b"gives ", resources, at, element)?;
+            push_words(line, b" free")
         }
         Told::GivesSent {
             at,
             element,
             number,
         } => {
-            push_verb(line, b"gives ", name_of(resources, at))?;
-            push_element(line, resources, at, element)?;
+            push_moved(line, b"gives ", resources, at, element)?;
             push_labelled(line, b" sent ", number)
         }
         Told::GaveUp { at, round, number } => {
@@ -175,13 +192,9 @@ fn push_told(line: &mut Vec<u8>, resources: &[Resource], told: Told) -> Result<(
         }
         Told::ArrivesLast { at, round } => {
             push_place(line, b"arrives ", resources, at, round)?;
-            line.extend_from_slice(b" last")?;
-            Ok(())
+            push_words(line, b" last")
         }
-        Told::Done => {
-            line.extend_from_slice(b"done")?;
-            Ok(())
-        }
+        Told::Done => push_words(line, b"done"),
     }
 }
 

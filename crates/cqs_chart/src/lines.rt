@@ -79,76 +79,91 @@ fn count_of<'a>(latch: &'a str, left: &str) -> Option<Event<'a>> {
     }
 }
 
-/// The event that the words after the job's name tell.
-fn event_of<'a>(words: &[&'a str]) -> Option<Event<'a>> {
-    Some(match words {
-        ["done"] => Event::Done,
-        ["takes", resource] => Event::Takes(resource),
-        ["takes", resource, "element", element] if are_numbers(&[element]) => {
-            Event::Takes(resource)
-        }
-        ["waits", resource, wait] if are_numbers(&[wait]) => Event::Waits(resource),
-        ["served", resource, wait] if are_numbers(&[wait]) => Event::Served(resource),
-        ["served", resource, wait, "element", element] if are_numbers(&[wait, element]) => {
-            Event::Served(resource)
-        }
-        ["gives", resource, "free"] => Event::Gives {
-            resource,
-            sent: false,
-        },
-        ["gives", resource, "element", element, "free"] if are_numbers(&[element]) => {
-            Event::Gives {
-                resource,
-                sent: false,
-            }
-        }
-        ["gives", resource, "sent", wait] if are_numbers(&[wait]) => Event::Gives {
-            resource,
-            sent: true,
-        },
-        ["gives", resource, "element", element, "sent", wait] if are_numbers(&[element, wait]) => {
-            Event::Gives {
-                resource,
-                sent: true,
-            }
-        }
-        ["gaveup", resource, wait] if are_numbers(&[wait]) => Event::GaveUp(resource),
-        ["late", resource, wait] if are_numbers(&[wait]) => Event::Late(resource),
-        ["passes", _] => Event::Passes,
-        ["downs", latch, "left", count] => return count_of(latch, count),
-        ["downs", _, "already"] => Event::Passes,
-        ["downs", latch, "open"] => Event::Opens(latch),
-        ["arrives", round, "last"] => return completion_of(round),
-        _ => return None,
-    })
+/// What was taken: a permit, a mutex or an element.
+fn take_of<'a>(words: &[&'a str]) -> Option<Event<'a>> {
+    match words {
+        [resource] => Some(Event::Takes(resource)),
+        [resource, "element", element] if are_numbers(&[element]) => Some(Event::Takes(resource)),
+        _ => None,
+    }
 }
 
-/// What a line tells, or none where it is no line of a report.
-pub fn read_line<'a>(alloc: Global, line: &'a str) -> Result<Option<Line<'a>>, AllocError> {
-    let mut words = Vec::new(alloc);
-    for word in line.split(' ') {
-        words.push(word)?;
+/// Which wait is over.
+fn service_of<'a>(words: &[&'a str]) -> Option<Event<'a>> {
+    match words {
+        [resource, wait] if are_numbers(&[wait]) => Some(Event::Served(resource)),
+        [resource, wait, "element", element] if are_numbers(&[wait, element]) => {
+            Some(Event::Served(resource))
+        }
+        _ => None,
     }
-    Ok(match words.as_slice() {
-        ["end", resource, "free", free, "held", held, "line", waiting]
-            if are_numbers(&[free, held, waiting]) => {
-            Some(Line::End {
-                resource,
-                kind: Kind::Held,
-            })
+}
+
+/// Where what was given back has gone.
+fn gift_of<'a>(resource: &'a str, words: &[&str]) -> Option<Event<'a>> {
+    let sent = match words {
+        ["free"] => false,
+        ["sent", wait] if are_numbers(&[wait]) => true,
+        _ => return None,
+    };
+    Some(Event::Gives { resource, sent })
+}
+
+/// What was given back: a permit, a mutex or an element.
+fn give_of<'a>(words: &[&'a str]) -> Option<Event<'a>> {
+    match words {
+        [resource, "element", element, words @ ..] if are_numbers(&[element]) => {
+            gift_of(resource, words)
         }
-        ["end", resource, "count", count, "line", waiting] if are_numbers(&[count, waiting]) => {
-            Some(Line::End {
-                resource,
-                kind: Kind::Passed,
-            })
+        [resource, words @ ..] => gift_of(resource, words),
+        _ => None,
+    }
+}
+
+/// What became of a latch that was counted down.
+fn down_of<'a>(words: &[&'a str]) -> Option<Event<'a>> {
+    match words {
+        [latch, "left", count] => count_of(latch, count),
+        [_, "already"] => Some(Event::Passes),
+        [latch, "open"] => Some(Event::Opens(latch)),
+        _ => None,
+    }
+}
+
+/// The event that the words after the job's name tell.
+fn event_of<'a>(words: &[&'a str]) -> Option<Event<'a>> {
+    let (verb, words) = words.split_first()?;
+    match (*verb, words) {
+        ("done", []) => Some(Event::Done),
+        ("takes", words) => take_of(words),
+        ("served", words) => service_of(words),
+        ("gives", words) => give_of(words),
+        ("downs", words) => down_of(words),
+        ("waits", [resource, wait]) if are_numbers(&[wait]) => Some(Event::Waits(resource)),
+        ("gaveup", [resource, wait]) if are_numbers(&[wait]) => Some(Event::GaveUp(resource)),
+        ("late", [resource, wait]) if are_numbers(&[wait]) => Some(Event::Late(resource)),
+        ("passes", [_]) => Some(Event::Passes),
+        ("arrives", [round, "last"]) => completion_of(round),
+        _ => None,
+    }
+}
+
+/// What a resource is, by the words after its name at the end.
+fn kind_of(words: &[&str]) -> Option<Kind> {
+    match words {
+        ["free", free, "held", held, "line", waiting] if are_numbers(&[free, held, waiting]) => {
+            Some(Kind::Held)
         }
-        ["end", resource, "rounds", rounds] if are_numbers(&[rounds]) => Some(Line::End {
-            resource,
-            kind: Kind::Passed,
-        }),
+        ["count", count, "line", waiting] if are_numbers(&[count, waiting]) => Some(Kind::Passed),
+        ["rounds", rounds] if are_numbers(&[rounds]) => Some(Kind::Passed),
+        _ => None,
+    }
+}
+
+/// Whether the words after `total` are so many numbers under their names.
+fn are_totals(words: &[&str]) -> bool {
+    match words {
         [
-            "total",
             "done",
             done,
             "gaveup",
@@ -157,11 +172,35 @@ pub fn read_line<'a>(alloc: Global, line: &'a str) -> Result<Option<Line<'a>>, A
             late,
             "unfinished",
             unfinished,
-        ] if are_numbers(&[done, gave_up, late, unfinished]) => { Some(Line::Total) }
-        [turn, job, words @ ..] => match (turn.parse(), event_of(words)) {
-            (Ok(turn), Some(event)) => Some(Line::Event { turn, job, event }),
-            _ => None,
-        },
+        ] => { are_numbers(&[done, gave_up, late, unfinished]) }
+        _ => false,
+    }
+}
+
+/// What a line of these words tells, or none where it is no line of a report.
+fn line_of<'a>(words: &[&'a str]) -> Option<Line<'a>> {
+    match words {
+        ["end", resource, words @ ..] => {
+            let kind = kind_of(words)?;
+            Some(Line::End { resource, kind })
+        }
+        ["total", words @ ..] if are_totals(words) => Some(Line::Total),
+        [turn, job, words @ ..] => {
+            let event = event_of(words)?;
+            match turn.parse() {
+                Ok(turn) => Some(Line::Event { turn, job, event }),
+                Err(_) => None,
+            }
+        }
         _ => None,
-    })
+    }
+}
+
+/// What a line tells, or none where it is no line of a report.
+pub fn read_line<'a>(alloc: Global, line: &'a str) -> Result<Option<Line<'a>>, AllocError> {
+    let mut words = Vec::new(alloc);
+    for word in line.split(' ') {
+        words.push(word)?;
+    }
+    Ok(line_of(words.as_slice()))
 }

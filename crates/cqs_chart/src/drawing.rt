@@ -312,9 +312,52 @@ fn rows_of(count: usize, height: u64) -> u64 {
     (count as u64).saturating_mul(height)
 }
 
+/// The row of a job: its name, its bar, and how it ended.
+fn draw_job<W: Write>(
+    out: &mut W,
+    alloc: Global,
+    name: &str,
+    job: &Job,
+    turns: u64,
+    top: u64,
+) -> anyhow::Result<()> {
+    draw_name(out, alloc, name, top)?;
+    for span in job.spans.iter() {
+        draw_span(out, *span, turns, top)?;
+    }
+    draw_end(out, job, turns, top)?;
+    let middle = top.saturating_add(JOB_BAR / 2);
+    draw_marks(out, job.marks.as_slice(), turns, middle)
+}
+
+/// The rows of all jobs, below the legend.
+fn draw_jobs<W: Write>(out: &mut W, alloc: Global, rows: &Rows) -> anyhow::Result<()> {
+    let mut top = LEGEND;
+    for (name, job) in rows.jobs.iter() {
+        draw_job(out, alloc, name.as_str(), job, rows.turns, top)?;
+        top = top.saturating_add(JOB_ROW);
+    }
+    Ok(())
+}
+
+/// The rows of all resources, from this height on.
+fn draw_resources<W: Write>(
+    out: &mut W,
+    alloc: Global,
+    rows: &Rows,
+    top: u64,
+) -> anyhow::Result<()> {
+    let mut top = top;
+    for (name, resource) in rows.resources.iter() {
+        draw_name(out, alloc, name.as_str(), top.saturating_add(8))?;
+        draw_resource(out, resource, rows.turns, top)?;
+        top = top.saturating_add(RESOURCE_ROW);
+    }
+    Ok(())
+}
+
 /// Writes the picture of these rows.
 pub fn draw<W: Write>(out: &mut W, alloc: Global, rows: &Rows) -> anyhow::Result<()> {
-    let turns = rows.turns;
     let resources = LEGEND.saturating_add(rows_of(rows.jobs.len(), JOB_ROW));
     let bottom = resources.saturating_add(rows_of(rows.resources.len(), RESOURCE_ROW));
     let height = bottom.saturating_add(30);
@@ -327,24 +370,9 @@ pub fn draw<W: Write>(out: &mut W, alloc: Global, rows: &Rows) -> anyhow::Result
     {
         out.write_all(PASSED_HEAD.as_bytes())?;
     }
-    let mut top = LEGEND;
-    for (name, job) in rows.jobs.iter() {
-        draw_name(out, alloc, name.as_str(), top)?;
-        for span in job.spans.iter() {
-            draw_span(out, *span, turns, top)?;
-        }
-        draw_end(out, job, turns, top)?;
-        let middle = top.saturating_add(JOB_BAR / 2);
-        draw_marks(out, job.marks.as_slice(), turns, middle)?;
-        top = top.saturating_add(JOB_ROW);
-    }
-    let mut top = resources;
-    for (name, resource) in rows.resources.iter() {
-        draw_name(out, alloc, name.as_str(), top.saturating_add(8))?;
-        draw_resource(out, resource, turns, top)?;
-        top = top.saturating_add(RESOURCE_ROW);
-    }
-    draw_turns(out, turns, bottom)?;
+    draw_jobs(out, alloc, rows)?;
+    draw_resources(out, alloc, rows, resources)?;
+    draw_turns(out, rows.turns, bottom)?;
     out.write_all(b"</svg>\n")?;
     Ok(())
 }

@@ -130,20 +130,36 @@ fn down_of<'a>(words: &[&'a str]) -> Option<Event<'a>> {
     }
 }
 
+/// The resource and the number of a wait.
+fn waited_at<'a>(words: &[&'a str]) -> Option<&'a str> {
+    match words {
+        [resource, wait] if are_numbers(&[wait]) => Some(resource),
+        _ => None,
+    }
+}
+
+/// Who came as the last party of a round.
+fn arrival_of<'a>(words: &[&'a str]) -> Option<Event<'a>> {
+    match words {
+        [round, "last"] => completion_of(round),
+        _ => None,
+    }
+}
+
 /// The event that the words after the job's name tell.
 fn event_of<'a>(words: &[&'a str]) -> Option<Event<'a>> {
     let (verb, words) = words.split_first()?;
-    match (*verb, words) {
-        ("done", []) => Some(Event::Done),
-        ("takes", words) => take_of(words),
-        ("served", words) => service_of(words),
-        ("gives", words) => give_of(words),
-        ("downs", words) => down_of(words),
-        ("waits", [resource, wait]) if are_numbers(&[wait]) => Some(Event::Waits(resource)),
-        ("gaveup", [resource, wait]) if are_numbers(&[wait]) => Some(Event::GaveUp(resource)),
-        ("late", [resource, wait]) if are_numbers(&[wait]) => Some(Event::Late(resource)),
-        ("passes", [_]) => Some(Event::Passes),
-        ("arrives", [round, "last"]) => completion_of(round),
+    match *verb {
+        "done" if words.is_empty() => Some(Event::Done),
+        "takes" => take_of(words),
+        "waits" => waited_at(words).map(Event::Waits),
+        "served" => service_of(words),
+        "gives" => give_of(words),
+        "gaveup" => waited_at(words).map(Event::GaveUp),
+        "late" => waited_at(words).map(Event::Late),
+        "passes" if words.len() == 1 => Some(Event::Passes),
+        "downs" => down_of(words),
+        "arrives" => arrival_of(words),
         _ => None,
     }
 }

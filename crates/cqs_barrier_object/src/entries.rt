@@ -1,7 +1,7 @@
 //! The entries of a history of the barrier.
 
 /// One entry of a history: what a call did to the plain barrier with its line of waiting parties.
-#[derive(Clone, Copy, PartialEq, Eq, Debug)]
+#[derive(Clone, Copy)]
 pub enum BarrierEntry {
     /// The caller's party arrived, and was the last.
     ArriveLast { pass: u32 },

@@ -1,7 +1,7 @@
 //! What the calls answer.
 
 /// What a call answers. Tokens and permits stay with the pass.
-#[derive(Clone, Copy, Debug, PartialEq, Eq, Drop)]
+#[derive(Clone, Copy, Drop)]
 pub enum Answer {
     /// No pass has this number.
     NoPass,

@@ -1,7 +1,7 @@
 //! What a caller may do with its pass.
 
 /// A call with one pass. Each primitive has some of them, under names of its own.
-#[derive(Clone, Copy, Debug, PartialEq, Eq, Drop)]
+#[derive(Clone, Copy, Drop)]
 pub enum Verb {
     /// `acquire` of a semaphore, `take` of a pool, `wait` of a latch, `arrive` of a barrier.
     Enter,

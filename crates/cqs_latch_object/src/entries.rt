@@ -1,7 +1,7 @@
 //! The entries of a history of a count-down latch.
 
 /// One entry of a history: what a call did to the plain latch with its line of waiters.
-#[derive(Clone, Copy, PartialEq, Eq, Debug)]
+#[derive(Clone, Copy)]
 pub enum LatchEntry {
     /// The caller counted down, and so many are left.
     DownLeft { pass: u32, left: u32 },

@@ -1,7 +1,7 @@
 //! The entries of a history of the pool.
 
 /// One entry of a history: what a call did to the plain pool with its line of waiters.
-#[derive(Clone, Copy, PartialEq, Eq, Debug)]
+#[derive(Clone, Copy)]
 pub enum PoolEntry {
     /// The caller gave this element back, and it is on its way.
     Put { pass: u32, element: u32 },

@@ -7,7 +7,7 @@ ghost use Rattle.cqs_threads.specs.Sums.{acquires_of, both_acquires, both_cancel
 use std::fmt;
 
 /// The answers to `acquire`.
-#[derive(Clone, Copy, Debug, Default, PartialEq, Eq)]
+#[derive(Clone, Copy, Default)]
 pub struct Acquires {
     /// A permit was free.
     pub free: u64,
@@ -20,7 +20,7 @@ pub struct Acquires {
 }
 
 /// The answers to `try_acquire`.
-#[derive(Clone, Copy, Debug, Default, PartialEq, Eq)]
+#[derive(Clone, Copy, Default)]
 pub struct Tries {
     pub got: u64,
     pub busy: u64,
@@ -28,7 +28,7 @@ pub struct Tries {
 }
 
 /// The answers to `release` and `finish`.
-#[derive(Clone, Copy, Debug, Default, PartialEq, Eq)]
+#[derive(Clone, Copy, Default)]
 pub struct Releases {
     pub freed: u64,
     pub sent: u64,
@@ -41,14 +41,14 @@ pub struct Releases {
 }
 
 /// The answers to `poll`.
-#[derive(Clone, Copy, Debug, Default, PartialEq, Eq)]
+#[derive(Clone, Copy, Default)]
 pub struct Polls {
     pub granted: u64,
     pub pending: u64,
 }
 
 /// The answers to `cancel`.
-#[derive(Clone, Copy, Debug, Default, PartialEq, Eq)]
+#[derive(Clone, Copy, Default)]
 pub struct Cancels {
     /// The wait is over, and nothing is owed.
     pub cancelled: u64,
@@ -58,7 +58,7 @@ pub struct Cancels {
 }
 
 /// How often each answer came.
-#[derive(Clone, Copy, Debug, Default, PartialEq, Eq)]
+#[derive(Clone, Copy, Default)]
 pub struct Counts {
     pub acquires: Acquires,
     pub tries: Tries,

@@ -68,7 +68,7 @@ impl StateWord {
 }
 
 /// The word of a state as a step found it. Only this crate takes it apart.
-#[derive(Clone, Copy, Debug, PartialEq, Eq)]
+#[derive(Clone, Copy)]
 pub struct PackedState {
     /// The number that stands for the count, as [StateWord::pack] gives it.
     pub word: u64,

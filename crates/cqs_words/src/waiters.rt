@@ -7,7 +7,7 @@ ghost use Rattle.cqs_words.specs.Waiters.{WaitersFit, packed_waiters, unpacked_w
 use crate::layout::DONE;
 
 /// How many callers wait at a latch, and whether it is open: its done bit.
-#[derive(Clone, Copy, Debug, PartialEq, Eq)]
+#[derive(Clone, Copy)]
 pub struct WaitersWord {
     /// Below 2^63.
     pub waiters: u64,

@@ -570,13 +570,13 @@ module _ (s : PoolShape) (p k e : ℕ) (is : IsPool s) (was : IsInOrder s) where
   orders (step.looks step.pends) may paid = λ found w.
       order-of (step.looks step.pends) (Some found)
       (λ one by others. named-one p one (entry.LookPending p k) (eq-eqb p p refl) by)
-      (kept-order (row_at (step.looks step.pends)) found o.way refl w.0 (λ x. absurd (cc)) refl (λ j x. absurd (cc)) refl
-      refl)
+      (kept-order (row_at (step.looks step.pends)) found o.way refl w.0 (λ x. absurd (cc)) refl (λ j x. absurd (cc))
+      refl refl)
   orders (step.looks step.grants) may paid = λ found w.
       order-of (step.looks step.grants) (Some found)
       (λ one by others. named-one p one (entry.LookGranted p k e) (eq-eqb p p refl) by)
-      (kept-order (row_at (step.looks step.grants)) found o.way refl w.0 (λ x. absurd (cc)) refl (λ j x. absurd (cc)) refl
-      refl)
+      (kept-order (row_at (step.looks step.grants)) found o.way refl w.0 (λ x. absurd (cc)) refl (λ j x. absurd (cc))
+      refl refl)
   orders (step.looks step.late) may paid = λ found w.
       order-of (step.looks step.late) (Some found)
       (λ one by others. named-one p one (entry.Late p k e) (eq-eqb p p refl) by)

@@ -13,17 +13,29 @@ mod rows;
 
 use crate::drawing::draw;
 use crate::rows::Rows;
+use std::alloc::Global;
 use std::io::{self, BufRead, BufReader, BufWriter, Write};
 
-fn main(rt: HostRuntime) -> anyhow::Result<()> {
-    let alloc = rt.alloc();
+/// The lines of standard input.
+fn lines_of(rt: &HostRuntime, alloc: Global) -> anyhow::Result<Vec<String>> {
     let mut lines = Vec::new(alloc);
     for line in BufReader::new(alloc, rt.reader())?.lines(alloc) {
         lines.push(line?)?;
     }
-    let rows = Rows::read(alloc, lines.as_slice())?;
-    let mut out = BufWriter::new(alloc, io::writer(&rt))?;
-    draw(&mut out, alloc, &rows)?;
+    Ok(lines)
+}
+
+/// Writes the picture of these rows to standard output.
+fn show(rt: &HostRuntime, alloc: Global, rows: &Rows) -> anyhow::Result<()> {
+    let mut out = BufWriter::new(alloc, io::writer(rt))?;
+    draw(&mut out, alloc, rows)?;
     out.flush()?;
     Ok(())
+}
+
+fn main(rt: HostRuntime) -> anyhow::Result<()> {
+    let alloc = rt.alloc();
+    let lines = lines_of(&rt, alloc)?;
+    let rows = Rows::read(alloc, lines.as_slice())?;
+    show(&rt, alloc, &rows)
 }

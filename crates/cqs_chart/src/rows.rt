@@ -341,38 +341,57 @@ impl Rows {
         }
     }
 
-    /// The rows of a report. The number of a line that is none of a report is told.
-    pub fn read(alloc: Global, lines: &[String]) -> anyhow::Result<Rows> {
-        let mut rows = Rows::new(alloc);
-        // the last lines say what each resource is, so they come first
-        for (place, text) in lines.iter().enumerate() {
-            match read_line(alloc, text.as_str())? {
-                Some(Line::End { resource, kind }) => {
-                    let key = String::from_str(alloc, resource)?;
-                    rows.resources.insert(key, Resource::new(alloc, kind))?;
-                }
-                Some(Line::Event { turn, .. }) => {
-                    rows.turns = rows.turns.max(turn.saturating_add(1));
-                }
-                Some(Line::Total) => {}
-                None => {
-                    let number = place.saturating_add(1);
-                    anyhow::bail!("line {number} is none of a report: {text}");
-                }
+    /// What a line says that is to be known before any event: what a resource is, and how long the
+    /// report goes on.
+    fn announce(&mut self, alloc: Global, place: usize, text: &str) -> anyhow::Result<()> {
+        match read_line(alloc, text)? {
+            Some(Line::End { resource, kind }) => {
+                let key = String::from_str(alloc, resource)?;
+                self.resources.insert(key, Resource::new(alloc, kind))?;
+                Ok(())
+            }
+            Some(Line::Event { turn, .. }) => {
+                self.turns = self.turns.max(turn.saturating_add(1));
+                Ok(())
+            }
+            Some(Line::Total) => Ok(()),
+            None => {
+                let number = place.saturating_add(1);
+                anyhow::bail!("line {number} is none of a report: {text}")
             }
         }
-        for text in lines {
-            if let Some(Line::Event { turn, job, event }) = read_line(alloc, text.as_str())? {
-                rows.note_at_resource(alloc, turn, event)?;
-                rows.note_at_job(alloc, turn, job, event)?;
-            }
-        }
-        let turns = rows.turns;
-        for job in rows.jobs.values_mut() {
+    }
+
+    /// What a line's event changes.
+    fn note(&mut self, alloc: Global, text: &str) -> anyhow::Result<()> {
+        let Some(Line::Event { turn, job, event }) = read_line(alloc, text)? else {
+            return Ok(());
+        };
+        self.note_at_resource(alloc, turn, event)?;
+        self.note_at_job(alloc, turn, job, event)
+    }
+
+    /// Who hasn't ended is at the same thing up to the last turn.
+    fn close(&mut self) -> anyhow::Result<()> {
+        let turns = self.turns;
+        for job in self.jobs.values_mut() {
             if job.end.is_none() {
                 job.stop(turns)?;
             }
         }
+        Ok(())
+    }
+
+    /// The rows of a report. The number of a line that is none of a report is told.
+    pub fn read(alloc: Global, lines: &[String]) -> anyhow::Result<Rows> {
+        let mut rows = Rows::new(alloc);
+        for (place, text) in lines.iter().enumerate() {
+            rows.announce(alloc, place, text.as_str())?;
+        }
+        for text in lines {
+            rows.note(alloc, text.as_str())?;
+        }
+        rows.close()?;
         Ok(rows)
     }
 }

@@ -1,6 +1,6 @@
 -- The entries of one call at a resource, in the words of its kind; and what one caller has of a
 -- history.
-use Rattle.std.specs.Prelude.{◌<◌, ℕ, Bool, true, false, List, [], ◌∷◌, ◌++◌, length, map, count_by, slice_set}
+use Rattle.std.specs.Prelude.{◌≡◌, ◌<◌, ℕ, Bool, true, false, List, [], ◌∷◌, ◌++◌, length, map, count_by, slice_set}
 use Rattle.cqs_core.specs.Numbered.{IsIn}
 use Rattle.cqs_core.specs.Parts.{IsPrefix, part}
 use Rattle.cqs_core.specs.declared.entries.Entry.{Entry}
@@ -122,3 +122,19 @@ IsDelivered (of_permits h) round k e = IsIn (permit.Deliver k) h
 IsDelivered (of_elements h) round k e = IsIn (element.Deliver k e) h
 IsDelivered (of_latch h) round k e = IsIn (latch.Deliver k) h
 IsDelivered (of_rounds all) round k e = IsIn (party.Deliver k) (entries_in all round)
+
+-- the last of all is that what the number k waits for was delivered, of a pool this element; a call
+-- that gives back sends nothing to a latch or a barrier
+abbrev pub EndsDelivered : History → ℕ → ℕ → Type 0
+EndsDelivered (of_permits h) k e = (before : List Entry) × (h ≡ before ++ permit.Deliver k ∷ [])
+EndsDelivered (of_elements h) k e =
+    (before : List PoolEntry) × (h ≡ before ++ element.Deliver k e ∷ [])
+EndsDelivered (of_latch h) k e = ⊥
+EndsDelivered (of_rounds all) k e = ⊥
+
+-- the entries are those of permits
+abbrev pub AreOfPermits : History → Type 0
+AreOfPermits (of_permits h) = Unit {0}
+AreOfPermits (of_elements h) = ⊥
+AreOfPermits (of_latch h) = ⊥
+AreOfPermits (of_rounds all) = ⊥

@@ -517,13 +517,13 @@ module _ (x y : SharedPermits) (same_one : y.semaphore ≡ x.semaphore)
   pub gives-freed : (job : ℕ) → CallRule v (entry.GiveFreed v.number ∷ []) [] w → WasUnwanted v w
       → Gives share_permits job x (shared.Free 0) y
   gives-freed job rule was =
-      gives-back job (shared.Free 0) (λ size held waiting r. called _ [] size held waiting r rule) was.rests refl
+      gives-back job (shared.Free 0) (λ size held waiting r. called _ [] size held waiting r rule) was.rests (refl, tt)
 
   pub gives-sent : (job k : ℕ) → CallRule v (entry.GiveSent v.number ∷ []) (entry.Deliver k ∷ []) w
       → Rests v (v.facts.has.held - 1) v.facts.waits w → Gives share_permits job x (shared.Sent 0 k) y
   gives-sent job k rule rests =
       gives-back job (shared.Sent 0 k) (λ size held waiting r. called _ (entry.Deliver k ∷ []) size held waiting r rule)
-      rests (refl, last-in w.seen rule.called.before (entry.Deliver k) rule.called.ends)
+      rests (refl, (rule.called.before, rule.called.ends))
 
   pub gives-left : (job k : ℕ) → CallRule v (entry.GiveSent v.number ∷ []) [] w
       → Rests v (v.facts.has.held - 1) v.facts.waits w → Gives share_permits job x (shared.Left 0 k) y

@@ -436,7 +436,7 @@ module _ (x y : SharedPool) (same_one : y.pool ≡ x.pool) (mine : IsMine (arc_v
         → Rests v (without e v.facts.has.slots) v.facts.waits w → Gives share_pool job x (shared.Sent e k) y
     pool-sends k rule rests =
         gives-back (shared.Sent e k) (λ size waiting r. called _ (entry.Deliver k e ∷ []) size waiting r rule) rests
-        (refl, last-in w.seen rule.called.before (entry.Deliver k e) rule.called.ends)
+        (refl, (rule.called.before, rule.called.ends))
 
     pub pool-leaves_it : (k : ℕ) → CallRule v (entry.Put v.number e ∷ []) [] w
         → Rests v (without e v.facts.has.slots) v.facts.waits w → Gives share_pool job x (shared.Left e k) y

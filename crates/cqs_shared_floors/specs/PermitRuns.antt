@@ -6,7 +6,7 @@ use Rattle.cqs_plan.specs.declared.plans.kind.Kind.TheVariants as kind
 use Rattle.cqs_plan.specs.FloorHistory.{of_permits}
 use Rattle.cqs_shared.specs.declared.shared.SharedGive.{SharedGive}
 use Rattle.cqs_shared.specs.declared.shared.SharedGive.TheVariants as shared
-use Rattle.cqs_shared.specs.Entries.{IsDelivered}
+use Rattle.cqs_shared.specs.Entries.{EndsDelivered}
 
 -- a semaphore or a mutex
 abbrev pub IsOfPermits : Kind → Type 0
@@ -19,6 +19,6 @@ IsOfPermits (kind.Rounds parties rounds) = ⊥
 -- where a permit that was sent to the line went, by all that the pass has seen
 abbrev pub TellsSent : SharedGive → List Entry → Type 0
 TellsSent (shared.Free e) seen = ⊥
-TellsSent (shared.Sent e k) seen = (e ≡ 0) × IsDelivered (of_permits seen) 0 k 0
+TellsSent (shared.Sent e k) seen = (e ≡ 0) × EndsDelivered (of_permits seen) k 0
 TellsSent (shared.Left e k) seen = e ≡ 0
 TellsSent (shared.Void k) seen = Unit {0}

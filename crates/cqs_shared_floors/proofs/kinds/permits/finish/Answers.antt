@@ -1,8 +1,7 @@
 use Rattle.std.proofs.Common.{[], refl, ◌∙◌}
-use Rattle.cqs_core.specs.declared.entries.Entry.TheVariants as entry
 use Rattle.cqs_rule.specs.Semaphore.{semaphore_object}
 use Rattle.cqs_shared_floors.proofs.PermitShares.{silent}
-use Rattle.cqs_shared_floors.proofs.Runs.{last-in, went-then}
+use Rattle.cqs_shared_floors.proofs.Runs.{went-then}
 use Rattle.cqs_shared_floors.proofs.kinds.permits.finish.Goals as goal
 
 pub returns-in-Sent-clause-went : goal.returns-in-Sent-clause-went
@@ -13,7 +12,7 @@ returns-in-Sent-clause-went g c =
 pub returns-in-Sent-clause-tells : goal.returns-in-Sent-clause-tells
 returns-in-Sent-clause-tells g c =
     let rule = rw c.in-Sent.is at c.finish.ensures.called in
-    (refl, last-in _ rule.called.before (entry.Deliver c.in-Sent.number) rule.called.ends)
+    (refl, (rule.called.before, rule.called.ends))
 
 pub returns-in-Left-clause-went : goal.returns-in-Left-clause-went
 returns-in-Left-clause-went g c =

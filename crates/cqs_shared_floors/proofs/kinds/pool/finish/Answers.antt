@@ -1,10 +1,10 @@
 use Rattle.std.proofs.Common.{[], subst, ◌∙◌}
-use Rattle.cqs_core.specs.Numbered.{IsIn}
+use Rattle.cqs_plan.specs.FloorHistory.{of_elements}
 use Rattle.cqs_pool.specs.Pool.{pool_object}
-use Rattle.cqs_pool_object.specs.declared.entries.PoolEntry.TheVariants as entry
 use Rattle.cqs_rule.specs.Passes.{pass_view}
+use Rattle.cqs_shared.specs.Entries.{EndsDelivered}
 use Rattle.cqs_shared_floors.proofs.PoolShares.{silent}
-use Rattle.cqs_shared_floors.proofs.Runs.{last-in, went-then}
+use Rattle.cqs_shared_floors.proofs.Runs.{went-then}
 use Rattle.cqs_shared_floors.proofs.kinds.pool.finish.Goals as goal
 
 pub returns-in-Sent-clause-went : goal.returns-in-Sent-clause-went
@@ -14,8 +14,8 @@ returns-in-Sent-clause-went g c =
 pub returns-in-Sent-clause-tells : goal.returns-in-Sent-clause-tells
 returns-in-Sent-clause-tells g c =
     let rule = rw c.in-Sent.is at c.finish.ensures.called in
-    subst (λ e. IsIn (entry.Deliver c.in-Sent.number e) (pass_view c.finish.new.pass).seen) c.loop.invariant.brings
-    (last-in _ rule.called.before (entry.Deliver c.in-Sent.number _) rule.called.ends)
+    subst (λ e. EndsDelivered (of_elements (pass_view c.finish.new.pass).seen) c.in-Sent.number e)
+    c.loop.invariant.brings (rule.called.before, rule.called.ends)
 
 pub returns-in-Left-clause-went : goal.returns-in-Left-clause-went
 returns-in-Left-clause-went g c =

@@ -1,5 +1,5 @@
 -- What a sink took of a text that was handed to it.
-use Rattle.std.specs.Prelude.{ℕ, List, length, Option, Result, Ok, Err, OnOk, OnErr}
+use Rattle.std.specs.Prelude.{ℕ, Bool, List, length, Option, Result, Ok, Err, OnOk, OnErr, IsTrue}
 use Rattle.std.proofs.Common.{rules, subst, sym}
 use Rattle.std.proofs.Math.Seq.{take-length}
 use Rattle.cqs_plan.specs.Stream.{Gains, GainsPrefix, Rises}
@@ -17,3 +17,9 @@ is_told (Err e) text held after faults now whole part cause = record {
   whole = λ calm. absurd (calm cause);
   part = part;
 }
+
+-- and whether all of it was flushed on
+pub is_flushed : {T E : Type 0} (r : Result T E) (faults now : ℕ) (flushed : Bool) → OnOk r (IsTrue flushed)
+    → OnErr r (Rises faults now) → ¬ Rises faults now → IsTrue flushed
+is_flushed (Ok x) faults now flushed whole cause calm = whole
+is_flushed (Err e) faults now flushed whole cause calm = absurd (calm cause)

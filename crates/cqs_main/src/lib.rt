@@ -11,6 +11,7 @@ mod running;
 mod stderr_sink;
 mod words;
 
+pub use cqs_top::Kept;
 pub use messages::{finish, message_of};
 pub use running::run;
 pub use stderr_sink::StderrSink;

@@ -1,6 +1,7 @@
 //! The line on standard error, and the end of the process.
-ghost use Rattle.std.specs.Prelude.{◌≡◌};
+ghost use Rattle.std.specs.Prelude.{◌≡◌, IsTrue};
 ghost use Rattle.std.specs.Process.{exit_status};
+ghost use Rattle.cqs_plan.specs.Counts.{Rises};
 ghost use Rattle.cqs_main.specs.Messages.{IsTold, message};
 
 use cqs_cli::{NO_COMMAND, NO_MEMORY, SINK_FAILED, SOURCE_FAILED, TOO_LONG};
@@ -22,11 +23,13 @@ pub fn message_of(status: u8) -> &'static str
 }
 
 /// Ends with a status, and tells its cause: whole, unless standard error counted a fault.
-#[tactic(auto, using(crate::proofs::Told::is_told))]
+#[tactic(auto, using(crate::proofs::Told::is_told, crate::proofs::Told::is_flushed))]
 pub fn finish<E: Sink>(errors: &mut E, status: u8) -> ExitCode
     ensures status { exit_status result ≡ status }
     ensures message { IsTold (message status) (E.faults errors.old) (E.faults errors.new)
         (E.held errors.old) (E.held errors.new) }
+    ensures flushed { ¬ Rises (E.faults errors.old) (E.faults errors.new)
+        → IsTrue (E.is_flushed errors.new) }
 {
     // Whether the line comes changes no status.
     let _ = write_all(errors, message_of(status).as_bytes());

@@ -2,12 +2,16 @@
 ghost use Rattle.std.specs.Prelude.{◌≡◌, ◌≢◌, ◌⊎◌, ℕ, ◌+◌, ◌<◌, ◌≤◌, List, length, IsTrue, Some};
 ghost use Rattle.std.specs.Process.{exit_status};
 ghost use Rattle.cqs_plan.specs.Counts.{raise, Rises};
-ghost use Rattle.cqs_plan.specs.Stream.{Gains, GivesAtMost, GivesCount};
+ghost use Rattle.cqs_plan.specs.Stream.{Gains, GainsPrefix, GivesAtMost, GivesCount};
 ghost use Rattle.cqs_cli.specs.Meanings.{IsStatus, MustEnd, NamedFault};
 ghost use Rattle.cqs_cli.specs.Plans.{IsPlan};
 ghost use Rattle.cqs_cli.specs.Words.{IsSomeGen, usage};
+ghost use Rattle.cqs_shared_floors.specs.AnyShares.{share_any};
+ghost use Rattle.cqs_shared_floors.specs.Ledgers.{shared_in};
+ghost use Rattle.cqs_top.specs.KeptWorks.{IsNoRun, KeptText};
 ghost use Rattle.cqs_top.specs.Meanings.{BrokeOff, HasTold};
 ghost use Rattle.cqs_top.specs.Words.{IsCommand, ReadsPlan};
+ghost use Rattle.cqs_top.specs.declared.kept.Kept.TheVariants.{Nothing};
 ghost use Rattle.cqs_main.specs.Arguments.{words_of};
 ghost use Rattle.cqs_main.specs.Messages.{IsTold, message};
 
@@ -15,7 +19,7 @@ use crate::messages::finish;
 use crate::words::words_after_name;
 use cqs_cli::{DONE, NO_COMMAND, NO_MEMORY, NO_PLAN, SINK_FAILED, SOURCE_FAILED, TOO_LONG};
 use cqs_plan::{LONGEST_INPUT, Sink, Source};
-use cqs_top::{Kept, top};
+use cqs_top::{Kept, SharedQueueFloor, top};
 use cqs_work::OpenGate;
 use std::alloc::Global;
 use std::env::Args;
@@ -35,7 +39,10 @@ pub fn run<R: Threads + Wait + Sync, S: Source, K: Sink, E: Sink>(
     source: &mut S,
     sink: &mut K,
     errors: &mut E,
+    kept: &mut Kept<SharedQueueFloor>,
 ) -> ExitCode
+    requires empty { kept.old ≡ Nothing }
+
     // Status 0 means: the input was a plan, and the report of the turn machine on it, over plain
     // resources with legal histories, was written whole and flushed; or the words ask for the plan
     // of a number, and so was the summary of its report; or they ask for workers, and so was the
@@ -129,10 +136,26 @@ pub fn run<R: Threads + Wait + Sync, S: Source, K: Sink, E: Sink>(
     // of it in any case.
     ensures message { IsTold (message (exit_status result))
         (E.faults errors.old) (E.faults errors.new) (E.held errors.old) (E.held errors.new) }
+    ensures flushed { ¬ Rises (E.faults errors.old) (E.faults errors.new)
+        → IsTrue (E.is_flushed errors.new) }
+
+    // What the text was made of is kept for the caller: with status 0, and where the sink failed
+    // unless no plan was run; so the text can't come from anything else.
+    ensures kept_done { exit_status result ≡ DONE →
+        KeptText (shared_in share_any) (words_of arguments)
+        (S.left source.old) (S.left source.new) kept.new
+        (λ text. Gains text (K.held sink.old) (K.held sink.new)) }
+    ensures kept_broken { exit_status result ≡ SINK_FAILED →
+        KeptText (shared_in share_any) (words_of arguments)
+        (S.left source.old) (S.left source.new)
+        kept.new (λ text. GainsPrefix text (K.held sink.old) (K.held sink.new))
+        ⊎ ((kept.new ≡ Nothing)
+        × IsNoRun (words_of arguments) (S.left source.old) (S.left source.new)) }
+    ensures kept_nothing { exit_status result ≢ DONE → exit_status result ≢ SINK_FAILED
+        → kept.new ≡ Nothing }
 {
-    let mut kept = Kept::Nothing;
     let status = match words_after_name(alloc, arguments) {
-        Ok(words) => top(rt, alloc, &words, source, sink, &OpenGate, &mut kept),
+        Ok(words) => top(rt, alloc, &words, source, sink, &OpenGate, kept),
         Err(_) => NO_MEMORY,
     };
     finish(errors, status)

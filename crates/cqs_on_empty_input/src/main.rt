@@ -2,7 +2,7 @@
 #![tactic(auto)]
 
 use cqs_cli::{StdinSource, StdoutSink};
-use cqs_main::{StderrSink, run};
+use cqs_main::{Kept, StderrSink, run};
 use std::env;
 use std::process::ExitCode;
 
@@ -10,6 +10,7 @@ fn main(rt: HostRuntime) -> ExitCode {
     let mut source = StdinSource::new(rt.stdin());
     let mut sink = StdoutSink::new(rt.stdout());
     let mut errors = StderrSink::new(rt.stderr());
+    let mut kept = Kept::Nothing;
     run(
         &rt,
         rt.alloc(),
@@ -17,5 +18,6 @@ fn main(rt: HostRuntime) -> ExitCode {
         &mut source,
         &mut sink,
         &mut errors,
+        &mut kept,
     )
 }

@@ -176,6 +176,47 @@ returns-clause-statuses g c =
       | in-Err w ↦ search (rules, is_no_memory)
     ]
 
+pub returns-clause-kept_done : goal.returns-clause-kept_done
+returns-clause-kept_done g c =
+    elim c.match-words_after_name.branch [
+      | in-Ok w ↦
+          rw (
+            c.finish.ensures.status,
+            w.status-is,
+            w.source-is,
+            w.sink-is,
+            w.kept-is,
+            ← w.in-Ok.ensures.words,
+            ← w.deref.ensures.value,
+          )
+          w.top-status.ensures.kept_done
+      | in-Err w ↦ search rules
+    ]
+
+pub returns-clause-kept_broken : goal.returns-clause-kept_broken
+returns-clause-kept_broken g c =
+    elim c.match-words_after_name.branch [
+      | in-Ok w ↦
+          rw (
+            c.finish.ensures.status,
+            w.status-is,
+            w.source-is,
+            w.sink-is,
+            w.kept-is,
+            ← w.in-Ok.ensures.words,
+            ← w.deref.ensures.value,
+          )
+          w.top-status.ensures.kept_broken
+      | in-Err w ↦ search rules
+    ]
+
+pub returns-clause-kept_nothing : goal.returns-clause-kept_nothing
+returns-clause-kept_nothing g c =
+    elim c.match-words_after_name.branch [
+      | in-Ok w ↦ rw (c.finish.ensures.status, w.status-is, w.kept-is) w.top-status.ensures.kept_nothing
+      | in-Err w ↦ search rules
+    ]
+
 -- the line is that of the status that `finish` was given
 pub returns-clause-message : goal.returns-clause-message
 returns-clause-message g c = rw c.finish.ensures.status c.finish.ensures.message

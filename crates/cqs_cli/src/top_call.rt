@@ -21,12 +21,13 @@ use std::alloc::Global;
 /// command: `top` of `cqs_top` does them itself, and calls this for all others.
 ///
 /// The first clauses say what each status means, each by itself; then come those on what was read,
-/// whatever the status. The last four say which status must come where no fault does, unless memory
-/// runs out; what was then written stands at that status. What a clause says of content holds where
-/// the source and the sink tell it; what it says of the source's tally holds of every source.
+/// whatever the status. Then five say which status must come where no fault does, unless memory
+/// runs out; what was then written stands at that status. The last three say what is kept. What a
+/// clause says of content holds where the source and the sink tell it; what it says of the source's
+/// tally holds of every source.
 ///
 /// The floor of a run is kept where its report was made, which is before anything is written: with
-/// status 0, and with status 5 where the input is a plan.
+/// status 0, and with status 5 where the input is a plan or the words are those of `gen`.
 pub fn top_alone<S: Source, K: Sink>(
     alloc: Global,
     words: &[String],

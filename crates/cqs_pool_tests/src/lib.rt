@@ -1,4 +1,5 @@
-//! Tests of a pool, call by call. Their expected values were worked out by hand.
+//! Tests of a pool and of a pool of values, call by call. Their expected values were worked out by
+//! hand.
 #![tactic(auto)]
 
 #[cfg(test)]

@@ -31,14 +31,15 @@ use std::thread::Threads;
 /// that the process ends with.
 ///
 /// The first clauses say what each status means, each by itself; then come those on what was read,
-/// whatever the status. The last four say which status must come where no fault does, unless memory
-/// runs out; what was then written stands at that status. What a clause says of content holds where
-/// the source and the sink tell it; what it says of the source's tally holds of every source.
+/// whatever the status. Then five say which status must come where no fault does, unless memory
+/// runs out; what was then written stands at that status. The last three say what is kept. What a
+/// clause says of content holds where the source and the sink tell it; what it says of the source's
+/// tally holds of every source.
 ///
 /// The words of `work` have workers run the plan, each in a thread of its own where one can be made
 /// and on a floor of its own, and so they may wait; all other words are done by `top_alone`. What
 /// the command worked on is kept where its text was made, which is before anything is written: with
-/// status 0, and with status 5 where the input is a plan.
+/// status 0, and with status 5 where the input is a plan or the words are those of `gen`.
 pub fn top<R: Threads + Wait + Sync, S: Source, K: Sink, G: Gate + Sync>(
     rt: &R,
     alloc: Global,

@@ -1,5 +1,5 @@
-//! Tests of those who wait for a permit: by a future, and by a call that sleeps. Their expected
-//! answers were worked out by hand.
+//! Tests of those who wait for a permit, a mutex or an item of a pool: by a future, and by a call
+//! that sleeps. Their expected answers were worked out by hand.
 #![tactic(auto)]
 
 #[cfg(test)]

@@ -1,15 +1,18 @@
 //! Has workers run plans by the program's own call. Two workers are kept beside each other by a
-//! gate that no single thread passes, whichever of them it takes first. Then 4 workers and 16 run a
-//! plan whose text tells some things whatever the order in which they come.
+//! gate that no single thread passes, whichever of them it takes first. Another gate counts the calls
+//! of one worker. Then 4 workers and 16 run a plan whose text tells some things whatever the order in
+//! which they come.
 #![tactic(auto)]
 
 mod calls;
 mod gate;
 mod lines;
+mod tally;
 
 use crate::calls::work_by;
 use crate::gate::Meeting;
 use crate::lines::{has_line, have_same_ends, tells_all};
+use crate::tally::Tally;
 use cqs_work::OpenGate;
 use std::fs;
 use std::rt::Files;
@@ -40,6 +43,21 @@ fn tell_meeting<R: Threads + Wait + Sync + Files + Print + AllocGlobal>(
     Ok(())
 }
 
+/// One worker, of whose calls each is counted.
+fn tell_calls<R: Threads + Wait + Sync + Files + Print + AllocGlobal>(
+    rt: &R,
+) -> anyhow::Result<()> {
+    let plan = fs::read_to_string(rt, "two-jobs.toml")?;
+    let gate = Tally::new();
+    work_by(rt, rt.alloc(), "1", plan.as_str(), &gate)?;
+    println!(rt;
+        "two jobs, 1 worker: {} calls, told of one by one {}",
+        gate.made(rt),
+        gate.are_in_order(rt)
+    )?;
+    Ok(())
+}
+
 /// So many workers on the plan of the buffers.
 fn tell_workers<R: Threads + Wait + Sync + Files + Print + AllocGlobal>(
     rt: &R,
@@ -59,6 +77,7 @@ fn tell_workers<R: Threads + Wait + Sync + Files + Print + AllocGlobal>(
 
 fn main(rt: HostRuntime) -> anyhow::Result<()> {
     tell_meeting(&rt)?;
+    tell_calls(&rt)?;
     tell_workers(&rt, "4")?;
     tell_workers(&rt, "16")
 }

@@ -1,7 +1,7 @@
 //! Has workers run plans by the program's own call. Two workers are kept beside each other by a
-//! gate that no single thread passes, whichever of them it takes first. Another gate counts the calls
-//! of one worker. Then 4 workers and 16 run a plan whose text tells some things whatever the order in
-//! which they come.
+//! gate that no single thread passes, whichever of them it takes first. Another gate counts the
+//! calls of one worker. Then 4 workers and 16 run a plan whose text tells some things whatever the
+//! order in which they come.
 #![tactic(auto)]
 
 mod calls;

@@ -1,5 +1,6 @@
 //! What a line of a schedule asks of a core.
 
+use crate::texts::{doing_text, entry_text, outcome_text, state_text};
 use cqs_core::{Core, Event};
 use std::alloc::{AllocError, Global};
 use std::fmt::Debug;
@@ -28,18 +29,10 @@ fn text_of<T: Debug>(alloc: Global, value: &T) -> Result<String, AllocError> {
     format!(in alloc; "{value:?}")
 }
 
-/// What is there, as `{:?}` writes it, or that nothing is.
-fn text_or_none<T: Debug>(alloc: Global, item: Option<&T>) -> Result<String, AllocError> {
-    match item {
-        Some(item) => text_of(alloc, item),
-        None => String::from_str(alloc, "None"),
-    }
-}
-
 /// Makes an event, and tells its outcome.
 fn make(alloc: Global, core: &mut Core, event: Event) -> Result<String, AllocError> {
     match core.step(event) {
-        Ok(outcome) => text_of(alloc, &outcome),
+        Ok(outcome) => outcome_text(alloc, outcome),
         Err(error) => text_of(alloc, &error),
     }
 }
@@ -67,13 +60,13 @@ fn state_of(
         "suspends" => text_of(alloc, &core.suspends()),
         "resumes" => text_of(alloc, &core.resumes()),
         "cell" => match core.cell(u64::from(number)) {
-            Some(cell) => text_of(alloc, &cell.state),
+            Some(cell) => String::from_str(alloc, state_text(cell.state)),
             None => String::from_str(alloc, "None"),
         },
-        "doing" => text_of(alloc, &core.doing(number)),
+        "doing" => doing_text(alloc, core.doing(number)),
         "held" => text_of(alloc, &core.held(number)),
         "entries" => text_of(alloc, &core.history().len()),
-        "entry" => text_or_none(alloc, core.history().get(number as usize)),
+        "entry" => entry_text(alloc, core.history().get(number as usize)),
         _ => return None,
     })
 }

@@ -16,6 +16,7 @@
 #![tactic(auto)]
 
 mod asking;
+mod texts;
 
 use crate::asking::answer;
 use cqs_core::Core;

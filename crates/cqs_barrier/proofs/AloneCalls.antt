@@ -25,10 +25,10 @@ use Rattle.cqs_barrier_object.specs.BarrierObject.{Barrier}
 use Rattle.cqs_barrier_object.specs.SoleCaller as plain
 use Rattle.cqs_barrier_object.specs.SoleCaller.{tells, delivers, sole_arrive, look_at, leave_at, numbers_of}
 use Rattle.cqs_rule.specs.declared.queue.tokens.Wait.{Wait}
-use Rattle.cqs_rule.specs.declared.view.View.{View}
-use Rattle.cqs_rule.specs.Alone.{IsAlone}
-use Rattle.cqs_rule.specs.Hidden.{state_in}
-use Rattle.cqs_rule.specs.Lists.{Has}
+use Rattle.cqs_views.specs.declared.view.View.{View}
+use Rattle.cqs_views.specs.Alone.{IsAlone}
+use Rattle.cqs_views.specs.Hidden.{state_in}
+use Rattle.cqs_views.specs.Lists.{Has}
 use Rattle.cqs_rule.specs.Owed.{owes_at}
 use Rattle.cqs_rule.specs.Waits.{place_of}
 use Rattle.cqs_barrier.specs.declared.answers.Arrived.{Arrived}

@@ -24,9 +24,9 @@ use Rattle.cqs_core.proofs.Picked.{IsKeyed}
 use Rattle.cqs_core.proofs.Places.{get-below}
 use Rattle.cqs_core.proofs.Quiet.{IsQuietAt, quiet-cell, cases_waiter, not-in_line, waits-ahead, behind, none-going}
 use Rattle.cqs_core.proofs.Rising.{IsRising, rising-lower, rising-lacks, lacks-in, in-none, in-behind}
-use Rattle.cqs_rule.specs.declared.view.Opening.{Opening}
-use Rattle.cqs_rule.specs.declared.view.View.{View}
-use Rattle.cqs_rule.specs.Alone.{IsAlone}
+use Rattle.cqs_views.specs.declared.view.Opening.{Opening}
+use Rattle.cqs_views.specs.declared.view.View.{View}
+use Rattle.cqs_views.specs.Alone.{IsAlone}
 use Rattle.cqs_barrier_object.specs.declared.entries.BarrierEntry.{BarrierEntry}
 use Rattle.cqs_barrier_object.specs.BarrierEntries.{object_after}
 use Rattle.cqs_barrier_object.specs.BarrierObject.{Barrier}

@@ -15,10 +15,10 @@ use Rattle.cqs_barrier_object.specs.declared.entries.BarrierEntry.TheVariants as
 use Rattle.cqs_barrier_object.specs.BarrierEntries.{object_after, after_entry, after_delivery, IsLegal, IsAllowed}
 use Rattle.cqs_barrier_object.specs.BarrierObject.{Barrier, opening}
 use Rattle.cqs_barrier_object.specs.SoleCaller.{numbers_of}
-use Rattle.cqs_rule.specs.declared.view.Opening.{Opening}
-use Rattle.cqs_rule.specs.declared.view.View.{View}
-use Rattle.cqs_rule.specs.Alone.{IsAlone}
-use Rattle.cqs_rule.specs.Called.{Called}
+use Rattle.cqs_views.specs.declared.view.Opening.{Opening}
+use Rattle.cqs_views.specs.declared.view.View.{View}
+use Rattle.cqs_views.specs.Alone.{IsAlone}
+use Rattle.cqs_views.specs.Called.{Called}
 use Rattle.cqs_barrier.specs.Barrier.{barrier_object}
 use Rattle.cqs_barrier.specs.Calls.{plain_after, waiting_in}
 use Rattle.cqs_barrier.specs.Causes.{primitive_of}

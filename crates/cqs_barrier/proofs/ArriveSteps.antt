@@ -10,16 +10,16 @@ use Rattle.cqs_barrier_object.specs.declared.entries.BarrierEntry.TheVariants as
 use Rattle.cqs_barrier_object.specs.BarrierEntries.{IsAllowed, IsLegal, object_after}
 use Rattle.cqs_core.specs.QueueSteps.{takes}
 use Rattle.cqs_core.proofs.Places.{get-push_at}
-use Rattle.cqs_rule.specs.declared.view.Facts.{Facts}
-use Rattle.cqs_rule.specs.declared.view.Opening.{Opening}
-use Rattle.cqs_rule.specs.declared.view.View.{View}
-use Rattle.cqs_rule.specs.Called.{Called}
-use Rattle.cqs_rule.specs.Events.{in_any_case, facts_moved, moment}
-use Rattle.cqs_rule.specs.Layout.{client_place}
-use Rattle.cqs_rule.specs.Lists.{Has, IsPrefix}
-use Rattle.cqs_rule.specs.Saw.{Saw}
+use Rattle.cqs_views.specs.declared.view.Facts.{Facts}
+use Rattle.cqs_views.specs.declared.view.Opening.{Opening}
+use Rattle.cqs_views.specs.declared.view.View.{View}
+use Rattle.cqs_views.specs.Called.{Called}
+use Rattle.cqs_views.specs.Events.{in_any_case, facts_moved, moment}
+use Rattle.cqs_views.specs.Layout.{client_place}
+use Rattle.cqs_views.specs.Lists.{Has, IsPrefix}
+use Rattle.cqs_views.specs.Saw.{Saw}
 use Rattle.cqs_rule.specs.Waits.{place_of}
-use Rattle.cqs_rule.proofs.Calls.{called-by, called-then, called-and}
+use Rattle.cqs_views.proofs.Calls.{called-by, called-then, called-and}
 use Rattle.cqs_suspend.specs.Suspends.{EndsBy}
 use Rattle.cqs_barrier.specs.declared.answers.Arrived.{Arrived}
 use Rattle.cqs_barrier.specs.declared.answers.Arrived.TheVariants.{Last, LastOwing, Later}

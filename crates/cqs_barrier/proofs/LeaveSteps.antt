@@ -7,19 +7,19 @@ use Rattle.cqs_barrier_object.specs.declared.entries.BarrierEntry.{BarrierEntry}
 use Rattle.cqs_barrier_object.specs.declared.entries.BarrierEntry.TheVariants as entry
 use Rattle.cqs_barrier_object.specs.BarrierEntries.{IsLegal, object_after}
 use Rattle.cqs_barrier_object.proofs.Conserved.{never-legal}
-use Rattle.cqs_rule.specs.declared.config.Place.{Place}
-use Rattle.cqs_rule.specs.declared.view.Facts.{Facts}
-use Rattle.cqs_rule.specs.declared.view.Has.{Has as OwnHas}
-use Rattle.cqs_rule.specs.declared.view.Opening.{Opening}
-use Rattle.cqs_rule.specs.declared.view.View.{View}
-use Rattle.cqs_rule.specs.Called.{Called}
-use Rattle.cqs_rule.specs.Events.{in_any_case, where_found, facts_moved, moment}
-use Rattle.cqs_rule.specs.Layout.{client_place}
-use Rattle.cqs_rule.specs.Lists.{IsPrefix, without}
-use Rattle.cqs_rule.specs.Placed.{KnowsPlace}
-use Rattle.cqs_rule.specs.Ruled.{number_at}
-use Rattle.cqs_rule.specs.Saw.{Saw}
-use Rattle.cqs_rule.proofs.Calls.{called-by, called-then}
+use Rattle.cqs_views.specs.declared.config.Place.{Place}
+use Rattle.cqs_views.specs.declared.view.Facts.{Facts}
+use Rattle.cqs_views.specs.declared.view.Has.{Has as OwnHas}
+use Rattle.cqs_views.specs.declared.view.Opening.{Opening}
+use Rattle.cqs_views.specs.declared.view.View.{View}
+use Rattle.cqs_views.specs.Called.{Called}
+use Rattle.cqs_views.specs.Events.{in_any_case, where_found, facts_moved, moment}
+use Rattle.cqs_views.specs.Layout.{client_place}
+use Rattle.cqs_views.specs.Lists.{IsPrefix, without}
+use Rattle.cqs_views.specs.Placed.{KnowsPlace}
+use Rattle.cqs_views.specs.Ruled.{number_at}
+use Rattle.cqs_views.specs.Saw.{Saw}
+use Rattle.cqs_views.proofs.Calls.{called-by, called-then}
 use Rattle.cqs_rule.proofs.Places.{knows-saw}
 use Rattle.cqs_cell.specs.Transitions.{MadeBy}
 use Rattle.cqs_core.specs.QueueSteps.{settles, settles_owing, refuses, refuses_value, row_of}

@@ -5,11 +5,11 @@ use Rattle.cqs_core.specs.QueueSteps.{starts_leaving, row_of}
 use Rattle.cqs_barrier_object.specs.declared.entries.BarrierEntry.{BarrierEntry}
 use Rattle.cqs_barrier_object.specs.declared.entries.BarrierEntry.TheVariants as entry
 use Rattle.cqs_barrier_object.specs.BarrierEntries.{IsLegal}
-use Rattle.cqs_rule.specs.declared.view.Facts.{Facts}
-use Rattle.cqs_rule.specs.declared.view.View.{View}
-use Rattle.cqs_rule.specs.Called.{Called}
-use Rattle.cqs_rule.specs.Lists.{Has, without}
-use Rattle.cqs_rule.proofs.Calls.{called-none, called-by, called-and}
+use Rattle.cqs_views.specs.declared.view.Facts.{Facts}
+use Rattle.cqs_views.specs.declared.view.View.{View}
+use Rattle.cqs_views.specs.Called.{Called}
+use Rattle.cqs_views.specs.Lists.{Has, without}
+use Rattle.cqs_views.proofs.Calls.{called-none, called-by, called-and}
 use Rattle.cqs_cell.specs.Transitions.{MadeBy}
 use Rattle.cqs_cancel.specs.Cancels.{CameLate}
 use Rattle.cqs_barrier.specs.declared.answers.PartyLeft.{PartyLeft}

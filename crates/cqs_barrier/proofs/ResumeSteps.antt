@@ -11,11 +11,11 @@ use Rattle.cqs_barrier_object.specs.declared.entries.BarrierEntry.TheVariants as
 use Rattle.cqs_barrier_object.specs.BarrierEntries.{IsLegal}
 use Rattle.cqs_barrier_object.specs.BarrierSteps.{step_entries}
 use Rattle.cqs_rule.specs.declared.queue.tokens.Under.{Under}
-use Rattle.cqs_rule.specs.declared.view.Facts.{Facts}
-use Rattle.cqs_rule.specs.declared.view.View.{View}
-use Rattle.cqs_rule.specs.Called.{Called}
-use Rattle.cqs_rule.specs.Counts.{Drew}
-use Rattle.cqs_rule.proofs.Calls.{called-none, called-by, called-and}
+use Rattle.cqs_views.specs.declared.view.Facts.{Facts}
+use Rattle.cqs_views.specs.declared.view.View.{View}
+use Rattle.cqs_views.specs.Called.{Called}
+use Rattle.cqs_views.specs.Counts.{Drew}
+use Rattle.cqs_views.proofs.Calls.{called-none, called-by, called-and}
 use Rattle.cqs_resume.specs.declared.resumed.Resumed.TheVariants as resumed
 use Rattle.cqs_resume.specs.Resumes.{Ended, Resumes}
 use Rattle.cqs_resume.specs.Rounds.{Round, draw_entries, round_entries, over_entries, drawn_in, one_if, numbers}

@@ -8,10 +8,10 @@ use Rattle.cqs_barrier_object.specs.BarrierObject as plain
 use Rattle.cqs_barrier_object.specs.SoleCaller.{numbers_of}
 use Rattle.cqs_rule.specs.declared.client.ClientWords.{Ghosts}
 use Rattle.cqs_rule.specs.declared.queue.Pass.{Pass}
-use Rattle.cqs_rule.specs.declared.view.Facts.{Facts}
-use Rattle.cqs_rule.specs.declared.view.View.{View}
-use Rattle.cqs_rule.specs.Called.{Called}
-use Rattle.cqs_rule.specs.Lists.{part, NamesOnly}
+use Rattle.cqs_views.specs.declared.view.Facts.{Facts}
+use Rattle.cqs_views.specs.declared.view.View.{View}
+use Rattle.cqs_views.specs.Called.{Called}
+use Rattle.cqs_views.specs.Lists.{part, NamesOnly}
 use Rattle.cqs_rule.specs.Passes.{client_of, IsOf}
 use Rattle.cqs_barrier.specs.declared.barrier.Barrier.{Barrier}
 use Rattle.cqs_barrier.specs.declared.client.BarrierClient.{BarrierClient}

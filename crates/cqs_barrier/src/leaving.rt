@@ -2,9 +2,9 @@
 
 ghost use Rattle.std.specs.Prelude.{◌≡◌, true};
 ghost use Rattle.cqs_core.specs.declared.doings.Doing.TheVariants as doing;
-ghost use Rattle.cqs_rule.specs.Crew.{IsBetween};
+ghost use Rattle.cqs_views.specs.Crew.{IsBetween};
 ghost use Rattle.cqs_rule.specs.Passes.{pass_view};
-ghost use Rattle.cqs_rule.specs.Placed.{KnowsPlace};
+ghost use Rattle.cqs_views.specs.Placed.{KnowsPlace};
 ghost use Rattle.cqs_rule.specs.Waits.{place_of, HasWait};
 ghost use Rattle.cqs_barrier.specs.Alone.{IsPlainCancel};
 ghost use Rattle.cqs_barrier.specs.Calls.{IsReady, IsMine};

@@ -1,9 +1,9 @@
 //! The look at a wait.
 
 ghost use Rattle.std.specs.Prelude.{◌≡◌, [], true};
-ghost use Rattle.cqs_rule.specs.Lists.{Has};
+ghost use Rattle.cqs_views.specs.Lists.{Has};
 ghost use Rattle.cqs_rule.specs.Passes.{pass_view};
-ghost use Rattle.cqs_rule.specs.Placed.{KnowsPlace};
+ghost use Rattle.cqs_views.specs.Placed.{KnowsPlace};
 ghost use Rattle.cqs_rule.specs.Waits.{place_of, HasWait};
 ghost use Rattle.cqs_barrier.specs.Alone.{IsPlainPoll};
 ghost use Rattle.cqs_barrier.specs.Answers.{IsPolled};

@@ -2,11 +2,11 @@
 
 ghost use Rattle.std.specs.Prelude.{◌≡◌, ◌+◌, ◌-◌, ◌++◌, ◌≤◌, [], true, IsTrue, IsErr, IfOk, IfErr, OnErr, OnOk};
 ghost use mathlib.Core.Logic.{◌↔◌};
-ghost use Rattle.cqs_rule.specs.Alone.{IsAlone};
-ghost use Rattle.cqs_rule.specs.Crew.{IsBetween, CameWith};
+ghost use Rattle.cqs_views.specs.Alone.{IsAlone};
+ghost use Rattle.cqs_views.specs.Crew.{IsBetween, CameWith};
 ghost use Rattle.cqs_rule.specs.Passes.{pass_view, passes_of};
 ghost use Rattle.cqs_rule.specs.Seats.{IsBusy, HasLookedOn, HasGiven, HasMet};
-ghost use Rattle.cqs_rule.specs.Views.{made_in, live_in};
+ghost use Rattle.cqs_views.specs.Views.{made_in, live_in};
 ghost use Rattle.cqs_barrier.specs.Barrier.{barrier_object};
 ghost use Rattle.cqs_barrier.specs.Calls.{IsReady, IsMine};
 ghost use Rattle.cqs_barrier.specs.Causes.{primitive_of};

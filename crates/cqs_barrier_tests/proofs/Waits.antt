@@ -2,11 +2,11 @@
 use Rattle.std.proofs.Common.{◌≡◌, ◌≢◌, inl, inr, ℕ, ◌∷◌, [], sym, ◌∙◌, subst}
 use Rattle.cqs_barrier_object.specs.declared.entries.BarrierEntry.{BarrierEntry}
 use Rattle.cqs_rule.specs.declared.queue.tokens.Wait.{Wait}
-use Rattle.cqs_rule.specs.declared.view.View.{View}
-use Rattle.cqs_rule.specs.Lists.{Has}
-use Rattle.cqs_rule.specs.Placed.{place_word, place_known}
+use Rattle.cqs_views.specs.declared.view.View.{View}
+use Rattle.cqs_views.specs.Lists.{Has}
+use Rattle.cqs_views.specs.Placed.{place_word, place_known}
 use Rattle.cqs_rule.specs.Waits.{place_of, HasWait}
-use Rattle.cqs_rule.proofs.Lists.{has_left, without_has}
+use Rattle.cqs_views.proofs.Lists.{has_left, without_has}
 use Rattle.cqs_barrier.specs.declared.answers.Arrived.TheVariants.{Last, Later}
 use Rattle.cqs_barrier.specs.declared.answers.PartyLeft.TheVariants.{TooLate}
 use Rattle.cqs_barrier.specs.declared.answers.PartyWait.{PartyWait}

@@ -9,7 +9,8 @@ ghost use Rattle.cqs_bench.specs.Waits.{KeepsWaits, HasItsWait};
 use cqs_cancel::{Left, cancel};
 use cqs_cell::look_for_grant;
 use cqs_resume::{Resumed, resume};
-use cqs_rule::{Counts, Pass, Queue, SUSPENDS_WORD, SemClient, Wait, give_permit, take_permit};
+use cqs_rule::{Counts, Pass, Queue, SUSPENDS_WORD, Wait};
+use cqs_semaphore_client::{SemClient, give_permit, take_permit};
 use cqs_suspend::{Suspended, suspend};
 
 /// From this suspend counter on no number is drawn.

@@ -1,12 +1,12 @@
 -- A caller of a barrier between two calls.
 use Rattle.std.proofs.Common.{◌≡◌, ◌⊎◌, ℕ, suc, zero, List, [], ◌∷◌, Option, Some, None, false, ap, refl, subst, sym, ◌∙◌, inl, inr}
 use Rattle.std.specs.Option.{is_some}
-use Rattle.cqs_rule.specs.declared.view.Facts.{Facts}
-use Rattle.cqs_rule.specs.declared.view.Has.{Has}
-use Rattle.cqs_rule.specs.declared.view.View.{View}
-use Rattle.cqs_rule.specs.Lists.{without}
-use Rattle.cqs_rule.specs.Placed.{place_known, place_word}
-use Rattle.cqs_rule.specs.Views.{facts_lessened, first_facts, has_less}
+use Rattle.cqs_views.specs.declared.view.Facts.{Facts}
+use Rattle.cqs_views.specs.declared.view.Has.{Has}
+use Rattle.cqs_views.specs.declared.view.View.{View}
+use Rattle.cqs_views.specs.Lists.{without}
+use Rattle.cqs_views.specs.Placed.{place_known, place_word}
+use Rattle.cqs_views.specs.Views.{facts_lessened, first_facts, has_less}
 use Rattle.cqs_barrier_object.specs.declared.entries.BarrierEntry.{BarrierEntry}
 use Rattle.cqs_barrier_object.specs.declared.entries.BarrierEntry.TheVariants as entry
 use Rattle.cqs_barrier.specs.declared.answers.Arrived.TheVariants.{Last}

@@ -1,7 +1,7 @@
 -- Whatever a call of a barrier answers, its pass has the number that it had.
 use Rattle.std.proofs.Common.{◌≡◌, ℕ, ap, inl, inr, Some, None, Option, Result, Ok, Err, OnErr, IfOk}
-use Rattle.cqs_rule.specs.declared.config.AcquireError.{AcquireError}
-use Rattle.cqs_rule.specs.declared.view.View.{View}
+use Rattle.cqs_views.specs.declared.config.AcquireError.{AcquireError}
+use Rattle.cqs_views.specs.declared.view.View.{View}
 use Rattle.cqs_rule.specs.Passes.{pass_view}
 use Rattle.cqs_barrier_object.specs.declared.entries.BarrierEntry.{BarrierEntry}
 use Rattle.cqs_barrier.specs.declared.answers.Arrived.{Arrived}

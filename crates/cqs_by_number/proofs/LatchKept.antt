@@ -1,7 +1,7 @@
 -- A caller of a latch between two calls.
 use Rattle.std.proofs.Common.{◌≡◌, Option, Some, None, false}
 use Rattle.std.specs.Option.{is_some}
-use Rattle.cqs_rule.specs.declared.view.Facts.{Facts}
+use Rattle.cqs_views.specs.declared.view.Facts.{Facts}
 use Rattle.cqs_latch.specs.declared.answers.Owed.{Owed}
 use Rattle.cqs_latch.specs.Calls.{IsReady}
 use Rattle.cqs_by_number.specs.LatchCallers.{OwesJust}

@@ -4,14 +4,14 @@ use Rattle.std.specs.Option.{is_some}
 use Rattle.std.specs.List.{remove}
 use Rattle.std.proofs.lemmas.List.Elements.{All-weaker}
 use Rattle.cqs_core.specs.declared.entries.Entry.{Entry}
-use Rattle.cqs_rule.specs.declared.config.Place.{Place}
+use Rattle.cqs_views.specs.declared.config.Place.{Place}
 use Rattle.cqs_rule.specs.declared.queue.tokens.Under as token
-use Rattle.cqs_rule.specs.declared.view.Facts.{Facts}
-use Rattle.cqs_rule.specs.declared.view.View.{View}
-use Rattle.cqs_rule.specs.Inside.{IsInside}
-use Rattle.cqs_rule.specs.Lists.{Has, without}
-use Rattle.cqs_rule.specs.Placed.{place_known, place_word}
-use Rattle.cqs_rule.proofs.Lists.{has_left, has_right, without_has, get_index}
+use Rattle.cqs_views.specs.declared.view.Facts.{Facts}
+use Rattle.cqs_views.specs.declared.view.View.{View}
+use Rattle.cqs_views.specs.Inside.{IsInside}
+use Rattle.cqs_views.specs.Lists.{Has, without}
+use Rattle.cqs_views.specs.Placed.{place_known, place_word}
+use Rattle.cqs_views.proofs.Lists.{has_left, has_right, without_has, get_index}
 use Rattle.cqs_semaphore.specs.declared.answers.Released.{Released}
 use Rattle.cqs_semaphore.specs.declared.answers.Released.TheVariants.{Freed, Sent, Left, Void, Under}
 use Rattle.cqs_semaphore.specs.Answers.{Takes, Ends, Releases, PassesOn}

@@ -3,14 +3,14 @@
 use Rattle.std.proofs.Common.{◌≡◌, ◌≢◌, ℕ, zero, suc, ◌+◌, ◌<◌, List, [], ◌∷◌, ◌++◌, All, length, slice_index_or, sym, ap, ◌∙◌, subst, refl, inl, arith}
 use Rattle.std.specs.List.{remove}
 use Rattle.std.proofs.lemmas.List.Elements.{All-nil, All-cons, All-head, All-tail, All-get_or, All-push, All-weaker}
-use Rattle.cqs_rule.specs.declared.config.Place.{Place}
+use Rattle.cqs_views.specs.declared.config.Place.{Place}
 use Rattle.cqs_rule.specs.declared.queue.tokens.Wait.{Wait}
-use Rattle.cqs_rule.specs.declared.view.View.{View}
-use Rattle.cqs_rule.specs.Inside.{IsInside}
-use Rattle.cqs_rule.specs.Lists.{Has, without}
-use Rattle.cqs_rule.specs.Placed.{place_known, place_word}
+use Rattle.cqs_views.specs.declared.view.View.{View}
+use Rattle.cqs_views.specs.Inside.{IsInside}
+use Rattle.cqs_views.specs.Lists.{Has, without}
+use Rattle.cqs_views.specs.Placed.{place_known, place_word}
 use Rattle.cqs_rule.specs.Waits.{place_of, HasWait}
-use Rattle.cqs_rule.proofs.Lists.{has_left, has_right, without_has}
+use Rattle.cqs_views.proofs.Lists.{has_left, has_right, without_has}
 use Rattle.cqs_by_number.specs.Tokens.{Apart, IsTaken, HasTokens, wait_index}
 use Rattle.cqs_by_number.proofs.Waits.{all_remove, all_both, stands_once}
 

@@ -5,9 +5,9 @@ use native.Mathlib.Decide.{ℕ_discrete}
 use Rattle.std.specs.List.{remove}
 use Rattle.std.proofs.lemmas.List.{length-append}
 use Rattle.std.proofs.lemmas.List.Elements.{All-nil, All-cons, All-head, All-tail, All-append, All-take, All-drop, All-get_or, All-push}
-use Rattle.cqs_rule.specs.declared.config.Place.{Place}
-use Rattle.cqs_rule.specs.Lists.{Has, without}
-use Rattle.cqs_rule.proofs.Lists.{get_index}
+use Rattle.cqs_views.specs.declared.config.Place.{Place}
+use Rattle.cqs_views.specs.Lists.{Has, without}
+use Rattle.cqs_views.proofs.Lists.{get_index}
 use Rattle.cqs_by_number.specs.Waits.{Apart, IsAt}
 
 pub all_remove : {X : Type 0} (P : X → Type 0) (xs : List X) (i : ℕ) → All P xs → All P (remove xs i)

@@ -2,12 +2,12 @@
 -- caller's, and leaves the caller as it was; or it was one call of the barrier, whose answer is
 -- told, and of which all holds that its contract says.
 use Rattle.std.specs.Prelude.{◌≡◌, ◌≢◌, ◌⊎◌, ℕ, ◌≤◌, true, [], All, Option, Some, None, IsSome, Result, OnErr, IfOk, vec_len, vec_capacity}
-use Rattle.cqs_rule.specs.declared.config.AcquireError.{AcquireError}
-use Rattle.cqs_rule.specs.declared.view.View.{View}
-use Rattle.cqs_rule.specs.Alone.{IsAlone}
+use Rattle.cqs_views.specs.declared.config.AcquireError.{AcquireError}
+use Rattle.cqs_views.specs.declared.view.View.{View}
+use Rattle.cqs_views.specs.Alone.{IsAlone}
 use Rattle.cqs_rule.specs.Passes.{pass_view}
-use Rattle.cqs_rule.specs.Saw.{Saw}
-use Rattle.cqs_rule.specs.Views.{as_before}
+use Rattle.cqs_views.specs.Saw.{Saw}
+use Rattle.cqs_views.specs.Views.{as_before}
 use Rattle.cqs_rule.specs.Waits.{place_of, HasWait}
 use Rattle.cqs_barrier_object.specs.declared.entries.BarrierEntry.{BarrierEntry}
 use Rattle.cqs_barrier.specs.declared.answers.Arrived.{Arrived}

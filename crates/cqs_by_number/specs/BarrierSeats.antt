@@ -1,11 +1,11 @@
 -- What a split and a meet by number have done, of a barrier: each is refused, for a cause that is
 -- the callers'; or it was the barrier's own, of which all holds that its contract says.
 use Rattle.std.specs.Prelude.{◌≡◌, ◌⊎◌, ℕ, ◌+◌, ◌++◌, ◌<◌, ◌≤◌, true, [], None, IsSome}
-use Rattle.cqs_rule.specs.declared.semaphore.carries.Unparked.{Unparked}
-use Rattle.cqs_rule.specs.Crew.{CameWith}
+use Rattle.cqs_rule.specs.declared.carries.Unparked.{Unparked}
+use Rattle.cqs_views.specs.Crew.{CameWith}
 use Rattle.cqs_rule.specs.Passes.{pass_view, passes_of}
 use Rattle.cqs_rule.specs.Seats.{IsBusy, HasLookedOn, HasGiven, HasMet}
-use Rattle.cqs_rule.specs.Views.{made_in}
+use Rattle.cqs_views.specs.Views.{made_in}
 use Rattle.cqs_barrier.specs.declared.barrier.Barrier.{Barrier}
 use Rattle.cqs_barrier.specs.Barrier.{barrier_object}
 use Rattle.cqs_by_number.specs.declared.answers.Answer.{Answer}

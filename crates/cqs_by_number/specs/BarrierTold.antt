@@ -1,6 +1,6 @@
 -- What each answer tells, by what the barrier's own call answered.
 use Rattle.std.specs.Prelude.{Result, Ok, Err, pos}
-use Rattle.cqs_rule.specs.declared.config.AcquireError.{AcquireError}
+use Rattle.cqs_views.specs.declared.config.AcquireError.{AcquireError}
 use Rattle.cqs_rule.specs.Waits.{place_of}
 use Rattle.cqs_barrier.specs.declared.answers.Arrived.{Arrived}
 use Rattle.cqs_barrier.specs.declared.answers.Arrived.TheVariants as arrived

@@ -2,11 +2,11 @@
 -- caller's, and leaves the caller as it was; or it was one call of the latch, whose answer is told,
 -- and of which all holds that its contract says.
 use Rattle.std.specs.Prelude.{◌≡◌, ◌≢◌, ◌⊎◌, ℕ, ◌≤◌, true, [], All, None, IsSome, Result, vec_len, vec_capacity}
-use Rattle.cqs_rule.specs.declared.config.AcquireError.{AcquireError}
-use Rattle.cqs_rule.specs.declared.config.CancelMode.{CancelMode}
+use Rattle.cqs_views.specs.declared.config.AcquireError.{AcquireError}
+use Rattle.cqs_views.specs.declared.config.CancelMode.{CancelMode}
 use Rattle.cqs_rule.specs.declared.queue.tokens.Wait.{Wait}
-use Rattle.cqs_rule.specs.declared.semaphore.carries.Unparked.{Unparked}
-use Rattle.cqs_rule.specs.declared.view.View.{View}
+use Rattle.cqs_rule.specs.declared.carries.Unparked.{Unparked}
+use Rattle.cqs_views.specs.declared.view.View.{View}
 use Rattle.cqs_rule.specs.Passes.{pass_view, client_of}
 use Rattle.cqs_rule.specs.Waits.{place_of, HasWait}
 use Rattle.cqs_latch_object.specs.declared.entries.LatchEntry.{LatchEntry}

@@ -1,11 +1,11 @@
 -- What a split and a meet by number have done, of a latch: each is refused, for a cause that is the
 -- callers'; or it was the latch's own, of which all holds that its contract says.
 use Rattle.std.specs.Prelude.{◌≡◌, ◌++◌, ◌<◌, ◌≤◌, true, [], None, IsSome}
-use Rattle.cqs_rule.specs.declared.semaphore.carries.Unparked.{Unparked}
-use Rattle.cqs_rule.specs.Crew.{Came}
+use Rattle.cqs_rule.specs.declared.carries.Unparked.{Unparked}
+use Rattle.cqs_views.specs.Crew.{Came}
 use Rattle.cqs_rule.specs.Passes.{pass_view, passes_of}
 use Rattle.cqs_rule.specs.Seats.{IsBusy, HasMet}
-use Rattle.cqs_rule.specs.Views.{made_in}
+use Rattle.cqs_views.specs.Views.{made_in}
 use Rattle.cqs_latch.specs.declared.latch.Latch.{Latch}
 use Rattle.cqs_latch.specs.Calls.{KeepsWaits}
 use Rattle.cqs_latch.specs.Latch.{latch_object}

@@ -1,6 +1,6 @@
 -- What each answer tells, by what the latch's own call answered.
 use Rattle.std.specs.Prelude.{Result, Ok, Err}
-use Rattle.cqs_rule.specs.declared.config.AcquireError.{AcquireError}
+use Rattle.cqs_views.specs.declared.config.AcquireError.{AcquireError}
 use Rattle.cqs_rule.specs.Waits.{place_of}
 use Rattle.cqs_latch.specs.declared.answers.Down.{Down}
 use Rattle.cqs_latch.specs.declared.answers.Down.TheVariants as down

@@ -2,11 +2,11 @@
 -- caller's, and leaves the caller as it was; or it was one call of the pool, whose answer is told,
 -- and of which all holds that its contract says.
 use Rattle.std.specs.Prelude.{◌≡◌, ◌≢◌, ◌⊎◌, ℕ, ◌≤◌, true, [], ◌∷◌, All, None, IsSome, Result, OnErr, IfOk, vec_len, vec_capacity}
-use Rattle.cqs_rule.specs.declared.config.AcquireError.{AcquireError}
+use Rattle.cqs_views.specs.declared.config.AcquireError.{AcquireError}
 use Rattle.cqs_rule.specs.declared.queue.tokens.Under.{Under}
 use Rattle.cqs_rule.specs.declared.queue.tokens.Wait.{Wait}
-use Rattle.cqs_rule.specs.declared.view.View.{View}
-use Rattle.cqs_rule.specs.Lists.{without}
+use Rattle.cqs_views.specs.declared.view.View.{View}
+use Rattle.cqs_views.specs.Lists.{without}
 use Rattle.cqs_rule.specs.Owed.{HasUnder, under_payload}
 use Rattle.cqs_rule.specs.Passes.{pass_view}
 use Rattle.cqs_rule.specs.Waits.{place_of, HasWait}

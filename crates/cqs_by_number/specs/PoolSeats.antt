@@ -1,11 +1,11 @@
 -- What a split and a meet by number have done, of a pool: each is refused, for a cause that is the
 -- callers'; or it was the pool's own, of which all holds that its contract says.
 use Rattle.std.specs.Prelude.{◌≡◌, ◌⊎◌, ◌++◌, ◌<◌, ◌≤◌, true, [], None, IsSome, vec_len}
-use Rattle.cqs_rule.specs.declared.semaphore.carries.Unparked.{Unparked}
-use Rattle.cqs_rule.specs.Crew.{Came}
+use Rattle.cqs_rule.specs.declared.carries.Unparked.{Unparked}
+use Rattle.cqs_views.specs.Crew.{Came}
 use Rattle.cqs_rule.specs.Passes.{pass_view, passes_of}
 use Rattle.cqs_rule.specs.Seats.{IsBusy, HasMet}
-use Rattle.cqs_rule.specs.Views.{made_in}
+use Rattle.cqs_views.specs.Views.{made_in}
 use Rattle.cqs_pool.specs.declared.pool.Pool.{Pool}
 use Rattle.cqs_pool.specs.Calls.{Course}
 use Rattle.cqs_pool.specs.Pool.{pool_object}

@@ -1,6 +1,6 @@
 -- What each answer tells, by what the pool's own call answered.
 use Rattle.std.specs.Prelude.{Some, None, Result, Ok, Err}
-use Rattle.cqs_rule.specs.declared.config.AcquireError.{AcquireError}
+use Rattle.cqs_views.specs.declared.config.AcquireError.{AcquireError}
 use Rattle.cqs_rule.specs.Waits.{place_of}
 use Rattle.cqs_rule.specs.Owed.{under_reached}
 use Rattle.cqs_pool.specs.declared.answers.Placed.{Placed}

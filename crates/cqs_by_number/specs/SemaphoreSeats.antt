@@ -1,12 +1,12 @@
 -- What a split and a meet by number have done, of a semaphore: each is refused, for a cause that is
 -- the callers'; or it was the semaphore's own, of which all holds that its contract says.
 use Rattle.std.specs.Prelude.{◌≡◌, ◌+◌, ◌++◌, ◌<◌, ◌≤◌, true, [], None, IsSome}
-use Rattle.cqs_rule.specs.declared.semaphore.carries.Unparked.{Unparked}
-use Rattle.cqs_rule.specs.Crew.{Came}
+use Rattle.cqs_rule.specs.declared.carries.Unparked.{Unparked}
+use Rattle.cqs_views.specs.Crew.{Came}
 use Rattle.cqs_rule.specs.Passes.{pass_view, passes_of}
 use Rattle.cqs_rule.specs.Seats.{IsBusy, HasMet}
-use Rattle.cqs_rule.specs.Semaphore.{semaphore_object}
-use Rattle.cqs_rule.specs.Views.{made_in}
+use Rattle.cqs_semaphore_client.specs.Semaphore.{semaphore_object}
+use Rattle.cqs_views.specs.Views.{made_in}
 use Rattle.cqs_semaphore.specs.declared.semaphore.Semaphore.{Semaphore}
 use Rattle.cqs_semaphore.specs.Calls.{Course}
 use Rattle.cqs_semaphore.specs.Seats.{LookedOn}

@@ -1,9 +1,9 @@
 -- The waits of a pass, by the places of their cells.
 use Rattle.std.specs.Prelude.{◌≡◌, ◌≢◌, ℕ, ◌<◌, List, [], ◌∷◌, All, Some, length, slice_get}
-use Rattle.cqs_rule.specs.declared.config.Place.{Place}
-use Rattle.cqs_rule.specs.declared.view.View.{View}
-use Rattle.cqs_rule.specs.Lists.{Has}
-use Rattle.cqs_rule.specs.Placed.{KnowsPlace}
+use Rattle.cqs_views.specs.declared.config.Place.{Place}
+use Rattle.cqs_views.specs.declared.view.View.{View}
+use Rattle.cqs_views.specs.Lists.{Has}
+use Rattle.cqs_views.specs.Placed.{KnowsPlace}
 
 -- the pass has a wait at this place that isn't closed, and knows that its cell stands there
 pub record HasAt {E S : Type 0} (v : View E S) (at : Place) : Type 0 where

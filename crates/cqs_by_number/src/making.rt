@@ -1,7 +1,7 @@
 //! How a primitive is made whose passes are called by number.
 
 ghost use Rattle.std.specs.Prelude.{◌≡◌, ◌⊎◌, ◌<◌, ◌≤◌, ◌+◌, ◌*◌, false, IfOk, IsErrOf, replicate};
-ghost use Rattle.cqs_rule.specs.Configured.{is_config};
+ghost use Rattle.cqs_views.specs.Configured.{is_config};
 ghost use Rattle.cqs_by_number.specs.Callers.{StandsAt};
 
 use crate::answers::Answer;

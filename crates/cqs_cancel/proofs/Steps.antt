@@ -12,31 +12,31 @@ use Rattle.cqs_core.specs.QueueSteps.{QueueStep, row_of, CellRow, StepRow, at_co
 use Rattle.cqs_words.specs.declared.cell.CellState.{CellState}
 use Rattle.cqs_words.specs.declared.cell.CellWord.{CellWord}
 use Rattle.cqs_rule.specs.declared.client.ClientWords.{Ghosts}
-use Rattle.cqs_rule.specs.declared.config.Place.{Place}
+use Rattle.cqs_views.specs.declared.config.Place.{Place}
 use Rattle.cqs_rule.specs.declared.queue.Pass.{Pass}
-use Rattle.cqs_rule.specs.declared.view.Facts.{Facts}
-use Rattle.cqs_rule.specs.declared.view.Glimpse.{Glimpse}
-use Rattle.cqs_rule.specs.declared.view.Has.{Has}
-use Rattle.cqs_rule.specs.declared.view.Opening.{Opening}
-use Rattle.cqs_rule.specs.declared.view.Sighting.TheVariants.{Cell}
-use Rattle.cqs_rule.specs.declared.view.View.{View}
+use Rattle.cqs_views.specs.declared.view.Facts.{Facts}
+use Rattle.cqs_views.specs.declared.view.Glimpse.{Glimpse}
+use Rattle.cqs_views.specs.declared.view.Has.{Has}
+use Rattle.cqs_views.specs.declared.view.Opening.{Opening}
+use Rattle.cqs_views.specs.declared.view.Sighting.TheVariants.{Cell}
+use Rattle.cqs_views.specs.declared.view.View.{View}
 use Rattle.cqs_rule.specs.Callbacks.{Asking, by_step, as_it_begins, by_itself, IsAsked, MayAsk, Answered, AnsweredBy, HasAnswered, EndedRefused}
-use Rattle.cqs_rule.specs.Called.{Called}
-use Rattle.cqs_rule.specs.Events.{Event, Moment, moment, in_any_case, facts_moved, HasWord}
-use Rattle.cqs_rule.specs.Exchanges.{FoundCell, SinceLast, HasCell}
-use Rattle.cqs_rule.specs.Facts.{facts_worked, facts_missed, facts_after}
-use Rattle.cqs_rule.specs.Hidden.{Hidden}
-use Rattle.cqs_rule.specs.Layout.{client_place}
-use Rattle.cqs_rule.specs.Lists.{IsPrefix}
-use Rattle.cqs_rule.specs.Loads.{cancels, event_of, look_entries, facts_looked}
-use Rattle.cqs_rule.specs.Manner.{Manner, Asks}
-use Rattle.cqs_rule.specs.Object.{Object, Primitive}
+use Rattle.cqs_views.specs.Called.{Called}
+use Rattle.cqs_views.specs.Events.{Event, Moment, moment, in_any_case, facts_moved, HasWord}
+use Rattle.cqs_views.specs.Exchanges.{FoundCell, SinceLast, HasCell}
+use Rattle.cqs_views.specs.Facts.{facts_worked, facts_missed, facts_after}
+use Rattle.cqs_views.specs.Hidden.{Hidden}
+use Rattle.cqs_views.specs.Layout.{client_place}
+use Rattle.cqs_views.specs.Lists.{IsPrefix}
+use Rattle.cqs_views.specs.Loads.{cancels, event_of, look_entries, facts_looked}
+use Rattle.cqs_views.specs.Manner.{Manner, Asks}
+use Rattle.cqs_views.specs.Object.{Object, Primitive}
 use Rattle.cqs_rule.specs.Owed.{OwesWith}
 use Rattle.cqs_rule.specs.Passes.{pass_view}
-use Rattle.cqs_rule.specs.Placed.{KnowsPlace}
-use Rattle.cqs_rule.specs.Ruled.{word_of}
-use Rattle.cqs_rule.specs.Saw.{Saw, WasShown, WasFound, WasSo}
-use Rattle.cqs_rule.proofs.Calls.{called-by, called-then, called-and, saw-then}
+use Rattle.cqs_views.specs.Placed.{KnowsPlace}
+use Rattle.cqs_views.specs.Ruled.{word_of}
+use Rattle.cqs_views.specs.Saw.{Saw, WasShown, WasFound, WasSo}
+use Rattle.cqs_views.proofs.Calls.{called-by, called-then, called-and, saw-then}
 use Rattle.cqs_rule.proofs.Places.{knows-saw, knows-at}
 use Rattle.cqs_cell.specs.Looks.{LooksAt}
 use Rattle.cqs_cell.specs.Transitions.{facts_since, Made, MadeBy, HasMade, Missed, MissedBy, HasMissed, HasSettled}

@@ -4,17 +4,17 @@ use Rattle.std.specs.Prelude.{◌≡◌, ℕ, ◌≤◌, List, ◌++◌, length,
 use Rattle.cqs_core.specs.QueueSteps.{QueueStep, row_of, CellRow, StepRow, at_counter, at_cell, payload_told, leaves_line, settles, settles_owing}
 use Rattle.cqs_rule.specs.declared.client.ClientWords.{Ghosts}
 use Rattle.cqs_rule.specs.declared.queue.Pass.{Pass}
-use Rattle.cqs_rule.specs.declared.view.Facts.{Facts}
-use Rattle.cqs_rule.specs.declared.view.Sighting.{Sighting}
-use Rattle.cqs_rule.specs.declared.view.View.{View}
-use Rattle.cqs_rule.specs.Called.{Called}
-use Rattle.cqs_rule.specs.Exchanges.{FoundCell, HasCell}
-use Rattle.cqs_rule.specs.Facts.{facts_after, facts_worked}
-use Rattle.cqs_rule.specs.Hidden.{Gains}
-use Rattle.cqs_rule.specs.Object.{Object, Primitive}
+use Rattle.cqs_views.specs.declared.view.Facts.{Facts}
+use Rattle.cqs_views.specs.declared.view.Sighting.{Sighting}
+use Rattle.cqs_views.specs.declared.view.View.{View}
+use Rattle.cqs_views.specs.Called.{Called}
+use Rattle.cqs_views.specs.Exchanges.{FoundCell, HasCell}
+use Rattle.cqs_views.specs.Facts.{facts_after, facts_worked}
+use Rattle.cqs_views.specs.Hidden.{Gains}
+use Rattle.cqs_views.specs.Object.{Object, Primitive}
 use Rattle.cqs_rule.specs.Owed.{OwesWith}
 use Rattle.cqs_rule.specs.Passes.{pass_view}
-use Rattle.cqs_rule.specs.Saw.{WasFound, WasSo}
+use Rattle.cqs_views.specs.Saw.{WasFound, WasSo}
 use Rattle.cqs_cancel.specs.declared.cancelling.Left.{Left}
 use Rattle.cqs_cancel.specs.declared.cancelling.Left.TheVariants.{Gone, GoneOwing, Late}
 use Rattle.cqs_cancel.specs.Cancels.{facts_tried, waiting_glimpse, CameLate}

@@ -5,11 +5,11 @@ use Rattle.cqs_words.specs.declared.cell.CellWord.{CellWord}
 use Rattle.cqs_words.specs.Cell.{unpacked_cell}
 use Rattle.cqs_rule.specs.declared.client.ClientWords.{Ghosts}
 use Rattle.cqs_rule.specs.declared.queue.Pass.{Pass}
-use Rattle.cqs_rule.specs.declared.view.View.{View}
-use Rattle.cqs_rule.specs.Loads.{LoadStep, Looked, polls}
-use Rattle.cqs_rule.specs.Object.{Object, Primitive}
+use Rattle.cqs_views.specs.declared.view.View.{View}
+use Rattle.cqs_views.specs.Loads.{LoadStep, Looked, polls}
+use Rattle.cqs_views.specs.Object.{Object, Primitive}
 use Rattle.cqs_rule.specs.Passes.{pass_view}
-use Rattle.cqs_rule.specs.Ruled.{shown_state}
+use Rattle.cqs_views.specs.Ruled.{shown_state}
 
 module _ {C E S : Type 0} (object : Object E) (primitive : C → Primitive E S) where
   -- the cell of the number k was loaded so, and this state and payload were found there

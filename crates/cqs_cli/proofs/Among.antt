@@ -5,7 +5,7 @@ use Rattle.cqs_plan.specs.Floor.{size_of}
 use Rattle.cqs_core.specs.declared.entries.Entry.{Entry}
 use Rattle.cqs_core.specs.SemaphoreEntries.{IsFirst, object_after}
 use Rattle.cqs_core.specs.SemaphoreObject.{Semaphore}
-use Rattle.cqs_rule.specs.declared.config.Place.{Place}
+use Rattle.cqs_views.specs.declared.config.Place.{Place}
 use Rattle.cqs_cli.specs.declared.floors.sole.Stand.{Stand}
 use Rattle.cqs_cli.specs.Soles.{Acquires, CanAcquire, CanEnd, CanRelease, CanStand, Cancels, EndsWait, Goes, IsOpened, KeepsAll, KeepsOthers, Polls, Releases, Sole, Tells, is_in_line, object}
 

@@ -9,7 +9,7 @@ use Rattle.cqs_plan.specs.declared.plans.kind.Kind.{Kind}
 use Rattle.cqs_plan.specs.Floor.{size_of}
 use Rattle.cqs_plan.specs.FloorCalls.{down_of}
 use Rattle.cqs_plan.specs.FloorHistory.{Deed, Standing, joins, frees, sends, came_for, first_free, standing_in, to_come, ending, with_deed_in}
-use Rattle.cqs_rule.specs.declared.config.Place.{Place}
+use Rattle.cqs_views.specs.declared.config.Place.{Place}
 use Rattle.cqs_cli.specs.declared.floors.sole_resource.Left.{Left}
 use Rattle.cqs_cli.specs.declared.floors.sole_resource.Left.TheVariants as left
 use Rattle.cqs_cli.specs.declared.floors.sole_resource.Looked.{Looked}

@@ -2,7 +2,7 @@
 use Rattle.std.proofs.Common.{ℕ, ◌<◌, List, Option, Some, refl}
 use Rattle.cqs_plan.specs.declared.plans.kind.Kind.{Kind}
 use Rattle.cqs_plan.specs.LegalFloor.{IsHistory}
-use Rattle.cqs_rule.specs.declared.config.Place.{Place}
+use Rattle.cqs_views.specs.declared.config.Place.{Place}
 use Rattle.cqs_cli.specs.declared.floors.any_sole.AnySole.{AnySole}
 use Rattle.cqs_cli.specs.declared.floors.any_sole.AnySole.TheVariants.{Permits, Pool, Latch, Rounds}
 use Rattle.cqs_cli.specs.AnySoles.{store_any}

@@ -27,12 +27,12 @@ use Rattle.cqs_barrier.specs.Calls.{plain_after, waiting_in}
 use Rattle.cqs_barrier.proofs.AloneLine.{all-idle, sees}
 use Rattle.cqs_barrier.proofs.AloneOrder.{allowed-at}
 use Rattle.cqs_latch.proofs.AheadLines.{served-past}
-use Rattle.cqs_rule.specs.declared.config.Place.{Place}
-use Rattle.cqs_rule.specs.declared.view.Opening.{Opening}
-use Rattle.cqs_rule.specs.declared.view.View.{View}
-use Rattle.cqs_rule.specs.Lists.{Has, without}
+use Rattle.cqs_views.specs.declared.config.Place.{Place}
+use Rattle.cqs_views.specs.declared.view.Opening.{Opening}
+use Rattle.cqs_views.specs.declared.view.View.{View}
+use Rattle.cqs_views.specs.Lists.{Has, without}
 use Rattle.cqs_rule.specs.Passes.{pass_view}
-use Rattle.cqs_rule.proofs.Lists.{has_append, has_left, has_without, without_has}
+use Rattle.cqs_views.proofs.Lists.{has_append, has_left, has_without, without_has}
 use Rattle.cqs_cli.specs.declared.floors.round_sole.RoundSole.{RoundSole}
 use Rattle.cqs_cli.specs.declared.floors.rounds_sole.RoundsSole.{RoundsSole}
 use Rattle.cqs_cli.specs.declared.floors.sole_resource.Left.{Left}

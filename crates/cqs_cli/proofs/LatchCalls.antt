@@ -27,14 +27,14 @@ use Rattle.cqs_latch.specs.Causes.{primitive_of}
 use Rattle.cqs_latch.specs.Owed.{owed_under}
 use Rattle.cqs_latch.proofs.AloneOpen.{owing-opened}
 use Rattle.cqs_latch.proofs.AloneOrder.{all-served, serves-then}
-use Rattle.cqs_rule.specs.Alone.{IsAlone}
-use Rattle.cqs_rule.specs.declared.config.CancelMode.TheVariants.{Smart}
+use Rattle.cqs_views.specs.Alone.{IsAlone}
+use Rattle.cqs_views.specs.declared.config.CancelMode.TheVariants.{Smart}
 use Rattle.cqs_rule.specs.declared.queue.tokens.Wait.{Wait}
-use Rattle.cqs_rule.specs.declared.view.Opening.{Opening}
-use Rattle.cqs_rule.specs.declared.view.View.{View}
-use Rattle.cqs_rule.specs.Lists.{without}
+use Rattle.cqs_views.specs.declared.view.Opening.{Opening}
+use Rattle.cqs_views.specs.declared.view.View.{View}
+use Rattle.cqs_views.specs.Lists.{without}
 use Rattle.cqs_rule.specs.Waits.{HasWait, place_of}
-use Rattle.cqs_rule.proofs.Calls.{same-then}
+use Rattle.cqs_views.proofs.Calls.{same-then}
 use Rattle.cqs_cli.specs.LatchEnds.{ServesAll}
 use Rattle.cqs_cli.proofs.LatchRests.{Comes, allowed-next, plain-next, went}
 

@@ -3,9 +3,9 @@ use Rattle.std.proofs.Common.{◌≡◌, ◌<◌, map, [], ◌++◌, Ok, Err, re
 use Rattle.std.proofs.lemmas.List.{append-nil}
 use Rattle.cqs_core.specs.QueueLine.{Waiting}
 use Rattle.cqs_latch_object.specs.declared.entries.LatchEntry.{LatchEntry}
-use Rattle.cqs_rule.specs.declared.view.View.{View}
-use Rattle.cqs_rule.specs.Views.{IsSame}
-use Rattle.cqs_rule.proofs.Calls.{same-here, same-then}
+use Rattle.cqs_views.specs.declared.view.View.{View}
+use Rattle.cqs_views.specs.Views.{IsSame}
+use Rattle.cqs_views.proofs.Calls.{same-here, same-then}
 use Rattle.cqs_latch.specs.declared.answers.Owed.{Owed}
 use Rattle.cqs_latch.specs.Alone.{HasServedAll, ServesFirst, delivers, waiting_in}
 use Rattle.cqs_latch.specs.CountAnswers.{HasFinished}

@@ -11,12 +11,12 @@ use Rattle.cqs_latch_object.specs.LatchObject.{Latch, opening}
 use Rattle.cqs_latch.specs.Alone.{delivers, plain_after}
 use Rattle.cqs_latch.specs.Calls.{CallRuleEnding, Rests}
 use Rattle.cqs_latch.specs.Latch.{is_simple}
-use Rattle.cqs_rule.specs.declared.config.Place.{Place}
-use Rattle.cqs_rule.specs.declared.view.Opening.{Opening}
-use Rattle.cqs_rule.specs.declared.view.View.{View}
-use Rattle.cqs_rule.specs.Lists.{Has}
-use Rattle.cqs_rule.specs.Placed.{place_known, place_word}
-use Rattle.cqs_rule.specs.Views.{IsSame}
+use Rattle.cqs_views.specs.declared.config.Place.{Place}
+use Rattle.cqs_views.specs.declared.view.Opening.{Opening}
+use Rattle.cqs_views.specs.declared.view.View.{View}
+use Rattle.cqs_views.specs.Lists.{Has}
+use Rattle.cqs_views.specs.Placed.{place_known, place_word}
+use Rattle.cqs_views.specs.Views.{IsSame}
 use Rattle.cqs_cli.specs.SoleLatch.{IsResting, is_news, news}
 use Rattle.cqs_cli.specs.Waits.{WaitsAt}
 use Rattle.cqs_cli.proofs.FreshHistories.{fresh-legal, fresh-object}

@@ -26,13 +26,13 @@ use Rattle.cqs_latch.specs.Calls.{IsMine, Rests}
 use Rattle.cqs_latch.specs.Latch.{is_simple}
 use Rattle.cqs_latch.specs.LatchMade.{mode_of, count_of}
 use Rattle.cqs_latch.proofs.AloneOrder.{alone-past}
-use Rattle.cqs_rule.specs.declared.config.CancelMode.TheVariants.{Smart}
-use Rattle.cqs_rule.specs.declared.config.Place.{Place}
-use Rattle.cqs_rule.specs.declared.view.Opening.{Opening}
-use Rattle.cqs_rule.specs.declared.view.View.{View}
-use Rattle.cqs_rule.specs.Lists.{Has, without}
+use Rattle.cqs_views.specs.declared.config.CancelMode.TheVariants.{Smart}
+use Rattle.cqs_views.specs.declared.config.Place.{Place}
+use Rattle.cqs_views.specs.declared.view.Opening.{Opening}
+use Rattle.cqs_views.specs.declared.view.View.{View}
+use Rattle.cqs_views.specs.Lists.{Has, without}
 use Rattle.cqs_rule.specs.Passes.{client_of, limit_of, pass_view}
-use Rattle.cqs_rule.proofs.Lists.{has_append, has_left, has_without, without_has}
+use Rattle.cqs_views.proofs.Lists.{has_append, has_left, has_without, without_has}
 use Rattle.cqs_cli.specs.declared.floors.latch_sole.LatchSole.{LatchSole}
 use Rattle.cqs_cli.specs.declared.floors.sole_resource.Left.TheVariants as left
 use Rattle.cqs_cli.specs.declared.floors.sole_resource.Looked.TheVariants as looked

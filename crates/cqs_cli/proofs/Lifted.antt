@@ -11,7 +11,7 @@ use Rattle.cqs_plan.specs.declared.floors.answers.FloorGive.TheVariants.{Free, S
 use Rattle.cqs_plan.specs.FloorHistory.{of_permits}
 use Rattle.cqs_plan.specs.LegalFloor.{IsHistory}
 use Rattle.cqs_plan.specs.Floor.{size_of}
-use Rattle.cqs_rule.specs.declared.config.Place.{Place}
+use Rattle.cqs_views.specs.declared.config.Place.{Place}
 use Rattle.cqs_cli.specs.declared.floors.sole.Stand.{Stand}
 use Rattle.cqs_cli.specs.declared.floors.sole_resource.Left.TheVariants as left
 use Rattle.cqs_cli.specs.declared.floors.sole_resource.Looked.TheVariants as looked

@@ -8,9 +8,9 @@ use Rattle.cqs_core.specs.declared.entries.Entry.{Entry}
 use Rattle.cqs_core.specs.declared.entries.Entry.TheVariants as entry
 use Rattle.cqs_core.specs.SemaphoreEntries.{IsFirst, IsLegal, after_entry, object_after}
 use Rattle.cqs_core.specs.SemaphoreObject.{Semaphore}
-use Rattle.cqs_rule.specs.Lists.{Has, without}
-use Rattle.cqs_rule.specs.declared.config.Place.{Place}
-use Rattle.cqs_rule.proofs.Lists.{has_append, has_without, without_has}
+use Rattle.cqs_views.specs.Lists.{Has, without}
+use Rattle.cqs_views.specs.declared.config.Place.{Place}
+use Rattle.cqs_views.proofs.Lists.{has_append, has_without, without_has}
 use Rattle.cqs_semaphore.specs.Calls.{Rests, plain_after}
 use Rattle.cqs_semaphore.specs.Causes.{drawn_in}
 use Rattle.cqs_cli.specs.Soles.{Acquires, Cancels, EndsWait, IsLawful, Polls, Releases, is_in_line, object}

@@ -9,9 +9,9 @@ use Rattle.cqs_barrier_object.specs.BarrierEntries.{after_entry}
 use Rattle.cqs_barrier_object.specs.BarrierObject.{Barrier}
 use Rattle.cqs_barrier_object.specs.SoleCaller.{delivers, numbers_of}
 use Rattle.cqs_barrier.specs.Calls.{plain_after}
-use Rattle.cqs_rule.specs.declared.view.Opening.{Opening}
-use Rattle.cqs_rule.specs.declared.view.View.{View}
-use Rattle.cqs_rule.specs.Lists.{Has}
+use Rattle.cqs_views.specs.declared.view.Opening.{Opening}
+use Rattle.cqs_views.specs.declared.view.View.{View}
+use Rattle.cqs_views.specs.Lists.{Has}
 use Rattle.cqs_rule.specs.Passes.{pass_view}
 use Rattle.cqs_cli.specs.declared.floors.round_sole.RoundSole.{RoundSole}
 use Rattle.cqs_cli.specs.SoleRound.{ComesTo, IsFundedRound, is_news, news}

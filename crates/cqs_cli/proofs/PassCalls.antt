@@ -8,11 +8,11 @@ use Rattle.cqs_core.specs.SemaphoreEntries.{IsFirst}
 use Rattle.cqs_core.specs.SemaphoreObject.{Semaphore}
 use Rattle.cqs_rule.specs.declared.queue.tokens.Under.{Under as Token}
 use Rattle.cqs_rule.specs.declared.queue.tokens.Wait.{Wait}
-use Rattle.cqs_rule.specs.declared.view.View.{View}
-use Rattle.cqs_rule.specs.Lists.{without}
-use Rattle.cqs_rule.specs.Views.{IsSame}
+use Rattle.cqs_views.specs.declared.view.View.{View}
+use Rattle.cqs_views.specs.Lists.{without}
+use Rattle.cqs_views.specs.Views.{IsSame}
 use Rattle.cqs_rule.specs.Waits.{place_of}
-use Rattle.cqs_rule.proofs.Calls.{same-then}
+use Rattle.cqs_views.proofs.Calls.{same-then}
 use Rattle.cqs_semaphore.specs.declared.answers.Acquired.TheVariants.{Now, Later}
 use Rattle.cqs_semaphore.specs.declared.answers.CancelAnswer.TheVariants.{TooLate}
 use Rattle.cqs_semaphore.specs.declared.answers.Permit.{Permit}

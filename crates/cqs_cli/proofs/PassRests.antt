@@ -12,13 +12,13 @@ use Rattle.cqs_core.specs.SemaphoreEntries.{IsFirst, after_entry, find_wait, aft
 use Rattle.cqs_core.specs.SemaphoreObject.{Semaphore, due, opening}
 use Rattle.cqs_core.specs.SoleCaller.{Told, sole_call, tells}
 use Rattle.cqs_core.proofs.Counts.{bit}
-use Rattle.cqs_rule.specs.declared.view.Opening.{Opening}
-use Rattle.cqs_rule.specs.declared.view.View.{View}
-use Rattle.cqs_rule.specs.declared.config.Place.{Place}
+use Rattle.cqs_views.specs.declared.view.Opening.{Opening}
+use Rattle.cqs_views.specs.declared.view.View.{View}
+use Rattle.cqs_views.specs.declared.config.Place.{Place}
 use Rattle.cqs_rule.specs.declared.queue.tokens.Wait.{Wait}
-use Rattle.cqs_rule.specs.Lists.{Has}
-use Rattle.cqs_rule.specs.Placed.{place_known, place_word}
-use Rattle.cqs_rule.specs.Views.{IsSame}
+use Rattle.cqs_views.specs.Lists.{Has}
+use Rattle.cqs_views.specs.Placed.{place_known, place_word}
+use Rattle.cqs_views.specs.Views.{IsSame}
 use Rattle.cqs_rule.specs.Waits.{HasWait, place_of}
 use Rattle.cqs_semaphore.specs.Calls.{CallRule, Rests, plain_after}
 use Rattle.cqs_semaphore.specs.Causes.{drawn_in, is_enter}

@@ -14,8 +14,8 @@ use Rattle.cqs_pool.specs.Entries.{passed_further, polled_entries, took_entries,
 use Rattle.cqs_pool.specs.Steps.{HasCancelled}
 use Rattle.cqs_pool.proofs.AloneSteps.{only-kept}
 use Rattle.cqs_rule.specs.declared.queue.tokens.Wait.{Wait}
-use Rattle.cqs_rule.specs.declared.view.View.{View}
-use Rattle.cqs_rule.specs.Lists.{without}
+use Rattle.cqs_views.specs.declared.view.View.{View}
+use Rattle.cqs_views.specs.Lists.{without}
 use Rattle.cqs_rule.specs.Waits.{place_of}
 use Rattle.cqs_cli.proofs.PoolRests.{Comes, went}
 

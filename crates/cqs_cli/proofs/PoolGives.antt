@@ -18,8 +18,8 @@ use Rattle.cqs_pool_object.specs.PoolObject.{times}
 use Rattle.cqs_pool.specs.Alone.{IsFirstOf, IsOnlyCaller}
 use Rattle.cqs_pool.specs.Calls.{IsMine, plain_after}
 use Rattle.cqs_pool.proofs.ElementTimes.{times-gone, times-other}
-use Rattle.cqs_rule.specs.declared.view.View.{View}
-use Rattle.cqs_rule.specs.Lists.{without}
+use Rattle.cqs_views.specs.declared.view.View.{View}
+use Rattle.cqs_views.specs.Lists.{without}
 use Rattle.cqs_rule.specs.Passes.{pass_view}
 use Rattle.cqs_cli.specs.declared.floors.pool_sole.HeldElement.{HeldElement}
 use Rattle.cqs_cli.specs.declared.floors.pool_sole.PoolSole.{PoolSole}

@@ -7,10 +7,10 @@ use Rattle.cqs_pool_object.specs.PoolNames.{entry_names}
 use Rattle.cqs_pool.specs.Alone.{CanEnd, IsOnlyCaller}
 use Rattle.cqs_pool.specs.Calls.{plain_after}
 use Rattle.cqs_rule.specs.declared.queue.tokens.Under.{Under as Token}
-use Rattle.cqs_rule.specs.declared.view.View.{View}
-use Rattle.cqs_rule.specs.Lists.{part}
+use Rattle.cqs_views.specs.declared.view.View.{View}
+use Rattle.cqs_views.specs.Lists.{part}
 use Rattle.cqs_rule.specs.Owed.{HasUnder, under_payload}
-use Rattle.cqs_rule.specs.Views.{IsSame}
+use Rattle.cqs_views.specs.Views.{IsSame}
 use Rattle.cqs_cli.specs.PoolEnds.{HasPlaced, sent_entries}
 
 module _ {T : Type 0} where

@@ -15,12 +15,12 @@ use Rattle.cqs_pool.specs.Alone.{IsOnlyCaller}
 use Rattle.cqs_pool.specs.Calls.{CallRule, Rests, plain_after}
 use Rattle.cqs_pool.specs.Causes.{drawn_in, is_enter}
 use Rattle.cqs_pool.specs.Elements.{number_of}
-use Rattle.cqs_rule.specs.declared.config.Place.{Place}
-use Rattle.cqs_rule.specs.declared.view.Opening.{Opening}
-use Rattle.cqs_rule.specs.declared.view.View.{View}
-use Rattle.cqs_rule.specs.Lists.{Has, without}
-use Rattle.cqs_rule.specs.Placed.{place_known, place_word}
-use Rattle.cqs_rule.specs.Views.{IsSame}
+use Rattle.cqs_views.specs.declared.config.Place.{Place}
+use Rattle.cqs_views.specs.declared.view.Opening.{Opening}
+use Rattle.cqs_views.specs.declared.view.View.{View}
+use Rattle.cqs_views.specs.Lists.{Has, without}
+use Rattle.cqs_views.specs.Placed.{place_known, place_word}
+use Rattle.cqs_views.specs.Views.{IsSame}
 use Rattle.cqs_cli.specs.declared.floors.pool_sole.HeldElement.{HeldElement}
 use Rattle.cqs_cli.specs.SolePool.{IsResting, all_held, elements_held}
 use Rattle.cqs_cli.specs.Stores.{held_by, with_less, with_more}

@@ -17,10 +17,10 @@ use Rattle.cqs_pool.specs.Answers.{IsInHand}
 use Rattle.cqs_pool.specs.Calls.{IsMine, Rests, plain_after, size_of as pool_size}
 use Rattle.cqs_pool.specs.Causes.{drawn_in}
 use Rattle.cqs_pool.proofs.ElementTimes.{times-has}
-use Rattle.cqs_rule.specs.declared.config.Place.{Place}
-use Rattle.cqs_rule.specs.declared.view.Opening.{Opening}
-use Rattle.cqs_rule.specs.declared.view.View.{View}
-use Rattle.cqs_rule.specs.Lists.{Has}
+use Rattle.cqs_views.specs.declared.config.Place.{Place}
+use Rattle.cqs_views.specs.declared.view.Opening.{Opening}
+use Rattle.cqs_views.specs.declared.view.View.{View}
+use Rattle.cqs_views.specs.Lists.{Has}
 use Rattle.cqs_rule.specs.Passes.{limit_of, pass_view}
 use Rattle.cqs_cli.specs.declared.floors.pool_sole.HeldElement.{HeldElement}
 use Rattle.cqs_cli.specs.declared.floors.pool_sole.PoolSole.{PoolSole}
@@ -174,7 +174,7 @@ pool_opened x elements room few some is mine size first nothing alone rests none
           number = first;
           only = (
             alone,
-            λ n other. ap (λ es. Rattle.cqs_rule.specs.Lists.part
+            λ n other. ap (λ es. Rattle.cqs_views.specs.Lists.part
                 Rattle.cqs_pool_object.specs.PoolNames.entry_names n es) nothing,
           );
           ready = rests.ready;

@@ -26,11 +26,11 @@ use Rattle.cqs_pool.specs.Causes.{drawn_in}
 use Rattle.cqs_pool.specs.Elements.{number_of}
 use Rattle.cqs_pool.specs.declared.element.Element.{Element}
 use Rattle.cqs_pool.proofs.ElementTimes.{times-none}
-use Rattle.cqs_rule.specs.declared.config.Place.{Place}
-use Rattle.cqs_rule.specs.declared.view.View.{View}
-use Rattle.cqs_rule.specs.Lists.{without}
+use Rattle.cqs_views.specs.declared.config.Place.{Place}
+use Rattle.cqs_views.specs.declared.view.View.{View}
+use Rattle.cqs_views.specs.Lists.{without}
 use Rattle.cqs_rule.specs.Passes.{pass_view}
-use Rattle.cqs_rule.proofs.Lists.{has_without, without_has}
+use Rattle.cqs_views.proofs.Lists.{has_without, without_has}
 use Rattle.cqs_cli.specs.declared.floors.pool_sole.HeldElement.{HeldElement}
 use Rattle.cqs_cli.specs.declared.floors.pool_sole.PoolSole.{PoolSole}
 use Rattle.cqs_cli.specs.declared.floors.sole_resource.Left.TheVariants as left

@@ -17,11 +17,11 @@ use Rattle.cqs_pool_object.specs.PoolObject as plain
 use Rattle.cqs_pool_object.specs.PoolObject.{times}
 use Rattle.cqs_pool.specs.Alone.{IsOnlyCaller}
 use Rattle.cqs_pool.specs.Calls.{IsMine, plain_after}
-use Rattle.cqs_rule.specs.declared.config.Place.{Place}
-use Rattle.cqs_rule.specs.declared.view.View.{View}
-use Rattle.cqs_rule.specs.Lists.{Has, without}
+use Rattle.cqs_views.specs.declared.config.Place.{Place}
+use Rattle.cqs_views.specs.declared.view.View.{View}
+use Rattle.cqs_views.specs.Lists.{Has, without}
 use Rattle.cqs_rule.specs.Passes.{pass_view}
-use Rattle.cqs_rule.proofs.Lists.{has_append, has_without, without_has}
+use Rattle.cqs_views.proofs.Lists.{has_append, has_without, without_has}
 use Rattle.cqs_cli.specs.declared.floors.pool_sole.HeldElement.{HeldElement}
 use Rattle.cqs_cli.specs.declared.floors.pool_sole.PoolSole.{PoolSole}
 use Rattle.cqs_cli.specs.declared.floors.sole_resource.Left.TheVariants as left

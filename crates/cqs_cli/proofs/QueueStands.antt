@@ -15,8 +15,8 @@ use Rattle.cqs_core.specs.SemaphoreShown.{free_of, short_of, state_of}
 use Rattle.cqs_core.proofs.Balance.{every-history-balanced}
 use Rattle.cqs_core.proofs.Counts.{bit}
 use Rattle.cqs_plan.specs.Floor.{size_of}
-use Rattle.cqs_rule.specs.declared.view.View.{View}
-use Rattle.cqs_rule.specs.Lists.{Has}
+use Rattle.cqs_views.specs.declared.view.View.{View}
+use Rattle.cqs_views.specs.Lists.{Has}
 use Rattle.cqs_semaphore.specs.Calls.{CallRule, Rests, plain_after}
 use Rattle.cqs_semaphore.specs.Causes.{drawn_in, is_enter}
 use Rattle.cqs_cli.specs.declared.floors.sole.Stand.{Stand}

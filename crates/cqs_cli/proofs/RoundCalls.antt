@@ -21,12 +21,12 @@ use Rattle.cqs_barrier.specs.Waits.{wait_in}
 use Rattle.cqs_barrier.proofs.AloneOrder.{allowed-at}
 use Rattle.cqs_barrier.proofs.ResumeSteps.{delivers-append}
 use Rattle.cqs_rule.specs.declared.queue.tokens.Wait.{Wait}
-use Rattle.cqs_rule.specs.declared.view.Opening.{Opening}
-use Rattle.cqs_rule.specs.declared.view.View.{View}
-use Rattle.cqs_rule.specs.Lists.{Has, without}
+use Rattle.cqs_views.specs.declared.view.Opening.{Opening}
+use Rattle.cqs_views.specs.declared.view.View.{View}
+use Rattle.cqs_views.specs.Lists.{Has, without}
 use Rattle.cqs_rule.specs.Passes.{limit_of, pass_view}
 use Rattle.cqs_rule.specs.Waits.{place_of}
-use Rattle.cqs_rule.proofs.Calls.{same-then}
+use Rattle.cqs_views.proofs.Calls.{same-then}
 use Rattle.cqs_cli.specs.declared.floors.round_sole.RoundSole.{RoundSole}
 use Rattle.cqs_cli.specs.declared.floors.sole_resource.Left.TheVariants as left
 use Rattle.cqs_cli.specs.declared.floors.sole_resource.Looked.TheVariants as looked

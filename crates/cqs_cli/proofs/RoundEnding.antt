@@ -8,9 +8,9 @@ use Rattle.cqs_barrier.specs.Alone.{IsPlainFinish}
 use Rattle.cqs_barrier.specs.Arriving.{Finishes}
 use Rattle.cqs_barrier.specs.Calls.{CallRule, waiting_in}
 use Rattle.cqs_barrier.proofs.ResumeSteps.{delivers-append}
-use Rattle.cqs_rule.specs.declared.view.View.{View}
-use Rattle.cqs_rule.specs.Views.{IsSame}
-use Rattle.cqs_rule.proofs.Calls.{same-here, same-then}
+use Rattle.cqs_views.specs.declared.view.View.{View}
+use Rattle.cqs_views.specs.Views.{IsSame}
+use Rattle.cqs_views.proofs.Calls.{same-here, same-then}
 use Rattle.cqs_cli.specs.RoundEnds.{ServesAll}
 use Rattle.cqs_cli.proofs.RoundRests.{told}
 

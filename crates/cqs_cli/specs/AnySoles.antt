@@ -3,7 +3,7 @@
 use Rattle.std.specs.Prelude.{ℕ, List, Option}
 use Rattle.cqs_plan.specs.declared.plans.kind.Kind.{Kind}
 use Rattle.cqs_plan.specs.FloorHistory.{History}
-use Rattle.cqs_rule.specs.declared.config.Place.{Place}
+use Rattle.cqs_views.specs.declared.config.Place.{Place}
 use Rattle.cqs_cli.specs.declared.floors.any_sole.AnySole.{AnySole}
 use Rattle.cqs_cli.specs.declared.floors.any_sole.AnySole.TheVariants.{Permits, Pool, Latch, Rounds}
 use Rattle.cqs_cli.specs.Lifted.{of_semaphore}

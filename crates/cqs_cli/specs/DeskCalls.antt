@@ -10,7 +10,7 @@ use Rattle.cqs_plan.specs.declared.floors.answers.FloorLeave.TheVariants.{Gone, 
 use Rattle.cqs_plan.specs.declared.floors.answers.FloorDown.{FloorDown}
 use Rattle.cqs_plan.specs.declared.floors.answers.FloorEnd.{FloorEnd}
 use Rattle.cqs_plan.specs.declared.plans.kind.Kind.{Kind}
-use Rattle.cqs_rule.specs.declared.config.Place.{Place}
+use Rattle.cqs_views.specs.declared.config.Place.{Place}
 use Rattle.cqs_cli.specs.declared.floors.transfers.Transfer.TheVariants.{GaveBack}
 use Rattle.cqs_cli.specs.declared.floors.sole_resource.Left.{Left}
 use Rattle.cqs_cli.specs.declared.floors.sole_resource.Left.TheVariants as left

@@ -2,8 +2,8 @@
 -- served, in order.
 use Rattle.std.specs.Prelude.{◌≡◌, [], ◌++◌}
 use Rattle.cqs_latch_object.specs.declared.entries.LatchEntry.{LatchEntry}
-use Rattle.cqs_rule.specs.declared.view.View.{View}
-use Rattle.cqs_rule.specs.Views.{IsSame}
+use Rattle.cqs_views.specs.declared.view.View.{View}
+use Rattle.cqs_views.specs.Views.{IsSame}
 use Rattle.cqs_latch.specs.Alone.{HasServedAll, delivers, waiting_in}
 use Rattle.cqs_latch.specs.Calls.{Rests}
 

@@ -5,7 +5,7 @@ use Rattle.std.specs.List.{fold}
 use Rattle.cqs_core.specs.Keyed.{without}
 use Rattle.cqs_plan.specs.declared.plans.kind.Kind.{Kind}
 use Rattle.cqs_plan.specs.Floor.{PlainFloor, JobWait, Holding}
-use Rattle.cqs_rule.specs.declared.config.Place.{Place}
+use Rattle.cqs_views.specs.declared.config.Place.{Place}
 use Rattle.cqs_cli.specs.declared.floors.transfers.Transfer.{Transfer}
 use Rattle.cqs_cli.specs.declared.floors.transfers.Transfer.TheVariants.{Got, GaveBack}
 use Rattle.cqs_cli.specs.declared.floors.waits.Wait.{Wait}

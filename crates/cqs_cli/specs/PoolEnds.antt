@@ -5,9 +5,9 @@ use Rattle.cqs_pool_object.specs.declared.entries.PoolEntry.{PoolEntry}
 use Rattle.cqs_pool_object.specs.declared.entries.PoolEntry.TheVariants as entry
 use Rattle.cqs_pool.specs.Alone.{IsFirstOf}
 use Rattle.cqs_pool.specs.Calls.{Rests, plain_after}
-use Rattle.cqs_rule.specs.declared.view.View.{View}
-use Rattle.cqs_rule.specs.Lists.{without}
-use Rattle.cqs_rule.specs.Views.{IsSame}
+use Rattle.cqs_views.specs.declared.view.View.{View}
+use Rattle.cqs_views.specs.Lists.{without}
+use Rattle.cqs_views.specs.Views.{IsSame}
 
 -- the delivery of an element, where it was sent to a wait
 abbrev pub sent_entries : ℕ → Option ℕ → List PoolEntry

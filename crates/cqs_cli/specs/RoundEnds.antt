@@ -3,8 +3,8 @@
 use Rattle.std.specs.Prelude.{◌≡◌, [], ◌++◌}
 use Rattle.cqs_barrier_object.specs.declared.entries.BarrierEntry.{BarrierEntry}
 use Rattle.cqs_barrier_object.specs.SoleCaller.{delivers}
-use Rattle.cqs_rule.specs.declared.view.View.{View}
-use Rattle.cqs_rule.specs.Views.{IsSame}
+use Rattle.cqs_views.specs.declared.view.View.{View}
+use Rattle.cqs_views.specs.Views.{IsSame}
 use Rattle.cqs_barrier.specs.Calls.{Rests, waiting_in}
 
 pub record ServesAll {T : Type 0} (v w : View BarrierEntry T) : Type 0 where

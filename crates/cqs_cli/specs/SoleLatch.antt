@@ -8,9 +8,9 @@ use Rattle.cqs_latch_object.specs.declared.entries.LatchEntry.TheVariants as ent
 use Rattle.cqs_latch.specs.Alone.{plain_after}
 use Rattle.cqs_latch.specs.Calls.{IsMine, IsReady}
 use Rattle.cqs_latch.specs.LatchMade.{mode_of}
-use Rattle.cqs_rule.specs.declared.config.CancelMode.TheVariants.{Smart}
-use Rattle.cqs_rule.specs.declared.view.View.{View}
-use Rattle.cqs_rule.specs.Lists.{Has}
+use Rattle.cqs_views.specs.declared.config.CancelMode.TheVariants.{Smart}
+use Rattle.cqs_views.specs.declared.view.View.{View}
+use Rattle.cqs_views.specs.Lists.{Has}
 use Rattle.cqs_rule.specs.Passes.{client_of, pass_view}
 use Rattle.cqs_cli.specs.declared.floors.latch_sole.LatchSole.{LatchSole}
 use Rattle.cqs_cli.specs.Stores.{Store}

@@ -11,8 +11,8 @@ use Rattle.cqs_pool.specs.Alone.{IsOnlyCaller}
 use Rattle.cqs_pool.specs.Calls.{IsMine, IsReady, plain_after}
 use Rattle.cqs_pool.specs.Causes.{drawn_in}
 use Rattle.cqs_pool.specs.Elements.{number_of}
-use Rattle.cqs_rule.specs.declared.view.View.{View}
-use Rattle.cqs_rule.specs.Lists.{Has}
+use Rattle.cqs_views.specs.declared.view.View.{View}
+use Rattle.cqs_views.specs.Lists.{Has}
 use Rattle.cqs_rule.specs.Passes.{pass_view}
 use Rattle.cqs_cli.specs.declared.floors.pool_sole.HeldElement.{HeldElement}
 use Rattle.cqs_cli.specs.declared.floors.pool_sole.PoolSole.{PoolSole}

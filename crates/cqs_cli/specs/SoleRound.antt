@@ -6,11 +6,11 @@ use Rattle.cqs_barrier_object.specs.declared.entries.BarrierEntry.{BarrierEntry}
 use Rattle.cqs_barrier_object.specs.declared.entries.BarrierEntry.TheVariants as entry
 use Rattle.cqs_barrier_object.specs.SoleCaller.{delivers}
 use Rattle.cqs_barrier.specs.Calls.{IsMine, IsReady, plain_after, waiting_in}
-use Rattle.cqs_rule.specs.declared.config.Place.{Place}
-use Rattle.cqs_rule.specs.declared.view.View.{View}
-use Rattle.cqs_rule.specs.Lists.{Has, without}
+use Rattle.cqs_views.specs.declared.config.Place.{Place}
+use Rattle.cqs_views.specs.declared.view.View.{View}
+use Rattle.cqs_views.specs.Lists.{Has, without}
 use Rattle.cqs_rule.specs.Passes.{pass_view}
-use Rattle.cqs_rule.specs.Views.{IsSame}
+use Rattle.cqs_views.specs.Views.{IsSame}
 use Rattle.cqs_cli.specs.declared.floors.round_sole.RoundSole.{RoundSole}
 use Rattle.cqs_cli.specs.declared.floors.sole_resource.Left.{Left}
 use Rattle.cqs_cli.specs.declared.floors.sole_resource.Left.TheVariants.{Gone, Late, Through}

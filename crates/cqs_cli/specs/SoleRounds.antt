@@ -8,7 +8,7 @@ use Rattle.cqs_plan.specs.Floor.{size_of}
 use Rattle.cqs_plan.specs.FloorHistory.{is_over, of_rounds}
 use Rattle.cqs_barrier.specs.Calls.{IsMine}
 use Rattle.cqs_rule.specs.Passes.{pass_view}
-use Rattle.cqs_rule.specs.declared.config.Place.{Place}
+use Rattle.cqs_views.specs.declared.config.Place.{Place}
 use Rattle.cqs_cli.specs.declared.floors.round_sole.RoundSole.{RoundSole}
 use Rattle.cqs_cli.specs.declared.floors.rounds_sole.RoundsSole.{RoundsSole}
 use Rattle.cqs_cli.specs.SoleRound.{IsFundedRound, news}

@@ -10,7 +10,7 @@ use Rattle.cqs_core.specs.SemaphoreObject.{Semaphore}
 use Rattle.cqs_plan.specs.declared.plans.kind.Kind.{Kind}
 use Rattle.cqs_plan.specs.declared.plans.kind.Kind.TheVariants as kind
 use Rattle.cqs_plan.specs.Floor.{size_of}
-use Rattle.cqs_rule.specs.declared.config.Place.{Place}
+use Rattle.cqs_views.specs.declared.config.Place.{Place}
 use Rattle.cqs_cli.specs.declared.floors.sole.Stand.{Stand}
 
 -- a resource of this kind is a semaphore, or is one of one permit

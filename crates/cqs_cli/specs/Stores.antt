@@ -16,7 +16,7 @@ use Rattle.cqs_plan.specs.FloorCalls.{down_of}
 use Rattle.cqs_plan.specs.FloorHistory.{History, Deed, Standing, takes, joins, frees, sends, gets, leaves, is_late, passes, counts, opens, is_open, completes, with_deed_in, standing_in, to_come, ending, first_free, came_for, no_history}
 use Rattle.cqs_plan.specs.Language.{can_hold}
 use Rattle.cqs_plan.specs.LegalFloor.{IsHistory}
-use Rattle.cqs_rule.specs.declared.config.Place.{Place}
+use Rattle.cqs_views.specs.declared.config.Place.{Place}
 use Rattle.cqs_cli.specs.declared.floors.sole_resource.Left.{Left}
 use Rattle.cqs_cli.specs.declared.floors.sole_resource.Left.TheVariants as left
 use Rattle.cqs_cli.specs.declared.floors.sole_resource.Looked.{Looked}

@@ -1,9 +1,9 @@
 -- Where the cell of a wait stands: of a job's wait, and of a wait that a pass has.
 use Rattle.std.specs.Prelude.{ℕ, Option, Some, None}
-use Rattle.cqs_rule.specs.declared.config.Place.{Place}
-use Rattle.cqs_rule.specs.declared.view.View.{View}
-use Rattle.cqs_rule.specs.Lists.{Has}
-use Rattle.cqs_rule.specs.Placed.{KnowsPlace}
+use Rattle.cqs_views.specs.declared.config.Place.{Place}
+use Rattle.cqs_views.specs.declared.view.View.{View}
+use Rattle.cqs_views.specs.Lists.{Has}
+use Rattle.cqs_views.specs.Placed.{KnowsPlace}
 use Rattle.cqs_cli.specs.declared.floors.waits.Wait.{Wait}
 use Rattle.cqs_cli.specs.declared.floors.waits.WaitSlot.{WaitSlot}
 use Rattle.cqs_cli.specs.declared.floors.waits.WaitSlot.TheVariants.{Free, Used}

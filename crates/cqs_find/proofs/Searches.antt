@@ -1,13 +1,13 @@
 -- What a search leaves: a step from there tells as much as one from where it began.
 use Rattle.std.proofs.Common.{List, [], ◌++◌, refl, sym, ◌∙◌, arith}
 use Rattle.std.proofs.lemmas.List.{append-nil}
-use Rattle.cqs_rule.specs.declared.config.Place.{Place}
-use Rattle.cqs_rule.specs.declared.view.Facts.{Facts}
-use Rattle.cqs_rule.specs.declared.view.View.{View}
-use Rattle.cqs_rule.specs.Object.{Object}
-use Rattle.cqs_rule.specs.Placed.{KnowsPlace}
-use Rattle.cqs_rule.specs.Saw.{Saw}
-use Rattle.cqs_rule.proofs.Calls.{same-here, saw-then}
+use Rattle.cqs_views.specs.declared.config.Place.{Place}
+use Rattle.cqs_views.specs.declared.view.Facts.{Facts}
+use Rattle.cqs_views.specs.declared.view.View.{View}
+use Rattle.cqs_views.specs.Object.{Object}
+use Rattle.cqs_views.specs.Placed.{KnowsPlace}
+use Rattle.cqs_views.specs.Saw.{Saw}
+use Rattle.cqs_views.proofs.Calls.{same-here, saw-then}
 use Rattle.cqs_rule.proofs.Places.{knows-saw}
 use Rattle.cqs_find.specs.Finds.{Searched}
 

@@ -5,9 +5,9 @@
 
 ghost use Rattle.std.specs.Prelude.{◌≡◌, ◌⊎◌};
 ghost use Rattle.cqs_find.specs.Finds.{IsFoundAt, HasSearched};
-ghost use Rattle.cqs_rule.specs.Lists.{Has};
+ghost use Rattle.cqs_views.specs.Lists.{Has};
 ghost use Rattle.cqs_rule.specs.Passes.{pass_view, IsOf};
-ghost use Rattle.cqs_rule.specs.Ruled.{number_at};
+ghost use Rattle.cqs_views.specs.Ruled.{number_at};
 
 use cqs_rule::{CELLS_WORD, ClientWords, Pass, Place, Queue};
 

@@ -19,10 +19,10 @@ use Rattle.cqs_resume.specs.declared.resumed.Resumed.TheVariants as resumed
 use Rattle.cqs_resume.specs.Begins.{Begun}
 use Rattle.cqs_resume.specs.Resumes.{Resumes, most_passed_over}
 use Rattle.cqs_rule.specs.declared.queue.tokens.Under.{Under}
-use Rattle.cqs_rule.specs.declared.view.Opening.{Opening}
-use Rattle.cqs_rule.specs.declared.view.View.{View}
-use Rattle.cqs_rule.specs.Alone.{IsAlone, TellsAlone}
-use Rattle.cqs_rule.specs.Called.{Called}
+use Rattle.cqs_views.specs.declared.view.Opening.{Opening}
+use Rattle.cqs_views.specs.declared.view.View.{View}
+use Rattle.cqs_views.specs.Alone.{IsAlone, TellsAlone}
+use Rattle.cqs_views.specs.Called.{Called}
 use Rattle.cqs_rule.specs.Owed.{under_payload, under_ticket}
 use Rattle.cqs_latch.specs.declared.answers.Down.TheVariants as down
 use Rattle.cqs_latch.specs.Alone.{FinishesInOrder, HasServedAll, OpensInOrder, ServesFirst, delivers, plain_after, waiting_in}

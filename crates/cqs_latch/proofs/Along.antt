@@ -5,17 +5,17 @@ use Rattle.std.proofs.lemmas.List.{append-nil, append_cancel_right}
 use Rattle.cqs_latch_object.specs.declared.entries.LatchEntry.{LatchEntry}
 use Rattle.cqs_latch_object.specs.LatchObject.{Latch}
 use Rattle.cqs_latch_object.specs.LatchEntries.{object_after}
-use Rattle.cqs_rule.specs.declared.view.Facts.{Facts}
-use Rattle.cqs_rule.specs.declared.view.Opening.{Opening}
-use Rattle.cqs_rule.specs.declared.view.Sighting.{Sighting}
-use Rattle.cqs_rule.specs.declared.view.Sighting.TheVariants.{Word}
-use Rattle.cqs_rule.specs.declared.view.View.{View}
-use Rattle.cqs_rule.specs.Called.{Called}
-use Rattle.cqs_rule.specs.Events.{Event}
-use Rattle.cqs_rule.specs.Layout.{suspends_place, client_place}
-use Rattle.cqs_rule.specs.Lists.{IsPrefix}
-use Rattle.cqs_rule.specs.Saw.{Saw}
-use Rattle.cqs_rule.proofs.Calls.{called-by, called-then, called-and}
+use Rattle.cqs_views.specs.declared.view.Facts.{Facts}
+use Rattle.cqs_views.specs.declared.view.Opening.{Opening}
+use Rattle.cqs_views.specs.declared.view.Sighting.{Sighting}
+use Rattle.cqs_views.specs.declared.view.Sighting.TheVariants.{Word}
+use Rattle.cqs_views.specs.declared.view.View.{View}
+use Rattle.cqs_views.specs.Called.{Called}
+use Rattle.cqs_views.specs.Events.{Event}
+use Rattle.cqs_views.specs.Layout.{suspends_place, client_place}
+use Rattle.cqs_views.specs.Lists.{IsPrefix}
+use Rattle.cqs_views.specs.Saw.{Saw}
+use Rattle.cqs_views.proofs.Calls.{called-by, called-then, called-and}
 use Rattle.cqs_latch.specs.Latch.{is_simple, latch_object}
 use Rattle.cqs_latch.specs.LatchTold.{at_word, OnWord, NextIs}
 use Rattle.cqs_latch.specs.Causes.{WordWas, NextWas}

@@ -14,17 +14,17 @@ use Rattle.cqs_resume.specs.declared.resumed.Resumed.TheVariants as resumed
 use Rattle.cqs_resume.specs.Resumes.{Resumes, most_passed_over}
 use Rattle.cqs_resume.specs.Rounds.{numbers}
 use Rattle.cqs_rule.specs.declared.queue.tokens.Under.{Under}
-use Rattle.cqs_rule.specs.declared.view.Facts.{Facts}
-use Rattle.cqs_rule.specs.declared.view.Opening.{Opening}
-use Rattle.cqs_rule.specs.declared.view.Sighting.TheVariants.{Cell, Word}
-use Rattle.cqs_rule.specs.declared.view.View.{View}
+use Rattle.cqs_views.specs.declared.view.Facts.{Facts}
+use Rattle.cqs_views.specs.declared.view.Opening.{Opening}
+use Rattle.cqs_views.specs.declared.view.Sighting.TheVariants.{Cell, Word}
+use Rattle.cqs_views.specs.declared.view.View.{View}
 use Rattle.cqs_rule.specs.Callbacks.{Asking, by_step}
-use Rattle.cqs_rule.specs.Called.{Called}
-use Rattle.cqs_rule.specs.Exchanges.{HasCell}
-use Rattle.cqs_rule.specs.Layout.{client_place}
-use Rattle.cqs_rule.specs.Lists.{Has, IsPrefix, without}
-use Rattle.cqs_rule.specs.Saw.{WasShown, WasFound}
-use Rattle.cqs_rule.proofs.Calls.{called-and}
+use Rattle.cqs_views.specs.Called.{Called}
+use Rattle.cqs_views.specs.Exchanges.{HasCell}
+use Rattle.cqs_views.specs.Layout.{client_place}
+use Rattle.cqs_views.specs.Lists.{Has, IsPrefix, without}
+use Rattle.cqs_views.specs.Saw.{WasShown, WasFound}
+use Rattle.cqs_views.proofs.Calls.{called-and}
 use Rattle.cqs_words.specs.Waiters.{is_done}
 use Rattle.cqs_cancel.specs.AtOnce.{LeavesAtOnce}
 use Rattle.cqs_cancel.specs.Cancels as cancel
@@ -34,8 +34,8 @@ use Rattle.cqs_cancel.specs.declared.at_once.AtOnce.TheVariants as once
 use Rattle.cqs_cancel.specs.declared.cancelling.Left.{Left}
 use Rattle.cqs_cancel.specs.declared.cancelling.Left.TheVariants.{Gone, GoneOwing}
 use Rattle.cqs_latch.specs.declared.answers.LatchLeft.TheVariants as gone
-use Rattle.cqs_rule.specs.declared.config.CancelMode.{CancelMode}
-use Rattle.cqs_rule.specs.declared.config.CancelMode.TheVariants.{Smart, Simple}
+use Rattle.cqs_views.specs.declared.config.CancelMode.{CancelMode}
+use Rattle.cqs_views.specs.declared.config.CancelMode.TheVariants.{Smart, Simple}
 use Rattle.cqs_latch.specs.Calls.{IsReady, IsLegalOf}
 use Rattle.cqs_latch.specs.Causes.{primitive_of, cell_of, CellWas, CellWasOnce}
 use Rattle.cqs_latch.specs.Latch.{latch_object}

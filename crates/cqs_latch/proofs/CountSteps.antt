@@ -7,13 +7,13 @@ use Rattle.cqs_latch_object.specs.declared.entries.LatchEntry.{LatchEntry}
 use Rattle.cqs_latch_object.specs.declared.entries.LatchEntry.TheVariants as entry
 use Rattle.cqs_latch_object.specs.LatchShown.{left_of}
 use Rattle.cqs_latch_object.specs.LatchWords.{is_used, is_last, counted_entry, counted_doing}
-use Rattle.cqs_rule.specs.declared.view.Facts.{Facts}
-use Rattle.cqs_rule.specs.declared.view.Sighting.TheVariants.{Word}
-use Rattle.cqs_rule.specs.declared.view.View.{View}
-use Rattle.cqs_rule.specs.Events.{facts_moved}
-use Rattle.cqs_rule.specs.Layout.{client_place}
-use Rattle.cqs_rule.specs.Lists.{Has}
-use Rattle.cqs_rule.specs.Saw.{Saw}
+use Rattle.cqs_views.specs.declared.view.Facts.{Facts}
+use Rattle.cqs_views.specs.declared.view.Sighting.TheVariants.{Word}
+use Rattle.cqs_views.specs.declared.view.View.{View}
+use Rattle.cqs_views.specs.Events.{facts_moved}
+use Rattle.cqs_views.specs.Layout.{client_place}
+use Rattle.cqs_views.specs.Lists.{Has}
+use Rattle.cqs_views.specs.Saw.{Saw}
 use Rattle.cqs_words.specs.State.{count_in, is_above_zero}
 use Rattle.cqs_words.specs.Waiters.{waiters_in}
 use Rattle.cqs_latch.specs.declared.answers.Down.TheVariants.{Left, Already}

@@ -6,11 +6,11 @@ use Rattle.cqs_core.specs.declared.doings.Doing.TheVariants as doing
 use Rattle.cqs_latch_object.specs.declared.entries.LatchEntry.{LatchEntry}
 use Rattle.cqs_latch_object.specs.declared.entries.LatchEntry.TheVariants as entry
 use Rattle.cqs_rule.specs.declared.queue.tokens.Under.{Under}
-use Rattle.cqs_rule.specs.declared.view.View.{View}
-use Rattle.cqs_rule.specs.Called.{Called}
-use Rattle.cqs_rule.specs.Lists.{Has}
+use Rattle.cqs_views.specs.declared.view.View.{View}
+use Rattle.cqs_views.specs.Called.{Called}
+use Rattle.cqs_views.specs.Lists.{Has}
 use Rattle.cqs_rule.specs.Owed.{under_reached}
-use Rattle.cqs_rule.proofs.Calls.{called-and}
+use Rattle.cqs_views.proofs.Calls.{called-and}
 use Rattle.cqs_latch.specs.declared.answers.Down.{Down}
 use Rattle.cqs_latch.specs.declared.answers.Down.TheVariants.{Last, LastOwing}
 use Rattle.cqs_latch.specs.declared.answers.Owed.{Owed}

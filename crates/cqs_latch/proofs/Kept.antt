@@ -2,24 +2,24 @@
 use Rattle.std.proofs.Common.{◌≡◌, ℕ, List, [], ◌∷◌, None, Some, Result, Ok, Err, OnOk, OnErr, sym, ap, ◌∙◌, subst}
 use Rattle.cqs_latch_object.specs.declared.entries.LatchEntry.{LatchEntry}
 use Rattle.cqs_rule.specs.declared.queue.tokens.Wait.{Wait}
-use Rattle.cqs_rule.specs.declared.view.Facts.{Facts}
-use Rattle.cqs_rule.specs.declared.view.View.{View}
-use Rattle.cqs_rule.specs.Crew.{Met}
-use Rattle.cqs_rule.specs.Saw.{Saw}
-use Rattle.cqs_rule.specs.Views.{as_before}
-use Rattle.cqs_rule.specs.Lists.{Has, without}
-use Rattle.cqs_rule.specs.Placed.{place_word, place_known}
+use Rattle.cqs_views.specs.declared.view.Facts.{Facts}
+use Rattle.cqs_views.specs.declared.view.View.{View}
+use Rattle.cqs_views.specs.Crew.{Met}
+use Rattle.cqs_views.specs.Saw.{Saw}
+use Rattle.cqs_views.specs.Views.{as_before}
+use Rattle.cqs_views.specs.Lists.{Has, without}
+use Rattle.cqs_views.specs.Placed.{place_word, place_known}
 use Rattle.cqs_rule.specs.Waits.{place_of, HasWait}
-use Rattle.cqs_rule.proofs.Lists.{has_left, without_has}
-use Rattle.cqs_rule.specs.declared.config.CancelMode.{CancelMode}
-use Rattle.cqs_rule.specs.declared.config.CancelMode.TheVariants.{Smart, Simple}
+use Rattle.cqs_views.proofs.Lists.{has_left, without_has}
+use Rattle.cqs_views.specs.declared.config.CancelMode.{CancelMode}
+use Rattle.cqs_views.specs.declared.config.CancelMode.TheVariants.{Smart, Simple}
 use Rattle.cqs_latch.specs.declared.answers.Down.{Down}
 use Rattle.cqs_latch.specs.declared.answers.Down.TheVariants as down
 use Rattle.cqs_latch.specs.declared.answers.LatchLeft.{LatchLeft}
 use Rattle.cqs_latch.specs.declared.answers.LatchLeft.TheVariants as gone
 use Rattle.cqs_latch.specs.declared.answers.Owed.{Owed}
-use Rattle.cqs_rule.specs.declared.config.AcquireError.{AcquireError}
-use Rattle.cqs_rule.specs.declared.config.AcquireError.TheVariants as error
+use Rattle.cqs_views.specs.declared.config.AcquireError.{AcquireError}
+use Rattle.cqs_views.specs.declared.config.AcquireError.TheVariants as error
 use Rattle.cqs_latch.specs.declared.answers.LatchPolled.{LatchPolled}
 use Rattle.cqs_latch.specs.declared.answers.LatchPolled.TheVariants as polled
 use Rattle.cqs_latch.specs.declared.answers.LatchWait.{LatchWait}

@@ -5,18 +5,18 @@ use Rattle.cqs_core.specs.declared.cells.CoreState.TheVariants as state
 use Rattle.cqs_latch_object.specs.declared.entries.LatchEntry.{LatchEntry}
 use Rattle.cqs_latch_object.specs.declared.entries.LatchEntry.TheVariants as entry
 use Rattle.cqs_words.specs.declared.cell.CellWord.{CellWord}
-use Rattle.cqs_rule.specs.declared.view.Facts.{Facts}
-use Rattle.cqs_rule.specs.declared.view.Glimpse.{Glimpse}
-use Rattle.cqs_rule.specs.declared.view.View.{View}
-use Rattle.cqs_rule.specs.Called.{Called}
-use Rattle.cqs_rule.specs.Exchanges.{FoundCell, HasCell}
-use Rattle.cqs_rule.specs.Lists.{without}
-use Rattle.cqs_rule.specs.Loads.{polls, event_of, facts_looked, look_entries}
-use Rattle.cqs_rule.specs.Ruled.{shown_state}
-use Rattle.cqs_rule.specs.Saw.{Saw, WasFound}
+use Rattle.cqs_views.specs.declared.view.Facts.{Facts}
+use Rattle.cqs_views.specs.declared.view.Glimpse.{Glimpse}
+use Rattle.cqs_views.specs.declared.view.View.{View}
+use Rattle.cqs_views.specs.Called.{Called}
+use Rattle.cqs_views.specs.Exchanges.{FoundCell, HasCell}
+use Rattle.cqs_views.specs.Lists.{without}
+use Rattle.cqs_views.specs.Loads.{polls, event_of, facts_looked, look_entries}
+use Rattle.cqs_views.specs.Ruled.{shown_state}
+use Rattle.cqs_views.specs.Saw.{Saw, WasFound}
 use Rattle.cqs_latch.specs.Latch.{latch_object}
-use Rattle.cqs_rule.proofs.CellSteps.{shown-injective}
-use Rattle.cqs_rule.proofs.Calls.{called-by}
+use Rattle.cqs_views.proofs.CellSteps.{shown-injective}
+use Rattle.cqs_views.proofs.Calls.{called-by}
 use Rattle.cqs_cell.specs.Looks.{LooksAt}
 use Rattle.cqs_latch.specs.Calls.{IsReady, Rests}
 use Rattle.cqs_latch.specs.Causes.{primitive_of, CellWas, cell_of}

@@ -7,17 +7,17 @@ use Rattle.cqs_core.specs.declared.doings.Doing.TheVariants as doing
 use Rattle.cqs_latch_object.specs.declared.entries.LatchEntry.{LatchEntry}
 use Rattle.cqs_latch_object.specs.declared.entries.LatchEntry.TheVariants as entry
 use Rattle.cqs_latch_object.specs.LatchWords.{is_used, come_entry, come_doing}
-use Rattle.cqs_rule.specs.declared.config.AcquireError.{AcquireError}
-use Rattle.cqs_rule.specs.declared.config.AcquireError.TheVariants as error
-use Rattle.cqs_rule.specs.declared.config.AcquireError.TheVariants.{Worn}
-use Rattle.cqs_rule.specs.declared.view.Facts.{Facts}
-use Rattle.cqs_rule.specs.declared.view.Sighting.TheVariants.{Cell, Word}
-use Rattle.cqs_rule.specs.declared.view.View.{View}
-use Rattle.cqs_rule.specs.Called.{Called}
-use Rattle.cqs_rule.specs.Events.{facts_moved}
-use Rattle.cqs_rule.specs.Layout.{suspends_place, client_place}
-use Rattle.cqs_rule.specs.Lists.{Has}
-use Rattle.cqs_rule.specs.Saw.{Saw}
+use Rattle.cqs_views.specs.declared.config.AcquireError.{AcquireError}
+use Rattle.cqs_views.specs.declared.config.AcquireError.TheVariants as error
+use Rattle.cqs_views.specs.declared.config.AcquireError.TheVariants.{Worn}
+use Rattle.cqs_views.specs.declared.view.Facts.{Facts}
+use Rattle.cqs_views.specs.declared.view.Sighting.TheVariants.{Cell, Word}
+use Rattle.cqs_views.specs.declared.view.View.{View}
+use Rattle.cqs_views.specs.Called.{Called}
+use Rattle.cqs_views.specs.Events.{facts_moved}
+use Rattle.cqs_views.specs.Layout.{suspends_place, client_place}
+use Rattle.cqs_views.specs.Lists.{Has}
+use Rattle.cqs_views.specs.Saw.{Saw}
 use Rattle.cqs_rule.specs.Waits.{place_of}
 use Rattle.cqs_words.specs.State.{count_in, is_above_zero}
 use Rattle.cqs_words.specs.Waiters.{is_done}

@@ -17,17 +17,17 @@ use Rattle.cqs_resume.specs.Meets.{Met}
 use Rattle.cqs_resume.specs.Resumes.{Ended, Stopped, Resumes, most_passed_over, most_after_first}
 use Rattle.cqs_resume.specs.Rounds.{Round, IsOpenedWith, draw_entries, round_entries, over_entries, draw_seen, round_seen, all_seen, drawn_in, one_if, numbers}
 use Rattle.cqs_rule.specs.declared.queue.tokens.Under.{Under}
-use Rattle.cqs_rule.specs.declared.view.Facts.{Facts}
-use Rattle.cqs_rule.specs.declared.view.Sighting.{Sighting}
-use Rattle.cqs_rule.specs.declared.view.Sighting.TheVariants.{Cell, Word}
-use Rattle.cqs_rule.specs.declared.view.View.{View}
-use Rattle.cqs_rule.specs.Called.{Called}
-use Rattle.cqs_rule.specs.Counts.{Drew}
-use Rattle.cqs_rule.specs.Exchanges.{FoundCell, HasCell}
-use Rattle.cqs_rule.specs.Layout.{resumes_place}
+use Rattle.cqs_views.specs.declared.view.Facts.{Facts}
+use Rattle.cqs_views.specs.declared.view.Sighting.{Sighting}
+use Rattle.cqs_views.specs.declared.view.Sighting.TheVariants.{Cell, Word}
+use Rattle.cqs_views.specs.declared.view.View.{View}
+use Rattle.cqs_views.specs.Called.{Called}
+use Rattle.cqs_views.specs.Counts.{Drew}
+use Rattle.cqs_views.specs.Exchanges.{FoundCell, HasCell}
+use Rattle.cqs_views.specs.Layout.{resumes_place}
 use Rattle.cqs_rule.specs.Owed.{HasUnder, under_payload, under_ticket}
-use Rattle.cqs_rule.specs.Saw.{WasFound}
-use Rattle.cqs_rule.proofs.Calls.{called-none}
+use Rattle.cqs_views.specs.Saw.{WasFound}
+use Rattle.cqs_views.proofs.Calls.{called-none}
 use Rattle.cqs_latch.specs.Causes.{primitive_of, cell_of, CellWas}
 use Rattle.cqs_latch.specs.Latch.{latch_object}
 use Rattle.cqs_latch.specs.Waking.{Ending, served_at, left_at, refused_at, missed_at, ending_entries, woken_entries, handed_back, NextEnded, NextHanded, Next, OnEnded, On, Woke}

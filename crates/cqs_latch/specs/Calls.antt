@@ -6,10 +6,10 @@ use Rattle.cqs_latch_object.specs.LatchEntries.{IsLegal}
 use Rattle.cqs_latch_object.specs.LatchNames.{entry_names}
 use Rattle.cqs_rule.specs.declared.client.ClientWords.{Ghosts}
 use Rattle.cqs_rule.specs.declared.queue.Pass.{Pass}
-use Rattle.cqs_rule.specs.declared.view.Facts.{Facts}
-use Rattle.cqs_rule.specs.declared.view.View.{View}
-use Rattle.cqs_rule.specs.Called.{Called}
-use Rattle.cqs_rule.specs.Lists.{part, NamesOnly}
+use Rattle.cqs_views.specs.declared.view.Facts.{Facts}
+use Rattle.cqs_views.specs.declared.view.View.{View}
+use Rattle.cqs_views.specs.Called.{Called}
+use Rattle.cqs_views.specs.Lists.{part, NamesOnly}
 use Rattle.cqs_rule.specs.Passes.{IsOf}
 use Rattle.cqs_rule.specs.Waits.{place_of, HasWait}
 use Rattle.cqs_rule.specs.declared.queue.tokens.Wait.{Wait}

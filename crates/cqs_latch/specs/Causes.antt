@@ -3,15 +3,15 @@ use Rattle.std.specs.Prelude.{◌≡◌, ℕ, List, [], ◌∷◌, ◌++◌}
 use Rattle.cqs_core.specs.declared.cells.CoreState.{CoreState}
 use Rattle.cqs_latch_object.specs.declared.entries.LatchEntry.{LatchEntry}
 use Rattle.cqs_latch_object.specs.LatchObject.{Latch}
-use Rattle.cqs_rule.specs.declared.view.Glimpse.{Glimpse}
-use Rattle.cqs_rule.specs.declared.view.Sighting.{Sighting}
-use Rattle.cqs_rule.specs.declared.view.Sighting.TheVariants.{Cell, Word}
-use Rattle.cqs_rule.specs.declared.view.View.{View}
-use Rattle.cqs_rule.specs.Exchanges.{FoundCell, HasCell}
-use Rattle.cqs_rule.specs.Layout.{suspends_place, client_place}
-use Rattle.cqs_rule.specs.Lists.{IsPrefix}
-use Rattle.cqs_rule.specs.Object.{Primitive}
-use Rattle.cqs_rule.specs.Saw.{WasFound, WasSo}
+use Rattle.cqs_views.specs.declared.view.Glimpse.{Glimpse}
+use Rattle.cqs_views.specs.declared.view.Sighting.{Sighting}
+use Rattle.cqs_views.specs.declared.view.Sighting.TheVariants.{Cell, Word}
+use Rattle.cqs_views.specs.declared.view.View.{View}
+use Rattle.cqs_views.specs.Exchanges.{FoundCell, HasCell}
+use Rattle.cqs_views.specs.Layout.{suspends_place, client_place}
+use Rattle.cqs_views.specs.Lists.{IsPrefix}
+use Rattle.cqs_views.specs.Object.{Primitive}
+use Rattle.cqs_views.specs.Saw.{WasFound, WasSo}
 use Rattle.cqs_latch.specs.declared.client.LatchClient.{LatchClient}
 use Rattle.cqs_latch.specs.Latch.{latch_primitive}
 use Rattle.cqs_latch.specs.LatchMade.{count_of, mode_of}

@@ -4,11 +4,11 @@ use Rattle.cqs_core.specs.declared.cells.CoreState.TheVariants as state
 use Rattle.cqs_latch_object.specs.declared.entries.LatchEntry.{LatchEntry}
 use Rattle.cqs_latch_object.specs.declared.entries.LatchEntry.TheVariants as entry
 use Rattle.cqs_resume.specs.Resumes.{most_passed_over}
-use Rattle.cqs_rule.specs.declared.config.CancelMode.{CancelMode}
-use Rattle.cqs_rule.specs.declared.config.CancelMode.TheVariants.{Smart, Simple}
-use Rattle.cqs_rule.specs.declared.view.Facts.{Facts}
-use Rattle.cqs_rule.specs.declared.view.View.{View}
-use Rattle.cqs_rule.specs.Lists.{without}
+use Rattle.cqs_views.specs.declared.config.CancelMode.{CancelMode}
+use Rattle.cqs_views.specs.declared.config.CancelMode.TheVariants.{Smart, Simple}
+use Rattle.cqs_views.specs.declared.view.Facts.{Facts}
+use Rattle.cqs_views.specs.declared.view.View.{View}
+use Rattle.cqs_views.specs.Lists.{without}
 use Rattle.cqs_words.specs.Waiters.{is_done}
 use Rattle.cqs_latch.specs.declared.answers.LatchLeft.{LatchLeft}
 use Rattle.cqs_latch.specs.declared.answers.LatchLeft.TheVariants.{Gone, GoneOwing, TooLate}

@@ -10,7 +10,7 @@ use Rattle.cqs_resume.specs.AtOnce.{BegunAtOnce, FinishedAtOnce}
 use Rattle.cqs_resume.specs.Begins.{Begun}
 use Rattle.cqs_resume.specs.Resumes.{Resumes, most_passed_over}
 use Rattle.cqs_rule.specs.declared.queue.tokens.Under.{Under}
-use Rattle.cqs_rule.specs.declared.view.View.{View}
+use Rattle.cqs_views.specs.declared.view.View.{View}
 use Rattle.cqs_rule.specs.Owed.{under_payload, under_ticket, under_reached}
 use Rattle.cqs_latch.specs.declared.answers.Owed.{Owed}
 use Rattle.cqs_latch.specs.Causes.{primitive_of, CellWas}

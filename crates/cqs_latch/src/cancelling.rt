@@ -9,7 +9,7 @@ ghost use Rattle.cqs_latch.specs.LeftAnswers.{HasLeft, IsReadyLeft};
 ghost use Rattle.cqs_latch.specs.Steps.{GoesOn, as_left};
 ghost use Rattle.cqs_rule.specs.Passes.{pass_view, client_of};
 ghost use Rattle.cqs_rule.specs.Waits.{place_of, HasWait};
-ghost use Rattle.cqs_rule.specs.declared.config.CancelMode.TheVariants.{Smart, Simple};
+ghost use Rattle.cqs_views.specs.declared.config.CancelMode.TheVariants.{Smart, Simple};
 
 use crate::answers::{LatchLeft, Owed};
 use crate::latch::{Latch, LatchPass};

@@ -8,7 +8,7 @@ ghost use Rattle.cqs_latch.specs.LatchMade.{mode_of};
 ghost use Rattle.cqs_latch.specs.Owed.{HasOwed};
 ghost use Rattle.cqs_latch.specs.Calls.{IsReady, IsMine, KeepsWaits};
 ghost use Rattle.cqs_rule.specs.Passes.{pass_view, client_of};
-ghost use Rattle.cqs_rule.specs.declared.config.CancelMode.TheVariants.{Simple, Smart};
+ghost use Rattle.cqs_views.specs.declared.config.CancelMode.TheVariants.{Simple, Smart};
 
 use crate::answers::{Down, Owed};
 use crate::events::resumptions_for;

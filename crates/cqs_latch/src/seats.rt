@@ -5,10 +5,10 @@ ghost use mathlib.Core.Logic.{◌↔◌};
 ghost use Rattle.cqs_latch.specs.Calls.{IsReady, IsMine, KeepsWaits};
 ghost use Rattle.cqs_latch.specs.Latch.{latch_object};
 ghost use Rattle.cqs_latch.specs.Seats.{LookedOn, SeesAll};
-ghost use Rattle.cqs_rule.specs.Crew.{IsBetween, Came};
+ghost use Rattle.cqs_views.specs.Crew.{IsBetween, Came};
 ghost use Rattle.cqs_rule.specs.Passes.{pass_view, passes_of};
 ghost use Rattle.cqs_rule.specs.Seats.{IsBusy, HasMet};
-ghost use Rattle.cqs_rule.specs.Views.{made_in, live_in};
+ghost use Rattle.cqs_views.specs.Views.{made_in, live_in};
 
 use crate::latch::{Latch, LatchPass};
 use cqs_rule::{Carries, Crowd, MeetError};

@@ -2,12 +2,12 @@
 use Rattle.std.proofs.Common.{◌≡◌, ◌≢◌, ℕ, ◌+◌, ◌==◌, Bool, true, false, List, [], ◌∷◌, ◌++◌, sym, refl, ap, ◌∙◌, subst, Option, Some, None, if◌then◌else◌, Result, Ok, Err}
 use Rattle.std.specs.Prelude.{IfOk, OnOk, OnErr}
 use Rattle.cqs_core.specs.declared.entries.Entry.{Entry}
-use Rattle.cqs_rule.specs.declared.semaphore.carries.Kept.{Kept}
-use Rattle.cqs_rule.specs.declared.view.View.{View}
-use Rattle.cqs_rule.specs.Lists.{IsPrefix, without}
-use Rattle.cqs_rule.specs.Slots.{laid_in, handed_in, or_else}
-use Rattle.cqs_rule.specs.SlotSteps.{LayIn}
-use Rattle.cqs_rule.proofs.Handing.{handed-here}
+use Rattle.cqs_rule.specs.declared.carries.Kept.{Kept}
+use Rattle.cqs_views.specs.declared.view.View.{View}
+use Rattle.cqs_views.specs.Lists.{IsPrefix, without}
+use Rattle.cqs_views.specs.Slots.{laid_in, handed_in, or_else}
+use Rattle.cqs_views.specs.SlotSteps.{LayIn}
+use Rattle.cqs_views.proofs.Handing.{handed-here}
 use Rattle.cqs_semaphore.specs.declared.answers.Released.{Released}
 use Rattle.cqs_semaphore.specs.declared.answers.Released.TheVariants as released
 use Rattle.cqs_rule.specs.declared.queue.tokens.Under.{Under}

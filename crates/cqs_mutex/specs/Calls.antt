@@ -2,11 +2,11 @@
 -- view in between; and where the caller has the mutex then, or gives it back, its value moves.
 use Rattle.std.specs.Prelude.{◌≡◌, ◌<◌, true, [], Option, Some, None, Result, Ok, Err, IfOk, OnOk, OnErr}
 use Rattle.cqs_core.specs.declared.entries.Entry.{Entry}
-use Rattle.cqs_rule.specs.declared.config.AcquireError.{AcquireError}
+use Rattle.cqs_views.specs.declared.config.AcquireError.{AcquireError}
 use Rattle.cqs_rule.specs.declared.queue.tokens.Under as token
 use Rattle.cqs_rule.specs.declared.queue.tokens.Wait.{Wait}
-use Rattle.cqs_rule.specs.declared.semaphore.carries.Kept.{Kept}
-use Rattle.cqs_rule.specs.declared.view.View.{View}
+use Rattle.cqs_rule.specs.declared.carries.Kept.{Kept}
+use Rattle.cqs_views.specs.declared.view.View.{View}
 use Rattle.cqs_rule.specs.Owed.{HasUnder}
 use Rattle.cqs_rule.specs.Waits.{HasWait, place_of}
 use Rattle.cqs_semaphore.specs.declared.answers.Acquired.{Acquired}

@@ -3,8 +3,8 @@ use Rattle.std.specs.Prelude.{◌<◌, Option, Some, None}
 use Rattle.cqs_core.specs.declared.entries.Entry.{Entry}
 use Rattle.cqs_rule.specs.declared.client.ClientWords.{Ghosts}
 use Rattle.cqs_rule.specs.declared.queue.Pass.{Pass}
-use Rattle.cqs_rule.specs.declared.semaphore.SemClient.{SemClient}
-use Rattle.cqs_rule.specs.declared.semaphore.carries.Kept.{Kept}
+use Rattle.cqs_semaphore_client.specs.declared.semaphore.SemClient.{SemClient}
+use Rattle.cqs_rule.specs.declared.carries.Kept.{Kept}
 use Rattle.cqs_rule.specs.Passes.{pass_view}
 use Rattle.cqs_mutex.specs.declared.guard.Guard.{Guard}
 

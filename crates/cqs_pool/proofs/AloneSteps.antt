@@ -31,11 +31,11 @@ use Rattle.cqs_pool_object.specs.PoolNames.{entry_names}
 use Rattle.cqs_pool_object.specs.PoolObject.{Pool, opening, IsGiven}
 use Rattle.cqs_pool_object.specs.PoolOrder.{IsByOne, IsFirstOnWay}
 use Rattle.cqs_pool_object.proofs.PoolOrder.{first-taken}
-use Rattle.cqs_rule.specs.declared.view.View.{View}
-use Rattle.cqs_rule.specs.declared.view.Opening.{Opening}
-use Rattle.cqs_rule.specs.Alone.{IsAlone, TellsAlone}
-use Rattle.cqs_rule.specs.Hidden.{state_at, state_in}
-use Rattle.cqs_rule.specs.Lists.{Has, IsDistinct}
+use Rattle.cqs_views.specs.declared.view.View.{View}
+use Rattle.cqs_views.specs.declared.view.Opening.{Opening}
+use Rattle.cqs_views.specs.Alone.{IsAlone, TellsAlone}
+use Rattle.cqs_views.specs.Hidden.{state_at, state_in}
+use Rattle.cqs_views.specs.Lists.{Has, IsDistinct}
 use Rattle.cqs_pool.specs.declared.answers.Placed.{Placed}
 use Rattle.cqs_pool.specs.declared.answers.Placed.TheVariants.{Sent, Left, Under}
 use Rattle.cqs_pool.specs.Alone.{IsFirstOf, CanEnd, IsPlainPut, IsPlainEnd, IsOnlyCaller}

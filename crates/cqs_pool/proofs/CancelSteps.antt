@@ -9,15 +9,15 @@ use Rattle.cqs_pool_object.specs.declared.entries.PoolEntry.{PoolEntry}
 use Rattle.cqs_pool_object.specs.declared.entries.PoolEntry.TheVariants as entry
 use Rattle.cqs_pool_object.specs.PoolEntries.{IsLegal}
 use Rattle.cqs_rule.specs.declared.queue.tokens.Under.{Under}
-use Rattle.cqs_rule.specs.declared.view.Facts.{Facts}
-use Rattle.cqs_rule.specs.declared.view.Opening.{Opening}
-use Rattle.cqs_rule.specs.declared.view.Sighting.TheVariants.{Cell}
-use Rattle.cqs_rule.specs.declared.view.View.{View}
-use Rattle.cqs_rule.specs.Called.{Called}
-use Rattle.cqs_rule.specs.Exchanges.{HasCell}
-use Rattle.cqs_rule.specs.Lists.{Has, IsPrefix, without}
-use Rattle.cqs_rule.specs.Saw.{WasShown}
-use Rattle.cqs_rule.proofs.Calls.{called-and}
+use Rattle.cqs_views.specs.declared.view.Facts.{Facts}
+use Rattle.cqs_views.specs.declared.view.Opening.{Opening}
+use Rattle.cqs_views.specs.declared.view.Sighting.TheVariants.{Cell}
+use Rattle.cqs_views.specs.declared.view.View.{View}
+use Rattle.cqs_views.specs.Called.{Called}
+use Rattle.cqs_views.specs.Exchanges.{HasCell}
+use Rattle.cqs_views.specs.Lists.{Has, IsPrefix, without}
+use Rattle.cqs_views.specs.Saw.{WasShown}
+use Rattle.cqs_views.proofs.Calls.{called-and}
 use Rattle.cqs_cancel.specs.Unasked as unasked
 use Rattle.cqs_cancel.specs.Unasked.{Closes}
 use Rattle.cqs_cancel.specs.declared.cancelling.Left.TheVariants.{Gone, GoneOwing, Late}

@@ -7,15 +7,15 @@ use Rattle.cqs_pool_object.specs.declared.entries.PoolEntry.{PoolEntry}
 use Rattle.cqs_pool_object.specs.PoolEntries.{IsLegal}
 use Rattle.cqs_pool_object.specs.PoolNames.{entry_names}
 use Rattle.cqs_rule.specs.declared.queue.tokens.Wait.{Wait}
-use Rattle.cqs_rule.specs.declared.view.Facts.{Facts}
-use Rattle.cqs_rule.specs.declared.view.View.{View}
-use Rattle.cqs_rule.specs.Crew.{Met}
-use Rattle.cqs_rule.specs.Lists.{Has, part}
-use Rattle.cqs_rule.specs.Saw.{Saw}
+use Rattle.cqs_views.specs.declared.view.Facts.{Facts}
+use Rattle.cqs_views.specs.declared.view.View.{View}
+use Rattle.cqs_views.specs.Crew.{Met}
+use Rattle.cqs_views.specs.Lists.{Has, part}
+use Rattle.cqs_views.specs.Saw.{Saw}
 use Rattle.cqs_pool.specs.Pool.{pool_object}
-use Rattle.cqs_rule.specs.Views.{as_before}
+use Rattle.cqs_views.specs.Views.{as_before}
 use Rattle.cqs_rule.specs.Waits.{place_of, HasWait}
-use Rattle.cqs_rule.proofs.Lists.{has_left}
+use Rattle.cqs_views.proofs.Lists.{has_left}
 use Rattle.cqs_rule.proofs.Places.{knows-called}
 use Rattle.cqs_pool.specs.Calls.{CallRule, Course}
 

@@ -4,11 +4,11 @@ use Rattle.cqs_core.specs.QueueSteps.{puts, row_of}
 use Rattle.cqs_pool_object.specs.declared.entries.PoolEntry.{PoolEntry}
 use Rattle.cqs_pool_object.specs.declared.entries.PoolEntry.TheVariants as entry
 use Rattle.cqs_pool_object.specs.PoolEntries.{IsLegal}
-use Rattle.cqs_rule.specs.declared.view.Facts.{Facts}
-use Rattle.cqs_rule.specs.declared.view.View.{View}
-use Rattle.cqs_rule.specs.Counts.{DrewBy}
-use Rattle.cqs_rule.specs.Lists.{Has, without}
-use Rattle.cqs_rule.proofs.Calls.{called-by, called-and}
+use Rattle.cqs_views.specs.declared.view.Facts.{Facts}
+use Rattle.cqs_views.specs.declared.view.View.{View}
+use Rattle.cqs_views.specs.Counts.{DrewBy}
+use Rattle.cqs_views.specs.Lists.{Has, without}
+use Rattle.cqs_views.proofs.Calls.{called-by, called-and}
 use Rattle.cqs_pool.specs.declared.answers.Placed.{Placed}
 use Rattle.cqs_pool.specs.Answers.{Ends}
 use Rattle.cqs_pool.specs.Calls.{IsReady, CallRule}

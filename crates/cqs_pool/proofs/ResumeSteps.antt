@@ -7,18 +7,18 @@ use Rattle.cqs_core.specs.declared.doings.Doing.TheVariants as doing
 use Rattle.cqs_pool_object.specs.declared.entries.PoolEntry.{PoolEntry}
 use Rattle.cqs_core.specs.QueueSteps.{QueueStep, serves, leaves, delegates}
 use Rattle.cqs_pool_object.specs.PoolSteps.{step_entries}
-use Rattle.cqs_rule.specs.declared.view.Facts.{Facts}
-use Rattle.cqs_rule.specs.declared.view.Sighting.{Sighting}
-use Rattle.cqs_rule.specs.declared.view.Sighting.TheVariants.{Cell}
-use Rattle.cqs_rule.specs.declared.view.View.{View}
-use Rattle.cqs_rule.specs.Called.{Called}
-use Rattle.cqs_rule.specs.Exchanges.{FoundCell, HasCell}
-use Rattle.cqs_rule.specs.Hidden.{state_in}
-use Rattle.cqs_rule.specs.Lists.{IsPrefix, Has}
-use Rattle.cqs_rule.specs.Saw.{WasFound, WasShown}
+use Rattle.cqs_views.specs.declared.view.Facts.{Facts}
+use Rattle.cqs_views.specs.declared.view.Sighting.{Sighting}
+use Rattle.cqs_views.specs.declared.view.Sighting.TheVariants.{Cell}
+use Rattle.cqs_views.specs.declared.view.View.{View}
+use Rattle.cqs_views.specs.Called.{Called}
+use Rattle.cqs_views.specs.Exchanges.{FoundCell, HasCell}
+use Rattle.cqs_views.specs.Hidden.{state_in}
+use Rattle.cqs_views.specs.Lists.{IsPrefix, Has}
+use Rattle.cqs_views.specs.Saw.{WasFound, WasShown}
 use Rattle.cqs_rule.specs.declared.queue.tokens.Under as token
-use Rattle.cqs_rule.specs.declared.view.Glimpse.{Glimpse}
-use Rattle.cqs_rule.specs.declared.view.Opening.{Opening}
+use Rattle.cqs_views.specs.declared.view.Glimpse.{Glimpse}
+use Rattle.cqs_views.specs.declared.view.Opening.{Opening}
 use Rattle.cqs_core.specs.declared.cells.CoreCell.{CoreCell}
 use Rattle.cqs_pool_object.specs.PoolEntries.{IsLegal}
 use Rattle.cqs_pool.specs.Pool.{pool_object}

@@ -6,9 +6,9 @@ use Rattle.std.proofs.lemmas.List.Elements.{filter-append}
 use Rattle.cqs_pool_object.specs.declared.entries.PoolEntry.{PoolEntry}
 use Rattle.cqs_pool_object.specs.PoolEntries.{IsLegal}
 use Rattle.cqs_pool_object.specs.PoolNames.{entry_names}
-use Rattle.cqs_rule.specs.declared.view.View.{View}
-use Rattle.cqs_rule.specs.Called.{Called}
-use Rattle.cqs_rule.specs.Lists.{Has, part, NamesOnly}
+use Rattle.cqs_views.specs.declared.view.View.{View}
+use Rattle.cqs_views.specs.Called.{Called}
+use Rattle.cqs_views.specs.Lists.{Has, part, NamesOnly}
 use Rattle.cqs_pool.specs.Pool.{pool_object}
 use Rattle.cqs_pool.specs.Calls.{CallRule}
 

@@ -9,13 +9,13 @@ use Rattle.cqs_core.specs.QueueSteps.{installs, takes}
 use Rattle.cqs_pool_object.specs.declared.entries.PoolEntry.{PoolEntry}
 use Rattle.cqs_pool_object.specs.declared.entries.PoolEntry.TheVariants as entry
 use Rattle.cqs_pool_object.specs.PoolEntries.{IsLegal}
-use Rattle.cqs_rule.specs.declared.view.Facts.{Facts}
-use Rattle.cqs_rule.specs.declared.view.Sighting.TheVariants.{Cell, Word}
-use Rattle.cqs_rule.specs.declared.view.View.{View}
-use Rattle.cqs_rule.specs.Called.{Called}
-use Rattle.cqs_rule.specs.Layout.{suspends_place}
-use Rattle.cqs_rule.specs.Lists.{Has, IsPrefix}
-use Rattle.cqs_rule.proofs.Calls.{called-by, called-and}
+use Rattle.cqs_views.specs.declared.view.Facts.{Facts}
+use Rattle.cqs_views.specs.declared.view.Sighting.TheVariants.{Cell, Word}
+use Rattle.cqs_views.specs.declared.view.View.{View}
+use Rattle.cqs_views.specs.Called.{Called}
+use Rattle.cqs_views.specs.Layout.{suspends_place}
+use Rattle.cqs_views.specs.Lists.{Has, IsPrefix}
+use Rattle.cqs_views.proofs.Calls.{called-by, called-and}
 use Rattle.cqs_suspend.specs.Suspends.{EntersBy}
 use Rattle.cqs_pool.specs.Answers.{IsWorn, IsBelow, facts_refused}
 use Rattle.cqs_pool.specs.Calls.{IsReady, CallRule, Rests}

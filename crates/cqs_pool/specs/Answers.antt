@@ -5,11 +5,11 @@ use Rattle.cqs_pool_object.specs.declared.entries.PoolEntry.{PoolEntry}
 use Rattle.cqs_pool_object.specs.declared.entries.PoolEntry.TheVariants as entry
 use Rattle.cqs_rule.specs.declared.queue.tokens.Under as token
 use Rattle.cqs_rule.specs.declared.queue.tokens.Wait.{Wait}
-use Rattle.cqs_rule.specs.declared.view.Facts.{Facts}
-use Rattle.cqs_rule.specs.declared.view.Sighting.TheVariants.{Word}
-use Rattle.cqs_rule.specs.declared.view.View.{View}
-use Rattle.cqs_rule.specs.Layout.{suspends_place}
-use Rattle.cqs_rule.specs.Lists.{Has, without}
+use Rattle.cqs_views.specs.declared.view.Facts.{Facts}
+use Rattle.cqs_views.specs.declared.view.Sighting.TheVariants.{Word}
+use Rattle.cqs_views.specs.declared.view.View.{View}
+use Rattle.cqs_views.specs.Layout.{suspends_place}
+use Rattle.cqs_views.specs.Lists.{Has, without}
 use Rattle.cqs_rule.specs.Owed.{HasUnder, under_payload}
 use Rattle.cqs_rule.specs.Waits.{place_of, HasWait}
 use Rattle.cqs_pool.specs.declared.answers.Placed.{Placed}

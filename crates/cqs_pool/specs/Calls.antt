@@ -7,10 +7,10 @@ use Rattle.cqs_pool_object.specs.PoolNames.{entry_names}
 use Rattle.cqs_pool_object.specs.PoolObject as plain
 use Rattle.cqs_rule.specs.declared.client.ClientWords.{Ghosts}
 use Rattle.cqs_rule.specs.declared.queue.Pass.{Pass}
-use Rattle.cqs_rule.specs.declared.view.Facts.{Facts}
-use Rattle.cqs_rule.specs.declared.view.View.{View}
-use Rattle.cqs_rule.specs.Called.{Called}
-use Rattle.cqs_rule.specs.Lists.{Has, part, NamesOnly}
+use Rattle.cqs_views.specs.declared.view.Facts.{Facts}
+use Rattle.cqs_views.specs.declared.view.View.{View}
+use Rattle.cqs_views.specs.Called.{Called}
+use Rattle.cqs_views.specs.Lists.{Has, part, NamesOnly}
 use Rattle.cqs_rule.specs.Passes.{client_of, IsOf}
 use Rattle.cqs_pool.specs.declared.client.PoolClient.{PoolClient}
 use Rattle.cqs_pool.specs.declared.pool.Pool.{Pool}

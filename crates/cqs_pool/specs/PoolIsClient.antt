@@ -36,16 +36,16 @@ use Rattle.cqs_pool_object.proofs.PoolCounts.{times-cons}
 use Rattle.cqs_pool_object.proofs.PoolOpens.{opened-pool, handed-pool, numbers-left}
 use Rattle.cqs_pool_object.proofs.PoolOrder.{step-in_order, opened-in_order}
 use Rattle.cqs_pool_object.proofs.PoolSteps.{step-pool}
-use Rattle.cqs_rule.specs.declared.view.Has.{Has}
-use Rattle.cqs_rule.specs.Client as client
-use Rattle.cqs_rule.specs.Client.{IsClient, IsBegun, begun_by}
-use Rattle.cqs_rule.specs.Hidden.{Hidden, hidden_after, has_after, has_gained, has_paid, has_both, has_none, hands_over}
-use Rattle.cqs_rule.specs.Lists as lists
-use Rattle.cqs_rule.specs.Lists.{NamesOnly}
-use Rattle.cqs_rule.specs.Manner.{Suits}
-use Rattle.cqs_rule.specs.Opened.{first_hidden, first_payload}
-use Rattle.cqs_rule.specs.Views.{first_has}
-use Rattle.cqs_rule.proofs.Lists.{has_left, has_right, without_has}
+use Rattle.cqs_views.specs.declared.view.Has.{Has}
+use Rattle.cqs_views.specs.Client as client
+use Rattle.cqs_views.specs.Client.{IsClient, IsBegun, begun_by}
+use Rattle.cqs_views.specs.Hidden.{Hidden, hidden_after, has_after, has_gained, has_paid, has_both, has_none, hands_over}
+use Rattle.cqs_views.specs.Lists as lists
+use Rattle.cqs_views.specs.Lists.{NamesOnly}
+use Rattle.cqs_views.specs.Manner.{Suits}
+use Rattle.cqs_views.specs.Opened.{first_hidden, first_payload}
+use Rattle.cqs_views.specs.Views.{first_has}
+use Rattle.cqs_views.proofs.Lists.{has_left, has_right, without_has}
 use Rattle.cqs_pool.specs.Pool.{loads_of, holds_of, pool_shown, ShowsPool, in_hand, HasEach, pool_manner, pool_object, pool_primitive}
 
 silent-step : (s : QueueStep) (p k payload : ℕ)

@@ -1,11 +1,11 @@
 -- What a split and a look at the crew leave of a pass, and what a pass knows that is alone.
 use Rattle.std.specs.Prelude.{◌≡◌, []}
 use Rattle.cqs_pool_object.specs.declared.entries.PoolEntry.{PoolEntry}
-use Rattle.cqs_rule.specs.declared.view.View.{View}
-use Rattle.cqs_rule.specs.Alone.{IsAlone}
-use Rattle.cqs_rule.specs.Saw.{Saw}
+use Rattle.cqs_views.specs.declared.view.View.{View}
+use Rattle.cqs_views.specs.Alone.{IsAlone}
+use Rattle.cqs_views.specs.Saw.{Saw}
 use Rattle.cqs_pool.specs.Pool.{pool_object}
-use Rattle.cqs_rule.specs.Views.{as_before}
+use Rattle.cqs_views.specs.Views.{as_before}
 use Rattle.cqs_pool.specs.Calls.{Course}
 use Rattle.cqs_pool.specs.Causes.{primitive_of}
 

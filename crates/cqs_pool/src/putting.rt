@@ -1,8 +1,8 @@
 //! The put, and the end of one that was handed back.
 
 ghost use Rattle.std.specs.Prelude.{◌≡◌, [], true, IsOk, IfOk};
-ghost use Rattle.cqs_rule.specs.Crew.{IsBetween};
-ghost use Rattle.cqs_rule.specs.Lists.{without};
+ghost use Rattle.cqs_views.specs.Crew.{IsBetween};
+ghost use Rattle.cqs_views.specs.Lists.{without};
 ghost use Rattle.cqs_rule.specs.Owed.{HasUnder, under_payload, under_reached};
 ghost use Rattle.cqs_rule.specs.Passes.{pass_view};
 ghost use Rattle.cqs_pool.specs.Alone.{CanEnd, IsPlainPut, IsPlainEnd};

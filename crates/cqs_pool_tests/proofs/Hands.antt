@@ -1,7 +1,7 @@
 -- What a pass has in hand after a take and after a put.
 use Rattle.std.proofs.Common.{◌≡◌, ◌≢◌, ◌⊎◌, inl, inr, ℕ, List, [], ◌∷◌, refl, sym, ◌∙◌, subst, eq-eqb, ne_eqb}
 use Rattle.std.proofs.lemmas.Bool.{cases_eq}
-use Rattle.cqs_rule.specs.Lists.{Has, without}
+use Rattle.cqs_views.specs.Lists.{Has, without}
 
 pub has-new : (e : ℕ) (xs ys : List ℕ) → ys ≡ e ∷ xs → Has e ys
 has-new e xs ys is = subst (Has e) (sym is) (inl refl)

@@ -2,11 +2,11 @@
 use Rattle.std.proofs.Common.{◌∙◌, ap, sym, subst, ℕ, List, Option}
 use Rattle.cqs_pool_object.specs.declared.entries.PoolEntry.{PoolEntry}
 use Rattle.cqs_rule.specs.declared.queue.tokens.Wait.{Wait}
-use Rattle.cqs_rule.specs.declared.semaphore.carries.Kept.{Kept}
-use Rattle.cqs_rule.specs.declared.view.View.{View}
-use Rattle.cqs_rule.specs.Lists.{Has}
-use Rattle.cqs_rule.specs.Placed.{place_word, place_known}
-use Rattle.cqs_rule.specs.SlotSteps.{Swapped}
+use Rattle.cqs_rule.specs.declared.carries.Kept.{Kept}
+use Rattle.cqs_views.specs.declared.view.View.{View}
+use Rattle.cqs_views.specs.Lists.{Has}
+use Rattle.cqs_views.specs.Placed.{place_word, place_known}
+use Rattle.cqs_views.specs.SlotSteps.{Swapped}
 use Rattle.cqs_rule.specs.Waits.{HasWait, place_of}
 use Rattle.cqs_rule.proofs.Places.{has-wait-called}
 use Rattle.cqs_pool.specs.declared.answers.Placed.TheVariants.{Sent}

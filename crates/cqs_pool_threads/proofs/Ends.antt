@@ -1,9 +1,9 @@
 -- A pass with one wait, or with one element, has none after it.
 use Rattle.std.proofs.Common.{◌≡◌, refl, inl, inr, true, false, ℕ, [], ◌∷◌, ◌∙◌, sym, ap, rules, eq-eqb}
 use Rattle.cqs_core.specs.declared.doings.Doing.TheVariants as doing
-use Rattle.cqs_rule.specs.declared.view.Facts.{Facts}
-use Rattle.cqs_rule.specs.Facts.{owes_any}
-use Rattle.cqs_rule.specs.Lists.{without}
+use Rattle.cqs_views.specs.declared.view.Facts.{Facts}
+use Rattle.cqs_views.specs.Facts.{owes_any}
+use Rattle.cqs_views.specs.Lists.{without}
 use Rattle.cqs_rule.specs.Seats.{IsBusy}
 
 pub without-one : (k : ℕ) → without k (k ∷ []) ≡ []

@@ -5,7 +5,7 @@ use Rattle.cqs_rule.specs.declared.client.ClientWords.{Ghosts}
 use Rattle.cqs_rule.specs.declared.queue.Pass.{Pass}
 use Rattle.cqs_rule.specs.declared.queue.tokens.Under as token
 use Rattle.cqs_rule.specs.declared.queue.tokens.Wait.{Wait}
-use Rattle.cqs_rule.specs.declared.semaphore.carries.Kept.{Kept}
+use Rattle.cqs_rule.specs.declared.carries.Kept.{Kept}
 use Rattle.cqs_rule.specs.Owed.{HasUnder}
 use Rattle.cqs_rule.specs.Passes.{pass_view}
 use Rattle.cqs_rule.specs.Waits.{place_of, HasWait}

@@ -20,8 +20,8 @@ use Rattle.cqs_pool_object.specs.declared.entries.PoolEntry.{PoolEntry}
 use Rattle.cqs_rule.specs.declared.client.ClientWords.{Ghosts}
 use Rattle.cqs_rule.specs.declared.queue.Pass.{Pass}
 use Rattle.cqs_rule.specs.declared.queue.tokens.Wait.{Wait}
-use Rattle.cqs_rule.specs.declared.semaphore.SemClient.{SemClient}
-use Rattle.cqs_rule.specs.declared.semaphore.carries.Kept.{Kept}
+use Rattle.cqs_semaphore_client.specs.declared.semaphore.SemClient.{SemClient}
+use Rattle.cqs_rule.specs.declared.carries.Kept.{Kept}
 use Rattle.cqs_rule.specs.Passes.{pass_view}
 use Rattle.cqs_rule.specs.Waits.{HasWait}
 use Rattle.cqs_semaphore.specs.declared.semaphore.Semaphore.{Semaphore}

@@ -7,11 +7,11 @@ use Rattle.cqs_core.specs.declared.doings.Doing.TheVariants as doing
 use Rattle.cqs_core.specs.QueueSteps.{begins, reaches, serves, leaves, ends_missed}
 use Rattle.cqs_rule.specs.declared.client.ClientWords.{Ghosts}
 use Rattle.cqs_rule.specs.declared.queue.Pass.{Pass}
-use Rattle.cqs_rule.specs.declared.view.Opening.{Opening}
-use Rattle.cqs_rule.specs.declared.view.View.{View}
-use Rattle.cqs_rule.specs.Counts.{Drew}
-use Rattle.cqs_rule.specs.Hidden.{Hidden, state_at}
-use Rattle.cqs_rule.specs.Object.{Object, Primitive}
+use Rattle.cqs_views.specs.declared.view.Opening.{Opening}
+use Rattle.cqs_views.specs.declared.view.View.{View}
+use Rattle.cqs_views.specs.Counts.{Drew}
+use Rattle.cqs_views.specs.Hidden.{Hidden, state_at}
+use Rattle.cqs_views.specs.Object.{Object, Primitive}
 use Rattle.cqs_rule.specs.Passes.{pass_view}
 use Rattle.cqs_resume.specs.declared.at_once.EndedAtOnce.{EndedAtOnce}
 use Rattle.cqs_resume.specs.declared.at_once.EndedAtOnce.TheVariants.{Served, Left, Missed}

@@ -4,10 +4,10 @@ use Rattle.std.specs.Prelude.{ℕ, Some}
 use Rattle.cqs_core.specs.QueueSteps.{begins}
 use Rattle.cqs_rule.specs.declared.client.ClientWords.{Ghosts}
 use Rattle.cqs_rule.specs.declared.queue.Pass.{Pass}
-use Rattle.cqs_rule.specs.declared.view.View.{View}
-use Rattle.cqs_rule.specs.Counts.{Drew}
-use Rattle.cqs_rule.specs.Facts.{IsBehind}
-use Rattle.cqs_rule.specs.Object.{Object, Primitive}
+use Rattle.cqs_views.specs.declared.view.View.{View}
+use Rattle.cqs_views.specs.Counts.{Drew}
+use Rattle.cqs_views.specs.Facts.{IsBehind}
+use Rattle.cqs_views.specs.Object.{Object, Primitive}
 use Rattle.cqs_rule.specs.Passes.{pass_view}
 use Rattle.cqs_resume.specs.declared.resumed.Resumed.{Resumed}
 use Rattle.cqs_resume.specs.Resumes.{Resumes, most_after_first}

@@ -10,7 +10,7 @@ use Rattle.cqs_rule.specs.declared.client.ClientWords.{Ghosts}
 use Rattle.cqs_rule.specs.declared.queue.Pass.{Pass}
 use Rattle.cqs_rule.specs.Passes.{pass_view, passes_of}
 use Rattle.cqs_rule.specs.Seats.{HasLookedOn}
-use Rattle.cqs_rule.specs.Views.{made_in}
+use Rattle.cqs_views.specs.Views.{made_in}
 use Rattle.cqs_barrier.specs.Parked.{Barrier, BarrierClient}
 use Rattle.cqs_rounds.specs.Passes.{EachIs, AreCalledWithin}
 use Rattle.cqs_rounds.specs.Seats.{AreReady, HasMade, HasSplit, HasTaken, HasTakenIn, HoldEach, IsCrowded, IsFree}

@@ -5,12 +5,12 @@ use mathlib.Core.Logic.{◌↔◌}
 use Rattle.cqs_barrier_object.specs.declared.entries.BarrierEntry.{BarrierEntry}
 use Rattle.cqs_rule.specs.declared.client.ClientWords.{Ghosts}
 use Rattle.cqs_rule.specs.declared.queue.Pass.{Pass}
-use Rattle.cqs_rule.specs.declared.view.Has.{Has}
-use Rattle.cqs_rule.specs.Alone.{IsAlone}
-use Rattle.cqs_rule.specs.Hidden.{has_less}
+use Rattle.cqs_views.specs.declared.view.Has.{Has}
+use Rattle.cqs_views.specs.Alone.{IsAlone}
+use Rattle.cqs_views.specs.Hidden.{has_less}
 use Rattle.cqs_rule.specs.Passes.{pass_view}
 use Rattle.cqs_rule.specs.Seats.{IsBusy, HasLookedOn}
-use Rattle.cqs_rule.specs.Views.{first_facts, live_in}
+use Rattle.cqs_views.specs.Views.{first_facts, live_in}
 use Rattle.cqs_barrier.specs.Parked.{BarrierClient}
 use Rattle.cqs_barrier.specs.Calls.{IsReady}
 use Rattle.cqs_barrier.specs.Causes.{primitive_of}

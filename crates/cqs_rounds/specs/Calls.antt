@@ -1,7 +1,7 @@
 -- What each call of the rounds answers: what the call of its round's barrier does.
 use Rattle.std.specs.Prelude.{◌≡◌, ℕ, ◌+◌, true, [], Result, Ok, Err}
 use Rattle.cqs_barrier_object.specs.declared.entries.BarrierEntry.{BarrierEntry}
-use Rattle.cqs_rule.specs.declared.view.View.{View}
+use Rattle.cqs_views.specs.declared.view.View.{View}
 use Rattle.cqs_rule.specs.Waits.{place_of}
 use Rattle.cqs_barrier.specs.declared.answers.Arrived.TheVariants as arrived
 use Rattle.cqs_barrier.specs.declared.answers.PartyLeft.TheVariants as left

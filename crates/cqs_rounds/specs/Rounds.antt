@@ -2,9 +2,9 @@
 use Rattle.std.specs.Prelude.{◌≡◌, ℕ, true, List, [], length, Option, Some, None, slice_get, slice_set}
 use Rattle.cqs_barrier_object.specs.declared.entries.BarrierEntry.{BarrierEntry}
 use Rattle.cqs_rule.specs.declared.client.ClientWords.{Ghosts}
-use Rattle.cqs_rule.specs.declared.config.Config.{Config}
+use Rattle.cqs_views.specs.declared.config.Config.{Config}
 use Rattle.cqs_rule.specs.declared.queue.Pass.{Pass}
-use Rattle.cqs_rule.specs.declared.view.View.{View}
+use Rattle.cqs_views.specs.declared.view.View.{View}
 use Rattle.cqs_rule.specs.Passes.{pass_view, passes_of, limit_of}
 use Rattle.cqs_barrier.specs.Parked.{Barrier, BarrierClient}
 use Rattle.cqs_barrier.specs.Calls.{IsMine, Rests, parties_in}

@@ -4,11 +4,11 @@ use mathlib.Core.Logic.{◌↔◌}
 use Rattle.cqs_barrier_object.specs.declared.entries.BarrierEntry.{BarrierEntry}
 use Rattle.cqs_rule.specs.declared.client.ClientWords.{Ghosts}
 use Rattle.cqs_rule.specs.declared.queue.Pass.{Pass}
-use Rattle.cqs_rule.specs.Alone.{IsAlone}
-use Rattle.cqs_rule.specs.Crew.{IsBetween, CameWith}
+use Rattle.cqs_views.specs.Alone.{IsAlone}
+use Rattle.cqs_views.specs.Crew.{IsBetween, CameWith}
 use Rattle.cqs_rule.specs.Passes.{pass_view, passes_of}
 use Rattle.cqs_rule.specs.Seats.{IsBusy, HasGiven, HasLookedOn, HasMet}
-use Rattle.cqs_rule.specs.Views.{live_in, made_in}
+use Rattle.cqs_views.specs.Views.{live_in, made_in}
 use Rattle.cqs_barrier.specs.Parked.{Barrier, BarrierClient}
 use Rattle.cqs_barrier.specs.Barrier.{barrier_object}
 use Rattle.cqs_barrier.specs.Calls.{IsMine, IsReady}

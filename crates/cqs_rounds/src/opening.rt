@@ -2,7 +2,7 @@
 
 ghost use Rattle.std.specs.Prelude.{◌≡◌, ◌⊎◌, ◌<◌, All, false, vec_len, IfOk, IsErrOf};
 ghost use mathlib.Core.Logic.{◌↔◌};
-ghost use Rattle.cqs_rule.specs.Configured.{is_config};
+ghost use Rattle.cqs_views.specs.Configured.{is_config};
 ghost use Rattle.cqs_rounds.specs.Members.{round_of};
 ghost use Rattle.cqs_rounds.specs.Rounds.{AreMine, AreOpened, rounds_in, barriers_of};
 

@@ -7,7 +7,7 @@ use Rattle.cqs_barrier_object.specs.declared.entries.BarrierEntry.{BarrierEntry}
 use Rattle.cqs_rule.specs.declared.client.ClientWords.{Ghosts}
 use Rattle.cqs_rule.specs.declared.queue.Pass.{Pass}
 use Rattle.cqs_rule.specs.Passes.{pass_view}
-use Rattle.cqs_rule.specs.Views.{first_facts}
+use Rattle.cqs_views.specs.Views.{first_facts}
 use Rattle.cqs_barrier.specs.Parked.{BarrierClient}
 use Rattle.cqs_barrier.specs.Calls.{IsReady}
 use Rattle.cqs_rounds.specs.declared.members.Member.{Member}

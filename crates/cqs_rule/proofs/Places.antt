@@ -1,14 +1,14 @@
 -- What a pass knows of places it goes on knowing: these lemmas alone open what such knowledge is.
 use Rattle.std.proofs.Common.{◌≡◌, List, sym, subst, ◌∙◌}
-use Rattle.cqs_rule.specs.declared.config.Place.{Place}
-use Rattle.cqs_rule.specs.declared.view.View.{View}
-use Rattle.cqs_rule.specs.declared.view.Facts.{Facts}
-use Rattle.cqs_rule.specs.Called.{Called}
-use Rattle.cqs_rule.specs.Placed.{KnowsPlace, place_word, place_known}
-use Rattle.cqs_rule.specs.Object.{Object}
+use Rattle.cqs_views.specs.declared.config.Place.{Place}
+use Rattle.cqs_views.specs.declared.view.View.{View}
+use Rattle.cqs_views.specs.declared.view.Facts.{Facts}
+use Rattle.cqs_views.specs.Called.{Called}
+use Rattle.cqs_views.specs.Placed.{KnowsPlace, place_word, place_known}
+use Rattle.cqs_views.specs.Object.{Object}
 use Rattle.cqs_rule.specs.declared.queue.tokens.Wait.{Wait}
-use Rattle.cqs_rule.specs.Lists.{Has}
-use Rattle.cqs_rule.specs.Saw.{Saw}
+use Rattle.cqs_views.specs.Lists.{Has}
+use Rattle.cqs_views.specs.Saw.{Saw}
 use Rattle.cqs_rule.specs.Waits.{HasWait, place_of}
 
 module _ {E S : Type 0} where

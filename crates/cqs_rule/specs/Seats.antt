@@ -2,12 +2,12 @@
 use Rattle.std.specs.Prelude.{◌≡◌, ◌⊎◌, ℕ, ◌<◌, true, [], length}
 use Rattle.cqs_rule.specs.declared.client.ClientWords.{Ghosts}
 use Rattle.cqs_rule.specs.declared.queue.Pass.{Pass}
-use Rattle.cqs_rule.specs.declared.view.Facts.{Facts}
-use Rattle.cqs_rule.specs.Crew.{Met}
+use Rattle.cqs_views.specs.declared.view.Facts.{Facts}
+use Rattle.cqs_views.specs.Crew.{Met}
 use Rattle.cqs_rule.specs.Passes.{pass_view}
-use Rattle.cqs_rule.specs.Facts.{owes_any}
-use Rattle.cqs_rule.specs.Saw.{Saw}
-use Rattle.cqs_rule.specs.Views.{as_before, has_both, facts_lessened}
+use Rattle.cqs_views.specs.Facts.{owes_any}
+use Rattle.cqs_views.specs.Saw.{Saw}
+use Rattle.cqs_views.specs.Views.{as_before, has_both, facts_lessened}
 
 -- a pass that can't be met away: it owes something, or has a wait
 abbrev pub IsBusy : Facts → Type 0

@@ -4,13 +4,13 @@ use Rattle.cqs_core.specs.QueueSteps.{QueueStep, puts, row_of}
 use Rattle.cqs_rule.specs.declared.client.ClientWords.{Ghosts}
 use Rattle.cqs_rule.specs.declared.queue.Pass.{Pass}
 use Rattle.cqs_rule.specs.declared.queue.Queue.{Queue}
-use Rattle.cqs_rule.specs.Counts.{DrewBy, Drew}
-use Rattle.cqs_rule.specs.Events.{Event, Moves, SlotsStay, Moved}
-use Rattle.cqs_rule.specs.Exchanges.{CrossedBy}
-use Rattle.cqs_rule.specs.Layout.{client_place}
-use Rattle.cqs_rule.specs.Slots.{laid_in}
-use Rattle.cqs_rule.specs.SlotSteps.{GivesAway, HandedIn}
-use Rattle.cqs_rule.specs.Loads.{LoadStep, Loaded}
+use Rattle.cqs_views.specs.Counts.{DrewBy, Drew}
+use Rattle.cqs_views.specs.Events.{Event, Moves, SlotsStay, Moved}
+use Rattle.cqs_views.specs.Exchanges.{CrossedBy}
+use Rattle.cqs_views.specs.Layout.{client_place}
+use Rattle.cqs_views.specs.Slots.{laid_in}
+use Rattle.cqs_views.specs.SlotSteps.{GivesAway, HandedIn}
+use Rattle.cqs_views.specs.Loads.{LoadStep, Loaded}
 use Rattle.cqs_rule.specs.Passes.{pass_view, client_of, slots_of}
 use Rattle.cqs_words.specs.Cell.{index_in}
 

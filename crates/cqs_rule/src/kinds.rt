@@ -9,7 +9,7 @@ use crate::client::ClientWords;
 pub trait Kind {
     ghost use Rattle.std.specs.Prelude.{◌≡◌, ◌+◌, ◌<◌, ◌≤◌, ◌^◌};
     ghost use Rattle.cqs_core.specs.QueueSteps.{QueueStep};
-    ghost use Rattle.cqs_rule.specs.Kinds.{held_then, owes_then, further_then, opens_wait, closes_wait};
+    ghost use Rattle.cqs_views.specs.Kinds.{held_then, owes_then, further_then, opens_wait, closes_wait};
 
     ghost step: { QueueStep };
 

@@ -7,33 +7,27 @@
 #![tactic(auto)]
 
 mod callbacks;
+mod carries;
 mod client;
-mod config;
 mod kinds;
-mod layout;
-mod loads;
 mod plays;
 mod queue;
 mod rule;
-mod semaphore;
 mod silent;
 mod threads;
-mod view;
 
 pub use callbacks::Client;
+pub use carries::{Carries, Kept, Unparked};
 pub use client::{ClientWords, Shown};
-pub use config::{AcquireError, CancelMode, Config, Crowd, Crowded, MakeError, MeetError, Place};
+pub use cqs_views::{
+    AcquireError, CELLS_WORD, CLIENT_WORD, CREW_WORD, CancelMode, Cancels, Config, Counts, Crowd,
+    Crowded, Drawn, Facts, Glimpse, Has, Learned, Load, MakeError, MeetError, Meets, Misses,
+    Opening, Place, Polls, RESUMES_WORD, SUSPENDS_WORD, Sighting, View, Watches,
+};
 pub use kinds::{
     Begins, Delegates, Draws, Enters, Installs, Kind, Leaves, LeavesAtOnce, LeavesLine, Reaches,
     Refuses, RefusesValue, Serves, Settles, SettlesOwing, StartsLeaving, Takes,
 };
-pub use layout::{CELLS_WORD, CLIENT_WORD, CREW_WORD, RESUMES_WORD, SUSPENDS_WORD};
-pub use loads::{Cancels, Counts, Learned, Load, Meets, Misses, Polls, Watches};
 pub use queue::{Pass, Queue, Under, Wait};
 pub use rule::{Key, Rule};
-pub use semaphore::{
-    Carries, Decide, Give, Kept, SemClient, Take, TryLoad, TrySwap, Unparked, give_permit,
-    load_state, next_wait, read_state, take_permit, try_take,
-};
 pub use silent::Silent;
-pub use view::{Drawn, Facts, Glimpse, Has, Opening, Sighting, View};

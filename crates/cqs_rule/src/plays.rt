@@ -1,19 +1,18 @@
 //! What each step tells. These types are for the proofs alone.
 
-ghost use Rattle.cqs_rule.specs.Alone.{and_alone};
-ghost use Rattle.cqs_rule.specs.Crew.{IsSole, counted_by, tried_by, met_by};
-ghost use Rattle.cqs_rule.specs.Counts.{drew};
-ghost use Rattle.cqs_rule.specs.Events.{moved_by, exchanged_by, in_any_case};
-ghost use Rattle.cqs_rule.specs.Exchanges.{crossed};
-ghost use Rattle.cqs_rule.specs.Loads.{loaded_by};
-ghost use Rattle.cqs_rule.specs.SlotSteps.{took_out, put_back, filled, given_by, put_by};
+ghost use Rattle.cqs_views.specs.Alone.{and_alone};
+ghost use Rattle.cqs_views.specs.Crew.{IsSole, counted_by, tried_by, met_by};
+ghost use Rattle.cqs_views.specs.Counts.{drew};
+ghost use Rattle.cqs_views.specs.Events.{moved_by, exchanged_by, in_any_case};
+ghost use Rattle.cqs_views.specs.Exchanges.{crossed};
+ghost use Rattle.cqs_views.specs.Loads.{loaded_by};
+ghost use Rattle.cqs_views.specs.SlotSteps.{took_out, put_back, filled, given_by, put_by};
 
 use crate::client::{ClientWords, Shown};
 use crate::kinds::Kind;
-use crate::loads::Load;
 use crate::queue::Numbered;
-use crate::view::View;
 use atomic_table::{Join, Play, Split};
+use cqs_views::{Load, View};
 use std::marker::{Brand, PhantomData};
 
 /// A load of the suspend counter or of a cell.
@@ -156,7 +155,7 @@ impl<C: ClientWords> Play<Option<C::Slot>, View<C::Entry, C::Slot>> for Meet<C> 
 pub(crate) struct Cut;
 
 impl<E, S> Split<View<E, S>> for Cut {
-    ghost use Rattle.cqs_rule.specs.Views.{single, cut_off};
+    ghost use Rattle.cqs_views.specs.Views.{single, cut_off};
 
     ghost left = { single };
 
@@ -167,7 +166,7 @@ impl<E, S> Split<View<E, S>> for Cut {
 pub(crate) struct Gather;
 
 impl<E, S> Join<View<E, S>> for Gather {
-    ghost use Rattle.cqs_rule.specs.Views.{joined, spent};
+    ghost use Rattle.cqs_views.specs.Views.{joined, spent};
 
     ghost both = { joined };
 

@@ -1,9 +1,9 @@
 //! The queue, and the passes that callers make its steps with.
 
 ghost use Rattle.std.specs.Prelude.{◌≡◌, ◌+◌, ◌<◌, ◌≤◌, ◌^◌, length, None};
-ghost use Rattle.cqs_rule.specs.Inside.{IsInside};
-ghost use Rattle.cqs_rule.specs.Layout.{words_for};
-ghost use Rattle.cqs_rule.specs.Facts.{is_owing};
+ghost use Rattle.cqs_views.specs.Inside.{IsInside};
+ghost use Rattle.cqs_views.specs.Layout.{words_for};
+ghost use Rattle.cqs_views.specs.Facts.{is_owing};
 
 mod opening;
 mod parked;
@@ -17,10 +17,9 @@ mod tokens;
 mod words;
 
 use crate::client::ClientWords;
-use crate::config::CancelMode;
 use crate::rule::{Key, Rule};
-use crate::view::View;
 use atomic_table::{Seat, Table};
+use cqs_views::{CancelMode, View};
 use parked::Parked;
 pub(crate) use slots::Numbered;
 use std::alloc::Global;

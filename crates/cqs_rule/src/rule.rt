@@ -1,8 +1,8 @@
 //! The running rule of a table.
 
 use crate::client::ClientWords;
-use crate::view::View;
 use atomic_table::TableRule;
+use cqs_views::View;
 use std::marker::PhantomData;
 
 /// What the table is told once.
@@ -19,8 +19,8 @@ pub struct Rule<C> {
 }
 
 impl<C: ClientWords> TableRule<Option<C::Slot>, View<C::Entry, C::Slot>, Key<C>> for Rule<C> {
-    ghost use Rattle.cqs_rule.specs.Ruled.{Ruled, cell_count};
-    ghost use Rattle.cqs_rule.specs.Views.{first_view};
+    ghost use Rattle.cqs_views.specs.Ruled.{Ruled, cell_count};
+    ghost use Rattle.cqs_views.specs.Views.{first_view};
 
     ghost holds = { λ key. Ruled C.object (C.primitive key.client) key.passes key.limit };
 

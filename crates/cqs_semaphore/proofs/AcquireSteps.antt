@@ -9,19 +9,19 @@ use Rattle.cqs_core.specs.declared.entries.Entry.TheVariants as entry
 use Rattle.cqs_core.specs.declared.cells.CoreState.{CoreState}
 use Rattle.cqs_core.specs.QueueSteps.{installs, takes}
 use Rattle.cqs_core.specs.SemaphoreEntries.{IsLegal}
-use Rattle.cqs_rule.specs.declared.view.Facts.{Facts}
-use Rattle.cqs_rule.specs.declared.view.Sighting.TheVariants.{Cell, Word}
-use Rattle.cqs_rule.specs.declared.view.View.{View}
-use Rattle.cqs_rule.specs.Called.{Called}
-use Rattle.cqs_rule.specs.Events.{in_any_case}
-use Rattle.cqs_rule.specs.Facts.{is_owing}
-use Rattle.cqs_rule.specs.Layout.{suspends_place, client_place}
-use Rattle.cqs_rule.specs.Lists.{Has, IsPrefix}
-use Rattle.cqs_rule.specs.Saw.{Saw}
-use Rattle.cqs_rule.specs.Semaphore.{semaphore_object, takes_one}
-use Rattle.cqs_rule.specs.SemaphoreSteps.{NextIs, OnState}
+use Rattle.cqs_views.specs.declared.view.Facts.{Facts}
+use Rattle.cqs_views.specs.declared.view.Sighting.TheVariants.{Cell, Word}
+use Rattle.cqs_views.specs.declared.view.View.{View}
+use Rattle.cqs_views.specs.Called.{Called}
+use Rattle.cqs_views.specs.Events.{in_any_case}
+use Rattle.cqs_views.specs.Facts.{is_owing}
+use Rattle.cqs_views.specs.Layout.{suspends_place, client_place}
+use Rattle.cqs_views.specs.Lists.{Has, IsPrefix}
+use Rattle.cqs_views.specs.Saw.{Saw}
+use Rattle.cqs_semaphore_client.specs.Semaphore.{semaphore_object, takes_one}
+use Rattle.cqs_semaphore_client.specs.SemaphoreSteps.{NextIs, OnState}
 use Rattle.cqs_rule.specs.Waits.{place_of}
-use Rattle.cqs_rule.proofs.Calls.{called-by, called-then, called-and}
+use Rattle.cqs_views.proofs.Calls.{called-by, called-then, called-and}
 use Rattle.cqs_suspend.specs.Suspends.{EndsBy}
 use Rattle.cqs_words.specs.State.{count_in, is_above_zero}
 use Rattle.cqs_semaphore.specs.Answers.{IsWorn, IsBelow, WasFree, WasNone, Takes, Acquires, facts_refused}

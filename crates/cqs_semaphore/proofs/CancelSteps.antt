@@ -12,20 +12,20 @@ use Rattle.cqs_core.specs.SemaphoreSteps.{step_entries}
 use Rattle.cqs_core.specs.QueueSteps.{QueueStep, CellRow, settles, settles_owing, refuses, refuses_value}
 use Rattle.cqs_core.proofs.CoreFacts.{shows-object}
 use Rattle.cqs_rule.specs.declared.queue.tokens.Under.{Under}
-use Rattle.cqs_rule.specs.declared.view.Facts.{Facts}
-use Rattle.cqs_rule.specs.declared.view.Opening.{Opening}
-use Rattle.cqs_rule.specs.declared.view.Sighting.TheVariants.{Cell, Word}
-use Rattle.cqs_rule.specs.declared.view.View.{View}
+use Rattle.cqs_views.specs.declared.view.Facts.{Facts}
+use Rattle.cqs_views.specs.declared.view.Opening.{Opening}
+use Rattle.cqs_views.specs.declared.view.Sighting.TheVariants.{Cell, Word}
+use Rattle.cqs_views.specs.declared.view.View.{View}
 use Rattle.cqs_rule.specs.Callbacks.{Asking, by_step}
-use Rattle.cqs_rule.specs.Called.{Called}
-use Rattle.cqs_rule.specs.Events.{HasWord}
-use Rattle.cqs_rule.specs.Exchanges.{HasCell}
-use Rattle.cqs_rule.specs.Layout.{client_place}
-use Rattle.cqs_rule.specs.Lists.{Has, IsPrefix, without}
-use Rattle.cqs_rule.specs.Saw.{WasShown, WasFound}
-use Rattle.cqs_rule.specs.Semaphore.{semaphore_object, decides, core_shown}
-use Rattle.cqs_rule.specs.SemaphorePermits.{permits_of}
-use Rattle.cqs_rule.proofs.Calls.{called-and}
+use Rattle.cqs_views.specs.Called.{Called}
+use Rattle.cqs_views.specs.Events.{HasWord}
+use Rattle.cqs_views.specs.Exchanges.{HasCell}
+use Rattle.cqs_views.specs.Layout.{client_place}
+use Rattle.cqs_views.specs.Lists.{Has, IsPrefix, without}
+use Rattle.cqs_views.specs.Saw.{WasShown, WasFound}
+use Rattle.cqs_semaphore_client.specs.Semaphore.{semaphore_object, decides, core_shown}
+use Rattle.cqs_semaphore_client.specs.SemaphorePermits.{permits_of}
+use Rattle.cqs_views.proofs.Calls.{called-and}
 use Rattle.cqs_words.specs.State.{count_in, is_below_zero}
 use Rattle.cqs_cancel.specs.Cancels as cancel
 use Rattle.cqs_cancel.specs.Cancels.{Settled, Settles, facts_leaving, CameLate}

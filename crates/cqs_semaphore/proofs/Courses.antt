@@ -7,15 +7,15 @@ use Rattle.cqs_core.specs.declared.entries.Entry.{Entry}
 use Rattle.cqs_core.specs.SemaphoreEntries.{IsLegal}
 use Rattle.cqs_core.specs.SemaphoreNames.{entry_names}
 use Rattle.cqs_rule.specs.declared.queue.tokens.Wait.{Wait}
-use Rattle.cqs_rule.specs.declared.view.Facts.{Facts}
-use Rattle.cqs_rule.specs.declared.view.View.{View}
-use Rattle.cqs_rule.specs.Crew.{Met}
-use Rattle.cqs_rule.specs.Lists.{Has, part}
-use Rattle.cqs_rule.specs.Saw.{Saw}
-use Rattle.cqs_rule.specs.Semaphore.{semaphore_object}
-use Rattle.cqs_rule.specs.Views.{as_before}
+use Rattle.cqs_views.specs.declared.view.Facts.{Facts}
+use Rattle.cqs_views.specs.declared.view.View.{View}
+use Rattle.cqs_views.specs.Crew.{Met}
+use Rattle.cqs_views.specs.Lists.{Has, part}
+use Rattle.cqs_views.specs.Saw.{Saw}
+use Rattle.cqs_semaphore_client.specs.Semaphore.{semaphore_object}
+use Rattle.cqs_views.specs.Views.{as_before}
 use Rattle.cqs_rule.specs.Waits.{place_of, HasWait}
-use Rattle.cqs_rule.proofs.Lists.{has_left}
+use Rattle.cqs_views.proofs.Lists.{has_left}
 use Rattle.cqs_rule.proofs.Places.{knows-called}
 use Rattle.cqs_semaphore.specs.Calls.{CallRule, Course}
 

@@ -4,18 +4,18 @@ use Rattle.cqs_core.specs.declared.doings.Doing.TheVariants as doing
 use Rattle.cqs_core.specs.declared.entries.Entry.{Entry}
 use Rattle.cqs_core.specs.declared.entries.Entry.TheVariants as entry
 use Rattle.cqs_core.specs.SemaphoreEntries.{IsLegal}
-use Rattle.cqs_rule.specs.declared.view.Facts.{Facts}
-use Rattle.cqs_rule.specs.declared.view.Sighting.TheVariants.{Word}
-use Rattle.cqs_rule.specs.declared.view.View.{View}
-use Rattle.cqs_rule.specs.Called.{Called}
-use Rattle.cqs_rule.specs.Events.{in_any_case}
-use Rattle.cqs_rule.specs.Facts.{is_owing}
-use Rattle.cqs_rule.specs.Layout.{client_place}
-use Rattle.cqs_rule.specs.Lists.{Has}
-use Rattle.cqs_rule.specs.Saw.{Saw}
-use Rattle.cqs_rule.specs.Semaphore.{semaphore_object, gives_one}
-use Rattle.cqs_rule.specs.SemaphoreSteps.{OnState}
-use Rattle.cqs_rule.proofs.Calls.{called-by, called-and}
+use Rattle.cqs_views.specs.declared.view.Facts.{Facts}
+use Rattle.cqs_views.specs.declared.view.Sighting.TheVariants.{Word}
+use Rattle.cqs_views.specs.declared.view.View.{View}
+use Rattle.cqs_views.specs.Called.{Called}
+use Rattle.cqs_views.specs.Events.{in_any_case}
+use Rattle.cqs_views.specs.Facts.{is_owing}
+use Rattle.cqs_views.specs.Layout.{client_place}
+use Rattle.cqs_views.specs.Lists.{Has}
+use Rattle.cqs_views.specs.Saw.{Saw}
+use Rattle.cqs_semaphore_client.specs.Semaphore.{semaphore_object, gives_one}
+use Rattle.cqs_semaphore_client.specs.SemaphoreSteps.{OnState}
+use Rattle.cqs_views.proofs.Calls.{called-by, called-and}
 use Rattle.cqs_resume.specs.declared.resumed.Resumed.{Resumed}
 use Rattle.cqs_resume.specs.declared.resumed.Resumed.TheVariants as resumed
 use Rattle.cqs_words.specs.State.{count_in, is_below_zero}

@@ -7,15 +7,15 @@ use Rattle.cqs_core.specs.declared.doings.Doing.TheVariants as doing
 use Rattle.cqs_core.specs.declared.entries.Entry.{Entry}
 use Rattle.cqs_core.specs.QueueSteps.{QueueStep, serves, leaves, delegates, ends_refused}
 use Rattle.cqs_core.specs.SemaphoreSteps.{step_entries}
-use Rattle.cqs_rule.specs.declared.view.Facts.{Facts}
-use Rattle.cqs_rule.specs.declared.view.Sighting.{Sighting}
-use Rattle.cqs_rule.specs.declared.view.Sighting.TheVariants.{Cell}
-use Rattle.cqs_rule.specs.declared.view.View.{View}
-use Rattle.cqs_rule.specs.Called.{Called}
-use Rattle.cqs_rule.specs.Exchanges.{FoundCell, HasCell}
-use Rattle.cqs_rule.specs.Lists.{IsPrefix}
-use Rattle.cqs_rule.specs.Saw.{WasFound}
-use Rattle.cqs_rule.specs.Semaphore.{semaphore_object}
+use Rattle.cqs_views.specs.declared.view.Facts.{Facts}
+use Rattle.cqs_views.specs.declared.view.Sighting.{Sighting}
+use Rattle.cqs_views.specs.declared.view.Sighting.TheVariants.{Cell}
+use Rattle.cqs_views.specs.declared.view.View.{View}
+use Rattle.cqs_views.specs.Called.{Called}
+use Rattle.cqs_views.specs.Exchanges.{FoundCell, HasCell}
+use Rattle.cqs_views.specs.Lists.{IsPrefix}
+use Rattle.cqs_views.specs.Saw.{WasFound}
+use Rattle.cqs_semaphore_client.specs.Semaphore.{semaphore_object}
 use Rattle.cqs_resume.specs.declared.resumed.Resumed.{Resumed}
 use Rattle.cqs_resume.specs.declared.resumed.Resumed.TheVariants as resumed
 use Rattle.cqs_resume.specs.Resumes.{Ended, Stopped, Resumes}

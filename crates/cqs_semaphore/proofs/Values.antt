@@ -2,10 +2,10 @@
 use Rattle.std.proofs.Common.{◌≡◌, ◌∙◌, Bool, true, false, List, [], ◌∷◌, ◌++◌, ap, sym, Some, None}
 use Rattle.std.proofs.lemmas.List.{append-nil}
 use Rattle.cqs_core.specs.declared.entries.Entry.{Entry}
-use Rattle.cqs_rule.specs.declared.view.View.{View}
-use Rattle.cqs_rule.specs.Lists.{IsPrefix}
-use Rattle.cqs_rule.specs.SemaphoreSlots.{GivesValue, GaveValue}
-use Rattle.cqs_rule.specs.Slots.{laid_in, LaysNone}
+use Rattle.cqs_views.specs.declared.view.View.{View}
+use Rattle.cqs_views.specs.Lists.{IsPrefix}
+use Rattle.cqs_rule.specs.Carried.{GivesValue, GaveValue}
+use Rattle.cqs_views.specs.Slots.{laid_in, LaysNone}
 
 module _ {T : Type 0} where
   -- it is still handed in after more was seen

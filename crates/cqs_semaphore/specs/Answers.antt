@@ -5,11 +5,11 @@ use Rattle.cqs_core.specs.declared.entries.Entry.{Entry}
 use Rattle.cqs_core.specs.declared.entries.Entry.TheVariants as entry
 use Rattle.cqs_rule.specs.declared.queue.tokens.Under as token
 use Rattle.cqs_rule.specs.declared.queue.tokens.Wait.{Wait}
-use Rattle.cqs_rule.specs.declared.view.Facts.{Facts}
-use Rattle.cqs_rule.specs.declared.view.Sighting.TheVariants.{Word}
-use Rattle.cqs_rule.specs.declared.view.View.{View}
-use Rattle.cqs_rule.specs.Layout.{suspends_place}
-use Rattle.cqs_rule.specs.Lists.{without}
+use Rattle.cqs_views.specs.declared.view.Facts.{Facts}
+use Rattle.cqs_views.specs.declared.view.Sighting.TheVariants.{Word}
+use Rattle.cqs_views.specs.declared.view.View.{View}
+use Rattle.cqs_views.specs.Layout.{suspends_place}
+use Rattle.cqs_views.specs.Lists.{without}
 use Rattle.cqs_rule.specs.Owed.{HasUnder}
 use Rattle.cqs_rule.specs.Waits.{place_of, HasWait}
 use Rattle.cqs_semaphore.specs.declared.answers.Acquired.{Acquired}

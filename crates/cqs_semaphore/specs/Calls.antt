@@ -7,14 +7,14 @@ use Rattle.cqs_core.specs.SemaphoreNames.{entry_names}
 use Rattle.cqs_core.specs.SemaphoreObject as plain
 use Rattle.cqs_rule.specs.declared.client.ClientWords.{Ghosts}
 use Rattle.cqs_rule.specs.declared.queue.Pass.{Pass}
-use Rattle.cqs_rule.specs.declared.semaphore.SemClient.{SemClient}
-use Rattle.cqs_rule.specs.declared.view.Facts.{Facts}
-use Rattle.cqs_rule.specs.declared.view.View.{View}
-use Rattle.cqs_rule.specs.Called.{Called}
-use Rattle.cqs_rule.specs.Lists.{Has, part, NamesOnly}
+use Rattle.cqs_semaphore_client.specs.declared.semaphore.SemClient.{SemClient}
+use Rattle.cqs_views.specs.declared.view.Facts.{Facts}
+use Rattle.cqs_views.specs.declared.view.View.{View}
+use Rattle.cqs_views.specs.Called.{Called}
+use Rattle.cqs_views.specs.Lists.{Has, part, NamesOnly}
 use Rattle.cqs_rule.specs.Passes.{client_of, IsOf}
-use Rattle.cqs_rule.specs.Semaphore.{semaphore_object}
-use Rattle.cqs_rule.specs.SemaphorePermits.{permits_of}
+use Rattle.cqs_semaphore_client.specs.Semaphore.{semaphore_object}
+use Rattle.cqs_semaphore_client.specs.SemaphorePermits.{permits_of}
 use Rattle.cqs_semaphore.specs.declared.semaphore.Semaphore.{Semaphore}
 
 -- the pass is between two calls, and owes nothing

@@ -5,18 +5,18 @@ use Rattle.cqs_core.specs.declared.entries.Entry.{Entry}
 use Rattle.cqs_core.specs.declared.entries.Entry.TheVariants as entry
 use Rattle.cqs_core.specs.SemaphoreEntries.{object_after}
 use Rattle.cqs_core.specs.SemaphoreShown.{state_of}
-use Rattle.cqs_rule.specs.declared.semaphore.SemClient.{SemClient}
-use Rattle.cqs_rule.specs.declared.view.Glimpse.{Glimpse}
-use Rattle.cqs_rule.specs.declared.view.Sighting.{Sighting}
-use Rattle.cqs_rule.specs.declared.view.Sighting.TheVariants.{Cell, Word}
-use Rattle.cqs_rule.specs.declared.view.View.{View}
-use Rattle.cqs_rule.specs.Exchanges.{FoundCell, HasCell}
-use Rattle.cqs_rule.specs.Layout.{suspends_place, client_place}
-use Rattle.cqs_rule.specs.Lists.{IsPrefix}
-use Rattle.cqs_rule.specs.Object.{Primitive}
-use Rattle.cqs_rule.specs.Saw.{WasFound, WasSo}
-use Rattle.cqs_rule.specs.Semaphore.{semaphore_primitive}
-use Rattle.cqs_rule.specs.SemaphorePermits.{permits_of}
+use Rattle.cqs_semaphore_client.specs.declared.semaphore.SemClient.{SemClient}
+use Rattle.cqs_views.specs.declared.view.Glimpse.{Glimpse}
+use Rattle.cqs_views.specs.declared.view.Sighting.{Sighting}
+use Rattle.cqs_views.specs.declared.view.Sighting.TheVariants.{Cell, Word}
+use Rattle.cqs_views.specs.declared.view.View.{View}
+use Rattle.cqs_views.specs.Exchanges.{FoundCell, HasCell}
+use Rattle.cqs_views.specs.Layout.{suspends_place, client_place}
+use Rattle.cqs_views.specs.Lists.{IsPrefix}
+use Rattle.cqs_views.specs.Object.{Primitive}
+use Rattle.cqs_views.specs.Saw.{WasFound, WasSo}
+use Rattle.cqs_semaphore_client.specs.Semaphore.{semaphore_primitive}
+use Rattle.cqs_semaphore_client.specs.SemaphorePermits.{permits_of}
 use Rattle.cqs_words.specs.State.{count_in}
 
 -- a caller drew a number, and came to the end of the line

@@ -1,11 +1,11 @@
 -- What a split and a look at the crew leave of a pass, and what a pass knows that is alone.
 use Rattle.std.specs.Prelude.{◌≡◌, []}
 use Rattle.cqs_core.specs.declared.entries.Entry.{Entry}
-use Rattle.cqs_rule.specs.declared.view.View.{View}
-use Rattle.cqs_rule.specs.Alone.{IsAlone}
-use Rattle.cqs_rule.specs.Saw.{Saw}
-use Rattle.cqs_rule.specs.Semaphore.{semaphore_object}
-use Rattle.cqs_rule.specs.Views.{as_before}
+use Rattle.cqs_views.specs.declared.view.View.{View}
+use Rattle.cqs_views.specs.Alone.{IsAlone}
+use Rattle.cqs_views.specs.Saw.{Saw}
+use Rattle.cqs_semaphore_client.specs.Semaphore.{semaphore_object}
+use Rattle.cqs_views.specs.Views.{as_before}
 use Rattle.cqs_semaphore.specs.Calls.{Course}
 use Rattle.cqs_semaphore.specs.Causes.{primitive_of}
 

@@ -11,7 +11,8 @@ ghost use Rattle.cqs_semaphore.specs.Steps.{WaitsInLine};
 
 use crate::answers::{Acquired, Permit};
 use crate::semaphore::{SemPass, Semaphore};
-use cqs_rule::{AcquireError, Carries, next_wait, take_permit};
+use cqs_rule::{AcquireError, Carries};
+use cqs_semaphore_client::{next_wait, take_permit};
 use cqs_suspend::{Suspended, suspend};
 
 impl<T: Carries + Send> Semaphore<T> {

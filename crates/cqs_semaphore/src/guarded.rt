@@ -2,12 +2,13 @@
 
 ghost use Rattle.std.specs.Prelude.{◌≡◌, [], true, false, IfOk, IsErrOf};
 ghost use mathlib.Core.Logic.{◌↔◌};
-ghost use Rattle.cqs_rule.specs.Configured.{is_config};
+ghost use Rattle.cqs_views.specs.Configured.{is_config};
 ghost use Rattle.cqs_rule.specs.Passes.{pass_view, passes_of, limit_of};
 ghost use Rattle.cqs_semaphore.specs.Calls.{Rests, IsMine, permits_in};
 
 use crate::semaphore::{SemPass, Semaphore};
-use cqs_rule::{CancelMode, Config, Kept, MakeError, Queue, SemClient};
+use cqs_rule::{CancelMode, Config, Kept, MakeError, Queue};
+use cqs_semaphore_client::SemClient;
 use std::alloc::Global;
 
 impl<T: Send + Drop> Semaphore<Kept<T>> {

@@ -2,10 +2,10 @@
 
 ghost use Rattle.std.specs.Prelude.{◌≡◌, ◌<◌, [], true, None, IsOk, IfOk};
 ghost use Rattle.cqs_core.specs.declared.doings.Doing.TheVariants as doing;
-ghost use Rattle.cqs_rule.specs.Crew.{IsBetween};
+ghost use Rattle.cqs_views.specs.Crew.{IsBetween};
 ghost use Rattle.cqs_rule.specs.Owed.{HasUnder, under_payload, under_reached, under_ticket};
 ghost use Rattle.cqs_rule.specs.Passes.{pass_view};
-ghost use Rattle.cqs_rule.specs.SemaphoreSlots.{IsFull, GaveValue};
+ghost use Rattle.cqs_rule.specs.Carried.{IsFull, GaveValue};
 ghost use Rattle.cqs_semaphore.specs.Alone.{IsPlainRelease, IsPlainEnd, IsTurnedBack};
 ghost use Rattle.cqs_semaphore.specs.Answers.{Releases, Ends, most_passed_over};
 ghost use Rattle.cqs_semaphore.specs.Calls.{IsReady, IsMine, CallRule, plain_after};
@@ -16,7 +16,8 @@ ghost use Rattle.cqs_semaphore.specs.Steps.{as_released, HasEnded, IsFurther};
 use crate::answers::{Permit, Released};
 use crate::semaphore::{SemPass, Semaphore};
 use cqs_resume::{Resumed, finish, resume};
-use cqs_rule::{Carries, Crowded, Under, give_permit};
+use cqs_rule::{Carries, Crowded, Under};
+use cqs_semaphore_client::give_permit;
 
 impl<T: Carries + Send> Semaphore<T> {
     /// Gives a permit back: it is free, or it goes to the first who waits. A permit that carries a

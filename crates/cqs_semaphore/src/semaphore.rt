@@ -3,15 +3,14 @@
 ghost use Rattle.std.specs.Prelude.{◌≡◌, ◌⊎◌, ◌<◌, ◌≤◌, [], ◌∷◌, true, false, IfOk, IsErrOf};
 ghost use mathlib.Core.Logic.{◌↔◌};
 ghost use Rattle.cqs_core.specs.SemaphoreShown.{state_of};
-ghost use Rattle.cqs_rule.specs.Configured.{is_config};
+ghost use Rattle.cqs_views.specs.Configured.{is_config};
 ghost use Rattle.cqs_rule.specs.Passes.{pass_view, passes_of, limit_of};
-ghost use Rattle.cqs_rule.specs.Views.{first_view};
-ghost use Rattle.cqs_rule.specs.declared.config.CancelMode.TheVariants.{Smart};
+ghost use Rattle.cqs_views.specs.Views.{first_view};
+ghost use Rattle.cqs_views.specs.declared.config.CancelMode.TheVariants.{Smart};
 ghost use Rattle.cqs_semaphore.specs.Calls.{IsReady, Rests, IsMine, CallRule, permits_in, plain_after};
 
-use cqs_rule::{
-    CancelMode, Carries, Config, MakeError, Pass, Queue, SemClient, Unparked, read_state,
-};
+use cqs_rule::{CancelMode, Carries, Config, MakeError, Pass, Queue, Unparked};
+use cqs_semaphore_client::{SemClient, read_state};
 use cqs_words::StateWord;
 use std::alloc::Global;
 

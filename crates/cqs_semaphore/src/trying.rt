@@ -11,7 +11,8 @@ ghost use Rattle.cqs_semaphore.specs.Entries.{tried_entries};
 
 use crate::answers::{Permit, Tried};
 use crate::semaphore::{SemPass, Semaphore};
-use cqs_rule::{Carries, load_state, try_take};
+use cqs_rule::Carries;
+use cqs_semaphore_client::{load_state, try_take};
 use cqs_words::{PackedState, StateWord};
 
 impl<T: Carries + Send> Semaphore<T> {

@@ -4,7 +4,7 @@ use Rattle.std.specs.Bool.{if◌then◌else◌}
 use Rattle.std.proofs.lemmas.List.Elements.{filter-append}
 use Rattle.std.proofs.lemmas.List.Sums.{sum_by-append, sum_by-cons}
 use Rattle.cqs_core.specs.Parts.{Has, part}
-use Rattle.cqs_rule.specs.Lists.{IsDistinct}
+use Rattle.cqs_views.specs.Lists.{IsDistinct}
 use Rattle.cqs_shared_floors.specs.Accounts.{NamesOne, over}
 
 module _ {E : Type 0} (names : ℕ → E → Bool) (f : E → ℕ) where

@@ -10,7 +10,7 @@ use Rattle.cqs_core.proofs.Places.{get-set_here, get-set_else}
 use Rattle.cqs_plan.specs.declared.plans.kind.Kind.{Kind}
 use Rattle.cqs_plan.specs.Floor.{JobWait, PlainFloor}
 use Rattle.cqs_shared.specs.Calls as floor
-use Rattle.cqs_rule.specs.declared.config.Place.{Place}
+use Rattle.cqs_views.specs.declared.config.Place.{Place}
 use Rattle.cqs_shared.specs.AnswerEntries.{came_entries}
 use Rattle.cqs_shared.specs.Calls.{IsDrawn, MayCome, TakesElement, answer_of}
 use Rattle.cqs_shared.specs.Entries.{IsDelivered, drawn_in}

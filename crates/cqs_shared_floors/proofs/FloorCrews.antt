@@ -4,8 +4,8 @@ use Rattle.std.proofs.lemmas.Bool.{cases_eq, cases_lt}
 use Rattle.std.proofs.Math.Nat.{mul-le-mul_left}
 use Rattle.cqs_core.specs.Parts.{Has}
 use Rattle.cqs_plan.specs.declared.plans.kind.Kind.{Kind}
-use Rattle.cqs_rule.specs.Lists.{IsDistinct}
-use Rattle.cqs_rule.proofs.Lists.{few_below}
+use Rattle.cqs_views.specs.Lists.{IsDistinct}
+use Rattle.cqs_views.proofs.Lists.{few_below}
 use Rattle.cqs_shared.specs.Entries.{is_nothing, own_history}
 use Rattle.cqs_shared_floors.specs.FloorKept.{IsFundedAt, IsKept, funds_in, holdings_to_come}
 use Rattle.cqs_shared_floors.specs.Ledgers.{Ledger}

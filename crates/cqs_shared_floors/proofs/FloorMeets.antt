@@ -14,8 +14,8 @@ use Rattle.cqs_plan.specs.declared.plans.kind.Kind.TheVariants as kind
 use Rattle.cqs_plan.specs.Floor.{JobWait}
 use Rattle.cqs_plan.specs.FloorHistory.{of_permits}
 use Rattle.cqs_plan.specs.LegalFloor.{IsHistory}
-use Rattle.cqs_rule.specs.Lists.{IsDistinct}
-use Rattle.cqs_rule.proofs.Lists.{few_below, has_append}
+use Rattle.cqs_views.specs.Lists.{IsDistinct}
+use Rattle.cqs_views.proofs.Lists.{few_below, has_append}
 use Rattle.cqs_shared.specs.Calls as floor
 use Rattle.cqs_shared.specs.Calls.{HasWait}
 use Rattle.cqs_shared.specs.Entries.{IsBefore, is_nothing, own_history}

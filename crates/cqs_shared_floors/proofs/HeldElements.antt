@@ -9,8 +9,8 @@ use Rattle.cqs_pool.specs.Elements.{number_of}
 use Rattle.cqs_pool.proofs.ElementTimes.{times-has, times-none, times-other}
 use Rattle.cqs_pool_object.specs.PoolObject.{times}
 use Rattle.cqs_pool_object.proofs.PoolCounts.{times-cons}
-use Rattle.cqs_rule.specs.Lists.{Has, IsDistinct, without}
-use Rattle.cqs_rule.proofs.Lists.{has_without, length_without as length-gone}
+use Rattle.cqs_views.specs.Lists.{Has, IsDistinct, without}
+use Rattle.cqs_views.proofs.Lists.{has_without, length_without as length-gone}
 use Rattle.cqs_shared_floors.specs.declared.kinds.held.HeldElement.{HeldElement}
 use Rattle.cqs_shared_floors.specs.HeldElements.{all_held, elements_held}
 use Rattle.cqs_shared_floors.specs.PoolShares.{AreInHand}

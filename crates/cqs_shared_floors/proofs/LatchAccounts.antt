@@ -14,8 +14,8 @@ use Rattle.cqs_latch_object.specs.LatchEntries.{IsLegal, object_after}
 use Rattle.cqs_latch_object.specs.LatchLaws.{counts_down}
 use Rattle.cqs_latch_object.specs.LatchNames.{entry_names}
 use Rattle.cqs_latch_object.proofs.Balance.{every-count-is-kept}
-use Rattle.cqs_rule.specs.Lists.{IsDistinct}
-use Rattle.cqs_rule.proofs.Lists.{has_append}
+use Rattle.cqs_views.specs.Lists.{IsDistinct}
+use Rattle.cqs_views.proofs.Lists.{has_append}
 use Rattle.cqs_shared_floors.specs.Accounts.{NamesOne, over}
 use Rattle.cqs_shared_floors.specs.LatchAccounts.{IsAccounted, IsOver, downs}
 use Rattle.cqs_shared_floors.proofs.Accounts.{over-both, over-next, over-none, over-parts}

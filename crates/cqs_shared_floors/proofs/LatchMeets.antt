@@ -11,10 +11,10 @@ use Rattle.cqs_plan.specs.Floor.{size_of}
 use Rattle.cqs_plan.specs.FloorHistory.{ending, of_latch}
 use Rattle.cqs_latch.specs.Calls.{IsMine, IsReady}
 use Rattle.cqs_latch.specs.Latch.{is_simple}
-use Rattle.cqs_rule.specs.declared.view.Facts.{Facts}
-use Rattle.cqs_rule.specs.declared.view.Opening.{Opening}
-use Rattle.cqs_rule.specs.declared.view.View.{View}
-use Rattle.cqs_rule.specs.Lists.{IsDistinct}
+use Rattle.cqs_views.specs.declared.view.Facts.{Facts}
+use Rattle.cqs_views.specs.declared.view.Opening.{Opening}
+use Rattle.cqs_views.specs.declared.view.View.{View}
+use Rattle.cqs_views.specs.Lists.{IsDistinct}
 use Rattle.cqs_rule.specs.Passes.{pass_view}
 use Rattle.cqs_rule.specs.Seats.{HasMet}
 use Rattle.cqs_shared.specs.Entries.{is_nothing, own_history}

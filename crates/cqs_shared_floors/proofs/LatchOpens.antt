@@ -11,9 +11,9 @@ use Rattle.cqs_plan.specs.FloorHistory.{no_history, of_latch}
 use Rattle.cqs_plan.specs.Validity.{IsKind}
 use Rattle.cqs_latch.specs.Calls.{IsMine, Rests}
 use Rattle.cqs_latch.specs.LatchMade.{count_of, mode_of}
-use Rattle.cqs_rule.specs.declared.config.CancelMode.TheVariants.{Smart}
-use Rattle.cqs_rule.specs.declared.view.Opening.{Opening}
-use Rattle.cqs_rule.specs.Lists.{IsDistinct}
+use Rattle.cqs_views.specs.declared.config.CancelMode.TheVariants.{Smart}
+use Rattle.cqs_views.specs.declared.view.Opening.{Opening}
+use Rattle.cqs_views.specs.Lists.{IsDistinct}
 use Rattle.cqs_rule.specs.Passes.{client_of, limit_of, pass_view, passes_of}
 use Rattle.cqs_shared_floors.specs.declared.kinds.latch.SharedLatch.{SharedLatch}
 use Rattle.cqs_shared_floors.specs.LatchAccounts.{IsAccounted}

@@ -42,17 +42,17 @@ use Rattle.cqs_latch.specs.Entries.{counted_entries, polled_entries}
 use Rattle.cqs_latch.specs.Latch.{is_simple, latch_object}
 use Rattle.cqs_latch.specs.LeftAnswers.{HasLeft}
 use Rattle.cqs_latch.specs.Waking.{woken_entries}
-use Rattle.cqs_rule.specs.declared.config.AcquireError.TheVariants as error
-use Rattle.cqs_rule.specs.declared.config.CancelMode.{CancelMode}
-use Rattle.cqs_rule.specs.declared.config.CancelMode.TheVariants.{Simple, Smart}
-use Rattle.cqs_rule.specs.declared.config.Place.{Place}
+use Rattle.cqs_views.specs.declared.config.AcquireError.TheVariants as error
+use Rattle.cqs_views.specs.declared.config.CancelMode.{CancelMode}
+use Rattle.cqs_views.specs.declared.config.CancelMode.TheVariants.{Simple, Smart}
+use Rattle.cqs_views.specs.declared.config.Place.{Place}
 use Rattle.cqs_rule.specs.declared.queue.tokens.Wait.{Wait}
-use Rattle.cqs_rule.specs.declared.view.Opening.{Opening}
-use Rattle.cqs_rule.specs.declared.view.View.{View}
-use Rattle.cqs_rule.specs.Lists.{IsDistinct, without}
+use Rattle.cqs_views.specs.declared.view.Opening.{Opening}
+use Rattle.cqs_views.specs.declared.view.View.{View}
+use Rattle.cqs_views.specs.Lists.{IsDistinct, without}
 use Rattle.cqs_rule.specs.Passes.{pass_view}
 use Rattle.cqs_rule.specs.Waits.{place_of}
-use Rattle.cqs_rule.proofs.Lists.{has_left, without_has}
+use Rattle.cqs_views.proofs.Lists.{has_left, without_has}
 use Rattle.cqs_shared.specs.AnswerEntries.{came_entries, latch_counted, latch_left, latch_looked, latch_waited, leave_entries, look_entries, number_drawn}
 use Rattle.cqs_shared.specs.Calls.{IsDrawn}
 use Rattle.cqs_shared.specs.Entries.{at_latch, enters_at_latch}

@@ -10,11 +10,11 @@ use Rattle.cqs_plan.specs.FloorHistory.{of_latch}
 use Rattle.cqs_latch.specs.Calls.{IsMine, IsReady, Rests}
 use Rattle.cqs_latch.specs.Latch.{latch_object}
 use Rattle.cqs_latch.specs.Seats.{LookedOn}
-use Rattle.cqs_rule.specs.Crew.{Came}
-use Rattle.cqs_rule.specs.declared.view.Facts.{Facts}
-use Rattle.cqs_rule.specs.declared.view.Opening.{Opening}
-use Rattle.cqs_rule.specs.declared.view.View.{View}
-use Rattle.cqs_rule.specs.Lists.{IsDistinct}
+use Rattle.cqs_views.specs.Crew.{Came}
+use Rattle.cqs_views.specs.declared.view.Facts.{Facts}
+use Rattle.cqs_views.specs.declared.view.Opening.{Opening}
+use Rattle.cqs_views.specs.declared.view.View.{View}
+use Rattle.cqs_views.specs.Lists.{IsDistinct}
 use Rattle.cqs_rule.specs.Passes.{pass_view}
 use Rattle.cqs_shared.specs.AnswerEntries.{turned_entries}
 use Rattle.cqs_shared.specs.Entries.{at_latch, is_nothing, none_of}

@@ -22,7 +22,7 @@ use Rattle.cqs_latch_object.specs.LatchLaws.{counts_down}
 use Rattle.cqs_latch_object.specs.LatchNames.{entry_names}
 use Rattle.cqs_latch_object.specs.LatchObject.{Latch, opening}
 use Rattle.cqs_latch_object.proofs.Balance.{every-count-is-kept}
-use Rattle.cqs_rule.specs.Lists.{IsDistinct}
+use Rattle.cqs_views.specs.Lists.{IsDistinct}
 use Rattle.cqs_shared.specs.Entries.{enters_at_latch}
 use Rattle.cqs_shared_floors.specs.LatchAccounts.{EndsWait, IsAccounted, IsOver, downs}
 use Rattle.cqs_shared_floors.proofs.Accounts.{over-whole}

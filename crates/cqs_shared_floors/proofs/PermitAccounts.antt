@@ -13,7 +13,7 @@ use Rattle.cqs_core.specs.SemaphoreNames.{entry_names}
 use Rattle.cqs_core.proofs.Balance.{every-history-balanced}
 use Rattle.cqs_core.proofs.Histories.{walk, take-next}
 use Rattle.cqs_core.proofs.Rising.{in-take, length-without, length-placed}
-use Rattle.cqs_rule.specs.Lists.{IsDistinct}
+use Rattle.cqs_views.specs.Lists.{IsDistinct}
 use Rattle.cqs_shared_floors.specs.Accounts.{NamesOne}
 use Rattle.cqs_shared_floors.specs.PermitAccounts.{IsAccounted, doors, enters, gains, losses}
 use Rattle.cqs_shared_floors.proofs.Accounts.{over-both, over-next, over-parts, over-whole}

@@ -8,8 +8,8 @@ use Rattle.cqs_plan.specs.declared.plans.kind.Kind.{Kind}
 use Rattle.cqs_plan.specs.declared.plans.kind.Kind.TheVariants as kind
 use Rattle.cqs_plan.specs.Floor.{size_of}
 use Rattle.cqs_plan.specs.FloorHistory.{no_history, of_permits}
-use Rattle.cqs_rule.specs.declared.view.Opening.{Opening}
-use Rattle.cqs_rule.specs.Lists.{IsDistinct}
+use Rattle.cqs_views.specs.declared.view.Opening.{Opening}
+use Rattle.cqs_views.specs.Lists.{IsDistinct}
 use Rattle.cqs_rule.specs.Passes.{limit_of, pass_view, passes_of}
 use Rattle.cqs_semaphore.specs.Calls.{IsMine, Rests, permits_in}
 use Rattle.cqs_shared_floors.specs.declared.kinds.permits.SharedPermits.{SharedPermits}

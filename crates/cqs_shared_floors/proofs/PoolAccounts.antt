@@ -11,7 +11,7 @@ use Rattle.cqs_pool_object.specs.PoolEntries.{IsAllowed, IsLegal, after_entry, o
 use Rattle.cqs_pool_object.specs.PoolNames.{entry_names}
 use Rattle.cqs_pool_object.specs.PoolObject.{Pool, opening}
 use Rattle.cqs_pool_object.proofs.PoolConserved.{conserved-after}
-use Rattle.cqs_rule.specs.Lists.{IsDistinct}
+use Rattle.cqs_views.specs.Lists.{IsDistinct}
 use Rattle.cqs_shared_floors.specs.Accounts.{NamesOne}
 use Rattle.cqs_shared_floors.specs.PoolAccounts.{IsAccounted, gains, losses}
 use Rattle.cqs_shared_floors.proofs.Accounts.{over-both, over-next, over-parts, over-whole}

@@ -9,8 +9,8 @@ use Rattle.cqs_plan.specs.FloorHistory.{no_history, of_elements}
 use Rattle.cqs_pool.specs.Calls.{IsMine, Rests, size_of as elements_in}
 use Rattle.cqs_pool_object.specs.declared.entries.PoolEntry.{PoolEntry}
 use Rattle.cqs_pool_object.specs.PoolNames.{entry_names}
-use Rattle.cqs_rule.specs.declared.view.Opening.{Opening}
-use Rattle.cqs_rule.specs.Lists.{IsDistinct}
+use Rattle.cqs_views.specs.declared.view.Opening.{Opening}
+use Rattle.cqs_views.specs.Lists.{IsDistinct}
 use Rattle.cqs_rule.specs.Passes.{limit_of, pass_view, passes_of}
 use Rattle.cqs_shared_floors.specs.declared.kinds.pool.SharedPool.{SharedPool}
 use Rattle.cqs_shared_floors.specs.HeldElements.{elements_held}

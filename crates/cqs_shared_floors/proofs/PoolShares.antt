@@ -29,16 +29,16 @@ use Rattle.cqs_pool_object.specs.declared.entries.PoolEntry.{PoolEntry}
 use Rattle.cqs_pool_object.specs.declared.entries.PoolEntry.TheVariants as entry
 use Rattle.cqs_pool_object.specs.PoolEntries.{IsLegal}
 use Rattle.cqs_pool_object.specs.PoolNames.{entry_names}
-use Rattle.cqs_rule.specs.declared.config.Place.{Place}
+use Rattle.cqs_views.specs.declared.config.Place.{Place}
 use Rattle.cqs_rule.specs.declared.queue.tokens.Under as token
 use Rattle.cqs_rule.specs.declared.queue.tokens.Wait.{Wait}
-use Rattle.cqs_rule.specs.declared.view.Facts.{Facts}
-use Rattle.cqs_rule.specs.declared.view.Opening.{Opening}
-use Rattle.cqs_rule.specs.declared.view.View.{View}
-use Rattle.cqs_rule.specs.Lists.{IsDistinct, without}
+use Rattle.cqs_views.specs.declared.view.Facts.{Facts}
+use Rattle.cqs_views.specs.declared.view.Opening.{Opening}
+use Rattle.cqs_views.specs.declared.view.View.{View}
+use Rattle.cqs_views.specs.Lists.{IsDistinct, without}
 use Rattle.cqs_rule.specs.Passes.{pass_view}
 use Rattle.cqs_rule.specs.Waits.{HasWait, place_of}
-use Rattle.cqs_rule.proofs.Lists.{few_below, has_left, length_without, without_has}
+use Rattle.cqs_views.proofs.Lists.{few_below, has_left, length_without, without_has}
 use Rattle.cqs_shared.specs.declared.shared.SharedGive.{SharedGive}
 use Rattle.cqs_shared.specs.declared.shared.SharedGive.TheVariants as shared
 use Rattle.cqs_shared.specs.AnswerEntries.{came_entries, element_left, element_looked, element_taken, give_entries, leave_entries, look_entries, number_drawn}

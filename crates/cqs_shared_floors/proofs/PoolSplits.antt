@@ -10,11 +10,11 @@ use Rattle.cqs_pool.specs.Pool.{pool_object}
 use Rattle.cqs_pool.specs.Seats.{LookedOn}
 use Rattle.cqs_pool_object.specs.declared.entries.PoolEntry.{PoolEntry}
 use Rattle.cqs_pool_object.specs.PoolNames.{entry_names}
-use Rattle.cqs_rule.specs.Crew.{Came}
-use Rattle.cqs_rule.specs.declared.view.Facts.{Facts}
-use Rattle.cqs_rule.specs.declared.view.Opening.{Opening}
-use Rattle.cqs_rule.specs.declared.view.View.{View}
-use Rattle.cqs_rule.specs.Lists.{IsDistinct}
+use Rattle.cqs_views.specs.Crew.{Came}
+use Rattle.cqs_views.specs.declared.view.Facts.{Facts}
+use Rattle.cqs_views.specs.declared.view.Opening.{Opening}
+use Rattle.cqs_views.specs.declared.view.View.{View}
+use Rattle.cqs_views.specs.Lists.{IsDistinct}
 use Rattle.cqs_rule.specs.Passes.{pass_view}
 use Rattle.cqs_shared.specs.AnswerEntries.{turned_entries}
 use Rattle.cqs_shared.specs.Entries.{at_elements, is_nothing, none_of}

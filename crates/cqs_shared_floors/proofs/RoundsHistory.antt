@@ -11,7 +11,7 @@ use Rattle.cqs_barrier_object.specs.BarrierObject.{Barrier, opening}
 use Rattle.cqs_core.specs.Parts.{Has, part}
 use Rattle.cqs_core.proofs.Histories.{take-next, walk}
 use Rattle.cqs_core.proofs.Places.{get-push_at}
-use Rattle.cqs_rule.specs.Lists.{IsDistinct}
+use Rattle.cqs_views.specs.Lists.{IsDistinct}
 use Rattle.cqs_shared.specs.Entries.{enters_at_barrier}
 use Rattle.cqs_shared_floors.specs.Accounts.{NamesOne, over}
 use Rattle.cqs_shared_floors.specs.RoundsOne.{lasts, to_arrive}

@@ -14,9 +14,9 @@ use Rattle.cqs_plan.specs.declared.plans.kind.Kind.{Kind}
 use Rattle.cqs_plan.specs.declared.floors.answers.FloorEnd.TheVariants as end
 use Rattle.cqs_plan.specs.Floor.{size_of}
 use Rattle.cqs_plan.specs.FloorHistory.{ending, entries_in, is_over, of_rounds}
-use Rattle.cqs_rule.specs.declared.view.Facts.{Facts}
-use Rattle.cqs_rule.specs.declared.view.Opening.{Opening}
-use Rattle.cqs_rule.specs.declared.view.View.{View}
+use Rattle.cqs_views.specs.declared.view.Facts.{Facts}
+use Rattle.cqs_views.specs.declared.view.Opening.{Opening}
+use Rattle.cqs_views.specs.declared.view.View.{View}
 use Rattle.cqs_shared.specs.Entries.{are_nothing, is_nothing, own_history}
 use Rattle.cqs_shared_floors.specs.declared.kinds.round.SharedRound.{SharedRound}
 use Rattle.cqs_shared_floors.specs.declared.kinds.rounds.SharedRounds.{SharedRounds}

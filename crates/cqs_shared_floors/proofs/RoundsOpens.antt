@@ -10,7 +10,7 @@ use Rattle.cqs_core.specs.Parts.{part}
 use Rattle.cqs_plan.specs.declared.plans.kind.Kind.TheVariants as kind
 use Rattle.cqs_plan.specs.FloorHistory.{of_rounds}
 use Rattle.cqs_plan.specs.Validity.{IsKind}
-use Rattle.cqs_rule.specs.declared.view.Opening.{Opening}
+use Rattle.cqs_views.specs.declared.view.Opening.{Opening}
 use Rattle.cqs_rule.specs.Passes.{limit_of, passes_of}
 use Rattle.cqs_shared_floors.specs.declared.kinds.round.SharedRound.{SharedRound}
 use Rattle.cqs_shared_floors.specs.declared.kinds.rounds.SharedRounds.{SharedRounds}

@@ -24,10 +24,10 @@ use Rattle.cqs_plan.specs.Floor.{HasRound, size_of}
 use Rattle.cqs_plan.specs.FloorHistory.{entries_in, of_rounds}
 use Rattle.cqs_plan.specs.Language.{can_hold}
 use Rattle.cqs_plan.specs.LegalFloor.{IsHistory}
-use Rattle.cqs_rule.specs.declared.config.Place.{Place}
-use Rattle.cqs_rule.specs.declared.view.View.{View}
-use Rattle.cqs_rule.specs.Lists.{without}
-use Rattle.cqs_rule.proofs.Lists.{has_left, without_has}
+use Rattle.cqs_views.specs.declared.config.Place.{Place}
+use Rattle.cqs_views.specs.declared.view.View.{View}
+use Rattle.cqs_views.specs.Lists.{without}
+use Rattle.cqs_views.proofs.Lists.{has_left, without_has}
 use Rattle.cqs_shared.specs.AnswerEntries.{came_entries, leave_entries, look_entries, number_drawn, party_arrived, party_left, party_looked}
 use Rattle.cqs_shared.specs.Calls.{IsDrawn, IsElement}
 use Rattle.cqs_shared.specs.Entries.{enters_at_barrier, in_round}

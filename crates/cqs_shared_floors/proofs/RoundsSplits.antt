@@ -14,12 +14,12 @@ use Rattle.cqs_core.specs.Parts.{Has, IsPrefix, part}
 use Rattle.cqs_core.proofs.Places.{get-append_below, get-below, get-push_at, get-set_else, get-set_here, get-there}
 use Rattle.cqs_plan.specs.Floor.{size_of}
 use Rattle.cqs_plan.specs.FloorHistory.{entries_in, of_rounds}
-use Rattle.cqs_rule.specs.declared.view.Facts.{Facts}
-use Rattle.cqs_rule.specs.declared.view.Has.{Has as OwnHas}
-use Rattle.cqs_rule.specs.declared.view.Opening.{Opening}
-use Rattle.cqs_rule.specs.declared.view.View.{View}
-use Rattle.cqs_rule.specs.Hidden.{has_less}
-use Rattle.cqs_rule.specs.Lists.{IsDistinct}
+use Rattle.cqs_views.specs.declared.view.Facts.{Facts}
+use Rattle.cqs_views.specs.declared.view.Has.{Has as OwnHas}
+use Rattle.cqs_views.specs.declared.view.Opening.{Opening}
+use Rattle.cqs_views.specs.declared.view.View.{View}
+use Rattle.cqs_views.specs.Hidden.{has_less}
+use Rattle.cqs_views.specs.Lists.{IsDistinct}
 use Rattle.cqs_shared.specs.Entries.{are_nothing}
 use Rattle.cqs_shared_floors.specs.declared.kinds.round.SharedRound.{SharedRound}
 use Rattle.cqs_shared_floors.specs.declared.kinds.rounds.SharedRounds.{SharedRounds}

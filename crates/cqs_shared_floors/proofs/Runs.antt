@@ -6,16 +6,16 @@ use Rattle.cqs_core.specs.Numbered.{IsIn}
 use Rattle.cqs_core.specs.Parts.{Has, NamesOnly, part}
 use Rattle.cqs_plan.specs.declared.floors.answers.FloorTake.{FloorTake}
 use Rattle.cqs_plan.specs.declared.floors.answers.FloorTake.TheVariants as take
-use Rattle.cqs_rule.specs.declared.config.Place.{Place}
+use Rattle.cqs_views.specs.declared.config.Place.{Place}
 use Rattle.cqs_rule.specs.declared.queue.tokens.Wait.{Wait}
-use Rattle.cqs_rule.specs.declared.view.View.{View}
-use Rattle.cqs_rule.specs.Called.{Called}
-use Rattle.cqs_rule.specs.Lists.{IsDistinct, without}
-use Rattle.cqs_rule.specs.Object.{Object}
-use Rattle.cqs_rule.specs.Placed.{place_known, place_word}
-use Rattle.cqs_rule.specs.Views.{IsSame}
+use Rattle.cqs_views.specs.declared.view.View.{View}
+use Rattle.cqs_views.specs.Called.{Called}
+use Rattle.cqs_views.specs.Lists.{IsDistinct, without}
+use Rattle.cqs_views.specs.Object.{Object}
+use Rattle.cqs_views.specs.Placed.{place_known, place_word}
+use Rattle.cqs_views.specs.Views.{IsSame}
 use Rattle.cqs_rule.specs.Waits.{HasWait, place_of}
-use Rattle.cqs_rule.proofs.Lists.{has_append}
+use Rattle.cqs_views.proofs.Lists.{has_append}
 use Rattle.cqs_shared_floors.specs.Runs.{Stays, WaitsAt, Went}
 
 -- a pass that has a number first, and another among the others, has it once

@@ -1,7 +1,7 @@
 -- A resource of any kind that workers share, as a floor sees it.
 use Rattle.std.specs.Prelude.{ℕ, List}
 use Rattle.cqs_plan.specs.FloorHistory.{History}
-use Rattle.cqs_rule.specs.declared.config.Place.{Place}
+use Rattle.cqs_views.specs.declared.config.Place.{Place}
 use Rattle.cqs_shared_floors.specs.declared.kinds.any.AnyShared.{AnyShared}
 use Rattle.cqs_shared_floors.specs.declared.kinds.any.AnyShared.TheVariants.{Permits, Pool, Latch, Rounds}
 use Rattle.cqs_shared_floors.specs.LatchShares.{share_latch}

@@ -3,7 +3,7 @@ use Rattle.std.specs.Prelude.{ℕ, List, ◌∷◌}
 use Rattle.atomic_table.specs.Seated.{TableId}
 use Rattle.cqs_rule.specs.declared.client.ClientWords.{Ghosts}
 use Rattle.cqs_rule.specs.declared.queue.Pass.{Pass}
-use Rattle.cqs_rule.specs.declared.view.View.{View}
+use Rattle.cqs_views.specs.declared.view.View.{View}
 use Rattle.cqs_rule.specs.Passes.{pass_view}
 
 -- the numbers of a table

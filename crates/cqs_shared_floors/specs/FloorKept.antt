@@ -4,7 +4,7 @@ use Rattle.cqs_core.specs.Numbered.{EachAt}
 use Rattle.cqs_core.specs.Parts.{Has}
 use Rattle.cqs_plan.specs.declared.plans.kind.Kind.{Kind}
 use Rattle.cqs_plan.specs.Validity.{IsKind}
-use Rattle.cqs_rule.specs.Lists.{IsDistinct}
+use Rattle.cqs_views.specs.Lists.{IsDistinct}
 use Rattle.cqs_shared_floors.specs.declared.floors.spots.FloorWait.{FloorWait}
 use Rattle.cqs_shared_floors.specs.declared.floors.spots.Spot.{Spot}
 use Rattle.cqs_shared_floors.specs.Holdings.{held_at}

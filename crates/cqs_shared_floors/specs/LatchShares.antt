@@ -5,9 +5,9 @@ use Rattle.cqs_latch_object.specs.declared.entries.LatchEntry.{LatchEntry}
 use Rattle.cqs_plan.specs.Floor.{IsLatch, size_of}
 use Rattle.cqs_plan.specs.FloorHistory.{of_latch}
 use Rattle.cqs_latch.specs.Calls.{IsMine, IsReady}
-use Rattle.cqs_rule.specs.declared.config.CancelMode.TheVariants.{Smart}
-use Rattle.cqs_rule.specs.declared.view.View.{View}
-use Rattle.cqs_rule.specs.Lists.{IsDistinct}
+use Rattle.cqs_views.specs.declared.config.CancelMode.TheVariants.{Smart}
+use Rattle.cqs_views.specs.declared.view.View.{View}
+use Rattle.cqs_views.specs.Lists.{IsDistinct}
 use Rattle.cqs_rule.specs.Passes.{pass_view}
 use Rattle.cqs_shared_floors.specs.declared.kinds.latch.SharedLatch.{SharedLatch}
 use Rattle.cqs_shared_floors.specs.Families.{queue_name}

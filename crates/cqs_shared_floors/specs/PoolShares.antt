@@ -6,8 +6,8 @@ use Rattle.cqs_plan.specs.FloorHistory.{of_elements}
 use Rattle.cqs_pool.specs.Calls.{IsMine, IsReady}
 use Rattle.cqs_pool_object.specs.declared.entries.PoolEntry.{PoolEntry}
 use Rattle.cqs_pool_object.specs.PoolObject.{times}
-use Rattle.cqs_rule.specs.declared.view.View.{View}
-use Rattle.cqs_rule.specs.Lists.{IsDistinct}
+use Rattle.cqs_views.specs.declared.view.View.{View}
+use Rattle.cqs_views.specs.Lists.{IsDistinct}
 use Rattle.cqs_rule.specs.Passes.{pass_view}
 use Rattle.cqs_shared_floors.specs.declared.kinds.held.HeldElement.{HeldElement}
 use Rattle.cqs_shared_floors.specs.declared.kinds.pool.SharedPool.{SharedPool}

@@ -6,7 +6,7 @@ use Rattle.cqs_plan.specs.declared.plans.kind.Kind.{Kind}
 use Rattle.cqs_plan.specs.declared.plans.kind.Kind.TheVariants as kind
 use Rattle.cqs_plan.specs.Floor.{size_of}
 use Rattle.cqs_plan.specs.FloorHistory.{of_rounds}
-use Rattle.cqs_rule.specs.declared.config.Place.{Place}
+use Rattle.cqs_views.specs.declared.config.Place.{Place}
 use Rattle.cqs_shared_floors.specs.declared.kinds.round.SharedRound.{SharedRound}
 use Rattle.cqs_shared_floors.specs.declared.kinds.rounds.SharedRounds.{SharedRounds}
 use Rattle.cqs_shared_floors.specs.Families.{queue_name}

@@ -1,10 +1,10 @@
 -- What one or several calls leave of a pass that others are beside, on any client of the queue.
 use Rattle.std.specs.Prelude.{◌≡◌, ℕ, List, [], ◌++◌, drop}
 use Rattle.cqs_core.specs.Parts.{Has, part}
-use Rattle.cqs_rule.specs.declared.config.Place.{Place}
-use Rattle.cqs_rule.specs.declared.view.View.{View}
-use Rattle.cqs_rule.specs.Object.{Object}
-use Rattle.cqs_rule.specs.Placed.{KnowsPlace}
+use Rattle.cqs_views.specs.declared.config.Place.{Place}
+use Rattle.cqs_views.specs.declared.view.View.{View}
+use Rattle.cqs_views.specs.Object.{Object}
+use Rattle.cqs_views.specs.Placed.{KnowsPlace}
 
 -- what neither a call nor a split changes of a pass
 pub record Stays {E S : Type 0} (v w : View E S) : Type 0 where

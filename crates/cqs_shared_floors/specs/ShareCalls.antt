@@ -15,7 +15,7 @@ use Rattle.cqs_plan.specs.declared.floors.answers.FloorEnd.{FloorEnd}
 use Rattle.cqs_plan.specs.Floor.{HasRound, IsHoldable, IsLatch, size_of}
 use Rattle.cqs_plan.specs.FloorHistory.{ending, no_history}
 use Rattle.cqs_plan.specs.LegalFloor.{IsHistory}
-use Rattle.cqs_rule.specs.declared.config.Place.{Place}
+use Rattle.cqs_views.specs.declared.config.Place.{Place}
 use Rattle.cqs_shared.specs.declared.shared.SharedGive.{SharedGive}
 use Rattle.cqs_shared.specs.Entries.{own_history, is_nothing, IsBefore, drawn_in, IsDelivered}
 use Rattle.cqs_shared.specs.AnswerEntries.{came_entries, give_entries, look_entries, leave_entries, down_entries}

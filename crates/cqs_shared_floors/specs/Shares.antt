@@ -5,7 +5,7 @@ use Rattle.cqs_plan.specs.declared.plans.kind.Kind.{Kind}
 use Rattle.cqs_plan.specs.FloorHistory.{History}
 use Rattle.cqs_plan.specs.Language.{can_hold}
 use Rattle.cqs_plan.specs.LegalFloor.{IsHistory}
-use Rattle.cqs_rule.specs.declared.config.Place.{Place}
+use Rattle.cqs_views.specs.declared.config.Place.{Place}
 use Rattle.cqs_shared.specs.Entries.{Entries, AreOf, with_entries, own_entries, own_history, none_of, is_nothing}
 
 -- What the jobs of a worker have of a resource: what it is, how many of their waits stand in cells,

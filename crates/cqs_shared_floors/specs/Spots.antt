@@ -3,7 +3,7 @@ use Rattle.std.specs.Prelude.{ℕ, Bool, true, false, not, ◌&&◌, ◌==◌, O
 use Rattle.cqs_plan.specs.declared.floors.answers.FloorTake.{FloorTake}
 use Rattle.cqs_plan.specs.declared.floors.answers.FloorTake.TheVariants as take
 use Rattle.cqs_plan.specs.Floor.{JobWait}
-use Rattle.cqs_rule.specs.declared.config.Place.{Place}
+use Rattle.cqs_views.specs.declared.config.Place.{Place}
 use Rattle.cqs_shared.specs.declared.shared.Turned.{Turned}
 use Rattle.cqs_shared_floors.specs.declared.floors.spots.FloorWait.{FloorWait}
 use Rattle.cqs_shared_floors.specs.declared.floors.spots.Spot.{Spot}

@@ -3,7 +3,7 @@ use Rattle.std.specs.Prelude.{◌<◌}
 use Rattle.cqs_core.specs.declared.entries.Entry.{Entry}
 use Rattle.cqs_rule.specs.declared.client.ClientWords.{Ghosts}
 use Rattle.cqs_rule.specs.declared.queue.Pass.{Pass}
-use Rattle.cqs_rule.specs.declared.semaphore.SemClient.{SemClient}
+use Rattle.cqs_semaphore_client.specs.declared.semaphore.SemClient.{SemClient}
 use Rattle.cqs_rule.specs.Passes.{pass_view}
 use Rattle.cqs_semaphore.specs.declared.semaphore.Semaphore.{Semaphore}
 use Rattle.cqs_semaphore.specs.Calls.{IsReady, IsMine}

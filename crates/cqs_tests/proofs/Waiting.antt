@@ -2,19 +2,19 @@
 use Rattle.std.proofs.Common.{◌≡◌, ℕ, List, sym, subst, ap, ◌∙◌, true, if◌then◌else◌}
 use Rattle.cqs_core.specs.declared.doings.Doing.TheVariants as doing
 use Rattle.cqs_core.specs.declared.entries.Entry.{Entry}
-use Rattle.cqs_rule.specs.declared.config.Place.{Place}
+use Rattle.cqs_views.specs.declared.config.Place.{Place}
 use Rattle.cqs_rule.specs.declared.queue.tokens.Wait.{Wait}
-use Rattle.cqs_rule.specs.declared.view.Facts.{Facts}
-use Rattle.cqs_rule.specs.declared.view.View.{View}
-use Rattle.cqs_rule.specs.Events.{in_any_case}
-use Rattle.cqs_rule.specs.Object.{Object}
-use Rattle.cqs_rule.specs.Placed.{KnowsPlace, place_known, place_word}
-use Rattle.cqs_rule.specs.Saw.{Saw}
-use Rattle.cqs_rule.specs.Semaphore.{gives_one}
-use Rattle.cqs_rule.specs.SemaphoreSteps.{OnState}
+use Rattle.cqs_views.specs.declared.view.Facts.{Facts}
+use Rattle.cqs_views.specs.declared.view.View.{View}
+use Rattle.cqs_views.specs.Events.{in_any_case}
+use Rattle.cqs_views.specs.Object.{Object}
+use Rattle.cqs_views.specs.Placed.{KnowsPlace, place_known, place_word}
+use Rattle.cqs_views.specs.Saw.{Saw}
+use Rattle.cqs_semaphore_client.specs.Semaphore.{gives_one}
+use Rattle.cqs_semaphore_client.specs.SemaphoreSteps.{OnState}
 use Rattle.cqs_rule.specs.Waits.{HasWait, place_of}
 use Rattle.cqs_words.specs.State.{is_below_zero}
-use Rattle.cqs_rule.proofs.Calls.{called-by}
+use Rattle.cqs_views.proofs.Calls.{called-by}
 use Rattle.cqs_rule.proofs.Places.{has-wait-called}
 
 module _ {E S : Type 0} where

@@ -7,7 +7,8 @@ ghost use Rattle.cqs_rule.specs.Passes.{pass_view, IsOf};
 ghost use Rattle.cqs_rule.specs.Waits.{HasWait, place_of};
 
 use cqs_resume::{Resumed, resume};
-use cqs_rule::{Config, Pass, Queue, SemClient, Wait, give_permit, take_permit};
+use cqs_rule::{Config, Pass, Queue, Wait};
+use cqs_semaphore_client::{SemClient, give_permit, take_permit};
 use cqs_suspend::{Suspended, suspend};
 use std::process::Abort;
 

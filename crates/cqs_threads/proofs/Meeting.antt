@@ -3,7 +3,7 @@ use Rattle.std.proofs.Common.{◌≡◌, ℕ, ◌+◌, List, [], ◌++◌, lengt
 use Rattle.std.proofs.lemmas.List.{append-nil}
 use Rattle.cqs_core.specs.declared.entries.Entry.{Entry}
 use Rattle.cqs_core.specs.SemaphoreEntries.{IsLegal}
-use Rattle.cqs_rule.specs.declared.view.View.{View}
+use Rattle.cqs_views.specs.declared.view.View.{View}
 use Rattle.cqs_semaphore.specs.Calls.{Course}
 use Rattle.cqs_semaphore.proofs.Courses.{course-then}
 use Rattle.cqs_threads.specs.Workers.{HasMetAll}

@@ -5,7 +5,7 @@ use Rattle.std.proofs.lemmas.List.Elements.{All-nil, All-push}
 use Rattle.cqs_core.specs.declared.entries.Entry.{Entry}
 use Rattle.cqs_core.specs.declared.entries.Entry.TheVariants as entry
 use Rattle.cqs_core.specs.SemaphoreEntries.{IsLegal}
-use Rattle.cqs_rule.specs.declared.view.View.{View}
+use Rattle.cqs_views.specs.declared.view.View.{View}
 use Rattle.cqs_semaphore.specs.declared.answers.Permit.{Permit}
 use Rattle.cqs_semaphore.specs.Calls.{CallRule, Course}
 use Rattle.cqs_semaphore.proofs.Courses.{course-call, course-then}

@@ -4,9 +4,9 @@ use Rattle.std.specs.List.{fold}
 use Rattle.cqs_core.specs.declared.entries.Entry.{Entry}
 use Rattle.cqs_core.specs.declared.entries.Entry.TheVariants as entry
 use Rattle.cqs_core.specs.SemaphoreNames.{entry_names}
-use Rattle.cqs_rule.specs.declared.view.View.{View}
-use Rattle.cqs_rule.specs.Lists.{part}
-use Rattle.cqs_rule.specs.Views.{IsSame}
+use Rattle.cqs_views.specs.declared.view.View.{View}
+use Rattle.cqs_views.specs.Lists.{part}
+use Rattle.cqs_views.specs.Views.{IsSame}
 use Rattle.cqs_rule.specs.Waits.{place_of}
 use Rattle.cqs_semaphore.specs.declared.answers.Permit.{Permit}
 use Rattle.cqs_semaphore.specs.declared.answers.Polled.{Polled}

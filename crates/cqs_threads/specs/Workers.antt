@@ -5,11 +5,11 @@ use Rattle.cqs_rule.specs.declared.client.ClientWords.{Ghosts}
 use Rattle.cqs_rule.specs.declared.queue.Pass.{Pass}
 use Rattle.cqs_rule.specs.declared.queue.tokens.Under as token
 use Rattle.cqs_rule.specs.declared.queue.tokens.Wait.{Wait}
-use Rattle.cqs_rule.specs.declared.semaphore.SemClient.{SemClient}
-use Rattle.cqs_rule.specs.declared.view.View.{View}
+use Rattle.cqs_semaphore_client.specs.declared.semaphore.SemClient.{SemClient}
+use Rattle.cqs_views.specs.declared.view.View.{View}
 use Rattle.cqs_rule.specs.Owed.{HasUnder}
 use Rattle.cqs_rule.specs.Passes.{pass_view, passes_of}
-use Rattle.cqs_rule.specs.Views.{made_in}
+use Rattle.cqs_views.specs.Views.{made_in}
 use Rattle.cqs_rule.specs.Waits.{place_of, HasWait}
 use Rattle.cqs_semaphore.specs.declared.answers.Permit.{Permit}
 use Rattle.cqs_semaphore.specs.declared.answers.Polled.{Polled}

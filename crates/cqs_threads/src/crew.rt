@@ -2,7 +2,7 @@
 
 ghost use Rattle.std.specs.Prelude.{◌≡◌, ◌*◌, ◌^◌, ◌<◌, ◌≤◌, All, IfOk, IsErr, IsErrOf, OnOk, vec_len};
 ghost use Rattle.cqs_rule.specs.Passes.{pass_view, passes_of};
-ghost use Rattle.cqs_rule.specs.Views.{made_in};
+ghost use Rattle.cqs_views.specs.Views.{made_in};
 ghost use Rattle.cqs_threads.specs.declared.crew.CrewError.TheVariants.{Memory};
 ghost use Rattle.cqs_threads.specs.Sums.{CountsRounds};
 ghost use Rattle.cqs_threads.specs.Workers.{held_by, HasMetAll, IsAtRest, IsCrowded, IsHired};

@@ -9,13 +9,13 @@ use native.Mathlib.Decide.{ℕ_discrete}
 use Rattle.cqs_core.proofs.Places.{get-below, get-there, get-append_below, get-push_at}
 use Rattle.cqs_pool_object.specs.declared.entries.PoolEntry.{PoolEntry}
 use Rattle.cqs_rule.specs.declared.queue.tokens.Under as token
-use Rattle.cqs_rule.specs.declared.semaphore.carries.Kept.{Kept}
-use Rattle.cqs_rule.specs.declared.view.View.{View}
-use Rattle.cqs_rule.specs.Lists.{Has, IsPrefix, without}
-use Rattle.cqs_rule.specs.Slots.{laid_in, handed_in, or_else, LaysNone}
-use Rattle.cqs_rule.specs.SlotSteps.{LayIn, LaysValue, Swapped}
-use Rattle.cqs_rule.proofs.Handing.{chosen, passed-by, handed-here, handed-else}
-use Rattle.cqs_rule.proofs.Lists.{without_has, prefix-then}
+use Rattle.cqs_rule.specs.declared.carries.Kept.{Kept}
+use Rattle.cqs_views.specs.declared.view.View.{View}
+use Rattle.cqs_views.specs.Lists.{Has, IsPrefix, without}
+use Rattle.cqs_views.specs.Slots.{laid_in, handed_in, or_else, LaysNone}
+use Rattle.cqs_views.specs.SlotSteps.{LayIn, LaysValue, Swapped}
+use Rattle.cqs_views.proofs.Handing.{chosen, passed-by, handed-here, handed-else}
+use Rattle.cqs_views.proofs.Lists.{without_has, prefix-then}
 use Rattle.cqs_pool.specs.declared.answers.Placed.{Placed}
 use Rattle.cqs_pool.specs.declared.answers.Placed.TheVariants.{Sent, Left, Under}
 use Rattle.cqs_pool.specs.declared.answers.PoolLeft.TheVariants.{Cancelled}

@@ -2,15 +2,15 @@
 use Rattle.std.specs.Prelude.{◌≡◌, ℕ, ◌<◌, true, List, [], length, slice_get, Some, None, Result, Ok, Err}
 use Rattle.cqs_pool_object.specs.declared.entries.PoolEntry.{PoolEntry}
 use Rattle.cqs_rule.specs.declared.client.ClientWords.{Ghosts}
-use Rattle.cqs_rule.specs.declared.config.Config.{Config}
-use Rattle.cqs_rule.specs.declared.config.MakeError.{MakeError}
-use Rattle.cqs_rule.specs.declared.config.MakeError.TheVariants.{BadConfig}
+use Rattle.cqs_views.specs.declared.config.Config.{Config}
+use Rattle.cqs_views.specs.declared.config.MakeError.{MakeError}
+use Rattle.cqs_views.specs.declared.config.MakeError.TheVariants.{BadConfig}
 use Rattle.cqs_rule.specs.declared.queue.Pass.{Pass}
-use Rattle.cqs_rule.specs.declared.semaphore.carries.Kept.{Kept}
-use Rattle.cqs_rule.specs.declared.view.View.{View}
-use Rattle.cqs_rule.specs.Lists.{Has}
+use Rattle.cqs_rule.specs.declared.carries.Kept.{Kept}
+use Rattle.cqs_views.specs.declared.view.View.{View}
+use Rattle.cqs_views.specs.Lists.{Has}
 use Rattle.cqs_rule.specs.Passes.{pass_view, passes_of, limit_of}
-use Rattle.cqs_rule.specs.Slots.{laid_in, handed_in}
+use Rattle.cqs_views.specs.Slots.{laid_in, handed_in}
 use Rattle.cqs_pool.specs.declared.client.PoolClient.{PoolClient}
 use Rattle.cqs_pool.specs.Calls.{Rests, IsMine, size_of}
 use Rattle.cqs_value_pool.specs.declared.opening.ValuePool.{ValuePool}

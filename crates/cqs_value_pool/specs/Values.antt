@@ -1,11 +1,11 @@
 -- How the value of an element moves between its slot and an item.
 use Rattle.std.specs.Prelude.{◌≡◌, ℕ, List, ◌∷◌, Some, None}
 use Rattle.cqs_pool_object.specs.declared.entries.PoolEntry.{PoolEntry}
-use Rattle.cqs_rule.specs.declared.semaphore.carries.Kept.{Kept}
-use Rattle.cqs_rule.specs.declared.view.View.{View}
-use Rattle.cqs_rule.specs.Lists.{IsPrefix}
-use Rattle.cqs_rule.specs.Slots.{handed_in}
-use Rattle.cqs_rule.specs.SlotSteps.{Swapped}
+use Rattle.cqs_rule.specs.declared.carries.Kept.{Kept}
+use Rattle.cqs_views.specs.declared.view.View.{View}
+use Rattle.cqs_views.specs.Lists.{IsPrefix}
+use Rattle.cqs_views.specs.Slots.{handed_in}
+use Rattle.cqs_views.specs.SlotSteps.{Swapped}
 
 -- a value as it lies in a slot
 abbrev pub in_slot : {T : Type 0} → T → Kept T

@@ -2,9 +2,9 @@
 
 ghost use Rattle.std.specs.Prelude.{◌≡◌, ◌⊎◌, ◌+◌, ◌*◌, ◌/◌, ◌<◌, ◌≤◌, [], true, false, IfOk, IfErr, length, vec_len};
 ghost use mathlib.Core.Logic.{◌↔◌};
-ghost use Rattle.cqs_rule.specs.Configured.{is_config};
+ghost use Rattle.cqs_views.specs.Configured.{is_config};
 ghost use Rattle.cqs_rule.specs.Passes.{pass_view};
-ghost use Rattle.cqs_rule.specs.SlotSteps.{Swapped};
+ghost use Rattle.cqs_views.specs.SlotSteps.{Swapped};
 ghost use Rattle.cqs_pool.specs.Calls.{IsMine, size_of};
 ghost use Rattle.cqs_value_pool.specs.Pools.{Belongs, Opens, HoldsEach, IsBadConfig};
 

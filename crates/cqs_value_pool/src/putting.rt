@@ -1,10 +1,10 @@
 //! The put, and the end of one.
 
 ghost use Rattle.std.specs.Prelude.{◌≡◌, true, [], IsOk, IfOk};
-ghost use Rattle.cqs_rule.specs.Crew.{IsBetween};
+ghost use Rattle.cqs_views.specs.Crew.{IsBetween};
 ghost use Rattle.cqs_rule.specs.Owed.{HasUnder, under_payload, under_reached};
 ghost use Rattle.cqs_rule.specs.Passes.{pass_view};
-ghost use Rattle.cqs_rule.specs.SlotSteps.{WasHandedIn};
+ghost use Rattle.cqs_views.specs.SlotSteps.{WasHandedIn};
 ghost use Rattle.cqs_pool.specs.Alone.{CanEnd, IsPlainEnd};
 ghost use Rattle.cqs_pool.specs.Answers.{Ends, IsInHand};
 ghost use Rattle.cqs_pool.specs.Calls.{IsMine, IsReady, CallRule, plain_after};

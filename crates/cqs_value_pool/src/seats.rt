@@ -2,11 +2,11 @@
 
 ghost use Rattle.std.specs.Prelude.{◌≡◌, ◌++◌, ◌≤◌, [], true, IsTrue, IsErr, IfOk, IfErr, OnErr, OnOk};
 ghost use mathlib.Core.Logic.{◌↔◌};
-ghost use Rattle.cqs_rule.specs.Crew.{IsBetween, IsSole, Came};
+ghost use Rattle.cqs_views.specs.Crew.{IsBetween, IsSole, Came};
 ghost use Rattle.cqs_rule.specs.Passes.{pass_view, passes_of};
 ghost use Rattle.cqs_rule.specs.Seats.{IsBusy, HasMet};
 ghost use Rattle.cqs_pool.specs.Pool.{pool_object};
-ghost use Rattle.cqs_rule.specs.Views.{made_in, live_in};
+ghost use Rattle.cqs_views.specs.Views.{made_in, live_in};
 ghost use Rattle.cqs_pool.specs.Calls.{IsReady, Course};
 ghost use Rattle.cqs_pool.specs.Seats.{LookedOn, SeesAll};
 ghost use Rattle.cqs_value_pool.specs.Pools.{Belongs};

@@ -2,7 +2,7 @@
 
 ghost use Rattle.std.specs.Prelude.{◌≡◌, None, IsErrOf};
 ghost use Rattle.cqs_rule.specs.Passes.{pass_view};
-ghost use Rattle.cqs_rule.specs.Slots.{laid_in};
+ghost use Rattle.cqs_views.specs.Slots.{laid_in};
 ghost use Rattle.cqs_pool.specs.Answers.{IsInHand};
 ghost use Rattle.cqs_pool.specs.Calls.{IsReady, IsMine, size_of};
 ghost use Rattle.cqs_pool.specs.Elements.{number_of};

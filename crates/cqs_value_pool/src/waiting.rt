@@ -1,7 +1,7 @@
 //! What a caller does with a wait.
 
 ghost use Rattle.std.specs.Prelude.{◌≡◌};
-ghost use Rattle.cqs_rule.specs.Crew.{IsBetween};
+ghost use Rattle.cqs_views.specs.Crew.{IsBetween};
 ghost use Rattle.cqs_rule.specs.Passes.{pass_view};
 ghost use Rattle.cqs_rule.specs.Waits.{place_of, HasWait};
 ghost use Rattle.cqs_pool.specs.Calls.{IsReady};

@@ -2,7 +2,7 @@
 
 ghost use Rattle.std.specs.Prelude.{◌≡◌, ◌⊎◌, true, Some, None, IsSome, IsSomeAnd};
 ghost use mathlib.Core.Logic.{◌↔◌};
-ghost use Rattle.cqs_rule.specs.Crew.{IsBetween};
+ghost use Rattle.cqs_views.specs.Crew.{IsBetween};
 ghost use Rattle.cqs_rule.specs.Passes.{pass_view};
 ghost use Rattle.futures.specs.Poll.{IfReady, OnPending};
 ghost use Rattle.futures.specs.Task.{Covers, Keeps};
@@ -15,7 +15,8 @@ ghost use Rattle.cqs_waiter.specs.Locks.{LockBegins};
 
 use cqs_core::Entry;
 use cqs_mutex::{Guard, LockLeft, LockWait, Locked, Mutex, MutexPass, PolledLock};
-use cqs_rule::{AcquireError, ClientWords, Kept, SemClient};
+use cqs_rule::{AcquireError, ClientWords, Kept};
+use cqs_semaphore_client::SemClient;
 use futures::task::{Context, Poll};
 
 /// What the future comes to: its pass again, and a guard, or that no further number may be drawn.

@@ -6,7 +6,7 @@ ghost use Rattle.cqs_latch.specs.LatchMade.{mode_of};
 ghost use Rattle.cqs_latch.specs.Owed.{HasOwed};
 ghost use Rattle.cqs_plan.specs.declared.plans.kind.Kind.TheVariants as kind;
 ghost use Rattle.cqs_rule.specs.Passes.{client_of, pass_view};
-ghost use Rattle.cqs_rule.specs.declared.config.CancelMode.TheVariants.{Smart};
+ghost use Rattle.cqs_views.specs.declared.config.CancelMode.TheVariants.{Smart};
 ghost use Rattle.cqs_cli.specs.LatchEnds.{ServesAll};
 ghost use Rattle.cqs_cli.specs.Stores as stores;
 ghost use Rattle.cqs_cli.specs.Stores.{IsOpened};

@@ -7,7 +7,7 @@ ghost use Rattle.cqs_mutex.specs.Mutexes.{Belongs};
 ghost use Rattle.cqs_plan.specs.declared.plans.kind.Kind.TheVariants as kind;
 ghost use Rattle.cqs_rule.specs.Owed.{HasUnder};
 ghost use Rattle.cqs_rule.specs.Passes.{pass_view};
-ghost use Rattle.cqs_rule.specs.Views.{IsSame};
+ghost use Rattle.cqs_views.specs.Views.{IsSame};
 ghost use Rattle.cqs_semaphore.specs.Alone.{IsFirstOf};
 ghost use Rattle.cqs_semaphore.specs.Calls.{CallRule, IsReady, Rests, plain_after};
 ghost use Rattle.cqs_cli.specs.Soles.{IsOpened};

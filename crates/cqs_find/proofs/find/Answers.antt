@@ -1,5 +1,5 @@
 use Rattle.std.proofs.Common.{arith, refl, rules}
-use Rattle.cqs_rule.specs.Placed.{place_known}
+use Rattle.cqs_views.specs.Placed.{place_known}
 use Rattle.cqs_rule.specs.Passes.{pass_view}
 use Rattle.cqs_find.proofs.Numbers.{below-cells}
 use Rattle.cqs_find.proofs.Searches.{searched-none}

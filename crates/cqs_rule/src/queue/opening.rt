@@ -2,20 +2,19 @@
 
 ghost use Rattle.std.specs.Prelude.{◌≡◌, ℕ, ◌+◌, ◌*◌, ◌<◌, ◌≤◌, ◌^◌, false, length, vec_len, IfOk, IsErrOf};
 ghost use mathlib.Core.Logic.{◌↔◌};
-ghost use Rattle.cqs_rule.specs.Configured.{is_config};
-ghost use Rattle.cqs_rule.specs.Opened.{first_word, IsOpening};
-ghost use Rattle.cqs_rule.specs.Manner.{mode_for};
+ghost use Rattle.cqs_views.specs.Configured.{is_config};
+ghost use Rattle.cqs_views.specs.Opened.{first_word, IsOpening};
+ghost use Rattle.cqs_views.specs.Manner.{mode_for};
 ghost use Rattle.cqs_rule.specs.Passes.{pass_view, client_of, passes_of, limit_of, mode_of, slots_of, IsOf};
-ghost use Rattle.cqs_rule.specs.Ruled.{cell_count};
-ghost use Rattle.cqs_rule.specs.Views.{first_view};
+ghost use Rattle.cqs_views.specs.Ruled.{cell_count};
+ghost use Rattle.cqs_views.specs.Views.{first_view};
 
 use crate::client::ClientWords;
-use crate::config::{CancelMode, Config, MakeError};
-use crate::layout::{CELLS_WORD, CLIENT_WORD, CREW_WORD, RESUMES_WORD};
 use crate::queue::parked::Parked;
 use crate::queue::{Pass, Queue};
 use crate::rule::Key;
 use atomic_table::Table;
+use cqs_views::{CELLS_WORD, CLIENT_WORD, CREW_WORD, CancelMode, Config, MakeError, RESUMES_WORD};
 use cqs_words::{CellState, CellWord, CrewWord};
 use std::alloc::{AllocError, Global};
 
@@ -23,7 +22,7 @@ use std::alloc::{AllocError, Global};
 fn first_cell(values: u64, index: u64) -> u64
     requires few { values ≤ 4096 }
     requires small { index < 2 ^ 40 }
-    ensures { result ≡ Rattle.cqs_rule.specs.Opened.first_cell values index }
+    ensures { result ≡ Rattle.cqs_views.specs.Opened.first_cell values index }
 {
     if index < values {
         let payload = index as u32;

@@ -3,17 +3,17 @@
 ghost use Rattle.std.specs.Prelude.{◌≡◌, ◌<◌, ◌^◌};
 ghost use Rattle.cqs_core.specs.declared.doings.Doing.TheVariants.{Idle};
 ghost use Rattle.cqs_core.specs.QueueSteps.{puts};
-ghost use Rattle.cqs_rule.specs.Counts.{IsDrawnAt};
-ghost use Rattle.cqs_rule.specs.Lists.{Has};
-ghost use Rattle.cqs_rule.specs.Manner.{Suits};
+ghost use Rattle.cqs_views.specs.Counts.{IsDrawnAt};
+ghost use Rattle.cqs_views.specs.Lists.{Has};
+ghost use Rattle.cqs_views.specs.Manner.{Suits};
 ghost use Rattle.cqs_rule.specs.Passes.{pass_view, client_of, slots_of, IsOf};
-ghost use Rattle.cqs_rule.specs.SlotSteps.{LaysValue};
+ghost use Rattle.cqs_views.specs.SlotSteps.{LaysValue};
 ghost use Rattle.cqs_rule.specs.Steps.{HasPut, HasGiven};
 
 use crate::client::ClientWords;
-use crate::layout::RESUMES_WORD;
 use crate::plays::Putting;
 use crate::queue::{Numbered, Pass, Queue};
+use cqs_views::RESUMES_WORD;
 use std::marker::Brand;
 
 impl<C: ClientWords> Queue<C> {

@@ -3,21 +3,19 @@
 ghost use Rattle.std.specs.Prelude.{◌≡◌, true, ◌+◌, ◌++◌, ◌<◌, ◌≤◌, IsTrue, IsErr, None, IfOk, IfErr, OnErr, OnOk};
 ghost use mathlib.Core.Logic.{◌↔◌};
 ghost use Rattle.cqs_core.specs.declared.doings.Doing.TheVariants.{Idle};
-ghost use Rattle.cqs_rule.specs.Alone.{TellsAlone};
-ghost use Rattle.cqs_rule.specs.Crew.{IsBetween, IsSole, MayGive, OpensNone, Tried, CameWith, Met};
-ghost use Rattle.cqs_rule.specs.Layout.{words_for};
+ghost use Rattle.cqs_views.specs.Alone.{TellsAlone};
+ghost use Rattle.cqs_views.specs.Crew.{IsBetween, IsSole, MayGive, OpensNone, Tried, CameWith, Met};
+ghost use Rattle.cqs_views.specs.Layout.{words_for};
 ghost use Rattle.cqs_rule.specs.Passes.{pass_view, client_of, passes_of, IsOf};
-ghost use Rattle.cqs_rule.specs.Saw.{IsLive};
+ghost use Rattle.cqs_views.specs.Saw.{IsLive};
 ghost use Rattle.cqs_rule.specs.Seats.{IsBusy, HasLookedOn, HasGiven, HasMet};
-ghost use Rattle.cqs_rule.specs.Views.{made_in, live_in};
+ghost use Rattle.cqs_views.specs.Views.{made_in, live_in};
 
 use crate::client::ClientWords;
-use crate::config::{Crowd, MeetError};
-use crate::layout::CREW_WORD;
 use crate::plays::{Count, Cut, Gather, Gift, Make, Meet};
 use crate::queue::{Pass, Queue};
-use crate::view::View;
 use atomic_table::Seat;
+use cqs_views::{CREW_WORD, Crowd, MeetError, View};
 use cqs_words::CrewWord;
 use std::marker::Brand;
 

@@ -2,16 +2,15 @@
 
 ghost use Rattle.std.specs.Prelude.{◌≡◌, ◌⊎◌, ◌<◌, true, [], ◌∷◌, Some, None};
 ghost use Rattle.cqs_rule.specs.Passes.{pass_view, client_of, slots_of, IsOf};
-ghost use Rattle.cqs_rule.specs.Slots.{laid_in};
-ghost use Rattle.cqs_rule.specs.SlotSteps.{TookOut, PutBack, Swapped, HandedIn, LayIn, IsOut, IsUntouched};
+ghost use Rattle.cqs_views.specs.Slots.{laid_in};
+ghost use Rattle.cqs_views.specs.SlotSteps.{TookOut, PutBack, Swapped, HandedIn, LayIn, IsOut, IsUntouched};
 ghost use Rattle.cqs_rule.specs.Steps.{IsOpener};
 
 use crate::client::ClientWords;
-use crate::layout::CREW_WORD;
 use crate::plays::{Filling, PuttingBack, TakingOut};
 use crate::queue::{Pass, Queue};
-use crate::view::View;
 use atomic_table::Seat;
+use cqs_views::{CREW_WORD, View};
 use std::marker::Brand;
 
 // The number of a slot: a call of a step on it picks it.

@@ -1,18 +1,18 @@
 //! Single steps on the words of the table: the counters and the cells.
 
 ghost use Rattle.cqs_core.specs.QueueSteps.{row_of};
-ghost use Rattle.cqs_rule.specs.Counts.{IsCount, PaysNoElement, IsDrawnAt};
-ghost use Rattle.cqs_rule.specs.Exchanges.{IsCrossing};
-ghost use Rattle.cqs_rule.specs.Loads.{LoadSuits, MayLoad};
-ghost use Rattle.cqs_rule.specs.Manner.{Suits};
+ghost use Rattle.cqs_views.specs.Counts.{IsCount, PaysNoElement, IsDrawnAt};
+ghost use Rattle.cqs_views.specs.Exchanges.{IsCrossing};
+ghost use Rattle.cqs_views.specs.Loads.{LoadSuits, MayLoad};
+ghost use Rattle.cqs_views.specs.Manner.{Suits};
 ghost use Rattle.cqs_rule.specs.Passes.{pass_view, client_of, IsOf};
 ghost use Rattle.cqs_rule.specs.Steps.{HasLoaded, HasDrawn, HasCrossed};
 
 use crate::client::ClientWords;
 use crate::kinds::Kind;
-use crate::loads::{Learned, Load};
 use crate::plays::{Cross, Draw, Loading};
 use crate::queue::{Pass, Queue};
+use cqs_views::{Learned, Load};
 
 impl<C: ClientWords> Queue<C> {
     /// Loads the suspend counter or a cell. A pass that finds the counter below the limit may draw,

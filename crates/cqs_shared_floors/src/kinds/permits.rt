@@ -4,7 +4,7 @@ ghost use Rattle.std.specs.Prelude.{◌≡◌, [], Some};
 ghost use Rattle.cqs_plan.specs.Floor.{size_of};
 ghost use Rattle.cqs_rule.specs.Owed.{HasUnder};
 ghost use Rattle.cqs_rule.specs.Passes.{pass_view};
-ghost use Rattle.cqs_rule.specs.Semaphore.{semaphore_object};
+ghost use Rattle.cqs_semaphore_client.specs.Semaphore.{semaphore_object};
 ghost use Rattle.cqs_semaphore.specs.Calls.{IsMine, Rests};
 ghost use Rattle.cqs_shared_floors.specs.PermitRuns.{IsOfPermits, TellsSent};
 ghost use Rattle.cqs_shared_floors.specs.Runs.{Went};

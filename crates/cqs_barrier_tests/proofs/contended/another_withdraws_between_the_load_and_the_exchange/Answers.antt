@@ -1,7 +1,7 @@
 use Rattle.std.proofs.Common.{ap, refl, subst, sym}
-use Rattle.cqs_rule.specs.declared.view.Facts.{Facts}
+use Rattle.cqs_views.specs.declared.view.Facts.{Facts}
 use Rattle.cqs_rule.specs.Passes.{pass_view}
-use Rattle.cqs_rule.specs.Placed.{KnowsPlace}
+use Rattle.cqs_views.specs.Placed.{KnowsPlace}
 use Rattle.cqs_rule.specs.Waits.{place_of}
 use Rattle.cqs_rule.proofs.Places.{knows-saw}
 use Rattle.cqs_barrier.specs.Barrier.{barrier_object}

@@ -1,5 +1,5 @@
 use Rattle.std.proofs.Common.{refl}
-use Rattle.cqs_rule.specs.Semaphore.{semaphore_object}
+use Rattle.cqs_semaphore_client.specs.Semaphore.{semaphore_object}
 use Rattle.cqs_bench.proofs.Keeping.{keeps-step, keeps-resumed, idle-resumed}
 use Rattle.cqs_bench.proofs.rounds.release.Goals as goal
 

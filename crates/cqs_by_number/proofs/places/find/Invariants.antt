@@ -1,5 +1,5 @@
 use Rattle.std.proofs.Common.{◌≢◌, ℕ, ◌<◌, slice_index_or}
-use Rattle.cqs_rule.specs.declared.config.Place.{Place}
+use Rattle.cqs_views.specs.declared.config.Place.{Place}
 use Rattle.cqs_by_number.proofs.places.find.Given as goal
 
 -- none of the waits before has the number

@@ -1,5 +1,5 @@
 use Rattle.std.proofs.Common.{◌∙◌, ap, subst}
-use Rattle.cqs_rule.proofs.Lists.{get_index}
+use Rattle.cqs_views.proofs.Lists.{get_index}
 use Rattle.cqs_by_number.specs.Tokens.{IsAt}
 use Rattle.cqs_by_number.proofs.tokens.take_out.Goals as goal
 

@@ -1,5 +1,5 @@
 use Rattle.std.proofs.Common.{sym, subst}
-use Rattle.cqs_rule.specs.Lists.{Has}
+use Rattle.cqs_views.specs.Lists.{Has}
 use Rattle.cqs_rule.specs.Waits.{place_of}
 use Rattle.cqs_pool.proofs.Courses.{wait-kept}
 use Rattle.cqs_pool_tests.proofs.pools.send.Goals as goal

@@ -1,6 +1,6 @@
 use Rattle.std.proofs.Common.{◌∙◌, ap, sym, subst, Ok}
 use Rattle.std.proofs.lemmas.Result.{IfOk-at_ok}
-use Rattle.cqs_rule.specs.Lists.{Has}
+use Rattle.cqs_views.specs.Lists.{Has}
 use Rattle.cqs_rule.specs.Passes.{pass_view}
 use Rattle.cqs_rule.specs.Waits.{place_of}
 use Rattle.cqs_semaphore.specs.Answers.{Acquires, Releases}

@@ -1,5 +1,5 @@
 use Rattle.std.proofs.Common.{◌≡◌, ◌⊎◌, ◌<◌, false, length}
-use Rattle.cqs_rule.specs.Configured.{is_config}
+use Rattle.cqs_views.specs.Configured.{is_config}
 use Rattle.cqs_rounds.specs.Rounds.{AreMine, AreOpened}
 use Rattle.cqs_rounds.proofs.opening.open.Given as goal
 

@@ -1,6 +1,6 @@
 use Rattle.std.proofs.Common.{ap, refl, sym, ◌∙◌}
-use Rattle.cqs_rule.specs.declared.view.Facts.{Facts}
-use Rattle.cqs_rule.specs.Semaphore.{semaphore_object}
+use Rattle.cqs_views.specs.declared.view.Facts.{Facts}
+use Rattle.cqs_semaphore_client.specs.Semaphore.{semaphore_object}
 use Rattle.cqs_rule.proofs.Places.{has-wait-called}
 use Rattle.cqs_tests.proofs.Waiting.{keeps-step, owes-it}
 use Rattle.cqs_tests.proofs.line.send.Goals as goal

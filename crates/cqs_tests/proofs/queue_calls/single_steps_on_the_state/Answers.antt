@@ -1,11 +1,11 @@
 use Rattle.std.proofs.Common.{◌≡◌, ℕ, bit_or, ◌∙◌, sym, subst, rules}
 use lib.Bits.{or_comm, or_zero_l}
-use Rattle.cqs_rule.specs.Events.{Moves, in_any_case}
+use Rattle.cqs_views.specs.Events.{Moves, in_any_case}
 use Rattle.cqs_rule.specs.Passes.{pass_view}
-use Rattle.cqs_rule.specs.Semaphore.{semaphore_object, semaphore_primitive}
-use Rattle.cqs_rule.specs.Silent.{silent}
-use Rattle.cqs_rule.proofs.SemaphoreMoves.{try-swap-moves}
-use Rattle.cqs_rule.proofs.StandStill.{silent-moves}
+use Rattle.cqs_semaphore_client.specs.Semaphore.{semaphore_object, semaphore_primitive}
+use Rattle.cqs_views.specs.Silent.{silent}
+use Rattle.cqs_semaphore_client.proofs.SemaphoreMoves.{try-swap-moves}
+use Rattle.cqs_views.proofs.StandStill.{silent-moves}
 use Rattle.cqs_tests.proofs.queue_calls.single_steps_on_the_state.Goals as goal
 
 sets-nothing : (n : ℕ) → n ≡ bit_or n 0

@@ -1,5 +1,5 @@
 use Rattle.std.proofs.Common.{[], ◌∷◌, refl, ap, sym, ◌∙◌}
-use Rattle.cqs_rule.specs.declared.config.Place.{Place}
+use Rattle.cqs_views.specs.declared.config.Place.{Place}
 use Rattle.cqs_threads.proofs.Telling.{adds-none, adds-granted, adds-pending, adds-then}
 use Rattle.cqs_threads.proofs.Waits.{looks-none, looks-more, looks-granted}
 use Rattle.cqs_threads.proofs.waiting.look_on.Goals as goal

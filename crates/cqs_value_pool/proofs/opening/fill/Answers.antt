@@ -2,7 +2,7 @@ use Rattle.std.proofs.Common.{◌≡◌, ◌+◌, ◌<◌, ◌++◌, ◌∷◌, 
 use Rattle.std.proofs.lemmas.List.{length_push, length-append, append-nil}
 use Rattle.std.specs.Vec.Iter.{into_iter_items}
 use Rattle.cqs_rule.specs.Passes.{pass_view, slots_of, IsOf}
-use Rattle.cqs_rule.specs.Slots.{laid_in, handed_in}
+use Rattle.cqs_views.specs.Slots.{laid_in, handed_in}
 use Rattle.cqs_value_pool.specs.Values.{in_slot}
 use Rattle.cqs_value_pool.proofs.Values.{swapped-more, none-there, holds-more, empty-more}
 use Rattle.cqs_value_pool.proofs.opening.fill.Goals as goal

@@ -1,8 +1,8 @@
 use Rattle.std.proofs.Common.{◌≡◌, ◌≤◌, ◌++◌, ℕ, [], None, length}
 use Rattle.std.specs.Vec.Iter.{into_iter_items}
 use Rattle.cqs_rule.specs.Passes.{pass_view}
-use Rattle.cqs_rule.specs.Slots.{handed_in}
-use Rattle.cqs_rule.specs.SlotSteps.{Swapped}
+use Rattle.cqs_views.specs.Slots.{handed_in}
+use Rattle.cqs_views.specs.SlotSteps.{Swapped}
 use Rattle.cqs_pool.specs.Calls.{IsMine}
 use Rattle.cqs_value_pool.specs.Pools.{HoldsEach}
 use Rattle.cqs_value_pool.proofs.opening.fill.Given as goal

@@ -1,8 +1,8 @@
 use Rattle.std.proofs.Common.{sym, subst, ap, ◌∙◌}
-use Rattle.cqs_rule.specs.declared.config.Place.{Place}
-use Rattle.cqs_rule.specs.Lists.{Has}
+use Rattle.cqs_views.specs.declared.config.Place.{Place}
+use Rattle.cqs_views.specs.Lists.{Has}
 use Rattle.cqs_rule.specs.Passes.{pass_view, IsOf}
-use Rattle.cqs_rule.specs.Placed.{KnowsPlace}
+use Rattle.cqs_views.specs.Placed.{KnowsPlace}
 use Rattle.cqs_rule.specs.Waits.{place_of}
 use Rattle.cqs_cancel.proofs.Steps.{came-late, began-place, missed-place}
 use Rattle.cqs_barrier.specs.declared.answers.PartyLeft.TheVariants.{TooLate}

@@ -1,6 +1,6 @@
 use Rattle.std.proofs.Common.{ap, refl, inl, inr}
 use Rattle.cqs_barrier.specs.Waits.{wait_in}
-use Rattle.cqs_rule.specs.declared.view.Facts.{Facts}
+use Rattle.cqs_views.specs.declared.view.Facts.{Facts}
 use Rattle.cqs_rule.specs.Passes.{pass_view}
 use Rattle.cqs_by_number.proofs.BarrierKept.{owes-none, apart-none}
 use Rattle.cqs_by_number.proofs.TokenSteps.{same_waits}

@@ -1,11 +1,11 @@
 use Rattle.std.proofs.Common.{ap, subst, sym, refl, ◌∙◌, arith}
 use Rattle.cqs_barrier.specs.Calls.{IsReady}
 use Rattle.cqs_barrier.specs.Waits.{wait_in}
-use Rattle.cqs_rule.specs.declared.view.Facts.{Facts}
+use Rattle.cqs_views.specs.declared.view.Facts.{Facts}
 use Rattle.cqs_rule.specs.Passes.{pass_view}
 use Rattle.cqs_by_number.proofs.BarrierKept.{owes-none, none-owed, apart-none, lessened-ready, first-ready}
 use Rattle.cqs_by_number.proofs.TokenSteps.{same_waits}
-use Rattle.cqs_rule.specs.Crew.{CameWith}
+use Rattle.cqs_views.specs.Crew.{CameWith}
 use Rattle.cqs_barrier.specs.Barrier.{barrier_object}
 use Rattle.cqs_by_number.proofs.NotRefused.{room-there}
 use Rattle.cqs_by_number.proofs.barrier_caller.BarrierCaller.split.Goals as goal

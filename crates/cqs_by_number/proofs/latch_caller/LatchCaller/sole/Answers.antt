@@ -1,5 +1,5 @@
 use Rattle.std.proofs.Common.{subst, sym, ◌∙◌, ap, inr}
-use Rattle.cqs_rule.specs.declared.view.Facts.{Facts}
+use Rattle.cqs_views.specs.declared.view.Facts.{Facts}
 use Rattle.cqs_by_number.specs.LatchCallers.{OwesJust}
 use Rattle.cqs_by_number.proofs.TokenSteps.{the_wait, tokens_stay}
 use Rattle.cqs_by_number.specs.declared.answers.Answer.TheVariants.{Sole}

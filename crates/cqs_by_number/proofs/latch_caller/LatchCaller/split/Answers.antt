@@ -1,7 +1,7 @@
 use Rattle.std.proofs.Common.{ap, subst, sym, refl, ◌∙◌}
 use Rattle.cqs_by_number.proofs.LatchKept.{owes-none}
 use Rattle.cqs_by_number.proofs.TokenSteps.{the_wait, tokens_stay}
-use Rattle.cqs_rule.specs.Crew.{Came}
+use Rattle.cqs_views.specs.Crew.{Came}
 use Rattle.cqs_rule.specs.Passes.{pass_view}
 use Rattle.cqs_latch.specs.Latch.{latch_object}
 use Rattle.cqs_by_number.proofs.NotRefused.{room-there}

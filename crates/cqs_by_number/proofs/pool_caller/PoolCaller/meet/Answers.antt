@@ -1,8 +1,8 @@
 use Rattle.std.proofs.Common.{ap, subst, sym, refl, inl, inr}
-use Rattle.cqs_rule.specs.declared.view.Facts.{Facts}
-use Rattle.cqs_rule.specs.Lists.{Has}
+use Rattle.cqs_views.specs.declared.view.Facts.{Facts}
+use Rattle.cqs_views.specs.Lists.{Has}
 use Rattle.cqs_rule.specs.Passes.{pass_view}
-use Rattle.cqs_rule.proofs.Lists.{has_left}
+use Rattle.cqs_views.proofs.Lists.{has_left}
 use Rattle.cqs_by_number.proofs.PoolKept.{owes-none, elements_same, elements_stay}
 use Rattle.cqs_by_number.proofs.TokenSteps.{the_wait, same_waits}
 use Rattle.cqs_by_number.proofs.NotRefused.{no-cause, none-there}

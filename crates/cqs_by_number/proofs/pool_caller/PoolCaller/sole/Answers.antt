@@ -1,5 +1,5 @@
 use Rattle.std.proofs.Common.{ap, subst, sym, ◌∙◌, inr}
-use Rattle.cqs_rule.specs.declared.view.Facts.{Facts}
+use Rattle.cqs_views.specs.declared.view.Facts.{Facts}
 use Rattle.cqs_by_number.specs.PoolCallers.{OwesJust}
 use Rattle.cqs_by_number.proofs.PoolKept.{elements_same}
 use Rattle.cqs_by_number.proofs.TokenSteps.{the_wait, same_waits}

@@ -1,8 +1,8 @@
 use Rattle.std.proofs.Common.{ap, subst, sym, refl, ◌∙◌}
-use Rattle.cqs_rule.specs.declared.view.Facts.{Facts}
+use Rattle.cqs_views.specs.declared.view.Facts.{Facts}
 use Rattle.cqs_by_number.proofs.PoolKept.{owes-none, elements_same}
 use Rattle.cqs_by_number.proofs.TokenSteps.{the_wait, same_waits}
-use Rattle.cqs_rule.specs.Crew.{Came}
+use Rattle.cqs_views.specs.Crew.{Came}
 use Rattle.cqs_rule.specs.Passes.{pass_view}
 use Rattle.cqs_pool.specs.Pool.{pool_object}
 use Rattle.cqs_by_number.proofs.NotRefused.{room-there}

@@ -1,6 +1,6 @@
 use Rattle.std.proofs.Common.{◌≡◌, ◌≢◌, ◌∙◌, All, ap, subst, sym, false, None, Some, inr}
 use Rattle.std.specs.Option.{is_some}
-use Rattle.cqs_rule.specs.declared.config.Place.{Place}
+use Rattle.cqs_views.specs.declared.config.Place.{Place}
 use Rattle.cqs_rule.specs.Passes.{pass_view}
 use Rattle.cqs_rule.specs.Waits.{place_of}
 use Rattle.cqs_by_number.specs.declared.semaphore_caller.SemaphoreCaller.{SemaphoreCaller}

@@ -1,6 +1,6 @@
 use Rattle.std.proofs.Common.{◌≡◌, ◌≢◌, All, ap, subst, sym, false, inr}
 use Rattle.std.specs.Option.{is_some}
-use Rattle.cqs_rule.specs.declared.config.Place.{Place}
+use Rattle.cqs_views.specs.declared.config.Place.{Place}
 use Rattle.cqs_rule.specs.Passes.{pass_view}
 use Rattle.cqs_by_number.specs.declared.semaphore_caller.SemaphoreCaller.{SemaphoreCaller}
 use Rattle.cqs_by_number.specs.Waits.{HasAt, Apart}

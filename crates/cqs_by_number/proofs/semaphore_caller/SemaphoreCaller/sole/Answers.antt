@@ -1,6 +1,6 @@
 use Rattle.std.proofs.Common.{◌∙◌, ap, subst, sym, inr}
 use Rattle.cqs_by_number.specs.declared.answers.Answer.TheVariants.{Sole}
-use Rattle.cqs_rule.specs.declared.view.Facts.{Facts}
+use Rattle.cqs_views.specs.declared.view.Facts.{Facts}
 use Rattle.cqs_by_number.specs.SemaphoreCallers.{OwesJust}
 use Rattle.cqs_by_number.proofs.SemaphoreKept.{kept-same}
 use Rattle.cqs_by_number.proofs.semaphore_caller.SemaphoreCaller.sole.Goals as goal

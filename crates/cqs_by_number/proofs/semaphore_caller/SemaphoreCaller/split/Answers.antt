@@ -1,9 +1,9 @@
 use Rattle.std.proofs.Common.{ap, subst, sym, refl, ◌∙◌}
-use Rattle.cqs_rule.specs.declared.view.Facts.{Facts}
+use Rattle.cqs_views.specs.declared.view.Facts.{Facts}
 use Rattle.cqs_by_number.proofs.SemaphoreKept.{kept-same, owes-none}
-use Rattle.cqs_rule.specs.Crew.{Came}
+use Rattle.cqs_views.specs.Crew.{Came}
 use Rattle.cqs_rule.specs.Passes.{pass_view}
-use Rattle.cqs_rule.specs.Semaphore.{semaphore_object}
+use Rattle.cqs_semaphore_client.specs.Semaphore.{semaphore_object}
 use Rattle.cqs_by_number.proofs.NotRefused.{room-there}
 use Rattle.cqs_by_number.proofs.semaphore_caller.SemaphoreCaller.split.Goals as goal
 

@@ -1,8 +1,8 @@
 use Rattle.std.proofs.Common.{◌≡◌, ◌∙◌, ◌<◌, length, ap, subst, sym}
 use Rattle.std.proofs.lemmas.List.Elements.{All-get_or}
-use Rattle.cqs_rule.specs.declared.config.Place.{Place}
+use Rattle.cqs_views.specs.declared.config.Place.{Place}
 use Rattle.cqs_rule.specs.Passes.{pass_view}
-use Rattle.cqs_rule.proofs.Lists.{get_index}
+use Rattle.cqs_views.proofs.Lists.{get_index}
 use Rattle.cqs_by_number.specs.SemaphoreCallers.{StandsAt}
 use Rattle.cqs_by_number.specs.Waits.{HasAt, IsAt}
 use Rattle.cqs_by_number.proofs.semaphore_caller.SemaphoreCaller.token.Goals as goal

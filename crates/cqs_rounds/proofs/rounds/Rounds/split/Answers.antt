@@ -2,7 +2,7 @@ use Rattle.std.proofs.Common.{◌<◌, ◌≤◌, length, refl, sym, ap, ◌∙�
 use Rattle.std.proofs.lemmas.List.{length_push}
 use Rattle.cqs_core.proofs.Places.{get-below}
 use Rattle.cqs_rule.specs.Passes.{pass_view, passes_of}
-use Rattle.cqs_rule.specs.Views.{made_in}
+use Rattle.cqs_views.specs.Views.{made_in}
 use Rattle.cqs_rounds.proofs.Crowds.{split-more, ready-after, free-made, crowded-at}
 use Rattle.cqs_rounds.proofs.Mine.{at-pass, for-none, for-push, mine-set}
 use Rattle.cqs_rounds.proofs.Pairs.{pairs-set}

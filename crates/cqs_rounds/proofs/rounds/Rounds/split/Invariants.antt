@@ -1,7 +1,7 @@
 use Rattle.std.proofs.Common.{◌≡◌, ◌<◌, length}
 use Rattle.std.specs.Vec.{vec_capacity}
 use Rattle.cqs_rule.specs.Passes.{pass_view, passes_of}
-use Rattle.cqs_rule.specs.Views.{made_in}
+use Rattle.cqs_views.specs.Views.{made_in}
 use Rattle.cqs_rounds.specs.Passes.{AreCalledWithin}
 use Rattle.cqs_rounds.specs.Rounds.{AreMine, barriers_of, rounds_in}
 use Rattle.cqs_rounds.specs.Seats.{AreFor, HasSplit}

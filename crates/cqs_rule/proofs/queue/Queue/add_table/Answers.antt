@@ -1,7 +1,7 @@
 use Rattle.std.proofs.Common.{rules, ◌≡◌, unsigned_abs}
-use Rattle.cqs_rule.proofs.Lists.{set_there}
-use Rattle.cqs_rule.proofs.Alone.{alone-now}
-use Rattle.cqs_rule.proofs.Counters.{count, counter-low}
+use Rattle.cqs_views.proofs.Lists.{set_there}
+use Rattle.cqs_views.proofs.Alone.{alone-now}
+use Rattle.cqs_views.proofs.Counters.{count, counter-low}
 use Rattle.cqs_rule.proofs.queue.Queue.add_table.Goals as goal
 
 pub fetch_add-found-requires : goal.fetch_add-found-requires

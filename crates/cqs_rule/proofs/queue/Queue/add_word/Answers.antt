@@ -1,9 +1,9 @@
 use Rattle.std.proofs.Common.{rules, ◌+◌, ◌-◌, ◌%◌, ◌^◌, ◌≡◌, pos, unsigned_abs, ◌<ℤ◌, ◌≤ℤ◌}
-use Rattle.cqs_rule.specs.Events.{in_any_case}
-use Rattle.cqs_rule.proofs.Lists.{set_there}
-use Rattle.cqs_rule.proofs.Alone.{alone-now}
-use Rattle.cqs_rule.proofs.CellPlaces.{client-inside}
-use Rattle.cqs_rule.proofs.Moves.{moves-at, added-down, added-up}
+use Rattle.cqs_views.specs.Events.{in_any_case}
+use Rattle.cqs_views.proofs.Lists.{set_there}
+use Rattle.cqs_views.proofs.Alone.{alone-now}
+use Rattle.cqs_views.proofs.CellPlaces.{client-inside}
+use Rattle.cqs_views.proofs.Moves.{moves-at, added-down, added-up}
 use Rattle.cqs_rule.proofs.queue.Queue.add_word.Goals as goal
 
 pub fetch_sub-found-requires : goal.fetch_sub-found-requires

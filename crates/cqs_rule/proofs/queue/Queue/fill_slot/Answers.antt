@@ -1,12 +1,12 @@
 use Rattle.std.proofs.Common.{◌≡◌, ◌∙◌, ◌<◌, ap, sym, subst, length, ◌∷◌, Some}
 use Rattle.atomic_table.specs.Table.{rest}
-use Rattle.cqs_rule.specs.declared.view.View.{View}
-use Rattle.cqs_rule.specs.Facts.{is_owing}
-use Rattle.cqs_rule.specs.Layout.{words_for}
-use Rattle.cqs_rule.specs.Lists.{IsPrefix}
-use Rattle.cqs_rule.specs.SlotSteps.{TookOut}
-use Rattle.cqs_rule.proofs.Lists.{prefix-then}
-use Rattle.cqs_rule.proofs.Swaps.{swapped-then, inside-swapped, live-swapped, alone-swapped}
+use Rattle.cqs_views.specs.declared.view.View.{View}
+use Rattle.cqs_views.specs.Facts.{is_owing}
+use Rattle.cqs_views.specs.Layout.{words_for}
+use Rattle.cqs_views.specs.Lists.{IsPrefix}
+use Rattle.cqs_views.specs.SlotSteps.{TookOut}
+use Rattle.cqs_views.proofs.Lists.{prefix-then}
+use Rattle.cqs_views.proofs.Swaps.{swapped-then, inside-swapped, live-swapped, alone-swapped}
 use Rattle.cqs_rule.proofs.queue.Queue.fill_slot.Goals as goal
 
 pub put_first-requires-clause-item : goal.put_first-requires-clause-item

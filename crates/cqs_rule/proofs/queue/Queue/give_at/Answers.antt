@@ -1,10 +1,10 @@
 use Rattle.std.proofs.Common.{rules, ◌+◌, ◌%◌, ◌^◌, ap, subst}
-use Rattle.cqs_rule.specs.Events.{in_any_case}
-use Rattle.cqs_rule.specs.SlotSteps.{GivesAway}
-use Rattle.cqs_rule.proofs.Lists.{set_there}
-use Rattle.cqs_rule.proofs.Alone.{alone-now}
-use Rattle.cqs_rule.proofs.CellPlaces.{client-inside}
-use Rattle.cqs_rule.proofs.Giving.{gives-at}
+use Rattle.cqs_views.specs.Events.{in_any_case}
+use Rattle.cqs_views.specs.SlotSteps.{GivesAway}
+use Rattle.cqs_views.proofs.Lists.{set_there}
+use Rattle.cqs_views.proofs.Alone.{alone-now}
+use Rattle.cqs_views.proofs.CellPlaces.{client-inside}
+use Rattle.cqs_views.proofs.Giving.{gives-at}
 use Rattle.cqs_rule.proofs.queue.Queue.give_at.Goals as goal
 
 pub fetch_add-found-requires : goal.fetch_add-found-requires

@@ -1,7 +1,7 @@
 use Rattle.std.proofs.Common.{rules, refl}
-use Rattle.cqs_rule.proofs.Lists.{set_there}
-use Rattle.cqs_rule.proofs.Alone.{alone-now}
-use Rattle.cqs_rule.proofs.CellLoads.{loads, load-low}
+use Rattle.cqs_views.proofs.Lists.{set_there}
+use Rattle.cqs_views.proofs.Alone.{alone-now}
+use Rattle.cqs_views.proofs.CellLoads.{loads, load-low}
 use Rattle.cqs_rule.proofs.queue.Queue.load_table.Goals as goal
 
 pub load-found-requires : goal.load-found-requires

@@ -1,9 +1,9 @@
 use Rattle.std.proofs.Common.{rules, ap, arith, subst}
-use Rattle.cqs_rule.proofs.Alone.{alone-now}
-use Rattle.cqs_rule.proofs.CrewSplits.{makes-to}
-use Rattle.cqs_rule.proofs.Lists.{set_there}
+use Rattle.cqs_views.proofs.Alone.{alone-now}
+use Rattle.cqs_views.proofs.CrewSplits.{makes-to}
+use Rattle.cqs_views.proofs.Lists.{set_there}
 use Rattle.cqs_rule.proofs.queue.Queue.make.Goals as goal
-use Rattle.cqs_rule.specs.Crew.{MayGive}
+use Rattle.cqs_views.specs.Crew.{MayGive}
 
 pub compare_exchange-requires : goal.compare_exchange-requires
 compare_exchange-requires g c =

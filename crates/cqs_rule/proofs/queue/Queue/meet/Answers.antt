@@ -1,8 +1,8 @@
 use Rattle.std.proofs.Common.{rules, ◌≡◌, ◌∙◌, []}
-use Rattle.cqs_rule.proofs.Lists.{set_there}
-use Rattle.cqs_rule.proofs.Alone.{alone-now}
-use Rattle.cqs_rule.proofs.CrewMeets.{joins, meets}
-use Rattle.cqs_rule.proofs.Tries.{between-idle, none-of, none-slots, joined-idles}
+use Rattle.cqs_views.proofs.Lists.{set_there}
+use Rattle.cqs_views.proofs.Alone.{alone-now}
+use Rattle.cqs_views.proofs.CrewMeets.{joins, meets}
+use Rattle.cqs_views.proofs.Tries.{between-idle, none-of, none-slots, joined-idles}
 use Rattle.cqs_rule.proofs.queue.Queue.meet.Goals as goal
 
 pub join_seat-requires : goal.join_seat-requires

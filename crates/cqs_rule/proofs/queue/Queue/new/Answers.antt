@@ -1,11 +1,11 @@
 use Rattle.std.proofs.Common.{rules, ◌≡◌, true, refl, sym, subst}
-use Rattle.cqs_rule.specs.Configured.{is_config}
-use Rattle.cqs_rule.specs.Saw.{IsLive}
-use Rattle.cqs_rule.specs.Ruled.{cell_count}
-use Rattle.cqs_rule.specs.Views.{first_view}
-use Rattle.cqs_rule.specs.Alone.{TellsAlone}
-use Rattle.cqs_rule.proofs.Alone.{alone-now}
-use Rattle.cqs_rule.proofs.Opens.{opens-by, first-live-by}
+use Rattle.cqs_views.specs.Configured.{is_config}
+use Rattle.cqs_views.specs.Saw.{IsLive}
+use Rattle.cqs_views.specs.Ruled.{cell_count}
+use Rattle.cqs_views.specs.Views.{first_view}
+use Rattle.cqs_views.specs.Alone.{TellsAlone}
+use Rattle.cqs_views.proofs.Alone.{alone-now}
+use Rattle.cqs_views.proofs.Opens.{opens-by, first-live-by}
 use Rattle.cqs_rule.proofs.queue.Queue.new.Goals as goal
 
 pub vacant-requires : goal.vacant-requires

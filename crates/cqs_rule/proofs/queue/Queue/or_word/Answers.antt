@@ -1,9 +1,9 @@
 use Rattle.std.proofs.Common.{rules, refl, bit_or}
-use Rattle.cqs_rule.specs.Events.{in_any_case}
-use Rattle.cqs_rule.proofs.Lists.{set_there}
-use Rattle.cqs_rule.proofs.Alone.{alone-now}
-use Rattle.cqs_rule.proofs.CellPlaces.{client-inside}
-use Rattle.cqs_rule.proofs.Moves.{moves-at}
+use Rattle.cqs_views.specs.Events.{in_any_case}
+use Rattle.cqs_views.proofs.Lists.{set_there}
+use Rattle.cqs_views.proofs.Alone.{alone-now}
+use Rattle.cqs_views.proofs.CellPlaces.{client-inside}
+use Rattle.cqs_views.proofs.Moves.{moves-at}
 use Rattle.cqs_rule.proofs.queue.Queue.or_word.Goals as goal
 
 pub fetch_or-found-requires : goal.fetch_or-found-requires

@@ -1,7 +1,7 @@
 use Rattle.std.proofs.Common.{rules, ◌≡◌, ◌<◌, ap, sym, ◌∙◌, subst, arith}
-use Rattle.cqs_rule.specs.Layout.{words_for, cell_place}
-use Rattle.cqs_rule.specs.Placed.{place_word}
-use Rattle.cqs_rule.proofs.CellPlaces.{cell-inside}
+use Rattle.cqs_views.specs.Layout.{words_for, cell_place}
+use Rattle.cqs_views.specs.Placed.{place_word}
+use Rattle.cqs_views.proofs.CellPlaces.{cell-inside}
 use Rattle.cqs_rule.proofs.queue.Queue.park_wait.Goals as goal
 
 pub low_half-waiter-requires : goal.low_half-waiter-requires

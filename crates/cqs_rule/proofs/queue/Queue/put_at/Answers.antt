@@ -1,8 +1,8 @@
 use Rattle.std.proofs.Common.{rules, subst}
-use Rattle.cqs_rule.proofs.Lists.{set_there}
-use Rattle.cqs_rule.proofs.Alone.{alone-now}
-use Rattle.cqs_rule.proofs.CellPlaces.{resumes-inside}
-use Rattle.cqs_rule.proofs.Putting.{MayPut, put}
+use Rattle.cqs_views.proofs.Lists.{set_there}
+use Rattle.cqs_views.proofs.Alone.{alone-now}
+use Rattle.cqs_views.proofs.CellPlaces.{resumes-inside}
+use Rattle.cqs_views.proofs.Putting.{MayPut, put}
 use Rattle.cqs_rule.proofs.queue.Queue.put_at.Goals as goal
 
 pub fetch_add-found-requires : goal.fetch_add-found-requires

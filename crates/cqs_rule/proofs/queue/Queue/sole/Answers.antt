@@ -1,9 +1,9 @@
 use Rattle.std.proofs.Common.{rules}
-use Rattle.cqs_rule.specs.Crew.{IsSole}
-use Rattle.cqs_rule.proofs.Lists.{set_there}
-use Rattle.cqs_rule.proofs.Alone.{alone-now}
-use Rattle.cqs_rule.proofs.CrewLooks.{counts}
-use Rattle.cqs_rule.proofs.Tries.{sole-tells}
+use Rattle.cqs_views.specs.Crew.{IsSole}
+use Rattle.cqs_views.proofs.Lists.{set_there}
+use Rattle.cqs_views.proofs.Alone.{alone-now}
+use Rattle.cqs_views.proofs.CrewLooks.{counts}
+use Rattle.cqs_views.proofs.Tries.{sole-tells}
 use Rattle.cqs_rule.proofs.queue.Queue.sole.Goals as goal
 
 pub load-found-requires : goal.load-found-requires

@@ -1,16 +1,16 @@
 use Rattle.std.proofs.Common.{rules, [], ◌-◌, ◌<◌, ◌∙◌, sym, refl, ap, subst, length, arith}
-use Rattle.cqs_rule.specs.declared.view.Facts.{Facts}
-use Rattle.cqs_rule.specs.Crew.{IsSole, MayGive}
-use Rattle.cqs_rule.specs.Layout.{words_for}
-use Rattle.cqs_rule.specs.Facts.{is_owing}
-use Rattle.cqs_rule.specs.Saw.{Saw}
-use Rattle.cqs_rule.specs.Views.{crew_turn, facts_lessened, as_before}
-use Rattle.cqs_rule.proofs.Lists.{set_there}
-use Rattle.cqs_rule.proofs.Alone.{alone-now, not-alone}
-use Rattle.cqs_rule.proofs.CrewHeld.{lessened-held, lessened-further, lessened-spares}
-use Rattle.cqs_rule.proofs.CrewLooks.{counts}
-use Rattle.cqs_rule.proofs.CrewSplits.{splits}
-use Rattle.cqs_rule.proofs.Tries.{sole-tells, tries-first, tries-again, cut-leaves, cut-begins, le-by}
+use Rattle.cqs_views.specs.declared.view.Facts.{Facts}
+use Rattle.cqs_views.specs.Crew.{IsSole, MayGive}
+use Rattle.cqs_views.specs.Layout.{words_for}
+use Rattle.cqs_views.specs.Facts.{is_owing}
+use Rattle.cqs_views.specs.Saw.{Saw}
+use Rattle.cqs_views.specs.Views.{crew_turn, facts_lessened, as_before}
+use Rattle.cqs_views.proofs.Lists.{set_there}
+use Rattle.cqs_views.proofs.Alone.{alone-now, not-alone}
+use Rattle.cqs_views.proofs.CrewHeld.{lessened-held, lessened-further, lessened-spares}
+use Rattle.cqs_views.proofs.CrewLooks.{counts}
+use Rattle.cqs_views.proofs.CrewSplits.{splits}
+use Rattle.cqs_views.proofs.Tries.{sole-tells, tries-first, tries-again, cut-leaves, cut-begins, le-by}
 use Rattle.cqs_rule.proofs.queue.Queue.split.Goals as goal
 
 pub load-saw-requires : goal.load-saw-requires

@@ -1,10 +1,10 @@
 use Rattle.std.proofs.Common.{◌≡◌, ◌∙◌, ◌<◌, ap, sym, subst, length, ◌∷◌}
 use Rattle.atomic_table.specs.Table.{rest}
-use Rattle.cqs_rule.specs.declared.view.View.{View}
-use Rattle.cqs_rule.specs.Facts.{is_owing}
-use Rattle.cqs_rule.specs.Layout.{words_for}
-use Rattle.cqs_rule.specs.SlotSteps.{TookOut}
-use Rattle.cqs_rule.proofs.Swaps.{swapped-then, inside-swapped, live-swapped, alone-swapped}
+use Rattle.cqs_views.specs.declared.view.View.{View}
+use Rattle.cqs_views.specs.Facts.{is_owing}
+use Rattle.cqs_views.specs.Layout.{words_for}
+use Rattle.cqs_views.specs.SlotSteps.{TookOut}
+use Rattle.cqs_views.proofs.Swaps.{swapped-then, inside-swapped, live-swapped, alone-swapped}
 use Rattle.cqs_rule.proofs.queue.Queue.swap_slot.Goals as goal
 
 pub put_back-requires-clause-item : goal.put_back-requires-clause-item

@@ -1,7 +1,7 @@
 use Rattle.std.proofs.Common.{rules, refl, ◌<◌, ◌^◌, ap, sym, ◌∙◌, subst, arith}
-use Rattle.cqs_rule.proofs.Lists.{set_there}
-use Rattle.cqs_rule.proofs.Alone.{alone-now}
-use Rattle.cqs_rule.proofs.CellSteps.{cross, crossing-low}
+use Rattle.cqs_views.proofs.Lists.{set_there}
+use Rattle.cqs_views.proofs.Alone.{alone-now}
+use Rattle.cqs_views.proofs.CellSteps.{cross, crossing-low}
 use Rattle.cqs_rule.proofs.queue.Queue.swap_table.Goals as goal
 
 pub compare_exchange-found-requires : goal.compare_exchange-found-requires
@@ -33,7 +33,7 @@ held_after-pass-requires g c =
     let e = c.compare_exchange-found.ensures in
     let carries = e.2.0.3 c.if-found-saw.true in
     subst (λ z. z < 2 ^ 32) (carries.held ∙ ap
-    (Rattle.cqs_rule.specs.Kinds.held_then g.C.ClientWords.object.gains.held g.K.Kind.step) c.args.pass.now.held_is)
+    (Rattle.cqs_views.specs.Kinds.held_then g.C.ClientWords.object.gains.held g.K.Kind.step) c.args.pass.now.held_is)
     e.2.0.2.held
 
 pub waits_after-pass-requires-clause-some : goal.waits_after-pass-requires-clause-some
@@ -45,7 +45,7 @@ waits_after-pass-requires-clause-some g c =
 pub invariant_of-pass-clause-held_is : goal.invariant_of-pass-clause-held_is
 invariant_of-pass-clause-held_is g c =
     let carries = c.compare_exchange-found.ensures.2.0.3 c.if-found-saw.true in
-    carries.held ∙ (ap (Rattle.cqs_rule.specs.Kinds.held_then g.C.ClientWords.object.gains.held g.K.Kind.step)
+    carries.held ∙ (ap (Rattle.cqs_views.specs.Kinds.held_then g.C.ClientWords.object.gains.held g.K.Kind.step)
     c.args.pass.now.held_is
     ∙ sym c.held_after-pass.ensures)
 

@@ -1,10 +1,10 @@
 use Rattle.std.proofs.Common.{rules, refl, ◌==◌}
 use prog.Atomic.{either}
-use Rattle.cqs_rule.specs.Events.{where_found}
-use Rattle.cqs_rule.proofs.Lists.{set_there}
-use Rattle.cqs_rule.proofs.Alone.{alone-now}
-use Rattle.cqs_rule.proofs.CellPlaces.{client-inside}
-use Rattle.cqs_rule.proofs.Moves.{moves-at}
+use Rattle.cqs_views.specs.Events.{where_found}
+use Rattle.cqs_views.proofs.Lists.{set_there}
+use Rattle.cqs_views.proofs.Alone.{alone-now}
+use Rattle.cqs_views.proofs.CellPlaces.{client-inside}
+use Rattle.cqs_views.proofs.Moves.{moves-at}
 use Rattle.cqs_rule.proofs.queue.Queue.swap_word.Goals as goal
 
 pub compare_exchange-found-requires : goal.compare_exchange-found-requires

@@ -1,5 +1,5 @@
 use Rattle.std.proofs.Common.{rules, ◌⊎◌, ◌≡◌, true, subst, arith}
-use Rattle.cqs_rule.proofs.Swaps.{takes-out}
+use Rattle.cqs_views.proofs.Swaps.{takes-out}
 use Rattle.cqs_rule.proofs.queue.Queue.take_out.Goals as goal
 
 pub load-requires : goal.load-requires

@@ -1,4 +1,4 @@
-use Rattle.cqs_rule.specs.Opened.{IsOpening}
+use Rattle.cqs_views.specs.Opened.{IsOpening}
 use Rattle.cqs_rule.proofs.queue.opening.opening_words.Given as goal
 
 abbrev pub invariant-loop-place : goal.invariant-loop-place

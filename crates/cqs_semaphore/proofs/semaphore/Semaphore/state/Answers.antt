@@ -1,6 +1,6 @@
 use Rattle.std.proofs.Common.{[]}
-use Rattle.cqs_rule.specs.Semaphore.{semaphore_object}
-use Rattle.cqs_rule.proofs.Calls.{called-by}
+use Rattle.cqs_semaphore_client.specs.Semaphore.{semaphore_object}
+use Rattle.cqs_views.proofs.Calls.{called-by}
 use Rattle.cqs_semaphore.proofs.Rules.{call-rule_own}
 use Rattle.cqs_semaphore.proofs.semaphore.Semaphore.state.Goals as goal
 

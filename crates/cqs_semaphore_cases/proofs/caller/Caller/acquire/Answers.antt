@@ -1,6 +1,6 @@
 use Rattle.std.proofs.Common.{All, ap, subst, sym}
 use Rattle.std.proofs.lemmas.List.Elements.{All-push}
-use Rattle.cqs_rule.specs.declared.view.Facts.{Facts}
+use Rattle.cqs_views.specs.declared.view.Facts.{Facts}
 use Rattle.cqs_rule.specs.Passes.{pass_view}
 use Rattle.cqs_rule.specs.Waits.{HasWait}
 use Rattle.cqs_semaphore_cases.proofs.Kept.{kept-same, kept-more, took-waits, stands-ready}

@@ -1,5 +1,5 @@
 use Rattle.std.proofs.Common.{sym, subst}
-use Rattle.cqs_rule.specs.declared.view.Facts.{Facts}
+use Rattle.cqs_views.specs.declared.view.Facts.{Facts}
 use Rattle.cqs_semaphore_cases.specs.Callers.{OwesJust}
 use Rattle.cqs_semaphore_cases.proofs.Kept.{kept-looked}
 use Rattle.cqs_semaphore_cases.proofs.caller.Caller.sole.Goals as goal

@@ -1,5 +1,5 @@
 use Rattle.std.proofs.Common.{[], refl, ◌∙◌}
-use Rattle.cqs_rule.specs.Semaphore.{semaphore_object}
+use Rattle.cqs_semaphore_client.specs.Semaphore.{semaphore_object}
 use Rattle.cqs_shared_floors.proofs.PermitShares.{silent}
 use Rattle.cqs_shared_floors.proofs.Runs.{went-then}
 use Rattle.cqs_shared_floors.proofs.kinds.permits.finish.Goals as goal

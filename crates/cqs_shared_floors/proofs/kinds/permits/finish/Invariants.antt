@@ -1,7 +1,7 @@
 use Rattle.std.proofs.Common.{◌≡◌, []}
 use Rattle.cqs_rule.specs.Owed.{HasUnder}
 use Rattle.cqs_rule.specs.Passes.{pass_view}
-use Rattle.cqs_rule.specs.Semaphore.{semaphore_object}
+use Rattle.cqs_semaphore_client.specs.Semaphore.{semaphore_object}
 use Rattle.cqs_semaphore.specs.Calls.{IsMine}
 use Rattle.cqs_shared_floors.specs.Runs.{Went}
 use Rattle.cqs_shared_floors.proofs.kinds.permits.finish.Given as goal

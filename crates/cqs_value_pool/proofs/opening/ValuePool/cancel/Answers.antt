@@ -1,5 +1,5 @@
 use Rattle.std.proofs.Common.{sym, refl, subst, inl, inr}
-use Rattle.cqs_rule.specs.Lists.{Has}
+use Rattle.cqs_views.specs.Lists.{Has}
 use Rattle.cqs_rule.specs.Passes.{pass_view}
 use Rattle.cqs_value_pool.proofs.Values.{all-filled, tidy-then, tidy-same, leaves-slots}
 use Rattle.cqs_value_pool.proofs.opening.ValuePool.cancel.Goals as goal

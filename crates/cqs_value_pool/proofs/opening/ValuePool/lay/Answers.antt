@@ -1,5 +1,5 @@
 use Rattle.std.proofs.Common.{◌<◌, ◌∙◌, ap, sym, subst}
-use Rattle.cqs_rule.specs.Lists.{Has}
+use Rattle.cqs_views.specs.Lists.{Has}
 use Rattle.cqs_rule.specs.Passes.{pass_view, slots_of, IsOf}
 use Rattle.cqs_value_pool.proofs.Values.{low-slot}
 use Rattle.cqs_value_pool.proofs.opening.ValuePool.lay.Goals as goal

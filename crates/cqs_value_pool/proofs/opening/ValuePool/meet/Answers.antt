@@ -1,8 +1,8 @@
 use Rattle.std.proofs.Common.{◌∙◌, ap, sym, subst}
-use Rattle.cqs_rule.specs.Lists.{Has}
+use Rattle.cqs_views.specs.Lists.{Has}
 use Rattle.cqs_rule.specs.Passes.{pass_view}
-use Rattle.cqs_rule.specs.Slots.{laid_in}
-use Rattle.cqs_rule.proofs.Lists.{has_left, has_right}
+use Rattle.cqs_views.specs.Slots.{laid_in}
+use Rattle.cqs_views.proofs.Lists.{has_left, has_right}
 use Rattle.cqs_value_pool.specs.Pools.{Belongs}
 use Rattle.cqs_value_pool.proofs.Values.{all-filled, none-both, by-answer}
 use Rattle.cqs_value_pool.proofs.opening.ValuePool.meet.Goals as goal

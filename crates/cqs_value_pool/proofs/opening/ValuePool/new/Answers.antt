@@ -1,6 +1,6 @@
 use Rattle.std.proofs.Common.{◌≡◌, rules, ap, length}
 use Rattle.cqs_rule.specs.Passes.{pass_view}
-use Rattle.cqs_rule.specs.Slots.{laid_in}
+use Rattle.cqs_views.specs.Slots.{laid_in}
 use Rattle.cqs_pool.specs.Calls.{size_of}
 use Rattle.cqs_value_pool.proofs.Values.{all-held}
 use Rattle.cqs_value_pool.proofs.opening.ValuePool.new.Goals as goal

@@ -1,6 +1,6 @@
 use Rattle.std.proofs.Common.{Some}
 use Rattle.cqs_rule.specs.Passes.{pass_view}
-use Rattle.cqs_rule.proofs.Lists.{prefix-then}
+use Rattle.cqs_views.proofs.Lists.{prefix-then}
 use Rattle.cqs_value_pool.specs.Values.{in_slot}
 use Rattle.cqs_value_pool.proofs.Values.{all-filled, laid-swapped, lays-value, tidy-swapped, tidy-put, ends-slots}
 use Rattle.cqs_value_pool.proofs.opening.ValuePool.put.Goals as goal

@@ -1,5 +1,5 @@
 use Rattle.std.proofs.Common.{ap, sym, subst}
-use Rattle.cqs_rule.specs.Slots.{laid_in}
+use Rattle.cqs_views.specs.Slots.{laid_in}
 use Rattle.cqs_value_pool.specs.Pools.{AreFilled}
 use Rattle.cqs_rule.specs.Passes.{pass_view}
 use Rattle.cqs_value_pool.proofs.Values.{all-filled, tidy-same, if-ok}

@@ -1,7 +1,7 @@
 use Rattle.std.proofs.Common.{◌≡◌, ◌<◌, ◌∙◌, None, ap, sym, subst}
-use Rattle.cqs_rule.specs.Lists.{Has}
+use Rattle.cqs_views.specs.Lists.{Has}
 use Rattle.cqs_rule.specs.Passes.{pass_view, slots_of, IsOf}
-use Rattle.cqs_rule.specs.Slots.{laid_in}
+use Rattle.cqs_views.specs.Slots.{laid_in}
 use Rattle.cqs_value_pool.proofs.Values.{all-filled, lay-filled, low-slot, tidy-swapped}
 use Rattle.cqs_value_pool.proofs.opening.ValuePool.take_out.Goals as goal
 

@@ -1,5 +1,0 @@
-use Rattle.cqs_rule.proofs.StandStill.{silent-moves}
-use Rattle.cqs_rule.proofs.semaphore.calls.read_state.Goals as goal
-
-pub load_word-requires-clause-law : goal.load_word-requires-clause-law
-load_word-requires-clause-law g c = silent-moves _ _ _ _ _

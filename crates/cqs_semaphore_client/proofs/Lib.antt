@@ -1,0 +1,3 @@
+pub mod LowLine
+pub mod SemaphoreMoves
+pub mod StateFound

@@ -1,0 +1,4 @@
+pub mod Semaphore
+pub mod SemaphoreSteps
+pub mod SemaphoreClient
+pub mod SemaphorePermits

@@ -1,0 +1,284 @@
+-- The semaphore is a client: each step of the queue that suits it is an event of its core, by the
+-- law of the core. This file is a proof: nothing of it has to be read to know what is promised, and
+-- nothing in it is taken on trust.
+use Rattle.std.proofs.Common.{◌≡◌, ◌≢◌, ℕ, zero, suc, ◌+◌, ◌-◌, ◌<◌, ◌≤◌, true, false, List, [], ◌∷◌, ◌++◌, replicate, refl, ap, sym, ◌∙◌, subst, ⊎_elim, arith, Option, Some, slice_get, nat_lt, lt-ltb, ne_eqb, ℤ, pos, le-leb, length, get_or, set, nat_le}
+use Rattle.std.proofs.lemmas.Option.{get_or_from_slice_get}
+use Rattle.std.proofs.lemmas.List.{length-set}
+use Rattle.std.proofs.lemmas.List.Sums.{sum_by-set, get_or-le-sum_by}
+use mathlib.Core.Logic.{dite}
+use native.Mathlib.Decide.{ℕ_discrete}
+use Rattle.std.specs.Prelude.{slice_index, slice_set}
+use Rattle.std.proofs.lemmas.Int.{ints}
+use Rattle.cqs_core.specs.declared.cells.CoreCell.{CoreCell}
+use Rattle.cqs_core.specs.declared.entries.Entry.{Entry}
+use Rattle.cqs_core.specs.QueueSteps as step
+use Rattle.cqs_core.specs.QueueSteps.{QueueStep, row_of, StepRow, at_counter, at_cell, Gain, nothing, its_own, a_debt, Cost, no_cost, one_owed, one_element, IsOpenStep}
+use Rattle.cqs_core.specs.SemaphoreNames.{entry_names}
+use Rattle.cqs_core.specs.SemaphoreSteps.{IsSemaphoreStep, step_entries, shape_after, held_by, gain_of}
+use Rattle.cqs_core.proofs.SemaphoreSteps.{step-core}
+use Rattle.cqs_core.specs.SemaphoreTable.{Shape}
+use Rattle.cqs_core.specs.SemaphoreShown.{IsCore, opening_shape}
+use Rattle.cqs_core.specs.SemaphoreRuns.{held_after}
+use Rattle.cqs_core.proofs.OpenedCore.{opened-core, hand_over-core}
+use Rattle.cqs_core.proofs.Places.{get-below, get-set_else}
+use Rattle.cqs_core.proofs.Bounds.{reached-few, held-small}
+use Rattle.cqs_core.proofs.FirstOfWay.{ending-within}
+use Rattle.cqs_views.specs.declared.view.Has.{Has}
+use Rattle.cqs_views.specs.Client.{IsClient, KeepsSlots, IsBegun, begun_by, no_number}
+use Rattle.cqs_views.specs.Held.{held_of}
+use Rattle.cqs_views.proofs.Held.{held-at, held-is, held-set, held-kept}
+use Rattle.cqs_views.specs.Hidden.{Hidden, hidden_after, has_after, has_gained, has_paid, has_both, has_none, hands_over}
+use Rattle.cqs_views.specs.Lists.{NamesOnly}
+use Rattle.cqs_views.specs.Manner.{Suits}
+use Rattle.cqs_views.specs.Opened.{first_hidden, four}
+use Rattle.cqs_semaphore_client.specs.Semaphore.{core_shown, one_more, opens_one, semaphore_manner, semaphore_object, semaphore_primitive}
+use Rattle.cqs_views.specs.Views.{first_has}
+use Rattle.cqs_words.specs.State.{state_word, count_in}
+
+silent-step : (s : QueueStep) (p k payload : ℕ) → NamesOnly entry_names p (step_entries s p k)
+silent-step step.draws p k payload n apart = rw (ne_eqb p n (λ q. apart (sym q))) refl
+silent-step step.enters p k payload n apart = refl
+silent-step step.reaches p k payload n apart = refl
+silent-step step.begins p k payload n apart = refl
+silent-step step.puts p k payload n apart = refl
+silent-step step.installs p k payload n apart = refl
+silent-step step.takes p k payload n apart = refl
+silent-step step.serves p k payload n apart = refl
+silent-step step.leaves p k payload n apart = refl
+silent-step step.delegates p k payload n apart = refl
+silent-step step.passes_over p k payload n apart = refl
+silent-step step.ends_refused p k payload n apart = refl
+silent-step step.ends_missed p k payload n apart = refl
+silent-step step.starts_leaving p k payload n apart = refl
+silent-step step.leaves_line p k payload n apart = refl
+silent-step step.leaves_at_once p k payload n apart = refl
+silent-step step.settles p k payload n apart = refl
+silent-step step.settles_owing p k payload n apart = refl
+silent-step step.refuses p k payload n apart = refl
+silent-step step.refuses_value p k payload n apart = refl
+silent-step (step.looks step.pends) p k payload n apart = rw (ne_eqb p n (λ q. apart (sym q))) refl
+silent-step (step.looks step.grants) p k payload n apart = rw (ne_eqb p n (λ q. apart (sym q))) refl
+silent-step (step.looks step.late) p k payload n apart = rw (ne_eqb p n (λ q. apart (sym q))) refl
+
+-- what all hold after a step of this row
+held-after : (row : StepRow) (l : List Has) (p payload : ℕ) (has : Has) → slice_get l p ≡ Some has
+    → held_by (gain_of row) (held_of l) p
+    ≡ held_of (slice_set l p (has_after one_more row payload has))
+held-after (at_counter row) l p payload has there = paid row.cost
+  where
+    paid : (cost : Cost) → held_of l ≡ held_of (slice_set l p (has_paid cost payload has))
+    paid no_cost = held-kept l p has has there refl
+    paid one_owed = held-kept l p has (has_paid one_owed payload has) there refl
+    paid one_element = held-kept l p has (has_paid one_element payload has) there refl
+held-after (at_cell row) l p payload has there = gained row.gain
+  where
+    gained : (gain : Gain)
+        → held_by gain (held_of l) p
+        ≡ held_of (slice_set l p (has_gained one_more gain payload has))
+    gained nothing = held-kept l p has has there refl
+    gained its_own =
+        held-set l p (has_gained one_more its_own payload has) (get_or (held_of l) p 0 + 1)
+        (ap (λ n. n + 1) (sym (held-is l p has there)))
+    gained a_debt = held-kept l p has (has_gained one_more a_debt payload has) there refl
+
+-- the steps that suit a semaphore are those that keep its core
+suiting : (t : QueueStep) → Suits semaphore_manner t → IsSemaphoreStep t
+suiting step.draws suits = tt
+suiting step.enters suits = absurd (door-drawn suits)
+  where
+    door-drawn : true ≡ false → ⊥
+    door-drawn q = cc
+suiting step.reaches suits = tt
+suiting step.begins suits = suits
+suiting step.puts suits = suits
+suiting step.installs suits = tt
+suiting step.takes suits = tt
+suiting step.serves suits = tt
+suiting step.leaves suits = tt
+suiting step.delegates suits = tt
+suiting step.passes_over suits = tt
+suiting step.ends_refused suits = tt
+suiting step.ends_missed suits = suits
+suiting step.starts_leaving suits = tt
+suiting step.leaves_line suits = suits
+suiting step.leaves_at_once suits = suits
+suiting step.settles suits = tt
+suiting step.settles_owing suits = tt
+suiting step.refuses suits = tt
+suiting step.refuses_value suits = tt
+suiting (step.looks e) suits = tt
+
+-- each of them is an event of the core, or none
+steps-core : (permits : ℕ) (c : Hidden) (t : QueueStep) (p k : ℕ) (found : Option CoreCell)
+    (has : Has) (payload : ℕ)
+    (words : List ℕ) (log : List Entry)
+    → IsCore (core_shown permits c words log) → IsOpenStep c.queue t p k found
+    → slice_get c.has p ≡ Some has
+    → Suits semaphore_manner t → c.queue.suspends < no_number → c.queue.resumes < no_number
+    → IsCore (core_shown permits (hidden_after one_more c t p k found has payload) words
+    (log ++ step_entries t p k))
+steps-core permits c t p k found has payload words log core opens there suits low low' =
+    let s = core_shown permits c words log in
+    let after : Shape = shape_after s t p k found in
+    subst (λ l. IsCore (record after { held = l }))
+    (held-after (row_of t) c.has p payload has there)
+    (step-core s t p k found core (suiting t suits) opens low low')
+
+-- what the passes hold as a semaphore opens: nothing
+none-held : (passes : ℕ) → held_of (replicate passes (first_has 0)) ≡ replicate passes 0
+none-held zero = refl
+none-held (suc n) = ap (λ (l : List ℕ). 0 ∷ l) (none-held n)
+
+first-held : (passes : ℕ) → 0 < passes
+    → held_of (first_has 0 ∷ replicate (passes - 1) (first_has 0)) ≡ replicate passes 0
+first-held zero any = absurd (omega arith)
+first-held (suc n) any = let less : suc n - 1 ≡ n = omega arith in rw less (none-held (suc n))
+
+-- the state that a semaphore's word opens with
+opens-state : (permits : ℕ) → count_in (state_word (pos permits)) ≡ pos permits
+opens-state permits = grind (arith, ints)
+
+begins-core : (permits passes : ℕ) → 0 < permits → permits ≤ 1048576 → 0 < passes → passes ≤ 32
+    → IsCore (core_shown permits (first_hidden passes 0 0) (four (state_word (pos permits) ∷ []))
+    [])
+begins-core permits passes some low any few =
+    let queue = (opening_shape permits passes).queue in
+    subst (λ (z : List ℕ × ℤ).
+    IsCore (record { permits = permits; state = z.1; held = z.0; history = []; queue = queue }))
+    (λ i. (sym (first-held passes any) i, sym (opens-state permits) i))
+    (opened-core permits passes
+    (record { some_permits = some; few_permits = low; some_passes = any; few_passes = few }))
+
+-- permits that one pass gives and another gets are all still held
+given-permits : (permits : ℕ) (c : Hidden) (from to many : ℕ) (mine theirs gave got : Has)
+    (words : List ℕ) (log : List Entry)
+    → IsCore (core_shown permits c words log) → from ≢ to → slice_get c.has from ≡ Some mine
+    → slice_get c.has to ≡ Some theirs → many ≤ mine.held → gave.held ≡ mine.held - many
+    → got.held ≡ theirs.held + many
+    → IsCore (core_shown permits (hands_over c from gave to got) words log)
+given-permits permits c from to many mine theirs gave got words log core apart has there enough left
+    more =
+    let s = core_shown permits c words log in
+    let held = held_of c.has in
+    let from_has : slice_get held from ≡ Some mine.held = held-at c.has from mine has in
+    let to_has : slice_get held to ≡ Some theirs.held = held-at c.has to theirs there in
+    let first : nat_lt from (length held) ≡ true =
+    lt-ltb from (length held) (get-below held from mine.held from_has) in
+    let second : nat_lt to (length held) ≡ true =
+    lt-ltb to (length held) (get-below held to theirs.held to_has) in
+    let holds : slice_index held from ≡ mine.held = held-is c.has from mine has in
+    let few : nat_le many (slice_index held from) ≡ true =
+    le-leb many (slice_index held from) (omega arith) in
+    let rest = slice_set held from (slice_index held from - many) in
+    let lies : slice_index rest to ≡ theirs.held =
+    get_or_from_slice_get rest to theirs.held 0
+    (get-set_else held from to (slice_index held from - many) apart ∙ to_has) in
+    let is : held_after held from to many ≡ held_of (slice_set (slice_set c.has from gave) to got) =
+    (λ i. slice_set (slice_set held from (holds i - many)) to (lies i + many))
+    ∙ (ap (λ l. set l to (theirs.held + many)) (held-set c.has from gave (mine.held - many) left)
+    ∙ held-set (slice_set c.has from gave) to got (theirs.held + many) more) in
+    subst (λ l. IsCore (record s { held = l })) is
+    (hand_over-core s (record s { held = held_after held from to many }) from to many core
+    (rw (first, second, few) refl))
+
+-- a semaphore begins no resumption but by a release
+none-begun : (cost : Cost) → IsBegun cost → Suits semaphore_manner (begun_by cost) → ⊥
+none-begun no_cost begun suits = begun
+none-begun one_owed begun suits = suits
+none-begun one_element begun suits = suits
+
+-- Where there is one permit, one pass holds it.
+one-holder : (c : Hidden) (words : List ℕ) (log : List Entry) (p q : ℕ) (mine theirs : Has)
+    → IsCore (core_shown 1 c words log)
+    → slice_get c.has p ≡ Some mine → slice_get c.has q ≡ Some theirs → 0 < mine.held
+    → 0 < theirs.held → p ≡ q
+one-holder c words log p q mine theirs core here there some some' = dite (ℕ_discrete p q)
+    (λ (same : p ≡ q). same)
+    (λ (apart : p ≢ q).
+    let s = core_shown 1 c words log in
+    let held = held_of c.has in
+    let none = set held p 0 in
+    let at = held-at c.has p mine here in
+    let at' = held-at c.has q theirs there in
+    let low : p < length held = get-below held p mine.held at in
+    let low' : q < length held = get-below held q theirs.held at' in
+    let long = length-set held p 0 in
+    let is : get_or held p 0 ≡ mine.held = held-is c.has p mine here in
+    let other : get_or none q 0 ≡ theirs.held =
+    get_or_from_slice_get none q theirs.held 0 (get-set_else held p q 0 apart ∙ at') in
+    let less = sum_by-set (λ (n : ℕ). n) held p 0 0 low in
+    let one = get_or-le-sum_by (λ (n : ℕ). n) none q 0 (omega arith) in
+    let few = ending-within s.queue core.sound core.covered in
+    let all = core.conserved in
+    absurd (omega arith))
+
+-- no pass holds more permits than there are
+held-few : (s : Shape) (p n : ℕ) → IsCore s → slice_get s.held p ≡ Some n → n ≤ s.permits
+held-few s p n core there =
+    let few = ending-within s.queue core.sound core.covered in
+    let all = core.conserved in
+    let below : p < length s.held = get-below s.held p n there in
+    let is : get_or s.held p 0 ≡ n = get_or_from_slice_get s.held p n 0 there in
+    let one = get_or-le-sum_by (λ (m : ℕ). m) s.held p 0 below in
+    omega arith
+
+-- the slot of a semaphore is that of the pass that holds its one permit
+semaphore-slots : {T : Type 0} (permits : ℕ)
+    → KeepsSlots semaphore_object (semaphore_primitive {T = T} permits)
+semaphore-slots permits = record {
+  apart = λ c words log handed p q k mine theirs core here there o o'.
+      one-holder c words log p q mine theirs
+      (subst (λ n. IsCore (core_shown n c words log)) o.0 core) here there o.2 o'.2;
+  few = λ c words log handed p has core there.
+      held-few (core_shown permits c words log) p has.held core (held-at c.has p has there);
+  known = λ c words log handed p has core there. tt;
+  steps = λ s has payload k suits kept o. (o.0, o.1, after (row_of s) has payload o.2);
+  gathers = λ mine theirs k o. ⊎_elim
+      (λ (a : opens_one permits mine k). (a.0, a.1, let some = a.2 in omega arith))
+      (λ (b : opens_one permits theirs k). (b.0, b.1, let some = b.2 in omega arith)) o;
+  hands_in = λ c words log handed k value core. core;
+}
+  where
+    gained : (gain : Gain) (has : Has) (payload : ℕ) → 0 < has.held
+        → 0 < (has_gained one_more gain payload has).held
+    gained nothing has payload some = some
+    gained its_own has payload some = omega arith
+    gained a_debt has payload some = some
+
+    paid : (cost : Cost) (has : Has) (payload : ℕ) → 0 < has.held
+        → 0 < (has_paid cost payload has).held
+    paid no_cost has payload some = some
+    paid one_owed has payload some = some
+    paid one_element has payload some = some
+
+    after : (row : StepRow) (has : Has) (payload : ℕ) → 0 < has.held
+        → 0 < (has_after one_more row payload has).held
+    after (at_counter row) has payload some = paid row.cost has payload some
+    after (at_cell row) has payload some = gained row.gain has payload some
+
+-- a semaphore with permits from 1 to 1,048,576
+pub semaphore-client : {T : Type 0} (permits : ℕ) → 0 < permits → permits ≤ 1048576
+    → IsClient semaphore_object (semaphore_primitive {T = T} permits)
+semaphore-client permits some low = record {
+  begins = λ passes any few. begins-core permits passes some low any few;
+  steps = λ c t p k found has payload words log handed core opens there paid suits low low'.
+      steps-core permits c t p k found has payload words log core opens there suits low low';
+  counts = λ c p may words log handed core. core;
+  hands = λ c from to mine theirs words log handed core apart idle idle' has there.
+      given-permits permits c from to mine.held mine theirs (has_none mine) (has_both theirs mine)
+      words log core apart has there (omega arith) (omega arith) refl;
+  shares = λ c from to many mine theirs words log handed core apart idle idle' has there enough.
+      given-permits permits c from to many mine theirs (record mine { held = mine.held - many })
+      (record theirs { held = theirs.held + many }) words log core apart has there enough refl refl;
+  silent = silent-step;
+  sound = λ c words log handed core. core.sound;
+  legal_shown = λ c words log handed core. core.legal;
+  held_fits = λ c words log handed p has core there.
+      let few = held-small (core_shown permits c words log) p has.held core
+      (held-at c.has p has there) in omega arith;
+  reaches_few = λ c words log handed p core owes.
+      let few = reached-few (core_shown permits c words log) p core owes in omega arith;
+  begins_few = λ c words log handed p has cost payload core idle there paid begun suits.
+      absurd (none-begun cost begun suits);
+  slots = semaphore-slots permits;
+}

@@ -1,13 +1,14 @@
-//! What moves with the permits of a semaphore, and whether its callers may park.
+//! What moves with that which a client hands from pass to pass, as a permit, and whether its
+//! callers may park.
 
 use atomic_table::{Shared, TableRule};
 
-/// What moves with a permit: nothing, or a value that lies in a slot of the table.
+/// What moves with a permit or an element: nothing, or a value that lies in a slot of the table.
 pub trait Carries: Drop {
     ghost use Rattle.std.specs.Prelude.{◌≡◌, ◌<◌, Bool};
     ghost use Rattle.cqs_rule.specs.Carried.{slots_when};
 
-    // Whether a value moves with the permit.
+    // Whether a value moves.
     ghost kept: { Bool };
 
     /// The number of value slots.
@@ -32,8 +33,8 @@ impl Carries for () {
     }
 }
 
-/// Nothing moves with the permits, and no caller parks: each looks at its wait when it likes. So a
-/// library that may wake no thread can hold such a semaphore.
+/// Nothing moves, and no caller parks: each looks at its wait when it likes. So a library that may
+/// wake no thread can hold such a primitive.
 #[derive(Drop)]
 pub struct Unparked;
 
@@ -49,7 +50,7 @@ impl Carries for Unparked {
     fn wake<S, V, K, P: TableRule<S, V, K>>(_words: &Shared<S, V, K, P>, _word: usize) {}
 }
 
-/// A value that moves with the one permit of a guarded semaphore.
+/// A value that moves, with the one permit of a mutex or with each element of a pool.
 #[derive(Drop)]
 pub struct Kept<T> {
     pub value: T,

@@ -3,34 +3,27 @@
 
 ghost use Rattle.cqs_core.specs.QueueSteps as steps;
 
-use crate::client::ClientWords;
+use cqs_views::{Change, Waits};
+
+// The pass has and owes nothing then that it didn't have before.
+const STAYS: Change = Change {
+    gains: false,
+    owes: false,
+    pays: false,
+    waits: Waits::Stay,
+};
 
 /// Which step of the queue a call makes.
 pub trait Kind {
-    ghost use Rattle.std.specs.Prelude.{◌≡◌, ◌+◌, ◌<◌, ◌≤◌, ◌^◌};
+    ghost use Rattle.std.specs.Prelude.{◌≡◌};
     ghost use Rattle.cqs_core.specs.QueueSteps.{QueueStep};
-    ghost use Rattle.cqs_views.specs.Kinds.{held_then, owes_then, further_then, opens_wait, closes_wait};
+    ghost use Rattle.cqs_views.specs.Kinds.{change_of};
 
     ghost step: { QueueStep };
 
-    /// What a pass that held this much holds after the step.
-    fn held_after<C: ClientWords>(held: u32) -> u32
-        requires { held_then C.object.gains.held step held < 2 ^ 32 }
-        ensures { result ≡ held_then C.object.gains.held step held };
-
-    /// Whether it owes after the step.
-    fn owes_after() -> bool
-        ensures { result ≡ owes_then step };
-
-    /// How many further resumptions it owes after the step that owed this many.
-    fn further_after(further: u32) -> u32
-        ensures { result ≡ further_then step further };
-
-    /// How many waits a pass has after the step that had this many.
-    fn waits_after(waits: u32) -> u32
-        requires few { waits < 2 ^ 31 }
-        requires some { closes_wait step ≤ waits + opens_wait step }
-        ensures { result + closes_wait step ≡ waits + opens_wait step };
+    /// What the step changes of what its pass counts.
+    fn change() -> Change
+        ensures { result ≡ change_of step };
 }
 
 /// A number is drawn to suspend at, by a pass at the door.
@@ -39,20 +32,8 @@ pub struct Draws;
 impl Kind for Draws {
     ghost step = { steps.draws };
 
-    fn held_after<C: ClientWords>(held: u32) -> u32 {
-        held
-    }
-
-    fn owes_after() -> bool {
-        false
-    }
-
-    fn further_after(further: u32) -> u32 {
-        further
-    }
-
-    fn waits_after(waits: u32) -> u32 {
-        waits
+    fn change() -> Change {
+        STAYS
     }
 }
 
@@ -62,20 +43,8 @@ pub struct Enters;
 impl Kind for Enters {
     ghost step = { steps.enters };
 
-    fn held_after<C: ClientWords>(held: u32) -> u32 {
-        held
-    }
-
-    fn owes_after() -> bool {
-        false
-    }
-
-    fn further_after(further: u32) -> u32 {
-        further
-    }
-
-    fn waits_after(waits: u32) -> u32 {
-        waits
+    fn change() -> Change {
+        STAYS
     }
 }
 
@@ -85,20 +54,11 @@ pub struct Reaches;
 impl Kind for Reaches {
     ghost step = { steps.reaches };
 
-    fn held_after<C: ClientWords>(held: u32) -> u32 {
-        held
-    }
-
-    fn owes_after() -> bool {
-        true
-    }
-
-    fn further_after(further: u32) -> u32 {
-        further
-    }
-
-    fn waits_after(waits: u32) -> u32 {
-        waits
+    fn change() -> Change {
+        Change {
+            owes: true,
+            ..STAYS
+        }
     }
 }
 
@@ -109,20 +69,12 @@ pub struct Begins;
 impl Kind for Begins {
     ghost step = { steps.begins };
 
-    fn held_after<C: ClientWords>(held: u32) -> u32 {
-        held
-    }
-
-    fn owes_after() -> bool {
-        true
-    }
-
-    fn further_after(further: u32) -> u32 {
-        further.saturating_sub(1)
-    }
-
-    fn waits_after(waits: u32) -> u32 {
-        waits
+    fn change() -> Change {
+        Change {
+            owes: true,
+            pays: true,
+            ..STAYS
+        }
     }
 }
 
@@ -132,20 +84,11 @@ pub struct Installs;
 impl Kind for Installs {
     ghost step = { steps.installs };
 
-    fn held_after<C: ClientWords>(held: u32) -> u32 {
-        held
-    }
-
-    fn owes_after() -> bool {
-        false
-    }
-
-    fn further_after(further: u32) -> u32 {
-        further
-    }
-
-    fn waits_after(waits: u32) -> u32 {
-        waits + 1
+    fn change() -> Change {
+        Change {
+            waits: Waits::Open,
+            ..STAYS
+        }
     }
 }
 
@@ -155,20 +98,11 @@ pub struct Takes;
 impl Kind for Takes {
     ghost step = { steps.takes };
 
-    fn held_after<C: ClientWords>(held: u32) -> u32 {
-        C::held_after_take(held)
-    }
-
-    fn owes_after() -> bool {
-        false
-    }
-
-    fn further_after(further: u32) -> u32 {
-        further
-    }
-
-    fn waits_after(waits: u32) -> u32 {
-        waits
+    fn change() -> Change {
+        Change {
+            gains: true,
+            ..STAYS
+        }
     }
 }
 
@@ -178,20 +112,8 @@ pub struct Serves;
 impl Kind for Serves {
     ghost step = { steps.serves };
 
-    fn held_after<C: ClientWords>(held: u32) -> u32 {
-        held
-    }
-
-    fn owes_after() -> bool {
-        false
-    }
-
-    fn further_after(further: u32) -> u32 {
-        further
-    }
-
-    fn waits_after(waits: u32) -> u32 {
-        waits
+    fn change() -> Change {
+        STAYS
     }
 }
 
@@ -201,20 +123,8 @@ pub struct Leaves;
 impl Kind for Leaves {
     ghost step = { steps.leaves };
 
-    fn held_after<C: ClientWords>(held: u32) -> u32 {
-        held
-    }
-
-    fn owes_after() -> bool {
-        false
-    }
-
-    fn further_after(further: u32) -> u32 {
-        further
-    }
-
-    fn waits_after(waits: u32) -> u32 {
-        waits
+    fn change() -> Change {
+        STAYS
     }
 }
 
@@ -224,20 +134,8 @@ pub struct Delegates;
 impl Kind for Delegates {
     ghost step = { steps.delegates };
 
-    fn held_after<C: ClientWords>(held: u32) -> u32 {
-        held
-    }
-
-    fn owes_after() -> bool {
-        false
-    }
-
-    fn further_after(further: u32) -> u32 {
-        further
-    }
-
-    fn waits_after(waits: u32) -> u32 {
-        waits
+    fn change() -> Change {
+        STAYS
     }
 }
 
@@ -247,20 +145,11 @@ pub struct StartsLeaving;
 impl Kind for StartsLeaving {
     ghost step = { steps.starts_leaving };
 
-    fn held_after<C: ClientWords>(held: u32) -> u32 {
-        held
-    }
-
-    fn owes_after() -> bool {
-        true
-    }
-
-    fn further_after(further: u32) -> u32 {
-        further
-    }
-
-    fn waits_after(waits: u32) -> u32 {
-        waits
+    fn change() -> Change {
+        Change {
+            owes: true,
+            ..STAYS
+        }
     }
 }
 
@@ -270,20 +159,11 @@ pub struct LeavesLine;
 impl Kind for LeavesLine {
     ghost step = { steps.leaves_line };
 
-    fn held_after<C: ClientWords>(held: u32) -> u32 {
-        held
-    }
-
-    fn owes_after() -> bool {
-        true
-    }
-
-    fn further_after(further: u32) -> u32 {
-        further
-    }
-
-    fn waits_after(waits: u32) -> u32 {
-        waits
+    fn change() -> Change {
+        Change {
+            owes: true,
+            ..STAYS
+        }
     }
 }
 
@@ -293,20 +173,11 @@ pub struct LeavesAtOnce;
 impl Kind for LeavesAtOnce {
     ghost step = { steps.leaves_at_once };
 
-    fn held_after<C: ClientWords>(held: u32) -> u32 {
-        held
-    }
-
-    fn owes_after() -> bool {
-        false
-    }
-
-    fn further_after(further: u32) -> u32 {
-        further
-    }
-
-    fn waits_after(waits: u32) -> u32 {
-        waits - 1
+    fn change() -> Change {
+        Change {
+            waits: Waits::Close,
+            ..STAYS
+        }
     }
 }
 
@@ -316,20 +187,11 @@ pub struct Settles;
 impl Kind for Settles {
     ghost step = { steps.settles };
 
-    fn held_after<C: ClientWords>(held: u32) -> u32 {
-        held
-    }
-
-    fn owes_after() -> bool {
-        false
-    }
-
-    fn further_after(further: u32) -> u32 {
-        further
-    }
-
-    fn waits_after(waits: u32) -> u32 {
-        waits - 1
+    fn change() -> Change {
+        Change {
+            waits: Waits::Close,
+            ..STAYS
+        }
     }
 }
 
@@ -339,20 +201,12 @@ pub struct SettlesOwing;
 impl Kind for SettlesOwing {
     ghost step = { steps.settles_owing };
 
-    fn held_after<C: ClientWords>(held: u32) -> u32 {
-        held
-    }
-
-    fn owes_after() -> bool {
-        true
-    }
-
-    fn further_after(further: u32) -> u32 {
-        further
-    }
-
-    fn waits_after(waits: u32) -> u32 {
-        waits - 1
+    fn change() -> Change {
+        Change {
+            owes: true,
+            waits: Waits::Close,
+            ..STAYS
+        }
     }
 }
 
@@ -362,20 +216,11 @@ pub struct Refuses;
 impl Kind for Refuses {
     ghost step = { steps.refuses };
 
-    fn held_after<C: ClientWords>(held: u32) -> u32 {
-        held
-    }
-
-    fn owes_after() -> bool {
-        false
-    }
-
-    fn further_after(further: u32) -> u32 {
-        further
-    }
-
-    fn waits_after(waits: u32) -> u32 {
-        waits - 1
+    fn change() -> Change {
+        Change {
+            waits: Waits::Close,
+            ..STAYS
+        }
     }
 }
 
@@ -385,19 +230,10 @@ pub struct RefusesValue;
 impl Kind for RefusesValue {
     ghost step = { steps.refuses_value };
 
-    fn held_after<C: ClientWords>(held: u32) -> u32 {
-        held
-    }
-
-    fn owes_after() -> bool {
-        false
-    }
-
-    fn further_after(further: u32) -> u32 {
-        further
-    }
-
-    fn waits_after(waits: u32) -> u32 {
-        waits - 1
+    fn change() -> Change {
+        Change {
+            waits: Waits::Close,
+            ..STAYS
+        }
     }
 }

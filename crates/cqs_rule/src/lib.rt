@@ -1,5 +1,5 @@
-//! The queue on one table of atomic words: the single steps of its passes, and the rule that each
-//! of them keeps.
+//! The queue on one table of atomic words: its passes, and their single steps, of which each keeps
+//! the rule of `cqs_views`.
 //!
 //! A pass carries what its caller has seen; contracts alone know it. Each step is made through the
 //! shared queue with a pass, answers the word that it found, and tells what the pass has seen
@@ -20,9 +20,9 @@ pub use callbacks::Client;
 pub use carries::{Carries, Kept, Unparked};
 pub use client::{ClientWords, Shown};
 pub use cqs_views::{
-    AcquireError, CELLS_WORD, CLIENT_WORD, CREW_WORD, CancelMode, Cancels, Config, Counts, Crowd,
-    Crowded, Drawn, Facts, Glimpse, Has, Learned, Load, MakeError, MeetError, Meets, Misses,
-    Opening, Place, Polls, RESUMES_WORD, SUSPENDS_WORD, Sighting, View, Watches,
+    AcquireError, CELLS_WORD, CLIENT_WORD, CREW_WORD, CancelMode, Cancels, Change, Config, Counts,
+    Crowd, Crowded, Drawn, Facts, Glimpse, Has, Learned, Load, MakeError, MeetError, Meets, Misses,
+    Opening, Place, Polls, RESUMES_WORD, SUSPENDS_WORD, Sighting, View, Waits, Watches,
 };
 pub use kinds::{
     Begins, Delegates, Draws, Enters, Installs, Kind, Leaves, LeavesAtOnce, LeavesLine, Reaches,

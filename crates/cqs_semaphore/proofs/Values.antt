@@ -4,7 +4,7 @@ use Rattle.std.proofs.lemmas.List.{append-nil}
 use Rattle.cqs_core.specs.declared.entries.Entry.{Entry}
 use Rattle.cqs_views.specs.declared.view.View.{View}
 use Rattle.cqs_views.specs.Lists.{IsPrefix}
-use Rattle.cqs_rule.specs.Carried.{GivesValue, GaveValue}
+use Rattle.cqs_semaphore_client.specs.SemaphoreSlots.{GivesValue, GaveValue}
 use Rattle.cqs_views.specs.Slots.{laid_in, LaysNone}
 
 module _ {T : Type 0} where

@@ -1,4 +1,5 @@
 pub mod Semaphore
 pub mod SemaphoreSteps
+pub mod SemaphoreSlots
 pub mod SemaphoreClient
 pub mod SemaphorePermits

@@ -1,5 +1,5 @@
-//! A semaphore by its one word, the state. Where it is above 0, so many permits
-//! are free; below 0 so many callers wait with no permit on its way.
+//! A semaphore by its one word, the state. Where it is above 0, so many permits are free; below 0
+//! so many callers wait with no permit on its way.
 
 ghost use Rattle.std.specs.Prelude.{◌≡◌, ◌+◌, ◌<◌, ◌≤◌, [], ◌∷◌};
 

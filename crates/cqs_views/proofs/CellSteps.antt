@@ -1,6 +1,6 @@
 -- The steps at a cell: each keeps the rule, and tells what its row says. An exchange is made where the cell was found
 -- as the row wants it, and else shows nothing.
-use Rattle.std.proofs.Common.{◌≡◌, ℕ, ◌+◌, ◌<◌, ◌^◌, Bool, List, [], ◌∷◌, ◌++◌, length, sym, refl, ap, ◌∙◌, subst, inl, arith, Option, Some, None, slice_get, eq-eqb, ne_eqb, eqb}
+use Rattle.std.proofs.Common.{◌≡◌, ℕ, ◌+◌, ◌<◌, ◌^◌, Bool, List, [], ◌∷◌, ◌++◌, length, sym, refl, ap, ◌∙◌, subst, inl, arith, Option, Some, None, slice_get, eq-eqb, ne_eqb, eqb, if◌then◌else◌}
 use Rattle.std.specs.Prelude.{slice_index}
 use Rattle.std.proofs.lemmas.List.{length-set, length-append}
 use Rattle.std.proofs.lemmas.Option.{same_Some}
@@ -33,7 +33,7 @@ use Rattle.cqs_views.specs.Drawn.{TellsCome}
 use Rattle.cqs_views.specs.Exchanges.{IsOwnWait, payload_left, Exchanges, MayExchange, IsCrossing, FoundCell, SinceLast, HasCell, Crossed, CrossedBy, crossed}
 use Rattle.cqs_views.specs.declared.view.Has.{Has}
 use Rattle.cqs_views.specs.Facts.{facts_worked, facts_missed, waits_then, is_owing}
-use Rattle.cqs_views.specs.Kinds.{Carries, held_gained, owes_at_stage, opens_of, closes_of}
+use Rattle.cqs_views.specs.Kinds.{Carries, gains_own, owes_at_stage, waits_by, opened, closed}
 use Rattle.cqs_views.specs.Hidden.{Hidden, Gains, has_gained, has_after, happened_by, state_in, state_at}
 use Rattle.cqs_views.specs.Inside.{IsInside as InView}
 use Rattle.cqs_views.specs.Layout.{client_words, words_for}
@@ -188,7 +188,7 @@ told-fits a_debt there owed p q = p
 
 -- what the pass counts after a step at a cell
 gained-held : (gains : Gains) (gain : Gain) (payload : ℕ) (h : Has)
-    → (has_gained gains gain payload h).held ≡ held_gained gains.held gain h.held
+    → (has_gained gains gain payload h).held ≡ (if gains_own gain then gains.held h.held else h.held)
 gained-held gains nothing payload h = refl
 gained-held gains its_own payload h = refl
 gained-held gains a_debt payload h = refl
@@ -245,7 +245,7 @@ worked-carries gains row k n payload f once own = record {
 }
   where
     by : (w : WaitChange) → (w ≡ wait_closes → lists.Has k f.waits)
-        → length (waits_then w k f.waits) + closes_of w ≡ length f.waits + opens_of w
+        → length (waits_then w k f.waits) + closed (waits_by w) ≡ length f.waits + opened (waits_by w)
     by wait_stays own = refl
     by wait_opens own = let e = length-append f.waits (k ∷ []) in omega arith
     by wait_closes own = let e = length_without k f.waits once (own refl) in omega arith

@@ -1,5 +1,5 @@
--- Where a cell stands among the words of a table, and what a write there leaves. With `Places` this is all that knows
--- how cells are laid out; the steps on cells go by `CellAt` alone.
+-- Where a cell stands among the words of a table, and what a write there leaves. With `CellPlaces` this is all that
+-- knows how cells are laid out; the steps on cells go by `CellAt` alone.
 use Rattle.std.proofs.Common.{◌≡◌, ◌≢◌, ℕ, ◌<◌, ◌≤◌, ◌^◌, List, length, sym, ap, ◌∙◌, subst, ⊎_elim, arith}
 use Rattle.std.specs.Prelude.{slice_index, slice_set}
 use Rattle.cqs_core.specs.QueueCells.{IsBare}

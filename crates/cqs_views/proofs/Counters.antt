@@ -1,6 +1,6 @@
 -- The steps that draw a number from a counter. No counter comes past the cells: those at the door may draw, and the
 -- numbers drawn with those who may draw stay below the limit and the passes.
-use Rattle.std.proofs.Common.{◌≡◌, ◌≢◌, ◌⊎◌, ℕ, suc, ◌+◌, ◌%◌, ◌<◌, ◌≤◌, ◌^◌, Bool, true, false, List, [], ◌∷◌, ◌++◌, length, set, sym, refl, ap, ◌∙◌, subst, inl, inr, ⊎_elim, arith, Option, Some, None, slice_get, cond, ℤ, pos, unsigned_abs}
+use Rattle.std.proofs.Common.{◌≡◌, ◌≢◌, ◌⊎◌, ℕ, suc, ◌+◌, ◌-◌, ◌%◌, ◌<◌, ◌≤◌, ◌^◌, Bool, true, false, List, [], ◌∷◌, ◌++◌, length, set, sym, refl, ap, ◌∙◌, subst, inl, inr, ⊎_elim, arith, Option, Some, None, slice_get, cond, ℤ, pos, unsigned_abs, if◌then◌else◌}
 use Rattle.std.specs.Prelude.{slice_index, count_by}
 use Rattle.std.proofs.lemmas.List.{length-set}
 use Rattle.std.proofs.lemmas.List.Sums.{sum_by-cons}
@@ -22,7 +22,7 @@ use Rattle.cqs_core.specs.QueueSound.{IsSound}
 use Rattle.cqs_core.specs.QueueStages as stage
 use Rattle.cqs_core.specs.QueueStages.{Stage, doing_at}
 use Rattle.cqs_core.specs.QueueState.{fresh_cell}
-use Rattle.cqs_core.specs.QueueSteps.{QueueStep, draws, enters, reaches, begins, row_of, StepRow, CounterRow, at_counter, at_cell, Counter, to_suspend, to_resume, Cost, no_cost, one_owed, one_element, after_count, IsOpenRow}
+use Rattle.cqs_core.specs.QueueSteps.{QueueStep, draws, enters, reaches, begins, puts, row_of, StepRow, CounterRow, at_counter, at_cell, Counter, to_suspend, to_resume, Cost, no_cost, one_owed, one_element, after_count, IsOpenRow}
 use Rattle.cqs_core.proofs.QueueRows.{step-facts}
 use Rattle.cqs_core.proofs.StepFacts.{IsDraw, is_draws, is_enters, is_reaches, is_begins, is_puts, DrawOf}
 use Rattle.cqs_core.proofs.Places.{get-set_here, get-set_else, get-append_left}
@@ -33,7 +33,7 @@ use Rattle.cqs_views.specs.Client.{IsClient, IsPaid, IsPayload, KeepsSlot, Keeps
 use Rattle.cqs_views.specs.Counts.{IsCount, IsCountBy, PaysNoElement, DrewBy, drew, IsDrawnBy}
 use Rattle.cqs_views.specs.Facts.{counter_place, facts_counted_by, IsBehind}
 use Rattle.cqs_views.specs.Hidden.{Hidden, Gains, has_paid, has_after, happened_by, state_at}
-use Rattle.cqs_views.specs.Kinds.{Carries, further_paid}
+use Rattle.cqs_views.specs.Kinds.{Carries, pays_owed}
 use Rattle.cqs_views.specs.Layout.{words_for, client_words}
 use Rattle.cqs_views.specs.Manner.{Suits}
 use Rattle.cqs_views.specs.Object.{Object, Primitive}
@@ -87,7 +87,7 @@ paid-held one_owed payload h = refl
 paid-held one_element payload h = refl
 
 paid-further : (cost : Cost) (payload : ℕ) (h : Has)
-    → (has_paid cost payload h).further ≡ further_paid cost h.further
+    → (has_paid cost payload h).further ≡ (if pays_owed cost then h.further - 1 else h.further)
 paid-further no_cost payload h = refl
 paid-further one_owed payload h = refl
 paid-further one_element payload h = refl

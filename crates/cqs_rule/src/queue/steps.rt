@@ -1,8 +1,10 @@
 //! Single steps on the words of the table: the counters and the cells.
 
+ghost use Rattle.std.specs.Prelude.{◌≡◌, ◌<◌, ◌^◌};
 ghost use Rattle.cqs_core.specs.QueueSteps.{row_of};
 ghost use Rattle.cqs_views.specs.Counts.{IsCount, PaysNoElement, IsDrawnAt};
 ghost use Rattle.cqs_views.specs.Exchanges.{IsCrossing};
+ghost use Rattle.cqs_views.specs.Kinds.{held_then};
 ghost use Rattle.cqs_views.specs.Loads.{LoadSuits, MayLoad};
 ghost use Rattle.cqs_views.specs.Manner.{Suits};
 ghost use Rattle.cqs_rule.specs.Passes.{pass_view, client_of, IsOf};
@@ -12,7 +14,19 @@ use crate::client::ClientWords;
 use crate::kinds::Kind;
 use crate::plays::{Cross, Draw, Loading};
 use crate::queue::{Pass, Queue};
-use cqs_views::{Learned, Load};
+use cqs_views::{Change, Learned, Load};
+
+// What a pass that held this much holds after the change.
+fn held_after<C: ClientWords>(change: Change, held: u32) -> u32
+    requires { held_then C.object.gains.held change held < 2 ^ 32 }
+    ensures { result ≡ held_then C.object.gains.held change held }
+{
+    if change.gains {
+        C::held_after_take(held)
+    } else {
+        held
+    }
+}
 
 impl<C: ClientWords> Queue<C> {
     /// Loads the suspend counter or a cell. A pass that finds the counter below the limit may draw,
@@ -54,8 +68,9 @@ impl<C: ClientWords> Queue<C> {
             .table
             .shared
             .fetch_add::<Draw<C, K>>(&mut pass.seat, word as usize, by.unsigned_abs());
-        pass.owes = K::owes_after();
-        pass.further = K::further_after(pass.further);
+        let change = K::change();
+        pass.owes = change.owes;
+        pass.further = change.further_after(pass.further);
         found
     }
 
@@ -73,10 +88,11 @@ impl<C: ClientWords> Queue<C> {
             .shared
             .compare_exchange::<Cross<C, K>>(&mut pass.seat, word as usize, saw, new);
         if found == saw {
-            pass.held = K::held_after::<C>(pass.held);
-            pass.owes = K::owes_after();
-            pass.further = K::further_after(pass.further);
-            pass.waits = K::waits_after(pass.waits);
+            let change = K::change();
+            pass.held = held_after::<C>(change, pass.held);
+            pass.owes = change.owes;
+            pass.further = change.further_after(pass.further);
+            pass.waits = change.waits_after(pass.waits);
         }
         found
     }

@@ -11,7 +11,7 @@ ghost use Rattle.cqs_semaphore_client.specs.Semaphore.{
   tries,
   gives_one,
 };
-ghost use Rattle.cqs_rule.specs.Carried.{IsFull, GivesValue};
+ghost use Rattle.cqs_semaphore_client.specs.SemaphoreSlots.{IsFull, GivesValue};
 ghost use Rattle.cqs_semaphore_client.specs.SemaphoreSteps.{OnState, NextIs};
 ghost use Rattle.cqs_words.specs.State.{count_in, is_above_zero};
 ghost use Rattle.cqs_views.specs.Silent.{silent};

@@ -2,6 +2,7 @@ use Rattle.std.proofs.Common.{rules, refl, ◌<◌, ◌^◌, ap, sym, ◌∙◌,
 use Rattle.cqs_views.proofs.Lists.{set_there}
 use Rattle.cqs_views.proofs.Alone.{alone-now}
 use Rattle.cqs_views.proofs.CellSteps.{cross, crossing-low}
+use Rattle.cqs_views.specs.Kinds.{change_of, held_then}
 use Rattle.cqs_rule.proofs.queue.Queue.swap_table.Goals as goal
 
 pub compare_exchange-found-requires : goal.compare_exchange-found-requires
@@ -32,26 +33,8 @@ pub held_after-pass-requires : goal.held_after-pass-requires
 held_after-pass-requires g c =
     let e = c.compare_exchange-found.ensures in
     let carries = e.2.0.3 c.if-found-saw.true in
-    subst (λ z. z < 2 ^ 32) (carries.held ∙ ap
-    (Rattle.cqs_views.specs.Kinds.held_then g.C.ClientWords.object.gains.held g.K.Kind.step) c.args.pass.now.held_is)
-    e.2.0.2.held
-
-pub waits_after-pass-requires-clause-some : goal.waits_after-pass-requires-clause-some
-waits_after-pass-requires-clause-some g c =
-    let carries = c.compare_exchange-found.ensures.2.0.3 c.if-found-saw.true in
-    let waits = carries.waits in
-    let were = c.args.pass.now.waits_are in omega arith
-
-pub invariant_of-pass-clause-held_is : goal.invariant_of-pass-clause-held_is
-invariant_of-pass-clause-held_is g c =
-    let carries = c.compare_exchange-found.ensures.2.0.3 c.if-found-saw.true in
-    carries.held ∙ (ap (Rattle.cqs_views.specs.Kinds.held_then g.C.ClientWords.object.gains.held g.K.Kind.step)
-    c.args.pass.now.held_is
-    ∙ sym c.held_after-pass.ensures)
-
-pub invariant_of-pass-clause-waits_are : goal.invariant_of-pass-clause-waits_are
-invariant_of-pass-clause-waits_are g c =
-    let carries = c.compare_exchange-found.ensures.2.0.3 c.if-found-saw.true in
-    let waits = carries.waits in
-    let were = c.args.pass.now.waits_are in
-    let now = c.waits_after-pass.ensures in omega arith
+    let gains = g.C.ClientWords.object.gains.held in
+    subst (λ z. held_then gains z c.args.pass.now.held < 2 ^ 32) (sym c.change-change.ensures)
+    (subst (λ z. z < 2 ^ 32)
+    (carries.held ∙ ap (held_then gains (change_of g.K.Kind.step)) c.args.pass.now.held_is)
+    e.2.0.2.held)

@@ -10,6 +10,7 @@ mod callbacks;
 mod carries;
 mod client;
 mod kinds;
+mod loads;
 mod plays;
 mod queue;
 mod rule;
@@ -20,14 +21,15 @@ pub use callbacks::Client;
 pub use carries::{Carries, Kept, Unparked};
 pub use client::{ClientWords, Shown};
 pub use cqs_views::{
-    AcquireError, CELLS_WORD, CLIENT_WORD, CREW_WORD, CancelMode, Cancels, Change, Config, Counts,
-    Crowd, Crowded, Drawn, Facts, Glimpse, Has, Learned, Load, MakeError, MeetError, Meets, Misses,
-    Opening, Place, Polls, RESUMES_WORD, SUSPENDS_WORD, Sighting, View, Waits, Watches,
+    AcquireError, CELLS_WORD, CLIENT_WORD, CREW_WORD, CancelMode, Change, Config, Crowd, Crowded,
+    Drawn, Facts, Glimpse, Has, Learned, MakeError, MeetError, Opening, Place, RESUMES_WORD,
+    SUSPENDS_WORD, Sighting, View, Waits,
 };
 pub use kinds::{
     Begins, Delegates, Draws, Enters, Installs, Kind, Leaves, LeavesAtOnce, LeavesLine, Reaches,
     Refuses, RefusesValue, Serves, Settles, SettlesOwing, StartsLeaving, Takes,
 };
+pub use loads::{Cancels, Counts, Load, Meets, Misses, Polls, Watches};
 pub use queue::{Pass, Queue, Under, Wait};
 pub use rule::{Key, Rule};
 pub use silent::Silent;

@@ -10,9 +10,10 @@ ghost use Rattle.cqs_views.specs.SlotSteps.{took_out, put_back, filled, given_by
 
 use crate::client::{ClientWords, Shown};
 use crate::kinds::Kind;
+use crate::loads::Load;
 use crate::queue::Numbered;
 use atomic_table::{Join, Play, Split};
-use cqs_views::{Load, View};
+use cqs_views::View;
 use std::marker::{Brand, PhantomData};
 
 /// A load of the suspend counter or of a cell.

@@ -15,5 +15,5 @@ mod view;
 pub use change::{Change, Waits};
 pub use config::{AcquireError, CancelMode, Config, Crowd, Crowded, MakeError, MeetError, Place};
 pub use layout::{CELLS_WORD, CLIENT_WORD, CREW_WORD, RESUMES_WORD, SUSPENDS_WORD};
-pub use loads::{Cancels, Counts, Learned, Load, Meets, Misses, Polls, Watches};
+pub use loads::Learned;
 pub use view::{Drawn, Facts, Glimpse, Has, Opening, Sighting, View};

@@ -1,10 +1,10 @@
 //! Single steps on the words of the table: the counters and the cells.
 
-ghost use Rattle.std.specs.Prelude.{◌≡◌, ◌<◌, ◌^◌};
+ghost use Rattle.std.specs.Prelude.{◌≡◌, ◌+◌, ◌<◌, ◌≤◌, ◌^◌};
 ghost use Rattle.cqs_core.specs.QueueSteps.{row_of};
 ghost use Rattle.cqs_views.specs.Counts.{IsCount, PaysNoElement, IsDrawnAt};
 ghost use Rattle.cqs_views.specs.Exchanges.{IsCrossing};
-ghost use Rattle.cqs_views.specs.Kinds.{held_then};
+ghost use Rattle.cqs_views.specs.Kinds.{held_then, further_then, opened, closed};
 ghost use Rattle.cqs_views.specs.Loads.{LoadSuits, MayLoad};
 ghost use Rattle.cqs_views.specs.Manner.{Suits};
 ghost use Rattle.cqs_rule.specs.Passes.{pass_view, client_of, IsOf};
@@ -12,9 +12,10 @@ ghost use Rattle.cqs_rule.specs.Steps.{HasLoaded, HasDrawn, HasCrossed};
 
 use crate::client::ClientWords;
 use crate::kinds::Kind;
+use crate::loads::Load;
 use crate::plays::{Cross, Draw, Loading};
 use crate::queue::{Pass, Queue};
-use cqs_views::{Change, Learned, Load};
+use cqs_views::{Change, Learned, Waits};
 
 // What a pass that held this much holds after the change.
 fn held_after<C: ClientWords>(change: Change, held: u32) -> u32
@@ -25,6 +26,30 @@ fn held_after<C: ClientWords>(change: Change, held: u32) -> u32
         C::held_after_take(held)
     } else {
         held
+    }
+}
+
+// How many further resumptions it owes then that owed this many.
+fn further_after(change: Change, further: u32) -> u32
+    ensures { result ≡ further_then change further }
+{
+    if change.pays {
+        further.saturating_sub(1)
+    } else {
+        further
+    }
+}
+
+// How many waits it has then that had this many.
+fn waits_after(change: Change, waits: u32) -> u32
+    requires few { waits < 2 ^ 31 }
+    requires some { closed change.waits ≤ waits + opened change.waits }
+    ensures { result + closed change.waits ≡ waits + opened change.waits }
+{
+    match change.waits {
+        Waits::Stay => waits,
+        Waits::Open => waits + 1,
+        Waits::Close => waits - 1,
     }
 }
 
@@ -70,7 +95,7 @@ impl<C: ClientWords> Queue<C> {
             .fetch_add::<Draw<C, K>>(&mut pass.seat, word as usize, by.unsigned_abs());
         let change = K::change();
         pass.owes = change.owes;
-        pass.further = change.further_after(pass.further);
+        pass.further = further_after(change, pass.further);
         found
     }
 
@@ -91,8 +116,8 @@ impl<C: ClientWords> Queue<C> {
             let change = K::change();
             pass.held = held_after::<C>(change, pass.held);
             pass.owes = change.owes;
-            pass.further = change.further_after(pass.further);
-            pass.waits = change.waits_after(pass.waits);
+            pass.further = further_after(change, pass.further);
+            pass.waits = waits_after(change, pass.waits);
         }
         found
     }

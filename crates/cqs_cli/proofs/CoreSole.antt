@@ -27,7 +27,7 @@ use Rattle.cqs_cli.specs.Soles.{IsLawful, IsOpened, CanAcquire, CanEnd, CanRelea
 use Rattle.cqs_cli.proofs.Came.{came-now, came-later, came-freed, came-sent, came-granted, came-left, came-late}
 use Rattle.cqs_cli.proofs.Funded.{funded-next, funded-rests, funded-ready}
 use Rattle.cqs_cli.proofs.Objects.{stays-entered, comes-entered, stays-sent, stays-closed, stays-left, left-next}
-use Rattle.cqs_cli.proofs.Opened.{replicate-all}
+use Rattle.cqs_cli.proofs.Replicated.{replicate-all}
 use Rattle.cqs_cli.proofs.SoleCells.{read-wait, line-few}
 use Rattle.cqs_cli.proofs.Stays.{in-head}
 

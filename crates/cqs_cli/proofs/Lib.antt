@@ -24,6 +24,7 @@ pub mod Looks
 pub mod Ends
 pub mod LegalFloors
 pub mod Counting
+pub mod Replicated
 pub mod Opened
 pub mod CoreSole
 pub mod News

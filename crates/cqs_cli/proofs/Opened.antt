@@ -21,13 +21,7 @@ use Rattle.cqs_cli.specs.Ledger.{Ledger, holds_after, holds_in, job_wait, plain_
 use Rattle.cqs_cli.specs.Opening.{AreSized, IsOpening}
 use Rattle.cqs_cli.specs.Stores.{Store, IsOpened}
 use Rattle.cqs_cli.proofs.KeptNext.{funded-as}
-
--- all elements of a list of one element are that one
-module _ {X : Type 0} where
-  pub replicate-all : (n : ℕ) (x y : X) (i : ℕ) → slice_get (replicate n x) i ≡ Some y → y ≡ x
-  replicate-all zero x y i got = absurd (cc)
-  replicate-all (suc n) x y zero got = cc
-  replicate-all (suc n) x y (suc i) got = replicate-all n x y i got
+use Rattle.cqs_cli.proofs.Replicated.{replicate-all}
 
 -- nobody waits, and nobody holds anything
 waiting-none : (jobs at : ℕ) → count_by (is_wait_at at) (replicate jobs None) ≡ 0

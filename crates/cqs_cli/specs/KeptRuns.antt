@@ -8,11 +8,11 @@ use Rattle.cqs_plan.specs.PlanText.{IsPlanText}
 use Rattle.cqs_plan.specs.Runnable.{kinds_of}
 use Rattle.cqs_generator.specs.Generated.{plan_of_number}
 use Rattle.cqs_turns.specs.Report.{report_of}
-use Rattle.cqs_cli.specs.declared.floors.any_sole.AnySole.{AnySole}
-use Rattle.cqs_cli.specs.declared.floors.running_sole.RunningSole.{RunningSole}
+use Rattle.cqs_sole.specs.declared.any_sole.AnySole.{AnySole}
+use Rattle.cqs_sole.specs.declared.running_sole.RunningSole.{RunningSole}
 use Rattle.cqs_cli.specs.Input.{IsInput}
-use Rattle.cqs_cli.specs.Ledger.{Ledger, plain_floor}
-use Rattle.cqs_cli.specs.SoleRunning.{IsAloneAt, store_running}
+use Rattle.cqs_floors.specs.Ledger.{Ledger, plain_floor}
+use Rattle.cqs_sole.specs.SoleRunning.{IsAloneAt, store_running}
 use Rattle.cqs_cli.specs.Plans.{IsFaultLine, floor_after}
 use Rattle.cqs_cli.specs.Summaries.{summary_text}
 use Rattle.cqs_cli.specs.Words.{IsCommand, IsGen, IsRun}

@@ -1,6 +1,6 @@
 //! What a call of the program keeps for its caller.
 
-use crate::floors::queue_floor::QueueFloor;
+use cqs_floors::QueueFloor;
 
 /// What a call of the program keeps: nothing, or what its command worked on.
 #[derive(Drop)]

@@ -3,12 +3,11 @@
 //! `top_alone` judges first and tells after. `judge` reads the words and the source and knows no
 //! sink; `tell` knows the sink alone, and writes a text that was made whole before. What each
 //! status means stands on `top_alone`. `kept` is what a call leaves its caller of a run, and
-//! `floors` has the floor on which a plan is run. The real streams are in `standard`, the trusted
-//! edge. `Verdict`, `tell` and `read_number` are public for `cqs_top`, which has the command that
-//! needs workers.
+//! the floor on which a plan is run is that of `cqs_floors`. The real streams are in `standard`, the
+//! trusted edge. `Verdict`, `tell` and `read_number` are public for `cqs_top`, which has the command
+//! that needs workers.
 #![tactic(auto)]
 
-mod floors;
 mod judging;
 mod kept;
 mod plans;
@@ -20,8 +19,7 @@ mod top_call;
 mod verdict;
 mod words;
 
-pub use floors::core_floor::CoreFloor;
-pub use floors::queue_floor::QueueFloor;
+pub use cqs_floors::{CoreFloor, QueueFloor};
 pub use kept::Kept;
 pub use standard::{StdinSource, StdoutSink};
 pub use statuses::{DONE, NO_COMMAND, NO_MEMORY, NO_PLAN, SINK_FAILED, SOURCE_FAILED, TOO_LONG};

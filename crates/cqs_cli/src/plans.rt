@@ -8,10 +8,10 @@ ghost use Rattle.cqs_cli.specs.KeptRuns.{KeepsRun, KeepsWith};
 ghost use Rattle.cqs_cli.specs.Plans.{floor_after};
 ghost use Rattle.cqs_cli.specs.Verdicts.{IsVerdictOn};
 
-use crate::floors::queue_floor::QueueFloor;
 use crate::kept::Kept;
 use crate::verdict::Verdict;
 use cqs_core::Memory;
+use cqs_floors::QueueFloor;
 use cqs_plan::{Plan, PlanError, fault_line, read_plan};
 use cqs_turns::{Report, run_plan};
 use std::alloc::Global;

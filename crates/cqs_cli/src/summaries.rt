@@ -8,10 +8,10 @@ ghost use Rattle.cqs_cli.specs.Plans.{floor_after};
 ghost use Rattle.cqs_cli.specs.Summaries.{asked_line, summary_text};
 ghost use Rattle.cqs_cli.specs.Verdicts.{IsVerdictFor};
 
-use crate::floors::queue_floor::QueueFloor;
 use crate::kept::Kept;
 use crate::verdict::Verdict;
 use cqs_core::Memory;
+use cqs_floors::QueueFloor;
 use cqs_generator::make_plan;
 use cqs_turns::summarize_plan;
 use itoa::Buffer;

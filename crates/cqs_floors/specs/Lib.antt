@@ -1,0 +1,4 @@
+pub mod Ledger
+pub mod DeskCalls
+pub mod Kept
+pub mod Opening

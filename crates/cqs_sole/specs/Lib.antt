@@ -1,0 +1,15 @@
+pub mod Waits
+pub mod Soles
+pub mod Stores
+pub mod Lifted
+pub mod SolePool
+pub mod PoolEnds
+pub mod SoleLatch
+pub mod LatchEnds
+pub mod SoleRound
+pub mod RoundEnds
+pub mod SoleRounds
+pub mod AnySoles
+pub mod SoleCore
+pub mod SoleQueue
+pub mod SoleRunning

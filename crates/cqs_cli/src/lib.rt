@@ -2,10 +2,10 @@
 //!
 //! `top_alone` judges first and tells after. `judge` reads the words and the source and knows no
 //! sink; `tell` knows the sink alone, and writes a text that was made whole before. What each
-//! status means stands on `top_alone`. `kept` is what a call leaves its caller of a run, and
-//! the floor on which a plan is run is that of `cqs_floors`. The real streams are in `standard`, the
-//! trusted edge. `Verdict`, `tell` and `read_number` are public for `cqs_top`, which has the command
-//! that needs workers.
+//! status means stands on `top_alone`. `kept` is what a call leaves its caller of a run, and the
+//! floor on which a plan is run is that of `cqs_floors`. The real streams are in `standard`, the
+//! trusted edge. `Verdict`, `tell` and `read_number` are public for `cqs_top`, which has the
+//! command that needs workers.
 #![tactic(auto)]
 
 mod judging;

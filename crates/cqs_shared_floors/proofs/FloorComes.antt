@@ -18,13 +18,13 @@ use Rattle.cqs_shared.specs.Shared.{seen_at}
 use Rattle.cqs_shared_floors.specs.declared.floors.holdings.JobHolding.{JobHolding}
 use Rattle.cqs_shared_floors.specs.declared.floors.spots.FloorWait.{FloorWait}
 use Rattle.cqs_shared_floors.specs.declared.floors.spots.Spot.{Spot}
-use Rattle.cqs_shared_floors.specs.declared.resource.Came.{Came}
-use Rattle.cqs_shared_floors.specs.declared.resource.Came.TheVariants as came
+use Rattle.cqs_shares.specs.declared.resource.Came.{Came}
+use Rattle.cqs_shares.specs.declared.resource.Came.TheVariants as came
 use Rattle.cqs_shared_floors.specs.FloorKept.{IsKept, StandsIn, came_in, funds_in, standing_in}
 use Rattle.cqs_shared_floors.specs.Holdings.{held_at, held_by_jobs}
 use Rattle.cqs_shared_floors.specs.Ledgers.{Ledger, holds_in, own_rounds, shared_in}
-use Rattle.cqs_shared_floors.specs.ShareCalls.{Comes, ComesTo, Stands}
-use Rattle.cqs_shared_floors.specs.Shares.{Funds, IsSame, Sees, Share, with_came, with_wait}
+use Rattle.cqs_shares.specs.ShareCalls.{Comes, ComesTo, Stands}
+use Rattle.cqs_shares.specs.Shares.{Funds, IsSame, Sees, Share, with_came, with_wait}
 use Rattle.cqs_shared_floors.specs.Spots.{answer_for, came_at, job_wait, place_in, spot_for, spot_in, stands_at, wait_for, waits_at}
 use Rattle.cqs_shared_floors.proofs.FloorLists.{count-set, index-mapped}
 use Rattle.cqs_shared_floors.proofs.FloorNext.{Follows, kept-next, next, sees-next, seen-next, stands-on}

@@ -24,8 +24,8 @@ use Rattle.cqs_plan.specs.Runnable.{IsRunnable, IsMakeable, kinds_of, round_afte
 use Rattle.cqs_turns.proofs.KindsThere.{barrier-there, holdable-there, latch-there}
 use Rattle.cqs_turns.proofs.StepCounts.{WaitsAt}
 use Rattle.cqs_shared_floors.specs.Openings.{AreWithin, HaveOpened, IsCountable, IsWithin, room_of}
-use Rattle.cqs_shared_floors.specs.ShareCalls.{IsOpened}
-use Rattle.cqs_shared_floors.specs.Shares.{Share}
+use Rattle.cqs_shares.specs.ShareCalls.{IsOpened}
+use Rattle.cqs_shares.specs.Shares.{Share}
 
 -- a step that may wait names one of the resources
 pub within-at : (n : ℕ) (steps : List Step) (i at : ℕ) → AreWithin n steps → i < length steps

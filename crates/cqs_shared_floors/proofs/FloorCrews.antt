@@ -9,7 +9,7 @@ use Rattle.cqs_views.proofs.Lists.{few_below}
 use Rattle.cqs_shared.specs.Entries.{is_nothing, own_history}
 use Rattle.cqs_shared_floors.specs.FloorKept.{IsFundedAt, IsKept, funds_in, holdings_to_come}
 use Rattle.cqs_shared_floors.specs.Ledgers.{Ledger}
-use Rattle.cqs_shared_floors.specs.Shares.{IsLawful, IsWhole, Share, own}
+use Rattle.cqs_shares.specs.Shares.{IsLawful, IsWhole, Share, own}
 
 -- a number is in a list, or it isn't
 has-or : (n : ℕ) (xs : List ℕ) → Has n xs ⊎ (Has n xs → ⊥)

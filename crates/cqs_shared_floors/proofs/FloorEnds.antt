@@ -14,8 +14,8 @@ use Rattle.cqs_shared_floors.specs.DeskCalls.{CanEndAt, Ends}
 use Rattle.cqs_shared_floors.specs.FloorKept.{IsKept, came_in, funds_in, standing_in}
 use Rattle.cqs_shared_floors.specs.Holdings.{elements_of, held_at}
 use Rattle.cqs_shared_floors.specs.Ledgers.{Ledger, holds_in, shared_in}
-use Rattle.cqs_shared_floors.specs.ShareCalls.{HoldNothing}
-use Rattle.cqs_shared_floors.specs.Shares.{IsLawful, Share}
+use Rattle.cqs_shares.specs.ShareCalls.{HoldNothing}
+use Rattle.cqs_shares.specs.Shares.{IsLawful, Share}
 use Rattle.cqs_shared_floors.specs.Spots.{came_at, job_wait, stands_at}
 use Rattle.cqs_shared_floors.proofs.FloorComes.{none-came, none-stands}
 use Rattle.cqs_shared_floors.proofs.FloorCrews.{whole-at}

@@ -13,8 +13,8 @@ use Rattle.cqs_shared_floors.specs.DeskCalls.{Downs, Gives, HasAt}
 use Rattle.cqs_shared_floors.specs.FloorKept.{IsKept, funds_in}
 use Rattle.cqs_shared_floors.specs.Holdings.{held_at, is_of, less_oldest}
 use Rattle.cqs_shared_floors.specs.Ledgers.{Ledger, holds_in, shared_in, with_shares}
-use Rattle.cqs_shared_floors.specs.ShareCalls as calls
-use Rattle.cqs_shared_floors.specs.Shares.{Sees, Share, held_by}
+use Rattle.cqs_shares.specs.ShareCalls as calls
+use Rattle.cqs_shares.specs.Shares.{Sees, Share, held_by}
 use Rattle.cqs_shared_floors.specs.Spots.{place_in}
 use Rattle.cqs_shared_floors.proofs.FloorNext.{kept-next, next, parties-kept, sees-next, seen-next, stands-on}
 use Rattle.cqs_shared_floors.proofs.FloorPlaces.{Here, Well, here, job-there}

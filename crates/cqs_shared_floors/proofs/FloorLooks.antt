@@ -26,11 +26,11 @@ use Rattle.cqs_shared_floors.specs.DeskCalls.{CanEndWait, HasAt, Leaves, Looks}
 use Rattle.cqs_shared_floors.specs.FloorKept.{IsFundedAt, IsKept, StandsIn, funds_in}
 use Rattle.cqs_shared_floors.specs.Holdings.{and_brought}
 use Rattle.cqs_shared_floors.specs.Ledgers.{Ledger, shared_in, with_grant, with_shares}
-use Rattle.cqs_shared_floors.specs.ShareCalls as calls
-use Rattle.cqs_shared_floors.specs.ShareCalls.{parties_left, party_more}
-use Rattle.cqs_shared_floors.specs.Shares.{Funds, IsLawful, IsSame, KeepsOthers, Sees, Share, with_brought, with_came, with_wait}
+use Rattle.cqs_shares.specs.ShareCalls as calls
+use Rattle.cqs_shares.specs.ShareCalls.{parties_left, party_more}
+use Rattle.cqs_shares.specs.Shares.{Funds, IsLawful, IsSame, KeepsOthers, Sees, Share, with_brought, with_came, with_wait}
 use Rattle.cqs_shared_floors.specs.Spots.{job_wait, place_in, spot_came, spot_in}
-use Rattle.cqs_shared_floors.proofs.Elements.{no-element}
+use Rattle.cqs_shares.proofs.Elements.{no-element}
 use Rattle.cqs_shared_floors.proofs.FloorCrews.{space-within}
 use Rattle.cqs_shared_floors.proofs.FloorLists.{index-mapped, map-kept}
 use Rattle.cqs_shared_floors.proofs.FloorNext.{kept-next, next, parties-kept, sees-next, stands-on}

@@ -26,15 +26,15 @@ use Rattle.cqs_shared_floors.specs.FloorKept.{IsFundedAt, IsKept, StandsIn, fund
 use Rattle.cqs_shared_floors.specs.Holdings.{held_at, held_by_jobs}
 use Rattle.cqs_shared_floors.specs.Ledgers.{Ledger, holds_in, kind_numbers, own_name, own_rounds, shared_in}
 use Rattle.cqs_shared_floors.specs.Meeting.{CanJoin, HasJoined, has_wait}
-use Rattle.cqs_shared_floors.specs.ShareCalls.{CanMeet, Joins, Meets}
-use Rattle.cqs_shared_floors.specs.Shares.{IsLawful, Share, join_held, own}
+use Rattle.cqs_shares.specs.ShareCalls.{CanMeet, Joins, Meets}
+use Rattle.cqs_shares.specs.Shares.{IsLawful, Share, join_held, own}
 use Rattle.cqs_shared_floors.specs.Spots.{job_wait, place_in, spot_in}
 use Rattle.cqs_shared_floors.proofs.FloorCrews.{index-past, whole-at}
 use Rattle.cqs_shared_floors.proofs.FloorEnds.{none-in}
 use Rattle.cqs_shared_floors.proofs.FloorLists.{get-mapped, index-mapped}
 use Rattle.cqs_shared_floors.proofs.FloorPlaces.{Well}
 use Rattle.cqs_shared_floors.proofs.JobHoldings.{held-joined, job-append, jobs-long, jobs-there}
-use Rattle.cqs_shared_floors.proofs.Runs.{distinct-both}
+use Rattle.cqs_shares.proofs.Runs.{distinct-both}
 
 -- a kind is told by its numbers
 kind_of : List ℕ → Kind

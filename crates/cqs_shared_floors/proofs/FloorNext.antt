@@ -16,7 +16,7 @@ use Rattle.cqs_shared_floors.specs.declared.floors.spots.Spot.{Spot}
 use Rattle.cqs_shared_floors.specs.FloorKept.{AreApart, IsFundedAt, IsKept, StandsIn, came_in, funds_in, holdings_to_come, standing_in}
 use Rattle.cqs_shared_floors.specs.Holdings.{held_at}
 use Rattle.cqs_shared_floors.specs.Ledgers.{Ledger, holds_in, kind_numbers, own_rounds, shared_in}
-use Rattle.cqs_shared_floors.specs.Shares.{Share, IsSame, Sees}
+use Rattle.cqs_shares.specs.Shares.{Share, IsSame, Sees}
 use Rattle.cqs_shared_floors.specs.Spots.{place_in, spot_in}
 use Rattle.cqs_shared_floors.proofs.FloorLists.{index-mapped, map-kept}
 

@@ -26,8 +26,8 @@ use Rattle.cqs_shared_floors.specs.FloorKept.{IsFundedAt, IsKept, funds_in}
 use Rattle.cqs_shared_floors.specs.Holdings.{elements_of, held_at, held_by_jobs}
 use Rattle.cqs_shared_floors.specs.Ledgers.{Ledger, holds_in, kind_numbers, shared_in}
 use Rattle.cqs_shared_floors.specs.Openings.{AreFresh, IsFresh, IsMade, own_arriving, plan_name, room_of}
-use Rattle.cqs_shared_floors.specs.ShareCalls.{no_funds}
-use Rattle.cqs_shared_floors.specs.Shares.{IsLawful, Share}
+use Rattle.cqs_shares.specs.ShareCalls.{no_funds}
+use Rattle.cqs_shares.specs.Shares.{IsLawful, Share}
 use Rattle.cqs_shared_floors.specs.Spots.{came_at, job_wait, no_spot, spot_in, stands_at}
 use Rattle.cqs_shared_floors.proofs.FloorCounts.{room-past}
 use Rattle.cqs_shared_floors.proofs.FloorCrews.{index-past}

@@ -17,7 +17,7 @@ use Rattle.cqs_shared_floors.specs.declared.floors.spots.Spot.{Spot}
 use Rattle.cqs_shared_floors.specs.FloorKept.{IsKept, came_in, funds_in, standing_in}
 use Rattle.cqs_shared_floors.specs.Holdings.{and_brought, and_more, held_at, held_by_jobs}
 use Rattle.cqs_shared_floors.specs.Ledgers.{Ledger, brought_to, holds_in, shared_in, with_grant, without_wait}
-use Rattle.cqs_shared_floors.specs.Shares.{Funds, IsSame, KeepsOthers, Share, with_brought, with_came, with_more, with_wait}
+use Rattle.cqs_shares.specs.Shares.{Funds, IsSame, KeepsOthers, Share, with_brought, with_came, with_more, with_wait}
 use Rattle.cqs_shared_floors.specs.Spots.{came_at, job_wait, no_spot, place_in, spot_in, spot_over, stands_at}
 use Rattle.cqs_shared_floors.proofs.FloorComes.{none-came, none-stands}
 use Rattle.cqs_shared_floors.proofs.FloorLists.{count-set, index-mapped, map-kept}

@@ -12,7 +12,7 @@ use Rattle.cqs_shared_floors.specs.declared.floors.spots.Spot.{Spot}
 use Rattle.cqs_shared_floors.specs.FloorKept.{IsFundedAt, IsKept}
 use Rattle.cqs_shared_floors.specs.Holdings.{elements_of, held_at}
 use Rattle.cqs_shared_floors.specs.Ledgers.{Ledger, holds_in, shared_in}
-use Rattle.cqs_shared_floors.specs.Shares.{Share}
+use Rattle.cqs_shares.specs.Shares.{Share}
 use Rattle.cqs_shared_floors.specs.Spots.{job_wait}
 use Rattle.cqs_shared_floors.proofs.FloorLists.{index-mapped}
 use Rattle.cqs_shared_floors.proofs.JobHoldings.{jobs-long}

@@ -14,8 +14,8 @@ use Rattle.cqs_plan.specs.FloorHistory.{no_history}
 use Rattle.cqs_plan.specs.Runnable.{IsRunnable}
 use Rattle.cqs_shared.specs.Entries.{are_nothing, is_nothing, own_history}
 use Rattle.cqs_shared_floors.specs.Openings.{AreFresh, CanSplitEach, HaveOpened, HaveSplitEach, IsFresh, arriving_from, own_arriving}
-use Rattle.cqs_shared_floors.specs.ShareCalls.{Splits, first_parties, no_funds}
-use Rattle.cqs_shared_floors.specs.Shares.{Share}
+use Rattle.cqs_shares.specs.ShareCalls.{Splits, first_parties, no_funds}
+use Rattle.cqs_shares.specs.Shares.{Share}
 use Rattle.cqs_shared_floors.proofs.FloorMeets.{map-alike}
 use Rattle.cqs_shared_floors.proofs.FloorProvides.{all-from}
 

@@ -19,15 +19,15 @@ use Rattle.cqs_shared.specs.Calls.{answer_of, board_arrived, board_taken, board_
 use Rattle.cqs_shared.specs.Shared.{parties_at, with_parties}
 use Rattle.cqs_shared_floors.specs.declared.floors.holdings.JobHolding.{JobHolding}
 use Rattle.cqs_shared_floors.specs.declared.floors.spots.Spot.{Spot}
-use Rattle.cqs_shared_floors.specs.declared.resource.Came.{Came}
-use Rattle.cqs_shared_floors.specs.declared.resource.Came.TheVariants as came
+use Rattle.cqs_shares.specs.declared.resource.Came.{Came}
+use Rattle.cqs_shares.specs.declared.resource.Came.TheVariants as came
 use Rattle.cqs_shared_floors.specs.DeskCalls.{Arrives, HasAt, Takes, Waits}
 use Rattle.cqs_shared_floors.specs.FloorKept.{IsKept, came_in, funds_in, standing_in}
 use Rattle.cqs_shared_floors.specs.Holdings.{and_more, and_taken, held_at, held_by_jobs}
 use Rattle.cqs_shared_floors.specs.Ledgers.{Ledger, and_arrived, holds_in, own_round, own_rounds, round_in, shared_in, with_arrival, with_come, with_shares}
-use Rattle.cqs_shared_floors.specs.ShareCalls as calls
-use Rattle.cqs_shared_floors.specs.ShareCalls.{party_less}
-use Rattle.cqs_shared_floors.specs.Shares.{Funds, Share, with_more}
+use Rattle.cqs_shares.specs.ShareCalls as calls
+use Rattle.cqs_shares.specs.ShareCalls.{party_less}
+use Rattle.cqs_shares.specs.Shares.{Funds, Share, with_more}
 use Rattle.cqs_shared_floors.specs.Spots.{answer_for, came_at, job_wait, no_spot, spot_for, stands_at}
 use Rattle.cqs_shared_floors.proofs.FloorComes.{comes-of, floor-come, got, kept-come, came-after, standing-after, parties_then}
 use Rattle.cqs_shared_floors.proofs.FloorCrews.{index-past, space-within}

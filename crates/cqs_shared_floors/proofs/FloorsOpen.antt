@@ -9,7 +9,7 @@ use Rattle.cqs_shared.specs.Shared.{Shared}
 use Rattle.cqs_work.specs.Opening.{AreSplit, IsOpening}
 use Rattle.cqs_shared_floors.specs.Ledgers.{Ledger, shared_in}
 use Rattle.cqs_shared_floors.specs.Openings.{AreLimits}
-use Rattle.cqs_shared_floors.specs.Shares.{Share}
+use Rattle.cqs_shares.specs.Shares.{Share}
 use Rattle.cqs_shared_floors.proofs.FloorLists.{mapped-back}
 
 -- a fact of each element, and of one more

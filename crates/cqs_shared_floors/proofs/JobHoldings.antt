@@ -9,7 +9,7 @@ use Rattle.cqs_core.specs.Keyed.{without}
 use Rattle.cqs_plan.specs.Floor.{Holding, oldest}
 use Rattle.cqs_shared_floors.specs.declared.floors.holdings.JobHolding.{JobHolding}
 use Rattle.cqs_shared_floors.specs.Holdings.{and_more, elements_of, held_at, held_by_job, held_by_jobs, is_of, less_oldest}
-use Rattle.cqs_shared_floors.specs.Shares.{held_by, join_held}
+use Rattle.cqs_shares.specs.Shares.{held_by, join_held}
 
 -- one job: of two lists
 pub job-append : (job : ℕ) (hs gs : List JobHolding)

@@ -5,8 +5,8 @@ use Rattle.std.proofs.lemmas.Bool.{cases_eq}
 use Rattle.std.proofs.lemmas.List.{get_or-set_other, get_or-set_same}
 use Rattle.cqs_core.proofs.Places.{get-set_else, get-set_here}
 use Rattle.cqs_shared_floors.specs.Meeting.{HasMetAt}
-use Rattle.cqs_shared_floors.specs.ShareCalls.{Meets}
-use Rattle.cqs_shared_floors.specs.Shares.{Share}
+use Rattle.cqs_shares.specs.ShareCalls.{Meets}
+use Rattle.cqs_shares.specs.Shares.{Share}
 
 module _ {X : Type 0} where
   -- what comes next stands behind what came

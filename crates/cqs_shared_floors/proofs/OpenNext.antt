@@ -11,7 +11,7 @@ use Rattle.cqs_plan.specs.Runnable.{IsRunnable}
 use Rattle.cqs_work.specs.Opening.{IsOpening}
 use Rattle.cqs_shared_floors.specs.Ledgers.{Ledger, shared_in}
 use Rattle.cqs_shared_floors.specs.Openings.{AreFresh, AreLimits, CanSplitEach, HaveOpened, HaveSplitEach, arriving_from, own_arriving, plan_name, room_of}
-use Rattle.cqs_shared_floors.specs.Shares.{Share}
+use Rattle.cqs_shares.specs.Shares.{Share}
 use Rattle.cqs_shared_floors.proofs.FloorProvides.{fewer-from}
 use Rattle.cqs_shared_floors.proofs.FloorSplits.{Fresh, HaveMany, fresh-opened, last-fresh, made-fresh, made-kin, made-limits, made-many, many-opened, new-fresh, new-kin, new-limits, split-can}
 use Rattle.cqs_shared_floors.proofs.FloorLists.{index-mapped}

@@ -3,8 +3,8 @@ use Rattle.std.proofs.Common.{◌≡◌, ◌≢◌, ◌⊎◌, inl, inr, ℕ, �
 use Rattle.std.proofs.lemmas.Bool.{cases_eq}
 use Rattle.cqs_core.proofs.Places.{get-append_left, get-push_at, get-set_else, get-set_here}
 use Rattle.cqs_shared_floors.specs.Openings.{HasSplitAt}
-use Rattle.cqs_shared_floors.specs.ShareCalls.{HasSplit}
-use Rattle.cqs_shared_floors.specs.Shares.{Share}
+use Rattle.cqs_shares.specs.ShareCalls.{HasSplit}
+use Rattle.cqs_shares.specs.Shares.{Share}
 
 pub split-next : {X : Type 0} (s : Share X) (gives : ℕ → ℕ) (number : ℕ) (old made now : List X) (at : ℕ) (x one y : X)
     → length made ≡ at → slice_get now at ≡ Some x → slice_get old at ≡ Some x → HasSplit s (gives at) x one y

@@ -13,11 +13,11 @@ use Rattle.cqs_shared.specs.declared.shared.SharedGive.{SharedGive}
 use Rattle.cqs_shared.specs.declared.shared.Turned.{Turned}
 use Rattle.cqs_shared_floors.specs.declared.floors.holdings.JobHolding.{JobHolding}
 use Rattle.cqs_shared_floors.specs.declared.floors.spots.FloorWait.{FloorWait}
-use Rattle.cqs_shared_floors.specs.declared.resource.Came.{Came}
+use Rattle.cqs_shares.specs.declared.resource.Came.{Came}
 use Rattle.cqs_shared_floors.specs.Holdings.{and_taken, less_oldest}
 use Rattle.cqs_shared_floors.specs.Ledgers.{Ledger, and_arrived, round_in, with_come, with_grant, with_shares, without_wait}
-use Rattle.cqs_shared_floors.specs.Shares.{Share}
-use Rattle.cqs_shared_floors.specs.ShareCalls as calls
+use Rattle.cqs_shares.specs.Shares.{Share}
+use Rattle.cqs_shares.specs.ShareCalls as calls
 use Rattle.cqs_shared_floors.specs.Spots.{answer_for, place_in, spot_came, spot_in}
 
 module _ {X : Type 0} where

@@ -9,7 +9,7 @@ use Rattle.cqs_shared_floors.specs.declared.floors.spots.FloorWait.{FloorWait}
 use Rattle.cqs_shared_floors.specs.declared.floors.spots.Spot.{Spot}
 use Rattle.cqs_shared_floors.specs.Holdings.{held_at}
 use Rattle.cqs_shared_floors.specs.Ledgers.{Ledger, holds_in, own_rounds}
-use Rattle.cqs_shared_floors.specs.Shares.{Funds, Share}
+use Rattle.cqs_shares.specs.Shares.{Funds, Share}
 use Rattle.cqs_shared_floors.specs.Spots.{came_at, job_wait, place_in, spot_in, stands_at}
 
 -- how many jobs wait for a resource in a cell, and how many of its waits came with their numbers

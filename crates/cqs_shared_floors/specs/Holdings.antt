@@ -5,8 +5,8 @@ use Rattle.cqs_plan.specs.declared.plans.kind.Kind.{Kind}
 use Rattle.cqs_plan.specs.Floor.{Holding}
 use Rattle.cqs_plan.specs.Language.{can_hold}
 use Rattle.cqs_shared_floors.specs.declared.floors.holdings.JobHolding.{JobHolding}
-use Rattle.cqs_shared_floors.specs.declared.resource.Came.{Came}
-use Rattle.cqs_shared_floors.specs.declared.resource.Came.TheVariants as came
+use Rattle.cqs_shares.specs.declared.resource.Came.{Came}
+use Rattle.cqs_shares.specs.declared.resource.Came.TheVariants as came
 
 -- one job, oldest first; and each of so many
 abbrev pub held_by_job : ℕ → List JobHolding → List Holding

@@ -7,10 +7,10 @@ use Rattle.cqs_plan.specs.Floor.{Holding}
 use Rattle.cqs_shared.specs.Shared.{Shared}
 use Rattle.cqs_shared_floors.specs.declared.floors.holdings.JobHolding.{JobHolding}
 use Rattle.cqs_shared_floors.specs.declared.floors.spots.Spot.{Spot}
-use Rattle.cqs_shared_floors.specs.declared.resource.Came.{Came}
-use Rattle.cqs_shared_floors.specs.declared.resource.Came.TheVariants as came
+use Rattle.cqs_shares.specs.declared.resource.Came.{Came}
+use Rattle.cqs_shares.specs.declared.resource.Came.TheVariants as came
 use Rattle.cqs_shared_floors.specs.Holdings.{and_brought, held_by_jobs}
-use Rattle.cqs_shared_floors.specs.Shares.{Share}
+use Rattle.cqs_shares.specs.Shares.{Share}
 use Rattle.cqs_shared_floors.specs.Spots.{job_wait, no_spot, spot_for, spot_over}
 
 pub record Ledger (X : Type 0) : Type 0 where

@@ -2,8 +2,8 @@
 use Rattle.std.specs.Prelude.{◌≡◌, ℕ, suc, ◌+◌, ◌<◌, ◌≤◌, ◌^◌, Bool, List, ◌∷◌, ◌++◌, length, max, Some, is_some, slice_get, slice_index}
 use Rattle.cqs_shared_floors.specs.declared.floors.spots.Spot.{Spot}
 use Rattle.cqs_shared_floors.specs.Ledgers.{Ledger, own_round, own_rounds}
-use Rattle.cqs_shared_floors.specs.Shares.{Share}
-use Rattle.cqs_shared_floors.specs.ShareCalls.{CanMeet, Meets}
+use Rattle.cqs_shares.specs.Shares.{Share}
+use Rattle.cqs_shares.specs.ShareCalls.{CanMeet, Meets}
 
 -- the job has a wait
 abbrev pub has_wait : Spot → Bool

@@ -15,8 +15,8 @@ use Rattle.cqs_plan.specs.PlanSteps.{may_wait}
 use Rattle.cqs_plan.specs.Runnable.{kinds_of}
 use Rattle.cqs_shared.specs.Entries.{is_nothing, own_history}
 use Rattle.cqs_shared_floors.specs.Ledgers.{Ledger, kind_numbers}
-use Rattle.cqs_shared_floors.specs.Shares.{Share}
-use Rattle.cqs_shared_floors.specs.ShareCalls.{CanSplit, HasSplit, IsOpened, no_funds}
+use Rattle.cqs_shares.specs.Shares.{Share}
+use Rattle.cqs_shares.specs.ShareCalls.{CanSplit, HasSplit, IsOpened, no_funds}
 use Rattle.cqs_shared_floors.specs.Spots.{no_spot}
 
 -- a take, a wait or an arrival names one of so many resources

@@ -7,8 +7,8 @@ use Rattle.cqs_views.specs.declared.config.Place.{Place}
 use Rattle.cqs_shared.specs.declared.shared.Turned.{Turned}
 use Rattle.cqs_shared_floors.specs.declared.floors.spots.FloorWait.{FloorWait}
 use Rattle.cqs_shared_floors.specs.declared.floors.spots.Spot.{Spot}
-use Rattle.cqs_shared_floors.specs.declared.resource.Came.{Came}
-use Rattle.cqs_shared_floors.specs.declared.resource.Came.TheVariants as came
+use Rattle.cqs_shares.specs.declared.resource.Came.{Came}
+use Rattle.cqs_shares.specs.declared.resource.Came.TheVariants as came
 
 -- where the cell of a wait stands
 abbrev pub place_in : FloorWait → Place

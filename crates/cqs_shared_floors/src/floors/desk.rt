@@ -30,14 +30,14 @@ ghost use Rattle.cqs_shared_floors.specs.Ledgers.{
   with_shares,
   without_wait,
 };
-ghost use Rattle.cqs_shared_floors.specs.ShareCalls as calls;
+ghost use Rattle.cqs_shares.specs.ShareCalls as calls;
 ghost use Rattle.cqs_shared_floors.specs.Spots.{place_in};
 
 use super::holdings::{JobHolding, drop_oldest, hold_brought, hold_taken};
 use super::spots::{FloorWait, Spot, note};
-use crate::resource::{Came, SharedResource};
 use cqs_plan::{FloorDown, FloorEnd, FloorLeave, FloorLook, FloorTake, Kind};
 use cqs_shared::{SharedGive, Turned};
+use cqs_shares::{Came, SharedResource};
 use std::marker::Model;
 use std::sync::Wait;
 

@@ -11,8 +11,8 @@ ghost use Rattle.cqs_shared_floors.specs.Holdings.{
   less_oldest,
 };
 
-use crate::resource::Came;
 use cqs_plan::Kind;
+use cqs_shares::Came;
 
 /// Something that a job holds: which element of which resource. A permit has the number 0.
 #[derive(Clone, Copy)]

@@ -7,7 +7,7 @@ ghost use Rattle.cqs_shared_floors.specs.Meeting.{CanJoin, CanMeetEach, HasJoine
 
 use super::desk::Desk;
 use super::holdings::take_over;
-use crate::resource::SharedResource;
+use cqs_shares::SharedResource;
 
 impl<X: SharedResource> Desk<X> {
     /// Whether some job has a wait.

@@ -7,7 +7,7 @@ ghost use Rattle.cqs_core.specs.Numbered.{EachAt};
 ghost use Rattle.cqs_plan.specs.PlanSteps.{is_arrival, may_wait};
 ghost use Rattle.cqs_plan.specs.Runnable.{AreSized, IsRunnable, kinds_of};
 ghost use Rattle.cqs_work.specs.Opening.{AreSplit, IsOpening};
-ghost use Rattle.cqs_shared_floors.specs.AnyShares.{share_any};
+ghost use Rattle.cqs_shares.specs.AnyShares.{share_any};
 ghost use Rattle.cqs_shared_floors.specs.Ledgers.{shared_in};
 ghost use Rattle.cqs_shared_floors.specs.Openings.{
   AreFresh,
@@ -23,16 +23,15 @@ ghost use Rattle.cqs_shared_floors.specs.Openings.{
   plan_name,
   room_of,
 };
-ghost use Rattle.cqs_shared_floors.specs.ShareCalls.{CanSplit, HasSplit};
+ghost use Rattle.cqs_shares.specs.ShareCalls.{CanSplit, HasSplit};
 ghost use Rattle.cqs_shared_floors.specs.Spots.{no_spot};
 
 use super::desk::Desk;
 use super::share_floor::ShareFloor;
 use super::spots::Spot;
-use crate::kinds::AnyShared;
-use crate::resource::{ForEachKind, SharedResource};
 use cqs_core::Memory;
 use cqs_plan::{Job, Kind, Plan, Resource, Step};
+use cqs_shares::{AnyShared, ForEachKind, SharedResource};
 use std::alloc::{AllocError, Global};
 
 /// A floor for each of so many workers, on resources of the running queue that all of them share.

@@ -3,9 +3,9 @@
 ghost use Rattle.cqs_shared_floors.specs.Ledgers.{shared_in};
 
 use super::desk::Desk;
-use crate::resource::SharedResource;
 use cqs_plan::{FloorDown, FloorEnd, FloorLeave, FloorLook, FloorTake};
 use cqs_shared::{SharedFloor, SharedGive, Turned};
+use cqs_shares::SharedResource;
 use std::marker::Model;
 use std::sync::Wait;
 

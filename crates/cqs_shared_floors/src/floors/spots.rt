@@ -3,10 +3,10 @@
 ghost use Rattle.std.specs.Prelude.{◌≡◌, ◌<◌, length, slice_set};
 ghost use Rattle.cqs_shared_floors.specs.Spots as specs;
 
-use crate::resource::Came;
 use cqs_plan::FloorTake;
 use cqs_rule::Place;
 use cqs_shared::Turned;
+use cqs_shares::Came;
 
 /// The wait of a job: the place of its resource, the round where that is a barrier, and where the
 /// cell of the wait stands there. What came with its number stands in no cell.

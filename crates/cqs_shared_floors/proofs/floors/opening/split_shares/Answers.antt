@@ -3,7 +3,7 @@ use Rattle.std.proofs.lemmas.List.{length_push}
 use Rattle.std.proofs.lemmas.Option.{slice_get-get_or}
 use Rattle.cqs_core.proofs.Places.{get-below}
 use Rattle.cqs_shared_floors.specs.Openings.{HasSplitAt, arriving_from}
-use Rattle.cqs_shared_floors.specs.ShareCalls.{HasSplit}
+use Rattle.cqs_shares.specs.ShareCalls.{HasSplit}
 use Rattle.cqs_shared_floors.proofs.MeetEach.{rest-next}
 use Rattle.cqs_shared_floors.proofs.SplitEach.{split-next}
 use Rattle.cqs_shared_floors.proofs.floors.opening.split_shares.Goals as goal

@@ -1,6 +1,6 @@
 use Rattle.std.proofs.Common.{Some, inr, ap, subst, sym, ◌∙◌}
 use Rattle.cqs_shared_floors.specs.Ledgers.{Ledger, with_grant, with_shares, without_wait}
-use Rattle.cqs_shared_floors.specs.ShareCalls as calls
+use Rattle.cqs_shares.specs.ShareCalls as calls
 use Rattle.cqs_shared_floors.specs.Spots.{place_in}
 use Rattle.cqs_shared_floors.proofs.floors.desk.Desk.leave.Goals as goal
 

@@ -2,7 +2,7 @@ use Rattle.std.proofs.Common.{◌<◌, length, subst, sym}
 use Rattle.cqs_shared_floors.specs.DeskCalls.{HasAt, Arrives}
 use Rattle.cqs_shared_floors.specs.FloorKept.{IsKept}
 use Rattle.cqs_shared_floors.specs.Ledgers.{own_rounds, round_in}
-use Rattle.cqs_shared_floors.specs.ShareCalls as calls
+use Rattle.cqs_shares.specs.ShareCalls as calls
 use Rattle.cqs_shared_floors.proofs.FloorPlaces.{job-there}
 use Rattle.cqs_shared_floors.proofs.FloorTakes.{arrive-can, arrive-each, arrive-few, arrive-well, some-room}
 use Rattle.cqs_shared_floors.proofs.floors.share_floor.ShareFloorSharedFloor.arrive.Goals as goal

@@ -1,7 +1,7 @@
 use Rattle.std.proofs.Common.{subst, sym}
 use Rattle.cqs_shared_floors.specs.DeskCalls.{Downs, HasAt}
 use Rattle.cqs_shared_floors.specs.FloorKept.{IsKept}
-use Rattle.cqs_shared_floors.specs.ShareCalls as calls
+use Rattle.cqs_shares.specs.ShareCalls as calls
 use Rattle.cqs_shared_floors.proofs.FloorGives.{down-can, down-well}
 use Rattle.cqs_shared_floors.proofs.floors.share_floor.ShareFloorSharedFloor.down.Goals as goal
 

@@ -3,7 +3,7 @@ use Rattle.std.specs.List.{list_any}
 use Rattle.cqs_shared_floors.specs.DeskCalls.{Gives, HasAt}
 use Rattle.cqs_shared_floors.specs.FloorKept.{IsKept}
 use Rattle.cqs_shared_floors.specs.Holdings.{is_of}
-use Rattle.cqs_shared_floors.specs.ShareCalls as calls
+use Rattle.cqs_shares.specs.ShareCalls as calls
 use Rattle.cqs_shared_floors.proofs.FloorGives.{give-can, give-holds, give-well}
 use Rattle.cqs_shared_floors.proofs.floors.share_floor.ShareFloorSharedFloor.give.Goals as goal
 

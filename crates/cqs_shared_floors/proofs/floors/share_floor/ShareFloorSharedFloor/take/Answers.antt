@@ -1,7 +1,7 @@
 use Rattle.std.proofs.Common.{◌<◌, length, subst, sym}
 use Rattle.cqs_shared_floors.specs.DeskCalls.{HasAt, Takes}
 use Rattle.cqs_shared_floors.specs.FloorKept.{IsKept}
-use Rattle.cqs_shared_floors.specs.ShareCalls as calls
+use Rattle.cqs_shares.specs.ShareCalls as calls
 use Rattle.cqs_shared_floors.proofs.FloorPlaces.{job-there}
 use Rattle.cqs_shared_floors.proofs.FloorTakes.{some-room, take-can, take-space, take-well}
 use Rattle.cqs_shared_floors.proofs.floors.share_floor.ShareFloorSharedFloor.take.Goals as goal

@@ -1,0 +1,17 @@
+pub mod Shares
+pub mod ShareCalls
+pub mod Families
+pub mod Runs
+pub mod Accounts
+pub mod PermitAccounts
+pub mod PermitRuns
+pub mod PermitShares
+pub mod PoolAccounts
+pub mod HeldElements
+pub mod PoolRuns
+pub mod PoolShares
+pub mod RoundsOne
+pub mod RoundsShares
+pub mod LatchAccounts
+pub mod LatchShares
+pub mod AnyShares

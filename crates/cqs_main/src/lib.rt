@@ -1,9 +1,8 @@
 //! What `main` of the program `cqs` does: the words of the command line, one call of `top`, the
 //! line on standard error, the status that the process ends with.
 //!
-//! It is a library so that programs beside `cqs` can do the same on other words and another input,
-//! which the gate then runs. `run` does all of it, over any streams; `main` makes the real ones and
-//! hands them to it.
+//! `run` does all of it, over any streams; `main` makes the real ones and hands them to it. It is a
+//! library, so that the program's crate, which gives the binary its name, is `main` alone.
 #![tactic(auto)]
 
 mod messages;

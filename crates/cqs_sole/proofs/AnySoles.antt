@@ -21,7 +21,7 @@ use Rattle.cqs_sole.proofs.LatchSole.{latch-lawful}
 use Rattle.cqs_sole.proofs.Lifted.{lifted-lawful}
 use Rattle.cqs_sole.proofs.PoolSole.{pool-lawful}
 use Rattle.cqs_sole.proofs.RoundsLawful.{rounds-lawful}
-use Rattle.cqs_sole.proofs.RunningSole as running
+use Rattle.cqs_sole.proofs.RunningLemmas as running
 
 module _ {S : Type 0} (s : Sole S) where
   pub permits-among : IsAmong (of_semaphore s) (store_any s) Permits

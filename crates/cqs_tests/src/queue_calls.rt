@@ -11,8 +11,13 @@ use crate::line::{CONFIG, come, owe, send, wait};
 use cqs_cancel::{Left, cancel};
 use cqs_cell::{install, leave_value, look, serve, take_value};
 use cqs_find::{Found, find};
-use cqs_rule::{CELLS_WORD, CancelMode, Cancels, Config, Draws, MakeError, Place, Polls, Queue, RESUMES_WORD, Reaches, SUSPENDS_WORD, Silent, Watches};
-use cqs_semaphore_client::{SemClient, TrySwap, give_permit, load_state, next_wait, read_state, try_take};
+use cqs_rule::{
+    CELLS_WORD, CancelMode, Cancels, Config, Draws, MakeError, Place, Polls, Queue, RESUMES_WORD,
+    Reaches, SUSPENDS_WORD, Silent, Watches,
+};
+use cqs_semaphore_client::{
+    SemClient, TrySwap, give_permit, load_state, next_wait, read_state, try_take,
+};
 use cqs_words::{CellState, CellWord};
 use std::test::Fail;
 

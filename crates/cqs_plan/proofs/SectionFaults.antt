@@ -29,39 +29,41 @@ pub record IsTable (kind : ResourceKind) (name : List ℕ) (value : Data) (table
   pub only : has_only (map (λ number. number.key) kind.numbers) table ≡ true
 
 -- what is looked for after the keys
-abbrev later : ResourceKind → List (List ℕ) → ℕ → List ℕ → Members → List Fault
+abbrev pub later : ResourceKind → List (List ℕ) → ℕ → List ℕ → Members → List Fault
 later kind earlier i name table =
     unless (not (list_any (bytes_eq name) earlier)) (below_place kind.key name) fault.Name
     ++ unless (nat_lt (length earlier + i) 64) (below_place kind.key name) fault.Many
     ++ resource_number_faults kind name table
 
-module _ (kind : ResourceKind) (earlier : List (List ℕ)) (i : ℕ) (name : List ℕ) (value : Data) (table : Members)
-    (has : IsTable kind name value table) where
-  after-keys : resource_faults kind earlier i (name, value) ≡ later kind earlier i name table
-  after-keys = rw (has.named, has.is, has.only) refl
+module _ (kind : ResourceKind) (earlier : List (List ℕ)) (i : ℕ) (name : List ℕ) where
+  -- of such a name what is left is what is looked for after the keys
+  pub after-keys : (value : Data) (table : Members) → IsTable kind name value table
+      → resource_faults kind earlier i (name, value) ≡ later kind earlier i name table
+  after-keys value table has = rw (has.named, has.is, has.only) refl
 
-  -- the name stands already
-  pub stands : (e : PlanError) → list_any (bytes_eq name) earlier ≡ true
-      → StopsAt (fault_at (below_place kind.key name) fault.Name) e
-      → StopsAt (resource_faults kind earlier i (name, value)) e
-  stands e known stops =
-      let many = unless (nat_lt (length earlier + i) 64) (below_place kind.key name) fault.Many in
-      let first = fault_at (below_place kind.key name) fault.Name in
-      rw (after-keys, known)
-      (StopsAt-append (first ++ many) (resource_number_faults kind name table) e (StopsAt-append first many e stops))
+  module _ (table : Members) where
+    -- the name stands already
+    pub stands : (e : PlanError) → list_any (bytes_eq name) earlier ≡ true
+        → StopsAt (fault_at (below_place kind.key name) fault.Name) e
+        → StopsAt (later kind earlier i name table) e
+    stands e known stops =
+        let many = unless (nat_lt (length earlier + i) 64) (below_place kind.key name) fault.Many in
+        let first = fault_at (below_place kind.key name) fault.Name in
+        rw known
+        (StopsAt-append (first ++ many) (resource_number_faults kind name table) e (StopsAt-append first many e stops))
 
-  -- it is one too many
-  pub too-many : (e : PlanError) → list_any (bytes_eq name) earlier ≡ false → 64 ≤ length earlier + i
-      → StopsAt (fault_at (below_place kind.key name) fault.Many) e
-      → StopsAt (resource_faults kind earlier i (name, value)) e
-  too-many e new over stops =
-      let passed : nat_lt (length earlier + i) 64 ≡ false = le-ltb (length earlier + i) 64 over in
-      let first = fault_at (below_place kind.key name) fault.Many in
-      rw (after-keys, new, passed) (StopsAt-append first (resource_number_faults kind name table) e stops)
+    -- it is one too many
+    pub too-many : (e : PlanError) → list_any (bytes_eq name) earlier ≡ false → 64 ≤ length earlier + i
+        → StopsAt (fault_at (below_place kind.key name) fault.Many) e
+        → StopsAt (later kind earlier i name table) e
+    too-many e new over stops =
+        let passed : nat_lt (length earlier + i) 64 ≡ false = le-ltb (length earlier + i) 64 over in
+        let first = fault_at (below_place kind.key name) fault.Many in
+        rw (new, passed) (StopsAt-append first (resource_number_faults kind name table) e stops)
 
-  -- its numbers are what is left
-  pub numbers : list_any (bytes_eq name) earlier ≡ false → length earlier + i < 64
-      → resource_faults kind earlier i (name, value) ≡ resource_number_faults kind name table
-  numbers new few =
-      let passed : nat_lt (length earlier + i) 64 ≡ true = lt-ltb (length earlier + i) 64 few in
-      rw (after-keys, new, passed) refl
+    -- its numbers are what is left
+    pub numbers : list_any (bytes_eq name) earlier ≡ false → length earlier + i < 64
+        → later kind earlier i name table ≡ resource_number_faults kind name table
+    numbers new few =
+        let passed : nat_lt (length earlier + i) 64 ≡ true = lt-ltb (length earlier + i) 64 few in
+        rw (new, passed) refl

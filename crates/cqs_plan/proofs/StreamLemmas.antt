@@ -1,5 +1,5 @@
 -- One piece after another: what a stream gave or took in all.
-use Rattle.std.proofs.Common.{◌≡◌, ℕ, ◌+◌, ◌-◌, List, ◌++◌, [], length, take, drop, Option, Some, None, ap, sym, ◌∙◌, arith, append_assoc, length-append, length-drop}
+use Rattle.std.proofs.Common.{◌≡◌, ℕ, ◌+◌, ◌-◌, List, ◌++◌, [], length, take, drop, Option, Some, None, ap, sym, ◌∙◌, arith, append_assoc, length-append, length-drop, append-nil}
 use Rattle.std.proofs.Math.Seq.{take-add, take-length}
 use Rattle.std.proofs.lemmas.List.{drop-drop, nil_from_length, take-append-drop}
 use Rattle.cqs_plan.specs.Stream.{Gives, Gains, IsAll}
@@ -23,6 +23,15 @@ Gains_more first next None (Some between) (Some after) gained more = gained
 Gains_more first next (Some held) None (Some after) gained more = absurd more
 Gains_more first next (Some held) (Some between) (Some after) gained more =
     more ∙ ap (λ xs. xs ++ next) gained ∙ append_assoc held first next
+
+-- where nothing is left, what a source gave is all that it had
+pub gave_all : (bytes : List ℕ) (left now : Option (List ℕ))
+    → Gives bytes left now → IsAll [] now → IsAll bytes left
+gave_all bytes None now given ended = tt
+gave_all bytes (Some left) None (rest, _, told) ended = absurd (cc)
+gave_all bytes (Some left) (Some now) (rest, whole, told) ended =
+    let rest_is : rest ≡ now = cc in
+    whole ∙ ap (λ xs. bytes ++ xs) (rest_is ∙ ended) ∙ append-nil bytes
 
 -- a source that has nothing left and gives nothing still has nothing left
 pub still_at_end : (bytes : List ℕ) (left after : Option (List ℕ))

@@ -1,4 +1,5 @@
 pub mod PlanSteps
+pub mod Counted
 pub mod InMemory
 pub mod Counts
 pub mod Script
@@ -11,6 +12,7 @@ pub mod FloorCalls
 pub mod LegalFloor
 pub mod Runnable
 pub mod Language
+pub mod Needs
 pub mod Order
 pub mod Holding
 pub mod Arriving

@@ -1,5 +1,5 @@
 //! Names.
-ghost use Rattle.std.specs.Prelude.{◌≡◌, IfOk};
+ghost use Rattle.std.specs.Prelude.{◌≡◌, IfErr, IfOk};
 ghost use Rattle.std.specs.BTreeSet.{contains_text};
 ghost use Rattle.std.specs.List.{list_all};
 ghost use Rattle.cqs_plan.specs.FaultRules.{require};
@@ -36,6 +36,16 @@ pub fn is_name(text: &str) -> bool
     1 <= text.len() && text.len() <= 32 && has_name_bytes(text.as_bytes())
 }
 
+/// Adds a name to those that stand already.
+fn add_name(alloc: Global, text: &str, names: &mut BTreeSet<String>) -> Result<Name, PlanError>
+    ensures value { IfOk result (λ name. name ≡ text.now) }
+    ensures added { IfOk result (AddsName names.old names.new) }
+    ensures memory { IfErr result (λ error. error ≡ PlanError.Memory) }
+{
+    names.insert(String::from_str(alloc, text)?)?;
+    Ok(Name::from(text.as_bytes().to_vec(alloc)?))
+}
+
 /// A name that doesn't stand already, which is then added to those that do.
 pub fn new_name(
     alloc: Global,
@@ -58,6 +68,5 @@ pub fn new_name(
     if !is_name(text) || names.contains(text) {
         return Err(place.fault(alloc, FaultKind::Name));
     }
-    names.insert(String::from_str(alloc, text)?)?;
-    Ok(Name::from(text.as_bytes().to_vec(alloc)?))
+    add_name(alloc, text, names)
 }

@@ -1,15 +1,17 @@
 //! The resources of a plan.
-ghost use Rattle.std.specs.Prelude.{◌≡◌, ◌≤◌, ◌<◌, ◌+◌, IfOk, OnOk, IfErr, codes, map, length, nat_le};
+ghost use Rattle.std.specs.Prelude.{◌≡◌, ◌≤◌, ◌<◌, ◌+◌, ◌++◌, IfOk, OnOk, IfErr, codes, map, length, nat_le, nat_lt, not};
 ghost use Rattle.std.specs.List.{list_any};
 ghost use Rattle.std.specs.Str.{bytes_eq};
 ghost use Rattle.toml.specs.Data.{get_member};
 ghost use Rattle.toml.specs.View.{table_view, view};
+ghost use Rattle.cqs_plan.specs.declared.plans.fault_kind.FaultKind.TheVariants as fault;
 ghost use Rattle.cqs_plan.specs.declared.plans.kind.Kind.{Kind};
-ghost use Rattle.cqs_plan.specs.FaultRules.{each, require};
+ghost use Rattle.cqs_plan.specs.FaultRules.{each, require, unless};
 ghost use Rattle.cqs_plan.specs.Faults.{kind_faults, number_faults, resource_faults, resource_number_faults, resources_faults};
-ghost use Rattle.cqs_plan.specs.Language.{barriers, latches, pools, resource_kinds, semaphores};
+ghost use Rattle.cqs_plan.specs.Language.{barriers, resource_kinds};
 ghost use Rattle.cqs_plan.specs.Meaning.{members_in, members_list, number_in, resource_in};
 ghost use Rattle.cqs_plan.specs.Order.{AreFew, NamesAscend};
+ghost use Rattle.cqs_plan.specs.Places.{below_place};
 ghost use Rattle.cqs_plan.specs.Reading.{Reads, StopsAt};
 ghost use Rattle.cqs_plan.specs.Sections.{AreRead, kind_of, kinds_before, kinds_up_to, names_of};
 
@@ -26,49 +28,23 @@ use crate::plans::resource::Resource;
 use std::alloc::Global;
 use toml::{Table, Value};
 
-/// The number of permits in the table of a semaphore.
-fn permits(alloc: Global, name: &str, table: &Table) -> Result<u32, PlanError>
-    ensures faults { let members = table_view table.now in
-        Reads result (resource_number_faults semaphores name.now members) }
-    ensures value { let members = table_view table.now in
-        IfOk result (λ permits. permits ≡ number_in (get_member (codes "size") members)) }
+/// A number that the table of a resource has at a key, at least 1.
+fn number_at(
+    alloc: Global,
+    kind: &str,
+    name: &str,
+    table: &Table,
+    key: &str,
+    most: u32,
+) -> Result<u32, PlanError>
+    ensures faults { let place = below_place (below_place kind.now name.now) key.now in
+        let given = get_member key.now (table_view table.now) in
+        Reads result (require place given (number_faults place 1 most)) }
+    ensures value { let given = get_member key.now (table_view table.now) in
+        IfOk result (λ number. number ≡ number_in given) }
 {
-    let place = Place::Number {
-        kind: "semaphore",
-        name,
-        key: "size",
-    };
-    required_number(alloc, place, member(table, "size"), 1, 1_048_576)
-}
-
-/// The number of elements in the table of a pool.
-fn elements(alloc: Global, name: &str, table: &Table) -> Result<u32, PlanError>
-    ensures faults { let members = table_view table.now in
-        Reads result (resource_number_faults pools name.now members) }
-    ensures value { let members = table_view table.now in
-        IfOk result (λ elements. elements ≡ number_in (get_member (codes "size") members)) }
-{
-    let place = Place::Number {
-        kind: "pool",
-        name,
-        key: "size",
-    };
-    required_number(alloc, place, member(table, "size"), 1, 4_096)
-}
-
-/// The count in the table of a latch.
-fn count(alloc: Global, name: &str, table: &Table) -> Result<u32, PlanError>
-    ensures faults { let members = table_view table.now in
-        Reads result (resource_number_faults latches name.now members) }
-    ensures value { let members = table_view table.now in
-        IfOk result (λ count. count ≡ number_in (get_member (codes "count") members)) }
-{
-    let place = Place::Number {
-        kind: "latch",
-        name,
-        key: "count",
-    };
-    required_number(alloc, place, member(table, "count"), 1, 1_048_576)
+    let place = Place::Number { kind, name, key };
+    required_number(alloc, place, member(table, key), 1, most)
 }
 
 /// The parties and the rounds in the table of a barrier.
@@ -80,18 +56,8 @@ fn rounds(alloc: Global, name: &str, table: &Table) -> Result<Kind, PlanError>
         let rounds = number_in (get_member (codes "rounds") members) in
         IfOk result (λ kind. kind ≡ Kind.Rounds parties rounds) }
 {
-    let place = Place::Number {
-        kind: "barrier",
-        name,
-        key: "parties",
-    };
-    let parties = required_number(alloc, place, member(table, "parties"), 1, 32)?;
-    let place = Place::Number {
-        kind: "barrier",
-        name,
-        key: "rounds",
-    };
-    let rounds = required_number(alloc, place, member(table, "rounds"), 1, 64)?;
+    let parties = number_at(alloc, "barrier", name, table, "parties", 32)?;
+    let rounds = number_at(alloc, "barrier", name, table, "rounds", 64)?;
     Ok(Kind::Rounds { parties, rounds })
 }
 
@@ -105,10 +71,14 @@ fn kind_in(alloc: Global, section: Section, name: &str, table: &Table) -> Result
         IfOk result (λ found. found ≡ kind.kind said) }
 {
     match section {
-        Section::Semaphore => Ok(Kind::Semaphore(permits(alloc, name, table)?)),
+        Section::Semaphore => {
+            Ok(Kind::Semaphore(number_at(alloc, "semaphore", name, table, "size", 1_048_576)?))
+        }
         Section::Mutex => Ok(Kind::Mutex),
-        Section::Pool => Ok(Kind::Pool(elements(alloc, name, table)?)),
-        Section::Latch => Ok(Kind::Latch(count(alloc, name, table)?)),
+        Section::Pool => Ok(Kind::Pool(number_at(alloc, "pool", name, table, "size", 4_096)?)),
+        Section::Latch => {
+            Ok(Kind::Latch(number_at(alloc, "latch", name, table, "count", 1_048_576)?))
+        }
         Section::Barrier => rounds(alloc, name, table),
     }
 }
@@ -136,6 +106,66 @@ fn is_full(earlier: &[Resource], index: usize) -> bool
     ensures { result ≡ nat_le 64 (length earlier.now + index) }
 {
     earlier.len() + index >= 64
+}
+
+/// A resource of this name, with the numbers in its table.
+fn numbered(
+    alloc: Global,
+    section: Section,
+    name: &str,
+    table: &Table,
+) -> Result<Resource, PlanError>
+    ensures faults { let members = table_view table.now in
+        Reads result (resource_number_faults (kind_of section) name.now members) }
+    ensures name { IfOk result (λ resource. resource.name ≡ name.now) }
+    ensures kind { let members = table_view table.now in
+        let kind = kind_of section in
+        let said = map (λ number. number_in (get_member number.key members)) kind.numbers in
+        IfOk result (λ resource. resource.kind ≡ kind.kind said) }
+{
+    let kind = kind_in(alloc, section, name, table)?;
+    Ok(Resource {
+        name: Name::from(name.as_bytes().to_vec(alloc)?),
+        kind,
+    })
+}
+
+/// A resource, from its name and its table, which is the `index`-th of the section: its name is
+/// new, and it isn't one too many.
+fn tabled(
+    alloc: Global,
+    section: Section,
+    earlier: &[Resource],
+    index: usize,
+    name: &str,
+    table: &Table,
+) -> Result<Resource, PlanError>
+    requires earlier { AreFew earlier.now }
+    requires index { index ≤ 64 }
+    ensures faults { let stand = names_of earlier.now in
+        let kind = kind_of section in
+        let place = below_place kind.key name.now in
+        Reads result (unless (not (list_any (bytes_eq name.now) stand)) place fault.Name
+        ++ unless (nat_lt (length stand + index) 64) place fault.Many
+        ++ resource_number_faults kind name.now (table_view table.now)) }
+    ensures name { IfOk result (λ resource. resource.name ≡ name.now) }
+    ensures kind { let members = table_view table.now in
+        let kind = kind_of section in
+        let said = map (λ number. number_in (get_member number.key members)) kind.numbers in
+        IfOk result (λ resource. resource.kind ≡ kind.kind said) }
+    ensures few { OnOk result (length earlier.now + index < 64) }
+{
+    let place = Place::Resource {
+        kind: section.key(),
+        name,
+    };
+    if is_taken(name, earlier) {
+        return Err(place.fault(alloc, FaultKind::Name));
+    }
+    if is_full(earlier, index) {
+        return Err(place.fault(alloc, FaultKind::Many));
+    }
+    numbered(alloc, section, name, table)
 }
 
 /// A resource, from its name and its value, which is the `index`-th of the section. The earlier
@@ -167,17 +197,7 @@ fn resource(
     if !has_only(section.keys(), table) {
         return Err(place.fault(alloc, FaultKind::Key));
     }
-    if is_taken(name, earlier) {
-        return Err(place.fault(alloc, FaultKind::Name));
-    }
-    if is_full(earlier, index) {
-        return Err(place.fault(alloc, FaultKind::Many));
-    }
-    let kind = kind_in(alloc, section, name, table)?;
-    Ok(Resource {
-        name: Name::from(name.as_bytes().to_vec(alloc)?),
-        kind,
-    })
+    tabled(alloc, section, earlier, index, name, table)
 }
 
 /// The resources that the table of a section says.

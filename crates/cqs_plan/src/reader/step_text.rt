@@ -5,7 +5,7 @@ ghost use Rattle.std.specs.List.{list_all};
 ghost use Rattle.cqs_plan.specs.Meaning.{has_one_space, is_decimal, step_of, verb_step, work_step};
 ghost use Rattle.cqs_plan.specs.Order.{AreFew};
 
-use super::places::{barrier_place, latch_place, place_of};
+use super::places::{Need, place_of};
 use crate::plans::fault_kind::FaultKind;
 use crate::plans::resource::Resource;
 use crate::plans::step::Step;
@@ -46,19 +46,19 @@ fn verb_step(word: &str, argument: &str, resources: &[Resource]) -> Result<Step,
 {
     match word {
         "work" => work(argument),
-        "take" => place_of(argument, resources)
+        "take" => place_of(argument, Need::Hold, resources)
             .map(Step::Take)
             .ok_or(FaultKind::Target),
-        "give" => place_of(argument, resources)
+        "give" => place_of(argument, Need::Hold, resources)
             .map(Step::Give)
             .ok_or(FaultKind::Target),
-        "down" => latch_place(argument, resources)
+        "down" => place_of(argument, Need::Latch, resources)
             .map(Step::Down)
             .ok_or(FaultKind::Target),
-        "wait" => latch_place(argument, resources)
+        "wait" => place_of(argument, Need::Latch, resources)
             .map(Step::Await)
             .ok_or(FaultKind::Target),
-        "arrive" => barrier_place(argument, resources)
+        "arrive" => place_of(argument, Need::Barrier, resources)
             .map(Step::Arrive)
             .ok_or(FaultKind::Target),
         _ => Err(FaultKind::Step),

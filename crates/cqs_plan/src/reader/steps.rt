@@ -4,8 +4,8 @@ ghost use Rattle.toml.specs.View.{array_view, view};
 ghost use Rattle.cqs_plan.specs.FaultRules.{each};
 ghost use Rattle.cqs_plan.specs.Faults.{job_step_faults, step_faults, steps_faults, steps_part_faults};
 ghost use Rattle.cqs_plan.specs.Arriving.{has_round, rounds_at, rounds_of};
-ghost use Rattle.cqs_plan.specs.Holding.{is_give, is_held, is_take};
-ghost use Rattle.cqs_plan.specs.PlanSteps.{is_arrival};
+ghost use Rattle.cqs_plan.specs.Counted.{is_counted};
+ghost use Rattle.cqs_plan.specs.Holding.{is_held};
 ghost use Rattle.cqs_plan.specs.Meaning.{items_in, items_list, step_in, steps_in};
 ghost use Rattle.cqs_plan.specs.Order.{AreFew};
 ghost use Rattle.cqs_plan.specs.Places.{part_place, place_text};
@@ -22,23 +22,31 @@ use std::alloc::Global;
 use toml::Value;
 use toml::value::Array;
 
-/// How often a resource was taken.
-fn takes(earlier: &[Step], resource: u32) -> usize
-    ensures { result ≡ count_by (is_take resource) earlier.now }
-{
-    earlier
-        .iter()
-        .filter(|step| matches!(step, Step::Take(place) if *place == resource))
-        .count()
+/// Which steps at a resource are counted.
+#[derive(Clone, Copy)]
+pub enum Counted {
+    Takes,
+    Gives,
+    Arrivals,
 }
 
-/// How often it was given back.
-fn gives(earlier: &[Step], resource: u32) -> usize
-    ensures { result ≡ count_by (is_give resource) earlier.now }
+fn is_counted(counted: Counted, resource: u32, step: Step) -> bool
+    ensures { result ≡ is_counted counted resource step }
+{
+    match counted {
+        Counted::Takes => matches!(step, Step::Take(place) if place == resource),
+        Counted::Gives => matches!(step, Step::Give(place) if place == resource),
+        Counted::Arrivals => matches!(step, Step::Arrive(place) if place == resource),
+    }
+}
+
+/// How many of the steps count.
+fn count(earlier: &[Step], counted: Counted, resource: u32) -> usize
+    ensures { result ≡ count_by (is_counted counted resource) earlier.now }
 {
     earlier
         .iter()
-        .filter(|step| matches!(step, Step::Give(place) if *place == resource))
+        .filter(|step| is_counted(counted, resource, **step))
         .count()
 }
 
@@ -46,19 +54,11 @@ fn is_held(step: Step, earlier: &[Step]) -> bool
     ensures { result ≡ is_held earlier.now step }
 {
     match step {
-        Step::Give(resource) => gives(earlier, resource) < takes(earlier, resource),
+        Step::Give(resource) => {
+            count(earlier, Counted::Gives, resource) < count(earlier, Counted::Takes, resource)
+        }
         Step::Take(_) | Step::Down(_) | Step::Await(_) | Step::Arrive(_) | Step::Work(_) => true,
     }
-}
-
-/// How often a barrier was arrived at.
-fn arrivals(earlier: &[Step], barrier: u32) -> usize
-    ensures { result ≡ count_by (is_arrival barrier) earlier.now }
-{
-    earlier
-        .iter()
-        .filter(|step| matches!(step, Step::Arrive(place) if *place == barrier))
-        .count()
 }
 
 /// How many rounds the resource at a place has: only a barrier has any.
@@ -85,7 +85,9 @@ fn has_round(step: Step, resources: &[Resource], earlier: &[Step]) -> bool
     ensures { result ≡ has_round resources.now earlier.now step }
 {
     match step {
-        Step::Arrive(place) => arrivals(earlier, place) < rounds_at(resources, place) as usize,
+        Step::Arrive(place) => {
+            count(earlier, Counted::Arrivals, place) < rounds_at(resources, place) as usize
+        }
         Step::Take(_) | Step::Give(_) | Step::Down(_) | Step::Await(_) | Step::Work(_) => true,
     }
 }

@@ -2,7 +2,7 @@ use Rattle.std.proofs.Common.{◌≡◌, Bool, true, false, cond, ◌||◌, stri
 use Rattle.std.specs.BTreeSet.{contains_text}
 use Rattle.std.specs.Str.{bytes_eq}
 use Rattle.std.proofs.lemmas.Map.Text.{btree_set_updates_text}
-use Rattle.cqs_plan.proofs.reader.names.new_name.Goals as goal
+use Rattle.cqs_plan.proofs.reader.names.add_name.Goals as goal
 
 cond-or : (b c : Bool) → cond b true c ≡ (b || c)
 cond-or true c = refl

@@ -1,4 +1,5 @@
 pub mod Lines
+pub mod Counted
 pub mod Machine
 pub mod Turns
 pub mod Report

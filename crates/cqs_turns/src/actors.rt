@@ -3,6 +3,7 @@
 ghost use Rattle.std.specs.Prelude.{◌≡◌, ◌≤◌, ◌++◌, length, OnOk, OnErr};
 ghost use Rattle.cqs_turns.specs.Lines.{line_text};
 ghost use Rattle.std.specs.Prelude.{count_by, take};
+ghost use Rattle.cqs_plan.specs.Language.{can_hold};
 ghost use Rattle.cqs_plan.specs.PlanSteps.{is_arrival};
 ghost use Rattle.cqs_turns.specs.Roles.{is_holdable_at};
 ghost use Rattle.cqs_turns.specs.Turns.{take_told, give_told, leave_told, down_told, wait_told, arrive_told, is_due};
@@ -22,6 +23,15 @@ pub struct Actor<'a> {
     pub job: &'a Job,
 }
 
+fn can_hold(kind: Kind) -> bool
+    ensures { result ≡ can_hold kind }
+{
+    match kind {
+        Kind::Semaphore(_) | Kind::Mutex | Kind::Pool(_) => true,
+        Kind::Latch(_) | Kind::Rounds { .. } => false,
+    }
+}
+
 impl Actor<'_> {
     /// The job's deadline has come.
     pub fn is_due(&self) -> bool
@@ -38,10 +48,7 @@ impl Actor<'_> {
         ensures { result ≡ is_holdable_at self.now.resources.now at }
     {
         match self.resources.get(at as usize) {
-            Some(resource) => match resource.kind {
-                Kind::Semaphore(_) | Kind::Mutex | Kind::Pool(_) => true,
-                Kind::Latch(_) | Kind::Rounds { .. } => false,
-            },
+            Some(resource) => can_hold(resource.kind),
             None => false,
         }
     }

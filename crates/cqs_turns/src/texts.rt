@@ -1,10 +1,12 @@
 //! The text of the report's lines, byte by byte.
 
 ghost use Rattle.std.specs.Prelude.{◌≡◌, ◌++◌, OnOk, count_by, map, decimal};
-ghost use Rattle.cqs_turns.specs.Lines.{name_at, is_pool_at, is_barrier_at, place_text, wait_text, element_text, told_text, line_text, end_words, end_text, total_text, is_done, has_given_up, is_late, is_unfinished};
+ghost use Rattle.cqs_plan.specs.Language.{is_barrier};
+ghost use Rattle.cqs_turns.specs.Lines.{name_at, is_pool, is_pool_at, is_barrier_at, place_text, wait_text, element_text, told_text, line_text, end_words, end_text, total_text};
+ghost use Rattle.cqs_turns.specs.Counted.{is_counted};
 
 use crate::lines::Told;
-use crate::states::JobState;
+use crate::states::{JobState, Progress};
 use cqs_core::Memory;
 use cqs_plan::{FloorEnd, Kind, Resource};
 use itoa::Buffer;
@@ -51,14 +53,26 @@ fn name_of(resources: &[Resource], at: u32) -> &[u8]
     }
 }
 
+fn is_pool(kind: Kind) -> bool
+    ensures { result ≡ is_pool kind }
+{
+    matches!(kind, Kind::Pool(_))
+}
+
 /// Whether the resource at a place is a pool.
 fn is_pool_at(resources: &[Resource], at: u32) -> bool
     ensures { result ≡ is_pool_at resources.now at }
 {
     match resources.get(at as usize) {
-        Some(resource) => matches!(resource.kind, Kind::Pool(_)),
+        Some(resource) => is_pool(resource.kind),
         None => false,
     }
+}
+
+fn is_barrier(kind: Kind) -> bool
+    ensures { result ≡ is_barrier kind }
+{
+    matches!(kind, Kind::Rounds { .. })
 }
 
 /// The resource at a place is a barrier.
@@ -66,7 +80,7 @@ fn is_barrier_at(resources: &[Resource], at: u32) -> bool
     ensures { result ≡ is_barrier_at resources.now at }
 {
     match resources.get(at as usize) {
-        Some(resource) => matches!(resource.kind, Kind::Rounds { .. }),
+        Some(resource) => is_barrier(resource.kind),
         None => false,
     }
 }
@@ -248,43 +262,33 @@ pub fn push_end(line: &mut Vec<u8>, name: &[u8], end: FloorEnd) -> Result<(), Me
     Ok(())
 }
 
-fn count_done(states: &[JobState]) -> usize
-    ensures { result ≡ count_by is_done (map (λ state. state.progress) states.now) }
-{
-    states
-        .iter()
-        .map(|state| state.progress)
-        .filter(|progress| progress.is_done())
-        .count()
+/// Which jobs are counted at the end: those that came to this end, or to none.
+#[derive(Clone, Copy)]
+pub enum Counted {
+    Done,
+    GaveUp,
+    Late,
+    Unfinished,
 }
 
-fn count_given_up(states: &[JobState]) -> usize
-    ensures { result ≡ count_by has_given_up (map (λ state. state.progress) states.now) }
+fn is_counted(counted: Counted, progress: Progress) -> bool
+    ensures { result ≡ is_counted counted progress }
 {
-    states
-        .iter()
-        .map(|state| state.progress)
-        .filter(|progress| progress.has_given_up())
-        .count()
+    match counted {
+        Counted::Done => progress.is_done(),
+        Counted::GaveUp => progress.has_given_up(),
+        Counted::Late => progress.is_late(),
+        Counted::Unfinished => progress.is_unfinished(),
+    }
 }
 
-fn count_late(states: &[JobState]) -> usize
-    ensures { result ≡ count_by is_late (map (λ state. state.progress) states.now) }
+fn count(states: &[JobState], counted: Counted) -> usize
+    ensures { result ≡ count_by (is_counted counted) (map (λ state. state.progress) states.now) }
 {
     states
         .iter()
         .map(|state| state.progress)
-        .filter(|progress| progress.is_late())
-        .count()
-}
-
-fn count_unfinished(states: &[JobState]) -> usize
-    ensures { result ≡ count_by is_unfinished (map (λ state. state.progress) states.now) }
-{
-    states
-        .iter()
-        .map(|state| state.progress)
-        .filter(|progress| progress.is_unfinished())
+        .filter(|progress| is_counted(counted, *progress))
         .count()
 }
 
@@ -293,10 +297,14 @@ pub fn push_total(line: &mut Vec<u8>, states: &[JobState]) -> Result<(), Memory>
     ensures { OnOk result (line.new.items ≡ line.old.items
         ++ total_text (map (λ state. state.progress) states.now)) }
 {
-    push_labelled(line, b"total done ", count_done(states) as u64)?;
-    push_labelled(line, b" gaveup ", count_given_up(states) as u64)?;
-    push_labelled(line, b" late ", count_late(states) as u64)?;
-    push_labelled(line, b" unfinished ", count_unfinished(states) as u64)?;
+    push_labelled(line, b"total done ", count(states, Counted::Done) as u64)?;
+    push_labelled(line, b" gaveup ", count(states, Counted::GaveUp) as u64)?;
+    push_labelled(line, b" late ", count(states, Counted::Late) as u64)?;
+    push_labelled(
+        line,
+        b" unfinished ",
+        count(states, Counted::Unfinished) as u64,
+    )?;
     line.extend_from_slice(b"\n")?;
     Ok(())
 }

@@ -6,11 +6,11 @@ returns c =
     rw (
       c.in_ok-extend_from_slice.ensures.items,
       c.in_ok-push_labelled-4.ensures,
-      c.count_unfinished.ensures,
+      c.count-4.ensures,
       c.in_ok-push_labelled-3.ensures,
-      c.count_late.ensures,
+      c.count-3.ensures,
       c.in_ok-push_labelled-2.ensures,
-      c.count_given_up.ensures,
+      c.count-2.ensures,
       c.in_ok-push_labelled.ensures,
-      c.count_done.ensures,
+      c.count.ensures,
     ) (simp append_assoc)

@@ -13,3 +13,4 @@ pub mod Ends
 pub mod LegalFloors
 pub mod Counting
 pub mod Opened
+pub mod Called

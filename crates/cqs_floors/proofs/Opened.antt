@@ -1,4 +1,4 @@
--- A floor on semaphores as it is made: all is kept, and it is the plain floor on which nothing has happened.
+-- A floor on resources of any kind as it is made: all is kept, and it is the plain floor on which nothing has happened.
 use Rattle.std.proofs.Common.{◌≡◌, ℕ, zero, suc, ◌<◌, List, [], ◌∷◌, Option, Some, None, is_some, length, map, replicate, slice_get, sum_by, count_by, refl, ap, ap₂, sym, ◌∙◌, subst, cond, arith}
 use Rattle.std.specs.Prelude.{slice_index}
 use Rattle.std.specs.Option.{option_map}

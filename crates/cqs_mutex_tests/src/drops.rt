@@ -47,8 +47,8 @@ fn drops_before_the_end(alloc: Global, drops: &AtomicU64, unlocks: bool) -> u64 
 #[test]
 fn a_value_is_dropped_once_with_its_mutex(rt: HostRuntime) -> Result<(), Fail> {
     let drops = AtomicU64::new(0);
-    assert_eq!(rt; drops_before_the_end(rt.alloc(), &drops, true), 0);
-    assert_eq!(rt; drops.load(Ordering::SeqCst), 1);
+    assert!(rt; drops_before_the_end(rt.alloc(), &drops, true) == 0);
+    assert!(rt; drops.load(Ordering::SeqCst) == 1);
     Ok(())
 }
 
@@ -57,6 +57,6 @@ fn a_value_is_dropped_once_with_its_guard(rt: HostRuntime) -> Result<(), Fail> {
     let drops = AtomicU64::new(0);
     let before = drops_before_the_end(rt.alloc(), &drops, false);
     assert!(rt; before <= 1);
-    assert_eq!(rt; drops.load(Ordering::SeqCst), 1);
+    assert!(rt; drops.load(Ordering::SeqCst) == 1);
     Ok(())
 }

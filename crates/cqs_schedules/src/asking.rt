@@ -71,25 +71,52 @@ fn state_of(
     })
 }
 
+/// What a line asks: by its word, and by two numbers.
+#[derive(Clone, Copy)]
+struct Question<'a> {
+    verb: &'a str,
+    first: u32,
+    second: u32,
+}
+
 /// A number of a question; none is 0.
 fn number_of(word: Option<&str>) -> anyhow::Result<u32> {
     Ok(word.unwrap_or("0").parse::<u32>()?)
 }
 
+/// The question of these words.
+fn question_of<'a>(text: &'a str) -> anyhow::Result<Question<'a>> {
+    let mut words = text.split(' ');
+    Ok(Question {
+        verb: words.next().unwrap_or(""),
+        first: number_of(words.next())?,
+        second: number_of(words.next())?,
+    })
+}
+
+/// What the core tells, or none where nothing is asked.
+fn told(
+    alloc: Global,
+    core: &mut Core,
+    question: Question<'_>,
+) -> Option<Result<String, AllocError>> {
+    let Question {
+        verb,
+        first,
+        second,
+    } = question;
+    match event_of(verb, first, u64::from(second)) {
+        Some(event) => Some(make(alloc, core, event)),
+        None if verb == "core" => Some(open(alloc, core, first, second)),
+        None => state_of(alloc, core, verb, first),
+    }
+}
+
 /// What the core answers to a question, in words.
-pub fn answer(alloc: Global, core: &mut Core, question: &str) -> anyhow::Result<String> {
-    let mut words = question.split(' ');
-    let verb = words.next().unwrap_or("");
-    let first = number_of(words.next())?;
-    let second = number_of(words.next())?;
-    if let Some(event) = event_of(verb, first, u64::from(second)) {
-        return Ok(make(alloc, core, event)?);
-    }
-    if verb == "core" {
-        return Ok(open(alloc, core, first, second)?);
-    }
-    match state_of(alloc, core, verb, first) {
-        Some(text) => Ok(text?),
-        None => anyhow::bail!("{verb} asks nothing"),
+pub fn answer(alloc: Global, core: &mut Core, text: &str) -> anyhow::Result<String> {
+    let question = question_of(text)?;
+    match told(alloc, core, question) {
+        Some(answer) => Ok(answer?),
+        None => anyhow::bail!("{} asks nothing", question.verb),
     }
 }

@@ -20,6 +20,7 @@ mod texts;
 
 use crate::asking::answer;
 use cqs_core::Core;
+use std::alloc::Global;
 use std::fs;
 use std::rt::Files;
 
@@ -27,14 +28,31 @@ use std::rt::Files;
 const FILES: [&str; 4] = ["sizes", "schedules", "random", "histories"];
 
 /// How many lines of a file were asked, and how many weren't answered as they should be.
-#[derive(Clone, Copy)]
+#[derive(Clone, Copy, Default)]
 struct Tally {
     number: u64,
     asked: u64,
     failed: u64,
 }
 
-/// Asks what a line asks, and prints its place where that isn't answered as it should be.
+/// Whether a question is answered as it should be. Prints its place where it isn't.
+fn is_answered<R: Print + AllocGlobal>(
+    rt: &R,
+    place: (&str, u64),
+    core: &mut Core,
+    question: &str,
+    wanted: &str,
+) -> anyhow::Result<bool> {
+    let found = answer(rt.alloc(), core, question)?;
+    let right = found.as_str() == wanted;
+    if !right {
+        let (name, number) = place;
+        println!(rt; "{name}, line {number}: {question} answers {found}, NOT {wanted}")?;
+    }
+    Ok(right)
+}
+
+/// Asks what a line asks, and counts it.
 fn ask_line<R: Print + AllocGlobal>(
     rt: &R,
     name: &str,
@@ -46,35 +64,46 @@ fn ask_line<R: Print + AllocGlobal>(
     if line.starts_with("=== ") {
         return Ok(());
     }
-    let number = tally.number;
+    let place = (name, tally.number);
     let Some((question, wanted)) = line.split_once(": ") else {
-        anyhow::bail!("{name}, line {number}: no question and answer");
+        anyhow::bail!("{name}, line {}: no question and answer", tally.number);
     };
     tally.asked = tally.asked.saturating_add(1);
-    let found = answer(rt.alloc(), core, question)?;
-    if found.as_str() != wanted {
+    if !is_answered(rt, place, core, question, wanted)? {
         tally.failed = tally.failed.saturating_add(1);
-        println!(rt; "{name}, line {number}: {question} answers {found}, NOT {wanted}")?;
     }
     Ok(())
+}
+
+/// The core of the lines before the first that makes one.
+fn first_core(alloc: Global) -> anyhow::Result<Core> {
+    match Core::new(alloc, 1, 1) {
+        Ok(core) => Ok(core),
+        Err(_) => anyhow::bail!("no memory for a core"),
+    }
+}
+
+/// Asks what the lines of a file ask.
+fn ask_lines<R: Print + AllocGlobal>(rt: &R, name: &str, text: &str) -> anyhow::Result<Tally> {
+    let mut core = first_core(rt.alloc())?;
+    let mut tally = Tally::default();
+    for line in text.lines() {
+        ask_line(rt, name, &mut core, line, &mut tally)?;
+    }
+    Ok(tally)
+}
+
+/// The text of a file.
+fn read<R: Files + AllocGlobal>(rt: &R, name: &str) -> anyhow::Result<String> {
+    let path = format!(in rt.alloc(); "{name}.schedules")?;
+    Ok(fs::read_to_string(rt, path)?)
 }
 
 /// Asks what a file asks. Prints how many lines there are, and before that the place of each that
 /// isn't answered as it should be.
 fn run_file<R: Files + Print + AllocGlobal>(rt: &R, name: &str) -> anyhow::Result<()> {
-    let alloc = rt.alloc();
-    let text = fs::read_to_string(rt, format!(in alloc; "{name}.schedules")?)?;
-    let Ok(mut core) = Core::new(alloc, 1, 1) else {
-        anyhow::bail!("no memory for a core");
-    };
-    let mut tally = Tally {
-        number: 0,
-        asked: 0,
-        failed: 0,
-    };
-    for line in text.as_str().lines() {
-        ask_line(rt, name, &mut core, line, &mut tally)?;
-    }
+    let text = read(rt, name)?;
+    let tally = ask_lines(rt, name, text.as_str())?;
     println!(rt; "{name}: {} lines, {} failed", tally.asked, tally.failed)?;
     Ok(())
 }

@@ -12,46 +12,67 @@ fn named(alloc: Global, name: &str, number: Option<u64>) -> Result<String, Alloc
     }
 }
 
-/// The name of an outcome and its number, if it is told by these alone.
-fn name_of_outcome(outcome: Outcome) -> Option<(&'static str, Option<u64>)> {
+/// The number that an outcome tells, if it tells one alone.
+fn number_of_outcome(outcome: Outcome) -> Option<u64> {
     match outcome {
-        Outcome::Now => Some(("Now", None)),
-        Outcome::Door => Some(("Door", None)),
-        Outcome::Busy => Some(("Busy", None)),
-        Outcome::Got => Some(("Got", None)),
-        Outcome::Drew(number) => Some(("Drew", Some(number))),
-        Outcome::Waits(number) => Some(("Waits", Some(number))),
-        Outcome::Took(number) => Some(("Took", Some(number))),
-        Outcome::Freed => Some(("Freed", None)),
-        Outcome::Owes => Some(("Owes", None)),
-        Outcome::Reached(number) => Some(("Reached", Some(number))),
-        Outcome::Served(number) => Some(("Served", Some(number))),
-        Outcome::Left(number) => Some(("Left", Some(number))),
-        Outcome::Passed(number) => Some(("Passed", Some(number))),
-        Outcome::Void(number) => Some(("Void", Some(number))),
-        Outcome::Cancelling(number) => Some(("Cancelling", Some(number))),
-        Outcome::TooLate(number) => Some(("TooLate", Some(number))),
-        Outcome::Cancelled(number) => Some(("Cancelled", Some(number))),
-        Outcome::Refused(number) => Some(("Refused", Some(number))),
-        Outcome::OwesOn(number) => Some(("OwesOn", Some(number))),
-        Outcome::Pending => Some(("Pending", None)),
-        Outcome::Granted => Some(("Granted", None)),
-        Outcome::Loaded(_) | Outcome::Contended { .. } | Outcome::Decided(_) => None,
+        Outcome::Drew(number)
+        | Outcome::Waits(number)
+        | Outcome::Took(number)
+        | Outcome::Reached(number)
+        | Outcome::Served(number)
+        | Outcome::Left(number)
+        | Outcome::Passed(number)
+        | Outcome::Void(number)
+        | Outcome::Cancelling(number)
+        | Outcome::TooLate(number)
+        | Outcome::Cancelled(number)
+        | Outcome::Refused(number)
+        | Outcome::OwesOn(number) => Some(number),
+        _ => None,
+    }
+}
+
+/// The name of an outcome.
+fn name_of_outcome(outcome: Outcome) -> &'static str {
+    match outcome {
+        Outcome::Now => "Now",
+        Outcome::Door => "Door",
+        Outcome::Busy => "Busy",
+        Outcome::Got => "Got",
+        Outcome::Drew(_) => "Drew",
+        Outcome::Waits(_) => "Waits",
+        Outcome::Took(_) => "Took",
+        Outcome::Freed => "Freed",
+        Outcome::Owes => "Owes",
+        Outcome::Reached(_) => "Reached",
+        Outcome::Served(_) => "Served",
+        Outcome::Left(_) => "Left",
+        Outcome::Passed(_) => "Passed",
+        Outcome::Void(_) => "Void",
+        Outcome::Cancelling(_) => "Cancelling",
+        Outcome::TooLate(_) => "TooLate",
+        Outcome::Cancelled(_) => "Cancelled",
+        Outcome::Refused(_) => "Refused",
+        Outcome::OwesOn(_) => "OwesOn",
+        Outcome::Pending => "Pending",
+        Outcome::Granted => "Granted",
+        Outcome::Loaded(_) => "Loaded",
+        Outcome::Contended { .. } => "Contended",
+        Outcome::Decided(_) => "Decided",
     }
 }
 
 /// What an event found and did.
 pub fn outcome_text(alloc: Global, outcome: Outcome) -> Result<String, AllocError> {
-    if let Some((name, number)) = name_of_outcome(outcome) {
-        return named(alloc, name, number);
-    }
+    let name = name_of_outcome(outcome);
+    let number = number_of_outcome(outcome);
     match outcome {
-        Outcome::Loaded(state) => format!(in alloc; "Loaded({state})"),
+        Outcome::Loaded(state) => format!(in alloc; "{name}({state})"),
         Outcome::Contended { saw, found } => {
-            format!(in alloc; "Contended {{ saw: {saw}, found: {found} }}")
+            format!(in alloc; "{name} {{ saw: {saw}, found: {found} }}")
         }
-        Outcome::Decided(passes_on) => format!(in alloc; "Decided({passes_on})"),
-        _ => String::from_str(alloc, "?"),
+        Outcome::Decided(passes_on) => format!(in alloc; "{name}({passes_on})"),
+        _ => named(alloc, name, number),
     }
 }
 
@@ -71,56 +92,76 @@ pub fn state_text(state: CoreState) -> &'static str {
     }
 }
 
-/// What a pass is in the middle of, if it is there.
-pub fn doing_text(alloc: Global, doing: Option<Doing>) -> Result<String, AllocError> {
-    let (name, number) = match doing {
-        None => return String::from_str(alloc, "None"),
-        Some(Doing::TryAt(state)) => return format!(in alloc; "Some(TryAt({state}))"),
-        Some(Doing::Decided { wait, passes_on }) => {
-            return format!(in alloc; "Some(Decided {{ wait: {wait}, passes_on: {passes_on} }})");
+/// What a pass is in the middle of.
+fn text_of_doing(alloc: Global, doing: Doing) -> Result<String, AllocError> {
+    match doing {
+        Doing::Idle => String::from_str(alloc, "Idle"),
+        Doing::Door => String::from_str(alloc, "Door"),
+        Doing::Owes => String::from_str(alloc, "Owes"),
+        Doing::Drawn(number) => named(alloc, "Drawn", Some(number)),
+        Doing::Ticket(number) => named(alloc, "Ticket", Some(number)),
+        Doing::Leaving(number) => named(alloc, "Leaving", Some(number)),
+        Doing::TryAt(state) => format!(in alloc; "TryAt({state})"),
+        Doing::Decided { wait, passes_on } => {
+            format!(in alloc; "Decided {{ wait: {wait}, passes_on: {passes_on} }}")
         }
-        Some(Doing::Idle) => ("Idle", None),
-        Some(Doing::Door) => ("Door", None),
-        Some(Doing::Drawn(number)) => ("Drawn", Some(number)),
-        Some(Doing::Owes) => ("Owes", None),
-        Some(Doing::Ticket(number)) => ("Ticket", Some(number)),
-        Some(Doing::Leaving(number)) => ("Leaving", Some(number)),
-    };
-    match number {
-        Some(number) => format!(in alloc; "Some({name}({number}))"),
-        None => format!(in alloc; "Some({name})"),
     }
 }
 
-/// The name of an entry, the pass and the wait that it names.
-fn parts_of_entry(entry: Entry) -> (&'static str, Option<u32>, Option<u64>) {
+/// What a pass is in the middle of, if it is there.
+pub fn doing_text(alloc: Global, doing: Option<Doing>) -> Result<String, AllocError> {
+    match doing {
+        Some(doing) => {
+            let text = text_of_doing(alloc, doing)?;
+            format!(in alloc; "Some({text})")
+        }
+        None => String::from_str(alloc, "None"),
+    }
+}
+
+/// The name of an entry.
+fn name_of_entry(entry: Entry) -> &'static str {
     match entry {
-        Entry::TakeNow { pass } => ("TakeNow", Some(pass), None),
-        Entry::TakeDoor { pass } => ("TakeDoor", Some(pass), None),
-        Entry::Enter { pass, wait } => ("Enter", Some(pass), Some(wait)),
-        Entry::TryGot { pass } => ("TryGot", Some(pass), None),
-        Entry::TryBusy { pass } => ("TryBusy", Some(pass), None),
-        Entry::GiveFreed { pass } => ("GiveFreed", Some(pass), None),
-        Entry::GiveSent { pass } => ("GiveSent", Some(pass), None),
-        Entry::Deliver { wait } => ("Deliver", None, Some(wait)),
-        Entry::Leave { pass, wait } => ("Leave", Some(pass), Some(wait)),
-        Entry::Late { pass, wait } => ("Late", Some(pass), Some(wait)),
-        Entry::LookGranted { pass, wait } => ("LookGranted", Some(pass), Some(wait)),
-        Entry::LookPending { pass, wait } => ("LookPending", Some(pass), Some(wait)),
+        Entry::TakeNow { .. } => "TakeNow",
+        Entry::TakeDoor { .. } => "TakeDoor",
+        Entry::Enter { .. } => "Enter",
+        Entry::TryGot { .. } => "TryGot",
+        Entry::TryBusy { .. } => "TryBusy",
+        Entry::GiveFreed { .. } => "GiveFreed",
+        Entry::GiveSent { .. } => "GiveSent",
+        Entry::Deliver { .. } => "Deliver",
+        Entry::Leave { .. } => "Leave",
+        Entry::Late { .. } => "Late",
+        Entry::LookGranted { .. } => "LookGranted",
+        Entry::LookPending { .. } => "LookPending",
+    }
+}
+
+/// An entry of a history.
+fn text_of_entry(alloc: Global, entry: Entry) -> Result<String, AllocError> {
+    let name = name_of_entry(entry);
+    match entry {
+        Entry::TakeNow { pass }
+        | Entry::TakeDoor { pass }
+        | Entry::TryGot { pass }
+        | Entry::TryBusy { pass }
+        | Entry::GiveFreed { pass }
+        | Entry::GiveSent { pass } => format!(in alloc; "{name} {{ pass: {pass} }}"),
+        Entry::Enter { pass, wait }
+        | Entry::Leave { pass, wait }
+        | Entry::Late { pass, wait }
+        | Entry::LookGranted { pass, wait }
+        | Entry::LookPending { pass, wait } => {
+            format!(in alloc; "{name} {{ pass: {pass}, wait: {wait} }}")
+        }
+        Entry::Deliver { wait } => format!(in alloc; "{name} {{ wait: {wait} }}"),
     }
 }
 
 /// One entry of a history, if there is one.
 pub fn entry_text(alloc: Global, entry: Option<&Entry>) -> Result<String, AllocError> {
-    let Some(entry) = entry else {
-        return String::from_str(alloc, "None");
-    };
-    match parts_of_entry(*entry) {
-        (name, Some(pass), Some(wait)) => {
-            format!(in alloc; "{name} {{ pass: {pass}, wait: {wait} }}")
-        }
-        (name, Some(pass), None) => format!(in alloc; "{name} {{ pass: {pass} }}"),
-        (name, None, Some(wait)) => format!(in alloc; "{name} {{ wait: {wait} }}"),
-        (name, None, None) => String::from_str(alloc, name),
+    match entry {
+        Some(entry) => text_of_entry(alloc, *entry),
+        None => String::from_str(alloc, "None"),
     }
 }

@@ -1,22 +1,47 @@
 //! The one pass of a queue of one permit: how it comes to wait in line, and how it sends the permit
 //! there.
 
-ghost use Rattle.std.specs.Prelude.{◌≡◌, ◌<◌, true};
+ghost use Rattle.std.specs.Prelude.{◌≡◌, ◌<◌, IfOk, IsTrue, true};
 ghost use Rattle.cqs_core.specs.declared.doings.Doing.TheVariants.{Door, Idle, Owes};
 ghost use Rattle.cqs_rule.specs.Passes.{pass_view, IsOf};
 ghost use Rattle.cqs_rule.specs.Waits.{HasWait, place_of};
+ghost use Rattle.cqs_words.specs.State.{is_below_zero};
 
 use cqs_resume::{Resumed, resume};
-use cqs_rule::{Config, Pass, Queue, Wait};
+use cqs_rule::{CancelMode, Config, MakeError, Pass, Queue, Wait};
 use cqs_semaphore_client::{SemClient, give_permit, take_permit};
 use cqs_suspend::{Suspended, suspend};
+use cqs_words::PackedState;
+use std::alloc::Global;
 use std::process::Abort;
 
+/// One pass, of a queue that draws few numbers.
 pub const CONFIG: Config = Config {
     passes: 1,
     limit: 4,
     slots: 4,
 };
+
+/// A queue of one permit, and its one pass.
+pub fn alone(alloc: Global) -> Result<(Queue<SemClient>, Pass<SemClient>), MakeError>
+    ensures belongs { IfOk result (λ made. IsOf made.0 made.1) }
+    ensures idle { IfOk result (λ made. (pass_view made.1).facts.doing ≡ Idle) }
+    ensures may_draw { IfOk result (λ made. (pass_view made.1).facts.may_draw ≡ true) }
+{
+    Queue::new(alloc, CONFIG, CancelMode::Smart, SemClient::new(1))
+}
+
+/// Whether the pass holds so many permits, has so many waits, and owes a permit.
+pub fn has(pass: &Pass<SemClient>, held: u32, waits: u32, owes: bool) -> bool {
+    pass.held() == held && pass.waits() == waits && pass.owes() == owes
+}
+
+// Whether the permit that was given back goes to one who waits.
+fn is_for_one(given: PackedState) -> bool
+    ensures { IsTrue result → is_below_zero given.word ≡ true }
+{
+    given.word == 4_294_967_295 && given.is_below_zero()
+}
 
 /// Takes the permit, and comes to the door for another.
 pub fn come(rt: &impl Abort, queue: &Queue<SemClient>, pass: &mut Pass<SemClient>)
@@ -27,10 +52,8 @@ pub fn come(rt: &impl Abort, queue: &Queue<SemClient>, pass: &mut Pass<SemClient
     ensures door { (pass_view pass.new).facts.doing ≡ Door }
     ensures holds { 0 < (pass_view pass.new).facts.has.held }
 {
-    let found = take_permit(queue, pass).word;
-    assert!(rt; found == 4_294_967_297);
-    let found = take_permit(queue, pass).word;
-    assert!(rt; found == 4_294_967_296);
+    assert!(rt; take_permit(queue, pass).word == 4_294_967_297);
+    assert!(rt; take_permit(queue, pass).word == 4_294_967_296);
 }
 
 /// Comes to the door, and waits in line.
@@ -49,7 +72,7 @@ pub fn wait(rt: &impl Abort, queue: &Queue<SemClient>, pass: &mut Pass<SemClient
         panic!(rt; "no value was left for the first number");
     };
     assert!(rt; wait.number() == 0);
-    assert!(rt; (pass.held(), pass.waits(), pass.owes()) == (1, 1, false));
+    assert!(rt; has(pass, 1, 1, false));
     wait
 }
 
@@ -65,9 +88,7 @@ pub fn owe(rt: &impl Abort, queue: &Queue<SemClient>, pass: &mut Pass<SemClient>
     ensures some { 0 < (pass_view pass.new).cells }
 {
     wait(rt, queue, pass);
-    let given = give_permit(queue, pass);
-    assert!(rt; given.word == 4_294_967_295);
-    if !given.is_below_zero() {
+    if !is_for_one(give_permit(queue, pass)) {
         panic!(rt; "somebody waits for the permit");
     }
 }
@@ -87,16 +108,14 @@ pub fn send(
     ensures idle { (pass_view pass.new).facts.doing ≡ Idle }
     ensures waits { HasWait (pass_view pass.new) result }
 {
-    let given = give_permit(queue, pass);
-    assert!(rt; given.word == 4_294_967_295);
-    assert!(rt; (pass.held(), pass.waits(), pass.owes()) == (0, 1, true));
-    if !given.is_below_zero() {
+    if !is_for_one(give_permit(queue, pass)) {
         panic!(rt; "somebody waits for the permit");
     }
+    assert!(rt; has(pass, 0, 1, true));
     let Resumed::Served(served) = resume(queue, pass, 0) else {
         panic!(rt; "the first waiter stands in its cell");
     };
     assert!(rt; served == 0);
-    assert!(rt; (pass.held(), pass.waits(), pass.owes()) == (0, 1, false));
+    assert!(rt; has(pass, 0, 1, false));
     wait
 }

@@ -6,9 +6,9 @@ ghost use Rattle.cqs_words.specs.Head.{HeadFits};
 ghost use Rattle.cqs_words.specs.Segment.{TailFits, LinkFits};
 
 use cqs_words::{CellState, CellWord, HeadTag, HeadWord, LinkWord, StateWord, TailWord};
-use std::process::Abort;
 
-fn cell_is(rt: &impl Abort, index: u64, state: CellState, payload: u32, number: u64)
+// Whether the word of this cell has this number, and the number tells this cell.
+fn cell_is(index: u64, state: CellState, payload: u32, number: u64) -> bool
     requires { CellFits (record { index = index; state = state; payload = payload }) }
 {
     let cell = CellWord {
@@ -16,94 +16,105 @@ fn cell_is(rt: &impl Abort, index: u64, state: CellState, payload: u32, number: 
         state,
         payload,
     };
-    assert_eq!(rt; cell.pack(), number);
-    assert_eq!(rt; CellWord::unpack(number), Some(cell));
+    cell.pack() == number && CellWord::unpack(number) == Some(cell)
+}
+
+// Neither number tells a cell.
+fn are_no_cells(first: u64, second: u64) -> bool {
+    CellWord::unpack(first).is_none() && CellWord::unpack(second).is_none()
 }
 
 #[test]
 fn cells(rt: HostRuntime) {
-    cell_is(&rt, 5, CellState::Waiter, 3, 84_934_659);
-    cell_is(&rt, 0, CellState::Empty, 0, 0);
-    cell_is(&rt, 0, CellState::Waiter, 0, 1_048_576);
-    cell_is(&rt, 0, CellState::Resumed, 0, 5_242_880);
-    cell_is(
-        &rt,
-        (1 << 40) - 1,
-        CellState::Refused,
-        (1 << 20) - 1,
-        0xffff_ffff_ff9f_ffff,
+    assert!(rt; cell_is(5, CellState::Waiter, 3, 84_934_659));
+    assert!(rt; cell_is(0, CellState::Empty, 0, 0));
+    assert!(rt; cell_is(0, CellState::Waiter, 0, 1_048_576));
+    assert!(rt; cell_is(0, CellState::Resumed, 0, 5_242_880));
+    assert!(rt;
+        cell_is(
+            (1 << 40) - 1,
+            CellState::Refused,
+            (1 << 20) - 1,
+            0xffff_ffff_ff9f_ffff,
+        )
     );
+    assert!(rt; CellWord::bare(5, CellState::Waiter).low_half() == 0x0510_0000);
+}
+
+#[test]
+fn codes_of_no_cell(rt: HostRuntime) {
     for code in 10..16 {
-        assert_eq!(rt; CellWord::unpack(code << 20), None, "code {code}");
-        assert_eq!(rt;
-            CellWord::unpack(0xffff_ffff_ff00_0003 | code << 20),
-            None,
+        assert!(rt;
+            are_no_cells(code << 20, 0xffff_ffff_ff00_0003 | code << 20),
             "code {code}"
         );
     }
-    assert_eq!(rt;
-        CellWord::bare(5, CellState::Waiter).low_half(),
-        0x0510_0000
-    );
 }
 
-fn count_is(rt: &impl Abort, value: i64, number: u64)
+// Whether the word of this count has this number, and the number tells this count.
+fn count_is(value: i64, number: u64) -> bool
     requires { StateFits (record { value = value }) }
 {
     let count = StateWord { value };
-    assert_eq!(rt; count.pack(), number);
-    assert_eq!(rt; StateWord::unpack(number), Some(count));
+    count.pack() == number && StateWord::unpack(number) == Some(count)
 }
 
 #[test]
 fn counts(rt: HostRuntime) {
-    count_is(&rt, -1, 4_294_967_295);
-    count_is(&rt, 0, 4_294_967_296);
-    count_is(&rt, -4_294_967_295, 1);
-    count_is(&rt, 4_294_967_295, 8_589_934_591);
+    assert!(rt; count_is(-1, 4_294_967_295));
+    assert!(rt; count_is(0, 4_294_967_296));
+    assert!(rt; count_is(-4_294_967_295, 1));
+    assert!(rt; count_is(4_294_967_295, 8_589_934_591));
     for number in [0, 8_589_934_592, u64::MAX] {
-        assert_eq!(rt; StateWord::unpack(number), None, "at {number}");
+        assert!(rt; StateWord::unpack(number).is_none(), "at {number}");
     }
 }
 
-fn head_is(rt: &impl Abort, id: u64, tag: HeadTag, number: u64)
+// Whether the word of this head has this number, and the number tells this head.
+fn head_is(id: u64, tag: HeadTag, number: u64) -> bool
     requires { HeadFits (record { id = id; tag = tag }) }
 {
     let head = HeadWord { id, tag };
-    assert_eq!(rt; head.pack(), number);
-    assert_eq!(rt; HeadWord::unpack(number), Some(head));
+    head.pack() == number && HeadWord::unpack(number) == Some(head)
 }
 
 #[test]
 fn heads(rt: HostRuntime) {
-    head_is(&rt, 7, HeadTag::Live, 30);
-    head_is(&rt, 0, HeadTag::Free, 0);
-    head_is(&rt, 0, HeadTag::Claimed, 1);
-    head_is(&rt, (1 << 36) - 1, HeadTag::Live, 274_877_906_942);
+    assert!(rt; head_is(7, HeadTag::Live, 30));
+    assert!(rt; head_is(0, HeadTag::Free, 0));
+    assert!(rt; head_is(0, HeadTag::Claimed, 1));
+    assert!(rt; head_is((1 << 36) - 1, HeadTag::Live, 274_877_906_942));
     for number in [3, 31, 274_877_906_943, 274_877_906_944, u64::MAX] {
-        assert_eq!(rt; HeadWord::unpack(number), None, "at {number}");
+        assert!(rt; HeadWord::unpack(number).is_none(), "at {number}");
     }
 }
 
-fn segment_is(rt: &impl Abort, id: u64, slot: u32, number: u64)
-    requires tail { TailFits (record { id = id; slot = slot }) }
-    requires link { LinkFits (record { id = id; slot = slot }) }
+// Whether the word of this tail has this number, and the number tells this tail.
+fn tail_is(id: u64, slot: u32, number: u64) -> bool
+    requires { TailFits (record { id = id; slot = slot }) }
 {
     let tail = TailWord { id, slot };
-    assert_eq!(rt; tail.pack(), number);
-    assert_eq!(rt; TailWord::unpack(number), Some(tail));
+    tail.pack() == number && TailWord::unpack(number) == Some(tail)
+}
+
+// The same of a link.
+fn link_is(id: u64, slot: u32, number: u64) -> bool
+    requires { LinkFits (record { id = id; slot = slot }) }
+{
     let link = LinkWord { id, slot };
-    assert_eq!(rt; link.pack(), number);
-    assert_eq!(rt; LinkWord::unpack(number), Some(link));
+    link.pack() == number && LinkWord::unpack(number) == Some(link)
 }
 
 #[test]
 fn segments(rt: HostRuntime) {
-    segment_is(&rt, 2, 3, 131_075);
-    segment_is(&rt, 0, 0, 0);
-    segment_is(&rt, (1 << 36) - 1, 65_535, 4_503_599_627_370_495);
+    assert!(rt; tail_is(2, 3, 131_075));
+    assert!(rt; link_is(2, 3, 131_075));
+    assert!(rt; tail_is(0, 0, 0));
+    assert!(rt; link_is(0, 0, 0));
+    assert!(rt; tail_is((1 << 36) - 1, 65_535, 4_503_599_627_370_495));
+    assert!(rt; link_is((1 << 36) - 1, 65_535, 4_503_599_627_370_495));
     for number in [4_503_599_627_370_496, u64::MAX] {
-        assert_eq!(rt; TailWord::unpack(number), None, "at {number}");
-        assert_eq!(rt; LinkWord::unpack(number), None, "at {number}");
+        assert!(rt; TailWord::unpack(number).is_none(), "at {number}");
+        assert!(rt; LinkWord::unpack(number).is_none(), "at {number}");
     }
 }

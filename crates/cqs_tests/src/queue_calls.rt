@@ -7,7 +7,7 @@
 //! its resume finds a waiter. The calls that leave a value and take one are made here where they
 //! miss.
 
-use crate::line::{CONFIG, come, owe, send, wait};
+use crate::line::{CONFIG, alone, come, has, owe, send, wait};
 use cqs_cancel::{Left, cancel};
 use cqs_cell::{install, leave_value, look, serve, take_value};
 use cqs_find::{Found, find};
@@ -50,8 +50,7 @@ fn single_steps_on_the_state(rt: HostRuntime) -> Result<(), Fail> {
 
 #[test]
 fn single_steps_of_a_suspend(rt: HostRuntime) -> Result<(), Fail> {
-    let client = SemClient::new(1);
-    let (queue, mut pass) = Queue::new(rt.alloc(), CONFIG, CancelMode::Smart, client)?;
+    let (queue, mut pass) = alone(rt.alloc())?;
     come(&rt, &queue, &mut pass);
     let number = queue.add_table::<Draws>(&mut pass, SUSPENDS_WORD, 1);
     assert!(rt; number == 0);
@@ -65,8 +64,7 @@ fn single_steps_of_a_suspend(rt: HostRuntime) -> Result<(), Fail> {
 
 #[test]
 fn a_wait_and_its_place(rt: HostRuntime) -> Result<(), Fail> {
-    let client = SemClient::new(1);
-    let (queue, mut pass) = Queue::new(rt.alloc(), CONFIG, CancelMode::Smart, client)?;
+    let (queue, mut pass) = alone(rt.alloc())?;
     let wait = wait(&rt, &queue, &mut pass);
     let at = queue.spend_wait(&mut pass, wait);
     let first = Place {
@@ -81,8 +79,7 @@ fn a_wait_and_its_place(rt: HostRuntime) -> Result<(), Fail> {
 
 #[test]
 fn looks_at_a_wait(rt: HostRuntime) -> Result<(), Fail> {
-    let client = SemClient::new(1);
-    let (queue, mut pass) = Queue::new(rt.alloc(), CONFIG, CancelMode::Smart, client)?;
+    let (queue, mut pass) = alone(rt.alloc())?;
     let wait = wait(&rt, &queue, &mut pass);
     let at = queue.spend_wait(&mut pass, wait);
     let waiter = CellWord::bare(0, CellState::Waiter);
@@ -94,34 +91,31 @@ fn looks_at_a_wait(rt: HostRuntime) -> Result<(), Fail> {
 
 #[test]
 fn a_permit_goes_to_the_waiter(rt: HostRuntime) -> Result<(), Fail> {
-    let client = SemClient::new(1);
-    let (queue, mut pass) = Queue::new(rt.alloc(), CONFIG, CancelMode::Smart, client)?;
+    let (queue, mut pass) = alone(rt.alloc())?;
     let wait = wait(&rt, &queue, &mut pass);
     let wait = send(&rt, &queue, &mut pass, wait);
     let at = queue.spend_wait(&mut pass, wait);
     let cell = look::<SemClient, Polls>(&queue, &mut pass, at);
     assert!(rt; cell == CellWord::bare(0, CellState::Resumed));
-    assert!(rt; (pass.held(), pass.waits(), pass.owes()) == (1, 0, false));
+    assert!(rt; has(&pass, 1, 0, false));
     Ok(())
 }
 
 #[test]
 fn a_wait_is_cancelled(rt: HostRuntime) -> Result<(), Fail> {
-    let client = SemClient::new(1);
-    let (queue, mut pass) = Queue::new(rt.alloc(), CONFIG, CancelMode::Smart, client)?;
+    let (queue, mut pass) = alone(rt.alloc())?;
     let wait = wait(&rt, &queue, &mut pass);
     let Left::Gone = cancel(&queue, &mut pass, wait) else {
         panic!(rt; "nobody served the wait");
     };
-    assert!(rt; (pass.held(), pass.waits(), pass.owes()) == (1, 0, false));
+    assert!(rt; has(&pass, 1, 0, false));
     assert!(rt; give_permit(&queue, &mut pass).word == 4_294_967_296);
     Ok(())
 }
 
 #[test]
 fn a_cancellation_is_too_late(rt: HostRuntime) -> Result<(), Fail> {
-    let client = SemClient::new(1);
-    let (queue, mut pass) = Queue::new(rt.alloc(), CONFIG, CancelMode::Smart, client)?;
+    let (queue, mut pass) = alone(rt.alloc())?;
     let wait = wait(&rt, &queue, &mut pass);
     let wait = send(&rt, &queue, &mut pass, wait);
     let at = queue.spend_wait(&mut pass, wait);
@@ -133,8 +127,7 @@ fn a_cancellation_is_too_late(rt: HostRuntime) -> Result<(), Fail> {
 
 #[test]
 fn a_resumption_as_a_token(rt: HostRuntime) -> Result<(), Fail> {
-    let client = SemClient::new(1);
-    let (queue, mut pass) = Queue::new(rt.alloc(), CONFIG, CancelMode::Smart, client)?;
+    let (queue, mut pass) = alone(rt.alloc())?;
     owe(&rt, &queue, &mut pass);
     let under = queue.under_of(&mut pass, 0, None, 0);
     assert!(rt; under.reached() == 0);
@@ -144,8 +137,7 @@ fn a_resumption_as_a_token(rt: HostRuntime) -> Result<(), Fail> {
 
 #[test]
 fn single_steps_of_a_resume(rt: HostRuntime) -> Result<(), Fail> {
-    let client = SemClient::new(1);
-    let (queue, mut pass) = Queue::new(rt.alloc(), CONFIG, CancelMode::Smart, client)?;
+    let (queue, mut pass) = alone(rt.alloc())?;
     owe(&rt, &queue, &mut pass);
     let number = queue.add_table::<Reaches>(&mut pass, RESUMES_WORD, 1);
     assert!(rt; number == 0);

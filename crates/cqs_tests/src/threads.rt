@@ -1,10 +1,16 @@
 //! Threads on one semaphore. What each call answers isn't the same in two runs; here is what is
 //! sure of every run.
 
+ghost use Rattle.cqs_rule.specs.Passes.{pass_view};
+ghost use Rattle.cqs_semaphore.specs.Calls.{IsMine, IsReady};
+
 use cqs_rule::Config;
-use cqs_semaphore::{Acquired, Semaphore};
-use cqs_threads::together;
+use cqs_semaphore::{Acquired, SemPass, Semaphore};
+use cqs_threads::{Counts, together};
+use std::alloc::Global;
+use std::process::Abort;
 use std::test::Fail;
+use std::thread::Threads;
 
 const CONFIG: Config = Config {
     passes: 9,
@@ -19,29 +25,49 @@ const ROUNDS: u32 = 2_000;
 fn crews_of_two_four_and_eight(rt: HostRuntime) -> Result<(), Fail> {
     for threads in [2, 4, 8] {
         for permits in [1, 2, 3] {
-            let (semaphore, mut pass) = Semaphore::new(rt.alloc(), permits, CONFIG)?;
-            let counts = together(&rt, rt.alloc(), &semaphore, &mut pass, threads, ROUNDS)?;
-            assert_eq!(rt; pass.held(), 0);
-            assert_eq!(rt;
-                counts.acquires.total(),
-                u64::from(threads) * u64::from(ROUNDS)
-            );
-            assert_eq!(rt;
-                counts.tries.total(),
-                u64::from(threads) * u64::from(ROUNDS)
-            );
-            assert_eq!(rt; counts.acquires.waited, counts.ends());
-            assert_eq!(rt;
-                counts.arrivals(),
-                counts.came().saturating_add(counts.cancels.owing)
-            );
-            assert_eq!(rt; semaphore.sole(&mut pass), true);
-            assert_eq!(rt; semaphore.state(&mut pass), i64::from(permits));
-            let Ok(Acquired::Now(permit)) = semaphore.acquire(&mut pass) else {
-                panic!(rt; "a permit is free");
-            };
-            assert_eq!(rt; permit.number(), None);
+            crew(&rt, rt.alloc(), threads, permits)?;
         }
     }
     Ok(())
+}
+
+// A crew of so many threads on a semaphore of so many permits.
+fn crew<R: Threads + Sync + Abort>(
+    rt: &R,
+    alloc: Global,
+    threads: u32,
+    permits: u32,
+) -> Result<(), Fail> {
+    let (semaphore, mut pass) = Semaphore::new(alloc, permits, CONFIG)?;
+    let counts = together(rt, alloc, &semaphore, &mut pass, threads, ROUNDS)?;
+    adds_up(rt, &counts, u64::from(threads) * u64::from(ROUNDS));
+    assert!(rt; pass.held() == 0);
+    is_free_again(rt, &semaphore, &mut pass, permits);
+    Ok(())
+}
+
+// What is sure of the answers that came in so many rounds in all.
+fn adds_up(rt: &impl Abort, counts: &Counts, rounds: u64) {
+    let sums = (
+        counts.acquires.total(),
+        counts.tries.total(),
+        counts.acquires.waited,
+        counts.arrivals(),
+    );
+    let owing = counts.cancels.owing;
+    let came = counts.came().saturating_add(owing);
+    assert_eq!(rt; sums, (rounds, rounds, counts.ends(), came));
+}
+
+// The crew has left no pass but this one, and given each permit back.
+fn is_free_again(rt: &impl Abort, semaphore: &Semaphore, pass: &mut SemPass, permits: u32)
+    requires belongs { IsMine semaphore.now pass.old }
+    requires ready { IsReady (pass_view pass.old).facts }
+{
+    assert!(rt; semaphore.sole(pass));
+    assert_eq!(rt; semaphore.state(pass), i64::from(permits));
+    let Ok(Acquired::Now(permit)) = semaphore.acquire(pass) else {
+        panic!(rt; "a permit is free");
+    };
+    assert!(rt; permit.number().is_none());
 }

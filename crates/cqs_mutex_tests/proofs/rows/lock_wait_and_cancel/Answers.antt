@@ -1,5 +1,5 @@
 use Rattle.cqs_mutex_tests.proofs.Waits.{wait-busy, wait-sent}
-use Rattle.cqs_mutex_tests.proofs.rows.mutex_of_five.Goals as goal
+use Rattle.cqs_mutex_tests.proofs.rows.lock_wait_and_cancel.Goals as goal
 
 pub cancel-requires-clause-has : goal.cancel-requires-clause-has
 cancel-requires-clause-has g c κs =

@@ -34,8 +34,9 @@
  * is good; at null `cqs_call` answers so, and else what the call by number answered; and each call
  * by number, `split` and `meet` too, is refused for its cause, or is the primitive's own, with what
  * the primitive answered (crates/cqs_c, crates/cqs_by_number, crates/cqs_semaphore, crates/cqs_pool,
- * crates/cqs_latch, crates/cqs_barrier). What `new` has made, and what two calls have to do with one
- * another, is tested. This file, and that it fits the exports, is written by hand and tested. */
+ * crates/cqs_latch, crates/cqs_barrier). What `new` has made, what two calls have to do with one
+ * another, and so the cause of CQS_NO_PASS and CQS_IN_USE, is tested. This file, and that it fits
+ * the exports, is written by hand and tested. */
 #ifndef CQS_H
 #define CQS_H
 #include <stddef.h>

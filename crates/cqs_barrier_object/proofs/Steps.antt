@@ -1,4 +1,4 @@
--- Each step of the queue that a barrier's passes make keeps the barrier: it is one move, or none.
+-- Each step of the queue that a barrier's passes make keeps the barrier: it is one move or two, or none.
 use Rattle.std.proofs.Common.{◌≡◌, ℕ, List, [], ◌++◌, Some, slice_get, refl, sym, ap, ◌∙◌, subst}
 use Rattle.std.proofs.lemmas.List.{append-nil}
 use Rattle.cqs_core.specs.QueueState.{Queue}

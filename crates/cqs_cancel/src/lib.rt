@@ -11,7 +11,8 @@
 //! ```
 //!
 //! Where resumes pass on in any case, the client isn't asked, and the waiter has left the line by
-//! the first step.
+//! the first step (`cancel_unasked`). Where waits leave at once, the one step from Waiter leaves
+//! Cancelled, and the resume that comes there ends (`cancel_at_once`).
 #![tactic(auto)]
 
 mod at_once;

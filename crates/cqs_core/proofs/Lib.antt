@@ -35,7 +35,6 @@ pub mod Waits
 pub mod WaitsEnd
 pub mod Collected
 pub mod Bounds
-pub mod Resumptions
 pub mod Keys
 pub mod Picked
 pub mod LineReads
@@ -70,11 +69,5 @@ pub mod CoreFacts
 pub mod OpenedCore
 pub mod CallsKeep
 pub mod Quiet
-pub mod SoleResume
 pub mod SoleLine
-pub mod SoleStart
-pub mod SoleAcquire
-pub mod SoleRelease
-pub mod SoleWait
-pub mod SoleCalls
 pub mod WaitCells

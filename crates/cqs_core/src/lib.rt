@@ -1,5 +1,5 @@
-//! The fair semaphore as a plain object, and the runnable core of the
-//! cancellable queue, which shows it.
+//! The fair semaphore as a plain object, the steps of the cancellable queue as a table of
+//! definitions, and their laws.
 #![tactic(auto)]
 
 mod calls;
@@ -12,10 +12,7 @@ mod law;
 mod laws;
 mod outcomes;
 mod queue_laws;
-mod runnable;
 mod shortage;
-mod table;
-mod whole_calls;
 
 pub use calls::{Call, Reply};
 pub use cells::{CoreCell, CoreState};
@@ -33,5 +30,4 @@ pub use queue_laws::{
     drawn_numbers_are_near, moves_leave_unmade_cells_empty, moves_settle, settled_cells_stay,
     steps_keep_the_queue_sound, steps_settle,
 };
-pub use runnable::Core;
 pub use shortage::Memory;

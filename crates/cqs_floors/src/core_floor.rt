@@ -7,7 +7,8 @@ ghost use Rattle.cqs_plan.specs.Runnable.{IsRunnable};
 ghost use Rattle.cqs_plan.specs.Runnable.{AreSized};
 
 use crate::desk::Desk;
-use cqs_core::{Core, Memory};
+use cqs_core::Memory;
+use cqs_runnable::Core;
 use cqs_plan::{Floor, FloorDown, FloorEnd, FloorGive, FloorLeave, FloorLook, FloorTake, Plan};
 use cqs_sole::AnySole;
 use std::alloc::Global;

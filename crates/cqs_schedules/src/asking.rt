@@ -1,7 +1,8 @@
 //! What a line of a schedule asks of a core.
 
 use crate::texts::{doing_text, entry_text, outcome_text, state_text};
-use cqs_core::{Core, Event};
+use cqs_core::Event;
+use cqs_runnable::Core;
 use std::alloc::{AllocError, Global};
 use std::fmt::Debug;
 

@@ -6,7 +6,8 @@ ghost use Rattle.cqs_core.specs.SoleCaller.{MayCall};
 ghost use Rattle.cqs_sole.specs.SoleCore.{HasMade, IsReady, is_served_at};
 
 use crate::sole::{ForPermits, SoleSemaphore, Stand, permits, stand_in};
-use cqs_core::{Call, Core, CoreCell, CoreState, Memory, Reply};
+use cqs_core::{Call, CoreCell, CoreState, Memory, Reply};
+use cqs_runnable::Core;
 use cqs_plan::Kind;
 use cqs_rule::Place;
 use std::alloc::Global;

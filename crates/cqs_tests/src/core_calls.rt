@@ -1,7 +1,8 @@
 //! Whole calls of the core, for which it makes room itself. Those with room at hand are made by the
 //! plans of `cqs_cases`, on a floor of cores.
 
-use cqs_core::{Call, Core, CoreError, Reply};
+use cqs_core::{Call, CoreError, Reply};
+use cqs_runnable::Core;
 use std::test::Fail;
 
 #[test]

@@ -6,8 +6,8 @@ ghost use Rattle.cqs_core.specs.declared.calls.Call.TheVariants as call;
 ghost use Rattle.cqs_core.specs.SemaphoreCalls.{Ends, HasEnd, Landed, MakesCallReady, course, PassesOver, suspends_at, swaps_at, resumes_at, cancels_at};
 ghost use Rattle.cqs_core.specs.SemaphoreWords.{FitsWords};
 
-use crate::calls::{Call, Reply};
-use crate::outcomes::Outcome;
+use cqs_core::{Call, Reply};
+use cqs_core::Outcome;
 use crate::table::Table;
 
 impl Table {

@@ -1,6 +1,6 @@
 use Rattle.cqs_core.proofs.CallsKeep.{core-fits, call_ready-core}
-use Rattle.cqs_core.proofs.SoleCalls.{calls-end, sole-ready, sole-refused, sole-shown}
-use Rattle.cqs_core.proofs.runnable.Core.run_ready.Goals as goal
+use Rattle.cqs_runnable.proofs.SoleCalls.{calls-end, sole-ready, sole-refused, sole-shown}
+use Rattle.cqs_runnable.proofs.runnable.Core.run_ready.Goals as goal
 
 pub run_ready-requires-clause-fits : goal.run_ready-requires-clause-fits
 run_ready-requires-clause-fits c = core-fits _ c.self.invariant

@@ -1,6 +1,6 @@
 use Rattle.cqs_core.proofs.CallsKeep.{core-fits}
 use Rattle.cqs_core.proofs.StepKeeps.{ready-keeps}
-use Rattle.cqs_core.proofs.runnable.Core.step_ready.Goals as goal
+use Rattle.cqs_runnable.proofs.runnable.Core.step_ready.Goals as goal
 
 pub step_ready-requires-clause-fits : goal.step_ready-requires-clause-fits
 step_ready-requires-clause-fits c = core-fits _ c.self.invariant

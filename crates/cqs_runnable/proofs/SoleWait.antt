@@ -25,7 +25,7 @@ use Rattle.cqs_core.specs.SoleCaller.{HasWait, NoneTaken}
 use Rattle.cqs_core.proofs.EachAtLemmas.{EachAt-write}
 use Rattle.cqs_core.proofs.Places.{get-set_here}
 use Rattle.cqs_core.proofs.SoleLine.{found-in_line, gone-from_line}
-use Rattle.cqs_core.proofs.SoleStart.{IsSoleCourse, sole-along, idle-again, write-thrice, cases_idle, pass-there}
+use Rattle.cqs_runnable.proofs.SoleStart.{IsSoleCourse, sole-along, idle-again, write-thrice, cases_idle, pass-there}
 use Rattle.cqs_core.proofs.StepKeeps.{owns-from}
 use Rattle.cqs_core.proofs.WaitCells.{IsOwnWait, has-wait, waiter-waits, resumed-served}
 

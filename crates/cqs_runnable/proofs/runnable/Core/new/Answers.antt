@@ -1,7 +1,7 @@
 use Rattle.std.proofs.Common.{arith}
 use Rattle.cqs_core.specs.SemaphoreShown.{IsSize}
 use Rattle.cqs_core.proofs.OpenedCore.{opened-core}
-use Rattle.cqs_core.proofs.runnable.Core.new.Goals as goal
+use Rattle.cqs_runnable.proofs.runnable.Core.new.Goals as goal
 
 pub invariant_of-result : goal.invariant_of-result
 invariant_of-result c =

@@ -1,5 +1,5 @@
-use Rattle.cqs_core.proofs.SoleCalls.{cell-tells}
-use Rattle.cqs_core.proofs.runnable.Core.cell.Goals as goal
+use Rattle.cqs_runnable.proofs.SoleCalls.{cell-tells}
+use Rattle.cqs_runnable.proofs.runnable.Core.cell.Goals as goal
 
 pub returns-clause-sole : goal.returns-clause-sole
 returns-clause-sole c =

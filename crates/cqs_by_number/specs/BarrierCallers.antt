@@ -1,6 +1,6 @@
 -- How a caller of a barrier stands between two calls.
 use Rattle.std.specs.Prelude.{◌≢◌, List, All, Option, Some, None}
-use Rattle.cqs_rule.specs.declared.carries.Unparked.{Unparked}
+use Rattle.cqs_steps.specs.declared.carries.Unparked.{Unparked}
 use Rattle.cqs_views.specs.declared.view.View.{View}
 use Rattle.cqs_rule.specs.Passes.{pass_view}
 use Rattle.cqs_barrier_object.specs.declared.entries.BarrierEntry.{BarrierEntry}

@@ -1,5 +1,4 @@
 pub mod Callbacks
-pub mod Carried
 pub mod Passes
 pub mod Steps
 pub mod Seats

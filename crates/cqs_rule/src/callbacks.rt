@@ -1,6 +1,6 @@
 //! What the queue calls back of its client, when a waiter leaves.
 
-use crate::client::ClientWords;
+use cqs_steps::ClientWords;
 use crate::queue::{Pass, Queue};
 
 /// A primitive, with what the queue calls back.

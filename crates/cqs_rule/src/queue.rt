@@ -16,8 +16,8 @@ mod steps;
 mod tokens;
 mod words;
 
-use crate::client::ClientWords;
-use crate::rule::{Key, Rule};
+use cqs_steps::ClientWords;
+use cqs_steps::{Key, Rule};
 use atomic_table::{Seat, Table};
 use cqs_views::{CancelMode, View};
 use parked::Parked;

@@ -5,7 +5,7 @@ ghost use Rattle.std.specs.Prelude.{◌≡◌};
 ghost use Rattle.cqs_rule.specs.Passes.{pass_view, IsInTable, IsOf};
 ghost use Rattle.cqs_rule.specs.Waits.{HasWait};
 
-use crate::client::ClientWords;
+use cqs_steps::ClientWords;
 use crate::queue::{Pass, Queue, Wait};
 use cqs_views::Place;
 use cqs_words::{CellState, CellWord};

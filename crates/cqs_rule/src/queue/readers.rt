@@ -3,7 +3,7 @@
 ghost use Rattle.std.specs.Prelude.{◌≡◌};
 ghost use Rattle.cqs_rule.specs.Passes.{limit_of};
 
-use crate::client::ClientWords;
+use cqs_steps::ClientWords;
 use crate::queue::Queue;
 
 impl<C: ClientWords> Queue<C> {

@@ -6,7 +6,7 @@ ghost use Rattle.cqs_views.specs.Slots.{laid_in};
 ghost use Rattle.cqs_views.specs.SlotSteps.{TookOut, PutBack, Swapped, HandedIn, LayIn, IsOut, IsUntouched};
 ghost use Rattle.cqs_rule.specs.Steps.{IsOpener};
 
-use crate::client::ClientWords;
+use cqs_steps::ClientWords;
 use crate::plays::{Filling, PuttingBack, TakingOut};
 use crate::queue::{Pass, Queue};
 use atomic_table::Seat;

@@ -8,7 +8,7 @@ ghost use Rattle.cqs_views.specs.Placed.{KnowsPlace};
 ghost use Rattle.cqs_views.specs.Facts.{owes_any};
 ghost use Rattle.cqs_rule.specs.Waits.{place_of, pass_of, HasWait};
 
-use crate::client::ClientWords;
+use cqs_steps::ClientWords;
 use crate::queue::{Pass, Queue};
 use cqs_views::Place;
 

@@ -6,7 +6,8 @@ ghost use Rattle.cqs_plan.specs.Runnable.{IsRunnable};
 ghost use Rattle.cqs_turns.specs.Report.{report_of};
 
 use cqs_cli::{CoreFloor, QueueFloor};
-use cqs_plan::{Floor, Memory, Plan, PlanError, read_plan};
+use cqs_plan::{Floor, Memory, Plan, PlanError};
+use cqs_reader::read_plan;
 use cqs_turns::{Report, run_plan};
 use std::alloc::Global;
 

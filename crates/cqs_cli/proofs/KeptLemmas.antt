@@ -1,7 +1,7 @@
 -- From a verdict that was told to what was kept with it.
 use Rattle.std.proofs.Common.{◌≡◌, ℕ, ◌⊎◌, inl, inr, Bool, List, Option, IsTrue, ◌∙◌, sym, subst, arith}
-use Rattle.cqs_plan.specs.Stream.{Gains, GainsPrefix}
-use Rattle.cqs_plan.specs.declared.streams.tally.Tally.{Tally}
+use Rattle.cqs_streams.specs.Stream.{Gains, GainsPrefix}
+use Rattle.cqs_streams.specs.declared.streams.tally.Tally.{Tally}
 use Rattle.cqs_cli.specs.KeptRuns.{IsNoRun, Keeps, KeepsFor, KeptText}
 use Rattle.cqs_cli.specs.Meanings.{HasTold}
 use Rattle.cqs_cli.specs.Tellings.{Tells}

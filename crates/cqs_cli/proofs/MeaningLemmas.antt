@@ -1,7 +1,7 @@
 -- From a verdict that is right and was told to what the status means.
 use Rattle.std.proofs.Common.{◌≡◌, ℕ, ◌≤◌, inl, inr, Bool, List, length, Option, Some, None, ap, sym, ◌∙◌, subst, arith, refl, length-append, lit<}
-use Rattle.cqs_plan.specs.Counts.{Rises}
-use Rattle.cqs_plan.specs.Stream.{GivesCount, IsAll}
+use Rattle.cqs_streams.specs.Counts.{Rises}
+use Rattle.cqs_streams.specs.Stream.{GivesCount, IsAll}
 use Rattle.cqs_cli.specs.Input.{IsInput}
 use Rattle.cqs_cli.specs.Meanings.{BrokeOff, IsStatus, MustEnd}
 use Rattle.cqs_cli.specs.Plans.{IsPlan}

@@ -4,7 +4,7 @@ use Rattle.cqs_plan.specs.declared.plans.kind.Kind.{Kind}
 use Rattle.cqs_plan.specs.declared.plans.plan.Plan.{Plan}
 use Rattle.cqs_plan.specs.Floor.{history_at}
 use Rattle.cqs_plan.specs.FloorHistory.{History}
-use Rattle.cqs_plan.specs.PlanText.{IsPlanText}
+use Rattle.cqs_reader.specs.PlanText.{IsPlanText}
 use Rattle.cqs_plan.specs.Runnable.{kinds_of}
 use Rattle.cqs_generator.specs.Generated.{plan_of_number}
 use Rattle.cqs_turns.specs.Report.{report_of}

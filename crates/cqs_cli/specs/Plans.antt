@@ -5,7 +5,7 @@ use Rattle.cqs_plan.specs.declared.plans.plan.Plan.{Plan}
 use Rattle.cqs_plan.specs.FaultLine.{line_of}
 use Rattle.cqs_plan.specs.Floor.{PlainFloor}
 use Rattle.cqs_plan.specs.LegalFloor.{IsLegalFor}
-use Rattle.cqs_plan.specs.PlanText.{IsFirstFault, IsNoToml, IsPlanText}
+use Rattle.cqs_reader.specs.PlanText.{IsFirstFault, IsNoToml, IsPlanText}
 use Rattle.cqs_turns.specs.Report.{report_of}
 use Rattle.cqs_turns.specs.Turns.{machine_after}
 

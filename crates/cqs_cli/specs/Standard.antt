@@ -1,7 +1,7 @@
 -- What is known of the standard streams.
 use Rattle.std.specs.Prelude.{◌≡◌, ℕ, Bool, Result, Ok, Err}
-use Rattle.cqs_plan.specs.Counts.{Rises}
-use Rattle.cqs_plan.specs.declared.streams.tally.Tally.{Tally}
+use Rattle.cqs_streams.specs.Counts.{Rises}
+use Rattle.cqs_streams.specs.declared.streams.tally.Tally.{Tally}
 
 -- what standard input counted: its reads, and how often it failed
 pub record StandardInput : Type 0 where

@@ -1,6 +1,6 @@
 -- What telling a verdict does to the sink, and the status that it gives.
 use Rattle.std.specs.Prelude.{◌≡◌, ℕ, ◌⊎◌, Bool, List, Option, IsTrue}
-use Rattle.cqs_plan.specs.Stream.{Gains, GainsPrefix, Rises}
+use Rattle.cqs_streams.specs.Stream.{Gains, GainsPrefix, Rises}
 use Rattle.cqs_cli.specs.Words.{usage}
 use Rattle.cqs_cli.specs.declared.statuses.TheConstants.{DONE, NO_COMMAND, NO_MEMORY, NO_PLAN, SINK_FAILED, SOURCE_FAILED, TOO_LONG}
 use Rattle.cqs_cli.specs.declared.verdict.Verdict.{Verdict}

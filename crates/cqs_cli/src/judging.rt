@@ -1,7 +1,7 @@
 //! The judging of the words and the source: it knows no sink.
 
 ghost use Rattle.std.specs.Prelude.{◌+◌, map, string_bytes};
-ghost use Rattle.cqs_plan.specs.Stream.{GivesAtMost};
+ghost use Rattle.cqs_streams.specs.Stream.{GivesAtMost};
 ghost use Rattle.cqs_cli.specs.KeptRuns.{Keeps};
 ghost use Rattle.cqs_cli.specs.Verdicts.{HasTaken, IsVerdict};
 

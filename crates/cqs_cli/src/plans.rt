@@ -12,7 +12,8 @@ use crate::kept::Kept;
 use crate::verdict::Verdict;
 use cqs_core::Memory;
 use cqs_floors::QueueFloor;
-use cqs_plan::{Plan, PlanError, fault_line, read_plan};
+use cqs_plan::{Plan, PlanError, fault_line};
+use cqs_reader::read_plan;
 use cqs_turns::{Report, run_plan};
 use std::alloc::Global;
 

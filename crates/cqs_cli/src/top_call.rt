@@ -1,8 +1,8 @@
 //! The call for the commands that have no workers, and what each of its statuses means.
 
 ghost use Rattle.std.specs.Prelude.{◌≡◌, ◌≢◌, ◌⊎◌, ℕ, ◌+◌, ◌<◌, ◌≤◌, List, length, map, string_bytes, IsTrue, Some};
-ghost use Rattle.cqs_plan.specs.Counts.{raise, Rises};
-ghost use Rattle.cqs_plan.specs.Stream.{Gains, GainsPrefix, GivesAtMost, GivesCount};
+ghost use Rattle.cqs_streams.specs.Counts.{raise, Rises};
+ghost use Rattle.cqs_streams.specs.Stream.{Gains, GainsPrefix, GivesAtMost, GivesCount};
 ghost use Rattle.cqs_cli.specs.KeptRuns.{IsNoRun, KeptText};
 ghost use Rattle.cqs_cli.specs.Meanings.{BrokeOff, HasTold, IsStatus, MustEnd, NamedFault};
 ghost use Rattle.cqs_cli.specs.Plans.{IsPlan};

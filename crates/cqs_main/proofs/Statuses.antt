@@ -1,7 +1,7 @@
 -- What is so of a run that never reaches the program's own call.
 use Rattle.std.specs.Prelude.{ℕ, List, [], Option, Some, None}
 use Rattle.std.proofs.Common.{rules, refl}
-use Rattle.cqs_plan.specs.Stream.{Gives, GivesAtMost}
+use Rattle.cqs_streams.specs.Stream.{Gives, GivesAtMost}
 use Rattle.cqs_cli.specs.declared.statuses.TheConstants.{NO_MEMORY}
 use Rattle.cqs_cli.specs.Meanings.{IsStatus}
 

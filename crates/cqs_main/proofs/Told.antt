@@ -2,7 +2,7 @@
 use Rattle.std.specs.Prelude.{ℕ, Bool, List, length, Option, Result, Ok, Err, OnOk, OnErr, IsTrue}
 use Rattle.std.proofs.Common.{rules, subst, sym}
 use Rattle.std.proofs.Math.Seq.{take-length}
-use Rattle.cqs_plan.specs.Stream.{Gains, GainsPrefix, Rises}
+use Rattle.cqs_streams.specs.Stream.{Gains, GainsPrefix, Rises}
 use Rattle.cqs_main.specs.Messages.{IsTold}
 
 -- by what the writing of the text answered

@@ -1,6 +1,6 @@
 -- What is told on standard error.
 use Rattle.std.specs.Prelude.{ℕ, List, [], codes, Option, ◌==◌, if◌then◌else◌}
-use Rattle.cqs_plan.specs.Stream.{Gains, GainsPrefix, Rises}
+use Rattle.cqs_streams.specs.Stream.{Gains, GainsPrefix, Rises}
 use Rattle.cqs_cli.specs.declared.statuses.TheConstants.{NO_COMMAND, NO_MEMORY, SINK_FAILED, SOURCE_FAILED, TOO_LONG}
 
 -- the line that tells the cause of a status; none where standard output has

@@ -1,7 +1,7 @@
 //! The line on standard error, and the end of the process.
 ghost use Rattle.std.specs.Prelude.{◌≡◌, IsTrue};
 ghost use Rattle.std.specs.Process.{exit_status};
-ghost use Rattle.cqs_plan.specs.Counts.{Rises};
+ghost use Rattle.cqs_streams.specs.Counts.{Rises};
 ghost use Rattle.cqs_main.specs.Messages.{IsTold, message};
 
 use cqs_cli::{NO_COMMAND, NO_MEMORY, SINK_FAILED, SOURCE_FAILED, TOO_LONG};

@@ -1,8 +1,8 @@
 //! One run of the program, over any streams.
 ghost use Rattle.std.specs.Prelude.{◌≡◌, ◌≢◌, ◌⊎◌, ℕ, ◌+◌, ◌<◌, ◌≤◌, List, length, IsTrue, Some};
 ghost use Rattle.std.specs.Process.{exit_status};
-ghost use Rattle.cqs_plan.specs.Counts.{raise, Rises};
-ghost use Rattle.cqs_plan.specs.Stream.{Gains, GainsPrefix, GivesAtMost, GivesCount};
+ghost use Rattle.cqs_streams.specs.Counts.{raise, Rises};
+ghost use Rattle.cqs_streams.specs.Stream.{Gains, GainsPrefix, GivesAtMost, GivesCount};
 ghost use Rattle.cqs_cli.specs.Meanings.{IsStatus, MustEnd, NamedFault};
 ghost use Rattle.cqs_cli.specs.Plans.{IsPlan};
 ghost use Rattle.cqs_cli.specs.Words.{IsSomeGen, usage};

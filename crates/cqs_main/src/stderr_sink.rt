@@ -1,6 +1,6 @@
 //! Standard error as a sink.
 ghost use Rattle.std.specs.Prelude.{◌≡◌, None, true};
-ghost use Rattle.cqs_plan.specs.Counts.{Rises};
+ghost use Rattle.cqs_streams.specs.Counts.{Rises};
 
 use cqs_plan::{Failed, Sink};
 use std::io::{Stderr, Write};

@@ -1,17 +1,2 @@
-pub mod Loops
-pub mod StreamLemmas
-mod Examples
-mod DataLists
-mod WorkSteps
-mod FirstFaults
-mod MeaningLemmas
-mod ValidNumbers
-mod ValidSteps
-mod ValidJobs
-mod SectionFaults
-mod ReadSections
-mod ValidPlans
-mod WholePlans
-pub mod OneAnswer
 pub mod RunnablePlans
 pub mod PoolSeats

@@ -1,22 +1,20 @@
-//! Plans, the streams that carry them, and the floors that carry them out.
+//! Plans, and the floors that carry them out.
 //!
 //! A plan names resources and jobs. Each job takes, holds and gives resources, step by step,
-//! over a number of turns. `plans` has the types, one a file; `reader` reads them from
-//! bytes, and names the first fault of bytes that are none. A `Floor` is what carries out
-//! the steps of a plan's jobs.
-//!
-//! A `Source` gives the bytes of a plan and a `Sink` takes the text that answers it. Each counts
-//! its own faults, so that whoever reports one can show that it came. `read_input` and `write_all`
-//! are the only loops over them.
+//! over a number of turns. `plans` has the types, one a file; `cqs_reader` reads them from bytes.
+//! A `Floor` is what carries out the steps of a plan's jobs. The streams of `cqs_streams` are
+//! named here once more.
 #![tactic(auto)]
 
 mod floors;
 mod lines;
 mod plans;
-mod reader;
-mod streams;
 
 pub use cqs_core::Memory;
+pub use cqs_streams::{
+    BytesSink, BytesSource, Failed, LONGEST_INPUT, ReadError, Sink, Source, SureSink, SureSource,
+    Tally, read_input, write_all,
+};
 pub use floors::answers::{FloorDown, FloorEnd, FloorGive, FloorLeave, FloorLook, FloorTake};
 pub use floors::floor::Floor;
 pub use lines::fault_line;
@@ -28,14 +26,3 @@ pub use plans::name::Name;
 pub use plans::plan::Plan;
 pub use plans::resource::{Resource, Resources};
 pub use plans::step::{Step, Steps};
-pub use reader::read_plan;
-pub use streams::bytes_sink::BytesSink;
-pub use streams::bytes_source::BytesSource;
-pub use streams::failed::Failed;
-pub use streams::reading::{LONGEST_INPUT, ReadError, read_input};
-pub use streams::sink::Sink;
-pub use streams::source::Source;
-pub use streams::sure_sink::SureSink;
-pub use streams::sure_source::SureSource;
-pub use streams::tally::Tally;
-pub use streams::writing::write_all;

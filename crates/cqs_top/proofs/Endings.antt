@@ -1,7 +1,7 @@
 -- From a verdict on the work of a plan that is right and was told to what the status means.
 use Rattle.std.proofs.Common.{◌≡◌, ℕ, ◌≤◌, ◌⊎◌, inl, inr, Bool, List, length, Option, Some, IsTrue, ◌∙◌, sym, subst, arith}
-use Rattle.cqs_plan.specs.Counts.{Rises}
-use Rattle.cqs_plan.specs.Stream.{Gains, GainsPrefix}
+use Rattle.cqs_streams.specs.Counts.{Rises}
+use Rattle.cqs_streams.specs.Stream.{Gains, GainsPrefix}
 use Rattle.cqs_cli.specs.Meanings.{IsStatus, MustEnd}
 use Rattle.cqs_cli.specs.Plans.{IsPlan}
 use Rattle.cqs_cli.specs.Tellings.{Tells}

@@ -1,6 +1,6 @@
 -- The input, where the source told it before.
 use Rattle.std.proofs.Common.{◌≡◌, ℕ, ◌≤◌, List, length, Option, Some, None, ap, sym, ◌∙◌, subst, arith, length-append}
-use Rattle.cqs_plan.specs.Stream.{GivesCount, IsAll}
+use Rattle.cqs_streams.specs.Stream.{GivesCount, IsAll}
 use Rattle.cqs_cli.specs.Input.{IsInput}
 
 -- the input is what the source told

@@ -1,7 +1,7 @@
 -- What a call of the program keeps.
 use Rattle.std.specs.Prelude.{◌≡◌, ℕ, ◌⊎◌, List, Option}
 use Rattle.cqs_plan.specs.declared.plans.plan.Plan.{Plan}
-use Rattle.cqs_plan.specs.PlanText.{IsPlanText}
+use Rattle.cqs_reader.specs.PlanText.{IsPlanText}
 use Rattle.cqs_cli.specs.Input.{IsInput}
 use Rattle.cqs_cli.specs.KeptRuns as alone
 use Rattle.cqs_cli.specs.Plans.{IsFaultLine}

@@ -1,6 +1,6 @@
 -- What the statuses of the program mean.
 use Rattle.std.specs.Prelude.{ℕ, ◌⊎◌, List, Option}
-use Rattle.cqs_plan.specs.Stream.{Gains, GainsPrefix}
+use Rattle.cqs_streams.specs.Stream.{Gains, GainsPrefix}
 use Rattle.cqs_cli.specs.Input.{IsInput}
 use Rattle.cqs_cli.specs.Meanings as alone
 use Rattle.cqs_cli.specs.Plans.{IsFaultLine}

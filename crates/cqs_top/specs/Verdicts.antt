@@ -1,8 +1,8 @@
 -- Which verdict is right on what workers did with an input.
 use Rattle.std.specs.Prelude.{◌≡◌, ℕ, ◌+◌, List, Option}
-use Rattle.cqs_plan.specs.Counts.{Rises}
-use Rattle.cqs_plan.specs.Stream.{GivesCount}
-use Rattle.cqs_plan.specs.declared.streams.reading.TheConstants.{LONGEST_INPUT}
+use Rattle.cqs_streams.specs.Counts.{Rises}
+use Rattle.cqs_streams.specs.Stream.{GivesCount}
+use Rattle.cqs_streams.specs.declared.streams.reading.TheConstants.{LONGEST_INPUT}
 use Rattle.cqs_cli.specs.Input.{IsInput}
 use Rattle.cqs_cli.specs.Plans.{IsFaultLine}
 use Rattle.cqs_cli.specs.declared.verdict.Verdict.{Verdict}

@@ -2,7 +2,7 @@
 use Rattle.std.specs.Prelude.{◌≡◌, ℕ, List, length}
 use Rattle.cqs_core.specs.Numbered.{EachAt}
 use Rattle.cqs_plan.specs.declared.plans.plan.Plan.{Plan}
-use Rattle.cqs_plan.specs.PlanText.{IsPlanText}
+use Rattle.cqs_reader.specs.PlanText.{IsPlanText}
 use Rattle.cqs_shared.specs.Shared.{Shared}
 use Rattle.cqs_shared_floors.specs.Openings.{AreLimits}
 use Rattle.cqs_work.specs.declared.ends.JobEnd.{JobEnd}

@@ -2,7 +2,7 @@
 
 ghost use Rattle.std.specs.Prelude.{◌≡◌, ◌+◌, ◌≤◌, IfOk, OnErr};
 ghost use Rattle.cqs_plan.specs.Runnable.{AreSized, IsRunnable};
-ghost use Rattle.cqs_plan.specs.Stream.{GivesAtMost};
+ghost use Rattle.cqs_streams.specs.Stream.{GivesAtMost};
 ghost use Rattle.cqs_cli.specs.Verdicts.{HasTaken};
 ghost use Rattle.cqs_shares.specs.AnyShares.{share_any};
 ghost use Rattle.cqs_shared_floors.specs.Ledgers.{shared_in};
@@ -14,9 +14,8 @@ use crate::kept::{Kept, keep_work};
 use crate::texts::work_text;
 use cqs_cli::Verdict;
 use cqs_core::Memory;
-use cqs_plan::{
-    LONGEST_INPUT, Plan, PlanError, ReadError, Source, fault_line, read_input, read_plan,
-};
+use cqs_plan::{LONGEST_INPUT, Plan, PlanError, ReadError, Source, fault_line, read_input};
+use cqs_reader::read_plan;
 use cqs_shared_floors::shared_floors;
 use cqs_work::{Gate, work_plan};
 use std::alloc::Global;

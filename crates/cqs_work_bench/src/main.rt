@@ -7,7 +7,8 @@
 ghost use Rattle.std.specs.Prelude.{◌≤◌};
 ghost use Rattle.cqs_plan.specs.Runnable.{AreSized, IsRunnable};
 
-use cqs_plan::{Plan, read_plan};
+use cqs_plan::Plan;
+use cqs_reader::read_plan;
 use cqs_shared_floors::shared_floors;
 use cqs_top::work_text;
 use cqs_work::{OpenGate, work_plan};

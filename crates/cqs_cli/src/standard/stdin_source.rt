@@ -3,7 +3,7 @@
 ghost use Rattle.std.specs.Prelude.{◌≡◌, ◌≢◌, None, IfErr};
 ghost use Rattle.std.specs.Io.{ReadsAtMost};
 ghost use Rattle.std.specs.IoError.{error_kind};
-ghost use Rattle.cqs_plan.specs.Tally.{no_reads};
+ghost use Rattle.cqs_streams.specs.Tally.{no_reads};
 
 use super::counting::count_fault;
 use cqs_plan::{Failed, Source, Tally};

@@ -1,0 +1,9 @@
+pub mod Counted
+pub mod Needs
+pub mod Meaning
+pub mod Places
+pub mod FaultRules
+pub mod Faults
+pub mod PlanText
+pub mod Sections
+pub mod Reading

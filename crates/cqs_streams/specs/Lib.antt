@@ -1,0 +1,6 @@
+pub mod InMemory
+pub mod Counts
+pub mod Script
+pub mod Stream
+pub mod Tally
+pub mod Stops

@@ -11,14 +11,14 @@ use Rattle.cqs_barrier.specs.declared.answers.PartyLeft.{PartyLeft}
 use Rattle.cqs_barrier.specs.declared.answers.PartyLeft.TheVariants.{Withdrawn, TooLate, Contended}
 use Rattle.cqs_barrier.specs.Arriving.{Arrives, IsWorn, Finishes}
 use Rattle.cqs_barrier.specs.Leaving.{HasLeft}
-use Rattle.cqs_by_number.specs.declared.answers.Answer.{Answer}
-use Rattle.cqs_by_number.specs.declared.barrier_caller.BarrierCaller.{BarrierCaller}
-use Rattle.cqs_by_number.specs.declared.barrier_caller.PartyOwes.{PartyOwes}
-use Rattle.cqs_by_number.specs.declared.barrier_caller.PartyOwes.TheVariants.{Others, Leave}
-use Rattle.cqs_by_number.specs.declared.verb.Verb.{Verb}
-use Rattle.cqs_by_number.specs.declared.verb.Verb.TheVariants as verb
-use Rattle.cqs_by_number.specs.BarrierAnswers.{Makes, IsAnswered, HasFinished}
-use Rattle.cqs_by_number.proofs.BarrierKept.{through-waits}
+use Rattle.cqs_callers.specs.declared.answers.Answer.{Answer}
+use Rattle.cqs_latch_callers.specs.declared.barrier_caller.BarrierCaller.{BarrierCaller}
+use Rattle.cqs_latch_callers.specs.declared.barrier_caller.PartyOwes.{PartyOwes}
+use Rattle.cqs_latch_callers.specs.declared.barrier_caller.PartyOwes.TheVariants.{Others, Leave}
+use Rattle.cqs_callers.specs.declared.verb.Verb.{Verb}
+use Rattle.cqs_callers.specs.declared.verb.Verb.TheVariants as verb
+use Rattle.cqs_latch_callers.specs.BarrierAnswers.{Makes, IsAnswered, HasFinished}
+use Rattle.cqs_latch_callers.proofs.BarrierKept.{through-waits}
 
 module _ {T : Type 0} where
   of-left : (k : ℕ) (x y : View BarrierEntry T) (left : PartyLeft) → HasLeft k x left y → y.number ≡ x.number

@@ -1,19 +1,19 @@
 -- What a call with the pass of a number answers, of whatever primitive.
 use Rattle.std.specs.Prelude.{◌≡◌, ◌⊎◌, ℕ, Some}
-use Rattle.cqs_by_number.specs.declared.answers.Answer.{Answer}
-use Rattle.cqs_by_number.specs.declared.answers.Answer.TheVariants as answer
+use Rattle.cqs_callers.specs.declared.answers.Answer.{Answer}
+use Rattle.cqs_callers.specs.declared.answers.Answer.TheVariants as answer
 use Rattle.cqs_by_number.specs.declared.caller.Caller.{Caller}
 use Rattle.cqs_by_number.specs.declared.caller.Caller.TheVariants as caller
 use Rattle.cqs_by_number.specs.declared.numbered.Numbered.{Numbered}
 use Rattle.cqs_by_number.specs.declared.primitive.Primitive.{Primitive}
 use Rattle.cqs_by_number.specs.declared.primitive.Primitive.TheVariants as primitive
-use Rattle.cqs_by_number.specs.declared.verb.Verb.{Verb}
+use Rattle.cqs_callers.specs.declared.verb.Verb.{Verb}
 use Rattle.cqs_by_number.specs.Callers.{StandsAs}
 use Rattle.cqs_by_number.specs.Numbered.{primitive_in, IsLaid}
-use Rattle.cqs_by_number.specs.BarrierAnswers as barrier
-use Rattle.cqs_by_number.specs.LatchAnswers as latch
-use Rattle.cqs_by_number.specs.PoolAnswers as pool
-use Rattle.cqs_by_number.specs.SemaphoreAnswers as semaphore
+use Rattle.cqs_latch_callers.specs.BarrierAnswers as barrier
+use Rattle.cqs_latch_callers.specs.LatchAnswers as latch
+use Rattle.cqs_callers.specs.PoolAnswers as pool
+use Rattle.cqs_callers.specs.SemaphoreAnswers as semaphore
 
 -- a call of this verb, with this number of a wait or an element, led from the one caller to the
 -- other

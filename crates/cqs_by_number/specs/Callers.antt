@@ -5,10 +5,10 @@ use Rattle.cqs_by_number.specs.declared.caller.Caller.{Caller}
 use Rattle.cqs_by_number.specs.declared.caller.Caller.TheVariants as caller
 use Rattle.cqs_by_number.specs.declared.primitive.Primitive.{Primitive}
 use Rattle.cqs_by_number.specs.declared.primitive.Primitive.TheVariants as primitive
-use Rattle.cqs_by_number.specs.BarrierCallers as barrier
-use Rattle.cqs_by_number.specs.LatchCallers as latch
-use Rattle.cqs_by_number.specs.PoolCallers as pool
-use Rattle.cqs_by_number.specs.SemaphoreCallers as semaphore
+use Rattle.cqs_latch_callers.specs.BarrierCallers as barrier
+use Rattle.cqs_latch_callers.specs.LatchCallers as latch
+use Rattle.cqs_callers.specs.PoolCallers as pool
+use Rattle.cqs_callers.specs.SemaphoreCallers as semaphore
 
 -- the caller is one of the primitive, and stands as such a caller does; none is of another kind
 abbrev pub StandsAt : Primitive → Caller → Type 0

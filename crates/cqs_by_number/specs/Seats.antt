@@ -1,7 +1,7 @@
 -- What a split and a meet by number have done, of whatever primitive.
 use Rattle.std.specs.Prelude.{◌≡◌, ◌⊎◌, ℕ, Some, None}
-use Rattle.cqs_by_number.specs.declared.answers.Answer.{Answer}
-use Rattle.cqs_by_number.specs.declared.answers.Answer.TheVariants as answer
+use Rattle.cqs_callers.specs.declared.answers.Answer.{Answer}
+use Rattle.cqs_callers.specs.declared.answers.Answer.TheVariants as answer
 use Rattle.cqs_by_number.specs.declared.caller.Caller.{Caller}
 use Rattle.cqs_by_number.specs.declared.caller.Caller.TheVariants as caller
 use Rattle.cqs_by_number.specs.declared.numbered.Numbered.{Numbered}
@@ -9,10 +9,10 @@ use Rattle.cqs_by_number.specs.declared.primitive.Primitive.{Primitive}
 use Rattle.cqs_by_number.specs.declared.primitive.Primitive.TheVariants as primitive
 use Rattle.cqs_by_number.specs.Callers.{StandsAt, StandsAs, pass_number}
 use Rattle.cqs_by_number.specs.Numbered.{primitive_in, IsLaid}
-use Rattle.cqs_by_number.specs.BarrierSeats as barrier
-use Rattle.cqs_by_number.specs.LatchSeats as latch
-use Rattle.cqs_by_number.specs.PoolSeats as pool
-use Rattle.cqs_by_number.specs.SemaphoreSeats as semaphore
+use Rattle.cqs_latch_callers.specs.BarrierSeats as barrier
+use Rattle.cqs_latch_callers.specs.LatchSeats as latch
+use Rattle.cqs_callers.specs.PoolSeats as pool
+use Rattle.cqs_callers.specs.SemaphoreSeats as semaphore
 
 -- why the primitive refuses a split that is to give so many parties, which only a barrier does
 abbrev pub RefusesSplitOf : Primitive → ℕ → Caller → Caller → Answer → Type 0

@@ -3,10 +3,8 @@
 ghost use Rattle.std.specs.Prelude.{◌≡◌};
 ghost use Rattle.cqs_by_number.specs.Callers.{pass_number};
 
-use crate::barrier_caller::BarrierCaller;
-use crate::latch_caller::LatchCaller;
-use crate::pool_caller::PoolCaller;
-use crate::semaphore_caller::SemaphoreCaller;
+use cqs_callers::{PoolCaller, SemaphoreCaller};
+use cqs_latch_callers::{BarrierCaller, LatchCaller};
 
 /// What the number of a pass stands for, by its primitive.
 #[derive(Drop)]

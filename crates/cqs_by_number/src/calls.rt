@@ -2,9 +2,8 @@
 
 ghost use Rattle.cqs_by_number.specs.Answered.{IsAnswered};
 
-use crate::answers::Answer;
 use crate::numbered::Numbered;
-use crate::verb::Verb;
+use cqs_callers::{Answer, Verb};
 
 impl Numbered {
     /// One call. `number` is that of a wait or of an element.

@@ -4,18 +4,15 @@ ghost use Rattle.std.specs.Prelude.{◌≡◌, ◌⊎◌, ◌<◌, ◌≤◌, �
 ghost use Rattle.cqs_views.specs.Configured.{is_config};
 ghost use Rattle.cqs_by_number.specs.Callers.{StandsAt};
 
-use crate::answers::Answer;
-use crate::barrier_caller::BarrierCaller;
 use crate::caller::Caller;
-use crate::latch_caller::LatchCaller;
 use crate::marks::{NOBODY, Slots};
 use crate::numbered::Numbered;
-use crate::pool_caller::PoolCaller;
 use crate::primitive::Primitive;
-use crate::semaphore_caller::SemaphoreCaller;
 use atomic_table::Table;
 use cqs_barrier::Barrier;
+use cqs_callers::{Answer, PoolCaller, SemaphoreCaller};
 use cqs_latch::Latch;
+use cqs_latch_callers::{BarrierCaller, LatchCaller};
 use cqs_pool::Pool;
 use cqs_rule::{CancelMode, Config, MakeError};
 use cqs_semaphore::Semaphore;

@@ -5,10 +5,9 @@ ghost use Rattle.cqs_by_number.specs.Answered.{Leads};
 ghost use Rattle.cqs_by_number.specs.Callers.{StandsAt, pass_number};
 ghost use Rattle.cqs_by_number.specs.Seats.{RefusesSplit, HasSplit, RefusesMeet, TakesIn};
 
-use crate::answers::Answer;
 use crate::caller::Caller;
-use crate::verb::Verb;
 use cqs_barrier::Barrier;
+use cqs_callers::{Answer, Verb};
 use cqs_latch::Latch;
 use cqs_pool::Pool;
 use cqs_rule::Unparked;

@@ -3,10 +3,10 @@
 ghost use Rattle.cqs_by_number.specs.Callers.{StandsAt};
 ghost use Rattle.cqs_by_number.specs.Seats.{IsSeated, IsSplit, IsMet};
 
-use crate::answers::Answer;
 use crate::caller::Caller;
 use crate::marks::{NOBODY, RESTS};
 use crate::numbered::Numbered;
+use cqs_callers::Answer;
 
 impl Numbered {
     /// A new pass, under a number of its own. Of a barrier it gets so many parties.

@@ -4,12 +4,12 @@ ghost use Rattle.std.specs.Prelude.{◌≡◌, ◌≢◌, ◌⊎◌, ◌<◌, �
 ghost use Rattle.cqs_by_number.specs.Callers.{StandsAs};
 ghost use Rattle.cqs_by_number.specs.Marks.{Suits};
 ghost use Rattle.cqs_by_number.specs.Numbered.{Holds, IsLaid};
-ghost use Rattle.cqs_by_number.specs.declared.answers.Answer.TheVariants as answer;
+ghost use Rattle.cqs_callers.specs.declared.answers.Answer.TheVariants as answer;
 
-use crate::answers::Answer;
 use crate::caller::Caller;
 use crate::marks::{Claim, Hand, Lay, NOBODY, RESTS, Sit, TAKEN};
 use crate::numbered::Numbered;
+use cqs_callers::Answer;
 
 impl Numbered {
     // Takes what lies in the slot of the pass, where its mark is the one that is expected, and says

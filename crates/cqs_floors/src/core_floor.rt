@@ -8,8 +8,8 @@ ghost use Rattle.cqs_plan.specs.Runnable.{AreSized};
 
 use crate::desk::Desk;
 use cqs_core::Memory;
-use cqs_runnable::Core;
 use cqs_plan::{Floor, FloorDown, FloorEnd, FloorGive, FloorLeave, FloorLook, FloorTake, Plan};
+use cqs_runnable::Core;
 use cqs_sole::AnySole;
 use std::alloc::Global;
 use std::marker::Model;

@@ -26,11 +26,7 @@ pub mod sections;
 pub mod step_text;
 pub mod steps;
 
-use cqs_plan::PlanError;
-use cqs_plan::FaultKind;
-use cqs_plan::Jobs;
-use cqs_plan::Plan;
-use cqs_plan::Resources;
+use cqs_plan::{FaultKind, Jobs, Plan, PlanError, Resources};
 use members::{has_only, member};
 use numbers::required_number;
 use place::Place;

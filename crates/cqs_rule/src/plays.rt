@@ -8,11 +8,9 @@ ghost use Rattle.cqs_views.specs.Exchanges.{crossed};
 ghost use Rattle.cqs_views.specs.Loads.{loaded_by};
 ghost use Rattle.cqs_views.specs.SlotSteps.{took_out, put_back, filled, given_by, put_by};
 
-use cqs_steps::{ClientWords, Shown};
-use cqs_steps::Kind;
-use cqs_steps::Load;
 use crate::queue::Numbered;
 use atomic_table::{Join, Play, Split};
+use cqs_steps::{ClientWords, Kind, Load, Shown};
 use cqs_views::View;
 use std::marker::{Brand, PhantomData};
 

@@ -16,9 +16,8 @@ mod steps;
 mod tokens;
 mod words;
 
-use cqs_steps::ClientWords;
-use cqs_steps::{Key, Rule};
 use atomic_table::{Seat, Table};
+use cqs_steps::{ClientWords, Key, Rule};
 use cqs_views::{CancelMode, View};
 use parked::Parked;
 pub(crate) use slots::Numbered;

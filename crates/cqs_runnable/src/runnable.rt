@@ -9,14 +9,8 @@ ghost use Rattle.cqs_core.specs.SemaphoreTable.{step};
 ghost use Rattle.cqs_core.specs.Resting.{IsIdle, IsResting};
 ghost use Rattle.cqs_core.specs.SoleCaller.{IsSoleCall, IsSoleRefusal, NoneTaken, ShowsNext, TellsWait};
 
-use cqs_core::{Call, Reply};
-use cqs_core::CoreCell;
-use cqs_core::Doing;
-use cqs_core::Entry;
-use cqs_core::CoreError;
-use cqs_core::Event;
-use cqs_core::Outcome;
 use crate::table::Table;
+use cqs_core::{Call, CoreCell, CoreError, Doing, Entry, Event, Outcome, Reply};
 use std::alloc::Global;
 use std::marker::Model;
 

@@ -12,11 +12,7 @@ ghost use Rattle.cqs_core.specs.SemaphoreTable.{step, is_with as wait_is_with};
 ghost use Rattle.cqs_core.specs.SemaphoreShown.{opening_shape};
 ghost use Rattle.cqs_core.specs.SemaphoreWords.{FitsWords};
 
-use cqs_core::{CoreCell, CoreState};
-use cqs_core::Doing;
-use cqs_core::Entry;
-use cqs_core::Event;
-use cqs_core::Outcome;
+use cqs_core::{CoreCell, CoreState, Doing, Entry, Event, Outcome};
 use std::alloc::{AllocError, Global};
 use std::marker::Model;
 

@@ -7,9 +7,9 @@ ghost use Rattle.cqs_sole.specs.SoleCore.{HasMade, IsReady, is_served_at};
 
 use crate::sole::{ForPermits, SoleSemaphore, Stand, permits, stand_in};
 use cqs_core::{Call, CoreCell, CoreState, Memory, Reply};
-use cqs_runnable::Core;
 use cqs_plan::Kind;
 use cqs_rule::Place;
+use cqs_runnable::Core;
 use std::alloc::Global;
 
 /// The entries for which a core needs memory, for each take: three for the take, three for the look

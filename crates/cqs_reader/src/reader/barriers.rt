@@ -6,13 +6,7 @@ ghost use Rattle.cqs_plan.specs.Order.{AreFew};
 ghost use Rattle.cqs_reader.specs.Places.{below_place};
 ghost use Rattle.cqs_reader.specs.Reading.{Reads};
 
-use cqs_plan::PlanError;
-use cqs_plan::FaultKind;
-use cqs_plan::Job;
-use cqs_plan::Kind;
-use cqs_plan::Name;
-use cqs_plan::Resource;
-use cqs_plan::Step;
+use cqs_plan::{FaultKind, Job, Kind, Name, PlanError, Resource, Step};
 use std::alloc::Global;
 
 fn arrives(job: &Job, barrier: u32) -> bool

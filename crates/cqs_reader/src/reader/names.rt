@@ -10,9 +10,7 @@ ghost use Rattle.cqs_reader.specs.Meaning.{text_in};
 ghost use Rattle.cqs_reader.specs.Reading.{AddsName, Reads, data_in};
 
 use super::place::Place;
-use cqs_plan::PlanError;
-use cqs_plan::FaultKind;
-use cqs_plan::Name;
+use cqs_plan::{FaultKind, Name, PlanError};
 use std::alloc::Global;
 use std::collections::BTreeSet;
 use toml::Value;

@@ -8,8 +8,7 @@ ghost use Rattle.cqs_reader.specs.Meaning.{number_in};
 ghost use Rattle.cqs_reader.specs.Reading.{Reads, data_in};
 
 use super::place::Place;
-use cqs_plan::PlanError;
-use cqs_plan::FaultKind;
+use cqs_plan::{FaultKind, PlanError};
 use std::alloc::Global;
 use toml::Value;
 

@@ -5,9 +5,7 @@ ghost use Rattle.cqs_reader.specs.FaultRules.{fault_at};
 ghost use Rattle.cqs_reader.specs.Places.{place_text};
 ghost use Rattle.cqs_reader.specs.Reading.{StopsAt};
 
-use cqs_plan::PlanError;
-use cqs_plan::FaultKind;
-use cqs_plan::Name;
+use cqs_plan::{FaultKind, Name, PlanError};
 use std::alloc::Global;
 use std::fmt;
 

@@ -6,8 +6,7 @@ ghost use Rattle.cqs_plan.specs.Language.{can_hold};
 ghost use Rattle.cqs_reader.specs.Needs.{suits};
 ghost use Rattle.cqs_plan.specs.Order.{AreFew};
 
-use cqs_plan::Kind;
-use cqs_plan::Resource;
+use cqs_plan::{Kind, Resource};
 
 /// What a verb needs its resource to be.
 #[derive(Clone, Copy)]

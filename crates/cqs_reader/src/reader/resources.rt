@@ -20,11 +20,7 @@ use super::names::is_name;
 use super::numbers::required_number;
 use super::place::Place;
 use super::sections::Section;
-use cqs_plan::PlanError;
-use cqs_plan::FaultKind;
-use cqs_plan::Kind;
-use cqs_plan::Name;
-use cqs_plan::Resource;
+use cqs_plan::{FaultKind, Kind, Name, PlanError, Resource};
 use std::alloc::Global;
 use toml::{Table, Value};
 

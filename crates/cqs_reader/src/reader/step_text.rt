@@ -6,9 +6,7 @@ ghost use Rattle.cqs_reader.specs.Meaning.{has_one_space, is_decimal, step_of, v
 ghost use Rattle.cqs_plan.specs.Order.{AreFew};
 
 use super::places::{Need, place_of};
-use cqs_plan::FaultKind;
-use cqs_plan::Resource;
-use cqs_plan::Step;
+use cqs_plan::{FaultKind, Resource, Step};
 
 fn has_one_space(text: &[u8]) -> bool
     ensures { result ≡ has_one_space text.now }

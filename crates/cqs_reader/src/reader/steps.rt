@@ -13,11 +13,7 @@ ghost use Rattle.cqs_reader.specs.Reading.{Reads, data_in};
 
 use super::place::Place;
 use super::step_text::step_of;
-use cqs_plan::PlanError;
-use cqs_plan::FaultKind;
-use cqs_plan::Kind;
-use cqs_plan::Resource;
-use cqs_plan::Step;
+use cqs_plan::{FaultKind, Kind, PlanError, Resource, Step};
 use std::alloc::Global;
 use toml::Value;
 use toml::value::Array;

@@ -1,0 +1,5 @@
+pub mod SemaphoreKept
+pub mod Waits
+pub mod TokenSteps
+pub mod PoolKept
+pub mod NotRefused

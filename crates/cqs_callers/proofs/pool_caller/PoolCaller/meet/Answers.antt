@@ -1,0 +1,48 @@
+use Rattle.std.proofs.Common.{ap, subst, sym, refl, inl, inr}
+use Rattle.cqs_views.specs.declared.view.Facts.{Facts}
+use Rattle.cqs_views.specs.Lists.{Has}
+use Rattle.cqs_rule.specs.Passes.{pass_view}
+use Rattle.cqs_views.proofs.Lists.{has_left}
+use Rattle.cqs_callers.proofs.PoolKept.{owes-none, elements_same, elements_stay}
+use Rattle.cqs_callers.proofs.TokenSteps.{the_wait, same_waits}
+use Rattle.cqs_callers.proofs.NotRefused.{no-cause, none-there}
+use Rattle.cqs_callers.proofs.pool_caller.PoolCaller.meet.Goals as goal
+
+pub returns-in-Ok-clause-stands : goal.returns-in-Ok-clause-stands
+returns-in-Ok-clause-stands c =
+    let met = c.in-Ok.ensures.met in
+    record {
+      belongs = c.meet.ensures.belongs;
+      owes = owes-none _ _ c.if-is_some.ensures c.meet.ensures.ready;
+      waits = same_waits the_wait _ (pass_view c.meet.new.pass) _
+          (met.number, ap (λ (f : Facts). f.waits) met.facts_are) c.requires.stands.waits;
+      elements = elements_stay _ _ _ (λ e has. subst (Has e) (sym c.in-Ok.ensures.elements) (has_left e _ _ has))
+          c.requires.stands.elements;
+    }
+
+pub returns-in-Err-clause-stands : goal.returns-in-Err-clause-stands
+returns-in-Err-clause-stands c =
+    let same = c.in-Err.ensures.unchanged in
+    record {
+      belongs = c.meet.ensures.belongs;
+      owes = owes-none _ _ c.if-is_some.ensures c.meet.ensures.ready;
+      waits = same_waits the_wait _ _ _
+          (ap (λ p. (pass_view p).number) same, ap (λ p. (pass_view p).facts.waits) same) c.requires.stands.waits;
+      elements = elements_same _ _ _ (ap (λ p. (pass_view p).facts.has.slots) same) c.requires.stands.elements;
+    }
+
+pub returns-in-Ok-clause-met : goal.returns-in-Ok-clause-met
+returns-in-Ok-clause-met c = record {
+  free = λ more. elim more [
+    | inl some ↦ none-there _ c.if-not-is_empty.ensures some
+    | inr busy ↦ no-cause _ c.in-Ok.ensures.busy.1 busy
+  ];
+  met = c.in-Ok.ensures.met;
+  laid = c.in-Ok.ensures.laid;
+  course = c.in-Ok.ensures.course;
+  elements = c.in-Ok.ensures.elements;
+  keeps = record { waits = refl; elements = refl; under = refl };
+}
+
+pub returns-in-Err-clause-refused : goal.returns-in-Err-clause-refused
+returns-in-Err-clause-refused c = inr (c.in-Err.ensures.busy.0 refl)

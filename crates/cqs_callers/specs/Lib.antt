@@ -1,0 +1,10 @@
+pub mod Waits
+pub mod Tokens
+pub mod SemaphoreCallers
+pub mod PoolCallers
+pub mod SemaphoreTold
+pub mod SemaphoreAnswers
+pub mod PoolTold
+pub mod PoolAnswers
+pub mod SemaphoreSeats
+pub mod PoolSeats

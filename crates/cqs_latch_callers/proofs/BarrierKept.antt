@@ -1,0 +1,76 @@
+-- A caller of a barrier between two calls.
+use Rattle.std.proofs.Common.{◌≡◌, ◌⊎◌, ℕ, suc, zero, List, [], ◌∷◌, Option, Some, None, false, ap, refl, subst, sym, ◌∙◌, inl, inr}
+use Rattle.std.specs.Option.{is_some}
+use Rattle.cqs_views.specs.declared.view.Facts.{Facts}
+use Rattle.cqs_views.specs.declared.view.Has.{Has}
+use Rattle.cqs_views.specs.declared.view.View.{View}
+use Rattle.cqs_views.specs.Lists.{without}
+use Rattle.cqs_views.specs.Placed.{place_known, place_word}
+use Rattle.cqs_views.specs.Views.{facts_lessened, first_facts, has_less}
+use Rattle.cqs_barrier_object.specs.declared.entries.BarrierEntry.{BarrierEntry}
+use Rattle.cqs_barrier_object.specs.declared.entries.BarrierEntry.TheVariants as entry
+use Rattle.cqs_barrier.specs.declared.answers.Arrived.TheVariants.{Last}
+use Rattle.cqs_barrier.specs.declared.answers.PartyLeft.TheVariants.{TooLate}
+use Rattle.cqs_barrier.specs.declared.answers.PartyWait.{PartyWait}
+use Rattle.cqs_barrier.specs.Arriving.{Arrives, CameEarly, CameLast}
+use Rattle.cqs_barrier.specs.Calls.{IsReady}
+use Rattle.cqs_barrier.specs.Leaving.{HasLeft, leaving_at}
+use Rattle.cqs_barrier.specs.Resuming.{HasOwing}
+use Rattle.cqs_latch_callers.specs.declared.barrier_caller.PartyOwes.{PartyOwes}
+use Rattle.cqs_latch_callers.specs.declared.barrier_caller.PartyOwes.TheVariants.{Others, Leave}
+use Rattle.cqs_latch_callers.specs.BarrierCallers.{OwesJust, StayApart}
+
+-- a caller who owes nothing stays apart from nothing
+pub apart-none : (o : Option PartyOwes) (xs : List PartyWait) → false ≡ is_some o → StayApart o xs
+apart-none None xs e = tt
+apart-none (Some owed) xs e = absurd (cc)
+
+-- what a pass that gave parties away has is what it had
+lessened-further : (n : ℕ) (h : Has) → (has_less n h).further ≡ h.further
+lessened-further zero h = refl
+lessened-further (suc n) h = refl
+
+pub lessened-ready : (gives : ℕ) (f g : Facts) → g ≡ facts_lessened gives f → IsReady f → IsReady g
+lessened-ready gives f g is ready = subst IsReady (sym is) (record {
+  idle = ready.idle;
+  further = lessened-further gives f.has ∙ ready.further;
+})
+
+pub first-ready : (gives : ℕ) (f : Facts) → f ≡ first_facts gives → IsReady f
+first-ready gives f is = subst IsReady (sym is) (record { idle = refl; further = refl })
+
+module _ {T : Type 0} where
+  -- a caller who has no token of what is owed owes none where its pass is ready
+  pub owes-none : (v : View BarrierEntry T) (o : Option PartyOwes) → false ≡ is_some o → IsReady v.facts → OwesJust v o
+  owes-none v None e ready = ready
+  owes-none v (Some owed) e ready = absurd (cc)
+
+  -- a pass that is at what it was owes what it owed
+  pub none-owed : (v : View BarrierEntry T) (o : Option PartyOwes) → false ≡ is_some o → OwesJust v o → IsReady v.facts
+  none-owed v None e ready = ready
+  none-owed v (Some owed) e owes = absurd (cc)
+
+  pub owes-same : (v w : View BarrierEntry T) (o : Option PartyOwes) → w.facts ≡ v.facts → OwesJust v o → OwesJust w o
+  owes-same v w None same owes = subst IsReady (sym same) owes
+  owes-same v w (Some (Others owing)) same owes = subst (λ (f : Facts). HasOwing f owing) (sym same) owes
+  owes-same v w (Some (Leave leaving)) same owes = record {
+    leaves = ap (λ (f : Facts). f.doing) same ∙ owes.leaves;
+    further = ap (λ (f : Facts). f.has.further) same ∙ owes.further;
+    place = place_known w (leaving_at leaving) (place_word v (leaving_at leaving) owes.place);
+  }
+
+  -- the pass after an arrival that goes through
+  came-number : (v w : View BarrierEntry T) → ((ks : List ℕ) × CameLast ks v w)
+      ⊎ ((k : ℕ) × CameEarly k (entry.Deliver k ∷ []) v w) → w.number ≡ v.number
+  came-number v w (inl came) = came.1.called.called.same.number
+  came-number v w (inr came) = came.1.called.called.same.number
+
+  pub through-waits : (v w : View BarrierEntry T) → Arrives v Last w
+      → (w.number ≡ v.number) × (w.facts.waits ≡ v.facts.waits)
+  through-waits v w told = (came-number v w told.0, told.1.waits_are)
+
+  -- and after a cancel that came too late
+  pub late-waits : (k : ℕ) (v w : View BarrierEntry T) → HasLeft k v TooLate w
+      → (w.number ≡ v.number) × (w.facts.waits ≡ without k v.facts.waits) × IsReady w.facts
+  late-waits k v w (inl stayed) = (stayed.0.called.same.number, stayed.1.waits_are, stayed.1.ready)
+  late-waits k v w (inr late) = (late.0.called.same.number, late.1.waits_are, late.1.ready)

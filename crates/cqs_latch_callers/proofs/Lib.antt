@@ -1,0 +1,2 @@
+pub mod LatchKept
+pub mod BarrierKept

@@ -3,7 +3,7 @@
 ghost use Rattle.std.specs.Prelude.{◌≡◌, ◌≢◌, IfOk};
 ghost use Rattle.cqs_plan.specs.Floor.{opening_floor};
 ghost use Rattle.cqs_plan.specs.Runnable.{IsRunnable};
-ghost use Rattle.cqs_turns.specs.Report.{report_of};
+ghost use Rattle.cqs_reports.specs.Report.{report_of};
 
 use cqs_cli::{CoreFloor, QueueFloor};
 use cqs_plan::{Floor, Memory, Plan, PlanError};

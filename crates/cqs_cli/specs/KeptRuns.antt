@@ -7,7 +7,7 @@ use Rattle.cqs_plan.specs.FloorHistory.{History}
 use Rattle.cqs_reader.specs.PlanText.{IsPlanText}
 use Rattle.cqs_plan.specs.Runnable.{kinds_of}
 use Rattle.cqs_generator.specs.Generated.{plan_of_number}
-use Rattle.cqs_turns.specs.Report.{report_of}
+use Rattle.cqs_reports.specs.Report.{report_of}
 use Rattle.cqs_sole.specs.declared.any_sole.AnySole.{AnySole}
 use Rattle.cqs_sole.specs.declared.running_sole.RunningSole.{RunningSole}
 use Rattle.cqs_cli.specs.Input.{IsInput}

@@ -6,8 +6,8 @@ use Rattle.cqs_plan.specs.FaultLine.{line_of}
 use Rattle.cqs_plan.specs.Floor.{PlainFloor}
 use Rattle.cqs_plan.specs.LegalFloor.{IsLegalFor}
 use Rattle.cqs_reader.specs.PlanText.{IsFirstFault, IsNoToml, IsPlanText}
-use Rattle.cqs_turns.specs.Report.{report_of}
-use Rattle.cqs_turns.specs.Turns.{machine_after}
+use Rattle.cqs_reports.specs.Report.{report_of}
+use Rattle.cqs_reports.specs.Turns.{machine_after}
 
 -- the bytes are a plan
 abbrev pub IsPlan : List ℕ → Type 0

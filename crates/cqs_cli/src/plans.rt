@@ -3,7 +3,7 @@
 ghost use Rattle.std.specs.Prelude.{◌≡◌, IfOk, OnErr, OnOk};
 ghost use Rattle.cqs_plan.specs.LegalFloor.{IsLegalFor};
 ghost use Rattle.cqs_plan.specs.Runnable.{AreSized, IsRunnable};
-ghost use Rattle.cqs_turns.specs.Report.{report_of};
+ghost use Rattle.cqs_reports.specs.Report.{report_of};
 ghost use Rattle.cqs_cli.specs.KeptRuns.{KeepsRun, KeepsWith};
 ghost use Rattle.cqs_cli.specs.Plans.{floor_after};
 ghost use Rattle.cqs_cli.specs.Verdicts.{IsVerdictOn};

@@ -11,7 +11,7 @@ use Rattle.cqs_plan.specs.declared.floors.answers.FloorTake.TheVariants.{Now, Wa
 use Rattle.cqs_plan.specs.FloorHistory.{completes}
 use Rattle.cqs_plan.specs.Floor.{PlainFloor, HasRound, IsIdle, IsJob, room_at, round_of, to_come_at}
 use Rattle.cqs_plan.specs.FloorCalls.{after_arrive, arrive_answer}
-use Rattle.cqs_turns.proofs.KindsThere.{barrier-there}
+use Rattle.cqs_reports.proofs.KindsThere.{barrier-there}
 use Rattle.cqs_floors.specs.DeskCalls.{Comes, HasAt}
 use Rattle.cqs_floors.specs.Kept.{IsKept, elements_of}
 use Rattle.cqs_floors.specs.Ledger.{Ledger, holds_in, plain_floor, round_in, rounds_of, with_arrived, with_less_room, with_soles, with_waiting}

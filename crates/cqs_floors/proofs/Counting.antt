@@ -20,8 +20,8 @@ use Rattle.cqs_plan.specs.declared.plans.step.Step.TheVariants as step
 use Rattle.cqs_plan.specs.PlanSteps.{may_wait}
 use Rattle.cqs_plan.specs.Holding.{TookMore}
 use Rattle.cqs_plan.specs.Runnable.{IsRunnable, IsMakeable, kinds_of, round_after}
-use Rattle.cqs_turns.proofs.KindsThere.{barrier-there, holdable-there, latch-there}
-use Rattle.cqs_turns.proofs.StepCounts.{WaitsAt}
+use Rattle.cqs_reports.proofs.KindsThere.{barrier-there, holdable-there, latch-there}
+use Rattle.cqs_reports.proofs.StepCounts.{WaitsAt}
 use Rattle.cqs_floors.specs.Opening.{AreOpened, AreWithin, IsCountable, IsWithin, room_of}
 use Rattle.cqs_sole.specs.Stores.{Store, IsOpened}
 

@@ -6,7 +6,7 @@ use Rattle.cqs_plan.specs.declared.floors.answers.FloorEnd.{FloorEnd}
 use Rattle.cqs_plan.specs.FloorHistory.{ending}
 use Rattle.cqs_plan.specs.Floor.{PlainFloor, size_of}
 use Rattle.cqs_plan.specs.FloorCalls.{end_answer}
-use Rattle.cqs_turns.proofs.KindsThere.{some-there}
+use Rattle.cqs_reports.proofs.KindsThere.{some-there}
 use Rattle.cqs_floors.specs.DeskCalls.{CanEndAt, Ends}
 use Rattle.cqs_floors.specs.Kept.{IsKept, held_at, waiting_at}
 use Rattle.cqs_floors.specs.Ledger.{Ledger, holds_in, plain_floor, with_soles}

@@ -9,7 +9,7 @@ use Rattle.cqs_plan.specs.declared.floors.answers.FloorGive.TheVariants.{Free, S
 use Rattle.cqs_plan.specs.FloorHistory.{Deed, Standing, frees, sends}
 use Rattle.cqs_plan.specs.Floor.{PlainFloor, Holding, IsHoldable, IsJob, IsHolding, oldest, holds_of, size_of, standing_at, with_done, without_oldest}
 use Rattle.cqs_plan.specs.FloorCalls as plain
-use Rattle.cqs_turns.proofs.KindsThere.{holdable-there}
+use Rattle.cqs_reports.proofs.KindsThere.{holdable-there}
 use Rattle.cqs_floors.specs.declared.transfers.Transfer.TheVariants.{GaveBack}
 use Rattle.cqs_floors.specs.DeskCalls.{Gives, HasAt}
 use Rattle.cqs_floors.specs.Kept.{IsKept, held_at, waiting_at}

@@ -11,7 +11,7 @@ use Rattle.cqs_core.proofs.Places.{get-set_here, get-set_else, get-there}
 use Rattle.cqs_plan.specs.FloorHistory.{joins}
 use Rattle.cqs_plan.specs.Floor.{JobWait, size_of, with_done_in, with_less_room, with_wait}
 use Rattle.cqs_views.specs.declared.config.Place.{Place}
-use Rattle.cqs_turns.proofs.StepCounts.{bit-same, bit-other}
+use Rattle.cqs_reports.proofs.StepCounts.{bit-same, bit-other}
 use Rattle.cqs_sole.specs.declared.waits.Wait.{Wait}
 use Rattle.cqs_floors.specs.Kept.{IsKept, IsFundedAt, StandsIn, waiting_at, held_at, is_wait_at}
 use Rattle.cqs_floors.specs.Ledger.{Ledger, plain_floor, with_waiting, with_soles, job_wait, holds_in, holds_after}

@@ -9,7 +9,7 @@ use Rattle.cqs_plan.specs.declared.floors.answers.FloorTake.TheVariants.{Now, Wa
 use Rattle.cqs_plan.specs.FloorHistory.{passes}
 use Rattle.cqs_plan.specs.Floor.{PlainFloor, IsIdle, IsJob, IsLatch, room_at, with_done}
 use Rattle.cqs_plan.specs.FloorCalls.{after_down, after_wait, down_answer, down_of, wait_answer}
-use Rattle.cqs_turns.proofs.KindsThere.{latch-there}
+use Rattle.cqs_reports.proofs.KindsThere.{latch-there}
 use Rattle.cqs_floors.specs.DeskCalls.{Awaits, Downs, HasAt}
 use Rattle.cqs_floors.specs.Kept.{IsKept, elements_of}
 use Rattle.cqs_floors.specs.Ledger.{Ledger, holds_in, plain_floor, with_less_room, with_soles, with_waiting}

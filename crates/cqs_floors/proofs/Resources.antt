@@ -5,7 +5,7 @@ use Rattle.std.proofs.lemmas.List.{length-map}
 use Rattle.cqs_core.proofs.Places.{get-below, get-there}
 use Rattle.cqs_plan.specs.Floor.{IsJob, size_of, standing_at, stands_in as stands_at, to_come_at}
 use Rattle.cqs_plan.specs.FloorHistory.{of_permits, standing_in, to_come}
-use Rattle.cqs_turns.proofs.KindsThere.{IsThere}
+use Rattle.cqs_reports.proofs.KindsThere.{IsThere}
 use Rattle.cqs_sole.specs.declared.waits.Wait.{Wait}
 use Rattle.cqs_floors.specs.Kept.{IsKept, IsFundedAt}
 use Rattle.cqs_floors.specs.Ledger.{Ledger, job_wait, plain_floor}

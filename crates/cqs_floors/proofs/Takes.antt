@@ -8,7 +8,7 @@ use Rattle.cqs_plan.specs.declared.floors.answers.FloorTake.TheVariants.{Now, Wa
 use Rattle.cqs_plan.specs.FloorHistory.{takes, first_free}
 use Rattle.cqs_plan.specs.Floor.{PlainFloor, IsHoldable, IsJob, IsIdle, room_at, size_of}
 use Rattle.cqs_plan.specs.FloorCalls.{take_answer, after_take}
-use Rattle.cqs_turns.proofs.KindsThere.{holdable-there}
+use Rattle.cqs_reports.proofs.KindsThere.{holdable-there}
 use Rattle.cqs_floors.specs.declared.transfers.Transfer.TheVariants.{Got}
 use Rattle.cqs_floors.specs.DeskCalls.{HasAt, Takes}
 use Rattle.cqs_floors.specs.Kept.{elements_of, IsKept, waiting_at, held_at}

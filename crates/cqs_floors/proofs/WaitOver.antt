@@ -11,7 +11,7 @@ use Rattle.cqs_core.proofs.Counts.{bit}
 use Rattle.cqs_core.proofs.Places.{get-set_here, get-set_else, get-below}
 use Rattle.cqs_plan.specs.FloorHistory.{Deed, of_permits, with_deed_in}
 use Rattle.cqs_plan.specs.Floor.{size_of}
-use Rattle.cqs_turns.proofs.StepCounts.{bit-same, bit-other}
+use Rattle.cqs_reports.proofs.StepCounts.{bit-same, bit-other}
 use Rattle.cqs_floors.specs.declared.transfers.Transfer.TheVariants.{Got}
 use Rattle.cqs_sole.specs.declared.waits.Wait.{Wait}
 use Rattle.cqs_floors.specs.Kept.{IsKept, StandsIn, AreApart, waiting_at, held_at, is_wait_at}

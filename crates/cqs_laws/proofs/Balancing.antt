@@ -28,11 +28,11 @@ use Rattle.cqs_plan.specs.FloorCalls.{is_in_line, give_of, down_of, take_answer,
 use Rattle.cqs_plan.specs.Language.{can_hold}
 use Rattle.cqs_plan.specs.Runnable.{IsRunnable}
 use Rattle.cqs_pool_object.proofs.PoolConserved.{long-numbers}
-use Rattle.cqs_turns.specs.Lines.{is_pool_at}
-use Rattle.cqs_turns.specs.Roles.{wait_at}
-use Rattle.cqs_turns.specs.Turns.{Role, Scene, machine_after}
-use Rattle.cqs_turns.proofs.Mapped.{get-map}
-use Rattle.cqs_turns.proofs.Readied.{held-kind}
+use Rattle.cqs_reports.specs.Lines.{is_pool_at}
+use Rattle.cqs_reports.specs.Roles.{wait_at}
+use Rattle.cqs_reports.specs.Turns.{Role, Scene, machine_after}
+use Rattle.cqs_reports.proofs.Mapped.{get-map}
+use Rattle.cqs_reports.proofs.Readied.{held-kind}
 use Rattle.cqs_laws.specs.Balances.{Balances, HoldsAll, IsEvenRound, EveryResourceBalances, EveryRoundBalances}
 use Rattle.cqs_laws.specs.Events.{Line}
 use Rattle.cqs_laws.proofs.Claims.{held-none, claims-none}

@@ -5,7 +5,7 @@ use Rattle.cqs_core.specs.Keyed.{without}
 use Rattle.cqs_core.specs.QueueLine.{Waiting}
 use Rattle.cqs_core.proofs.Counts.{bit}
 use Rattle.cqs_plan.specs.Floor.{Holding, JobWait, oldest}
-use Rattle.cqs_turns.specs.Ready.{is_held}
+use Rattle.cqs_reports.specs.Ready.{is_held}
 use Rattle.cqs_laws.proofs.Lines.{in_line}
 
 -- how many of what one job holds pass a test, and of what all of them hold

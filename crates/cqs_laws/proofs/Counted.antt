@@ -1,12 +1,12 @@
 -- Each progress is counted in one of the four totals, but for a crowded job's, and no job of a run is crowded.
 use Rattle.std.proofs.Common.{◌≡◌, ◌+◌, List, [], ◌∷◌, cond, count_by, length, refl, arith}
 use Rattle.std.proofs.lemmas.List.Sums.{sum_by-cons}
-use Rattle.cqs_turns.specs.declared.states.End.TheVariants.{Done, GaveUp, Late, Crowded}
-use Rattle.cqs_turns.specs.declared.states.Progress.{Progress}
-use Rattle.cqs_turns.specs.declared.states.Progress.TheVariants.{Stepping, Working, Waiting, Ended}
-use Rattle.cqs_turns.specs.Lines.{is_done, has_given_up, is_late, is_crowded, is_unfinished}
-use Rattle.cqs_turns.specs.Turns.{machine_after}
-use Rattle.cqs_turns.proofs.NoneTurnedAway.{none-crowded}
+use Rattle.cqs_reports.specs.declared.states.End.TheVariants.{Done, GaveUp, Late, Crowded}
+use Rattle.cqs_reports.specs.declared.states.Progress.{Progress}
+use Rattle.cqs_reports.specs.declared.states.Progress.TheVariants.{Stepping, Working, Waiting, Ended}
+use Rattle.cqs_reports.specs.Lines.{is_done, has_given_up, is_late, is_crowded, is_unfinished}
+use Rattle.cqs_reports.specs.Turns.{machine_after}
+use Rattle.cqs_reports.proofs.NoneTurnedAway.{none-crowded}
 use Rattle.cqs_laws.specs.Totals.{total_of, TotalsAddUp}
 use Rattle.cqs_laws.proofs.Everywhere.{all-jobs}
 

@@ -26,7 +26,7 @@ use Rattle.cqs_plan.specs.declared.plans.kind.Kind.{Kind}
 use Rattle.cqs_plan.specs.declared.plans.kind.Kind.TheVariants as kind
 use Rattle.cqs_plan.specs.FloorHistory.{History, of_permits, of_elements, of_latch, of_rounds, Deed, takes, joins, frees, sends, gets, leaves, is_late, passes, counts, opens, is_open, completes, permit_entries, element_entries, barrier_entries, permits_after, elements_after, latch_after, barrier_after, entries_in, with_deed, with_deed_in, standing, standing_in, came_for}
 use Rattle.cqs_plan.specs.Floor.{IsHoldable, IsLatch, HasRound}
-use Rattle.cqs_turns.proofs.ToCome.{latch_then, barrier_then, latch-then, barrier-then}
+use Rattle.cqs_reports.proofs.ToCome.{latch_then, barrier_then, latch-then, barrier-then}
 use Rattle.cqs_laws.proofs.Lines.{in_line, line-longer, line-joined, line-fewer, turned-line, turned-next}
 use Rattle.cqs_plan.proofs.PoolSeats.{AreSeated, came_in, came-closed, came-delivered-else, came-delivered-here, seated-closed, seated-delivered, seated-entered, seated-left}
 

@@ -10,15 +10,15 @@ use Rattle.cqs_plan.specs.declared.floors.answers.FloorLook.TheVariants.{Pending
 use Rattle.cqs_plan.specs.declared.floors.answers.FloorLeave.{FloorLeave}
 use Rattle.cqs_plan.specs.FloorCalls.{take_answer, give_answer, wait_answer, arrive_answer, look_answer, leave_answer, after_look}
 use Rattle.cqs_plan.specs.Floor.{round_of}
-use Rattle.cqs_turns.specs.declared.lines.Told.TheVariants as told
-use Rattle.cqs_turns.specs.declared.states.End.{End}
-use Rattle.cqs_turns.specs.declared.states.Progress.{Progress}
-use Rattle.cqs_turns.specs.declared.states.Progress.TheVariants.{Stepping, Working, Waiting, Ended}
-use Rattle.cqs_turns.specs.Ready.{IsReady, wait_in, steps_left}
-use Rattle.cqs_turns.specs.Roles.{wait_at}
-use Rattle.cqs_turns.specs.Turns.{Role, Scene, Made, Acted, event, on_give, after_gives, after_step, after_coming, on_take, on_wait, on_arrive, stop_or, after_steps, after_last_step, on_leave, after_giving_up, after_looking, after_acting, is_due, places_held, left_at, go_on}
-use Rattle.cqs_turns.proofs.Readied.{first-given, first-ready, leave-ready, after_looking-ready}
-use Rattle.cqs_turns.proofs.Stepping.{after_step-ready}
+use Rattle.cqs_reports.specs.declared.lines.Told.TheVariants as told
+use Rattle.cqs_reports.specs.declared.states.End.{End}
+use Rattle.cqs_reports.specs.declared.states.Progress.{Progress}
+use Rattle.cqs_reports.specs.declared.states.Progress.TheVariants.{Stepping, Working, Waiting, Ended}
+use Rattle.cqs_reports.specs.Ready.{IsReady, wait_in, steps_left}
+use Rattle.cqs_reports.specs.Roles.{wait_at}
+use Rattle.cqs_reports.specs.Turns.{Role, Scene, Made, Acted, event, on_give, after_gives, after_step, after_coming, on_take, on_wait, on_arrive, stop_or, after_steps, after_last_step, on_leave, after_giving_up, after_looking, after_acting, is_due, places_held, left_at, go_on}
+use Rattle.cqs_reports.proofs.Readied.{first-given, first-ready, leave-ready, after_looking-ready}
+use Rattle.cqs_reports.proofs.Stepping.{after_step-ready}
 
 -- where the job has ended, it holds nothing
 abbrev pub IsEmptied : Role → Acted → Type 0

@@ -16,7 +16,7 @@ use Rattle.cqs_plan.specs.declared.plans.kind.Kind.{Kind}
 use Rattle.cqs_plan.specs.declared.plans.kind.Kind.TheVariants as kind
 use Rattle.cqs_plan.specs.Floor.{IsLatch}
 use Rattle.cqs_plan.specs.FloorHistory.{History, of_permits, of_elements, of_latch, of_rounds, Deed, joins, gets, leaves, is_late, passes, counts, opens, is_open, completes, barrier_entries, latch_after, barrier_after, entries_in, no_history, standing_in, to_come, with_deed_in}
-use Rattle.cqs_turns.proofs.ToCome.{latch_then, barrier_then, latch-then, round-set, barrier-then}
+use Rattle.cqs_reports.proofs.ToCome.{latch_then, barrier_then, latch-then, round-set, barrier-then}
 use Rattle.cqs_laws.specs.Balances.{IsEvenRound}
 use Rattle.cqs_laws.proofs.Deeds.{IsOfKind}
 use Rattle.cqs_laws.proofs.HeldKinds.{IsHeld}

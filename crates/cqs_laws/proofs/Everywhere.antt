@@ -3,8 +3,8 @@ use Rattle.std.proofs.Common.{◌≡◌, ℕ, zero, suc, ◌+◌, List, [], ◌�
 use Rattle.std.proofs.lemmas.List.{length-set, length-replicate}
 use Rattle.cqs_plan.specs.declared.plans.job.Job.{Job}
 use Rattle.cqs_plan.specs.declared.plans.plan.Plan.{Plan}
-use Rattle.cqs_turns.specs.declared.states.Progress.TheVariants.{Stepping}
-use Rattle.cqs_turns.specs.Turns.{Machine, one_job, each_job, opening_machine, machine_after}
+use Rattle.cqs_reports.specs.declared.states.Progress.TheVariants.{Stepping}
+use Rattle.cqs_reports.specs.Turns.{Machine, one_job, each_job, opening_machine, machine_after}
 
 -- In a turn: a fact that speaks of the place of the job that acts next.
 module _ (plan : Plan) (turn : ℕ) (P : ℕ → Machine → Type 0)

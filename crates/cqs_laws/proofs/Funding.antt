@@ -12,8 +12,8 @@ use Rattle.cqs_plan.specs.declared.floors.answers.FloorGive.TheVariants.{Free, S
 use Rattle.cqs_plan.specs.FloorHistory.{History, of_permits, of_elements, of_latch, of_rounds, Deed, takes, joins, frees, sends, gets, leaves, is_late, came_for, first_free, standing, with_deed, with_deed_in}
 use Rattle.cqs_plan.specs.Floor.{PlainFloor, JobWait, Holding, history_at, holds_of, oldest, size_at, standing_at, wait_of, with_done, with_newest, with_wait}
 use Rattle.cqs_plan.specs.FloorCalls.{after_take, after_give}
-use Rattle.cqs_turns.specs.Lines.{is_pool_at}
-use Rattle.cqs_turns.specs.Roles.{wait_at}
+use Rattle.cqs_reports.specs.Lines.{is_pool_at}
+use Rattle.cqs_reports.specs.Roles.{wait_at}
 use Rattle.cqs_laws.specs.Events.{Line}
 use Rattle.cqs_laws.proofs.Claims.{HasOldest, IsLike, held_in, claims_in, is_claim, has-oldest, held-got, held-gave, count-set, count-le, count-one-more, claim-before, claim-else, claim-none, claim-here}
 use Rattle.cqs_laws.proofs.HeldKinds.{IsHeld, IsUnheld, first-part, only-part}

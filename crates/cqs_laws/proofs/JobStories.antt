@@ -7,14 +7,14 @@ use Rattle.cqs_core.proofs.Places.{get-below, get-set_here, get-set_else, get-th
 use Rattle.cqs_plan.specs.declared.plans.job.Job.{Job}
 use Rattle.cqs_plan.specs.declared.plans.plan.Plan.{Plan}
 use Rattle.cqs_plan.specs.Runnable.{IsRunnable, AreMakeable, kinds_of}
-use Rattle.cqs_turns.specs.declared.states.Progress.{Progress}
-use Rattle.cqs_turns.specs.declared.states.Progress.TheVariants.{Stepping}
-use Rattle.cqs_turns.specs.Ready.{IsReady, wait_in, steps_left}
-use Rattle.cqs_turns.specs.Running.{IsRunning}
-use Rattle.cqs_turns.specs.Turns.{Role, Scene, Acted, Machine, after_acting, one_job, opening_machine, machine_after, places_held}
-use Rattle.cqs_turns.proofs.Opened.{opening-running}
-use Rattle.cqs_turns.proofs.RunningLemmas.{room-of, running-on}
-use Rattle.cqs_turns.proofs.Turned.{Turned, after_acting-turned}
+use Rattle.cqs_reports.specs.declared.states.Progress.{Progress}
+use Rattle.cqs_reports.specs.declared.states.Progress.TheVariants.{Stepping}
+use Rattle.cqs_reports.specs.Ready.{IsReady, wait_in, steps_left}
+use Rattle.cqs_reports.specs.Running.{IsRunning}
+use Rattle.cqs_reports.specs.Turns.{Role, Scene, Acted, Machine, after_acting, one_job, opening_machine, machine_after, places_held}
+use Rattle.cqs_reports.proofs.Opened.{opening-running}
+use Rattle.cqs_reports.proofs.RunningLemmas.{room-of, running-on}
+use Rattle.cqs_reports.proofs.Turned.{Turned, after_acting-turned}
 use Rattle.cqs_laws.specs.Events.{Line, EveryReportHasItsLines}
 use Rattle.cqs_laws.specs.Stories.{Stage, AtStep, Story, AreInOrder, own_lines, EveryJobHasItsStory}
 use Rattle.cqs_laws.specs.Stories as story

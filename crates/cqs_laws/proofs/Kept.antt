@@ -8,16 +8,16 @@ use Rattle.cqs_plan.specs.declared.plans.plan.Plan.{Plan}
 use Rattle.cqs_plan.specs.declared.plans.resource.Resource.{Resource}
 use Rattle.cqs_plan.specs.Floor.{Holding, holds_of}
 use Rattle.cqs_plan.specs.Runnable.{IsRunnable}
-use Rattle.cqs_turns.specs.declared.states.End.{End}
-use Rattle.cqs_turns.specs.declared.states.End.TheVariants as end
-use Rattle.cqs_turns.specs.declared.states.Progress.{Progress}
-use Rattle.cqs_turns.specs.declared.states.Progress.TheVariants.{Stepping, Ended}
-use Rattle.cqs_turns.specs.Ready.{IsReady, wait_in, steps_left}
-use Rattle.cqs_turns.specs.Running.{IsRunning}
-use Rattle.cqs_turns.specs.Turns.{Role, Acted, Machine, after_acting, one_job, opening_machine, machine_after, places_held}
-use Rattle.cqs_turns.proofs.Opened.{opening-running}
-use Rattle.cqs_turns.proofs.RunningLemmas.{room-of, running-on}
-use Rattle.cqs_turns.proofs.Turned.{Turned, after_acting-turned}
+use Rattle.cqs_reports.specs.declared.states.End.{End}
+use Rattle.cqs_reports.specs.declared.states.End.TheVariants as end
+use Rattle.cqs_reports.specs.declared.states.Progress.{Progress}
+use Rattle.cqs_reports.specs.declared.states.Progress.TheVariants.{Stepping, Ended}
+use Rattle.cqs_reports.specs.Ready.{IsReady, wait_in, steps_left}
+use Rattle.cqs_reports.specs.Running.{IsRunning}
+use Rattle.cqs_reports.specs.Turns.{Role, Acted, Machine, after_acting, one_job, opening_machine, machine_after, places_held}
+use Rattle.cqs_reports.proofs.Opened.{opening-running}
+use Rattle.cqs_reports.proofs.RunningLemmas.{room-of, running-on}
+use Rattle.cqs_reports.proofs.Turned.{Turned, after_acting-turned}
 use Rattle.cqs_laws.specs.Endings.{EndedJobsHaveNothing}
 use Rattle.cqs_laws.proofs.Everywhere.{always}
 use Rattle.cqs_laws.proofs.OwnTurn.{role_of}

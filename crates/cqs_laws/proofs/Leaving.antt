@@ -16,7 +16,7 @@ use Rattle.cqs_barrier_object.specs.BarrierEntries.{after_entry as barrier_entry
 use Rattle.cqs_barrier_object.specs.BarrierObject.{Barrier}
 use Rattle.cqs_plan.specs.FloorHistory.{History, of_permits, of_elements, of_latch, of_rounds, Deed, Standing, takes, joins, frees, sends, gets, leaves, is_late, passes, counts, opens, is_open, completes, permit_entries, permits_after, elements_after, latch_after, barrier_after, entries_in, with_deed_in, standing_in}
 use Rattle.cqs_plan.specs.Floor.{PlainFloor, JobWait, Holding, history_at, size_at, stands_in, with_done_in}
-use Rattle.cqs_turns.proofs.ToCome.{latch_then, barrier_then, latch-then}
+use Rattle.cqs_reports.proofs.ToCome.{latch_then, barrier_then, latch-then}
 use Rattle.cqs_laws.proofs.Deeds.{HasPart, JoinsNext, elements-then, next-after, part-kept, permits-then, pool_then, round-then, standing-away}
 use Rattle.cqs_laws.proofs.Lined.{changed_floor}
 use Rattle.cqs_laws.proofs.Lines.{in_line, turned-line}

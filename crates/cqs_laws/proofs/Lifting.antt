@@ -13,19 +13,19 @@ use Rattle.cqs_plan.specs.declared.floors.answers.FloorLook.TheVariants.{Pending
 use Rattle.cqs_plan.specs.Floor.{PlainFloor, IsJob, IsHoldable, IsLatch, HasRound, round_of, wait_of}
 use Rattle.cqs_plan.specs.FloorCalls.{take_answer, give_answer, wait_answer, arrive_answer, down_answer, look_answer, leave_answer, after_look}
 use Rattle.cqs_plan.specs.Runnable.{IsRunnable}
-use Rattle.cqs_turns.specs.declared.lines.Told.TheVariants as told
-use Rattle.cqs_turns.specs.declared.lines.Told.{Told}
-use Rattle.cqs_turns.specs.declared.states.Progress.{Progress}
-use Rattle.cqs_turns.specs.declared.states.Progress.TheVariants.{Stepping, Working, Waiting, Ended}
-use Rattle.cqs_turns.specs.Ready.{IsReady, wait_in, steps_left, is_held}
-use Rattle.cqs_turns.specs.Roles.{wait_at}
-use Rattle.cqs_turns.specs.Running.{IsRunning}
-use Rattle.cqs_turns.specs.Turns.{Role, Scene, Made, Acted, Machine, event, take_told, give_told, leave_told, down_told, wait_told, arrive_told, on_take, on_give, on_down, on_wait, on_arrive, after_gives, after_step, after_coming, stop_or, after_steps, after_last_step, on_leave, after_giving_up, after_looking, after_acting, is_due, one_job, opening_machine, machine_after, places_held, left_at, go_on}
-use Rattle.cqs_turns.proofs.Opened.{opening-running}
-use Rattle.cqs_turns.proofs.Readied.{first-given, first-ready, leave-ready, after_looking-ready, can-give}
-use Rattle.cqs_turns.proofs.RunningLemmas.{room-of, running-on}
-use Rattle.cqs_turns.proofs.Stepping.{after_step-ready}
-use Rattle.cqs_turns.proofs.Turned.{after_acting-turned}
+use Rattle.cqs_reports.specs.declared.lines.Told.TheVariants as told
+use Rattle.cqs_reports.specs.declared.lines.Told.{Told}
+use Rattle.cqs_reports.specs.declared.states.Progress.{Progress}
+use Rattle.cqs_reports.specs.declared.states.Progress.TheVariants.{Stepping, Working, Waiting, Ended}
+use Rattle.cqs_reports.specs.Ready.{IsReady, wait_in, steps_left, is_held}
+use Rattle.cqs_reports.specs.Roles.{wait_at}
+use Rattle.cqs_reports.specs.Running.{IsRunning}
+use Rattle.cqs_reports.specs.Turns.{Role, Scene, Made, Acted, Machine, event, take_told, give_told, leave_told, down_told, wait_told, arrive_told, on_take, on_give, on_down, on_wait, on_arrive, after_gives, after_step, after_coming, stop_or, after_steps, after_last_step, on_leave, after_giving_up, after_looking, after_acting, is_due, one_job, opening_machine, machine_after, places_held, left_at, go_on}
+use Rattle.cqs_reports.proofs.Opened.{opening-running}
+use Rattle.cqs_reports.proofs.Readied.{first-given, first-ready, leave-ready, after_looking-ready, can-give}
+use Rattle.cqs_reports.proofs.RunningLemmas.{room-of, running-on}
+use Rattle.cqs_reports.proofs.Stepping.{after_step-ready}
+use Rattle.cqs_reports.proofs.Turned.{after_acting-turned}
 use Rattle.cqs_laws.specs.Events.{Line}
 use Rattle.cqs_laws.proofs.Everywhere.{always}
 use Rattle.cqs_laws.proofs.OwnTurn.{role_of}

@@ -7,7 +7,7 @@ use Rattle.cqs_core.proofs.Counts.{bit}
 use Rattle.cqs_core.proofs.Places.{get-below, get-append_below, get-append_left, get-push_at}
 use Rattle.cqs_plan.specs.declared.plans.plan.Plan.{Plan}
 use Rattle.cqs_plan.specs.declared.plans.resource.Resource.{Resource}
-use Rattle.cqs_turns.specs.Lines.{line_text}
+use Rattle.cqs_reports.specs.Lines.{line_text}
 use Rattle.cqs_laws.specs.Events.{Line, name_of, lines_text, draws_at, drawn_at, Sends, WasSent, MayTell}
 
 pub text-push : (plan : Plan) (lines : List Line) (line : Line)

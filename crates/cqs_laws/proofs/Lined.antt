@@ -6,7 +6,7 @@ use Rattle.cqs_plan.specs.declared.plans.resource.Resource.{Resource}
 use Rattle.cqs_plan.specs.FloorHistory.{History, Deed, Standing, came_for, with_deed_in}
 use Rattle.cqs_plan.specs.Floor.{PlainFloor, JobWait, Holding, came_to, history_at, size_at, stands_in, wait_of, with_done_in, with_wait}
 use Rattle.cqs_plan.specs.FloorCalls.{is_in_line}
-use Rattle.cqs_turns.specs.Lines.{is_pool_at}
+use Rattle.cqs_reports.specs.Lines.{is_pool_at}
 use Rattle.cqs_laws.specs.Events.{Line, Sends, WasSent}
 use Rattle.cqs_laws.proofs.Deeds.{HasPart, HasSeats, IsElse, IsOfKind, JoinsNext, came-after, came-away, is_of_pool, kind-kept, line-after, next-after, part-kept, part-was, pool-kept, seats-after, standing-away}
 use Rattle.cqs_laws.proofs.Lines.{in_line}

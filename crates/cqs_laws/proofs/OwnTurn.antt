@@ -9,10 +9,10 @@ use Rattle.cqs_plan.specs.declared.plans.plan.Plan.{Plan}
 use Rattle.cqs_plan.specs.declared.floors.answers.FloorLeave.{FloorLeave}
 use Rattle.cqs_plan.specs.declared.floors.answers.FloorLeave.TheVariants as leave
 use Rattle.cqs_plan.specs.FloorCalls.{leave_answer, look_answer}
-use Rattle.cqs_turns.specs.declared.states.End.TheVariants as end
-use Rattle.cqs_turns.specs.declared.states.Progress.{Progress}
-use Rattle.cqs_turns.specs.declared.states.Progress.TheVariants.{Waiting, Ended}
-use Rattle.cqs_turns.specs.Turns.{Role, Scene, Acted, Machine, after_acting, after_giving_up, after_looking, is_due, end_of, one_job, each_job, machine_after}
+use Rattle.cqs_reports.specs.declared.states.End.TheVariants as end
+use Rattle.cqs_reports.specs.declared.states.Progress.{Progress}
+use Rattle.cqs_reports.specs.declared.states.Progress.TheVariants.{Waiting, Ended}
+use Rattle.cqs_reports.specs.Turns.{Role, Scene, Acted, Machine, after_acting, after_giving_up, after_looking, is_due, end_of, one_job, each_job, machine_after}
 use Rattle.cqs_laws.specs.Endings.{NoWaitOutlivesItsDeadline}
 
 -- a job in a turn

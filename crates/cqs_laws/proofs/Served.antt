@@ -20,14 +20,14 @@ use Rattle.cqs_plan.specs.FloorHistory.{Deed, takes, joins, frees, sends, gets, 
 use Rattle.cqs_plan.specs.Floor.{PlainFloor, JobWait, Holding, first_free_at, history_at, holds_of, is_holdable, oldest, round_of, standing_at, stands_in, wait_of, with_done_in, with_newest, with_wait}
 use Rattle.cqs_plan.specs.FloorCalls.{after_take, after_give, after_down, after_wait, after_arrive, after_leave, down_answer, give_of, is_in_line, leave_answer, look_answer, with_granted, with_left}
 use Rattle.cqs_plan.specs.Runnable.{IsRunnable}
-use Rattle.cqs_turns.specs.declared.states.Progress.{Progress}
-use Rattle.cqs_turns.specs.declared.states.Progress.TheVariants.{Stepping, Working, Waiting, Ended}
-use Rattle.cqs_turns.specs.Ready.{IsReady, wait_in, steps_left}
-use Rattle.cqs_turns.specs.Roles.{wait_at}
-use Rattle.cqs_turns.specs.Running.{IsRunning}
-use Rattle.cqs_turns.specs.Turns.{Role, Scene, Acted, Machine, after_acting, after_coming, after_giving_up, after_looking, after_step, after_steps, is_due, machine_after, on_arrive, on_take, on_wait, one_job, stop_or}
-use Rattle.cqs_turns.proofs.RunningLemmas.{room-of, running-on}
-use Rattle.cqs_turns.proofs.Turned.{after_acting-turned}
+use Rattle.cqs_reports.specs.declared.states.Progress.{Progress}
+use Rattle.cqs_reports.specs.declared.states.Progress.TheVariants.{Stepping, Working, Waiting, Ended}
+use Rattle.cqs_reports.specs.Ready.{IsReady, wait_in, steps_left}
+use Rattle.cqs_reports.specs.Roles.{wait_at}
+use Rattle.cqs_reports.specs.Running.{IsRunning}
+use Rattle.cqs_reports.specs.Turns.{Role, Scene, Acted, Machine, after_acting, after_coming, after_giving_up, after_looking, after_step, after_steps, is_due, machine_after, on_arrive, on_take, on_wait, one_job, stop_or}
+use Rattle.cqs_reports.proofs.RunningLemmas.{room-of, running-on}
+use Rattle.cqs_reports.proofs.Turned.{after_acting-turned}
 use Rattle.cqs_laws.specs.Endings.{NoWaitOutlivesItsService}
 use Rattle.cqs_laws.specs.Events.{Line}
 use Rattle.cqs_laws.proofs.Deeds.{HasPart, JoinsNext}

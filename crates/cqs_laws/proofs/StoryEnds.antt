@@ -15,12 +15,12 @@ use Rattle.cqs_plan.specs.Floor.{IsHoldable, IsLatch, HasRound}
 use Rattle.cqs_plan.specs.PlanSteps.{may_wait}
 use Rattle.cqs_plan.specs.Runnable.{IsMakeable, AreMakeable, kinds_of}
 use Rattle.std.specs.Option.{option_map}
-use Rattle.cqs_turns.specs.declared.lines.Told.{Told}
-use Rattle.cqs_turns.specs.declared.lines.Told.TheVariants as told
-use Rattle.cqs_turns.specs.declared.states.End.{End}
-use Rattle.cqs_turns.specs.declared.states.End.TheVariants as end
-use Rattle.cqs_turns.specs.declared.states.Progress.TheVariants.{Ended}
-use Rattle.cqs_turns.specs.Turns.{machine_after}
+use Rattle.cqs_reports.specs.declared.lines.Told.{Told}
+use Rattle.cqs_reports.specs.declared.lines.Told.TheVariants as told
+use Rattle.cqs_reports.specs.declared.states.End.{End}
+use Rattle.cqs_reports.specs.declared.states.End.TheVariants as end
+use Rattle.cqs_reports.specs.declared.states.Progress.TheVariants.{Ended}
+use Rattle.cqs_reports.specs.Turns.{machine_after}
 use Rattle.cqs_laws.specs.Endings.{HasCome, HasMadeAllSteps, NobodyGivesUpEarly, WhoIsDoneMadeAllSteps, is_told, made_step, turns_of, waited_for}
 use Rattle.cqs_laws.specs.Events.{Line}
 use Rattle.cqs_laws.specs.Stories.{TellsOf, Stage, AtStep, InWait, Closing, Over, Story, lasts, AreStories, own_lines}

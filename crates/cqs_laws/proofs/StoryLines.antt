@@ -4,8 +4,8 @@ use Rattle.std.proofs.lemmas.Bool.{cases_lt}
 use Rattle.std.proofs.lemmas.List.{append-nil, length_push}
 use Rattle.std.proofs.lemmas.List.Elements.{filter-append}
 use Rattle.cqs_core.proofs.Places.{get-append_below, get-below, get-push_at}
-use Rattle.cqs_turns.specs.declared.lines.Told.{Told}
-use Rattle.cqs_turns.specs.Turns.{Role}
+use Rattle.cqs_reports.specs.declared.lines.Told.{Told}
+use Rattle.cqs_reports.specs.Turns.{Role}
 use Rattle.cqs_laws.specs.Events.{Line}
 use Rattle.cqs_laws.specs.Stories.{IsBefore, AreInOrder, own_lines}
 use Rattle.cqs_laws.proofs.Lifting.{line_of}

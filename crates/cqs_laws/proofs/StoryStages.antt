@@ -22,13 +22,13 @@ use Rattle.cqs_plan.specs.declared.plans.kind.Kind.TheVariants as kind
 use Rattle.cqs_plan.specs.declared.plans.resource.Resource.{Resource}
 use Rattle.cqs_plan.specs.FloorCalls.{after_take}
 use Rattle.cqs_plan.specs.Runnable.{IsMakeable, kinds_of}
-use Rattle.cqs_turns.specs.declared.states.End.TheVariants as end
-use Rattle.cqs_turns.specs.declared.states.Progress.{Progress}
-use Rattle.cqs_turns.specs.declared.states.Progress.TheVariants.{Stepping, Working, Waiting, Ended}
-use Rattle.cqs_turns.specs.Ready.{held_next, is_holdable_in, with_place}
-use Rattle.cqs_turns.specs.Roles.{is_holdable_at, left_with}
-use Rattle.cqs_turns.specs.Turns.{give_told, down_told, is_due, end_of, places_held}
-use Rattle.cqs_turns.proofs.Readied.{held-kind, holdable-same}
+use Rattle.cqs_reports.specs.declared.states.End.TheVariants as end
+use Rattle.cqs_reports.specs.declared.states.Progress.{Progress}
+use Rattle.cqs_reports.specs.declared.states.Progress.TheVariants.{Stepping, Working, Waiting, Ended}
+use Rattle.cqs_reports.specs.Ready.{held_next, is_holdable_in, with_place}
+use Rattle.cqs_reports.specs.Roles.{is_holdable_at, left_with}
+use Rattle.cqs_reports.specs.Turns.{give_told, down_told, is_due, end_of, places_held}
+use Rattle.cqs_reports.proofs.Readied.{held-kind, holdable-same}
 use Rattle.cqs_laws.specs.Stories.{TellsOf, Stage, AtStep, InWait, Closing, Over, GoesOn, CountsAs, lasts}
 use Rattle.cqs_laws.specs.Stories as story
 

@@ -19,17 +19,17 @@ use Rattle.cqs_core.specs.Keyed.{without}
 use Rattle.cqs_plan.specs.declared.plans.kind.Kind.TheVariants as kind
 use Rattle.cqs_plan.specs.FloorCalls.{take_answer, give_answer, down_answer, wait_answer, arrive_answer, look_answer, leave_answer, after_give, after_look}
 use Rattle.cqs_plan.specs.Runnable.{AreMakeable, kinds_of}
-use Rattle.cqs_turns.specs.declared.lines.Told.{Told}
-use Rattle.cqs_turns.specs.declared.lines.Told.TheVariants as told
-use Rattle.cqs_turns.specs.declared.states.End.{End}
-use Rattle.cqs_turns.specs.declared.states.End.TheVariants as end
-use Rattle.cqs_turns.specs.declared.states.Progress.{Progress}
-use Rattle.cqs_turns.specs.declared.states.Progress.TheVariants.{Stepping, Working, Waiting, Ended}
-use Rattle.cqs_turns.specs.Ready.{IsReady, wait_in, steps_left, is_held, held_next, with_place}
-use Rattle.cqs_turns.specs.Roles.{wait_at, is_holdable_at, left_with}
-use Rattle.cqs_turns.specs.Turns.{Role, Scene, Acted, event, take_told, give_told, leave_told, down_told, wait_told, arrive_told, on_take, on_give, on_down, on_wait, on_arrive, on_leave, after_gives, after_coming, stop_or, after_steps, after_last_step, after_giving_up, after_looking, after_acting, is_due, end_of, places_held, left_at, go_on}
-use Rattle.cqs_turns.proofs.Readied.{first-given, first-ready, leave-held, leave-ready, look-held, after_looking-ready, can-give, on_arrive-held, on_down-held, on_give-left, on_wait-held}
-use Rattle.cqs_turns.proofs.Stepping.{after_step-ready}
+use Rattle.cqs_reports.specs.declared.lines.Told.{Told}
+use Rattle.cqs_reports.specs.declared.lines.Told.TheVariants as told
+use Rattle.cqs_reports.specs.declared.states.End.{End}
+use Rattle.cqs_reports.specs.declared.states.End.TheVariants as end
+use Rattle.cqs_reports.specs.declared.states.Progress.{Progress}
+use Rattle.cqs_reports.specs.declared.states.Progress.TheVariants.{Stepping, Working, Waiting, Ended}
+use Rattle.cqs_reports.specs.Ready.{IsReady, wait_in, steps_left, is_held, held_next, with_place}
+use Rattle.cqs_reports.specs.Roles.{wait_at, is_holdable_at, left_with}
+use Rattle.cqs_reports.specs.Turns.{Role, Scene, Acted, event, take_told, give_told, leave_told, down_told, wait_told, arrive_told, on_take, on_give, on_down, on_wait, on_arrive, on_leave, after_gives, after_coming, stop_or, after_steps, after_last_step, after_giving_up, after_looking, after_acting, is_due, end_of, places_held, left_at, go_on}
+use Rattle.cqs_reports.proofs.Readied.{first-given, first-ready, leave-held, leave-ready, look-held, after_looking-ready, can-give, on_arrive-held, on_down-held, on_give-left, on_wait-held}
+use Rattle.cqs_reports.proofs.Stepping.{after_step-ready}
 use Rattle.cqs_laws.specs.Events.{Line}
 use Rattle.cqs_laws.specs.Stories.{TellsOf, Stage, AtStep, InWait, Closing, Over, Story, lasts, AreInOrder, own_lines}
 use Rattle.cqs_laws.specs.Stories as story

@@ -19,11 +19,11 @@ use Rattle.cqs_plan.specs.declared.floors.answers.FloorLeave.TheVariants as leav
 use Rattle.cqs_plan.specs.FloorHistory.{History, of_permits, of_rounds, Deed, Standing, takes, joins, frees, sends, gets, leaves, is_late, passes, counts, opens, is_open, completes, no_history, standing_in}
 use Rattle.cqs_plan.specs.Floor.{PlainFloor, JobWait, Holding, IsHoldable, IsLatch, HasRound, came_to, first_free_at, history_at, holds_of, is_holdable, oldest, opening_floor, round_of, size_at, standing_at, stands_in, wait_of, with_done_in, with_newest, with_wait}
 use Rattle.cqs_plan.specs.FloorCalls.{is_in_line, give_of, after_look, with_granted, with_left, down_answer, look_answer, leave_answer}
-use Rattle.cqs_turns.specs.declared.lines.Told.{Told}
-use Rattle.cqs_turns.specs.declared.lines.Told.TheVariants as told
-use Rattle.cqs_turns.specs.Lines.{is_pool, is_pool_at, line_text}
-use Rattle.cqs_turns.specs.Roles.{wait_at}
-use Rattle.cqs_turns.specs.Turns.{Role, Scene, event, take_told, give_told, leave_told, down_told, wait_told, arrive_told, on_take, on_give_answer, on_down_answer, on_wait, on_arrive, on_leave, opening_machine}
+use Rattle.cqs_reports.specs.declared.lines.Told.{Told}
+use Rattle.cqs_reports.specs.declared.lines.Told.TheVariants as told
+use Rattle.cqs_reports.specs.Lines.{is_pool, is_pool_at, line_text}
+use Rattle.cqs_reports.specs.Roles.{wait_at}
+use Rattle.cqs_reports.specs.Turns.{Role, Scene, event, take_told, give_told, leave_told, down_told, wait_told, arrive_told, on_take, on_give_answer, on_down_answer, on_wait, on_arrive, on_leave, opening_machine}
 use Rattle.cqs_laws.specs.Events.{Line, name_of, lines_text, draws_at, drawn_at, WasSent, MayTell}
 use Rattle.cqs_laws.proofs.Deeds.{HasPart, HasSeats, IsElse, IsOfKind, JoinsNext, came-sent, draws, held-part, is_of_pool, latch-part, line-joins, next-after, round-part, standing-away}
 use Rattle.cqs_laws.proofs.Lifting.{IsActor, HasWait, IsToldByEvents, line_of}

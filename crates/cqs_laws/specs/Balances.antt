@@ -9,7 +9,7 @@ use Rattle.cqs_plan.specs.declared.plans.resource.Resource.{Resource}
 use Rattle.cqs_plan.specs.Floor.{stands_in, to_come_at}
 use Rattle.cqs_plan.specs.FloorCalls.{end_answer}
 use Rattle.cqs_plan.specs.Runnable.{IsRunnable}
-use Rattle.cqs_turns.specs.Turns.{machine_after}
+use Rattle.cqs_reports.specs.Turns.{machine_after}
 
 -- free and held permits or elements are all that there are, and nobody waits in line while one
 -- is free

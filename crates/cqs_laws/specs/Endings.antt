@@ -11,14 +11,14 @@ use Rattle.cqs_plan.specs.declared.plans.step.Step.TheVariants.{Take, Give, Down
 use Rattle.cqs_plan.specs.Floor.{wait_of, holds_of}
 use Rattle.cqs_plan.specs.FloorCalls.{is_in_line}
 use Rattle.cqs_plan.specs.Runnable.{IsRunnable}
-use Rattle.cqs_turns.specs.declared.lines.Told.{Told}
-use Rattle.cqs_turns.specs.declared.lines.Told.TheVariants as told
-use Rattle.cqs_turns.specs.declared.states.End.{End}
-use Rattle.cqs_turns.specs.declared.states.End.TheVariants.{Done, GaveUp, Late}
-use Rattle.cqs_turns.specs.declared.states.Progress.{Progress}
-use Rattle.cqs_turns.specs.declared.states.Progress.TheVariants.{Waiting, Ended}
-use Rattle.cqs_turns.specs.Roles.{wait_at}
-use Rattle.cqs_turns.specs.Turns.{machine_after}
+use Rattle.cqs_reports.specs.declared.lines.Told.{Told}
+use Rattle.cqs_reports.specs.declared.lines.Told.TheVariants as told
+use Rattle.cqs_reports.specs.declared.states.End.{End}
+use Rattle.cqs_reports.specs.declared.states.End.TheVariants.{Done, GaveUp, Late}
+use Rattle.cqs_reports.specs.declared.states.Progress.{Progress}
+use Rattle.cqs_reports.specs.declared.states.Progress.TheVariants.{Waiting, Ended}
+use Rattle.cqs_reports.specs.Roles.{wait_at}
+use Rattle.cqs_reports.specs.Turns.{machine_after}
 use Rattle.cqs_laws.specs.Events.{Line, AreLines}
 use Rattle.cqs_laws.specs.Stories.{own_lines}
 

@@ -5,10 +5,10 @@ use Rattle.cqs_core.specs.Numbered.{IsIn}
 use Rattle.cqs_plan.specs.declared.plans.plan.Plan.{Plan}
 use Rattle.cqs_plan.specs.declared.plans.resource.Resource.{Resource}
 use Rattle.cqs_plan.specs.Runnable.{IsRunnable}
-use Rattle.cqs_turns.specs.declared.lines.Told.{Told}
-use Rattle.cqs_turns.specs.declared.lines.Told.TheVariants as told
-use Rattle.cqs_turns.specs.Lines.{is_pool_at, line_text}
-use Rattle.cqs_turns.specs.Turns.{machine_after}
+use Rattle.cqs_reports.specs.declared.lines.Told.{Told}
+use Rattle.cqs_reports.specs.declared.lines.Told.TheVariants as told
+use Rattle.cqs_reports.specs.Lines.{is_pool_at, line_text}
+use Rattle.cqs_reports.specs.Turns.{machine_after}
 
 -- what a job did in a turn
 pub record Line : Type 0 where

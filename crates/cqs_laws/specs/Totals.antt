@@ -1,9 +1,9 @@
 -- The totals of a report.
 use Rattle.std.specs.Prelude.{◌≡◌, ℕ, ◌+◌, List, length, count_by}
 use Rattle.cqs_plan.specs.declared.plans.plan.Plan.{Plan}
-use Rattle.cqs_turns.specs.declared.states.Progress.{Progress}
-use Rattle.cqs_turns.specs.Lines.{is_done, has_given_up, is_late, is_unfinished}
-use Rattle.cqs_turns.specs.Turns.{machine_after}
+use Rattle.cqs_reports.specs.declared.states.Progress.{Progress}
+use Rattle.cqs_reports.specs.Lines.{is_done, has_given_up, is_late, is_unfinished}
+use Rattle.cqs_reports.specs.Turns.{machine_after}
 
 -- the sum of the four totals
 abbrev pub total_of : List Progress → ℕ

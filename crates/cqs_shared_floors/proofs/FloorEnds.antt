@@ -6,7 +6,7 @@ use Rattle.cqs_core.proofs.Counts.{bit}
 use Rattle.cqs_plan.specs.declared.floors.answers.FloorEnd.{FloorEnd}
 use Rattle.cqs_plan.specs.Floor.{Holding, size_of}
 use Rattle.cqs_plan.specs.FloorHistory.{ending, of_permits}
-use Rattle.cqs_turns.proofs.KindsThere.{some-there}
+use Rattle.cqs_reports.proofs.KindsThere.{some-there}
 use Rattle.cqs_shared.specs.Calls.{HaveAllMet, IsAtRest, end_answer}
 use Rattle.cqs_shared_floors.specs.declared.floors.spots.FloorWait.{FloorWait}
 use Rattle.cqs_shared_floors.specs.declared.floors.spots.Spot.{Spot}

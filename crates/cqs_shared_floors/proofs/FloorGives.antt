@@ -3,7 +3,7 @@ use Rattle.std.proofs.Common.{◌≡◌, ℕ, ◌<◌, IsTrue, [], Some, length,
 use Rattle.std.specs.List.{list_any}
 use Rattle.cqs_plan.specs.declared.floors.answers.FloorDown.{FloorDown}
 use Rattle.cqs_plan.specs.Floor.{IsHoldable, IsHolding, IsJob, IsLatch, oldest}
-use Rattle.cqs_turns.proofs.KindsThere.{holdable-there, latch-there}
+use Rattle.cqs_reports.proofs.KindsThere.{holdable-there, latch-there}
 use Rattle.cqs_shared.specs.declared.shared.SharedGive.{SharedGive}
 use Rattle.cqs_shared.specs.AnswerEntries.{down_entries, give_entries}
 use Rattle.cqs_shared.specs.Calls as floor

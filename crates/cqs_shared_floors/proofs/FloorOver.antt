@@ -10,7 +10,7 @@ use Rattle.cqs_core.proofs.Places.{get-below, get-set_here, get-set_else}
 use Rattle.cqs_plan.specs.declared.plans.kind.Kind.{Kind}
 use Rattle.cqs_plan.specs.Floor.{PlainFloor, wait_of, with_came as with_came_plain, with_newest}
 use Rattle.cqs_plan.specs.Language.{can_hold}
-use Rattle.cqs_turns.proofs.StepCounts.{bit-other, bit-same}
+use Rattle.cqs_reports.proofs.StepCounts.{bit-other, bit-same}
 use Rattle.cqs_shared_floors.specs.declared.floors.holdings.JobHolding.{JobHolding}
 use Rattle.cqs_shared_floors.specs.declared.floors.spots.FloorWait.{FloorWait}
 use Rattle.cqs_shared_floors.specs.declared.floors.spots.Spot.{Spot}

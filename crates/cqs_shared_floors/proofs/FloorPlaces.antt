@@ -5,7 +5,7 @@ use Rattle.std.proofs.lemmas.List.{length-map}
 use Rattle.cqs_core.proofs.Places.{get-below, get-there}
 use Rattle.cqs_plan.specs.declared.plans.kind.Kind.{Kind}
 use Rattle.cqs_plan.specs.Floor.{IsIdle, IsJob}
-use Rattle.cqs_turns.proofs.KindsThere.{IsThere}
+use Rattle.cqs_reports.proofs.KindsThere.{IsThere}
 use Rattle.cqs_shared.specs.Shared.{Shared}
 use Rattle.cqs_shared_floors.specs.declared.floors.spots.FloorWait.{FloorWait}
 use Rattle.cqs_shared_floors.specs.declared.floors.spots.Spot.{Spot}

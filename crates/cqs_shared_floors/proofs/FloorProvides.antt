@@ -17,9 +17,9 @@ use Rattle.cqs_plan.specs.Arriving.{arrives, rounds_of}
 use Rattle.cqs_plan.specs.Floor.{HasRound, PlainFloor, round_of}
 use Rattle.cqs_plan.specs.PlanSteps.{is_arrival, may_wait}
 use Rattle.cqs_plan.specs.Runnable.{AreMakeable}
-use Rattle.cqs_turns.specs.declared.states.End.TheVariants as end
-use Rattle.cqs_turns.specs.declared.states.Progress.{Progress}
-use Rattle.cqs_turns.specs.declared.states.Progress.TheVariants.{Stepping, Ended}
+use Rattle.cqs_reports.specs.declared.states.End.TheVariants as end
+use Rattle.cqs_reports.specs.declared.states.Progress.{Progress}
+use Rattle.cqs_reports.specs.declared.states.Progress.TheVariants.{Stepping, Ended}
 use Rattle.cqs_work.specs.Needs.{comes_to, sum_of_needs, parties_for, parties_needed, room_needed}
 use Rattle.cqs_work.specs.Opening.{starting}
 use Rattle.cqs_shared_floors.specs.Openings.{arrives_from, arriving_from, room_of}

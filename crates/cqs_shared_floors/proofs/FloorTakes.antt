@@ -11,8 +11,8 @@ use Rattle.cqs_plan.specs.declared.plans.kind.Kind.{Kind}
 use Rattle.cqs_plan.specs.declared.plans.kind.Kind.TheVariants as kind
 use Rattle.cqs_plan.specs.Floor.{HasRound, Holding, IsHoldable, IsIdle, IsJob, IsLatch, JobWait, PlainFloor, room_at}
 use Rattle.cqs_plan.specs.Validity.{IsKind}
-use Rattle.cqs_turns.proofs.KindsThere.{barrier-there, holdable-there, latch-there}
-use Rattle.cqs_turns.proofs.StepCounts.{bit-same}
+use Rattle.cqs_reports.proofs.KindsThere.{barrier-there, holdable-there, latch-there}
+use Rattle.cqs_reports.proofs.StepCounts.{bit-same}
 use Rattle.cqs_shared.specs.declared.shared.Turned.{Turned}
 use Rattle.cqs_shared.specs.Calls as floor
 use Rattle.cqs_shared.specs.Calls.{answer_of, board_arrived, board_taken, board_waited, parties_arrived}

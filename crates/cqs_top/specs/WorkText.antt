@@ -8,7 +8,7 @@ use Rattle.cqs_plan.specs.declared.plans.plan.Plan.{Plan}
 use Rattle.cqs_plan.specs.declared.plans.resource.Resource.{Resource}
 use Rattle.cqs_shared.specs.Calls.{end_answer}
 use Rattle.cqs_shared.specs.Shared.{Shared}
-use Rattle.cqs_turns.specs.Lines.{end_text, name_at}
+use Rattle.cqs_reports.specs.Lines.{end_text, name_at}
 use Rattle.cqs_work.specs.declared.ends.JobEnd.{JobEnd}
 use Rattle.cqs_work.specs.declared.ends.JobEnd.TheVariants.{Done, GaveUp, Late, Crowded, Unfinished}
 use Rattle.cqs_work.specs.Ends.{is_done, has_given_up, is_late, is_crowded, is_unfinished}

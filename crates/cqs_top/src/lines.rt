@@ -1,7 +1,7 @@
 //! The lines of the text of `work`, byte by byte.
 
 ghost use Rattle.std.specs.Prelude.{◌≡◌, ◌++◌, ◌≤◌, OnOk, decimal, length};
-ghost use Rattle.cqs_turns.specs.Lines.{name_at};
+ghost use Rattle.cqs_reports.specs.Lines.{name_at};
 ghost use Rattle.cqs_top.specs.WorkText.{end_word, job_text, name_of_job, total_text, wait_text};
 
 use cqs_core::Memory;

@@ -1,10 +1,1 @@
-pub mod Lines
-pub mod Counted
-pub mod Machine
-pub mod Turns
-pub mod Report
-pub mod Ready
-pub mod Roles
 pub mod States
-pub mod Running
-pub mod Coming

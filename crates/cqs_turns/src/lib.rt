@@ -5,16 +5,9 @@
 //! resource and the totals.
 #![tactic(auto)]
 
-mod actors;
 mod acts;
-mod lines;
-mod reports;
 mod runs;
-mod states;
-mod texts;
 mod turns;
 
-pub use actors::Actor;
-pub use reports::Report;
+pub use cqs_reports::{Actor, End, JobState, Progress, Report};
 pub use runs::{run_plan, summarize_plan};
-pub use states::{End, JobState, Progress};

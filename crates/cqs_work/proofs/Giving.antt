@@ -3,12 +3,12 @@ use Rattle.std.proofs.Common.{◌≡◌, ℕ, ◌+◌, ◌<◌, List, [], ◌∷
 use Rattle.std.proofs.lemmas.List.{drop_more, drop_all}
 use Rattle.cqs_plan.specs.declared.floors.answers.FloorGive.TheVariants.{Free}
 use Rattle.cqs_plan.specs.Floor.{IsHolding, IsHoldable, holds_of}
-use Rattle.cqs_turns.specs.declared.actors.Actor.{Actor}
-use Rattle.cqs_turns.specs.Ready.{is_held, AreHoldable}
-use Rattle.cqs_turns.specs.Roles.{role}
-use Rattle.cqs_turns.specs.Turns.{places_held}
-use Rattle.cqs_turns.proofs.Held.{oldest-there}
-use Rattle.cqs_turns.proofs.Readied.{first-given, first-ready}
+use Rattle.cqs_reports.specs.declared.actors.Actor.{Actor}
+use Rattle.cqs_reports.specs.Ready.{is_held, AreHoldable}
+use Rattle.cqs_reports.specs.Roles.{role}
+use Rattle.cqs_reports.specs.Turns.{places_held}
+use Rattle.cqs_reports.proofs.Held.{oldest-there}
+use Rattle.cqs_reports.proofs.Readied.{first-given, first-ready}
 use Rattle.cqs_shared.specs.declared.shared.SharedGive.{SharedGive}
 use Rattle.cqs_shared.specs.Shared.{kind_at}
 use Rattle.cqs_shared.specs.Calls.{Gives}

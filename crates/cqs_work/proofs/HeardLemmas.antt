@@ -20,7 +20,7 @@ use Rattle.cqs_plan.specs.declared.floors.answers.FloorLeave.TheVariants.{Gone, 
 use Rattle.cqs_plan.specs.declared.floors.answers.FloorDown.{FloorDown}
 use Rattle.cqs_plan.specs.Floor.{PlainFloor, JobWait}
 use Rattle.cqs_plan.specs.FloorHistory.{History, of_permits, of_elements, of_latch, of_rounds, entries_in}
-use Rattle.cqs_turns.specs.Machine.{Role}
+use Rattle.cqs_reports.specs.Machine.{Role}
 use Rattle.cqs_shared.specs.declared.shared.SharedGive.{SharedGive}
 use Rattle.cqs_shared.specs.Entries.{Entries, at_permits, at_elements, at_latch, in_round, with_entries, own_entries, own_history}
 use Rattle.cqs_shared.specs.Shared.{Shared, Sees, seen_at, kind_at, came_of}

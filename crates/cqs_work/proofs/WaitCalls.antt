@@ -9,13 +9,13 @@ use Rattle.cqs_plan.specs.declared.plans.kind.Kind.{Kind}
 use Rattle.cqs_plan.specs.declared.plans.kind.Kind.TheVariants as kind
 use Rattle.cqs_plan.specs.FloorCalls.{after_look, after_leave}
 use Rattle.cqs_plan.specs.Floor.{PlainFloor, JobWait, round_of}
-use Rattle.cqs_turns.specs.declared.actors.Actor.{Actor}
-use Rattle.cqs_turns.specs.declared.states.End.{End}
-use Rattle.cqs_turns.specs.declared.states.Progress.{Progress}
-use Rattle.cqs_turns.specs.declared.states.Progress.TheVariants.{Stepping, Waiting}
-use Rattle.cqs_turns.specs.Machine.{end_of}
-use Rattle.cqs_turns.specs.Roles.{role, wait_at}
-use Rattle.cqs_turns.proofs.Readied.{after_looking-ready, leave-ready}
+use Rattle.cqs_reports.specs.declared.actors.Actor.{Actor}
+use Rattle.cqs_reports.specs.declared.states.End.{End}
+use Rattle.cqs_reports.specs.declared.states.Progress.{Progress}
+use Rattle.cqs_reports.specs.declared.states.Progress.TheVariants.{Stepping, Waiting}
+use Rattle.cqs_reports.specs.Machine.{end_of}
+use Rattle.cqs_reports.specs.Roles.{role, wait_at}
+use Rattle.cqs_reports.proofs.Readied.{after_looking-ready, leave-ready}
 use Rattle.cqs_shared.specs.Shared.{Shared, kind_at, seen_at, came_of, parties_in}
 use Rattle.cqs_shared.specs.Calls.{HasLooked, HasLeft, Leaves, Looks, parties_left, parties_left_at}
 use Rattle.cqs_work.specs.Desk.{Desk}

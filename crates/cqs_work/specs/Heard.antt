@@ -13,8 +13,8 @@ use Rattle.cqs_plan.specs.declared.floors.answers.FloorDown.TheVariants.{Already
 use Rattle.cqs_plan.specs.Floor.{PlainFloor, round_of}
 use Rattle.cqs_plan.specs.FloorCalls.{after_look, after_leave}
 use Rattle.cqs_plan.specs.FloorHistory.{History, of_permits}
-use Rattle.cqs_turns.specs.Machine.{World, Role}
-use Rattle.cqs_turns.specs.Turns.{places_held}
+use Rattle.cqs_reports.specs.Machine.{World, Role}
+use Rattle.cqs_reports.specs.Turns.{places_held}
 use Rattle.cqs_shared.specs.declared.shared.SharedGive.{SharedGive}
 use Rattle.cqs_shared.specs.declared.shared.SharedGive.TheVariants as shared
 use Rattle.cqs_shared.specs.Entries.{Entries, with_entries, own_history}

@@ -1,6 +1,6 @@
 use Rattle.std.proofs.Common.{◌<◌, length, arith}
 use Rattle.cqs_core.proofs.CoreSteps.{gains-sum}
-use Rattle.cqs_turns.proofs.StepCounts.{counted-else, counted-step}
+use Rattle.cqs_reports.proofs.StepCounts.{counted-else, counted-step}
 use Rattle.cqs_floors.proofs.Counting.{within-at}
 use Rattle.cqs_floors.proofs.opening.count_steps.Goals as goal
 use Rattle.cqs_floors.proofs.opening.count_steps.Goals.{in-Give, in-Give-2, in-Give-3, in-Take2}

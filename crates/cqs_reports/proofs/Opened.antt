@@ -19,12 +19,12 @@ use Rattle.cqs_plan.specs.PlanSteps.{is_take, is_give, is_arrival, may_wait}
 use Rattle.cqs_plan.specs.Holding.{TookMore}
 use Rattle.cqs_plan.specs.Floor.{PlainFloor, JobWait, Holding, IsHoldable, IsLatch, HasRound, history_at, opening_floor, own_rounds, room_for, room_at, size_at, size_of, to_come_at}
 use Rattle.cqs_plan.specs.Runnable.{IsRunnable, IsMakeable, AreMakeable, kinds_of, round_after}
-use Rattle.cqs_turns.specs.declared.states.Progress.{Progress}
-use Rattle.cqs_turns.specs.declared.states.Progress.TheVariants.{Stepping}
-use Rattle.cqs_turns.specs.Ready.{CanMake, is_held, IsReady, wait_in, steps_left}
-use Rattle.cqs_turns.specs.Running.{HasParties, IsInRounds, IsRunning, count_arrived, waits_left}
-use Rattle.cqs_turns.proofs.Moved.{has-place}
-use Rattle.cqs_turns.specs.Turns.{opening_machine, places_held}
+use Rattle.cqs_reports.specs.declared.states.Progress.{Progress}
+use Rattle.cqs_reports.specs.declared.states.Progress.TheVariants.{Stepping}
+use Rattle.cqs_reports.specs.Ready.{CanMake, is_held, IsReady, wait_in, steps_left}
+use Rattle.cqs_reports.specs.Running.{HasParties, IsInRounds, IsRunning, count_arrived, waits_left}
+use Rattle.cqs_reports.proofs.Moved.{has-place}
+use Rattle.cqs_reports.specs.Turns.{opening_machine, places_held}
 
 -- 1 for what passes a test
 abbrev one : Bool → ℕ

@@ -15,14 +15,14 @@ use Rattle.cqs_plan.specs.declared.plans.job.Job.{Job}
 use Rattle.cqs_plan.specs.declared.plans.plan.Plan.{Plan}
 use Rattle.cqs_plan.specs.Floor.{PlainFloor, round_of}
 use Rattle.cqs_plan.specs.FloorCalls.{take_answer, wait_answer, arrive_answer, look_answer, leave_answer, after_look}
-use Rattle.cqs_turns.specs.declared.lines.Told.{Told}
-use Rattle.cqs_turns.specs.declared.lines.Told.TheVariants as told
-use Rattle.cqs_turns.specs.declared.states.End.TheVariants as end
-use Rattle.cqs_turns.specs.declared.states.Progress.{Progress}
-use Rattle.cqs_turns.specs.declared.states.Progress.TheVariants.{Stepping, Working, Waiting, Ended}
-use Rattle.cqs_turns.specs.Coming.{ComesTo, LeavesAt}
+use Rattle.cqs_reports.specs.declared.lines.Told.{Told}
+use Rattle.cqs_reports.specs.declared.lines.Told.TheVariants as told
+use Rattle.cqs_reports.specs.declared.states.End.TheVariants as end
+use Rattle.cqs_reports.specs.declared.states.Progress.{Progress}
+use Rattle.cqs_reports.specs.declared.states.Progress.TheVariants.{Stepping, Working, Waiting, Ended}
+use Rattle.cqs_reports.specs.Coming.{ComesTo, LeavesAt}
 use Rattle.cqs_core.specs.Parts.{IsPrefix}
-use Rattle.cqs_turns.specs.Turns.{Role, Scene, Acted, Made, event, on_give, after_gives, after_all_gives, after_last_step, after_step, after_coming, on_take, on_wait, on_arrive, stop_or, after_steps, go_on, on_leave, after_giving_up, after_looking, after_acting, left_at, is_due, one_job, each_job, one_turn, machine_after, Machine, places_held}
+use Rattle.cqs_reports.specs.Turns.{Role, Scene, Acted, Made, event, on_give, after_gives, after_all_gives, after_last_step, after_step, after_coming, on_take, on_wait, on_arrive, stop_or, after_steps, go_on, on_leave, after_giving_up, after_looking, after_acting, left_at, is_due, one_job, each_job, one_turn, machine_after, Machine, places_held}
 
 -- a clause on an error, from its fact
 pub on-err : {T E P : Type 0} (r : Result T E) → P → OnErr r P

@@ -1,5 +1,5 @@
 -- The turn machine on the plain floor, where each event has its line in the report.
-pub use Rattle.cqs_turns.specs.Machine.{Role, is_due, end_of, left_at, stop_or}
+pub use Rattle.cqs_reports.specs.Machine.{Role, is_due, end_of, left_at, stop_or}
 use Rattle.std.specs.Prelude.{ℕ, List, [], ◌++◌, Option, Some, None, map}
 use Rattle.cqs_plan.specs.declared.plans.resource.Resource.{Resource}
 use Rattle.cqs_plan.specs.declared.plans.step.Step.{Step}
@@ -17,12 +17,12 @@ use Rattle.cqs_plan.specs.declared.floors.answers.FloorDown.{FloorDown}
 use Rattle.cqs_plan.specs.declared.floors.answers.FloorDown.TheVariants.{Left, Last, Already}
 use Rattle.cqs_plan.specs.Floor.{PlainFloor, holds_of, round_of, opening_floor}
 use Rattle.cqs_plan.specs.FloorCalls.{take_answer, after_take, give_answer, after_give, look_answer, after_look, leave_answer, after_leave, down_answer, after_down, wait_answer, after_wait, arrive_answer, after_arrive}
-use Rattle.cqs_turns.specs.declared.lines.Told.{Told}
-use Rattle.cqs_turns.specs.declared.lines.Told.TheVariants as told
-use Rattle.cqs_turns.specs.declared.states.Progress.{Progress}
-use Rattle.cqs_turns.specs.Lines.{line_text}
-use Rattle.cqs_turns.specs.Machine.{World, ActedIn, MadeIn, MachineIn}
-use Rattle.cqs_turns.specs.Machine as machine
+use Rattle.cqs_reports.specs.declared.lines.Told.{Told}
+use Rattle.cqs_reports.specs.declared.lines.Told.TheVariants as told
+use Rattle.cqs_reports.specs.declared.states.Progress.{Progress}
+use Rattle.cqs_reports.specs.Lines.{line_text}
+use Rattle.cqs_reports.specs.Machine.{World, ActedIn, MadeIn, MachineIn}
+use Rattle.cqs_reports.specs.Machine as machine
 
 -- what the events of a job change: the floor, and the report so far
 pub record Scene : Type 0 where

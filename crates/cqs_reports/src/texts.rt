@@ -2,8 +2,8 @@
 
 ghost use Rattle.std.specs.Prelude.{◌≡◌, ◌++◌, OnOk, count_by, map, decimal};
 ghost use Rattle.cqs_plan.specs.Language.{is_barrier};
-ghost use Rattle.cqs_turns.specs.Lines.{name_at, is_pool, is_pool_at, is_barrier_at, place_text, wait_text, element_text, told_text, line_text, end_words, end_text, total_text};
-ghost use Rattle.cqs_turns.specs.Counted.{is_counted};
+ghost use Rattle.cqs_reports.specs.Lines.{name_at, is_pool, is_pool_at, is_barrier_at, place_text, wait_text, element_text, told_text, line_text, end_words, end_text, total_text};
+ghost use Rattle.cqs_reports.specs.Counted.{is_counted};
 
 use crate::lines::Told;
 use crate::states::{JobState, Progress};

@@ -18,12 +18,12 @@ use Rattle.cqs_plan.specs.declared.plans.kind.Kind.{Kind}
 use Rattle.cqs_plan.specs.declared.plans.kind.Kind.TheVariants.{Semaphore, Mutex, Pool, Latch, Rounds}
 use Rattle.cqs_plan.specs.FloorCalls.{take_answer, after_take, give_answer, after_give, down_answer, after_down, wait_answer, after_wait, arrive_answer, after_arrive}
 use Rattle.cqs_core.specs.Parts.{IsPrefix}
-use Rattle.cqs_turns.specs.Ready.{IsReady, HasRoom, wait_in}
-use Rattle.cqs_turns.specs.Roles.{made_of}
-use Rattle.cqs_turns.specs.Turns.{Role, Scene, Made, after_step, after_coming, after_taking, after_waiting, after_arriving, on_take, on_wait, on_arrive, stop_or, after_steps}
-use Rattle.cqs_turns.proofs.Growth.{prefix-through, after_steps-grows, stop_or-grows}
-use Rattle.cqs_turns.proofs.Moved.{Moves, moves-fewer, moves-on, on_take-moves, on_give-moves, on_down-moves, on_wait-moves, on_arrive-moves, waits-cons, arrivals-cons, has-place, arrived-here, arrived-else, room-after}
-use Rattle.cqs_turns.proofs.Readied.{on_take-ready, waiting-ready, on_give-ready, on_down-ready, on_pass-ready, on_wait-ready, on_last-ready, on_arrive-ready}
+use Rattle.cqs_reports.specs.Ready.{IsReady, HasRoom, wait_in}
+use Rattle.cqs_reports.specs.Roles.{made_of}
+use Rattle.cqs_reports.specs.Turns.{Role, Scene, Made, after_step, after_coming, after_taking, after_waiting, after_arriving, on_take, on_wait, on_arrive, stop_or, after_steps}
+use Rattle.cqs_reports.proofs.Growth.{prefix-through, after_steps-grows, stop_or-grows}
+use Rattle.cqs_reports.proofs.Moved.{Moves, moves-fewer, moves-on, on_take-moves, on_give-moves, on_down-moves, on_wait-moves, on_arrive-moves, waits-cons, arrivals-cons, has-place, arrived-here, arrived-else, room-after}
+use Rattle.cqs_reports.proofs.Readied.{on_take-ready, waiting-ready, on_give-ready, on_down-ready, on_pass-ready, on_wait-ready, on_last-ready, on_arrive-ready}
 
 -- a job that made a step is ready for the rest
 pub after_step-ready : (r : Role) (next : ℕ) (step : Step) (rest : List Step) (s : Scene)

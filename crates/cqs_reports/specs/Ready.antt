@@ -12,9 +12,9 @@ use Rattle.cqs_plan.specs.Language.{can_hold}
 use Rattle.cqs_plan.specs.PlanSteps.{is_arrival, may_wait}
 use Rattle.cqs_plan.specs.Floor.{PlainFloor, JobWait, IsJob, IsHoldable, wait_of, room_at, own_rounds, round_of, to_come_at}
 use Rattle.cqs_plan.specs.Runnable.{IsMakeable}
-use Rattle.cqs_turns.specs.declared.states.Progress.{Progress}
-use Rattle.cqs_turns.specs.declared.states.Progress.TheVariants.{Stepping, Working, Waiting, Ended}
-use Rattle.cqs_turns.specs.Turns.{places_held}
+use Rattle.cqs_reports.specs.declared.states.Progress.{Progress}
+use Rattle.cqs_reports.specs.declared.states.Progress.TheVariants.{Stepping, Working, Waiting, Ended}
+use Rattle.cqs_reports.specs.Turns.{places_held}
 
 -- the steps that a job has still to make
 abbrev pub steps_left : List Step → Progress → List Step

@@ -10,11 +10,11 @@ use Rattle.cqs_plan.specs.declared.floors.answers.FloorEnd.TheVariants.{Permits,
 use Rattle.cqs_plan.specs.Floor.{PlainFloor}
 use Rattle.cqs_plan.specs.FloorCalls.{end_answer}
 use Rattle.cqs_plan.specs.Language.{is_barrier}
-use Rattle.cqs_turns.specs.declared.lines.Told.{Told}
-use Rattle.cqs_turns.specs.declared.lines.Told.TheVariants as told
-use Rattle.cqs_turns.specs.declared.states.End.TheVariants.{Done, GaveUp, Late, Crowded}
-use Rattle.cqs_turns.specs.declared.states.Progress.{Progress}
-use Rattle.cqs_turns.specs.declared.states.Progress.TheVariants.{Stepping, Working, Waiting, Ended}
+use Rattle.cqs_reports.specs.declared.lines.Told.{Told}
+use Rattle.cqs_reports.specs.declared.lines.Told.TheVariants as told
+use Rattle.cqs_reports.specs.declared.states.End.TheVariants.{Done, GaveUp, Late, Crowded}
+use Rattle.cqs_reports.specs.declared.states.Progress.{Progress}
+use Rattle.cqs_reports.specs.declared.states.Progress.TheVariants.{Stepping, Working, Waiting, Ended}
 
 -- the name of the resource at a place
 abbrev pub name_at : List Resource → ℕ → List ℕ

@@ -6,12 +6,12 @@ use Rattle.cqs_plan.specs.Floor.{PlainFloor, JobWait}
 use Rattle.cqs_plan.specs.Language.{can_hold}
 use Rattle.cqs_plan.specs.declared.floors.answers.FloorLeave.{FloorLeave}
 use Rattle.cqs_plan.specs.declared.floors.answers.FloorLeave.TheVariants.{Gone, Late}
-use Rattle.cqs_turns.specs.declared.actors.Actor.{Actor}
-use Rattle.cqs_turns.specs.declared.lines.Told.{Told}
-use Rattle.cqs_turns.specs.declared.lines.Told.TheVariants.{Served}
-use Rattle.cqs_turns.specs.declared.states.Progress.{Progress}
-use Rattle.cqs_turns.specs.Ready.{with_place}
-use Rattle.cqs_turns.specs.Turns.{Role, Scene, Made}
+use Rattle.cqs_reports.specs.declared.actors.Actor.{Actor}
+use Rattle.cqs_reports.specs.declared.lines.Told.{Told}
+use Rattle.cqs_reports.specs.declared.lines.Told.TheVariants.{Served}
+use Rattle.cqs_reports.specs.declared.states.Progress.{Progress}
+use Rattle.cqs_reports.specs.Ready.{with_place}
+use Rattle.cqs_reports.specs.Turns.{Role, Scene, Made}
 
 -- who acts, and when
 abbrev pub role : Actor → Role

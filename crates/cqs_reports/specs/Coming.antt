@@ -2,10 +2,10 @@
 -- report is a prefix of the text that it would have come to.
 use Rattle.std.specs.Prelude.{◌≡◌, ℕ, List, Option, Some, None, Result, OnOk, OnErr, IfOk}
 use Rattle.cqs_core.specs.declared.shortage.Memory.{Memory}
-use Rattle.cqs_turns.specs.declared.states.Progress.{Progress}
+use Rattle.cqs_reports.specs.declared.states.Progress.{Progress}
 use Rattle.cqs_core.specs.Parts.{IsPrefix}
-use Rattle.cqs_turns.specs.Roles.{made_of}
-use Rattle.cqs_turns.specs.Turns.{Scene, Acted, Made, left_at}
+use Rattle.cqs_reports.specs.Roles.{made_of}
+use Rattle.cqs_reports.specs.Turns.{Scene, Acted, Made, left_at}
 
 -- it comes to this
 pub record ComesTo {A B : Type 0} (text_of : B → List ℕ) (result : Result A Memory)

@@ -1,5 +1,5 @@
 use Rattle.std.proofs.Common.{append_assoc}
-use Rattle.cqs_turns.proofs.texts.push_total.Goals as goal
+use Rattle.cqs_reports.proofs.texts.push_total.Goals as goal
 
 pub returns : goal.returns
 returns c =

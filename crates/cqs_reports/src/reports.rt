@@ -1,7 +1,7 @@
 //! The report of a plan, as it grows.
 
 ghost use Rattle.std.specs.Prelude.{◌≡◌, [], ◌++◌, map, OnOk, OnErr};
-ghost use Rattle.cqs_turns.specs.Lines.{line_text, end_text, total_text};
+ghost use Rattle.cqs_reports.specs.Lines.{line_text, end_text, total_text};
 
 use crate::lines::Told;
 use crate::states::JobState;

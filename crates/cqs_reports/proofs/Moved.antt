@@ -22,9 +22,9 @@ use Rattle.cqs_plan.specs.PlanSteps.{is_arrival, may_wait}
 use Rattle.cqs_plan.specs.Floor.{PlainFloor, JobWait, Holding, IsJob, IsHoldable, IsLatch, HasRound, wait_of, holds_of, own_rounds, round_of, room_at, to_come_at, size_at, history_at, stands_in, is_holdable, with_done_in, with_less_room, with_wait, with_newest, with_came, with_arrived, without_oldest}
 use Rattle.cqs_plan.specs.FloorHistory.{with_deed_in, Deed, takes, joins, frees, sends, gets, leaves, is_late, passes, counts, opens, is_open, completes}
 use Rattle.cqs_plan.specs.FloorCalls.{after_take, after_give, after_look, after_leave, after_down, after_wait, after_arrive, arrive_answer, with_granted, with_left, with_arrival}
-use Rattle.cqs_turns.specs.Ready.{HasRoom}
-use Rattle.cqs_turns.specs.Running.{count_arrived, HasParties}
-use Rattle.cqs_turns.proofs.ToCome.{CostsOne, IsNoBarrier, KeepsBarriers, done-history, keeps-barriers, keeps-elsewhere, keeps-takes, keeps-frees, keeps-sends, keeps-gets, keeps-late, keeps-leaves, joins-costs, completes-costs}
+use Rattle.cqs_reports.specs.Ready.{HasRoom}
+use Rattle.cqs_reports.specs.Running.{count_arrived, HasParties}
+use Rattle.cqs_reports.proofs.ToCome.{CostsOne, IsNoBarrier, KeepsBarriers, done-history, keeps-barriers, keeps-elsewhere, keeps-takes, keeps-frees, keeps-sends, keeps-gets, keeps-late, keeps-leaves, joins-costs, completes-costs}
 
 -- The job at `place`, which had `steps` to make on the floor f, has `left` to make on the floor g. The other jobs wait,
 -- hold and arrive as before, and the room falls no more than the steps that may wait. To the rounds of barriers to

@@ -2,8 +2,8 @@
 -- The last two are its summary.
 use Rattle.std.specs.Prelude.{ℕ, List, ◌++◌}
 use Rattle.cqs_plan.specs.declared.plans.plan.Plan.{Plan}
-use Rattle.cqs_turns.specs.Lines.{ends_text, total_text}
-use Rattle.cqs_turns.specs.Turns.{Machine, machine_after}
+use Rattle.cqs_reports.specs.Lines.{ends_text, total_text}
+use Rattle.cqs_reports.specs.Turns.{Machine, machine_after}
 
 -- what is told after the last turn: the lines of the resources, then the totals
 abbrev pub summary_after : Plan → Machine → List ℕ

@@ -1,12 +1,12 @@
 //! Who acts, and what each event tells.
 
 ghost use Rattle.std.specs.Prelude.{◌≡◌, ◌≤◌, ◌++◌, length, OnOk, OnErr};
-ghost use Rattle.cqs_turns.specs.Lines.{line_text};
+ghost use Rattle.cqs_reports.specs.Lines.{line_text};
 ghost use Rattle.std.specs.Prelude.{count_by, take};
 ghost use Rattle.cqs_plan.specs.Language.{can_hold};
 ghost use Rattle.cqs_plan.specs.PlanSteps.{is_arrival};
-ghost use Rattle.cqs_turns.specs.Roles.{is_holdable_at};
-ghost use Rattle.cqs_turns.specs.Turns.{take_told, give_told, leave_told, down_told, wait_told, arrive_told, is_due};
+ghost use Rattle.cqs_reports.specs.Roles.{is_holdable_at};
+ghost use Rattle.cqs_reports.specs.Turns.{take_told, give_told, leave_told, down_told, wait_told, arrive_told, is_due};
 
 use crate::lines::Told;
 use crate::reports::Report;

@@ -3,7 +3,7 @@ use Rattle.std.proofs.Common.{◌≡◌, ℕ, suc, ◌+◌, List, [], ◌∷◌,
 use Rattle.std.specs.List.{position_from, remove}
 use Rattle.cqs_core.specs.Keyed.{without}
 use Rattle.cqs_plan.specs.Floor.{Holding, oldest}
-use Rattle.cqs_turns.specs.Ready.{is_held}
+use Rattle.cqs_reports.specs.Ready.{is_held}
 
 -- something is held of a place that stands in the list of places
 oldest-there_by : (at : ℕ) (h : Holding) (holds : List Holding) (b : Bool) → h.at == at ≡ b

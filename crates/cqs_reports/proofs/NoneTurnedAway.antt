@@ -15,11 +15,11 @@ use Rattle.cqs_plan.specs.declared.floors.answers.FloorLeave.{FloorLeave}
 use Rattle.cqs_plan.specs.declared.floors.answers.FloorLeave.TheVariants as leave
 use Rattle.cqs_plan.specs.FloorCalls.{take_answer, wait_answer, arrive_answer, look_answer, leave_answer}
 use Rattle.cqs_plan.specs.Floor.{round_of}
-use Rattle.cqs_turns.specs.declared.states.End.TheVariants as end
-use Rattle.cqs_turns.specs.declared.states.Progress.{Progress}
-use Rattle.cqs_turns.specs.declared.states.Progress.TheVariants.{Stepping, Working, Waiting, Ended}
-use Rattle.cqs_turns.specs.Lines.{is_crowded}
-use Rattle.cqs_turns.specs.Turns.{Role, Scene, Acted, Machine, after_step, after_coming, on_take, on_wait, on_arrive, stop_or, after_steps, go_on, left_at, after_giving_up, after_looking, after_acting, is_due, one_job, each_job, machine_after}
+use Rattle.cqs_reports.specs.declared.states.End.TheVariants as end
+use Rattle.cqs_reports.specs.declared.states.Progress.{Progress}
+use Rattle.cqs_reports.specs.declared.states.Progress.TheVariants.{Stepping, Working, Waiting, Ended}
+use Rattle.cqs_reports.specs.Lines.{is_crowded}
+use Rattle.cqs_reports.specs.Turns.{Role, Scene, Acted, Machine, after_step, after_coming, on_take, on_wait, on_arrive, stop_or, after_steps, go_on, left_at, after_giving_up, after_looking, after_acting, is_due, one_job, each_job, machine_after}
 
 -- a step that may wait is answered
 coming-stays : (r : Role) (next at round : ℕ) (on : FloorTake → Scene → Scene) (answer : FloorTake) (steps : List Step)

@@ -14,16 +14,16 @@ use Rattle.cqs_plan.specs.declared.floors.answers.FloorLeave.{FloorLeave}
 use Rattle.cqs_plan.specs.PlanSteps.{is_arrival}
 use Rattle.cqs_plan.specs.Floor.{PlainFloor, round_of}
 use Rattle.cqs_plan.specs.FloorCalls.{take_answer, give_answer, wait_answer, arrive_answer, look_answer, leave_answer, after_look}
-use Rattle.cqs_turns.specs.declared.lines.Told.TheVariants as told
-use Rattle.cqs_turns.specs.declared.states.Progress.{Progress}
-use Rattle.cqs_turns.specs.declared.states.Progress.TheVariants.{Stepping, Working, Waiting, Ended}
-use Rattle.cqs_turns.specs.Ready.{IsReady, HasRoom, HasRoomFor, wait_in, steps_left}
-use Rattle.cqs_turns.specs.Running.{IsInRounds}
-use Rattle.cqs_turns.specs.Roles.{wait_at}
-use Rattle.cqs_turns.specs.Turns.{Role, Scene, Made, Acted, event, on_give, on_take, on_wait, on_arrive, after_gives, after_step, after_coming, stop_or, after_steps, go_on, left_at, after_last_step, on_leave, after_giving_up, after_looking, after_acting, is_due, places_held}
-use Rattle.cqs_turns.proofs.Moved.{Moves, moves-fewer, moves-none, moves-on, on_give-moves, leave-moves, after_looking-moves, room-after}
-use Rattle.cqs_turns.proofs.Readied.{first-ready, leave-ready, after_looking-ready}
-use Rattle.cqs_turns.proofs.Stepping.{after_step-ready, after_step-moves, step-room}
+use Rattle.cqs_reports.specs.declared.lines.Told.TheVariants as told
+use Rattle.cqs_reports.specs.declared.states.Progress.{Progress}
+use Rattle.cqs_reports.specs.declared.states.Progress.TheVariants.{Stepping, Working, Waiting, Ended}
+use Rattle.cqs_reports.specs.Ready.{IsReady, HasRoom, HasRoomFor, wait_in, steps_left}
+use Rattle.cqs_reports.specs.Running.{IsInRounds}
+use Rattle.cqs_reports.specs.Roles.{wait_at}
+use Rattle.cqs_reports.specs.Turns.{Role, Scene, Made, Acted, event, on_give, on_take, on_wait, on_arrive, after_gives, after_step, after_coming, stop_or, after_steps, go_on, left_at, after_last_step, on_leave, after_giving_up, after_looking, after_acting, is_due, places_held}
+use Rattle.cqs_reports.proofs.Moved.{Moves, moves-fewer, moves-none, moves-on, on_give-moves, leave-moves, after_looking-moves, room-after}
+use Rattle.cqs_reports.proofs.Readied.{first-ready, leave-ready, after_looking-ready}
+use Rattle.cqs_reports.proofs.Stepping.{after_step-ready, after_step-moves, step-room}
 
 -- the job that had these steps left on the floor f is ready, and the floor has moved for it alone
 pub record Turned (r : Role) (f : PlainFloor) (steps : List Step) (a : Acted) : Type 0 where

@@ -18,13 +18,13 @@ use Rattle.cqs_plan.specs.Arriving.{arrives, arriving, has_parties}
 use Rattle.cqs_plan.specs.PlanSteps.{is_arrival, may_wait}
 use Rattle.cqs_plan.specs.Floor.{PlainFloor, JobWait, room_at, round_of}
 use Rattle.cqs_plan.specs.Runnable.{IsRunnable, kinds_of}
-use Rattle.cqs_turns.specs.declared.states.Progress.{Progress}
-use Rattle.cqs_turns.specs.declared.states.Progress.TheVariants.{Stepping, Working, Waiting, Ended}
-use Rattle.cqs_turns.specs.Ready.{IsReady, HasRoom, HasRoomFor, wait_in, steps_left}
-use Rattle.cqs_turns.specs.Running.{IsRunning, IsInRounds, waits_left}
-use Rattle.cqs_turns.specs.Turns.{Role, Acted, Machine, places_held}
-use Rattle.cqs_turns.proofs.Moved.{Moves}
-use Rattle.cqs_turns.proofs.Turned.{Turned}
+use Rattle.cqs_reports.specs.declared.states.Progress.{Progress}
+use Rattle.cqs_reports.specs.declared.states.Progress.TheVariants.{Stepping, Working, Waiting, Ended}
+use Rattle.cqs_reports.specs.Ready.{IsReady, HasRoom, HasRoomFor, wait_in, steps_left}
+use Rattle.cqs_reports.specs.Running.{IsRunning, IsInRounds, waits_left}
+use Rattle.cqs_reports.specs.Turns.{Role, Acted, Machine, places_held}
+use Rattle.cqs_reports.proofs.Moved.{Moves}
+use Rattle.cqs_reports.proofs.Turned.{Turned}
 
 waits-set : (at : ℕ) (jobs : List Job) (progress : List Progress) (place : ℕ) (job : Job) (p q : Progress)
     → slice_get jobs place ≡ Some job → slice_get progress place ≡ Some p

@@ -8,11 +8,11 @@ use Rattle.cqs_plan.specs.declared.plans.step.Step.{Step}
 use Rattle.cqs_plan.specs.PlanSteps.{is_arrival, may_wait}
 use Rattle.cqs_plan.specs.Runnable.{kinds_of}
 use Rattle.cqs_plan.specs.Floor.{PlainFloor, room_at, round_of, to_come_at}
-use Rattle.cqs_turns.specs.declared.states.JobState.{JobState}
-use Rattle.cqs_turns.specs.declared.states.Progress.{Progress}
-use Rattle.cqs_turns.specs.declared.states.Progress.TheVariants.{Stepping, Working, Waiting, Ended}
-use Rattle.cqs_turns.specs.Ready.{IsReady, wait_in, steps_left}
-use Rattle.cqs_turns.specs.Turns.{Machine, one_job, places_held}
+use Rattle.cqs_reports.specs.declared.states.JobState.{JobState}
+use Rattle.cqs_reports.specs.declared.states.Progress.{Progress}
+use Rattle.cqs_reports.specs.declared.states.Progress.TheVariants.{Stepping, Working, Waiting, Ended}
+use Rattle.cqs_reports.specs.Ready.{IsReady, wait_in, steps_left}
+use Rattle.cqs_reports.specs.Turns.{Machine, one_job, places_held}
 
 -- how many takes of a resource, waits or arrivals there the jobs have still to make
 abbrev pub waits_left : ℕ → List Job → List Progress → ℕ

@@ -23,11 +23,11 @@ use Rattle.cqs_plan.specs.FloorHistory.{Deed, gets, is_late, joins, completes}
 use Rattle.cqs_plan.specs.FloorCalls.{after_take, after_give, after_look, after_leave, after_down, after_wait, after_arrive, with_arrival, with_granted, with_left}
 use Rattle.cqs_plan.specs.Language.{can_hold}
 use Rattle.cqs_plan.specs.Runnable.{kinds_of}
-use Rattle.cqs_turns.specs.Ready.{IsReady, is_held, AreHoldable, CanMake, coming, is_holdable_in, rounds_next, with_place}
-use Rattle.cqs_turns.specs.Roles.{is_holdable_at, left_with}
-use Rattle.cqs_turns.specs.Turns.{places_held}
-use Rattle.cqs_turns.proofs.Held.{oldest-there, map-without, without-head}
-use Rattle.cqs_turns.proofs.Moved.{arrived-own}
+use Rattle.cqs_reports.specs.Ready.{IsReady, is_held, AreHoldable, CanMake, coming, is_holdable_in, rounds_next, with_place}
+use Rattle.cqs_reports.specs.Roles.{is_holdable_at, left_with}
+use Rattle.cqs_reports.specs.Turns.{places_held}
+use Rattle.cqs_reports.proofs.Held.{oldest-there, map-without, without-head}
+use Rattle.cqs_reports.proofs.Moved.{arrived-own}
 
 -- which places can be held, by the tests
 pub held-kind : (k : Option Kind) → IsHoldable k → option_map_or can_hold k false ≡ true

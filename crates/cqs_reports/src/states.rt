@@ -1,8 +1,8 @@
 //! How far the jobs are.
 
 ghost use Rattle.std.specs.Prelude.{◌≡◌};
-ghost use Rattle.cqs_turns.specs.Lines.{is_done, has_given_up, is_late, is_unfinished};
-ghost use Rattle.cqs_turns.specs.Machine.{rests};
+ghost use Rattle.cqs_reports.specs.Lines.{is_done, has_given_up, is_late, is_unfinished};
+ghost use Rattle.cqs_reports.specs.Machine.{rests};
 
 /// How a job ended.
 #[derive(Clone, Copy)]

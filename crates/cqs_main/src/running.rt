@@ -6,7 +6,7 @@ ghost use Rattle.cqs_streams.specs.Stream.{Gains, GainsPrefix, GivesAtMost, Give
 ghost use Rattle.cqs_cli.specs.Meanings.{IsStatus, MustEnd, NamedFault};
 ghost use Rattle.cqs_cli.specs.Plans.{IsPlan};
 ghost use Rattle.cqs_cli.specs.Words.{IsSomeGen, usage};
-ghost use Rattle.cqs_shares.specs.AnyShares.{share_any};
+ghost use Rattle.cqs_any_shares.specs.AnyShares.{share_any};
 ghost use Rattle.cqs_shared_floors.specs.Ledgers.{shared_in};
 ghost use Rattle.cqs_top.specs.KeptWorks.{IsNoRun, KeptText};
 ghost use Rattle.cqs_top.specs.Meanings.{BrokeOff, HasTold};

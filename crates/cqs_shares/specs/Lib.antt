@@ -10,8 +10,3 @@ pub mod PoolAccounts
 pub mod HeldElements
 pub mod PoolRuns
 pub mod PoolShares
-pub mod RoundsOne
-pub mod RoundsShares
-pub mod LatchAccounts
-pub mod LatchShares
-pub mod AnyShares

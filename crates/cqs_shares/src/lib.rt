@@ -1,11 +1,10 @@
-//! The resources of a plan that workers share: each kind as a primitive of the running queue, to
-//! which each worker has a pass of its own. A worker's floor works on them all by one trait.
+//! The resources of a plan that workers share: a semaphore, a mutex and a pool, each a primitive of
+//! the running queue, to which each worker has a pass of its own. A worker's floor works on
+//! whichever kind by one trait; the other kinds are in `cqs_any_shares`.
 #![tactic(auto)]
 
 mod kinds;
 mod resource;
 
-pub use kinds::{
-    AnyShared, HeldElement, SharedLatch, SharedPermits, SharedPool, SharedRound, SharedRounds,
-};
+pub use kinds::{HeldElement, SharedPermits, SharedPool};
 pub use resource::{Came, ForEachKind, SharedResource};

@@ -4,7 +4,7 @@ ghost use Rattle.std.specs.Prelude.{◌≡◌, ◌+◌, ◌≤◌, IfOk, OnErr};
 ghost use Rattle.cqs_plan.specs.Runnable.{AreSized, IsRunnable};
 ghost use Rattle.cqs_streams.specs.Stream.{GivesAtMost};
 ghost use Rattle.cqs_cli.specs.Verdicts.{HasTaken};
-ghost use Rattle.cqs_shares.specs.AnyShares.{share_any};
+ghost use Rattle.cqs_any_shares.specs.AnyShares.{share_any};
 ghost use Rattle.cqs_shared_floors.specs.Ledgers.{shared_in};
 ghost use Rattle.cqs_top.specs.KeptWorks.{KeepsWork};
 ghost use Rattle.cqs_top.specs.Verdicts.{IsVerdict, IsVerdictOn};

@@ -7,7 +7,7 @@ ghost use Rattle.cqs_core.specs.Numbered.{EachAt};
 ghost use Rattle.cqs_plan.specs.PlanSteps.{is_arrival, may_wait};
 ghost use Rattle.cqs_plan.specs.Runnable.{AreSized, IsRunnable, kinds_of};
 ghost use Rattle.cqs_work.specs.Opening.{AreSplit, IsOpening};
-ghost use Rattle.cqs_shares.specs.AnyShares.{share_any};
+ghost use Rattle.cqs_any_shares.specs.AnyShares.{share_any};
 ghost use Rattle.cqs_shared_floors.specs.Ledgers.{shared_in};
 ghost use Rattle.cqs_shared_floors.specs.Openings.{
   AreFresh,
@@ -29,9 +29,10 @@ ghost use Rattle.cqs_shared_floors.specs.Spots.{no_spot};
 use super::desk::Desk;
 use super::share_floor::ShareFloor;
 use super::spots::Spot;
+use cqs_any_shares::AnyShared;
 use cqs_core::Memory;
 use cqs_plan::{Job, Kind, Plan, Resource, Step};
-use cqs_shares::{AnyShared, ForEachKind, SharedResource};
+use cqs_shares::{ForEachKind, SharedResource};
 use std::alloc::{AllocError, Global};
 
 /// A floor for each of so many workers, on resources of the running queue that all of them share.

@@ -1,7 +1,7 @@
 -- What is kept is what the workers left, which telling its text doesn't change.
 use Rattle.std.proofs.Common.{◌≡◌, length, sym, ◌∙◌, rules}
 use Rattle.std.specs.Vec.{vec_len}
-use Rattle.cqs_shares.specs.AnyShares.{share_any}
+use Rattle.cqs_any_shares.specs.AnyShares.{share_any}
 use Rattle.cqs_shared_floors.specs.Ledgers.{shared_in}
 use Rattle.cqs_top.proofs.Works.{keeps-work}
 use Rattle.cqs_top.proofs.judging.text_of.Goals as goal

@@ -1,6 +1,6 @@
 -- Each answer has what follows from the verdict and its telling, and leaves the rest to `search`.
 use Rattle.std.proofs.Common.{rules}
-use Rattle.cqs_shares.specs.AnyShares.{share_any}
+use Rattle.cqs_any_shares.specs.AnyShares.{share_any}
 use Rattle.cqs_shared_floors.specs.Ledgers.{shared_in}
 use Rattle.cqs_top.proofs.Endings.{answers_fault, answers_plan, broke_off, headline, is_status, kept_done}
 use Rattle.cqs_top.proofs.working.work.Goals as goal

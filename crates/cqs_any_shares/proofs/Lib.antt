@@ -1,0 +1,15 @@
+pub mod RoundsHistory
+pub mod RoundsOne
+pub mod RoundsLists
+pub mod RoundsShares
+pub mod RoundsSplits
+pub mod RoundsMeets
+pub mod RoundsOpens
+pub mod LatchAccounts
+pub mod LatchWaits
+pub mod LatchShares
+pub mod LatchMeets
+pub mod LatchSplits
+pub mod LatchOpens
+pub mod AmongShares
+pub mod AnyShares

@@ -1,0 +1,5 @@
+pub mod RoundsOne
+pub mod RoundsShares
+pub mod LatchAccounts
+pub mod LatchShares
+pub mod AnyShares

@@ -1,1 +1,3 @@
+pub mod Four
+pub mod Idle
 pub mod Waits

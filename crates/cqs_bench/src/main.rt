@@ -1,12 +1,17 @@
 //! Times what the program does with a plan on standard input: the parse of its document, the
 //! reading of the plan, its run, or the reading and the run together, beside a plain fold over the
-//! same parse. And times the plan of a number, and rounds of the running queue.
+//! same parse; and its run by workers. And times the plan of a number, rounds of the running queue,
+//! and rounds of the primitives' calls.
 //!
-//! Each part prints one line, which starts with its word and its nanoseconds.
+//! Each part prints one line, which starts with its word and its nanoseconds; the primitives' calls
+//! have rows of their own.
 #![tactic(auto)]
 
 mod fold;
+mod primitives;
 mod rounds;
+mod words;
+mod work;
 
 ghost use Rattle.std.specs.Prelude.{◌≡◌};
 ghost use Rattle.cqs_plan.specs.Floor.{opening_floor};
@@ -21,16 +26,14 @@ use cqs_semaphore_client::SemClient;
 use cqs_turns::{Report, run_plan, summarize_plan};
 use rounds::{LIMIT, free_rounds, leave_rounds, pair_rounds};
 use std::alloc::Global;
-use std::env;
-use std::io::{self, Read};
+use std::env::{self, Args};
+use std::io::Read;
 use std::process::ExitCode;
 use std::rt::Clock;
+use std::sync::Wait;
+use std::thread::Threads;
 use std::time::Instant;
-
-const USAGE: &str = "usage: cqs_bench toml | plan | run | cores | whole | fold < PLAN; gen; \
-    free | pairs | leaves [ROUNDS]";
-
-const BAD_COMMAND: u8 = 2;
+use words::{Asked, Part, asked_of, usage};
 
 /// Prints the line of a part: its nanoseconds, and two numbers with their words.
 fn tell(
@@ -218,34 +221,70 @@ fn time_rounds(
     tell(rt, word, nanoseconds, numbers)
 }
 
-fn usage(rt: &impl Print) -> io::Result<ExitCode> {
-    println!(rt; "{USAGE}")?;
-    Ok(ExitCode::from(BAD_COMMAND))
+/// Times a part of a run on the plan of these bytes.
+fn time_part(
+    rt: &(impl Clock + Print + AllocGlobal),
+    part: Part,
+    bytes: &[u8],
+) -> anyhow::Result<()> {
+    match part {
+        Part::Document => time_parse(rt, bytes),
+        Part::Reading => time_reading(rt, bytes),
+        Part::Run => time_run(rt, bytes),
+        Part::Cores => time_cores(rt, bytes),
+        Part::Whole => time_whole(rt, bytes),
+        Part::Fold => time_fold(rt, bytes),
+    }
+}
+
+/// The same on the plan that the input says.
+fn time_input<R: Clock + Print + AllocGlobal, I: Read>(
+    rt: &R,
+    part: Part,
+    input: &mut I,
+) -> anyhow::Result<()> {
+    let mut bytes = Vec::new(rt.alloc());
+    input.read_to_end(&mut bytes)?;
+    time_part(rt, part, &bytes)
+}
+
+/// How many rounds of the running queue these words ask for.
+fn count_of(words: Args) -> u64 {
+    let mut words = words;
+    let wanted = words.next().and_then(|text| text.parse().ok());
+    wanted.unwrap_or(LIMIT)
+}
+
+/// The status of what was measured.
+fn status_of(measured: anyhow::Result<()>) -> anyhow::Result<ExitCode> {
+    measured?;
+    Ok(ExitCode::SUCCESS)
+}
+
+/// Measures what the first word asks for, by the words after it.
+fn measure<R: Clock + Threads + Wait + Sync + Print + AllocGlobal, I: Read>(
+    rt: &R,
+    asked: Asked,
+    word: &str,
+    words: Args,
+    input: &mut I,
+) -> anyhow::Result<ExitCode> {
+    match asked {
+        Asked::Part(part) => status_of(time_input(rt, part, input)),
+        Asked::Number => status_of(time_number(rt)),
+        Asked::Rounds => status_of(time_rounds(rt, word, count_of(words))),
+        Asked::Primitives => primitives::measure(rt, words),
+        Asked::Work => work::measure(rt, words, input),
+    }
 }
 
 fn main(rt: HostRuntime) -> anyhow::Result<ExitCode> {
-    let Some(word) = env::args(&rt)?.nth(1) else {
+    let mut words = env::args(&rt)?;
+    let Some(word) = words.nth(1) else {
         return Ok(usage(&rt)?);
     };
-    if ["free", "pairs", "leaves"].contains(&word.as_str()) {
-        let wanted = env::args(&rt)?.nth(2).and_then(|text| text.parse().ok());
-        time_rounds(&rt, word.as_str(), wanted.unwrap_or(LIMIT))?;
-        return Ok(ExitCode::SUCCESS);
+    match asked_of(word.as_str()) {
+        Some(asked) => measure(&rt, asked, word.as_str(), words, &mut rt.stdin()),
+        None => Ok(usage(&rt)?),
     }
-    if word.as_str() == "gen" {
-        time_number(&rt)?;
-        return Ok(ExitCode::SUCCESS);
-    }
-    let mut bytes = Vec::new(rt.alloc());
-    rt.stdin().read_to_end(&mut bytes)?;
-    match word.as_str() {
-        "toml" => time_parse(&rt, &bytes)?,
-        "plan" => time_reading(&rt, &bytes)?,
-        "run" => time_run(&rt, &bytes)?,
-        "cores" => time_cores(&rt, &bytes)?,
-        "whole" => time_whole(&rt, &bytes)?,
-        "fold" => time_fold(&rt, &bytes)?,
-        _ => return Ok(usage(&rt)?),
-    }
-    Ok(ExitCode::SUCCESS)
 }

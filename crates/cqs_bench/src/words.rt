@@ -1,0 +1,78 @@
+//! The words of the program: what the first of them asks for, and the usage where they say nothing
+//! that is known.
+
+use std::io;
+use std::process::ExitCode;
+
+const USAGE: &str = "usage: cqs_bench toml | plan | run | cores | whole | fold < PLAN\n       \
+    cqs_bench gen\n       \
+    cqs_bench free | pairs | leaves [ROUNDS]\n       \
+    cqs_bench primitives free | leave | leave-behind | served | waiting | wake-guarded \
+    | wake-never | mutex-free | pool-free | contended | pool | latch | barrier \
+    [ROUNDS [RUNS]]\n       \
+    cqs_bench work WORKERS < PLAN, with 1 to 16 workers";
+
+const BAD_COMMAND: u8 = 2;
+
+/// A part of a run on the plan from standard input.
+#[derive(Clone, Copy, Drop)]
+pub enum Part {
+    /// The parse of its document.
+    Document,
+    /// The whole reading of the plan.
+    Reading,
+    /// The run of a plan that was read.
+    Run,
+    /// The same on cores.
+    Cores,
+    /// The reading and the run.
+    Whole,
+    /// The same by a plain fold.
+    Fold,
+}
+
+/// What the first word asks for.
+#[derive(Clone, Copy, Drop)]
+pub enum Asked {
+    Part(Part),
+    /// The plan of a number.
+    Number,
+    /// Rounds of the running queue.
+    Rounds,
+    /// Rounds of the primitives' calls.
+    Primitives,
+    /// The run of a plan by workers.
+    Work,
+}
+
+fn part_of(word: &str) -> Option<Part> {
+    match word {
+        "toml" => Some(Part::Document),
+        "plan" => Some(Part::Reading),
+        "run" => Some(Part::Run),
+        "cores" => Some(Part::Cores),
+        "whole" => Some(Part::Whole),
+        "fold" => Some(Part::Fold),
+        _ => None,
+    }
+}
+
+/// What this first word asks for, if it is one of the program's.
+pub fn asked_of(word: &str) -> Option<Asked> {
+    match word {
+        "gen" => Some(Asked::Number),
+        "free" | "pairs" | "leaves" => Some(Asked::Rounds),
+        "primitives" => Some(Asked::Primitives),
+        "work" => Some(Asked::Work),
+        _ => match part_of(word) {
+            Some(part) => Some(Asked::Part(part)),
+            None => None,
+        },
+    }
+}
+
+/// Prints which words there are, and answers the status of a bad command.
+pub fn usage(rt: &impl Print) -> io::Result<ExitCode> {
+    println!(rt; "{USAGE}")?;
+    Ok(ExitCode::from(BAD_COMMAND))
+}

@@ -1,2 +1,0 @@
-pub mod Four
-pub mod Idle

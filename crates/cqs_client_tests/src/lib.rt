@@ -1,8 +1,0 @@
-//! Tests of the primitives beside the semaphore, call by call. Their expected answers were worked
-//! out by hand.
-#![tactic(auto)]
-
-#[cfg(test)]
-mod barriers;
-#[cfg(test)]
-mod latches;

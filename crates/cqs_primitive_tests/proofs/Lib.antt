@@ -1,0 +1,5 @@
+pub mod BarrierWaits
+pub mod MutexWaits
+pub mod PoolHands
+pub mod PoolWaits
+pub mod RoundSplits

@@ -37,6 +37,7 @@ module _ {T : Type 0} {g : Ghosts (SemClient (Kept T)) (Kept T) Entry} where
     pub passes : passes_of m.semaphore.queue ≡ config.passes
     pub limit : limit_of m.semaphore.queue ≡ config.limit
     pub first : (pass_view p).number ≡ 0
+    pub own : (pass_view p).own ≡ 0 ∷ []
     pub nothing : (pass_view p).seen ≡ []
     pub handed : (before : List (ℕ × Kept T))
         × ((pass_view p).handed ≡ before ++ (0, in_slot value) ∷ [])

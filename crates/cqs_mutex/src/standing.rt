@@ -4,6 +4,7 @@ ghost use Rattle.std.specs.Prelude.{◌≡◌, []};
 ghost use Rattle.cqs_core.specs.SemaphoreShown.{state_of};
 ghost use Rattle.cqs_rule.specs.Passes.{pass_view};
 ghost use Rattle.cqs_semaphore.specs.Calls.{IsReady, Rests, CallRule, plain_after};
+ghost use Rattle.cqs_semaphore.specs.Causes.{StateWas};
 ghost use Rattle.cqs_mutex.specs.Mutexes.{Belongs};
 
 use crate::mutex::{Mutex, MutexPass};
@@ -15,6 +16,8 @@ impl<T: Send + Drop> Mutex<T> {
         requires ready { IsReady (pass_view pass.old).facts }
         ensures belongs { Belongs self.now pass.new }
         ensures state { result ≡ state_of (plain_after (pass_view pass.new)) }
+        ensures was { StateWas (pass_view pass.old) (state_of (plain_after (pass_view pass.new)))
+            (pass_view pass.new).seen [] (pass_view pass.new) }
         ensures called { CallRule (pass_view pass.old) [] [] (pass_view pass.new) }
         ensures rests { Rests (pass_view pass.old) (pass_view pass.old).facts.has.held
             (pass_view pass.old).facts.waits (pass_view pass.new) }

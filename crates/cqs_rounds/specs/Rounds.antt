@@ -1,5 +1,5 @@
 -- The rounds and their passes: a list of barriers, and for each a pass of it.
-use Rattle.std.specs.Prelude.{◌≡◌, ℕ, true, List, [], length, Option, Some, None, slice_get, slice_set}
+use Rattle.std.specs.Prelude.{◌≡◌, ℕ, true, List, [], ◌∷◌, length, Option, Some, None, slice_get, slice_set}
 use Rattle.cqs_barrier_object.specs.declared.entries.BarrierEntry.{BarrierEntry}
 use Rattle.cqs_steps.specs.declared.client.ClientWords.{Ghosts}
 use Rattle.cqs_views.specs.declared.config.Config.{Config}
@@ -33,6 +33,7 @@ module _ {g : Ghosts BarrierClient (Unit {0}) BarrierEntry} where
     pub passes : passes_of b.queue ≡ config.passes
     pub limit : limit_of b.queue ≡ config.limit
     pub first : (pass_view p).number ≡ 0
+    pub own : (pass_view p).own ≡ 0 ∷ []
     pub nothing : (pass_view p).seen ≡ []
     pub alone : (pass_view p).alone ≡ true
     pub all : Rests (pass_view p) parties [] (pass_view p)

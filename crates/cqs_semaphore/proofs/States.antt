@@ -18,11 +18,13 @@ use Rattle.cqs_views.specs.declared.view.Sighting.{Sighting}
 use Rattle.cqs_views.specs.declared.view.Sighting.TheVariants.{Word}
 use Rattle.cqs_views.specs.declared.view.View.{View}
 use Rattle.cqs_views.specs.Called.{Called}
+use Rattle.cqs_views.specs.Events.{in_any_case}
 use Rattle.cqs_views.specs.Layout.{client_place}
 use Rattle.cqs_views.specs.Lists.{IsPrefix}
 use Rattle.cqs_views.specs.Saw.{Saw}
+use Rattle.cqs_views.specs.Silent.{silent}
 use Rattle.cqs_semaphore_client.specs.Semaphore.{semaphore_object}
-use Rattle.cqs_semaphore_client.specs.SemaphoreSteps.{NextIs}
+use Rattle.cqs_semaphore_client.specs.SemaphoreSteps.{NextIs, OnState}
 use Rattle.cqs_words.specs.State.{count_in, is_above_zero, is_below_zero}
 use Rattle.cqs_semaphore.specs.Causes.{is_enter, drawn_in, Counted, StateWas, state_after}
 
@@ -134,6 +136,19 @@ module _ {T : Type 0} where
               ∙ ap (λ l. v.facts.found ++ l) (append_assoc earlier (Word (client_place 0) n ∷ []) found_on.0))),
         );
       }
+
+  -- the state was loaded, and that was all of the call
+  pub state-loaded : (v w : View Entry T) (n : ℕ) → OnState silent in_any_case v n w
+      → StateWas v (state_after w w.seen) w.seen [] w
+  state-loaded v w n o = record {
+    since = saw-prefix v w _ _ o.saw;
+    seen = ([], sym (append-nil (w.seen ++ []) ∙ append-nil w.seen));
+    state = refl;
+    word = n;
+    count_is = sym (o.state
+        ∙ ap (λ l. state_of (object_after w.opening.size l)) (sym (append-nil o.before) ∙ sym o.seen));
+    found = ([], [], ap (λ (f : Facts). f.found) o.saw.facts_are);
+  }
 
   -- what the state was stays so while the call goes on
   pub state-later : (v x w : View Entry T) (count : ℤ) (before own : List Entry)

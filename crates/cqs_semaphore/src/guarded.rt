@@ -1,6 +1,6 @@
 //! A semaphore of one permit that carries a value.
 
-ghost use Rattle.std.specs.Prelude.{◌≡◌, [], true, false, IfOk, IsErrOf};
+ghost use Rattle.std.specs.Prelude.{◌≡◌, [], ◌∷◌, true, false, IfOk, IsErrOf};
 ghost use mathlib.Core.Logic.{◌↔◌};
 ghost use Rattle.cqs_views.specs.Configured.{is_config};
 ghost use Rattle.cqs_rule.specs.Passes.{pass_view, passes_of, limit_of};
@@ -24,6 +24,7 @@ impl<T: Send + Drop> Semaphore<Kept<T>> {
         ensures passes { IfOk result (λ made. (passes_of made.0.queue ≡ config.passes)
             × (limit_of made.0.queue ≡ config.limit)) }
         ensures first { IfOk result (λ made. (pass_view made.1).number ≡ 0) }
+        ensures own { IfOk result (λ made. (pass_view made.1).own ≡ 0 ∷ []) }
         ensures nothing { IfOk result (λ made. (pass_view made.1).seen ≡ []) }
         ensures empty { IfOk result (λ made. ((pass_view made.1).handed ≡ [])
             × ((pass_view made.1).laid ≡ [])) }

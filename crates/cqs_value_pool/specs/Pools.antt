@@ -1,5 +1,5 @@
 -- What holds of a pool of values and of its passes between two calls.
-use Rattle.std.specs.Prelude.{◌≡◌, ℕ, ◌<◌, true, List, [], length, slice_get, Some, None, Result, Ok, Err}
+use Rattle.std.specs.Prelude.{◌≡◌, ℕ, ◌<◌, true, List, [], ◌∷◌, length, slice_get, Some, None, Result, Ok, Err}
 use Rattle.cqs_pool_object.specs.declared.entries.PoolEntry.{PoolEntry}
 use Rattle.cqs_steps.specs.declared.client.ClientWords.{Ghosts}
 use Rattle.cqs_views.specs.declared.config.Config.{Config}
@@ -57,6 +57,7 @@ module _ {T : Type 0} {g : Ghosts (PoolClient (Kept T)) (Kept T) PoolEntry} wher
     pub passes : passes_of m.pool.queue ≡ config.passes
     pub limit : limit_of m.pool.queue ≡ config.limit
     pub first : (pass_view p).number ≡ 0
+    pub own : (pass_view p).own ≡ 0 ∷ []
     pub nothing : (pass_view p).seen ≡ []
     pub handed : HoldsEach values (pass_view p).handed
     pub alone : (pass_view p).alone ≡ true

@@ -33,6 +33,7 @@ loop-round-preserved c =
             passes = c.in_ok-barrier.ensures.passes.0;
             limit = c.in_ok-barrier.ensures.passes.1;
             first = c.in_ok-barrier.ensures.first;
+            own = c.in_ok-barrier.ensures.own;
             nothing = c.in_ok-barrier.ensures.nothing;
             alone = c.in_ok-barrier.ensures.alone;
             all = c.in_ok-barrier.ensures.all;

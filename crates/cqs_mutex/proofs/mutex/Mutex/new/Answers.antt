@@ -20,6 +20,7 @@ returns-clause-opens g c =
       passes = e.passes.0;
       limit = e.passes.1;
       first = ap (λ z. z.number) is ∙ e.first;
+      own = ap (λ z. z.own) is ∙ e.own;
       nothing = ap (λ z. z.seen) is ∙ e.nothing;
       handed = (h.before, h.is);
       alone = ap (λ z. z.alone) is ∙ e.alone;

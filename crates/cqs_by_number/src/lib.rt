@@ -9,8 +9,9 @@
 //!
 //! The passes lie in the slots of a table, each with its waits and with what it owes. A call takes
 //! its pass by one exchange on the pass's mark, makes one call of the primitive with it, and puts
-//! it back: no lock, and nobody waits. The callers are those of `cqs_callers` and `cqs_latch_callers`,
-//! which refuse what the primitive asks of them by an answer that changes nothing.
+//! it back: no lock, and nobody waits. The callers are those of `cqs_callers` and of
+//! `cqs_latch_callers`, which refuse what the primitive asks of them by an answer that changes
+//! nothing.
 #![tactic(auto)]
 
 mod caller;

@@ -1,5 +1,5 @@
-//! What each step of the queue is to its rule: the kinds of step, the loads, and what a client tells
-//! of its words and its events.
+//! What each step of the queue is to its rule: the kinds of step, the loads, and what a client
+//! tells of its words and its events.
 //!
 //! Nothing here makes a step. `cqs_rule` has the table, the passes and the steps themselves.
 #![tactic(auto)]

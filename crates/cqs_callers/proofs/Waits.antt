@@ -65,7 +65,7 @@ no_longer k (x ∷ xs) = dite (ℕ_discrete x k)
     let long : length (without k (x ∷ xs)) ≡ length (without k xs) + 1 = ap length is ∙ omega arith in omega arith)
 
 -- without a number that is there, a list is shorter
-shorter : (k : ℕ) (xs : List ℕ) → Has k xs → length (without k xs) < length xs
+pub shorter : (k : ℕ) (xs : List ℕ) → Has k xs → length (without k xs) < length xs
 shorter k [] h = absurd h
 shorter k (x ∷ xs) h = dite (ℕ_discrete x k)
     (λ (q : x ≡ k).

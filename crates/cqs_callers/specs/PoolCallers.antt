@@ -1,5 +1,5 @@
 -- How a caller of a pool stands between two calls.
-use Rattle.std.specs.Prelude.{◌≡◌, List, All, Option, Some, None}
+use Rattle.std.specs.Prelude.{◌≡◌, List, All, Option, Some, None, length}
 use Rattle.cqs_rule.specs.declared.queue.tokens.Under.{Under}
 use Rattle.cqs_steps.specs.declared.carries.Unparked.{Unparked}
 use Rattle.cqs_views.specs.declared.view.Facts.{Facts}
@@ -18,15 +18,18 @@ abbrev pub OwesJust : Facts → Option Under → Type 0
 OwesJust f None = IsReady f
 OwesJust f (Some under) = HasUnder f under × (f.has.further ≡ 0)
 
--- the pass has each of these elements in hand, and no two are the same
+-- the pass has each of these elements in hand, no two are the same, and there are as many as it has
+-- in hand
 pub record HasElements (f : Facts) (xs : List Element) : Type 0 where
   pub has : All (λ x. IsInHand (number_of x) f) xs
   pub apart : Apart number_of xs
+  pub every : length xs ≡ length f.has.slots
 
 -- The pass is one of the pool, and owes just what the caller has the token of; and the caller has
--- tokens of waits of the pass, and elements that it has in hand.
+-- tokens of waits of the pass, as many as it has, and the elements that it has in hand.
 pub record StandsAt (p : Pool Unparked) (c : PoolCaller) : Type 0 where
   pub belongs : IsMine p c.pass
   pub owes : OwesJust (pass_view c.pass).facts c.under
   pub waits : HasTokens (λ wait. wait) (pass_view c.pass) c.waits.items
+  pub every : length c.waits.items ≡ length (pass_view c.pass).facts.waits
   pub elements : HasElements (pass_view c.pass).facts c.elements.items

@@ -1,7 +1,7 @@
 //! What the number of a pass of a pool stands for: the pass, its waits, the elements that it has in
 //! hand, and what it owes.
 
-ghost use Rattle.std.specs.Prelude.{◌≡◌, ◌≤◌, ◌<◌, ◌≢◌, All, IsSome, None, [], IfOk, OnOk, OnErr, IfErr, vec_len, vec_capacity, true};
+ghost use Rattle.std.specs.Prelude.{◌≡◌, ◌≤◌, ◌<◌, ◌≢◌, All, IsSome, None, [], IfOk, OnOk, OnErr, IfErr, vec_len, vec_capacity, true, length};
 ghost use Rattle.cqs_rule.specs.Passes.{pass_view};
 ghost use Rattle.cqs_rule.specs.Waits.{place_of};
 ghost use Rattle.cqs_pool.specs.Calls.{IsMine, IsReady};
@@ -40,6 +40,8 @@ impl PoolCaller {
     ) -> PoolCaller
         requires belongs { IsMine pool.now pass }
         requires ready { IsReady (pass_view pass).facts }
+        requires waits_for_nothing { (pass_view pass).facts.waits ≡ [] }
+        requires has_nothing { (pass_view pass).facts.has.slots ≡ [] }
         requires no_waits { waits.items ≡ [] }
         requires no_elements { elements.items ≡ [] }
         ensures stands { StandsAt pool.now result }
@@ -294,6 +296,8 @@ impl PoolCaller {
         requires free { self.old.under ≡ None }
         requires owes { OwesJust (pass_view self.old.pass).facts (owed_after placed) }
         requires waits { HasTokens (λ wait. wait) (pass_view self.old.pass) self.old.waits.items }
+        requires every { length self.old.waits.items
+            ≡ length (pass_view self.old.pass).facts.waits }
         requires elements { HasElements (pass_view self.old.pass).facts self.old.elements.items }
         ensures stands { StandsAt pool.now self.new }
         ensures told { result ≡ told_placed placed }

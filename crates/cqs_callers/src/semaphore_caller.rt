@@ -1,7 +1,7 @@
 //! What the number of a pass of a semaphore stands for: the pass, the places of its waits, and what
 //! it owes.
 
-ghost use Rattle.std.specs.Prelude.{◌≡◌, ◌≤◌, ◌<◌, ◌≢◌, All, IsSome, IfSome, None, [], IfOk, OnOk, IfErr, OnErr, vec_len, vec_capacity, true};
+ghost use Rattle.std.specs.Prelude.{◌≡◌, ◌≤◌, ◌<◌, ◌≢◌, All, IsSome, IfSome, None, [], IfOk, OnOk, IfErr, OnErr, vec_len, vec_capacity, true, length};
 ghost use Rattle.cqs_rule.specs.Passes.{pass_view};
 ghost use Rattle.cqs_semaphore.specs.Calls.{IsMine, IsReady};
 ghost use Rattle.cqs_semaphore.specs.Owed.{owed_after};
@@ -36,6 +36,7 @@ impl SemaphoreCaller {
     ) -> SemaphoreCaller
         requires belongs { IsMine semaphore.now pass }
         requires ready { IsReady (pass_view pass).facts }
+        requires waits_for_nothing { (pass_view pass).facts.waits ≡ [] }
         requires empty { room.items ≡ [] }
         ensures stands { StandsAt semaphore.now result }
         ensures pass { result.pass ≡ pass }
@@ -296,6 +297,8 @@ impl SemaphoreCaller {
         requires owes { OwesJust (pass_view self.old.pass).facts (owed_after released) }
         requires waits { All (HasAt (pass_view self.old.pass)) self.old.waits.items }
         requires apart { Apart self.old.waits.items }
+        requires every { length self.old.waits.items
+            ≡ length (pass_view self.old.pass).facts.waits }
         ensures stands { StandsAt semaphore.now self.new }
         ensures told { result ≡ told_released released }
         ensures pass { self.new.pass ≡ self.old.pass }

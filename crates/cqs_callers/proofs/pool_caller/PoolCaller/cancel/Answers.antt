@@ -7,6 +7,7 @@ use Rattle.cqs_callers.specs.PoolCallers.{HasElements}
 use Rattle.cqs_callers.specs.Tokens.{wait_index}
 use Rattle.cqs_callers.proofs.PoolKept.{owes-none, elements_same, elements_more}
 use Rattle.cqs_callers.proofs.TokenSteps.{the_wait, taken_token, taken_none, one_less}
+use Rattle.cqs_callers.proofs.Every.{every_over}
 use Rattle.cqs_callers.specs.declared.answers.Answer.TheVariants as answer
 use Rattle.cqs_callers.specs.PoolTold.{told_left}
 use Rattle.cqs_callers.proofs.pool_caller.PoolCaller.cancel.Goals as goal
@@ -26,6 +27,8 @@ returns-in-Cancelled-None-clause-stands c =
       owes = owes-none _ _ c.if-is_some.ensures left.ready;
       waits = one_less the_wait v w _ _ _ wait c.in-Some.ensures.taken
           (c.cancel.ensures.cancelled.2.called.same.number, left.waits_are) c.requires.stands.waits;
+      every = every_over the_wait v _ _ _ wait _ c.in-Some.ensures.taken c.requires.stands.belongs.live.inside
+          c.requires.stands.waits left.waits_are c.requires.stands.every;
       elements = elements_same v.facts w.facts _ left.elements_are c.requires.stands.elements;
     }
 
@@ -41,6 +44,8 @@ returns-in-Cancelled-Some-clause-stands c =
       owes = (left.0, left.1);
       waits = one_less the_wait v w _ _ _ wait c.in-Some.ensures.taken
           (c.cancel.ensures.cancelled.2.called.same.number, left.3) c.requires.stands.waits;
+      every = every_over the_wait v _ _ _ wait _ c.in-Some.ensures.taken c.requires.stands.belongs.live.inside
+          c.requires.stands.waits left.3 c.requires.stands.every;
       elements = elements_same v.facts w.facts _ left.2 c.requires.stands.elements;
     }
 
@@ -55,6 +60,8 @@ returns-in-TooLate-clause-stands c =
       owes = owes-none _ _ c.if-is_some.ensures left.ready;
       waits = one_less the_wait v w _ _ _ wait c.in-Some.ensures.taken
           (c.cancel.ensures.cancelled.2.called.same.number, left.waits_are) c.requires.stands.waits;
+      every = every_over the_wait v _ _ _ wait _ c.in-Some.ensures.taken c.requires.stands.belongs.live.inside
+          c.requires.stands.waits left.waits_are c.requires.stands.every;
       elements = subst (HasElements w.facts) (sym c.push_reserved.ensures.items)
           (elements_more v.facts w.facts _ _ left.elements_are
           (subst (CancelsNew v) c.in-TooLate.is c.cancel.ensures.new) c.requires.stands.elements);

@@ -1,5 +1,6 @@
 use Rattle.cqs_callers.proofs.PoolKept.{ends_owes, elements_same}
 use Rattle.cqs_callers.proofs.TokenSteps.{the_wait, same_waits}
+use Rattle.cqs_callers.proofs.Every.{every_same}
 use Rattle.std.proofs.Common.{inr, subst, sym, ◌∙◌}
 use Rattle.cqs_rule.specs.Passes.{pass_view}
 use Rattle.cqs_callers.specs.PoolAnswers.{HasFinished}
@@ -14,6 +15,10 @@ keep-requires-clause-waits c =
     same_waits the_wait _ _ _
     (c.finish-placed.ensures.called.called.same.number, (ends_owes _ _ _ _ _ _ c.finish-placed.ensures.ends).2)
     c.requires.stands.waits
+
+pub keep-requires-clause-every : goal.keep-requires-clause-every
+keep-requires-clause-every c =
+    every_same _ _ _ (ends_owes _ _ _ _ _ _ c.finish-placed.ensures.ends).2 c.requires.stands.every
 
 pub keep-requires-clause-elements : goal.keep-requires-clause-elements
 keep-requires-clause-elements c =

@@ -1,10 +1,10 @@
-use Rattle.std.proofs.Common.{ap, subst, sym, refl, inl, inr}
+use Rattle.std.proofs.Common.{ap, sym, refl, inl, inr, ◌∙◌}
+use Rattle.std.proofs.lemmas.Bool.{eqb-true}
 use Rattle.cqs_views.specs.declared.view.Facts.{Facts}
-use Rattle.cqs_views.specs.Lists.{Has}
 use Rattle.cqs_rule.specs.Passes.{pass_view}
-use Rattle.cqs_views.proofs.Lists.{has_left}
-use Rattle.cqs_callers.proofs.PoolKept.{owes-none, elements_same, elements_stay}
+use Rattle.cqs_callers.proofs.PoolKept.{owes-none, elements_same, elements_both}
 use Rattle.cqs_callers.proofs.TokenSteps.{the_wait, same_waits}
+use Rattle.cqs_callers.proofs.Every.{every_same}
 use Rattle.cqs_callers.proofs.NotRefused.{no-cause, none-there}
 use Rattle.cqs_callers.proofs.pool_caller.PoolCaller.meet.Goals as goal
 
@@ -16,7 +16,10 @@ returns-in-Ok-clause-stands c =
       owes = owes-none _ _ c.if-is_some.ensures c.meet.ensures.ready;
       waits = same_waits the_wait _ (pass_view c.meet.new.pass) _
           (met.number, ap (λ (f : Facts). f.waits) met.facts_are) c.requires.stands.waits;
-      elements = elements_stay _ _ _ (λ e has. subst (Has e) (sym c.in-Ok.ensures.elements) (has_left e _ _ has))
+      every = every_same _ _ _ (ap (λ (f : Facts). f.waits) met.facts_are) c.requires.stands.every;
+      elements = elements_both _ _ _ _ c.in-Ok.ensures.elements
+          (sym c.requires.given.elements.every
+          ∙ (sym c.args.given.elements.ok.0 ∙ eqb-true _ 0 (sym c.if-not-is_empty.ensures)))
           c.requires.stands.elements;
     }
 
@@ -28,6 +31,7 @@ returns-in-Err-clause-stands c =
       owes = owes-none _ _ c.if-is_some.ensures c.meet.ensures.ready;
       waits = same_waits the_wait _ _ _
           (ap (λ p. (pass_view p).number) same, ap (λ p. (pass_view p).facts.waits) same) c.requires.stands.waits;
+      every = every_same _ _ _ (ap (λ p. (pass_view p).facts.waits) same) c.requires.stands.every;
       elements = elements_same _ _ _ (ap (λ p. (pass_view p).facts.has.slots) same) c.requires.stands.elements;
     }
 

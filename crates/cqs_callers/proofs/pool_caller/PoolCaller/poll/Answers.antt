@@ -6,6 +6,7 @@ use Rattle.cqs_callers.specs.PoolCallers.{HasElements}
 use Rattle.cqs_callers.specs.Tokens.{HasTokens, wait_index}
 use Rattle.cqs_callers.proofs.PoolKept.{owes-none, elements_same, elements_more}
 use Rattle.cqs_callers.proofs.TokenSteps.{the_wait, taken_token, taken_none, one_less, one_back}
+use Rattle.cqs_callers.proofs.Every.{every_back, every_over}
 use Rattle.cqs_callers.specs.declared.answers.Answer.TheVariants as answer
 use Rattle.cqs_callers.specs.PoolTold.{told_polled}
 use Rattle.cqs_callers.proofs.pool_caller.PoolCaller.poll.Goals as goal
@@ -25,6 +26,8 @@ returns-in-Granted-clause-stands c =
       owes = owes-none _ _ c.if-is_some.ensures c.poll.ensures.ready;
       waits = one_less the_wait v w _ _ _ wait c.in-Some.ensures.taken
           (c.poll.ensures.called.called.same.number, told.2.waits_are) c.requires.stands.waits;
+      every = every_over the_wait v _ _ _ wait _ c.in-Some.ensures.taken c.requires.stands.belongs.live.inside
+          c.requires.stands.waits told.2.waits_are c.requires.stands.every;
       elements = subst (HasElements w.facts) (sym c.push_reserved.ensures.items)
           (elements_more v.facts w.facts _ _ told.2.elements_are new c.requires.stands.elements);
     }
@@ -41,6 +44,8 @@ returns-in-Pending-clause-stands c =
       waits = subst (HasTokens the_wait w) (sym c.push_reserved-in-Pending.ensures.items)
           (one_back the_wait v w _ _ _ wait c.in-Some.ensures.taken c.in-Pending.wait
           (c.poll.ensures.called.called.same.number, told.3.waits_are) told.0 told.1 c.requires.stands.waits);
+      every = every_back wait_index _ _ _ wait c.in-Some.ensures.taken c.in-Pending.wait _ _ _
+          c.push_reserved-in-Pending.ensures.items told.3.waits_are c.requires.stands.every;
       elements = elements_same v.facts w.facts _ told.3.elements_are c.requires.stands.elements;
     }
 

@@ -3,6 +3,7 @@ use Rattle.cqs_pool.specs.Answers.{IsInHand}
 use Rattle.cqs_pool.specs.Elements.{number_of}
 use Rattle.cqs_callers.proofs.PoolKept.{ends_owes, elements_less}
 use Rattle.cqs_callers.proofs.TokenSteps.{the_wait, same_waits, taken_one, taken_none}
+use Rattle.cqs_callers.proofs.Every.{every_same}
 use Rattle.std.proofs.Common.{ℕ, inr, subst, sym}
 use Rattle.cqs_pool.specs.Calls.{CallRule}
 use Rattle.cqs_pool.specs.Entries.{put_entries, put_further}
@@ -21,6 +22,10 @@ pub keep-requires-clause-waits : goal.keep-requires-clause-waits
 keep-requires-clause-waits c =
     same_waits the_wait _ _ _
     (c.put.ensures.called.called.same.number, (ends_owes _ _ _ _ _ _ c.in-Ok.ensures.ends).2) c.requires.stands.waits
+
+pub keep-requires-clause-every : goal.keep-requires-clause-every
+keep-requires-clause-every c =
+    every_same _ _ _ (ends_owes _ _ _ _ _ _ c.in-Ok.ensures.ends).2 c.requires.stands.every
 
 pub keep-requires-clause-elements : goal.keep-requires-clause-elements
 keep-requires-clause-elements c =

@@ -3,6 +3,7 @@ use Rattle.cqs_views.specs.declared.view.Facts.{Facts}
 use Rattle.cqs_callers.specs.PoolCallers.{OwesJust}
 use Rattle.cqs_callers.proofs.PoolKept.{elements_same}
 use Rattle.cqs_callers.proofs.TokenSteps.{the_wait, same_waits}
+use Rattle.cqs_callers.proofs.Every.{every_same}
 use Rattle.cqs_callers.specs.declared.answers.Answer.TheVariants.{Sole}
 use Rattle.cqs_callers.proofs.pool_caller.PoolCaller.sole.Goals as goal
 
@@ -14,6 +15,7 @@ returns-clause-stands c =
       owes = subst (λ (f : Facts). OwesJust f c.args.self.now.under) (sym same) c.requires.stands.owes;
       waits = same_waits the_wait _ _ _
           (c.sole.ensures.looked.course.number, ap (λ (f : Facts). f.waits) same) c.requires.stands.waits;
+      every = every_same _ _ _ (ap (λ (f : Facts). f.waits) same) c.requires.stands.every;
       elements = elements_same _ _ _ (ap (λ (f : Facts). f.has.slots) same) c.requires.stands.elements;
     }
 

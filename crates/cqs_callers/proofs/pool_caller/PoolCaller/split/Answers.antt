@@ -2,11 +2,18 @@ use Rattle.std.proofs.Common.{ap, subst, sym, refl, ◌∙◌}
 use Rattle.cqs_views.specs.declared.view.Facts.{Facts}
 use Rattle.cqs_callers.proofs.PoolKept.{owes-none, elements_same}
 use Rattle.cqs_callers.proofs.TokenSteps.{the_wait, same_waits}
+use Rattle.cqs_callers.proofs.Every.{every_same}
 use Rattle.cqs_views.specs.Crew.{Came}
 use Rattle.cqs_rule.specs.Passes.{pass_view}
 use Rattle.cqs_pool.specs.Pool.{pool_object}
 use Rattle.cqs_callers.proofs.NotRefused.{room-there}
 use Rattle.cqs_callers.proofs.pool_caller.PoolCaller.split.Goals as goal
+
+pub new-requires-clause-waits_for_nothing : goal.new-requires-clause-waits_for_nothing
+new-requires-clause-waits_for_nothing c = ap (λ (f : Facts). f.waits) c.in-Ok.ensures.came.facts
+
+pub new-requires-clause-has_nothing : goal.new-requires-clause-has_nothing
+new-requires-clause-has_nothing c = ap (λ (f : Facts). f.has.slots) c.in-Ok.ensures.came.facts
 
 pub returns-in-Ok-clause-stands : goal.returns-in-Ok-clause-stands
 returns-in-Ok-clause-stands c =
@@ -16,6 +23,7 @@ returns-in-Ok-clause-stands c =
       owes = owes-none _ _ c.if-is_some.ensures c.split.ensures.ready;
       waits = same_waits the_wait _ _ _
           (c.split.ensures.looked.course.number, ap (λ (f : Facts). f.waits) same) c.requires.stands.waits;
+      every = every_same _ _ _ (ap (λ (f : Facts). f.waits) same) c.requires.stands.every;
       elements = elements_same _ _ _ (ap (λ (f : Facts). f.has.slots) same) c.requires.stands.elements;
     }
 
@@ -27,6 +35,7 @@ returns-in-Err-clause-stands c =
       owes = owes-none _ _ c.if-is_some.ensures c.split.ensures.ready;
       waits = same_waits the_wait _ _ _
           (c.split.ensures.looked.course.number, ap (λ (f : Facts). f.waits) same) c.requires.stands.waits;
+      every = every_same _ _ _ (ap (λ (f : Facts). f.waits) same) c.requires.stands.every;
       elements = elements_same _ _ _ (ap (λ (f : Facts). f.has.slots) same) c.requires.stands.elements;
     }
 

@@ -7,6 +7,7 @@ use Rattle.cqs_callers.specs.PoolCallers.{HasElements}
 use Rattle.cqs_callers.specs.Tokens.{HasTokens}
 use Rattle.cqs_callers.proofs.PoolKept.{owes-none, elements_same, elements_more}
 use Rattle.cqs_callers.proofs.TokenSteps.{the_wait, same_waits, one_more}
+use Rattle.cqs_callers.proofs.Every.{every_same, every_more}
 use Rattle.cqs_callers.specs.declared.answers.Answer.TheVariants as answer
 use Rattle.cqs_callers.specs.PoolTold.{told_taken}
 use Rattle.cqs_callers.proofs.pool_caller.PoolCaller.take.Goals as goal
@@ -23,6 +24,7 @@ returns-in-Ok-Took-clause-stands c =
       owes = owes-none _ _ c.if-is_some.ensures c.take.ensures.ready;
       waits = same_waits the_wait v w _ (c.take.ensures.called.called.same.number, told.1.waits_are)
           c.requires.stands.waits;
+      every = every_same _ _ _ told.1.waits_are c.requires.stands.every;
       elements = subst (HasElements w.facts) (sym c.push_reserved.ensures.items)
           (elements_more v.facts w.facts _ _ told.1.elements_are new c.requires.stands.elements);
     }
@@ -39,6 +41,8 @@ returns-in-Ok-Later-clause-stands c =
       waits = subst (HasTokens the_wait w) (sym c.push_reserved-in-Ok-Later.ensures.items)
           (one_more the_wait v w _ wait (c.take.ensures.called.called.same.number, told.2.waits_are)
           c.take.ensures.belongs.live.inside told.1 c.requires.stands.waits);
+      every = every_more _ _ _ _ wait _ c.push_reserved-in-Ok-Later.ensures.items told.2.waits_are
+          c.requires.stands.every;
       elements = elements_same v.facts w.facts _ told.2.elements_are c.requires.stands.elements;
     }
 
@@ -50,6 +54,7 @@ returns-in-Err-clause-stands c =
       owes = owes-none _ _ c.if-is_some.ensures c.take.ensures.ready;
       waits = same_waits the_wait _ _ _
           (c.take.ensures.called.called.same.number, ap (λ (f : Facts). f.waits) same) c.requires.stands.waits;
+      every = every_same _ _ _ (ap (λ (f : Facts). f.waits) same) c.requires.stands.every;
       elements = elements_same _ _ _ (ap (λ (f : Facts). f.has.slots) same) c.requires.stands.elements;
     }
 

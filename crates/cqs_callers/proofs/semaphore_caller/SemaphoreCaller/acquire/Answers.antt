@@ -11,6 +11,7 @@ use Rattle.cqs_callers.proofs.Waits.{apart_push}
 use Rattle.cqs_callers.specs.declared.answers.Answer.TheVariants.{Now, Later}
 use Rattle.cqs_callers.specs.SemaphoreAnswers.{HasAcquired}
 use Rattle.cqs_callers.specs.SemaphoreTold.{told_acquired}
+use Rattle.cqs_callers.proofs.Every.{every_same, every_more}
 use Rattle.cqs_callers.proofs.semaphore_caller.SemaphoreCaller.acquire.Goals as goal
 
 pub returns-in-Ok-Now-clause-stands : goal.returns-in-Ok-Now-clause-stands
@@ -21,6 +22,7 @@ returns-in-Ok-Now-clause-stands c =
       owes = owes-none _ _ c.if-is_some.ensures c.acquire.ensures.ready;
       waits = kept-same _ _ _ (took-waits _ _ _ took) c.requires.stands.waits;
       apart = c.requires.stands.apart;
+      every = every_same _ _ _ (took-waits _ _ _ took) c.requires.stands.every;
     }
 
 pub returns-in-Ok-Later-clause-stands : goal.returns-in-Ok-Later-clause-stands
@@ -45,6 +47,8 @@ returns-in-Ok-Later-clause-stands c =
       waits = subst (λ p. All (HasAt (pass_view p)) c.push_reserved.new.self.items) (sym same)
           (subst (All (HasAt w)) (sym c.push_reserved.ensures.items) all);
       apart = subst Apart (sym c.push_reserved.ensures.items) apart;
+      every = every_more _ v.facts.waits (pass_view c.spend_wait-at.new.pass).facts.waits _ _ k
+          c.push_reserved.ensures.items (ap (λ p. (pass_view p).facts.waits) same ∙ more) c.requires.stands.every;
     }
 
 pub returns-in-Err-clause-stands : goal.returns-in-Err-clause-stands
@@ -53,6 +57,7 @@ returns-in-Err-clause-stands c = record {
   owes = owes-none _ _ c.if-is_some.ensures c.acquire.ensures.ready;
   waits = kept-same _ _ _ (ap (λ (f : Facts). f.waits) c.in-Err.ensures.worn.facts_are) c.requires.stands.waits;
   apart = c.requires.stands.apart;
+  every = every_same _ _ _ (ap (λ (f : Facts). f.waits) c.in-Err.ensures.worn.facts_are) c.requires.stands.every;
 }
 
 pub returns-in-Ok-Now-clause-answered : goal.returns-in-Ok-Now-clause-answered

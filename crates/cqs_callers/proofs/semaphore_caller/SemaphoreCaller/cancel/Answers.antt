@@ -12,6 +12,7 @@ use Rattle.cqs_callers.proofs.SemaphoreKept.{kept-others, cancel-owing, owes-non
 use Rattle.cqs_callers.specs.declared.answers.Answer.TheVariants as answer
 use Rattle.cqs_callers.specs.SemaphoreAnswers.{HasGivenUp}
 use Rattle.cqs_callers.specs.SemaphoreTold.{told_cancelled}
+use Rattle.cqs_callers.proofs.Every.{every_less}
 use Rattle.cqs_callers.proofs.semaphore_caller.SemaphoreCaller.cancel.Goals as goal
 
 pub returns-in-Cancelled-None-clause-stands : goal.returns-in-Cancelled-None-clause-stands
@@ -33,6 +34,8 @@ returns-in-Cancelled-None-clause-stands c =
       waits = subst (All (HasAt w)) (sym c.remove.ensures.items)
           (kept-others v w _ k _ _ token.at token.number_is left.1 stands.apart stands.waits);
       apart = subst Apart (sym c.remove.ensures.items) (apart_remove _ _ stands.apart);
+      every = every_less _ _ _ _ _ _ token.at.below c.remove.ensures.items left.1
+          (stands.belongs.live.inside.once _ token.has.open_yet) stands.every;
     }
 
 pub returns-in-Cancelled-Some-clause-stands : goal.returns-in-Cancelled-Some-clause-stands
@@ -54,6 +57,8 @@ returns-in-Cancelled-Some-clause-stands c =
       waits = subst (All (HasAt w)) (sym c.remove-in-Cancelled-Some.ensures.items)
           (kept-others v w _ k _ _ token.at token.number_is left.1 stands.apart stands.waits);
       apart = subst Apart (sym c.remove-in-Cancelled-Some.ensures.items) (apart_remove _ _ stands.apart);
+      every = every_less _ _ _ _ _ _ token.at.below c.remove-in-Cancelled-Some.ensures.items left.1
+          (stands.belongs.live.inside.once _ token.has.open_yet) stands.every;
     }
 
 pub returns-in-TooLate-clause-stands : goal.returns-in-TooLate-clause-stands
@@ -70,6 +75,8 @@ returns-in-TooLate-clause-stands c =
       waits = subst (All (HasAt w)) (sym c.remove-in-TooLate.ensures.items)
           (kept-others _ w _ _ _ _ token.at token.number_is told.2.3.waits_are stands.apart stands.waits);
       apart = subst Apart (sym c.remove-in-TooLate.ensures.items) (apart_remove _ _ stands.apart);
+      every = every_less _ _ _ _ _ _ token.at.below c.remove-in-TooLate.ensures.items told.2.3.waits_are
+          (stands.belongs.live.inside.once _ token.has.open_yet) stands.every;
     }
 
 pub returns-in-Cancelled-None-clause-no_wait : goal.returns-in-Cancelled-None-clause-no_wait

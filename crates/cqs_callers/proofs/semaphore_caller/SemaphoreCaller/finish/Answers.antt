@@ -1,4 +1,5 @@
 use Rattle.cqs_callers.proofs.SemaphoreKept.{kept-same, ends-owing}
+use Rattle.cqs_callers.proofs.Every.{every_same}
 use Rattle.std.proofs.Common.{inr, subst, sym}
 use Rattle.cqs_rule.specs.Passes.{pass_view}
 use Rattle.cqs_callers.specs.SemaphoreAnswers.{HasFinished}
@@ -7,6 +8,10 @@ use Rattle.cqs_callers.proofs.semaphore_caller.SemaphoreCaller.finish.Goals as g
 pub keep-requires-clause-waits : goal.keep-requires-clause-waits
 keep-requires-clause-waits c =
     kept-same _ _ _ (ends-owing _ _ _ _ _ c.finish-released.ensures.ends).1 c.requires.stands.waits
+
+pub keep-requires-clause-every : goal.keep-requires-clause-every
+keep-requires-clause-every c =
+    every_same _ _ _ (ends-owing _ _ _ _ _ c.finish-released.ensures.ends).1 c.requires.stands.every
 
 pub returns-clause-answered : goal.returns-clause-answered
 returns-clause-answered c =

@@ -3,6 +3,7 @@ use Rattle.cqs_views.specs.declared.view.Facts.{Facts}
 use Rattle.cqs_rule.specs.Passes.{pass_view}
 use Rattle.cqs_callers.proofs.SemaphoreKept.{kept-same, owes-none}
 use Rattle.cqs_callers.proofs.NotRefused.{no-cause}
+use Rattle.cqs_callers.proofs.Every.{every_same}
 use Rattle.cqs_callers.proofs.semaphore_caller.SemaphoreCaller.meet.Goals as goal
 
 pub returns-in-Ok-clause-stands : goal.returns-in-Ok-clause-stands
@@ -11,6 +12,7 @@ returns-in-Ok-clause-stands c = record {
   owes = owes-none _ _ c.if-is_some.ensures c.meet.ensures.ready;
   waits = kept-same _ _ _ (ap (λ (f : Facts). f.waits) c.in-Ok.ensures.met.facts_are) c.requires.stands.waits;
   apart = c.requires.stands.apart;
+  every = every_same _ _ _ (ap (λ (f : Facts). f.waits) c.in-Ok.ensures.met.facts_are) c.requires.stands.every;
 }
 
 pub returns-in-Err-clause-stands : goal.returns-in-Err-clause-stands
@@ -19,6 +21,7 @@ returns-in-Err-clause-stands c = record {
   owes = owes-none _ _ c.if-is_some.ensures c.meet.ensures.ready;
   waits = kept-same _ _ _ (ap (λ p. (pass_view p).facts.waits) c.in-Err.ensures.unchanged) c.requires.stands.waits;
   apart = c.requires.stands.apart;
+  every = every_same _ _ _ (ap (λ p. (pass_view p).facts.waits) c.in-Err.ensures.unchanged) c.requires.stands.every;
 }
 
 pub returns-in-Ok-clause-met : goal.returns-in-Ok-clause-met

@@ -9,6 +9,7 @@ use Rattle.cqs_callers.proofs.SemaphoreKept.{kept-same, kept-others, owes-none}
 use Rattle.cqs_callers.specs.declared.answers.Answer.TheVariants.{Granted, Pending}
 use Rattle.cqs_callers.specs.SemaphoreAnswers.{HasPolled}
 use Rattle.cqs_callers.specs.SemaphoreTold.{told_polled}
+use Rattle.cqs_callers.proofs.Every.{every_same, every_less}
 use Rattle.cqs_callers.proofs.semaphore_caller.SemaphoreCaller.poll.Goals as goal
 
 pub returns-in-Granted-clause-stands : goal.returns-in-Granted-clause-stands
@@ -25,6 +26,8 @@ returns-in-Granted-clause-stands c =
       waits = subst (All (HasAt w)) (sym c.remove.ensures.items)
           (kept-others _ w _ _ _ _ token.at token.number_is polled.2.waits_are stands.apart stands.waits);
       apart = subst Apart (sym c.remove.ensures.items) (apart_remove _ _ stands.apart);
+      every = every_less _ _ _ _ _ _ token.at.below c.remove.ensures.items polled.2.waits_are
+          (stands.belongs.live.inside.once _ token.has.open_yet) stands.every;
     }
 
 pub returns-in-Pending-clause-stands : goal.returns-in-Pending-clause-stands
@@ -39,6 +42,7 @@ returns-in-Pending-clause-stands c =
       owes = owes-none _ _ free c.poll.ensures.ready;
       waits = kept-same _ _ _ polled.3.waits_are stands.waits;
       apart = stands.apart;
+      every = every_same _ _ _ polled.3.waits_are stands.every;
     }
 
 pub returns-in-Granted-clause-no_wait : goal.returns-in-Granted-clause-no_wait

@@ -3,6 +3,7 @@ use Rattle.cqs_callers.specs.declared.answers.Answer.TheVariants.{Sole}
 use Rattle.cqs_views.specs.declared.view.Facts.{Facts}
 use Rattle.cqs_callers.specs.SemaphoreCallers.{OwesJust}
 use Rattle.cqs_callers.proofs.SemaphoreKept.{kept-same}
+use Rattle.cqs_callers.proofs.Every.{every_same}
 use Rattle.cqs_callers.proofs.semaphore_caller.SemaphoreCaller.sole.Goals as goal
 
 pub returns-clause-stands : goal.returns-clause-stands
@@ -12,6 +13,7 @@ returns-clause-stands c = record {
       c.requires.stands.owes;
   waits = kept-same _ _ _ (ap (λ (f : Facts). f.waits) c.sole.ensures.looked.facts_are) c.requires.stands.waits;
   apart = c.requires.stands.apart;
+  every = every_same _ _ _ (ap (λ (f : Facts). f.waits) c.sole.ensures.looked.facts_are) c.requires.stands.every;
 }
 
 pub returns-clause-answered : goal.returns-clause-answered

@@ -5,7 +5,11 @@ use Rattle.cqs_views.specs.Crew.{Came}
 use Rattle.cqs_rule.specs.Passes.{pass_view}
 use Rattle.cqs_semaphore_client.specs.Semaphore.{semaphore_object}
 use Rattle.cqs_callers.proofs.NotRefused.{room-there}
+use Rattle.cqs_callers.proofs.Every.{every_same}
 use Rattle.cqs_callers.proofs.semaphore_caller.SemaphoreCaller.split.Goals as goal
+
+pub new-requires-clause-waits_for_nothing : goal.new-requires-clause-waits_for_nothing
+new-requires-clause-waits_for_nothing c = ap (λ (f : Facts). f.waits) c.in-Ok.ensures.came.facts
 
 pub returns-in-Ok-clause-stands : goal.returns-in-Ok-clause-stands
 returns-in-Ok-clause-stands c = record {
@@ -13,6 +17,7 @@ returns-in-Ok-clause-stands c = record {
   owes = owes-none _ _ c.if-is_some.ensures c.split.ensures.ready;
   waits = kept-same _ _ _ (ap (λ (f : Facts). f.waits) c.split.ensures.looked.facts_are) c.requires.stands.waits;
   apart = c.requires.stands.apart;
+  every = every_same _ _ _ (ap (λ (f : Facts). f.waits) c.split.ensures.looked.facts_are) c.requires.stands.every;
 }
 
 pub returns-in-Err-clause-stands : goal.returns-in-Err-clause-stands
@@ -21,6 +26,7 @@ returns-in-Err-clause-stands c = record {
   owes = owes-none _ _ c.if-is_some.ensures c.split.ensures.ready;
   waits = kept-same _ _ _ (ap (λ (f : Facts). f.waits) c.split.ensures.looked.facts_are) c.requires.stands.waits;
   apart = c.requires.stands.apart;
+  every = every_same _ _ _ (ap (λ (f : Facts). f.waits) c.split.ensures.looked.facts_are) c.requires.stands.every;
 }
 
 pub returns-in-Ok-clause-split : goal.returns-in-Ok-clause-split

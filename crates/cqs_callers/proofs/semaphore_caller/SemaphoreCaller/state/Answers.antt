@@ -3,6 +3,7 @@ use Rattle.std.proofs.Common.{rules, ◌∙◌, inr, ap}
 use Rattle.std.proofs.lemmas.Int.{to_z-of_z}
 use mir.Syntax.{w64}
 use Rattle.cqs_callers.specs.declared.answers.Answer.TheVariants.{State}
+use Rattle.cqs_callers.proofs.Every.{every_same}
 use Rattle.cqs_callers.proofs.semaphore_caller.SemaphoreCaller.state.Goals as goal
 
 pub returns-clause-stands : goal.returns-clause-stands
@@ -11,6 +12,7 @@ returns-clause-stands c = record {
   owes = owes-none _ _ c.if-is_some.ensures c.state.ensures.rests.ready;
   waits = kept-same _ _ _ c.state.ensures.rests.waits_are c.requires.stands.waits;
   apart = c.requires.stands.apart;
+  every = every_same _ _ _ c.state.ensures.rests.waits_are c.requires.stands.every;
 }
 
 pub returns-clause-answered : goal.returns-clause-answered

@@ -4,6 +4,7 @@ use Rattle.std.proofs.lemmas.Int.{to_z-of_z}
 use mir.Syntax.{w64}
 use Rattle.cqs_callers.specs.declared.answers.Answer.TheVariants.{Contended}
 use Rattle.cqs_callers.specs.SemaphoreTold.{told_tried}
+use Rattle.cqs_callers.proofs.Every.{every_same}
 use Rattle.cqs_callers.proofs.semaphore_caller.SemaphoreCaller.try_acquire.Goals as goal
 
 pub returns-in-Got-clause-stands : goal.returns-in-Got-clause-stands
@@ -14,6 +15,7 @@ returns-in-Got-clause-stands c =
       owes = owes-none _ _ c.if-is_some.ensures c.try_acquire.ensures.ready;
       waits = kept-same _ _ _ tries.5.waits_are c.requires.stands.waits;
       apart = c.requires.stands.apart;
+      every = every_same _ _ _ tries.5.waits_are c.requires.stands.every;
     }
 
 pub returns-in-Busy-clause-stands : goal.returns-in-Busy-clause-stands
@@ -24,6 +26,7 @@ returns-in-Busy-clause-stands c =
       owes = owes-none _ _ c.if-is_some.ensures c.try_acquire.ensures.ready;
       waits = kept-same _ _ _ tries.4.waits_are c.requires.stands.waits;
       apart = c.requires.stands.apart;
+      every = every_same _ _ _ tries.4.waits_are c.requires.stands.every;
     }
 
 pub returns-in-Contended-clause-stands : goal.returns-in-Contended-clause-stands
@@ -34,6 +37,7 @@ returns-in-Contended-clause-stands c =
       owes = owes-none _ _ c.if-is_some.ensures c.try_acquire.ensures.ready;
       waits = kept-same _ _ _ tries.1.waits_are c.requires.stands.waits;
       apart = c.requires.stands.apart;
+      every = every_same _ _ _ tries.1.waits_are c.requires.stands.every;
     }
 
 pub returns-in-Got-clause-answered : goal.returns-in-Got-clause-answered

@@ -1,10 +1,10 @@
 -- A caller of a barrier between two calls.
-use Rattle.std.proofs.Common.{◌≡◌, ◌⊎◌, ℕ, suc, zero, List, [], ◌∷◌, Option, Some, None, false, ap, refl, subst, sym, ◌∙◌, inl, inr}
+use Rattle.std.proofs.Common.{◌≡◌, ◌⊎◌, ℕ, suc, zero, ◌+◌, List, [], ◌∷◌, length, Option, Some, None, false, ap, refl, subst, sym, ◌∙◌, inl, inr, arith}
 use Rattle.std.specs.Option.{is_some}
 use Rattle.cqs_views.specs.declared.view.Facts.{Facts}
 use Rattle.cqs_views.specs.declared.view.Has.{Has}
 use Rattle.cqs_views.specs.declared.view.View.{View}
-use Rattle.cqs_views.specs.Lists.{without}
+use Rattle.cqs_views.specs.Lists.{Has as In, without}
 use Rattle.cqs_views.specs.Placed.{place_known, place_word}
 use Rattle.cqs_views.specs.Views.{facts_lessened, first_facts, has_less}
 use Rattle.cqs_barrier_object.specs.declared.entries.BarrierEntry.{BarrierEntry}
@@ -18,12 +18,37 @@ use Rattle.cqs_barrier.specs.Leaving.{HasLeft, leaving_at}
 use Rattle.cqs_barrier.specs.Resuming.{HasOwing}
 use Rattle.cqs_latch_callers.specs.declared.barrier_caller.PartyOwes.{PartyOwes}
 use Rattle.cqs_latch_callers.specs.declared.barrier_caller.PartyOwes.TheVariants.{Others, Leave}
-use Rattle.cqs_latch_callers.specs.BarrierCallers.{OwesJust, StayApart}
+use Rattle.cqs_latch_callers.specs.BarrierCallers.{OwesJust, StayApart, AreEvery}
 
 -- a caller who owes nothing stays apart from nothing
 pub apart-none : (o : Option PartyOwes) (xs : List PartyWait) → false ≡ is_some o → StayApart o xs
 apart-none None xs e = tt
 apart-none (Some owed) xs e = absurd (cc)
+
+-- and has a token of each wait of its pass
+pub every-none : (o : Option PartyOwes) (xs : List PartyWait) (waits : List ℕ) → false ≡ is_some o
+    → length xs ≡ length waits → AreEvery o xs waits
+every-none None xs waits e every = every
+every-none (Some owed) xs waits e every = absurd (cc)
+
+pub none-every : (o : Option PartyOwes) (xs : List PartyWait) (waits : List ℕ) → false ≡ is_some o
+    → AreEvery o xs waits → length xs ≡ length waits
+none-every None xs waits e every = every
+none-every (Some owed) xs waits e every = absurd (cc)
+
+-- the same where the pass has the same waits
+pub every-stays : (o : Option PartyOwes) (xs : List PartyWait) (waits left : List ℕ) → left ≡ waits
+    → AreEvery o xs waits → AreEvery o xs left
+every-stays o xs waits left same every = subst (AreEvery o xs) (sym same) every
+
+-- the wait that is being left is one of them still
+pub has-yet : (k n : ℕ) (waits left : List ℕ) → n ≡ k → left ≡ waits → In k waits → In n left
+has-yet k n waits left is same has = subst (In n) (sym same) (subst (λ (m : ℕ). In m waits) (sym is) has)
+
+-- it is over
+pub every-left : (k : ℕ) (xs : List PartyWait) (waits left : List ℕ) → left ≡ without k waits
+    → length (without k waits) + 1 ≡ length waits → length xs + 1 ≡ length waits → length xs ≡ length left
+every-left k xs waits left less once every = let as_short = ap length less in omega arith
 
 -- what a pass that gave parties away has is what it had
 lessened-further : (n : ℕ) (h : Has) → (has_less n h).further ≡ h.further

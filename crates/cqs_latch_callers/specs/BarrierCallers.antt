@@ -1,7 +1,8 @@
 -- How a caller of a barrier stands between two calls.
-use Rattle.std.specs.Prelude.{◌≢◌, List, All, Option, Some, None}
+use Rattle.std.specs.Prelude.{◌≡◌, ◌≢◌, ℕ, ◌+◌, List, All, Option, Some, None, length}
 use Rattle.cqs_steps.specs.declared.carries.Unparked.{Unparked}
 use Rattle.cqs_views.specs.declared.view.View.{View}
+use Rattle.cqs_views.specs.Lists.{Has}
 use Rattle.cqs_rule.specs.Passes.{pass_view}
 use Rattle.cqs_barrier_object.specs.declared.entries.BarrierEntry.{BarrierEntry}
 use Rattle.cqs_barrier.specs.declared.answers.PartyWait.{PartyWait}
@@ -29,10 +30,19 @@ StayApart (Some (Others owing)) xs = Unit {0}
 StayApart (Some (Leave leaving)) xs =
     All (λ x. wait_index (wait_in x) ≢ (leaving_at leaving).index) xs
 
+-- there are as many of these as the pass has waits, and one less where one is being left, which it
+-- has still
+abbrev pub AreEvery : Option PartyOwes → List PartyWait → List ℕ → Type 0
+AreEvery None xs waits = length xs ≡ length waits
+AreEvery (Some (Others owing)) xs waits = length xs ≡ length waits
+AreEvery (Some (Leave leaving)) xs waits =
+    (length xs + 1 ≡ length waits) × Has (leaving_at leaving).index waits
+
 -- The pass is one of the barrier, and owes just what the caller has the token of; and the caller
--- has tokens of waits of the pass, but for the one that is being left.
+-- has tokens of the waits of the pass, of each but for the one that is being left.
 pub record StandsAt (b : Barrier Unparked) (c : BarrierCaller) : Type 0 where
   pub belongs : IsMine b c.pass
   pub owes : OwesJust (pass_view c.pass) c.owed
   pub waits : HasTokens wait_in (pass_view c.pass) c.waits.items
   pub apart : StayApart c.owed c.waits.items
+  pub every : AreEvery c.owed c.waits.items (pass_view c.pass).facts.waits

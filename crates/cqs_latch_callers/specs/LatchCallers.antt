@@ -1,5 +1,5 @@
 -- How a caller of a latch stands between two calls.
-use Rattle.std.specs.Prelude.{Option, Some, None}
+use Rattle.std.specs.Prelude.{◌≡◌, Option, Some, None, length}
 use Rattle.cqs_steps.specs.declared.carries.Unparked.{Unparked}
 use Rattle.cqs_views.specs.declared.view.Facts.{Facts}
 use Rattle.cqs_rule.specs.Passes.{pass_view}
@@ -16,8 +16,9 @@ OwesJust f None = IsReady f
 OwesJust f (Some owed) = HasOwed f owed
 
 -- The pass is one of the latch, and owes just what the caller has the token of; and the caller has
--- tokens of waits of the pass.
+-- tokens of waits of the pass, as many as it has.
 pub record StandsAt (l : Latch Unparked) (c : LatchCaller) : Type 0 where
   pub belongs : IsMine l c.pass
   pub owes : OwesJust (pass_view c.pass).facts c.owed
   pub waits : HasTokens (λ wait. wait) (pass_view c.pass) c.waits.items
+  pub every : length c.waits.items ≡ length (pass_view c.pass).facts.waits

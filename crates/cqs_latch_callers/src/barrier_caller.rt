@@ -1,7 +1,8 @@
 //! What the number of a pass of a barrier stands for: the pass with the parties that it holds, its
 //! waits, and what it owes.
 
-ghost use Rattle.std.specs.Prelude.{◌≡◌, ◌≤◌, ◌<◌, ◌≢◌, All, IsSome, None, [], IfOk, OnOk, OnErr, IfErr, vec_len, vec_capacity, true};
+ghost use Rattle.std.specs.Prelude.{◌≡◌, ◌≤◌, ◌<◌, ◌≢◌, ◌+◌, All, IsSome, None, [], IfOk, OnOk, OnErr, IfErr, vec_len, vec_capacity, true, length};
+ghost use Rattle.cqs_views.specs.Lists.{Has};
 ghost use Rattle.cqs_rule.specs.Passes.{pass_view};
 ghost use Rattle.cqs_rule.specs.Waits.{place_of};
 ghost use Rattle.cqs_barrier.specs.Calls.{IsMine, IsReady};
@@ -47,6 +48,7 @@ impl BarrierCaller {
     ) -> BarrierCaller
         requires belongs { IsMine barrier.now pass }
         requires ready { IsReady (pass_view pass).facts }
+        requires waits_for_nothing { (pass_view pass).facts.waits ≡ [] }
         requires empty { room.items ≡ [] }
         ensures stands { StandsAt barrier.now result }
         ensures pass { result.pass ≡ pass }
@@ -259,6 +261,8 @@ impl BarrierCaller {
         requires free { self.old.owed ≡ None }
         requires owes { HasOwing (pass_view self.old.pass).facts owing }
         requires waits { HasTokens wait_in (pass_view self.old.pass) self.old.waits.items }
+        requires every { length self.old.waits.items
+            ≡ length (pass_view self.old.pass).facts.waits }
         ensures stands { StandsAt barrier.now self.new }
         ensures resumed { HasResumed (pass_view self.old.pass) result (pass_view self.new.pass) }
     {
@@ -280,6 +284,9 @@ impl BarrierCaller {
         requires waits { HasTokens wait_in (pass_view self.old.pass) self.old.waits.items }
         requires apart { All (λ x. wait_index (wait_in x) ≢ (leaving_at leaving).index)
             self.old.waits.items }
+        requires every { length self.old.waits.items + 1
+            ≡ length (pass_view self.old.pass).facts.waits }
+        requires has_yet { Has (leaving_at leaving).index (pass_view self.old.pass).facts.waits }
         ensures stands { StandsAt barrier.now self.new }
         ensures went { HasGoneOn (leaving_at leaving).index (pass_view self.old.pass) result
             (pass_view self.new.pass) }

@@ -27,6 +27,7 @@ impl LatchCaller {
     pub fn new(latch: &Latch<Unparked>, pass: LatchPass<Unparked>, room: Vec<Wait>) -> LatchCaller
         requires belongs { IsMine latch.now pass }
         requires ready { IsReady (pass_view pass).facts }
+        requires waits_for_nothing { (pass_view pass).facts.waits ≡ [] }
         requires empty { room.items ≡ [] }
         ensures stands { StandsAt latch.now result }
         ensures pass { result.pass ≡ pass }

@@ -3,8 +3,9 @@ use Rattle.cqs_barrier.specs.Arriving.{Arrives}
 use Rattle.cqs_barrier.specs.Waits.{wait_in}
 use Rattle.cqs_rule.specs.Passes.{pass_view}
 use Rattle.cqs_callers.specs.Tokens.{HasTokens}
-use Rattle.cqs_latch_callers.proofs.BarrierKept.{owes-none, apart-none, through-waits}
+use Rattle.cqs_latch_callers.proofs.BarrierKept.{owes-none, apart-none, through-waits, every-none, none-every, every-stays}
 use Rattle.cqs_callers.proofs.TokenSteps.{same_waits, one_more}
+use Rattle.cqs_callers.proofs.Every.{every_same, every_more}
 use Rattle.cqs_callers.specs.declared.answers.Answer.TheVariants as answer
 use Rattle.cqs_latch_callers.specs.BarrierTold.{told_arrived}
 use Rattle.cqs_latch_callers.proofs.barrier_caller.BarrierCaller.arrive.Goals as goal
@@ -19,6 +20,7 @@ returns-in-Ok-Last-clause-stands c =
       owes = owes-none w _ c.if-is_some.ensures told.1.ready;
       waits = same_waits wait_in v w _ (through-waits v w told) c.requires.stands.waits;
       apart = apart-none _ _ c.if-is_some.ensures;
+      every = every-stays _ _ _ _ (through-waits v w told).1 c.requires.stands.every;
     }
 
 pub returns-in-Ok-LastOwing-clause-stands : goal.returns-in-Ok-LastOwing-clause-stands
@@ -31,6 +33,7 @@ returns-in-Ok-LastOwing-clause-stands c =
       owes = told.3;
       waits = same_waits wait_in v w _ (told.2.called.called.same.number, told.7) c.requires.stands.waits;
       apart = tt;
+      every = every_same _ _ _ told.7 (none-every _ _ _ c.if-is_some.ensures c.requires.stands.every);
     }
 
 pub returns-in-Ok-Later-clause-stands : goal.returns-in-Ok-Later-clause-stands
@@ -46,6 +49,9 @@ returns-in-Ok-Later-clause-stands c =
           (one_more wait_in v w _ wait (told.0.called.called.same.number, told.2.waits_are)
           c.arrive.ensures.belongs.live.inside told.1 c.requires.stands.waits);
       apart = apart-none _ _ c.if-is_some.ensures;
+      every = every-none _ _ _ c.if-is_some.ensures
+          (every_more _ _ _ _ wait _ c.push_reserved.ensures.items told.2.waits_are
+          (none-every _ _ _ c.if-is_some.ensures c.requires.stands.every));
     }
 
 pub returns-in-Err-clause-stands : goal.returns-in-Err-clause-stands
@@ -58,6 +64,7 @@ returns-in-Err-clause-stands c =
       owes = owes-none w _ c.if-is_some.ensures worn.rests.ready;
       waits = same_waits wait_in v w _ (worn.called.called.same.number, worn.rests.waits_are) c.requires.stands.waits;
       apart = apart-none _ _ c.if-is_some.ensures;
+      every = every-stays _ _ _ _ worn.rests.waits_are c.requires.stands.every;
     }
 
 pub returns-in-Ok-Last-clause-answered : goal.returns-in-Ok-Last-clause-answered

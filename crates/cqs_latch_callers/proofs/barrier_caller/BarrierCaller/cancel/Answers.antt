@@ -3,8 +3,9 @@ use Rattle.cqs_barrier.specs.Leaving.{HasLeft}
 use Rattle.cqs_barrier.specs.Waits.{wait_in}
 use Rattle.cqs_rule.specs.Passes.{pass_view}
 use Rattle.cqs_callers.specs.Tokens.{wait_index}
-use Rattle.cqs_latch_callers.proofs.BarrierKept.{owes-none, apart-none, late-waits}
+use Rattle.cqs_latch_callers.proofs.BarrierKept.{owes-none, apart-none, late-waits, every-none, none-every, has-yet}
 use Rattle.cqs_callers.proofs.TokenSteps.{taken_token, taken_none, taken_others, one_less, one_out}
+use Rattle.cqs_callers.proofs.Every.{every_over, every_same, one_fewer}
 use Rattle.cqs_latch_callers.specs.BarrierTold.{told_left}
 use Rattle.std.proofs.lemmas.Int.{to_z-of_z}
 use mir.Syntax.{w64}
@@ -26,6 +27,9 @@ returns-in-Withdrawn-clause-stands c =
       waits = one_less wait_in v w _ _ _ wait c.in-Some.ensures.taken
           (told.0.called.same.number, told.1.waits_are) c.requires.stands.waits;
       apart = apart-none _ _ c.if-is_some.ensures;
+      every = every-none _ _ _ c.if-is_some.ensures
+          (every_over wait_in v _ _ _ wait _ c.in-Some.ensures.taken c.requires.stands.belongs.live.inside
+          c.requires.stands.waits told.1.waits_are (none-every _ _ _ c.if-is_some.ensures c.requires.stands.every));
     }
 
 pub returns-in-TooLate-clause-stands : goal.returns-in-TooLate-clause-stands
@@ -40,6 +44,9 @@ returns-in-TooLate-clause-stands c =
       owes = owes-none w _ c.if-is_some.ensures told.2;
       waits = one_less wait_in v w _ _ _ wait c.in-Some.ensures.taken (told.0, told.1) c.requires.stands.waits;
       apart = apart-none _ _ c.if-is_some.ensures;
+      every = every-none _ _ _ c.if-is_some.ensures
+          (every_over wait_in v _ _ _ wait _ c.in-Some.ensures.taken c.requires.stands.belongs.live.inside
+          c.requires.stands.waits told.1 (none-every _ _ _ c.if-is_some.ensures c.requires.stands.every));
     }
 
 pub returns-in-Contended-clause-stands : goal.returns-in-Contended-clause-stands
@@ -55,6 +62,11 @@ returns-in-Contended-clause-stands c =
       waits = one_out wait_in v w _ _ _ wait c.in-Some.ensures.taken (told.0.called.same.number, told.4) old;
       apart = subst (λ (k : ℕ). All (λ x. wait_index (wait_in x) ≢ k) c.take_out.new.tokens.items) (sym told.2)
           (taken_others (λ x. wait_index (wait_in x)) _ _ _ wait c.in-Some.ensures.taken old.apart);
+      every = (
+        one_fewer (λ x. wait_index (wait_in x)) _ _ _ wait c.in-Some.ensures.taken
+            ∙ every_same _ _ _ told.4 (none-every _ _ _ c.if-is_some.ensures c.requires.stands.every),
+        has-yet _ _ _ _ told.2 told.4 (taken_token wait_in _ _ _ _ _ c.in-Some.ensures.taken old).open_yet,
+      );
     }
 
 pub returns-in-Withdrawn-clause-no_wait : goal.returns-in-Withdrawn-clause-no_wait

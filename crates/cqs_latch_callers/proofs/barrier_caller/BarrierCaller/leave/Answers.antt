@@ -1,10 +1,10 @@
-use Rattle.std.proofs.Common.{◌≢◌, ℕ, All, subst, sym, ap, rules, ◌∙◌, ℤ}
+use Rattle.std.proofs.Common.{◌≢◌, ℕ, All, length, subst, sym, ap, rules, ◌∙◌, ℤ}
 use Rattle.cqs_barrier.specs.Leaving.{HasLeft, leaving_at}
 use Rattle.cqs_barrier.specs.Waits.{wait_in}
 use Rattle.cqs_rule.specs.Passes.{pass_view}
-use Rattle.cqs_latch_callers.specs.BarrierCallers.{OwesJust, StayApart}
+use Rattle.cqs_latch_callers.specs.BarrierCallers.{OwesJust, StayApart, AreEvery}
 use Rattle.cqs_callers.specs.Tokens.{wait_index}
-use Rattle.cqs_latch_callers.proofs.BarrierKept.{late-waits}
+use Rattle.cqs_latch_callers.proofs.BarrierKept.{late-waits, every-left, has-yet}
 use Rattle.cqs_callers.proofs.TokenSteps.{same_waits, one_gone}
 use Rattle.cqs_latch_callers.specs.BarrierTold.{told_left}
 use Rattle.std.proofs.lemmas.Int.{to_z-of_z}
@@ -23,6 +23,9 @@ returns-in-Withdrawn-clause-stands c =
       owes = subst (OwesJust w) (sym c.requires.free) told.1.ready;
       waits = one_gone wait_in v w _ k (told.0.called.same.number, told.1.waits_are) c.requires.apart c.requires.waits;
       apart = subst (λ o. StayApart o c.args.self.now.waits.items) (sym c.requires.free) tt;
+      every = subst (λ o. AreEvery o c.args.self.now.waits.items w.facts.waits) (sym c.requires.free)
+          (every-left k _ _ _ told.1.waits_are (c.requires.belongs.live.inside.once k c.requires.has_yet)
+          c.requires.every);
     }
 
 pub returns-in-TooLate-clause-stands : goal.returns-in-TooLate-clause-stands
@@ -36,6 +39,8 @@ returns-in-TooLate-clause-stands c =
       owes = subst (OwesJust w) (sym c.requires.free) told.2;
       waits = one_gone wait_in v w _ k (told.0, told.1) c.requires.apart c.requires.waits;
       apart = subst (λ o. StayApart o c.args.self.now.waits.items) (sym c.requires.free) tt;
+      every = subst (λ o. AreEvery o c.args.self.now.waits.items w.facts.waits) (sym c.requires.free)
+          (every-left k _ _ _ told.1 (c.requires.belongs.live.inside.once k c.requires.has_yet) c.requires.every);
     }
 
 pub returns-in-Contended-clause-stands : goal.returns-in-Contended-clause-stands
@@ -50,6 +55,7 @@ returns-in-Contended-clause-stands c =
       waits = same_waits wait_in v w _ (told.0.called.same.number, told.4) c.requires.waits;
       apart = subst (λ (n : ℕ). All (λ x. wait_index (wait_in x) ≢ n) c.args.self.now.waits.items) (sym told.2)
           c.requires.apart;
+      every = (c.requires.every ∙ ap length (sym told.4), has-yet _ _ _ _ told.2 told.4 c.requires.has_yet);
     }
 
 pub returns-in-Withdrawn-clause-went : goal.returns-in-Withdrawn-clause-went

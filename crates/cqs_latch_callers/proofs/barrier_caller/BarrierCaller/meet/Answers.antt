@@ -2,7 +2,7 @@ use Rattle.std.proofs.Common.{ap, refl, inl, inr}
 use Rattle.cqs_barrier.specs.Waits.{wait_in}
 use Rattle.cqs_views.specs.declared.view.Facts.{Facts}
 use Rattle.cqs_rule.specs.Passes.{pass_view}
-use Rattle.cqs_latch_callers.proofs.BarrierKept.{owes-none, apart-none}
+use Rattle.cqs_latch_callers.proofs.BarrierKept.{owes-none, apart-none, every-stays}
 use Rattle.cqs_callers.proofs.TokenSteps.{same_waits}
 use Rattle.cqs_callers.proofs.NotRefused.{no-cause}
 use Rattle.cqs_latch_callers.proofs.barrier_caller.BarrierCaller.meet.Goals as goal
@@ -17,6 +17,7 @@ returns-in-Ok-clause-stands c =
       owes = owes-none w _ c.if-is_some.ensures c.meet.ensures.ready;
       waits = same_waits wait_in v w _ (met.number, ap (λ (f : Facts). f.waits) met.facts_are) c.requires.stands.waits;
       apart = apart-none _ _ c.if-is_some.ensures;
+      every = every-stays _ _ _ _ (ap (λ (f : Facts). f.waits) met.facts_are) c.requires.stands.every;
     }
 
 pub returns-in-Err-clause-stands : goal.returns-in-Err-clause-stands
@@ -30,6 +31,7 @@ returns-in-Err-clause-stands c =
       waits = same_waits wait_in v w _
           (ap (λ p. (pass_view p).number) same, ap (λ p. (pass_view p).facts.waits) same) c.requires.stands.waits;
       apart = apart-none _ _ c.if-is_some.ensures;
+      every = every-stays _ _ _ _ (ap (λ p. (pass_view p).facts.waits) same) c.requires.stands.every;
     }
 
 pub returns-in-Ok-clause-met : goal.returns-in-Ok-clause-met

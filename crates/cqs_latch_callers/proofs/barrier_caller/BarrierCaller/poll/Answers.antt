@@ -3,8 +3,9 @@ use Rattle.cqs_barrier.specs.Answers.{IsPolled}
 use Rattle.cqs_barrier.specs.Waits.{wait_in}
 use Rattle.cqs_rule.specs.Passes.{pass_view}
 use Rattle.cqs_callers.specs.Tokens.{HasTokens, wait_index}
-use Rattle.cqs_latch_callers.proofs.BarrierKept.{owes-none, apart-none}
+use Rattle.cqs_latch_callers.proofs.BarrierKept.{owes-none, apart-none, every-none, none-every}
 use Rattle.cqs_callers.proofs.TokenSteps.{taken_token, taken_none, one_less, one_back}
+use Rattle.cqs_callers.proofs.Every.{every_over, every_back}
 use Rattle.cqs_latch_callers.specs.BarrierTold.{told_polled}
 use Rattle.cqs_latch_callers.proofs.barrier_caller.BarrierCaller.poll.Goals as goal
 
@@ -23,6 +24,9 @@ returns-in-Through-clause-stands c =
       waits = one_less wait_in v w _ _ _ wait c.in-Some.ensures.taken
           (c.poll.ensures.called.called.same.number, told.1.waits_are) c.requires.stands.waits;
       apart = apart-none _ _ c.if-is_some.ensures;
+      every = every-none _ _ _ c.if-is_some.ensures
+          (every_over wait_in v _ _ _ wait _ c.in-Some.ensures.taken c.requires.stands.belongs.live.inside
+          c.requires.stands.waits told.1.waits_are (none-every _ _ _ c.if-is_some.ensures c.requires.stands.every));
     }
 
 pub returns-in-Pending-clause-stands : goal.returns-in-Pending-clause-stands
@@ -38,6 +42,10 @@ returns-in-Pending-clause-stands c =
           (one_back wait_in v w _ _ _ wait c.in-Some.ensures.taken c.in-Pending.wait
           (c.poll.ensures.called.called.same.number, told.3.waits_are) told.0 told.1 c.requires.stands.waits);
       apart = apart-none _ _ c.if-is_some.ensures;
+      every = every-none _ _ _ c.if-is_some.ensures
+          (every_back (λ x. wait_index (wait_in x)) _ _ _ wait c.in-Some.ensures.taken c.in-Pending.wait _ _ _
+          c.push_reserved.ensures.items told.3.waits_are
+          (none-every _ _ _ c.if-is_some.ensures c.requires.stands.every));
     }
 
 pub returns-in-Through-clause-no_wait : goal.returns-in-Through-clause-no_wait

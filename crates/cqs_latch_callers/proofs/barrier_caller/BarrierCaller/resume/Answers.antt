@@ -1,8 +1,9 @@
 use Rattle.std.proofs.Common.{subst, sym, ◌∙◌, ap}
 use Rattle.cqs_barrier.specs.Waits.{wait_in}
 use Rattle.cqs_rule.specs.Passes.{pass_view}
-use Rattle.cqs_latch_callers.specs.BarrierCallers.{OwesJust, StayApart}
+use Rattle.cqs_latch_callers.specs.BarrierCallers.{OwesJust, StayApart, AreEvery}
 use Rattle.cqs_callers.proofs.TokenSteps.{same_waits}
+use Rattle.cqs_callers.proofs.Every.{every_same}
 use Rattle.cqs_callers.specs.declared.answers.Answer.TheVariants as answer
 use Rattle.cqs_latch_callers.specs.BarrierTold.{told_finished}
 use Rattle.cqs_latch_callers.proofs.barrier_caller.BarrierCaller.resume.Goals as goal
@@ -17,6 +18,8 @@ returns-in-Ok-clause-stands c =
       owes = subst (OwesJust w) (sym c.requires.free) told.3;
       waits = same_waits wait_in v w _ (told.2.called.called.same.number, told.2.waits) c.requires.waits;
       apart = subst (λ o. StayApart o c.args.self.now.waits.items) (sym c.requires.free) tt;
+      every = subst (λ o. AreEvery o c.args.self.now.waits.items w.facts.waits) (sym c.requires.free)
+          (every_same _ _ _ told.2.waits c.requires.every);
     }
 
 pub returns-in-Err-clause-stands : goal.returns-in-Err-clause-stands
@@ -29,6 +32,7 @@ returns-in-Err-clause-stands c =
       owes = told.4;
       waits = same_waits wait_in v w _ (told.2.called.called.same.number, told.2.waits) c.requires.waits;
       apart = tt;
+      every = every_same _ _ _ told.2.waits c.requires.every;
     }
 
 pub returns-in-Ok-clause-resumed : goal.returns-in-Ok-clause-resumed

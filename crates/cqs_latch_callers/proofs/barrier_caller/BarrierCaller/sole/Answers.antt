@@ -2,7 +2,7 @@ use Rattle.std.proofs.Common.{ap, ◌∙◌, inr}
 use Rattle.cqs_barrier.specs.Waits.{wait_in}
 use Rattle.cqs_views.specs.declared.view.Facts.{Facts}
 use Rattle.cqs_rule.specs.Passes.{pass_view}
-use Rattle.cqs_latch_callers.proofs.BarrierKept.{owes-same}
+use Rattle.cqs_latch_callers.proofs.BarrierKept.{owes-same, every-stays}
 use Rattle.cqs_callers.proofs.TokenSteps.{same_waits}
 use Rattle.cqs_callers.specs.declared.answers.Answer.TheVariants.{Sole}
 use Rattle.cqs_latch_callers.proofs.barrier_caller.BarrierCaller.sole.Goals as goal
@@ -18,6 +18,7 @@ returns-clause-stands c =
       waits = same_waits wait_in v w _ (looked.same.number, ap (λ (f : Facts). f.waits) looked.facts_are)
           c.requires.stands.waits;
       apart = c.requires.stands.apart;
+      every = every-stays _ _ _ _ (ap (λ (f : Facts). f.waits) looked.facts_are) c.requires.stands.every;
     }
 
 pub returns-clause-answered : goal.returns-clause-answered

@@ -3,7 +3,7 @@ use Rattle.cqs_barrier.specs.Calls.{IsReady}
 use Rattle.cqs_barrier.specs.Waits.{wait_in}
 use Rattle.cqs_views.specs.declared.view.Facts.{Facts}
 use Rattle.cqs_rule.specs.Passes.{pass_view}
-use Rattle.cqs_latch_callers.proofs.BarrierKept.{owes-none, none-owed, apart-none, lessened-ready, first-ready}
+use Rattle.cqs_latch_callers.proofs.BarrierKept.{owes-none, none-owed, apart-none, lessened-ready, first-ready, every-stays}
 use Rattle.cqs_callers.proofs.TokenSteps.{same_waits}
 use Rattle.cqs_views.specs.Crew.{CameWith}
 use Rattle.cqs_barrier.specs.Barrier.{barrier_object}
@@ -12,6 +12,9 @@ use Rattle.cqs_latch_callers.proofs.barrier_caller.BarrierCaller.split.Goals as 
 
 pub new-requires-clause-ready : goal.new-requires-clause-ready
 new-requires-clause-ready c = first-ready _ _ c.in-Ok.ensures.came.facts
+
+pub new-requires-clause-waits_for_nothing : goal.new-requires-clause-waits_for_nothing
+new-requires-clause-waits_for_nothing c = ap (λ (f : Facts). f.waits) c.in-Ok.ensures.came.facts
 
 pub returns-in-Ok-clause-stands : goal.returns-in-Ok-clause-stands
 returns-in-Ok-clause-stands c =
@@ -25,6 +28,7 @@ returns-in-Ok-clause-stands c =
       waits = same_waits wait_in v w _ (gave.same.number, ap (λ (f : Facts). f.waits) gave.facts_are)
           c.requires.stands.waits;
       apart = apart-none _ _ c.if-is_some.ensures;
+      every = every-stays _ _ _ _ (ap (λ (f : Facts). f.waits) gave.facts_are) c.requires.stands.every;
     }
 
 pub returns-in-Err-clause-stands : goal.returns-in-Err-clause-stands
@@ -39,6 +43,7 @@ returns-in-Err-clause-stands c =
       waits = same_waits wait_in v w _ (looked.same.number, ap (λ (f : Facts). f.waits) looked.facts_are)
           c.requires.stands.waits;
       apart = apart-none _ _ c.if-is_some.ensures;
+      every = every-stays _ _ _ _ (ap (λ (f : Facts). f.waits) looked.facts_are) c.requires.stands.every;
     }
 
 pub returns-in-Ok-clause-split : goal.returns-in-Ok-clause-split

@@ -2,8 +2,9 @@ use Rattle.std.proofs.Common.{◌∙◌, ap, subst, sym, inr}
 use Rattle.cqs_latch.specs.LeftAnswers.{IsReadyLeft}
 use Rattle.cqs_rule.specs.Passes.{pass_view}
 use Rattle.cqs_callers.specs.Tokens.{wait_index}
-use Rattle.cqs_latch_callers.proofs.LatchKept.{owes-none}
+use Rattle.cqs_latch_callers.proofs.LatchKept.{owes-none, left-waits}
 use Rattle.cqs_callers.proofs.TokenSteps.{the_wait, tokens_others, taken_token, taken_none}
+use Rattle.cqs_callers.proofs.Every.{every_over}
 use Rattle.cqs_callers.specs.declared.answers.Answer.TheVariants as answer
 use Rattle.cqs_latch_callers.specs.LatchTold.{told_left}
 use Rattle.cqs_latch_callers.proofs.latch_caller.LatchCaller.cancel.Goals as goal
@@ -22,6 +23,8 @@ returns-in-Gone-clause-stands c =
       owes = owes-none _ _ c.if-is_some.ensures
           (subst (λ answer. IsReadyLeft answer w.facts) c.in-Gone.is c.cancel.ensures.ready);
       waits = tokens_others the_wait _ _ _ _ _ _ taken c.cancel.ensures.keeps old;
+      every = every_over the_wait _ _ _ _ _ _ taken c.requires.stands.belongs.live.inside old
+          (left-waits (pass_view c.args.self.now.pass) w _ _ _ c.cancel.ensures.left) c.requires.stands.every;
     }
 
 pub returns-in-GoneOwing-clause-stands : goal.returns-in-GoneOwing-clause-stands
@@ -33,6 +36,8 @@ returns-in-GoneOwing-clause-stands c =
       belongs = c.cancel.ensures.belongs;
       owes = subst (λ answer. IsReadyLeft answer w.facts) c.in-GoneOwing.is c.cancel.ensures.ready;
       waits = tokens_others the_wait _ _ _ _ _ _ taken c.cancel.ensures.keeps old;
+      every = every_over the_wait _ _ _ _ _ _ taken c.requires.stands.belongs.live.inside old
+          (left-waits (pass_view c.args.self.now.pass) w _ _ _ c.cancel.ensures.left) c.requires.stands.every;
     }
 
 pub returns-in-TooLate-clause-stands : goal.returns-in-TooLate-clause-stands
@@ -45,6 +50,8 @@ returns-in-TooLate-clause-stands c =
       owes = owes-none _ _ c.if-is_some.ensures
           (subst (λ answer. IsReadyLeft answer w.facts) c.in-TooLate.is c.cancel.ensures.ready);
       waits = tokens_others the_wait _ _ _ _ _ _ taken c.cancel.ensures.keeps old;
+      every = every_over the_wait _ _ _ _ _ _ taken c.requires.stands.belongs.live.inside old
+          (left-waits (pass_view c.args.self.now.pass) w _ _ _ c.cancel.ensures.left) c.requires.stands.every;
     }
 
 pub returns-in-Gone-clause-no_wait : goal.returns-in-Gone-clause-no_wait

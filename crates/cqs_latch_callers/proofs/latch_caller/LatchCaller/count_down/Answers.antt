@@ -1,8 +1,9 @@
 use Rattle.std.proofs.Common.{subst, ◌∙◌, ap, sym, inr}
 use Rattle.cqs_latch.specs.CountAnswers.{IsReadyAfter}
 use Rattle.cqs_rule.specs.Passes.{pass_view}
-use Rattle.cqs_latch_callers.proofs.LatchKept.{owes-none}
+use Rattle.cqs_latch_callers.proofs.LatchKept.{owes-none, counted-waits}
 use Rattle.cqs_callers.proofs.TokenSteps.{the_wait, tokens_stay}
+use Rattle.cqs_callers.proofs.Every.{every_same}
 use Rattle.cqs_callers.specs.declared.answers.Answer.TheVariants as answer
 use Rattle.cqs_latch_callers.specs.LatchTold.{told_counted}
 use Rattle.cqs_latch_callers.proofs.latch_caller.LatchCaller.count_down.Goals as goal
@@ -14,6 +15,7 @@ returns-in-Ok-Left-clause-stands c = record {
       (subst (λ down. IsReadyAfter down (pass_view c.count_down.new.pass).facts) c.in-Ok-Left.field-0-is
       c.in-Ok-Left.ensures.ready);
   waits = tokens_stay the_wait _ _ _ c.count_down.ensures.keeps c.requires.stands.waits;
+  every = every_same _ _ _ (counted-waits _ _ _ c.in-Ok-Left.ensures.counted) c.requires.stands.every;
 }
 
 pub returns-in-Ok-Last-clause-stands : goal.returns-in-Ok-Last-clause-stands
@@ -23,6 +25,7 @@ returns-in-Ok-Last-clause-stands c = record {
       (subst (λ down. IsReadyAfter down (pass_view c.count_down.new.pass).facts) c.in-Ok-Last.field-0-is
       c.in-Ok-Last.ensures.ready);
   waits = tokens_stay the_wait _ _ _ c.count_down.ensures.keeps c.requires.stands.waits;
+  every = every_same _ _ _ (counted-waits _ _ _ c.in-Ok-Last.ensures.counted) c.requires.stands.every;
 }
 
 pub returns-in-Ok-LastOwing-clause-stands : goal.returns-in-Ok-LastOwing-clause-stands
@@ -31,6 +34,7 @@ returns-in-Ok-LastOwing-clause-stands c = record {
   owes = subst (λ down. IsReadyAfter down (pass_view c.count_down.new.pass).facts) c.in-Ok-LastOwing.field-0-is
       c.in-Ok-LastOwing.ensures.ready;
   waits = tokens_stay the_wait _ _ _ c.count_down.ensures.keeps c.requires.stands.waits;
+  every = every_same _ _ _ (counted-waits _ _ _ c.in-Ok-LastOwing.ensures.counted) c.requires.stands.every;
 }
 
 pub returns-in-Ok-Already-clause-stands : goal.returns-in-Ok-Already-clause-stands
@@ -40,6 +44,7 @@ returns-in-Ok-Already-clause-stands c = record {
       (subst (λ down. IsReadyAfter down (pass_view c.count_down.new.pass).facts) c.in-Ok-Already.field-0-is
       c.in-Ok-Already.ensures.ready);
   waits = tokens_stay the_wait _ _ _ c.count_down.ensures.keeps c.requires.stands.waits;
+  every = every_same _ _ _ (counted-waits _ _ _ c.in-Ok-Already.ensures.counted) c.requires.stands.every;
 }
 
 pub returns-in-Ok-Left-clause-answered : goal.returns-in-Ok-Left-clause-answered

@@ -1,7 +1,9 @@
 use Rattle.std.proofs.Common.{subst, sym, ◌∙◌, ap, inr}
 use Rattle.cqs_rule.specs.Passes.{pass_view}
 use Rattle.cqs_latch_callers.specs.LatchCallers.{OwesJust}
+use Rattle.cqs_latch_callers.proofs.LatchKept.{finished-waits}
 use Rattle.cqs_callers.proofs.TokenSteps.{the_wait, tokens_stay}
+use Rattle.cqs_callers.proofs.Every.{every_same}
 use Rattle.cqs_callers.specs.declared.answers.Answer.TheVariants as answer
 use Rattle.cqs_latch_callers.specs.LatchTold.{told_finished}
 use Rattle.cqs_latch_callers.proofs.latch_caller.LatchCaller.finish.Goals as goal
@@ -11,6 +13,7 @@ returns-in-Ok-clause-stands c = record {
   belongs = c.finish.ensures.belongs;
   owes = subst (OwesJust (pass_view c.finish.new.pass).facts) (sym c.take.ensures.after) c.in-Ok.ensures.ready;
   waits = tokens_stay the_wait _ _ _ c.finish.ensures.keeps c.requires.stands.waits;
+  every = every_same _ _ _ (finished-waits _ _ _ _ c.finish.ensures.finished) c.requires.stands.every;
 }
 
 pub returns-in-Err-clause-stands : goal.returns-in-Err-clause-stands
@@ -18,6 +21,7 @@ returns-in-Err-clause-stands c = record {
   belongs = c.finish.ensures.belongs;
   owes = c.in-Err.ensures.owes;
   waits = tokens_stay the_wait _ _ _ c.finish.ensures.keeps c.requires.stands.waits;
+  every = every_same _ _ _ (finished-waits _ _ _ _ c.finish.ensures.finished) c.requires.stands.every;
 }
 
 pub returns-in-Ok-clause-answered : goal.returns-in-Ok-clause-answered

@@ -1,6 +1,9 @@
-use Rattle.std.proofs.Common.{refl}
+use Rattle.std.proofs.Common.{ap, refl}
+use Rattle.cqs_views.specs.declared.view.Facts.{Facts}
+use Rattle.cqs_rule.specs.Passes.{pass_view}
 use Rattle.cqs_latch_callers.proofs.LatchKept.{owes-none}
 use Rattle.cqs_callers.proofs.TokenSteps.{the_wait, tokens_stay}
+use Rattle.cqs_callers.proofs.Every.{every_same}
 use Rattle.cqs_callers.proofs.NotRefused.{no-cause}
 use Rattle.cqs_latch_callers.proofs.latch_caller.LatchCaller.meet.Goals as goal
 
@@ -9,6 +12,7 @@ returns-in-Ok-clause-stands c = record {
   belongs = c.meet.ensures.belongs;
   owes = owes-none _ _ c.if-is_some.ensures c.meet.ensures.ready;
   waits = tokens_stay the_wait _ _ _ c.meet.ensures.keeps c.requires.stands.waits;
+  every = every_same _ _ _ (ap (λ (f : Facts). f.waits) c.in-Ok.ensures.met.facts_are) c.requires.stands.every;
 }
 
 pub returns-in-Err-clause-stands : goal.returns-in-Err-clause-stands
@@ -16,6 +20,7 @@ returns-in-Err-clause-stands c = record {
   belongs = c.meet.ensures.belongs;
   owes = owes-none _ _ c.if-is_some.ensures c.meet.ensures.ready;
   waits = tokens_stay the_wait _ _ _ c.meet.ensures.keeps c.requires.stands.waits;
+  every = every_same _ _ _ (ap (λ p. (pass_view p).facts.waits) c.in-Err.ensures.unchanged) c.requires.stands.every;
 }
 
 pub returns-in-Ok-clause-met : goal.returns-in-Ok-clause-met

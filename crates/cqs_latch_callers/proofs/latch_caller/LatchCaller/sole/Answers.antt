@@ -2,6 +2,7 @@ use Rattle.std.proofs.Common.{subst, sym, ◌∙◌, ap, inr}
 use Rattle.cqs_views.specs.declared.view.Facts.{Facts}
 use Rattle.cqs_latch_callers.specs.LatchCallers.{OwesJust}
 use Rattle.cqs_callers.proofs.TokenSteps.{the_wait, tokens_stay}
+use Rattle.cqs_callers.proofs.Every.{every_same}
 use Rattle.cqs_callers.specs.declared.answers.Answer.TheVariants.{Sole}
 use Rattle.cqs_latch_callers.proofs.latch_caller.LatchCaller.sole.Goals as goal
 
@@ -11,6 +12,7 @@ returns-clause-stands c = record {
   owes = subst (λ (f : Facts). OwesJust f c.args.self.now.owed) (sym c.sole.ensures.looked.facts_are)
       c.requires.stands.owes;
   waits = tokens_stay the_wait _ _ _ c.sole.ensures.keeps c.requires.stands.waits;
+  every = every_same _ _ _ (ap (λ (f : Facts). f.waits) c.sole.ensures.looked.facts_are) c.requires.stands.every;
 }
 
 pub returns-clause-answered : goal.returns-clause-answered

@@ -3,8 +3,9 @@ use Rattle.cqs_latch.specs.Answers.{HasWaited}
 use Rattle.cqs_rule.specs.Passes.{pass_view}
 use Rattle.cqs_rule.specs.Waits.{place_of}
 use Rattle.cqs_callers.specs.Tokens.{HasTokens}
-use Rattle.cqs_latch_callers.proofs.LatchKept.{owes-none}
+use Rattle.cqs_latch_callers.proofs.LatchKept.{owes-none, passed-waits, refused-waits}
 use Rattle.cqs_callers.proofs.TokenSteps.{the_wait, tokens_stay, tokens_more, new_number}
+use Rattle.cqs_callers.proofs.Every.{every_same, every_more}
 use Rattle.cqs_callers.specs.declared.answers.Answer.TheVariants as answer
 use Rattle.cqs_latch_callers.specs.LatchTold.{told_waited}
 use Rattle.cqs_latch_callers.proofs.latch_caller.LatchCaller.wait.Goals as goal
@@ -14,6 +15,11 @@ returns-in-Ok-Passed-clause-stands c = record {
   belongs = c.wait.ensures.belongs;
   owes = owes-none _ _ c.if-is_some.ensures c.wait.ensures.ready;
   waits = tokens_stay the_wait _ _ _ c.wait.ensures.keeps c.requires.stands.waits;
+  every = every_same _ _ _
+      (passed-waits (pass_view c.args.self.now.pass) (pass_view c.wait.new.pass)
+      (subst (λ answer. HasWaited (pass_view c.args.self.now.pass) answer (pass_view c.wait.new.pass))
+      (c.in-Ok-Passed.is ∙ ap Ok c.in-Ok-Passed.field-0-is) c.wait.ensures.waited))
+      c.requires.stands.every;
 }
 
 pub returns-in-Ok-Later-clause-stands : goal.returns-in-Ok-Later-clause-stands
@@ -31,6 +37,7 @@ returns-in-Ok-Later-clause-stands c =
       owes = owes-none _ _ c.if-is_some.ensures c.wait.ensures.ready;
       waits = subst (HasTokens the_wait w) (sym c.push_reserved.ensures.items)
           (tokens_more the_wait w _ wait told.2.3 others (tokens_stay the_wait v w _ c.wait.ensures.keeps old));
+      every = every_more _ _ _ _ wait _ c.push_reserved.ensures.items told.2.4.waits_are c.requires.stands.every;
     }
 
 pub returns-in-Err-clause-stands : goal.returns-in-Err-clause-stands
@@ -38,6 +45,11 @@ returns-in-Err-clause-stands c = record {
   belongs = c.wait.ensures.belongs;
   owes = owes-none _ _ c.if-is_some.ensures c.wait.ensures.ready;
   waits = tokens_stay the_wait _ _ _ c.wait.ensures.keeps c.requires.stands.waits;
+  every = every_same _ _ _
+      (refused-waits (pass_view c.args.self.now.pass) (pass_view c.wait.new.pass) _
+      (subst (λ answer. HasWaited (pass_view c.args.self.now.pass) answer (pass_view c.wait.new.pass)) c.in-Err.is
+      c.wait.ensures.waited))
+      c.requires.stands.every;
 }
 
 pub returns-in-Ok-Passed-clause-answered : goal.returns-in-Ok-Passed-clause-answered

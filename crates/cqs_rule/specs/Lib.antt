@@ -1,4 +1,5 @@
 pub mod Callbacks
+pub mod Carried
 pub mod Passes
 pub mod Steps
 pub mod Seats

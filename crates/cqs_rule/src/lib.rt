@@ -7,20 +7,29 @@
 #![tactic(auto)]
 
 mod callbacks;
+mod carries;
+mod client;
+mod kinds;
+mod loads;
 mod plays;
 mod queue;
+mod rule;
+mod silent;
 mod threads;
 
 pub use callbacks::Client;
-pub use cqs_steps::{
-    Begins, Cancels, Carries, ClientWords, Counts, Delegates, Draws, Enters, Installs, Kept, Key,
-    Kind, Leaves, LeavesAtOnce, LeavesLine, Load, Meets, Misses, Polls, Reaches, Refuses,
-    RefusesValue, Rule, Serves, Settles, SettlesOwing, Shown, Silent, StartsLeaving, Takes,
-    Unparked, Watches,
-};
+pub use carries::{Carries, Kept, Unparked};
+pub use client::{ClientWords, Shown};
 pub use cqs_views::{
     AcquireError, CELLS_WORD, CLIENT_WORD, CREW_WORD, CancelMode, Change, Config, Crowd, Crowded,
     Drawn, Facts, Glimpse, Has, Learned, MakeError, MeetError, Opening, Place, RESUMES_WORD,
     SUSPENDS_WORD, Sighting, View, Waits,
 };
+pub use kinds::{
+    Begins, Delegates, Draws, Enters, Installs, Kind, Leaves, LeavesAtOnce, LeavesLine, Reaches,
+    Refuses, RefusesValue, Serves, Settles, SettlesOwing, StartsLeaving, Takes,
+};
+pub use loads::{Cancels, Counts, Load, Meets, Misses, Polls, Watches};
 pub use queue::{Pass, Queue, Under, Wait};
+pub use rule::{Key, Rule};
+pub use silent::Silent;

@@ -16,8 +16,9 @@ mod steps;
 mod tokens;
 mod words;
 
+use crate::client::ClientWords;
+use crate::rule::{Key, Rule};
 use atomic_table::{Seat, Table};
-use cqs_steps::{ClientWords, Key, Rule};
 use cqs_views::{CancelMode, View};
 use parked::Parked;
 pub(crate) use slots::Numbered;

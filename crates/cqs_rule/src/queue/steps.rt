@@ -10,9 +10,11 @@ ghost use Rattle.cqs_views.specs.Manner.{Suits};
 ghost use Rattle.cqs_rule.specs.Passes.{pass_view, client_of, IsOf};
 ghost use Rattle.cqs_rule.specs.Steps.{HasLoaded, HasDrawn, HasCrossed};
 
+use crate::client::ClientWords;
+use crate::kinds::Kind;
+use crate::loads::Load;
 use crate::plays::{Cross, Draw, Loading};
 use crate::queue::{Pass, Queue};
-use cqs_steps::{ClientWords, Kind, Load};
 use cqs_views::{Change, Learned, Waits};
 
 // What a pass that held this much holds after the change.

@@ -6,9 +6,9 @@ ghost use Rattle.cqs_rule.specs.Passes.{IsOf};
 ghost use Rattle.cqs_views.specs.Events.{word_plus, word_after_exchange, in_any_case, where_found};
 ghost use Rattle.cqs_rule.specs.Steps.{MayMove, MayKeep, MayGive, HasMoved, HasGiven};
 
+use crate::client::{ClientWords, Shown};
 use crate::plays::{GivingAway, Show, ShowExchange};
 use crate::queue::{Numbered, Pass, Queue};
-use cqs_steps::{ClientWords, Shown};
 use cqs_views::CLIENT_WORD;
 use std::marker::Brand;
 

@@ -6,7 +6,7 @@ use atomic_table::{Shared, TableRule};
 /// What moves with a permit or an element: nothing, or a value that lies in a slot of the table.
 pub trait Carries: Drop {
     ghost use Rattle.std.specs.Prelude.{◌≡◌, ◌<◌, Bool};
-    ghost use Rattle.cqs_steps.specs.Carried.{slots_when};
+    ghost use Rattle.cqs_rule.specs.Carried.{slots_when};
 
     // Whether a value moves.
     ghost kept: { Bool };

@@ -2,7 +2,7 @@
 
 use crate::floors::{Compared, compare};
 use cqs_cli::{DONE, Kept, top_alone};
-use cqs_plan::{BytesSink, BytesSource};
+use cqs_streams::{BytesSink, BytesSource};
 use std::alloc::{AllocError, Global};
 
 /// What the lines of a table have set so far.

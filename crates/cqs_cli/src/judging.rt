@@ -10,7 +10,7 @@ use crate::plans::judge_input;
 use crate::summaries::judge_number;
 use crate::verdict::Verdict;
 use crate::words::{Command, command_of};
-use cqs_plan::{LONGEST_INPUT, ReadError, Source, read_input};
+use cqs_streams::{LONGEST_INPUT, ReadError, Source, read_input};
 use std::alloc::Global;
 
 /// What the words and the source come to. Everything that is to be written is made here, and so is

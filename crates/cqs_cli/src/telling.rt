@@ -5,7 +5,7 @@ ghost use Rattle.cqs_cli.specs.Tellings.{Says, Tells};
 use crate::statuses::{DONE, NO_COMMAND, NO_MEMORY, NO_PLAN, SINK_FAILED, SOURCE_FAILED, TOO_LONG};
 use crate::verdict::Verdict;
 use crate::words::USAGE;
-use cqs_plan::{Sink, write_all};
+use cqs_streams::{Sink, write_all};
 
 /// Writes what a verdict has to say, and gives the status that the call ends with.
 pub fn tell<K: Sink>(sink: &mut K, verdict: &Verdict) -> u8

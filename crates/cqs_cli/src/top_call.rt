@@ -13,7 +13,7 @@ use crate::judging::judge;
 use crate::kept::Kept;
 use crate::statuses::{DONE, NO_COMMAND, NO_MEMORY, NO_PLAN, SINK_FAILED, SOURCE_FAILED, TOO_LONG};
 use crate::telling::tell;
-use cqs_plan::{LONGEST_INPUT, Sink, Source};
+use cqs_streams::{LONGEST_INPUT, Sink, Source};
 use std::alloc::Global;
 
 /// One call for the commands that have no workers: does what the words say and gives the status

@@ -3,7 +3,7 @@
 #![tactic(auto)]
 
 use cqs_cli::{DONE, Kept, top_alone};
-use cqs_plan::{SureSink, SureSource};
+use cqs_streams::{SureSink, SureSource};
 use std::fs;
 use std::rt::Files;
 

@@ -5,7 +5,7 @@ ghost use Rattle.cqs_streams.specs.Counts.{Rises};
 ghost use Rattle.cqs_main.specs.Messages.{IsTold, message};
 
 use cqs_cli::{NO_COMMAND, NO_MEMORY, SINK_FAILED, SOURCE_FAILED, TOO_LONG};
-use cqs_plan::{Sink, write_all};
+use cqs_streams::{Sink, write_all};
 use std::process::ExitCode;
 
 /// What a user is told of a status whose cause the output doesn't tell.

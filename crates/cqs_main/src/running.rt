@@ -18,7 +18,7 @@ ghost use Rattle.cqs_main.specs.Messages.{IsTold, message};
 use crate::messages::finish;
 use crate::words::words_after_name;
 use cqs_cli::{DONE, NO_COMMAND, NO_MEMORY, NO_PLAN, SINK_FAILED, SOURCE_FAILED, TOO_LONG};
-use cqs_plan::{LONGEST_INPUT, Sink, Source};
+use cqs_streams::{LONGEST_INPUT, Sink, Source};
 use cqs_top::{Kept, SharedQueueFloor, top};
 use cqs_work::OpenGate;
 use std::alloc::Global;

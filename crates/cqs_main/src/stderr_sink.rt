@@ -2,7 +2,7 @@
 ghost use Rattle.std.specs.Prelude.{◌≡◌, None, true};
 ghost use Rattle.cqs_streams.specs.Counts.{Rises};
 
-use cqs_plan::{Failed, Sink};
+use cqs_streams::{Failed, Sink};
 use std::io::{Stderr, Write};
 use std::marker::Model;
 

@@ -2,8 +2,7 @@
 //!
 //! A plan names resources and jobs. Each job takes, holds and gives resources, step by step,
 //! over a number of turns. `plans` has the types, one a file; `cqs_reader` reads them from bytes.
-//! A `Floor` is what carries out the steps of a plan's jobs. The streams of `cqs_streams` are
-//! named here once more.
+//! A `Floor` is what carries out the steps of a plan's jobs.
 #![tactic(auto)]
 
 mod floors;
@@ -11,10 +10,6 @@ mod lines;
 mod plans;
 
 pub use cqs_core::Memory;
-pub use cqs_streams::{
-    BytesSink, BytesSource, Failed, LONGEST_INPUT, ReadError, Sink, Source, SureSink, SureSource,
-    Tally, read_input, write_all,
-};
 pub use floors::answers::{FloorDown, FloorEnd, FloorGive, FloorLeave, FloorLook, FloorTake};
 pub use floors::floor::Floor;
 pub use lines::fault_line;

@@ -21,7 +21,7 @@ use cqs_cli::{
     DONE, Kept as KeptAlone, NO_COMMAND, NO_MEMORY, NO_PLAN, SINK_FAILED, SOURCE_FAILED, TOO_LONG,
     top_alone,
 };
-use cqs_plan::{LONGEST_INPUT, Sink, Source};
+use cqs_streams::{LONGEST_INPUT, Sink, Source};
 use cqs_work::Gate;
 use std::alloc::Global;
 use std::sync::Wait;

@@ -15,7 +15,7 @@ use crate::floors::SharedQueueFloor;
 use crate::judging::judge;
 use crate::kept::Kept;
 use cqs_cli::{DONE, NO_COMMAND, NO_MEMORY, NO_PLAN, SINK_FAILED, SOURCE_FAILED, TOO_LONG, tell};
-use cqs_plan::{LONGEST_INPUT, Sink, Source};
+use cqs_streams::{LONGEST_INPUT, Sink, Source};
 use cqs_work::Gate;
 use std::alloc::Global;
 use std::sync::Wait;

@@ -1,6 +1,6 @@
 //! One call of the program.
 
-use cqs_plan::{SureSink, SureSource};
+use cqs_streams::{SureSink, SureSource};
 use cqs_top::{Kept, top};
 use cqs_work::OpenGate;
 use std::alloc::{AllocError, Global};

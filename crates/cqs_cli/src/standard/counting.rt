@@ -2,7 +2,7 @@
 
 ghost use Rattle.cqs_cli.specs.Standard.{IsCounted};
 
-use cqs_plan::Failed;
+use cqs_streams::Failed;
 use std::io;
 
 /// Hands on what a call came to, and counts its failure.

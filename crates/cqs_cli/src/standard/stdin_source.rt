@@ -6,7 +6,7 @@ ghost use Rattle.std.specs.IoError.{error_kind};
 ghost use Rattle.cqs_streams.specs.Tally.{no_reads};
 
 use super::counting::count_fault;
-use cqs_plan::{Failed, Source, Tally};
+use cqs_streams::{Failed, Source, Tally};
 use std::io::{self, ErrorKind, Read, Stdin};
 use std::marker::Model;
 

@@ -5,7 +5,7 @@ ghost use Rattle.std.specs.Io.{WritesAtMost};
 ghost use Rattle.std.specs.IoError.{error_kind};
 
 use super::counting::count_fault;
-use cqs_plan::{Failed, Sink};
+use cqs_streams::{Failed, Sink};
 use std::io::{self, ErrorKind, Stdout, Write};
 use std::marker::Model;
 

@@ -1,11 +1,12 @@
 -- From a verdict that was told to what was kept with it.
-use Rattle.std.proofs.Common.{◌≡◌, ℕ, ◌⊎◌, inl, inr, Bool, List, Option, IsTrue, ◌∙◌, sym, subst, arith}
+use Rattle.std.proofs.Common.{◌≡◌, ℕ, ◌⊎◌, inl, inr, Bool, List, length, Option, IsTrue, ◌∙◌, sym, subst, arith}
 use Rattle.cqs_streams.specs.Stream.{Gains, GainsPrefix}
+use Rattle.cqs_streams.specs.Tally.{GoesOn, StopsWithin}
 use Rattle.cqs_streams.specs.declared.streams.tally.Tally.{Tally}
 use Rattle.cqs_cli.specs.KeptRuns.{IsNoRun, Keeps, KeepsFor, KeptText}
 use Rattle.cqs_cli.specs.Meanings.{HasTold}
 use Rattle.cqs_cli.specs.Tellings.{Tells}
-use Rattle.cqs_cli.specs.Verdicts.{HasTaken, IsVerdict, IsVerdictFor, IsVerdictOn, StopsWithin}
+use Rattle.cqs_cli.specs.Verdicts.{HasTaken, IsVerdict, IsVerdictFor, IsVerdictOn}
 use Rattle.cqs_cli.specs.Words.{IsGen}
 use Rattle.cqs_cli.specs.declared.kept.Kept.{Kept}
 use Rattle.cqs_cli.specs.declared.kept.Kept.TheVariants.{Nothing}
@@ -25,13 +26,13 @@ taken_for bytes verdict.SourceFailed old new right stops = absurd right
 taken_for bytes verdict.TooLong old new right stops = absurd right
 
 module _ {S K : Type 0} (left : S → Option (List ℕ)) (source_faults : S → ℕ)
-    (held : K → Option (List ℕ)) (is_flushed : K → Bool) (sink_faults : K → ℕ)
+    (held : K → Option (List ℕ)) (is_flushed : K → Bool) (sink_faults : K → ℕ) (sink_tally : K → Tally)
     (words : List (List ℕ)) (source source_after : S) (sink sink_after : K) where
   -- a verdict that is right, and was told with this status
   abbrev Ends : Verdict → ℕ → Type 0
   Ends given status =
       IsVerdict left source_faults words given source source_after
-      × Tells held is_flushed sink_faults given status sink sink_after
+      × Tells held is_flushed sink_faults sink_tally given status sink sink_after
 
   -- with status 0 the report of a plan was written, or a summary
   pub headline : (given : Verdict) (status : ℕ) → Ends given status → status ≡ 0
@@ -64,7 +65,8 @@ module _ {S K : Type 0} (left : S → Option (List ℕ)) (source_faults : S → 
     -- with status 0 the floor of the run is kept whose text was written
     pub kept_done : (given : Verdict) (status : ℕ) → Ends given status → KeptWith given → status ≡ 0
         → KeptText words (left source) (left source_after) kept_after
-        (λ text. Gains text (held sink) (held sink_after))
+        (λ text. Gains text (held sink) (held sink_after)
+        × GoesOn (length text) (sink_tally sink) (sink_tally sink_after))
     kept_done (verdict.Report text) status ((run, _, _), inl (is, wrote)) keeps zero = inl (
       run,
       record {
@@ -72,7 +74,7 @@ module _ {S K : Type 0} (left : S → Option (List ℕ)) (source_faults : S → 
         input = keeps.input;
         text = keeps.text;
         run = keeps.run;
-        holds = rw keeps.holds wrote.whole;
+        holds = rw keeps.holds (wrote.whole, wrote.counted);
       },
     )
     kept_done (verdict.Summary text) status (judged, inl (is, wrote)) keeps zero = inr (record {
@@ -80,7 +82,9 @@ module _ {S K : Type 0} (left : S → Option (List ℕ)) (source_faults : S → 
       jobs = keeps.jobs;
       asked = keeps.asked;
       run = keeps.run;
-      holds = rw keeps.holds wrote.whole;
+      holds = subst (λ made. Gains made (held sink) (held sink_after)
+          × GoesOn (length made) (sink_tally sink) (sink_tally sink_after)) (sym keeps.holds)
+          (wrote.whole, wrote.counted);
     })
     kept_done (verdict.Summary text) status (judged, inr (is, broke)) keeps zero = absurd (omega (arith, is, zero))
     kept_done (verdict.Report text) status (judged, inr (is, broke)) keeps zero = absurd (omega (arith, is, zero))
@@ -95,7 +99,8 @@ module _ {S K : Type 0} (left : S → Option (List ℕ)) (source_faults : S → 
     -- where the sink failed, the floor is kept of the run whose text broke off, and nothing more where there was none
     pub kept_broken : (given : Verdict) (status : ℕ) → Ends given status → KeptWith given → kept ≡ Nothing → status ≡ 5
         → KeptText words (left source) (left source_after) kept_after
-        (λ text. GainsPrefix text (held sink) (held sink_after))
+        (λ text. GainsPrefix text (held sink) (held sink_after)
+        × StopsWithin (length text) (sink_tally sink) (sink_tally sink_after))
         ⊎ ((kept_after ≡ Nothing) × IsNoRun words (left source) (left source_after))
     kept_broken (verdict.Report text) status ((run, _, _), inr (is, broke)) keeps empty five = inl (inl (
       run,
@@ -104,7 +109,7 @@ module _ {S K : Type 0} (left : S → Option (List ℕ)) (source_faults : S → 
         input = keeps.input;
         text = keeps.text;
         run = keeps.run;
-        holds = rw keeps.holds broke.prefix;
+        holds = rw keeps.holds (broke.prefix, broke.counted);
       },
     ))
     kept_broken (verdict.Summary text) status (judged, inr (is, broke)) keeps empty five = inl (inr (record {
@@ -112,7 +117,9 @@ module _ {S K : Type 0} (left : S → Option (List ℕ)) (source_faults : S → 
       jobs = keeps.jobs;
       asked = keeps.asked;
       run = keeps.run;
-      holds = subst (λ made. GainsPrefix made (held sink) (held sink_after)) (sym keeps.holds) broke.prefix;
+      holds = subst (λ made. GainsPrefix made (held sink) (held sink_after)
+          × StopsWithin (length made) (sink_tally sink) (sink_tally sink_after)) (sym keeps.holds)
+          (broke.prefix, broke.counted);
     }))
     kept_broken (verdict.Summary text) status (judged, inl (is, wrote)) keeps empty five =
         absurd (omega (arith, is, five))

@@ -1,6 +1,7 @@
 -- From a verdict that is right and was told to what the status means.
 use Rattle.std.proofs.Common.{◌≡◌, ℕ, ◌≤◌, inl, inr, Bool, List, length, Option, Some, None, ap, sym, ◌∙◌, subst, arith, refl, length-append, lit<}
 use Rattle.cqs_streams.specs.Counts.{Rises}
+use Rattle.cqs_streams.specs.declared.streams.tally.Tally.{Tally}
 use Rattle.cqs_streams.specs.Stream.{GivesCount, IsAll}
 use Rattle.cqs_cli.specs.Input.{IsInput}
 use Rattle.cqs_cli.specs.Meanings.{BrokeOff, IsStatus, MustEnd}
@@ -39,14 +40,42 @@ gave_as_many count told (Some all) after (bytes, many, (rest, whole, _)) tells =
     let same : all ≡ told = cc in
     omega (arith, ap length (sym same ∙ whole), length-append bytes rest)
 
+-- after a call of a sink that stopped none is made
+pub stops-once : {K : Type 0} (held : K → Option (List ℕ)) (is_flushed : K → Bool) (faults : K → ℕ)
+    (tally : K → Tally) (old new : K) (given : Verdict) (status : ℕ)
+    → Tells held is_flushed faults tally given status old new
+    → (tally old).stops ≡ 0 → (tally new).stops ≤ 1
+stops-once held is_flushed faults tally old new verdict.NoCommand status (inl (is, wrote)) none =
+    omega (arith, wrote.counted.goes_on none)
+stops-once held is_flushed faults tally old new verdict.NoCommand status (inr (is, broke)) none =
+    omega (arith, broke.counted.stops none)
+stops-once held is_flushed faults tally old new (verdict.Report text) status (inl (is, wrote)) none =
+    omega (arith, wrote.counted.goes_on none)
+stops-once held is_flushed faults tally old new (verdict.Report text) status (inr (is, broke)) none =
+    omega (arith, broke.counted.stops none)
+stops-once held is_flushed faults tally old new (verdict.Summary text) status (inl (is, wrote)) none =
+    omega (arith, wrote.counted.goes_on none)
+stops-once held is_flushed faults tally old new (verdict.Summary text) status (inr (is, broke)) none =
+    omega (arith, broke.counted.stops none)
+stops-once held is_flushed faults tally old new (verdict.NoPlan line) status (inl (is, wrote)) none =
+    omega (arith, wrote.counted.goes_on none)
+stops-once held is_flushed faults tally old new (verdict.NoPlan line) status (inr (is, broke)) none =
+    omega (arith, broke.counted.stops none)
+stops-once held is_flushed faults tally old new verdict.SourceFailed status (is, same) none =
+    rw same (rw none (omega arith))
+stops-once held is_flushed faults tally old new verdict.NoMemory status (is, same) none =
+    rw same (rw none (omega arith))
+stops-once held is_flushed faults tally old new verdict.TooLong status (is, same) none =
+    rw same (rw none (omega arith))
+
 module _ {S K : Type 0} (left : S → Option (List ℕ)) (source_faults : S → ℕ)
-    (held : K → Option (List ℕ)) (is_flushed : K → Bool) (sink_faults : K → ℕ)
+    (held : K → Option (List ℕ)) (is_flushed : K → Bool) (sink_faults : K → ℕ) (sink_tally : K → Tally)
     (words : List (List ℕ)) (source source_after : S) (sink sink_after : K) where
   -- a verdict that is right, and was told with this status
   abbrev Ends : Verdict → ℕ → Type 0
   Ends given status =
       IsVerdict left source_faults words given source source_after
-      × Tells held is_flushed sink_faults given status sink sink_after
+      × Tells held is_flushed sink_faults sink_tally given status sink sink_after
 
   -- the status of a verdict that was told is one of those that there are
   pub is_status : (given : Verdict) (status : ℕ) → Ends given status → IsStatus status

@@ -8,9 +8,16 @@ pub record StandardInput : Type 0 where
   pub tally : Tally
   pub faults : ℕ
 
--- whether all that standard output took was flushed on, and how often it failed
+-- whether all that standard output took was flushed on, what it counted of its calls, and how often
+-- it failed
 pub record StandardOutput : Type 0 where
   pub is_flushed : Bool
+  pub tally : Tally
+  pub faults : ℕ
+
+-- what standard error counted: its calls, and how often it failed
+pub record StandardError : Type 0 where
+  pub tally : Tally
   pub faults : ℕ
 
 -- the answer of a call is handed on as it is, and the count of faults rose

@@ -4,6 +4,7 @@ use Rattle.cqs_streams.specs.Counts.{raise, Rises}
 use Rattle.cqs_streams.specs.Stream.{GivesCount}
 use Rattle.cqs_streams.specs.declared.streams.reading.TheConstants.{LONGEST_INPUT}
 use Rattle.cqs_streams.specs.declared.streams.tally.Tally.{Tally}
+use Rattle.cqs_streams.specs.Tally.{StopsWithin}
 use Rattle.cqs_cli.specs.Input.{IsInput}
 use Rattle.cqs_cli.specs.Plans.{IsFaultLine, IsReport}
 use Rattle.cqs_cli.specs.Summaries.{IsSummary, IsSummaryOf}
@@ -54,11 +55,6 @@ IsVerdict left faults words (verdict.Report text) old new =
     IsRun words × (faults new ≡ faults old) × IsJudged (verdict.Report text) (left old) (left new)
 IsVerdict left faults words (verdict.NoPlan line) old new =
     IsRun words × (faults new ≡ faults old) × IsJudged (verdict.NoPlan line) (left old) (left new)
-
--- at most so many bytes were given, and the last read stopped, if none did before
-pub record StopsWithin (most : ℕ) (old new : Tally) : Type 0 where
-  pub few : new.given ≤ old.given + most
-  pub stops : old.stops ≡ 0 → new.stops ≡ 1
 
 -- what the reads for a verdict gave, and whether the last of them stopped
 abbrev pub HasTaken : Verdict → Tally → Tally → Type 0

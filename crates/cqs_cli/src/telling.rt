@@ -9,7 +9,7 @@ use cqs_streams::{Sink, write_all};
 
 /// Writes what a verdict has to say, and gives the status that the call ends with.
 pub fn tell<K: Sink>(sink: &mut K, verdict: &Verdict) -> u8
-    ensures { Tells K.held K.is_flushed K.faults verdict.now result sink.old sink.new }
+    ensures { Tells K.held K.is_flushed K.faults K.tally verdict.now result sink.old sink.new }
 {
     match verdict {
         Verdict::NoCommand => say(sink, USAGE.as_bytes(), NO_COMMAND),
@@ -24,7 +24,7 @@ pub fn tell<K: Sink>(sink: &mut K, verdict: &Verdict) -> u8
 
 /// Writes a text after which a call ends with this status, unless the sink fails.
 fn say<K: Sink>(sink: &mut K, text: &[u8], status: u8) -> u8
-    ensures { Says K.held K.is_flushed K.faults text.now status result sink.old sink.new }
+    ensures { Says K.held K.is_flushed K.faults K.tally text.now status result sink.old sink.new }
 {
     match write_all(sink, text) {
         Ok(()) => status,

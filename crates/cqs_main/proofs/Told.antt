@@ -1,8 +1,10 @@
 -- What a sink took of a text that was handed to it.
-use Rattle.std.specs.Prelude.{ℕ, Bool, List, length, Option, Result, Ok, Err, OnOk, OnErr, IsTrue}
-use Rattle.std.proofs.Common.{rules, subst, sym}
+use Rattle.std.specs.Prelude.{◌≡◌, ℕ, ◌≤◌, Bool, List, length, Option, Result, Ok, Err, OnOk, OnErr, IsTrue}
+use Rattle.std.proofs.Common.{rules, subst, sym, arith}
 use Rattle.std.proofs.Math.Seq.{take-length}
 use Rattle.cqs_streams.specs.Stream.{Gains, GainsPrefix, Rises}
+use Rattle.cqs_streams.specs.Tally.{GoesOn, StopsWithin}
+use Rattle.cqs_streams.specs.declared.streams.tally.Tally.{Tally}
 use Rattle.cqs_main.specs.Messages.{IsTold}
 
 -- by what the writing of the text answered
@@ -18,8 +20,12 @@ is_told (Err e) text held after faults now whole part cause = record {
   part = part;
 }
 
--- and whether all of it was flushed on
-pub is_flushed : {T E : Type 0} (r : Result T E) (faults now : ℕ) (flushed : Bool) → OnOk r (IsTrue flushed)
-    → OnErr r (Rises faults now) → ¬ Rises faults now → IsTrue flushed
-is_flushed (Ok x) faults now flushed whole cause calm = whole
-is_flushed (Err e) faults now flushed whole cause calm = absurd (calm cause)
+-- and whether all of it was flushed on, and nothing written after a fault
+pub goes_through : {T E : Type 0} (r : Result T E) (count faults now : ℕ) (flushed : Bool) (old new : Tally)
+    → OnOk r (IsTrue flushed) → OnErr r (Rises faults now) → OnOk r (GoesOn count old new)
+    → OnErr r (StopsWithin count old new)
+    → (¬ Rises faults now → IsTrue flushed) × (old.stops ≡ 0 → new.stops ≤ 1)
+goes_through (Ok x) count faults now flushed old new whole cause went stopped =
+    (λ calm. whole, λ none. omega (arith, went.goes_on none))
+goes_through (Err e) count faults now flushed old new whole cause went stopped =
+    (λ calm. absurd (calm cause), λ none. omega (arith, stopped.stops none))

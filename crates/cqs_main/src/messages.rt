@@ -1,5 +1,5 @@
 //! The line on standard error, and the end of the process.
-ghost use Rattle.std.specs.Prelude.{◌≡◌, IsTrue};
+ghost use Rattle.std.specs.Prelude.{◌≡◌, ◌≤◌, IsTrue};
 ghost use Rattle.std.specs.Process.{exit_status};
 ghost use Rattle.cqs_streams.specs.Counts.{Rises};
 ghost use Rattle.cqs_main.specs.Messages.{IsTold, message};
@@ -23,13 +23,14 @@ pub fn message_of(status: u8) -> &'static str
 }
 
 /// Ends with a status, and tells its cause: whole, unless standard error counted a fault.
-#[tactic(auto, using(crate::proofs::Told::is_told, crate::proofs::Told::is_flushed))]
+#[tactic(auto, using(crate::proofs::Told::is_told, crate::proofs::Told::goes_through))]
 pub fn finish<E: Sink>(errors: &mut E, status: u8) -> ExitCode
     ensures status { exit_status result ≡ status }
     ensures message { IsTold (message status) (E.faults errors.old) (E.faults errors.new)
         (E.held errors.old) (E.held errors.new) }
     ensures flushed { ¬ Rises (E.faults errors.old) (E.faults errors.new)
         → IsTrue (E.is_flushed errors.new) }
+    ensures stops { (E.tally errors.old).stops ≡ 0 → (E.tally errors.new).stops ≤ 1 }
 {
     // Whether the line comes changes no status.
     let _ = write_all(errors, message_of(status).as_bytes());

@@ -3,6 +3,7 @@ ghost use Rattle.std.specs.Prelude.{◌≡◌, ◌≢◌, ◌⊎◌, ℕ, ◌+�
 ghost use Rattle.std.specs.Process.{exit_status};
 ghost use Rattle.cqs_streams.specs.Counts.{raise, Rises};
 ghost use Rattle.cqs_streams.specs.Stream.{Gains, GainsPrefix, GivesAtMost, GivesCount};
+ghost use Rattle.cqs_streams.specs.Tally.{GoesOn, StopsWithin};
 ghost use Rattle.cqs_cli.specs.Meanings.{IsStatus, MustEnd, NamedFault};
 ghost use Rattle.cqs_cli.specs.Plans.{IsPlan};
 ghost use Rattle.cqs_cli.specs.Words.{IsSomeGen, usage};
@@ -55,6 +56,7 @@ pub fn run<R: Threads + Wait + Sync, S: Source, K: Sink, E: Sink>(
     ensures no_command { exit_status result ≡ NO_COMMAND → (¬ IsCommand (words_of arguments))
         × (source.new ≡ source.old)
         × Gains usage (K.held sink.old) (K.held sink.new)
+        × GoesOn (length usage) (K.tally sink.old) (K.tally sink.new)
         × IsTrue (K.is_flushed sink.new) }
 
     // The input was no plan, and the line that says why was written and flushed.
@@ -101,10 +103,12 @@ pub fn run<R: Threads + Wait + Sync, S: Source, K: Sink, E: Sink>(
         → (exit_status result ≡ DONE) ⊎ (exit_status result ≡ NO_PLAN)
         → (S.tally source.old).stops ≡ 0 → (S.tally source.new).stops ≡ 1 }
 
-    // There is no other status, and a fault is never hidden behind one.
+    // There is no other status, a fault is never hidden behind one, and nothing is written after a
+    // fault of the sink.
     ensures statuses { IsStatus (exit_status result) }
     ensures source_calm { exit_status result ≢ SOURCE_FAILED
         → S.faults source.new ≡ S.faults source.old }
+    ensures sink_stops { (K.tally sink.old).stops ≡ 0 → (K.tally sink.new).stops ≤ 1 }
     ensures sink_calm { exit_status result ≢ SINK_FAILED
         → K.faults sink.new ≡ K.faults sink.old }
 
@@ -133,22 +137,25 @@ pub fn run<R: Threads + Wait + Sync, S: Source, K: Sink, E: Sink>(
         → MustEnd DONE (exit_status result) }
 
     // Standard error gets the message of the status: whole where it counted no fault, and a prefix
-    // of it in any case.
+    // of it in any case. Nothing is written there after a fault.
     ensures message { IsTold (message (exit_status result))
         (E.faults errors.old) (E.faults errors.new) (E.held errors.old) (E.held errors.new) }
     ensures flushed { ¬ Rises (E.faults errors.old) (E.faults errors.new)
         → IsTrue (E.is_flushed errors.new) }
+    ensures error_stops { (E.tally errors.old).stops ≡ 0 → (E.tally errors.new).stops ≤ 1 }
 
     // What the text was made of is kept for the caller: with status 0, and where the sink failed
     // unless no plan was run; so the text can't come from anything else.
     ensures kept_done { exit_status result ≡ DONE →
         KeptText (shared_in share_any) (words_of arguments)
         (S.left source.old) (S.left source.new) kept.new
-        (λ text. Gains text (K.held sink.old) (K.held sink.new)) }
+        (λ text. Gains text (K.held sink.old) (K.held sink.new)
+        × GoesOn (length text) (K.tally sink.old) (K.tally sink.new)) }
     ensures kept_broken { exit_status result ≡ SINK_FAILED →
         KeptText (shared_in share_any) (words_of arguments)
         (S.left source.old) (S.left source.new)
-        kept.new (λ text. GainsPrefix text (K.held sink.old) (K.held sink.new))
+        kept.new (λ text. GainsPrefix text (K.held sink.old) (K.held sink.new)
+        × StopsWithin (length text) (K.tally sink.old) (K.tally sink.new))
         ⊎ ((kept.new ≡ Nothing)
         × IsNoRun (words_of arguments) (S.left source.old) (S.left source.new)) }
     ensures kept_nothing { exit_status result ≢ DONE → exit_status result ≢ SINK_FAILED

@@ -1,41 +1,50 @@
 //! Standard error as a sink.
-ghost use Rattle.std.specs.Prelude.{◌≡◌, None, true};
+ghost use Rattle.std.specs.Prelude.{◌≡◌, None, true, false};
 ghost use Rattle.cqs_streams.specs.Counts.{Rises};
+ghost use Rattle.cqs_streams.specs.Tally.{after_call, no_calls};
 
-use cqs_streams::{Failed, Sink};
+use cqs_streams::{Failed, Sink, Tally};
 use std::io::{Stderr, Write};
 use std::marker::Model;
 
-/// Standard error. What becomes of its bytes is outside all contracts; its failures are counted.
+/// Standard error. What becomes of its bytes is outside all contracts; how many it took, and its
+/// failures, are counted.
 ///
 /// A write that failed is not made again, so that a line that doesn't come never keeps the program
 /// from ending.
 #[derive(Drop)]
 pub struct StderrSink {
     stderr: Stderr,
+    tally: Tally,
     faults: u64,
 }
 
 impl Model for StderrSink {
-    ghost use Rattle.std.specs.Prelude.{ℕ};
+    ghost use Rattle.cqs_cli.specs.Standard.{StandardError};
 
-    ghost Value = { ℕ };
+    ghost Value = { StandardError };
 
-    ghost view = { λ sink. sink.faults };
+    ghost view = { λ sink. record { tally = sink.tally; faults = sink.faults } };
 }
 
 impl StderrSink {
     /// Standard error before its first write.
     pub fn new(stderr: Stderr) -> StderrSink
-        ensures { result ≡ 0 }
+        ensures { result ≡ record { tally = no_calls; faults = 0 } }
     {
-        StderrSink { stderr, faults: 0 }
+        StderrSink {
+            stderr,
+            tally: Tally::new(),
+            faults: 0,
+        }
     }
 
     // Counts a failure.
     fn fail(&mut self) -> Failed
-        ensures { Rises self.old self.new }
+        ensures rises { Rises self.old.faults self.new.faults }
+        ensures stops { self.new.tally ≡ after_call self.old.tally 0 false }
     {
+        self.tally.count(0, false);
         self.faults = self.faults.saturating_add(1);
         Failed
     }
@@ -47,18 +56,26 @@ impl Sink for StderrSink {
     // It keeps nothing back.
     ghost is_flushed = { λ _. true };
 
-    ghost faults = { λ faults. faults };
+    ghost tally = { λ sink. sink.tally };
+
+    ghost faults = { λ sink. sink.faults };
 
     fn write(&mut self, piece: &[u8]) -> Result<usize, Failed> {
         match self.stderr.write(piece) {
-            Ok(count) if count > 0 || piece.is_empty() => Ok(count),
+            Ok(count) if count > 0 || piece.is_empty() => {
+                self.tally.count(count, true);
+                Ok(count)
+            }
             _ => Err(self.fail()),
         }
     }
 
     fn flush(&mut self) -> Result<(), Failed> {
         match self.stderr.flush() {
-            Ok(()) => Ok(()),
+            Ok(()) => {
+                self.tally.count(0, true);
+                Ok(())
+            }
             Err(_) => Err(self.fail()),
         }
     }

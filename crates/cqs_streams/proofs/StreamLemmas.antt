@@ -1,7 +1,7 @@
 -- One piece after another: what a stream gave or took in all.
-use Rattle.std.proofs.Common.{◌≡◌, ℕ, ◌+◌, ◌-◌, List, ◌++◌, [], length, take, drop, Option, Some, None, ap, sym, ◌∙◌, arith, append_assoc, length-append, length-drop, append-nil}
-use Rattle.std.proofs.Math.Seq.{take-add, take-length}
-use Rattle.std.proofs.lemmas.List.{drop-drop, nil_from_length, take-append-drop}
+use Rattle.std.proofs.Common.{◌≡◌, ℕ, ◌+◌, ◌-◌, ◌≤◌, min, List, ◌++◌, [], length, take, drop, Option, Some, None, ap, sym, ◌∙◌, arith, append_assoc, length-append, length-drop, append-nil}
+use Rattle.std.proofs.Math.Seq.{take-add, take-append-add, take-length}
+use Rattle.std.proofs.lemmas.List.{drop-drop, nil_from_length, take-append-drop, take_min}
 use Rattle.cqs_streams.specs.Stream.{Gives, Gains, IsAll}
 
 -- a source that gave one piece and then the next gave both
@@ -59,3 +59,13 @@ pub left_splits : (bytes : List ℕ) (place count : ℕ)
 left_splits bytes place count =
     sym (take-append-drop count (drop place bytes))
     ∙ ap (λ xs. take count (drop place bytes) ++ xs) (drop-drop count place bytes)
+
+-- what a sink keeps of a piece, as far as its room goes
+pub kept-in-room : (room : ℕ) (kept piece : List ℕ) → length kept ≤ room
+    → kept ++ take (min (length piece) (room - length kept)) piece ≡ take room (kept ++ piece)
+kept-in-room room kept piece fits =
+    let spare = room - length kept in
+    let turned : min (length piece) spare ≡ min spare (length piece) = omega arith in
+    let whole : length kept + spare ≡ room = omega (arith, fits) in
+    ap (λ n. kept ++ take n piece) turned ∙ ap (λ xs. kept ++ xs) (take_min spare piece)
+    ∙ sym (take-append-add kept piece spare) ∙ ap (λ n. take n (kept ++ piece)) whole

@@ -1,7 +1,7 @@
 -- Sources and sinks in memory: what they are, and exactly what one call does.
 use Rattle.std.specs.Prelude.{◌≡◌, ℕ, ◌+◌, ◌-◌, ◌<◌, ◌⊎◌, min, Bool, true, false, ◌||◌, nat_lt, List, ◌++◌, length, take, drop, Option, Some, None, Result, Ok, Err, if◌then◌else◌}
-use Rattle.cqs_streams.specs.Script.{Script, IsFailing, after_call, after_fault}
-use Rattle.cqs_streams.specs.Tally.{after_read}
+use Rattle.cqs_streams.specs.Script.{Script, IsFailing, with_call, after_fault}
+use Rattle.cqs_streams.specs.Tally.{after_call, after_read}
 use Rattle.cqs_streams.specs.declared.streams.failed.Failed.{Failed}
 use Rattle.cqs_streams.specs.declared.streams.tally.Tally.{Tally}
 
@@ -37,16 +37,18 @@ pub record ScriptedSource : Type 0 where
 abbrev pub ReadsByScript : ScriptedSource → List ℕ → Result ℕ Failed → ScriptedSource → Type 0
 ReadsByScript old buffer (Ok count) new =
     (¬ IsFailing old.script) × ReadsNext old.plain buffer count new.plain
-    × (new.script ≡ after_call old.script)
+    × (new.script ≡ with_call old.script)
 ReadsByScript old buffer (Err failed) new =
     IsFailing old.script
     × (new ≡ record old { plain = with_read old.plain 0; script = after_fault old.script })
 
--- a sink that never fails: what it keeps, for how much it has room, and whether more came than that
+-- a sink that never fails: what it keeps, for how much it has room, whether more came than that,
+-- and what it counted
 pub record PlainSink : Type 0 where
   pub kept : List ℕ
   pub room : ℕ
   pub is_over : Bool
+  pub tally : Tally
 
 -- what it holds, which it no longer tells once more came than it has room for
 abbrev pub content : PlainSink → Option (List ℕ)
@@ -61,27 +63,36 @@ WritesSurely old piece (Ok count) new =
     × (new.room ≡ old.room)
 WritesSurely old piece (Err failed) new = ⊥
 
--- a sink that fails by a script, and when its room is used up: what it holds, and the
--- most that one write takes
+-- a sink that fails by a script, and when its room is used up: what it holds, the most that one
+-- write takes, and what it counted
 pub record ScriptedSink : Type 0 where
   pub held : List ℕ
   pub room : ℕ
   pub chunk : ℕ
   pub script : Script
+  pub tally : Tally
+
+-- after a call that failed, which takes nothing
+abbrev pub after_failure : ScriptedSink → ScriptedSink
+after_failure old =
+    record old { script = after_fault old.script; tally = after_call old.tally 0 false }
 
 -- a write fails exactly where the script says so or no room is left, and then takes nothing
 abbrev pub WritesByScript : ScriptedSink → List ℕ → Result ℕ Failed → ScriptedSink → Type 0
 WritesByScript old piece (Ok count) new =
     (¬ IsFailing old.script) × (length old.held < old.room)
     × (count ≡ min (length piece) (min old.chunk (old.room - length old.held)))
-    × (new ≡ record old { held = old.held ++ take count piece; script = after_call old.script })
+    × (new ≡ record old {
+      held = old.held ++ take count piece;
+      script = with_call old.script;
+      tally = after_call old.tally count true;
+    })
 WritesByScript old piece (Err failed) new =
-    (IsFailing old.script ⊎ (length old.held ≡ old.room))
-    × (new ≡ record old { script = after_fault old.script })
+    (IsFailing old.script ⊎ (length old.held ≡ old.room)) × (new ≡ after_failure old)
 
 -- a flush fails exactly where the script says so
 abbrev pub FlushesByScript : ScriptedSink → Bool → ScriptedSink → Type 0
 FlushesByScript old true new =
-    (¬ IsFailing old.script) × (new ≡ record old { script = after_call old.script })
-FlushesByScript old false new =
-    IsFailing old.script × (new ≡ record old { script = after_fault old.script })
+    (¬ IsFailing old.script)
+    × (new ≡ record old { script = with_call old.script; tally = after_call old.tally 0 true })
+FlushesByScript old false new = IsFailing old.script × (new ≡ after_failure old)

@@ -13,8 +13,8 @@ abbrev pub IsFailing : Script → Type 0
 IsFailing script = Contains script.failing (raise script.calls 1)
 
 -- after a call that went well
-abbrev pub after_call : Script → Script
-after_call script = record script { calls = raise script.calls 1 }
+abbrev pub with_call : Script → Script
+with_call script = record script { calls = raise script.calls 1 }
 
 -- after a call that failed
 abbrev pub after_fault : Script → Script

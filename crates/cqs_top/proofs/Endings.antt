@@ -1,7 +1,9 @@
 -- From a verdict on the work of a plan that is right and was told to what the status means.
 use Rattle.std.proofs.Common.{◌≡◌, ℕ, ◌≤◌, ◌⊎◌, inl, inr, Bool, List, length, Option, Some, IsTrue, ◌∙◌, sym, subst, arith}
 use Rattle.cqs_streams.specs.Counts.{Rises}
+use Rattle.cqs_streams.specs.declared.streams.tally.Tally.{Tally}
 use Rattle.cqs_streams.specs.Stream.{Gains, GainsPrefix}
+use Rattle.cqs_streams.specs.Tally.{GoesOn, StopsWithin}
 use Rattle.cqs_cli.specs.Meanings.{IsStatus, MustEnd}
 use Rattle.cqs_cli.specs.Plans.{IsPlan}
 use Rattle.cqs_cli.specs.Tellings.{Tells}
@@ -19,13 +21,13 @@ use Rattle.cqs_top.proofs.Inputs.{gave-as-many, input-told}
 use Rattle.cqs_top.proofs.Works.{of-kept}
 
 module _ {S K F : Type 0} (shared : F → Shared) (left : S → Option (List ℕ)) (source_faults : S → ℕ)
-    (held : K → Option (List ℕ)) (is_flushed : K → Bool) (sink_faults : K → ℕ)
+    (held : K → Option (List ℕ)) (is_flushed : K → Bool) (sink_faults : K → ℕ) (sink_tally : K → Tally)
     (workers : ℕ) (source source_after : S) (sink sink_after : K) (kept kept_after : Kept F) where
   -- a verdict that is right, and was told with this status
   abbrev Ends : Verdict → ℕ → Type 0
   Ends given status =
       IsVerdict shared left source_faults workers given source source_after kept kept_after
-      × Tells held is_flushed sink_faults given status sink sink_after
+      × Tells held is_flushed sink_faults sink_tally given status sink sink_after
 
   -- no fault came in this call
   abbrev Calm : ℕ → ℕ → Type 0
@@ -45,7 +47,8 @@ module _ {S K F : Type 0} (shared : F → Shared) (left : S → Option (List ℕ
   -- with status 0 the whole text was written of what is kept
   pub kept_done : (given : Verdict) (status : ℕ) → Ends given status → status ≡ 0
       → KeptWork shared workers (left source) (left source_after) kept_after
-      (λ text. Gains text (held sink) (held sink_after))
+      (λ text. Gains text (held sink) (held sink_after)
+      × GoesOn (length text) (sink_tally sink) (sink_tally sink_after))
       × IsTrue (is_flushed sink_after)
   kept_done (verdict.Report text) status ((calm, read), inl (is, wrote)) zero = (
     record {
@@ -53,7 +56,7 @@ module _ {S K F : Type 0} (shared : F → Shared) (left : S → Option (List ℕ
       input = read.input;
       text = text.items;
       worked = read.right;
-      holds = wrote.whole;
+      holds = (wrote.whole, wrote.counted);
     },
     wrote.flushed,
   )
@@ -76,7 +79,7 @@ module _ {S K F : Type 0} (shared : F → Shared) (left : S → Option (List ℕ
           input = done.0.input;
           text = done.0.text;
           worked = of-kept shared done.0.bytes workers done.0.text kept_after done.0.worked;
-          written = done.0.holds;
+          written = done.0.holds.0;
         },
         done.1,
       )
@@ -116,14 +119,15 @@ module _ {S K F : Type 0} (shared : F → Shared) (left : S → Option (List ℕ
   -- where the sink failed, that is kept whose text broke off, and nothing where the input is no plan
   pub kept_broken : (given : Verdict) (status : ℕ) → Ends given status → kept ≡ Nothing → status ≡ 5
       → KeptWork shared workers (left source) (left source_after) kept_after
-      (λ text. GainsPrefix text (held sink) (held sink_after))
+      (λ text. GainsPrefix text (held sink) (held sink_after)
+      × StopsWithin (length text) (sink_tally sink) (sink_tally sink_after))
       ⊎ ((kept_after ≡ Nothing) × IsNoPlan (left source) (left source_after))
   kept_broken (verdict.Report text) status ((calm, read), inr (is, broke)) empty five = inl (record {
     bytes = read.bytes;
     input = read.input;
     text = text.items;
     worked = read.right;
-    holds = broke.prefix;
+    holds = (broke.prefix, broke.counted);
   })
   kept_broken (verdict.NoPlan line) status ((calm, read), inr (is, broke)) empty five =
       inr (read.right.1 ∙ empty, (read.bytes, read.input, (line.items, read.right.0)))

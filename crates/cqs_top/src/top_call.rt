@@ -3,6 +3,7 @@
 ghost use Rattle.std.specs.Prelude.{◌≡◌, ◌≢◌, ◌⊎◌, ℕ, ◌+◌, ◌<◌, ◌≤◌, List, length, map, string_bytes, IsTrue, Some};
 ghost use Rattle.cqs_streams.specs.Counts.{raise, Rises};
 ghost use Rattle.cqs_streams.specs.Stream.{Gains, GainsPrefix, GivesAtMost, GivesCount};
+ghost use Rattle.cqs_streams.specs.Tally.{GoesOn, StopsWithin};
 ghost use Rattle.cqs_cli.specs.Meanings.{IsStatus, MustEnd, NamedFault};
 ghost use Rattle.cqs_cli.specs.Plans.{IsPlan};
 ghost use Rattle.cqs_cli.specs.Words.{IsSomeGen, usage};
@@ -33,8 +34,8 @@ use std::thread::Threads;
 /// The first clauses say what each status means, each by itself; then come those on what was read,
 /// whatever the status. Then five say which status must come where no fault does, unless memory
 /// runs out; what was then written stands at that status. The last three say what is kept. What a
-/// clause says of content holds where the source and the sink tell it; what it says of the source's
-/// tally holds of every source.
+/// clause says of content holds where the source and the sink tell it; what it says of their
+/// tallies holds of every source and sink.
 ///
 /// The words of `work` have workers run the plan, each in a thread of its own where one can be made
 /// and on a floor of its own, and so they may wait; all other words are done by `top_alone`. What
@@ -64,6 +65,7 @@ pub fn top<R: Threads + Wait + Sync, S: Source, K: Sink, G: Gate + Sync>(
     ensures no_command { result ≡ NO_COMMAND → (¬ IsCommand (map string_bytes words.now))
         × (source.new ≡ source.old)
         × Gains usage (K.held sink.old) (K.held sink.new)
+        × GoesOn (length usage) (K.tally sink.old) (K.tally sink.new)
         × IsTrue (K.is_flushed sink.new) }
 
     // The input was no plan, and the line that says why was written and flushed.
@@ -111,9 +113,11 @@ pub fn top<R: Threads + Wait + Sync, S: Source, K: Sink, G: Gate + Sync>(
     ensures ended { ReadsPlan (map string_bytes words.now) → (result ≡ DONE) ⊎ (result ≡ NO_PLAN)
         → (S.tally source.old).stops ≡ 0 → (S.tally source.new).stops ≡ 1 }
 
-    // There is no other status, and a fault is never hidden behind one.
+    // There is no other status, a fault is never hidden behind one, and nothing is written after a
+    // fault of the sink.
     ensures statuses { IsStatus result }
     ensures source_calm { result ≢ SOURCE_FAILED → S.faults source.new ≡ S.faults source.old }
+    ensures sink_stops { (K.tally sink.old).stops ≡ 0 → (K.tally sink.new).stops ≤ 1 }
     ensures sink_calm { result ≢ SINK_FAILED → K.faults sink.new ≡ K.faults sink.old }
 
     // Words that are no command are always answered by the usage text.
@@ -151,13 +155,15 @@ pub fn top<R: Threads + Wait + Sync, S: Source, K: Sink, G: Gate + Sync>(
     // With status 0 that is kept whose text was written: the floor of a run, or what workers left.
     ensures kept_done { result ≡ DONE → KeptText (shared_in share_any) (map string_bytes words.now)
         (S.left source.old) (S.left source.new) kept.new
-        (λ text. Gains text (K.held sink.old) (K.held sink.new)) }
+        (λ text. Gains text (K.held sink.old) (K.held sink.new)
+        × GoesOn (length text) (K.tally sink.old) (K.tally sink.new)) }
 
     // Where the sink failed, that is kept whose text broke off, and nothing where no plan was run.
     ensures kept_broken { result ≡ SINK_FAILED →
         KeptText (shared_in share_any) (map string_bytes words.now)
         (S.left source.old) (S.left source.new)
-        kept.new (λ text. GainsPrefix text (K.held sink.old) (K.held sink.new))
+        kept.new (λ text. GainsPrefix text (K.held sink.old) (K.held sink.new)
+        × StopsWithin (length text) (K.tally sink.old) (K.tally sink.new))
         ⊎ ((kept.new ≡ Nothing)
         × IsNoRun (map string_bytes words.now) (S.left source.old) (S.left source.new)) }
 

@@ -3,6 +3,7 @@
 ghost use Rattle.std.specs.Prelude.{◌≡◌, ◌≢◌, ◌⊎◌, ℕ, ◌+◌, ◌<◌, ◌≤◌, List, length, IsTrue, Some};
 ghost use Rattle.cqs_streams.specs.Counts.{raise, Rises};
 ghost use Rattle.cqs_streams.specs.Stream.{Gains, GainsPrefix, GivesAtMost, GivesCount};
+ghost use Rattle.cqs_streams.specs.Tally.{GoesOn, StopsWithin};
 ghost use Rattle.cqs_cli.specs.Meanings.{IsStatus, MustEnd, NamedFault};
 ghost use Rattle.cqs_cli.specs.Plans.{IsPlan};
 ghost use Rattle.cqs_any_shares.specs.AnyShares.{share_any};
@@ -62,6 +63,7 @@ pub fn work<R: Threads + Wait + Sync, S: Source, K: Sink, G: Gate + Sync>(
         → (S.tally source.old).stops ≡ 0 → (S.tally source.new).stops ≡ 1 }
     ensures statuses { IsStatus result }
     ensures source_calm { result ≢ SOURCE_FAILED → S.faults source.new ≡ S.faults source.old }
+    ensures sink_stops { (K.tally sink.old).stops ≡ 0 → (K.tally sink.new).stops ≤ 1 }
     ensures sink_calm { result ≢ SINK_FAILED → K.faults sink.new ≡ K.faults sink.old }
     ensures wrong_input { (bytes : List ℕ) → S.left source.old ≡ Some bytes
         → length bytes ≤ LONGEST_INPUT → ¬ IsPlan bytes
@@ -79,10 +81,12 @@ pub fn work<R: Threads + Wait + Sync, S: Source, K: Sink, G: Gate + Sync>(
         → MustEnd DONE result }
     ensures kept_done { result ≡ DONE → KeptWork (shared_in share_any) workers
         (S.left source.old) (S.left source.new) kept.new
-        (λ text. Gains text (K.held sink.old) (K.held sink.new)) }
+        (λ text. Gains text (K.held sink.old) (K.held sink.new)
+        × GoesOn (length text) (K.tally sink.old) (K.tally sink.new)) }
     ensures kept_broken { result ≡ SINK_FAILED →
         KeptWork (shared_in share_any) workers (S.left source.old) (S.left source.new) kept.new
-        (λ text. GainsPrefix text (K.held sink.old) (K.held sink.new))
+        (λ text. GainsPrefix text (K.held sink.old) (K.held sink.new)
+        × StopsWithin (length text) (K.tally sink.old) (K.tally sink.new))
         ⊎ ((kept.new ≡ Nothing) × IsNoPlan (S.left source.old) (S.left source.new)) }
     ensures kept_nothing { result ≢ DONE → result ≢ SINK_FAILED → kept.new ≡ Nothing }
 {

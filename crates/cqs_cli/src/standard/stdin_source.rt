@@ -3,7 +3,7 @@
 ghost use Rattle.std.specs.Prelude.{◌≡◌, ◌≢◌, None, IfErr};
 ghost use Rattle.std.specs.Io.{ReadsAtMost};
 ghost use Rattle.std.specs.IoError.{error_kind};
-ghost use Rattle.cqs_streams.specs.Tally.{no_reads};
+ghost use Rattle.cqs_streams.specs.Tally.{no_calls};
 
 use super::counting::count_fault;
 use cqs_streams::{Failed, Source, Tally};
@@ -30,7 +30,7 @@ impl Model for StdinSource {
 impl StdinSource {
     /// Standard input before its first read.
     pub fn new(stdin: Stdin) -> StdinSource
-        ensures { result ≡ record { tally = no_reads; faults = 0 } }
+        ensures { result ≡ record { tally = no_calls; faults = 0 } }
     {
         StdinSource {
             stdin,
@@ -50,7 +50,7 @@ impl Source for StdinSource {
     fn read(&mut self, buffer: &mut [u8]) -> Result<usize, Failed> {
         let answer = read_uninterrupted(&mut self.stdin, buffer);
         let answer = count_fault(answer, &mut self.faults);
-        self.tally.count(answer.unwrap_or(0));
+        self.tally.count_read(answer.unwrap_or(0));
         answer
     }
 }

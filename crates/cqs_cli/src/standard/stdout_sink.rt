@@ -3,17 +3,20 @@
 ghost use Rattle.std.specs.Prelude.{◌≡◌, ◌≢◌, None, true, IfErr};
 ghost use Rattle.std.specs.Io.{WritesAtMost};
 ghost use Rattle.std.specs.IoError.{error_kind};
+ghost use Rattle.cqs_streams.specs.Tally.{no_calls};
 
 use super::counting::count_fault;
-use cqs_streams::{Failed, Sink};
+use cqs_streams::{Failed, Sink, Tally};
 use std::io::{self, ErrorKind, Stdout, Write};
 use std::marker::Model;
 
-/// Standard output. What becomes of its bytes is outside all contracts; its failures are counted.
+/// Standard output. What becomes of its bytes is outside all contracts; how many it took, and its
+/// failures, are counted.
 #[derive(Drop)]
 pub struct StdoutSink {
     stdout: Stdout,
     is_flushed: bool,
+    tally: Tally,
     faults: u64,
 }
 
@@ -22,17 +25,19 @@ impl Model for StdoutSink {
 
     ghost Value = { StandardOutput };
 
-    ghost view = { λ sink. record { is_flushed = sink.is_flushed; faults = sink.faults } };
+    ghost view = { λ sink. record
+        { is_flushed = sink.is_flushed; tally = sink.tally; faults = sink.faults } };
 }
 
 impl StdoutSink {
     /// Standard output before its first write.
     pub fn new(stdout: Stdout) -> StdoutSink
-        ensures { result ≡ record { is_flushed = true; faults = 0 } }
+        ensures { result ≡ record { is_flushed = true; tally = no_calls; faults = 0 } }
     {
         StdoutSink {
             stdout,
             is_flushed: true,
+            tally: Tally::new(),
             faults: 0,
         }
     }
@@ -43,6 +48,8 @@ impl Sink for StdoutSink {
 
     ghost is_flushed = { λ sink. sink.is_flushed };
 
+    ghost tally = { λ sink. sink.tally };
+
     ghost faults = { λ sink. sink.faults };
 
     fn write(&mut self, piece: &[u8]) -> Result<usize, Failed> {
@@ -51,11 +58,15 @@ impl Sink for StdoutSink {
             Ok(0) if !piece.is_empty() => Err(ErrorKind::WriteZero.into()),
             answer => answer,
         };
-        count_fault(answer, &mut self.faults)
+        let answer = count_fault(answer, &mut self.faults);
+        self.tally.count(answer.unwrap_or(0), answer.is_ok());
+        answer
     }
 
     fn flush(&mut self) -> Result<(), Failed> {
-        count_fault(self.stdout.flush(), &mut self.faults)?;
+        let answer = count_fault(self.stdout.flush(), &mut self.faults);
+        self.tally.count(0, answer.is_ok());
+        answer?;
         self.is_flushed = true;
         Ok(())
     }

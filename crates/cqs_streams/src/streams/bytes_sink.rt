@@ -1,7 +1,7 @@
 //! A sink in memory that fails where it is told to.
 
 use crate::streams::script::Script;
-use crate::{Failed, Sink};
+use crate::{Failed, Sink, Tally};
 use cqs_core::Memory;
 use std::alloc::Global;
 use std::marker::Model;
@@ -16,6 +16,7 @@ pub struct BytesSink {
     room: u32,
     chunk: u32,
     script: Script,
+    tally: Tally,
 }
 
 impl Model for BytesSink {
@@ -29,6 +30,7 @@ impl Model for BytesSink {
       room = sink.room;
       chunk = sink.chunk;
       script = sink.script;
+      tally = sink.tally;
     } };
 
     ghost invariant = { λ sink. (vec_len sink.held ≤ sink.room)
@@ -37,6 +39,7 @@ impl Model for BytesSink {
 
 impl BytesSink {
     ghost use Rattle.std.specs.Prelude.{◌≡◌, ◌≤◌, [], IfOk};
+    ghost use Rattle.cqs_streams.specs.Tally.{no_calls};
 
     /// An empty sink, before its first call. All its memory is taken here.
     pub fn new(alloc: Global, room: u32, chunk: u32, failing: &[u32]) -> Result<BytesSink, Memory>
@@ -46,12 +49,14 @@ impl BytesSink {
         ensures chunk { IfOk result (λ sink. sink.chunk ≡ chunk) }
         ensures faults { IfOk result
             (λ sink. sink.script ≡ record { failing = failing.now; calls = 0; faults = 0 }) }
+        ensures tally { IfOk result (λ sink. sink.tally ≡ no_calls) }
     {
         Ok(BytesSink {
             held: Vec::with_capacity(alloc, room as usize)?,
             room,
             chunk,
             script: Script::new(alloc, failing)?,
+            tally: Tally::new(),
         })
     }
 
@@ -71,6 +76,8 @@ impl Sink for BytesSink {
 
     ghost is_flushed = { λ _. true };
 
+    ghost tally = { λ sink. sink.tally };
+
     ghost faults = { λ sink. sink.script.faults };
 
     ghost writes = { WritesByScript };
@@ -80,19 +87,23 @@ impl Sink for BytesSink {
     fn write(&mut self, piece: &[u8]) -> Result<usize, Failed> {
         let spare = self.room as usize - self.held.len();
         if self.script.is_failing() || spare == 0 {
+            self.tally.count(0, false);
             return Err(self.script.fail());
         }
         self.script.pass();
         let count = piece.len().min(self.chunk as usize).min(spare);
         self.held.extend_from_slice(&piece[..count]).unwrap();
+        self.tally.count(count, true);
         Ok(count)
     }
 
     fn flush(&mut self) -> Result<(), Failed> {
         if self.script.is_failing() {
+            self.tally.count(0, false);
             return Err(self.script.fail());
         }
         self.script.pass();
+        self.tally.count(0, true);
         Ok(())
     }
 }

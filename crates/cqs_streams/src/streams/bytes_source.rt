@@ -26,7 +26,7 @@ impl Model for BytesSource {
 
 impl BytesSource {
     ghost use Rattle.std.specs.Prelude.{◌≡◌, ◌≤◌, IfOk};
-    ghost use Rattle.cqs_streams.specs.Tally.{no_reads};
+    ghost use Rattle.cqs_streams.specs.Tally.{no_calls};
 
     /// A source of a copy of these bytes, before its first read.
     pub fn new(
@@ -37,7 +37,7 @@ impl BytesSource {
     ) -> Result<BytesSource, Memory>
         requires { 1 ≤ chunk }
         ensures bytes { IfOk result (λ source. source.plain
-            ≡ record { left = bytes.now; chunk = chunk; tally = no_reads }) }
+            ≡ record { left = bytes.now; chunk = chunk; tally = no_calls }) }
         ensures faults { IfOk result
             (λ source. source.script ≡ record { failing = failing.now; calls = 0; faults = 0 }) }
     {

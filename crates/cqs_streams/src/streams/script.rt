@@ -23,7 +23,7 @@ impl Model for Script {
 
 impl Script {
     ghost use Rattle.std.specs.Prelude.{◌≡◌, ◌↔◌, ◌⊎◌, IsTrue, IfOk};
-    ghost use Rattle.cqs_streams.specs.Script.{IsFailing, after_call, after_fault};
+    ghost use Rattle.cqs_streams.specs.Script.{IsFailing, with_call, after_fault};
     ghost use Rattle.cqs_streams.specs.Stream.{Rises};
 
     /// A script before the first call.
@@ -48,7 +48,7 @@ impl Script {
 
     /// Counts a call that went well.
     pub fn pass(&mut self)
-        ensures { self.new ≡ after_call self.old }
+        ensures { self.new ≡ with_call self.old }
     {
         self.calls = self.calls.saturating_add(1);
     }

@@ -1,6 +1,6 @@
 //! A sink in memory that never fails.
 
-use crate::{Failed, Sink};
+use crate::{Failed, Sink, Tally};
 use cqs_core::Memory;
 use std::alloc::Global;
 use std::marker::Model;
@@ -14,6 +14,7 @@ pub struct SureSink {
     kept: Vec<u8>,
     room: u32,
     is_over: bool,
+    tally: Tally,
 }
 
 impl Model for SureSink {
@@ -26,6 +27,7 @@ impl Model for SureSink {
       kept = sink.kept.items;
       room = sink.room;
       is_over = sink.is_over;
+      tally = sink.tally;
     } };
 
     ghost invariant = { λ sink. (vec_len sink.kept ≤ sink.room)
@@ -35,15 +37,18 @@ impl Model for SureSink {
 impl SureSink {
     ghost use Rattle.std.specs.Prelude.{◌≡◌, [], false, IfOk, option_copied};
     ghost use Rattle.cqs_streams.specs.InMemory.{content};
+    ghost use Rattle.cqs_streams.specs.Tally.{no_calls};
 
     /// An empty sink. All its memory is taken here.
     pub fn new(alloc: Global, room: u32) -> Result<SureSink, Memory>
-        ensures { IfOk result (λ sink. sink ≡ record { kept = []; room = room; is_over = false }) }
+        ensures { IfOk result (λ sink. sink
+            ≡ record { kept = []; room = room; is_over = false; tally = no_calls }) }
     {
         Ok(SureSink {
             kept: Vec::with_capacity(alloc, room as usize)?,
             room,
             is_over: false,
+            tally: Tally::new(),
         })
     }
 
@@ -66,11 +71,14 @@ impl Sink for SureSink {
 
     ghost is_flushed = { λ _. true };
 
+    ghost tally = { λ sink. sink.tally };
+
     ghost faults = { λ _. 0 };
 
     ghost writes = { WritesSurely };
 
     fn write(&mut self, piece: &[u8]) -> Result<usize, Failed> {
+        self.tally.count(piece.len(), true);
         let spare = self.room as usize - self.kept.len();
         let count = piece.len().min(spare);
         self.kept.extend_from_slice(&piece[..count]).unwrap();
@@ -79,6 +87,7 @@ impl Sink for SureSink {
     }
 
     fn flush(&mut self) -> Result<(), Failed> {
+        self.tally.count(0, true);
         Ok(())
     }
 }

@@ -32,13 +32,13 @@ impl Model for SureSource {
 impl SureSource {
     ghost use Rattle.std.specs.Prelude.{◌≡◌, ◌≤◌, IfOk};
     ghost use Rattle.cqs_streams.specs.InMemory.{with_read};
-    ghost use Rattle.cqs_streams.specs.Tally.{no_reads};
+    ghost use Rattle.cqs_streams.specs.Tally.{no_calls};
 
     /// A source of a copy of these bytes.
     pub fn new(alloc: Global, bytes: &[u8], chunk: u32) -> Result<SureSource, Memory>
         requires { 1 ≤ chunk }
         ensures { IfOk result (λ source. source
-            ≡ record { left = bytes.now; chunk = chunk; tally = no_reads }) }
+            ≡ record { left = bytes.now; chunk = chunk; tally = no_calls }) }
     {
         Ok(SureSource {
             bytes: Vec::from_slice(alloc, bytes)?,
@@ -52,7 +52,7 @@ impl SureSource {
     pub fn count_failed(&mut self)
         ensures { self.new ≡ with_read self.old 0 }
     {
-        self.tally.count(0);
+        self.tally.count_read(0);
     }
 }
 
@@ -73,7 +73,7 @@ impl Source for SureSource {
         let count = buffer.len().min(self.chunk as usize).min(left);
         buffer[..count].copy_from_slice(&self.bytes[self.place..self.place + count]);
         self.place += count;
-        self.tally.count(count);
+        self.tally.count_read(count);
         Ok(count)
     }
 }

@@ -1,32 +1,40 @@
-//! What a source counts of its reads.
+//! What a stream counts of its calls.
 
 ghost use Rattle.std.specs.Prelude.{◌≡◌};
-ghost use Rattle.cqs_streams.specs.Tally.{after_read, no_reads};
+ghost use Rattle.cqs_streams.specs.Tally.{after_call, after_read, no_calls};
 
-/// What a source counts of its reads, whether it tells its bytes or not.
+/// What a stream counts of its calls, whether it tells its bytes or not: a source of its reads, a
+/// sink of its writes and flushes.
 #[derive(Clone, Copy)]
 pub struct Tally {
-    /// How many bytes they gave.
+    /// How many bytes a source gave, or a sink was given.
     pub given: u64,
-    /// How many of them stopped: a read stops that gives no byte, since it came to the end or
-    /// failed, and so does every read after it.
+    /// How many of its calls stopped: a read stops that gives no byte, since it came to the end or
+    /// failed, and a call of a sink that failed; and so does every call after it.
     pub stops: u64,
 }
 
 impl Tally {
-    /// The tally before the first read.
+    /// The tally before the first call.
     pub fn new() -> Tally
-        ensures { result ≡ no_reads }
+        ensures { result ≡ no_calls }
     {
         Tally { given: 0, stops: 0 }
     }
 
     /// Counts a read that gave so many bytes.
-    pub fn count(&mut self, bytes: usize)
+    pub fn count_read(&mut self, bytes: usize)
         ensures { self.new ≡ after_read self.old bytes }
     {
+        self.count(bytes, bytes > 0);
+    }
+
+    /// Counts a call that moved so many bytes, and whether it went on.
+    pub fn count(&mut self, bytes: usize, goes_on: bool)
+        ensures { self.new ≡ after_call self.old bytes goes_on }
+    {
         self.given = self.given.saturating_add(bytes as u64);
-        if self.stops > 0 || bytes == 0 {
+        if self.stops > 0 || !goes_on {
             self.stops = self.stops.saturating_add(1);
         }
     }

@@ -1,7 +1,8 @@
 //! The loop that writes a text.
 
-ghost use Rattle.std.specs.Prelude.{◌≡◌, IsTrue, OnOk, OnErr};
+ghost use Rattle.std.specs.Prelude.{◌≡◌, length, IsTrue, OnOk, OnErr};
 ghost use Rattle.cqs_streams.specs.Stream.{Gains, GainsPrefix, Rises};
+ghost use Rattle.cqs_streams.specs.Tally.{GoesOn, StopsWithin};
 
 use crate::{Failed, Sink};
 
@@ -13,6 +14,12 @@ pub fn write_all<K: Sink>(sink: &mut K, text: &[u8]) -> Result<(), Failed>
 
     ensures prefix { OnErr result (GainsPrefix text.now (K.held sink.old) (K.held sink.new)) }
     ensures cause { OnErr result (Rises (K.faults sink.old) (K.faults sink.new)) }
+
+    // How many bytes were given is known of every sink, and that none is after a fault.
+    ensures counted { OnOk result (GoesOn (length text.now)
+        (K.tally sink.old) (K.tally sink.new)) }
+    ensures stopped { OnErr result (StopsWithin (length text.now)
+        (K.tally sink.old) (K.tally sink.new)) }
 {
     let mut done = 0;
     'write: while done < text.len() {

@@ -1,12 +1,13 @@
 use Rattle.std.proofs.Common.{◌-◌, vec_len}
-use Rattle.cqs_streams.proofs.Loops.{HasCounted, HasRead}
+use Rattle.cqs_streams.specs.Tally.{GoesOn}
+use Rattle.cqs_streams.proofs.Loops.{HasRead}
 use Rattle.cqs_streams.proofs.streams.reading.read_input.Given as goal
 
 abbrev pub invariant-read : goal.invariant-read
 invariant-read g l = record {
   read : HasRead l.bytes.items (g.S.Source.left l.initial.source) (g.S.Source.left l.source)
       (g.S.Source.faults l.initial.source) (g.S.Source.faults l.source);
-  counted : HasCounted l.bytes.items (g.S.Source.tally l.initial.source) (g.S.Source.tally l.source);
+  counted : GoesOn (vec_len l.bytes) (g.S.Source.tally l.initial.source) (g.S.Source.tally l.source);
 }
 
 abbrev pub decreases-read : goal.decreases-read

@@ -9,7 +9,7 @@ use Rattle.cqs_cli.specs.Plans.{IsPlan}
 use Rattle.cqs_cli.proofs.PlanLemmas.{plan_has_no_fault}
 use Rattle.cqs_cli.proofs.WordLemmas.{one_command}
 use Rattle.cqs_cli.specs.Tellings.{Tells}
-use Rattle.cqs_cli.specs.Verdicts.{IsVerdict, IsVerdictFor}
+use Rattle.cqs_cli.specs.Verdicts.{HasTaken, IsVerdict, IsVerdictFor}
 use Rattle.cqs_cli.specs.Words.{IsGen, IsRun, IsSomeGen, usage}
 use Rattle.cqs_cli.specs.declared.verdict.Verdict.{Verdict}
 use Rattle.cqs_cli.specs.declared.verdict.Verdict.TheVariants as verdict
@@ -181,6 +181,18 @@ module _ {S K : Type 0} (left : S → Option (List ℕ)) (source_faults : S → 
   answers_number verdict.SourceFailed status ((run, _), told) gen quiet = absurd (one_command words run gen)
   answers_number verdict.NoMemory status (judged, (is, untouched)) gen quiet = inr is
   answers_number verdict.TooLong status ((run, _, _), told) gen quiet = absurd (one_command words run gen)
+
+  -- unless memory ran out or it was too long, an input was read until a read stopped
+  pub was-ended : (given : Verdict) (status : ℕ) → Ends given status → (old new : Tally) → HasTaken given old new
+      → IsRun words → ¬ (status ≡ 6) → ¬ (status ≡ 7) → old.stops ≡ 0 → new.stops ≡ 1
+  was-ended (verdict.Report text) status ended old new taken run room short none = taken.stops none
+  was-ended (verdict.NoPlan line) status ended old new taken run room short none = taken.stops none
+  was-ended verdict.SourceFailed status ended old new taken run room short none = taken.stops none
+  was-ended verdict.NoMemory status (judged, (is, untouched)) old new taken run room short none = absurd (room is)
+  was-ended verdict.TooLong status (judged, (is, untouched)) old new taken run room short none = absurd (short is)
+  was-ended verdict.NoCommand status ((wrong, _), told) old new taken run room short none = absurd (wrong (inl run))
+  was-ended (verdict.Summary text) status ((summary, _), told) old new taken run room short none =
+      absurd (one_command words run (summary.number, (summary.jobs, summary.asked)))
 
   -- words that don't ask for it leave the source as it was
   pub leaves_source : (given : Verdict) → IsVerdict left source_faults words given source source_after

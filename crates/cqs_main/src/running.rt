@@ -98,9 +98,10 @@ pub fn run<R: Threads + Wait + Sync, S: Source, K: Sink, E: Sink>(
     ensures given { (S.tally source.new).given ≤ (S.tally source.old).given + (LONGEST_INPUT + 1) }
     ensures stops { (S.tally source.old).stops ≡ 0 → (S.tally source.new).stops ≤ 1 }
 
-    // A plan, and what is none, was read until a read stopped; no fault came, so it was at the end.
+    // Unless memory ran out or it was too long, an input was read until a read stopped: at its end,
+    // or where the source failed.
     ensures ended { ReadsPlan (words_of arguments)
-        → (exit_status result ≡ DONE) ⊎ (exit_status result ≡ NO_PLAN)
+        → exit_status result ≢ NO_MEMORY → exit_status result ≢ TOO_LONG
         → (S.tally source.old).stops ≡ 0 → (S.tally source.new).stops ≡ 1 }
 
     // There is no other status, a fault is never hidden behind one, and nothing is written after a

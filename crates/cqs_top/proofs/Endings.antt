@@ -7,6 +7,7 @@ use Rattle.cqs_streams.specs.Tally.{GoesOn, StopsWithin}
 use Rattle.cqs_cli.specs.Meanings.{IsStatus, MustEnd}
 use Rattle.cqs_cli.specs.Plans.{IsPlan}
 use Rattle.cqs_cli.specs.Tellings.{Tells}
+use Rattle.cqs_cli.specs.Verdicts.{HasTaken}
 use Rattle.cqs_cli.specs.declared.verdict.Verdict.{Verdict}
 use Rattle.cqs_cli.specs.declared.verdict.Verdict.TheVariants as verdict
 use Rattle.cqs_cli.proofs.MeaningLemmas.{all_statuses}
@@ -138,6 +139,17 @@ module _ {S K F : Type 0} (shared : F → Shared) (left : S → Option (List ℕ
   kept_broken verdict.TooLong status (judged, (is, untouched)) empty five = absurd (omega (arith, is, five))
   kept_broken verdict.NoCommand status (judged, told) empty five = absurd judged
   kept_broken (verdict.Summary text) status (judged, told) empty five = absurd judged
+
+  -- unless memory ran out or it was too long, the input was read until a read stopped
+  pub was-ended : (given : Verdict) (status : ℕ) → Ends given status → (old new : Tally) → HasTaken given old new
+      → ¬ (status ≡ 6) → ¬ (status ≡ 7) → old.stops ≡ 0 → new.stops ≡ 1
+  was-ended (verdict.Report text) status ended old new taken room short none = taken.stops none
+  was-ended (verdict.NoPlan line) status ended old new taken room short none = taken.stops none
+  was-ended verdict.SourceFailed status ended old new taken room short none = taken.stops none
+  was-ended verdict.NoMemory status (judged, (is, untouched)) old new taken room short none = absurd (room is)
+  was-ended verdict.TooLong status (judged, (is, untouched)) old new taken room short none = absurd (short is)
+  was-ended verdict.NoCommand status (judged, told) old new taken room short none = absurd judged
+  was-ended (verdict.Summary text) status (judged, told) old new taken room short none = absurd judged
 
   -- what must come of an input that the source told and that is no plan, where no fault came
   pub answers_fault : (given : Verdict) (status : ℕ) → Ends given status → (bytes : List ℕ)

@@ -108,9 +108,10 @@ pub fn top<R: Threads + Wait + Sync, S: Source, K: Sink, G: Gate + Sync>(
     ensures given { (S.tally source.new).given ≤ (S.tally source.old).given + (LONGEST_INPUT + 1) }
     ensures stops { (S.tally source.old).stops ≡ 0 → (S.tally source.new).stops ≤ 1 }
 
-    // A plan, and what is none, was read until a read stopped; no fault came, so
-    // it stopped at the end.
-    ensures ended { ReadsPlan (map string_bytes words.now) → (result ≡ DONE) ⊎ (result ≡ NO_PLAN)
+    // Unless memory ran out or it was too long, an input was read until a read stopped: at its end,
+    // or where the source failed.
+    ensures ended { ReadsPlan (map string_bytes words.now)
+        → result ≢ NO_MEMORY → result ≢ TOO_LONG
         → (S.tally source.old).stops ≡ 0 → (S.tally source.new).stops ≡ 1 }
 
     // There is no other status, a fault is never hidden behind one, and nothing is written after a

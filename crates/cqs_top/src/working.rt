@@ -59,7 +59,7 @@ pub fn work<R: Threads + Wait + Sync, S: Source, K: Sink, G: Gate + Sync>(
     ensures taken { GivesAtMost (LONGEST_INPUT + 1) (S.left source.old) (S.left source.new) }
     ensures given { (S.tally source.new).given ≤ (S.tally source.old).given + (LONGEST_INPUT + 1) }
     ensures stops { (S.tally source.old).stops ≡ 0 → (S.tally source.new).stops ≤ 1 }
-    ensures ended { (result ≡ DONE) ⊎ (result ≡ NO_PLAN)
+    ensures ended { result ≢ NO_MEMORY → result ≢ TOO_LONG
         → (S.tally source.old).stops ≡ 0 → (S.tally source.new).stops ≡ 1 }
     ensures statuses { IsStatus result }
     ensures source_calm { result ≢ SOURCE_FAILED → S.faults source.new ≡ S.faults source.old }

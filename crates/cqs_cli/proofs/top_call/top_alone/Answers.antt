@@ -2,7 +2,7 @@
 -- another status is refused by the clause.
 use Rattle.std.proofs.Common.{rules}
 use Rattle.cqs_cli.proofs.KeptLemmas.{headline, kept_broken, kept_done}
-use Rattle.cqs_cli.proofs.MeaningLemmas.{all_statuses, answers_fault, answers_number, answers_plan, broke_off, is_status, leaves_source, stops-once}
+use Rattle.cqs_cli.proofs.MeaningLemmas.{all_statuses, answers_fault, answers_number, answers_plan, broke_off, is_status, leaves_source, stops-once, was-ended}
 use Rattle.cqs_cli.proofs.top_call.top_alone.Goals as goal
 
 pub returns-clause-statuses : goal.returns-clause-statuses
@@ -86,3 +86,10 @@ returns-clause-sink_stops g c =
     stops-once g.K.Sink.held g.K.Sink.is_flushed g.K.Sink.faults g.K.Sink.tally _ _ c.judge-verdict.result
     c.tell.result c.tell.ensures in
     search rules
+
+pub returns-clause-ended : goal.returns-clause-ended
+returns-clause-ended g c =
+    was-ended g.S.Source.left g.S.Source.faults g.K.Sink.held g.K.Sink.is_flushed
+    g.K.Sink.faults g.K.Sink.tally _ _ _ _ _
+    c.judge-verdict.result c.tell.result (c.judge-verdict.ensures.right, c.tell.ensures) _ _
+    c.judge-verdict.ensures.counted

@@ -3,7 +3,7 @@ use Rattle.std.proofs.Common.{rules}
 use Rattle.cqs_any_shares.specs.AnyShares.{share_any}
 use Rattle.cqs_shared_floors.specs.Ledgers.{shared_in}
 use Rattle.cqs_cli.proofs.MeaningLemmas.{stops-once}
-use Rattle.cqs_top.proofs.Endings.{answers_fault, answers_plan, broke_off, headline, is_status, kept_done}
+use Rattle.cqs_top.proofs.Endings.{answers_fault, answers_plan, broke_off, headline, is_status, kept_done, was-ended}
 use Rattle.cqs_top.proofs.working.work.Goals as goal
 
 pub returns-clause-headline : goal.returns-clause-headline
@@ -60,3 +60,9 @@ returns-clause-sink_stops g c =
     stops-once g.K.Sink.held g.K.Sink.is_flushed g.K.Sink.faults g.K.Sink.tally _ _ c.judge-verdict.result
     c.tell.result c.tell.ensures in
     search rules
+
+pub returns-clause-ended : goal.returns-clause-ended
+returns-clause-ended g c =
+    was-ended (shared_in share_any) g.S.Source.left g.S.Source.faults g.K.Sink.held g.K.Sink.is_flushed
+    g.K.Sink.faults g.K.Sink.tally _ _ _ _ _ _ _ c.judge-verdict.result c.tell.result
+    (c.judge-verdict.ensures.right, c.tell.ensures) _ _ c.judge-verdict.ensures.counted

@@ -1,3 +1,4 @@
+pub mod Allowed
 pub mod Callbacks
 pub mod Carried
 pub mod Passes

@@ -16,13 +16,33 @@ use atomic_table::{Join, Play, Split};
 use cqs_views::View;
 use std::marker::{Brand, PhantomData};
 
+/// What a step tells its pass.
+pub(crate) trait Tells<C: ClientWords> {
+    ghost use Rattle.std.specs.Prelude.{ℕ, Option};
+    ghost use Rattle.atomic_table.specs.Table.{Me, Step};
+    ghost use Rattle.cqs_views.specs.declared.view.View.{View};
+
+    // Of the step, the seat before, the word found and the seat after.
+    ghost told: { Step (Option C.Slot) → Me (Option C.Slot) (View C.Entry C.Slot) → ℕ
+        → Me (Option C.Slot) (View C.Entry C.Slot) → Type 0 };
+}
+
+/// The same, and what every step tells a pass that is alone.
+pub(crate) struct Alone<C, T> {
+    of: PhantomData<(C, T)>,
+}
+
+impl<C: ClientWords, T: Tells<C>> Play<Option<C::Slot>, View<C::Entry, C::Slot>> for Alone<C, T> {
+    ghost then = { and_alone C.primitive T.told };
+}
+
 /// A load of the suspend counter or of a cell.
 pub(crate) struct Loading<C, L> {
     of: PhantomData<(C, L)>,
 }
 
-impl<C: ClientWords, L: Load> Play<Option<C::Slot>, View<C::Entry, C::Slot>> for Loading<C, L> {
-    ghost then = { and_alone C.primitive (loaded_by C.object C.primitive L.load) };
+impl<C: ClientWords, L: Load> Tells<C> for Loading<C, L> {
+    ghost told = { loaded_by C.object C.primitive L.load };
 }
 
 /// A number is drawn from a counter.
@@ -30,8 +50,8 @@ pub(crate) struct Draw<C, K> {
     of: PhantomData<(C, K)>,
 }
 
-impl<C: ClientWords, K: Kind> Play<Option<C::Slot>, View<C::Entry, C::Slot>> for Draw<C, K> {
-    ghost then = { and_alone C.primitive (drew C.object K.step) };
+impl<C: ClientWords, K: Kind> Tells<C> for Draw<C, K> {
+    ghost told = { drew C.object K.step };
 }
 
 /// An exchange on a cell.
@@ -39,8 +59,8 @@ pub(crate) struct Cross<C, K> {
     of: PhantomData<(C, K)>,
 }
 
-impl<C: ClientWords, K: Kind> Play<Option<C::Slot>, View<C::Entry, C::Slot>> for Cross<C, K> {
-    ghost then = { and_alone C.primitive (crossed C.object C.primitive K.step) };
+impl<C: ClientWords, K: Kind> Tells<C> for Cross<C, K> {
+    ghost told = { crossed C.object C.primitive K.step };
 }
 
 /// A load of a word of the client, or a step that changes it in any case, by the event that it
@@ -49,8 +69,8 @@ pub(crate) struct Show<C, M> {
     of: PhantomData<(C, M)>,
 }
 
-impl<C: ClientWords, M: Shown<C>> Play<Option<C::Slot>, View<C::Entry, C::Slot>> for Show<C, M> {
-    ghost then = { and_alone C.primitive (moved_by C.object C.primitive M.event) };
+impl<C: ClientWords, M: Shown<C>> Tells<C> for Show<C, M> {
+    ghost told = { moved_by C.object C.primitive M.event };
 }
 
 /// An exchange on a word of the client, by the event that it shows.
@@ -58,9 +78,8 @@ pub(crate) struct ShowExchange<C, M> {
     of: PhantomData<(C, M)>,
 }
 
-impl<C: ClientWords, M: Shown<C>> Play<Option<C::Slot>, View<C::Entry, C::Slot>>
-    for ShowExchange<C, M> {
-    ghost then = { and_alone C.primitive (exchanged_by C.object C.primitive M.event) };
+impl<C: ClientWords, M: Shown<C>> Tells<C> for ShowExchange<C, M> {
+    ghost told = { exchanged_by C.object C.primitive M.event };
 }
 
 /// A step on a word of the client by which a slot is given away, with the value in it.
@@ -68,10 +87,8 @@ pub(crate) struct GivingAway<C, M, K> {
     of: PhantomData<(C, M, K)>,
 }
 
-impl<C: ClientWords, M: Shown<C>, K: Numbered> Play<Option<C::Slot>, View<C::Entry, C::Slot>>
-    for GivingAway<C, M, K> {
-    ghost then = { and_alone C.primitive
-        (given_by C.object C.primitive M.event in_any_case K.slot) };
+impl<C: ClientWords, M: Shown<C>, K: Numbered> Tells<C> for GivingAway<C, M, K> {
+    ghost told = { given_by C.object C.primitive M.event in_any_case K.slot };
 }
 
 /// A number is drawn to resume at, and paid for with an element, whose slot is given away with the
@@ -80,8 +97,8 @@ pub(crate) struct Putting<C, K> {
     of: PhantomData<(C, K)>,
 }
 
-impl<C: ClientWords, K: Numbered> Play<Option<C::Slot>, View<C::Entry, C::Slot>> for Putting<C, K> {
-    ghost then = { and_alone C.primitive (put_by C.object K.slot) };
+impl<C: ClientWords, K: Numbered> Tells<C> for Putting<C, K> {
+    ghost told = { put_by C.object K.slot };
 }
 
 /// The load of the crew's word by which a slot is taken from its home.
@@ -89,9 +106,8 @@ pub(crate) struct TakingOut<C, K> {
     of: PhantomData<(C, K)>,
 }
 
-impl<C: ClientWords, K: Numbered> Play<Option<C::Slot>, View<C::Entry, C::Slot>>
-    for TakingOut<C, K> {
-    ghost then = { took_out K.slot };
+impl<C: ClientWords, K: Numbered> Tells<C> for TakingOut<C, K> {
+    ghost told = { took_out K.slot };
 }
 
 /// The load by which it is put back.
@@ -99,9 +115,8 @@ pub(crate) struct PuttingBack<C, K> {
     of: PhantomData<(C, K)>,
 }
 
-impl<C: ClientWords, K: Numbered> Play<Option<C::Slot>, View<C::Entry, C::Slot>>
-    for PuttingBack<C, K> {
-    ghost then = { put_back K.slot };
+impl<C: ClientWords, K: Numbered> Tells<C> for PuttingBack<C, K> {
+    ghost told = { put_back K.slot };
 }
 
 /// The load by which it is put back with its first value.
@@ -109,8 +124,8 @@ pub(crate) struct Filling<C, K> {
     of: PhantomData<(C, K)>,
 }
 
-impl<C: ClientWords, K: Numbered> Play<Option<C::Slot>, View<C::Entry, C::Slot>> for Filling<C, K> {
-    ghost then = { filled K.slot };
+impl<C: ClientWords, K: Numbered> Tells<C> for Filling<C, K> {
+    ghost told = { filled K.slot };
 }
 
 /// A load of the crew's word.
@@ -118,8 +133,8 @@ pub(crate) struct Count<C> {
     of: PhantomData<C>,
 }
 
-impl<C: ClientWords> Play<Option<C::Slot>, View<C::Entry, C::Slot>> for Count<C> {
-    ghost then = { and_alone C.primitive (counted_by C.object (IsSole C.primitive)) };
+impl<C: ClientWords> Tells<C> for Count<C> {
+    ghost told = { counted_by C.object (IsSole C.primitive) };
 }
 
 /// How much of what its maker holds a pass gets that is made: a number of one call, which a type
@@ -139,8 +154,8 @@ pub(crate) struct Make<C, G> {
     of: PhantomData<(C, G)>,
 }
 
-impl<C: ClientWords, G: Gift> Play<Option<C::Slot>, View<C::Entry, C::Slot>> for Make<C, G> {
-    ghost then = { and_alone C.primitive (tried_by C.object G.gives) };
+impl<C: ClientWords, G: Gift> Tells<C> for Make<C, G> {
+    ghost told = { tried_by C.object G.gives };
 }
 
 /// The step on the crew's word by which a pass that was joined away is counted out.
@@ -148,8 +163,8 @@ pub(crate) struct Meet<C> {
     of: PhantomData<C>,
 }
 
-impl<C: ClientWords> Play<Option<C::Slot>, View<C::Entry, C::Slot>> for Meet<C> {
-    ghost then = { and_alone C.primitive (met_by C.object) };
+impl<C: ClientWords> Tells<C> for Meet<C> {
+    ghost told = { met_by C.object };
 }
 
 /// A view that counts for two is cut in two.

@@ -13,6 +13,7 @@ mod readers;
 mod seats;
 mod slots;
 mod steps;
+mod table;
 mod tokens;
 mod words;
 

@@ -48,10 +48,7 @@ impl<C: ClientWords> Queue<C> {
         ensures after { IsDrawnAt puts (pass_view pass.old).facts result }
         ensures given { HasGiven element pass.old pass.new }
     {
-        let found = self
-            .table
-            .shared
-            .fetch_add::<Putting<C, K>>(&mut pass.seat, RESUMES_WORD as usize, 1);
+        let found = self.add_at::<Putting<C, K>>(&mut pass.seat, RESUMES_WORD, 1);
         pass.owes = true;
         found
     }

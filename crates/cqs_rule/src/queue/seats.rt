@@ -12,7 +12,7 @@ ghost use Rattle.cqs_rule.specs.Seats.{IsBusy, HasLookedOn, HasGiven, HasMet};
 ghost use Rattle.cqs_views.specs.Views.{made_in, live_in};
 
 use crate::client::ClientWords;
-use crate::plays::{Count, Cut, Gather, Gift, Make, Meet};
+use crate::plays::{Alone, Count, Cut, Gather, Gift, Make, Meet};
 use crate::queue::{Pass, Queue};
 use atomic_table::Seat;
 use cqs_views::{CREW_WORD, Crowd, MeetError, View};
@@ -31,10 +31,7 @@ impl<C: ClientWords> Queue<C> {
         ensures looked { HasLookedOn pass.old pass.new }
         ensures others { IsTrue result → IsSole C.primitive (pass_view pass.new) }
     {
-        let found = self
-            .table
-            .shared
-            .load::<Count<C>>(&mut pass.seat, CREW_WORD as usize);
+        let found = self.load_at::<Count<C>>(&mut pass.seat, CREW_WORD);
         CrewWord::live_in(found) == 1
     }
 
@@ -60,12 +57,7 @@ impl<C: ClientWords> Queue<C> {
         ensures alive { IsLive C.object seat.new.me.0 }
         ensures alone { TellsAlone C.primitive seat.new.me.0 }
     {
-        self.table.shared.compare_exchange::<Make<C, G>>(
-            seat,
-            CREW_WORD as usize,
-            saw,
-            CrewWord::with_one_more(saw),
-        )
+        self.exchange_at::<Make<C, G>>(seat, CREW_WORD, saw, CrewWord::with_one_more(saw))
     }
 
     /// A new pass, which has seen what this one has seen, has done nothing, and gets so much of
@@ -87,10 +79,7 @@ impl<C: ClientWords> Queue<C> {
         ensures came { IfOk result
             (λ made. CameWith C.object gives (pass_view pass.new) (pass_view made)) }
     {
-        let mut saw = self
-            .table
-            .shared
-            .load::<Count<C>>(&mut pass.seat, CREW_WORD as usize);
+        let mut saw = self.load_at::<Count<C>>(&mut pass.seat, CREW_WORD);
         while CrewWord::made_in(saw) < self.passes {
             let found = self.make::<Brand>(&mut pass.seat, saw, gives);
             if found == saw {
@@ -132,7 +121,7 @@ impl<C: ClientWords> Queue<C> {
         self.table.shared.join_seat::<Gather>(&mut pass.seat, seat);
         self.table
             .shared
-            .fetch_sub::<Meet<C>>(&mut pass.seat, CREW_WORD as usize, 1);
+            .fetch_sub::<Alone<C, Meet<C>>>(&mut pass.seat, CREW_WORD as usize, 1);
         pass.held += held;
         Ok(())
     }

@@ -43,9 +43,7 @@ impl<C: ClientWords> Queue<C> {
         ensures table { seat.new.table_id ≡ seat.old.table_id }
         ensures took { TookOut slot seat.old.me.0 seat.new.me.0 seat.new.me.1 }
     {
-        self.table
-            .shared
-            .load::<TakingOut<C, K>>(seat, CREW_WORD as usize);
+        self.load_at::<TakingOut<C, K>>(seat, CREW_WORD);
     }
 
     // Puts it back, with what lies there now.
@@ -67,9 +65,7 @@ impl<C: ClientWords> Queue<C> {
         ensures put { (x : Rattle.std.specs.Prelude.Option C.Slot) → seat.old.me.1 ≡ (slot, x) ∷ []
             → PutBack ((slot, x) ∷ seat.old.me.0.laid) seat.old.me.0 seat.new.me.0 }
     {
-        self.table
-            .shared
-            .load::<PuttingBack<C, K>>(seat, CREW_WORD as usize);
+        self.load_at::<PuttingBack<C, K>>(seat, CREW_WORD);
     }
 
     // Puts it back with its first value.
@@ -92,9 +88,7 @@ impl<C: ClientWords> Queue<C> {
         ensures handed { (y : C.Slot) → seat.old.me.1 ≡ (slot, Some y) ∷ []
             → HandedIn slot y seat.old.me.0 seat.new.me.0 }
     {
-        self.table
-            .shared
-            .load::<Filling<C, K>>(seat, CREW_WORD as usize);
+        self.load_at::<Filling<C, K>>(seat, CREW_WORD);
     }
 
     /// Puts a value into a slot, or nothing, and hands out what lay there. The pass must hold the

@@ -64,10 +64,7 @@ impl<C: ClientWords> Queue<C> {
         ensures belongs { IsOf self.now pass.new }
         ensures saw { HasLoaded L.load word result pass.old pass.new }
     {
-        let found = self
-            .table
-            .shared
-            .load::<Loading<C, L>>(&mut pass.seat, word as usize);
+        let found = self.load_at::<Loading<C, L>>(&mut pass.seat, word);
         match L::learns(found) {
             Learned::Nothing => {}
             Learned::Granted => {
@@ -89,10 +86,7 @@ impl<C: ClientWords> Queue<C> {
         ensures saw { HasDrawn K.step result pass.old pass.new }
         ensures after { IsDrawnAt K.step (pass_view pass.old).facts result }
     {
-        let found = self
-            .table
-            .shared
-            .fetch_add::<Draw<C, K>>(&mut pass.seat, word as usize, by.unsigned_abs());
+        let found = self.add_at::<Draw<C, K>>(&mut pass.seat, word, by.unsigned_abs());
         let change = K::change();
         pass.owes = change.owes;
         pass.further = further_after(change, pass.further);
@@ -108,10 +102,7 @@ impl<C: ClientWords> Queue<C> {
         ensures belongs { IsOf self.now pass.new }
         ensures crossed { HasCrossed K.step saw result pass.old pass.new }
     {
-        let found = self
-            .table
-            .shared
-            .compare_exchange::<Cross<C, K>>(&mut pass.seat, word as usize, saw, new);
+        let found = self.exchange_at::<Cross<C, K>>(&mut pass.seat, word, saw, new);
         if found == saw {
             let change = K::change();
             pass.held = held_after::<C>(change, pass.held);

@@ -7,17 +7,17 @@ ghost use Rattle.cqs_views.specs.Events.{word_plus, word_after_exchange, in_any_
 ghost use Rattle.cqs_rule.specs.Steps.{MayMove, MayKeep, MayGive, HasMoved, HasGiven};
 
 use crate::client::{ClientWords, Shown};
-use crate::plays::{GivingAway, Show, ShowExchange};
+use crate::plays::{Alone, GivingAway, Show, ShowExchange};
 use crate::queue::{Numbered, Pass, Queue};
 use cqs_views::CLIENT_WORD;
 use std::marker::Brand;
 
 // Where a word of the client stands.
-fn place(word: u32) -> usize
+fn place(word: u32) -> u32
     requires { word < 4 }
     ensures { result ≡ client_place word }
 {
-    (16 * word + CLIENT_WORD) as usize
+    16 * word + CLIENT_WORD
 }
 
 impl<C: ClientWords> Queue<C> {
@@ -30,10 +30,7 @@ impl<C: ClientWords> Queue<C> {
         ensures belongs { IsOf self.now pass.new }
         ensures saw { HasMoved M.event in_any_case word result pass.old pass.new }
     {
-        let found = self
-            .table
-            .shared
-            .load::<Show<C, M>>(&mut pass.seat, place(word));
+        let found = self.load_at::<Show<C, M>>(&mut pass.seat, place(word));
         pass.held = M::held_after(pass.held, found, true);
         pass.owes = M::owes_after(pass.owes, found, true);
         pass.further = M::further_after(pass.further, found, true);
@@ -49,17 +46,7 @@ impl<C: ClientWords> Queue<C> {
         ensures belongs { IsOf self.now pass.new }
         ensures saw { HasMoved M.event in_any_case word result pass.old pass.new }
     {
-        let place = place(word);
-        let amount = by.unsigned_abs();
-        let found = if by < 0 {
-            self.table
-                .shared
-                .fetch_sub::<Show<C, M>>(&mut pass.seat, place, amount)
-        } else {
-            self.table
-                .shared
-                .fetch_add::<Show<C, M>>(&mut pass.seat, place, amount)
-        };
+        let found = self.add_at::<Show<C, M>>(&mut pass.seat, place(word), by.cast_unsigned());
         pass.held = M::held_after(pass.held, found, true);
         pass.owes = M::owes_after(pass.owes, found, true);
         pass.further = M::further_after(pass.further, found, true);
@@ -96,10 +83,7 @@ impl<C: ClientWords> Queue<C> {
         ensures saw { HasMoved M.event in_any_case word result pass.old pass.new }
         ensures given { HasGiven slot pass.old pass.new }
     {
-        let found = self
-            .table
-            .shared
-            .fetch_add::<GivingAway<C, M, K>>(&mut pass.seat, place(word), u64::from(by));
+        let found = self.add_at::<GivingAway<C, M, K>>(&mut pass.seat, place(word), u64::from(by));
         pass.held = M::held_after(pass.held, found, true);
         pass.owes = M::owes_after(pass.owes, found, true);
         pass.further = M::further_after(pass.further, found, true);
@@ -118,7 +102,7 @@ impl<C: ClientWords> Queue<C> {
         let found = self
             .table
             .shared
-            .fetch_or::<Show<C, M>>(&mut pass.seat, place(word), bits);
+            .fetch_or::<Alone<C, Show<C, M>>>(&mut pass.seat, place(word) as usize, bits);
         pass.held = M::held_after(pass.held, found, true);
         pass.owes = M::owes_after(pass.owes, found, true);
         pass.further = M::further_after(pass.further, found, true);
@@ -135,10 +119,7 @@ impl<C: ClientWords> Queue<C> {
         ensures belongs { IsOf self.now pass.new }
         ensures saw { HasMoved M.event (where_found saw) word result pass.old pass.new }
     {
-        let found = self
-            .table
-            .shared
-            .compare_exchange::<ShowExchange<C, M>>(&mut pass.seat, place(word), saw, new);
+        let found = self.exchange_at::<ShowExchange<C, M>>(&mut pass.seat, place(word), saw, new);
         pass.held = M::held_after(pass.held, found, found == saw);
         pass.owes = M::owes_after(pass.owes, found, found == saw);
         pass.further = M::further_after(pass.further, found, found == saw);

@@ -1,65 +1,23 @@
-use Rattle.std.proofs.Common.{rules, ◌+◌, ◌-◌, ◌%◌, ◌^◌, ◌≡◌, pos, unsigned_abs, ◌<ℤ◌, ◌≤ℤ◌}
+use Rattle.std.proofs.Common.{rules, ◌+◌, ◌%◌, ◌^◌, ◌≡◌, ◌∙◌, ap, w64}
+use Rattle.std.specs.Int.{cast_unsigned}
 use Rattle.cqs_views.specs.Events.{in_any_case}
-use Rattle.cqs_views.proofs.Lists.{set_there}
-use Rattle.cqs_views.proofs.Alone.{alone-now}
 use Rattle.cqs_views.proofs.CellPlaces.{client-inside}
-use Rattle.cqs_views.proofs.Moves.{moves-at, added-down, added-up}
+use Rattle.cqs_views.proofs.Moves.{moves-at}
+use Rattle.cqs_rule.proofs.Words.{raised}
 use Rattle.cqs_rule.proofs.queue.Queue.add_word.Goals as goal
 
-pub fetch_sub-found-requires : goal.fetch_sub-found-requires
-fetch_sub-found-requires g c =
-    let low = client-inside c.args.word c.args.pass.now.seat.me.0.cells c.requires.word in
-    let C = g.C.ClientWords in
-    let x = c.args.self.now.table.shared.key.client in
-    let side : c.args.by <ℤ pos 0 = search rules in
-    let is : c.unsigned_abs-amount.result ≡ unsigned_abs c.args.by = search rules in (
-      search rules,
-      search rules,
-      (λ s r homes here small.
-          let t = moves-at C.object C.primitive _ _ x (g.met.C.ClientWords.keeps x) g.M.Shown.event in_any_case
-          c.args.self.now.table.shared.table_id.slots c.args.pass.now.seat.id c.args.pass.now.seat.me c.args.word _
-          _
-          (λ n. (n + (2 ^ 64 - c.unsigned_abs-amount.result)) % 2 ^ 64)
-          (record { one = c.args.pass.now.live.0; shut = c.args.pass.now.shut; stay = c.requires.slots })
-          c.requires.word c.place-place.ensures
-          (λ n. added-down c.args.by _ n is side) c.requires.law s r homes here small in (
-            t.0,
-            t.1,
-            t.2,
-            t.3,
-            (
-              t.4,
-              alone-now C.object C.primitive _ _ x (g.met.C.ClientWords.keeps x) _ t.3 _ t.0
-                  (set_there s.views _ _ t.0 here),
-            ),
-          )),
-    )
+pub add_at-found-requires-clause-inside : goal.add_at-found-requires-clause-inside
+add_at-found-requires-clause-inside g c =
+    let low = client-inside c.args.word c.args.pass.now.seat.me.0.cells c.requires.word in search rules
 
-pub fetch_add-found-requires : goal.fetch_add-found-requires
-fetch_add-found-requires g c =
-    let low = client-inside c.args.word c.args.pass.now.seat.me.0.cells c.requires.word in
+pub add_at-found-requires-clause-allowed : goal.add_at-found-requires-clause-allowed
+add_at-found-requires-clause-allowed g c =
     let C = g.C.ClientWords in
     let x = c.args.self.now.table.shared.key.client in
-    let side : pos 0 ≤ℤ c.args.by = search rules in
-    let is : c.unsigned_abs-amount.result ≡ unsigned_abs c.args.by = search rules in (
-      search rules,
-      search rules,
-      (λ s r homes here small.
-          let t = moves-at C.object C.primitive _ _ x (g.met.C.ClientWords.keeps x) g.M.Shown.event in_any_case
-          c.args.self.now.table.shared.table_id.slots c.args.pass.now.seat.id c.args.pass.now.seat.me c.args.word _
-          _
-          (λ n. (n + c.unsigned_abs-amount.result) % 2 ^ 64)
-          (record { one = c.args.pass.now.live.0; shut = c.args.pass.now.shut; stay = c.requires.slots })
-          c.requires.word c.place-place.ensures
-          (λ n. added-up c.args.by _ n is side) c.requires.law s r homes here small in (
-            t.0,
-            t.1,
-            t.2,
-            t.3,
-            (
-              t.4,
-              alone-now C.object C.primitive _ _ x (g.met.C.ClientWords.keeps x) _ t.3 _ t.0
-                  (set_there s.views _ _ t.0 here),
-            ),
-          )),
-    )
+    let is : c.cast_unsigned.result ≡ cast_unsigned w64 c.args.by = search rules in
+    moves-at C.object C.primitive _ _ x (g.met.C.ClientWords.keeps x) g.M.Shown.event in_any_case
+    c.args.self.now.table.shared.table_id.slots c.args.pass.now.seat.id c.args.pass.now.seat.me c.args.word _ _
+    (λ n. (n + c.cast_unsigned.result) % 2 ^ 64)
+    (record { one = c.args.pass.now.live.0; shut = c.args.pass.now.shut; stay = c.requires.slots })
+    c.requires.word c.place.ensures
+    (λ n. ap (λ k. (n + k) % 2 ^ 64) (is ∙ raised c.args.by)) c.requires.law

@@ -5,54 +5,39 @@ use Rattle.cqs_views.specs.Layout.{words_for}
 use Rattle.cqs_views.specs.Facts.{is_owing}
 use Rattle.cqs_views.specs.Saw.{Saw}
 use Rattle.cqs_views.specs.Views.{crew_turn, facts_lessened, as_before}
-use Rattle.cqs_views.proofs.Lists.{set_there}
-use Rattle.cqs_views.proofs.Alone.{alone-now, not-alone}
+use Rattle.cqs_views.proofs.Alone.{not-alone}
 use Rattle.cqs_views.proofs.CrewHeld.{lessened-held, lessened-further, lessened-spares}
 use Rattle.cqs_views.proofs.CrewLooks.{counts}
 use Rattle.cqs_views.proofs.CrewSplits.{splits}
 use Rattle.cqs_views.proofs.Tries.{sole-tells, tries-first, tries-again, cut-leaves, cut-begins, le-by}
 use Rattle.cqs_rule.proofs.queue.Queue.split.Goals as goal
 
-pub load-saw-requires : goal.load-saw-requires
-load-saw-requires g c =
+pub load_at-saw-requires-clause-allowed : goal.load_at-saw-requires-clause-allowed
+load_at-saw-requires-clause-allowed g c =
     let C = g.C.ClientWords in
-    let x = c.args.self.now.table.shared.key.client in (
-      search rules,
-      search rules,
-      (λ s r homes here small.
-          let t = counts C.object (C.primitive x) _ _ (g.met.C.ClientWords.keeps x)
-          (IsSole C.primitive) c.args.self.now.table.shared.table_id.slots c.args.pass.now.seat.id
-          c.args.pass.now.seat.me c.args.pass.now.live.0
-          (sole-tells C.primitive x) s r homes here small in (
-            t.0,
-            t.1,
-            t.2,
-            t.3,
-            (
-              t.4,
-              alone-now C.object C.primitive _ _ x (g.met.C.ClientWords.keeps x) _ t.3 _ t.0
-                  (set_there s.views _ _ t.0 here),
-            ),
-          )),
-    )
+    let x = c.args.self.now.table.shared.key.client in
+    counts C.object (C.primitive x) _ _ (g.met.C.ClientWords.keeps x)
+    (IsSole C.primitive) c.args.self.now.table.shared.table_id.slots c.args.pass.now.seat.id
+    c.args.pass.now.seat.me c.args.pass.now.live.0
+    (sole-tells C.primitive x)
 
 pub loop-pass-init : goal.loop-pass-init
 loop-pass-init g c =
     let C = g.C.ClientWords in
-    let e = c.load-saw.ensures in
-    let saw = e.2.0.0.saw in (
+    let e = c.load_at-saw.ensures in
+    let saw = e.told.0.saw in (
       record {
-        table = e.0 ∙ c.requires.belongs.table;
+        table = e.table ∙ c.requires.belongs.table;
         slots = c.requires.belongs.slots;
         passes = saw.same.passes ∙ c.requires.belongs.passes;
         limit = saw.same.limit ∙ c.requires.belongs.limit;
         cells = saw.same.cells ∙ c.requires.belongs.cells;
         mode = c.requires.belongs.mode;
-        live = e.2.0.2;
-        alone = e.2.1;
+        live = e.told.2;
+        alone = e.alone;
         opening = saw.same.opening ∙ c.requires.belongs.opening;
       },
-      tries-first C.object _ _ _ e.2.0.0,
+      tries-first C.object _ _ _ e.told.0,
     )
 
 pub make-found-requires-clause-may : goal.make-found-requires-clause-may

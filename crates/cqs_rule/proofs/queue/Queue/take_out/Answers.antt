@@ -2,16 +2,13 @@ use Rattle.std.proofs.Common.{rules, ◌⊎◌, ◌≡◌, true, subst, arith}
 use Rattle.cqs_views.proofs.Swaps.{takes-out}
 use Rattle.cqs_rule.proofs.queue.Queue.take_out.Goals as goal
 
-pub load-requires : goal.load-requires
-load-requires g c =
+pub load_at-requires-clause-allowed : goal.load_at-requires-clause-allowed
+load_at-requires-clause-allowed g c =
     let C = g.C.ClientWords in
     let x = c.args.self.now.table.shared.key.client in
     let v = c.args.seat.now.me.0 in
     let slot = c.requires.number in
-    let low = c.requires.low in (
-      search rules,
-      search rules,
-      takes-out C.object (C.primitive x) _ _ (g.met.C.ClientWords.keeps x) _ _ g.K.Numbered.slot _ c.requires.one
-          c.requires.shut c.requires.bare (omega arith)
-          (subst (λ k. (C.primitive x).opens v.facts.has k ⊎ (v.alone ≡ true)) slot c.requires.may),
-    )
+    let low = c.requires.low in
+    takes-out C.object (C.primitive x) _ _ (g.met.C.ClientWords.keeps x) _ _ g.K.Numbered.slot _ c.requires.one
+    c.requires.shut c.requires.bare (omega arith)
+    (subst (λ k. (C.primitive x).opens v.facts.has k ⊎ (v.alone ≡ true)) slot c.requires.may)

@@ -12,7 +12,7 @@ ghost use Rattle.cqs_rule.specs.Seats.{IsBusy, HasLookedOn, HasGiven, HasMet};
 ghost use Rattle.cqs_views.specs.Views.{made_in, live_in};
 
 use crate::client::ClientWords;
-use crate::plays::{Alone, Count, Cut, Gather, Gift, Make, Meet};
+use crate::plays::{Count, Cut, Gather, Gift, Make, Meet};
 use crate::queue::{Pass, Queue};
 use atomic_table::Seat;
 use cqs_views::{CREW_WORD, Crowd, MeetError, View};
@@ -119,9 +119,8 @@ impl<C: ClientWords> Queue<C> {
         }
         let Pass { seat, held, .. } = given;
         self.table.shared.join_seat::<Gather>(&mut pass.seat, seat);
-        self.table
-            .shared
-            .fetch_sub::<Alone<C, Meet<C>>>(&mut pass.seat, CREW_WORD as usize, 1);
+        // The sum wraps, so one fewer is there.
+        self.add_at::<Meet<C>>(&mut pass.seat, CREW_WORD, u64::MAX);
         pass.held += held;
         Ok(())
     }

@@ -1,3 +1,4 @@
 pub mod Alone
+pub mod Crossed
 pub mod Places
 pub mod Words

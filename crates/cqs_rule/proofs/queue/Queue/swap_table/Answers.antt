@@ -1,6 +1,11 @@
-use Rattle.std.proofs.Common.{rules, refl, ◌<◌, ◌^◌, ap, sym, ◌∙◌, subst, arith}
+use Rattle.std.proofs.Common.{rules, refl, ◌<◌, ◌^◌, ap, sym, ◌∙◌, ◌+◌, ◌≡◌, length, subst, arith}
 use Rattle.cqs_views.proofs.CellSteps.{cross, crossing-low}
-use Rattle.cqs_views.specs.Kinds.{change_of, held_then}
+use Rattle.cqs_views.specs.Kinds.{change_of, held_then, further_then, opened, closed}
+use Rattle.cqs_core.specs.QueueSteps.{row_of}
+use Rattle.cqs_views.specs.Facts.{is_owing}
+use Rattle.cqs_views.specs.Layout.{words_for}
+use Rattle.cqs_words.specs.Cell.{index_in}
+use Rattle.cqs_rule.proofs.Crossed.{same-made, stays-missed}
 use Rattle.cqs_rule.proofs.queue.Queue.swap_table.Goals as goal
 
 pub exchange_at-found-requires-clause-inside : goal.exchange_at-found-requires-clause-inside
@@ -26,3 +31,99 @@ held_after-pass-requires g c =
     (subst (λ z. z < 2 ^ 32)
     (carries.held ∙ ap (held_then gains (change_of g.K.Kind.step)) c.args.pass.now.held_is)
     e.told.2.held)
+
+pub invariant_of-pass : goal.invariant_of-pass
+invariant_of-pass g c =
+    let C = g.C.ClientWords in
+    let gains = C.object.gains.held in
+    let s = g.K.Kind.step in
+    let p = c.args.pass.now in
+    let e = c.exchange_at-found.ensures in
+    let w = c.exchange_at-found.new.seat.me.0 in
+    let carries = e.told.3 c.if-found-saw.true in
+    let same = same-made C.object C.primitive s (row_of s) (index_in c.args.saw) c.args.saw
+    p.seat.me.0 c.exchange_at-found.result w e.told.0 c.if-found-saw.true in
+    let is = c.change-change.ensures in
+    let waits : length w.facts.waits + closed c.change-change.result.waits
+    ≡ length p.seat.me.0.facts.waits + opened c.change-change.result.waits =
+    subst (λ z. length w.facts.waits + closed z.waits
+    ≡ length p.seat.me.0.facts.waits + opened z.waits) (sym is) carries.waits in
+    let was = p.waits_are in
+    let becomes = c.waits_after-pass.ensures in record {
+      live = (same.weight ∙ p.live.0, ap length e.told.1 ∙ p.live.1);
+      number_is = same.number ∙ p.number_is;
+      held_is = carries.held
+          ∙ (ap (held_then gains (change_of s)) p.held_is
+          ∙ (ap (λ z. held_then gains z p.held) (sym is) ∙ sym c.held_after-pass.ensures));
+      further_is = carries.further
+          ∙ (ap (further_then (change_of s)) p.further_is
+          ∙ (ap (λ z. further_then z p.further) (sym is) ∙ sym c.further_after-pass.ensures));
+      spareless = carries.spares ∙ p.spareless;
+      shut = carries.open_slot ∙ p.shut;
+      owes_is = carries.owes ∙ ap (λ z. z.owes) (sym is);
+      waits_are = omega arith;
+      cells_are = ap words_for same.cells ∙ (p.cells_are ∙ ap (λ t. t.words) (sym e.table));
+      inside = e.told.2.inside;
+      few_cells = subst (λ n. n < 2147483648) (sym same.cells) p.few_cells;
+    }
+
+pub invariant_of-pass-else-found-saw : goal.invariant_of-pass-else-found-saw
+invariant_of-pass-else-found-saw g c =
+    let C = g.C.ClientWords in
+    let s = g.K.Kind.step in
+    let p = c.args.pass.now in
+    let e = c.exchange_at-found.ensures in
+    let w = c.exchange_at-found.new.seat.me.0 in
+    let stays = stays-missed C.object C.primitive s (row_of s) (index_in c.args.saw) c.args.saw
+    p.seat.me.0 c.exchange_at-found.result w e.told.0 c.if-found-saw.false in
+    let same = stays.same in record {
+      live = (same.weight ∙ p.live.0, ap length e.told.1 ∙ p.live.1);
+      number_is = same.number ∙ p.number_is;
+      held_is = ap (λ z. z.held) stays.has ∙ p.held_is;
+      further_is = ap (λ z. z.further) stays.has ∙ p.further_is;
+      spareless = ap (λ z. z.spares) stays.has ∙ p.spareless;
+      shut = stays.open_slot ∙ p.shut;
+      owes_is = ap is_owing stays.doing ∙ p.owes_is;
+      waits_are = ap length stays.waits ∙ p.waits_are;
+      cells_are = ap words_for same.cells ∙ (p.cells_are ∙ ap (λ t. t.words) (sym e.table));
+      inside = e.told.2.inside;
+      few_cells = subst (λ n. n < 2147483648) (sym same.cells) p.few_cells;
+    }
+
+pub returns-then-found-saw-clause-belongs : goal.returns-then-found-saw-clause-belongs
+returns-then-found-saw-clause-belongs g c =
+    let C = g.C.ClientWords in
+    let s = g.K.Kind.step in
+    let b = c.requires.belongs in
+    let e = c.exchange_at-found.ensures in
+    let same = same-made C.object C.primitive s (row_of s) (index_in c.args.saw) c.args.saw c.args.pass.now.seat.me.0
+    c.exchange_at-found.result c.exchange_at-found.new.seat.me.0 e.told.0 c.if-found-saw.true in record {
+      table = e.table ∙ b.table;
+      slots = b.slots;
+      passes = same.passes ∙ b.passes;
+      limit = same.limit ∙ b.limit;
+      cells = same.cells ∙ b.cells;
+      mode = b.mode;
+      live = e.told.2;
+      opening = same.opening ∙ b.opening;
+      alone = e.alone;
+    }
+
+pub returns-else-found-saw-clause-belongs : goal.returns-else-found-saw-clause-belongs
+returns-else-found-saw-clause-belongs g c =
+    let C = g.C.ClientWords in
+    let s = g.K.Kind.step in
+    let b = c.requires.belongs in
+    let e = c.exchange_at-found.ensures in
+    let same = (stays-missed C.object C.primitive s (row_of s) (index_in c.args.saw) c.args.saw c.args.pass.now.seat.me.0
+    c.exchange_at-found.result c.exchange_at-found.new.seat.me.0 e.told.0 c.if-found-saw.false).same in record {
+      table = e.table ∙ b.table;
+      slots = b.slots;
+      passes = same.passes ∙ b.passes;
+      limit = same.limit ∙ b.limit;
+      cells = same.cells ∙ b.cells;
+      mode = b.mode;
+      live = e.told.2;
+      opening = same.opening ∙ b.opening;
+      alone = e.alone;
+    }

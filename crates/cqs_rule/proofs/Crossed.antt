@@ -1,0 +1,34 @@
+-- What a pass keeps after an exchange on a cell.
+use Rattle.std.proofs.Common.{◌≡◌, ◌≢◌, ℕ, ap}
+use Rattle.cqs_core.specs.QueueSteps.{QueueStep, StepRow, at_counter, at_cell}
+use Rattle.cqs_views.specs.declared.view.Facts.{Facts}
+use Rattle.cqs_views.specs.declared.view.View.{View}
+use Rattle.cqs_views.specs.Exchanges.{CrossedBy}
+use Rattle.cqs_views.specs.Object.{Object, Primitive}
+use Rattle.cqs_views.specs.Views.{IsSame}
+
+-- what a pass counts is as it was
+pub record Stays {E S : Type 0} (v w : View E S) : Type 0 where
+  pub same : IsSame v w
+  pub doing : w.facts.doing ≡ v.facts.doing
+  pub has : w.facts.has ≡ v.facts.has
+  pub waits : w.facts.waits ≡ v.facts.waits
+  pub open_slot : w.facts.open_slot ≡ v.facts.open_slot
+
+module _ {C E S : Type 0} (object : Object E) (primitive : C → Primitive E S) where
+  pub same-made : (s : QueueStep) (row : StepRow) (k expected : ℕ) (v : View E S) (n : ℕ) (w : View E S)
+      → CrossedBy object primitive s row k expected v n w → n ≡ expected → IsSame v w
+  same-made s (at_cell row) k expected v n w crossed is = (crossed.made is).0.same
+  same-made s (at_counter row) k expected v n w crossed is = absurd crossed
+
+  pub stays-missed : (s : QueueStep) (row : StepRow) (k expected : ℕ) (v : View E S) (n : ℕ) (w : View E S)
+      → CrossedBy object primitive s row k expected v n w → n ≢ expected → Stays v w
+  stays-missed s (at_cell row) k expected v n w crossed other =
+      let saw = (crossed.missed other).0 in record {
+        same = saw.same;
+        doing = ap (λ (f : Facts). f.doing) saw.facts_are;
+        has = ap (λ (f : Facts). f.has) saw.facts_are;
+        waits = ap (λ (f : Facts). f.waits) saw.facts_are;
+        open_slot = ap (λ (f : Facts). f.open_slot) saw.facts_are;
+      }
+  stays-missed s (at_counter row) k expected v n w crossed other = absurd crossed

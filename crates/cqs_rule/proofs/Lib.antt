@@ -1,4 +1,5 @@
 pub mod Alone
 pub mod Crossed
+pub mod Moved
 pub mod Places
 pub mod Words

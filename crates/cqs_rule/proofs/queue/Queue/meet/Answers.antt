@@ -27,4 +27,4 @@ add_at-requires-clause-allowed g c =
     let waitless : u.seat.me.0.facts.waits ≡ [] = none-of _ _ u.waits_are c.if-given-gt0.false in
     let j = joined-idles c.args.pass.now.seat.me.0 u.seat.me.0 _ _ rests.0 rests.1 waitless c.join_seat.ensures.2 in
     meets C.object (C.primitive x) _ _ (g.met.C.ClientWords.keeps x) c.args.self.now.table.shared.table_id.slots _ _
-        j.weight j.idle j.empty j.owes_none j.slotless j.waitless
+    j.weight j.idle j.empty j.owes_none j.slotless j.waitless

@@ -1,8 +1,9 @@
-use Rattle.std.proofs.Common.{rules, refl, ◌==◌}
+use Rattle.std.proofs.Common.{rules, refl, ap, sym, ◌∙◌, ◌==◌}
 use prog.Atomic.{either}
 use Rattle.cqs_views.specs.Events.{where_found}
 use Rattle.cqs_views.proofs.CellPlaces.{client-inside}
 use Rattle.cqs_views.proofs.Moves.{moves-at}
+use Rattle.cqs_rule.proofs.Moved.{keeps-moved}
 use Rattle.cqs_rule.proofs.queue.Queue.swap_word.Goals as goal
 
 pub exchange_at-found-requires-clause-inside : goal.exchange_at-found-requires-clause-inside
@@ -19,3 +20,28 @@ exchange_at-found-requires-clause-allowed g c =
     (λ n. either (n == c.args.saw) c.args.new n)
     (record { one = c.args.pass.now.live.0; shut = c.args.pass.now.shut; stay = c.requires.slots })
     c.requires.word c.place.ensures (λ n. refl) c.requires.law
+
+pub invariant_of-pass : goal.invariant_of-pass
+invariant_of-pass g c =
+    let e = c.exchange_at-found.ensures in
+    let seat = c.exchange_at-found.new.seat in
+    keeps-moved g.M.Shown.event (where_found c.args.saw) c.place.result c.args.pass.now c.exchange_at-found.result
+    seat.me.0 e.told.0 e.told.2 seat.me.1 seat.table_id.words c.held_after-pass.result c.further_after-pass.result
+    c.owes_after-pass.result e.told.1 (ap (λ t. t.words) (sym e.table)) c.held_after-pass.ensures
+    c.owes_after-pass.ensures c.further_after-pass.ensures
+
+pub returns-clause-belongs : goal.returns-clause-belongs
+returns-clause-belongs g c =
+    let b = c.requires.belongs in
+    let e = c.exchange_at-found.ensures in
+    let same = e.told.0.saw.same in record {
+      table = e.table ∙ b.table;
+      slots = b.slots;
+      passes = same.passes ∙ b.passes;
+      limit = same.limit ∙ b.limit;
+      cells = same.cells ∙ b.cells;
+      mode = b.mode;
+      live = e.told.2;
+      opening = same.opening ∙ b.opening;
+      alone = e.alone;
+    }

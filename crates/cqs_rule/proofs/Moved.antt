@@ -1,0 +1,57 @@
+-- What a pass keeps after a step on a word of the client.
+use Rattle.std.proofs.Common.{◌≡◌, ℕ, ◌<◌, ◌^◌, ◌∙◌, Bool, List, length, Option, None, sym, refl, ap, subst}
+use Rattle.cqs_rule.specs.declared.client.ClientWords.{Ghosts}
+use Rattle.cqs_rule.specs.declared.queue.Pass.{Pass}
+use Rattle.cqs_rule.specs.Passes.{pass_view}
+use Rattle.cqs_views.specs.declared.view.Facts.{Facts}
+use Rattle.cqs_views.specs.declared.view.View.{View}
+use Rattle.cqs_views.specs.Events.{Event, Moment, IsMoment, Moved, moment}
+use Rattle.cqs_views.specs.Facts.{is_owing}
+use Rattle.cqs_views.specs.Inside.{IsInside}
+use Rattle.cqs_views.specs.Layout.{words_for}
+use Rattle.cqs_views.specs.Saw.{IsLive}
+
+module _ {S E : Type 0} where
+  -- what a pass with these counts keeps
+  abbrev pub Keeps : View E S → List (ℕ × Option S) → ℕ → ℕ → ℕ → ℕ → Bool → ℕ → Type 0
+  Keeps w items words number held further owes waits = record {
+    live : (w.weight ≡ 1) × (length items ≡ 0);
+    number_is : w.number ≡ number;
+    held_is : w.facts.has.held ≡ held;
+    further_is : w.facts.has.further ≡ further;
+    spareless : w.facts.has.spares ≡ 0;
+    shut : w.facts.open_slot ≡ None;
+    owes_is : is_owing w.facts.doing ≡ owes;
+    waits_are : length w.facts.waits ≡ waits;
+    cells_are : words_for w.cells ≡ words;
+    inside : IsInside w;
+    few_cells : w.cells < 2 ^ 31;
+  }
+
+module _ {C S E : Type 0} {g : Ghosts C S E} where
+  pub keeps-moved : (event : Event E) (made : ℕ → Bool) (place : ℕ) (p : Pass C S E g) (n : ℕ) (w : View E S)
+      → Moved g.object g.primitive event made place (pass_view p) n w → IsLive g.object w
+      → (items : List (ℕ × Option S)) (words held further : ℕ) (owes : Bool) → items ≡ p.seat.me.1
+      → p.seat.table_id.words ≡ words → ((m : Moment) → IsMoment p.held n (made n) m → event.holds m ≡ held)
+      → ((m : Moment) → is_owing m.facts.doing ≡ p.owes → m.found ≡ n → m.made ≡ made n
+      → is_owing (event.doing m) ≡ owes)
+      → ((m : Moment) → m.facts.has.further ≡ p.further → m.found ≡ n → m.made ≡ made n → event.further m ≡ further)
+      → Keeps w items words p.number held further owes p.waits
+  keeps-moved event made place p n w told live items words held further owes none table holds owing furthers =
+      let v = pass_view p in
+      let now = moment v.opening v.number v.facts made n in
+      let are = told.saw.facts_are in
+      let same = told.saw.same in record {
+        live = (same.weight ∙ p.live.0, ap length none ∙ p.live.1);
+        number_is = same.number ∙ p.number_is;
+        held_is = ap (λ (f : Facts). f.has.held) are
+            ∙ holds now (record { held_is = p.held_is; found_is = refl; made_is = refl });
+        further_is = ap (λ (f : Facts). f.has.further) are ∙ furthers now p.further_is refl refl;
+        spareless = ap (λ (f : Facts). f.has.spares) are ∙ p.spareless;
+        shut = ap (λ (f : Facts). f.open_slot) are ∙ p.shut;
+        owes_is = ap (λ (f : Facts). is_owing f.doing) are ∙ owing now p.owes_is refl refl;
+        waits_are = ap (λ (f : Facts). length f.waits) are ∙ p.waits_are;
+        cells_are = ap words_for same.cells ∙ (p.cells_are ∙ table);
+        inside = live.inside;
+        few_cells = subst (λ k. k < 2147483648) (sym same.cells) p.few_cells;
+      }

@@ -1,5 +1,6 @@
 pub mod Alone
 pub mod Crossed
 pub mod Moved
+pub mod Numbers
 pub mod Places
 pub mod Words

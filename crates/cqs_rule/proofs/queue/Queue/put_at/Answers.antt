@@ -1,4 +1,5 @@
-use Rattle.std.proofs.Common.{rules, subst}
+use Rattle.std.proofs.Common.{rules, ◌<◌, ◌∙◌, ap, sym, subst, length, arith}
+use Rattle.cqs_views.specs.Layout.{words_for}
 use Rattle.cqs_views.proofs.CellPlaces.{resumes-inside}
 use Rattle.cqs_views.proofs.Putting.{MayPut, put}
 use Rattle.cqs_rule.proofs.queue.Queue.put_at.Goals as goal
@@ -26,3 +27,40 @@ add_at-found-requires-clause-allowed g c =
     put C.object (C.primitive x) _ _ (g.met.C.ClientWords.keeps x) slots c.args.pass.now.seat.id
     c.args.pass.now.seat.me g.K.Numbered.slot
     (subst (λ k. MayPut (C.primitive x) slots k v) c.requires.number may)
+
+pub invariant_of-pass : goal.invariant_of-pass
+invariant_of-pass g c =
+    let p = c.args.pass.now in
+    let e = c.add_at-found.ensures in
+    let carries = e.told.3 in
+    let same = e.told.0.same in
+    let waits = carries.waits in
+    let was = p.waits_are in record {
+      live = (same.weight ∙ p.live.0, ap length e.told.1 ∙ p.live.1);
+      number_is = same.number ∙ p.number_is;
+      held_is = carries.held ∙ p.held_is;
+      further_is = carries.further ∙ p.further_is;
+      spareless = carries.spares ∙ p.spareless;
+      shut = carries.open_slot ∙ p.shut;
+      owes_is = carries.owes;
+      waits_are = omega arith;
+      cells_are = ap words_for same.cells ∙ (p.cells_are ∙ ap (λ t. t.words) (sym e.table));
+      inside = e.told.2.inside;
+      few_cells = subst (λ n. n < 2147483648) (sym same.cells) p.few_cells;
+    }
+
+pub returns-clause-belongs : goal.returns-clause-belongs
+returns-clause-belongs g c =
+    let b = c.requires.belongs in
+    let e = c.add_at-found.ensures in
+    let same = e.told.0.same in record {
+      table = e.table ∙ b.table;
+      slots = b.slots;
+      passes = same.passes ∙ b.passes;
+      limit = same.limit ∙ b.limit;
+      cells = same.cells ∙ b.cells;
+      mode = b.mode;
+      live = e.told.2;
+      opening = same.opening ∙ b.opening;
+      alone = e.alone;
+    }

@@ -1,12 +1,15 @@
 use Rattle.std.proofs.Common.{◌≡◌, ◌∙◌, ◌<◌, ap, sym, subst, length, ◌∷◌, Some}
+use mathlib.Core.Logic.{inr}
 use Rattle.atomic_table.specs.Table.{rest}
 use Rattle.cqs_views.specs.declared.view.View.{View}
 use Rattle.cqs_views.specs.Facts.{is_owing}
 use Rattle.cqs_views.specs.Layout.{words_for}
 use Rattle.cqs_views.specs.Lists.{IsPrefix}
-use Rattle.cqs_views.specs.SlotSteps.{TookOut}
+use Rattle.cqs_views.specs.Slots.{laid_in}
+use Rattle.cqs_views.specs.SlotSteps.{TookOut, Swapped}
 use Rattle.cqs_views.proofs.Lists.{prefix-then}
 use Rattle.cqs_views.proofs.Swaps.{swapped-then, inside-swapped, live-swapped, alone-swapped}
+use Rattle.cqs_views.proofs.Tries.{none-slots}
 use Rattle.cqs_rule.proofs.queue.Queue.fill_slot.Goals as goal
 
 pub put_first-requires-clause-item : goal.put_first-requires-clause-item
@@ -82,3 +85,54 @@ returns-clause-belongs g c =
       opening = ap (λ z. z.opening) is ∙ b.opening;
       alone = alone-swapped _ _ _ swap C.primitive b.alone;
     }
+
+pub take_out-requires-clause-table : goal.take_out-requires-clause-table
+take_out-requires-clause-table g c = c.requires.belongs.table
+
+pub take_out-requires-clause-one : goal.take_out-requires-clause-one
+take_out-requires-clause-one g c = c.args.pass.now.live.0
+
+pub take_out-requires-clause-shut : goal.take_out-requires-clause-shut
+take_out-requires-clause-shut g c = c.args.pass.now.shut
+
+pub take_out-requires-clause-bare : goal.take_out-requires-clause-bare
+take_out-requires-clause-bare g c = none-slots _ c.args.pass.now.live.1
+
+pub take_out-requires-clause-low : goal.take_out-requires-clause-low
+take_out-requires-clause-low g c = c.requires.slot
+
+pub take_out-requires-clause-may : goal.take_out-requires-clause-may
+take_out-requires-clause-may g c = inr c.requires.first.alone
+
+pub put_first-requires-clause-table : goal.put_first-requires-clause-table
+put_first-requires-clause-table g c =
+    c.exchange.ensures.0 ∙ (c.take_out.ensures.table ∙ c.requires.belongs.table)
+
+pub put_first-requires-clause-one : goal.put_first-requires-clause-one
+put_first-requires-clause-one g c =
+    ap (λ m. m.0.weight) c.exchange.ensures.3
+        ∙ (ap (λ z. z.weight) c.take_out.ensures.took.is ∙ c.args.pass.now.live.0)
+
+pub put_first-requires-clause-out : goal.put_first-requires-clause-out
+put_first-requires-clause-out g c =
+    ap (λ m. m.0.facts.open_slot) c.exchange.ensures.3 ∙ ap (λ z. z.facts.open_slot) c.take_out.ensures.took.is
+
+pub put_first-requires-clause-low : goal.put_first-requires-clause-low
+put_first-requires-clause-low g c = c.requires.slot
+
+pub put_first-requires-clause-unlaid : goal.put_first-requires-clause-unlaid
+put_first-requires-clause-unlaid g c =
+    ap (λ m. laid_in m.0.laid c.args.slot) c.exchange.ensures.3
+        ∙ (ap (λ z. laid_in z.laid c.args.slot) c.take_out.ensures.took.is ∙ c.requires.first.unlaid)
+
+pub returns-clause-swapped : goal.returns-clause-swapped
+returns-clause-swapped g c =
+    let v = c.args.pass.now.seat.me.0 in
+    let u = c.exchange.new.seat.me.0 in
+    let same : u ≡ c.take_out.new.seat.me.0 = ap (λ m. m.0) c.exchange.ensures.3 in
+    let items = c.take_out.new.seat.me.1 in
+    let took : TookOut c.args.slot v u items =
+    subst (λ z. TookOut c.args.slot v z items) (sym same) c.take_out.ensures.took in
+    let w = c.put_first.new.seat.me.0 in
+    subst (λ l. Swapped l v w) (ap (λ z. z.laid) (same ∙ c.take_out.ensures.took.is))
+    (swapped-then c.args.slot u.laid items v u w took c.put_first.ensures.put c.args.pass.now.shut)

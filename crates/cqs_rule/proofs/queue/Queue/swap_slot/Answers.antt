@@ -1,10 +1,12 @@
 use Rattle.std.proofs.Common.{◌≡◌, ◌∙◌, ◌<◌, ap, sym, subst, length, ◌∷◌}
+use mathlib.Core.Logic.{inl}
 use Rattle.atomic_table.specs.Table.{rest}
 use Rattle.cqs_views.specs.declared.view.View.{View}
 use Rattle.cqs_views.specs.Facts.{is_owing}
 use Rattle.cqs_views.specs.Layout.{words_for}
-use Rattle.cqs_views.specs.SlotSteps.{TookOut}
+use Rattle.cqs_views.specs.SlotSteps.{TookOut, Swapped}
 use Rattle.cqs_views.proofs.Swaps.{swapped-then, inside-swapped, live-swapped, alone-swapped}
+use Rattle.cqs_views.proofs.Tries.{none-slots}
 use Rattle.cqs_rule.proofs.queue.Queue.swap_slot.Goals as goal
 
 pub put_back-requires-clause-item : goal.put_back-requires-clause-item
@@ -67,3 +69,61 @@ returns-clause-belongs g c =
       opening = ap (λ z. z.opening) is ∙ b.opening;
       alone = alone-swapped _ _ _ swap C.primitive b.alone;
     }
+
+pub take_out-requires-clause-table : goal.take_out-requires-clause-table
+take_out-requires-clause-table g c = c.requires.belongs.table
+
+pub take_out-requires-clause-one : goal.take_out-requires-clause-one
+take_out-requires-clause-one g c = c.args.pass.now.live.0
+
+pub take_out-requires-clause-shut : goal.take_out-requires-clause-shut
+take_out-requires-clause-shut g c = c.args.pass.now.shut
+
+pub take_out-requires-clause-bare : goal.take_out-requires-clause-bare
+take_out-requires-clause-bare g c = none-slots _ c.args.pass.now.live.1
+
+pub take_out-requires-clause-low : goal.take_out-requires-clause-low
+take_out-requires-clause-low g c = c.requires.slot
+
+pub take_out-requires-clause-may : goal.take_out-requires-clause-may
+take_out-requires-clause-may g c = inl c.requires.holds
+
+pub put_back-requires-clause-table : goal.put_back-requires-clause-table
+put_back-requires-clause-table g c =
+    c.exchange-found.ensures.0 ∙ (c.take_out.ensures.table ∙ c.requires.belongs.table)
+
+pub put_back-requires-clause-one : goal.put_back-requires-clause-one
+put_back-requires-clause-one g c =
+    ap (λ m. m.0.weight) c.exchange-found.ensures.3
+        ∙ (ap (λ z. z.weight) c.take_out.ensures.took.is ∙ c.args.pass.now.live.0)
+
+pub put_back-requires-clause-out : goal.put_back-requires-clause-out
+put_back-requires-clause-out g c =
+    ap (λ m. m.0.facts.open_slot) c.exchange-found.ensures.3
+        ∙ ap (λ z. z.facts.open_slot) c.take_out.ensures.took.is
+
+pub put_back-requires-clause-low : goal.put_back-requires-clause-low
+put_back-requires-clause-low g c = c.requires.slot
+
+pub put_back-requires-clause-may : goal.put_back-requires-clause-may
+put_back-requires-clause-may g c =
+    let opens = (g.C.ClientWords.primitive c.args.self.now.table.shared.key.client).opens in
+    subst (λ h. opens h c.args.slot)
+    (sym (ap (λ m. m.0.facts.has) c.exchange-found.ensures.3 ∙ ap (λ z. z.facts.has) c.take_out.ensures.took.is))
+    c.requires.holds
+
+pub returns-clause-swapped : goal.returns-clause-swapped
+returns-clause-swapped g c =
+    let v = c.args.pass.now.seat.me.0 in
+    let u = c.exchange-found.new.seat.me.0 in
+    let w = c.put_back.new.seat.me.0 in
+    let same : u ≡ c.take_out.new.seat.me.0 = ap (λ m. m.0) c.exchange-found.ensures.3 in
+    let items = c.take_out.new.seat.me.1 in
+    let took : TookOut c.args.slot v u items =
+    subst (λ z. TookOut c.args.slot v z items) (sym same) c.take_out.ensures.took in
+    let put = c.put_back.ensures.put c.args.value
+    (ap (λ m. m.1) c.exchange-found.ensures.3
+    ∙ ap (λ l. (c.args.slot, c.args.value) ∷ rest l) c.take_out.ensures.took.items_are) in
+    subst (λ l. Swapped ((c.args.slot, c.args.value) ∷ l) v w)
+    (ap (λ z. z.laid) (same ∙ c.take_out.ensures.took.is))
+    (swapped-then c.args.slot ((c.args.slot, c.args.value) ∷ u.laid) items v u w took put c.args.pass.now.shut)

@@ -1,5 +1,5 @@
 -- A step that keeps the rule tells a pass that is alone what every such step does.
-use Rattle.std.proofs.Common.{◌≡◌, ℕ, Option}
+use Rattle.std.proofs.Common.{ℕ, Option}
 use Rattle.atomic_table.specs.Table.{Me, Allows}
 use Rattle.cqs_views.specs.declared.view.View.{View}
 use Rattle.cqs_views.specs.Alone.{TellsAlone}

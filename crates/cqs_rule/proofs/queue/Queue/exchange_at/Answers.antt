@@ -14,6 +14,7 @@ compare_exchange-requires g c =
       c.requires.table,
       c.requires.inside,
       tells-alone C.object C.primitive _ _ x (g.met.C.ClientWords.keeps x) slots c.args.seat.now.id me c.args.word
-          (λ n. either (n == c.args.saw) c.args.new n) (g.T.Tells.told (step slots c.args.word c.args.saw c.args.new none) me)
+          (λ n. either (n == c.args.saw) c.args.new n)
+          (g.T.Tells.told (step slots c.args.word c.args.saw c.args.new none) me)
           c.requires.allowed,
     )

@@ -111,7 +111,7 @@ put_first-requires-clause-table g c =
 pub put_first-requires-clause-one : goal.put_first-requires-clause-one
 put_first-requires-clause-one g c =
     ap (λ m. m.0.weight) c.exchange.ensures.3
-        ∙ (ap (λ z. z.weight) c.take_out.ensures.took.is ∙ c.args.pass.now.live.0)
+    ∙ (ap (λ z. z.weight) c.take_out.ensures.took.is ∙ c.args.pass.now.live.0)
 
 pub put_first-requires-clause-out : goal.put_first-requires-clause-out
 put_first-requires-clause-out g c =
@@ -123,7 +123,7 @@ put_first-requires-clause-low g c = c.requires.slot
 pub put_first-requires-clause-unlaid : goal.put_first-requires-clause-unlaid
 put_first-requires-clause-unlaid g c =
     ap (λ m. laid_in m.0.laid c.args.slot) c.exchange.ensures.3
-        ∙ (ap (λ z. laid_in z.laid c.args.slot) c.take_out.ensures.took.is ∙ c.requires.first.unlaid)
+    ∙ (ap (λ z. laid_in z.laid c.args.slot) c.take_out.ensures.took.is ∙ c.requires.first.unlaid)
 
 pub returns-clause-swapped : goal.returns-clause-swapped
 returns-clause-swapped g c =

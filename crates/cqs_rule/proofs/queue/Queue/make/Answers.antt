@@ -1,4 +1,4 @@
-use Rattle.std.proofs.Common.{rules, ap, arith, subst}
+use Rattle.std.proofs.Common.{ap, arith, subst}
 use Rattle.cqs_views.proofs.CrewSplits.{makes-to}
 use Rattle.cqs_rule.proofs.queue.Queue.make.Goals as goal
 use Rattle.cqs_views.specs.Crew.{MayGive}

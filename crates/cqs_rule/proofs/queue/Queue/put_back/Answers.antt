@@ -1,4 +1,4 @@
-use Rattle.std.proofs.Common.{rules, ◌∙◌, [], ◌∷◌, ap, subst, arith, Some}
+use Rattle.std.proofs.Common.{◌∙◌, [], ◌∷◌, ap, subst, arith, Some}
 use Rattle.cqs_views.proofs.Swaps.{puts-back}
 use Rattle.cqs_rule.proofs.queue.Queue.put_back.Goals as goal
 

@@ -1,4 +1,4 @@
-use Rattle.std.proofs.Common.{rules, ◌≡◌, ◌∙◌, [], ◌∷◌, ap, subst, arith, Some, None}
+use Rattle.std.proofs.Common.{◌≡◌, ◌∙◌, [], ◌∷◌, ap, subst, arith, Some, None}
 use Rattle.cqs_views.specs.Slots.{laid_in}
 use Rattle.cqs_views.proofs.Swaps.{fills}
 use Rattle.cqs_rule.proofs.queue.Queue.put_first.Goals as goal

@@ -1,4 +1,3 @@
-use Rattle.std.proofs.Common.{rules}
 use Rattle.cqs_views.specs.Crew.{IsSole}
 use Rattle.cqs_views.proofs.CrewLooks.{counts}
 use Rattle.cqs_views.proofs.Tries.{sole-tells}

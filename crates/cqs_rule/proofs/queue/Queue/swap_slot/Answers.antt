@@ -95,12 +95,12 @@ put_back-requires-clause-table g c =
 pub put_back-requires-clause-one : goal.put_back-requires-clause-one
 put_back-requires-clause-one g c =
     ap (λ m. m.0.weight) c.exchange-found.ensures.3
-        ∙ (ap (λ z. z.weight) c.take_out.ensures.took.is ∙ c.args.pass.now.live.0)
+    ∙ (ap (λ z. z.weight) c.take_out.ensures.took.is ∙ c.args.pass.now.live.0)
 
 pub put_back-requires-clause-out : goal.put_back-requires-clause-out
 put_back-requires-clause-out g c =
     ap (λ m. m.0.facts.open_slot) c.exchange-found.ensures.3
-        ∙ ap (λ z. z.facts.open_slot) c.take_out.ensures.took.is
+    ∙ ap (λ z. z.facts.open_slot) c.take_out.ensures.took.is
 
 pub put_back-requires-clause-low : goal.put_back-requires-clause-low
 put_back-requires-clause-low g c = c.requires.slot

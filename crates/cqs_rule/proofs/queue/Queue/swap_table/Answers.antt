@@ -96,7 +96,8 @@ returns-then-found-saw-clause-belongs g c =
     let s = g.K.Kind.step in
     let b = c.requires.belongs in
     let e = c.exchange_at-found.ensures in
-    let same = same-made C.object C.primitive s (row_of s) (index_in c.args.saw) c.args.saw c.args.pass.now.seat.me.0
+    let same = same-made C.object C.primitive s (row_of s) (index_in c.args.saw) c.args.saw
+    c.args.pass.now.seat.me.0
     c.exchange_at-found.result c.exchange_at-found.new.seat.me.0 e.told.0 c.if-found-saw.true in record {
       table = e.table ∙ b.table;
       slots = b.slots;
@@ -115,7 +116,8 @@ returns-else-found-saw-clause-belongs g c =
     let s = g.K.Kind.step in
     let b = c.requires.belongs in
     let e = c.exchange_at-found.ensures in
-    let same = (stays-missed C.object C.primitive s (row_of s) (index_in c.args.saw) c.args.saw c.args.pass.now.seat.me.0
+    let same = (stays-missed C.object C.primitive s (row_of s) (index_in c.args.saw) c.args.saw
+    c.args.pass.now.seat.me.0
     c.exchange_at-found.result c.exchange_at-found.new.seat.me.0 e.told.0 c.if-found-saw.false).same in record {
       table = e.table ∙ b.table;
       slots = b.slots;

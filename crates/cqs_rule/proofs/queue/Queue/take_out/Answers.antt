@@ -1,4 +1,4 @@
-use Rattle.std.proofs.Common.{rules, ◌⊎◌, ◌≡◌, true, subst, arith}
+use Rattle.std.proofs.Common.{◌⊎◌, ◌≡◌, true, subst, arith}
 use Rattle.cqs_views.proofs.Swaps.{takes-out}
 use Rattle.cqs_rule.proofs.queue.Queue.take_out.Goals as goal
 

@@ -42,29 +42,6 @@ invariant_of-pass g c =
       few_cells = subst (λ n. n < 2147483648) (sym same.cells) p.few_cells;
     }
 
-pub invariant_of-pass-in-Granted : goal.invariant_of-pass-in-Granted
-invariant_of-pass-in-Granted g c =
-    let gains = g.C.ClientWords.object.gains.held in
-    let p = c.args.pass.now in
-    let e = c.load_at-found.ensures in
-    let same = e.told.4 in
-    let carries = subst (λ z. CarriesLearned gains z p.seat.me.0.facts c.load_at-found.new.seat.me.0.facts)
-    (sym c.learns.ensures ∙ c.in-Granted.is) e.told.3 in
-    let waits = carries.waits in
-    let was = p.waits_are in record {
-      live = (same.weight ∙ p.live.0, ap length e.told.1 ∙ p.live.1);
-      number_is = same.number ∙ p.number_is;
-      held_is = carries.held ∙ (ap gains p.held_is ∙ sym c.held_after_take-pass.ensures);
-      further_is = carries.further ∙ p.further_is;
-      spareless = carries.spares ∙ p.spareless;
-      shut = carries.open_slot ∙ p.shut;
-      owes_is = carries.owes ∙ p.owes_is;
-      waits_are = omega arith;
-      cells_are = ap words_for same.cells ∙ (p.cells_are ∙ ap (λ t. t.words) (sym e.table));
-      inside = e.told.2.inside;
-      few_cells = subst (λ n. n < 2147483648) (sym same.cells) p.few_cells;
-    }
-
 pub invariant_of-pass-in-Ended : goal.invariant_of-pass-in-Ended
 invariant_of-pass-in-Ended g c =
     let gains = g.C.ClientWords.object.gains.held in

@@ -64,6 +64,6 @@ HasTaken (verdict.Report text) old new = StopsWithin LONGEST_INPUT old new
 HasTaken (verdict.NoPlan line) old new = StopsWithin LONGEST_INPUT old new
 HasTaken verdict.SourceFailed old new = StopsWithin LONGEST_INPUT old new
 HasTaken verdict.NoMemory old new =
-    (new.given ≤ old.given + (LONGEST_INPUT + 1)) × (old.stops ≡ 0 → new.stops ≤ 1)
+    (new.given ≤ old.given + LONGEST_INPUT) × (old.stops ≡ 0 → new.stops ≤ 1)
 HasTaken verdict.TooLong old new =
     (new.given ≡ raise old.given (LONGEST_INPUT + 1)) × (old.stops ≡ 0 → new.stops ≡ 0)

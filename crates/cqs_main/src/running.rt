@@ -88,7 +88,7 @@ pub fn run<R: Threads + Wait + Sync, S: Source, K: Sink, E: Sink>(
     ensures too_many { exit_status result ≡ TOO_LONG →
         (S.tally source.new).given ≡ raise (S.tally source.old).given (LONGEST_INPUT + 1) }
     ensures many_bytes { (S.tally source.old).given + LONGEST_INPUT < (S.tally source.new).given
-        → MustEnd TOO_LONG (exit_status result) }
+        → exit_status result ≡ TOO_LONG }
 
     // Nothing is read for other words than those that ask for it.
     ensures unread { ¬ ReadsPlan (words_of arguments) → source.new ≡ source.old }

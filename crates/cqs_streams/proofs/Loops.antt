@@ -4,7 +4,7 @@ use Rattle.cqs_streams.specs.Stream.{Gives, Gains}
 
 -- the bytes so far are what the source gave, and no fault came
 pub record HasRead (bytes : List ℕ) (left now : Option (List ℕ)) (before after : ℕ) : Type 0 where
-  pub few : length bytes ≤ 1048577
+  pub few : length bytes ≤ 1048576
   pub given : Gives bytes left now
   pub fine : after ≡ before
 

@@ -94,11 +94,11 @@ pub fn top<R: Threads + Wait + Sync, S: Source, K: Sink, G: Gate + Sync>(
         × (sink.new ≡ sink.old) }
 
     // By the source's tally that many bytes were read then; and where so many were, this status
-    // comes, unless memory ran out.
+    // comes.
     ensures too_many { result ≡ TOO_LONG →
         (S.tally source.new).given ≡ raise (S.tally source.old).given (LONGEST_INPUT + 1) }
     ensures many_bytes { (S.tally source.old).given + LONGEST_INPUT < (S.tally source.new).given
-        → MustEnd TOO_LONG result }
+        → result ≡ TOO_LONG }
 
     // Nothing is read for other words than those that ask for it.
     ensures unread { ¬ ReadsPlan (map string_bytes words.now) → source.new ≡ source.old }

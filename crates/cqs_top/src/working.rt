@@ -55,7 +55,7 @@ pub fn work<R: Threads + Wait + Sync, S: Source, K: Sink, G: Gate + Sync>(
     ensures too_many { result ≡ TOO_LONG →
         (S.tally source.new).given ≡ raise (S.tally source.old).given (LONGEST_INPUT + 1) }
     ensures many_bytes { (S.tally source.old).given + LONGEST_INPUT < (S.tally source.new).given
-        → MustEnd TOO_LONG result }
+        → result ≡ TOO_LONG }
     ensures taken { GivesAtMost (LONGEST_INPUT + 1) (S.left source.old) (S.left source.new) }
     ensures given { (S.tally source.new).given ≤ (S.tally source.old).given + (LONGEST_INPUT + 1) }
     ensures stops { (S.tally source.old).stops ≡ 0 → (S.tally source.new).stops ≤ 1 }

@@ -62,6 +62,8 @@ pub fn read_input<S: Source>(alloc: Global, source: &mut S) -> Result<Vec<u8>, R
         (S.tally source.new).given ≡ raise (S.tally source.old).given (LONGEST_INPUT + 1) }
     ensures given_failed { IsErrOf result ReadError.Failed →
         (S.tally source.new).given ≤ (S.tally source.old).given + LONGEST_INPUT }
+    ensures given_memory { IsErrOf result ReadError.Memory →
+        (S.tally source.new).given ≤ (S.tally source.old).given + LONGEST_INPUT }
     ensures given_most { (S.tally source.new).given
         ≤ (S.tally source.old).given + (LONGEST_INPUT + 1) }
 
@@ -75,6 +77,9 @@ pub fn read_input<S: Source>(alloc: Global, source: &mut S) -> Result<Vec<u8>, R
         let count = source.read(&mut piece[..wanted])?;
         if count == 0 {
             return Ok(bytes);
+        }
+        if bytes.len() + count > LONGEST_INPUT {
+            return Err(ReadError::TooLong);
         }
         bytes.extend_from_slice(&piece[..count])?;
     }

@@ -1,7 +1,7 @@
 -- From a verdict that was told to what was kept with it.
 use Rattle.std.proofs.Common.{◌≡◌, ℕ, ◌⊎◌, inl, inr, Bool, List, length, Option, IsTrue, ◌∙◌, sym, subst, arith}
 use Rattle.cqs_streams.specs.Stream.{Gains, GainsPrefix}
-use Rattle.cqs_streams.specs.Tally.{GoesOn, StopsWithin}
+use Rattle.cqs_streams.specs.Tally.{StopsAfter, StopsWithin}
 use Rattle.cqs_streams.specs.declared.streams.tally.Tally.{Tally}
 use Rattle.cqs_cli.specs.KeptRuns.{IsNoRun, Keeps, KeepsFor, KeptText}
 use Rattle.cqs_cli.specs.Meanings.{HasTold}
@@ -66,7 +66,7 @@ module _ {S K : Type 0} (left : S → Option (List ℕ)) (source_faults : S → 
     pub kept_done : (given : Verdict) (status : ℕ) → Ends given status → KeptWith given → status ≡ 0
         → KeptText words (left source) (left source_after) kept_after
         (λ text. Gains text (held sink) (held sink_after)
-        × GoesOn (length text) (sink_tally sink) (sink_tally sink_after))
+        × StopsAfter (length text) (sink_tally sink) (sink_tally sink_after))
     kept_done (verdict.Report text) status ((run, _, _), inl (is, wrote)) keeps zero = inl (
       run,
       record {
@@ -83,7 +83,7 @@ module _ {S K : Type 0} (left : S → Option (List ℕ)) (source_faults : S → 
       asked = keeps.asked;
       run = keeps.run;
       holds = subst (λ made. Gains made (held sink) (held sink_after)
-          × GoesOn (length made) (sink_tally sink) (sink_tally sink_after)) (sym keeps.holds)
+          × StopsAfter (length made) (sink_tally sink) (sink_tally sink_after)) (sym keeps.holds)
           (wrote.whole, wrote.counted);
     })
     kept_done (verdict.Summary text) status (judged, inr (is, broke)) keeps zero = absurd (omega (arith, is, zero))

@@ -40,25 +40,25 @@ gave_as_many count told (Some all) after (bytes, many, (rest, whole, _)) tells =
     let same : all ≡ told = cc in
     omega (arith, ap length (sym same ∙ whole), length-append bytes rest)
 
--- after a call of a sink that stopped none is made
+-- no call of a sink comes after one that stopped
 pub stops-once : {K : Type 0} (held : K → Option (List ℕ)) (is_flushed : K → Bool) (faults : K → ℕ)
     (tally : K → Tally) (old new : K) (given : Verdict) (status : ℕ)
     → Tells held is_flushed faults tally given status old new
     → (tally old).stops ≡ 0 → (tally new).stops ≤ 1
 stops-once held is_flushed faults tally old new verdict.NoCommand status (inl (is, wrote)) none =
-    omega (arith, wrote.counted.goes_on none)
+    omega (arith, wrote.counted.stops none)
 stops-once held is_flushed faults tally old new verdict.NoCommand status (inr (is, broke)) none =
     omega (arith, broke.counted.stops none)
 stops-once held is_flushed faults tally old new (verdict.Report text) status (inl (is, wrote)) none =
-    omega (arith, wrote.counted.goes_on none)
+    omega (arith, wrote.counted.stops none)
 stops-once held is_flushed faults tally old new (verdict.Report text) status (inr (is, broke)) none =
     omega (arith, broke.counted.stops none)
 stops-once held is_flushed faults tally old new (verdict.Summary text) status (inl (is, wrote)) none =
-    omega (arith, wrote.counted.goes_on none)
+    omega (arith, wrote.counted.stops none)
 stops-once held is_flushed faults tally old new (verdict.Summary text) status (inr (is, broke)) none =
     omega (arith, broke.counted.stops none)
 stops-once held is_flushed faults tally old new (verdict.NoPlan line) status (inl (is, wrote)) none =
-    omega (arith, wrote.counted.goes_on none)
+    omega (arith, wrote.counted.stops none)
 stops-once held is_flushed faults tally old new (verdict.NoPlan line) status (inr (is, broke)) none =
     omega (arith, broke.counted.stops none)
 stops-once held is_flushed faults tally old new verdict.SourceFailed status (is, same) none =
@@ -94,10 +94,11 @@ module _ {S K : Type 0} (left : S → Option (List ℕ)) (source_faults : S → 
   -- a sink that failed took a prefix of the text that was due
   pub broke_off : (given : Verdict) (status : ℕ) → Ends given status → status ≡ 5
       → Rises (sink_faults sink) (sink_faults sink_after)
-      × BrokeOff words (left source) (left source_after) (held sink) (held sink_after)
+      × BrokeOff words (left source) (left source_after) (held sink) (held sink_after) (sink_tally sink)
+      (sink_tally sink_after)
   broke_off verdict.NoCommand status (judged, inl (is, wrote)) five = absurd (omega (arith, is, five))
   broke_off verdict.NoCommand status ((wrong, untouched), inr (is, broke)) five =
-      (broke.cause, record { text = usage; due = inl (wrong, refl); prefix = broke.prefix })
+      (broke.cause, record { text = usage; due = inl (wrong, refl); prefix = broke.prefix; counted = broke.counted })
   broke_off (verdict.Report text) status (judged, inl (is, wrote)) five = absurd (omega (arith, is, five))
   broke_off (verdict.Report text) status ((run, calm, read), inr (is, broke)) five = (
     broke.cause,
@@ -105,6 +106,7 @@ module _ {S K : Type 0} (left : S → Option (List ℕ)) (source_faults : S → 
       text = text.items;
       due = inr (inl (run, (read.bytes, read.input, inl read.right)));
       prefix = broke.prefix;
+      counted = broke.counted;
     },
   )
   broke_off (verdict.NoPlan line) status (judged, inl (is, wrote)) five = absurd (omega (arith, is, five))
@@ -114,11 +116,14 @@ module _ {S K : Type 0} (left : S → Option (List ℕ)) (source_faults : S → 
       text = line.items;
       due = inr (inl (run, (read.bytes, read.input, inr read.right)));
       prefix = broke.prefix;
+      counted = broke.counted;
     },
   )
   broke_off (verdict.Summary text) status (judged, inl (is, wrote)) five = absurd (omega (arith, is, five))
-  broke_off (verdict.Summary text) status ((summary, untouched), inr (is, broke)) five =
-      (broke.cause, record { text = text.items; due = inr (inr summary); prefix = broke.prefix })
+  broke_off (verdict.Summary text) status ((summary, untouched), inr (is, broke)) five = (
+    broke.cause,
+    record { text = text.items; due = inr (inr summary); prefix = broke.prefix; counted = broke.counted },
+  )
   broke_off verdict.SourceFailed status (judged, (is, untouched)) five = absurd (omega (arith, is, five))
   broke_off verdict.NoMemory status (judged, (is, untouched)) five = absurd (omega (arith, is, five))
   broke_off verdict.TooLong status (judged, (is, untouched)) five = absurd (omega (arith, is, five))

@@ -1,6 +1,8 @@
 -- What the statuses of the program mean.
-use Rattle.std.specs.Prelude.{◌≡◌, ℕ, ◌⊎◌, List, [], ◌∷◌, Option, Contains}
+use Rattle.std.specs.Prelude.{◌≡◌, ℕ, ◌⊎◌, List, [], ◌∷◌, length, Option, Contains}
 use Rattle.cqs_streams.specs.Stream.{Gains, GainsPrefix}
+use Rattle.cqs_streams.specs.Tally.{StopsAfter, StopsWithin}
+use Rattle.cqs_streams.specs.declared.streams.tally.Tally.{Tally}
 use Rattle.cqs_cli.specs.Input.{IsInput}
 use Rattle.cqs_cli.specs.Plans.{IsFaultLine, IsReport}
 use Rattle.cqs_cli.specs.Summaries.{IsSummary}
@@ -28,13 +30,14 @@ abbrev pub HasTold : List (List ℕ) → Option (List ℕ) → Option (List ℕ)
 HasTold words left after held now =
     (IsRun words × Reported left after held now) ⊎ Summed words held now
 
--- the input was no plan, and the sink took the whole line that says why
-pub record NamedFault (left after held now : Option (List ℕ)) : Type 0 where
+-- the input was no plan, and the sink took the whole line that says why, and counted it
+pub record NamedFault (left after held now : Option (List ℕ)) (old new : Tally) : Type 0 where
   pub bytes : List ℕ
   pub input : IsInput bytes left after
   pub line : List ℕ
   pub fault : IsFaultLine bytes line
   pub written : Gains line held now
+  pub counted : StopsAfter (length line) old new
 
 -- the text that an input calls for
 abbrev pub IsAnswer : List ℕ → List ℕ → Type 0
@@ -47,11 +50,13 @@ IsDue words left after text =
     ⊎ (IsRun words × ((bytes : List ℕ) × IsInput bytes left after × IsAnswer bytes text))
     ⊎ IsSummary words text
 
--- the sink took a prefix of the text that the words and the input call for
-pub record BrokeOff (words : List (List ℕ)) (left after held now : Option (List ℕ)) : Type 0 where
+-- the sink took a prefix of the text that the words and the input call for, and then it failed
+pub record BrokeOff (words : List (List ℕ)) (left after held now : Option (List ℕ))
+    (old new : Tally) : Type 0 where
   pub text : List ℕ
   pub due : IsDue words left after text
   pub prefix : GainsPrefix text held now
+  pub counted : StopsWithin (length text) old new
 
 -- the statuses that there are
 abbrev pub IsStatus : ℕ → Type 0

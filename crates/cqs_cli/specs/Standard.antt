@@ -15,11 +15,6 @@ pub record StandardOutput : Type 0 where
   pub tally : Tally
   pub faults : ℕ
 
--- what standard error counted: its calls, and how often it failed
-pub record StandardError : Type 0 where
-  pub tally : Tally
-  pub faults : ℕ
-
 -- the answer of a call is handed on as it is, and the count of faults rose
 -- exactly where it is a failure
 abbrev pub IsCounted : {T E F : Type 0} → Result T E → Result T F → ℕ → ℕ → Type 0

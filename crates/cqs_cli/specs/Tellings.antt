@@ -1,7 +1,7 @@
 -- What telling a verdict does to the sink, and the status that it gives.
 use Rattle.std.specs.Prelude.{◌≡◌, ℕ, ◌⊎◌, Bool, List, length, Option, IsTrue}
 use Rattle.cqs_streams.specs.Stream.{Gains, GainsPrefix, Rises}
-use Rattle.cqs_streams.specs.Tally.{GoesOn, StopsWithin}
+use Rattle.cqs_streams.specs.Tally.{StopsAfter, StopsWithin}
 use Rattle.cqs_streams.specs.declared.streams.tally.Tally.{Tally}
 use Rattle.cqs_cli.specs.Words.{usage}
 use Rattle.cqs_cli.specs.declared.statuses.TheConstants.{DONE, NO_COMMAND, NO_MEMORY, NO_PLAN, SINK_FAILED, SOURCE_FAILED, TOO_LONG}
@@ -15,7 +15,7 @@ module _ {K : Type 0} (held : K → Option (List ℕ)) (is_flushed : K → Bool)
     pub whole : Gains text (held old) (held new)
     pub flushed : IsTrue (is_flushed new)
     pub calm : faults new ≡ faults old
-    pub counted : GoesOn (length text) (tally old) (tally new)
+    pub counted : StopsAfter (length text) (tally old) (tally new)
 
   -- the sink failed after a prefix of the text, and nothing was written after that
   pub record Broke (text : List ℕ) (old new : K) : Type 0 where

@@ -3,7 +3,7 @@
 ghost use Rattle.std.specs.Prelude.{◌≡◌, ◌≢◌, ◌⊎◌, ℕ, ◌+◌, ◌<◌, ◌≤◌, List, length, map, string_bytes, IsTrue, Some};
 ghost use Rattle.cqs_streams.specs.Counts.{raise, Rises};
 ghost use Rattle.cqs_streams.specs.Stream.{Gains, GainsPrefix, GivesAtMost, GivesCount};
-ghost use Rattle.cqs_streams.specs.Tally.{GoesOn, StopsWithin};
+ghost use Rattle.cqs_streams.specs.Tally.{StopsAfter, StopsWithin};
 ghost use Rattle.cqs_cli.specs.KeptRuns.{IsNoRun, KeptText};
 ghost use Rattle.cqs_cli.specs.Meanings.{BrokeOff, HasTold, IsStatus, MustEnd, NamedFault};
 ghost use Rattle.cqs_cli.specs.Plans.{IsPlan};
@@ -21,11 +21,11 @@ use std::alloc::Global;
 /// that the process ends with. It takes no handle, so it returns. To it the words of `work` are no
 /// command: `top` of `cqs_top` does them itself, and calls this for all others.
 ///
-/// The first clauses say what each status means, each by itself; then come those on what was read,
-/// whatever the status. Then five say which status must come where no fault does, unless memory
-/// runs out; what was then written stands at that status. The last three say what is kept. What a
-/// clause says of content holds where the source and the sink tell it; what it says of their
-/// tallies holds of every source and sink.
+/// The first clauses say what each status means, each by itself; then come those on what was read
+/// and on faults, whatever the status. Then five say which status must come where no fault does,
+/// unless memory runs out; what was then written stands at that status. The last three say what is
+/// kept. What a clause says of content holds where the source and the sink tell it; what it says of
+/// their tallies holds of every source and sink.
 ///
 /// The floor of a run is kept where its report was made, which is before anything is written: with
 /// status 0, and with status 5 where the input is a plan or the words are those of `gen`.
@@ -49,12 +49,13 @@ pub fn top_alone<S: Source, K: Sink>(
     ensures no_command { result ≡ NO_COMMAND → (¬ IsCommand (map string_bytes words.now))
         × (source.new ≡ source.old)
         × Gains usage (K.held sink.old) (K.held sink.new)
-        × GoesOn (length usage) (K.tally sink.old) (K.tally sink.new)
+        × StopsAfter (length usage) (K.tally sink.old) (K.tally sink.new)
         × IsTrue (K.is_flushed sink.new) }
 
     // The input was no plan, and the line that says why was written and flushed.
     ensures no_plan { result ≡ NO_PLAN → IsRun (map string_bytes words.now)
         × NamedFault (S.left source.old) (S.left source.new) (K.held sink.old) (K.held sink.new)
+        (K.tally sink.old) (K.tally sink.new)
         × IsTrue (K.is_flushed sink.new) }
 
     // The source failed, and nothing was written.
@@ -66,7 +67,8 @@ pub fn top_alone<S: Source, K: Sink>(
     ensures sink_failed { result ≡ SINK_FAILED →
         Rises (K.faults sink.old) (K.faults sink.new)
         × BrokeOff (map string_bytes words.now)
-        (S.left source.old) (S.left source.new) (K.held sink.old) (K.held sink.new) }
+        (S.left source.old) (S.left source.new) (K.held sink.old) (K.held sink.new)
+        (K.tally sink.old) (K.tally sink.new) }
 
     // Memory ran out, and nothing was written.
     ensures no_memory { result ≡ NO_MEMORY → IsCommand (map string_bytes words.now)
@@ -141,7 +143,7 @@ pub fn top_alone<S: Source, K: Sink>(
     ensures kept_done { result ≡ DONE → KeptText (map string_bytes words.now)
         (S.left source.old) (S.left source.new) kept.new
         (λ text. Gains text (K.held sink.old) (K.held sink.new)
-        × GoesOn (length text) (K.tally sink.old) (K.tally sink.new)) }
+        × StopsAfter (length text) (K.tally sink.old) (K.tally sink.new)) }
 
     // Where the sink failed, the floor is kept of the run whose report or summary broke off, and
     // nothing where no plan was run.

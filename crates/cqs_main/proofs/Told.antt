@@ -3,7 +3,7 @@ use Rattle.std.specs.Prelude.{◌≡◌, ℕ, ◌≤◌, Bool, List, length, Opt
 use Rattle.std.proofs.Common.{rules, subst, sym, arith}
 use Rattle.std.proofs.Math.Seq.{take-length}
 use Rattle.cqs_streams.specs.Stream.{Gains, GainsPrefix, Rises}
-use Rattle.cqs_streams.specs.Tally.{GoesOn, StopsWithin}
+use Rattle.cqs_streams.specs.Tally.{StopsAfter, StopsWithin}
 use Rattle.cqs_streams.specs.declared.streams.tally.Tally.{Tally}
 use Rattle.cqs_main.specs.Messages.{IsTold}
 
@@ -20,12 +20,12 @@ is_told (Err e) text held after faults now whole part cause = record {
   part = part;
 }
 
--- and whether all of it was flushed on, and nothing written after a fault
+-- and whether all of it was flushed on, how much it counted, and that no call came after a fault or the flush
 pub goes_through : {T E : Type 0} (r : Result T E) (count faults now : ℕ) (flushed : Bool) (old new : Tally)
-    → OnOk r (IsTrue flushed) → OnErr r (Rises faults now) → OnOk r (GoesOn count old new)
+    → OnOk r (IsTrue flushed) → OnErr r (Rises faults now) → OnOk r (StopsAfter count old new)
     → OnErr r (StopsWithin count old new)
-    → (¬ Rises faults now → IsTrue flushed) × (old.stops ≡ 0 → new.stops ≤ 1)
+    → (¬ Rises faults now → IsTrue flushed × StopsAfter count old new) × (old.stops ≡ 0 → new.stops ≤ 1)
 goes_through (Ok x) count faults now flushed old new whole cause went stopped =
-    (λ calm. whole, λ none. omega (arith, went.goes_on none))
+    (λ calm. (whole, went), λ none. omega (arith, went.stops none))
 goes_through (Err e) count faults now flushed old new whole cause went stopped =
     (λ calm. absurd (calm cause), λ none. omega (arith, stopped.stops none))

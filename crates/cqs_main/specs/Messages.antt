@@ -1,6 +1,7 @@
 -- What is told on standard error.
 use Rattle.std.specs.Prelude.{ℕ, List, [], codes, Option, ◌==◌, if◌then◌else◌}
 use Rattle.cqs_streams.specs.Stream.{Gains, GainsPrefix, Rises}
+use Rattle.cqs_streams.specs.declared.streams.tally.Tally.{Tally}
 use Rattle.cqs_cli.specs.declared.statuses.TheConstants.{NO_COMMAND, NO_MEMORY, SINK_FAILED, SOURCE_FAILED, TOO_LONG}
 
 -- the line that tells the cause of a status; none where standard output has
@@ -20,3 +21,8 @@ message status =
 pub record IsTold (text : List ℕ) (faults now : ℕ) (held after : Option (List ℕ)) : Type 0 where
   pub whole : ¬ Rises faults now → Gains text held after
   pub part : GainsPrefix text held after
+
+-- what standard error counted: its calls, and how often it failed
+pub record StandardError : Type 0 where
+  pub tally : Tally
+  pub faults : ℕ

@@ -1,7 +1,8 @@
 //! The line on standard error, and the end of the process.
-ghost use Rattle.std.specs.Prelude.{◌≡◌, ◌≤◌, IsTrue};
+ghost use Rattle.std.specs.Prelude.{◌≡◌, ◌≤◌, length, IsTrue};
 ghost use Rattle.std.specs.Process.{exit_status};
 ghost use Rattle.cqs_streams.specs.Counts.{Rises};
+ghost use Rattle.cqs_streams.specs.Tally.{StopsAfter};
 ghost use Rattle.cqs_main.specs.Messages.{IsTold, message};
 
 use cqs_cli::{NO_COMMAND, NO_MEMORY, SINK_FAILED, SOURCE_FAILED, TOO_LONG};
@@ -30,6 +31,8 @@ pub fn finish<E: Sink>(errors: &mut E, status: u8) -> ExitCode
         (E.held errors.old) (E.held errors.new) }
     ensures flushed { ¬ Rises (E.faults errors.old) (E.faults errors.new)
         → IsTrue (E.is_flushed errors.new) }
+    ensures counted { ¬ Rises (E.faults errors.old) (E.faults errors.new)
+        → StopsAfter (length (message status)) (E.tally errors.old) (E.tally errors.new) }
     ensures stops { (E.tally errors.old).stops ≡ 0 → (E.tally errors.new).stops ≤ 1 }
 {
     // Whether the line comes changes no status.

@@ -3,7 +3,7 @@ ghost use Rattle.std.specs.Prelude.{◌≡◌, ◌≢◌, ◌⊎◌, ℕ, ◌+�
 ghost use Rattle.std.specs.Process.{exit_status};
 ghost use Rattle.cqs_streams.specs.Counts.{raise, Rises};
 ghost use Rattle.cqs_streams.specs.Stream.{Gains, GainsPrefix, GivesAtMost, GivesCount};
-ghost use Rattle.cqs_streams.specs.Tally.{GoesOn, StopsWithin};
+ghost use Rattle.cqs_streams.specs.Tally.{StopsAfter, StopsWithin};
 ghost use Rattle.cqs_cli.specs.Meanings.{IsStatus, MustEnd, NamedFault};
 ghost use Rattle.cqs_cli.specs.Plans.{IsPlan};
 ghost use Rattle.cqs_cli.specs.Words.{IsSomeGen, usage};
@@ -56,12 +56,13 @@ pub fn run<R: Threads + Wait + Sync, S: Source, K: Sink, E: Sink>(
     ensures no_command { exit_status result ≡ NO_COMMAND → (¬ IsCommand (words_of arguments))
         × (source.new ≡ source.old)
         × Gains usage (K.held sink.old) (K.held sink.new)
-        × GoesOn (length usage) (K.tally sink.old) (K.tally sink.new)
+        × StopsAfter (length usage) (K.tally sink.old) (K.tally sink.new)
         × IsTrue (K.is_flushed sink.new) }
 
     // The input was no plan, and the line that says why was written and flushed.
     ensures no_plan { exit_status result ≡ NO_PLAN → ReadsPlan (words_of arguments)
         × NamedFault (S.left source.old) (S.left source.new) (K.held sink.old) (K.held sink.new)
+        (K.tally sink.old) (K.tally sink.new)
         × IsTrue (K.is_flushed sink.new) }
 
     // The source failed, and nothing was written.
@@ -73,7 +74,8 @@ pub fn run<R: Threads + Wait + Sync, S: Source, K: Sink, E: Sink>(
     ensures sink_failed { exit_status result ≡ SINK_FAILED →
         Rises (K.faults sink.old) (K.faults sink.new)
         × BrokeOff (words_of arguments)
-        (S.left source.old) (S.left source.new) (K.held sink.old) (K.held sink.new) }
+        (S.left source.old) (S.left source.new) (K.held sink.old) (K.held sink.new)
+        (K.tally sink.old) (K.tally sink.new) }
 
     // There was no memory, and nothing was written.
     ensures no_memory { exit_status result ≡ NO_MEMORY → sink.new ≡ sink.old }
@@ -113,7 +115,8 @@ pub fn run<R: Threads + Wait + Sync, S: Source, K: Sink, E: Sink>(
     ensures sink_calm { exit_status result ≢ SINK_FAILED
         → K.faults sink.new ≡ K.faults sink.old }
 
-    // Where no fault comes, there is the status that the words and the input call for.
+    // Where no fault comes, there is the status that the words and the input call for, unless there
+    // was no memory.
     ensures wrong_words { ¬ IsCommand (words_of arguments)
         → ¬ Rises (K.faults sink.old) (K.faults sink.new)
         → MustEnd NO_COMMAND (exit_status result) }
@@ -138,11 +141,14 @@ pub fn run<R: Threads + Wait + Sync, S: Source, K: Sink, E: Sink>(
         → MustEnd DONE (exit_status result) }
 
     // Standard error gets the message of the status: whole where it counted no fault, and a prefix
-    // of it in any case. Nothing is written there after a fault.
+    // of it in any case. No call is made there after a fault, or after the flush.
     ensures message { IsTold (message (exit_status result))
         (E.faults errors.old) (E.faults errors.new) (E.held errors.old) (E.held errors.new) }
     ensures flushed { ¬ Rises (E.faults errors.old) (E.faults errors.new)
         → IsTrue (E.is_flushed errors.new) }
+    ensures counted { ¬ Rises (E.faults errors.old) (E.faults errors.new)
+        → StopsAfter (length (message (exit_status result))) (E.tally errors.old)
+        (E.tally errors.new) }
     ensures error_stops { (E.tally errors.old).stops ≡ 0 → (E.tally errors.new).stops ≤ 1 }
 
     // What the text was made of is kept for the caller: with status 0, and where the sink failed
@@ -151,7 +157,7 @@ pub fn run<R: Threads + Wait + Sync, S: Source, K: Sink, E: Sink>(
         KeptText (shared_in share_any) (words_of arguments)
         (S.left source.old) (S.left source.new) kept.new
         (λ text. Gains text (K.held sink.old) (K.held sink.new)
-        × GoesOn (length text) (K.tally sink.old) (K.tally sink.new)) }
+        × StopsAfter (length text) (K.tally sink.old) (K.tally sink.new)) }
     ensures kept_broken { exit_status result ≡ SINK_FAILED →
         KeptText (shared_in share_any) (words_of arguments)
         (S.left source.old) (S.left source.new)

@@ -1,5 +1,5 @@
 //! Standard error as a sink.
-ghost use Rattle.std.specs.Prelude.{◌≡◌, None, true, false};
+ghost use Rattle.std.specs.Prelude.{◌≡◌, None, true};
 ghost use Rattle.cqs_streams.specs.Counts.{Rises};
 ghost use Rattle.cqs_streams.specs.Tally.{after_call, no_calls};
 
@@ -20,7 +20,7 @@ pub struct StderrSink {
 }
 
 impl Model for StderrSink {
-    ghost use Rattle.cqs_cli.specs.Standard.{StandardError};
+    ghost use Rattle.cqs_main.specs.Messages.{StandardError};
 
     ghost Value = { StandardError };
 
@@ -42,9 +42,9 @@ impl StderrSink {
     // Counts a failure.
     fn fail(&mut self) -> Failed
         ensures rises { Rises self.old.faults self.new.faults }
-        ensures stops { self.new.tally ≡ after_call self.old.tally 0 false }
+        ensures stops { self.new.tally ≡ after_call self.old.tally 0 }
     {
-        self.tally.count(0, false);
+        self.tally.count(0);
         self.faults = self.faults.saturating_add(1);
         Failed
     }
@@ -63,7 +63,7 @@ impl Sink for StderrSink {
     fn write(&mut self, piece: &[u8]) -> Result<usize, Failed> {
         match self.stderr.write(piece) {
             Ok(count) if count > 0 || piece.is_empty() => {
-                self.tally.count(count, true);
+                self.tally.count(count);
                 Ok(count)
             }
             _ => Err(self.fail()),
@@ -73,7 +73,7 @@ impl Sink for StderrSink {
     fn flush(&mut self) -> Result<(), Failed> {
         match self.stderr.flush() {
             Ok(()) => {
-                self.tally.count(0, true);
+                self.tally.count(0);
                 Ok(())
             }
             Err(_) => Err(self.fail()),

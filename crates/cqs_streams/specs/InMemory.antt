@@ -1,7 +1,7 @@
 -- Sources and sinks in memory: what they are, and exactly what one call does.
 use Rattle.std.specs.Prelude.{◌≡◌, ℕ, ◌+◌, ◌-◌, ◌<◌, ◌⊎◌, min, Bool, true, false, ◌||◌, nat_lt, List, ◌++◌, length, take, drop, Option, Some, None, Result, Ok, Err, if◌then◌else◌}
 use Rattle.cqs_streams.specs.Script.{Script, IsFailing, with_call, after_fault}
-use Rattle.cqs_streams.specs.Tally.{after_call, after_read}
+use Rattle.cqs_streams.specs.Tally.{after_call}
 use Rattle.cqs_streams.specs.declared.streams.failed.Failed.{Failed}
 use Rattle.cqs_streams.specs.declared.streams.tally.Tally.{Tally}
 
@@ -14,7 +14,7 @@ pub record PlainSource : Type 0 where
 
 -- a read is counted that gave so many bytes
 abbrev pub with_read : PlainSource → ℕ → PlainSource
-with_read source bytes = record source { tally = after_read source.tally bytes }
+with_read source bytes = record source { tally = after_call source.tally bytes }
 
 -- a read gives what is next, as much as there is and fits the buffer and one chunk
 abbrev pub ReadsNext : PlainSource → List ℕ → ℕ → PlainSource → Type 0
@@ -63,6 +63,11 @@ WritesSurely old piece (Ok count) new =
     × (new.room ≡ old.room)
 WritesSurely old piece (Err failed) new = ⊥
 
+-- and a flush changes nothing of that
+abbrev pub FlushesSurely : PlainSink → Bool → PlainSink → Type 0
+FlushesSurely old true new = new ≡ record old { tally = after_call old.tally 0 }
+FlushesSurely old false new = ⊥
+
 -- a sink that fails by a script, and when its room is used up: what it holds, the most that one
 -- write takes, and what it counted
 pub record ScriptedSink : Type 0 where
@@ -75,7 +80,7 @@ pub record ScriptedSink : Type 0 where
 -- after a call that failed, which takes nothing
 abbrev pub after_failure : ScriptedSink → ScriptedSink
 after_failure old =
-    record old { script = after_fault old.script; tally = after_call old.tally 0 false }
+    record old { script = after_fault old.script; tally = after_call old.tally 0 }
 
 -- a write fails exactly where the script says so or no room is left, and then takes nothing
 abbrev pub WritesByScript : ScriptedSink → List ℕ → Result ℕ Failed → ScriptedSink → Type 0
@@ -85,7 +90,7 @@ WritesByScript old piece (Ok count) new =
     × (new ≡ record old {
       held = old.held ++ take count piece;
       script = with_call old.script;
-      tally = after_call old.tally count true;
+      tally = after_call old.tally count;
     })
 WritesByScript old piece (Err failed) new =
     (IsFailing old.script ⊎ (length old.held ≡ old.room)) × (new ≡ after_failure old)
@@ -94,5 +99,5 @@ WritesByScript old piece (Err failed) new =
 abbrev pub FlushesByScript : ScriptedSink → Bool → ScriptedSink → Type 0
 FlushesByScript old true new =
     (¬ IsFailing old.script)
-    × (new ≡ record old { script = with_call old.script; tally = after_call old.tally 0 true })
+    × (new ≡ record old { script = with_call old.script; tally = after_call old.tally 0 })
 FlushesByScript old false new = IsFailing old.script × (new ≡ after_failure old)

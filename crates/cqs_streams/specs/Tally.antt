@@ -1,5 +1,5 @@
 -- What a stream counts of its calls.
-use Rattle.std.specs.Prelude.{◌≡◌, ℕ, ◌+◌, ◌≤◌, Bool, ◌||◌, not, nat_lt, Result, Ok, Err, if◌then◌else◌}
+use Rattle.std.specs.Prelude.{◌≡◌, ℕ, ◌+◌, ◌≤◌, ◌||◌, ◌==◌, nat_lt, Result, Ok, Err, if◌then◌else◌}
 use Rattle.cqs_streams.specs.declared.streams.failed.Failed.{Failed}
 use Rattle.cqs_streams.specs.declared.streams.tally.Tally.{Tally}
 use Rattle.cqs_streams.specs.Counts.{raise}
@@ -13,24 +13,25 @@ abbrev pub bytes_of : Result ℕ Failed → ℕ
 bytes_of (Ok count) = count
 bytes_of (Err failed) = 0
 
--- after a call that moved so many bytes: it stops where it doesn't go on, and
--- where an earlier one stopped
-abbrev pub after_call : Tally → ℕ → Bool → Tally
-after_call tally bytes goes_on = record {
+-- after a call that moved so many bytes: it stops where it moved none, and where an earlier one
+-- stopped
+abbrev pub after_call : Tally → ℕ → Tally
+after_call tally bytes = record {
   given = raise tally.given bytes;
-  stops = if nat_lt 0 tally.stops || not goes_on then raise tally.stops 1 else tally.stops;
+  stops = if nat_lt 0 tally.stops || bytes == 0 then raise tally.stops 1 else tally.stops;
 }
-
--- after a read that gave so many bytes, which goes on where it gave any
-abbrev pub after_read : Tally → ℕ → Tally
-after_read tally bytes = after_call tally bytes (nat_lt 0 bytes)
 
 -- so many bytes were moved, and no call stopped
 pub record GoesOn (count : ℕ) (old new : Tally) : Type 0 where
   pub given : new.given ≡ raise old.given count
   pub goes_on : old.stops ≡ 0 → new.stops ≡ 0
 
--- at most so many bytes were moved, and the last call stopped, if none did before
+-- so many bytes were moved, and the last call alone stopped, if none did before
+pub record StopsAfter (count : ℕ) (old new : Tally) : Type 0 where
+  pub given : new.given ≡ raise old.given count
+  pub stops : old.stops ≡ 0 → new.stops ≡ 1
+
+-- at most so many bytes were moved, and the last call alone stopped, if none did before
 pub record StopsWithin (most : ℕ) (old new : Tally) : Type 0 where
   pub few : new.given ≤ old.given + most
   pub stops : old.stops ≡ 0 → new.stops ≡ 1

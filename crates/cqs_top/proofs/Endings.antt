@@ -3,7 +3,7 @@ use Rattle.std.proofs.Common.{◌≡◌, ℕ, ◌≤◌, ◌⊎◌, inl, inr, Bo
 use Rattle.cqs_streams.specs.Counts.{Rises}
 use Rattle.cqs_streams.specs.declared.streams.tally.Tally.{Tally}
 use Rattle.cqs_streams.specs.Stream.{Gains, GainsPrefix}
-use Rattle.cqs_streams.specs.Tally.{GoesOn, StopsWithin}
+use Rattle.cqs_streams.specs.Tally.{StopsAfter, StopsWithin}
 use Rattle.cqs_cli.specs.Meanings.{IsStatus, MustEnd}
 use Rattle.cqs_cli.specs.Plans.{IsPlan}
 use Rattle.cqs_cli.specs.Tellings.{Tells}
@@ -49,7 +49,7 @@ module _ {S K F : Type 0} (shared : F → Shared) (left : S → Option (List ℕ
   pub kept_done : (given : Verdict) (status : ℕ) → Ends given status → status ≡ 0
       → KeptWork shared workers (left source) (left source_after) kept_after
       (λ text. Gains text (held sink) (held sink_after)
-      × GoesOn (length text) (sink_tally sink) (sink_tally sink_after))
+      × StopsAfter (length text) (sink_tally sink) (sink_tally sink_after))
       × IsTrue (is_flushed sink_after)
   kept_done (verdict.Report text) status ((calm, read), inl (is, wrote)) zero = (
     record {
@@ -88,7 +88,8 @@ module _ {S K F : Type 0} (shared : F → Shared) (left : S → Option (List ℕ
   -- a sink that failed took a prefix of the text that was due
   pub broke_off : (given : Verdict) (status : ℕ) → Ends given status → status ≡ 5
       → Rises (sink_faults sink) (sink_faults sink_after)
-      × WorkBroke workers (left source) (left source_after) (held sink) (held sink_after)
+      × WorkBroke workers (left source) (left source_after) (held sink) (held sink_after) (sink_tally sink)
+      (sink_tally sink_after)
   broke_off (verdict.Report text) status ((calm, read), inr (is, broke)) five = (
     broke.cause,
     record {
@@ -99,6 +100,7 @@ module _ {S K F : Type 0} (shared : F → Shared) (left : S → Option (List ℕ
         inl (of-kept shared read.bytes workers text.items kept_after read.right),
       );
       prefix = broke.prefix;
+      counted = broke.counted;
     },
   )
   broke_off (verdict.NoPlan line) status ((calm, read), inr (is, broke)) five = (
@@ -107,6 +109,7 @@ module _ {S K F : Type 0} (shared : F → Shared) (left : S → Option (List ℕ
       text = line.items;
       due = (read.bytes, read.input, inr read.right.0);
       prefix = broke.prefix;
+      counted = broke.counted;
     },
   )
   broke_off (verdict.Report text) status (judged, inl (is, wrote)) five = absurd (omega (arith, is, five))

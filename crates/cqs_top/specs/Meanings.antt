@@ -1,6 +1,8 @@
 -- What the statuses of the program mean.
-use Rattle.std.specs.Prelude.{ℕ, ◌⊎◌, List, Option}
+use Rattle.std.specs.Prelude.{ℕ, ◌⊎◌, List, length, Option}
 use Rattle.cqs_streams.specs.Stream.{Gains, GainsPrefix}
+use Rattle.cqs_streams.specs.Tally.{StopsWithin}
+use Rattle.cqs_streams.specs.declared.streams.tally.Tally.{Tally}
 use Rattle.cqs_cli.specs.Input.{IsInput}
 use Rattle.cqs_cli.specs.Meanings as alone
 use Rattle.cqs_cli.specs.Plans.{IsFaultLine}
@@ -29,15 +31,17 @@ IsWorkDue workers left after text =
     (bytes : List ℕ)
     × IsInput bytes left after × (IsWorkText bytes workers text ⊎ IsFaultLine bytes text)
 
--- the sink took a prefix of it
-pub record WorkBroke (workers : ℕ) (left after held now : Option (List ℕ)) : Type 0 where
+-- the sink took a prefix of it, and then it failed
+pub record WorkBroke (workers : ℕ) (left after held now : Option (List ℕ)) (old new : Tally)
+    : Type 0 where
   pub text : List ℕ
   pub due : IsWorkDue workers left after text
   pub prefix : GainsPrefix text held now
+  pub counted : StopsWithin (length text) old new
 
 -- the sink took a prefix of the text that the words and the input call for
 abbrev pub BrokeOff : List (List ℕ) → Option (List ℕ) → Option (List ℕ) → Option (List ℕ)
-    → Option (List ℕ) → Type 0
-BrokeOff words left after held now =
-    ((¬ IsSomeWork words) × alone.BrokeOff words left after held now)
-    ⊎ ((workers : ℕ) × (IsWork workers words × WorkBroke workers left after held now))
+    → Option (List ℕ) → Tally → Tally → Type 0
+BrokeOff words left after held now old new =
+    ((¬ IsSomeWork words) × alone.BrokeOff words left after held now old new)
+    ⊎ ((workers : ℕ) × (IsWork workers words × WorkBroke workers left after held now old new))

@@ -3,7 +3,7 @@
 ghost use Rattle.std.specs.Prelude.{◌≡◌, ◌≢◌, ◌⊎◌, ℕ, ◌+◌, ◌<◌, ◌≤◌, List, length, map, string_bytes, IsTrue, Some};
 ghost use Rattle.cqs_streams.specs.Counts.{raise, Rises};
 ghost use Rattle.cqs_streams.specs.Stream.{Gains, GainsPrefix, GivesAtMost, GivesCount};
-ghost use Rattle.cqs_streams.specs.Tally.{GoesOn, StopsWithin};
+ghost use Rattle.cqs_streams.specs.Tally.{StopsAfter, StopsWithin};
 ghost use Rattle.cqs_cli.specs.Meanings.{IsStatus, MustEnd, NamedFault};
 ghost use Rattle.cqs_cli.specs.Plans.{IsPlan};
 ghost use Rattle.cqs_cli.specs.Words.{IsSomeGen, usage};
@@ -31,11 +31,11 @@ use std::thread::Threads;
 /// One call of the program: does what the words say and gives the status
 /// that the process ends with.
 ///
-/// The first clauses say what each status means, each by itself; then come those on what was read,
-/// whatever the status. Then five say which status must come where no fault does, unless memory
-/// runs out; what was then written stands at that status. The last three say what is kept. What a
-/// clause says of content holds where the source and the sink tell it; what it says of their
-/// tallies holds of every source and sink.
+/// The first clauses say what each status means, each by itself; then come those on what was read
+/// and on faults, whatever the status. Then five say which status must come where no fault does,
+/// unless memory runs out; what was then written stands at that status. The last three say what is
+/// kept. What a clause says of content holds where the source and the sink tell it; what it says of
+/// their tallies holds of every source and sink.
 ///
 /// The words of `work` have workers run the plan, each in a thread of its own where one can be made
 /// and on a floor of its own, and so they may wait; all other words are done by `top_alone`. What
@@ -65,12 +65,13 @@ pub fn top<R: Threads + Wait + Sync, S: Source, K: Sink, G: Gate + Sync>(
     ensures no_command { result ≡ NO_COMMAND → (¬ IsCommand (map string_bytes words.now))
         × (source.new ≡ source.old)
         × Gains usage (K.held sink.old) (K.held sink.new)
-        × GoesOn (length usage) (K.tally sink.old) (K.tally sink.new)
+        × StopsAfter (length usage) (K.tally sink.old) (K.tally sink.new)
         × IsTrue (K.is_flushed sink.new) }
 
     // The input was no plan, and the line that says why was written and flushed.
     ensures no_plan { result ≡ NO_PLAN → ReadsPlan (map string_bytes words.now)
         × NamedFault (S.left source.old) (S.left source.new) (K.held sink.old) (K.held sink.new)
+        (K.tally sink.old) (K.tally sink.new)
         × IsTrue (K.is_flushed sink.new) }
 
     // The source failed, and nothing was written.
@@ -82,7 +83,8 @@ pub fn top<R: Threads + Wait + Sync, S: Source, K: Sink, G: Gate + Sync>(
     ensures sink_failed { result ≡ SINK_FAILED →
         Rises (K.faults sink.old) (K.faults sink.new)
         × BrokeOff (map string_bytes words.now)
-        (S.left source.old) (S.left source.new) (K.held sink.old) (K.held sink.new) }
+        (S.left source.old) (S.left source.new) (K.held sink.old) (K.held sink.new)
+        (K.tally sink.old) (K.tally sink.new) }
 
     // Memory ran out, and nothing was written.
     ensures no_memory { result ≡ NO_MEMORY → IsCommand (map string_bytes words.now)
@@ -157,7 +159,7 @@ pub fn top<R: Threads + Wait + Sync, S: Source, K: Sink, G: Gate + Sync>(
     ensures kept_done { result ≡ DONE → KeptText (shared_in share_any) (map string_bytes words.now)
         (S.left source.old) (S.left source.new) kept.new
         (λ text. Gains text (K.held sink.old) (K.held sink.new)
-        × GoesOn (length text) (K.tally sink.old) (K.tally sink.new)) }
+        × StopsAfter (length text) (K.tally sink.old) (K.tally sink.new)) }
 
     // Where the sink failed, that is kept whose text broke off, and nothing where no plan was run.
     ensures kept_broken { result ≡ SINK_FAILED →

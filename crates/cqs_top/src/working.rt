@@ -3,7 +3,7 @@
 ghost use Rattle.std.specs.Prelude.{◌≡◌, ◌≢◌, ◌⊎◌, ℕ, ◌+◌, ◌<◌, ◌≤◌, List, length, IsTrue, Some};
 ghost use Rattle.cqs_streams.specs.Counts.{raise, Rises};
 ghost use Rattle.cqs_streams.specs.Stream.{Gains, GainsPrefix, GivesAtMost, GivesCount};
-ghost use Rattle.cqs_streams.specs.Tally.{GoesOn, StopsWithin};
+ghost use Rattle.cqs_streams.specs.Tally.{StopsAfter, StopsWithin};
 ghost use Rattle.cqs_cli.specs.Meanings.{IsStatus, MustEnd, NamedFault};
 ghost use Rattle.cqs_cli.specs.Plans.{IsPlan};
 ghost use Rattle.cqs_any_shares.specs.AnyShares.{share_any};
@@ -41,13 +41,15 @@ pub fn work<R: Threads + Wait + Sync, S: Source, K: Sink, G: Gate + Sync>(
     ensures command { result ≢ NO_COMMAND }
     ensures no_plan { result ≡ NO_PLAN →
         NamedFault (S.left source.old) (S.left source.new) (K.held sink.old) (K.held sink.new)
+        (K.tally sink.old) (K.tally sink.new)
         × IsTrue (K.is_flushed sink.new) }
     ensures source_failed { result ≡ SOURCE_FAILED →
         Rises (S.faults source.old) (S.faults source.new) × (sink.new ≡ sink.old) }
     ensures sink_failed { result ≡ SINK_FAILED →
         Rises (K.faults sink.old) (K.faults sink.new)
         × WorkBroke workers
-        (S.left source.old) (S.left source.new) (K.held sink.old) (K.held sink.new) }
+        (S.left source.old) (S.left source.new) (K.held sink.old) (K.held sink.new)
+        (K.tally sink.old) (K.tally sink.new) }
     ensures no_memory { result ≡ NO_MEMORY → sink.new ≡ sink.old }
     ensures too_long { result ≡ TOO_LONG →
         GivesCount (LONGEST_INPUT + 1) (S.left source.old) (S.left source.new)
@@ -82,7 +84,7 @@ pub fn work<R: Threads + Wait + Sync, S: Source, K: Sink, G: Gate + Sync>(
     ensures kept_done { result ≡ DONE → KeptWork (shared_in share_any) workers
         (S.left source.old) (S.left source.new) kept.new
         (λ text. Gains text (K.held sink.old) (K.held sink.new)
-        × GoesOn (length text) (K.tally sink.old) (K.tally sink.new)) }
+        × StopsAfter (length text) (K.tally sink.old) (K.tally sink.new)) }
     ensures kept_broken { result ≡ SINK_FAILED →
         KeptWork (shared_in share_any) workers (S.left source.old) (S.left source.new) kept.new
         (λ text. GainsPrefix text (K.held sink.old) (K.held sink.new)

@@ -50,7 +50,7 @@ impl Source for StdinSource {
     fn read(&mut self, buffer: &mut [u8]) -> Result<usize, Failed> {
         let answer = read_uninterrupted(&mut self.stdin, buffer);
         let answer = count_fault(answer, &mut self.faults);
-        self.tally.count_read(answer.unwrap_or(0));
+        self.tally.count(answer.unwrap_or(0));
         answer
     }
 }

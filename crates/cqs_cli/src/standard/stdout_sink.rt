@@ -59,13 +59,13 @@ impl Sink for StdoutSink {
             answer => answer,
         };
         let answer = count_fault(answer, &mut self.faults);
-        self.tally.count(answer.unwrap_or(0), answer.is_ok());
+        self.tally.count(answer.unwrap_or(0));
         answer
     }
 
     fn flush(&mut self) -> Result<(), Failed> {
         let answer = count_fault(self.stdout.flush(), &mut self.faults);
-        self.tally.count(0, answer.is_ok());
+        self.tally.count(0);
         answer?;
         self.is_flushed = true;
         Ok(())

@@ -87,23 +87,23 @@ impl Sink for BytesSink {
     fn write(&mut self, piece: &[u8]) -> Result<usize, Failed> {
         let spare = self.room as usize - self.held.len();
         if self.script.is_failing() || spare == 0 {
-            self.tally.count(0, false);
+            self.tally.count(0);
             return Err(self.script.fail());
         }
         self.script.pass();
         let count = piece.len().min(self.chunk as usize).min(spare);
         self.held.extend_from_slice(&piece[..count]).unwrap();
-        self.tally.count(count, true);
+        self.tally.count(count);
         Ok(count)
     }
 
     fn flush(&mut self) -> Result<(), Failed> {
         if self.script.is_failing() {
-            self.tally.count(0, false);
+            self.tally.count(0);
             return Err(self.script.fail());
         }
         self.script.pass();
-        self.tally.count(0, true);
+        self.tally.count(0);
         Ok(())
     }
 }

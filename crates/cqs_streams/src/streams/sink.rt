@@ -34,8 +34,7 @@ pub trait Sink {
         ensures some { IfOk result (λ count. 0 < length piece.now → 0 < count) }
         ensures taken { IfOk result
             (λ count. Gains (take count piece.now) (held self.old) (held self.new)) }
-        ensures counted { tally self.new
-            ≡ after_call (tally self.old) (bytes_of result) (is_ok result) }
+        ensures counted { tally self.new ≡ after_call (tally self.old) (bytes_of result) }
         ensures fine { OnOk result (faults self.new ≡ faults self.old) }
 
         // A write that fails takes nothing.
@@ -48,7 +47,7 @@ pub trait Sink {
     fn flush(&mut self) -> Result<(), Failed>
         ensures flushed { OnOk result (IsTrue (is_flushed self.new)) }
         ensures same { held self.new ≡ held self.old }
-        ensures counted { tally self.new ≡ after_call (tally self.old) 0 (is_ok result) }
+        ensures counted { tally self.new ≡ after_call (tally self.old) 0 }
         ensures fine { OnOk result (faults self.new ≡ faults self.old) }
         ensures cause { OnErr result (Rises (faults self.old) (faults self.new)) }
 

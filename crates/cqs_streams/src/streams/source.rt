@@ -2,7 +2,7 @@
 
 ghost use Rattle.std.specs.Prelude.{◌≡◌, ℕ, ◌<◌, ◌≤◌, List, [], length, take, Option, Result, IfOk, OnOk, OnErr};
 ghost use Rattle.cqs_streams.specs.Stream.{Gives, IsAll, Rises};
-ghost use Rattle.cqs_streams.specs.Tally.{after_read, bytes_of};
+ghost use Rattle.cqs_streams.specs.Tally.{after_call, bytes_of};
 ghost use Rattle.cqs_streams.specs.declared.streams.failed.Failed.{Failed as Failure};
 ghost use Rattle.cqs_streams.specs.declared.streams.tally.Tally.{Tally};
 
@@ -32,7 +32,7 @@ pub trait Source {
         ensures next { IfOk result (λ count.
             Gives (take count buffer.new) (left self.old) (left self.new)) }
         ensures end { IfOk result (λ count. count ≡ 0 → IsAll [] (left self.old)) }
-        ensures counted { tally self.new ≡ after_read (tally self.old) (bytes_of result) }
+        ensures counted { tally self.new ≡ after_call (tally self.old) (bytes_of result) }
         ensures fine { OnOk result (faults self.new ≡ faults self.old) }
 
         // A read that fails takes nothing.

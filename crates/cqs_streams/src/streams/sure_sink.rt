@@ -65,7 +65,7 @@ impl SureSink {
 
 impl Sink for SureSink {
     ghost use Rattle.std.specs.Prelude.{true};
-    ghost use Rattle.cqs_streams.specs.InMemory.{content, WritesSurely};
+    ghost use Rattle.cqs_streams.specs.InMemory.{content, FlushesSurely, WritesSurely};
 
     ghost held = { content };
 
@@ -77,8 +77,10 @@ impl Sink for SureSink {
 
     ghost writes = { WritesSurely };
 
+    ghost flushes = { FlushesSurely };
+
     fn write(&mut self, piece: &[u8]) -> Result<usize, Failed> {
-        self.tally.count(piece.len(), true);
+        self.tally.count(piece.len());
         let spare = self.room as usize - self.kept.len();
         let count = piece.len().min(spare);
         self.kept.extend_from_slice(&piece[..count]).unwrap();
@@ -87,7 +89,7 @@ impl Sink for SureSink {
     }
 
     fn flush(&mut self) -> Result<(), Failed> {
-        self.tally.count(0, true);
+        self.tally.count(0);
         Ok(())
     }
 }

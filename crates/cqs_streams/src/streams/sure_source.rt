@@ -52,7 +52,7 @@ impl SureSource {
     pub fn count_failed(&mut self)
         ensures { self.new ≡ with_read self.old 0 }
     {
-        self.tally.count_read(0);
+        self.tally.count(0);
     }
 }
 
@@ -73,7 +73,7 @@ impl Source for SureSource {
         let count = buffer.len().min(self.chunk as usize).min(left);
         buffer[..count].copy_from_slice(&self.bytes[self.place..self.place + count]);
         self.place += count;
-        self.tally.count_read(count);
+        self.tally.count(count);
         Ok(count)
     }
 }

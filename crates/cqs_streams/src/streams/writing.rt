@@ -2,7 +2,7 @@
 
 ghost use Rattle.std.specs.Prelude.{◌≡◌, length, IsTrue, OnOk, OnErr};
 ghost use Rattle.cqs_streams.specs.Stream.{Gains, GainsPrefix, Rises};
-ghost use Rattle.cqs_streams.specs.Tally.{GoesOn, StopsWithin};
+ghost use Rattle.cqs_streams.specs.Tally.{StopsAfter, StopsWithin};
 
 use crate::{Failed, Sink};
 
@@ -15,8 +15,9 @@ pub fn write_all<K: Sink>(sink: &mut K, text: &[u8]) -> Result<(), Failed>
     ensures prefix { OnErr result (GainsPrefix text.now (K.held sink.old) (K.held sink.new)) }
     ensures cause { OnErr result (Rises (K.faults sink.old) (K.faults sink.new)) }
 
-    // How many bytes were given is known of every sink, and that none is after a fault.
-    ensures counted { OnOk result (GoesOn (length text.now)
+    // How many bytes were taken is known of every sink, and that no call comes after a fault or
+    // after the flush.
+    ensures counted { OnOk result (StopsAfter (length text.now)
         (K.tally sink.old) (K.tally sink.new)) }
     ensures stopped { OnErr result (StopsWithin (length text.now)
         (K.tally sink.old) (K.tally sink.new)) }

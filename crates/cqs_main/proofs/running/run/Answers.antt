@@ -220,3 +220,6 @@ returns-clause-kept_nothing g c =
 -- the line is that of the status that `finish` was given
 pub returns-clause-message : goal.returns-clause-message
 returns-clause-message g c = rw c.finish.ensures.status c.finish.ensures.message
+
+pub returns-clause-counted : goal.returns-clause-counted
+returns-clause-counted g c = λ calm. rw c.finish.ensures.status (c.finish.ensures.counted calm)

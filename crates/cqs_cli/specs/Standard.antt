@@ -1,6 +1,7 @@
 -- What is known of the standard streams.
-use Rattle.std.specs.Prelude.{◌≡◌, ℕ, Bool, Result, Ok, Err}
+use Rattle.std.specs.Prelude.{◌≡◌, ℕ, Bool, false, ◌||◌, List, Result, Ok, Err}
 use Rattle.cqs_streams.specs.Counts.{Rises}
+use Rattle.cqs_streams.specs.declared.streams.failed.Failed.{Failed}
 use Rattle.cqs_streams.specs.declared.streams.tally.Tally.{Tally}
 
 -- what standard input counted: its reads, and how often it failed
@@ -14,6 +15,14 @@ pub record StandardOutput : Type 0 where
   pub is_flushed : Bool
   pub tally : Tally
   pub faults : ℕ
+
+-- after a write there may be something to flush on, and after a flush that went well there is
+-- nothing
+abbrev pub WritesAhead : StandardOutput → List ℕ → Result ℕ Failed → StandardOutput → Type 0
+WritesAhead old piece answer new = new.is_flushed ≡ false
+
+abbrev pub FlushesOn : StandardOutput → Bool → StandardOutput → Type 0
+FlushesOn old went new = new.is_flushed ≡ (old.is_flushed || went)
 
 -- the answer of a call is handed on as it is, and the count of faults rose
 -- exactly where it is a failure

@@ -1,13 +1,11 @@
 //! Standard input as a source.
 
-ghost use Rattle.std.specs.Prelude.{◌≡◌, ◌≢◌, None, IfErr};
-ghost use Rattle.std.specs.Io.{ReadsAtMost};
-ghost use Rattle.std.specs.IoError.{error_kind};
+ghost use Rattle.std.specs.Prelude.{◌≡◌, None};
 ghost use Rattle.cqs_streams.specs.Tally.{no_calls};
 
-use super::counting::count_fault;
+use super::counting::read_counted;
 use cqs_streams::{Failed, Source, Tally};
-use std::io::{self, ErrorKind, Read, Stdin};
+use std::io::Stdin;
 use std::marker::Model;
 
 /// Standard input. What it gives is outside all contracts; how many bytes, and
@@ -48,23 +46,6 @@ impl Source for StdinSource {
     ghost faults = { λ source. source.faults };
 
     fn read(&mut self, buffer: &mut [u8]) -> Result<usize, Failed> {
-        let answer = read_uninterrupted(&mut self.stdin, buffer);
-        let answer = count_fault(answer, &mut self.faults);
-        self.tally.count(answer.unwrap_or(0));
-        answer
+        read_counted(&mut self.stdin, &mut self.tally, &mut self.faults, buffer)
     }
-}
-
-/// One read, made again where a signal came before it moved a byte.
-fn read_uninterrupted(stdin: &mut Stdin, buffer: &mut [u8]) -> io::Result<usize>
-    ensures within { ReadsAtMost result buffer.new }
-    ensures uninterrupted { IfErr result (λ error. error_kind error ≢ ErrorKind.Interrupted) }
-{
-    for _ in 0..u64::MAX {
-        match stdin.read(buffer) {
-            Err(error) if error.kind() == ErrorKind::Interrupted => {}
-            answer => return answer,
-        }
-    }
-    Err(ErrorKind::TimedOut.into())
 }

@@ -1,13 +1,11 @@
 //! Standard output as a sink.
 
-ghost use Rattle.std.specs.Prelude.{◌≡◌, ◌≢◌, None, true, IfErr};
-ghost use Rattle.std.specs.Io.{WritesAtMost};
-ghost use Rattle.std.specs.IoError.{error_kind};
+ghost use Rattle.std.specs.Prelude.{◌≡◌, None, true};
 ghost use Rattle.cqs_streams.specs.Tally.{no_calls};
 
-use super::counting::count_fault;
+use super::counting::{flush_counted, write_counted};
 use cqs_streams::{Failed, Sink, Tally};
-use std::io::{self, ErrorKind, Stdout, Write};
+use std::io::Stdout;
 use std::marker::Model;
 
 /// Standard output. What becomes of its bytes is outside all contracts; how many it took, and its
@@ -44,6 +42,8 @@ impl StdoutSink {
 }
 
 impl Sink for StdoutSink {
+    ghost use Rattle.cqs_cli.specs.Standard.{FlushesOn, WritesAhead};
+
     ghost held = { λ _. None };
 
     ghost is_flushed = { λ sink. sink.is_flushed };
@@ -52,36 +52,18 @@ impl Sink for StdoutSink {
 
     ghost faults = { λ sink. sink.faults };
 
+    ghost writes = { WritesAhead };
+
+    ghost flushes = { FlushesOn };
+
     fn write(&mut self, piece: &[u8]) -> Result<usize, Failed> {
         self.is_flushed = false;
-        let answer = match write_uninterrupted(&mut self.stdout, piece) {
-            Ok(0) if !piece.is_empty() => Err(ErrorKind::WriteZero.into()),
-            answer => answer,
-        };
-        let answer = count_fault(answer, &mut self.faults);
-        self.tally.count(answer.unwrap_or(0));
-        answer
+        write_counted(&mut self.stdout, &mut self.tally, &mut self.faults, piece)
     }
 
     fn flush(&mut self) -> Result<(), Failed> {
-        let answer = count_fault(self.stdout.flush(), &mut self.faults);
-        self.tally.count(0);
-        answer?;
+        flush_counted(&mut self.stdout, &mut self.tally, &mut self.faults)?;
         self.is_flushed = true;
         Ok(())
     }
-}
-
-/// One write, made again where a signal came before it moved a byte.
-fn write_uninterrupted(stdout: &mut Stdout, piece: &[u8]) -> io::Result<usize>
-    ensures within { WritesAtMost result piece.now }
-    ensures uninterrupted { IfErr result (λ error. error_kind error ≢ ErrorKind.Interrupted) }
-{
-    for _ in 0..u64::MAX {
-        match stdout.write(piece) {
-            Err(error) if error.kind() == ErrorKind::Interrupted => {}
-            answer => return answer,
-        }
-    }
-    Err(ErrorKind::TimedOut.into())
 }

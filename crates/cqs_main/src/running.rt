@@ -13,7 +13,7 @@ ghost use Rattle.cqs_top.specs.KeptWorks.{IsNoRun, KeptText};
 ghost use Rattle.cqs_top.specs.Meanings.{BrokeOff, HasTold};
 ghost use Rattle.cqs_top.specs.Words.{IsCommand, ReadsPlan};
 ghost use Rattle.cqs_top.specs.declared.kept.Kept.TheVariants.{Nothing};
-ghost use Rattle.cqs_main.specs.Arguments.{words_of};
+ghost use Rattle.cqs_main.specs.Arguments.{RanOutOfMemory, words_of};
 ghost use Rattle.cqs_main.specs.Messages.{IsTold, message};
 
 use crate::messages::finish;
@@ -79,6 +79,9 @@ pub fn run<R: Threads + Wait + Sync, S: Source, K: Sink, E: Sink>(
 
     // There was no memory, and nothing was written.
     ensures no_memory { exit_status result ≡ NO_MEMORY → sink.new ≡ sink.old }
+
+    // So it ends where the system had no memory for the words.
+    ensures no_words { RanOutOfMemory arguments → exit_status result ≡ NO_MEMORY }
 
     // One byte more than an input may have was read, and nothing was written.
     ensures too_long { exit_status result ≡ TOO_LONG → ReadsPlan (words_of arguments)

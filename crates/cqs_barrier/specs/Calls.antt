@@ -6,7 +6,7 @@ use Rattle.cqs_barrier_object.specs.BarrierEntries.{object_after, IsLegal}
 use Rattle.cqs_barrier_object.specs.BarrierNames.{entry_names}
 use Rattle.cqs_barrier_object.specs.BarrierObject as plain
 use Rattle.cqs_barrier_object.specs.SoleCaller.{numbers_of}
-use Rattle.cqs_rule.specs.declared.client.ClientWords.{Ghosts}
+use Rattle.cqs_views.specs.declared.client.ClientWords.{Ghosts}
 use Rattle.cqs_rule.specs.declared.queue.Pass.{Pass}
 use Rattle.cqs_views.specs.declared.view.Facts.{Facts}
 use Rattle.cqs_views.specs.declared.view.View.{View}

@@ -17,11 +17,11 @@ use Rattle.cqs_pool.specs.declared.client.PoolClient.{PoolClient}
 use Rattle.cqs_pool.specs.Answers.{IsInHand}
 use Rattle.cqs_pool.specs.Calls as pool
 use Rattle.cqs_pool_object.specs.declared.entries.PoolEntry.{PoolEntry}
-use Rattle.cqs_rule.specs.declared.client.ClientWords.{Ghosts}
+use Rattle.cqs_views.specs.declared.client.ClientWords.{Ghosts}
 use Rattle.cqs_rule.specs.declared.queue.Pass.{Pass}
 use Rattle.cqs_rule.specs.declared.queue.tokens.Wait.{Wait}
 use Rattle.cqs_semaphore_client.specs.declared.semaphore.SemClient.{SemClient}
-use Rattle.cqs_rule.specs.declared.carries.Kept.{Kept}
+use Rattle.cqs_views.specs.declared.carries.Kept.{Kept}
 use Rattle.cqs_rule.specs.Passes.{pass_view}
 use Rattle.cqs_rule.specs.Waits.{HasWait}
 use Rattle.cqs_semaphore.specs.declared.semaphore.Semaphore.{Semaphore}

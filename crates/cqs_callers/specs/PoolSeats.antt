@@ -1,7 +1,7 @@
 -- What a split and a meet by number have done, of a pool: each is refused, for a cause that is the
 -- callers'; or it was the pool's own, of which all holds that its contract says.
 use Rattle.std.specs.Prelude.{◌≡◌, ◌⊎◌, ◌++◌, ◌<◌, ◌≤◌, true, [], None, IsSome, vec_len}
-use Rattle.cqs_rule.specs.declared.carries.Unparked.{Unparked}
+use Rattle.cqs_views.specs.declared.carries.Unparked.{Unparked}
 use Rattle.cqs_views.specs.Crew.{Came}
 use Rattle.cqs_rule.specs.Passes.{pass_view, passes_of}
 use Rattle.cqs_rule.specs.Seats.{IsBusy, HasMet}

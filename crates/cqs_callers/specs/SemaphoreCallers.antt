@@ -1,7 +1,7 @@
 -- How a caller stands between two calls.
 use Rattle.std.specs.Prelude.{◌≡◌, ℕ, All, Option, Some, None, length}
 use Rattle.cqs_rule.specs.declared.queue.tokens.Under.{Under}
-use Rattle.cqs_rule.specs.declared.carries.Unparked.{Unparked}
+use Rattle.cqs_views.specs.declared.carries.Unparked.{Unparked}
 use Rattle.cqs_views.specs.declared.view.Facts.{Facts}
 use Rattle.cqs_rule.specs.Owed.{HasUnder}
 use Rattle.cqs_rule.specs.declared.queue.tokens.Wait.{Wait}

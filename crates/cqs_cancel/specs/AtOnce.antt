@@ -1,7 +1,7 @@
 -- What a cancel answers that leaves at once: exactly what its owner found in the cell of the wait.
 use Rattle.std.specs.Prelude.{◌≡◌, ℕ}
 use Rattle.cqs_core.specs.QueueSteps.{row_of, leaves_at_once}
-use Rattle.cqs_rule.specs.declared.client.ClientWords.{Ghosts}
+use Rattle.cqs_views.specs.declared.client.ClientWords.{Ghosts}
 use Rattle.cqs_rule.specs.declared.queue.Pass.{Pass}
 use Rattle.cqs_views.specs.declared.view.View.{View}
 use Rattle.cqs_views.specs.Called.{Called}

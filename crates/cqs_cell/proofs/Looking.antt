@@ -9,7 +9,7 @@ use Rattle.cqs_words.specs.declared.cell.CellState.TheVariants as shown
 use Rattle.std.proofs.lemmas.Option.{same_Some}
 use Rattle.cqs_words.specs.declared.cell.CellWord.{CellWord}
 use Rattle.cqs_words.specs.Cell.{payload_in, unpacked_cell}
-use Rattle.cqs_rule.specs.declared.client.ClientWords.{Ghosts}
+use Rattle.cqs_views.specs.declared.client.ClientWords.{Ghosts}
 use Rattle.cqs_views.specs.declared.config.Place.{Place}
 use Rattle.cqs_rule.specs.declared.queue.Pass.{Pass}
 use Rattle.cqs_views.specs.declared.view.View.{View}

@@ -1,6 +1,6 @@
 -- What find answers, and what it leaves of the pass that looked.
 use Rattle.std.specs.Prelude.{◌≡◌, ℕ, ◌+◌, ◌≤◌, List, [], ◌++◌, length}
-use Rattle.cqs_rule.specs.declared.client.ClientWords.{Ghosts}
+use Rattle.cqs_views.specs.declared.client.ClientWords.{Ghosts}
 use Rattle.cqs_rule.specs.declared.queue.Pass.{Pass}
 use Rattle.cqs_views.specs.declared.view.Facts.{Facts}
 use Rattle.cqs_views.specs.declared.view.Sighting.{Sighting}

@@ -4,7 +4,7 @@ use Rattle.cqs_core.specs.declared.doings.Doing.TheVariants as doing
 use Rattle.cqs_latch_object.specs.declared.entries.LatchEntry.{LatchEntry}
 use Rattle.cqs_latch_object.specs.LatchEntries.{IsLegal}
 use Rattle.cqs_latch_object.specs.LatchNames.{entry_names}
-use Rattle.cqs_rule.specs.declared.client.ClientWords.{Ghosts}
+use Rattle.cqs_views.specs.declared.client.ClientWords.{Ghosts}
 use Rattle.cqs_rule.specs.declared.queue.Pass.{Pass}
 use Rattle.cqs_views.specs.declared.view.Facts.{Facts}
 use Rattle.cqs_views.specs.declared.view.View.{View}

@@ -1,6 +1,6 @@
 -- How a caller of a barrier stands between two calls.
 use Rattle.std.specs.Prelude.{◌≡◌, ◌≢◌, ℕ, ◌+◌, List, All, Option, Some, None, length}
-use Rattle.cqs_rule.specs.declared.carries.Unparked.{Unparked}
+use Rattle.cqs_views.specs.declared.carries.Unparked.{Unparked}
 use Rattle.cqs_views.specs.declared.view.View.{View}
 use Rattle.cqs_views.specs.Lists.{Has}
 use Rattle.cqs_rule.specs.Passes.{pass_view}

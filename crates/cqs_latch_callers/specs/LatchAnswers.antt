@@ -5,7 +5,7 @@ use Rattle.std.specs.Prelude.{◌≡◌, ◌≢◌, ◌⊎◌, ℕ, ◌≤◌, t
 use Rattle.cqs_views.specs.declared.config.AcquireError.{AcquireError}
 use Rattle.cqs_views.specs.declared.config.CancelMode.{CancelMode}
 use Rattle.cqs_rule.specs.declared.queue.tokens.Wait.{Wait}
-use Rattle.cqs_rule.specs.declared.carries.Unparked.{Unparked}
+use Rattle.cqs_views.specs.declared.carries.Unparked.{Unparked}
 use Rattle.cqs_views.specs.declared.view.View.{View}
 use Rattle.cqs_rule.specs.Passes.{pass_view, client_of}
 use Rattle.cqs_rule.specs.Waits.{place_of, HasWait}

@@ -1,6 +1,6 @@
 -- How a caller of a latch stands between two calls.
 use Rattle.std.specs.Prelude.{◌≡◌, Option, Some, None, length}
-use Rattle.cqs_rule.specs.declared.carries.Unparked.{Unparked}
+use Rattle.cqs_views.specs.declared.carries.Unparked.{Unparked}
 use Rattle.cqs_views.specs.declared.view.Facts.{Facts}
 use Rattle.cqs_rule.specs.Passes.{pass_view}
 use Rattle.cqs_latch.specs.declared.answers.Owed.{Owed}

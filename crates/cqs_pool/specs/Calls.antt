@@ -5,7 +5,7 @@ use Rattle.cqs_pool_object.specs.declared.entries.PoolEntry.{PoolEntry}
 use Rattle.cqs_pool_object.specs.PoolEntries.{object_after, IsLegal}
 use Rattle.cqs_pool_object.specs.PoolNames.{entry_names}
 use Rattle.cqs_pool_object.specs.PoolObject as plain
-use Rattle.cqs_rule.specs.declared.client.ClientWords.{Ghosts}
+use Rattle.cqs_views.specs.declared.client.ClientWords.{Ghosts}
 use Rattle.cqs_rule.specs.declared.queue.Pass.{Pass}
 use Rattle.cqs_views.specs.declared.view.Facts.{Facts}
 use Rattle.cqs_views.specs.declared.view.View.{View}

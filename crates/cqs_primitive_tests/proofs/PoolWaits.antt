@@ -2,7 +2,7 @@
 use Rattle.std.proofs.Common.{◌∙◌, ap, sym, subst, ℕ, List, Option}
 use Rattle.cqs_pool_object.specs.declared.entries.PoolEntry.{PoolEntry}
 use Rattle.cqs_rule.specs.declared.queue.tokens.Wait.{Wait}
-use Rattle.cqs_rule.specs.declared.carries.Kept.{Kept}
+use Rattle.cqs_views.specs.declared.carries.Kept.{Kept}
 use Rattle.cqs_views.specs.declared.view.View.{View}
 use Rattle.cqs_views.specs.Lists.{Has}
 use Rattle.cqs_views.specs.Placed.{place_word, place_known}

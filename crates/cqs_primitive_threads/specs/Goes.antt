@@ -1,7 +1,7 @@
 -- What a thread has that goes through the rounds.
 use Rattle.std.specs.Prelude.{◌≡◌, ◌≢◌, ℕ, ◌+◌, ◌<◌, ◌≤◌, List, Some, slice_get}
 use Rattle.cqs_barrier_object.specs.declared.entries.BarrierEntry.{BarrierEntry}
-use Rattle.cqs_rule.specs.declared.client.ClientWords.{Ghosts}
+use Rattle.cqs_views.specs.declared.client.ClientWords.{Ghosts}
 use Rattle.cqs_rule.specs.declared.queue.Pass.{Pass}
 use Rattle.cqs_rule.specs.Passes.{pass_view}
 use Rattle.cqs_barrier.specs.Parked.{BarrierClient}

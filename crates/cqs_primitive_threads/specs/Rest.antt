@@ -1,6 +1,6 @@
 -- What a pass is at between the calls of its thread.
 use Rattle.cqs_latch_object.specs.declared.entries.LatchEntry.{LatchEntry}
-use Rattle.cqs_rule.specs.declared.client.ClientWords.{Ghosts}
+use Rattle.cqs_views.specs.declared.client.ClientWords.{Ghosts}
 use Rattle.cqs_rule.specs.declared.queue.Pass.{Pass}
 use Rattle.cqs_rule.specs.declared.queue.tokens.Wait.{Wait}
 use Rattle.cqs_rule.specs.Passes.{pass_view}

@@ -2,7 +2,7 @@
 -- there.
 use Rattle.std.specs.Prelude.{ℕ, Some}
 use Rattle.cqs_core.specs.QueueSteps.{begins}
-use Rattle.cqs_rule.specs.declared.client.ClientWords.{Ghosts}
+use Rattle.cqs_views.specs.declared.client.ClientWords.{Ghosts}
 use Rattle.cqs_rule.specs.declared.queue.Pass.{Pass}
 use Rattle.cqs_views.specs.declared.view.View.{View}
 use Rattle.cqs_views.specs.Counts.{Drew}

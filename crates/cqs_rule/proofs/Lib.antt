@@ -1,4 +1,3 @@
-pub mod Alone
 pub mod Crossed
 pub mod Moved
 pub mod Numbers

@@ -1,6 +1,6 @@
 -- What a pass keeps after a step on a word of the client.
 use Rattle.std.proofs.Common.{◌≡◌, ℕ, ◌<◌, ◌^◌, ◌∙◌, Bool, List, length, Option, None, sym, refl, ap, subst}
-use Rattle.cqs_rule.specs.declared.client.ClientWords.{Ghosts}
+use Rattle.cqs_views.specs.declared.client.ClientWords.{Ghosts}
 use Rattle.cqs_rule.specs.declared.queue.Pass.{Pass}
 use Rattle.cqs_rule.specs.Passes.{pass_view}
 use Rattle.cqs_views.specs.declared.view.Facts.{Facts}

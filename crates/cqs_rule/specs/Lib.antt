@@ -1,6 +1,5 @@
 pub mod Allowed
 pub mod Callbacks
-pub mod Carried
 pub mod Passes
 pub mod Steps
 pub mod Seats

@@ -1,6 +1,6 @@
 -- What contracts see of a queue and of a pass.
 use Rattle.std.specs.Prelude.{◌≡◌, ℕ, ◌<◌}
-use Rattle.cqs_rule.specs.declared.client.ClientWords.{Ghosts}
+use Rattle.cqs_views.specs.declared.client.ClientWords.{Ghosts}
 use Rattle.cqs_views.specs.declared.config.CancelMode.{CancelMode}
 use Rattle.cqs_views.specs.declared.config.Place.{Place}
 use Rattle.cqs_views.specs.declared.view.View.{View}

@@ -1,7 +1,7 @@
 -- What a step is allowed by and what it tells, by the pass before and after it.
 use Rattle.std.specs.Prelude.{◌≡◌, ℕ, Bool, Some}
 use Rattle.cqs_core.specs.QueueSteps.{QueueStep, puts, row_of}
-use Rattle.cqs_rule.specs.declared.client.ClientWords.{Ghosts}
+use Rattle.cqs_views.specs.declared.client.ClientWords.{Ghosts}
 use Rattle.cqs_rule.specs.declared.queue.Pass.{Pass}
 use Rattle.cqs_rule.specs.declared.queue.Queue.{Queue}
 use Rattle.cqs_views.specs.Counts.{DrewBy, Drew}

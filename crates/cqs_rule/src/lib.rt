@@ -7,29 +7,17 @@
 #![tactic(auto)]
 
 mod callbacks;
-mod carries;
-mod client;
-mod kinds;
-mod loads;
 mod plays;
 mod queue;
-mod rule;
-mod silent;
 mod threads;
 
 pub use callbacks::Client;
-pub use carries::{Carries, Kept, Unparked};
-pub use client::{ClientWords, Shown};
 pub use cqs_views::{
-    AcquireError, CELLS_WORD, CLIENT_WORD, CREW_WORD, CancelMode, Change, Config, Crowd, Crowded,
-    Drawn, Facts, Glimpse, Has, Learned, MakeError, MeetError, Opening, Place, RESUMES_WORD,
-    SUSPENDS_WORD, Sighting, View, Waits,
+    AcquireError, Begins, CELLS_WORD, CLIENT_WORD, CREW_WORD, CancelMode, Cancels, Carries, Change,
+    ClientWords, Config, Counts, Crowd, Crowded, Delegates, Drawn, Draws, Enters, Facts, Glimpse,
+    Has, Installs, Kept, Key, Kind, Learned, Leaves, LeavesAtOnce, LeavesLine, Load, MakeError,
+    MeetError, Meets, Misses, Opening, Place, Polls, RESUMES_WORD, Reaches, Refuses, RefusesValue,
+    Rule, SUSPENDS_WORD, Serves, Settles, SettlesOwing, Shown, Sighting, Silent, StartsLeaving,
+    Takes, Unparked, View, Waits, Watches,
 };
-pub use kinds::{
-    Begins, Delegates, Draws, Enters, Installs, Kind, Leaves, LeavesAtOnce, LeavesLine, Reaches,
-    Refuses, RefusesValue, Serves, Settles, SettlesOwing, StartsLeaving, Takes,
-};
-pub use loads::{Cancels, Counts, Load, Meets, Misses, Polls, Watches};
 pub use queue::{Pass, Queue, Under, Wait};
-pub use rule::{Key, Rule};
-pub use silent::Silent;

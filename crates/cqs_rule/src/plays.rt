@@ -8,12 +8,9 @@ ghost use Rattle.cqs_views.specs.Exchanges.{crossed};
 ghost use Rattle.cqs_views.specs.Loads.{loaded_by};
 ghost use Rattle.cqs_views.specs.SlotSteps.{took_out, put_back, filled, given_by, put_by};
 
-use crate::client::{ClientWords, Shown};
-use crate::kinds::Kind;
-use crate::loads::Load;
 use crate::queue::Numbered;
 use atomic_table::{Join, Play, Split};
-use cqs_views::View;
+use cqs_views::{ClientWords, Kind, Load, Shown, View};
 use std::marker::{Brand, PhantomData};
 
 /// What a step tells its pass.

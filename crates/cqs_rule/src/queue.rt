@@ -17,10 +17,8 @@ mod table;
 mod tokens;
 mod words;
 
-use crate::client::ClientWords;
-use crate::rule::{Key, Rule};
 use atomic_table::{Seat, Table};
-use cqs_views::{CancelMode, View};
+use cqs_views::{CancelMode, ClientWords, Key, Rule, View};
 use parked::Parked;
 pub(crate) use slots::Numbered;
 use std::alloc::Global;

@@ -5,7 +5,7 @@ use Rattle.cqs_core.specs.declared.entries.Entry.{Entry}
 use Rattle.cqs_core.specs.SemaphoreEntries.{object_after, IsLegal}
 use Rattle.cqs_core.specs.SemaphoreNames.{entry_names}
 use Rattle.cqs_core.specs.SemaphoreObject as plain
-use Rattle.cqs_rule.specs.declared.client.ClientWords.{Ghosts}
+use Rattle.cqs_views.specs.declared.client.ClientWords.{Ghosts}
 use Rattle.cqs_rule.specs.declared.queue.Pass.{Pass}
 use Rattle.cqs_semaphore_client.specs.declared.semaphore.SemClient.{SemClient}
 use Rattle.cqs_views.specs.declared.view.Facts.{Facts}

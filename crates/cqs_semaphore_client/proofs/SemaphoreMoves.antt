@@ -28,7 +28,7 @@ use Rattle.cqs_views.specs.Facts.{is_owing}
 use Rattle.cqs_views.specs.Hidden.{Hidden, stands_at}
 use Rattle.cqs_views.specs.Lists.{NamesOnly}
 use Rattle.cqs_views.specs.declared.view.View.{View}
-use Rattle.cqs_rule.specs.Carried.{slots_when}
+use Rattle.cqs_views.specs.Carried.{slots_when}
 use Rattle.cqs_semaphore_client.specs.SemaphoreSlots.{IsFull, GivesValue}
 use Rattle.cqs_views.specs.Slots.{laid_in, taken_off}
 use Rattle.cqs_views.specs.SlotSteps.{GivesAway, HandedIn}

@@ -1,7 +1,7 @@
 -- What the pass of a sleeper is at between two calls.
 use Rattle.std.specs.Prelude.{◌<◌}
 use Rattle.cqs_core.specs.declared.entries.Entry.{Entry}
-use Rattle.cqs_rule.specs.declared.client.ClientWords.{Ghosts}
+use Rattle.cqs_views.specs.declared.client.ClientWords.{Ghosts}
 use Rattle.cqs_rule.specs.declared.queue.Pass.{Pass}
 use Rattle.cqs_semaphore_client.specs.declared.semaphore.SemClient.{SemClient}
 use Rattle.cqs_rule.specs.Passes.{pass_view}

@@ -6,7 +6,7 @@ use Rattle.cqs_core.specs.SemaphoreObject as plain
 use Rattle.cqs_plan.specs.declared.plans.kind.Kind.{Kind}
 use Rattle.cqs_plan.specs.declared.plans.kind.Kind.TheVariants.{Semaphore, Mutex, Pool, Latch, Rounds}
 use Rattle.cqs_plan.specs.Floor.{size_of}
-use Rattle.cqs_rule.specs.declared.carries.Kept.{Kept}
+use Rattle.cqs_views.specs.declared.carries.Kept.{Kept}
 use Rattle.cqs_views.specs.declared.view.View.{View}
 use Rattle.cqs_views.specs.Lists.{Has}
 use Rattle.cqs_rule.specs.Passes.{pass_view}

@@ -1,12 +1,12 @@
 -- What holds of a pool of values and of its passes between two calls.
 use Rattle.std.specs.Prelude.{◌≡◌, ℕ, ◌<◌, true, List, [], ◌∷◌, length, slice_get, Some, None, Result, Ok, Err}
 use Rattle.cqs_pool_object.specs.declared.entries.PoolEntry.{PoolEntry}
-use Rattle.cqs_rule.specs.declared.client.ClientWords.{Ghosts}
+use Rattle.cqs_views.specs.declared.client.ClientWords.{Ghosts}
 use Rattle.cqs_views.specs.declared.config.Config.{Config}
 use Rattle.cqs_views.specs.declared.config.MakeError.{MakeError}
 use Rattle.cqs_views.specs.declared.config.MakeError.TheVariants.{BadConfig}
 use Rattle.cqs_rule.specs.declared.queue.Pass.{Pass}
-use Rattle.cqs_rule.specs.declared.carries.Kept.{Kept}
+use Rattle.cqs_views.specs.declared.carries.Kept.{Kept}
 use Rattle.cqs_views.specs.declared.view.View.{View}
 use Rattle.cqs_views.specs.Lists.{Has}
 use Rattle.cqs_rule.specs.Passes.{pass_view, passes_of, limit_of}

@@ -26,3 +26,4 @@ pub mod Crew
 pub mod Alone
 pub mod Configured
 pub mod Held
+pub mod Carried

@@ -4,7 +4,7 @@ use Rattle.std.specs.Prelude.{IsErrOf}
 use Rattle.cqs_pool_object.specs.declared.entries.PoolEntry.{PoolEntry}
 use Rattle.cqs_views.specs.declared.config.AcquireError.{AcquireError}
 use Rattle.cqs_views.specs.declared.config.AcquireError.TheVariants.{Worn, Crowded}
-use Rattle.cqs_rule.specs.declared.carries.Kept.{Kept}
+use Rattle.cqs_views.specs.declared.carries.Kept.{Kept}
 use Rattle.cqs_views.specs.declared.view.View.{View}
 use Rattle.cqs_views.specs.Lists.{Has}
 use Rattle.cqs_pool.specs.Answers.{IsInHand}

@@ -1,7 +1,7 @@
 -- When a future that acquires may be polled, and what may come of it.
 use Rattle.std.specs.Prelude.{Option, Result, Ok, Err}
 use Rattle.cqs_core.specs.declared.entries.Entry.{Entry}
-use Rattle.cqs_rule.specs.declared.client.ClientWords.{Ghosts}
+use Rattle.cqs_views.specs.declared.client.ClientWords.{Ghosts}
 use Rattle.cqs_views.specs.declared.config.AcquireError.{AcquireError}
 use Rattle.cqs_rule.specs.declared.queue.Pass.{Pass}
 use Rattle.cqs_rule.specs.declared.queue.tokens.Wait.{Wait}

@@ -4,7 +4,7 @@ use Rattle.std.specs.Prelude.{Option, Result, Ok, Err}
 use Rattle.cqs_pool_object.specs.declared.entries.PoolEntry.{PoolEntry}
 use Rattle.cqs_views.specs.declared.config.AcquireError.{AcquireError}
 use Rattle.cqs_rule.specs.declared.queue.tokens.Wait.{Wait}
-use Rattle.cqs_rule.specs.declared.carries.Kept.{Kept}
+use Rattle.cqs_views.specs.declared.carries.Kept.{Kept}
 use Rattle.cqs_views.specs.declared.view.View.{View}
 use Rattle.cqs_rule.specs.Waits.{HasWait}
 use Rattle.cqs_value_pool.specs.declared.answers.ItemPolled.{ItemPolled}

@@ -9,12 +9,10 @@ ghost use Rattle.cqs_rule.specs.Passes.{pass_view, client_of, passes_of, limit_o
 ghost use Rattle.cqs_views.specs.Ruled.{cell_count};
 ghost use Rattle.cqs_views.specs.Views.{first_view};
 
-use crate::client::ClientWords;
 use crate::queue::parked::Parked;
 use crate::queue::{Pass, Queue};
-use crate::rule::Key;
 use atomic_table::Table;
-use cqs_views::{CELLS_WORD, CLIENT_WORD, CREW_WORD, CancelMode, Config, MakeError, RESUMES_WORD};
+use cqs_views::{CELLS_WORD, CLIENT_WORD, CREW_WORD, CancelMode, ClientWords, Config, Key, MakeError, RESUMES_WORD};
 use cqs_words::{CellState, CellWord, CrewWord};
 use std::alloc::{AllocError, Global};
 

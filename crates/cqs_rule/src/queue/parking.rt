@@ -5,9 +5,8 @@ ghost use Rattle.std.specs.Prelude.{◌≡◌};
 ghost use Rattle.cqs_rule.specs.Passes.{pass_view, IsInTable, IsOf};
 ghost use Rattle.cqs_rule.specs.Waits.{HasWait};
 
-use crate::client::ClientWords;
 use crate::queue::{Pass, Queue, Wait};
-use cqs_views::Place;
+use cqs_views::{ClientWords, Place};
 use cqs_words::{CellState, CellWord};
 use std::sync::Wait as MayWait;
 

@@ -10,10 +10,9 @@ ghost use Rattle.cqs_rule.specs.Passes.{pass_view, client_of, slots_of, IsOf};
 ghost use Rattle.cqs_views.specs.SlotSteps.{LaysValue};
 ghost use Rattle.cqs_rule.specs.Steps.{HasPut, HasGiven};
 
-use crate::client::ClientWords;
 use crate::plays::Putting;
 use crate::queue::{Numbered, Pass, Queue};
-use cqs_views::RESUMES_WORD;
+use cqs_views::{ClientWords, RESUMES_WORD};
 use std::marker::Brand;
 
 impl<C: ClientWords> Queue<C> {

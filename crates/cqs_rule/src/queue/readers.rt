@@ -3,8 +3,8 @@
 ghost use Rattle.std.specs.Prelude.{◌≡◌};
 ghost use Rattle.cqs_rule.specs.Passes.{limit_of};
 
-use crate::client::ClientWords;
 use crate::queue::Queue;
+use cqs_views::ClientWords;
 
 impl<C: ClientWords> Queue<C> {
     /// The limit of the suspend counter: a pass draws a number only if it saw the counter below

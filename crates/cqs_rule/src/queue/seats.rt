@@ -11,11 +11,10 @@ ghost use Rattle.cqs_views.specs.Saw.{IsLive};
 ghost use Rattle.cqs_rule.specs.Seats.{IsBusy, HasLookedOn, HasGiven, HasMet};
 ghost use Rattle.cqs_views.specs.Views.{made_in, live_in};
 
-use crate::client::ClientWords;
 use crate::plays::{Count, Cut, Gather, Gift, Make, Meet};
 use crate::queue::{Pass, Queue};
 use atomic_table::Seat;
-use cqs_views::{CREW_WORD, Crowd, MeetError, View};
+use cqs_views::{CREW_WORD, ClientWords, Crowd, MeetError, View};
 use cqs_words::CrewWord;
 use std::marker::Brand;
 

@@ -6,11 +6,10 @@ ghost use Rattle.cqs_views.specs.Slots.{laid_in};
 ghost use Rattle.cqs_views.specs.SlotSteps.{TookOut, PutBack, Swapped, HandedIn, LayIn, IsOut, IsUntouched};
 ghost use Rattle.cqs_rule.specs.Steps.{IsOpener};
 
-use crate::client::ClientWords;
 use crate::plays::{Filling, PuttingBack, TakingOut};
 use crate::queue::{Pass, Queue};
 use atomic_table::Seat;
-use cqs_views::{CREW_WORD, View};
+use cqs_views::{CREW_WORD, ClientWords, View};
 use std::marker::Brand;
 
 // The number of a slot: a call of a step on it picks it.

@@ -10,12 +10,9 @@ ghost use Rattle.cqs_views.specs.Manner.{Suits};
 ghost use Rattle.cqs_rule.specs.Passes.{pass_view, client_of, IsOf};
 ghost use Rattle.cqs_rule.specs.Steps.{HasLoaded, HasDrawn, HasCrossed};
 
-use crate::client::ClientWords;
-use crate::kinds::Kind;
-use crate::loads::Load;
 use crate::plays::{Cross, Draw, Loading};
 use crate::queue::{Pass, Queue};
-use cqs_views::{Change, Learned, Waits};
+use cqs_views::{Change, ClientWords, Kind, Learned, Load, Waits};
 
 // What a pass that held this much holds after the change.
 fn held_after<C: ClientWords>(change: Change, held: u32) -> u32

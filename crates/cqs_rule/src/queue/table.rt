@@ -8,11 +8,10 @@ ghost use Rattle.cqs_views.specs.Alone.{TellsAlone};
 ghost use Rattle.cqs_rule.specs.Allowed.{IsAllowed};
 ghost use Rattle.cqs_rule.specs.Passes.{slots_of};
 
-use crate::client::ClientWords;
 use crate::plays::{Alone, Tells};
 use crate::queue::Queue;
 use atomic_table::Seat;
-use cqs_views::View;
+use cqs_views::{ClientWords, View};
 
 impl<C: ClientWords> Queue<C> {
     // Loads the word.

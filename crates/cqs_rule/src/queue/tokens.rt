@@ -8,9 +8,8 @@ ghost use Rattle.cqs_views.specs.Placed.{KnowsPlace};
 ghost use Rattle.cqs_views.specs.Facts.{owes_any};
 ghost use Rattle.cqs_rule.specs.Waits.{place_of, pass_of, HasWait};
 
-use crate::client::ClientWords;
 use crate::queue::{Pass, Queue};
-use cqs_views::Place;
+use cqs_views::{ClientWords, Place};
 
 /// A wait in the line, for as long as its pass hasn't had its answer. It is neither copied nor
 /// cloned.

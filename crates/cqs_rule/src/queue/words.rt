@@ -6,10 +6,9 @@ ghost use Rattle.cqs_rule.specs.Passes.{IsOf};
 ghost use Rattle.cqs_views.specs.Events.{word_plus, word_after_exchange, in_any_case, where_found};
 ghost use Rattle.cqs_rule.specs.Steps.{MayMove, MayKeep, MayGive, HasMoved, HasGiven};
 
-use crate::client::{ClientWords, Shown};
 use crate::plays::{Alone, GivingAway, Show, ShowExchange};
 use crate::queue::{Numbered, Pass, Queue};
-use cqs_views::CLIENT_WORD;
+use cqs_views::{CLIENT_WORD, ClientWords, Shown};
 use std::marker::Brand;
 
 // Where a word of the client stands.

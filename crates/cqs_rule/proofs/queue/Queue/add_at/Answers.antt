@@ -1,7 +1,7 @@
 use Rattle.std.proofs.Common.{◌+◌, ◌%◌, ◌^◌}
 use mathlib.Core.Option.{none}
 use Rattle.atomic_table.specs.Table.{step}
-use Rattle.cqs_rule.proofs.Alone.{tells-alone}
+use Rattle.cqs_views.proofs.Alone.{tells-alone}
 use Rattle.cqs_rule.proofs.queue.Queue.add_at.Goals as goal
 
 pub fetch_add-requires : goal.fetch_add-requires

@@ -2,7 +2,7 @@ use Rattle.std.proofs.Common.{◌==◌}
 use mathlib.Core.Option.{none}
 use prog.Atomic.{either}
 use Rattle.atomic_table.specs.Table.{step}
-use Rattle.cqs_rule.proofs.Alone.{tells-alone}
+use Rattle.cqs_views.proofs.Alone.{tells-alone}
 use Rattle.cqs_rule.proofs.queue.Queue.exchange_at.Goals as goal
 
 pub compare_exchange-requires : goal.compare_exchange-requires

@@ -1,6 +1,6 @@
 use mathlib.Core.Option.{none}
 use Rattle.atomic_table.specs.Table.{step}
-use Rattle.cqs_rule.proofs.Alone.{tells-alone}
+use Rattle.cqs_views.proofs.Alone.{tells-alone}
 use Rattle.cqs_rule.proofs.queue.Queue.load_at.Goals as goal
 
 pub load-requires : goal.load-requires

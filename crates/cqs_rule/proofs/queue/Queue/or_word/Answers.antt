@@ -4,7 +4,7 @@ use Rattle.atomic_table.specs.Table.{step}
 use Rattle.cqs_views.specs.Events.{in_any_case, moved_by}
 use Rattle.cqs_views.proofs.CellPlaces.{client-inside}
 use Rattle.cqs_views.proofs.Moves.{moves-at}
-use Rattle.cqs_rule.proofs.Alone.{tells-alone}
+use Rattle.cqs_views.proofs.Alone.{tells-alone}
 use Rattle.cqs_rule.proofs.Moved.{keeps-moved}
 use Rattle.cqs_rule.proofs.queue.Queue.or_word.Goals as goal
 

@@ -1,4 +1,3 @@
-pub mod Allowed
 pub mod Callbacks
 pub mod Passes
 pub mod Steps

@@ -1,6 +1,5 @@
 //! What each step tells. These types are for the proofs alone.
 
-ghost use Rattle.cqs_views.specs.Alone.{and_alone};
 ghost use Rattle.cqs_views.specs.Crew.{IsSole, counted_by, tried_by, met_by};
 ghost use Rattle.cqs_views.specs.Counts.{drew};
 ghost use Rattle.cqs_views.specs.Events.{moved_by, exchanged_by, in_any_case};
@@ -9,36 +8,16 @@ ghost use Rattle.cqs_views.specs.Loads.{loaded_by};
 ghost use Rattle.cqs_views.specs.SlotSteps.{took_out, put_back, filled, given_by, put_by};
 
 use crate::queue::Numbered;
-use atomic_table::{Join, Play, Split};
-use cqs_views::{ClientWords, Kind, Load, Shown, View};
+use atomic_table::{Join, Split};
+use cqs_views::{ClientWords, Kind, Load, Shown, Telling, View};
 use std::marker::{Brand, PhantomData};
-
-/// What a step tells its pass.
-pub(crate) trait Tells<C: ClientWords> {
-    ghost use Rattle.std.specs.Prelude.{ℕ, Option};
-    ghost use Rattle.atomic_table.specs.Table.{Me, Step};
-    ghost use Rattle.cqs_views.specs.declared.view.View.{View};
-
-    // Of the step, the seat before, the word found and the seat after.
-    ghost told: { Step (Option C.Slot) → Me (Option C.Slot) (View C.Entry C.Slot) → ℕ
-        → Me (Option C.Slot) (View C.Entry C.Slot) → Type 0 };
-}
-
-/// The same, and what every step tells a pass that is alone.
-pub(crate) struct Alone<C, T> {
-    of: PhantomData<(C, T)>,
-}
-
-impl<C: ClientWords, T: Tells<C>> Play<Option<C::Slot>, View<C::Entry, C::Slot>> for Alone<C, T> {
-    ghost then = { and_alone C.primitive T.told };
-}
 
 /// A load of the suspend counter or of a cell.
 pub(crate) struct Loading<C, L> {
     of: PhantomData<(C, L)>,
 }
 
-impl<C: ClientWords, L: Load> Tells<C> for Loading<C, L> {
+impl<C: ClientWords, L: Load> Telling<C> for Loading<C, L> {
     ghost told = { loaded_by C.object C.primitive L.load };
 }
 
@@ -47,7 +26,7 @@ pub(crate) struct Draw<C, K> {
     of: PhantomData<(C, K)>,
 }
 
-impl<C: ClientWords, K: Kind> Tells<C> for Draw<C, K> {
+impl<C: ClientWords, K: Kind> Telling<C> for Draw<C, K> {
     ghost told = { drew C.object K.step };
 }
 
@@ -56,7 +35,7 @@ pub(crate) struct Cross<C, K> {
     of: PhantomData<(C, K)>,
 }
 
-impl<C: ClientWords, K: Kind> Tells<C> for Cross<C, K> {
+impl<C: ClientWords, K: Kind> Telling<C> for Cross<C, K> {
     ghost told = { crossed C.object C.primitive K.step };
 }
 
@@ -66,7 +45,7 @@ pub(crate) struct Show<C, M> {
     of: PhantomData<(C, M)>,
 }
 
-impl<C: ClientWords, M: Shown<C>> Tells<C> for Show<C, M> {
+impl<C: ClientWords, M: Shown<C>> Telling<C> for Show<C, M> {
     ghost told = { moved_by C.object C.primitive M.event };
 }
 
@@ -75,7 +54,7 @@ pub(crate) struct ShowExchange<C, M> {
     of: PhantomData<(C, M)>,
 }
 
-impl<C: ClientWords, M: Shown<C>> Tells<C> for ShowExchange<C, M> {
+impl<C: ClientWords, M: Shown<C>> Telling<C> for ShowExchange<C, M> {
     ghost told = { exchanged_by C.object C.primitive M.event };
 }
 
@@ -84,7 +63,7 @@ pub(crate) struct GivingAway<C, M, K> {
     of: PhantomData<(C, M, K)>,
 }
 
-impl<C: ClientWords, M: Shown<C>, K: Numbered> Tells<C> for GivingAway<C, M, K> {
+impl<C: ClientWords, M: Shown<C>, K: Numbered> Telling<C> for GivingAway<C, M, K> {
     ghost told = { given_by C.object C.primitive M.event in_any_case K.slot };
 }
 
@@ -94,7 +73,7 @@ pub(crate) struct Putting<C, K> {
     of: PhantomData<(C, K)>,
 }
 
-impl<C: ClientWords, K: Numbered> Tells<C> for Putting<C, K> {
+impl<C: ClientWords, K: Numbered> Telling<C> for Putting<C, K> {
     ghost told = { put_by C.object K.slot };
 }
 
@@ -103,7 +82,7 @@ pub(crate) struct TakingOut<C, K> {
     of: PhantomData<(C, K)>,
 }
 
-impl<C: ClientWords, K: Numbered> Tells<C> for TakingOut<C, K> {
+impl<C: ClientWords, K: Numbered> Telling<C> for TakingOut<C, K> {
     ghost told = { took_out K.slot };
 }
 
@@ -112,7 +91,7 @@ pub(crate) struct PuttingBack<C, K> {
     of: PhantomData<(C, K)>,
 }
 
-impl<C: ClientWords, K: Numbered> Tells<C> for PuttingBack<C, K> {
+impl<C: ClientWords, K: Numbered> Telling<C> for PuttingBack<C, K> {
     ghost told = { put_back K.slot };
 }
 
@@ -121,7 +100,7 @@ pub(crate) struct Filling<C, K> {
     of: PhantomData<(C, K)>,
 }
 
-impl<C: ClientWords, K: Numbered> Tells<C> for Filling<C, K> {
+impl<C: ClientWords, K: Numbered> Telling<C> for Filling<C, K> {
     ghost told = { filled K.slot };
 }
 
@@ -130,7 +109,7 @@ pub(crate) struct Count<C> {
     of: PhantomData<C>,
 }
 
-impl<C: ClientWords> Tells<C> for Count<C> {
+impl<C: ClientWords> Telling<C> for Count<C> {
     ghost told = { counted_by C.object (IsSole C.primitive) };
 }
 
@@ -151,7 +130,7 @@ pub(crate) struct Make<C, G> {
     of: PhantomData<(C, G)>,
 }
 
-impl<C: ClientWords, G: Gift> Tells<C> for Make<C, G> {
+impl<C: ClientWords, G: Gift> Telling<C> for Make<C, G> {
     ghost told = { tried_by C.object G.gives };
 }
 
@@ -160,7 +139,7 @@ pub(crate) struct Meet<C> {
     of: PhantomData<C>,
 }
 
-impl<C: ClientWords> Tells<C> for Meet<C> {
+impl<C: ClientWords> Telling<C> for Meet<C> {
     ghost told = { met_by C.object };
 }
 

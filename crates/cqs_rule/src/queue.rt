@@ -13,7 +13,6 @@ mod readers;
 mod seats;
 mod slots;
 mod steps;
-mod table;
 mod tokens;
 mod words;
 

@@ -27,3 +27,4 @@ pub mod Alone
 pub mod Configured
 pub mod Held
 pub mod Carried
+pub mod Allowed

@@ -16,6 +16,8 @@ mod layout;
 mod loads;
 mod rule;
 mod silent;
+mod steps;
+mod told;
 mod view;
 
 pub use carries::{Carries, Kept, Unparked};
@@ -30,4 +32,6 @@ pub use layout::{CELLS_WORD, CLIENT_WORD, CREW_WORD, RESUMES_WORD, SUSPENDS_WORD
 pub use loads::{Cancels, Counts, Learned, Load, Meets, Misses, Polls, Watches};
 pub use rule::{Key, Rule};
 pub use silent::Silent;
+pub use steps::{add_at, exchange_at, load_at, or_at};
+pub use told::{Telling, Told};
 pub use view::{Drawn, Facts, Glimpse, Has, Opening, Sighting, View};

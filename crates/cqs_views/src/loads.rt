@@ -1,5 +1,5 @@
-//! The loads of the table, as type parameters of the call that makes them, and what a pass learns by
-//! them.
+//! The loads of the table, as type parameters of the call that makes them, and what a pass learns
+//! by them.
 
 ghost use Rattle.std.specs.Prelude.{◌≡◌};
 ghost use Rattle.cqs_views.specs.Loads.{

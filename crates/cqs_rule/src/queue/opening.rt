@@ -12,7 +12,10 @@ ghost use Rattle.cqs_views.specs.Views.{first_view};
 use crate::queue::parked::Parked;
 use crate::queue::{Pass, Queue};
 use atomic_table::Table;
-use cqs_views::{CELLS_WORD, CLIENT_WORD, CREW_WORD, CancelMode, ClientWords, Config, Key, MakeError, RESUMES_WORD};
+use cqs_views::{
+    CELLS_WORD, CLIENT_WORD, CREW_WORD, CancelMode, ClientWords, Config, Key, MakeError,
+    RESUMES_WORD,
+};
 use cqs_words::{CellState, CellWord, CrewWord};
 use std::alloc::{AllocError, Global};
 

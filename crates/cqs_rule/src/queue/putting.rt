@@ -12,7 +12,7 @@ ghost use Rattle.cqs_rule.specs.Steps.{HasPut, HasGiven};
 
 use crate::plays::Putting;
 use crate::queue::{Numbered, Pass, Queue};
-use cqs_views::{ClientWords, RESUMES_WORD};
+use cqs_views::{ClientWords, RESUMES_WORD, add_at};
 use std::marker::Brand;
 
 impl<C: ClientWords> Queue<C> {
@@ -47,7 +47,7 @@ impl<C: ClientWords> Queue<C> {
         ensures after { IsDrawnAt puts (pass_view pass.old).facts result }
         ensures given { HasGiven element pass.old pass.new }
     {
-        let found = self.add_at::<Putting<C, K>>(&mut pass.seat, RESUMES_WORD, 1);
+        let found = add_at::<C, Putting<C, K>>(&self.table.shared, &mut pass.seat, RESUMES_WORD, 1);
         pass.owes = true;
         found
     }

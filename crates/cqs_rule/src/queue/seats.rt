@@ -14,7 +14,7 @@ ghost use Rattle.cqs_views.specs.Views.{made_in, live_in};
 use crate::plays::{Count, Cut, Gather, Gift, Make, Meet};
 use crate::queue::{Pass, Queue};
 use atomic_table::Seat;
-use cqs_views::{CREW_WORD, ClientWords, Crowd, MeetError, View};
+use cqs_views::{CREW_WORD, ClientWords, Crowd, MeetError, View, add_at, exchange_at, load_at};
 use cqs_words::CrewWord;
 use std::marker::Brand;
 
@@ -30,7 +30,7 @@ impl<C: ClientWords> Queue<C> {
         ensures looked { HasLookedOn pass.old pass.new }
         ensures others { IsTrue result → IsSole C.primitive (pass_view pass.new) }
     {
-        let found = self.load_at::<Count<C>>(&mut pass.seat, CREW_WORD);
+        let found = load_at::<C, Count<C>>(&self.table.shared, &mut pass.seat, CREW_WORD);
         CrewWord::live_in(found) == 1
     }
 
@@ -56,7 +56,13 @@ impl<C: ClientWords> Queue<C> {
         ensures alive { IsLive C.object seat.new.me.0 }
         ensures alone { TellsAlone C.primitive seat.new.me.0 }
     {
-        self.exchange_at::<Make<C, G>>(seat, CREW_WORD, saw, CrewWord::with_one_more(saw))
+        exchange_at::<C, Make<C, G>>(
+            &self.table.shared,
+            seat,
+            CREW_WORD,
+            saw,
+            CrewWord::with_one_more(saw),
+        )
     }
 
     /// A new pass, which has seen what this one has seen, has done nothing, and gets so much of
@@ -78,7 +84,7 @@ impl<C: ClientWords> Queue<C> {
         ensures came { IfOk result
             (λ made. CameWith C.object gives (pass_view pass.new) (pass_view made)) }
     {
-        let mut saw = self.load_at::<Count<C>>(&mut pass.seat, CREW_WORD);
+        let mut saw = load_at::<C, Count<C>>(&self.table.shared, &mut pass.seat, CREW_WORD);
         while CrewWord::made_in(saw) < self.passes {
             let found = self.make::<Brand>(&mut pass.seat, saw, gives);
             if found == saw {
@@ -119,7 +125,7 @@ impl<C: ClientWords> Queue<C> {
         let Pass { seat, held, .. } = given;
         self.table.shared.join_seat::<Gather>(&mut pass.seat, seat);
         // The sum wraps, so one fewer is there.
-        self.add_at::<Meet<C>>(&mut pass.seat, CREW_WORD, u64::MAX);
+        add_at::<C, Meet<C>>(&self.table.shared, &mut pass.seat, CREW_WORD, u64::MAX);
         pass.held += held;
         Ok(())
     }

@@ -9,7 +9,7 @@ ghost use Rattle.cqs_rule.specs.Steps.{IsOpener};
 use crate::plays::{Filling, PuttingBack, TakingOut};
 use crate::queue::{Pass, Queue};
 use atomic_table::Seat;
-use cqs_views::{CREW_WORD, ClientWords, View};
+use cqs_views::{CREW_WORD, ClientWords, View, load_at};
 use std::marker::Brand;
 
 // The number of a slot: a call of a step on it picks it.
@@ -42,7 +42,7 @@ impl<C: ClientWords> Queue<C> {
         ensures table { seat.new.table_id ≡ seat.old.table_id }
         ensures took { TookOut slot seat.old.me.0 seat.new.me.0 seat.new.me.1 }
     {
-        self.load_at::<TakingOut<C, K>>(seat, CREW_WORD);
+        load_at::<C, TakingOut<C, K>>(&self.table.shared, seat, CREW_WORD);
     }
 
     // Puts it back, with what lies there now.
@@ -64,7 +64,7 @@ impl<C: ClientWords> Queue<C> {
         ensures put { (x : Rattle.std.specs.Prelude.Option C.Slot) → seat.old.me.1 ≡ (slot, x) ∷ []
             → PutBack ((slot, x) ∷ seat.old.me.0.laid) seat.old.me.0 seat.new.me.0 }
     {
-        self.load_at::<PuttingBack<C, K>>(seat, CREW_WORD);
+        load_at::<C, PuttingBack<C, K>>(&self.table.shared, seat, CREW_WORD);
     }
 
     // Puts it back with its first value.
@@ -87,7 +87,7 @@ impl<C: ClientWords> Queue<C> {
         ensures handed { (y : C.Slot) → seat.old.me.1 ≡ (slot, Some y) ∷ []
             → HandedIn slot y seat.old.me.0 seat.new.me.0 }
     {
-        self.load_at::<Filling<C, K>>(seat, CREW_WORD);
+        load_at::<C, Filling<C, K>>(&self.table.shared, seat, CREW_WORD);
     }
 
     /// Puts a value into a slot, or nothing, and hands out what lay there. The pass must hold the

@@ -12,7 +12,7 @@ ghost use Rattle.cqs_rule.specs.Steps.{HasLoaded, HasDrawn, HasCrossed};
 
 use crate::plays::{Cross, Draw, Loading};
 use crate::queue::{Pass, Queue};
-use cqs_views::{Change, ClientWords, Kind, Learned, Load, Waits};
+use cqs_views::{Change, ClientWords, Kind, Learned, Load, Waits, add_at, exchange_at, load_at};
 
 // What a pass that held this much holds after the change.
 fn held_after<C: ClientWords>(change: Change, held: u32) -> u32
@@ -61,7 +61,7 @@ impl<C: ClientWords> Queue<C> {
         ensures belongs { IsOf self.now pass.new }
         ensures saw { HasLoaded L.load word result pass.old pass.new }
     {
-        let found = self.load_at::<Loading<C, L>>(&mut pass.seat, word);
+        let found = load_at::<C, Loading<C, L>>(&self.table.shared, &mut pass.seat, word);
         match L::learns(found) {
             Learned::Nothing => {}
             Learned::Granted => {
@@ -83,7 +83,12 @@ impl<C: ClientWords> Queue<C> {
         ensures saw { HasDrawn K.step result pass.old pass.new }
         ensures after { IsDrawnAt K.step (pass_view pass.old).facts result }
     {
-        let found = self.add_at::<Draw<C, K>>(&mut pass.seat, word, by.unsigned_abs());
+        let found = add_at::<C, Draw<C, K>>(
+            &self.table.shared,
+            &mut pass.seat,
+            word,
+            by.unsigned_abs(),
+        );
         let change = K::change();
         pass.owes = change.owes;
         pass.further = further_after(change, pass.further);
@@ -99,7 +104,13 @@ impl<C: ClientWords> Queue<C> {
         ensures belongs { IsOf self.now pass.new }
         ensures crossed { HasCrossed K.step saw result pass.old pass.new }
     {
-        let found = self.exchange_at::<Cross<C, K>>(&mut pass.seat, word, saw, new);
+        let found = exchange_at::<C, Cross<C, K>>(
+            &self.table.shared,
+            &mut pass.seat,
+            word,
+            saw,
+            new,
+        );
         if found == saw {
             let change = K::change();
             pass.held = held_after::<C>(change, pass.held);

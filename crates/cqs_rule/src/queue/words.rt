@@ -6,9 +6,9 @@ ghost use Rattle.cqs_rule.specs.Passes.{IsOf};
 ghost use Rattle.cqs_views.specs.Events.{word_plus, word_after_exchange, in_any_case, where_found};
 ghost use Rattle.cqs_rule.specs.Steps.{MayMove, MayKeep, MayGive, HasMoved, HasGiven};
 
-use crate::plays::{Alone, GivingAway, Show, ShowExchange};
+use crate::plays::{GivingAway, Show, ShowExchange};
 use crate::queue::{Numbered, Pass, Queue};
-use cqs_views::{CLIENT_WORD, ClientWords, Shown};
+use cqs_views::{CLIENT_WORD, ClientWords, Shown, add_at, exchange_at, load_at, or_at};
 use std::marker::Brand;
 
 // Where a word of the client stands.
@@ -29,7 +29,7 @@ impl<C: ClientWords> Queue<C> {
         ensures belongs { IsOf self.now pass.new }
         ensures saw { HasMoved M.event in_any_case word result pass.old pass.new }
     {
-        let found = self.load_at::<Show<C, M>>(&mut pass.seat, place(word));
+        let found = load_at::<C, Show<C, M>>(&self.table.shared, &mut pass.seat, place(word));
         pass.held = M::held_after(pass.held, found, true);
         pass.owes = M::owes_after(pass.owes, found, true);
         pass.further = M::further_after(pass.further, found, true);
@@ -45,7 +45,12 @@ impl<C: ClientWords> Queue<C> {
         ensures belongs { IsOf self.now pass.new }
         ensures saw { HasMoved M.event in_any_case word result pass.old pass.new }
     {
-        let found = self.add_at::<Show<C, M>>(&mut pass.seat, place(word), by.cast_unsigned());
+        let found = add_at::<C, Show<C, M>>(
+            &self.table.shared,
+            &mut pass.seat,
+            place(word),
+            by.cast_unsigned(),
+        );
         pass.held = M::held_after(pass.held, found, true);
         pass.owes = M::owes_after(pass.owes, found, true);
         pass.further = M::further_after(pass.further, found, true);
@@ -82,7 +87,12 @@ impl<C: ClientWords> Queue<C> {
         ensures saw { HasMoved M.event in_any_case word result pass.old pass.new }
         ensures given { HasGiven slot pass.old pass.new }
     {
-        let found = self.add_at::<GivingAway<C, M, K>>(&mut pass.seat, place(word), u64::from(by));
+        let found = add_at::<C, GivingAway<C, M, K>>(
+            &self.table.shared,
+            &mut pass.seat,
+            place(word),
+            u64::from(by),
+        );
         pass.held = M::held_after(pass.held, found, true);
         pass.owes = M::owes_after(pass.owes, found, true);
         pass.further = M::further_after(pass.further, found, true);
@@ -98,10 +108,7 @@ impl<C: ClientWords> Queue<C> {
         ensures belongs { IsOf self.now pass.new }
         ensures saw { HasMoved M.event in_any_case word result pass.old pass.new }
     {
-        let found = self
-            .table
-            .shared
-            .fetch_or::<Alone<C, Show<C, M>>>(&mut pass.seat, place(word) as usize, bits);
+        let found = or_at::<C, Show<C, M>>(&self.table.shared, &mut pass.seat, place(word), bits);
         pass.held = M::held_after(pass.held, found, true);
         pass.owes = M::owes_after(pass.owes, found, true);
         pass.further = M::further_after(pass.further, found, true);
@@ -118,7 +125,13 @@ impl<C: ClientWords> Queue<C> {
         ensures belongs { IsOf self.now pass.new }
         ensures saw { HasMoved M.event (where_found saw) word result pass.old pass.new }
     {
-        let found = self.exchange_at::<ShowExchange<C, M>>(&mut pass.seat, place(word), saw, new);
+        let found = exchange_at::<C, ShowExchange<C, M>>(
+            &self.table.shared,
+            &mut pass.seat,
+            place(word),
+            saw,
+            new,
+        );
         pass.held = M::held_after(pass.held, found, found == saw);
         pass.owes = M::owes_after(pass.owes, found, found == saw);
         pass.further = M::further_after(pass.further, found, found == saw);

@@ -47,8 +47,8 @@ fn answer(alloc: Global, bytes: &[u8], kept: &mut Kept) -> Result<Verdict, Memor
     }
 }
 
-/// The report of a plan, over a floor on one semaphore of the running queue for each of the plan's,
-/// which is kept.
+/// The report of a plan, over a floor on one primitive of the running queue for each of the plan's
+/// resources, which is kept.
 fn report_of(alloc: Global, plan: &Plan, kept: &mut Kept) -> Result<Vec<u8>, Memory>
     requires runnable { IsRunnable plan.now }
     requires sized { AreSized plan.now.resources }

@@ -1,6 +1,6 @@
 //! The words of a command, and the text for those that are none.
 
-ghost use Rattle.std.specs.Prelude.{map, string_bytes, codes, ◌∷◌, []};
+ghost use Rattle.std.specs.Prelude.{map, string_bytes, ◌∷◌, []};
 ghost use Rattle.cqs_cli.specs.Words.{IsCommandOf, IsGenOf, IsNumberOf};
 
 use itoa::Buffer;

@@ -1,7 +1,6 @@
 -- A step on a word of the client, once for every event: what the client owes for it keeps the rule, and tells the pass
 -- the event.
-use Rattle.std.proofs.Common.{◌≡◌, ℕ, ◌+◌, ◌<◌, ◌^◌, Bool, true, List, ◌++◌, length, ⊎_elim, sym, refl, ap, ◌∙◌, subst, arith, Option, Some, None, ℤ, pos, negsuc, ◌<ℤ◌, ◌≤ℤ◌, ◌-◌, ◌%◌, unsigned_abs, ◌≤◌, false, if◌then◌else◌}
-use Rattle.std.proofs.lemmas.Int.{ints}
+use Rattle.std.proofs.Common.{◌≡◌, ℕ, ◌+◌, ◌<◌, ◌^◌, Bool, true, List, ◌++◌, length, ⊎_elim, sym, refl, ap, ◌∙◌, subst, arith, Option, Some, None, ◌-◌, ◌≤◌, false, if◌then◌else◌}
 use Rattle.std.specs.Prelude.{slice_index, slice_set}
 use Rattle.std.proofs.lemmas.List.{length-set}
 use Rattle.std.proofs.lemmas.Option.{same_Some}
@@ -14,7 +13,7 @@ use Rattle.cqs_views.specs.declared.view.View.{View}
 use Rattle.cqs_views.specs.declared.view.Facts.{Facts}
 use Rattle.cqs_views.specs.declared.view.Opening.{Opening}
 use Rattle.cqs_views.specs.Client.{IsClient}
-use Rattle.cqs_views.specs.Events.{Moment, Event, moment, has_then, facts_moved, HasWord, Moved, Moves, SlotsStay, IsShort, word_plus}
+use Rattle.cqs_views.specs.Events.{Moment, Event, moment, has_then, facts_moved, HasWord, Moved, Moves, SlotsStay, IsShort}
 use Rattle.cqs_views.specs.Facts.{is_owing, IsBehind}
 use Rattle.cqs_views.specs.Hidden.{Hidden, stands_at}
 use Rattle.cqs_views.specs.Layout.{client_words, client_place}
@@ -213,13 +212,3 @@ module _ {C E S : Type 0} (object : Object E) (primitive : C → Primitive E S) 
   moves-at slots id me i place f g may few is same law =
       subst (λ (z : ℕ × (ℕ → ℕ)). Allows (Ruled object (primitive x) passes limit) slots id me z.0 z.1 (Tells z.0 me))
       (λ j. (sym is j, λ n. sym (same n) j)) (moves slots id me i f may few law)
-
--- what is added where the number is not negative, and where it is
-pub added-up : (by : ℤ) (amount n : ℕ) → amount ≡ unsigned_abs by → pos 0 ≤ℤ by → (n + amount) % 2 ^ 64 ≡ word_plus by n
-added-up (pos k) amount n is above = ap (λ z. (n + z) % 2 ^ 64) is
-added-up (negsuc k) amount n is above = absurd (grind (arith, ints))
-
-pub added-down : (by : ℤ) (amount n : ℕ) → amount ≡ unsigned_abs by → by <ℤ pos 0
-    → (n + (2 ^ 64 - amount)) % 2 ^ 64 ≡ word_plus by n
-added-down (negsuc k) amount n is below = ap (λ z. (n + (2 ^ 64 - z)) % 2 ^ 64) is
-added-down (pos k) amount n is below = absurd (grind (arith, ints))

@@ -3,7 +3,7 @@
 ghost use Rattle.std.specs.Prelude.{◌≡◌, ◌+◌, ◌≤◌, [], vec_len, IfOk, OnOk, IsErrOf};
 ghost use Rattle.cqs_streams.specs.Stops.{stops_of};
 ghost use Rattle.cqs_streams.specs.Counts.{raise};
-ghost use Rattle.cqs_streams.specs.Stream.{Gives, GivesAtMost, GivesCount, IsAll, Rises};
+ghost use Rattle.cqs_streams.specs.Stream.{GivesAtMost, GivesCount, IsAll, Rises};
 ghost use Rattle.cqs_streams.specs.declared.streams.reading.ReadError.TheVariants.{Memory as OutOfMemory, Failed as ReadFailed};
 
 use crate::{Failed, Source};

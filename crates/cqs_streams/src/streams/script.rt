@@ -22,7 +22,7 @@ impl Model for Script {
 }
 
 impl Script {
-    ghost use Rattle.std.specs.Prelude.{◌≡◌, ◌↔◌, ◌⊎◌, IsTrue, IfOk};
+    ghost use Rattle.std.specs.Prelude.{◌≡◌, ◌↔◌, IsTrue, IfOk};
     ghost use Rattle.cqs_streams.specs.Script.{IsFailing, with_call, after_fault};
     ghost use Rattle.cqs_streams.specs.Stream.{Rises};
 

@@ -132,9 +132,10 @@ impl<C: ClientWords> Queue<C> {
             saw,
             new,
         );
-        pass.held = M::held_after(pass.held, found, found == saw);
-        pass.owes = M::owes_after(pass.owes, found, found == saw);
-        pass.further = M::further_after(pass.further, found, found == saw);
+        let made = found == saw;
+        pass.held = M::held_after(pass.held, found, made);
+        pass.owes = M::owes_after(pass.owes, found, made);
+        pass.further = M::further_after(pass.further, found, made);
         found
     }
 }

@@ -1,6 +1,7 @@
-use Rattle.std.proofs.Common.{rules, ◌≡◌, []}
+use Rattle.std.proofs.Common.{rules, ◌≡◌, ◌+◌, ◌<◌, ◌∙◌, [], ap, sym, refl, true≢false, arith}
 use Rattle.cqs_views.proofs.CrewMeets.{joins, meets}
 use Rattle.cqs_views.proofs.Tries.{between-idle, none-of, none-slots, joined-idles}
+use Rattle.cqs_rule.proofs.Gathered.{Gathered, busy-by, free-by, gathers, items-as, keeps-met, held-met}
 use Rattle.cqs_rule.proofs.queue.Queue.meet.Goals as goal
 
 pub join_seat-requires : goal.join_seat-requires
@@ -28,3 +29,75 @@ add_at-requires-clause-allowed g c =
     let j = joined-idles c.args.pass.now.seat.me.0 u.seat.me.0 _ _ rests.0 rests.1 waitless c.join_seat.ensures.2 in
     meets C.object (C.primitive x) _ _ (g.met.C.ClientWords.keeps x) c.args.self.now.table.shared.table_id.slots _ _
     j.weight j.idle j.empty j.owes_none j.slotless j.waitless
+
+pub returns-then-owes-clause-busy : goal.returns-then-owes-clause-busy
+returns-then-owes-clause-busy g c =
+    let u = c.args.given in (
+      (λ e. busy-by u.seat.me.0.facts c.owes.result u.waits c.owes.ensures u.waits_are c.then-owes.either),
+      λ b. refl,
+    )
+
+pub add_at-requires-clause-table : goal.add_at-requires-clause-table
+add_at-requires-clause-table g c = c.join_seat.ensures.0 ∙ c.requires.belongs.table
+
+pub overflow_add-pass : goal.overflow_add-pass
+overflow_add-pass g c =
+    let p = c.args.pass.now in
+    let u = c.args.given in
+    let w = c.add_at.new.seat.me.0 in
+    let e = c.add_at.ensures.told in
+    let fits : p.held + u.held < 4294967296 =
+    held-met p u w (gathers p u c.join_seat.new.seat.me w c.join_seat.ensures.2 e.0 e.4) e.3 in
+    omega arith
+
+pub invariant_of-pass : goal.invariant_of-pass
+invariant_of-pass g c =
+    let p = c.args.pass.now in
+    let u = c.args.given in
+    let w = c.add_at.new.seat.me.0 in
+    let e = c.add_at.ensures.told in
+    let j = c.join_seat.ensures in
+    keeps-met p u w (gathers p u c.join_seat.new.seat.me w j.2 e.0 e.4) e.3 c.add_at.new.seat.me.1
+    c.add_at.new.seat.table_id.words
+    (e.2 ∙ items-as p u c.join_seat.new.seat.me j.2)
+    (ap (λ t. t.words) (sym (c.add_at.ensures.table ∙ j.0)))
+
+pub returns-clause-belongs : goal.returns-clause-belongs
+returns-clause-belongs g c =
+    let b = c.requires.belongs in
+    let e = c.add_at.ensures in
+    let j = c.join_seat.ensures in
+    let p = c.args.pass.now in
+    let u = c.args.given in
+    let m = (gathers p u c.join_seat.new.seat.me c.add_at.new.seat.me.0 j.2 e.told.0 e.told.4).met in record {
+      table = e.table ∙ (j.0 ∙ b.table);
+      slots = b.slots;
+      passes = m.passes ∙ b.passes;
+      limit = m.limit ∙ b.limit;
+      cells = m.cells ∙ b.cells;
+      mode = b.mode;
+      live = e.told.3;
+      opening = m.opening ∙ b.opening;
+      alone = e.alone;
+    }
+
+pub returns-clause-busy : goal.returns-clause-busy
+returns-clause-busy g c =
+    let u = c.args.given in (
+      (λ e. absurd (true≢false (sym e))),
+      free-by u.seat.me.0.facts c.owes.result u.waits c.owes.ensures u.waits_are c.if-owes.false c.if-given-gt0.false,
+    )
+
+pub returns-clause-met : goal.returns-clause-met
+returns-clause-met g c =
+    let e = c.add_at.ensures.told in
+    let p = c.args.pass.now in
+    let u = c.args.given in
+    (gathers p u c.join_seat.new.seat.me c.add_at.new.seat.me.0 c.join_seat.ensures.2 e.0 e.4).met
+
+pub returns-clause-laid : goal.returns-clause-laid
+returns-clause-laid g c =
+    let e = c.add_at.ensures.told in
+    let p = c.args.pass.now in
+    let u = c.args.given in
+    (gathers p u c.join_seat.new.seat.me c.add_at.new.seat.me.0 c.join_seat.ensures.2 e.0 e.4).laid

@@ -1,4 +1,5 @@
 pub mod Crossed
+pub mod Fitting
 pub mod Gathered
 pub mod Moved
 pub mod Numbers

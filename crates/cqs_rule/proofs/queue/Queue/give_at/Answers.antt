@@ -1,14 +1,22 @@
-use Rattle.std.proofs.Common.{rules, ◌+◌, ◌%◌, ◌^◌, ap, subst, sym, ◌∙◌}
+use Rattle.std.proofs.Common.{◌≡◌, ◌+◌, ◌%◌, ◌^◌, Some, ap, subst, sym, ◌∙◌}
 use Rattle.cqs_views.specs.Events.{in_any_case}
-use Rattle.cqs_views.specs.SlotSteps.{GivesAway}
-use Rattle.cqs_views.proofs.CellPlaces.{client-inside}
+use Rattle.cqs_views.specs.SlotSteps.{GivesAway, HandedIn}
+use Rattle.cqs_views.specs.Slots.{laid_in}
 use Rattle.cqs_views.proofs.Giving.{gives-at}
+use Rattle.cqs_rule.proofs.Fitting.{word-inside, holds-few, moved-word}
 use Rattle.cqs_rule.proofs.Moved.{keeps-moved}
 use Rattle.cqs_rule.proofs.queue.Queue.give_at.Goals as goal
 
+pub place-requires : goal.place-requires
+place-requires g c = c.requires.word
+
+pub add_at-found-requires-clause-table : goal.add_at-found-requires-clause-table
+add_at-found-requires-clause-table g c = c.requires.belongs.table
+
 pub add_at-found-requires-clause-inside : goal.add_at-found-requires-clause-inside
 add_at-found-requires-clause-inside g c =
-    let low = client-inside c.args.word c.args.pass.now.seat.me.0.cells c.requires.word in search rules
+    word-inside c.args.self.now c.args.pass.now c.args.word c.place.result c.place.ensures c.requires.word
+    c.requires.belongs.table
 
 pub add_at-found-requires-clause-allowed : goal.add_at-found-requires-clause-allowed
 add_at-found-requires-clause-allowed g c =
@@ -25,6 +33,12 @@ add_at-found-requires-clause-allowed g c =
     (subst (λ k. GivesAway (C.primitive x) slots g.M.Shown.event in_any_case k v) c.requires.number
     c.requires.slots)
     c.requires.law
+
+pub held_after-pass-requires : goal.held_after-pass-requires
+held_after-pass-requires g c =
+    let e = c.add_at-found.ensures.told in
+    holds-few g.M.Shown.event in_any_case c.place.result c.args.pass.now c.add_at-found.result
+    c.add_at-found.new.seat.me.0 e.0 e.2
 
 pub invariant_of-pass : goal.invariant_of-pass
 invariant_of-pass g c =
@@ -50,3 +64,14 @@ returns-clause-belongs g c =
       opening = same.opening ∙ b.opening;
       alone = e.alone;
     }
+
+pub returns-clause-saw : goal.returns-clause-saw
+returns-clause-saw g c =
+    moved-word g.M.Shown.event in_any_case c.args.word c.place.result c.args.pass.now c.add_at-found.result
+    c.add_at-found.new.seat.me.0 c.place.ensures c.add_at-found.ensures.told.0
+
+pub returns-clause-given : goal.returns-clause-given
+returns-clause-given g c = λ y lies.
+    subst (λ k. laid_in c.args.pass.now.seat.me.0.laid k ≡ Some (Some y)
+    → HandedIn k y c.args.pass.now.seat.me.0 c.add_at-found.new.seat.me.0) (sym c.requires.number)
+    (c.add_at-found.ensures.told.3 y) lies

@@ -1,13 +1,20 @@
-use Rattle.std.proofs.Common.{rules, refl, bit_or, ap, sym, ◌∙◌}
+use Rattle.std.proofs.Common.{refl, bit_or, ap, sym, ◌∙◌}
 use Rattle.cqs_views.specs.Events.{in_any_case}
-use Rattle.cqs_views.proofs.CellPlaces.{client-inside}
 use Rattle.cqs_views.proofs.Moves.{moves-at}
+use Rattle.cqs_rule.proofs.Fitting.{word-inside, holds-few, moved-word}
 use Rattle.cqs_rule.proofs.Moved.{keeps-moved}
 use Rattle.cqs_rule.proofs.queue.Queue.or_word.Goals as goal
 
+pub place-requires : goal.place-requires
+place-requires g c = c.requires.word
+
+pub or_at-found-requires-clause-table : goal.or_at-found-requires-clause-table
+or_at-found-requires-clause-table g c = c.requires.belongs.table
+
 pub or_at-found-requires-clause-inside : goal.or_at-found-requires-clause-inside
 or_at-found-requires-clause-inside g c =
-    let low = client-inside c.args.word c.args.pass.now.seat.me.0.cells c.requires.word in search rules
+    word-inside c.args.self.now c.args.pass.now c.args.word c.place.result c.place.ensures c.requires.word
+    c.requires.belongs.table
 
 pub or_at-found-requires-clause-allowed : goal.or_at-found-requires-clause-allowed
 or_at-found-requires-clause-allowed g c =
@@ -18,6 +25,12 @@ or_at-found-requires-clause-allowed g c =
     (λ n. bit_or n c.args.bits)
     (record { one = c.args.pass.now.live.0; shut = c.args.pass.now.shut; stay = c.requires.slots })
     c.requires.word c.place.ensures (λ n. refl) c.requires.law
+
+pub held_after-pass-requires : goal.held_after-pass-requires
+held_after-pass-requires g c =
+    let e = c.or_at-found.ensures.told in
+    holds-few g.M.Shown.event in_any_case c.place.result c.args.pass.now c.or_at-found.result
+    c.or_at-found.new.seat.me.0 e.0 e.2
 
 pub invariant_of-pass : goal.invariant_of-pass
 invariant_of-pass g c =
@@ -43,3 +56,8 @@ returns-clause-belongs g c =
       opening = same.opening ∙ b.opening;
       alone = e.alone;
     }
+
+pub returns-clause-saw : goal.returns-clause-saw
+returns-clause-saw g c =
+    moved-word g.M.Shown.event in_any_case c.args.word c.place.result c.args.pass.now c.or_at-found.result
+    c.or_at-found.new.seat.me.0 c.place.ensures c.or_at-found.ensures.told.0

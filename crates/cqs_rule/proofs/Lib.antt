@@ -1,6 +1,8 @@
 pub mod Crossed
 pub mod Fitting
 pub mod Gathered
+pub mod Halved
+pub mod Looked
 pub mod Moved
 pub mod Numbers
 pub mod Places

@@ -1,11 +1,15 @@
-use Rattle.std.proofs.Common.{◌<◌, ◌∙◌, ap, sym, subst, length}
-use Rattle.cqs_views.specs.declared.view.Facts.{Facts}
-use Rattle.cqs_views.specs.Facts.{is_owing}
-use Rattle.cqs_views.specs.Layout.{words_for}
+use Rattle.std.proofs.Common.{◌∙◌, ◌==◌, sym, ap}
 use Rattle.cqs_views.specs.Crew.{IsSole}
 use Rattle.cqs_views.proofs.CrewLooks.{counts}
 use Rattle.cqs_views.proofs.Tries.{sole-tells}
+use Rattle.cqs_rule.proofs.Looked.{alive-one, crew-inside, keeps-looked}
 use Rattle.cqs_rule.proofs.queue.Queue.sole.Goals as goal
+
+pub load_at-found-requires-clause-table : goal.load_at-found-requires-clause-table
+load_at-found-requires-clause-table g c = c.requires.belongs.table
+
+pub load_at-found-requires-clause-inside : goal.load_at-found-requires-clause-inside
+load_at-found-requires-clause-inside g c = crew-inside c.args.self.now c.args.pass.now c.requires.belongs.table
 
 pub load_at-found-requires-clause-allowed : goal.load_at-found-requires-clause-allowed
 load_at-found-requires-clause-allowed g c =
@@ -21,22 +25,10 @@ returns-clause-kept g c = c.load_at-found.ensures.told.0.kept
 
 pub invariant_of-pass : goal.invariant_of-pass
 invariant_of-pass g c =
-    let p = c.args.pass.now in
     let e = c.load_at-found.ensures in
-    let same = e.told.0.saw.same in
-    let are = e.told.0.saw.facts_are in record {
-      live = (e.told.0.weight, ap length e.told.1 ∙ p.live.1);
-      number_is = same.number ∙ p.number_is;
-      held_is = ap (λ f. f.has.held) are ∙ p.held_is;
-      further_is = ap (λ f. f.has.further) are ∙ p.further_is;
-      spareless = ap (λ f. f.has.spares) are ∙ p.spareless;
-      shut = ap (λ (f : Facts). f.open_slot) are ∙ p.shut;
-      owes_is = ap (λ f. is_owing f.doing) are ∙ p.owes_is;
-      waits_are = ap (λ (f : Facts). length f.waits) are ∙ p.waits_are;
-      cells_are = ap words_for same.cells ∙ (p.cells_are ∙ ap (λ t. t.words) (sym e.table));
-      inside = e.told.2.inside;
-      few_cells = subst (λ n. n < 2147483648) (sym same.cells) p.few_cells;
-    }
+    let seat = c.load_at-found.new.seat in
+    keeps-looked c.args.pass.now seat.me.0 e.told.0.saw e.told.0.weight e.told.2.inside seat.me.1 seat.table_id e.told.1
+    e.table
 
 pub returns-clause-belongs : goal.returns-clause-belongs
 returns-clause-belongs g c =
@@ -56,3 +48,11 @@ returns-clause-belongs g c =
 
 pub returns-clause-looked : goal.returns-clause-looked
 returns-clause-looked g c = c.load_at-found.ensures.told.0.saw
+
+pub returns-clause-sole : goal.returns-clause-sole
+returns-clause-sole g c =
+    let found = c.load_at-found in
+    alive-one found.new.seat.me.0.crew found.result c.live_in.result found.ensures.told.0.crew c.live_in.ensures
+
+pub returns-clause-alone : goal.returns-clause-alone
+returns-clause-alone g c = ap (λ n. n == 1) c.live_in.ensures ∙ sym c.load_at-found.ensures.told.0.alone

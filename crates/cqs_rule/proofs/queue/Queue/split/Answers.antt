@@ -1,16 +1,20 @@
-use Rattle.std.proofs.Common.{rules, [], ◌-◌, ◌<◌, ◌∙◌, sym, refl, ap, subst, length, arith}
-use Rattle.cqs_views.specs.declared.view.Facts.{Facts}
+use Rattle.std.proofs.Common.{[], ◌<◌, ◌∙◌, sym, refl, ap, subst, arith, true≢false}
 use Rattle.cqs_views.specs.Crew.{IsSole, MayGive}
-use Rattle.cqs_views.specs.Layout.{words_for}
-use Rattle.cqs_views.specs.Facts.{is_owing}
 use Rattle.cqs_views.specs.Saw.{Saw}
 use Rattle.cqs_views.specs.Views.{crew_turn, facts_lessened, as_before}
 use Rattle.cqs_views.proofs.Alone.{not-alone}
-use Rattle.cqs_views.proofs.CrewHeld.{lessened-held, lessened-further, lessened-spares}
 use Rattle.cqs_views.proofs.CrewLooks.{counts}
 use Rattle.cqs_views.proofs.CrewSplits.{splits}
 use Rattle.cqs_views.proofs.Tries.{sole-tells, tries-first, tries-again, cut-leaves, cut-begins, le-by}
+use Rattle.cqs_rule.proofs.Halved.{room-left, gives-few, gives-held, keeps-cut, keeps-begun}
+use Rattle.cqs_rule.proofs.Looked.{crew-inside, keeps-looked}
 use Rattle.cqs_rule.proofs.queue.Queue.split.Goals as goal
+
+pub load_at-saw-requires-clause-table : goal.load_at-saw-requires-clause-table
+load_at-saw-requires-clause-table g c = c.requires.belongs.table
+
+pub load_at-saw-requires-clause-inside : goal.load_at-saw-requires-clause-inside
+load_at-saw-requires-clause-inside g c = crew-inside c.args.self.now c.args.pass.now c.requires.belongs.table
 
 pub load_at-saw-requires-clause-allowed : goal.load_at-saw-requires-clause-allowed
 load_at-saw-requires-clause-allowed g c =
@@ -20,6 +24,13 @@ load_at-saw-requires-clause-allowed g c =
     (IsSole C.primitive) c.args.self.now.table.shared.table_id.slots c.args.pass.now.seat.id
     c.args.pass.now.seat.me c.args.pass.now.live.0
     (sole-tells C.primitive x)
+
+pub invariant_of-pass : goal.invariant_of-pass
+invariant_of-pass g c =
+    let e = c.load_at-saw.ensures in
+    let seat = c.load_at-saw.new.seat in
+    keeps-looked c.args.pass.now seat.me.0 e.told.0.saw e.told.0.weight e.told.2.inside seat.me.1 seat.table_id e.told.1
+    e.table
 
 pub loop-pass-init : goal.loop-pass-init
 loop-pass-init g c =
@@ -40,6 +51,18 @@ loop-pass-init g c =
       tries-first C.object _ _ _ e.told.0,
     )
 
+pub make-found-requires-clause-table : goal.make-found-requires-clause-table
+make-found-requires-clause-table g c = c.loop-pass.invariant.0.table
+
+pub make-found-requires-clause-live : goal.make-found-requires-clause-live
+make-found-requires-clause-live g c = c.loop-pass.pass.live.0
+
+pub make-found-requires-clause-cells : goal.make-found-requires-clause-cells
+make-found-requires-clause-cells g c = c.loop-pass.pass.cells_are
+
+pub make-found-requires-clause-shut : goal.make-found-requires-clause-shut
+make-found-requires-clause-shut g c = c.loop-pass.pass.shut
+
 pub make-found-requires-clause-may : goal.make-found-requires-clause-may
 make-found-requires-clause-may g c =
     let same = c.loop-pass.invariant.1.saw.facts_are in
@@ -52,35 +75,52 @@ pub split_seat-seat-requires : goal.split_seat-seat-requires
 split_seat-seat-requires g c =
     let C = g.C.ClientWords in
     let x = c.args.self.now.table.shared.key.client in
-    let made = c.make-found.ensures.tried.made c.if-found-saw.true in (
-      c.make-found.ensures.table ∙ c.loop-pass.invariant.0.table,
-      search rules,
+    let made = c.make-found.ensures.tried.made c.if-found-saw.true in
+    let table = c.loop-pass.invariant.0.table in (
+      c.make-found.ensures.table ∙ table,
+      crew-inside c.args.self.now c.loop-pass.pass table,
       splits C.object (C.primitive x) _ _ (g.met.C.ClientWords.keeps x) _ _ made.weight
           (ap (λ f. f.open_slot) made.facts),
     )
 
+pub overflow_sub-pass : goal.overflow_sub-pass
+overflow_sub-pass g c =
+    gives-held c.args.gives c.loop-pass.pass c.args.pass.now.seat.me.0.facts c.loop-pass.invariant.1.saw.facts_are
+    c.requires.enough
+
 pub invariant_of-pass-then-found-saw : goal.invariant_of-pass-then-found-saw
 invariant_of-pass-then-found-saw g c =
     let C = g.C.ClientWords in
-    let gives = c.args.gives in
     let cut = c.split_seat-seat.ensures in
-    let p = c.loop-pass.pass in
-    let has = p.seat.me.0.facts.has in
     let e = c.make-found.ensures in
-    let l = cut-leaves C.object _ _ _ _ _ gives _ _ c.if-found-saw.true c.loop-pass.invariant.1 e.tried e.alive cut.2
-    in record {
-      live = (l.weight, ap (λ m. length m.1) cut.2 ∙ (ap length e.carried ∙ p.live.1));
-      number_is = l.number ∙ p.number_is;
-      held_is = ap (λ f. f.has.held) l.facts ∙ (lessened-held gives has ∙ ap (λ n. n - gives) p.held_is);
-      further_is = ap (λ f. f.has.further) l.facts ∙ (lessened-further gives has ∙ p.further_is);
-      spareless = ap (λ f. f.has.spares) l.facts ∙ (lessened-spares gives has ∙ p.spareless);
-      shut = ap (λ (f : Facts). f.open_slot) l.facts ∙ p.shut;
-      owes_is = ap (λ f. is_owing f.doing) l.facts ∙ p.owes_is;
-      waits_are = ap (λ (f : Facts). length f.waits) l.facts ∙ p.waits_are;
-      cells_are = ap words_for l.cells ∙ (p.cells_are ∙ ap (λ t. t.words) (sym (cut.0 ∙ e.table)));
-      inside = l.alive.inside;
-      few_cells = subst (λ z. z < 2147483648) (sym l.cells) p.few_cells;
-    }
+    let seat = c.split_seat-seat.new.seat in
+    let l = cut-leaves C.object _ _ _ _ _ c.args.gives _ _ c.if-found-saw.true c.loop-pass.invariant.1 e.tried e.alive
+    cut.2 in
+    keeps-cut c.args.gives c.args.pass.now.seat.me.0 c.loop-pass.pass seat.me c.make-found.new.seat.me.0
+    c.make-found.new.seat.me.1 l cut.2 e.carried seat.table_id (cut.0 ∙ e.table)
+
+pub invariant_of-result : goal.invariant_of-result
+invariant_of-result g c =
+    let C = g.C.ClientWords in
+    let cut = c.split_seat-seat.ensures in
+    let e = c.make-found.ensures in
+    let seat = c.split_seat-seat.result in
+    let b = cut-begins C.object _ _ _ _ _ _ c.args.gives _ _ c.if-found-saw.true (omega arith)
+    (gives-few c.args.gives _ _ _ c.loop-pass.invariant.1.saw.facts_are c.requires.enough
+    c.loop-pass.invariant.0.live.few)
+    e.tried e.alive cut.2 cut.4 in
+    keeps-begun c.args.gives c.made_in-then-found-saw.result c.loop-pass.pass c.split_seat-seat.new.seat.me.0 seat.me
+    c.make-found.new.seat.me.0 b cut.4
+    ((e.tried.made c.if-found-saw.true).number ∙ sym c.made_in-then-found-saw.ensures)
+    seat.table_id (cut.3 ∙ e.table)
+
+pub invariant_of-pass-else-found-saw : goal.invariant_of-pass-else-found-saw
+invariant_of-pass-else-found-saw g c =
+    let e = c.make-found.ensures in
+    let seat = c.make-found.new.seat in
+    let missed = e.tried.missed c.if-found-saw.false in
+    keeps-looked c.loop-pass.pass seat.me.0 missed.saw missed.weight e.alive.inside seat.me.1 seat.table_id e.carried
+    e.table
 
 pub returns-then-found-saw-clause-belongs : goal.returns-then-found-saw-clause-belongs
 returns-then-found-saw-clause-belongs g c =
@@ -97,7 +137,7 @@ returns-then-found-saw-clause-belongs g c =
       cells = l.cells ∙ old.cells;
       mode = old.mode;
       live = l.alive;
-      alone = not-alone C.primitive _ l.lonely;
+      alone = not-alone C.primitive c.split_seat-seat.new.seat.me.0 l.lonely;
       opening = l.opening ∙ old.opening;
     }
 
@@ -123,9 +163,8 @@ returns-then-found-saw-clause-new_belongs g c =
     let cut = c.split_seat-seat.ensures in
     let old = c.loop-pass.invariant.0 in
     let e = c.make-found.ensures in
-    let same = ap (λ (f : Facts). f.has.held) c.loop-pass.invariant.1.saw.facts_are in
     let b = cut-begins C.object _ _ _ _ _ _ c.args.gives _ _ c.if-found-saw.true (omega arith)
-    (omega (arith, old.live.few, same, c.requires.enough)) e.tried e.alive cut.2 cut.4 in record {
+    (gives-few c.args.gives _ _ _ c.loop-pass.invariant.1.saw.facts_are c.requires.enough old.live.few) e.tried e.alive cut.2 cut.4 in record {
       table = cut.3 ∙ (e.table ∙ old.table);
       slots = old.slots;
       passes = b.passes ∙ old.passes;
@@ -133,9 +172,28 @@ returns-then-found-saw-clause-new_belongs g c =
       cells = b.cells ∙ old.cells;
       mode = old.mode;
       live = b.alive;
-      alone = not-alone C.primitive _ b.lonely;
+      alone = not-alone C.primitive c.split_seat-seat.result.me.0 b.lonely;
       opening = b.opening ∙ old.opening;
     }
+
+pub returns-then-found-saw-clause-came : goal.returns-then-found-saw-clause-came
+returns-then-found-saw-clause-came g c =
+    let C = g.C.ClientWords in
+    let cut = c.split_seat-seat.ensures in
+    let e = c.make-found.ensures in
+    (cut-begins C.object _ _ _ _ _ _ c.args.gives _ _ c.if-found-saw.true (omega arith)
+    (gives-few c.args.gives _ _ _ c.loop-pass.invariant.1.saw.facts_are c.requires.enough
+    c.loop-pass.invariant.0.live.few)
+    e.tried e.alive cut.2 cut.4).came
+
+pub returns-then-found-saw-clause-crowd : goal.returns-then-found-saw-clause-crowd
+returns-then-found-saw-clause-crowd g c = (
+  (λ e. absurd (true≢false (sym e))),
+  room-left c.split_seat-seat.new.seat.me c.make-found.new.seat.me.0 c.make-found.new.seat.me.1 c.make-found.result
+      c.loop-pass.saw c.made_in.result c.args.self.now.passes c.args.self.now.table.shared.key.passes
+      c.split_seat-seat.ensures.2 c.make-found.ensures.tried.crew c.if-found-saw.true c.made_in.ensures
+      c.loop-pass-test.true c.args.self.now.passes_are,
+)
 
 pub loop-pass-smaller : goal.loop-pass-smaller
 loop-pass-smaller g c =

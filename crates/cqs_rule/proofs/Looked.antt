@@ -1,0 +1,50 @@
+-- What a pass keeps that has looked at the crew's word.
+use Rattle.std.proofs.Common.{rules, ◌≡◌, ℕ, ◌<◌, ◌∙◌, ◌==◌, List, [], length, Option, sym, ap, subst, arith}
+use Rattle.std.specs.Prelude.{IsTrue}
+use mathlib.Core.Logic.{◌↔◌}
+use Rattle.atomic_table.specs.Seated.{TableId}
+use Rattle.cqs_rule.specs.declared.client.ClientWords.{Ghosts}
+use Rattle.cqs_rule.specs.declared.queue.Pass.{Pass}
+use Rattle.cqs_rule.specs.declared.queue.Queue.{Queue}
+use Rattle.cqs_rule.specs.Passes.{pass_view}
+use Rattle.cqs_views.specs.declared.view.Facts.{Facts}
+use Rattle.cqs_views.specs.declared.view.View.{View}
+use Rattle.cqs_views.specs.Facts.{is_owing}
+use Rattle.cqs_views.specs.Inside.{IsInside}
+use Rattle.cqs_views.specs.Layout.{words_for}
+use Rattle.cqs_views.specs.Saw.{Saw}
+use Rattle.cqs_views.specs.Views.{as_before, live_in}
+use Rattle.cqs_rule.proofs.Moved.{Keeps}
+
+-- one pass is alive, by the word as it was read
+pub alive-one : (crew n live : ℕ) → crew ≡ n → live ≡ live_in n → IsTrue (live == 1) ↔ (live_in crew ≡ 1)
+alive-one crew n live is alive = let same : live ≡ live_in crew = alive ∙ ap live_in (sym is) in search rules
+
+module _ {C S E : Type 0} {g : Ghosts C S E} where
+  -- the word stands inside the table
+  pub crew-inside : (q : Queue C S E) (p : Pass C S E g) → p.seat.table_id ≡ q.table.shared.table_id
+      → 0 < q.table.shared.table_id.words
+  crew-inside q p table =
+      let words : words_for p.seat.me.0.cells ≡ q.table.shared.table_id.words =
+      p.cells_are ∙ ap (λ (t : TableId). t.words) table in
+      omega arith
+
+  pub keeps-looked : (p : Pass C S E g) (w : View E S)
+      → Saw g.object (pass_view p) (pass_view p).facts [] (as_before (pass_view p) w) → w.weight ≡ 1 → IsInside w
+      → (items : List (ℕ × Option S)) (t : TableId) → items ≡ p.seat.me.1 → t ≡ p.seat.table_id
+      → Keeps w items t.words p.number p.held p.further p.owes p.waits
+  keeps-looked p w saw weight inside items t none table =
+      let same = saw.same in
+      let are = saw.facts_are in record {
+        live = (weight, ap length none ∙ p.live.1);
+        number_is = same.number ∙ p.number_is;
+        held_is = ap (λ (f : Facts). f.has.held) are ∙ p.held_is;
+        further_is = ap (λ (f : Facts). f.has.further) are ∙ p.further_is;
+        spareless = ap (λ (f : Facts). f.has.spares) are ∙ p.spareless;
+        shut = ap (λ (f : Facts). f.open_slot) are ∙ p.shut;
+        owes_is = ap (λ (f : Facts). is_owing f.doing) are ∙ p.owes_is;
+        waits_are = ap (λ (f : Facts). length f.waits) are ∙ p.waits_are;
+        cells_are = ap words_for same.cells ∙ (p.cells_are ∙ ap (λ (t : TableId). t.words) (sym table));
+        inside = inside;
+        few_cells = subst (λ n. n < 2147483648) (sym same.cells) p.few_cells;
+      }

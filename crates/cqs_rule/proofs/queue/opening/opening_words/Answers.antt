@@ -1,0 +1,16 @@
+use Rattle.std.proofs.Common.{◌+◌, sym, subst}
+use Rattle.cqs_views.specs.Opened.{IsOpening}
+use Rattle.cqs_views.proofs.Opens.{opening-push, opening-none}
+use Rattle.cqs_rule.proofs.queue.opening.opening_words.Goals as goal
+
+pub loop-place-init : goal.loop-place-init
+loop-place-init g c =
+    let x = g.C.ClientWords.primitive c.args.client.now in
+    subst (IsOpening 0 x.values x.words) (sym c.in_ok-words.ensures.items) (opening-none x.values x.words)
+
+pub loop-place-preserved : goal.loop-place-preserved
+loop-place-preserved g c =
+    let x = g.C.ClientWords.primitive c.args.client.now in
+    let at = c.loop-place.place in
+    subst (IsOpening (at + 1) x.values x.words) (sym c.in_ok-push.ensures.items)
+    (opening-push at x.values x.words c.loop-place.words.items c.word_at.result c.word_at.ensures c.loop-place.invariant)

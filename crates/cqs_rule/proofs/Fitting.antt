@@ -1,7 +1,7 @@
 -- What a step on a word of the client asks and tells, at the place where the word stands.
 use Rattle.std.proofs.Common.{◌≡◌, ℕ, ◌<◌, ◌^◌, ◌∙◌, Bool, sym, refl, ap, subst}
 use Rattle.atomic_table.specs.Seated.{TableId}
-use Rattle.cqs_rule.specs.declared.client.ClientWords.{Ghosts}
+use Rattle.cqs_views.specs.declared.client.ClientWords.{Ghosts}
 use Rattle.cqs_rule.specs.declared.queue.Pass.{Pass}
 use Rattle.cqs_rule.specs.declared.queue.Queue.{Queue}
 use Rattle.cqs_rule.specs.Passes.{pass_view}

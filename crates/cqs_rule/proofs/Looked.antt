@@ -3,7 +3,7 @@ use Rattle.std.proofs.Common.{rules, ◌≡◌, ℕ, ◌<◌, ◌∙◌, ◌==�
 use Rattle.std.specs.Prelude.{IsTrue}
 use mathlib.Core.Logic.{◌↔◌}
 use Rattle.atomic_table.specs.Seated.{TableId}
-use Rattle.cqs_rule.specs.declared.client.ClientWords.{Ghosts}
+use Rattle.cqs_views.specs.declared.client.ClientWords.{Ghosts}
 use Rattle.cqs_rule.specs.declared.queue.Pass.{Pass}
 use Rattle.cqs_rule.specs.declared.queue.Queue.{Queue}
 use Rattle.cqs_rule.specs.Passes.{pass_view}

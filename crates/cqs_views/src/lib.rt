@@ -17,6 +17,7 @@ mod loads;
 mod rule;
 mod silent;
 mod steps;
+mod table;
 mod told;
 mod view;
 
@@ -33,5 +34,6 @@ pub use loads::{Cancels, Counts, Learned, Load, Meets, Misses, Polls, Watches};
 pub use rule::{Key, Rule};
 pub use silent::Silent;
 pub use steps::{add_at, exchange_at, load_at, or_at};
+pub use table::open_table;
 pub use told::{Telling, Told};
 pub use view::{Drawn, Facts, Glimpse, Has, Opening, Sighting, View};

@@ -1,7 +1,7 @@
 use Rattle.std.proofs.Common.{◌+◌, sym, subst}
 use Rattle.cqs_views.specs.Opened.{IsOpening}
 use Rattle.cqs_views.proofs.Opens.{opening-push, opening-none}
-use Rattle.cqs_rule.proofs.queue.opening.opening_words.Goals as goal
+use Rattle.cqs_views.proofs.table.opening_words.Goals as goal
 
 pub loop-place-init : goal.loop-place-init
 loop-place-init g c =

@@ -1,5 +1,5 @@
 use Rattle.cqs_views.specs.Opened.{IsOpening}
-use Rattle.cqs_rule.proofs.queue.opening.opening_words.Given as goal
+use Rattle.cqs_views.proofs.table.opening_words.Given as goal
 
 abbrev pub invariant-loop-place : goal.invariant-loop-place
 invariant-loop-place g l =

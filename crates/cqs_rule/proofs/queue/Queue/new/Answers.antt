@@ -1,0 +1,55 @@
+use Rattle.std.proofs.Common.{◌≡◌, ◌∙◌, ◌<◌, ◌≤◌, ◌+◌, ℕ, true, ap, sym, subst, length, arith}
+use Rattle.cqs_views.specs.declared.config.Config.{Config}
+use Rattle.cqs_views.specs.declared.view.View.{View}
+use Rattle.cqs_views.specs.Configured.{is_config}
+use Rattle.cqs_views.specs.Facts.{is_owing}
+use Rattle.cqs_views.specs.Layout.{words_for}
+use Rattle.cqs_views.specs.Ruled.{cell_count}
+use Rattle.cqs_views.specs.Views.{first_view}
+use Rattle.cqs_views.proofs.Opens.{config-bounds}
+use Rattle.cqs_rule.proofs.queue.Queue.new.Goals as goal
+
+few-cells : (config : Config) (values : ℕ) → is_config config ≡ true → values ≤ 4096
+    → cell_count config.passes config.limit values < 2147483648
+few-cells config values good few =
+    let b = config-bounds config good in
+    let passes = b.few_passes in
+    let limit = b.low_limit in omega arith
+
+pub invariant_of-result : goal.invariant_of-result
+invariant_of-result g c =
+    let p = g.C.ClientWords.primitive c.args.client in
+    let good : is_config c.args.config ≡ true = sym c.is_in_range.ensures ∙ c.if-not-is_in_range.false in
+    let h = c.in_ok-table.ensures in
+    let me = ap (λ m. m.0) h.seat.0 in record {
+      live = (ap (λ z. z.weight) me, ap (λ m. length m.1) h.seat.0);
+      number_is = ap (λ z. z.number) me;
+      held_is = ap (λ z. z.facts.has.held) me ∙ sym c.held-held.ensures;
+      further_is = ap (λ z. z.facts.has.further) me;
+      spareless = ap (λ z. z.facts.has.spares) me;
+      shut = ap (λ z. z.facts.open_slot) me;
+      owes_is = ap (λ z. is_owing z.facts.doing) me;
+      waits_are = ap (λ (z : View _ _). length z.facts.waits) me;
+      cells_are = ap (λ (z : View _ _). words_for z.cells) me ∙ sym h.table.2;
+      inside = h.seat.1.inside;
+      few_cells = subst (λ n. n < 2147483648) (sym (ap (λ z. z.cells) me))
+          (few-cells c.args.config p.values good c.requires.few);
+    }
+
+pub returns-clause-belongs : goal.returns-clause-belongs
+returns-clause-belongs g c =
+    let C = g.C.ClientWords in
+    let config = c.args.config in
+    let h = c.in_ok-table.ensures in
+    let me = ap (λ m. m.0) h.seat.0 in record {
+      table = h.table.1;
+      slots = h.table.0 ∙ ap C.value_slots (sym h.key.0);
+      passes = ap (λ z. z.passes) me ∙ sym h.key.1;
+      limit = ap (λ z. z.limit) me;
+      cells = ap (λ z. z.cells) me
+          ∙ sym (λ i. cell_count (h.key.1 i) config.limit (C.primitive (h.key.0 i)).values);
+      mode = ap (λ x. (C.primitive x).opening.mode) h.key.0 ∙ c.requires.mode;
+      live = h.seat.1;
+      opening = ap (λ z. z.opening) me ∙ sym (ap (λ x. (C.primitive x).opening) h.key.0);
+      alone = h.seat.2;
+    }

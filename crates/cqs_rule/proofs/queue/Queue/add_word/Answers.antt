@@ -3,12 +3,9 @@ use Rattle.std.specs.Int.{cast_unsigned}
 use Rattle.cqs_views.specs.Events.{in_any_case}
 use Rattle.cqs_views.proofs.Moves.{moves-at}
 use Rattle.cqs_rule.proofs.Words.{raised}
-use Rattle.cqs_rule.proofs.Fitting.{word-inside, holds-few, moved-word}
+use Rattle.cqs_rule.proofs.Fitting.{word-inside, moved-word}
 use Rattle.cqs_rule.proofs.Moved.{keeps-moved}
 use Rattle.cqs_rule.proofs.queue.Queue.add_word.Goals as goal
-
-pub place-requires : goal.place-requires
-place-requires g c = c.requires.word
 
 pub add_at-found-requires-clause-table : goal.add_at-found-requires-clause-table
 add_at-found-requires-clause-table g c = c.requires.belongs.table
@@ -29,12 +26,6 @@ add_at-found-requires-clause-allowed g c =
     (record { one = c.args.pass.now.live.0; shut = c.args.pass.now.shut; stay = c.requires.slots })
     c.requires.word c.place.ensures
     (λ n. ap (λ k. (n + k) % 2 ^ 64) (is ∙ raised c.args.by)) c.requires.law
-
-pub held_after-pass-requires : goal.held_after-pass-requires
-held_after-pass-requires g c =
-    let e = c.add_at-found.ensures.told in
-    holds-few g.M.Shown.event in_any_case c.place.result c.args.pass.now c.add_at-found.result
-    c.add_at-found.new.seat.me.0 e.0 e.2
 
 pub invariant_of-pass : goal.invariant_of-pass
 invariant_of-pass g c =

@@ -1,12 +1,9 @@
 use Rattle.std.proofs.Common.{refl, ap, sym, ◌∙◌}
 use Rattle.cqs_views.specs.Events.{in_any_case}
 use Rattle.cqs_views.proofs.Moves.{moves-at}
-use Rattle.cqs_rule.proofs.Fitting.{word-inside, holds-few, moved-word}
+use Rattle.cqs_rule.proofs.Fitting.{word-inside, moved-word}
 use Rattle.cqs_rule.proofs.Moved.{keeps-moved}
 use Rattle.cqs_rule.proofs.queue.Queue.load_word.Goals as goal
-
-pub place-requires : goal.place-requires
-place-requires g c = c.requires.word
 
 pub load_at-found-requires-clause-table : goal.load_at-found-requires-clause-table
 load_at-found-requires-clause-table g c = c.requires.belongs.table
@@ -25,12 +22,6 @@ load_at-found-requires-clause-allowed g c =
     (λ n. n)
     (record { one = c.args.pass.now.live.0; shut = c.args.pass.now.shut; stay = c.requires.slots })
     c.requires.word c.place.ensures (λ n. refl) c.requires.law
-
-pub held_after-pass-requires : goal.held_after-pass-requires
-held_after-pass-requires g c =
-    let e = c.load_at-found.ensures.told in
-    holds-few g.M.Shown.event in_any_case c.place.result c.args.pass.now c.load_at-found.result
-    c.load_at-found.new.seat.me.0 e.0 e.2
 
 pub invariant_of-pass : goal.invariant_of-pass
 invariant_of-pass g c =

@@ -1,12 +1,9 @@
 use Rattle.std.proofs.Common.{refl, bit_or, ap, sym, ◌∙◌}
 use Rattle.cqs_views.specs.Events.{in_any_case}
 use Rattle.cqs_views.proofs.Moves.{moves-at}
-use Rattle.cqs_rule.proofs.Fitting.{word-inside, holds-few, moved-word}
+use Rattle.cqs_rule.proofs.Fitting.{word-inside, moved-word}
 use Rattle.cqs_rule.proofs.Moved.{keeps-moved}
 use Rattle.cqs_rule.proofs.queue.Queue.or_word.Goals as goal
-
-pub place-requires : goal.place-requires
-place-requires g c = c.requires.word
 
 pub or_at-found-requires-clause-table : goal.or_at-found-requires-clause-table
 or_at-found-requires-clause-table g c = c.requires.belongs.table
@@ -25,12 +22,6 @@ or_at-found-requires-clause-allowed g c =
     (λ n. bit_or n c.args.bits)
     (record { one = c.args.pass.now.live.0; shut = c.args.pass.now.shut; stay = c.requires.slots })
     c.requires.word c.place.ensures (λ n. refl) c.requires.law
-
-pub held_after-pass-requires : goal.held_after-pass-requires
-held_after-pass-requires g c =
-    let e = c.or_at-found.ensures.told in
-    holds-few g.M.Shown.event in_any_case c.place.result c.args.pass.now c.or_at-found.result
-    c.or_at-found.new.seat.me.0 e.0 e.2
 
 pub invariant_of-pass : goal.invariant_of-pass
 invariant_of-pass g c =

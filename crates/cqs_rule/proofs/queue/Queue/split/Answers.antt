@@ -164,7 +164,8 @@ returns-then-found-saw-clause-new_belongs g c =
     let old = c.loop-pass.invariant.0 in
     let e = c.make-found.ensures in
     let b = cut-begins C.object _ _ _ _ _ _ c.args.gives _ _ c.if-found-saw.true (omega arith)
-    (gives-few c.args.gives _ _ _ c.loop-pass.invariant.1.saw.facts_are c.requires.enough old.live.few) e.tried e.alive cut.2 cut.4 in record {
+    (gives-few c.args.gives _ _ _ c.loop-pass.invariant.1.saw.facts_are c.requires.enough old.live.few)
+    e.tried e.alive cut.2 cut.4 in record {
       table = cut.3 ∙ (e.table ∙ old.table);
       slots = old.slots;
       passes = b.passes ∙ old.passes;

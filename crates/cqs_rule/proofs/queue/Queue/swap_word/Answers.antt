@@ -2,12 +2,9 @@ use Rattle.std.proofs.Common.{refl, ap, sym, ◌∙◌, ◌==◌}
 use prog.Atomic.{either}
 use Rattle.cqs_views.specs.Events.{where_found}
 use Rattle.cqs_views.proofs.Moves.{moves-at}
-use Rattle.cqs_rule.proofs.Fitting.{word-inside, holds-few, moved-word}
+use Rattle.cqs_rule.proofs.Fitting.{word-inside, moved-word}
 use Rattle.cqs_rule.proofs.Moved.{keeps-moved}
 use Rattle.cqs_rule.proofs.queue.Queue.swap_word.Goals as goal
-
-pub place-requires : goal.place-requires
-place-requires g c = c.requires.word
 
 pub exchange_at-found-requires-clause-table : goal.exchange_at-found-requires-clause-table
 exchange_at-found-requires-clause-table g c = c.requires.belongs.table
@@ -27,12 +24,6 @@ exchange_at-found-requires-clause-allowed g c =
     (λ n. either (n == c.args.saw) c.args.new n)
     (record { one = c.args.pass.now.live.0; shut = c.args.pass.now.shut; stay = c.requires.slots })
     c.requires.word c.place.ensures (λ n. refl) c.requires.law
-
-pub held_after-pass-requires : goal.held_after-pass-requires
-held_after-pass-requires g c =
-    let e = c.exchange_at-found.ensures.told in
-    holds-few g.M.Shown.event (where_found c.args.saw) c.place.result c.args.pass.now c.exchange_at-found.result
-    c.exchange_at-found.new.seat.me.0 e.0 e.2
 
 pub invariant_of-pass : goal.invariant_of-pass
 invariant_of-pass g c =
@@ -61,5 +52,5 @@ returns-clause-belongs g c =
 
 pub returns-clause-saw : goal.returns-clause-saw
 returns-clause-saw g c =
-    moved-word g.M.Shown.event (where_found c.args.saw) c.args.word c.place.result c.args.pass.now c.exchange_at-found.result
-    c.exchange_at-found.new.seat.me.0 c.place.ensures c.exchange_at-found.ensures.told.0
+    moved-word g.M.Shown.event (where_found c.args.saw) c.args.word c.place.result c.args.pass.now
+    c.exchange_at-found.result c.exchange_at-found.new.seat.me.0 c.place.ensures c.exchange_at-found.ensures.told.0

@@ -1,15 +1,13 @@
 -- What a step on a word of the client asks and tells, at the place where the word stands.
-use Rattle.std.proofs.Common.{◌≡◌, ℕ, ◌<◌, ◌^◌, ◌∙◌, Bool, sym, refl, ap, subst}
+use Rattle.std.proofs.Common.{◌≡◌, ℕ, ◌<◌, ◌∙◌, Bool, sym, ap, subst}
 use Rattle.atomic_table.specs.Seated.{TableId}
 use Rattle.cqs_views.specs.declared.client.ClientWords.{Ghosts}
 use Rattle.cqs_rule.specs.declared.queue.Pass.{Pass}
 use Rattle.cqs_rule.specs.declared.queue.Queue.{Queue}
 use Rattle.cqs_rule.specs.Passes.{pass_view}
-use Rattle.cqs_views.specs.declared.view.Facts.{Facts}
 use Rattle.cqs_views.specs.declared.view.View.{View}
-use Rattle.cqs_views.specs.Events.{Event, HoldsFew, Moved, moment}
+use Rattle.cqs_views.specs.Events.{Event, Moved}
 use Rattle.cqs_views.specs.Layout.{client_place, words_for}
-use Rattle.cqs_views.specs.Saw.{IsLive}
 use Rattle.cqs_views.proofs.CellPlaces.{client-inside}
 
 module _ {C S E : Type 0} {g : Ghosts C S E} where
@@ -21,17 +19,6 @@ module _ {C S E : Type 0} {g : Ghosts C S E} where
       p.cells_are ∙ ap (λ (t : TableId). t.words) table in
       subst (λ n. n < q.table.shared.table_id.words) (sym is)
       (subst (λ n. client_place word < n) words (client-inside word p.seat.me.0.cells few))
-
-  -- what the pass holds then fits
-  pub holds-few : (event : Event E) (made : ℕ → Bool) (place : ℕ) (p : Pass C S E g) (n : ℕ) (w : View E S)
-      → Moved g.object g.primitive event made place (pass_view p) n w → IsLive g.object w
-      → HoldsFew event p.held n (made n)
-  holds-few event made place p n w told live =
-      let v = pass_view p in record {
-        at = moment v.opening v.number v.facts made n;
-        is = record { held_is = p.held_is; found_is = refl; made_is = refl };
-        few = subst (λ (f : Facts). f.has.held < 2 ^ 32) told.saw.facts_are live.held;
-      }
 
   -- the step was made on that word
   pub moved-word : (event : Event E) (made : ℕ → Bool) (word place : ℕ) (p : Pass C S E g) (n : ℕ) (w : View E S)

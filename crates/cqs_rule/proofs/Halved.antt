@@ -1,5 +1,5 @@
 -- What the two passes keep that one was cut into.
-use Rattle.std.proofs.Common.{◌≡◌, ℕ, ◌-◌, ◌<◌, ◌≤◌, ◌∙◌, true, false, List, [], length, Option, sym, refl, ap, subst, arith}
+use Rattle.std.proofs.Common.{◌≡◌, ℕ, ◌-◌, ◌<◌, ◌≤◌, ◌∙◌, true, false, List, [], length, Option, sym, ap, subst, arith}
 use Rattle.atomic_table.specs.Seated.{TableId}
 use Rattle.cqs_views.specs.declared.client.ClientWords.{Ghosts}
 use Rattle.cqs_rule.specs.declared.queue.Pass.{Pass}

@@ -1,7 +1,7 @@
 use Rattle.std.proofs.Common.{rules, ◌≡◌, ◌+◌, ◌<◌, ◌∙◌, [], ap, sym, refl, true≢false, arith}
 use Rattle.cqs_views.proofs.CrewMeets.{joins, meets}
 use Rattle.cqs_views.proofs.Tries.{between-idle, none-of, none-slots, joined-idles}
-use Rattle.cqs_rule.proofs.Gathered.{Gathered, busy-by, free-by, gathers, items-as, keeps-met, held-met}
+use Rattle.cqs_rule.proofs.Gathered.{busy-by, free-by, gathers, items-as, keeps-met, held-met}
 use Rattle.cqs_rule.proofs.queue.Queue.meet.Goals as goal
 
 pub join_seat-requires : goal.join_seat-requires

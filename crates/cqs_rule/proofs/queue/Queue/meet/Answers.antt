@@ -1,7 +1,8 @@
-use Rattle.std.proofs.Common.{rules, ◌≡◌, ◌+◌, ◌<◌, ◌∙◌, [], ap, sym, refl, true≢false, arith}
+use Rattle.std.proofs.Common.{◌≡◌, ◌+◌, ◌<◌, ◌∙◌, [], ap, sym, refl, true≢false, arith}
 use Rattle.cqs_views.proofs.CrewMeets.{joins, meets}
 use Rattle.cqs_views.proofs.Tries.{between-idle, none-of, none-slots, joined-idles}
 use Rattle.cqs_rule.proofs.Gathered.{busy-by, free-by, gathers, items-as, keeps-met, held-met}
+use Rattle.cqs_rule.proofs.Looked.{crew-inside}
 use Rattle.cqs_rule.proofs.queue.Queue.meet.Goals as goal
 
 pub join_seat-requires : goal.join_seat-requires
@@ -14,7 +15,7 @@ join_seat-requires g c =
       c.requires.belongs.table,
       c.requires.given_belongs.table,
       none-slots _ u.live.1,
-      search rules,
+      crew-inside c.args.self.now p c.requires.belongs.table,
       joins C.object (C.primitive x) _ _ (g.met.C.ClientWords.keeps x) _ _ _ _ p.live.0 u.live.0
           c.requires.idle rests.0 p.shut u.shut,
     )
@@ -39,6 +40,9 @@ returns-then-owes-clause-busy g c =
 
 pub add_at-requires-clause-table : goal.add_at-requires-clause-table
 add_at-requires-clause-table g c = c.join_seat.ensures.0 ∙ c.requires.belongs.table
+
+pub add_at-requires-clause-inside : goal.add_at-requires-clause-inside
+add_at-requires-clause-inside g c = crew-inside c.args.self.now c.args.pass.now c.requires.belongs.table
 
 pub overflow_add-pass : goal.overflow_add-pass
 overflow_add-pass g c =

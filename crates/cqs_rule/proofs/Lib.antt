@@ -6,4 +6,5 @@ pub mod Looked
 pub mod Moved
 pub mod Numbers
 pub mod Places
+pub mod Slots
 pub mod Words

@@ -1,6 +1,6 @@
 //! How a queue is made.
 
-ghost use Rattle.std.specs.Prelude.{◌≡◌, ◌+◌, ◌*◌, ◌<◌, ◌≤◌, ◌^◌, false, IfOk, IsErrOf};
+ghost use Rattle.std.specs.Prelude.{◌≡◌, ◌≤◌, false, IfOk, IsErrOf};
 ghost use mathlib.Core.Logic.{◌↔◌};
 ghost use Rattle.cqs_views.specs.Configured.{is_config};
 ghost use Rattle.cqs_views.specs.Manner.{mode_for};

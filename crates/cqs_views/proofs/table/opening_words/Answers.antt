@@ -11,6 +11,6 @@ loop-place-init g c =
 pub loop-place-preserved : goal.loop-place-preserved
 loop-place-preserved g c =
     let x = g.C.ClientWords.primitive c.args.client.now in
-    let at = c.loop-place.place in
-    subst (IsOpening (at + 1) x.values x.words) (sym c.in_ok-push.ensures.items)
-    (opening-push at x.values x.words c.loop-place.words.items c.word_at.result c.word_at.ensures c.loop-place.invariant)
+    let l = c.loop-place in
+    subst (IsOpening (l.place + 1) x.values x.words) (sym c.in_ok-push.ensures.items)
+    (opening-push l.place x.values x.words l.words.items c.word_at.result c.word_at.ensures l.invariant)

@@ -1,52 +1,35 @@
-use Rattle.std.proofs.Common.{◌≡◌, ◌∙◌, ◌<◌, ap, sym, subst, length, ◌∷◌, Some}
+use Rattle.std.proofs.Common.{◌≡◌, ◌∙◌, ◌<◌, ap, sym, subst, length, Some}
 use mathlib.Core.Logic.{inr}
-use Rattle.atomic_table.specs.Table.{rest}
 use Rattle.cqs_views.specs.declared.view.View.{View}
 use Rattle.cqs_views.specs.Facts.{is_owing}
 use Rattle.cqs_views.specs.Layout.{words_for}
-use Rattle.cqs_views.specs.Lists.{IsPrefix}
 use Rattle.cqs_views.specs.Slots.{laid_in}
-use Rattle.cqs_views.specs.SlotSteps.{TookOut, Swapped}
-use Rattle.cqs_views.proofs.Lists.{prefix-then}
-use Rattle.cqs_views.proofs.Swaps.{swapped-then, inside-swapped, live-swapped, alone-swapped}
+use Rattle.cqs_views.proofs.Swaps.{inside-swapped, live-swapped, alone-swapped}
 use Rattle.cqs_views.proofs.Tries.{none-slots}
+use Rattle.cqs_rule.proofs.Slots.{fill-by, only-by, handed-by}
 use Rattle.cqs_rule.proofs.queue.Queue.fill_slot.Goals as goal
 
 pub put_first-requires-clause-item : goal.put_first-requires-clause-item
 put_first-requires-clause-item g c = (
   c.args.value,
-  ap (λ m. m.1) c.exchange.ensures.3
-      ∙ ap (λ l. (c.args.slot, Some c.args.value) ∷ rest l) c.take_out.ensures.took.items_are,
+  only-by c.args.slot c.args.pass.now.seat.me.0 c.take_out.new.seat.me.0 c.take_out.new.seat.me.1
+      c.take_out.ensures.took (Some c.args.value) c.args.pass.now.seat.me.0 c.exchange.new.seat.me c.exchange.ensures.3,
 )
 
 pub returns-clause-handed : goal.returns-clause-handed
 returns-clause-handed g c =
-    let took = c.take_out.ensures.took in
-    let h = c.put_first.ensures.handed c.args.value
-    (ap (λ m. m.1) c.exchange.ensures.3
-    ∙ ap (λ l. (c.args.slot, Some c.args.value) ∷ rest l) took.items_are) in
-    let same = ap (λ m. m.0) c.exchange.ensures.3 in
-    let old = subst (λ (u : View _ _). IsPrefix u.handed h.before) same h.old in
-    record {
-      before = h.before;
-      is = h.is;
-      old = prefix-then _ _ _ took.more old;
-      whole = λ a. h.whole (ap (λ z. z.alone) (same ∙ took.is) ∙ a)
-          ∙ (ap (λ (z : View _ _). z.handed) same ∙ took.whole a);
-      off = h.off;
-    }
+    handed-by c.args.slot c.args.pass.now.seat.me.0 c.take_out.new.seat.me.0 c.take_out.new.seat.me.1
+    c.take_out.ensures.took c.args.value c.put_first.new.seat.me.0 c.exchange.new.seat.me c.exchange.ensures.3
+    c.put_first.ensures.handed
 
 pub invariant_of-pass : goal.invariant_of-pass
 invariant_of-pass g c =
     let p = c.args.pass.now in
     let v = p.seat.me.0 in
-    let u = c.exchange.new.seat.me.0 in
-    let same : u ≡ c.take_out.new.seat.me.0 = ap (λ m. m.0) c.exchange.ensures.3 in
-    let items = c.take_out.new.seat.me.1 in
-    let took : TookOut c.args.slot v u items =
-    subst (λ z. TookOut c.args.slot v z items) (sym same) c.take_out.ensures.took in
-    let table = c.put_first.ensures.table ∙ (c.exchange.ensures.0 ∙ c.take_out.ensures.table) in
-    let swap = swapped-then _ _ items v u _ took c.put_first.ensures.put p.shut in
+    let table : c.put_first.new.seat.table_id ≡ p.seat.table_id = c.put_first.ensures.table ∙ (c.exchange.ensures.0 ∙ c.take_out.ensures.table) in
+    let swap = fill-by c.args.slot v c.take_out.new.seat.me.0 c.take_out.new.seat.me.1 c.take_out.ensures.took
+    (Some c.args.value) c.put_first.new.seat.me.0 c.exchange.new.seat.me c.exchange.ensures.3
+    c.put_first.ensures.put p.shut in
     let is = swap.is in record {
       live = (ap (λ z. z.weight) is ∙ p.live.0, ap length c.put_first.ensures.bare);
       number_is = ap (λ z. z.number) is ∙ p.number_is;
@@ -67,13 +50,10 @@ returns-clause-belongs g c =
     let p = c.args.pass.now in
     let v = p.seat.me.0 in
     let b = c.requires.belongs in
-    let u = c.exchange.new.seat.me.0 in
-    let same : u ≡ c.take_out.new.seat.me.0 = ap (λ m. m.0) c.exchange.ensures.3 in
-    let items = c.take_out.new.seat.me.1 in
-    let took : TookOut c.args.slot v u items =
-    subst (λ z. TookOut c.args.slot v z items) (sym same) c.take_out.ensures.took in
-    let table = c.put_first.ensures.table ∙ (c.exchange.ensures.0 ∙ c.take_out.ensures.table) in
-    let swap = swapped-then _ _ items v u _ took c.put_first.ensures.put p.shut in
+    let table : c.put_first.new.seat.table_id ≡ p.seat.table_id = c.put_first.ensures.table ∙ (c.exchange.ensures.0 ∙ c.take_out.ensures.table) in
+    let swap = fill-by c.args.slot v c.take_out.new.seat.me.0 c.take_out.new.seat.me.1 c.take_out.ensures.took
+    (Some c.args.value) c.put_first.new.seat.me.0 c.exchange.new.seat.me c.exchange.ensures.3
+    c.put_first.ensures.put p.shut in
     let is = swap.is in record {
       table = table ∙ b.table;
       slots = b.slots;
@@ -127,12 +107,8 @@ put_first-requires-clause-unlaid g c =
 
 pub returns-clause-swapped : goal.returns-clause-swapped
 returns-clause-swapped g c =
-    let v = c.args.pass.now.seat.me.0 in
-    let u = c.exchange.new.seat.me.0 in
-    let same : u ≡ c.take_out.new.seat.me.0 = ap (λ m. m.0) c.exchange.ensures.3 in
-    let items = c.take_out.new.seat.me.1 in
-    let took : TookOut c.args.slot v u items =
-    subst (λ z. TookOut c.args.slot v z items) (sym same) c.take_out.ensures.took in
-    let w = c.put_first.new.seat.me.0 in
-    subst (λ l. Swapped l v w) (ap (λ z. z.laid) (same ∙ c.take_out.ensures.took.is))
-    (swapped-then c.args.slot u.laid items v u w took c.put_first.ensures.put c.args.pass.now.shut)
+    let p = c.args.pass.now in
+    let v = p.seat.me.0 in
+    fill-by c.args.slot v c.take_out.new.seat.me.0 c.take_out.new.seat.me.1 c.take_out.ensures.took
+    (Some c.args.value) c.put_first.new.seat.me.0 c.exchange.new.seat.me c.exchange.ensures.3
+    c.put_first.ensures.put p.shut

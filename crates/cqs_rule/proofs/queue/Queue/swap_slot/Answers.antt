@@ -1,34 +1,29 @@
-use Rattle.std.proofs.Common.{◌≡◌, ◌∙◌, ◌<◌, ap, sym, subst, length, ◌∷◌}
+use Rattle.std.proofs.Common.{◌≡◌, ◌∙◌, ◌<◌, ap, sym, subst, length}
 use mathlib.Core.Logic.{inl}
-use Rattle.atomic_table.specs.Table.{rest}
 use Rattle.cqs_views.specs.declared.view.View.{View}
 use Rattle.cqs_views.specs.Facts.{is_owing}
 use Rattle.cqs_views.specs.Layout.{words_for}
-use Rattle.cqs_views.specs.SlotSteps.{TookOut, Swapped}
-use Rattle.cqs_views.proofs.Swaps.{swapped-then, inside-swapped, live-swapped, alone-swapped}
+use Rattle.cqs_views.proofs.Swaps.{inside-swapped, live-swapped, alone-swapped}
 use Rattle.cqs_views.proofs.Tries.{none-slots}
+use Rattle.cqs_rule.proofs.Slots.{swap-by, only-by, lay-by}
 use Rattle.cqs_rule.proofs.queue.Queue.swap_slot.Goals as goal
 
 pub put_back-requires-clause-item : goal.put_back-requires-clause-item
 put_back-requires-clause-item g c = (
   c.args.value,
-  ap (λ m. m.1) c.exchange-found.ensures.3
-      ∙ ap (λ l. (c.args.slot, c.args.value) ∷ rest l) c.take_out.ensures.took.items_are,
+  only-by c.args.slot c.args.pass.now.seat.me.0 c.take_out.new.seat.me.0 c.take_out.new.seat.me.1
+      c.take_out.ensures.took c.args.value c.args.pass.now.seat.me.0 c.exchange-found.new.seat.me
+      c.exchange-found.ensures.3,
 )
 
 pub invariant_of-pass : goal.invariant_of-pass
 invariant_of-pass g c =
     let p = c.args.pass.now in
     let v = p.seat.me.0 in
-    let u = c.exchange-found.new.seat.me.0 in
-    let same : u ≡ c.take_out.new.seat.me.0 = ap (λ m. m.0) c.exchange-found.ensures.3 in
-    let items = c.take_out.new.seat.me.1 in
-    let took : TookOut c.args.slot v u items =
-    subst (λ z. TookOut c.args.slot v z items) (sym same) c.take_out.ensures.took in
-    let table = c.put_back.ensures.table ∙ (c.exchange-found.ensures.0 ∙ c.take_out.ensures.table) in
-    let swap = swapped-then _ _ items v u _ took (c.put_back.ensures.put c.args.value
-    (ap (λ m. m.1) c.exchange-found.ensures.3
-    ∙ ap (λ l. (c.args.slot, c.args.value) ∷ rest l) c.take_out.ensures.took.items_are)) p.shut in
+    let table : c.put_back.new.seat.table_id ≡ p.seat.table_id = c.put_back.ensures.table ∙ (c.exchange-found.ensures.0 ∙ c.take_out.ensures.table) in
+    let swap = swap-by c.args.slot v c.take_out.new.seat.me.0 c.take_out.new.seat.me.1 c.take_out.ensures.took
+    c.args.value c.put_back.new.seat.me.0 c.exchange-found.new.seat.me c.exchange-found.ensures.3
+    c.put_back.ensures.put p.shut in
     let is = swap.is in record {
       live = (ap (λ z. z.weight) is ∙ p.live.0, ap length c.put_back.ensures.bare);
       number_is = ap (λ z. z.number) is ∙ p.number_is;
@@ -49,15 +44,10 @@ returns-clause-belongs g c =
     let p = c.args.pass.now in
     let v = p.seat.me.0 in
     let b = c.requires.belongs in
-    let u = c.exchange-found.new.seat.me.0 in
-    let same : u ≡ c.take_out.new.seat.me.0 = ap (λ m. m.0) c.exchange-found.ensures.3 in
-    let items = c.take_out.new.seat.me.1 in
-    let took : TookOut c.args.slot v u items =
-    subst (λ z. TookOut c.args.slot v z items) (sym same) c.take_out.ensures.took in
-    let table = c.put_back.ensures.table ∙ (c.exchange-found.ensures.0 ∙ c.take_out.ensures.table) in
-    let swap = swapped-then _ _ items v u _ took (c.put_back.ensures.put c.args.value
-    (ap (λ m. m.1) c.exchange-found.ensures.3
-    ∙ ap (λ l. (c.args.slot, c.args.value) ∷ rest l) c.take_out.ensures.took.items_are)) p.shut in
+    let table : c.put_back.new.seat.table_id ≡ p.seat.table_id = c.put_back.ensures.table ∙ (c.exchange-found.ensures.0 ∙ c.take_out.ensures.table) in
+    let swap = swap-by c.args.slot v c.take_out.new.seat.me.0 c.take_out.new.seat.me.1 c.take_out.ensures.took
+    c.args.value c.put_back.new.seat.me.0 c.exchange-found.new.seat.me c.exchange-found.ensures.3
+    c.put_back.ensures.put p.shut in
     let is = swap.is in record {
       table = table ∙ b.table;
       slots = b.slots;
@@ -114,16 +104,15 @@ put_back-requires-clause-may g c =
 
 pub returns-clause-swapped : goal.returns-clause-swapped
 returns-clause-swapped g c =
-    let v = c.args.pass.now.seat.me.0 in
-    let u = c.exchange-found.new.seat.me.0 in
-    let w = c.put_back.new.seat.me.0 in
-    let same : u ≡ c.take_out.new.seat.me.0 = ap (λ m. m.0) c.exchange-found.ensures.3 in
-    let items = c.take_out.new.seat.me.1 in
-    let took : TookOut c.args.slot v u items =
-    subst (λ z. TookOut c.args.slot v z items) (sym same) c.take_out.ensures.took in
-    let put = c.put_back.ensures.put c.args.value
-    (ap (λ m. m.1) c.exchange-found.ensures.3
-    ∙ ap (λ l. (c.args.slot, c.args.value) ∷ rest l) c.take_out.ensures.took.items_are) in
-    subst (λ l. Swapped ((c.args.slot, c.args.value) ∷ l) v w)
-    (ap (λ z. z.laid) (same ∙ c.take_out.ensures.took.is))
-    (swapped-then c.args.slot ((c.args.slot, c.args.value) ∷ u.laid) items v u w took put c.args.pass.now.shut)
+    let p = c.args.pass.now in
+    let v = p.seat.me.0 in
+    swap-by c.args.slot v c.take_out.new.seat.me.0 c.take_out.new.seat.me.1 c.take_out.ensures.took
+    c.args.value c.put_back.new.seat.me.0 c.exchange-found.new.seat.me c.exchange-found.ensures.3
+    c.put_back.ensures.put p.shut
+
+pub returns-clause-lay : goal.returns-clause-lay
+returns-clause-lay g c =
+    lay-by c.args.slot c.args.pass.now.seat.me.0 c.take_out.new.seat.me.0 c.take_out.new.seat.me.1
+    c.take_out.ensures.took
+    c.args.value c.put_back.new.seat.me.0 c.exchange-found.new.seat.me c.exchange-found.ensures.3
+    c.put_back.ensures.put c.exchange-found.result c.exchange-found.ensures.2

@@ -1,0 +1,58 @@
+-- A slot is taken out, what lies in it is exchanged, and it is put back.
+use Rattle.std.proofs.Common.{◌≡◌, ◌∙◌, ℕ, List, [], ◌∷◌, Option, None, Some, ap, sym, subst}
+use Rattle.atomic_table.specs.Table.{rest}
+use Rattle.cqs_views.specs.declared.view.View.{View}
+use Rattle.cqs_views.specs.SlotSteps.{TookOut, PutBack, Swapped, LayIn, HandedIn}
+use Rattle.cqs_views.proofs.Lists.{prefix-then}
+use Rattle.cqs_views.proofs.Swaps.{swapped-then}
+
+-- what the first of them holds
+abbrev value_in : {S : Type 0} → List (ℕ × Option S) → Option S
+value_in [] = None
+value_in (item ∷ items) = item.1
+
+module _ {E S : Type 0} (k : ℕ) (v u : View E S) (items : List (ℕ × Option S)) (took : TookOut k v u items) where
+  module _ (x : Option S) (w : View E S) (me : View E S × List (ℕ × Option S)) (is : me ≡ (u, (k, x) ∷ rest items)) where
+    pub only-by : me.1 ≡ (k, x) ∷ []
+    only-by = ap (λ m. m.1) is ∙ ap (λ l. (k, x) ∷ rest l) took.items_are
+
+    -- another value was put there
+    abbrev PutsBack : Type 0
+    PutsBack = (y : Option S) → me.1 ≡ (k, y) ∷ [] → PutBack ((k, y) ∷ me.0.laid) me.0 w
+
+    back-by : PutsBack → PutBack ((k, x) ∷ u.laid) u w
+    back-by put = subst (λ (z : View E S). PutBack ((k, x) ∷ z.laid) z w) (ap (λ m. m.0) is) (put x only-by)
+
+    pub swap-by : PutsBack → v.facts.open_slot ≡ None → Swapped ((k, x) ∷ v.laid) v w
+    swap-by put shut = subst (λ l. Swapped ((k, x) ∷ l) v w) (ap (λ (z : View E S). z.laid) took.is)
+        (swapped-then k ((k, x) ∷ u.laid) items v u w took (back-by put) shut)
+
+    -- what was found is what lay there
+    pub lay-by : PutsBack → (found : Option S) → items ≡ (k, found) ∷ rest items → LayIn k found v w
+    lay-by put found was =
+        let same : found ≡ took.value = ap value_in (sym was ∙ took.items_are) in record {
+          mine = λ x e. same ∙ took.mine x e;
+          handed = u.handed;
+          since = took.more;
+          seen = (back-by put).more;
+          last = λ e. same ∙ took.last e;
+        }
+
+    -- the first value was put there
+    pub fill-by : PutBack me.0.laid me.0 w → v.facts.open_slot ≡ None → Swapped v.laid v w
+    fill-by put shut =
+        let back : PutBack u.laid u w = subst (λ (z : View E S). PutBack z.laid z w) (ap (λ m. m.0) is) put in
+        subst (λ l. Swapped l v w) (ap (λ (z : View E S). z.laid) took.is)
+        (swapped-then k u.laid items v u w took back shut)
+
+  pub handed-by : (y : S) (w : View E S) (me : View E S × List (ℕ × Option S)) → me ≡ (u, (k, Some y) ∷ rest items)
+      → ((z : S) → me.1 ≡ (k, Some z) ∷ [] → HandedIn k z me.0 w) → HandedIn k y v w
+  handed-by y w me is handed =
+      let h : HandedIn k y u w =
+      subst (λ (z : View E S). HandedIn k y z w) (ap (λ m. m.0) is) (handed y (only-by (Some y) w me is)) in record {
+        before = h.before;
+        is = h.is;
+        old = prefix-then v.handed u.handed h.before took.more h.old;
+        whole = λ a. h.whole (ap (λ (z : View E S). z.alone) took.is ∙ a) ∙ took.whole a;
+        off = h.off;
+      }

@@ -12,7 +12,8 @@ value_in [] = None
 value_in (item ∷ items) = item.1
 
 module _ {E S : Type 0} (k : ℕ) (v u : View E S) (items : List (ℕ × Option S)) (took : TookOut k v u items) where
-  module _ (x : Option S) (w : View E S) (me : View E S × List (ℕ × Option S)) (is : me ≡ (u, (k, x) ∷ rest items)) where
+  module _ (x : Option S) (w : View E S) (me : View E S × List (ℕ × Option S))
+      (is : me ≡ (u, (k, x) ∷ rest items)) where
     pub only-by : me.1 ≡ (k, x) ∷ []
     only-by = ap (λ m. m.1) is ∙ ap (λ l. (k, x) ∷ rest l) took.items_are
 

@@ -92,8 +92,8 @@ fn opening_words<C: ClientWords>(
     Ok(words)
 }
 
-/// The table of a client's queue as it opens, and its one seat, whose pass has number 0 and has seen
-/// nothing.
+/// The table of a client's queue as it opens, and its one seat, whose pass has number 0 and has
+/// seen nothing.
 pub fn open_table<C: ClientWords>(
     alloc: Global,
     config: &Config,

@@ -26,7 +26,8 @@ pub invariant_of-pass : goal.invariant_of-pass
 invariant_of-pass g c =
     let p = c.args.pass.now in
     let v = p.seat.me.0 in
-    let table : c.put_first.new.seat.table_id ≡ p.seat.table_id = c.put_first.ensures.table ∙ (c.exchange.ensures.0 ∙ c.take_out.ensures.table) in
+    let table : c.put_first.new.seat.table_id ≡ p.seat.table_id =
+    c.put_first.ensures.table ∙ (c.exchange.ensures.0 ∙ c.take_out.ensures.table) in
     let swap = fill-by c.args.slot v c.take_out.new.seat.me.0 c.take_out.new.seat.me.1 c.take_out.ensures.took
     (Some c.args.value) c.put_first.new.seat.me.0 c.exchange.new.seat.me c.exchange.ensures.3
     c.put_first.ensures.put p.shut in
@@ -50,7 +51,8 @@ returns-clause-belongs g c =
     let p = c.args.pass.now in
     let v = p.seat.me.0 in
     let b = c.requires.belongs in
-    let table : c.put_first.new.seat.table_id ≡ p.seat.table_id = c.put_first.ensures.table ∙ (c.exchange.ensures.0 ∙ c.take_out.ensures.table) in
+    let table : c.put_first.new.seat.table_id ≡ p.seat.table_id =
+    c.put_first.ensures.table ∙ (c.exchange.ensures.0 ∙ c.take_out.ensures.table) in
     let swap = fill-by c.args.slot v c.take_out.new.seat.me.0 c.take_out.new.seat.me.1 c.take_out.ensures.took
     (Some c.args.value) c.put_first.new.seat.me.0 c.exchange.new.seat.me c.exchange.ensures.3
     c.put_first.ensures.put p.shut in

@@ -20,7 +20,8 @@ pub invariant_of-pass : goal.invariant_of-pass
 invariant_of-pass g c =
     let p = c.args.pass.now in
     let v = p.seat.me.0 in
-    let table : c.put_back.new.seat.table_id ≡ p.seat.table_id = c.put_back.ensures.table ∙ (c.exchange-found.ensures.0 ∙ c.take_out.ensures.table) in
+    let table : c.put_back.new.seat.table_id ≡ p.seat.table_id =
+    c.put_back.ensures.table ∙ (c.exchange-found.ensures.0 ∙ c.take_out.ensures.table) in
     let swap = swap-by c.args.slot v c.take_out.new.seat.me.0 c.take_out.new.seat.me.1 c.take_out.ensures.took
     c.args.value c.put_back.new.seat.me.0 c.exchange-found.new.seat.me c.exchange-found.ensures.3
     c.put_back.ensures.put p.shut in
@@ -44,7 +45,8 @@ returns-clause-belongs g c =
     let p = c.args.pass.now in
     let v = p.seat.me.0 in
     let b = c.requires.belongs in
-    let table : c.put_back.new.seat.table_id ≡ p.seat.table_id = c.put_back.ensures.table ∙ (c.exchange-found.ensures.0 ∙ c.take_out.ensures.table) in
+    let table : c.put_back.new.seat.table_id ≡ p.seat.table_id =
+    c.put_back.ensures.table ∙ (c.exchange-found.ensures.0 ∙ c.take_out.ensures.table) in
     let swap = swap-by c.args.slot v c.take_out.new.seat.me.0 c.take_out.new.seat.me.1 c.take_out.ensures.took
     c.args.value c.put_back.new.seat.me.0 c.exchange-found.new.seat.me c.exchange-found.ensures.3
     c.put_back.ensures.put p.shut in

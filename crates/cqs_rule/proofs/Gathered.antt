@@ -1,29 +1,16 @@
 -- What a pass keeps that takes in another one.
-use Rattle.std.proofs.Common.{◌≡◌, ℕ, ◌+◌, ◌<◌, ◌≤◌, ◌∙◌, ◌⊎◌, Bool, true, false, List, ◌++◌, length, Option, sym, ap, subst, ⊎_elim, inl, inr, arith}
+use Rattle.std.proofs.Common.{◌≡◌, ℕ, ◌+◌, ◌<◌, ◌∙◌, List, ◌++◌, length, Option, sym, ap, subst}
 use Rattle.cqs_views.specs.declared.client.ClientWords.{Ghosts}
 use Rattle.cqs_rule.specs.declared.queue.Pass.{Pass}
 use Rattle.cqs_rule.specs.Passes.{pass_view}
-use Rattle.cqs_rule.specs.Seats.{IsBusy}
 use Rattle.cqs_views.specs.declared.view.Facts.{Facts}
 use Rattle.cqs_views.specs.declared.view.View.{View}
 use Rattle.cqs_views.specs.Crew.{Met}
-use Rattle.cqs_views.specs.Facts.{is_owing, owes_any}
+use Rattle.cqs_views.specs.Facts.{is_owing}
 use Rattle.cqs_views.specs.Layout.{words_for}
 use Rattle.cqs_views.specs.Saw.{IsLive}
 use Rattle.cqs_views.specs.Views.{has_both, joined}
 use Rattle.cqs_rule.proofs.Moved.{Keeps}
-
--- what owes, or has waits, is busy
-pub busy-by : (f : Facts) (owes : Bool) (waits : ℕ) → owes ≡ owes_any f → length f.waits ≡ waits
-    → (owes ≡ true) ⊎ ((owes ≡ false) × (0 < waits)) → IsBusy f
-busy-by f owes waits is are either =
-    ⊎_elim (λ o. inl (sym is ∙ o)) (λ (b : (owes ≡ false) × (0 < waits)). inr (subst (λ n. 0 < n) (sym are) b.1)) either
-
--- and what does neither is not
-pub free-by : (f : Facts) (owes : Bool) (waits : ℕ) → owes ≡ owes_any f → length f.waits ≡ waits → owes ≡ false
-    → waits ≤ 0 → IsBusy f → false ≡ true
-free-by f owes waits is are none few busy =
-    ⊎_elim (λ (o : owes_any f ≡ true). sym none ∙ (is ∙ o)) (λ (b : 0 < length f.waits). absurd (omega arith)) busy
 
 module _ {C S E : Type 0} {g : Ghosts C S E} where
   -- what is left of the two passes

@@ -1,7 +1,5 @@
 -- What a pass keeps that has looked at the crew's word.
-use Rattle.std.proofs.Common.{rules, ◌≡◌, ℕ, ◌<◌, ◌∙◌, ◌==◌, List, [], length, Option, sym, ap, subst, arith}
-use Rattle.std.specs.Prelude.{IsTrue}
-use mathlib.Core.Logic.{◌↔◌}
+use Rattle.std.proofs.Common.{◌≡◌, ℕ, ◌<◌, ◌∙◌, List, [], length, Option, sym, ap, subst, arith}
 use Rattle.atomic_table.specs.Seated.{TableId}
 use Rattle.cqs_views.specs.declared.client.ClientWords.{Ghosts}
 use Rattle.cqs_rule.specs.declared.queue.Pass.{Pass}
@@ -13,12 +11,8 @@ use Rattle.cqs_views.specs.Facts.{is_owing}
 use Rattle.cqs_views.specs.Inside.{IsInside}
 use Rattle.cqs_views.specs.Layout.{words_for}
 use Rattle.cqs_views.specs.Saw.{Saw}
-use Rattle.cqs_views.specs.Views.{as_before, live_in}
+use Rattle.cqs_views.specs.Views.{as_before}
 use Rattle.cqs_rule.proofs.Moved.{Keeps}
-
--- one pass is alive, by the word as it was read
-pub alive-one : (crew n live : ℕ) → crew ≡ n → live ≡ live_in n → IsTrue (live == 1) ↔ (live_in crew ≡ 1)
-alive-one crew n live is alive = let same : live ≡ live_in crew = alive ∙ ap live_in (sym is) in search rules
 
 module _ {C S E : Type 0} {g : Ghosts C S E} where
   -- the word stands inside the table

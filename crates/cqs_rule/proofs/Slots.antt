@@ -6,7 +6,7 @@ use Rattle.cqs_views.specs.SlotSteps.{TookOut, PutBack, Swapped, LayIn, HandedIn
 use Rattle.cqs_views.proofs.Lists.{prefix-then}
 use Rattle.cqs_views.proofs.Swaps.{swapped-then}
 
--- what the first of them holds
+-- what lies in the first of such slots
 abbrev value_in : {S : Type 0} → List (ℕ × Option S) → Option S
 value_in [] = None
 value_in (item ∷ items) = item.1

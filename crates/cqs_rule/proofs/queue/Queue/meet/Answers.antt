@@ -1,7 +1,7 @@
-use Rattle.std.proofs.Common.{◌≡◌, ◌+◌, ◌<◌, ◌∙◌, [], ap, sym, refl, true≢false, arith}
+use Rattle.std.proofs.Common.{rules, ◌≡◌, ◌+◌, ◌<◌, ◌∙◌, [], ap, sym, arith}
 use Rattle.cqs_views.proofs.CrewMeets.{joins, meets}
 use Rattle.cqs_views.proofs.Tries.{between-idle, none-of, none-slots, joined-idles}
-use Rattle.cqs_rule.proofs.Gathered.{busy-by, free-by, gathers, items-as, keeps-met, held-met}
+use Rattle.cqs_rule.proofs.Gathered.{gathers, items-as, keeps-met, held-met}
 use Rattle.cqs_rule.proofs.Looked.{crew-inside}
 use Rattle.cqs_rule.proofs.queue.Queue.meet.Goals as goal
 
@@ -31,13 +31,6 @@ add_at-requires-clause-allowed g c =
     meets C.object (C.primitive x) _ _ (g.met.C.ClientWords.keeps x) c.args.self.now.table.shared.table_id.slots _ _
     j.weight j.idle j.empty j.owes_none j.slotless j.waitless
 
-pub returns-then-owes-clause-busy : goal.returns-then-owes-clause-busy
-returns-then-owes-clause-busy g c =
-    let u = c.args.given in (
-      (λ e. busy-by u.seat.me.0.facts c.owes.result u.waits c.owes.ensures u.waits_are c.then-owes.either),
-      λ b. refl,
-    )
-
 pub add_at-requires-clause-table : goal.add_at-requires-clause-table
 add_at-requires-clause-table g c = c.join_seat.ensures.0 ∙ c.requires.belongs.table
 
@@ -61,10 +54,23 @@ invariant_of-pass g c =
     let w = c.add_at.new.seat.me.0 in
     let e = c.add_at.ensures.told in
     let j = c.join_seat.ensures in
-    keeps-met p u w (gathers p u c.join_seat.new.seat.me w j.2 e.0 e.4) e.3 c.add_at.new.seat.me.1
+    let k = keeps-met p u w (gathers p u c.join_seat.new.seat.me w j.2 e.0 e.4) e.3 c.add_at.new.seat.me.1
     c.add_at.new.seat.table_id.words
     (e.2 ∙ items-as p u c.join_seat.new.seat.me j.2)
-    (ap (λ t. t.words) (sym (c.add_at.ensures.table ∙ j.0)))
+    (ap (λ t. t.words) (sym (c.add_at.ensures.table ∙ j.0))) in
+    let held = k.held_is in record {
+      live = k.live;
+      number_is = k.number_is;
+      held_is = search rules;
+      further_is = k.further_is;
+      spareless = k.spareless;
+      shut = k.shut;
+      owes_is = k.owes_is;
+      waits_are = k.waits_are;
+      cells_are = k.cells_are;
+      inside = k.inside;
+      few_cells = k.few_cells;
+    }
 
 pub returns-clause-belongs : goal.returns-clause-belongs
 returns-clause-belongs g c =
@@ -84,13 +90,6 @@ returns-clause-belongs g c =
       opening = m.opening ∙ b.opening;
       alone = e.alone;
     }
-
-pub returns-clause-busy : goal.returns-clause-busy
-returns-clause-busy g c =
-    let u = c.args.given in (
-      (λ e. absurd (true≢false (sym e))),
-      free-by u.seat.me.0.facts c.owes.result u.waits c.owes.ensures u.waits_are c.if-owes.false c.if-given-gt0.false,
-    )
 
 pub returns-clause-met : goal.returns-clause-met
 returns-clause-met g c =

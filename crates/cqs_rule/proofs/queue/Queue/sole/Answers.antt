@@ -1,8 +1,8 @@
-use Rattle.std.proofs.Common.{◌∙◌, ◌==◌, sym, ap}
+use Rattle.std.proofs.Common.{◌∙◌}
 use Rattle.cqs_views.specs.Crew.{IsSole}
 use Rattle.cqs_views.proofs.CrewLooks.{counts}
 use Rattle.cqs_views.proofs.Tries.{sole-tells}
-use Rattle.cqs_rule.proofs.Looked.{alive-one, crew-inside, keeps-looked}
+use Rattle.cqs_rule.proofs.Looked.{crew-inside, keeps-looked}
 use Rattle.cqs_rule.proofs.queue.Queue.sole.Goals as goal
 
 pub load_at-found-requires-clause-table : goal.load_at-found-requires-clause-table
@@ -48,11 +48,3 @@ returns-clause-belongs g c =
 
 pub returns-clause-looked : goal.returns-clause-looked
 returns-clause-looked g c = c.load_at-found.ensures.told.0.saw
-
-pub returns-clause-sole : goal.returns-clause-sole
-returns-clause-sole g c =
-    let found = c.load_at-found in
-    alive-one found.new.seat.me.0.crew found.result c.live_in.result found.ensures.told.0.crew c.live_in.ensures
-
-pub returns-clause-alone : goal.returns-clause-alone
-returns-clause-alone g c = ap (λ n. n == 1) c.live_in.ensures ∙ sym c.load_at-found.ensures.told.0.alone

@@ -1,4 +1,4 @@
-use Rattle.std.proofs.Common.{[], ◌<◌, ◌∙◌, sym, refl, ap, subst, arith, true≢false}
+use Rattle.std.proofs.Common.{rules, [], ◌<◌, ◌∙◌, sym, refl, ap, subst, arith, true≢false}
 use Rattle.cqs_views.specs.Crew.{IsSole, MayGive}
 use Rattle.cqs_views.specs.Saw.{Saw}
 use Rattle.cqs_views.specs.Views.{crew_turn, facts_lessened, as_before}
@@ -109,10 +109,22 @@ invariant_of-result g c =
     (gives-few c.args.gives _ _ _ c.loop-pass.invariant.1.saw.facts_are c.requires.enough
     c.loop-pass.invariant.0.live.few)
     e.tried e.alive cut.2 cut.4 in
-    keeps-begun c.args.gives c.made_in-then-found-saw.result c.loop-pass.pass c.split_seat-seat.new.seat.me.0 seat.me
-    c.make-found.new.seat.me.0 b cut.4
-    ((e.tried.made c.if-found-saw.true).number ∙ sym c.made_in-then-found-saw.ensures)
-    seat.table_id (cut.3 ∙ e.table)
+    let k = keeps-begun c.args.gives c.make-found.new.seat.me.0.second_number c.loop-pass.pass
+    c.split_seat-seat.new.seat.me.0 seat.me c.make-found.new.seat.me.0 b cut.4 refl
+    seat.table_id (cut.3 ∙ e.table) in
+    let number = k.number_is ∙ (e.tried.made c.if-found-saw.true).number in record {
+      live = k.live;
+      number_is = search rules;
+      held_is = k.held_is;
+      further_is = k.further_is;
+      spareless = k.spareless;
+      shut = k.shut;
+      owes_is = k.owes_is;
+      waits_are = k.waits_are;
+      cells_are = k.cells_are;
+      inside = k.inside;
+      few_cells = k.few_cells;
+    }
 
 pub invariant_of-pass-else-found-saw : goal.invariant_of-pass-else-found-saw
 invariant_of-pass-else-found-saw g c =
